@@ -1,4 +1,5 @@
 pub mod Lists
+pub mod Forms
 pub mod TheLaws
 pub mod Counts
 pub mod Conn

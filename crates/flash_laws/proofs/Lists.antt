@@ -1,6 +1,6 @@
 -- Lists, numbers and tests: what the proofs of phases use.
 use Rattle.std.proofs.Common.{◌≡◌, ◌≢◌, ℕ, zero, suc, ◌+◌, ◌-◌, ◌==◌, ◌<◌, ◌≤◌, List, [], ◌∷◌, ◌++◌, length, take, drop, ap, ◌∙◌, refl, sym, arith, true, false, Bool, length-append, length-drop}
-use Rattle.std.specs.Prelude.{min, nat_lt, ◌||◌, slice_range}
+use Rattle.std.specs.Prelude.{min, nat_lt, ◌||◌, ◌&&◌, not, slice_range}
 use Rattle.std.proofs.lemmas.List.{take-append-le, drop-append-le, drop_all, drop-drop, length-take, length-take-le}
 use Rattle.std.proofs.lemmas.Bool.Decides.{nat_tests}
 use Rattle.iol_core.specs.Text.{Text, bytes_of}
@@ -25,6 +25,56 @@ first_of a b = grind (arith, nat_tests)
 pub later_of : (a b : Bool) → b ≡ true → (a || b) ≡ true
 later_of true b is = refl
 later_of false b is = is
+
+pub former_of : (a b : Bool) → a ≡ true → (a || b) ≡ true
+former_of true b is = refl
+former_of false b is = absurd (cc (is))
+
+pub former_by : (a b : Bool) → (a || b) ≡ true → b ≡ false → a ≡ true
+former_by true b is none = refl
+former_by false b is none = absurd (clash b is none)
+
+pub swapped : (a b : Bool) → (a || b) ≡ true → (b || a) ≡ true
+swapped true b is = later_of b true refl
+swapped false b is = former_of b false is
+
+pub bare : (a : Bool) → (a || false) ≡ true → a ≡ true
+bare true is = refl
+bare false is = is
+
+pub bare-none : (a : Bool) → (a || false) ≡ false → a ≡ false
+bare-none true is = is
+bare-none false is = refl
+
+pub not-false : (a : Bool) → not a ≡ false → a ≡ true
+not-false true is = refl
+not-false false is = absurd (cc (is))
+
+pub not-true : (a : Bool) → not a ≡ true → a ≡ false
+not-true true is = absurd (cc (is))
+not-true false is = refl
+
+pub neither : (a b : Bool) → (a || b) ≡ false → (a ≡ false) × (b ≡ false)
+neither true b is = absurd (cc (is))
+neither false b is = (refl, is)
+
+pub amid : (a b c : Bool) → (a || c) ≡ true → (a || (b || c)) ≡ true
+amid true b c is = refl
+amid false b c is = later_of b c is
+
+pub both-or : (a b c : Bool) → a ≡ true → b ≡ true → ((a && b) || c) ≡ true
+both-or true true c is too = refl
+both-or true false c is too = absurd (cc (too))
+both-or false b c is too = absurd (cc (is))
+
+pub must : (a b : Bool) → (a || not b) ≡ true → b ≡ true → a ≡ true
+must true b may is = refl
+must false true may is = absurd (cc (may))
+must false false may is = absurd (cc (is))
+
+pub never_passed : (a : Bool) → (a || not false) ≡ false → ⊥
+never_passed true is = cc (is)
+never_passed false is = cc (is)
 
 pub bytes-append : (s t : Text) → bytes_of (s ++ t) ≡ bytes_of s ++ bytes_of t
 bytes-append [] t = refl

@@ -35,7 +35,7 @@ use Rattle.flash_laws.specs.Crews.{crew_with, OfSome}
 use Rattle.flash_laws.specs.Serves.{new_server}
 use Rattle.flash_laws.specs.Shelf.{Shelf}
 use Rattle.flash_laws.specs.Site.{server, outcome_in, IsFixed}
-use Rattle.flash_laws.specs.Tie.{made_over, Actor, Serving}
+use Rattle.flash_laws.specs.Tie.{tells_over, made_over, Actor, Serving}
 use Rattle.flash_laws.specs.World.{IsNew, ARunIsCalm}
 use Rattle.flash_laws.proofs.Lists.{not-equal}
 
@@ -227,7 +227,7 @@ module _ (orders : EachStepKeepsOrder) (descriptors : DescriptorsComeByReplies) 
   replies = reply.Conn 1 ∷ reply.Fd 0 ∷ []
 
   run_is_calm : ARunIsCalm alone
-  unfolding domain pool file content with_domain with_conn with_content conn_at made_over
+  unfolding domain pool file content with_domain with_conn with_content conn_at tells_over made_over
   run_is_calm = record {
     shelf = shelf;
     first = new_world;

@@ -12,16 +12,14 @@ use Rattle.iol_core.specs.declared.events.Reply.{Reply}
 use Rattle.iol_core.specs.declared.events.Reply.TheVariants as reply
 use Rattle.iol_laws.specs.Caller.{lent_at}
 use Rattle.iol_laws.specs.Order.{IsOrderly}
-use Rattle.flash_laws.specs.Client.{Client, new_client, uses_agg, is_for_script, wants, Readies, awaits, told}
+use Rattle.flash_laws.specs.Client.{Client, new_client, uses_agg, is_for_script, wants, Readies, keeps_text, awaits, told}
 use Rattle.flash_laws.specs.ClientOffers.{is_ending}
 use Rattle.flash_laws.specs.Conn as conn
 use Rattle.flash_laws.specs.Conn.{is_head_only}
 use Rattle.flash_laws.specs.Known.{Known, is_read, HasKnown}
 use Rattle.flash_laws.specs.RunKeeping.{has_end}
 use Rattle.flash_laws.specs.Site.{server}
-use Rattle.flash_laws.specs.declared.running.Step.TheVariants.{Gives, Makes}
 use Rattle.flash_laws.specs.declared.running.Running.{Running}
-use Rattle.flash_laws.specs.declared.running.Running.TheVariants.{Awaits, Runs}
 
 -- whether it has this descriptor, of a file or of an end of the pipe that a script puts out into
 abbrev pub has_fd : Client → (g : ℕ) → Bool
@@ -31,20 +29,13 @@ has_fd x g = by x.run
     by None = conn.uses_fd x.conn.doing g
     by (Some y) = has_end y g
 
--- whether the job of a run, which is made of the text of its script, is not made yet
-abbrev pub is_before_job : Running → Bool
-is_before_job Awaits = true
-is_before_job (Runs run (Gives write)) = true
-is_before_job (Runs run (Makes f)) = true
-is_before_job y = false
-
 -- whether a script is to run for it, whose text was read
 abbrev pub is_to_run : (scripts : Bool) → Client → Bool
 is_to_run scripts x = by x.run
   where
     by : Option Running → Bool
     by None = is_for_script scripts x.conn.q && (not (is_head_only x.conn.q) && is_read x.conn.doing)
-    by (Some y) = is_before_job y
+    by (Some y) = keeps_text y
 
 -- no text is held but of a script that is to run
 abbrev pub HoldsNoOther : (scripts : Bool) → Client → Type 0

@@ -9,6 +9,7 @@ use Rattle.flash_laws.specs.Answers.{error_text}
 use Rattle.flash_laws.specs.Conn as conn
 use Rattle.flash_laws.specs.Conn.{Following}
 use Rattle.flash_laws.specs.Fits.{IsLent, Has}
+use Rattle.flash_laws.specs.Offers.{taken_of}
 use Rattle.flash_laws.specs.Running.{has_frame, job_pipe, step_agg}
 use Rattle.flash_laws.specs.Scripts.{script_body, script_response, frame_of, end_around}
 use Rattle.flash_laws.specs.Site.{server}
@@ -146,15 +147,6 @@ sent_agg d = None
 abbrev pub IsPart : State → Option ℕ → List ℕ → Type 0
 IsPart m None part = ⊥
 IsPart m (Some a) part = lent_at m server a ≡ Some part
-
--- how many of them are taken
-abbrev pub taken_of : Doing → ℕ
-taken_of (doing.Cuts a from len taken more) = taken
-taken_of (doing.Offers a from len piece taken more) = taken
-taken_of (doing.Swaps a from len piece taken more) = taken
-taken_of (doing.Sent a taken more) = taken
-taken_of (doing.Sends a len taken more) = taken
-taken_of d = 0
 
 abbrev pub sends_frame : Doing → (frame : Option ℕ) → Bool
 sends_frame d None = false

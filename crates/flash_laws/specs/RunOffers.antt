@@ -21,8 +21,8 @@ use Rattle.iol_laws.specs.Reasons.{IsHidden}
 use Rattle.flash_http.specs.Request.{Wanted}
 use Rattle.flash_laws.specs.Fits.{Names}
 use Rattle.flash_laws.specs.Nears.{Rank, Nears, CanMake}
-use Rattle.flash_laws.specs.Offers.{newly_taken, is_dropping, may_repeat}
-use Rattle.flash_laws.specs.RunFits.{Progress, Ran, Broken, NotRun, nothing_yet, MayAnswer, HasRun, HasJobPipe, taken_of}
+use Rattle.flash_laws.specs.Offers.{taken_of, newly_taken, is_dropping, may_repeat}
+use Rattle.flash_laws.specs.RunFits.{Progress, Ran, Broken, NotRun, nothing_yet, MayAnswer, HasRun, HasJobPipe}
 use Rattle.flash_laws.specs.Running.{uses_agg, uses_fd, worker_domain, job_pipe, held_size, wants, told, is_over}
 use Rattle.flash_laws.specs.Site.{server}
 use Rattle.flash_laws.specs.declared.doing.Doing.{Doing}

@@ -1,5 +1,6 @@
 -- The processes of a world, the server and workers, and the past of what was chosen and replied. W is what a worker is.
 use Rattle.std.specs.Prelude.{ℕ, ◌||◌, Bool, false, List, ◌∷◌, Option}
+use Rattle.iol_core.specs.declared.events.Event.{Event}
 use Rattle.iol_core.specs.declared.events.Reply.{Reply}
 use Rattle.iol_proc.specs.Turns.{Account}
 use Rattle.iol_proc.specs.Histories.{stream_over, sent_over}
@@ -12,32 +13,27 @@ use Rattle.flash_laws.specs.TurnWants.{server_wants}
 
 -- ---- the past of choices and their replies
 
-abbrev pub made_with : (c : ℕ) → Choice → Reply → Bool
-made_with c (choice.Outside e) r = made_by c e r
-made_with c (choice.Turn by) r = false
+-- whether a choice is such an event, with this reply
+abbrev pub tells_with : (Event → Reply → Bool) → Choice → Reply → Bool
+tells_with p (choice.Outside e) r = p e r
+tells_with p (choice.Turn by) r = false
+
+-- whether one of these is
+unfoldable pub tells_over : (Event → Reply → Bool) → List Choice → List Reply → Bool
+tells_over p (x ∷ xs) (r ∷ rs) = tells_with p x r || tells_over p xs rs
+tells_over p xs rs = false
 
 -- whether one of them made this connection in the pool `net`
 unfoldable pub made_over : (c : ℕ) → List Choice → List Reply → Bool
-made_over c (x ∷ xs) (r ∷ rs) = made_with c x r || made_over c xs rs
-made_over c xs rs = false
-
-abbrev pub gone_with : (c : ℕ) → Choice → Reply → Bool
-gone_with c (choice.Outside e) r = gone_by c e r
-gone_with c (choice.Turn by) r = false
+made_over c xs rs = tells_over (λ e r. made_by c e r) xs rs
 
 -- whether one of them told that the peer of this connection left
 unfoldable pub gone_over : (c : ℕ) → List Choice → List Reply → Bool
-gone_over c (x ∷ xs) (r ∷ rs) = gone_with c x r || gone_over c xs rs
-gone_over c xs rs = false
-
-abbrev pub given_with : (a : ℕ) → Choice → Reply → Bool
-given_with a (choice.Outside e) r = given_by a e r
-given_with a (choice.Turn by) r = false
+gone_over c xs rs = tells_over (λ e r. gone_by c e r) xs rs
 
 -- whether one of them gave the server an aggregate, under this number
 unfoldable pub given_over : (a : ℕ) → List Choice → List Reply → Bool
-given_over a (x ∷ xs) (r ∷ rs) = given_with a x r || given_over a xs rs
-given_over a xs rs = false
+given_over a xs rs = tells_over (λ e r. given_by a e r) xs rs
 
 abbrev pub past_of : List Choice → List Reply → Past
 past_of xs rs = record {

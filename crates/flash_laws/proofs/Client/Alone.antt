@@ -1,5 +1,5 @@
 -- After the reply to its call a client for which no script runs has what it needs, with what is known then.
-use Rattle.std.proofs.Common.{◌≡◌, ℕ, ◌+◌, List, [], ◌∷◌, length, take, drop, ap, refl, sym, subst, Option, Some, None, true, false, Bool, if◌then◌else◌}
+use Rattle.std.proofs.Common.{◌≡◌, ℕ, ◌+◌, List, [], ◌∷◌, length, take, drop, refl, sym, subst, Some, None, true, false, Bool, if◌then◌else◌}
 use Rattle.iol_core.specs.Access.{HasAccess}
 use Rattle.iol_core.specs.State.{State, descriptor, content, file, may_read, is_live}
 use Rattle.iol_core.specs.Run.{StepsTo}
@@ -23,11 +23,10 @@ use Rattle.flash_laws.specs.Client.{Client, is_for_script, conn_wants, wants, ca
 use Rattle.flash_laws.specs.ClientOffers.{ConnLearns, Learns}
 use Rattle.flash_laws.specs.Conn as conn
 use Rattle.flash_laws.specs.Conn.{Conn, most_read, status_of}
-use Rattle.flash_laws.specs.declared.doing.Learnt.TheVariants.{File, Length, Fails, Text as TextOf}
-use Rattle.flash_laws.specs.declared.doing.Content.TheVariants.{Body, Bare, Error, Script}
+use Rattle.flash_laws.specs.declared.doing.Learnt.TheVariants.{File, Text as TextOf}
+use Rattle.flash_laws.specs.declared.doing.Content.TheVariants.{Script}
 use Rattle.flash_laws.specs.declared.doing.Doing.{Doing}
-use Rattle.flash_laws.specs.declared.doing.Doing.TheVariants.{Rests, Got, Opens, Reads as Reading, Shuts, Picks, Spares, Heads, Joins, Sends, Cuts, Offers, Swaps, Sent, Breaks, Drops, Closes, Over}
-use Rattle.flash_laws.specs.declared.running.Running.{Running}
+use Rattle.flash_laws.specs.declared.doing.Doing.TheVariants.{Rests, Got, Opens, Reads as Reading, Shuts, Spares, Heads, Sends, Breaks, Drops, Closes}
 use Rattle.flash_laws.specs.declared.running.Running.TheVariants.{Leaves}
 use Rattle.flash_laws.specs.Fits.{IsFile, Has, is_closing, Names}
 use Rattle.flash_laws.specs.Known as known
@@ -35,14 +34,12 @@ use Rattle.flash_laws.specs.Known.{Known, OfFile, OfScript, is_read, is_silent, 
 use Rattle.flash_laws.specs.Offers as single
 use Rattle.flash_laws.specs.RunFits.{Progress, nothing_yet}
 use Rattle.flash_laws.specs.Site.{server}
+use Rattle.flash_laws.proofs.Forms.{at, of as client}
 use Rattle.flash_laws.proofs.Client.Phases as phases
-use Rattle.flash_laws.proofs.Client.Phases.{at, asks-told, unread-told, read-told}
+use Rattle.flash_laws.proofs.Client.Phases.{asks-told, unread-told, read-told}
 use Rattle.flash_laws.proofs.Lists.{clash}
 use Rattle.flash_laws.proofs.Conn.Offering as offering
 use Rattle.flash_laws.proofs.Run.Ends.{all-taken}
-
-abbrev pub client : Conn → Option Running → List ℕ → Client
-client c run script = record { conn = c; run = run; script = script }
 
 untrue : (b : Bool) → (b ≡ true → ⊥) → b ≡ false
 untrue true never = absurd (never refl)
@@ -61,27 +58,10 @@ silent-told kept q (Breaks piece a more) r heard silent unread busy = refl
 silent-told kept q (Drops a None) reply.Done heard silent unread busy = refl
 silent-told kept q (Drops a (Some x)) reply.Done heard silent unread busy = refl
 silent-told kept q (Drops a more) r heard silent unread busy = refl
-silent-told kept q Opens r heard silent unread busy = absurd (cc (silent))
-silent-told kept q (Reading f) r heard silent unread busy = absurd (cc (silent))
-silent-told kept q (Shuts f (File a len)) r heard silent unread busy = absurd (cc (silent))
-silent-told kept q (Shuts f (Length len)) r heard silent unread busy = absurd (cc (silent))
-silent-told kept q (Shuts f (Fails status)) r heard silent unread busy = absurd (cc (silent))
-silent-told kept q (Shuts f (TextOf a false)) r heard silent unread busy = absurd (cc (silent))
 silent-told kept q (Shuts f (TextOf a true)) r heard silent unread busy = absurd (cc (unread))
-silent-told kept q (Picks a first last len) r heard silent unread busy = absurd (cc (silent))
-silent-told kept q (Spares a (Body b size len)) r heard silent unread busy = absurd (cc (silent))
-silent-told kept q (Spares a (Bare len)) r heard silent unread busy = absurd (cc (silent))
-silent-told kept q (Spares a (Error status)) r heard silent unread busy = absurd (cc (silent))
 silent-told kept q (Spares a Script) r heard silent unread busy = absurd (cc (unread))
-silent-told kept q (Heads k) r heard silent unread busy = absurd (cc (silent))
-silent-told kept q (Joins a size body len) r heard silent unread busy = absurd (cc (silent))
-silent-told kept q (Sends a len taken more) r heard silent unread busy = absurd (cc (silent))
-silent-told kept q (Cuts a from len taken more) r heard silent unread busy = absurd (cc (silent))
-silent-told kept q (Offers a from len piece taken more) r heard silent unread busy = absurd (cc (silent))
-silent-told kept q (Swaps a from len piece taken more) r heard silent unread busy = absurd (cc (silent))
-silent-told kept q (Sent a taken more) r heard silent unread busy = absurd (cc (silent))
-silent-told kept q Over r heard silent unread busy = absurd (cc (silent))
 silent-told kept q Closes r heard silent unread busy = absurd (cc (busy))
+silent-told kept q d r heard silent unread busy = absurd (cc (silent))
 
 -- after a run nothing more is taken of its response
 after-told : (w : Wanted) (o : Progress) (kept : List ℕ) (d : Doing) (r : Reply) (heard : List ℕ) → is_silent d ≡ true → is_read d ≡ false → is_closing d ≡ false
@@ -96,27 +76,10 @@ after-told w o kept (Breaks piece a more) r heard silent unread busy after = aft
 after-told w o kept (Drops a None) reply.Done heard silent unread busy after = after
 after-told w o kept (Drops a (Some x)) reply.Done heard silent unread busy after = after
 after-told w o kept (Drops a more) r heard silent unread busy after = after
-after-told w o kept Opens r heard silent unread busy after = absurd (cc (silent))
-after-told w o kept (Reading f) r heard silent unread busy after = absurd (cc (silent))
-after-told w o kept (Shuts f (File a len)) r heard silent unread busy after = absurd (cc (silent))
-after-told w o kept (Shuts f (Length len)) r heard silent unread busy after = absurd (cc (silent))
-after-told w o kept (Shuts f (Fails status)) r heard silent unread busy after = absurd (cc (silent))
-after-told w o kept (Shuts f (TextOf a false)) r heard silent unread busy after = absurd (cc (silent))
 after-told w o kept (Shuts f (TextOf a true)) r heard silent unread busy after = absurd (cc (unread))
-after-told w o kept (Picks a first last len) r heard silent unread busy after = absurd (cc (silent))
-after-told w o kept (Spares a (Body b size len)) r heard silent unread busy after = absurd (cc (silent))
-after-told w o kept (Spares a (Bare len)) r heard silent unread busy after = absurd (cc (silent))
-after-told w o kept (Spares a (Error status)) r heard silent unread busy after = absurd (cc (silent))
 after-told w o kept (Spares a Script) r heard silent unread busy after = absurd (cc (unread))
-after-told w o kept (Heads k) r heard silent unread busy after = absurd (cc (silent))
-after-told w o kept (Joins a size body len) r heard silent unread busy after = absurd (cc (silent))
-after-told w o kept (Sends a len taken more) r heard silent unread busy after = absurd (cc (silent))
-after-told w o kept (Cuts a from len taken more) r heard silent unread busy after = absurd (cc (silent))
-after-told w o kept (Offers a from len piece taken more) r heard silent unread busy after = absurd (cc (silent))
-after-told w o kept (Swaps a from len piece taken more) r heard silent unread busy after = absurd (cc (silent))
-after-told w o kept (Sent a taken more) r heard silent unread busy after = absurd (cc (silent))
-after-told w o kept Over r heard silent unread busy after = absurd (cc (silent))
 after-told w o kept Closes r heard silent unread busy after = absurd (cc (busy))
+after-told w o kept d r heard silent unread busy after = absurd (cc (silent))
 
 -- the text of a script has run
 pub no-text : (b : Bool) (w : Wanted) (x : Client) (text : List ℕ) (o : Progress) → b ≡ false → IsAfter w o x.conn.doing → ReadsOn b w x text o
@@ -181,25 +144,7 @@ module _ (steps : EachStepLeavesTheRest) (own : CallsServeTheirDomain) (files : 
   script-on (serve w) (Reading g) r heard before for_script busy has step names =
       text-read w g has.has.1.0 has.has.1.1 r heard before for_script has.has.1.2 (access.fds server g has.has.1.0 has.has.1.1 modes.Read has.has.1.2) step names
   script-on (serve w) (Spares a Script) r heard before for_script busy has step names = absurd (let read = has.unread in cc (read))
-  script-on (serve w) Rests r heard before for_script busy has step names = (let got = file-on (serve w) Rests r heard before busy has step names in (OfFile got.0, (got.0, got.1, refl), got.2))
-  script-on (serve w) (Got a) r heard before for_script busy has step names = (let got = file-on (serve w) (Got a) r heard before busy has step names in (OfFile got.0, (got.0, got.1, refl), got.2))
-  script-on (serve w) Opens r heard before for_script busy has step names = (let got = file-on (serve w) Opens r heard before busy has step names in (OfFile got.0, (got.0, got.1, refl), got.2))
-  script-on (serve w) (Shuts f k) r heard before for_script busy has step names = (let got = file-on (serve w) (Shuts f k) r heard before busy has step names in (OfFile got.0, (got.0, got.1, refl), got.2))
-  script-on (serve w) (Picks a first last len) r heard before for_script busy has step names = (let got = file-on (serve w) (Picks a first last len) r heard before busy has step names in (OfFile got.0, (got.0, got.1, refl), got.2))
-  script-on (serve w) (Spares a (Body b size len)) r heard before for_script busy has step names = (let got = file-on (serve w) (Spares a (Body b size len)) r heard before busy has step names in (OfFile got.0, (got.0, got.1, refl), got.2))
-  script-on (serve w) (Spares a (Bare len)) r heard before for_script busy has step names = (let got = file-on (serve w) (Spares a (Bare len)) r heard before busy has step names in (OfFile got.0, (got.0, got.1, refl), got.2))
-  script-on (serve w) (Spares a (Error status)) r heard before for_script busy has step names = (let got = file-on (serve w) (Spares a (Error status)) r heard before busy has step names in (OfFile got.0, (got.0, got.1, refl), got.2))
-  script-on (serve w) (Heads k) r heard before for_script busy has step names = (let got = file-on (serve w) (Heads k) r heard before busy has step names in (OfFile got.0, (got.0, got.1, refl), got.2))
-  script-on (serve w) (Joins a size body len) r heard before for_script busy has step names = (let got = file-on (serve w) (Joins a size body len) r heard before busy has step names in (OfFile got.0, (got.0, got.1, refl), got.2))
-  script-on (serve w) (Sends a len taken more) r heard before for_script busy has step names = (let got = file-on (serve w) (Sends a len taken more) r heard before busy has step names in (OfFile got.0, (got.0, got.1, refl), got.2))
-  script-on (serve w) (Cuts a from len taken more) r heard before for_script busy has step names = (let got = file-on (serve w) (Cuts a from len taken more) r heard before busy has step names in (OfFile got.0, (got.0, got.1, refl), got.2))
-  script-on (serve w) (Offers a from len piece taken more) r heard before for_script busy has step names = (let got = file-on (serve w) (Offers a from len piece taken more) r heard before busy has step names in (OfFile got.0, (got.0, got.1, refl), got.2))
-  script-on (serve w) (Swaps a from len piece taken more) r heard before for_script busy has step names = (let got = file-on (serve w) (Swaps a from len piece taken more) r heard before busy has step names in (OfFile got.0, (got.0, got.1, refl), got.2))
-  script-on (serve w) (Sent a taken more) r heard before for_script busy has step names = (let got = file-on (serve w) (Sent a taken more) r heard before busy has step names in (OfFile got.0, (got.0, got.1, refl), got.2))
-  script-on (serve w) (Breaks piece a more) r heard before for_script busy has step names = (let got = file-on (serve w) (Breaks piece a more) r heard before busy has step names in (OfFile got.0, (got.0, got.1, refl), got.2))
-  script-on (serve w) (Drops a more) r heard before for_script busy has step names = (let got = file-on (serve w) (Drops a more) r heard before busy has step names in (OfFile got.0, (got.0, got.1, refl), got.2))
-  script-on (serve w) Closes r heard before for_script busy has step names = (let got = file-on (serve w) Closes r heard before busy has step names in (OfFile got.0, (got.0, got.1, refl), got.2))
-  script-on (serve w) Over r heard before for_script busy has step names = (let got = file-on (serve w) Over r heard before busy has step names in (OfFile got.0, (got.0, got.1, refl), got.2))
+  script-on (serve w) d r heard before for_script busy has step names = (let got = file-on (serve w) d r heard before busy has step names in (OfFile got.0, (got.0, got.1, refl), got.2))
 
   pub of-file : (q : Answer) (d : Doing) (r : Reply) (heard : List ℕ) (before : Outcome) (b : Bool) → is_for_script scripts q ≡ b → is_closing d ≡ false
       → HasFile m (of_doing q d) before → StepsTo m (event.Call server (conn_wants b fd (at kept q d))) r n → Names n r heard
@@ -281,24 +226,4 @@ module _ (steps : EachStepLeavesTheRest) (own : CallsServeTheirDomain) (files : 
     of-script (Reading f) true for_script busy has step names = absurd (let read = has.read in cc (read))
     of-script (Shuts g (TextOf a true)) true for_script busy has step names = (OfScript text o, refl, shut-on g a for_script has step names)
     of-script (Spares a Script) true for_script busy has step names = (OfScript text o, refl, spared-on a for_script has step)
-    of-script Rests true for_script busy has step names = (OfScript text o, refl, known-on Rests (plain-on Rests has refl busy step names))
-    of-script (Got a) true for_script busy has step names = (OfScript text o, refl, known-on (Got a) (plain-on (Got a) has refl busy step names))
-    of-script (Shuts f (File a len)) true for_script busy has step names = (OfScript text o, refl, known-on (Shuts f (File a len)) (plain-on (Shuts f (File a len)) has refl busy step names))
-    of-script (Shuts f (Length len)) true for_script busy has step names = (OfScript text o, refl, known-on (Shuts f (Length len)) (plain-on (Shuts f (Length len)) has refl busy step names))
-    of-script (Shuts f (Fails status)) true for_script busy has step names = (OfScript text o, refl, known-on (Shuts f (Fails status)) (plain-on (Shuts f (Fails status)) has refl busy step names))
-    of-script (Shuts f (TextOf a false)) true for_script busy has step names = (OfScript text o, refl, known-on (Shuts f (TextOf a false)) (plain-on (Shuts f (TextOf a false)) has refl busy step names))
-    of-script (Picks a first last len) true for_script busy has step names = (OfScript text o, refl, known-on (Picks a first last len) (plain-on (Picks a first last len) has refl busy step names))
-    of-script (Spares a (Body b size len)) true for_script busy has step names = (OfScript text o, refl, known-on (Spares a (Body b size len)) (plain-on (Spares a (Body b size len)) has refl busy step names))
-    of-script (Spares a (Bare len)) true for_script busy has step names = (OfScript text o, refl, known-on (Spares a (Bare len)) (plain-on (Spares a (Bare len)) has refl busy step names))
-    of-script (Spares a (Error status)) true for_script busy has step names = (OfScript text o, refl, known-on (Spares a (Error status)) (plain-on (Spares a (Error status)) has refl busy step names))
-    of-script (Heads k) true for_script busy has step names = (OfScript text o, refl, known-on (Heads k) (plain-on (Heads k) has refl busy step names))
-    of-script (Joins a size body len) true for_script busy has step names = (OfScript text o, refl, known-on (Joins a size body len) (plain-on (Joins a size body len) has refl busy step names))
-    of-script (Sends a len taken more) true for_script busy has step names = (OfScript text o, refl, known-on (Sends a len taken more) (plain-on (Sends a len taken more) has refl busy step names))
-    of-script (Cuts a from len taken more) true for_script busy has step names = (OfScript text o, refl, known-on (Cuts a from len taken more) (plain-on (Cuts a from len taken more) has refl busy step names))
-    of-script (Offers a from len piece taken more) true for_script busy has step names = (OfScript text o, refl, known-on (Offers a from len piece taken more) (plain-on (Offers a from len piece taken more) has refl busy step names))
-    of-script (Swaps a from len piece taken more) true for_script busy has step names = (OfScript text o, refl, known-on (Swaps a from len piece taken more) (plain-on (Swaps a from len piece taken more) has refl busy step names))
-    of-script (Sent a taken more) true for_script busy has step names = (OfScript text o, refl, known-on (Sent a taken more) (plain-on (Sent a taken more) has refl busy step names))
-    of-script (Breaks piece a more) true for_script busy has step names = (OfScript text o, refl, known-on (Breaks piece a more) (plain-on (Breaks piece a more) has refl busy step names))
-    of-script (Drops a more) true for_script busy has step names = (OfScript text o, refl, known-on (Drops a more) (plain-on (Drops a more) has refl busy step names))
-    of-script Closes true for_script busy has step names = (OfScript text o, refl, known-on Closes (plain-on Closes has refl busy step names))
-    of-script Over true for_script busy has step names = (OfScript text o, refl, known-on Over (plain-on Over has refl busy step names))
+    of-script d true for_script busy has step names = (OfScript text o, refl, known-on d (plain-on d has refl busy step names))

@@ -20,9 +20,9 @@ use Rattle.flash_laws.specs.ClientKeeping.{has_fd, ClientsLeaveNothing}
 use Rattle.flash_laws.specs.ClientOffers.{is_ending}
 use Rattle.flash_laws.specs.Conn as conn
 use Rattle.flash_laws.specs.Conn.{Conn, is_head_only}
-use Rattle.flash_laws.specs.declared.doing.Content.TheVariants.{Body, Bare, Error, Script}
+use Rattle.flash_laws.specs.declared.doing.Content.TheVariants.{Script}
 use Rattle.flash_laws.specs.declared.doing.Doing.{Doing}
-use Rattle.flash_laws.specs.declared.doing.Doing.TheVariants.{Rests, Got, Opens, Reads as Reading, Shuts, Picks, Spares, Heads, Joins, Sends, Cuts, Offers, Swaps, Sent, Breaks, Drops, Closes, Over}
+use Rattle.flash_laws.specs.declared.doing.Doing.TheVariants.{Reads as Reading, Spares}
 use Rattle.flash_laws.specs.declared.running.Running.{Running}
 use Rattle.flash_laws.specs.declared.running.Running.TheVariants.{Awaits, Runs, Leaves, Closes as Ends}
 use Rattle.flash_laws.specs.Fits.{Has}
@@ -32,17 +32,14 @@ use Rattle.flash_laws.specs.RunKeeping.{has_end, RunsKeepNothing}
 use Rattle.flash_laws.specs.Running as running
 use Rattle.flash_laws.specs.Running.{is_over}
 use Rattle.flash_laws.specs.Site.{server}
+use Rattle.flash_laws.proofs.Forms.{at, of as client}
 use Rattle.flash_laws.proofs.Client.Moving.{client-opened, client-piped}
-use Rattle.flash_laws.proofs.Client.Phases.{at}
 use Rattle.flash_laws.proofs.Client.Staying.{client-holds, client-ready, new-holds}
 use Rattle.flash_laws.proofs.Conn.Keeping as keeping
 use Rattle.flash_laws.proofs.Conn.Keeping.{leaves-told, shuts}
 use Rattle.flash_laws.proofs.Lists.{clash}
 use Rattle.flash_laws.proofs.Run.Brought.{runs_keep}
 use Rattle.flash_laws.proofs.Run.Ends.{wants-text}
-
-abbrev client : Conn → Option Running → List ℕ → Client
-client c run script = record { conn = c; run = run; script = script }
 
 -- ---- what it uses is what its connection uses, where no run has begun
 
@@ -67,25 +64,7 @@ script-uses kept q (Spares b Script) script r heard a true = by (is_head_only q)
     by true r = refl
     by false reply.Done = refl
     by false r = refl
-script-uses kept q Rests script r heard a true = refl
-script-uses kept q (Got b) script r heard a true = refl
-script-uses kept q Opens script r heard a true = refl
-script-uses kept q (Shuts f k) script r heard a true = refl
-script-uses kept q (Picks b first last len) script r heard a true = refl
-script-uses kept q (Spares b (Body c size len)) script r heard a true = refl
-script-uses kept q (Spares b (Bare len)) script r heard a true = refl
-script-uses kept q (Spares b (Error status)) script r heard a true = refl
-script-uses kept q (Heads k) script r heard a true = refl
-script-uses kept q (Joins b size body len) script r heard a true = refl
-script-uses kept q (Sends b len taken more) script r heard a true = refl
-script-uses kept q (Cuts b from len taken more) script r heard a true = refl
-script-uses kept q (Offers b from len piece taken more) script r heard a true = refl
-script-uses kept q (Swaps b from len piece taken more) script r heard a true = refl
-script-uses kept q (Sent b taken more) script r heard a true = refl
-script-uses kept q (Breaks piece b more) script r heard a true = refl
-script-uses kept q (Drops b more) script r heard a true = refl
-script-uses kept q Closes script r heard a true = refl
-script-uses kept q Over script r heard a true = refl
+script-uses kept q d script r heard a true = refl
 
 script-opens : (kept : List ℕ) (q : Answer) (d : Doing) (script : List ℕ) (r : Reply) (heard : List ℕ) (g : ℕ) (b : Bool)
     → has_fd (file_told b (client (at kept q d) None script) r heard) g ≡ conn.uses_fd (conn.told (at kept q d) r heard).doing g
@@ -98,25 +77,7 @@ script-opens kept q (Spares b Script) script r heard g true = by (is_head_only q
     by true r = refl
     by false reply.Done = refl
     by false r = refl
-script-opens kept q Rests script r heard g true = refl
-script-opens kept q (Got b) script r heard g true = refl
-script-opens kept q Opens script r heard g true = refl
-script-opens kept q (Shuts f k) script r heard g true = refl
-script-opens kept q (Picks b first last len) script r heard g true = refl
-script-opens kept q (Spares b (Body c size len)) script r heard g true = refl
-script-opens kept q (Spares b (Bare len)) script r heard g true = refl
-script-opens kept q (Spares b (Error status)) script r heard g true = refl
-script-opens kept q (Heads k) script r heard g true = refl
-script-opens kept q (Joins b size body len) script r heard g true = refl
-script-opens kept q (Sends b len taken more) script r heard g true = refl
-script-opens kept q (Cuts b from len taken more) script r heard g true = refl
-script-opens kept q (Offers b from len piece taken more) script r heard g true = refl
-script-opens kept q (Swaps b from len piece taken more) script r heard g true = refl
-script-opens kept q (Sent b taken more) script r heard g true = refl
-script-opens kept q (Breaks piece b more) script r heard g true = refl
-script-opens kept q (Drops b more) script r heard g true = refl
-script-opens kept q Closes script r heard g true = refl
-script-opens kept q Over script r heard g true = refl
+script-opens kept q d script r heard g true = refl
 
 -- ---- what a run uses it uses until it is over, and its connection nothing then
 
@@ -130,13 +91,11 @@ on-uses x y z a true true is = refl
 on-uses x y z a true false is = refl
 
 on-ends : (x : Client) (y z : Running) (g : ℕ) (was over : Bool) → is_over z ≡ over → has_fd (goes_on was over x y z) g ≡ false → has_end z g ≡ false
-on-ends x y Awaits g false true is unused = refl
 on-ends x y (Runs run s) g false true is unused = absurd (cc (is))
-on-ends x y (Leaves d) g false true is unused = refl
-on-ends x y Ends g false true is unused = refl
 on-ends x y z g false false is unused = unused
 on-ends x y z g true true is unused = unused
 on-ends x y z g true false is unused = unused
+on-ends x y z g false true is unused = refl
 
 module _ (come : AggregatesComeAndGo) (own : CallsServeTheirDomain) (files : FileCallsServeTheirDomain) (m n : State) (order : IsOrderly m) where
   -- ---- what comes
@@ -146,26 +105,10 @@ module _ (come : AggregatesComeAndGo) (own : CallsServeTheirDomain) (files : Fil
       → StepsTo m (event.Call server (conn_wants b fd (at kept q d))) r n → lent_at m server a ≡ None → lent_at n server a ≡ Some bytes
       → conn.uses_agg (conn.told (at kept q d) r heard).doing a ≡ true
   conn-brought fd c kept q d due r heard bytes a false access lives open_on has step before after =
-      keeping.brought come own files m n order a bytes before after kept fd c q d due r heard access lives open_on has step
+      keeping.brought come own m n order a bytes before after files kept fd c q d due r heard access lives open_on has step
   conn-brought fd c kept q (Reading g) due r heard bytes a true access lives open_on has step before after =
-      keeping.reads come own files m n order a bytes before after kept q g has.1.0 has.1.1 r heard access lives has.1.2 false step
-  conn-brought fd c kept q Rests due r heard bytes a true access lives open_on has step before after = keeping.brought come own files m n order a bytes before after kept fd c q Rests due r heard access lives open_on has step
-  conn-brought fd c kept q (Got b) due r heard bytes a true access lives open_on has step before after = keeping.brought come own files m n order a bytes before after kept fd c q (Got b) due r heard access lives open_on has step
-  conn-brought fd c kept q Opens due r heard bytes a true access lives open_on has step before after = keeping.brought come own files m n order a bytes before after kept fd c q Opens due r heard access lives open_on has step
-  conn-brought fd c kept q (Shuts f k) due r heard bytes a true access lives open_on has step before after = keeping.brought come own files m n order a bytes before after kept fd c q (Shuts f k) due r heard access lives open_on has step
-  conn-brought fd c kept q (Picks b first last len) due r heard bytes a true access lives open_on has step before after = keeping.brought come own files m n order a bytes before after kept fd c q (Picks b first last len) due r heard access lives open_on has step
-  conn-brought fd c kept q (Spares b k) due r heard bytes a true access lives open_on has step before after = keeping.brought come own files m n order a bytes before after kept fd c q (Spares b k) due r heard access lives open_on has step
-  conn-brought fd c kept q (Heads k) due r heard bytes a true access lives open_on has step before after = keeping.brought come own files m n order a bytes before after kept fd c q (Heads k) due r heard access lives open_on has step
-  conn-brought fd c kept q (Joins b size body len) due r heard bytes a true access lives open_on has step before after = keeping.brought come own files m n order a bytes before after kept fd c q (Joins b size body len) due r heard access lives open_on has step
-  conn-brought fd c kept q (Sends b len taken more) due r heard bytes a true access lives open_on has step before after = keeping.brought come own files m n order a bytes before after kept fd c q (Sends b len taken more) due r heard access lives open_on has step
-  conn-brought fd c kept q (Cuts b from len taken more) due r heard bytes a true access lives open_on has step before after = keeping.brought come own files m n order a bytes before after kept fd c q (Cuts b from len taken more) due r heard access lives open_on has step
-  conn-brought fd c kept q (Offers b from len piece taken more) due r heard bytes a true access lives open_on has step before after = keeping.brought come own files m n order a bytes before after kept fd c q (Offers b from len piece taken more) due r heard access lives open_on has step
-  conn-brought fd c kept q (Swaps b from len piece taken more) due r heard bytes a true access lives open_on has step before after = keeping.brought come own files m n order a bytes before after kept fd c q (Swaps b from len piece taken more) due r heard access lives open_on has step
-  conn-brought fd c kept q (Sent b taken more) due r heard bytes a true access lives open_on has step before after = keeping.brought come own files m n order a bytes before after kept fd c q (Sent b taken more) due r heard access lives open_on has step
-  conn-brought fd c kept q (Breaks piece b more) due r heard bytes a true access lives open_on has step before after = keeping.brought come own files m n order a bytes before after kept fd c q (Breaks piece b more) due r heard access lives open_on has step
-  conn-brought fd c kept q (Drops b more) due r heard bytes a true access lives open_on has step before after = keeping.brought come own files m n order a bytes before after kept fd c q (Drops b more) due r heard access lives open_on has step
-  conn-brought fd c kept q Closes due r heard bytes a true access lives open_on has step before after = keeping.brought come own files m n order a bytes before after kept fd c q Closes due r heard access lives open_on has step
-  conn-brought fd c kept q Over due r heard bytes a true access lives open_on has step before after = keeping.brought come own files m n order a bytes before after kept fd c q Over due r heard access lives open_on has step
+      keeping.reads come own m n order a bytes before after files kept q g has.1.0 has.1.1 r heard access lives has.1.2 false step
+  conn-brought fd c kept q d due r heard bytes a true access lives open_on has step before after = keeping.brought come own m n order a bytes before after files kept fd c q d due r heard access lives open_on has step
 
   run-brought : (law : RunsKeepNothing) (fd c worker : ℕ) (kept : List ℕ) (w : Wanted) (d : Doing) (y : Running) (script text : List ℕ) (o : Progress)
       (r : Reply) (heard bytes : List ℕ) (a : ℕ) → descriptor m server fd ≡ Some (on.Connection c) → is_over y ≡ false → IsRun m w y script text o
@@ -206,23 +149,7 @@ module _ (come : AggregatesComeAndGo) (own : CallsServeTheirDomain) (files : Fil
       → conn.uses_agg (conn.told (at kept q d) r heard).doing a ≡ false → lent_at n server a ≡ None
   conn-left fd kept q d r heard a false step u unused = gone fd kept q d r heard a step u unused
   conn-left fd kept q (Reading g) r heard a true step u unused = absurd (cc (u))
-  conn-left fd kept q Rests r heard a true step u unused = gone fd kept q Rests r heard a step u unused
-  conn-left fd kept q (Got b) r heard a true step u unused = gone fd kept q (Got b) r heard a step u unused
-  conn-left fd kept q Opens r heard a true step u unused = gone fd kept q Opens r heard a step u unused
-  conn-left fd kept q (Shuts f k) r heard a true step u unused = gone fd kept q (Shuts f k) r heard a step u unused
-  conn-left fd kept q (Picks b first last len) r heard a true step u unused = gone fd kept q (Picks b first last len) r heard a step u unused
-  conn-left fd kept q (Spares b k) r heard a true step u unused = gone fd kept q (Spares b k) r heard a step u unused
-  conn-left fd kept q (Heads k) r heard a true step u unused = gone fd kept q (Heads k) r heard a step u unused
-  conn-left fd kept q (Joins b size body len) r heard a true step u unused = gone fd kept q (Joins b size body len) r heard a step u unused
-  conn-left fd kept q (Sends b len taken more) r heard a true step u unused = gone fd kept q (Sends b len taken more) r heard a step u unused
-  conn-left fd kept q (Cuts b from len taken more) r heard a true step u unused = gone fd kept q (Cuts b from len taken more) r heard a step u unused
-  conn-left fd kept q (Offers b from len piece taken more) r heard a true step u unused = gone fd kept q (Offers b from len piece taken more) r heard a step u unused
-  conn-left fd kept q (Swaps b from len piece taken more) r heard a true step u unused = gone fd kept q (Swaps b from len piece taken more) r heard a step u unused
-  conn-left fd kept q (Sent b taken more) r heard a true step u unused = gone fd kept q (Sent b taken more) r heard a step u unused
-  conn-left fd kept q (Breaks piece b more) r heard a true step u unused = gone fd kept q (Breaks piece b more) r heard a step u unused
-  conn-left fd kept q (Drops b more) r heard a true step u unused = gone fd kept q (Drops b more) r heard a step u unused
-  conn-left fd kept q Closes r heard a true step u unused = gone fd kept q Closes r heard a step u unused
-  conn-left fd kept q Over r heard a true step u unused = gone fd kept q Over r heard a step u unused
+  conn-left fd kept q d r heard a true step u unused = gone fd kept q d r heard a step u unused
 
   left : (scripts : Bool) (fd worker : ℕ) (kept : List ℕ) (q : Answer) (d : Doing) (run : Option Running) (script : List ℕ) (known : Known)
       (r : Reply) (heard : List ℕ) (a : ℕ) → HasKnown scripts m (client (at kept q d) run script) known
@@ -250,23 +177,7 @@ conn-shut own m n fd kept q (Reading f) r heard g true step u unused = absurd (b
     by (reply.Refused no.WouldBlock) unused = clash (f == g) u unused
     by (reply.Refused x) unused = clash (f == g) u unused
     by r unused = clash (f == g) u unused
-conn-shut own m n fd kept q Rests r heard g true step u unused = shuts own m n fd kept q Rests r heard g step u unused
-conn-shut own m n fd kept q (Got b) r heard g true step u unused = shuts own m n fd kept q (Got b) r heard g step u unused
-conn-shut own m n fd kept q Opens r heard g true step u unused = shuts own m n fd kept q Opens r heard g step u unused
-conn-shut own m n fd kept q (Shuts f k) r heard g true step u unused = shuts own m n fd kept q (Shuts f k) r heard g step u unused
-conn-shut own m n fd kept q (Picks b first last len) r heard g true step u unused = shuts own m n fd kept q (Picks b first last len) r heard g step u unused
-conn-shut own m n fd kept q (Spares b k) r heard g true step u unused = shuts own m n fd kept q (Spares b k) r heard g step u unused
-conn-shut own m n fd kept q (Heads k) r heard g true step u unused = shuts own m n fd kept q (Heads k) r heard g step u unused
-conn-shut own m n fd kept q (Joins b size body len) r heard g true step u unused = shuts own m n fd kept q (Joins b size body len) r heard g step u unused
-conn-shut own m n fd kept q (Sends b len taken more) r heard g true step u unused = shuts own m n fd kept q (Sends b len taken more) r heard g step u unused
-conn-shut own m n fd kept q (Cuts b from len taken more) r heard g true step u unused = shuts own m n fd kept q (Cuts b from len taken more) r heard g step u unused
-conn-shut own m n fd kept q (Offers b from len piece taken more) r heard g true step u unused = shuts own m n fd kept q (Offers b from len piece taken more) r heard g step u unused
-conn-shut own m n fd kept q (Swaps b from len piece taken more) r heard g true step u unused = shuts own m n fd kept q (Swaps b from len piece taken more) r heard g step u unused
-conn-shut own m n fd kept q (Sent b taken more) r heard g true step u unused = shuts own m n fd kept q (Sent b taken more) r heard g step u unused
-conn-shut own m n fd kept q (Breaks piece b more) r heard g true step u unused = shuts own m n fd kept q (Breaks piece b more) r heard g step u unused
-conn-shut own m n fd kept q (Drops b more) r heard g true step u unused = shuts own m n fd kept q (Drops b more) r heard g step u unused
-conn-shut own m n fd kept q Closes r heard g true step u unused = shuts own m n fd kept q Closes r heard g step u unused
-conn-shut own m n fd kept q Over r heard g true step u unused = shuts own m n fd kept q Over r heard g step u unused
+conn-shut own m n fd kept q d r heard g true step u unused = shuts own m n fd kept q d r heard g step u unused
 
 shut : (come : AggregatesComeAndGo) (own : CallsServeTheirDomain) (m n : State) (scripts : Bool) (fd worker : ℕ) (kept : List ℕ) (q : Answer) (d : Doing)
     (run : Option Running) (script : List ℕ) (known : Known) (r : Reply) (heard : List ℕ) (g : ℕ) → HasKnown scripts m (client (at kept q d) run script) known

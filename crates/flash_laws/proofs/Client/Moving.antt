@@ -11,79 +11,40 @@ use Rattle.flash_http.specs.Request.{Answer, serve, refuse}
 use Rattle.flash_laws.specs.Client.{Client, is_for_script, conn_wants, job_of, wants, told_text, file_told, goes_on, told, awaits}
 use Rattle.flash_laws.specs.ClientKeeping.{has_fd}
 use Rattle.flash_laws.specs.ClientOffers.{is_ending}
-use Rattle.flash_laws.specs.Conn.{Conn, most_read}
-use Rattle.flash_laws.specs.declared.doing.Content.TheVariants.{Body, Bare, Error, Script}
+use Rattle.flash_laws.specs.Conn.{most_read}
+use Rattle.flash_laws.specs.declared.doing.Content.TheVariants.{Script}
 use Rattle.flash_laws.specs.declared.doing.Doing.{Doing}
-use Rattle.flash_laws.specs.declared.doing.Doing.TheVariants.{Rests, Got, Opens, Reads as Reading, Shuts, Picks, Spares, Heads, Joins, Sends, Cuts, Offers, Swaps, Sent, Breaks, Drops, Closes, Over}
+use Rattle.flash_laws.specs.declared.doing.Doing.TheVariants.{Opens, Reads as Reading, Spares}
 use Rattle.flash_laws.specs.declared.running.Running.{Running}
-use Rattle.flash_laws.specs.declared.running.Running.TheVariants.{Awaits, Runs, Leaves, Closes as Ends}
+use Rattle.flash_laws.specs.declared.running.Running.TheVariants.{Awaits}
 use Rattle.flash_laws.specs.Fits.{is_closing}
 use Rattle.flash_laws.specs.Known.{Known, OfFile, OfScript, HasKnown}
 use Rattle.flash_laws.specs.Offers.{may_repeat}
 use Rattle.flash_laws.specs.Running as running
 use Rattle.flash_laws.specs.Running.{is_over}
 use Rattle.flash_laws.specs.Site.{server}
+use Rattle.flash_laws.proofs.Forms.{at, of as client}
 use Rattle.flash_laws.proofs.Conn.Answering.{some-inj}
-use Rattle.flash_laws.proofs.Client.Phases.{at}
 use Rattle.flash_laws.proofs.Conn.Moving as moving
 use Rattle.flash_laws.proofs.Conn.Repeats as repeats
 use Rattle.flash_laws.proofs.Run.Ends.{wants-text}
 use Rattle.flash_laws.proofs.Run.Moves as run_moves
-
-abbrev client : Conn → Option Running → List ℕ → Client
-client c run script = record { conn = c; run = run; script = script }
 
 module _ (m n : State) (fd : ℕ) (kept : List ℕ) (q : Answer) (script : List ℕ) where
   moved : (b : Bool) (d : Doing) (r : Reply) (heard : List ℕ) → is_closing d ≡ false → StepsTo m (event.Call server (conn_wants b fd (at kept q d))) r n
       → (file_told b (client (at kept q d) None script) r heard).conn.doing ≡ d → may_repeat (conn_wants b fd (at kept q d)) r ≡ true
   moved false d r heard going step same = moving.moved m n fd kept q d r heard going step same
   moved true (Reading f) r heard going step same = repeats.reads m n (Reading f) (λ z. told_text f z heard) f most_read r step (λ k e. cc (e)) same
-  moved true Rests r heard going step same = moving.moved m n fd kept q Rests r heard going step same
-  moved true (Got b) r heard going step same = moving.moved m n fd kept q (Got b) r heard going step same
-  moved true Opens r heard going step same = moving.moved m n fd kept q Opens r heard going step same
-  moved true (Shuts f k) r heard going step same = moving.moved m n fd kept q (Shuts f k) r heard going step same
-  moved true (Picks b first last len) r heard going step same = moving.moved m n fd kept q (Picks b first last len) r heard going step same
   moved true (Spares b Script) r heard going step same = moving.moved m n fd kept q (Spares b Script) r heard going step same
-  moved true (Spares b (Body c size len)) r heard going step same = moving.moved m n fd kept q (Spares b (Body c size len)) r heard going step same
-  moved true (Spares b (Bare len)) r heard going step same = moving.moved m n fd kept q (Spares b (Bare len)) r heard going step same
-  moved true (Spares b (Error status)) r heard going step same = moving.moved m n fd kept q (Spares b (Error status)) r heard going step same
-  moved true (Heads k) r heard going step same = moving.moved m n fd kept q (Heads k) r heard going step same
-  moved true (Joins b size body len) r heard going step same = moving.moved m n fd kept q (Joins b size body len) r heard going step same
-  moved true (Sends b len taken more) r heard going step same = moving.moved m n fd kept q (Sends b len taken more) r heard going step same
-  moved true (Cuts b from len taken more) r heard going step same = moving.moved m n fd kept q (Cuts b from len taken more) r heard going step same
-  moved true (Offers b from len piece taken more) r heard going step same = moving.moved m n fd kept q (Offers b from len piece taken more) r heard going step same
-  moved true (Swaps b from len piece taken more) r heard going step same = moving.moved m n fd kept q (Swaps b from len piece taken more) r heard going step same
-  moved true (Sent b taken more) r heard going step same = moving.moved m n fd kept q (Sent b taken more) r heard going step same
-  moved true (Breaks piece b more) r heard going step same = moving.moved m n fd kept q (Breaks piece b more) r heard going step same
-  moved true (Drops b more) r heard going step same = moving.moved m n fd kept q (Drops b more) r heard going step same
-  moved true Closes r heard going step same = moving.moved m n fd kept q Closes r heard going step same
-  moved true Over r heard going step same = moving.moved m n fd kept q Over r heard going step same
+  moved true d r heard going step same = moving.moved m n fd kept q d r heard going step same
 
   -- a descriptor comes by opening the file
   opened : (b : Bool) (d : Doing) (f : ℕ) (heard : List ℕ) → StepsTo m (event.Call server (conn_wants b fd (at kept q d))) (reply.Fd f) n
       → has_fd (file_told b (client (at kept q d) None script) (reply.Fd f) heard) f ≡ true
   opened false d f heard step = moving.opened m n fd kept q d f heard step
   opened true Opens f heard step = moving.opened m n fd kept q Opens f heard step
-  opened true Rests f heard step = (let e = step.1 in absurd (cc (e)))
-  opened true (Got b) f heard step = (let e = step.1 in absurd (cc (e)))
-  opened true (Reading g) f heard step = (let e = step.1 in absurd (cc (e)))
-  opened true (Shuts g k) f heard step = (let e = step.1 in absurd (cc (e)))
-  opened true (Picks b first last len) f heard step = (let e = step.1 in absurd (cc (e)))
   opened true (Spares b Script) f heard step = (let e = step.1 in absurd (cc (e)))
-  opened true (Spares b (Body c size len)) f heard step = (let e = step.1 in absurd (cc (e)))
-  opened true (Spares b (Bare len)) f heard step = (let e = step.1 in absurd (cc (e)))
-  opened true (Spares b (Error status)) f heard step = (let e = step.1 in absurd (cc (e)))
-  opened true (Heads k) f heard step = (let e = step.1 in absurd (cc (e)))
-  opened true (Joins b size body len) f heard step = (let e = step.1 in absurd (cc (e)))
-  opened true (Sends b len taken more) f heard step = (let e = step.1 in absurd (cc (e)))
-  opened true (Cuts b from len taken more) f heard step = (let e = step.1 in absurd (cc (e)))
-  opened true (Offers b from len piece taken more) f heard step = (let e = step.1 in absurd (cc (e)))
-  opened true (Swaps b from len piece taken more) f heard step = (let e = step.1 in absurd (cc (e)))
-  opened true (Sent b taken more) f heard step = (let e = step.1 in absurd (cc (e)))
-  opened true (Breaks piece b more) f heard step = (let e = step.1 in absurd (cc (e)))
-  opened true (Drops b more) f heard step = (let e = step.1 in absurd (cc (e)))
-  opened true Closes f heard step = (let e = step.1 in absurd (cc (e)))
-  opened true Over f heard step = (let e = step.1 in absurd (cc (e)))
+  opened true d f heard step = (let e = step.1 in absurd (cc (e)))
 
 -- a run that goes on as it was has not moved
 stood : (over : Bool) (x : Client) (y z : Running) → (goes_on false over x y z).run ≡ Some y → z ≡ y
@@ -122,10 +83,7 @@ client-opened scripts m n fd worker f kept q d (Some y) script heard none step =
 pub client-piped : (scripts : Bool) (m : State) (worker from write : ℕ) (kept : List ℕ) (q : Answer) (d : Doing) (run : Option Running) (script : List ℕ) (known : Known) (heard : List ℕ) (g : ℕ)
     → awaits (client (at kept q d) run script) ≡ true → HasKnown scripts m (client (at kept q d) run script) known → ((from == g) || (write == g)) ≡ true
     → has_fd (told scripts worker (client (at kept q d) run script) (reply.Fds from write) heard) g ≡ true
-client-piped scripts m worker from write kept q d None script known heard g waits has u = absurd (cc (waits))
-client-piped scripts m worker from write kept q d (Some (Runs run s)) script known heard g waits has u = absurd (cc (waits))
-client-piped scripts m worker from write kept q d (Some (Leaves e)) script known heard g waits has u = absurd (cc (waits))
-client-piped scripts m worker from write kept q d (Some Ends) script known heard g waits has u = absurd (cc (waits))
 client-piped scripts m worker from write kept q d (Some Awaits) script (OfFile o) heard g waits has u = absurd (let none = has.none in cc (none))
 client-piped scripts m worker from write kept (refuse status head_only close) d (Some Awaits) script (OfScript text o) heard g waits has u = absurd has
 client-piped scripts m worker from write kept (serve w) d (Some Awaits) script (OfScript text o) heard g waits has u = u
+client-piped scripts m worker from write kept q d run script known heard g waits has u = absurd (cc (waits))

@@ -35,16 +35,14 @@ use Rattle.flash_laws.specs.declared.doing.Doing.{Doing}
 use Rattle.flash_laws.specs.declared.doing.Doing.TheVariants.{Rests, Reads as Reading, Shuts, Spares, Heads}
 use Rattle.flash_laws.specs.declared.running.Running.{Running}
 use Rattle.flash_laws.specs.declared.running.Running.TheVariants.{Awaits, Runs, Leaves, Closes as Ends}
-use Rattle.flash_laws.proofs.Client.Phases.{at, unread-told}
-use Rattle.flash_laws.proofs.Lists.{clash}
+use Rattle.flash_laws.proofs.Forms.{at, of as client}
+use Rattle.flash_laws.proofs.Client.Phases.{unread-told}
+use Rattle.flash_laws.proofs.Lists.{clash, not-true}
 use Rattle.flash_laws.proofs.Conn.Nearing as file
 use Rattle.flash_laws.proofs.Conn.Nearing.{stage, calls_left, near, drops, closes}
 use Rattle.flash_laws.proofs.Run.Ends.{IsEnd, run-ends, wants-text}
 use Rattle.flash_laws.proofs.Run.Nearing.{run_calls, rank as run_rank, nears as run_nears}
 use Rattle.flash_laws.proofs.Run.Offering as running_on
-
-abbrev client : Conn → Option Running → List ℕ → Client
-client c run script = record { conn = c; run = run; script = script }
 
 -- ---- how far it is
 
@@ -243,10 +241,6 @@ module _ (steps : EachStepLeavesTheRest) (own : CallsServeTheirDomain) (may : Re
       by (inl nearer) = inl (subst (λ b. Goes kept d script w y (running.told worker w y r heard) r b (is_over (running.told worker w y r heard))) (sym going) (unmoved (is_over (running.told worker w y r heard)) refl nearer))
       by (inr more) = inr more
 
-not-over : (b : Bool) → not b ≡ true → b ≡ false
-not-over true is = absurd (cc (is))
-not-over false is = refl
-
 -- ---- any client
 
 pub client-nears : EachStepLeavesTheRest → CallsServeTheirDomain → RefusalsThatAreLeft → (scripts : Bool) (m n : State) (fd c worker : ℕ) (kept : List ℕ) (q : Answer) (d : Doing)
@@ -261,4 +255,4 @@ client-nears steps own may scripts m n fd c worker kept (refuse status head_only
 client-nears steps own may scripts m n fd c worker kept (serve w) d None script r heard (OfScript text o) order lives open_on busy has can step names =
     inl (of-script own may m n order lives fd c open_on kept script scripts w d text o r heard busy has (is_for_script scripts (serve w)) refl can step names)
 client-nears steps own may scripts m n fd c worker kept (serve w) d (Some y) script r heard (OfScript text o) order lives open_on busy has can step names =
-    run-near steps own may m n order lives fd c open_on kept d script worker w y r heard text o (not-over (is_over y) busy) has can step names
+    run-near steps own may m n order lives fd c open_on kept d script worker w y r heard text o (not-true (is_over y) busy) has can step names

@@ -40,12 +40,13 @@ use Rattle.flash_laws.specs.RunOffers.{past_of, IsNextOf as IsNextOfRun, taken_b
 use Rattle.flash_laws.specs.Running as running
 use Rattle.flash_laws.specs.Running.{in_phase, is_over, job_pipe}
 use Rattle.flash_laws.specs.Site.{server}
-use Rattle.flash_laws.proofs.Client.Alone.{client, no-text, of-file, of-script}
+use Rattle.flash_laws.proofs.Forms.{at, of as client}
+use Rattle.flash_laws.proofs.Client.Alone.{no-text, of-file, of-script}
 use Rattle.flash_laws.proofs.Client.Moving.{client-moves}
 use Rattle.flash_laws.proofs.Client.Nearing.{rank, client-nears}
 use Rattle.flash_laws.proofs.Client.Staying.{client-whole, client-keeps}
 use Rattle.flash_laws.proofs.Client.Taking.{client-takes}
-use Rattle.flash_laws.proofs.Client.Phases.{at, Next, next-due, script-writes}
+use Rattle.flash_laws.proofs.Client.Phases.{Next, written_fd, written, next-due, script-writes}
 use Rattle.flash_laws.proofs.Conn.Lent.{lent-stays, has-stays}
 use Rattle.flash_laws.proofs.Run.Ends.{IsEnd, run-ends, run-after, keeps-back, wants-text}
 use Rattle.flash_laws.proofs.Run.Offering.{part-next, left-next}
@@ -184,14 +185,6 @@ silent-writes fd g a kept q (Sends b len taken more) silent is = cc (silent)
 silent-writes fd g a kept q (Offers b from len piece taken more) silent is = cc (silent)
 silent-writes fd g a kept q (Reading f) silent is = cc (silent)
 silent-writes fd g a kept q d silent is = cc (is)
-
-abbrev written_fd : Call → (other : ℕ) → ℕ
-written_fd (call.IolWrite fd a) other = fd
-written_fd k other = other
-
-abbrev written : Call → (other : ℕ) → ℕ
-written (call.IolWrite fd a) other = a
-written k other = other
 
 -- the phases of any response write to their connection
 own-fd : (fd g a : ℕ) (w : Wanted) (d : Doing) → conn.wants fd (in_phase w d) ≡ call.IolWrite g a → g ≡ fd

@@ -25,18 +25,17 @@ use Rattle.flash_laws.specs.Answers.{keeps}
 use Rattle.flash_laws.specs.Client.{conn_wants}
 use Rattle.flash_laws.specs.Conn.{Following, Conn, is_head_only, most_read, piece_end, count_of, wants, sends_of, settled, following, headed, told_rests, told}
 use Rattle.flash_laws.specs.declared.doing.Learnt.{Learnt}
-use Rattle.flash_laws.specs.declared.doing.Learnt.TheVariants.{File, Length, Fails, Text as TextOf}
+use Rattle.flash_laws.specs.declared.doing.Learnt.TheVariants.{File, Length, Text as TextOf}
 use Rattle.flash_laws.specs.declared.doing.Content.{Content}
+use Rattle.flash_laws.specs.declared.doing.Content.TheVariants.{Body}
 use Rattle.flash_laws.specs.declared.doing.Doing.{Doing}
 use Rattle.flash_laws.specs.declared.doing.Doing.TheVariants.{Rests, Got, Opens, Reads as Reading, Shuts, Picks, Spares, Heads, Joins, Sends, Cuts, Offers, Swaps, Sent, Breaks, Drops, Closes, Over}
 use Rattle.flash_laws.specs.Fits.{Has, is_closing, Names}
 use Rattle.flash_laws.specs.Known.{is_read, is_opening}
 use Rattle.flash_laws.specs.Offers.{taken_of}
 use Rattle.flash_laws.specs.Site.{server}
+use Rattle.flash_laws.proofs.Forms.{at}
 use Rattle.flash_laws.proofs.Conn.Having as having
-
-abbrev pub at : List ℕ → Answer → Doing → Conn
-at kept q d = record { kept = kept; q = q; doing = d }
 
 -- ---- what the machine has after a call, but for those that open and read
 
@@ -83,11 +82,11 @@ abbrev pub Next : State → (due : List ℕ) → (a taken : ℕ) → Type 0
 Next m due a taken = (bytes : List ℕ) × (after : List ℕ) × (lent_at m server a ≡ Some bytes) × (bytes ++ after ≡ drop taken due)
 
 -- the descriptor, and the aggregate, that a call writes
-abbrev written_fd : Call → (other : ℕ) → ℕ
+abbrev pub written_fd : Call → (other : ℕ) → ℕ
 written_fd (call.IolWrite fd a) other = fd
 written_fd k other = other
 
-abbrev written : Call → (other : ℕ) → ℕ
+abbrev pub written : Call → (other : ℕ) → ℕ
 written (call.IolWrite fd a) other = a
 written k other = other
 
@@ -122,44 +121,24 @@ next-due m fd g a kept q d due has is = absurd (cc (is))
 pub script-writes : (fd g a : ℕ) (kept : List ℕ) (q : Answer) (d : Doing) (b : Bool) → conn_wants b fd (at kept q d) ≡ call.IolWrite g a → wants fd (at kept q d) ≡ call.IolWrite g a
 script-writes fd g a kept q d false is = is
 script-writes fd g a kept q (Reading f) true is = absurd (cc (is))
-script-writes fd g a kept q Rests true is = is
-script-writes fd g a kept q (Got b) true is = is
-script-writes fd g a kept q Opens true is = is
-script-writes fd g a kept q (Shuts f k) true is = is
-script-writes fd g a kept q (Picks b first last len) true is = is
-script-writes fd g a kept q (Spares b k) true is = is
-script-writes fd g a kept q (Heads k) true is = is
-script-writes fd g a kept q (Joins b size body len) true is = is
-script-writes fd g a kept q (Sends b len taken more) true is = is
-script-writes fd g a kept q (Cuts b from len taken more) true is = is
-script-writes fd g a kept q (Offers b from len piece taken more) true is = is
-script-writes fd g a kept q (Swaps b from len piece taken more) true is = is
-script-writes fd g a kept q (Sent b taken more) true is = is
-script-writes fd g a kept q (Breaks piece b more) true is = is
-script-writes fd g a kept q (Drops b more) true is = is
-script-writes fd g a kept q Closes true is = is
-script-writes fd g a kept q Over true is = is
+script-writes fd g a kept q d true is = is
 
 -- ---- once all is read nothing is opened or read any more
 
--- whether an answer is being made or sent, or dropped
-abbrev is_making : Doing → Bool
-is_making (Heads k) = true
-is_making (Joins a size body len) = true
-is_making (Sends a len taken more) = true
-is_making (Cuts a from len taken more) = true
-is_making (Offers a from len piece taken more) = true
-is_making (Swaps a from len piece taken more) = true
-is_making (Sent a taken more) = true
-is_making (Breaks piece a more) = true
-is_making (Drops a more) = true
-is_making d = false
+-- whether nothing of a file, or of a script, is opened, read, told or dropped
+abbrev is_apart : Doing → Bool
+is_apart Opens = false
+is_apart (Reading f) = false
+is_apart (Shuts f k) = false
+is_apart (Spares a k) = false
+is_apart d = true
 
 abbrev Stays : (Doing → Bool) → Doing → Type 0
 Stays p d = p d ≡ false
 
 module _ (p : Doing → Bool)
-    (rests : Stays p Rests) (got : (a : ℕ) → Stays p (Got a)) (closes : Stays p Closes) (over : Stays p Over) (heads : (k : Content) → Stays p (Heads k))
+    (rests : Stays p Rests) (got : (a : ℕ) → Stays p (Got a)) (picks : (a from to len : ℕ) → Stays p (Picks a from to len))
+    (spares : (a n size len : ℕ) → Stays p (Spares a (Body n size len))) (closes : Stays p Closes) (over : Stays p Over) (heads : (k : Content) → Stays p (Heads k))
     (joins : (a size body len : ℕ) → Stays p (Joins a size body len)) (sends : (a len taken : ℕ) (more : Following) → Stays p (Sends a len taken more))
     (cuts : (a from len taken : ℕ) (more : Following) → Stays p (Cuts a from len taken more))
     (offers : (a from len piece taken : ℕ) (more : Following) → Stays p (Offers a from len piece taken more))
@@ -174,42 +153,52 @@ module _ (p : Doing → Bool)
       by true = joins n size x.0 x.1
       by false = sends n size 0 (Some x)
 
-  pub sending-stays : (kept : List ℕ) (q : Answer) (d : Doing) (r : Reply) (heard : List ℕ) → is_making d ≡ true → Stays p (told (at kept q d) r heard).doing
-  sending-stays kept q (Heads k) (reply.Agg n) heard left = headed-stays n (count_of heard) (following k)
-  sending-stays kept q (Heads k) r heard left = heads k
-  sending-stays kept q (Joins a size body len) (reply.Agg n) heard left = sends n (size + len) 0 None
-  sending-stays kept q (Joins a size body len) r heard left = joins a size body len
-  sending-stays kept q (Sends a len taken more) (reply.Count n) heard left = by (nat_lt n len)
+  apart-stays : (kept : List ℕ) (q : Answer) (d : Doing) (r : Reply) (heard : List ℕ) → is_apart d ≡ true → Stays p (told (at kept q d) r heard).doing
+  apart-stays kept q Rests (reply.Agg n) [] left = drops n None
+  apart-stays kept q Rests (reply.Agg n) (b ∷ heard) left = got n
+  apart-stays kept q Rests r heard left = rests
+  apart-stays kept q (Got a) reply.Done heard left = rests
+  apart-stays kept q (Got a) r heard left = got a
+  apart-stays kept q (Picks a from to len) (reply.Agg n) heard left = spares a n (to - from) len
+  apart-stays kept q (Picks a from to len) r heard left = picks a from to len
+  apart-stays kept q Closes reply.Done heard left = over
+  apart-stays kept q Closes r heard left = closes
+  apart-stays kept q Over r heard left = over
+  apart-stays kept q (Heads k) (reply.Agg n) heard left = headed-stays n (count_of heard) (following k)
+  apart-stays kept q (Heads k) r heard left = heads k
+  apart-stays kept q (Joins a size body len) (reply.Agg n) heard left = sends n (size + len) 0 None
+  apart-stays kept q (Joins a size body len) r heard left = joins a size body len
+  apart-stays kept q (Sends a len taken more) (reply.Count n) heard left = by (nat_lt n len)
     where
       by : (t : Bool) → Stays p (if t then Cuts a n len (taken + n) more else Sent a (taken + len) more)
       by true = cuts a n len (taken + n) more
       by false = sent a (taken + len) more
-  sending-stays kept q (Sends a len taken more) (reply.Refused no.BrokenPipe) heard left = drops a more
-  sending-stays kept q (Sends a len taken more) r heard left = sends a len taken more
-  sending-stays kept q (Cuts a from len taken more) (reply.Agg n) heard left = offers a from len n taken more
-  sending-stays kept q (Cuts a from len taken more) r heard left = cuts a from len taken more
-  sending-stays kept q (Offers a from len piece taken more) (reply.Count n) heard left = swaps a (from + min n (len - from)) len piece (taken + min n (len - from)) more
-  sending-stays kept q (Offers a from len piece taken more) (reply.Refused no.BrokenPipe) heard left = breaks piece a more
-  sending-stays kept q (Offers a from len piece taken more) r heard left = offers a from len piece taken more
-  sending-stays kept q (Swaps a from len piece taken more) reply.Done heard left = by (nat_lt from len)
+  apart-stays kept q (Sends a len taken more) (reply.Refused no.BrokenPipe) heard left = drops a more
+  apart-stays kept q (Sends a len taken more) r heard left = sends a len taken more
+  apart-stays kept q (Cuts a from len taken more) (reply.Agg n) heard left = offers a from len n taken more
+  apart-stays kept q (Cuts a from len taken more) r heard left = cuts a from len taken more
+  apart-stays kept q (Offers a from len piece taken more) (reply.Count n) heard left = swaps a (from + min n (len - from)) len piece (taken + min n (len - from)) more
+  apart-stays kept q (Offers a from len piece taken more) (reply.Refused no.BrokenPipe) heard left = breaks piece a more
+  apart-stays kept q (Offers a from len piece taken more) r heard left = offers a from len piece taken more
+  apart-stays kept q (Swaps a from len piece taken more) reply.Done heard left = by (nat_lt from len)
     where
       by : (t : Bool) → Stays p (if t then Cuts a from len taken more else Sent a taken more)
       by true = cuts a from len taken more
       by false = sent a taken more
-  sending-stays kept q (Swaps a from len piece taken more) r heard left = swaps a from len piece taken more
-  sending-stays kept q (Sent a taken (Some x)) reply.Done heard left = sends x.0 x.1 taken None
-  sending-stays kept q (Sent a taken None) reply.Done heard left = by (keeps q)
+  apart-stays kept q (Swaps a from len piece taken more) r heard left = swaps a from len piece taken more
+  apart-stays kept q (Sent a taken (Some x)) reply.Done heard left = sends x.0 x.1 taken None
+  apart-stays kept q (Sent a taken None) reply.Done heard left = by (keeps q)
     where
       by : (t : Bool) → Stays p (if t then Rests else Closes)
       by true = rests
       by false = closes
-  sending-stays kept q (Sent a taken more) r heard left = sent a taken more
-  sending-stays kept q (Breaks piece a more) reply.Done heard left = drops a more
-  sending-stays kept q (Breaks piece a more) r heard left = breaks piece a more
-  sending-stays kept q (Drops a (Some x)) reply.Done heard left = drops x.0 None
-  sending-stays kept q (Drops a None) reply.Done heard left = closes
-  sending-stays kept q (Drops a more) r heard left = drops a more
-  sending-stays kept q d r heard left = absurd (cc (left))
+  apart-stays kept q (Sent a taken more) r heard left = sent a taken more
+  apart-stays kept q (Breaks piece a more) reply.Done heard left = drops a more
+  apart-stays kept q (Breaks piece a more) r heard left = breaks piece a more
+  apart-stays kept q (Drops a (Some x)) reply.Done heard left = drops x.0 None
+  apart-stays kept q (Drops a None) reply.Done heard left = closes
+  apart-stays kept q (Drops a more) r heard left = drops a more
+  apart-stays kept q d r heard left = absurd (cc (left))
 
 settled-unread : (f : ℕ) (q : Answer) (k : Learnt) → is_read (Shuts f k) ≡ false → is_read (settled q k) ≡ false
 settled-unread f (serve w) (File a len) was = by (selected w.range len)
@@ -218,15 +207,9 @@ settled-unread f (serve w) (File a len) was = by (selected w.range len)
     by Whole = refl
     by (Bytes first last) = refl
     by Unsatisfiable = refl
-settled-unread f (refuse status head_only close) (File a len) was = refl
-settled-unread f (serve w) (Length len) was = refl
-settled-unread f (refuse status head_only close) (Length len) was = refl
-settled-unread f (serve w) (Fails status) was = refl
-settled-unread f (refuse status head_only close) (Fails status_was) was = refl
 settled-unread f (serve w) (TextOf a true) was = absurd (cc (was))
 settled-unread f (refuse status head_only close) (TextOf a true) was = absurd (cc (was))
-settled-unread f (serve w) (TextOf a false) was = refl
-settled-unread f (refuse status head_only close) (TextOf a false) was = refl
+settled-unread f q k was = refl
 
 settled-read : (q : Answer) (k : Learnt) → is_opening (settled q k) ≡ false
 settled-read (serve w) (File a len) = by (selected w.range len)
@@ -236,20 +219,10 @@ settled-read (serve w) (File a len) = by (selected w.range len)
     by (Bytes first last) = refl
     by Unsatisfiable = refl
 settled-read (refuse status head_only close) (File a len) = refl
-settled-read (serve w) (Length len) = refl
-settled-read (refuse status head_only close) (Length len) = refl
-settled-read (serve w) (Fails status) = refl
-settled-read (refuse status head_only close) (Fails was) = refl
-settled-read (serve w) (TextOf a runs) = refl
-settled-read (refuse status head_only close) (TextOf a runs) = refl
+settled-read q k = refl
 
 -- no script's text is read by a call for a file
 pub unread-told : (kept : List ℕ) (q : Answer) (d : Doing) (r : Reply) (heard : List ℕ) → is_read d ≡ false → is_read (told (at kept q d) r heard).doing ≡ false
-unread-told kept q Rests (reply.Agg n) [] was = refl
-unread-told kept q Rests (reply.Agg n) (b ∷ heard) was = refl
-unread-told kept q Rests r heard was = refl
-unread-told kept q (Got a) reply.Done heard was = refl
-unread-told kept q (Got a) r heard was = refl
 unread-told kept q Opens (reply.Fd f) heard was = refl
 unread-told kept q Opens (reply.Refused no.WouldBlock) heard was = refl
 unread-told kept q Opens (reply.Refused x) heard was = refl
@@ -261,70 +234,28 @@ unread-told kept q (Reading f) (reply.Refused x) heard was = refl
 unread-told kept q (Reading f) r heard was = refl
 unread-told kept q (Shuts f k) reply.Done heard was = settled-unread f q k was
 unread-told kept q (Shuts f k) r heard was = was
-unread-told kept q (Picks a first last len) (reply.Agg n) heard was = refl
-unread-told kept q (Picks a first last len) r heard was = refl
 unread-told kept q (Spares a k) reply.Done heard was = refl
 unread-told kept q (Spares a k) r heard was = was
-unread-told kept q Closes reply.Done heard was = refl
-unread-told kept q Closes r heard was = refl
-unread-told kept q Over r heard was = refl
-unread-told kept q (Heads k) r heard was = sending-stays (λ e. is_read e) refl (λ a. refl) refl refl (λ k. refl) (λ a size body len. refl) (λ a len taken more. refl) (λ a from len taken more. refl) (λ a from len piece taken more. refl) (λ a from len piece taken more. refl) (λ a taken more. refl) (λ piece a more. refl) (λ a more. refl) kept q (Heads k) r heard refl
-unread-told kept q (Joins a size body len) r heard was = sending-stays (λ e. is_read e) refl (λ a. refl) refl refl (λ k. refl) (λ a size body len. refl) (λ a len taken more. refl) (λ a from len taken more. refl) (λ a from len piece taken more. refl) (λ a from len piece taken more. refl) (λ a taken more. refl) (λ piece a more. refl) (λ a more. refl) kept q (Joins a size body len) r heard refl
-unread-told kept q (Sends a len taken more) r heard was = sending-stays (λ e. is_read e) refl (λ a. refl) refl refl (λ k. refl) (λ a size body len. refl) (λ a len taken more. refl) (λ a from len taken more. refl) (λ a from len piece taken more. refl) (λ a from len piece taken more. refl) (λ a taken more. refl) (λ piece a more. refl) (λ a more. refl) kept q (Sends a len taken more) r heard refl
-unread-told kept q (Cuts a from len taken more) r heard was = sending-stays (λ e. is_read e) refl (λ a. refl) refl refl (λ k. refl) (λ a size body len. refl) (λ a len taken more. refl) (λ a from len taken more. refl) (λ a from len piece taken more. refl) (λ a from len piece taken more. refl) (λ a taken more. refl) (λ piece a more. refl) (λ a more. refl) kept q (Cuts a from len taken more) r heard refl
-unread-told kept q (Offers a from len piece taken more) r heard was = sending-stays (λ e. is_read e) refl (λ a. refl) refl refl (λ k. refl) (λ a size body len. refl) (λ a len taken more. refl) (λ a from len taken more. refl) (λ a from len piece taken more. refl) (λ a from len piece taken more. refl) (λ a taken more. refl) (λ piece a more. refl) (λ a more. refl) kept q (Offers a from len piece taken more) r heard refl
-unread-told kept q (Swaps a from len piece taken more) r heard was = sending-stays (λ e. is_read e) refl (λ a. refl) refl refl (λ k. refl) (λ a size body len. refl) (λ a len taken more. refl) (λ a from len taken more. refl) (λ a from len piece taken more. refl) (λ a from len piece taken more. refl) (λ a taken more. refl) (λ piece a more. refl) (λ a more. refl) kept q (Swaps a from len piece taken more) r heard refl
-unread-told kept q (Sent a taken more) r heard was = sending-stays (λ e. is_read e) refl (λ a. refl) refl refl (λ k. refl) (λ a size body len. refl) (λ a len taken more. refl) (λ a from len taken more. refl) (λ a from len piece taken more. refl) (λ a from len piece taken more. refl) (λ a taken more. refl) (λ piece a more. refl) (λ a more. refl) kept q (Sent a taken more) r heard refl
-unread-told kept q (Breaks piece a more) r heard was = sending-stays (λ e. is_read e) refl (λ a. refl) refl refl (λ k. refl) (λ a size body len. refl) (λ a len taken more. refl) (λ a from len taken more. refl) (λ a from len piece taken more. refl) (λ a from len piece taken more. refl) (λ a taken more. refl) (λ piece a more. refl) (λ a more. refl) kept q (Breaks piece a more) r heard refl
-unread-told kept q (Drops a more) r heard was = sending-stays (λ e. is_read e) refl (λ a. refl) refl refl (λ k. refl) (λ a size body len. refl) (λ a len taken more. refl) (λ a from len taken more. refl) (λ a from len piece taken more. refl) (λ a from len piece taken more. refl) (λ a taken more. refl) (λ piece a more. refl) (λ a more. refl) kept q (Drops a more) r heard refl
+unread-told kept q d r heard was =
+    apart-stays (λ e. is_read e) refl (λ a. refl) (λ a from to len. refl) (λ a n size len. refl) refl refl (λ k. refl) (λ a size body len. refl) (λ a len taken more. refl)
+    (λ a from len taken more. refl) (λ a from len piece taken more. refl) (λ a from len piece taken more. refl) (λ a taken more. refl) (λ piece a more. refl) (λ a more. refl)
+    kept q d r heard refl
 
 -- and what is read is not read again
 pub read-told : (kept : List ℕ) (q : Answer) (d : Doing) (r : Reply) (heard : List ℕ) → is_opening d ≡ false → is_opening (told (at kept q d) r heard).doing ≡ false
-read-told kept q Rests (reply.Agg n) [] was = refl
-read-told kept q Rests (reply.Agg n) (b ∷ heard) was = refl
-read-told kept q Rests r heard was = refl
-read-told kept q (Got a) reply.Done heard was = refl
-read-told kept q (Got a) r heard was = refl
 read-told kept q Opens r heard was = absurd (cc (was))
 read-told kept q (Reading f) r heard was = absurd (cc (was))
 read-told kept q (Shuts f k) reply.Done heard was = settled-read q k
 read-told kept q (Shuts f k) r heard was = refl
-read-told kept q (Picks a first last len) (reply.Agg n) heard was = refl
-read-told kept q (Picks a first last len) r heard was = refl
 read-told kept q (Spares a k) reply.Done heard was = refl
 read-told kept q (Spares a k) r heard was = refl
-read-told kept q Closes reply.Done heard was = refl
-read-told kept q Closes r heard was = refl
-read-told kept q Over r heard was = refl
-read-told kept q (Heads k) r heard was = sending-stays (λ e. is_opening e) refl (λ a. refl) refl refl (λ k. refl) (λ a size body len. refl) (λ a len taken more. refl) (λ a from len taken more. refl) (λ a from len piece taken more. refl) (λ a from len piece taken more. refl) (λ a taken more. refl) (λ piece a more. refl) (λ a more. refl) kept q (Heads k) r heard refl
-read-told kept q (Joins a size body len) r heard was = sending-stays (λ e. is_opening e) refl (λ a. refl) refl refl (λ k. refl) (λ a size body len. refl) (λ a len taken more. refl) (λ a from len taken more. refl) (λ a from len piece taken more. refl) (λ a from len piece taken more. refl) (λ a taken more. refl) (λ piece a more. refl) (λ a more. refl) kept q (Joins a size body len) r heard refl
-read-told kept q (Sends a len taken more) r heard was = sending-stays (λ e. is_opening e) refl (λ a. refl) refl refl (λ k. refl) (λ a size body len. refl) (λ a len taken more. refl) (λ a from len taken more. refl) (λ a from len piece taken more. refl) (λ a from len piece taken more. refl) (λ a taken more. refl) (λ piece a more. refl) (λ a more. refl) kept q (Sends a len taken more) r heard refl
-read-told kept q (Cuts a from len taken more) r heard was = sending-stays (λ e. is_opening e) refl (λ a. refl) refl refl (λ k. refl) (λ a size body len. refl) (λ a len taken more. refl) (λ a from len taken more. refl) (λ a from len piece taken more. refl) (λ a from len piece taken more. refl) (λ a taken more. refl) (λ piece a more. refl) (λ a more. refl) kept q (Cuts a from len taken more) r heard refl
-read-told kept q (Offers a from len piece taken more) r heard was = sending-stays (λ e. is_opening e) refl (λ a. refl) refl refl (λ k. refl) (λ a size body len. refl) (λ a len taken more. refl) (λ a from len taken more. refl) (λ a from len piece taken more. refl) (λ a from len piece taken more. refl) (λ a taken more. refl) (λ piece a more. refl) (λ a more. refl) kept q (Offers a from len piece taken more) r heard refl
-read-told kept q (Swaps a from len piece taken more) r heard was = sending-stays (λ e. is_opening e) refl (λ a. refl) refl refl (λ k. refl) (λ a size body len. refl) (λ a len taken more. refl) (λ a from len taken more. refl) (λ a from len piece taken more. refl) (λ a from len piece taken more. refl) (λ a taken more. refl) (λ piece a more. refl) (λ a more. refl) kept q (Swaps a from len piece taken more) r heard refl
-read-told kept q (Sent a taken more) r heard was = sending-stays (λ e. is_opening e) refl (λ a. refl) refl refl (λ k. refl) (λ a size body len. refl) (λ a len taken more. refl) (λ a from len taken more. refl) (λ a from len piece taken more. refl) (λ a from len piece taken more. refl) (λ a taken more. refl) (λ piece a more. refl) (λ a more. refl) kept q (Sent a taken more) r heard refl
-read-told kept q (Breaks piece a more) r heard was = sending-stays (λ e. is_opening e) refl (λ a. refl) refl refl (λ k. refl) (λ a size body len. refl) (λ a len taken more. refl) (λ a from len taken more. refl) (λ a from len piece taken more. refl) (λ a from len piece taken more. refl) (λ a taken more. refl) (λ piece a more. refl) (λ a more. refl) kept q (Breaks piece a more) r heard refl
-read-told kept q (Drops a more) r heard was = sending-stays (λ e. is_opening e) refl (λ a. refl) refl refl (λ k. refl) (λ a size body len. refl) (λ a len taken more. refl) (λ a from len taken more. refl) (λ a from len piece taken more. refl) (λ a from len piece taken more. refl) (λ a taken more. refl) (λ piece a more. refl) (λ a more. refl) kept q (Drops a more) r heard refl
+read-told kept q d r heard was =
+    apart-stays (λ e. is_opening e) refl (λ a. refl) (λ a from to len. refl) (λ a n size len. refl) refl refl (λ k. refl) (λ a size body len. refl) (λ a len taken more. refl)
+    (λ a from len taken more. refl) (λ a from len piece taken more. refl) (λ a from len piece taken more. refl) (λ a taken more. refl) (λ piece a more. refl) (λ a more. refl)
+    kept q d r heard refl
 
 -- the request stays the same
 pub asks-told : (kept : List ℕ) (q : Answer) (d : Doing) (r : Reply) (heard : List ℕ) → (told (at kept q d) r heard).q ≡ q
 asks-told kept q Rests (reply.Agg n) [] = refl
 asks-told kept q Rests (reply.Agg n) (b ∷ heard) = refl
-asks-told kept q Rests r heard = refl
-asks-told kept q (Got a) r heard = refl
-asks-told kept q Opens r heard = refl
-asks-told kept q (Reading f) r heard = refl
-asks-told kept q (Shuts f k) r heard = refl
-asks-told kept q (Picks a first last len) r heard = refl
-asks-told kept q (Spares a k) r heard = refl
-asks-told kept q (Heads k) r heard = refl
-asks-told kept q (Joins a size body len) r heard = refl
-asks-told kept q (Sends a len taken more) r heard = refl
-asks-told kept q (Cuts a from len taken more) r heard = refl
-asks-told kept q (Offers a from len piece taken more) r heard = refl
-asks-told kept q (Swaps a from len piece taken more) r heard = refl
-asks-told kept q (Sent a taken more) r heard = refl
-asks-told kept q (Breaks piece a more) r heard = refl
-asks-told kept q (Drops a more) r heard = refl
-asks-told kept q Closes r heard = refl
-asks-told kept q Over r heard = refl
+asks-told kept q d r heard = refl

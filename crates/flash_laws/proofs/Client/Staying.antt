@@ -6,24 +6,19 @@ use Rattle.iol_core.specs.declared.events.Reply.{Reply}
 use Rattle.iol_core.specs.declared.events.Reply.TheVariants as reply
 use Rattle.flash_http.specs.Request.{Answer, serve, refuse}
 use Rattle.flash_laws.specs.Client.{Client, is_for_script, conn_wants, wants, can_run, kept_if, told_spares, file_told, keeps_text, text_on, goes_on, told, Readies, new_client}
-use Rattle.flash_laws.specs.ClientKeeping.{is_before_job, HoldsNoOther}
+use Rattle.flash_laws.specs.ClientKeeping.{HoldsNoOther}
 use Rattle.flash_laws.specs.ClientOffers.{kept_by}
 use Rattle.flash_laws.specs.Conn as conn
 use Rattle.flash_laws.specs.Conn.{Conn, most_read, is_head_only}
-use Rattle.flash_laws.specs.declared.doing.Learnt.TheVariants.{File, Length, Fails, Text as TextOf}
-use Rattle.flash_laws.specs.declared.doing.Content.TheVariants.{Body, Bare, Error, Script}
+use Rattle.flash_laws.specs.declared.doing.Learnt.TheVariants.{Text as TextOf}
+use Rattle.flash_laws.specs.declared.doing.Content.TheVariants.{Body, Script}
 use Rattle.flash_laws.specs.declared.doing.Doing.{Doing}
-use Rattle.flash_laws.specs.declared.doing.Doing.TheVariants.{Rests, Got, Opens, Reads as Reading, Shuts, Picks, Spares, Heads, Joins, Sends, Cuts, Offers, Swaps, Sent, Breaks, Drops, Closes, Over}
-use Rattle.flash_laws.specs.declared.running.Step.TheVariants.{Gives, Makes}
+use Rattle.flash_laws.specs.declared.doing.Doing.TheVariants.{Rests, Reads as Reading, Shuts, Spares}
 use Rattle.flash_laws.specs.declared.running.Running.{Running}
-use Rattle.flash_laws.specs.declared.running.Running.TheVariants.{Awaits, Runs}
 use Rattle.flash_laws.specs.Known.{is_read}
 use Rattle.flash_laws.specs.Running as running
 use Rattle.flash_laws.specs.Running.{is_over}
-use Rattle.flash_laws.proofs.Client.Phases.{at}
-
-abbrev client : Conn → Option Running → List ℕ → Client
-client c run script = record { conn = c; run = run; script = script }
+use Rattle.flash_laws.proofs.Forms.{at, of as client}
 
 -- ---- a script is read whole
 
@@ -43,50 +38,12 @@ file-keeps : (kept : List ℕ) (q : Answer) (d : Doing) (script : List ℕ) (r :
     → Keeps (client (at kept q d) None script) r heard (file_told b (client (at kept q d) None script) r heard)
 file-keeps kept q Rests script (reply.Agg n) [] false = (refl, sym (append-nil kept))
 file-keeps kept q Rests script (reply.Agg n) (c ∷ heard) false = (refl, refl)
-file-keeps kept q Rests script r heard false = (refl, refl)
-file-keeps kept q (Got a) script r heard false = (refl, refl)
-file-keeps kept q Opens script r heard false = (refl, refl)
-file-keeps kept q (Reading f) script r heard false = (refl, refl)
-file-keeps kept q (Shuts f k) script r heard false = (refl, refl)
-file-keeps kept q (Picks a first last len) script r heard false = (refl, refl)
 file-keeps kept q (Spares a (Body b size len)) script r heard false = (refl, refl)
-file-keeps kept q (Spares a (Bare len)) script r heard false = (refl, refl)
-file-keeps kept q (Spares a (Error status)) script r heard false = (refl, refl)
-file-keeps kept q (Spares a Script) script r heard false = (refl, refl)
-file-keeps kept q (Heads k) script r heard false = (refl, refl)
-file-keeps kept q (Joins a size body len) script r heard false = (refl, refl)
-file-keeps kept q (Sends a len taken more) script r heard false = (refl, refl)
-file-keeps kept q (Cuts a from len taken more) script r heard false = (refl, refl)
-file-keeps kept q (Offers a from len piece taken more) script r heard false = (refl, refl)
-file-keeps kept q (Swaps a from len piece taken more) script r heard false = (refl, refl)
-file-keeps kept q (Sent a taken more) script r heard false = (refl, refl)
-file-keeps kept q (Breaks piece a more) script r heard false = (refl, refl)
-file-keeps kept q (Drops a more) script r heard false = (refl, refl)
-file-keeps kept q Closes script r heard false = (refl, refl)
-file-keeps kept q Over script r heard false = (refl, refl)
 file-keeps kept q Rests script (reply.Agg n) [] true = (refl, sym (append-nil kept))
 file-keeps kept q Rests script (reply.Agg n) (c ∷ heard) true = (refl, refl)
-file-keeps kept q Rests script r heard true = (refl, refl)
-file-keeps kept q (Got a) script r heard true = (refl, refl)
-file-keeps kept q Opens script r heard true = (refl, refl)
-file-keeps kept q (Reading f) script r heard true = (refl, refl)
-file-keeps kept q (Shuts f k) script r heard true = (refl, refl)
-file-keeps kept q (Picks a first last len) script r heard true = (refl, refl)
 file-keeps kept q (Spares a (Body b size len)) script r heard true = (refl, refl)
-file-keeps kept q (Spares a (Bare len)) script r heard true = (refl, refl)
-file-keeps kept q (Spares a (Error status)) script r heard true = (refl, refl)
-file-keeps kept q (Spares a Script) script r heard true = (refl, refl)
-file-keeps kept q (Heads k) script r heard true = (refl, refl)
-file-keeps kept q (Joins a size body len) script r heard true = (refl, refl)
-file-keeps kept q (Sends a len taken more) script r heard true = (refl, refl)
-file-keeps kept q (Cuts a from len taken more) script r heard true = (refl, refl)
-file-keeps kept q (Offers a from len piece taken more) script r heard true = (refl, refl)
-file-keeps kept q (Swaps a from len piece taken more) script r heard true = (refl, refl)
-file-keeps kept q (Sent a taken more) script r heard true = (refl, refl)
-file-keeps kept q (Breaks piece a more) script r heard true = (refl, refl)
-file-keeps kept q (Drops a more) script r heard true = (refl, refl)
-file-keeps kept q Closes script r heard true = (refl, refl)
-file-keeps kept q Over script r heard true = (refl, refl)
+file-keeps kept q d script r heard false = (refl, refl)
+file-keeps kept q d script r heard true = (refl, refl)
 
 -- a run leaves both as they are
 run-keeps : (x : Client) (y z : Running) (was over : Bool) → ((goes_on was over x y z).conn.q ≡ x.conn.q) × ((goes_on was over x y z).conn.kept ≡ x.conn.kept)
@@ -157,28 +114,7 @@ module _ (scripts : Bool) (kept : List ℕ) (q : Answer) (script : List ℕ) whe
   file-holds (Spares a Script) r heard true is holds = spares-hold a r heard (is_head_only q) refl holds
   file-holds (Shuts f (TextOf a true)) reply.Done heard true is holds = closed-holds f a heard holds
   file-holds (Shuts f (TextOf a true)) r heard true is holds = holds
-  file-holds Rests r heard true is holds = λ none. unheld Rests refl holds
-  file-holds (Got a) r heard true is holds = λ none. unheld (Got a) refl holds
-  file-holds Opens r heard true is holds = λ none. unheld Opens refl holds
-  file-holds (Shuts f (File a len)) r heard true is holds = λ none. unheld (Shuts f (File a len)) refl holds
-  file-holds (Shuts f (Length len)) r heard true is holds = λ none. unheld (Shuts f (Length len)) refl holds
-  file-holds (Shuts f (Fails status)) r heard true is holds = λ none. unheld (Shuts f (Fails status)) refl holds
-  file-holds (Shuts f (TextOf a false)) r heard true is holds = λ none. unheld (Shuts f (TextOf a false)) refl holds
-  file-holds (Picks a first last len) r heard true is holds = λ none. unheld (Picks a first last len) refl holds
-  file-holds (Spares a (Body b size len)) r heard true is holds = λ none. unheld (Spares a (Body b size len)) refl holds
-  file-holds (Spares a (Bare len)) r heard true is holds = λ none. unheld (Spares a (Bare len)) refl holds
-  file-holds (Spares a (Error status)) r heard true is holds = λ none. unheld (Spares a (Error status)) refl holds
-  file-holds (Heads k) r heard true is holds = λ none. unheld (Heads k) refl holds
-  file-holds (Joins a size body len) r heard true is holds = λ none. unheld (Joins a size body len) refl holds
-  file-holds (Sends a len taken more) r heard true is holds = λ none. unheld (Sends a len taken more) refl holds
-  file-holds (Cuts a from len taken more) r heard true is holds = λ none. unheld (Cuts a from len taken more) refl holds
-  file-holds (Offers a from len piece taken more) r heard true is holds = λ none. unheld (Offers a from len piece taken more) refl holds
-  file-holds (Swaps a from len piece taken more) r heard true is holds = λ none. unheld (Swaps a from len piece taken more) refl holds
-  file-holds (Sent a taken more) r heard true is holds = λ none. unheld (Sent a taken more) refl holds
-  file-holds (Breaks piece a more) r heard true is holds = λ none. unheld (Breaks piece a more) refl holds
-  file-holds (Drops a more) r heard true is holds = λ none. unheld (Drops a more) refl holds
-  file-holds Closes r heard true is holds = λ none. unheld Closes refl holds
-  file-holds Over r heard true is holds = λ none. unheld Over refl holds
+  file-holds d r heard true is holds = λ none. unheld d refl holds
 
   stays-ready : (d : Doing) (y : Client) (ready : Conn) → HoldsNoOther scripts (plain d) → ready ≡ at kept q d
       → y ≡ record { conn = ready; run = None; script = script } → HoldsNoOther scripts y
@@ -193,12 +129,6 @@ module _ (scripts : Bool) (kept : List ℕ) (q : Answer) (script : List ℕ) whe
   begun-holds d y true read holds begun = absurd (cc (read))
 
 -- what a run's job is made of is held until it is made
-keeps-before : (y : Running) → keeps_text y ≡ is_before_job y
-keeps-before Awaits = refl
-keeps-before (Runs run (Gives write)) = refl
-keeps-before (Runs run (Makes f)) = refl
-keeps-before y = refl
-
 text-holds : (script : List ℕ) (was now : Bool) → (was ≡ false → script ≡ []) → now ≡ false → text_on was now script ≡ []
 text-holds script true false holds none = refl
 text-holds script false false holds none = holds refl
@@ -208,8 +138,8 @@ run-holds : (scripts : Bool) (c : Conn) (script : List ℕ) (y z : Running) (was
     → HoldsNoOther scripts (goes_on was over (client c (Some y) script) y z)
 run-holds scripts c script y z was over holds = by was over
   where
-    on : is_before_job z ≡ false → text_on (keeps_text y) (keeps_text z) script ≡ []
-    on none = text-holds script (keeps_text y) (keeps_text z) (λ none. holds (sym (keeps-before y) ∙ none)) (keeps-before z ∙ none)
+    on : keeps_text z ≡ false → text_on (keeps_text y) (keeps_text z) script ≡ []
+    on none = text-holds script (keeps_text y) (keeps_text z) holds none
 
     by : (was over : Bool) → HoldsNoOther scripts (goes_on was over (client c (Some y) script) y z)
     by false true = λ none. refl

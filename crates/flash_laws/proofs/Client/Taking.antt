@@ -20,24 +20,21 @@ use Rattle.flash_laws.specs.Conn.{Conn, is_head_only, told_spares as told_spares
 use Rattle.flash_laws.specs.Fits.{Has}
 use Rattle.flash_laws.specs.Known.{Known, OfFile, OfScript, of_text, taken_before, is_opening, IsRun, HasKnown}
 use Rattle.flash_laws.specs.Offers.{taken_of, newly_taken, is_dropping}
-use Rattle.flash_laws.specs.RunFits.{Progress, nothing_yet, taken_of as part_taken}
+use Rattle.flash_laws.specs.RunFits.{Progress, nothing_yet}
 use Rattle.flash_laws.specs.RunOffers.{past_of, breaks_off, taken_by as run_taken}
 use Rattle.flash_laws.specs.Running as running
 use Rattle.flash_laws.specs.Running.{is_over}
 use Rattle.flash_laws.specs.Site.{server}
 use Rattle.flash_laws.specs.declared.doing.Content.TheVariants.{Script}
 use Rattle.flash_laws.specs.declared.doing.Doing.{Doing}
-use Rattle.flash_laws.specs.declared.doing.Doing.TheVariants.{Reads as Reading, Spares, Sends, Cuts, Offers, Swaps, Sent}
+use Rattle.flash_laws.specs.declared.doing.Doing.TheVariants.{Reads as Reading, Spares}
 use Rattle.flash_laws.specs.declared.running.Running.{Running}
 use Rattle.flash_laws.specs.declared.running.Running.TheVariants.{Awaits, Runs, Leaves, Closes as Ends}
+use Rattle.flash_laws.proofs.Forms.{at, of as client}
 use Rattle.flash_laws.proofs.Client.Nearing.{is_scripts, wants-plain, told-plain}
-use Rattle.flash_laws.proofs.Client.Phases.{at}
 use Rattle.flash_laws.proofs.Run.Ends.{wants-text}
 use Rattle.flash_laws.proofs.Run.Takes as run_takes
 use Rattle.flash_laws.proofs.Conn.Taking as file
-
-abbrev client : Conn → Option Running → List ℕ → Client
-client c run script = record { conn = c; run = run; script = script }
 
 -- ---- what was taken before
 
@@ -103,18 +100,10 @@ module _ (own : CallsServeTheirDomain) (m n : State) (order : IsOrderly m) (fd c
 
 -- ---- where one runs
 
-part-same : (d : Doing) → taken_of d ≡ part_taken d
-part-same (Sends a len taken more) = refl
-part-same (Cuts a from len taken more) = refl
-part-same (Offers a from len piece taken more) = refl
-part-same (Swaps a from len piece taken more) = refl
-part-same (Sent a taken more) = refl
-part-same d = refl
-
 end-taken : (z : Running) → is_over z ≡ true → taken_of (after_run z) ≡ run_taken z
 end-taken Awaits over = absurd (cc (over))
 end-taken (Runs run s) over = absurd (cc (over))
-end-taken (Leaves d) over = part-same d
+end-taken (Leaves d) over = refl
 end-taken Ends over = refl
 
 end-breaks : (z : Running) → is_over z ≡ true → breaks_off z ≡ is_dropping (after_run z)

@@ -28,7 +28,7 @@ use Rattle.flash_laws.specs.Conn.{Following, has_followed, content_agg, piece_en
 use Rattle.flash_laws.specs.declared.doing.Learnt.{Learnt}
 use Rattle.flash_laws.specs.declared.doing.Learnt.TheVariants.{File, Length, Fails, Text as TextOf}
 use Rattle.flash_laws.specs.declared.doing.Content.{Content}
-use Rattle.flash_laws.specs.declared.doing.Content.TheVariants.{Body, Bare, Error, Script}
+use Rattle.flash_laws.specs.declared.doing.Content.TheVariants.{Body}
 use Rattle.flash_laws.specs.declared.doing.Doing.{Doing}
 use Rattle.flash_laws.specs.declared.doing.Doing.TheVariants.{Rests, Shuts, Picks, Spares, Heads, Joins, Sends, Cuts, Offers, Swaps, Sent, Breaks, Drops, Closes}
 use Rattle.flash_laws.specs.Fits.{LendsMore, HoldsRest, HoldsUnsent, HasFile, HasLearnt, HasContent, Has, Names}
@@ -138,9 +138,7 @@ module _ (steps : EachStepLeavesTheRest) (own : CallsServeTheirDomain) (m n : St
       parts : (k : Content) → HasContent m q due k
           → (after : List ℕ) × LendsMore m (following k) after × (text_of q k ++ after ≡ due)
       parts (Body b size len) h = (h.bytes, (h.lends, h.count), sym h.due_is)
-      parts (Bare len) h = ([], refl, append-nil (text_of q (Bare len)) ∙ sym h)
-      parts Script h = ([], refl, append-nil (text_of q Script) ∙ sym h)
-      parts (Error status) h = ([], refl, append-nil (text_of q (Error status)) ∙ sym h)
+      parts k h = ([], refl, append-nil (text_of q k) ∙ sym h)
 
       by : (r : Reply) → o.Makes m server (text_of q k) r n
           → StepsTo m (event.Call server (call.AggMake (text_of q k))) r n → Names n r heard

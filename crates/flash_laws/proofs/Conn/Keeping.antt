@@ -8,7 +8,9 @@ use Rattle.iol_core.specs.Values.{gives_up}
 use Rattle.iol_core.specs.declared.limits.TheConstants.{MAX_AGGREGATE_BYTES}
 use Rattle.iol_core.specs.declared.descriptors.Descriptor.TheVariants as on
 use Rattle.iol_core.specs.declared.descriptors.Mode.TheVariants as modes
+use Rattle.iol_core.specs.declared.refusals.Refusal.{Refusal}
 use Rattle.iol_core.specs.declared.refusals.Refusal.TheVariants as no
+use Rattle.iol_core.specs.declared.events.Call.{Call}
 use Rattle.iol_core.specs.declared.events.Call.TheVariants as call
 use Rattle.iol_core.specs.declared.events.Event.{Event}
 use Rattle.iol_core.specs.declared.events.Event.TheVariants as event
@@ -29,27 +31,17 @@ use Rattle.flash_laws.specs.Conn.{Following, Conn, has_followed, learnt_agg, con
 use Rattle.flash_laws.specs.declared.doing.Learnt.{Learnt}
 use Rattle.flash_laws.specs.declared.doing.Learnt.TheVariants.{File, Length, Fails, Text as TextOf}
 use Rattle.flash_laws.specs.declared.doing.Content.{Content}
-use Rattle.flash_laws.specs.declared.doing.Content.TheVariants.{Body, Bare, Error, Script}
+use Rattle.flash_laws.specs.declared.doing.Content.TheVariants.{Body}
 use Rattle.flash_laws.specs.declared.doing.Doing.{Doing}
 use Rattle.flash_laws.specs.declared.doing.Doing.TheVariants.{Rests, Got, Opens, Reads as Reading, Shuts, Picks, Spares, Heads, Joins, Sends, Cuts, Offers, Swaps, Sent, Breaks, Drops, Closes, Over}
 use Rattle.flash_laws.specs.Fits.{Has}
 use Rattle.flash_laws.specs.Keeping.{KeepsNothing}
 use Rattle.flash_laws.specs.Site.{server}
-use Rattle.flash_laws.proofs.Lists.{clash, later_of}
+use Rattle.flash_laws.proofs.Forms.{at}
+use Rattle.flash_laws.proofs.Lists.{clash, later_of, former_by, former_of}
 use Rattle.flash_laws.proofs.Conn.Moving.{conn-opened}
 use Rattle.flash_laws.proofs.Conn.Touching.{fds-wants, conns-wants, pipes-wants, files-wants, admits-wants}
 use Rattle.flash_laws.proofs.Conn.Uses.{same-number, gives-wants}
-
-abbrev at : List ℕ → Answer → Doing → Conn
-at kept q d = record { kept = kept; q = q; doing = d }
-
-first_of : (a b : Bool) → a ≡ true → (a || b) ≡ true
-first_of true b is = refl
-first_of false b is = absurd (cc (is))
-
-first_by : (a b : Bool) → (a || b) ≡ true → b ≡ false → a ≡ true
-first_by true b is unused = refl
-first_by false b is unused = absurd (clash b is unused)
 
 -- ---- what is used no more is given up
 
@@ -63,18 +55,16 @@ settled-uses (serve w) (File b len) a u = by (selected w.range len)
     by : (sel : Selection) → uses_agg (sends_of sel b len) a ≡ true
     by Whole = u
     by (Bytes first last) = u
-    by Unsatisfiable = first_of (b == a) false u
+    by Unsatisfiable = former_of (b == a) false u
 settled-uses (refuse status head_only close) (File b len) a u = u
 settled-uses q (Length len) a u = absurd (cc (u))
 settled-uses q (Fails status) a u = absurd (cc (u))
-settled-uses (serve w) (TextOf b runs) a u = first_of (b == a) (content_agg (put_out runs) a) u
-settled-uses (refuse status head_only close) (TextOf b runs) a u = first_of (b == a) (content_agg (put_out runs) a) u
+settled-uses (serve w) (TextOf b runs) a u = former_of (b == a) (content_agg (put_out runs) a) u
+settled-uses (refuse status head_only close) (TextOf b runs) a u = former_of (b == a) (content_agg (put_out runs) a) u
 
 following-uses : (k : Content) (a : ℕ) → content_agg k a ≡ true → has_followed (following k) a ≡ true
 following-uses (Body b size len) a u = u
-following-uses (Bare len) a u = absurd (cc (u))
-following-uses (Error status) a u = absurd (cc (u))
-following-uses Script a u = absurd (cc (u))
+following-uses k a u = absurd (cc (u))
 
 headed-more : (n size : ℕ) (more : Following) (a : ℕ) → has_followed more a ≡ true → uses_agg (headed n size more) a ≡ true
 headed-more n size None a u = absurd (cc (u))
@@ -115,16 +105,13 @@ swaps-more b from len taken more a false unused = unused
 
 pub leaves-told : (fd : ℕ) (kept : List ℕ) (q : Answer) (d : Doing) (r : Reply) (heard : List ℕ) (a : ℕ)
     → Leaves fd (at kept q d) r (told (at kept q d) r heard).doing a
-leaves-told fd kept q Rests r heard a u unused = absurd (cc (u))
 leaves-told fd kept q (Got b) reply.Done heard a u unused = (u, refl)
 leaves-told fd kept q (Got b) r heard a u unused = absurd (clash (b == a) u unused)
-leaves-told fd kept q Opens r heard a u unused = absurd (cc (u))
-leaves-told fd kept q (Reading f) r heard a u unused = absurd (cc (u))
 leaves-told fd kept q (Shuts f k) reply.Done heard a u unused = absurd (clash (uses_agg (settled q k) a) (settled-uses q k a u) unused)
 leaves-told fd kept q (Shuts f k) r heard a u unused = absurd (clash (learnt_agg k a) u unused)
-leaves-told fd kept q (Picks b first last len) (reply.Agg n) heard a u unused = absurd (clash ((b == a) || (n == a)) (first_of (b == a) (n == a) u) unused)
+leaves-told fd kept q (Picks b first last len) (reply.Agg n) heard a u unused = absurd (clash ((b == a) || (n == a)) (former_of (b == a) (n == a) u) unused)
 leaves-told fd kept q (Picks b first last len) r heard a u unused = absurd (clash (b == a) u unused)
-leaves-told fd kept q (Spares b k) reply.Done heard a u unused = (first_by (b == a) (content_agg k a) u unused, refl)
+leaves-told fd kept q (Spares b k) reply.Done heard a u unused = (former_by (b == a) (content_agg k a) u unused, refl)
 leaves-told fd kept q (Spares b k) r heard a u unused = absurd (clash ((b == a) || content_agg k a) u unused)
 leaves-told fd kept q (Heads k) (reply.Agg n) heard a u unused = absurd (clash (uses_agg (headed n (count_of heard) (following k)) a) (headed-more n (count_of heard) (following k) a (following-uses k a u)) unused)
 leaves-told fd kept q (Heads k) r heard a u unused = absurd (clash (content_agg k a) u unused)
@@ -138,16 +125,15 @@ leaves-told fd kept q (Cuts b from len taken more) r heard a u unused = absurd (
 leaves-told fd kept q (Offers b from len piece taken more) (reply.Count k) heard a u unused = absurd (clash ((piece == a) || ((b == a) || has_followed more a)) u unused)
 leaves-told fd kept q (Offers b from len piece taken more) (reply.Refused no.BrokenPipe) heard a u unused = absurd (clash ((piece == a) || ((b == a) || has_followed more a)) u unused)
 leaves-told fd kept q (Offers b from len piece taken more) r heard a u unused = absurd (clash ((piece == a) || ((b == a) || has_followed more a)) u unused)
-leaves-told fd kept q (Swaps b from len piece taken more) reply.Done heard a u unused = (first_by (piece == a) ((b == a) || has_followed more a) u (swaps-more b from len taken more a (nat_lt from len) unused), refl)
+leaves-told fd kept q (Swaps b from len piece taken more) reply.Done heard a u unused = (former_by (piece == a) ((b == a) || has_followed more a) u (swaps-more b from len taken more a (nat_lt from len) unused), refl)
 leaves-told fd kept q (Swaps b from len piece taken more) r heard a u unused = absurd (clash ((piece == a) || ((b == a) || has_followed more a)) u unused)
-leaves-told fd kept q (Sent b taken more) reply.Done heard a u unused = (first_by (b == a) (has_followed more a) u (goes_on-more q taken more a unused), refl)
+leaves-told fd kept q (Sent b taken more) reply.Done heard a u unused = (former_by (b == a) (has_followed more a) u (goes_on-more q taken more a unused), refl)
 leaves-told fd kept q (Sent b taken more) r heard a u unused = absurd (clash ((b == a) || has_followed more a) u unused)
-leaves-told fd kept q (Breaks piece b more) reply.Done heard a u unused = (first_by (piece == a) ((b == a) || has_followed more a) u unused, refl)
+leaves-told fd kept q (Breaks piece b more) reply.Done heard a u unused = (former_by (piece == a) ((b == a) || has_followed more a) u unused, refl)
 leaves-told fd kept q (Breaks piece b more) r heard a u unused = absurd (clash ((piece == a) || ((b == a) || has_followed more a)) u unused)
-leaves-told fd kept q (Drops b more) reply.Done heard a u unused = (first_by (b == a) (has_followed more a) u (drops-more more a unused), refl)
+leaves-told fd kept q (Drops b more) reply.Done heard a u unused = (former_by (b == a) (has_followed more a) u (drops-more more a unused), refl)
 leaves-told fd kept q (Drops b more) r heard a u unused = absurd (clash ((b == a) || has_followed more a) u unused)
-leaves-told fd kept q Closes r heard a u unused = absurd (cc (u))
-leaves-told fd kept q Over r heard a u unused = absurd (cc (u))
+leaves-told fd kept q d r heard a u unused = absurd (cc (u))
 
 -- ---- the descriptor of a file that is used no more is closed
 
@@ -174,17 +160,17 @@ shuts own m n fd kept q d r heard g step u unused = absurd (cc (u))
 -- ---- what comes is used
 
 pub headed-first : (n size : ℕ) (more : Following) (a : ℕ) → (n == a) ≡ true → uses_agg (headed n size more) a ≡ true
-headed-first n size None a is = first_of (n == a) false is
+headed-first n size None a is = former_of (n == a) false is
 headed-first n size (Some x) a is = by (nat_le (size + x.1) MAX_AGGREGATE_BYTES)
   where
     by : (t : Bool) → uses_agg (if t then Joins n size x.0 x.1 else Sends n size 0 (Some x)) a ≡ true
-    by true = first_of (n == a) (x.0 == a) is
-    by false = first_of (n == a) (x.0 == a) is
+    by true = former_of (n == a) (x.0 == a) is
+    by false = former_of (n == a) (x.0 == a) is
 
-module _ (come : AggregatesComeAndGo) (own : CallsServeTheirDomain) (files : FileCallsServeTheirDomain) (m n : State) (order : IsOrderly m)
-    (a : ℕ) (bytes : List ℕ) (before : lent_at m server a ≡ None) (after : lent_at n server a ≡ Some bytes) (kept : List ℕ) where
+module _ (come : AggregatesComeAndGo) (own : CallsServeTheirDomain) (m n : State) (order : IsOrderly m)
+    (a : ℕ) (bytes : List ℕ) (before : lent_at m server a ≡ None) (after : lent_at n server a ≡ Some bytes) where
   -- the reply names what comes
-  named : (e : Event) (r : Reply) → StepsTo m e r n → brings e r server a ≡ true
+  pub named : (e : Event) (r : Reply) → StepsTo m e r n → brings e r server a ≡ true
   named e r step = by (brings e r server a) refl
     where
       by : (b : Bool) → brings e r server a ≡ b → brings e r server a ≡ true
@@ -192,8 +178,8 @@ module _ (come : AggregatesComeAndGo) (own : CallsServeTheirDomain) (files : Fil
       by false is = (let none = come.none m n e r server a step before is in absurd (cc (none, after)))
 
   -- to drop an aggregate brings none
-  pub nothing : (b : ℕ) (r : Reply) → StepsTo m (event.Call server (call.AggDrop b)) r n → ⊥
-  nothing b r step = by r (own.drops m n server b r order step) (named (event.Call server (call.AggDrop b)) r step)
+  pub dropped : (b : ℕ) (r : Reply) → StepsTo m (event.Call server (call.AggDrop b)) r n → ⊥
+  dropped b r step = by r (own.drops m n server b r order step) (named (event.Call server (call.AggDrop b)) r step)
     where
       by : (r : Reply) → o.Drops m server b r n → brings (event.Call server (call.AggDrop b)) r server a ≡ true → ⊥
       by reply.Done did is = cc (is)
@@ -201,8 +187,8 @@ module _ (come : AggregatesComeAndGo) (own : CallsServeTheirDomain) (files : Fil
       by r did is = did
 
   -- nor does it to close
-  shut-nothing : (g : ℕ) (r : Reply) → StepsTo m (event.Call server (call.Close g)) r n → ⊥
-  shut-nothing g r step = by r (own.closes m n server g r step) (named (event.Call server (call.Close g)) r step)
+  pub closed : (g : ℕ) (r : Reply) → StepsTo m (event.Call server (call.Close g)) r n → ⊥
+  closed g r step = by r (own.closes m n server g r step) (named (event.Call server (call.Close g)) r step)
     where
       by : (r : Reply) → o.Closes m server g r n → brings (event.Call server (call.Close g)) r server a ≡ true → ⊥
       by reply.Done did is = cc (is)
@@ -210,129 +196,122 @@ module _ (come : AggregatesComeAndGo) (own : CallsServeTheirDomain) (files : Fil
       by r did is = did
 
   -- nor to write
-  written-nothing : (fd c b : ℕ) (sent : List ℕ) (r : Reply) → descriptor m server fd ≡ Some (on.Connection c)
+  pub written : (fd c b : ℕ) (sent : List ℕ) (r : Reply) → descriptor m server fd ≡ Some (on.Connection c)
       → lent_at m server b ≡ Some sent → StepsTo m (event.Call server (call.IolWrite fd b)) r n → ⊥
-  written-nothing fd c b sent r open_on lends step = by r (own.write_conn m n server fd c b sent r order open_on lends step) (named (event.Call server (call.IolWrite fd b)) r step)
+  written fd c b sent r open_on lends step = by r (own.write_conn m n server fd c b sent r order open_on lends step) (named (event.Call server (call.IolWrite fd b)) r step)
     where
       by : (r : Reply) → o.WritesConn m c sent r n → brings (event.Call server (call.IolWrite fd b)) r server a ≡ true → ⊥
       by (reply.Count k) did is = cc (is)
       by (reply.Refused x) did is = cc (is)
       by r did is = did
 
-  opened-nothing : (name : List ℕ) (r : Reply) → is_live m server ≡ true
-      → StepsTo m (event.Call server (call.OpenFile name modes.Read)) r n → ⊥
-  opened-nothing name r lives step = by r (files.opens m n server name modes.Read r lives step) (named (event.Call server (call.OpenFile name modes.Read)) r step)
+  -- what is made is named by the reply
+  pub made : (k : Call) (it : List ℕ) (uses : Reply → Bool) (r : Reply) → StepsTo m (event.Call server k) r n → o.Makes m server it r n
+      → ((x : ℕ) → brings (event.Call server k) (reply.Agg x) server a ≡ true → (x == a) ≡ true)
+      → ((x : Refusal) → brings (event.Call server k) (reply.Refused x) server a ≡ true → ⊥)
+      → ((x : ℕ) → (x == a) ≡ true → uses (reply.Agg x) ≡ true) → uses r ≡ true
+  made k it uses r step did number refused new = by r did (named (event.Call server k) r step)
     where
-      by : (r : Reply) → of.Opening m server name modes.Read r n
-          → brings (event.Call server (call.OpenFile name modes.Read)) r server a ≡ true → ⊥
-      by (reply.Fd g) did is = cc (is)
-      by (reply.Refused x) did is = cc (is)
-      by r did is = did
-
-  rests : (fd c count : ℕ) (q : Answer) (r : Reply) (heard : List ℕ) → descriptor m server fd ≡ Some (on.Connection c)
-      → StepsTo m (event.Call server (call.IolRead fd count)) r n → uses_agg (told_rests kept q r heard).doing a ≡ true
-  rests fd c count q r heard open_on step = by r heard (own.read_conn m n server fd c count r order open_on step) (named (event.Call server (call.IolRead fd count)) r step)
-    where
-      by : (r : Reply) (heard : List ℕ) → o.ReadsConn m server c count r n
-          → brings (event.Call server (call.IolRead fd count)) r server a ≡ true
-          → uses_agg (told_rests kept q r heard).doing a ≡ true
-      by (reply.Agg k) [] did is = first_of (k == a) false is
-      by (reply.Agg k) (b ∷ heard) did is = is
-      by (reply.Refused x) heard did is = absurd (cc (is))
-      by r heard did is = absurd did
-
-  pub reads : (q : Answer) (g i pos : ℕ) (r : Reply) (heard : List ℕ) → HasAccess m → is_live m server ≡ true
-      → descriptor m server g ≡ Some (on.File i pos modes.Read) → (b : Bool)
-      → StepsTo m (event.Call server (if b then call.Length g else call.IolRead g most_read)) r n
-      → uses_agg (told (at kept q (Reading g)) r heard).doing a ≡ true
-  reads q g i pos r heard access lives opened true step = absurd (by r (files.measures m n server g i pos modes.Read r lives opened step) (named (event.Call server (call.Length g)) r step))
-    where
-      by : (r : Reply) → of.Tells m (length (content m i)) r n → brings (event.Call server (call.Length g)) r server a ≡ true → ⊥
-      by (reply.Count k) did is = cc (is)
-      by r did is = did
-  reads q g i pos r heard access lives opened false step = by r (files.reads_file m n server g i pos most_read modes.Read r order lives (access.fds server g i pos modes.Read opened) refl opened step) (named (event.Call server (call.IolRead g most_read)) r step)
-    where
-      by : (r : Reply) → of.ReadsFile m server g i pos modes.Read (take most_read (drop pos (content m i))) r n
-          → brings (event.Call server (call.IolRead g most_read)) r server a ≡ true
-          → uses_agg (told (at kept q (Reading g)) r heard).doing a ≡ true
-      by (reply.Agg k) did is = is
-      by (reply.Refused x) did is = absurd (cc (is))
+      by : (r : Reply) → o.Makes m server it r n → brings (event.Call server k) r server a ≡ true → uses r ≡ true
+      by (reply.Agg x) did is = new x (number x is)
+      by (reply.Refused x) did is = absurd (refused x is)
       by r did is = absurd did
 
-  picks : (b first last len : ℕ) (q : Answer) (part : List ℕ) (r : Reply) (heard : List ℕ) → lent_at m server b ≡ Some part
-      → StepsTo m (event.Call server (call.AggCut b first last)) r n
-      → uses_agg (told (at kept q (Picks b first last len)) r heard).doing a ≡ true
-  picks b first last len q part r heard lends step = by r (own.cut m n server b first last part r order lends step) (named (event.Call server (call.AggCut b first last)) r step)
-    where
-      by : (r : Reply) → o.Makes m server (slice_range part first last) r n
-          → brings (event.Call server (call.AggCut b first last)) r server a ≡ true
-          → uses_agg (told (at kept q (Picks b first last len)) r heard).doing a ≡ true
-      by (reply.Agg k) did is = later_of (b == a) (k == a) is
-      by (reply.Refused x) did is = absurd (cc (is))
-      by r did is = absurd did
+  module _ (files : FileCallsServeTheirDomain) (kept : List ℕ) where
+    opened-nothing : (name : List ℕ) (r : Reply) → is_live m server ≡ true
+        → StepsTo m (event.Call server (call.OpenFile name modes.Read)) r n → ⊥
+    opened-nothing name r lives step = by r (files.opens m n server name modes.Read r lives step) (named (event.Call server (call.OpenFile name modes.Read)) r step)
+      where
+        by : (r : Reply) → of.Opening m server name modes.Read r n
+            → brings (event.Call server (call.OpenFile name modes.Read)) r server a ≡ true → ⊥
+        by (reply.Fd g) did is = cc (is)
+        by (reply.Refused x) did is = cc (is)
+        by r did is = did
 
-  heads : (fd : ℕ) (q : Answer) (k : Content) (r : Reply) (heard : List ℕ)
-      → StepsTo m (event.Call server (call.AggMake (text_of q k))) r n
-      → uses_agg (told (at kept q (Heads k)) r heard).doing a ≡ true
-  heads fd q k r heard step = by r (own.make m n server (text_of q k) r order step) (named (event.Call server (call.AggMake (text_of q k))) r step)
-    where
-      by : (r : Reply) → o.Makes m server (text_of q k) r n
-          → brings (event.Call server (call.AggMake (text_of q k))) r server a ≡ true
-          → uses_agg (told (at kept q (Heads k)) r heard).doing a ≡ true
-      by (reply.Agg j) did is = headed-first j (count_of heard) (following k) a is
-      by (reply.Refused x) did is = absurd (cc (is))
-      by r did is = absurd did
+    rests : (fd c count : ℕ) (q : Answer) (r : Reply) (heard : List ℕ) → descriptor m server fd ≡ Some (on.Connection c)
+        → StepsTo m (event.Call server (call.IolRead fd count)) r n → uses_agg (told_rests kept q r heard).doing a ≡ true
+    rests fd c count q r heard open_on step = by r heard (own.read_conn m n server fd c count r order open_on step) (named (event.Call server (call.IolRead fd count)) r step)
+      where
+        by : (r : Reply) (heard : List ℕ) → o.ReadsConn m server c count r n
+            → brings (event.Call server (call.IolRead fd count)) r server a ≡ true
+            → uses_agg (told_rests kept q r heard).doing a ≡ true
+        by (reply.Agg k) [] did is = former_of (k == a) false is
+        by (reply.Agg k) (b ∷ heard) did is = is
+        by (reply.Refused x) heard did is = absurd (cc (is))
+        by r heard did is = absurd did
 
-  joins : (b size body len : ℕ) (q : Answer) (xs ys : List ℕ) (r : Reply) (heard : List ℕ) → lent_at m server b ≡ Some xs
-      → lent_at m server body ≡ Some ys → StepsTo m (event.Call server (call.AggJoin b body)) r n
-      → uses_agg (told (at kept q (Joins b size body len)) r heard).doing a ≡ true
-  joins b size body len q xs ys r heard lends more step = by r (own.join m n server b body xs ys r order lends more step) (named (event.Call server (call.AggJoin b body)) r step)
-    where
-      by : (r : Reply) → o.Makes m server (xs ++ ys) r n
-          → brings (event.Call server (call.AggJoin b body)) r server a ≡ true
-          → uses_agg (told (at kept q (Joins b size body len)) r heard).doing a ≡ true
-      by (reply.Agg k) did is = first_of (k == a) false is
-      by (reply.Refused x) did is = absurd (cc (is))
-      by r did is = absurd did
+    pub reads : (q : Answer) (g i pos : ℕ) (r : Reply) (heard : List ℕ) → HasAccess m → is_live m server ≡ true
+        → descriptor m server g ≡ Some (on.File i pos modes.Read) → (b : Bool)
+        → StepsTo m (event.Call server (if b then call.Length g else call.IolRead g most_read)) r n
+        → uses_agg (told (at kept q (Reading g)) r heard).doing a ≡ true
+    reads q g i pos r heard access lives opened true step = absurd (by r (files.measures m n server g i pos modes.Read r lives opened step) (named (event.Call server (call.Length g)) r step))
+      where
+        by : (r : Reply) → of.Tells m (length (content m i)) r n → brings (event.Call server (call.Length g)) r server a ≡ true → ⊥
+        by (reply.Count k) did is = cc (is)
+        by r did is = did
+    reads q g i pos r heard access lives opened false step = by r (files.reads_file m n server g i pos most_read modes.Read r order lives (access.fds server g i pos modes.Read opened) refl opened step) (named (event.Call server (call.IolRead g most_read)) r step)
+      where
+        by : (r : Reply) → of.ReadsFile m server g i pos modes.Read (take most_read (drop pos (content m i))) r n
+            → brings (event.Call server (call.IolRead g most_read)) r server a ≡ true
+            → uses_agg (told (at kept q (Reading g)) r heard).doing a ≡ true
+        by (reply.Agg k) did is = is
+        by (reply.Refused x) did is = absurd (cc (is))
+        by r did is = absurd did
 
-  cuts : (b from len taken : ℕ) (more : Following) (q : Answer) (whole : List ℕ) (r : Reply) (heard : List ℕ)
-      → lent_at m server b ≡ Some whole
-      → StepsTo m (event.Call server (call.AggCut b from (piece_end from len))) r n
-      → uses_agg (told (at kept q (Cuts b from len taken more)) r heard).doing a ≡ true
-  cuts b from len taken more q whole r heard lends step = by r (own.cut m n server b from (piece_end from len) whole r order lends step) (named (event.Call server (call.AggCut b from (piece_end from len))) r step)
-    where
-      by : (r : Reply) → o.Makes m server (slice_range whole from (piece_end from len)) r n
-          → brings (event.Call server (call.AggCut b from (piece_end from len))) r server a ≡ true
-          → uses_agg (told (at kept q (Cuts b from len taken more)) r heard).doing a ≡ true
-      by (reply.Agg k) did is = first_of (k == a) ((b == a) || has_followed more a) is
-      by (reply.Refused x) did is = absurd (cc (is))
-      by r did is = absurd did
+    picks : (b first last len : ℕ) (q : Answer) (part : List ℕ) (r : Reply) (heard : List ℕ) → lent_at m server b ≡ Some part
+        → StepsTo m (event.Call server (call.AggCut b first last)) r n
+        → uses_agg (told (at kept q (Picks b first last len)) r heard).doing a ≡ true
+    picks b first last len q part r heard lends step =
+        made (call.AggCut b first last) (slice_range part first last) (λ z. uses_agg (told (at kept q (Picks b first last len)) z heard).doing a) r step
+        (own.cut m n server b first last part r order lends step) (λ x is. is) (λ x is. cc (is)) (λ x is. later_of (b == a) (x == a) is)
 
-  pub brought : (fd c : ℕ) (q : Answer) (d : Doing) (due : List ℕ) (r : Reply) (heard : List ℕ) → HasAccess m → is_live m server ≡ true
-      → descriptor m server fd ≡ Some (on.Connection c) → Has m q due d
-      → StepsTo m (event.Call server (wants fd (at kept q d))) r n → uses_agg (told (at kept q d) r heard).doing a ≡ true
-  brought fd c q Rests due r heard access lives open_on has step = rests fd c (most_kept - length kept) q r heard open_on step
-  brought fd c q (Got b) due r heard access lives open_on has step = absurd (nothing b r step)
-  brought fd c q Opens due r heard access lives open_on has step = absurd (opened-nothing (name_of q) r lives step)
-  brought fd c q (Reading g) due r heard access lives open_on has step = reads q g has.1.0 has.1.1 r heard access lives has.1.2 (is_head_only q) step
-  brought fd c q (Shuts g k) due r heard access lives open_on has step = absurd (shut-nothing g r step)
-  brought fd c q (Picks b first last len) due r heard access lives open_on has step = picks b first last len q has.bytes r heard has.lends step
-  brought fd c q (Spares b k) due r heard access lives open_on has step = absurd (nothing b r step)
-  brought fd c q (Heads k) due r heard access lives open_on has step = heads fd q k r heard step
-  brought fd c q (Joins b size body len) due r heard access lives open_on has step = joins b size body len q has.0.bytes has.0.after r heard has.0.lends has.0.follows.0 step
-  brought fd c q (Sends b len taken more) due r heard access lives open_on has step = absurd (written-nothing fd c b has.bytes r open_on has.lends step)
-  brought fd c q (Cuts b from len taken more) due r heard access lives open_on has step = cuts b from len taken more q has.0.bytes r heard has.0.lends step
-  brought fd c q (Offers b from len piece taken more) due r heard access lives open_on has step = absurd (written-nothing fd c piece (slice_range has.whole.bytes from (piece_end from len)) r open_on has.lends step)
-  brought fd c q (Swaps b from len piece taken more) due r heard access lives open_on has step = absurd (nothing piece r step)
-  brought fd c q (Sent b taken more) due r heard access lives open_on has step = absurd (nothing b r step)
-  brought fd c q (Breaks piece b more) due r heard access lives open_on has step = absurd (nothing piece r step)
-  brought fd c q (Drops b more) due r heard access lives open_on has step = absurd (nothing b r step)
-  brought fd c q Closes due r heard access lives open_on has step = absurd (shut-nothing fd r step)
-  brought fd c q Over due r heard access lives open_on has step = absurd has
+    heads : (fd : ℕ) (q : Answer) (k : Content) (r : Reply) (heard : List ℕ)
+        → StepsTo m (event.Call server (call.AggMake (text_of q k))) r n
+        → uses_agg (told (at kept q (Heads k)) r heard).doing a ≡ true
+    heads fd q k r heard step =
+        made (call.AggMake (text_of q k)) (text_of q k) (λ z. uses_agg (told (at kept q (Heads k)) z heard).doing a) r step
+        (own.make m n server (text_of q k) r order step) (λ x is. is) (λ x is. cc (is)) (λ x is. headed-first x (count_of heard) (following k) a is)
+
+    joins : (b size body len : ℕ) (q : Answer) (xs ys : List ℕ) (r : Reply) (heard : List ℕ) → lent_at m server b ≡ Some xs
+        → lent_at m server body ≡ Some ys → StepsTo m (event.Call server (call.AggJoin b body)) r n
+        → uses_agg (told (at kept q (Joins b size body len)) r heard).doing a ≡ true
+    joins b size body len q xs ys r heard lends more step =
+        made (call.AggJoin b body) (xs ++ ys) (λ z. uses_agg (told (at kept q (Joins b size body len)) z heard).doing a) r step
+        (own.join m n server b body xs ys r order lends more step) (λ x is. is) (λ x is. cc (is)) (λ x is. former_of (x == a) false is)
+
+    cuts : (b from len taken : ℕ) (more : Following) (q : Answer) (whole : List ℕ) (r : Reply) (heard : List ℕ)
+        → lent_at m server b ≡ Some whole
+        → StepsTo m (event.Call server (call.AggCut b from (piece_end from len))) r n
+        → uses_agg (told (at kept q (Cuts b from len taken more)) r heard).doing a ≡ true
+    cuts b from len taken more q whole r heard lends step =
+        made (call.AggCut b from (piece_end from len)) (slice_range whole from (piece_end from len)) (λ z. uses_agg (told (at kept q (Cuts b from len taken more)) z heard).doing a) r step
+        (own.cut m n server b from (piece_end from len) whole r order lends step) (λ x is. is) (λ x is. cc (is)) (λ x is. former_of (x == a) ((b == a) || has_followed more a) is)
+
+    pub brought : (fd c : ℕ) (q : Answer) (d : Doing) (due : List ℕ) (r : Reply) (heard : List ℕ) → HasAccess m → is_live m server ≡ true
+        → descriptor m server fd ≡ Some (on.Connection c) → Has m q due d
+        → StepsTo m (event.Call server (wants fd (at kept q d))) r n → uses_agg (told (at kept q d) r heard).doing a ≡ true
+    brought fd c q Rests due r heard access lives open_on has step = rests fd c (most_kept - length kept) q r heard open_on step
+    brought fd c q (Got b) due r heard access lives open_on has step = absurd (dropped b r step)
+    brought fd c q Opens due r heard access lives open_on has step = absurd (opened-nothing (name_of q) r lives step)
+    brought fd c q (Reading g) due r heard access lives open_on has step = reads q g has.1.0 has.1.1 r heard access lives has.1.2 (is_head_only q) step
+    brought fd c q (Shuts g k) due r heard access lives open_on has step = absurd (closed g r step)
+    brought fd c q (Picks b first last len) due r heard access lives open_on has step = picks b first last len q has.bytes r heard has.lends step
+    brought fd c q (Spares b k) due r heard access lives open_on has step = absurd (dropped b r step)
+    brought fd c q (Heads k) due r heard access lives open_on has step = heads fd q k r heard step
+    brought fd c q (Joins b size body len) due r heard access lives open_on has step = joins b size body len q has.0.bytes has.0.after r heard has.0.lends has.0.follows.0 step
+    brought fd c q (Sends b len taken more) due r heard access lives open_on has step = absurd (written fd c b has.bytes r open_on has.lends step)
+    brought fd c q (Cuts b from len taken more) due r heard access lives open_on has step = cuts b from len taken more q has.0.bytes r heard has.0.lends step
+    brought fd c q (Offers b from len piece taken more) due r heard access lives open_on has step = absurd (written fd c piece (slice_range has.whole.bytes from (piece_end from len)) r open_on has.lends step)
+    brought fd c q (Swaps b from len piece taken more) due r heard access lives open_on has step = absurd (dropped piece r step)
+    brought fd c q (Sent b taken more) due r heard access lives open_on has step = absurd (dropped b r step)
+    brought fd c q (Breaks piece b more) due r heard access lives open_on has step = absurd (dropped piece r step)
+    brought fd c q (Drops b more) due r heard access lives open_on has step = absurd (dropped b r step)
+    brought fd c q Closes due r heard access lives open_on has step = absurd (closed fd r step)
+    brought fd c q Over due r heard access lives open_on has step = absurd has
 
 pub keeps_nothing : AggregatesComeAndGo → CallsServeTheirDomain → FileCallsServeTheirDomain → KeepsNothing
 keeps_nothing come own files = record {
-  brought = λ m n fd c x o r heard bytes a order access lives open_on has step before after. brought come own files m n order a bytes before after x.kept fd c x.q x.doing (response x.q o) r heard access lives open_on has step;
+  brought = λ m n fd c x o r heard bytes a order access lives open_on has step before after. brought come own m n order a bytes before after files x.kept fd c x.q x.doing (response x.q o) r heard access lives open_on has step;
   opened = conn-opened;
   left = λ m n fd x r heard a order step u unused.
       let gives = leaves-told fd x.kept x.q x.doing r heard a u unused in

@@ -19,7 +19,7 @@ use Rattle.flash_laws.specs.Conn.{Following, has_followed, learnt_agg, content_a
 use Rattle.flash_laws.specs.declared.doing.Learnt.{Learnt}
 use Rattle.flash_laws.specs.declared.doing.Learnt.TheVariants.{File, Length, Fails, Text as TextOf}
 use Rattle.flash_laws.specs.declared.doing.Content.{Content}
-use Rattle.flash_laws.specs.declared.doing.Content.TheVariants.{Body, Bare, Error, Script}
+use Rattle.flash_laws.specs.declared.doing.Content.TheVariants.{Body}
 use Rattle.flash_laws.specs.declared.doing.Doing.{Doing}
 use Rattle.flash_laws.specs.declared.doing.Doing.TheVariants.{Rests, Got, Opens, Reads as Reading, Shuts, Picks, Spares, Heads, Joins, Sends, Cuts, Offers, Swaps, Sent, Breaks, Drops, Closes, Over}
 use Rattle.flash_laws.specs.Fits.{IsLent, LendsMore, HoldsRest, HoldsRestFrom, HoldsUnsent, HasLearnt, HasContent, Has}
@@ -91,9 +91,7 @@ pub content-on : (m n : State) (q : Answer) (due : List ℕ) (k : Content) → (
     → content_agg k a ≡ true → lent_at m server a ≡ Some bytes → lent_at n server a ≡ Some bytes)
     → HasContent m q due k → HasContent n q due k
 content-on m n q due (Body a size len) lends h = record { bytes = h.bytes; lends = lends a h.bytes (self a) h.lends; count = h.count; due_is = h.due_is }
-content-on m n q due (Bare len) lends h = h
-content-on m n q due (Error status) lends h = h
-content-on m n q due Script lends h = h
+content-on m n q due k lends h = h
 
 -- what is kept of an answer that is being sent stays, if its aggregates do
 rest-on : (m n : State) (due : List ℕ) (a len taken : ℕ) (more : Following) → ((bytes : List ℕ)

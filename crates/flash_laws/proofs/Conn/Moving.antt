@@ -22,11 +22,9 @@ use Rattle.flash_laws.specs.declared.doing.Learnt.{Learnt}
 use Rattle.flash_laws.specs.declared.doing.Learnt.TheVariants.{File}
 use Rattle.flash_laws.specs.declared.doing.Doing.{Doing}
 use Rattle.flash_laws.specs.declared.doing.Doing.TheVariants.{Rests, Got, Opens, Reads as Reading, Shuts, Picks, Spares, Heads, Joins, Sends, Cuts, Offers, Swaps, Sent, Breaks, Drops, Closes, Over}
+use Rattle.flash_laws.proofs.Forms.{at}
 use Rattle.flash_laws.proofs.Lists.{self}
 use Rattle.flash_laws.proofs.Conn.Repeats.{either, drops, closes, makes, cuts, joins, reads, writes, opens, lengths}
-
-abbrev at : List ℕ → Answer → Doing → Conn
-at kept q d = record { kept = kept; q = q; doing = d }
 
 rests-not : (kept : List ℕ) (q : Answer) (heard : List ℕ) (k : ℕ) → (told_rests kept q (reply.Agg k) heard).doing ≡ Rests → ⊥
 rests-not kept q [] k same = cc (same)

@@ -34,11 +34,12 @@ use Rattle.flash_laws.specs.Nears.{Rank, IsBelow, Nears, HasPlaceFor, CanMake, i
 use Rattle.flash_laws.specs.Policy.{is_later}
 use Rattle.flash_laws.specs.Site.{server}
 use Rattle.flash_laws.specs.declared.doing.Learnt.{Learnt}
-use Rattle.flash_laws.specs.declared.doing.Learnt.TheVariants.{File, Length, Fails, Text as TextOf}
+use Rattle.flash_laws.specs.declared.doing.Learnt.TheVariants.{File, Length}
 use Rattle.flash_laws.specs.declared.doing.Content.{Content}
-use Rattle.flash_laws.specs.declared.doing.Content.TheVariants.{Body, Bare, Error, Script}
+use Rattle.flash_laws.specs.declared.doing.Content.TheVariants.{Body}
 use Rattle.flash_laws.specs.declared.doing.Doing.{Doing}
-use Rattle.flash_laws.specs.declared.doing.Doing.TheVariants.{Rests, Got, Opens, Reads as Reading, Shuts, Picks, Spares, Heads, Joins, Sends, Cuts, Offers, Swaps, Sent, Breaks, Drops, Closes, Over}
+use Rattle.flash_laws.specs.declared.doing.Doing.TheVariants.{Rests, Got, Opens, Reads as Reading, Shuts, Picks, Spares, Heads, Joins, Sends, Cuts, Offers, Swaps, Sent, Breaks, Drops, Closes}
+use Rattle.flash_laws.proofs.Forms.{at}
 use Rattle.flash_laws.proofs.Conn.Answering.{some-inj}
 use Rattle.flash_laws.proofs.Conn.Lent.{text-same}
 use Rattle.flash_laws.proofs.Lists.{turned, differ, within-part}
@@ -89,9 +90,6 @@ stage d = 0
 
 abbrev pub rank : Answer → Doing → Rank
 rank q d = (stage d, calls_left q d)
-
-abbrev at : List ℕ → Answer → Doing → Conn
-at kept q d = record { kept = kept; q = q; doing = d }
 
 -- ---- refusals that are to come later
 
@@ -226,12 +224,7 @@ settled-near (serve w) f (File a len) = by (selected w.range len)
     by (Bytes first last) = inr (refl, omega arith)
     by Unsatisfiable = inr (refl, omega arith)
 settled-near (refuse status head_only close) f (File a len) = inr (refl, omega arith)
-settled-near (serve w) f (Length len) = inr (refl, omega arith)
-settled-near (refuse status head_only close) f (Length len) = inr (refl, omega arith)
-settled-near (serve w) f (Fails status) = inr (refl, omega arith)
-settled-near (refuse status head_only close) f (Fails was) = inr (refl, omega arith)
-settled-near (serve w) f (TextOf a runs) = inr (refl, omega arith)
-settled-near (refuse status head_only close) f (TextOf a runs) = inr (refl, omega arith)
+settled-near q f k = inr (refl, omega arith)
 
 headed-near : (q : Answer) (a size : ℕ) (k : Content) → size ≤ length (text_of q k) → IsBelow (rank q (headed a size (following k))) (rank q (Heads k))
 headed-near q a size (Body b s len) short = by (nat_le (size + s) MAX_AGGREGATE_BYTES)
@@ -239,9 +232,7 @@ headed-near q a size (Body b s len) short = by (nat_le (size + s) MAX_AGGREGATE_
     by : (fits : Bool) → IsBelow (rank q (if fits then Joins a size b s else Sends a size 0 (Some (b, s)))) (rank q (Heads (Body b s len)))
     by true = falls q (Joins a size b s) (Heads (Body b s len)) refl (omega (arith, short))
     by false = falls q (Sends a size 0 (Some (b, s))) (Heads (Body b s len)) refl (omega (arith, short))
-headed-near q a size (Bare len) short = falls q (Sends a size 0 None) (Heads (Bare len)) refl (omega (arith, short))
-headed-near q a size (Error status) short = falls q (Sends a size 0 None) (Heads (Error status)) refl (omega (arith, short))
-headed-near q a size Script short = falls q (Sends a size 0 None) (Heads Script) refl (omega (arith, short))
+headed-near q a size k short = falls q (Sends a size 0 None) (Heads k) refl (omega (arith, short))
 
 some-after : (more : Following) → 1 ≤ sent_after more
 some-after None = omega arith
@@ -324,9 +315,6 @@ module _ (own : CallsServeTheirDomain) (may : RefusalsThatAreLeft) (m n : State)
   pub near : (fd c : ℕ) (kept : List ℕ) (q : Answer) (d : Doing) (due : List ℕ) (r : Reply) (heard : List ℕ) → descriptor m server fd ≡ Some (on.Connection c)
       → is_busy d ≡ true → Has m q due d → CanMake m (wants fd (at kept q d)) → StepsTo m (event.Call server (wants fd (at kept q d))) r n → Names n r heard
       → Nears (rank q) d r (told (at kept q d) r heard).doing
-  near fd c kept q Rests due r heard open_on busy has can step names = absurd (cc (busy))
-  near fd c kept q Closes due r heard open_on busy has can step names = absurd (cc (busy))
-  near fd c kept q Over due r heard open_on busy has can step names = absurd (cc (busy))
   near fd c kept q (Got a) due r heard open_on busy has can step names =
       drops own may m n order lives (rank q) (Got a) (λ z. told_got a z) a has.0 r has.1 step (falls q Rests (Got a) refl (omega arith))
   near fd c kept q Opens due r heard open_on busy has can step names = opens q (name_of q) r step
@@ -363,6 +351,7 @@ module _ (own : CallsServeTheirDomain) (may : RefusalsThatAreLeft) (m n : State)
       (falls q (Drops a more) (Breaks piece a more) refl (few-drops more))
   near fd c kept q (Drops a more) due r heard open_on busy has can step names =
       drops own may m n order lives (rank q) (Drops a more) (λ z. told_drops a more z) a has.lent.0 r has.lent.1 step (next-near q a more)
+  near fd c kept q d due r heard open_on busy has can step names = absurd (cc (busy))
 
 -- ---- of a connection
 

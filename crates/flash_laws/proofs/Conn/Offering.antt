@@ -30,6 +30,7 @@ use Rattle.flash_laws.specs.declared.doing.Doing.TheVariants.{Rests, Got, Opens,
 use Rattle.flash_laws.specs.Fits.{IsFile, Has, is_closing, Names}
 use Rattle.flash_laws.specs.Site.{server}
 use Rattle.flash_laws.specs.Offers.{HasAnswer, FirstCall, Learns, taken_of, IsNextOf, OffersTheResponse}
+use Rattle.flash_laws.proofs.Forms.{at}
 use Rattle.flash_laws.proofs.Conn.Answering.{some-inj}
 use Rattle.flash_laws.proofs.Counts.{counted, short-take}
 use Rattle.flash_laws.proofs.Conn.Having as having
@@ -37,9 +38,6 @@ use Rattle.flash_laws.proofs.Conn.Lent.{lent-stays, has-stays}
 use Rattle.flash_laws.proofs.Conn.Moving.{conn-moves}
 use Rattle.flash_laws.proofs.Conn.Nearing.{rank, conn-nears, conn-reads}
 use Rattle.flash_laws.proofs.Conn.Taking.{takes, breaks, closes}
-
-abbrev at : List ℕ → Answer → Doing → Conn
-at kept q d = record { kept = kept; q = q; doing = d }
 
 starts : (m : State) (fd : ℕ) (kept : List ℕ) (q : Answer) (o : Outcome)
     → FirstCall q (wants fd (at kept q (begins q))) × HasAnswer m (at kept q (begins q)) o

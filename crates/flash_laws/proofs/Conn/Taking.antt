@@ -28,13 +28,11 @@ use Rattle.flash_laws.specs.Nears.{is_busy}
 use Rattle.flash_laws.specs.Offers.{taken_of, newly_taken, is_dropping}
 use Rattle.flash_laws.specs.Site.{server}
 use Rattle.flash_laws.specs.declared.doing.Learnt.{Learnt}
-use Rattle.flash_laws.specs.declared.doing.Learnt.TheVariants.{File, Length, Fails, Text as TextOf}
+use Rattle.flash_laws.specs.declared.doing.Learnt.TheVariants.{File, Length}
 use Rattle.flash_laws.specs.declared.doing.Doing.{Doing}
 use Rattle.flash_laws.specs.declared.doing.Doing.TheVariants.{Rests, Got, Opens, Reads as Reading, Shuts, Picks, Spares, Heads, Joins, Sends, Cuts, Offers, Swaps, Sent, Breaks, Drops, Closes, Over}
+use Rattle.flash_laws.proofs.Forms.{at}
 use Rattle.flash_laws.proofs.Lists.{clash, self, few-taken}
-
-abbrev at : List ℕ → Answer → Doing → Conn
-at kept q d = record { kept = kept; q = q; doing = d }
 
 -- ---- before anything is sent nothing is taken
 
@@ -63,12 +61,7 @@ settled-begun (serve w) (File a len) = by (selected w.range len)
     by (Bytes first last) = (refl, refl)
     by Unsatisfiable = (refl, refl)
 settled-begun (refuse status head_only close) (File a len) = (refl, refl)
-settled-begun (serve w) (Length len) = (refl, refl)
-settled-begun (refuse status head_only close) (Length len) = (refl, refl)
-settled-begun (serve w) (Fails status) = (refl, refl)
-settled-begun (refuse status head_only close) (Fails was) = (refl, refl)
-settled-begun (serve w) (TextOf a runs) = (refl, refl)
-settled-begun (refuse status head_only close) (TextOf a runs) = (refl, refl)
+settled-begun q k = (refl, refl)
 
 headed-begun : (a size : ℕ) (more : Following) → IsBegun (headed a size more)
 headed-begun a size None = (refl, refl)

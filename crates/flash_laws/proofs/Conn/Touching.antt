@@ -15,14 +15,12 @@ use Rattle.iol_core.specs.declared.events.Event.TheVariants as event
 use Rattle.flash_http.specs.Request.{Answer}
 use Rattle.flash_laws.specs.Conn.{Conn, uses_fd, is_head_only, most_read, wants}
 use Rattle.flash_laws.specs.declared.doing.Doing.{Doing}
-use Rattle.flash_laws.specs.declared.doing.Doing.TheVariants.{Rests, Got, Opens, Reads as Reading, Shuts, Picks, Spares, Heads, Joins, Sends, Cuts, Offers, Swaps, Sent, Breaks, Drops, Closes, Over}
+use Rattle.flash_laws.specs.declared.doing.Doing.TheVariants.{Rests, Reads as Reading, Shuts, Sends, Offers, Closes, Over}
 use Rattle.flash_laws.specs.Fits.{Has}
 use Rattle.flash_laws.specs.Site.{server}
+use Rattle.flash_laws.proofs.Forms.{at}
 use Rattle.flash_laws.proofs.Conn.Uses.{same-number}
 use Rattle.flash_laws.proofs.Lists.{clash}
-
-abbrev at : List ℕ → Answer → Doing → Conn
-at kept q d = record { kept = kept; q = q; doing = d }
 
 not-file : (m : State) (fd c g : ℕ) → descriptor m server fd ≡ Some (on.Connection c)
     → ((fd == g) && is_file (descriptor m server fd)) ≡ false
@@ -38,8 +36,6 @@ pub fds-wants : (m : State) (fd c : ℕ) (kept : List ℕ) (q : Answer) (d : Doi
     → touches_fd m (event.Call server (wants fd (at kept q d))) server g ≡ true
     → (uses_fd d g ≡ true) ⊎ (fd ≡ g)
 fds-wants m fd c kept q Rests g is t = absurd (clash ((fd == g) && is_file (descriptor m server fd)) t (not-file m fd c g is))
-fds-wants m fd c kept q (Got b) g is t = absurd (cc)
-fds-wants m fd c kept q Opens g is t = absurd (cc)
 fds-wants m fd c kept q (Reading f) g is t = inl (by (is_head_only q) t)
   where
     by : (b : Bool) → touches_fd m (event.Call server (if b then call.Length f else call.IolRead f most_read)) server g ≡ true
@@ -47,19 +43,11 @@ fds-wants m fd c kept q (Reading f) g is t = inl (by (is_head_only q) t)
     by true t = absurd (cc)
     by false t = left-of (f == g) (is_file (descriptor m server f)) t
 fds-wants m fd c kept q (Shuts f k) g is t = inl t
-fds-wants m fd c kept q (Picks b first last len) g is t = absurd (cc)
-fds-wants m fd c kept q (Spares b k) g is t = absurd (cc)
-fds-wants m fd c kept q (Heads k) g is t = absurd (cc)
-fds-wants m fd c kept q (Joins b size body len) g is t = absurd (cc)
 fds-wants m fd c kept q (Sends b len taken more) g is t = absurd (clash ((fd == g) && is_file (descriptor m server fd)) t (not-file m fd c g is))
-fds-wants m fd c kept q (Cuts b from len taken more) g is t = absurd (cc)
 fds-wants m fd c kept q (Offers b from len piece taken more) g is t = absurd (clash ((fd == g) && is_file (descriptor m server fd)) t (not-file m fd c g is))
-fds-wants m fd c kept q (Swaps b from len piece taken more) g is t = absurd (cc)
-fds-wants m fd c kept q (Sent b taken more) g is t = absurd (cc)
-fds-wants m fd c kept q (Breaks piece b more) g is t = absurd (cc)
-fds-wants m fd c kept q (Drops b more) g is t = absurd (cc)
 fds-wants m fd c kept q Closes g is t = inr (same-number fd g t)
 fds-wants m fd c kept q Over g is t = inr (same-number fd g t)
+fds-wants m fd c kept q d g is t = absurd (cc)
 
 uses-conn : (m : State) (fd c k : ℕ) → descriptor m server fd ≡ Some (on.Connection c)
     → (list_any (is_conn k) (descriptor m server fd ∷ []) || false) ≡ true → c ≡ k
@@ -74,8 +62,6 @@ pub conns-wants : (m : State) (fd c : ℕ) (kept : List ℕ) (q : Answer) (due :
     → descriptor m server fd ≡ Some (on.Connection c) → Has m q due d
     → touches_conn m (event.Call server (wants fd (at kept q d))) k ≡ true → c ≡ k
 conns-wants m fd c kept q due Rests k is has t = uses-conn m fd c k is t
-conns-wants m fd c kept q due (Got b) k is has t = absurd (cc)
-conns-wants m fd c kept q due Opens k is has t = absurd (cc)
 conns-wants m fd c kept q due (Reading f) k is has t = absurd (by (is_head_only q) t)
   where
     by : (b : Bool) → touches_conn m (event.Call server (if b then call.Length f else call.IolRead f most_read)) k ≡ true
@@ -83,19 +69,11 @@ conns-wants m fd c kept q due (Reading f) k is has t = absurd (by (is_head_only 
     by true t = cc
     by false t = uses-no_conn m f has.1.0 has.1.1 k has.1.2 t
 conns-wants m fd c kept q due (Shuts f x) k is has t = absurd (uses-no_conn m f has.0.0 has.0.1 k has.0.2 t)
-conns-wants m fd c kept q due (Picks b first last len) k is has t = absurd (cc)
-conns-wants m fd c kept q due (Spares b x) k is has t = absurd (cc)
-conns-wants m fd c kept q due (Heads x) k is has t = absurd (cc)
-conns-wants m fd c kept q due (Joins b size body len) k is has t = absurd (cc)
 conns-wants m fd c kept q due (Sends b len taken more) k is has t = uses-conn m fd c k is t
-conns-wants m fd c kept q due (Cuts b from len taken more) k is has t = absurd (cc)
 conns-wants m fd c kept q due (Offers b from len piece taken more) k is has t = uses-conn m fd c k is t
-conns-wants m fd c kept q due (Swaps b from len piece taken more) k is has t = absurd (cc)
-conns-wants m fd c kept q due (Sent b taken more) k is has t = absurd (cc)
-conns-wants m fd c kept q due (Breaks piece b more) k is has t = absurd (cc)
-conns-wants m fd c kept q due (Drops b more) k is has t = absurd (cc)
 conns-wants m fd c kept q due Closes k is has t = uses-conn m fd c k is t
 conns-wants m fd c kept q due Over k is has t = uses-conn m fd c k is t
+conns-wants m fd c kept q due d k is has t = absurd (cc)
 
 -- and no pipe
 no-end : (m : State) (fd c p : ℕ) → descriptor m server fd ≡ Some (on.Connection c) → (list_any (is_end p) (descriptor m server fd ∷ []) || false) ≡ false
@@ -117,67 +95,27 @@ pipes-wants m fd c kept q due (Sends b len taken more) p is has = no-end m fd c 
 pipes-wants m fd c kept q due (Offers b from len piece taken more) p is has = no-end m fd c p is
 pipes-wants m fd c kept q due Closes p is has = no-end m fd c p is
 pipes-wants m fd c kept q due Over p is has = no-end m fd c p is
-pipes-wants m fd c kept q due (Got b) p is has = refl
-pipes-wants m fd c kept q due Opens p is has = refl
-pipes-wants m fd c kept q due (Picks b first last len) p is has = refl
-pipes-wants m fd c kept q due (Spares b x) p is has = refl
-pipes-wants m fd c kept q due (Heads x) p is has = refl
-pipes-wants m fd c kept q due (Joins b size body len) p is has = refl
-pipes-wants m fd c kept q due (Cuts b from len taken more) p is has = refl
-pipes-wants m fd c kept q due (Swaps b from len piece taken more) p is has = refl
-pipes-wants m fd c kept q due (Sent b taken more) p is has = refl
-pipes-wants m fd c kept q due (Breaks piece b more) p is has = refl
-pipes-wants m fd c kept q due (Drops b more) p is has = refl
+pipes-wants m fd c kept q due d p is has = refl
 
 -- it writes no file
 pub files-wants : (m : State) (fd c : ℕ) (kept : List ℕ) (q : Answer) (d : Doing)
     → descriptor m server fd ≡ Some (on.Connection c)
     → changes_files m (event.Call server (wants fd (at kept q d))) ≡ false
-files-wants m fd c kept q Rests is = refl
-files-wants m fd c kept q (Got b) is = refl
-files-wants m fd c kept q Opens is = refl
 files-wants m fd c kept q (Reading f) is = by (is_head_only q)
   where
     by : (b : Bool) → changes_files m (event.Call server (if b then call.Length f else call.IolRead f most_read)) ≡ false
     by true = refl
     by false = refl
-files-wants m fd c kept q (Shuts f k) is = refl
-files-wants m fd c kept q (Picks b first last len) is = refl
-files-wants m fd c kept q (Spares b k) is = refl
-files-wants m fd c kept q (Heads k) is = refl
-files-wants m fd c kept q (Joins b size body len) is = refl
 files-wants m fd c kept q (Sends b len taken more) is = ap is_file is
-files-wants m fd c kept q (Cuts b from len taken more) is = refl
 files-wants m fd c kept q (Offers b from len piece taken more) is = ap is_file is
-files-wants m fd c kept q (Swaps b from len piece taken more) is = refl
-files-wants m fd c kept q (Sent b taken more) is = refl
-files-wants m fd c kept q (Breaks piece b more) is = refl
-files-wants m fd c kept q (Drops b more) is = refl
-files-wants m fd c kept q Closes is = refl
-files-wants m fd c kept q Over is = refl
+files-wants m fd c kept q d is = refl
 
 -- it admits nobody to a pool
 pub admits-wants : (fd : ℕ) (kept : List ℕ) (q : Answer) (d : Doing) (p : ℕ)
     → admits_to (event.Call server (wants fd (at kept q d))) p ≡ false
-admits-wants fd kept q Rests p = refl
-admits-wants fd kept q (Got b) p = refl
-admits-wants fd kept q Opens p = refl
 admits-wants fd kept q (Reading f) p = by (is_head_only q)
   where
     by : (b : Bool) → admits_to (event.Call server (if b then call.Length f else call.IolRead f most_read)) p ≡ false
     by true = refl
     by false = refl
-admits-wants fd kept q (Shuts f k) p = refl
-admits-wants fd kept q (Picks b first last len) p = refl
-admits-wants fd kept q (Spares b k) p = refl
-admits-wants fd kept q (Heads k) p = refl
-admits-wants fd kept q (Joins b size body len) p = refl
-admits-wants fd kept q (Sends b len taken more) p = refl
-admits-wants fd kept q (Cuts b from len taken more) p = refl
-admits-wants fd kept q (Offers b from len piece taken more) p = refl
-admits-wants fd kept q (Swaps b from len piece taken more) p = refl
-admits-wants fd kept q (Sent b taken more) p = refl
-admits-wants fd kept q (Breaks piece b more) p = refl
-admits-wants fd kept q (Drops b more) p = refl
-admits-wants fd kept q Closes p = refl
-admits-wants fd kept q Over p = refl
+admits-wants fd kept q d p = refl

@@ -1,5 +1,5 @@
 -- What a call brings a run is used by it.
-use Rattle.std.proofs.Common.{◌≡◌, ℕ, ◌+◌, ◌-◌, ◌==◌, List, [], ◌∷◌, ◌++◌, refl, Option, Some, None, true, false, Bool, take, drop}
+use Rattle.std.proofs.Common.{◌≡◌, ℕ, ◌+◌, ◌-◌, ◌==◌, List, [], ◌∷◌, ◌++◌, Option, Some, None, true, false, take, drop}
 use Rattle.std.specs.Prelude.{◌||◌, not, slice_range}
 use Rattle.iol_core.specs.State.{State, descriptor}
 use Rattle.iol_core.specs.Run.{StepsTo}
@@ -32,47 +32,29 @@ use Rattle.flash_laws.specs.declared.running.Step.{Step}
 use Rattle.flash_laws.specs.declared.running.Step.TheVariants.{Gives, Makes, Hands, Lets, Heads, Sending, Hears, Spills, Gathers, Frames, Wraps, Trims, Ended, Unholds, Stops, Unframes, Lasts, WrapsLast, TrimsLast, Unwraps, Returns, Lapses, Fails}
 use Rattle.flash_laws.specs.declared.running.Running.{Running}
 use Rattle.flash_laws.specs.declared.running.Running.TheVariants.{Awaits, Runs, Leaves, Closes}
+use Rattle.flash_laws.proofs.Conn.Keeping as keeping
 use Rattle.flash_laws.proofs.Conn.Keeping.{headed-first}
-use Rattle.flash_laws.proofs.Lists.{later_of}
+use Rattle.flash_laws.proofs.Lists.{later_of, former_of, not-false}
 use Rattle.flash_laws.proofs.Run.Alone.{keeps-alone, opened}
 use Rattle.flash_laws.proofs.Run.Left.{is-rest}
-use Rattle.flash_laws.proofs.Run.Keeping.{first, holding-new, hearing-new, left, shut}
+use Rattle.flash_laws.proofs.Run.Keeping.{holding-new, hearing-new, left, shut}
 
 module _ (come : AggregatesComeAndGo) (own : CallsServeTheirDomain) (m n : State) (order : IsOrderly m)
     (a : ℕ) (bytes : List ℕ) (before : lent_at m server a ≡ None) (after : lent_at n server a ≡ Some bytes) (w : Wanted) where
   -- the reply names what comes
   named : (e : Event) (r : Reply) → StepsTo m e r n → brings e r server a ≡ true
-  named e r step = by (brings e r server a) refl
-    where
-      by : (b : Bool) → brings e r server a ≡ b → brings e r server a ≡ true
-      by true is = is
-      by false is = (let none = come.none m n e r server a step before is in absurd (cc (none, after)))
+  named = keeping.named come own m n order a bytes before after
 
   -- to drop an aggregate brings none, nor does it to close, to write, to make a pipe or to give its end away
   dropped : (b : ℕ) (r : Reply) → StepsTo m (event.Call server (call.AggDrop b)) r n → ⊥
-  dropped b r step = by r (own.drops m n server b r order step) (named (event.Call server (call.AggDrop b)) r step)
-    where
-      by : (r : Reply) → caller.Drops m server b r n → brings (event.Call server (call.AggDrop b)) r server a ≡ true → ⊥
-      by reply.Done did is = cc (is)
-      by (reply.Refused x) did is = cc (is)
-      by r did is = did
+  dropped = keeping.dropped come own m n order a bytes before after
 
   shuts : (g : ℕ) (r : Reply) → StepsTo m (event.Call server (call.Close g)) r n → ⊥
-  shuts g r step = by r (own.closes m n server g r step) (named (event.Call server (call.Close g)) r step)
-    where
-      by : (r : Reply) → caller.Closes m server g r n → brings (event.Call server (call.Close g)) r server a ≡ true → ⊥
-      by reply.Done did is = cc (is)
-      by (reply.Refused x) did is = cc (is)
-      by r did is = did
+  shuts = keeping.closed come own m n order a bytes before after
 
   written : (fd c b : ℕ) (sent : List ℕ) (r : Reply) → descriptor m server fd ≡ Some (on.Connection c)
       → lent_at m server b ≡ Some sent → StepsTo m (event.Call server (call.IolWrite fd b)) r n → ⊥
-  written fd c b sent r open_on lends step = by r (own.write_conn m n server fd c b sent r order open_on lends step) (named (event.Call server (call.IolWrite fd b)) r step)
-    where
-      by : (r : Reply) → caller.WritesConn m c sent r n → brings (event.Call server (call.IolWrite fd b)) r server a ≡ true → ⊥
-      by (reply.Count k) did is = cc (is)
-      by (reply.Refused x) did is = cc (is)
-      by r did is = did
+  written = keeping.written come own m n order a bytes before after
 
   handed : (fd p b : ℕ) (sent : List ℕ) (r : Reply) → descriptor m server fd ≡ Some (on.WriteEnd p)
       → lent_at m server b ≡ Some sent → StepsTo m (event.Call server (call.IolWrite fd b)) r n → ⊥
@@ -104,12 +86,7 @@ module _ (come : AggregatesComeAndGo) (own : CallsServeTheirDomain) (m n : State
       → ((x : ℕ) → brings (event.Call server k) (reply.Agg x) server a ≡ true → (x == a) ≡ true)
       → ((x : Refusal) → brings (event.Call server k) (reply.Refused x) server a ≡ true → ⊥)
       → ((x : ℕ) → (x == a) ≡ true → uses_agg (y (reply.Agg x)) a ≡ true) → uses_agg (y r) a ≡ true
-  made k it y r step did number refused uses = by r did (named (event.Call server k) r step)
-    where
-      by : (r : Reply) → caller.Makes m server it r n → brings (event.Call server k) r server a ≡ true → uses_agg (y r) a ≡ true
-      by (reply.Agg x) did is = uses x (number x is)
-      by (reply.Refused x) did is = absurd (refused x is)
-      by r did is = absurd did
+  made k it y = keeping.made come own m n order a bytes before after k it (λ z. uses_agg (y z) a)
 
   module _ (job : ℕ → List ℕ) (fd c : ℕ) (open_on : descriptor m server fd ≡ Some (on.Connection c)) (o : Progress) where
     sending-brings : (run : Run) (d : Doing) (frame : Option ℕ) (r : Reply) → HasPart m w o run d frame
@@ -117,7 +94,7 @@ module _ (come : AggregatesComeAndGo) (own : CallsServeTheirDomain) (m n : State
     sending-brings run (doing.Sends b len taken None) frame r h step = absurd (written fd c b h.has.bytes r open_on h.has.lends step)
     sending-brings run (doing.Cuts b from len taken None) frame r h step = made (call.AggCut b from (piece_end from len)) (slice_range h.has.0.bytes from (piece_end from len)) (λ k. told_sending run (doing.Cuts b from len taken None) frame k) r step
         (own.cut m n server b from (piece_end from len) h.has.0.bytes r order h.has.0.lends step) (λ x is. is) (λ x is. cc (is))
-        (λ x is. first ((x == a) || ((b == a) || false)) (has_frame frame a) (first (x == a) ((b == a) || false) is))
+        (λ x is. former_of ((x == a) || ((b == a) || false)) (has_frame frame a) (former_of (x == a) ((b == a) || false) is))
     sending-brings run (doing.Offers b from len piece taken None) frame r h step = absurd (written fd c piece (slice_range h.has.whole.bytes from (piece_end from len)) r open_on h.has.lends step)
     sending-brings run (doing.Swaps b from len piece taken None) frame r h step = absurd (dropped piece r step)
     sending-brings run (doing.Sent b taken None) frame r h step = absurd (dropped b r step)
@@ -132,13 +109,13 @@ module _ (come : AggregatesComeAndGo) (own : CallsServeTheirDomain) (m n : State
         by : (r : Reply) (heard : List ℕ) → caller.ReadsPipe m server h.reads.0 (CHUNK_BYTES - held_size held) r n
             → brings (event.Call server (call.IolRead run.from (CHUNK_BYTES - held_size held))) r server a ≡ true
             → uses_agg (told_hears w run held frame r heard) a ≡ true
-        by (reply.Agg k) [] did is = first (k == a) (has_followed held a || has_frame frame a) is
+        by (reply.Agg k) [] did is = former_of (k == a) (has_followed held a || has_frame frame a) is
         by (reply.Agg k) (b ∷ heard) did is = hearing-new run.broken w.chunked held frame k (count_of (b ∷ heard)) a is
         by (reply.Refused x) heard did is = absurd (cc (is))
         by r heard did is = absurd did
 
     ending-new : (run : Run) (held : Following) (k len : ℕ) → (k == a) ≡ true → uses_agg (ending run held k len) a ≡ true
-    ending-new run None k len is = first (k == a) false is
+    ending-new run None k len is = former_of (k == a) false is
     ending-new run (Some x) k len is = later_of (x.0 == a) (k == a) is
 
     step-brings : (run : Run) (s : Step) (r : Reply) (heard : List ℕ) → HasRun job m w o (Runs run s)
@@ -148,7 +125,7 @@ module _ (come : AggregatesComeAndGo) (own : CallsServeTheirDomain) (m n : State
     step-brings run (Hands j f) r heard has step = absurd (handed (run.worker + 1) has.0.0 j (job f) r has.0.1 has.1.1 step)
     step-brings run (Lets j) r heard has step = absurd (dropped j r step)
     step-brings run Heads r heard has step = made (call.AggMake (script_text w)) (script_text w) (λ k. told_step w run Heads k heard) r step (own.make m n server (script_text w) r order step) (λ x is. is) (λ x is. cc (is))
-        (λ x is. first ((x == a) || false) false (first (x == a) false is))
+        (λ x is. former_of ((x == a) || false) false (former_of (x == a) false is))
     step-brings run (Sending d frame) r heard has step = sending-brings run d frame r has.1 step
     step-brings run (Hears held frame) r heard has step = hears-brings run held frame r heard has.1 step
     step-brings run (Spills b frame) r heard has step = absurd (dropped b r step)
@@ -158,7 +135,7 @@ module _ (come : AggregatesComeAndGo) (own : CallsServeTheirDomain) (m n : State
         (λ x is. later_of (held == a) (x == a) is)
     step-brings run (Wraps held frame) r heard has step = made (call.AggReplace frame (place_in_frame CHUNK_BYTES) (place_in_frame CHUNK_BYTES) held) (take (place_in_frame CHUNK_BYTES) (frame_of CHUNK_BYTES) ++ has.1.0.bytes ++ drop (place_in_frame CHUNK_BYTES) (frame_of CHUNK_BYTES))
         (λ k. told_step w run (Wraps held frame) k heard) r step (own.replace m n server frame (place_in_frame CHUNK_BYTES) (place_in_frame CHUNK_BYTES) held (frame_of CHUNK_BYTES) has.1.0.bytes r order has.1.1 has.1.0.lends step) (λ x is. is) (λ x is. cc (is))
-        (λ x is. later_of (held == a) ((x == a) || (frame == a)) (first (x == a) (frame == a) is))
+        (λ x is. later_of (held == a) ((x == a) || (frame == a)) (former_of (x == a) (frame == a) is))
     step-brings run (Trims held chunk len frame) r heard has step = absurd (dropped held r step)
     step-brings run (Ended b held frame) r heard has step = absurd (dropped b r step)
     step-brings run (Unholds held frame) r heard has step = absurd (dropped held r step)
@@ -168,7 +145,7 @@ module _ (come : AggregatesComeAndGo) (own : CallsServeTheirDomain) (m n : State
         (λ x is. ending-new run held x (count_of heard) is)
     step-brings run (WrapsLast held size frame) r heard has step = made (call.AggReplace frame (place_in_frame size) (place_in_frame size) held) (take (place_in_frame size) (end_around (Some (held, size))) ++ has.1.bytes ++ drop (place_in_frame size) (end_around (Some (held, size))))
         (λ k. told_step w run (WrapsLast held size frame) k heard) r step (own.replace m n server frame (place_in_frame size) (place_in_frame size) held (end_around (Some (held, size))) has.1.bytes r order has.1.frames has.1.holds.lends step) (λ x is. is) (λ x is. cc (is))
-        (λ x is. later_of (held == a) ((x == a) || (frame == a)) (first (x == a) (frame == a) is))
+        (λ x is. later_of (held == a) ((x == a) || (frame == a)) (former_of (x == a) (frame == a) is))
     step-brings run (TrimsLast held chunk len frame) r heard has step = absurd (dropped held r step)
     step-brings run (Unwraps frame chunk len) r heard has step = absurd (dropped frame r step)
     step-brings run (Returns write) r heard has step = absurd (shuts write r step)
@@ -181,7 +158,7 @@ module _ (come : AggregatesComeAndGo) (own : CallsServeTheirDomain) (m n : State
         (λ x is. headed-first x (count_of heard) (conn.following k) a is)
     left-brings due (doing.Sends b len taken more) r heard is has step = absurd (written fd c b has.bytes r open_on has.lends step)
     left-brings due (doing.Cuts b from len taken more) r heard is has step = made (call.AggCut b from (piece_end from len)) (slice_range has.0.bytes from (piece_end from len)) (λ z. Leaves (conn.told (in_phase w (doing.Cuts b from len taken more)) z heard).doing) r step
-        (own.cut m n server b from (piece_end from len) has.0.bytes r order has.0.lends step) (λ x is. is) (λ x is. cc (is)) (λ x is. first (x == a) ((b == a) || has_followed more a) is)
+        (own.cut m n server b from (piece_end from len) has.0.bytes r order has.0.lends step) (λ x is. is) (λ x is. cc (is)) (λ x is. former_of (x == a) ((b == a) || has_followed more a) is)
     left-brings due (doing.Offers b from len piece taken more) r heard is has step = absurd (written fd c piece (slice_range has.whole.bytes from (piece_end from len)) r open_on has.lends step)
     left-brings due (doing.Swaps b from len piece taken more) r heard is has step = absurd (dropped piece r step)
     left-brings due (doing.Sent b taken more) r heard is has step = absurd (dropped b r step)
@@ -200,11 +177,7 @@ pub brought : (come : AggregatesComeAndGo) (own : CallsServeTheirDomain) (job : 
 brought come own job m n fd c worker w Awaits o r heard bytes a order open_on going has step before after = absurd (piped come own m n order a bytes before after w r step)
 brought come own job m n fd c worker w (Runs run s) o r heard bytes a order open_on going has step before after = step-brings come own m n order a bytes before after w job fd c open_on o run s r heard has step
 brought come own job m n fd c worker w (Leaves d) o r heard bytes a order open_on going has step before after =
-    leaving-brings come own m n order a bytes before after w job fd c open_on o o d r heard (turned (is_left d) going) has step
-  where
-    turned : (b : Bool) → not b ≡ false → b ≡ true
-    turned true is = refl
-    turned false is = absurd (cc (is))
+    leaving-brings come own m n order a bytes before after w job fd c open_on o o d r heard (not-false (is_left d) going) has step
 brought come own job m n fd c worker w Closes o r heard bytes a order open_on going has step before after = absurd (cc (going))
 
 pub runs_keep : AggregatesComeAndGo → CallsServeTheirDomain → RunsKeepNothing

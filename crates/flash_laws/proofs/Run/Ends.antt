@@ -19,7 +19,7 @@ use Rattle.flash_laws.specs.declared.running.Step.{Step}
 use Rattle.flash_laws.specs.declared.running.Step.TheVariants.{Gives, Makes, Hands, Lets, Heads, Sending, Hears, Spills, Gathers, Frames, Wraps, Trims, Ended, Unholds, Stops, Unframes, Lasts, WrapsLast, TrimsLast, Unwraps, Returns, Lapses, Fails}
 use Rattle.flash_laws.specs.declared.running.Running.{Running}
 use Rattle.flash_laws.specs.declared.running.Running.TheVariants.{Awaits, Runs, Leaves, Closes}
-use Rattle.flash_laws.proofs.Lists.{clash}
+use Rattle.flash_laws.proofs.Lists.{clash, not-true}
 
 -- ---- it ends where the connection rests, or is to be closed
 
@@ -30,14 +30,6 @@ IsEnd d = (d ≡ doing.Rests) ⊎ (d ≡ doing.Closes)
 left-ends : (m : State) (w : Wanted) (o : Progress) (d : Doing) → HasLeft m w o d → is_left d ≡ false → IsEnd d
 left-ends m w o doing.Rests has over = inl refl
 left-ends m w o doing.Closes has over = inr refl
-left-ends m w o doing.Opens has over = absurd has.sends.0
-left-ends m w o (doing.Got a) has over = absurd has.sends.0
-left-ends m w o (doing.Reads f) has over = absurd has.sends.0
-left-ends m w o (doing.Shuts f k) has over = absurd has.sends.0
-left-ends m w o (doing.Picks a first last len) has over = absurd has.sends.0
-left-ends m w o (doing.Spares a k) has over = absurd has.sends.0
-left-ends m w o (doing.Joins a size body len) has over = absurd has.sends.0
-left-ends m w o doing.Over has over = absurd has.sends.0
 left-ends m w o (doing.Heads k) has over = absurd (cc (over))
 left-ends m w o (doing.Sends a len taken more) has over = absurd (cc (over))
 left-ends m w o (doing.Cuts a from len taken more) has over = absurd (cc (over))
@@ -46,15 +38,12 @@ left-ends m w o (doing.Swaps a from len piece taken more) has over = absurd (cc 
 left-ends m w o (doing.Sent a taken more) has over = absurd (cc (over))
 left-ends m w o (doing.Breaks piece a more) has over = absurd (cc (over))
 left-ends m w o (doing.Drops a more) has over = absurd (cc (over))
-
-turned-over : (b : Bool) → not b ≡ true → b ≡ false
-turned-over true is = absurd (cc (is))
-turned-over false is = refl
+left-ends m w o d has over = absurd has.sends.0
 
 pub run-ends : (job : ℕ → List ℕ) (m : State) (w : Wanted) (o : Progress) (z : Running) → HasRun job m w o z → is_over z ≡ true → IsEnd (after_run z)
 run-ends job m w o Awaits has over = absurd (cc (over))
 run-ends job m w o (Runs run s) has over = absurd (cc (over))
-run-ends job m w o (Leaves d) has over = left-ends m w o d has (turned-over (is_left d) over)
+run-ends job m w o (Leaves d) has over = left-ends m w o d has (not-true (is_left d) over)
 run-ends job m w o Closes has over = inr refl
 
 -- ---- and all of the response was taken, or it was broken off
@@ -78,7 +67,7 @@ left-after m w o d has ends = elim ends [
 pub run-after : (job : ℕ → List ℕ) (m : State) (w : Wanted) (o : Progress) (z : Running) → HasRun job m w o z → is_over z ≡ true → IsAfter w o (after_run z)
 run-after job m w o Awaits has over = absurd (cc (over))
 run-after job m w o (Runs run s) has over = absurd (cc (over))
-run-after job m w o (Leaves d) has over = left-after m w o d has (left-ends m w o d has (turned-over (is_left d) over))
+run-after job m w o (Leaves d) has over = left-after m w o d has (left-ends m w o d has (not-true (is_left d) over))
 run-after job m w o Closes has over = none-taken w o has
 
 -- ---- the text is kept until the job is made
@@ -114,53 +103,33 @@ step-forgets w run (Hands j f) (reply.Refused x) heard was = by (is_again x)
     by : (t : Bool) → Forgets (Runs run (if t then Hands j f else Lapses j))
     by true = refl
     by false = refl
-step-forgets w run (Hands j f) r heard was = refl
 step-forgets w run (Lets j) reply.Done heard was = refl
-step-forgets w run (Lets j) r heard was = refl
 step-forgets w run Heads (reply.Agg n) heard was = refl
-step-forgets w run Heads r heard was = refl
 step-forgets w run (Sending (doing.Sent a taken None) frame) reply.Done heard was = refl
 step-forgets w run (Sending (doing.Drops a None) frame) reply.Done heard was = refl
-step-forgets w run (Sending d frame) r heard was = refl
 step-forgets w run (Hears held frame) (reply.Agg n) [] was = refl
 step-forgets w run (Hears held frame) (reply.Agg n) (b ∷ heard) was = hearing-forgets run run.broken w.chunked held frame n (count_of (b ∷ heard))
 step-forgets w run (Hears None frame) (reply.Refused (no.Denied p)) heard was = refl
 step-forgets w run (Hears (Some x) frame) (reply.Refused (no.Denied p)) heard was = refl
-step-forgets w run (Hears held frame) r heard was = refl
 step-forgets w run (Spills a frame) reply.Done heard was = refl
-step-forgets w run (Spills a frame) r heard was = refl
 step-forgets w run (Gathers held size piece len frame) (reply.Agg n) heard was = holding-forgets run n (both size len) frame
-step-forgets w run (Gathers held size piece len frame) r heard was = refl
 step-forgets w run (Frames held) (reply.Agg n) heard was = refl
-step-forgets w run (Frames held) r heard was = refl
 step-forgets w run (Wraps held frame) (reply.Agg n) heard was = refl
-step-forgets w run (Wraps held frame) r heard was = refl
 step-forgets w run (Trims held chunk len frame) reply.Done heard was = refl
-step-forgets w run (Trims held chunk len frame) r heard was = refl
 step-forgets w run (Ended a held frame) reply.Done heard was = refl
-step-forgets w run (Ended a held frame) r heard was = refl
 step-forgets w run (Unholds held frame) reply.Done heard was = refl
-step-forgets w run (Unholds held frame) r heard was = refl
 step-forgets w run (Stops held None) reply.Done heard was = finishing-forgets run.broken w.chunked run held
 step-forgets w run (Stops held (Some f)) reply.Done heard was = refl
-step-forgets w run (Stops held frame) r heard was = refl
 step-forgets w run (Unframes f held) reply.Done heard was = finishing-forgets run.broken w.chunked run held
-step-forgets w run (Unframes f held) r heard was = refl
 step-forgets w run (Lasts None) (reply.Agg n) heard was = refl
 step-forgets w run (Lasts (Some x)) (reply.Agg n) heard was = refl
-step-forgets w run (Lasts held) r heard was = refl
 step-forgets w run (WrapsLast held size frame) (reply.Agg n) heard was = refl
-step-forgets w run (WrapsLast held size frame) r heard was = refl
 step-forgets w run (TrimsLast held chunk len frame) reply.Done heard was = refl
-step-forgets w run (TrimsLast held chunk len frame) r heard was = refl
 step-forgets w run (Unwraps frame chunk len) reply.Done heard was = refl
-step-forgets w run (Unwraps frame chunk len) r heard was = refl
 step-forgets w run (Returns write) reply.Done heard was = refl
-step-forgets w run (Returns write) r heard was = refl
 step-forgets w run (Lapses j) reply.Done heard was = refl
-step-forgets w run (Lapses j) r heard was = refl
 step-forgets w run Fails reply.Done heard was = refl
-step-forgets w run Fails r heard was = refl
+step-forgets w run s r heard was = refl
 
 -- what keeps it kept it before
 pub keeps-back : (worker : ℕ) (w : Wanted) (y : Running) (r : Reply) (heard : List ℕ) → keeps_text (told worker w y r heard) ≡ true → keeps_text y ≡ true
@@ -176,29 +145,5 @@ keeps-back worker w Closes r heard kept = absurd (cc (kept))
 -- no call but that for the job tells its text
 pub wants-text : (fd : ℕ) (w : Wanted) (y : Running) (script text : List ℕ) → (keeps_text y ≡ true → script ≡ text)
     → wants (job_of w script) fd w y ≡ wants (job_of w text) fd w y
-wants-text fd w Awaits script text kept = refl
 wants-text fd w (Runs run (Makes f)) script text kept = ap (λ (t : List ℕ). wants (job_of w t) fd w (Runs run (Makes f))) (kept refl)
-wants-text fd w (Runs run (Gives write)) script text kept = refl
-wants-text fd w (Runs run (Hands j f)) script text kept = refl
-wants-text fd w (Runs run (Lets j)) script text kept = refl
-wants-text fd w (Runs run Heads) script text kept = refl
-wants-text fd w (Runs run (Sending d frame)) script text kept = refl
-wants-text fd w (Runs run (Hears held frame)) script text kept = refl
-wants-text fd w (Runs run (Spills a frame)) script text kept = refl
-wants-text fd w (Runs run (Gathers held size piece len frame)) script text kept = refl
-wants-text fd w (Runs run (Frames held)) script text kept = refl
-wants-text fd w (Runs run (Wraps held frame)) script text kept = refl
-wants-text fd w (Runs run (Trims held chunk len frame)) script text kept = refl
-wants-text fd w (Runs run (Ended a held frame)) script text kept = refl
-wants-text fd w (Runs run (Unholds held frame)) script text kept = refl
-wants-text fd w (Runs run (Stops held frame)) script text kept = refl
-wants-text fd w (Runs run (Unframes frame held)) script text kept = refl
-wants-text fd w (Runs run (Lasts held)) script text kept = refl
-wants-text fd w (Runs run (WrapsLast held size frame)) script text kept = refl
-wants-text fd w (Runs run (TrimsLast held chunk len frame)) script text kept = refl
-wants-text fd w (Runs run (Unwraps frame chunk len)) script text kept = refl
-wants-text fd w (Runs run (Returns write)) script text kept = refl
-wants-text fd w (Runs run (Lapses j)) script text kept = refl
-wants-text fd w (Runs run Fails) script text kept = refl
-wants-text fd w (Leaves d) script text kept = refl
-wants-text fd w Closes script text kept = refl
+wants-text fd w y script text kept = refl

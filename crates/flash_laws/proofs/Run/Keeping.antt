@@ -32,37 +32,17 @@ use Rattle.flash_laws.specs.declared.running.Step.TheVariants.{Gives, Makes, Han
 use Rattle.flash_laws.specs.declared.running.Running.{Running}
 use Rattle.flash_laws.specs.declared.running.Running.TheVariants.{Runs, Leaves}
 use Rattle.flash_laws.proofs.Conn.Keeping.{leaves-told}
-use Rattle.flash_laws.proofs.Lists.{clash, later_of}
+use Rattle.flash_laws.proofs.Lists.{clash, later_of, amid, bare, bare-none, former_by, former_of, swapped}
 use Rattle.flash_laws.proofs.Conn.Uses.{same-number}
-
-pub first : (a b : Bool) → a ≡ true → (a || b) ≡ true
-first true b is = refl
-first false b is = absurd (cc (is))
-
-first_by : (a b : Bool) → (a || b) ≡ true → b ≡ false → a ≡ true
-first_by true b is unused = refl
-first_by false b is unused = absurd (clash b is unused)
 
 later_by : (a b : Bool) → (a || b) ≡ true → a ≡ false → b ≡ true
 later_by true b is unused = absurd (cc (unused))
 later_by false b is unused = is
 
-swapped : (a b : Bool) → (a || b) ≡ true → (b || a) ≡ true
-swapped true b is = later_of b true refl
-swapped false b is = first b false is
-
-or-none : (b : Bool) → (b || false) ≡ false → b ≡ false
-or-none true is = is
-or-none false is = refl
-
 swapped-none : (a b : Bool) → (b || a) ≡ false → (a || b) ≡ false
 swapped-none true true is = is
 swapped-none true false is = is
-swapped-none false b is = or-none b is
-
-bare : (a : Bool) → (a || false) ≡ true → a ≡ true
-bare true is = refl
-bare false is = is
+swapped-none false b is = bare-none b is
 
 plain : (a b : Bool) → ((a || false) || b) ≡ false → (a || b) ≡ false
 plain true b is = is
@@ -101,10 +81,10 @@ holding-new n size frame a u = by (nat_lt size CHUNK_BYTES)
   where
     set : (frame : Option ℕ) → step_agg (filled n frame) a ≡ true
     set None = u
-    set (Some f) = first (n == a) (f == a) u
+    set (Some f) = former_of (n == a) (f == a) u
 
     by : (b : Bool) → step_agg (if b then Hears (Some (n, size)) frame else filled n frame) a ≡ true
-    by true = first (n == a) (has_frame frame a) u
+    by true = former_of (n == a) (has_frame frame a) u
     by false = set frame
 
 -- what was used when output is read is used then
@@ -124,10 +104,10 @@ hearing-uses m w o false true (Some x) frame n len bytes a holds goes is u = by 
 
 -- and so is what is read
 pub hearing-new : (c d : Bool) (held : Following) (frame : Option ℕ) (n len a : ℕ) → (n == a) ≡ true → step_agg (hearing c d held frame n len) a ≡ true
-hearing-new true d held frame n len a u = first (n == a) (has_frame frame a) u
-hearing-new false false held frame n len a u = first ((n == a) || false) (has_frame frame a) (first (n == a) false u)
+hearing-new true d held frame n len a u = former_of (n == a) (has_frame frame a) u
+hearing-new false false held frame n len a u = former_of ((n == a) || false) (has_frame frame a) (former_of (n == a) false u)
 hearing-new false true None frame n len a u = holding-new n len frame a u
-hearing-new false true (Some x) frame n len a u = later_of (x.0 == a) ((n == a) || has_frame frame a) (first (n == a) (has_frame frame a) u)
+hearing-new false true (Some x) frame n len a u = later_of (x.0 == a) ((n == a) || has_frame frame a) (former_of (n == a) (has_frame frame a) u)
 
 unread-uses : (held : Following) (frame : Option ℕ) (a : ℕ) → (has_followed held a || has_frame frame a) ≡ true → step_agg (unread held frame) a ≡ true
 unread-uses None frame a u = u
@@ -143,11 +123,7 @@ finishing-uses m w o run true c held bytes a holds ends is unused = unheld held 
 -- of two that are used, the frame stays
 apart : {A : Type 0} (x y f : Bool) → (x || f) ≡ true → (y || f) ≡ false → (x ≡ true → y ≡ false → A) → A
 apart x y true u unused leaves = absurd (clash (y || true) (later_of y true refl) unused)
-apart x y false u unused leaves = leaves (first_by x false u refl) (first-none y unused)
-  where
-    first-none : (y : Bool) → (y || false) ≡ false → y ≡ false
-    first-none true is = is
-    first-none false is = refl
+apart x y false u unused leaves = leaves (former_by x false u refl) (bare-none y unused)
 
 module _ (job : ℕ → List ℕ) (m : State) (fd : ℕ) (w : Wanted) (o : Progress) (run : Run) (a : ℕ) where
   abbrev LeavesAt : Step → Reply → Running → Type 0
@@ -186,12 +162,12 @@ module _ (job : ℕ → List ℕ) (m : State) (fd : ℕ) (w : Wanted) (o : Progr
 
   unframes : (f : ℕ) (held : Following) (r : Reply) (heard : List ℕ) → HasAll m w o run held (Some f)
       → LeavesAt (Unframes f held) r (told_step w run (Unframes f held) r heard)
-  unframes f held reply.Done heard h u unused = (first_by (f == a) (has_followed held a) u (finishing-uses m w o run run.broken w.chunked held h.bytes a h.has.holds h.ends refl unused), refl)
+  unframes f held reply.Done heard h u unused = (former_by (f == a) (has_followed held a) u (finishing-uses m w o run run.broken w.chunked held h.bytes a h.has.holds h.ends refl unused), refl)
   unframes f held r heard h u unused = absurd (clash (step_agg (Unframes f held) a) u unused)
 
   lasts : (held : Following) (r : Reply) (heard : List ℕ) → LeavesAt (Lasts held) r (told_step w run (Lasts held) r heard)
   lasts None r heard u unused = absurd (cc (u))
-  lasts (Some x) (reply.Agg n) heard u unused = absurd (clash (step_agg (WrapsLast x.0 x.1 n) a) (first (x.0 == a) (n == a) u) unused)
+  lasts (Some x) (reply.Agg n) heard u unused = absurd (clash (step_agg (WrapsLast x.0 x.1 n) a) (former_of (x.0 == a) (n == a) u) unused)
   lasts (Some x) r heard u unused = absurd (clash (step_agg (Lasts (Some x)) a) u unused)
 
   gathers : (held size piece len : ℕ) (frame : Option ℕ) (r : Reply) (heard : List ℕ) → LeavesAt (Gathers held size piece len frame) r (told_step w run (Gathers held size piece len frame) r heard)
@@ -218,35 +194,27 @@ module _ (job : ℕ → List ℕ) (m : State) (fd : ℕ) (w : Wanted) (o : Progr
   step-leaves (Lets j) r heard has u unused = absurd (clash (j == a) u unused)
   step-leaves (Sending d frame) r heard has u unused = sending d frame r has u unused
   step-leaves (Hears held frame) r heard has u unused = hears held frame r heard has u unused
-  step-leaves (Spills b frame) reply.Done heard has u unused = (first_by (b == a) (has_frame frame a) u unused, refl)
+  step-leaves (Spills b frame) reply.Done heard has u unused = (former_by (b == a) (has_frame frame a) u unused, refl)
   step-leaves (Spills b frame) r heard has u unused = absurd (clash (step_agg (Spills b frame) a) u unused)
   step-leaves (Gathers held size piece len frame) r heard has u unused = gathers held size piece len frame r heard u unused
-  step-leaves (Frames held) (reply.Agg n) heard has u unused = absurd (clash (step_agg (Wraps held n) a) (first (held == a) (n == a) u) unused)
+  step-leaves (Frames held) (reply.Agg n) heard has u unused = absurd (clash (step_agg (Wraps held n) a) (former_of (held == a) (n == a) u) unused)
   step-leaves (Frames held) r heard has u unused = absurd (clash (held == a) u unused)
-  step-leaves (Wraps held frame) (reply.Agg n) heard has u unused = absurd (clash (step_agg (Trims held n (count_of heard) frame) a) (around (held == a) (n == a) (frame == a) u) unused)
-    where
-      around : (x y z : Bool) → (x || z) ≡ true → (x || (y || z)) ≡ true
-      around true y z u = refl
-      around false y z u = later_of y z u
+  step-leaves (Wraps held frame) (reply.Agg n) heard has u unused = absurd (clash (step_agg (Trims held n (count_of heard) frame) a) (amid (held == a) (n == a) (frame == a) u) unused)
   step-leaves (Wraps held frame) r heard has u unused = absurd (clash (step_agg (Wraps held frame) a) u unused)
-  step-leaves (Trims held chunk len frame) reply.Done heard has u unused = (first_by (held == a) ((chunk == a) || (frame == a)) u (plain (chunk == a) (frame == a) unused), refl)
+  step-leaves (Trims held chunk len frame) reply.Done heard has u unused = (former_by (held == a) ((chunk == a) || (frame == a)) u (plain (chunk == a) (frame == a) unused), refl)
   step-leaves (Trims held chunk len frame) r heard has u unused = absurd (clash (step_agg (Trims held chunk len frame) a) u unused)
-  step-leaves (Ended b held frame) reply.Done heard has u unused = (first_by (b == a) (has_followed held a || has_frame frame a) u unused, refl)
+  step-leaves (Ended b held frame) reply.Done heard has u unused = (former_by (b == a) (has_followed held a || has_frame frame a) u unused, refl)
   step-leaves (Ended b held frame) r heard has u unused = absurd (clash (step_agg (Ended b held frame) a) u unused)
-  step-leaves (Unholds held frame) reply.Done heard has u unused = (first_by (held == a) (has_frame frame a) u unused, refl)
+  step-leaves (Unholds held frame) reply.Done heard has u unused = (former_by (held == a) (has_frame frame a) u unused, refl)
   step-leaves (Unholds held frame) r heard has u unused = absurd (clash (step_agg (Unholds held frame) a) u unused)
   step-leaves (Stops held frame) r heard has u unused = stops held frame r heard has.1 u unused
   step-leaves (Unframes f held) r heard has u unused = unframes f held r heard has u unused
   step-leaves (Lasts held) r heard has u unused = lasts held r heard u unused
-  step-leaves (WrapsLast held size frame) (reply.Agg n) heard has u unused = absurd (clash (step_agg (TrimsLast held n (count_of heard) frame) a) (around (held == a) (n == a) (frame == a) u) unused)
-    where
-      around : (x y z : Bool) → (x || z) ≡ true → (x || (y || z)) ≡ true
-      around true y z u = refl
-      around false y z u = later_of y z u
+  step-leaves (WrapsLast held size frame) (reply.Agg n) heard has u unused = absurd (clash (step_agg (TrimsLast held n (count_of heard) frame) a) (amid (held == a) (n == a) (frame == a) u) unused)
   step-leaves (WrapsLast held size frame) r heard has u unused = absurd (clash (step_agg (WrapsLast held size frame) a) u unused)
-  step-leaves (TrimsLast held chunk len frame) reply.Done heard has u unused = (first_by (held == a) ((chunk == a) || (frame == a)) u (swapped-none (chunk == a) (frame == a) unused), refl)
+  step-leaves (TrimsLast held chunk len frame) reply.Done heard has u unused = (former_by (held == a) ((chunk == a) || (frame == a)) u (swapped-none (chunk == a) (frame == a) unused), refl)
   step-leaves (TrimsLast held chunk len frame) r heard has u unused = absurd (clash (step_agg (TrimsLast held chunk len frame) a) u unused)
-  step-leaves (Unwraps frame chunk len) reply.Done heard has u unused = (first_by (frame == a) (chunk == a) u (or-none (chunk == a) unused), refl)
+  step-leaves (Unwraps frame chunk len) reply.Done heard has u unused = (former_by (frame == a) (chunk == a) u (bare-none (chunk == a) unused), refl)
   step-leaves (Unwraps frame chunk len) r heard has u unused = absurd (clash (step_agg (Unwraps frame chunk len) a) u unused)
   step-leaves (Lapses j) reply.Done heard has u unused = (u, refl)
   step-leaves (Lapses j) r heard has u unused = absurd (clash (j == a) u unused)
@@ -388,7 +356,7 @@ module _ (own : CallsServeTheirDomain) (job : ℕ → List ℕ) (m n : State) (f
   step-shuts : (s : Step) (r : Reply) (heard : List ℕ) → HasStep job m w o run s → ShutsAt s r (told_step w run s r heard)
   step-shuts (Gives write) r heard has step u unused = gives write r heard has step u unused
   step-shuts (Returns write) r heard has step u unused = closed write (Returns write) r (λ k. told_step w run (Returns write) k heard) step (λ x. refl)
-      (λ none. later_by (run.from == g) (write == g) u (or-none (run.from == g) none)) u unused
+      (λ none. later_by (run.from == g) (write == g) u (bare-none (run.from == g) none)) u unused
   step-shuts (Stops held frame) r heard has step u unused = closed run.from (Stops held frame) r (λ k. told_step w run (Stops held frame) k heard) step (λ x. refl)
       (λ none. bare (run.from == g) u) u unused
   step-shuts Fails r heard has step u unused = closed run.from Fails r (λ k. told_step w run Fails k heard) step (λ x. refl) (λ none. bare (run.from == g) u) u unused

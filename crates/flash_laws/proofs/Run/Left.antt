@@ -22,8 +22,8 @@ use Rattle.flash_laws.specs.Answers.{error_text}
 use Rattle.flash_laws.specs.Conn as conn
 use Rattle.flash_laws.specs.Conn.{piece_end}
 use Rattle.flash_laws.specs.Fits.{Has, Names}
-use Rattle.flash_laws.specs.RunFits.{Progress, Ran, Broken, NotRun, IsLeft, HasNone, sent_agg, IsPart, taken_of, IsSending, HasRest, HasLeft}
-use Rattle.flash_laws.specs.Offers.{newly_taken, is_dropping}
+use Rattle.flash_laws.specs.RunFits.{Progress, Ran, Broken, NotRun, IsLeft, HasNone, sent_agg, IsPart, IsSending, HasRest, HasLeft}
+use Rattle.flash_laws.specs.Offers.{taken_of, newly_taken, is_dropping}
 use Rattle.flash_laws.specs.RunOffers.{takes_on, PartLearns}
 use Rattle.flash_laws.specs.Running.{in_phase, is_left}
 use Rattle.flash_laws.specs.Site.{server}
@@ -67,10 +67,6 @@ none-left : (w : Wanted) (o : Progress) → w.keep ≡ false → IsLeft w o [] �
 none-left w (Ran heard ended past) closes left = (left, inl closes)
 none-left w Broken closes left = absurd left
 none-left w (NotRun status past) closes left = (left, inl closes)
-
-pub still-left : (b : Bool) → not b ≡ false → b ≡ true
-still-left true is = refl
-still-left false is = absurd (cc (is))
 
 -- a part is sent as what is left is
 pub part-sends : (m : State) (due : List ℕ) (d : Doing) → IsPart m (sent_agg d) due → taken_of d ≤ length due → IsSending m due d

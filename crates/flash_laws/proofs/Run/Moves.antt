@@ -9,8 +9,8 @@ use Rattle.iol_core.specs.declared.events.Reply.TheVariants as reply
 use Rattle.flash_http.specs.Request.{serve, Wanted}
 use Rattle.flash_laws.specs.Conn as conn
 use Rattle.flash_laws.specs.Conn.{Following, count_of, piece_end}
-use Rattle.flash_laws.specs.RunFits.{Progress, sent_agg, IsPart, taken_of, IsSending, HasRun}
-use Rattle.flash_laws.specs.Offers.{may_repeat}
+use Rattle.flash_laws.specs.RunFits.{Progress, sent_agg, IsPart, IsSending, HasRun}
+use Rattle.flash_laws.specs.Offers.{taken_of, may_repeat}
 use Rattle.flash_laws.specs.Running.{both, worker_domain, job_pipe, held_size, in_phase, step_wants, wants, told_gives, told_makes, told_hands, told_lets, told_heads, told_sending, told_spills, told_gathers, told_frames, told_wraps, told_trims, told_ended, told_unholds, told_wraps_last, told_trims_last, told_returns, told_lapses, told_hears, told_stops, told_unframes, told_lasts, told_unwraps, told_fails, filled, holding, hearing, finishing, stopped, ending, told_step, told, is_left, is_over}
 use Rattle.flash_laws.specs.Scripts.{script_text, frame_of, place_in_frame, end_around}
 use Rattle.flash_laws.specs.Site.{server}
@@ -24,7 +24,8 @@ use Rattle.flash_laws.specs.declared.running.Step.TheVariants.{Gives, Makes, Han
 use Rattle.flash_laws.specs.declared.running.Running.{Running}
 use Rattle.flash_laws.specs.declared.running.Running.TheVariants.{Awaits, Runs, Leaves, Closes}
 use Rattle.flash_laws.proofs.Conn.Repeats.{either, drops, closes, makes, cuts, joins, replaces, reads, gives, writes, pipes}
-use Rattle.flash_laws.proofs.Run.Left.{is-rest, still-left}
+use Rattle.flash_laws.proofs.Run.Left.{is-rest}
+use Rattle.flash_laws.proofs.Lists.{not-false}
 
 -- the phase of what is sent
 abbrev doing_of : Running → Doing
@@ -145,6 +146,6 @@ pub moves : (job : ℕ → List ℕ) (m n : State) (fd worker : ℕ) (w : Wanted
 moves job m n fd worker w Awaits r heard o going has step same = pipes m n Awaits (λ z. told worker w Awaits z heard) r step (λ k l e. cc (e)) same
 moves job m n fd worker w (Runs run s) r heard o going has step same = steps run job m n fd w o s r heard has step same
 moves job m n fd worker w (Leaves d) r heard o going has step same =
-    let h = is-rest m w o d (still-left (is_left d) going) has in
+    let h = is-rest m w o d (not-false (is_left d) going) has in
     phase m n w fd h.due d r heard h.sends step (ap (λ (z : Running). doing_of z) same)
 moves job m n fd worker w Closes r heard o going has step same = absurd (cc (going))

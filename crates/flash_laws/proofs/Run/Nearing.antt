@@ -1,7 +1,7 @@
 -- A call of a run brings its response nearer to its end, or brings more output, or is to be made again later.
-use Rattle.std.proofs.Common.{inl, inr, ◌≡◌, ℕ, zero, suc, ◌+◌, ◌*◌, ◌-◌, ◌/◌, ◌%◌, ◌==◌, ◌<◌, ◌≤◌, ◌⊎◌, cond, List, [], ◌∷◌, ◌++◌, length, take, drop, ap, ◌∙◌, refl, sym, subst, arith, Option, Some, None, true, false, Bool, length-append, length-drop, if◌then◌else◌}
+use Rattle.std.proofs.Common.{inl, inr, ◌≡◌, ℕ, ◌+◌, ◌*◌, ◌-◌, ◌<◌, ◌≤◌, ◌⊎◌, List, [], ◌∷◌, ◌++◌, length, take, drop, ap, ◌∙◌, refl, sym, subst, arith, Option, Some, None, true, false, Bool, length-append, length-drop, if◌then◌else◌}
 use Rattle.std.specs.Prelude.{nat_lt}
-use Rattle.std.specs.Fmt.{digits, digits_onto, digit_glyph}
+use Rattle.std.specs.Fmt.{digits}
 use Rattle.std.proofs.lemmas.List.{length-take}
 use Rattle.iol_core.specs.State.{State, descriptor, is_live}
 use Rattle.iol_core.specs.Run.{StepsTo}
@@ -39,10 +39,11 @@ use Rattle.flash_laws.specs.declared.running.Step.TheVariants.{Gives, Makes, Han
 use Rattle.flash_laws.specs.declared.running.Running.{Running}
 use Rattle.flash_laws.specs.declared.running.Running.TheVariants.{Awaits, Runs, Leaves, Closes}
 use Rattle.flash_laws.proofs.Conn.Answering.{some-inj}
-use Rattle.flash_laws.proofs.Lists.{differ}
+use Rattle.flash_laws.proofs.Lists.{differ, not-false}
 use Rattle.flash_laws.proofs.Conn.Nearing.{stage, calls_left, head_calls, lacks-later, drops, closes, makes, joins, near}
 use Rattle.flash_laws.proofs.Conn.Nearing as file
-use Rattle.flash_laws.proofs.Run.Left.{is-rest, still-left}
+use Rattle.flash_laws.proofs.Run.Outputs.{short-digits}
+use Rattle.flash_laws.proofs.Run.Left.{is-rest}
 
 -- ---- how far it is: the calls that are left, if no more output comes
 
@@ -101,18 +102,8 @@ falls w y x fewer = inr (refl, fewer)
 
 -- ---- some lengths
 
-onto-long : (fuel n : ℕ) (acc : List ℕ) → length (digits_onto fuel 16 false n acc) ≤ fuel + length acc
-onto-long zero n acc = omega arith
-onto-long (suc fuel) n acc = by (n / 16 == 0) (onto-long fuel (n / 16) (digit_glyph false (n % 16) ∷ acc))
-  where
-    by : (b : Bool) → length (digits_onto fuel 16 false (n / 16) (digit_glyph false (n % 16) ∷ acc)) ≤ fuel + length (digit_glyph false (n % 16) ∷ acc)
-        → length (cond b (digit_glyph false (n % 16) ∷ acc) (digits_onto fuel 16 false (n / 16) (digit_glyph false (n % 16) ∷ acc))) ≤ suc fuel + length acc
-    by true e = omega arith
-    by false e = omega (arith, e)
-
 head-long : (size : ℕ) → length (chunk_head size) ≤ 66
-unfolding digits
-head-long size = let e = onto-long 64 size [] in let f = length-append (digits_onto 64 16 false size []) (13 ∷ 10 ∷ []) in omega (arith, e, f)
+head-long size = let e = short-digits size in let f = length-append (digits 16 false size) chunk_end in omega (arith, e, f)
 
 around-more : (x : ℕ × ℕ) → length (end_around None) ≤ length (end_around (Some x))
 around-more x =
@@ -361,7 +352,7 @@ pub nears : CallsServeTheirDomain → RefusalsThatAreLeft → (job : ℕ → Lis
 nears own may job m n fd c worker w Awaits r heard o order lives open_on going has can step names = inl (pipes own may m n order lives job w worker r step)
 nears own may job m n fd c worker w (Runs run s) r heard o order lives open_on going has can step names = steps own may m n order lives job w run fd c o s r heard open_on has can step names
 nears own may job m n fd c worker w (Leaves d) r heard o order lives open_on going has can step names =
-    let left : is_left d ≡ true = still-left (is_left d) going in
+    let left : is_left d ≡ true = not-false (is_left d) going in
     let h = is-rest m w o d left has in
     inl (rest own may m n order lives job w d (conn.told (in_phase w d) r heard).doing r (left-stage d left)
     (near own may m n order lives fd c [] (serve w) d h.due r heard open_on (left-busy d left) h.has can step names))

@@ -1,8 +1,7 @@
 -- What is offered for a script is the next bytes of the response, whatever the run.
-use Rattle.std.proofs.Common.{◌≡◌, ℕ, suc, ◌+◌, ◌-◌, ◌==◌, ◌<◌, ◌≤◌, List, [], ◌∷◌, ◌++◌, length, drop, ap, ◌∙◌, refl, sym, subst, arith, Option, Some, None, true, false, Bool, append_assoc, append-nil, zero-add, if◌then◌else◌}
-use Rattle.std.specs.Prelude.{slice_range}
+use Rattle.std.proofs.Common.{◌≡◌, ℕ, suc, ◌+◌, ◌-◌, ◌==◌, ◌<◌, ◌≤◌, List, [], ◌∷◌, ◌++◌, length, drop, ap, ◌∙◌, refl, sym, subst, arith, Option, Some, None, true, false, Bool, append_assoc, append-nil, zero-add}
 use Rattle.std.proofs.lemmas.Bool.{or_parts}
-use Rattle.std.proofs.lemmas.List.{take-append-drop, drop-append-le}
+use Rattle.std.proofs.lemmas.List.{drop-append-le}
 use Rattle.iol_core.specs.State.{State, descriptor, pipe_at, new_pipe}
 use Rattle.iol_core.specs.Run.{StepsTo}
 use Rattle.iol_core.specs.declared.descriptors.Descriptor.TheVariants as on
@@ -22,7 +21,8 @@ use Rattle.flash_http.specs.Request.{serve, Wanted}
 use Rattle.flash_laws.specs.Conn as conn
 use Rattle.flash_laws.specs.Conn.{Following, piece_end}
 use Rattle.flash_laws.specs.Fits.{Has, Names}
-use Rattle.flash_laws.specs.RunFits.{Progress, Ran, Broken, NotRun, Follows, MayAnswer, Continues, IsLeft, HasJobPipe, HasPart, HasRest, HasLeft, HasRun, taken_of}
+use Rattle.flash_laws.specs.Offers.{taken_of}
+use Rattle.flash_laws.specs.RunFits.{Progress, Ran, Broken, NotRun, Follows, MayAnswer, Continues, IsLeft, HasJobPipe, HasPart, HasRest, HasLeft, HasRun}
 use Rattle.flash_laws.specs.RunOffers.{takes_on, Learns, taken_by, past_of, IsNextOf, HasWorker, RunsOfferTheResponse}
 use Rattle.flash_laws.specs.Running.{worker_domain, job_pipe, held_size, in_phase, wants, broken, told_lets, told_sending, told_spills, told_trims, told_ended, told_unholds, told_trims_last, told_lapses, told_hears, told_stops, told_unframes, told_lasts, told_unwraps, told_fails, finishing, told, is_left, is_over}
 use Rattle.flash_laws.specs.Scripts.{script_body, script_response}
@@ -35,8 +35,9 @@ use Rattle.flash_laws.specs.declared.running.Step.{Step}
 use Rattle.flash_laws.specs.declared.running.Step.TheVariants.{Gives, Makes, Hands, Lets, Heads, Sending, Hears, Spills, Gathers, Frames, Wraps, Trims, Ended, Unholds, Stops, Unframes, Lasts, WrapsLast, TrimsLast, Unwraps, Returns, Lapses, Fails}
 use Rattle.flash_laws.specs.declared.running.Running.{Running}
 use Rattle.flash_laws.specs.declared.running.Running.TheVariants.{Awaits, Runs, Leaves, Closes}
+use Rattle.flash_laws.proofs.Client.Phases.{Next, written_fd, next-due}
 use Rattle.flash_laws.proofs.Run.Left as left
-use Rattle.flash_laws.proofs.Run.Left.{is-rest, still-left}
+use Rattle.flash_laws.proofs.Run.Left.{is-rest}
 use Rattle.flash_laws.proofs.Run.Moves.{moves}
 use Rattle.flash_laws.proofs.Run.Nearing.{rank, nears}
 use Rattle.flash_laws.proofs.Run.Parts as parts
@@ -46,6 +47,7 @@ use Rattle.flash_laws.proofs.Run.Stays.{run_stays, hired-on, write-elsewhere}
 use Rattle.flash_laws.proofs.Run.Takes.{takes, breaks, fails, in_turn}
 use Rattle.flash_laws.proofs.Run.Steps as acts
 use Rattle.flash_laws.proofs.Run.Stops as stopping
+use Rattle.flash_laws.proofs.Lists.{not-false}
 
 module _ (steps : EachStepLeavesTheRest) (own : CallsServeTheirDomain) (m n : State) (order : IsOrderly m) (job : ℕ → List ℕ) (w : Wanted) where
   abbrev Told : Running → Running → Reply → List ℕ → Progress → Type 0
@@ -125,7 +127,7 @@ module _ (steps : EachStepLeavesTheRest) (own : CallsServeTheirDomain) (m n : St
       → StepsTo m (event.Call server (wants job fd w x)) r n → Names n r heard → Told x (told worker w x r heard) r heard o
   replied fd c worker Awaits r heard o open_on free going has step names = acts.awaits steps own m n order job w worker r heard o (free refl) has step
   replied fd c worker Closes r heard o open_on free going has step names = absurd (cc (going))
-  replied fd c worker (Leaves d) r heard o open_on free going has step names = leaving fd c o d r heard open_on (still-left (is_left d) going) has step names
+  replied fd c worker (Leaves d) r heard o open_on free going has step names = leaving fd c o d r heard open_on (not-false (is_left d) going) has step names
   replied fd c worker (Runs run (Gives write)) r heard o open_on free going has step names = (o, refl, acts.gives steps own m n order job w run has.0 write r o has.1 step)
   replied fd c worker (Runs run (Makes f)) r heard o open_on free going has step names = (o, refl, acts.makes steps own m n order job w run has.0 f r o has.1 step)
   replied fd c worker (Runs run (Hands j f)) r heard o open_on free going has step names = (o, refl, acts.hands steps own m n order job w run has.0 j f r o has.1 step)
@@ -176,50 +178,16 @@ next-in m w (Ran heard ended past) a taken part bytes after goes within next len
 next-in m w Broken a taken part bytes after goes within next lends = absurd goes
 next-in m w (NotRun status past) a taken part bytes after goes within next lends = absurd goes
 
--- the aggregate that a call writes, and where
-abbrev written_agg : Call → (other : ℕ) → ℕ
-written_agg (call.IolWrite fd a) other = a
-written_agg k other = other
-
-abbrev written_fd : Call → (other : ℕ) → ℕ
-written_fd (call.IolWrite fd a) other = fd
-written_fd k other = other
-
 -- what a phase of any response offers comes next in what is due
-pub record Offered (m : State) (due : List ℕ) (a taken : ℕ) : Type 0 where
-  pub bytes : List ℕ
-  pub after : List ℕ
-  pub lends : lent_at m server a ≡ Some bytes
-  pub next : bytes ++ after ≡ drop taken due
-
 offered : (m : State) (fd a : ℕ) (w : Wanted) (due : List ℕ) (d : Doing) → Has m (serve w) due d
-    → conn.wants fd (in_phase w d) ≡ call.IolWrite fd a → Offered m due a (taken_of d)
-offered m fd a w due (doing.Sends b len taken more) has is =
-    let same : b ≡ a = ap (λ k. written_agg k b) is in
-    record { bytes = has.bytes; after = has.after; lends = ap (λ z. lent_at m server z) (sym same) ∙ has.lends; next = has.next }
-offered m fd a w due (doing.Offers b from len piece taken more) has is =
-    let same : piece ≡ a = ap (λ k. written_agg k piece) is in
-    let bytes = has.whole.bytes in
-    let rest = drop (piece_end from len - from) (drop from bytes) in
-    record {
-      bytes = slice_range bytes from (piece_end from len);
-      after = rest ++ has.whole.after;
-      lends = ap (λ z. lent_at m server z) (sym same) ∙ has.lends;
-      next = sym (append_assoc (slice_range bytes from (piece_end from len)) rest has.whole.after)
-          ∙ (ap (λ (l : List ℕ). l ++ has.whole.after) (take-append-drop (piece_end from len - from) (drop from bytes)) ∙ has.whole.next);
-    }
-offered m fd a w due (doing.Reads f) has is = absurd (by w.head_only is)
-  where
-    by : (b : Bool) → (if b then call.Length f else call.IolRead f conn.most_read) ≡ call.IolWrite fd a → ⊥
-    by true is = cc
-    by false is = cc
-offered m fd a w due d has is = absurd (cc (is))
+    → conn.wants fd (in_phase w d) ≡ call.IolWrite fd a → Next m due a (taken_of d)
+offered m fd a w due d has is = (next-due m fd fd a [] (serve w) d due has is).1
 
 pub part-next : (m : State) (fd a : ℕ) (w : Wanted) (o : Progress) (run : Run) (d : Doing) (frame : Option ℕ) → HasPart m w o run d frame
     → conn.wants fd (in_phase w d) ≡ call.IolWrite fd a → IsNextOf m w o a (taken_of d)
 part-next m fd a w o run d frame h is =
     let p = offered m fd a w h.part d h.has is in
-    next-in m w o a (taken_of d) h.part p.bytes p.after h.continues h.within p.next p.lends
+    next-in m w o a (taken_of d) h.part p.0 p.1 h.continues h.within p.3 p.2
 
 -- what may be the response, once all of it is known
 is-whole : (w : Wanted) (o : Progress) (due r : List ℕ) → IsLeft w o due → MayAnswer w o r → (taken : ℕ) → drop taken due ≡ drop (past_of o + taken) r
@@ -234,7 +202,7 @@ rest-next : (m : State) (fd a : ℕ) (w : Wanted) (o : Progress) (d : Doing) →
     → conn.wants fd (in_phase w d) ≡ call.IolWrite fd a → IsNextOf m w o a (taken_of d)
 rest-next m fd a w o d h is =
     let p = offered m fd a w h.due d h.has is in
-    record { bytes = p.bytes; lends = p.lends; next = λ r may. (p.after, p.next ∙ is-whole w o h.due r h.left may (taken_of d)) }
+    record { bytes = p.0; lends = p.2; next = λ r may. (p.1, p.3 ∙ is-whole w o h.due r h.left may (taken_of d)) }
 
 pub left-next : (m : State) (fd a : ℕ) (w : Wanted) (o : Progress) (d : Doing) → HasLeft m w o d
     → conn.wants fd (in_phase w d) ≡ call.IolWrite fd a → IsNextOf m w o a (taken_of d)

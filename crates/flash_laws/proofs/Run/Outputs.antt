@@ -41,7 +41,7 @@ length-onto (suc fuel) n acc = both (n / 16 == 0) (length-onto fuel (n / 16) (di
     both true rest = omega arith
     both false rest = omega (arith, rest)
 
-short-digits : (size : ℕ) → length (digits 16 false size) ≤ 64
+pub short-digits : (size : ℕ) → length (digits 16 false size) ≤ 64
 unfolding digits
 short-digits size = length-onto 64 size []
 

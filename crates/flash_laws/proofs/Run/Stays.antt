@@ -24,12 +24,12 @@ use Rattle.flash_laws.specs.declared.doing.Doing.TheVariants as doing
 use Rattle.flash_laws.specs.declared.running.TheConstants.{CHUNK_BYTES}
 use Rattle.flash_laws.specs.declared.running.Run.{Run}
 use Rattle.flash_laws.specs.declared.running.Step.{Step}
-use Rattle.flash_laws.specs.declared.running.Step.TheVariants.{Gives, Makes, Hands, Lets, Heads, Sending, Hears, Spills, Gathers, Frames, Wraps, Trims, Ended, Unholds, Stops, Unframes, Lasts, WrapsLast, TrimsLast, Unwraps, Returns, Lapses, Fails}
+use Rattle.flash_laws.specs.declared.running.Step.TheVariants.{Gives, Hands, Lets, Heads, Sending, Hears, Spills, Gathers, Frames, Wraps, Trims, Ended, Unholds, Stops, Unframes, Lasts, WrapsLast, TrimsLast, Unwraps, Returns, Lapses}
 use Rattle.flash_laws.specs.declared.running.Running.{Running}
 use Rattle.flash_laws.specs.declared.running.Running.TheVariants.{Awaits, Runs, Leaves, Closes}
 use Rattle.flash_laws.proofs.Conn.Answering.{some-inj}
 use Rattle.flash_laws.proofs.Conn.Lent.{lent-stays, lent-on, has-stays}
-use Rattle.flash_laws.proofs.Lists.{not-equal, turned, self, first_of, later_of}
+use Rattle.flash_laws.proofs.Lists.{not-equal, turned, self, first_of, later_of, amid, bare, former_of, swapped}
 
 -- two descriptors that are open on different things
 fds-differ : (m : State) (g h : ℕ) (x y : Descriptor) → descriptor m server g ≡ Some x → descriptor m server h ≡ Some y → (x ≡ y → ⊥) → (g == h) ≡ false
@@ -60,10 +60,6 @@ part-used m (doing.Breaks piece a None) part n lends is = lends a part (later_of
 part-used m (doing.Drops a None) part n lends is = lends a part (first_of a (false)) is
 part-used m d part n lends is = absurd is
 
-or-first : (a b : Bool) → a ≡ true → (a || b) ≡ true
-or-first true b is = refl
-or-first false b is = absurd (cc (is))
-
 module _ (m n : State) where
   abbrev LendsOn : (ℕ → Bool) → Type 0
   LendsOn uses = (a : ℕ) (bytes : List ℕ) → uses a ≡ true → lent_at m server a ≡ Some bytes → lent_at n server a ≡ Some bytes
@@ -73,7 +69,7 @@ module _ (m n : State) where
 
   -- of two that are used each
   fore : (u v : ℕ → Bool) → LendsOn (λ a. u a || v a) → LendsOn u
-  fore u v lends a bytes is has = lends a bytes (or-first (u a) (v a) is) has
+  fore u v lends a bytes is has = lends a bytes (former_of (u a) (v a) is) has
 
   back : (u v : ℕ → Bool) → LendsOn (λ a. u a || v a) → LendsOn v
   back u v lends a bytes is has = lends a bytes (later_of (u a) (v a) is) has
@@ -136,7 +132,7 @@ module _ (m n : State) where
   -- the read end is used
   from-used : (run : Run) (step : Step) → is_reading step ≡ true → uses_fd (Runs run step) run.from ≡ true
   from-used run step open_yet = later_of (job_pipe run.worker == run.from) ((is_reading step && (run.from == run.from)) || step_fd step run.from)
-      (or-first (is_reading step && (run.from == run.from)) (step_fd step run.from) (ap (λ b. b && (run.from == run.from)) open_yet ∙ self run.from))
+      (former_of (is_reading step && (run.from == run.from)) (step_fd step run.from) (ap (λ b. b && (run.from == run.from)) open_yet ∙ self run.from))
 
   reads : (run : Run) (step : Step) → is_reading step ≡ true → OpensOn (λ g. uses_fd (Runs run step) g) → IsReading m run → IsReading n run
   reads run step open_yet opens is = reading-on run (λ x e. opens run.from x (from-used run step open_yet) e) is
@@ -157,10 +153,8 @@ module _ (m n : State) where
   step-on : (job : ℕ → List ℕ) (w : Wanted) (o : Progress) (run : Run) (step : Step) → LendsOn (λ a. step_agg step a) → OpensOn (λ g. uses_fd (Runs run step) g)
       → HasStep job m w o run step → HasStep job n w o run step
   step-on job w o run (Gives write) lends opens has = (pipe-on run (Gives write) write refl (self write) opens has.0, has.1)
-  step-on job w o run (Makes f) lends opens has = (reads run (Makes f) refl opens has.0, has.1)
   step-on job w o run (Hands j f) lends opens has = (reads run (Hands j f) refl opens has.0, lends j (job f) (self j) has.1, has.2)
   step-on job w o run (Lets j) lends opens has = (reads run (Lets j) refl opens has.0, lent-if (λ a. j == a) j (self j) lends has.1, has.2)
-  step-on job w o run Heads lends opens has = (reads run Heads refl opens has.0, has.1)
   step-on job w o run (Sending d frame) lends opens has = has-part-on w o run d frame (reads run (Sending d frame) refl opens) lends has
   step-on job w o run (Hears held frame) lends opens has = has-heard-on w o run held frame (reads run (Hears held frame) refl opens) lends has
   step-on job w o run (Spills a frame) lends opens has = (
@@ -171,7 +165,7 @@ module _ (m n : State) where
     reads = reads run (Gathers held size piece len frame) refl opens h.reads;
     bytes = h.bytes;
     more = h.more;
-    has = has-output-on w (Some (held, size)) frame h.bytes (λ a bytes u is. lends a bytes (around (held == a) (piece == a) (has_frame frame a) u) is) h.has;
+    has = has-output-on w (Some (held, size)) frame h.bytes (λ a bytes u is. lends a bytes (amid (held == a) (piece == a) (has_frame frame a) u) is) h.has;
     lends = lends piece h.more (later_of (held == piece) ((piece == piece) || has_frame frame piece) (first_of piece (has_frame frame piece))) h.lends;
     count = h.count;
     within = h.within;
@@ -180,10 +174,6 @@ module _ (m n : State) where
     whole = h.whole;
     goes = h.goes;
   }
-    where
-      around : (x y z : Bool) → (x || z) ≡ true → (x || (y || z)) ≡ true
-      around true y z u = refl
-      around false y z u = later_of y z u
   step-on job w o run (Frames held) lends opens h = record { reads = reads run (Frames held) refl opens h.reads; bytes = h.bytes; lends = lends held h.bytes (self held) h.lends; count = h.count; chunked = h.chunked; whole = h.whole; goes = h.goes }
   step-on job w o run (Wraps held frame) lends opens has = (
     record { reads = reads run (Wraps held frame) refl opens has.0.reads; bytes = has.0.bytes; lends = lends held has.0.bytes (first_of held (frame == held)) has.0.lends; count = has.0.count; chunked = has.0.chunked; whole = has.0.whole; goes = has.0.goes },
@@ -211,15 +201,7 @@ module _ (m n : State) where
   )
   step-on job w o run (Stops held frame) lends opens has = (reads run (Stops held frame) refl opens has.0, has-all-on w o run held frame lends has.1)
   step-on job w o run (Unframes f held) lends opens has = has-all-on w o run held (Some f) (λ a bytes u is. lends a bytes (swapped (has_followed held a) (f == a) u) is) has
-    where
-      swapped : (x y : Bool) → (x || y) ≡ true → (y || x) ≡ true
-      swapped true y u = later_of y true refl
-      swapped false y u = or-first y false u
   step-on job w o run (Lasts held) lends opens has = (has.0, has.1, has-all-on w o run held None (λ a bytes u is. lends a bytes (bare (has_followed held a) u) is) has.2)
-    where
-      bare : (x : Bool) → (x || false) ≡ true → x ≡ true
-      bare true u = refl
-      bare false u = u
   step-on job w o run (WrapsLast held size frame) lends opens h = record {
     bytes = h.bytes;
     holds = output-on w held size h.bytes (λ is. lends held h.bytes (first_of held (frame == held)) is) h.holds;
@@ -238,7 +220,7 @@ module _ (m n : State) where
   )
   step-on job w o run (Returns write) lends opens has = (pipe-on run (Returns write) write refl (self write) opens has.0, has.1)
   step-on job w o run (Lapses j) lends opens has = (reads run (Lapses j) refl opens has.0, lent-if (λ a. j == a) j (self j) lends has.1, has.2)
-  step-on job w o run Fails lends opens has = (reads run Fails refl opens has.0, has.1)
+  step-on job w o run step lends opens has = (reads run step refl opens has.0, has.1)
 
   sending-on : (due : List ℕ) (d : Doing) → LendsOn (λ a. conn.uses_agg d a) → IsSending m due d → IsSending n due d
   sending-on due (doing.Heads (Error status)) lends has = tt

@@ -22,8 +22,8 @@ use Rattle.iol_laws.specs.RefusalsLeft.{RefusalsThatAreLeft, CannotPut}
 use Rattle.flash_http.specs.Request.{serve, Wanted}
 use Rattle.flash_laws.specs.Conn as conn
 use Rattle.flash_laws.specs.Conn.{Following}
-use Rattle.flash_laws.specs.RunFits.{Progress, Ran, Broken, NotRun, IsLeft, Continues, taken_of, HasPart, HasRest, HasStep, HasRun}
-use Rattle.flash_laws.specs.Offers.{newly_taken, is_dropping}
+use Rattle.flash_laws.specs.RunFits.{Progress, Ran, Broken, NotRun, IsLeft, Continues, HasPart, HasRest, HasStep, HasRun}
+use Rattle.flash_laws.specs.Offers.{taken_of, newly_taken, is_dropping}
 use Rattle.flash_laws.specs.RunOffers.{hears_on, takes_on, PartLearns, StepLearns, Learns, taken_by, past_of, breaks_off, IsCutOff, is_failing, IsLost, ComesAfter}
 use Rattle.flash_laws.specs.Running.{worker_domain, job_pipe, held_size, in_phase, step_wants, wants, is_again, told_gives, told_hands, told_sending, told_step, told, is_left, is_over}
 use Rattle.flash_laws.specs.Site.{server}
@@ -37,9 +37,9 @@ use Rattle.flash_laws.specs.declared.running.Step.TheVariants.{Gives, Hands, Sen
 use Rattle.flash_laws.specs.declared.running.Running.{Running}
 use Rattle.flash_laws.specs.declared.running.Running.TheVariants.{Awaits, Runs, Leaves, Closes}
 use Rattle.flash_laws.proofs.Conn.Answering.{some-inj}
-use Rattle.flash_laws.proofs.Lists.{clash, not-equal}
+use Rattle.flash_laws.proofs.Lists.{clash, not-equal, not-false}
 use Rattle.flash_laws.proofs.Run.Left as left
-use Rattle.flash_laws.proofs.Run.Left.{SendsAll, is_sent, is-rest, whole-taken, still-left}
+use Rattle.flash_laws.proofs.Run.Left.{SendsAll, is_sent, is-rest, whole-taken}
 use Rattle.flash_laws.proofs.Run.Quiet.{is_part, Bars, quiet}
 
 -- ---- how much was taken before
@@ -202,7 +202,7 @@ takes steps own job m n fd c worker w Awaits r heard before after order open_on 
     by (reply.Fds from write) = let is = ap (λ (o : Progress). past_of o) learns in omega (arith, is)
     by r = let is = ap (λ (o : Progress). past_of o) learns in omega (arith, is)
 takes steps own job m n fd c worker w (Leaves d) r heard before after order open_on going has step learns at on =
-    rest steps own m n order w fd c open_on d r heard before after (is-rest m w before d (still-left (is_left d) going) has) step learns at on
+    rest steps own m n order w fd c open_on d r heard before after (is-rest m w before d (not-false (is_left d) going) has) step learns at on
 takes steps own job m n fd c worker w Closes r heard before after order open_on going has step learns at on = absurd (cc (going))
 takes steps own job m n fd c worker w (Runs run (Sending d frame)) r heard before after order open_on going has step learns at on =
     sending steps own m n order w fd c open_on run d frame r before after has.1 step learns at on
@@ -302,7 +302,7 @@ breaks why job m n fd c worker w Awaits r heard o open_on going has step at off 
     by : (r : Reply) → breaks_off (told worker w Awaits r heard) ≡ true → ⊥
     by (reply.Fds from write) off = cc (off)
     by r off = cc (off)
-breaks why job m n fd c worker w (Leaves d) r heard o open_on going has step at off = rest-drops why m n fd c open_on w o d r heard (is-rest m w o d (still-left (is_left d) going) has) step at off
+breaks why job m n fd c worker w (Leaves d) r heard o open_on going has step at off = rest-drops why m n fd c open_on w o d r heard (is-rest m w o d (not-false (is_left d) going) has) step at off
 breaks why job m n fd c worker w Closes r heard o open_on going has step at off = absurd (cc (going))
 breaks why job m n fd c worker w (Runs run (Sending d frame)) r heard o open_on going has step at off = inl (sending-drops why m n fd c open_on w o run d frame r has.1 step at off)
 breaks why job m n fd c worker w (Runs run s) r heard o open_on going has step at off = plain-breaks why job m n fd c w o run s r heard refl has.1 step at off

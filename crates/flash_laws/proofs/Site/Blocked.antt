@@ -1,6 +1,6 @@
 -- A client whose call would block is as it was.
 use Rattle.std.proofs.Common.{inl, inr, ◌≡◌, ℕ, zero, suc, ◌+◌, ◌-◌, ◌<◌, ◌≤◌, ◌⊎◌, List, [], ◌∷◌, ◌++◌, length, ap, ◌∙◌, refl, sym, subst, arith, Option, Some, None, true, false, Bool, append-nil, slice_set}
-use Rattle.std.specs.Prelude.{replicate, not, ◌||◌}
+use Rattle.std.specs.Prelude.{replicate}
 use Rattle.std.proofs.lemmas.Bool.{cases_lt}
 use Rattle.std.proofs.lemmas.Bool.Decides.{nat_tests}
 use Rattle.std.proofs.lemmas.Grind.{common_steps}
@@ -23,14 +23,16 @@ use Rattle.flash_laws.specs.Places.{first_free, has_free, runs_scripts, told_at}
 use Rattle.flash_laws.specs.Running as running
 use Rattle.flash_laws.specs.Running.{is_over, told_sending}
 use Rattle.flash_laws.specs.Tied.{with_at, left_by}
-use Rattle.flash_laws.specs.declared.doing.Content.TheVariants.{Body, Bare, Error, Script}
+use Rattle.flash_laws.specs.declared.doing.Content.TheVariants.{Error, Script}
 use Rattle.flash_laws.specs.declared.doing.Doing.{Doing}
-use Rattle.flash_laws.specs.declared.doing.Doing.TheVariants.{Rests, Got, Opens, Reads as Reading, Shuts, Picks as PicksPart, Spares, Heads, Joins, Sends, Cuts, Offers, Swaps, Sent, Breaks, Drops, Closes, Over}
+use Rattle.flash_laws.specs.declared.doing.Doing.TheVariants.{Rests, Reads as Reading, Spares, Sent, Drops, Over}
 use Rattle.flash_laws.specs.declared.running.Run.{Run}
 use Rattle.flash_laws.specs.declared.running.Step.{Step}
 use Rattle.flash_laws.specs.declared.running.Step.TheVariants as act
 use Rattle.flash_laws.specs.declared.running.Running.{Running}
 use Rattle.flash_laws.specs.declared.running.Running.TheVariants.{Awaits, Runs, Leaves, Closes as Ends}
+use Rattle.flash_laws.proofs.Forms.{at, of}
+use Rattle.flash_laws.proofs.Lists.{never_passed}
 
 -- which calls may be told to wait
 abbrev pub WaitLaw : Type 0
@@ -61,77 +63,20 @@ same-there clients fd x is = ap (λ (l : List (Option Client)). slice_set l fd (
 
 -- A connection that would block is as it was.
 
-abbrev at : List ℕ → Answer → Doing → Conn
-at kept q d = record { kept = kept; q = q; doing = d }
-
 conn-blocked : (kept : List ℕ) (q : Answer) (d : Doing) (heard : List ℕ) → conn.told (at kept q d) (reply.Refused no.WouldBlock) heard ≡ at kept q d
 conn-blocked kept q Rests heard = refl
-conn-blocked kept q (Got a) heard = refl
-conn-blocked kept q Opens heard = refl
-conn-blocked kept q (Reading f) heard = refl
-conn-blocked kept q (Shuts f k) heard = refl
-conn-blocked kept q (PicksPart a first last len) heard = refl
-conn-blocked kept q (Spares a k) heard = refl
-conn-blocked kept q (Heads k) heard = refl
-conn-blocked kept q (Joins a size body len) heard = refl
-conn-blocked kept q (Sends a len taken more) heard = refl
-conn-blocked kept q (Cuts a from len taken more) heard = refl
-conn-blocked kept q (Offers a from len piece taken more) heard = refl
-conn-blocked kept q (Swaps a from len piece taken more) heard = refl
-conn-blocked kept q (Sent a taken more) heard = refl
-conn-blocked kept q (Breaks piece a more) heard = refl
-conn-blocked kept q (Drops a more) heard = refl
-conn-blocked kept q Closes heard = refl
-conn-blocked kept q Over heard = refl
+conn-blocked kept q d heard = refl
 
 -- so is a run
 
 part-blocked : (run : Run) (d : Doing) (frame : Option ℕ) → told_sending run d frame (reply.Refused no.WouldBlock) ≡ Runs run (act.Sending d frame)
-part-blocked run Rests frame = refl
-part-blocked run (Got a) frame = refl
-part-blocked run Opens frame = refl
-part-blocked run (Reading f) frame = refl
-part-blocked run (Shuts f k) frame = refl
-part-blocked run (PicksPart a first last len) frame = refl
-part-blocked run (Spares a k) frame = refl
-part-blocked run (Heads k) frame = refl
-part-blocked run (Joins a size body len) frame = refl
-part-blocked run (Sends a len taken more) frame = refl
-part-blocked run (Cuts a from len taken more) frame = refl
-part-blocked run (Offers a from len piece taken more) frame = refl
-part-blocked run (Swaps a from len piece taken more) frame = refl
 part-blocked run (Sent a taken None) frame = refl
-part-blocked run (Sent a taken (Some x)) frame = refl
-part-blocked run (Breaks piece a more) frame = refl
 part-blocked run (Drops a None) frame = refl
-part-blocked run (Drops a (Some x)) frame = refl
-part-blocked run Closes frame = refl
-part-blocked run Over frame = refl
+part-blocked run d frame = refl
 
 step-blocked : (w : Wanted) (run : Run) (s : Step) (heard : List ℕ) → running.told_step w run s (reply.Refused no.WouldBlock) heard ≡ Runs run s
-step-blocked w run (act.Gives write) heard = refl
-step-blocked w run (act.Makes f) heard = refl
-step-blocked w run (act.Hands j f) heard = refl
-step-blocked w run (act.Lets j) heard = refl
-step-blocked w run act.Heads heard = refl
 step-blocked w run (act.Sending d frame) heard = part-blocked run d frame
-step-blocked w run (act.Hears held frame) heard = refl
-step-blocked w run (act.Spills a frame) heard = refl
-step-blocked w run (act.Gathers held size piece len frame) heard = refl
-step-blocked w run (act.Frames held) heard = refl
-step-blocked w run (act.Wraps held frame) heard = refl
-step-blocked w run (act.Trims held chunk len frame) heard = refl
-step-blocked w run (act.Ended a held frame) heard = refl
-step-blocked w run (act.Unholds held frame) heard = refl
-step-blocked w run (act.Stops held frame) heard = refl
-step-blocked w run (act.Unframes frame held) heard = refl
-step-blocked w run (act.Lasts held) heard = refl
-step-blocked w run (act.WrapsLast held size frame) heard = refl
-step-blocked w run (act.TrimsLast held chunk len frame) heard = refl
-step-blocked w run (act.Unwraps frame chunk len) heard = refl
-step-blocked w run (act.Returns write) heard = refl
-step-blocked w run (act.Lapses j) heard = refl
-step-blocked w run act.Fails heard = refl
+step-blocked w run s heard = refl
 
 run-blocked : (worker : ℕ) (w : Wanted) (y : Running) (heard : List ℕ) → running.told worker w y (reply.Refused no.WouldBlock) heard ≡ y
 run-blocked worker w Awaits heard = refl
@@ -140,54 +85,34 @@ run-blocked worker w (Leaves d) heard = ap (λ (x : Conn). Leaves x.doing) (conn
 run-blocked worker w Ends heard = refl
 
 -- one that stands still is neither over now, nor is its text kept no more
-stands : (over kept : Bool) (x : Client) (y : Running) → is_over y ≡ over → keeps_text y ≡ kept → x.run ≡ Some y
-    → goes_on over over x y y ≡ x
-stands false kept x y is kept_is run_is = texts kept kept_is ∙ ap (λ (o : Option Running). record { conn = x.conn; run = o; script = x.script }) (sym run_is)
+same-text : (k : Bool) (text : List ℕ) → text_on k k text ≡ text
+same-text true text = refl
+same-text false text = refl
+
+stands : (x : Client) (y : Running) (over : Bool) → x.run ≡ Some y → goes_on over over x y y ≡ x
+stands x y over run_is =
+    same over
+    ∙ (ap (λ (l : List ℕ). record { conn = x.conn; run = Some y; script = l }) (same-text (keeps_text y) x.script)
+    ∙ ap (λ (o : Option Running). record { conn = x.conn; run = o; script = x.script }) (sym run_is))
   where
-    texts : (k : Bool) → keeps_text y ≡ k → goes_on false false x y y ≡ record { conn = x.conn; run = Some y; script = x.script }
-    texts true e = ap (λ b. record { conn = x.conn; run = Some y; script = text_on b b x.script }) e
-    texts false e = ap (λ b. record { conn = x.conn; run = Some y; script = text_on b b x.script }) e
-stands true kept x y is kept_is run_is = texts kept kept_is ∙ ap (λ (o : Option Running). record { conn = x.conn; run = o; script = x.script }) (sym run_is)
-  where
-    texts : (k : Bool) → keeps_text y ≡ k → goes_on true true x y y ≡ record { conn = x.conn; run = Some y; script = x.script }
-    texts true e = ap (λ b. record { conn = x.conn; run = Some y; script = text_on b b x.script }) e
-    texts false e = ap (λ b. record { conn = x.conn; run = Some y; script = text_on b b x.script }) e
+    same : (b : Bool) → goes_on b b x y y ≡ record { conn = x.conn; run = Some y; script = text_on (keeps_text y) (keeps_text y) x.script }
+    same true = refl
+    same false = refl
 
 -- A client that would block is as it was.
 
-abbrev of : Conn → Option Running → List ℕ → Client
-of c run script = record { conn = c; run = run; script = script }
-
 script-blocked : (kept : List ℕ) (q : Answer) (d : Doing) (script heard : List ℕ) → file_told true (of (at kept q d) None script) (reply.Refused no.WouldBlock) heard ≡ of (at kept q d) None script
-script-blocked kept q Rests script heard = refl
-script-blocked kept q (Got a) script heard = refl
-script-blocked kept q Opens script heard = refl
 script-blocked kept q (Reading f) script heard = by (is_head_only q)
   where
     by : (h : Bool) → of (at kept q (Reading f)) None (kept_text h script (reply.Refused no.WouldBlock) heard) ≡ of (at kept q (Reading f)) None script
     by true = refl
     by false = refl
-script-blocked kept q (Shuts f k) script heard = refl
-script-blocked kept q (PicksPart a first last len) script heard = refl
 script-blocked kept q (Spares a Script) script heard = by (is_head_only q)
   where
     by : (h : Bool) → of (at kept q (Spares a Script)) (told_spares h (reply.Refused no.WouldBlock)) script ≡ of (at kept q (Spares a Script)) None script
     by true = refl
     by false = refl
-script-blocked kept q (Spares a (Body b size len)) script heard = refl
-script-blocked kept q (Spares a (Bare len)) script heard = refl
-script-blocked kept q (Spares a (Error status)) script heard = refl
-script-blocked kept q (Heads k) script heard = refl
-script-blocked kept q (Joins a size body len) script heard = refl
-script-blocked kept q (Sends a len taken more) script heard = refl
-script-blocked kept q (Cuts a from len taken more) script heard = refl
-script-blocked kept q (Offers a from len piece taken more) script heard = refl
-script-blocked kept q (Swaps a from len piece taken more) script heard = refl
-script-blocked kept q (Sent a taken more) script heard = refl
-script-blocked kept q (Breaks piece a more) script heard = refl
-script-blocked kept q (Drops a more) script heard = refl
-script-blocked kept q Closes script heard = refl
-script-blocked kept q Over script heard = refl
+script-blocked kept q d script heard = refl
 
 pub told-blocked : (scripts : Bool) (worker : ℕ) (c : Conn) (run : Option Running) (script heard : List ℕ)
     → told scripts worker (of c run script) (reply.Refused no.WouldBlock) heard ≡ of c run script
@@ -199,42 +124,22 @@ told-blocked scripts worker c None script heard = by (is_for_script scripts c.q)
 told-blocked scripts worker c (Some y) script heard = by c.q
   where
     by : (q : Answer) → run_told worker q (of c (Some y) script) y (reply.Refused no.WouldBlock) heard ≡ of c (Some y) script
-    by (serve w) = ap (λ (z : Running). goes_on (is_over y) (is_over z) (of c (Some y) script) y z) (run-blocked worker w y heard) ∙ stands (is_over y) (keeps_text y) (of c (Some y) script) y refl refl refl
+    by (serve w) = ap (λ (z : Running). goes_on (is_over y) (is_over z) (of c (Some y) script) y z) (run-blocked worker w y heard) ∙ stands (of c (Some y) script) y (is_over y) refl
     by (refuse status head_only close) = refl
 
 -- and it is not over
 doing-blocked : WaitLaw → (m : State) (by fd : ℕ) (b : Bool) (kept : List ℕ) (q : Answer) (d : Doing) (x : Client) → WouldWait m by (conn_wants b fd (at kept q d)) → left_by d x ≡ Some x
 doing-blocked waits m by fd true kept q Over x step = absurd (let may = waits m m by (call.Close fd) step in cc (may))
 doing-blocked waits m by fd false kept q Over x step = absurd (let may = waits m m by (call.Close fd) step in cc (may))
-doing-blocked waits m by fd b kept q Rests x step = refl
-doing-blocked waits m by fd b kept q (Got a) x step = refl
-doing-blocked waits m by fd b kept q Opens x step = refl
-doing-blocked waits m by fd b kept q (Reading f) x step = refl
-doing-blocked waits m by fd b kept q (Shuts f k) x step = refl
-doing-blocked waits m by fd b kept q (PicksPart a first last len) x step = refl
-doing-blocked waits m by fd b kept q (Spares a k) x step = refl
-doing-blocked waits m by fd b kept q (Heads k) x step = refl
-doing-blocked waits m by fd b kept q (Joins a size body len) x step = refl
-doing-blocked waits m by fd b kept q (Sends a len taken more) x step = refl
-doing-blocked waits m by fd b kept q (Cuts a from len taken more) x step = refl
-doing-blocked waits m by fd b kept q (Offers a from len piece taken more) x step = refl
-doing-blocked waits m by fd b kept q (Swaps a from len piece taken more) x step = refl
-doing-blocked waits m by fd b kept q (Sent a taken more) x step = refl
-doing-blocked waits m by fd b kept q (Breaks piece a more) x step = refl
-doing-blocked waits m by fd b kept q (Drops a more) x step = refl
-doing-blocked waits m by fd b kept q Closes x step = refl
+doing-blocked waits m by fd b kept q d x step = refl
 
 left-blocked : WaitLaw → (m : State) (by workers fd : ℕ) (clients : List (Option Client)) (c : Conn) (run : Option Running) (script : List ℕ)
     → Blocks m by workers clients fd (of c run script) → left_over (of c run script) ≡ Some (of c run script)
 left-blocked waits m by workers fd clients c (Some y) script blocks = refl
 left-blocked waits m by workers fd clients c None script blocks = elim blocks.1 [
-  | inl passed ↦ absurd (never (has_free workers clients) passed)
+  | inl passed ↦ absurd (never_passed (has_free workers clients) passed)
   | inr step ↦ doing-blocked waits m by fd (is_for_script (runs_scripts workers) c.q) c.kept c.q c.doing (of c None script) step
 ]
-  where
-    never : (b : Bool) → (b || not false) ≡ false → ⊥
-    never true e = cc (e)
-    never false e = cc (e)
 
 pub filed-at : WaitLaw → (m : State) (by workers fd : ℕ) (clients : List (Option Client)) (heard : List ℕ)
     → BlocksAt m by workers clients fd
@@ -261,23 +166,7 @@ conn-ready kept q Rests y ready = by ready
     by : Starts (at kept q Rests) y → Stands (at kept q Rests) y ⊎ Begins y
     by (inl waits) = inl (waits.1, subst (λ (x : Conn). conn.IsAwaiting x) (sym waits.1) waits.0)
     by (inr some) = inr (some.0, some.1, some.3)
-conn-ready kept q (Got a) y ready = inl (ready, subst (λ (x : Conn). conn.IsAwaiting x) (sym ready) tt)
-conn-ready kept q Opens y ready = inl (ready, subst (λ (x : Conn). conn.IsAwaiting x) (sym ready) tt)
-conn-ready kept q (Reading f) y ready = inl (ready, subst (λ (x : Conn). conn.IsAwaiting x) (sym ready) tt)
-conn-ready kept q (Shuts f k) y ready = inl (ready, subst (λ (x : Conn). conn.IsAwaiting x) (sym ready) tt)
-conn-ready kept q (PicksPart a first last len) y ready = inl (ready, subst (λ (x : Conn). conn.IsAwaiting x) (sym ready) tt)
-conn-ready kept q (Spares a k) y ready = inl (ready, subst (λ (x : Conn). conn.IsAwaiting x) (sym ready) tt)
-conn-ready kept q (Heads k) y ready = inl (ready, subst (λ (x : Conn). conn.IsAwaiting x) (sym ready) tt)
-conn-ready kept q (Joins a size body len) y ready = inl (ready, subst (λ (x : Conn). conn.IsAwaiting x) (sym ready) tt)
-conn-ready kept q (Sends a len taken more) y ready = inl (ready, subst (λ (x : Conn). conn.IsAwaiting x) (sym ready) tt)
-conn-ready kept q (Cuts a from len taken more) y ready = inl (ready, subst (λ (x : Conn). conn.IsAwaiting x) (sym ready) tt)
-conn-ready kept q (Offers a from len piece taken more) y ready = inl (ready, subst (λ (x : Conn). conn.IsAwaiting x) (sym ready) tt)
-conn-ready kept q (Swaps a from len piece taken more) y ready = inl (ready, subst (λ (x : Conn). conn.IsAwaiting x) (sym ready) tt)
-conn-ready kept q (Sent a taken more) y ready = inl (ready, subst (λ (x : Conn). conn.IsAwaiting x) (sym ready) tt)
-conn-ready kept q (Breaks piece a more) y ready = inl (ready, subst (λ (x : Conn). conn.IsAwaiting x) (sym ready) tt)
-conn-ready kept q (Drops a more) y ready = inl (ready, subst (λ (x : Conn). conn.IsAwaiting x) (sym ready) tt)
-conn-ready kept q Closes y ready = inl (ready, subst (λ (x : Conn). conn.IsAwaiting x) (sym ready) tt)
-conn-ready kept q Over y ready = inl (ready, subst (λ (x : Conn). conn.IsAwaiting x) (sym ready) tt)
+conn-ready kept q d y ready = inl (ready, subst (λ (x : Conn). conn.IsAwaiting x) (sym ready) tt)
 
 -- a request that begins does not block
 never-waits : WaitLaw → (m : State) (by fd : ℕ) (b : Bool) (rest : List ℕ) (p : Answer) → WouldWait m by (conn_wants b fd (at rest p (begins p))) → ⊥

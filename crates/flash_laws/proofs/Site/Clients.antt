@@ -16,15 +16,13 @@ use Rattle.flash_laws.specs.Tied.{with_at}
 use Rattle.flash_laws.specs.declared.doing.Flight.{Flight}
 use Rattle.flash_laws.specs.declared.doing.Flight.TheVariants.{Nothing, Accepting, At}
 use Rattle.flash_laws.specs.declared.running.Running.{Running}
+use Rattle.flash_laws.proofs.Forms.{of}
 use Rattle.flash_laws.proofs.Conn.Answering.{some-inj}
 use Rattle.flash_laws.proofs.Site.InPlaces.{at-same, at-other, left-is}
 
 -- one with these, for which no script runs
 abbrev plain : Conn → List ℕ → Client
 plain c script = record { conn = c; run = None; script = script }
-
-abbrev of : Conn → Option Running → List ℕ → Client
-of c run script = record { conn = c; run = run; script = script }
 
 -- without workers scripts are not run
 pub none-run : (workers : ℕ) → workers ≡ 0 → runs_scripts workers ≡ false

@@ -6,7 +6,7 @@ use Rattle.std.proofs.lemmas.Grind.{common_steps}
 use Rattle.iol_core.specs.Numbered.{in_place}
 use Rattle.flash_laws.specs.Tied.{with_at, left_by}
 use Rattle.flash_laws.specs.declared.doing.Doing.{Doing}
-use Rattle.flash_laws.specs.declared.doing.Doing.TheVariants.{Rests, Got, Opens, Reads as Reading, Shuts, Picks, Spares, Heads, Joins, Sends, Cuts, Offers, Swaps, Sent, Breaks, Drops, Closes, Over}
+use Rattle.flash_laws.specs.declared.doing.Doing.TheVariants.{Over}
 use Rattle.flash_laws.proofs.Conn.Answering.{some-inj}
 
 -- ---- with one place changed
@@ -34,40 +34,8 @@ at-other xs fd gd x differ = let e = place-grown xs (fd + 1 - length xs) gd in g
 
 pub left-is : {A : Type 0} (d : Doing) (x y : A) → left_by d x ≡ Some y → x ≡ y
 left-is Over x y is = absurd (cc (is))
-left-is Rests x y is = some-inj x y is
-left-is (Got a) x y is = some-inj x y is
-left-is Opens x y is = some-inj x y is
-left-is (Reading f) x y is = some-inj x y is
-left-is (Shuts f k) x y is = some-inj x y is
-left-is (Picks a first last len) x y is = some-inj x y is
-left-is (Spares a k) x y is = some-inj x y is
-left-is (Heads k) x y is = some-inj x y is
-left-is (Joins a size body len) x y is = some-inj x y is
-left-is (Sends a len taken more) x y is = some-inj x y is
-left-is (Cuts a from len taken more) x y is = some-inj x y is
-left-is (Offers a from len piece taken more) x y is = some-inj x y is
-left-is (Swaps a from len piece taken more) x y is = some-inj x y is
-left-is (Sent a taken more) x y is = some-inj x y is
-left-is (Breaks piece a more) x y is = some-inj x y is
-left-is (Drops a more) x y is = some-inj x y is
-left-is Closes x y is = some-inj x y is
+left-is d x y is = some-inj x y is
 
 pub left-map : {A B : Type 0} (f : A → B) (d : Doing) (x : A) → option_map f (left_by d x) ≡ left_by d (f x)
 left-map f Over x = refl
-left-map f Rests x = refl
-left-map f (Got a) x = refl
-left-map f Opens x = refl
-left-map f (Reading g) x = refl
-left-map f (Shuts g k) x = refl
-left-map f (Picks a first last len) x = refl
-left-map f (Spares a k) x = refl
-left-map f (Heads k) x = refl
-left-map f (Joins a size body len) x = refl
-left-map f (Sends a len taken more) x = refl
-left-map f (Cuts a from len taken more) x = refl
-left-map f (Offers a from len piece taken more) x = refl
-left-map f (Swaps a from len piece taken more) x = refl
-left-map f (Sent a taken more) x = refl
-left-map f (Breaks piece a more) x = refl
-left-map f (Drops a more) x = refl
-left-map f Closes x = refl
+left-map f d x = refl

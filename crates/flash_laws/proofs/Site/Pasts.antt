@@ -16,7 +16,7 @@ use Rattle.iol_proc.specs.Histories.{stream_over, sent_over}
 use Rattle.iol_proc.proofs.Streams.{stream_over-more, sent_over-more}
 use Rattle.iol_proc.specs.declared.choice.Choice.{Choice}
 use Rattle.iol_proc.specs.declared.choice.Choice.TheVariants as choice
-use Rattle.flash_laws.specs.Tie.{made_with, made_over, gone_with, gone_over, given_with, given_over, past_of}
+use Rattle.flash_laws.specs.Tie.{tells_with, tells_over, made_over, gone_over, given_over, past_of}
 
 -- ---- events
 
@@ -32,10 +32,6 @@ past-equal p q came sent net gone given =
 pub or-false : (b c : Bool) → c ≡ false → (b || c) ≡ b
 or-false true c is = refl
 or-false false c is = is
-
-pub or-left : (b c : Bool) → b ≡ true → (b || c) ≡ true
-or-left true c is = refl
-or-left false c is = absurd (cc)
 
 -- an event that brings nothing in, sends nothing, makes nothing, tells of no peer that left, and gives the server nothing
 pub past-same : (p : Past) (e : Event) (r : Reply) → ((c : ℕ) → came_by c e r ≡ []) → ((c : ℕ)
@@ -82,46 +78,32 @@ or-assoc : (a b c : Bool) → (a || (b || c)) ≡ ((a || b) || c)
 or-assoc true b c = refl
 or-assoc false b c = refl
 
-made-more : (c : ℕ) (xs : List Choice) (rs : List Reply) (x : Choice) (r : Reply) → length xs ≡ length rs
-    → made_over c (xs ++ x ∷ []) (rs ++ r ∷ []) ≡ (made_over c xs rs || made_with c x r)
-unfolding made_over
-made-more c [] [] x r even = or-none (made_with c x r)
-made-more c (y ∷ xs) (s ∷ rs) x r even = ap (λ b. made_with c y s || b) (made-more c xs rs x r (omega (arith, even))) ∙ or-assoc (made_with c y s) (made_over c xs rs) (made_with c x r)
-made-more c [] (s ∷ rs) x r even = absurd (omega (arith, even))
-made-more c (y ∷ xs) [] x r even = absurd (omega (arith, even))
-
-gone-more : (c : ℕ) (xs : List Choice) (rs : List Reply) (x : Choice) (r : Reply) → length xs ≡ length rs
-    → gone_over c (xs ++ x ∷ []) (rs ++ r ∷ []) ≡ (gone_over c xs rs || gone_with c x r)
-unfolding gone_over
-gone-more c [] [] x r even = or-none (gone_with c x r)
-gone-more c (y ∷ xs) (s ∷ rs) x r even = ap (λ b. gone_with c y s || b) (gone-more c xs rs x r (omega (arith, even))) ∙ or-assoc (gone_with c y s) (gone_over c xs rs) (gone_with c x r)
-gone-more c [] (s ∷ rs) x r even = absurd (omega (arith, even))
-gone-more c (y ∷ xs) [] x r even = absurd (omega (arith, even))
-
-given-more : (a : ℕ) (xs : List Choice) (rs : List Reply) (x : Choice) (r : Reply) → length xs ≡ length rs
-    → given_over a (xs ++ x ∷ []) (rs ++ r ∷ []) ≡ (given_over a xs rs || given_with a x r)
-unfolding given_over
-given-more a [] [] x r even = or-none (given_with a x r)
-given-more a (y ∷ xs) (s ∷ rs) x r even = ap (λ b. given_with a y s || b) (given-more a xs rs x r (omega (arith, even))) ∙ or-assoc (given_with a y s) (given_over a xs rs) (given_with a x r)
-given-more a [] (s ∷ rs) x r even = absurd (omega (arith, even))
-given-more a (y ∷ xs) [] x r even = absurd (omega (arith, even))
+told-more : (p : Event → Reply → Bool) (xs : List Choice) (rs : List Reply) (x : Choice) (r : Reply) → length xs ≡ length rs
+    → tells_over p (xs ++ x ∷ []) (rs ++ r ∷ []) ≡ (tells_over p xs rs || tells_with p x r)
+unfolding tells_over
+told-more p [] [] x r even = or-none (tells_with p x r)
+told-more p (y ∷ xs) (s ∷ rs) x r even = ap (λ b. tells_with p y s || b) (told-more p xs rs x r (omega (arith, even))) ∙ or-assoc (tells_with p y s) (tells_over p xs rs) (tells_with p x r)
+told-more p [] (s ∷ rs) x r even = absurd (omega (arith, even))
+told-more p (y ∷ xs) [] x r even = absurd (omega (arith, even))
 
 pub past-outside : (xs : List Choice) (rs : List Reply) (e : Event) (r : Reply) → length xs ≡ length rs
     → past_of (xs ++ choice.Outside e ∷ []) (rs ++ r ∷ []) ≡ and_then (past_of xs rs) e r
+unfolding made_over gone_over given_over
 past-outside xs rs e r even =
     past-equal (and_then (past_of xs rs) e r) (past_of (xs ++ choice.Outside e ∷ []) (rs ++ r ∷ []))
-    (λ c. stream_over-more xs rs (choice.Outside e) r c even) (λ c. sent_over-more xs rs (choice.Outside e) r c even) (λ c. made-more c xs rs (choice.Outside e) r even)
-    (λ c. gone-more c xs rs (choice.Outside e) r even) (λ a. given-more a xs rs (choice.Outside e) r even)
+    (λ c. stream_over-more xs rs (choice.Outside e) r c even) (λ c. sent_over-more xs rs (choice.Outside e) r c even) (λ c. told-more (λ z l. made_by c z l) xs rs (choice.Outside e) r even)
+    (λ c. told-more (λ z l. gone_by c z l) xs rs (choice.Outside e) r even) (λ a. told-more (λ z l. given_by a z l) xs rs (choice.Outside e) r even)
 
 pub past-turn : (xs : List Choice) (rs : List Reply) (by : ℕ) (r : Reply) → length xs ≡ length rs
     → past_of (xs ++ choice.Turn by ∷ []) (rs ++ r ∷ []) ≡ past_of xs rs
+unfolding made_over gone_over given_over
 past-turn xs rs by r even =
     past-equal (past_of xs rs) (past_of (xs ++ choice.Turn by ∷ []) (rs ++ r ∷ []))
     (λ c. stream_over-more xs rs (choice.Turn by) r c even ∙ append-nil (stream_over c xs rs))
     (λ c. sent_over-more xs rs (choice.Turn by) r c even ∙ append-nil (sent_over c xs rs))
-    (λ c. made-more c xs rs (choice.Turn by) r even ∙ or-none (made_over c xs rs))
-    (λ c. gone-more c xs rs (choice.Turn by) r even ∙ or-none (gone_over c xs rs))
-    (λ a. given-more a xs rs (choice.Turn by) r even ∙ or-none (given_over a xs rs))
+    (λ c. told-more (λ z l. made_by c z l) xs rs (choice.Turn by) r even ∙ or-none (tells_over (λ z l. made_by c z l) xs rs))
+    (λ c. told-more (λ z l. gone_by c z l) xs rs (choice.Turn by) r even ∙ or-none (tells_over (λ z l. gone_by c z l) xs rs))
+    (λ a. told-more (λ z l. given_by a z l) xs rs (choice.Turn by) r even ∙ or-none (given_over a xs rs))
 
 pub even-more : (xs : List Choice) (rs : List Reply) (x : Choice) (r : Reply) → length xs ≡ length rs
     → length (xs ++ x ∷ []) ≡ length (rs ++ r ∷ [])

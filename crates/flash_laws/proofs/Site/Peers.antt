@@ -14,7 +14,7 @@ use Rattle.iol_core.specs.declared.events.Event.TheVariants as event
 use Rattle.iol_core.specs.declared.events.Reply.{Reply}
 use Rattle.iol_core.specs.declared.events.Reply.TheVariants as reply
 use Rattle.iol_laws.specs.Order.{Once, IsOrderly}
-use Rattle.iol_laws.proofs.Changing.{Change, Reads, Writes, Closes, Takes, changed_by, turned, all_turned, changes, conns_turned, once_turned}
+use Rattle.iol_laws.proofs.Changing.{Change, Closes, changed_by, turned, all_turned, changes, conns_turned, once_turned}
 use Rattle.iol_laws.proofs.Connections.{conn-unmade, conn-over, conn-there, conns_conn, conns_same, after-with_conn, nothing-left}
 
 -- if it is open, and its peer is gone, this is so
@@ -34,10 +34,8 @@ told-with_conn gone s e x c once new was = elim (cases_eq e c) [
 ]
 
 told-changed : (gone : Bool) (x : Change) (k : Connection) → IsTold gone k → IsTold gone (changed_by x k)
-told-changed gone (Reads n) k was = was
-told-changed gone (Writes w) k was = was
 told-changed gone Closes k was = λ open_yet left. absurd (cc (open_yet))
-told-changed gone Takes k was = was
+told-changed gone x k was = was
 
 told-turned : (gone : Bool) (s : State) (e : ℕ × Change) (c : ℕ) → Once s.conns → IsTold gone (conn_at s c) → IsTold gone (conn_at (turned s e) c)
 told-turned gone s e c once was = told-with_conn gone s e.0 (changed_by e.1 (conn_at s e.0)) c once (λ same. told-changed gone e.1 (conn_at s e.0) (subst (λ z. IsTold gone (conn_at s z)) (sym same) was)) was

@@ -13,6 +13,7 @@ use Rattle.flash_laws.specs.declared.doing.Flight.{Flight}
 use Rattle.flash_laws.specs.declared.doing.Flight.TheVariants.{Nothing, Accepting, At}
 use Rattle.flash_laws.proofs.Conn.Answering.{some-inj}
 use Rattle.flash_laws.proofs.Site.Settling.{found}
+use Rattle.flash_laws.proofs.Lists.{neither}
 
 abbrev place_of : Flight → ℕ
 place_of (At fd) = fd
@@ -61,10 +62,6 @@ no-later fd gd x last lt = by (leaves_off x last)
 stays-on : (fd : ℕ) (b : Bool) → (if b then fd + 1 else fd) ≤ fd → b ≡ false
 stays-on fd true le = absurd (omega (arith, le))
 stays-on fd false le = refl
-
-neither : (a b : Bool) → (a || b) ≡ false → (a ≡ false) × (b ≡ false)
-neither true b is = absurd (cc (is))
-neither false b is = (refl, is)
 
 passes : (workers : ℕ) (clients : List (Option Client)) (fd : ℕ) (last : Reply) → in_rounds workers clients (At fd) last (At fd)
     → (x : Client) × (in_place clients fd ≡ Some x) × (is_later last ≡ false) × (awaits x ≡ false) × (is_bare x ≡ false)

@@ -20,42 +20,32 @@ use Rattle.flash_laws.specs.Running.{is_over, told_awaits}
 use Rattle.flash_laws.specs.Serves.{heard_of, filed_in, Picks}
 use Rattle.flash_laws.specs.Sharing.{FlightGoes, RunsForAnother, WorkersAreShared}
 use Rattle.flash_laws.specs.Tied.{with_at}
-use Rattle.flash_laws.specs.declared.doing.Content.TheVariants.{Body, Bare, Error, Script}
+use Rattle.flash_laws.specs.declared.doing.Content.TheVariants.{Script}
 use Rattle.flash_laws.specs.declared.doing.Doing.{Doing}
-use Rattle.flash_laws.specs.declared.doing.Doing.TheVariants.{Rests, Got, Opens, Reads as Reading, Shuts, Picks as Picking, Spares, Heads, Joins, Sends, Cuts, Offers, Swaps, Sent, Breaks, Drops, Closes, Over}
+use Rattle.flash_laws.specs.declared.doing.Doing.TheVariants.{Spares}
 use Rattle.flash_laws.specs.declared.doing.Flight.{Flight}
 use Rattle.flash_laws.specs.declared.doing.Flight.TheVariants.{Nothing, Accepting, At}
 use Rattle.flash_laws.specs.declared.running.Running.{Running}
 use Rattle.flash_laws.specs.declared.running.Running.TheVariants.{Awaits, Runs, Leaves, Closes as Ends}
+use Rattle.flash_laws.proofs.Forms.{of}
 use Rattle.flash_laws.proofs.Conn.Answering.{some-inj}
 use Rattle.flash_laws.proofs.Site.Clients.{runs-filed, runs-picked}
 use Rattle.flash_laws.proofs.Site.InPlaces.{at-same, at-other, left-is}
-use Rattle.flash_laws.proofs.Lists.{clash}
+use Rattle.flash_laws.proofs.Lists.{clash, must, neither, not-true, not-false}
 use Rattle.flash_laws.proofs.Run.Offering.{keeps}
 use Rattle.flash_laws.proofs.Conn.Uses.{same-number}
 
-abbrev of : Conn → Option Running → List ℕ → Client
-of c run script = record { conn = c; run = run; script = script }
-
 -- ---- who is free
-
-neither : (a b : Bool) → (a || b) ≡ false → (a ≡ false) × (b ≡ false)
-neither true b is = absurd (cc (is))
-neither false b is = (refl, is)
 
 none-any : {A : Type 0} (p : Option A → Bool) (xs : List (Option A)) (i : ℕ) → p None ≡ false → list_any p xs ≡ false → p (in_place xs i) ≡ false
 none-any p [] i none is = none
 none-any p (x ∷ xs) zero none is = (neither (p x) (list_any p xs) is).0
 none-any p (x ∷ xs) (suc i) none is = none-any p xs i none (neither (p x) (list_any p xs) is).1
 
-turned : (b : Bool) → not b ≡ true → b ≡ false
-turned true is = absurd (cc (is))
-turned false is = refl
-
 -- a worker that is free runs no script
 pub free-runs : (clients : List (Option Client)) (k gd : ℕ) (y : Client) → is_free clients k ≡ true → in_place clients gd ≡ Some y → is_run_by y k ≡ false
 free-runs clients k gd y free is =
-    ap (λ (o : Option Client). runs_at k o) (sym is) ∙ none-any (λ (o : Option Client). runs_at k o) clients gd refl (turned (list_any (λ o. runs_at k o) clients) free)
+    ap (λ (o : Option Client). runs_at k o) (sym is) ∙ none-any (λ (o : Option Client). runs_at k o) clients gd refl (not-true (list_any (λ o. runs_at k o) clients) free)
 
 pub first-free : (workers : ℕ) (clients : List (Option Client)) → has_free workers clients ≡ true
     → (first_free workers clients < workers) × (is_free clients (first_free workers clients) ≡ true)
@@ -99,32 +89,13 @@ on-run worker w c script Ends r heard k u = absurd (cc (u))
 -- one for which no script runs has none then
 on-script : (kept : List ℕ) (q : Answer) (d : Doing) (script : List ℕ) (r : Reply) (heard : List ℕ) (k : ℕ)
     → is_run_by (file_told true (of (record { kept = kept; q = q; doing = d }) None script) r heard) k ≡ true → ⊥
-on-script kept q Rests script r heard k u = cc (u)
-on-script kept q (Got a) script r heard k u = cc (u)
-on-script kept q Opens script r heard k u = cc (u)
-on-script kept q (Reading f) script r heard k u = cc (u)
-on-script kept q (Shuts f j) script r heard k u = cc (u)
-on-script kept q (Picking a first last len) script r heard k u = cc (u)
 on-script kept q (Spares a Script) script r heard k u = by (is_head_only q) r u
   where
     by : (h : Bool) (r : Reply) → is_run_by (of (record { kept = kept; q = q; doing = Spares a Script }) (told_spares h r) script) k ≡ true → ⊥
     by true r u = cc (u)
     by false reply.Done u = cc (u)
     by false r u = cc (u)
-on-script kept q (Spares a (Body b size len)) script r heard k u = cc (u)
-on-script kept q (Spares a (Bare len)) script r heard k u = cc (u)
-on-script kept q (Spares a (Error status)) script r heard k u = cc (u)
-on-script kept q (Heads j) script r heard k u = cc (u)
-on-script kept q (Joins a size body len) script r heard k u = cc (u)
-on-script kept q (Sends a len taken more) script r heard k u = cc (u)
-on-script kept q (Cuts a from len taken more) script r heard k u = cc (u)
-on-script kept q (Offers a from len piece taken more) script r heard k u = cc (u)
-on-script kept q (Swaps a from len piece taken more) script r heard k u = cc (u)
-on-script kept q (Sent a taken more) script r heard k u = cc (u)
-on-script kept q (Breaks piece a more) script r heard k u = cc (u)
-on-script kept q (Drops a more) script r heard k u = cc (u)
-on-script kept q Closes script r heard k u = cc (u)
-on-script kept q Over script r heard k u = cc (u)
+on-script kept q d script r heard k u = cc (u)
 
 pub on-told : (scripts : Bool) (worker : ℕ) (c : Conn) (run : Option Running) (script : List ℕ) (r : Reply) (heard : List ℕ) (k : ℕ)
     → is_run_by (told scripts worker (of c run script) r heard) k ≡ true → Had worker (of c run script) k
@@ -186,11 +157,6 @@ new-own workers clients fd free =
     let first = first-free workers clients free in
     (first.0, λ gd z differ is v. clash (is_run_by z (first_free workers clients)) v (free-runs clients (first_free workers clients) gd z first.1 is))
 
-must : (b a : Bool) → (b || not a) ≡ true → a ≡ true → b ≡ true
-must true a may is = refl
-must false true may is = absurd (cc (may))
-must false false may is = absurd (cc (is))
-
 own-filed : (workers : ℕ) (clients : List (Option Client)) (w : Flight) (r : Reply) (heard : List ℕ) → EachHasItsOwn workers clients
     → FlightGoes workers clients w → EachHasItsOwn workers (filed workers clients w r heard)
 own-filed workers clients Nothing r heard own goes = own
@@ -251,7 +217,7 @@ all-busy workers clients k none lt =
     ap (λ j. is_free clients j) (sym at) ∙ fails_before_first (λ j. is_free clients j) (range_with_len 0 workers) k 0 before
 
 -- a place that passes
-pub record Passes {A : Type 0} (p : Option A → Bool) (xs : List (Option A)) : Type 0 where
+record Passes {A : Type 0} (p : Option A → Bool) (xs : List (Option A)) : Type 0 where
   pub place : ℕ
   pub passes : p (in_place xs place) ≡ true
 
@@ -266,34 +232,36 @@ some-any {A} p (x ∷ xs) is = by (p x) refl is (λ later. some-any p xs later)
         at-next : (i : ℕ) → p (in_place xs i) ≡ true → p (in_place (x ∷ xs) (i + 1)) ≡ true
         at-next i is = let e : i + 1 ≡ suc i = omega arith in ap (λ z. p (in_place (x ∷ xs) z)) e ∙ is
 
-pub runs-one : (clients : List (Option Client)) (k : ℕ) → is_free clients k ≡ false → Passes (λ (o : Option Client). runs_at k o) clients
-runs-one clients k busy = by (list_any (λ o. runs_at k o) clients) refl busy
+-- one for whose client a worker runs
+pub record RunsFor (clients : List (Option Client)) (k : ℕ) : Type 0 where
+  pub fd : ℕ
+  pub client : Client
+  pub at : in_place clients fd ≡ Some client
+  pub runs : is_run_by client k ≡ true
+
+pub runs-for : (clients : List (Option Client)) (k : ℕ) → is_free clients k ≡ false → RunsFor clients k
+runs-for clients k busy =
+    let one = some-any (λ (o : Option Client). runs_at k o) clients (not-false (list_any (λ o. runs_at k o) clients) busy) in
+    by one.place (in_place clients one.place) refl one.passes
   where
-    by : (b : Bool) → list_any (λ o. runs_at k o) clients ≡ b → not b ≡ false → Passes (λ (o : Option Client). runs_at k o) clients
-    by true is busy = some-any (λ (o : Option Client). runs_at k o) clients is
-    by false is busy = absurd (cc (busy))
+    by : (gd : ℕ) (o : Option Client) → in_place clients gd ≡ o → runs_at k o ≡ true → RunsFor clients k
+    by gd None at runs = absurd (cc (runs))
+    by gd (Some y) at runs = record { fd = gd; client = y; at = at; runs = runs }
 
 waits-none : (c : Conn) (run : Option Running) (script : List ℕ) (k : ℕ) → awaits (of c run script) ≡ true → is_run_by (of c run script) k ≡ false
-waits-none c None script k waits = refl
-waits-none c (Some Awaits) script k waits = refl
 waits-none c (Some (Runs run s)) script k waits = absurd (cc (waits))
-waits-none c (Some (Leaves d)) script k waits = refl
-waits-none c (Some Ends) script k waits = refl
+waits-none c run script k waits = refl
 
 another : (clients : List (Option Client)) (fd k : ℕ) (x : Client) → in_place clients fd ≡ Some x → awaits x ≡ true → is_free clients k ≡ false → RunsForAnother clients fd k
 another clients fd k x there waits busy =
-    let one = runs-one clients k busy in
-    by one.place (in_place clients one.place) refl one.passes
-  where
-    by : (gd : ℕ) (o : Option Client) → in_place clients gd ≡ o → runs_at k o ≡ true → RunsForAnother clients fd k
-    by gd None at runs = absurd (cc (runs))
-    by gd (Some y) at runs = record {
-      place = gd;
-      client = y;
-      there = at;
-      runs = runs;
-      other = λ same. (let mine : y ≡ x = some-inj y x (sym at ∙ (ap (λ z. in_place clients z) (sym same) ∙ there)) in
-          clash (is_run_by y k) runs (ap (λ (z : Client). is_run_by z k) mine ∙ waits-none x.conn x.run x.script k waits));
+    let ran = runs-for clients k busy in
+    record {
+      place = ran.fd;
+      client = ran.client;
+      there = ran.at;
+      runs = ran.runs;
+      other = λ same. (let mine : ran.client ≡ x = some-inj ran.client x (sym ran.at ∙ (ap (λ z. in_place clients z) (sym same) ∙ there)) in
+          clash (is_run_by ran.client k) ran.runs (ap (λ (z : Client). is_run_by z k) mine ∙ waits-none x.conn x.run x.script k waits));
     }
 
 passed-over : (free waits : Bool) → (free || not waits) ≡ false → (free ≡ false) × (waits ≡ true)
@@ -308,20 +276,14 @@ waits workers clients fd x there passed =
     (both.1, λ k lt. another clients fd k x there both.1 (all-busy workers clients k both.0 lt))
 
 going : (free : Bool) (k : ℕ) (c : Conn) (run : Option Running) (script : List ℕ) → is_run_by (of c run script) k ≡ true → may_go free (of c run script) ≡ true
-going free k c None script runs = absurd (cc (runs))
-going free k c (Some Awaits) script runs = absurd (cc (runs))
 going true k c (Some (Runs run s)) script runs = refl
 going false k c (Some (Runs run s)) script runs = refl
-going free k c (Some (Leaves d)) script runs = absurd (cc (runs))
-going free k c (Some Ends) script runs = absurd (cc (runs))
+going free k c run script runs = absurd (cc (runs))
 
 waiting : (c : Conn) (run : Option Running) (script : List ℕ) → awaits (of c run script) ≡ true
     → ((a : ℕ) → uses_agg (of c run script) a ≡ false) × ((g : ℕ) → uses_fd (of c run script) g ≡ false)
-waiting c None script waits = absurd (cc (waits))
 waiting c (Some Awaits) script waits = (λ a. refl, λ g. refl)
-waiting c (Some (Runs run s)) script waits = absurd (cc (waits))
-waiting c (Some (Leaves d)) script waits = absurd (cc (waits))
-waiting c (Some Ends) script waits = absurd (cc (waits))
+waiting c run script waits = absurd (cc (waits))
 
 pub workers_shared : WorkersAreShared
 workers_shared = record {

@@ -8,7 +8,7 @@ use Rattle.iol_core.specs.declared.descriptors.Descriptor.TheVariants as on
 use Rattle.flash_http.specs.Request.{Answer, serve, refuse}
 use Rattle.flash_laws.specs.Conn.{Conn, begins, Starts, Readies, IsAwaiting}
 use Rattle.flash_laws.specs.declared.doing.Doing.{Doing}
-use Rattle.flash_laws.specs.declared.doing.Doing.TheVariants.{Rests, Got, Opens, Reads as Reading, Shuts, Picks, Spares, Heads, Joins, Sends, Cuts, Offers, Swaps, Sent, Breaks, Drops, Closes, Over}
+use Rattle.flash_laws.specs.declared.doing.Doing.TheVariants.{Rests}
 use Rattle.flash_laws.specs.Site.{server}
 
 pub no-true : (b : Bool) → (b ≡ true → ⊥) → b ≡ false
@@ -56,20 +56,4 @@ ready-awaits kept q Rests y ready = starts ready
     starts : Starts (record { kept = kept; q = q; doing = Rests }) y → IsAwaiting y
     starts (inl waits) = subst (λ (x : Conn). IsAwaiting x) (sym waits.1) waits.0
     starts (inr some) = subst (λ (x : Conn). IsAwaiting x) (sym some.3) (begun some.0 some.1)
-ready-awaits kept q (Got a) y ready = subst (λ (x : Conn). IsAwaiting x) (sym ready) tt
-ready-awaits kept q Opens y ready = subst (λ (x : Conn). IsAwaiting x) (sym ready) tt
-ready-awaits kept q (Reading f) y ready = subst (λ (x : Conn). IsAwaiting x) (sym ready) tt
-ready-awaits kept q (Shuts f k) y ready = subst (λ (x : Conn). IsAwaiting x) (sym ready) tt
-ready-awaits kept q (Picks a first last len) y ready = subst (λ (x : Conn). IsAwaiting x) (sym ready) tt
-ready-awaits kept q (Spares a k) y ready = subst (λ (x : Conn). IsAwaiting x) (sym ready) tt
-ready-awaits kept q (Heads k) y ready = subst (λ (x : Conn). IsAwaiting x) (sym ready) tt
-ready-awaits kept q (Joins a size body len) y ready = subst (λ (x : Conn). IsAwaiting x) (sym ready) tt
-ready-awaits kept q (Sends a len taken more) y ready = subst (λ (x : Conn). IsAwaiting x) (sym ready) tt
-ready-awaits kept q (Cuts a from len taken more) y ready = subst (λ (x : Conn). IsAwaiting x) (sym ready) tt
-ready-awaits kept q (Offers a from len piece taken more) y ready = subst (λ (x : Conn). IsAwaiting x) (sym ready) tt
-ready-awaits kept q (Swaps a from len piece taken more) y ready = subst (λ (x : Conn). IsAwaiting x) (sym ready) tt
-ready-awaits kept q (Sent a taken more) y ready = subst (λ (x : Conn). IsAwaiting x) (sym ready) tt
-ready-awaits kept q (Breaks piece a more) y ready = subst (λ (x : Conn). IsAwaiting x) (sym ready) tt
-ready-awaits kept q (Drops a more) y ready = subst (λ (x : Conn). IsAwaiting x) (sym ready) tt
-ready-awaits kept q Closes y ready = subst (λ (x : Conn). IsAwaiting x) (sym ready) tt
-ready-awaits kept q Over y ready = subst (λ (x : Conn). IsAwaiting x) (sym ready) tt
+ready-awaits kept q d y ready = subst (λ (x : Conn). IsAwaiting x) (sym ready) tt

@@ -1,7 +1,6 @@
 -- A client is made ready, and one more is accepted: all stay tied.
 use Rattle.std.proofs.Common.{inl, inr, ◌≡◌, ◌≢◌, ℕ, ◌⊎◌, List, [], ◌++◌, ap, ◌∙◌, refl, sym, subst, arith, Option, Some, None, true, false, Bool, append-nil, slice_get}
 use Rattle.std.specs.Prelude.{not}
-use Rattle.std.specs.List.{list_any}
 use Rattle.std.proofs.lemmas.Bool.{cases_eq}
 use Rattle.iol_core.specs.Text.{bytes_of}
 use Rattle.iol_core.specs.Numbered.{in_place}
@@ -25,7 +24,7 @@ use Rattle.flash_laws.specs.Conn as conn
 use Rattle.flash_laws.specs.Conn.{Conn, begins}
 use Rattle.flash_laws.specs.Crew.{Crew, IsFixedFor}
 use Rattle.flash_laws.specs.Past.{Past}
-use Rattle.flash_laws.specs.Places.{EachHasItsOwn, is_run_by, runs_at, is_free, accepted}
+use Rattle.flash_laws.specs.Places.{EachHasItsOwn, is_run_by, is_free, accepted}
 use Rattle.flash_laws.specs.Running.{worker_domain, job_pipe}
 use Rattle.flash_laws.specs.Served.{Held, Ended, Aside, AreAtDesks, FitsAt, AllFit}
 use Rattle.flash_laws.specs.Shelf.{Shelf}
@@ -34,8 +33,9 @@ use Rattle.flash_laws.specs.Tied.{with_at, Waits}
 use Rattle.flash_laws.specs.declared.doing.Doing.{Doing}
 use Rattle.flash_laws.specs.declared.doing.Doing.TheVariants as doing
 use Rattle.flash_laws.specs.declared.running.Running.{Running}
+use Rattle.flash_laws.proofs.Forms.{of}
 use Rattle.flash_laws.proofs.Conn.Answering.{some-inj}
-use Rattle.flash_laws.proofs.Site.InPlaces.{at-same, at-other}
+use Rattle.flash_laws.proofs.Site.InPlaces.{at-same}
 use Rattle.flash_laws.proofs.Lists.{clash}
 use Rattle.flash_laws.proofs.Site.Others.{site-stays}
 use Rattle.flash_laws.proofs.Site.Peers.{told-call}
@@ -46,12 +46,8 @@ use Rattle.flash_laws.proofs.World.AllLaws.{AllLaws}
 use Rattle.flash_laws.proofs.World.Calls.{opens-on}
 use Rattle.flash_laws.proofs.World.Leaving.{fits_beside}
 use Rattle.flash_laws.proofs.World.OwnAlone.{alone_readies}
-use Rattle.flash_laws.proofs.World.Turn.{replaced, held-on, own-call}
-use Rattle.flash_laws.proofs.World.Desk.Turning.{runs-for}
+use Rattle.flash_laws.proofs.World.Turn.{replaced, held-on, free-unless, own-call}
 use Rattle.flash_laws.proofs.World.TurnLeaves.{conn-left}
-
-abbrev of : Conn → Option Running → List ℕ → Client
-of c run script = record { conn = c; run = run; script = script }
 
 -- ---- a client is made ready
 
@@ -68,49 +64,37 @@ conn-readied x y ready = by x.doing refl ready
     by d is r = inl (r ∙ ap (λ (d : Doing). record x { doing = d }) (sym is))
 
 -- what is ready uses what it used, or nothing
-ready-aggs : (c : Conn) (run : Option Running) (script : List ℕ) (y : Client) (a : ℕ) → Readies (of c run script) y → uses_agg y a ≡ true → uses_agg (of c run script) a ≡ true
-ready-aggs c None script y a ready u = elim (conn-readied c ready.0 ready.1) [
-  | inl same ↦ ap (λ (z : Conn). conn.uses_agg z.doing a) (sym same) ∙ is_y
-  | inr new ↦ absurd (clash (conn.uses_agg ready.0.doing a) is_y (ap (λ (z : Conn). conn.uses_agg z.doing a) new.2 ∙ begins-none new.0 a))
+ready-uses : (by_conn : Doing → ℕ → Bool) (by_client : Client → ℕ → Bool) → ((c : Conn) (script : List ℕ) (a : ℕ) → by_client (of c None script) a ≡ by_conn c.doing a)
+    → ((q : Answer) (a : ℕ) → by_conn (begins q) a ≡ false) → (c : Conn) (run : Option Running) (script : List ℕ) (y : Client) (a : ℕ)
+    → Readies (of c run script) y → by_client y a ≡ true → by_client (of c run script) a ≡ true
+ready-uses by_conn by_client alone none c None script y a ready u = elim (conn-readied c ready.0 ready.1) [
+  | inl same ↦ ap (λ (z : Conn). by_client (of z None script) a) (sym same) ∙ is_y
+  | inr new ↦ absurd (clash (by_client (of ready.0 None script) a) is_y (alone ready.0 script a ∙ (ap (λ (z : Conn). by_conn z.doing a) new.2 ∙ none new.0 a)))
 ]
   where
-    is_y : uses_agg (of ready.0 None script) a ≡ true
-    is_y = ap (λ (z : Client). uses_agg z a) (sym ready.2) ∙ u
-ready-aggs c (Some y) script z a ready u = ap (λ (v : Client). uses_agg v a) (sym ready) ∙ u
+    is_y : by_client (of ready.0 None script) a ≡ true
+    is_y = ap (λ (z : Client). by_client z a) (sym ready.2) ∙ u
+ready-uses by_conn by_client alone none c (Some y) script z a ready u = ap (λ (v : Client). by_client v a) (sym ready) ∙ u
+
+ready-aggs : (c : Conn) (run : Option Running) (script : List ℕ) (y : Client) (a : ℕ) → Readies (of c run script) y → uses_agg y a ≡ true → uses_agg (of c run script) a ≡ true
+ready-aggs = ready-uses (λ d a. conn.uses_agg d a) (λ x a. uses_agg x a) (λ c script a. refl) (λ q a. begins-none q a)
 
 ready-fds : (c : Conn) (run : Option Running) (script : List ℕ) (y : Client) (g : ℕ) → Readies (of c run script) y → has_fd y g ≡ true → has_fd (of c run script) g ≡ true
-ready-fds c None script y g ready u = elim (conn-readied c ready.0 ready.1) [
-  | inl same ↦ ap (λ (z : Conn). conn.uses_fd z.doing g) (sym same) ∙ is_y
-  | inr new ↦ absurd (clash (conn.uses_fd ready.0.doing g) is_y (ap (λ (z : Conn). conn.uses_fd z.doing g) new.2 ∙ begins-no_fd new.0 g))
-]
-  where
-    is_y : has_fd (of ready.0 None script) g ≡ true
-    is_y = ap (λ (z : Client). has_fd z g) (sym ready.2) ∙ u
-ready-fds c (Some y) script z g ready u = ap (λ (v : Client). has_fd v g) (sym ready) ∙ u
+ready-fds = ready-uses (λ d g. conn.uses_fd d g) (λ x g. has_fd x g) (λ c script g. refl) (λ q g. begins-no_fd q g)
 
 -- and it has the worker that it had
 ready-worker : (c : Conn) (run : Option Running) (script : List ℕ) (y : Client) (k : ℕ) → Readies (of c run script) y → is_run_by y k ≡ is_run_by (of c run script) k
 ready-worker c run script y k ready = ap (λ (o : Option Running). is_run_by (of y.conn o y.script) k) (ready-runs c run script y ready)
 
--- a worker that is free once one place has changed was free before, if what stands there now has the workers of what stood there
+-- a worker that is free once one place has changed was free before, if whoever stands there now has the workers of whoever stood there
 free-before : (clients : List (Option Client)) (fd k : ℕ) (x y : Client) → in_place clients fd ≡ Some x → (is_run_by y k ≡ is_run_by x k)
     → is_free (with_at clients fd (Some y)) k ≡ true → is_free clients k ≡ true
-free-before clients fd k x y at same free = by (is_free clients k) refl
+free-before clients fd k x y at same free = free-unless clients fd k (Some y) stood free
   where
-    turned : (b : Bool) → not b ≡ false → b ≡ true
-    turned true is = refl
-    turned false is = absurd (cc (is))
-
-    by : (b : Bool) → is_free clients k ≡ b → is_free clients k ≡ true
-    by true is = is
-    by false busy =
-        let ran = runs-for clients k (turned (list_any (λ w. runs_at k w) clients) busy) in
-        elim (cases_eq fd ran.fd) [
-          | inr differ ↦ absurd (clash (is_run_by ran.client k) ran.runs (free-runs (with_at clients fd (Some y)) k ran.fd ran.client free (at-other clients fd ran.fd (Some y) differ ∙ ran.at)))
-          | inl here ↦
-              (let is_x : x ≡ ran.client = some-inj x ran.client (sym at ∙ subst (λ g. in_place clients g ≡ Some ran.client) (sym here) ran.at) in
-              absurd (clash (is_run_by y k) (same ∙ (ap (λ (z : Client). is_run_by z k) is_x ∙ ran.runs)) (free-runs (with_at clients fd (Some y)) k fd y free (at-same clients fd (Some y)))))
-        ]
+    stood : (z : Client) → in_place clients fd ≡ Some z → is_run_by z k ≡ true → ⊥
+    stood z there runs =
+        let is_x : x ≡ z = some-inj x z (sym at ∙ there) in
+        clash (is_run_by y k) (same ∙ (ap (λ (v : Client). is_run_by v k) is_x ∙ runs)) (free-runs (with_at clients fd (Some y)) k fd y free (at-same clients fd (Some y)))
 
 module _ (shelf : Shelf) (crew : Crew) (laws : AllLaws crew) where
   -- the client that is picked is made ready
@@ -231,20 +215,8 @@ module _ (shelf : Shelf) (crew : Crew) (laws : AllLaws crew) where
     free-then : (k : ℕ) (seat : Seat crew.Worker) → slice_get seats k ≡ Some seat → is_free (with_at clients fd (Some new_client)) k ≡ true → crew.Free n (crew.desk k) seat
     free-then k seat sits free =
         let place = all.desks.by k seat sits in
-        laws.workers.free_others m n (crew.desk k) seat ev (reply.Fd fd) fixed.placed step (own-call call.Accept seat.by k place.1) (leaves.pipes (crew.desk k) refl) (all.free k seat sits (was (is_free clients k) refl))
-      where
-        turned : (b : Bool) → not b ≡ false → b ≡ true
-        turned true is = refl
-        turned false is = absurd (cc (is))
-
-        was : (b : Bool) → is_free clients k ≡ b → is_free clients k ≡ true
-        was true is = is
-        was false busy =
-            let ran = runs-for clients k (turned (list_any (λ w. runs_at k w) clients) busy) in
-            elim (cases_eq fd ran.fd) [
-              | inr differ ↦ absurd (clash (is_run_by ran.client k) ran.runs (free-runs (with_at clients fd (Some new_client)) k ran.fd ran.client free (at-other clients fd ran.fd (Some new_client) differ ∙ ran.at)))
-              | inl here ↦ (let none = none-stood in let some = ap (λ g. in_place clients g) here ∙ ran.at in absurd (cc (none, some)))
-            ]
+        laws.workers.free_others m n (crew.desk k) seat ev (reply.Fd fd) fixed.placed step (own-call call.Accept seat.by k place.1) (leaves.pipes (crew.desk k) refl)
+        (all.free k seat sits (free-unless clients fd k (Some new_client) (λ z there runs. let none = none-stood in cc (none, there)) free))
 
     desks-then : AreAtDesks crew n seats
     desks-then = record {

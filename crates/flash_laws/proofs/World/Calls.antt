@@ -28,15 +28,13 @@ use Rattle.flash_laws.specs.declared.doing.Doing.{Doing}
 use Rattle.flash_laws.specs.declared.doing.Doing.TheVariants as doing
 use Rattle.flash_laws.specs.declared.running.Running.{Running}
 use Rattle.iol_proc.specs.declared.seat.Seat.{Seat}
+use Rattle.flash_laws.proofs.Forms.{at, of}
 use Rattle.flash_laws.proofs.Lists.{clash}
 use Rattle.flash_laws.proofs.Conn.Touching.{fds-wants, conns-wants, pipes-wants, files-wants}
 use Rattle.flash_laws.proofs.Conn.Uses.{gives-wants, has-agg, has-fd}
 use Rattle.flash_laws.proofs.World.AllLaws.{AllLaws}
 use Rattle.flash_laws.proofs.World.OwnRun.{wants-run}
 use Rattle.flash_laws.proofs.World.RunUses.{IsEnd, run-there, run-end}
-
-abbrev of : Conn → Option Running → List ℕ → Client
-of c run script = record { conn = c; run = run; script = script }
 
 -- the pipe that it may touch: with a run one of that, and else none
 abbrev pub MayTouchPipe : State → Option Running → (p : ℕ) → Type 0
@@ -87,9 +85,6 @@ wants-kind fd kept q (doing.Reads f) = by (is_head_only q)
     by true = refl
     by false = refl
 wants-kind fd kept q d = refl
-
-abbrev at : List ℕ → Answer → Doing → Conn
-at kept q d = record { kept = kept; q = q; doing = d }
 
 module _ (m : State) (fd c : ℕ) (script : List ℕ) (kept : List ℕ) (q : Answer) (due : List ℕ) (open_on : descriptor m server fd ≡ Some (on.Connection c)) where
   plain : (d : Doing) → Has m q due d → CallsAlone m fd c (of (at kept q d) None script) (conn.wants fd (at kept q d))

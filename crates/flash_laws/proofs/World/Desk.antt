@@ -7,3 +7,4 @@ pub mod Reads
 pub mod Stops
 pub mod OfRun
 pub mod Turning
+pub mod Jobs

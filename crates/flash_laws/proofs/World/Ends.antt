@@ -8,7 +8,7 @@ use Rattle.iol_core.specs.declared.events.Event.TheVariants as event
 use Rattle.iol_laws.specs.Frame.{touches_pipe}
 use Rattle.iol_proc.specs.declared.seat.Seat.{Seat}
 use Rattle.flash_http.specs.Request.{Wanted}
-use Rattle.flash_laws.specs.Client.{Client, uses_fd, job_of, wants}
+use Rattle.flash_laws.specs.Client.{uses_fd, job_of, wants}
 use Rattle.flash_laws.specs.ClientFits.{due_in, output_of, FitsRun, Fits}
 use Rattle.flash_laws.specs.ClientKeeping.{has_fd}
 use Rattle.flash_laws.specs.Conn as conn
@@ -25,26 +25,20 @@ use Rattle.flash_laws.specs.declared.doing.Doing.{Doing}
 use Rattle.flash_laws.specs.declared.doing.Doing.TheVariants as doing
 use Rattle.flash_laws.specs.declared.running.Run.{Run}
 use Rattle.flash_laws.specs.declared.running.Step.{Step}
-use Rattle.flash_laws.specs.declared.running.Step.TheVariants.{Gives, Makes, Hands, Lets, Heads, Sending, Hears, Spills, Gathers, Frames, Wraps, Trims, Ended, Unholds, Stops, Unframes, Lasts, WrapsLast, TrimsLast, Unwraps, Returns, Lapses, Fails}
+use Rattle.flash_laws.specs.declared.running.Step.TheVariants.{Gives, Sending, Hears, Spills, Gathers, Frames, Wraps, Trims, Ended, Unholds, Unframes, Lasts, WrapsLast, TrimsLast, Unwraps, Returns}
 use Rattle.flash_laws.specs.declared.running.Running.{Running}
 use Rattle.flash_laws.specs.declared.running.Running.TheVariants.{Awaits, Runs, Leaves, Closes}
+use Rattle.flash_laws.proofs.Forms.{of}
 use Rattle.flash_laws.proofs.Conn.Answering.{some-inj}
 use Rattle.flash_laws.proofs.Lists.{self}
 use Rattle.flash_laws.proofs.Conn.Uses.{same-number, has-fd, one-of}
 use Rattle.flash_laws.proofs.World.OwnRun.{wants-run}
-
-abbrev of : Conn → Option Running → List ℕ → Client
-of c run script = record { conn = c; run = run; script = script }
 
 -- what a run that reads reads from
 pub reads-from : (job : ℕ → List ℕ) (m : State) (w : Wanted) (o : Progress) (run : Run) (s : Step) → HasStep job m w o run s → is_reading s ≡ true
     → (q : ℕ) × (descriptor m server run.from ≡ Some (on.ReadEnd q))
 reads-from job m w o run (Gives write) has is = (has.0.pipe, has.0.read_end)
 reads-from job m w o run (Returns write) has is = (has.0.pipe, has.0.read_end)
-reads-from job m w o run (Makes f) has is = has.0
-reads-from job m w o run (Hands j f) has is = has.0
-reads-from job m w o run (Lets j) has is = has.0
-reads-from job m w o run Heads has is = has.0
 reads-from job m w o run (Sending d frame) has is = has.reads
 reads-from job m w o run (Hears held frame) has is = has.reads
 reads-from job m w o run (Spills b frame) has is = has.1.reads
@@ -54,14 +48,12 @@ reads-from job m w o run (Wraps held frame) has is = has.0.reads
 reads-from job m w o run (Trims held chunk len frame) has is = has.1.reads
 reads-from job m w o run (Ended b held frame) has is = has.1
 reads-from job m w o run (Unholds held frame) has is = has.1
-reads-from job m w o run (Stops held frame) has is = has.0
-reads-from job m w o run (Lapses j) has is = has.0
-reads-from job m w o run Fails has is = has.0
 reads-from job m w o run (Unframes f held) has is = absurd (cc (is))
 reads-from job m w o run (Lasts held) has is = absurd (cc (is))
 reads-from job m w o run (WrapsLast held size frame) has is = absurd (cc (is))
 reads-from job m w o run (TrimsLast held chunk len frame) has is = absurd (cc (is))
 reads-from job m w o run (Unwraps frame chunk len) has is = absurd (cc (is))
+reads-from job m w o run s has is = has.0
 
 both-of : (a b : Bool) → (a && b) ≡ true → (a ≡ true) × (b ≡ true)
 both-of true true u = (refl, refl)
@@ -120,9 +112,6 @@ module _ (shelf : Shelf) (crew : Crew) (m : State) (came sent : List ℕ) (fd c 
   -- a write end that a client has is no desk's
   write-apart : (conn : Conn) (y : Running) (script : List ℕ) (g k : ℕ) → FitsRun shelf crew m came sent fd c (of conn (Some y) script) y seats → has_end y g ≡ true → k < crew.count
       → descriptor m server g ≡ Some (on.WriteEnd (crew.desk k)) → ⊥
-  write-apart conn Awaits script g k f u lt is = cc (u)
-  write-apart conn (Leaves d) script g k f u lt is = cc (u)
-  write-apart conn Closes script g k f u lt is = cc (u)
   write-apart conn (Runs run s) script g k f u lt is = elim (which-end (job_of f.wanted f.script.text) m f.wanted f.so_far run s g f.has.1 u) [
     | inl from ↦ (let there = reads-from (job_of f.wanted f.script.text) m f.wanted f.so_far run s f.has.1 from.0 in
         let here = ap (λ h. descriptor m server h) from.1 in let e = there.1 in absurd (cc (here, e, is)))
@@ -142,6 +131,7 @@ module _ (shelf : Shelf) (crew : Crew) (m : State) (came sent : List ℕ) (fd c 
           desk.stage.has.apart k lt (sym same ∙ read-inj has.0.pipe desk.stage.has.pipe (sym has.0.read_end ∙ desk.stage.has.reads))
       by (Returns write) has desk u = desk.stage
       by s has desk u = cc (u)
+  write-apart conn y script g k f u lt is = cc (u)
 
   pub no-desk : (conn : Conn) (run : Option Running) (script : List ℕ) (g k : ℕ) → Fits shelf crew m came sent fd c (of conn run script) seats
       → has_fd (of conn run script) g ≡ true → k < crew.count → descriptor m server g ≡ Some (on.WriteEnd (crew.desk k)) → ⊥

@@ -1,6 +1,6 @@
 -- What others leave of a client, and of the worker that runs its script.
-use Rattle.std.proofs.Common.{inl, inr, ◌≡◌, ◌⊎◌, ℕ, ◌==◌, List, ◌++◌, ap, ◌∙◌, refl, sym, subst, Option, Some, None, true, false, Bool, append_assoc}
-use Rattle.std.specs.Prelude.{is_none, length, ◌≤◌, ◌&&◌, ◌||◌}
+use Rattle.std.proofs.Common.{inl, inr, ◌≡◌, ◌⊎◌, ℕ, ◌==◌, List, ◌++◌, ap, ◌∙◌, refl, sym, subst, Option, Some, None, true, false, append_assoc}
+use Rattle.std.specs.Prelude.{is_none, length, ◌≤◌}
 use Rattle.iol_core.specs.Text.{bytes_of}
 use Rattle.iol_core.specs.State.{State, Connection, File as FileEntry, descriptor, file, may_read, conn_at, is_gone}
 use Rattle.iol_core.specs.Run.{StepsTo}
@@ -27,11 +27,12 @@ use Rattle.flash_laws.specs.Shelf.{Shelf}
 use Rattle.flash_laws.specs.Site.{server, KeepsSite}
 use Rattle.flash_laws.specs.Stages.{HasWorkerAt}
 use Rattle.flash_laws.specs.declared.doing.Doing.{Doing}
-use Rattle.flash_laws.specs.declared.doing.Doing.TheVariants.{Rests, Got, Opens, Reads as Reading, Shuts, Picks, Spares, Heads, Joins, Sends, Cuts, Offers, Swaps, Sent, Breaks, Drops, Closes, Over}
+use Rattle.flash_laws.specs.declared.doing.Doing.TheVariants.{Opens, Reads as Reading, Shuts, Spares}
 use Rattle.flash_laws.specs.declared.running.Running.{Running}
-use Rattle.flash_laws.specs.declared.running.Running.TheVariants.{Awaits, Runs, Leaves as Left, Closes as Ends}
+use Rattle.flash_laws.specs.declared.running.Running.TheVariants.{Runs}
+use Rattle.flash_laws.proofs.Forms.{of}
 use Rattle.flash_laws.proofs.Conn.Lent.{lent-stays, has-stays, file-same, content-same}
-use Rattle.flash_laws.proofs.Lists.{self, later_of}
+use Rattle.flash_laws.proofs.Lists.{self, later_of, both-or}
 use Rattle.flash_laws.proofs.World.AllLaws.{AllLaws}
 use Rattle.flash_laws.proofs.World.Desk.Leaving.{LeavesOne, stage-on}
 use Rattle.flash_laws.proofs.World.TieGoes.{tie-stays, tie-leaves, run-stays, run-leaves}
@@ -79,33 +80,11 @@ finds_on shelf m n q script (Reading f) opens site may h = record {
   short = subst (λ (l : List ℕ). length l ≤ most_read) (sym (content-same m n h.number site.slots)) h.short;
   found = h.found ∙ ap (λ (l : List ℕ). Found l) (sym (content-same m n h.number site.slots));
 }
-finds_on shelf m n q script Rests opens site may h = tt
-finds_on shelf m n q script (Got a) opens site may h = tt
-finds_on shelf m n q script Opens opens site may h = tt
 finds_on shelf m n q script (Shuts f k) opens site may h = h
-finds_on shelf m n q script (Picks a first last len) opens site may h = tt
 finds_on shelf m n q script (Spares a k) opens site may h = h
-finds_on shelf m n q script (Heads k) opens site may h = tt
-finds_on shelf m n q script (Joins a size body len) opens site may h = tt
-finds_on shelf m n q script (Sends a len taken more) opens site may h = tt
-finds_on shelf m n q script (Cuts a from len taken more) opens site may h = tt
-finds_on shelf m n q script (Offers a from len piece taken more) opens site may h = tt
-finds_on shelf m n q script (Swaps a from len piece taken more) opens site may h = tt
-finds_on shelf m n q script (Sent a taken more) opens site may h = tt
-finds_on shelf m n q script (Breaks piece a more) opens site may h = tt
-finds_on shelf m n q script (Drops a more) opens site may h = tt
-finds_on shelf m n q script Closes opens site may h = tt
-finds_on shelf m n q script Over opens site may h = tt
+finds_on shelf m n q script d opens site may h = tt
 
 -- ---- a client
-
-both-or : (a b c : Bool) → a ≡ true → b ≡ true → ((a && b) || c) ≡ true
-both-or true true c u v = refl
-both-or true false c u v = absurd (cc (v))
-both-or false b c u v = absurd (cc (u))
-
-abbrev of : Conn → Option Running → List ℕ → Client
-of c run script = record { conn = c; run = run; script = script }
 
 module _ (shelf : Shelf) (crew : Crew) (laws : AllLaws crew) (m n : State) (e : Event) (r : Reply) (came sent more after : List ℕ) (fd c : ℕ)
     (seats : List (Seat crew.Worker)) (order : IsOrderly m) (fixed : IsFixedFor shelf crew m) (desks : AreAtDesks crew m seats) (step : StepsTo m e r n)
@@ -127,7 +106,6 @@ module _ (shelf : Shelf) (crew : Crew) (laws : AllLaws crew) (m n : State) (e : 
 
   desk_on : (x : Conn) (y : Running) (script : List ℕ) (job : ℕ → List ℕ) (w : Wanted) (output : List ℕ) (o : Progress) → LeavesOne crew m n e fd (of x (Some y) script)
       → HasRun job m w o y → HasWorkerAt crew m seats output o y → HasWorkerAt crew n seats output o y
-  desk_on x Awaits script job w output o left has h = tt
   desk_on x (Runs run s) script job w output o left has h =
       let sits = desks.by run.worker h.seat h.sits in
       let reads : is_reading s ≡ true → ends_of run s run.from ≡ true = λ is. both-or (is_reading s) (run.from == run.from) (step_fd s run.from) is (self run.from) in
@@ -141,8 +119,7 @@ module _ (shelf : Shelf) (crew : Crew) (laws : AllLaws crew) (m n : State) (e : 
             (λ is. left.fds run.from (later_of (job_pipe run.worker == run.from) (ends_of run s run.from) (reads is)))
             (λ is going p opens apart. left.pipe run s p refl opens (reads is) apart going) has.1 h.stage;
       }
-  desk_on x (Left d) script job w output o left has h = tt
-  desk_on x Ends script job w output o left has h = tt
+  desk_on x y script job w output o left has h = tt
 
   run_on : (x : Conn) (y : Running) (script : List ℕ) → LeavesOne crew m n e fd (of x (Some y) script) → FitsRun shelf crew m came sent fd c (of x (Some y) script) y seats
       → FitsRun shelf crew n (came ++ more) after fd c (of x (Some y) script) y seats

@@ -25,15 +25,13 @@ use Rattle.flash_laws.specs.Tied.{with_at, left_by}
 use Rattle.flash_laws.specs.declared.doing.Doing.{Doing}
 use Rattle.flash_laws.specs.declared.doing.Doing.TheVariants as doing
 use Rattle.flash_laws.specs.declared.running.Running.{Running}
+use Rattle.flash_laws.proofs.Forms.{of}
 use Rattle.flash_laws.proofs.Client.Keeping.{script-uses, on-uses, conn-brought, conn-left}
 use Rattle.flash_laws.proofs.Site.Sharing.{left-over-is}
 use Rattle.flash_laws.proofs.World.AllLaws.{AllLaws}
 use Rattle.flash_laws.proofs.World.OwnRun.{wants-run, told-run}
 use Rattle.flash_laws.proofs.World.OwnTurn.{IsOwnTurn}
 use Rattle.flash_laws.proofs.World.Owning.{used-here, used-on}
-
-abbrev of : Conn → Option Running → List ℕ → Client
-of c run script = record { conn = c; run = run; script = script }
 
 -- one that is forgotten uses nothing
 left-none : (c : Conn) (run : Option Running) (script : List ℕ) (a : ℕ) → left_over (of c run script) ≡ None → uses_agg (of c run script) a ≡ true → ⊥

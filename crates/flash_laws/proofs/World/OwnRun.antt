@@ -30,6 +30,7 @@ use Rattle.flash_laws.specs.declared.doing.Doing.{Doing}
 use Rattle.flash_laws.specs.declared.doing.Doing.TheVariants as doing
 use Rattle.flash_laws.specs.declared.running.Running.{Running}
 use Rattle.flash_laws.specs.declared.running.Running.TheVariants.{Awaits, Runs, Leaves, Closes}
+use Rattle.flash_laws.proofs.Forms.{of}
 use Rattle.flash_laws.proofs.Conn.Answering.{some-inj}
 use Rattle.flash_laws.proofs.Run.Ends.{keeps-back, wants-text}
 use Rattle.flash_laws.proofs.Site.Standing.{no-true}
@@ -49,9 +50,6 @@ pub record GoesOn (shelf : Shelf) (crew : Crew) (n : State) (came sent : List �
 abbrev pub IsHired : (crew : Crew) → State → Client → (worker : ℕ) → List (Seat crew.Worker) → Type 0
 IsHired crew m x worker seats = awaits x ≡ true → (worker < crew.count)
     × ((seat : Seat crew.Worker) → slice_get seats worker ≡ Some seat → crew.Free m (crew.desk worker) seat)
-
-abbrev of : Conn → Option Running → List ℕ → Client
-of c run script = record { conn = c; run = run; script = script }
 
 -- ---- a client with a run wants what that does, and is told what that is told
 

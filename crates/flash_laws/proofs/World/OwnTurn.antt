@@ -1,7 +1,6 @@
 -- The server's own call for a client leaves all other clients, and all workers, tied.
 use Rattle.std.proofs.Common.{inl, inr, ◌≡◌, ◌≢◌, ◌<◌, ℕ, ◌==◌, ◌⊎◌, List, [], ap, ◌∙◌, refl, sym, subst, Option, Some, None, true, false, Bool, append-nil, slice_get}
-use Rattle.std.specs.Prelude.{not, ◌||◌}
-use Rattle.std.specs.List.{list_any}
+use Rattle.std.specs.Prelude.{not}
 use Rattle.std.proofs.lemmas.Bool.{cases_eq}
 use Rattle.iol_core.specs.Text.{bytes_of}
 use Rattle.iol_core.specs.Numbered.{in_place}
@@ -28,7 +27,7 @@ use Rattle.flash_laws.specs.Conn.{Conn, told_closes}
 use Rattle.flash_laws.specs.Crew.{Crew, IsFixedFor}
 use Rattle.flash_laws.specs.Fits.{Has, Names, is_closing}
 use Rattle.flash_laws.specs.Past.{Past}
-use Rattle.flash_laws.specs.Places.{EachHasItsOwn, is_run_by, runs_at, is_free, has_free, first_free, may_go, told_at}
+use Rattle.flash_laws.specs.Places.{EachHasItsOwn, is_run_by, is_free, has_free, first_free, may_go, told_at}
 use Rattle.flash_laws.specs.Running.{worker_domain, job_pipe, is_over}
 use Rattle.flash_laws.specs.Served.{Held, Ended, Aside, AreAtDesks, FitsAt, AllFit}
 use Rattle.flash_laws.specs.Shelf.{Shelf}
@@ -42,12 +41,13 @@ use Rattle.flash_laws.specs.declared.running.Step.{Step}
 use Rattle.flash_laws.specs.declared.running.Step.TheVariants.{Hands, Returns}
 use Rattle.flash_laws.specs.declared.running.Running.{Running}
 use Rattle.flash_laws.specs.declared.running.Running.TheVariants.{Awaits, Runs, Leaves as Left, Closes as Ends}
+use Rattle.flash_laws.proofs.Forms.{of}
 use Rattle.flash_laws.proofs.Conn.Answering.{some-inj}
 use Rattle.flash_laws.proofs.Site.InPlaces.{at-same, at-other}
-use Rattle.flash_laws.proofs.Lists.{clash, self}
+use Rattle.flash_laws.proofs.Lists.{clash, self, must}
 use Rattle.flash_laws.proofs.Site.Others.{site-stays}
 use Rattle.flash_laws.proofs.Site.Peers.{IsTold, told-call}
-use Rattle.flash_laws.proofs.Site.Sharing.{free-runs, first-free, left-over-is, workers_shared}
+use Rattle.flash_laws.proofs.Site.Sharing.{free-runs, first-free, runs-for, left-over-is, workers_shared}
 use Rattle.flash_laws.proofs.Site.Standing.{no-true, held-open, not-waiting, not-closed, conn-same}
 use Rattle.flash_laws.proofs.World.AllLaws.{AllLaws}
 use Rattle.flash_laws.proofs.World.Calls.{CallsAlone, MayTouchPipe, kind-admits, opens-on, calls-alone, there-agg, there-fd}
@@ -59,11 +59,7 @@ use Rattle.flash_laws.proofs.World.OwnRun.{run_step}
 use Rattle.flash_laws.proofs.World.RunUses.{is_fds}
 use Rattle.flash_laws.proofs.World.Told.{client-uses, client-fds, agg-new, fd-new}
 use Rattle.flash_laws.proofs.World.Turn.{replaced, held-on, own-call, no-reader-there, own-desk}
-use Rattle.flash_laws.proofs.World.Desk.Turning.{runs-for}
 use Rattle.flash_laws.proofs.World.TurnLeaves.{conn-left}
-
-abbrev of : Conn → Option Running → List ℕ → Client
-of c run script = record { conn = c; run = run; script = script }
 
 -- a turn of the server for the client at a descriptor
 pub record IsOwnTurn (shelf : Shelf) (crew : Crew) (m n : State) (p : Past) (clients : List (Option Client)) (fd : ℕ) (x : Client) (r : Reply)
@@ -237,11 +233,6 @@ module _ (shelf : Shelf) (crew : Crew) (laws : AllLaws crew) (m n : State) (p : 
   hired waiting =
       let first = first-free crew.count clients (must (has_free crew.count clients) (awaits x) t.goes waiting) in
       (first.0, λ seat sits. t.fit.free worker seat sits first.1)
-    where
-      must : (b a : Bool) → (b || not a) ≡ true → a ≡ true → b ≡ true
-      must true a may is = refl
-      must false true may is = absurd (cc (may))
-      must false false may is = absurd (cc (is))
 
   told_gone : IsTold (p.gone c) (conn_at m c)
   told_gone = t.fit.left c
@@ -423,7 +414,7 @@ module _ (shelf : Shelf) (crew : Crew) (laws : AllLaws crew) (m n : State) (p : 
       by : (b : Bool) → is_free clients k ≡ b → crew.Free n (crew.desk k) seat
       by true was = stays was
       by false busy =
-          let ran = runs-for clients k (turned (list_any (λ w. runs_at k w) clients) busy) in
+          let ran = runs-for clients k busy in
           elim (cases_eq fd ran.fd) [
             | inr differ ↦ absurd (clash (is_run_by ran.client k) ran.runs (free-runs (with_at clients fd (left_over after)) k ran.fd ran.client free (at-other clients fd ran.fd (left_over after) differ ∙ ran.at)))
             | inl same ↦
@@ -432,10 +423,6 @@ module _ (shelf : Shelf) (crew : Crew) (laws : AllLaws crew) (m n : State) (p : 
                 becomes.freed k seat sits runs (no-more runs (left_over after) refl))
           ]
         where
-          turned : (b : Bool) → not b ≡ false → b ≡ true
-          turned true is = refl
-          turned false is = absurd (cc (is))
-
           no-more : is_run_by x k ≡ true → (o : Option Client) → left_over after ≡ o → is_run_by after k ≡ false
           no-more runs (Some z) is =
               let same = left-over-is after.conn after.run after.script z is in

@@ -31,10 +31,11 @@ use Rattle.flash_laws.specs.Tied.{with_at}
 use Rattle.flash_laws.specs.declared.doing.Doing.{Doing}
 use Rattle.flash_laws.specs.declared.doing.Doing.TheVariants as doing
 use Rattle.flash_laws.specs.declared.running.Running.{Running}
+use Rattle.flash_laws.proofs.Forms.{of}
 use Rattle.flash_laws.proofs.Conn.Answering.{some-inj}
 use Rattle.flash_laws.proofs.Site.InPlaces.{at-same, at-other}
-use Rattle.flash_laws.proofs.Lists.{not-equal, later_of}
-use Rattle.flash_laws.proofs.Site.Pasts.{or-left, call_told}
+use Rattle.flash_laws.proofs.Lists.{not-equal, later_of, former_of}
+use Rattle.flash_laws.proofs.Site.Pasts.{call_told}
 use Rattle.flash_laws.proofs.World.AllLaws.{AllLaws}
 use Rattle.flash_laws.proofs.World.Calls.{opens-on}
 
@@ -86,7 +87,7 @@ was-there come m n e r a step lent = by (lent_at m server a) (brings e r server 
 pub owned-outside : (come : AggregatesComeAndGo) (m n : State) (p : Past) (clients : List (Option Client)) (e : Event) (r : Reply) → StepsTo m e r n
     → ((a : ℕ) → brings e r server a ≡ given_by a e r) → AreOwned m p clients → AreOwned n (and_then p e r) clients
 owned-outside come m n p clients e r step tells owned a lent = elim (was-there come m n e r a step lent) [
-  | inl was ↦ elim (owned a was) [ inl used ↦ inl used | inr given ↦ inr (or-left (p.given a) (given_by a e r) given) ]
+  | inl was ↦ elim (owned a was) [ inl used ↦ inl used | inr given ↦ inr (former_of (p.given a) (given_by a e r) given) ]
   | inr new ↦ inr (later_of (p.given a) (given_by a e r) (sym (tells a) ∙ new.1))
 ]
 
@@ -112,9 +113,6 @@ used-on clients fd a x y there used here = elim (cases_eq fd used.fd) [
       here (ap (λ (z : Client). uses_agg z a) (sym is_x) ∙ used.uses))
   | inr differ ↦ used-other clients fd a y used differ
 ]
-
-abbrev of : Conn → Option Running → List ℕ → Client
-of c run script = record { conn = c; run = run; script = script }
 
 -- a client that is made ready uses what it used
 conn-keeps : (x y : Conn) (a : ℕ) → conn.Readies x y → conn.uses_agg x.doing a ≡ true → conn.uses_agg y.doing a ≡ true

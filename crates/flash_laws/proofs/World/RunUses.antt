@@ -23,17 +23,17 @@ use Rattle.flash_laws.specs.declared.running.Step.{Step}
 use Rattle.flash_laws.specs.declared.running.Step.TheVariants.{Gives, Makes, Hands, Lets, Heads, Sending, Hears, Spills, Gathers, Frames, Wraps, Trims, Ended, Unholds, Stops, Unframes, Lasts, WrapsLast, TrimsLast, Unwraps, Returns, Lapses, Fails}
 use Rattle.flash_laws.specs.declared.running.Running.{Running}
 use Rattle.flash_laws.specs.declared.running.Running.TheVariants.{Awaits, Runs, Leaves, Closes}
-use Rattle.flash_laws.proofs.Lists.{later_of}
-use Rattle.flash_laws.proofs.Run.Keeping.{first}
+use Rattle.flash_laws.proofs.Lists.{later_of, bare, former_of, swapped}
 use Rattle.flash_laws.proofs.Conn.Uses.{same-number, uses-told, has-agg, one-of}
-
-bare : (a : Bool) → (a || false) ≡ true → a ≡ true
-bare true u = refl
-bare false u = u
 
 -- it was used, or is new
 abbrev New : Reply → (a : ℕ) → (was : Bool) → Type 0
 New r a was = (was ≡ true) ⊎ (is_agg r a ≡ true)
+
+around : (x y z : Bool) → (x || (y || z)) ≡ true → ((x || z) ≡ true) ⊎ (y ≡ true)
+around true y z u = inl refl
+around false true z u = inr refl
+around false false z u = inl u
 
 module _ (worker : ℕ) (w : Wanted) (run : Run) (a : ℕ) where
   abbrev UsesNew : Step → Reply → Running → Type 0
@@ -43,7 +43,7 @@ module _ (worker : ℕ) (w : Wanted) (run : Run) (a : ℕ) where
       → (conn.uses_agg after a ≡ true → (conn.uses_agg d a ≡ true) ⊎ (is_agg r a ≡ true))
       → (conn.uses_agg after a || has_frame frame a) ≡ true → New r a (conn.uses_agg d a || has_frame frame a)
   part-new d frame r after new u = elim (one-of (conn.uses_agg after a) (has_frame frame a) u) [
-    | inl is ↦ elim (new is) [ inl old ↦ inl (first (conn.uses_agg d a) (has_frame frame a) old) | inr made ↦ inr made ]
+    | inl is ↦ elim (new is) [ inl old ↦ inl (former_of (conn.uses_agg d a) (has_frame frame a) old) | inr made ↦ inr made ]
     | inr is ↦ inl (later_of (conn.uses_agg d a) (has_frame frame a) is)
   ]
 
@@ -75,7 +75,7 @@ module _ (worker : ℕ) (w : Wanted) (run : Run) (a : ℕ) where
   hearing-new false false held frame n len u = elim (one-of ((n == a) || false) (has_frame frame a) u) [ inl is ↦ inr (bare (n == a) is) | inr is ↦ inl (later_of (has_followed held a) (has_frame frame a) is) ]
   hearing-new false true None frame n len u = holding-new n len frame (reply.Agg n) (has_frame frame a) (λ is. is) (λ is. is) u
   hearing-new false true (Some x) frame n len u = elim (one-of (x.0 == a) ((n == a) || has_frame frame a) u) [
-    | inl is ↦ inl (first (x.0 == a) (has_frame frame a) is)
+    | inl is ↦ inl (former_of (x.0 == a) (has_frame frame a) is)
     | inr is ↦ elim (one-of (n == a) (has_frame frame a) is) [ inl made ↦ inr made | inr old ↦ inl (later_of (x.0 == a) (has_frame frame a) old) ]
   ]
 
@@ -107,70 +107,41 @@ module _ (worker : ℕ) (w : Wanted) (run : Run) (a : ℕ) where
       by : (b : Bool) → step_agg (if b then Hands j f else Lapses j) a ≡ true → (j == a) ≡ true
       by true u = u
       by false u = u
-  step-new (Hands j f) r heard u = inl u
   step-new (Lets j) reply.Done heard u = absurd (cc (u))
-  step-new (Lets j) r heard u = inl u
   step-new Heads (reply.Agg n) heard u = inr (bare (n == a) (bare ((n == a) || false) u))
   step-new Heads r heard u = absurd (cc (u))
   step-new (Sending d frame) r heard u = sending-new d frame r u
   step-new (Hears held frame) r heard u = hears-new held frame r heard u
   step-new (Spills b frame) reply.Done heard u = inl (later_of (b == a) (has_frame frame a) u)
-  step-new (Spills b frame) r heard u = inl u
   step-new (Gathers held size piece len frame) (reply.Agg n) heard u = holding-new n (both size len) frame (reply.Agg n) ((held == a) || ((piece == a) || has_frame frame a)) (λ is. is)
       (λ is. later_of (held == a) ((piece == a) || has_frame frame a) (later_of (piece == a) (has_frame frame a) is)) u
-  step-new (Gathers held size piece len frame) r heard u = inl u
   step-new (Frames held) (reply.Agg n) heard u = elim (one-of (held == a) (n == a) u) [ inl is ↦ inl is | inr is ↦ inr is ]
-  step-new (Frames held) r heard u = inl u
   step-new (Wraps held frame) (reply.Agg n) heard u = around (held == a) (n == a) (frame == a) u
-    where
-      around : (x y z : Bool) → (x || (y || z)) ≡ true → ((x || z) ≡ true) ⊎ (y ≡ true)
-      around true y z u = inl refl
-      around false true z u = inr refl
-      around false false z u = inl u
-  step-new (Wraps held frame) r heard u = inl u
   step-new (Trims held chunk len frame) reply.Done heard u = inl (by (held == a) (chunk == a) (frame == a) u)
     where
       by : (x y z : Bool) → (((y || false) || z)) ≡ true → (x || (y || z)) ≡ true
       by x true z u = later_of x true refl
       by x false z u = later_of x z u
-  step-new (Trims held chunk len frame) r heard u = inl u
   step-new (Ended b held frame) reply.Done heard u = inl (later_of (b == a) (has_followed held a || has_frame frame a) u)
-  step-new (Ended b held frame) r heard u = inl u
   step-new (Unholds held frame) reply.Done heard u = inl (later_of (held == a) (has_frame frame a) u)
-  step-new (Unholds held frame) r heard u = inl u
-  step-new (Stops held None) reply.Done heard u = inl (first (has_followed held a) false (finishing-new run.broken w.chunked held u))
-  step-new (Stops held (Some f)) reply.Done heard u = inl (swap (f == a) (has_followed held a) u)
-    where
-      swap : (x y : Bool) → (x || y) ≡ true → (y || x) ≡ true
-      swap true y u = later_of y true refl
-      swap false y u = first y false u
-  step-new (Stops held frame) r heard u = inl u
+  step-new (Stops held None) reply.Done heard u = inl (former_of (has_followed held a) false (finishing-new run.broken w.chunked held u))
+  step-new (Stops held (Some f)) reply.Done heard u = inl (swapped (f == a) (has_followed held a) u)
   step-new (Unframes f held) reply.Done heard u = inl (later_of (f == a) (has_followed held a) (finishing-new run.broken w.chunked held u))
-  step-new (Unframes f held) r heard u = inl u
   step-new (Lasts None) (reply.Agg n) heard u = inr (bare (n == a) u)
   step-new (Lasts (Some x)) (reply.Agg n) heard u = elim (one-of (x.0 == a) (n == a) u) [ inl is ↦ inl is | inr is ↦ inr is ]
-  step-new (Lasts held) r heard u = inl u
   step-new (WrapsLast held size frame) (reply.Agg n) heard u = around (held == a) (n == a) (frame == a) u
-    where
-      around : (x y z : Bool) → (x || (y || z)) ≡ true → ((x || z) ≡ true) ⊎ (y ≡ true)
-      around true y z u = inl refl
-      around false true z u = inr refl
-      around false false z u = inl u
-  step-new (WrapsLast held size frame) r heard u = inl u
   step-new (TrimsLast held chunk len frame) reply.Done heard u = inl (by (held == a) (chunk == a) (frame == a) u)
     where
       by : (x y z : Bool) → (z || y) ≡ true → (x || (y || z)) ≡ true
       by x true z u = later_of x true refl
       by x false z u = later_of x z (bare z u)
-  step-new (TrimsLast held chunk len frame) r heard u = inl u
   step-new (Unwraps frame chunk len) reply.Done heard u = inl (later_of (frame == a) (chunk == a) (bare (chunk == a) u))
-  step-new (Unwraps frame chunk len) r heard u = inl u
   step-new (Returns write) reply.Done heard u = absurd (cc (u))
   step-new (Returns write) r heard u = absurd (cc (u))
   step-new (Lapses j) reply.Done heard u = absurd (cc (u))
-  step-new (Lapses j) r heard u = inl u
   step-new Fails reply.Done heard u = absurd (cc (u))
   step-new Fails r heard u = absurd (cc (u))
+  step-new s r heard u = inl u
 
 pub run-uses : (worker : ℕ) (w : Wanted) (y : Running) (r : Reply) (heard : List ℕ) (a : ℕ) → uses_agg (told worker w y r heard) a ≡ true
     → New r a (uses_agg y a)
@@ -196,7 +167,7 @@ module _ (w : Wanted) (run : Run) (g : ℕ) where
 
   -- one that reads goes on to have what it reads from
   on-reading : (s : Step) → is_reading s ≡ true → (run.from == g) ≡ true → ends_of run s g ≡ true
-  on-reading s reads is = first (is_reading s && (run.from == g)) (step_fd s g) (ap (λ b. b && (run.from == g)) reads ∙ is)
+  on-reading s reads is = former_of (is_reading s && (run.from == g)) (step_fd s g) (ap (λ b. b && (run.from == g)) reads ∙ is)
 
   only-from : (s : Step) → ((h : ℕ) → step_fd s h ≡ false) → ends_of run s g ≡ true → (run.from == g) ≡ true
   only-from s none u = from-end (is_reading s) (run.from == g) (ap (λ b. (is_reading s && (run.from == g)) || b) (sym (none g)) ∙ u)
@@ -243,64 +214,42 @@ module _ (w : Wanted) (run : Run) (g : ℕ) where
       by : (b : Bool) → ends_of run (if b then Gives write else Returns write) g ≡ true → ends_of run (Gives write) g ≡ true
       by true u = u
       by false u = u
-  step-has (Gives write) r heard u = u
   step-has (Makes f) (reply.Agg n) heard u = u
-  step-has (Makes f) r heard u = u
   step-has (Hands j f) (reply.Count n) heard u = u
   step-has (Hands j f) (reply.Refused x) heard u = by (is_again x) u
     where
       by : (b : Bool) → ends_of run (if b then Hands j f else Lapses j) g ≡ true → ends_of run (Hands j f) g ≡ true
       by true u = u
       by false u = u
-  step-has (Hands j f) r heard u = u
   step-has (Lets j) reply.Done heard u = u
-  step-has (Lets j) r heard u = u
   step-has Heads (reply.Agg n) heard u = u
-  step-has Heads r heard u = u
   step-has (Sending d frame) r heard u = sending-has d frame r u
   step-has (Hears held frame) r heard u = hears-has held frame r heard u
   step-has (Spills b frame) reply.Done heard u = u
-  step-has (Spills b frame) r heard u = u
   step-has (Gathers held size piece len frame) (reply.Agg n) heard u = on-reading (Gathers held size piece len frame) refl (only-from (holding n (both size len) frame) (holding-fd n (both size len) frame) u)
-  step-has (Gathers held size piece len frame) r heard u = u
   step-has (Frames held) (reply.Agg n) heard u = u
-  step-has (Frames held) r heard u = u
   step-has (Wraps held frame) (reply.Agg n) heard u = u
-  step-has (Wraps held frame) r heard u = u
   step-has (Trims held chunk len frame) reply.Done heard u = u
-  step-has (Trims held chunk len frame) r heard u = u
   step-has (Ended b held frame) reply.Done heard u = u
-  step-has (Ended b held frame) r heard u = u
   step-has (Unholds held frame) reply.Done heard u = u
-  step-has (Unholds held frame) r heard u = u
   step-has (Stops held None) reply.Done heard u = absurd (finishing-has run.broken w.chunked held u)
   step-has (Stops held (Some f)) reply.Done heard u = absurd (cc (u))
-  step-has (Stops held frame) r heard u = u
   step-has (Unframes f held) reply.Done heard u = absurd (finishing-has run.broken w.chunked held u)
-  step-has (Unframes f held) r heard u = u
   step-has (Lasts None) (reply.Agg n) heard u = absurd (cc (u))
   step-has (Lasts (Some x)) (reply.Agg n) heard u = absurd (cc (u))
-  step-has (Lasts held) r heard u = u
   step-has (WrapsLast held size frame) (reply.Agg n) heard u = u
-  step-has (WrapsLast held size frame) r heard u = u
   step-has (TrimsLast held chunk len frame) reply.Done heard u = u
-  step-has (TrimsLast held chunk len frame) r heard u = u
   step-has (Unwraps frame chunk len) reply.Done heard u = absurd (cc (u))
-  step-has (Unwraps frame chunk len) r heard u = u
   step-has (Returns write) reply.Done heard u = on-reading (Returns write) refl (only-from Fails (λ h. refl) u)
-  step-has (Returns write) r heard u = u
   step-has (Lapses j) reply.Done heard u = u
-  step-has (Lapses j) r heard u = u
   step-has Fails reply.Done heard u = absurd (cc (u))
-  step-has Fails r heard u = u
+  step-has s r heard u = u
 
 pub run-ends : (worker : ℕ) (w : Wanted) (y : Running) (r : Reply) (heard : List ℕ) (g : ℕ) → has_end (told worker w y r heard) g ≡ true
     → (has_end y g ≡ true) ⊎ (is_fds r g ≡ true)
 run-ends worker w Awaits (reply.Fds from write) heard g u = inr u
-run-ends worker w Awaits r heard g u = absurd (cc (u))
 run-ends worker w (Runs run s) r heard g u = inl (step-has w run g s r heard u)
-run-ends worker w (Leaves d) r heard g u = absurd (cc (u))
-run-ends worker w Closes r heard g u = absurd (cc (u))
+run-ends worker w y r heard g u = absurd (cc (u))
 
 -- ---- what it uses is there
 
@@ -403,6 +352,4 @@ module _ (m : State) (g : ℕ) where
 
   pub run-end : (job : ℕ → List ℕ) (w : Wanted) (o : Progress) (y : Running) → has_end y g ≡ true → HasRun job m w o y → IsEnd m g
   run-end job w o (Runs run s) u has = step-end job w o run s u has.1
-  run-end job w o Awaits u has = absurd (cc (u))
-  run-end job w o (Leaves d) u has = absurd (cc (u))
-  run-end job w o Closes u has = absurd (cc (u))
+  run-end job w o y u has = absurd (cc (u))

@@ -30,6 +30,7 @@ use Rattle.flash_laws.specs.World.{IsServing}
 use Rattle.flash_laws.specs.declared.doing.Flight.{Flight}
 use Rattle.flash_laws.specs.declared.doing.Flight.TheVariants.{Nothing, Accepting, At}
 use Rattle.flash_laws.specs.declared.running.Running.{Running}
+use Rattle.flash_laws.proofs.Forms.{of}
 use Rattle.flash_laws.proofs.Site.InPlaces.{at-same}
 use Rattle.flash_laws.proofs.Lists.{self}
 use Rattle.flash_laws.proofs.Site.Others.{site-stays}
@@ -42,9 +43,6 @@ use Rattle.flash_laws.proofs.World.Fixed.{Goes}
 use Rattle.flash_laws.proofs.World.OwnAggs.{owned-own}
 use Rattle.flash_laws.proofs.World.OwnTurn.{IsOwnTurn, own_turn}
 use Rattle.flash_laws.proofs.World.Owning.{owned-ready, owned-accept}
-
-abbrev of : Conn → Option Running → List ℕ → Client
-of c run script = record { conn = c; run = run; script = script }
 
 -- one that is ready has no request that could begin, where it reads
 client-awaits : (c : Conn) (run : Option Running) (script : List ℕ) (y : Client) → Readies (of c run script) y → IsAwaiting y

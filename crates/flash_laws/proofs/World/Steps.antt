@@ -136,6 +136,9 @@ module _ (may : Policy) (shelf : Shelf) (crew : Crew) (laws : AllLaws crew) wher
     abbrev others : List (Seat (Actor crew.Worker))
     others = map (λ v. as_actor v) s.workers
 
+    abbrev clients : List (Option Client)
+    clients = filed s.state.workers s.state.clients s.state.flight s.last s.serves.heard
+
     -- what a step leads to
     abbrev Leads : Past → Type 0
     Leads q = Goes w.machine after.machine × AreSeated shelf crew after q
@@ -189,9 +192,6 @@ module _ (may : Policy) (shelf : Shelf) (crew : Crew) (laws : AllLaws crew) wher
             },
           )
         where
-          clients : List (Option Client)
-          clients = filed s.state.workers s.state.clients s.state.flight s.last s.serves.heard
-
           came : IsCallOf w.machine seat.by r after.machine × (next.by ≡ seat.by)
           came = what-came crew.turns w.machine after.machine seat next yields r did calm
 
@@ -268,28 +268,29 @@ module _ (may : Policy) (shelf : Shelf) (crew : Crew) (laws : AllLaws crew) wher
             let one = map-get s.workers i t.seat sits in
             worker_step r i one.0 one.1 calm yields t.next (subst (λ (z : Seat (Actor crew.Worker)). SeatTurn copying (actor_turns may crew.turns) w.machine z yields r after.machine t.next) one.2 t.turn) seats
 
+    -- whoever sits stays, with what the server keeps
+    still : (q : Past) → after.seats ≡ w.seats → Names after.machine s.last s.serves.heard → AllFit shelf crew after.machine q clients s.workers
+        → AreOwned after.machine q clients → AreSeated shelf crew after q
+    still q seats names fit owned = record {
+      state = s.state;
+      last = s.last;
+      workers = s.workers;
+      seats = seats ∙ s.seats;
+      serves = record { count = s.serves.count; heard = s.serves.heard; names = names; fit = fit; owned = owned };
+    }
+
     -- What happens outside.
     outside_step : (e : Event) (r : Reply) → StepsTo w.machine e r after.machine → after.seats ≡ w.seats → IsMild w (choice.Outside e) after
         → Leads (and_then p e r)
     outside_step (event.Call d k) r step seats calm = (
       inr (record { e = event.Call d k; r = r; step = step; site = calm.1; lives = other-ends d k not_one; default = other-default d k not_one }),
-      record {
-        state = s.state;
-        last = s.last;
-        workers = s.workers;
-        seats = seats ∙ s.seats;
-        serves = record {
-          count = s.serves.count;
-          heard = s.serves.heard;
-          names = names-stay laws.the.steps w.machine after.machine (event.Call d k) r s.last s.serves.heard step (λ a. other-gives d k a not_one) s.serves.names;
-          fit = subst (λ (q : Past). AllFit shelf crew after.machine q (filed s.state.workers s.state.clients s.state.flight s.last s.serves.heard) s.workers) (sym (past-called p d k r))
-              (fit-called shelf crew after.machine p (filed s.state.workers s.state.clients s.state.flight s.last s.serves.heard) s.workers d k r
-              (others_call shelf crew laws w.machine after.machine p (filed s.state.workers s.state.clients s.state.flight s.last s.serves.heard) s.workers d k r order
-              (laws.the.orders.step w.machine after.machine (event.Call d k) r order step) fixed not_one no_worker calm.1 step s.serves.fit));
-          owned = owned-outside laws.aggs w.machine after.machine p (filed s.state.workers s.state.clients s.state.flight s.last s.serves.heard) (event.Call d k) r step
-              (λ a. call-brings d k r a not_one) s.serves.owned;
-        };
-      },
+      still (and_then p (event.Call d k) r) seats
+          (names-stay laws.the.steps w.machine after.machine (event.Call d k) r s.last s.serves.heard step (λ a. other-gives d k a not_one) s.serves.names)
+          (subst (λ (q : Past). AllFit shelf crew after.machine q clients s.workers) (sym (past-called p d k r))
+          (fit-called shelf crew after.machine p clients s.workers d k r
+          (others_call shelf crew laws w.machine after.machine p clients s.workers d k r order
+          (laws.the.orders.step w.machine after.machine (event.Call d k) r order step) fixed not_one no_worker calm.1 step s.serves.fit)))
+          (owned-outside laws.aggs w.machine after.machine p clients (event.Call d k) r step (λ a. call-brings d k r a not_one) s.serves.owned),
     )
       where
         not_one : d ≢ server
@@ -306,23 +307,13 @@ module _ (may : Policy) (shelf : Shelf) (crew : Crew) (laws : AllLaws crew) wher
         acted f is step act =
             let same : KeepsSite w.machine after.machine = site-stays shelf.finds w.machine after.machine f (laws.the.steps.leaves w.machine after.machine f r step) fixed.site (act-files w.machine f act) (λ q. act-admits f q act) in (
               inr (record { e = f; r = r; step = step; site = same; lives = act-ends f act; default = act-default f act }),
-              record {
-                state = s.state;
-                last = s.last;
-                workers = s.workers;
-                seats = seats ∙ s.seats;
-                serves = record {
-                  count = s.serves.count;
-                  heard = s.serves.heard;
-                  names = names-stay laws.the.steps w.machine after.machine f r s.last s.serves.heard step (λ a. act-gives f a act) s.serves.names;
-                  fit = subst (λ (g : Event). AllFit shelf crew after.machine (and_then p g r) (filed s.state.workers s.state.clients s.state.flight s.last s.serves.heard) s.workers) (sym is)
-                      (acts shelf crew laws w.machine after.machine p (filed s.state.workers s.state.clients s.state.flight s.last s.serves.heard) s.workers f r order
-                      (laws.the.orders.step w.machine after.machine f r order step) fixed act same step s.serves.fit);
-                  owned = subst (λ (g : Event). AreOwned after.machine (and_then p g r) (filed s.state.workers s.state.clients s.state.flight s.last s.serves.heard)) (sym is)
-                      (owned-outside laws.aggs w.machine after.machine p (filed s.state.workers s.state.clients s.state.flight s.last s.serves.heard) f r step
-                      (λ a. act-brings f r a act) s.serves.owned);
-                };
-              },
+              still (and_then p e r) seats
+                  (names-stay laws.the.steps w.machine after.machine f r s.last s.serves.heard step (λ a. act-gives f a act) s.serves.names)
+                  (subst (λ (g : Event). AllFit shelf crew after.machine (and_then p g r) clients s.workers) (sym is)
+                  (acts shelf crew laws w.machine after.machine p clients s.workers f r order
+                  (laws.the.orders.step w.machine after.machine f r order step) fixed act same step s.serves.fit))
+                  (subst (λ (g : Event). AreOwned after.machine (and_then p g r) clients) (sym is)
+                  (owned-outside laws.aggs w.machine after.machine p clients f r step (λ a. act-brings f r a act) s.serves.owned)),
             )
 
   -- Each calm step keeps the tie.

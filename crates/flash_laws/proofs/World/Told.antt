@@ -12,7 +12,7 @@ use Rattle.iol_core.specs.declared.events.Reply.TheVariants as reply
 use Rattle.iol_laws.specs.Caller.{lent_at, is_agg, is_fd, gives_away}
 use Rattle.iol_laws.specs.Order.{IsOrderly}
 use Rattle.flash_http.specs.Request.{Answer, serve, refuse, Wanted}
-use Rattle.flash_laws.specs.Client.{Client, is_for_script, conn_wants, run_wants, wants, uses_agg, told_spares, file_told, after_run, goes_on, run_told, told}
+use Rattle.flash_laws.specs.Client.{is_for_script, conn_wants, run_wants, wants, uses_agg, told_spares, file_told, after_run, goes_on, run_told, told}
 use Rattle.flash_laws.specs.ClientKeeping.{has_fd}
 use Rattle.flash_laws.specs.Conn as conn
 use Rattle.flash_laws.specs.Conn.{Conn, is_head_only}
@@ -28,17 +28,12 @@ use Rattle.flash_laws.specs.declared.running.Step.{Step}
 use Rattle.flash_laws.specs.declared.running.Step.TheVariants as step
 use Rattle.flash_laws.specs.declared.running.Running.{Running}
 use Rattle.flash_laws.specs.declared.running.Running.TheVariants.{Awaits, Runs, Leaves, Closes as Ends}
-use Rattle.flash_laws.proofs.Run.Left.{still-left}
+use Rattle.flash_laws.proofs.Forms.{at, of}
 use Rattle.flash_laws.proofs.TheLaws.{TheLaws}
 use Rattle.flash_laws.proofs.Conn.Uses.{same-number, no-more, uses-told, uses_fd-told, one-of}
 use Rattle.flash_laws.proofs.World.Calls.{is_client_call}
 use Rattle.flash_laws.proofs.World.RunUses.{is_fds, run-uses, run-ends, step-has}
-
-abbrev of : Conn → Option Running → List ℕ → Client
-of c run script = record { conn = c; run = run; script = script }
-
-abbrev at : List ℕ → Answer → Doing → Conn
-at kept q d = record { kept = kept; q = q; doing = d }
+use Rattle.flash_laws.proofs.Lists.{not-false}
 
 -- ---- aggregates
 
@@ -178,19 +173,17 @@ over-fds : (worker : ℕ) (w : Wanted) (y : Running) (r : Reply) (heard : List �
     → conn.uses_fd (after_run (running.told worker w y r heard)) g ≡ true → ⊥
 over-fds worker w Awaits (reply.Fds from write) heard g ongoing over u = cc (over)
 over-fds worker w Awaits r heard g ongoing over u = cc (over)
-over-fds worker w (Leaves d) r heard g ongoing over u = left-fd w d r heard g (still-left (is_left d) ongoing) u
+over-fds worker w (Leaves d) r heard g ongoing over u = left-fd w d r heard g (not-false (is_left d) ongoing) u
 over-fds worker w Ends r heard g ongoing over u = cc (u)
 over-fds worker w (Runs run s) r heard g ongoing over u = step-fd w run g s r heard over u
 
 run-fds : (worker : ℕ) (w : Wanted) (y : Running) (r : Reply) (heard : List ℕ) (g : ℕ) → has_end (running.told worker w y r heard) g ≡ true → NewFd (Some y) r g (has_end y g)
 run-fds worker w Awaits (reply.Fds from write) heard g u = inr (inr (refl, u))
-run-fds worker w Awaits r heard g u = absurd (cc (u))
 run-fds worker w (Runs run s) r heard g u = elim (run-ends worker w (Runs run s) r heard g u) [ inl had ↦ inl had | inr new ↦ by r u new ]
   where
     by : (r : Reply) → has_end (running.told_step w run s r heard) g ≡ true → is_fds r g ≡ true → NewFd (Some (Runs run s)) r g (has_end (Runs run s) g)
     by r u new = inl (step-has w run g s r heard u)
-run-fds worker w (Leaves d) r heard g u = absurd (cc (u))
-run-fds worker w Ends r heard g u = absurd (cc (u))
+run-fds worker w y r heard g u = absurd (cc (u))
 
 -- the run of a client that runs is not over
 pub client-fds : (scripts : Bool) (worker : ℕ) (c : Conn) (run : Option Running) (script : List ℕ) (r : Reply) (heard : List ℕ) (g : ℕ)
@@ -237,10 +230,7 @@ pub fd-new : (laws : TheLaws) (m n : State) (scripts : Bool) (fd : ℕ) (c : Con
     → StepsTo m (event.Call server (wants scripts fd (of c run script))) r n
     → ((run ≡ None) × (is_fd r g ≡ true)) ⊎ ((run ≡ Some Awaits) × (is_fds r g ≡ true)) → descriptor m server g ≡ None
 fd-new laws m n scripts fd c None script w r g order asks step (inl new) = laws.fresh.fd m n server (conn_wants (is_for_script scripts c.q) fd c) r g order step (script-away (is_for_script scripts c.q) fd c) new.1
-fd-new laws m n scripts fd c None script w r g order asks step (inr new) = absurd (let e = new.0 in cc (e))
 fd-new laws m n scripts fd c (Some Awaits) script w r g order asks step (inr new) =
     fds-new laws m n r g (subst (λ (q : Answer). StepsTo m (event.Call server (run_wants fd q script Awaits)) r n) (asks refl) step) new.1
 fd-new laws m n scripts fd c (Some y) script w r g order asks step (inl new) = absurd (let e = new.0 in cc (e))
-fd-new laws m n scripts fd c (Some (Runs run s)) script w r g order asks step (inr new) = absurd (let e = new.0 in cc (e))
-fd-new laws m n scripts fd c (Some (Leaves d)) script w r g order asks step (inr new) = absurd (let e = new.0 in cc (e))
-fd-new laws m n scripts fd c (Some Ends) script w r g order asks step (inr new) = absurd (let e = new.0 in cc (e))
+fd-new laws m n scripts fd c run script w r g order asks step (inr new) = absurd (let e = new.0 in cc (e))

@@ -1,7 +1,6 @@
 -- A turn of the server keeps all its clients, and all workers, tied.
-use Rattle.std.proofs.Common.{inl, inr, ◌≡◌, ◌≢◌, ◌<◌, ℕ, ◌==◌, ◌≤◌, ◌⊎◌, List, ap, ◌∙◌, refl, sym, subst, arith, Option, Some, None, true, false, Bool, slice_get}
+use Rattle.std.proofs.Common.{inl, inr, ◌≡◌, ◌≢◌, ◌<◌, ℕ, ◌==◌, ◌≤◌, ◌⊎◌, List, ap, ◌∙◌, refl, sym, subst, arith, Option, Some, true, false, Bool, slice_get}
 use Rattle.std.specs.Prelude.{not}
-use Rattle.std.specs.List.{list_any}
 use Rattle.std.proofs.lemmas.Bool.{cases_eq}
 use Rattle.std.proofs.lemmas.Bool.Decides.{nat_tests}
 use Rattle.iol_core.specs.Numbered.{in_place, lowest}
@@ -14,13 +13,12 @@ use Rattle.iol_laws.proofs.Places.{lowest-free}
 use Rattle.iol_proc.specs.declared.seat.Seat.{Seat}
 use Rattle.flash_cgi.specs.Beside.{is_call_of}
 use Rattle.flash_laws.specs.Client.{Client, uses_agg}
-use Rattle.flash_laws.specs.ClientFits.{output_of, Fits}
+use Rattle.flash_laws.specs.ClientFits.{Fits}
 use Rattle.flash_laws.specs.ClientKeeping.{has_fd}
 use Rattle.flash_laws.specs.Conn.{Conn}
 use Rattle.flash_laws.specs.Crew.{Crew}
 use Rattle.flash_laws.specs.Past.{Past}
-use Rattle.flash_laws.specs.Places.{EachHasItsOwn, is_run_by, runs_at, is_free}
-use Rattle.flash_laws.specs.RunFits.{Progress}
+use Rattle.flash_laws.specs.Places.{EachHasItsOwn, is_run_by, is_free}
 use Rattle.flash_laws.specs.Running.{worker_domain, job_pipe}
 use Rattle.flash_laws.specs.Served.{Held, Aside, AreAtDesks, FitsAt, AllFit}
 use Rattle.flash_laws.specs.Shelf.{Shelf}
@@ -29,19 +27,17 @@ use Rattle.flash_laws.specs.Stages.{AtDesk}
 use Rattle.flash_laws.specs.Tied.{with_at}
 use Rattle.flash_laws.specs.declared.running.Run.{Run}
 use Rattle.flash_laws.specs.declared.running.Step.{Step}
-use Rattle.flash_laws.specs.declared.running.Step.TheVariants.{Gives, Makes, Hands, Ended as AtEnd, Unholds, Stops, Unframes, Lasts, WrapsLast, TrimsLast, Unwraps, Returns, Lapses, Fails}
+use Rattle.flash_laws.specs.declared.running.Step.TheVariants.{Gives, Hands, Returns}
 use Rattle.flash_laws.specs.declared.running.Running.{Running}
-use Rattle.flash_laws.specs.declared.running.Running.TheVariants.{Awaits, Runs, Leaves as Left, Closes as Ends}
-use Rattle.flash_laws.proofs.Conn.Answering.{some-inj}
+use Rattle.flash_laws.specs.declared.running.Running.TheVariants.{Awaits, Runs}
+use Rattle.flash_laws.proofs.Forms.{of}
 use Rattle.flash_laws.proofs.Site.InPlaces.{at-same, at-other}
 use Rattle.flash_laws.proofs.Site.Peers.{IsTold}
-use Rattle.flash_laws.proofs.Conn.Uses.{same-number}
 use Rattle.flash_laws.proofs.World.AllLaws.{AllLaws}
 use Rattle.flash_laws.proofs.World.Calls.{MayTouchPipe}
-use Rattle.flash_laws.proofs.World.Desk.Turning.{runs-for}
-
-abbrev of : Conn → Option Running → List ℕ → Client
-of c run script = record { conn = c; run = run; script = script }
+use Rattle.flash_laws.proofs.Lists.{clash}
+use Rattle.flash_laws.proofs.Site.Sharing.{free-runs, runs-for}
+use Rattle.flash_laws.proofs.World.Desk.Jobs.{reads-jobs}
 
 -- ---- one place changes
 
@@ -62,26 +58,8 @@ module _ (shelf : Shelf) (crew : Crew) (m n : State) (p : Past) (clients : List 
       | inr differ ↦ there gd y differ (old gd y differ is)
     ];
     others = others;
-    aggs_apart = λ gd hd a y z is_y is_z uses_y uses_z. elim (cases_eq fd gd) [
-      | inl g ↦ elim (cases_eq fd hd) [
-        | inl k ↦ sym g ∙ k
-        | inr k ↦ absurd (mixed_agg hd a y z k (mine gd y g is_y) (old hd z k is_z) uses_y uses_z)
-      ]
-      | inr g ↦ elim (cases_eq fd hd) [
-        | inl k ↦ absurd (mixed_agg gd a z y g (mine hd z k is_z) (old gd y g is_y) uses_z uses_y)
-        | inr k ↦ all.aggs_apart gd hd a y z (old gd y g is_y) (old hd z k is_z) uses_y uses_z
-      ]
-    ];
-    fds_apart = λ gd hd a y z is_y is_z uses_y uses_z. elim (cases_eq fd gd) [
-      | inl g ↦ elim (cases_eq fd hd) [
-        | inl k ↦ sym g ∙ k
-        | inr k ↦ absurd (mixed_fd hd a y z k (mine gd y g is_y) (old hd z k is_z) uses_y uses_z)
-      ]
-      | inr g ↦ elim (cases_eq fd hd) [
-        | inl k ↦ absurd (mixed_fd gd a z y g (mine hd z k is_z) (old gd y g is_y) uses_z uses_y)
-        | inr k ↦ all.fds_apart gd hd a y z (old gd y g is_y) (old hd z k is_z) uses_y uses_z
-      ]
-    ];
+    aggs_apart = apart (λ y a. uses_agg y a) mixed_agg all.aggs_apart;
+    fds_apart = apart (λ y g. has_fd y g) mixed_fd all.fds_apart;
     left = left;
     fresh = λ c more. all.fresh c (omega (arith, rises, more));
     own = own;
@@ -95,10 +73,41 @@ module _ (shelf : Shelf) (crew : Crew) (m n : State) (p : Past) (clients : List 
       old : (gd : ℕ) (y : Client) → fd ≢ gd → in_place (with_at clients fd o) gd ≡ Some y → in_place clients gd ≡ Some y
       old gd y differ is = sym (at-other clients fd gd o differ) ∙ is
 
+      -- no two use the same
+      apart : (uses : Client → ℕ → Bool)
+          → ((gd a : ℕ) (y z : Client) → fd ≢ gd → o ≡ Some y → in_place clients gd ≡ Some z → uses y a ≡ true → uses z a ≡ true → ⊥)
+          → ((gd hd a : ℕ) (y z : Client) → in_place clients gd ≡ Some y → in_place clients hd ≡ Some z → uses y a ≡ true → uses z a ≡ true → gd ≡ hd)
+          → (gd hd a : ℕ) (y z : Client) → in_place (with_at clients fd o) gd ≡ Some y → in_place (with_at clients fd o) hd ≡ Some z
+          → uses y a ≡ true → uses z a ≡ true → gd ≡ hd
+      apart uses mixed was gd hd a y z is_y is_z uses_y uses_z = elim (cases_eq fd gd) [
+        | inl g ↦ elim (cases_eq fd hd) [
+          | inl k ↦ sym g ∙ k
+          | inr k ↦ absurd (mixed hd a y z k (mine gd y g is_y) (old hd z k is_z) uses_y uses_z)
+        ]
+        | inr g ↦ elim (cases_eq fd hd) [
+          | inl k ↦ absurd (mixed gd a z y g (mine hd z k is_z) (old gd y g is_y) uses_z uses_y)
+          | inr k ↦ was gd hd a y z (old gd y g is_y) (old hd z k is_z) uses_y uses_z
+        ]
+      ]
+
 -- a client that stands elsewhere stands there still
 pub held-on : (m n : State) (clients : List (Option Client)) (fd k : ℕ) (o : Option Client) (held : Held m clients k)
     → fd ≢ held.fd → descriptor n server held.fd ≡ Some (on.Connection k) → Held n (with_at clients fd o) k
 held-on m n clients fd k o held differ open_on = record { fd = held.fd; client = held.client; at = at-other clients fd held.fd o differ ∙ held.at; open_on = open_on }
+
+-- a worker that is free once one place has changed was free before, unless it was of whoever stood there
+pub free-unless : (clients : List (Option Client)) (fd k : ℕ) (o : Option Client) → ((x : Client) → in_place clients fd ≡ Some x → is_run_by x k ≡ true → ⊥)
+    → is_free (with_at clients fd o) k ≡ true → is_free clients k ≡ true
+free-unless clients fd k o stood free = by (is_free clients k) refl
+  where
+    by : (b : Bool) → is_free clients k ≡ b → is_free clients k ≡ true
+    by true is = is
+    by false busy =
+        let ran = runs-for clients k busy in
+        elim (cases_eq fd ran.fd) [
+          | inr differ ↦ absurd (clash (is_run_by ran.client k) ran.runs (free-runs (with_at clients fd o) k ran.fd ran.client free (at-other clients fd ran.fd o differ ∙ ran.at)))
+          | inl here ↦ absurd (stood ran.client (subst (λ g. in_place clients g ≡ Some ran.client) (sym here) ran.at) ran.runs)
+        ]
 
 -- ---- what a worker reads is not the server's
 
@@ -116,61 +125,12 @@ unfolding pipe_at
 no-reader-there m is = (let none = lowest-free m.pipes in grind (arith, none, is))
 
 module _ (shelf : Shelf) (crew : Crew) (laws : AllLaws crew) (m : State) (p : Past) (clients : List (Option Client)) (seats : List (Seat crew.Worker)) (order : IsOrderly m) (all : AllFit shelf crew m p clients seats) where
-  -- what a run's worker is: free, or one that puts out
-  reads-at : (run : Run) (output : List ℕ) (so_far : Progress) (step : Step) (desk : AtDesk crew m seats run output so_far step)
-      → descriptor m desk.seat.by 0 ≡ Some (on.ReadEnd (crew.desk run.worker))
-  reads-at run output so_far (Gives write) desk = (laws.workers.none m (crew.desk run.worker) desk.seat desk.stage.free).jobs
-  reads-at run output so_far (Makes f) desk = (laws.workers.none m (crew.desk run.worker) desk.seat desk.stage.ready.free).jobs
-  reads-at run output so_far (Hands j f) desk = (laws.workers.none m (crew.desk run.worker) desk.seat desk.stage.0.ready.free).jobs
-  reads-at run output so_far (Returns write) desk = absurd desk.stage
-  reads-at run output so_far (Lapses j) desk = absurd desk.stage
-  reads-at run output so_far Fails desk = absurd desk.stage
-  reads-at run output so_far (AtEnd a held frame) desk = (laws.workers.none m (crew.desk run.worker) desk.seat desk.stage.free).jobs
-  reads-at run output so_far (Unholds held frame) desk = (laws.workers.none m (crew.desk run.worker) desk.seat desk.stage.free).jobs
-  reads-at run output so_far (Stops held frame) desk = (laws.workers.none m (crew.desk run.worker) desk.seat desk.stage.free).jobs
-  reads-at run output so_far (Unframes frame held) desk = (laws.workers.none m (crew.desk run.worker) desk.seat desk.stage.free).jobs
-  reads-at run output so_far (Lasts held) desk = (laws.workers.none m (crew.desk run.worker) desk.seat desk.stage.free).jobs
-  reads-at run output so_far (WrapsLast held size frame) desk = (laws.workers.none m (crew.desk run.worker) desk.seat desk.stage.free).jobs
-  reads-at run output so_far (TrimsLast held chunk len frame) desk = (laws.workers.none m (crew.desk run.worker) desk.seat desk.stage.free).jobs
-  reads-at run output so_far (Unwraps frame chunk len) desk = (laws.workers.none m (crew.desk run.worker) desk.seat desk.stage.free).jobs
-  reads-at run output so_far step desk = elim desk.stage.puts_out [
-    | inl due ↦ laws.workers.reads m (crew.desk run.worker) desk.stage.has.pipe desk.seat desk.stage.more due
-    | inr there ↦ (laws.workers.none m (crew.desk run.worker) desk.seat there.free).jobs
-  ]
-
-  runner-of : (c : Conn) (run : Option Running) (script : List ℕ) (k : ℕ) → is_run_by (of c run script) k ≡ true
-      → (came sent : List ℕ) (fd e : ℕ) → Fits shelf crew m came sent fd e (of c run script) seats
-      → (seat : Seat crew.Worker) → slice_get seats k ≡ Some seat → descriptor m seat.by 0 ≡ Some (on.ReadEnd (crew.desk k))
-  runner-of c None script k runs came sent fd e f seat sits = absurd (cc (runs))
-  runner-of c (Some (Runs run step)) script k runs came sent fd e f seat sits =
-      let is : run.worker ≡ k = same-number run.worker k runs in
-      let same : f.desk.seat ≡ seat = some-inj f.desk.seat seat (sym f.desk.sits ∙ (ap (λ j. slice_get seats j) is ∙ sits)) in
-      subst (λ (s : Seat crew.Worker). descriptor m s.by 0 ≡ Some (on.ReadEnd (crew.desk k))) same
-      (subst (λ j. descriptor m f.desk.seat.by 0 ≡ Some (on.ReadEnd (crew.desk j))) is (reads-at run (output_of shelf f.wanted f.script.lines) f.so_far step f.desk))
-  runner-of c (Some Awaits) script k runs came sent fd e f seat sits = absurd (cc (runs))
-  runner-of c (Some (Left d)) script k runs came sent fd e f seat sits = absurd (cc (runs))
-  runner-of c (Some Ends) script k runs came sent fd e f seat sits = absurd (cc (runs))
-
-  -- each worker reads its desk
-  pub reads-desk : (k : ℕ) (seat : Seat crew.Worker) → slice_get seats k ≡ Some seat → descriptor m seat.by 0 ≡ Some (on.ReadEnd (crew.desk k))
-  reads-desk k seat sits = by (is_free clients k) refl
-    where
-      by : (b : Bool) → is_free clients k ≡ b → descriptor m seat.by 0 ≡ Some (on.ReadEnd (crew.desk k))
-      by true free = (laws.workers.none m (crew.desk k) seat (all.free k seat sits free)).jobs
-      by false busy =
-          let r = runs-for clients k (turned (list_any (λ w. runs_at k w) clients) busy) in
-          runner-of r.client.conn r.client.run r.client.script k r.runs (p.came (all.each r.fd r.client r.at).conn) (p.sent (all.each r.fd r.client r.at).conn) r.fd (all.each r.fd r.client r.at).conn (all.each r.fd r.client r.at).fits seat sits
-        where
-          turned : (b : Bool) → not b ≡ false → b ≡ true
-          turned true is = refl
-          turned false is = absurd (cc (is))
-
-  -- so the server does not
+  -- each worker reads its desk, so the server does not
   pub not-desk : (k g : ℕ) → k < crew.count → descriptor m server g ≡ Some (on.ReadEnd (crew.desk k)) → ⊥
   not-desk k g lt is =
       let s = all.desks.seated k lt in
       let by = all.desks.by k s.0 s.1 in
-      let same = (order.one server s.0.by g 0 (on.ReadEnd (crew.desk k)) refl is (reads-desk k s.0 s.1)).0 in
+      let same = (order.one server s.0.by g 0 (on.ReadEnd (crew.desk k)) refl is (reads-jobs shelf crew laws m p clients seats all k s.0 s.1)).0 in
       absurd (let e = same ∙ by.1 in omega (arith, e))
 
   desk-writing : (k : ℕ) → k < crew.count → (pipe_at m (crew.desk k)).writing ≡ true
@@ -180,7 +140,6 @@ module _ (shelf : Shelf) (crew : Crew) (laws : AllLaws crew) (m : State) (p : Pa
   pub own-desk : (run : Option Running) (k : ℕ) → k < crew.count → ((y : Running) (s : Step) (v : Run) → run ≡ Some (Runs v s) → v.worker < crew.count)
       → ((v : Run) (write : ℕ) → run ≡ Some (Runs v (Returns write)) → ⊥) → MayTouchPipe m run (crew.desk k)
       → (v : Run) × (s : Step) × (run ≡ Some (Runs v s)) × (v.worker ≡ k)
-  own-desk None k lt among no_returns may = absurd may
   own-desk (Some Awaits) k lt among no_returns may = absurd (no-pipe-there m (ap (λ j. (pipe_at m j).writing) may ∙ desk-writing k lt))
   own-desk (Some (Runs v (Hands j f))) k lt among no_returns may =
       let here = all.desks.desks v.worker (among Awaits (Hands j f) v refl) in
@@ -192,5 +151,4 @@ module _ (shelf : Shelf) (crew : Crew) (laws : AllLaws crew) (m : State) (p : Pa
   own-desk (Some (Runs v (Returns write))) k lt among no_returns may = absurd (no_returns v write refl)
   own-desk (Some (Runs v (Gives write))) k lt among no_returns may = absurd (not-desk k v.from lt may)
   own-desk (Some (Runs v s)) k lt among no_returns may = absurd (not-desk k v.from lt may)
-  own-desk (Some (Left d)) k lt among no_returns may = absurd may
-  own-desk (Some Ends) k lt among no_returns may = absurd may
+  own-desk run k lt among no_returns may = absurd may

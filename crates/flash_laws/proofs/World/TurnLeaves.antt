@@ -35,7 +35,8 @@ use Rattle.flash_laws.specs.Stages.{HasWorkerAt}
 use Rattle.flash_laws.specs.declared.running.Run.{Run}
 use Rattle.flash_laws.specs.declared.running.Step.{Step}
 use Rattle.flash_laws.specs.declared.running.Running.{Running}
-use Rattle.flash_laws.specs.declared.running.Running.TheVariants.{Awaits, Runs, Leaves, Closes}
+use Rattle.flash_laws.specs.declared.running.Running.TheVariants.{Runs, Leaves}
+use Rattle.flash_laws.proofs.Forms.{of}
 use Rattle.flash_laws.proofs.Lists.{clash, not-equal, differ}
 use Rattle.flash_laws.proofs.World.AllLaws.{AllLaws}
 use Rattle.flash_laws.proofs.World.Desk.Leaving.{LeavesOne, none-given, none-touched}
@@ -137,20 +138,15 @@ conn-left k j sent same = inl (record {
   ended = λ is. (ap (λ (z : Connection). z.incoming) same, ap (λ (z : Connection). is_none z.peer) same ∙ is);
 })
 
-abbrev of : Conn → Option Running → List ℕ → Client
-of c run script = record { conn = c; run = run; script = script }
-
 -- a client for which another worker runs a script, or none, does not see who sits in place k
 desk-reseated : (crew : Crew) (n : State) (k : ℕ) (seats : List (Seat crew.Worker)) (next : Seat crew.Worker) (output : List ℕ) (o : Progress) (y : Running)
     → has_worker y k ≡ false → HasWorkerAt crew n seats output o y → HasWorkerAt crew n (slice_set seats k next) output o y
-desk-reseated crew n k seats next output o Awaits none h = tt
 desk-reseated crew n k seats next output o (Runs run s) none h = record {
   seat = h.seat;
   sits = set-other seats k run.worker next (λ same. differ run.worker k none (sym same)) ∙ h.sits;
   stage = h.stage;
 }
-desk-reseated crew n k seats next output o (Leaves d) none h = tt
-desk-reseated crew n k seats next output o Closes none h = tt
+desk-reseated crew n k seats next output o y none h = tt
 
 reseated : (shelf : Shelf) (crew : Crew) (n : State) (came sent : List ℕ) (fd c k : ℕ) (x : Conn) (run : Option Running) (script : List ℕ)
     (seats : List (Seat crew.Worker)) (next : Seat crew.Worker) → is_run_by (of x run script) k ≡ false

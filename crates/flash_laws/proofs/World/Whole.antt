@@ -19,7 +19,7 @@ use Rattle.flash_laws.specs.Places.{filed}
 use Rattle.flash_laws.specs.Served.{Held, Aside, AllFit, AreAnswered}
 use Rattle.flash_laws.specs.Shelf.{Shelf, Begins, IsAnswer}
 use Rattle.flash_laws.specs.Site.{server}
-use Rattle.flash_laws.specs.Tie.{made_over, gone_over, given_over, past_of, Actor}
+use Rattle.flash_laws.specs.Tie.{tells_over, made_over, gone_over, given_over, past_of, Actor}
 use Rattle.flash_laws.specs.World.{server_with, Tied, IsNew, AllAnswered, ClosedAreWhole}
 use Rattle.flash_laws.specs.declared.running.Running.{Running}
 use Rattle.flash_laws.proofs.Conn.Answering.{WindowLaws}
@@ -31,7 +31,7 @@ use Rattle.flash_laws.proofs.World.Answering.{begins-none, begins-append, begins
 
 -- A new world is tied.
 pub first_tied : (shelf : Shelf) (crew : Crew) (w : Stage State (Actor crew.Worker)) → IsNew shelf crew w → Tied shelf crew [] [] w
-unfolding stream_over sent_over made_over gone_over given_over
+unfolding stream_over sent_over tells_over made_over gone_over given_over
 first_tied shelf crew w new = record {
   even = refl;
   order = new.order;

@@ -1,7 +1,6 @@
 -- A worker's turn leaves all clients tied.
 use Rattle.std.proofs.Common.{inl, inr, ◌≡◌, ◌≢◌, ◌<◌, ◌⊎◌, ◌≤◌, ℕ, List, ap, ◌∙◌, refl, sym, subst, arith, Option, Some, true, false, Bool, slice_get, slice_set}
 use Rattle.std.specs.Prelude.{not}
-use Rattle.std.specs.List.{list_any}
 use Rattle.std.proofs.lemmas.Bool.{cases_eq}
 use Rattle.iol_core.specs.Numbered.{in_place}
 use Rattle.iol_core.specs.State.{State, Connection, descriptor, conn_at, is_gone}
@@ -16,14 +15,15 @@ use Rattle.flash_cgi.specs.Leaving.{LeavesAllBut}
 use Rattle.flash_laws.specs.Client.{Client}
 use Rattle.flash_laws.specs.Crew.{Crew, IsFixedFor}
 use Rattle.flash_laws.specs.Past.{Past}
-use Rattle.flash_laws.specs.Places.{is_run_by, runs_at, is_free}
+use Rattle.flash_laws.specs.Places.{is_run_by, is_free}
 use Rattle.flash_laws.specs.Running.{worker_domain, job_pipe}
 use Rattle.flash_laws.specs.Served.{Held, Aside, AreAtDesks, FitsAt, AllFit}
 use Rattle.flash_laws.specs.Shelf.{Shelf}
 use Rattle.flash_laws.specs.Site.{server}
 use Rattle.flash_laws.proofs.Conn.Answering.{some-inj}
 use Rattle.flash_laws.proofs.World.AllLaws.{AllLaws}
-use Rattle.flash_laws.proofs.World.Desk.Turning.{runs-for, rests, client-touches, own-fits}
+use Rattle.flash_laws.proofs.Site.Sharing.{runs-for}
+use Rattle.flash_laws.proofs.World.Desk.Turning.{rests, client-touches, own-fits}
 use Rattle.flash_laws.proofs.World.TurnLeaves.{IsCallOf, what-came, IsTurn, IsItsOwn, Touches, set-same, set-other, sits-in, not-server, other-worker, beside-fits}
 
 -- it changes nothing, or leaves all but its own and one pipe
@@ -46,12 +46,12 @@ module _ (shelf : Shelf) (crew : Crew) (laws : AllLaws crew) (m n : State) (p : 
   there-sits l t apart sits = sym (set-other seats k l next apart) ∙ sits
 
   touches : Touches crew m n clients k seat.by
-  touches = by (list_any (λ o. runs_at k o) clients) refl
+  touches = by (is_free clients k) refl
     where
-      by : (b : Bool) → list_any (λ o. runs_at k o) clients ≡ b → Touches crew m n clients k seat.by
-      by false none = rests shelf crew laws m n p clients seats k seat next yields r turn (crew.desk k) (turn.fit.free k seat turn.sits (ap (λ b. not b) none))
-      by true some =
-          let r_for = runs-for clients k some in
+      by : (b : Bool) → is_free clients k ≡ b → Touches crew m n clients k seat.by
+      by true free = rests shelf crew laws m n p clients seats k seat next yields r turn (crew.desk k) (turn.fit.free k seat turn.sits free)
+      by false busy =
+          let r_for = runs-for clients k busy in
           client-touches shelf crew laws m n p clients seats k seat next yields r turn r_for.fd r_for.client.conn r_for.client.run r_for.client.script r_for.at r_for.runs
           (turn.fit.each r_for.fd r_for.client r_for.at)
 

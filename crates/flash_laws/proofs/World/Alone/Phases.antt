@@ -40,7 +40,7 @@ use Rattle.flash_laws.specs.RunFits.{nothing_yet}
 use Rattle.flash_laws.specs.Shelf.{Shelf, due_to}
 use Rattle.flash_laws.specs.Site.{server, IsFixed}
 use Rattle.flash_laws.specs.declared.doing.Learnt.{Learnt}
-use Rattle.flash_laws.specs.declared.doing.Learnt.TheVariants.{File, Length, Fails, Text as TextOf}
+use Rattle.flash_laws.specs.declared.doing.Learnt.TheVariants.{File, Text as TextOf}
 use Rattle.flash_laws.specs.declared.doing.Content.{Content}
 use Rattle.flash_laws.specs.declared.doing.Content.TheVariants.{Script}
 use Rattle.flash_laws.specs.declared.doing.Doing.{Doing}
@@ -130,12 +130,7 @@ module _ (shelf : Shelf) (crew : Crew) (laws : AllLaws crew) (m n : State) (came
       by (Bytes first last) = (refl, refl, refl)
       by Unsatisfiable = (refl, refl, refl)
   settled-stands (refuse status head_only close) (File a len) = (refl, refl, refl)
-  settled-stands (serve w) (Length len) = (refl, refl, refl)
-  settled-stands (refuse status head_only close) (Length len) = (refl, refl, refl)
-  settled-stands (serve w) (Fails status) = (refl, refl, refl)
-  settled-stands (refuse status head_only close) (Fails was) = (refl, refl, refl)
-  settled-stands (serve w) (TextOf a runs) = (refl, refl, refl)
-  settled-stands (refuse status head_only close) (TextOf a runs) = (refl, refl, refl)
+  settled-stands q k = (refl, refl, refl)
 
   shuts-stands : (q : Answer) (g : ℕ) (k : Learnt) (r : Reply) → Stands shelf q [] (told_shuts q g k r)
   shuts-stands q g k reply.Done = settled-stands q k

@@ -34,7 +34,7 @@ use Rattle.flash_laws.specs.Site.{server, KeepsSite}
 use Rattle.flash_laws.specs.Stages.{HasPipeOf, IsReadyFor, IsGiven, IsPuttingOut, HasPutOut, Stage}
 use Rattle.flash_laws.specs.declared.running.Run.{Run}
 use Rattle.flash_laws.specs.declared.running.Step.{Step}
-use Rattle.flash_laws.specs.declared.running.Step.TheVariants.{Gives, Makes, Hands, Lets, Heads, Sending, Hears, Spills, Gathers, Frames, Wraps, Trims, Ended, Unholds, Stops, Unframes, Lasts, WrapsLast, TrimsLast, Unwraps, Returns, Lapses, Fails}
+use Rattle.flash_laws.specs.declared.running.Step.TheVariants.{Gives, Makes, Hands, Wraps, Trims, Ended, Unholds, Stops, Unframes, Lasts, WrapsLast, TrimsLast, Unwraps, Returns, Lapses, Fails}
 use Rattle.flash_laws.specs.declared.running.Running.TheVariants.{Runs}
 use Rattle.flash_laws.proofs.Conn.Lent.{file-same, content-same}
 use Rattle.flash_laws.proofs.Lists.{self}
@@ -152,15 +152,6 @@ module _ (crew : Crew) (laws : AllLaws crew) (m n : State) (e : Event) (r : Repl
       given-on f (calm refl) (same refl refl) h.0,
       subst (λ (t : Text). lie_in crew.jobs t ≡ true) (sym (text-stays laws.the.steps m n e r step j (job f) has.1 (un j (self j)))) h.1,
     )
-    stage-on job w output o (Lets j) un calm same has h = putting-on output o (calm refl) (same refl refl) h
-    stage-on job w output o Heads un calm same has h = putting-on output o (calm refl) (same refl refl) h
-    stage-on job w output o (Sending d frame) un calm same has h = putting-on output o (calm refl) (same refl refl) h
-    stage-on job w output o (Hears held frame) un calm same has h = putting-on output o (calm refl) (same refl refl) h
-    stage-on job w output o (Spills a frame) un calm same has h = putting-on output o (calm refl) (same refl refl) h
-    stage-on job w output o (Gathers held size piece len frame) un calm same has h = putting-on output o (calm refl) (same refl refl) h
-    stage-on job w output o (Frames held) un calm same has h = putting-on output o (calm refl) (same refl refl) h
-    stage-on job w output o (Wraps held frame) un calm same has h = putting-on output o (calm refl) (same refl refl) h
-    stage-on job w output o (Trims held chunk len frame) un calm same has h = putting-on output o (calm refl) (same refl refl) h
     stage-on job w output o (Ended a held frame) un calm same has h = put-on output o h
     stage-on job w output o (Unholds held frame) un calm same has h = put-on output o h
     stage-on job w output o (Stops held frame) un calm same has h = put-on output o h
@@ -172,3 +163,4 @@ module _ (crew : Crew) (laws : AllLaws crew) (m n : State) (e : Event) (r : Repl
     stage-on job w output o (Returns write) un calm same has h = h
     stage-on job w output o (Lapses j) un calm same has h = h
     stage-on job w output o Fails un calm same has h = h
+    stage-on job w output o s un calm same has h = putting-on output o (calm refl) (same refl refl) h

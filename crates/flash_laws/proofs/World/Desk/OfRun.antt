@@ -23,7 +23,7 @@ use Rattle.flash_laws.specs.Site.{server}
 use Rattle.flash_laws.specs.Stages.{HasWorkerAt, AtDesk, IsPuttingOut, HasPutOut, IsToCome}
 use Rattle.flash_laws.specs.declared.running.Run.{Run}
 use Rattle.flash_laws.specs.declared.running.Step.{Step}
-use Rattle.flash_laws.specs.declared.running.Step.TheVariants.{Gives, Makes, Hands, Lets, Heads, Sending, Hears, Spills, Gathers, Frames, Wraps, Trims, Ended, Unholds, Stops, Unframes, Lasts, WrapsLast, TrimsLast, Unwraps, Returns, Lapses, Fails}
+use Rattle.flash_laws.specs.declared.running.Step.TheVariants.{Gives, Makes, Hands, Sending, Hears, Wraps, Trims, Ended, Unholds, Stops, Unframes, Lasts, WrapsLast, TrimsLast, Unwraps, Returns, Lapses, Fails}
 use Rattle.flash_laws.specs.declared.running.Running.{Running}
 use Rattle.flash_laws.specs.declared.running.Running.TheVariants.{Awaits, Runs, Leaves as Left, Closes}
 use Rattle.flash_laws.proofs.Run.Left.{part-sends}
@@ -131,13 +131,6 @@ module _ (shelf : Shelf) (crew : Crew) (laws : AllLaws crew) where
           from : descriptor n server run.from ≡ Some (on.ReadEnd desk.stage.has.pipe)
           from = (left (Runs run (Hears held frame)) did).fds server run.from (on.ReadEnd desk.stage.has.pipe) desk.stage.has.reads
               (no-position m run.from run.from (on.ReadEnd desk.stage.has.pipe) desk.stage.has.reads refl)
-      running (Lets j) has desk did learns = reading_on (Lets j) desk.seat desk.sits tt tt has did desk.stage learns
-      running Heads has desk did learns = reading_on Heads desk.seat desk.sits tt tt has did desk.stage learns
-      running (Spills a frame) has desk did learns = reading_on (Spills a frame) desk.seat desk.sits tt tt has did desk.stage learns
-      running (Gathers held size piece len frame) has desk did learns = reading_on (Gathers held size piece len frame) desk.seat desk.sits tt tt has did desk.stage learns
-      running (Frames held) has desk did learns = reading_on (Frames held) desk.seat desk.sits tt tt has did desk.stage learns
-      running (Wraps held frame) has desk did learns = reading_on (Wraps held frame) desk.seat desk.sits tt tt has did desk.stage learns
-      running (Trims held chunk len frame) has desk did learns = reading_on (Trims held chunk len frame) desk.seat desk.sits tt tt has did desk.stage learns
       running (Ended a held frame) has desk did learns = ending_calm (Ended a held frame) desk.seat desk.sits tt tt has did desk.stage learns
       running (Unholds held frame) has desk did learns = ending_calm (Unholds held frame) desk.seat desk.sits tt tt has did desk.stage learns
       running (Stops held frame) has desk did learns = ending (Stops held frame) desk.seat desk.sits tt has did
@@ -150,6 +143,7 @@ module _ (shelf : Shelf) (crew : Crew) (laws : AllLaws crew) where
       running (Returns write) has desk did learns = absurd desk.stage
       running (Lapses j) has desk did learns = absurd desk.stage
       running Fails has desk did learns = absurd desk.stage
+      running step has desk did learns = reading_on step desk.seat desk.sits tt tt has did desk.stage learns
 
     by_step : (y : Running) → is_over y ≡ false → HasRun job m w o y → HasWorkerAt crew m seats output o y
         → (y ≡ Awaits → (worker < crew.count) × ((seat : Seat crew.Worker) → slice_get seats worker ≡ Some seat → crew.Free m (crew.desk worker) seat))

@@ -1,7 +1,6 @@
 -- A worker's turn, for the client whose script it runs.
-use Rattle.std.proofs.Common.{inl, inr, ◌≡◌, ◌≢◌, ◌<◌, ℕ, suc, ◌==◌, List, [], ◌∷◌, ◌++◌, ap, ◌∙◌, refl, sym, subst, Option, Some, None, true, false, Bool, slice_get, slice_set}
+use Rattle.std.proofs.Common.{inl, inr, ◌≡◌, ◌≢◌, ◌<◌, ℕ, ◌==◌, List, ◌++◌, ap, ◌∙◌, refl, sym, subst, Option, Some, true, false, Bool, slice_get, slice_set}
 use Rattle.std.specs.Prelude.{◌||◌, ◌&&◌}
-use Rattle.std.specs.List.{list_any}
 use Rattle.iol_core.specs.Numbered.{in_place}
 use Rattle.iol_core.specs.Text.{bytes_of}
 use Rattle.iol_core.specs.State.{State, Connection, descriptor, text, pipe_at}
@@ -19,7 +18,7 @@ use Rattle.flash_laws.specs.ClientKeeping.{has_fd}
 use Rattle.flash_laws.specs.Conn.{Conn}
 use Rattle.flash_laws.specs.Crew.{Crew}
 use Rattle.flash_laws.specs.Past.{Past}
-use Rattle.flash_laws.specs.Places.{is_run_by, runs_at}
+use Rattle.flash_laws.specs.Places.{is_run_by}
 use Rattle.flash_laws.specs.PutsOut as puts
 use Rattle.flash_laws.specs.RunFits.{Progress, HasRun}
 use Rattle.flash_laws.specs.Running.{is_reading, step_fd, ends_of}
@@ -31,34 +30,14 @@ use Rattle.flash_laws.specs.declared.running.Run.{Run}
 use Rattle.flash_laws.specs.declared.running.Step.{Step}
 use Rattle.flash_laws.specs.declared.running.Step.TheVariants.{Gives, Makes, Hands, Lets, Heads, Sending, Hears, Spills, Gathers, Frames, Wraps, Trims, Ended, Unholds, Stops, Unframes, Lasts, WrapsLast, TrimsLast, Unwraps, Returns, Lapses, Fails}
 use Rattle.flash_laws.specs.declared.running.Running.{Running}
-use Rattle.flash_laws.specs.declared.running.Running.TheVariants.{Awaits, Runs, Leaves, Closes}
+use Rattle.flash_laws.specs.declared.running.Running.TheVariants.{Runs, Leaves}
+use Rattle.flash_laws.proofs.Forms.{of}
 use Rattle.flash_laws.proofs.Conn.Answering.{some-inj}
 use Rattle.flash_laws.proofs.Lists.{clash, self}
 use Rattle.flash_laws.proofs.Conn.Uses.{same-number}
 use Rattle.flash_laws.proofs.World.AllLaws.{AllLaws}
 use Rattle.flash_laws.proofs.World.Desk.Leaving.{none-given, none-touched}
 use Rattle.flash_laws.proofs.World.TurnLeaves.{IsCallOf, what-came, IsTurn, IsItsOwn, Touches, leaves-same, set-same, sits-in, not-server, no-call}
-
--- ---- who runs a script
-
--- one for whose client it runs
-pub record RunsFor (clients : List (Option Client)) (k : ℕ) : Type 0 where
-  pub fd : ℕ
-  pub client : Client
-  pub at : in_place clients fd ≡ Some client
-  pub runs : is_run_by client k ≡ true
-
-pub runs-for : (clients : List (Option Client)) (k : ℕ) → list_any (λ o. runs_at k o) clients ≡ true → RunsFor clients k
-runs-for [] k is = absurd (cc (is))
-runs-for (None ∷ xs) k is = (let r = runs-for xs k is in record { fd = suc r.fd; client = r.client; at = r.at; runs = r.runs })
-runs-for (Some x ∷ xs) k is = by (is_run_by x k) refl is (λ u. runs-for xs k u)
-  where
-    by : (b : Bool) → is_run_by x k ≡ b → (b || list_any (λ o. runs_at k o) xs) ≡ true → (list_any (λ o. runs_at k o) xs ≡ true → RunsFor xs k) → RunsFor (Some x ∷ xs) k
-    by true runs u later = record { fd = 0; client = x; at = refl; runs = runs }
-    by false none u later = (let r = later u in record { fd = suc r.fd; client = r.client; at = r.at; runs = r.runs })
-
-abbrev of : Conn → Option Running → List ℕ → Client
-of c run script = record { conn = c; run = run; script = script }
 
 module _ (shelf : Shelf) (crew : Crew) (laws : AllLaws crew) (m n : State) (p : Past) (clients : List (Option Client)) (seats : List (Seat crew.Worker)) (k : ℕ)
     (seat next : Seat crew.Worker) (yields : Bool) (r : Reply) (turn : IsTurn shelf crew m n p clients seats k seat next yields r) where
@@ -121,7 +100,6 @@ module _ (shelf : Shelf) (crew : Crew) (laws : AllLaws crew) (m n : State) (p : 
 
     stage-touches : (s : Step) → in_place clients fd ≡ Some (of x (Some (Runs run s)) script) → (run.worker == k) ≡ true → Stage crew m seat run output o s
         → Touches crew m n clients k seat.by
-    stage-touches (Gives write) at runs h = rests (crew.desk run.worker) h.free
     stage-touches (Makes f) at runs h = rests (crew.desk run.worker) h.ready.free
     stage-touches (Hands j f) at runs h = rests (crew.desk run.worker) h.0.ready.free
     stage-touches (Lets j) at runs h = putting-touches (Lets j) at runs (used (Lets j) refl) h
@@ -133,17 +111,10 @@ module _ (shelf : Shelf) (crew : Crew) (laws : AllLaws crew) (m n : State) (p : 
     stage-touches (Frames held) at runs h = putting-touches (Frames held) at runs (used (Frames held) refl) h
     stage-touches (Wraps held frame) at runs h = putting-touches (Wraps held frame) at runs (used (Wraps held frame) refl) h
     stage-touches (Trims held chunk len frame) at runs h = putting-touches (Trims held chunk len frame) at runs (used (Trims held chunk len frame) refl) h
-    stage-touches (Ended a held frame) at runs h = rests (crew.desk run.worker) h.free
-    stage-touches (Unholds held frame) at runs h = rests (crew.desk run.worker) h.free
-    stage-touches (Stops held frame) at runs h = rests (crew.desk run.worker) h.free
-    stage-touches (Unframes frame held) at runs h = rests (crew.desk run.worker) h.free
-    stage-touches (Lasts held) at runs h = rests (crew.desk run.worker) h.free
-    stage-touches (WrapsLast held size frame) at runs h = rests (crew.desk run.worker) h.free
-    stage-touches (TrimsLast held chunk len frame) at runs h = rests (crew.desk run.worker) h.free
-    stage-touches (Unwraps frame chunk len) at runs h = rests (crew.desk run.worker) h.free
     stage-touches (Returns write) at runs h = absurd h
     stage-touches (Lapses j) at runs h = absurd h
     stage-touches Fails at runs h = absurd h
+    stage-touches s at runs h = rests (crew.desk run.worker) h.free
 
   -- who sits at the desk of a run of worker k
   at-desk : (run : Run) (there : Seat crew.Worker) → (run.worker == k) ≡ true → slice_get seats run.worker ≡ Some there → there ≡ seat
@@ -151,13 +122,10 @@ module _ (shelf : Shelf) (crew : Crew) (laws : AllLaws crew) (m n : State) (p : 
 
   pub client-touches : (fd : ℕ) (x : Conn) (run : Option Running) (script : List ℕ) → in_place clients fd ≡ Some (of x run script) → is_run_by (of x run script) k ≡ true
       → FitsAt shelf crew m p fd (of x run script) seats → Touches crew m n clients k seat.by
-  client-touches fd x None script at runs f = absurd (cc (runs))
   client-touches fd x (Some (Runs run s)) script at runs f =
       stage-touches fd x script run (output_of shelf f.fits.wanted f.fits.script.lines) f.fits.so_far s at runs
       (subst (λ (t : Seat crew.Worker). Stage crew m t run (output_of shelf f.fits.wanted f.fits.script.lines) f.fits.so_far s) (at-desk run f.fits.desk.seat runs f.fits.desk.sits) f.fits.desk.stage)
-  client-touches fd x (Some Awaits) script at runs f = absurd (cc (runs))
-  client-touches fd x (Some (Leaves d)) script at runs f = absurd (cc (runs))
-  client-touches fd x (Some Closes) script at runs f = absurd (cc (runs))
+  client-touches fd x run script at runs f = absurd (cc (runs))
 
   -- ---- what it has then
 
@@ -208,15 +176,6 @@ module _ (shelf : Shelf) (crew : Crew) (laws : AllLaws crew) (m n : State) (p : 
         given-turn f h.0,
         subst (λ (u : State). lie_in crew.jobs (text u server j) ≡ true) (sym (waits (crew.desk run.worker) h.0.ready.free).0) h.1,
       )
-      stage-turn (Lets j) h = putting-turn h
-      stage-turn Heads h = putting-turn h
-      stage-turn (Sending d frame) h = putting-turn h
-      stage-turn (Hears held frame) h = putting-turn h
-      stage-turn (Spills a frame) h = putting-turn h
-      stage-turn (Gathers held size piece len frame) h = putting-turn h
-      stage-turn (Frames held) h = putting-turn h
-      stage-turn (Wraps held frame) h = putting-turn h
-      stage-turn (Trims held chunk len frame) h = putting-turn h
       stage-turn (Ended a held frame) h = put-turn h
       stage-turn (Unholds held frame) h = put-turn h
       stage-turn (Stops held frame) h = put-turn h
@@ -228,6 +187,7 @@ module _ (shelf : Shelf) (crew : Crew) (laws : AllLaws crew) (m n : State) (p : 
       stage-turn (Returns write) h = h
       stage-turn (Lapses j) h = h
       stage-turn Fails h = h
+      stage-turn s h = putting-turn h
 
     -- what the run has stays
     has-turn : (job : ℕ → List ℕ) (w : Wanted) (o : Progress) (y : Running) → HasRun job m w o y → HasRun job n w o y
@@ -241,10 +201,6 @@ module _ (shelf : Shelf) (crew : Crew) (laws : AllLaws crew) (m n : State) (p : 
 
     pub own-fits : (fd : ℕ) (x : Conn) (run : Option Running) (script : List ℕ) → is_run_by (of x run script) k ≡ true → FitsAt shelf crew m p fd (of x run script) seats
         → FitsAt shelf crew n p fd (of x run script) (slice_set seats k next)
-    own-fits fd x None script runs at = absurd (cc (runs))
-    own-fits fd x (Some Awaits) script runs at = absurd (cc (runs))
-    own-fits fd x (Some (Leaves d)) script runs at = absurd (cc (runs))
-    own-fits fd x (Some Closes) script runs at = absurd (cc (runs))
     own-fits fd x (Some (Runs run s)) script runs at = (let f = at.fits in record {
       conn = at.conn;
       fits = record {
@@ -266,3 +222,4 @@ module _ (shelf : Shelf) (crew : Crew) (laws : AllLaws crew) (m n : State) (p : 
         };
       };
     })
+    own-fits fd x run script runs at = absurd (cc (runs))

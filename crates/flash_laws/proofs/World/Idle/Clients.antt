@@ -14,7 +14,7 @@ use Rattle.flash_http.specs.Request.{Answer}
 use Rattle.flash_laws.specs.Answers.{Reads}
 use Rattle.flash_laws.specs.Client.{IsAwaiting, uses_agg, script_wants, conn_wants}
 use Rattle.flash_laws.specs.ClientFits.{FitsAlone, TieAlone}
-use Rattle.flash_laws.specs.Conn.{Conn, most_kept, most_read, name_of, text_of, is_head_only, piece_end, wants}
+use Rattle.flash_laws.specs.Conn.{most_kept, most_read, name_of, text_of, is_head_only, piece_end, wants}
 use Rattle.flash_laws.specs.Crew.{Crew, IsFixedFor}
 use Rattle.flash_laws.specs.Done.{StaysOpen}
 use Rattle.flash_laws.specs.Idle.{WouldWait}
@@ -23,6 +23,7 @@ use Rattle.flash_laws.specs.Site.{server}
 use Rattle.flash_laws.specs.WorldDone.{IsHeldUp}
 use Rattle.flash_laws.specs.declared.doing.Doing.{Doing}
 use Rattle.flash_laws.specs.declared.doing.Doing.TheVariants.{Rests, Got, Opens, Reads as Reading, Shuts, Picks, Spares, Heads, Joins, Sends, Cuts, Offers, Swaps, Sent, Breaks, Drops, Closes, Over}
+use Rattle.flash_laws.proofs.Forms.{at}
 use Rattle.flash_laws.proofs.Conn.Answering.{order-all}
 use Rattle.flash_laws.proofs.Lists.{clash}
 use Rattle.flash_laws.proofs.World.AllLaws.{AllLaws}
@@ -33,9 +34,6 @@ pub record IsAnsweredSoFar (shelf : Shelf) (m : State) (came sent : List ℕ) (c
   pub whole : IsAnswer shelf came (sent ++ bytes_of (conn_at m c).outgoing)
   pub peer : (conn_at m c).peer ≡ None
   pub stays : StaysOpen came
-
-abbrev at : List ℕ → Answer → Doing → Conn
-at kept q d = record { kept = kept; q = q; doing = d }
 
 -- a call that may not be told to wait
 pub goes : (crew : Crew) → AllLaws crew → (m : State) (k : Call) → may_wait k ≡ false → WouldWait m server k → ⊥

@@ -1,6 +1,6 @@
 -- Where everything that the server and its workers poll would block, nothing is left to do.
 use Rattle.std.proofs.Common.{inl, inr, ◌≡◌, ◌<◌, ℕ, suc, ◌+◌, ◌⊎◌, List, [], ◌∷◌, ◌++◌, take, drop, map, ap, ◌∙◌, refl, sym, subst, arith, Option, Some, None, true, false, Bool, slice_get}
-use Rattle.std.specs.Prelude.{option_map, not, ◌&&◌, ◌||◌}
+use Rattle.std.specs.Prelude.{option_map, not, ◌&&◌}
 use Rattle.std.proofs.lemmas.Bool.Decides.{nat_tests}
 use Rattle.std.proofs.lemmas.List.{take-append-drop}
 use Rattle.std.proofs.lemmas.Option.{slice_get-map}
@@ -34,8 +34,9 @@ use Rattle.flash_laws.specs.World.{as_actor}
 use Rattle.flash_laws.specs.WorldDone.{IsHeldUp, IsHeldUpAt, AsksForScript, RunsForHeldUp, AwaitsWorker, IsDone, IdleIsDone}
 use Rattle.flash_laws.specs.declared.running.Running.{Running}
 use Rattle.flash_laws.specs.declared.running.Running.TheVariants.{Awaits}
+use Rattle.flash_laws.proofs.Forms.{of}
 use Rattle.flash_laws.proofs.Conn.Answering.{reads-append}
-use Rattle.flash_laws.proofs.Lists.{clash}
+use Rattle.flash_laws.proofs.Lists.{clash, never_passed}
 use Rattle.flash_laws.proofs.Site.Settling.{filed-same}
 use Rattle.flash_laws.proofs.Site.Sharing.{workers_shared}
 use Rattle.flash_laws.proofs.Site.Standing.{held-open, conn-same}
@@ -44,19 +45,11 @@ use Rattle.flash_laws.proofs.World.Idle.Clients.{IsAnsweredSoFar, alone-left}
 use Rattle.flash_laws.proofs.World.Idle.Runs.{WorkersAreSettled, run-left}
 use Rattle.flash_laws.proofs.World.OwnRun.{wants-run}
 
-abbrev of : Conn → Option Running → List ℕ → Client
-of c run script = record { conn = c; run = run; script = script }
-
 -- the descriptor of a client is open on its connection
 fits-open : (shelf : Shelf) (crew : Crew) (m : State) (came sent : List ℕ) (fd c : ℕ) (conn : Conn) (run : Option Running) (script : List ℕ) (seats : List (Seat crew.Worker))
     → Fits shelf crew m came sent fd c (of conn run script) seats → descriptor m server fd ≡ Some (on.Connection c)
 fits-open shelf crew m came sent fd c conn None script seats f = f.open_on
 fits-open shelf crew m came sent fd c conn (Some y) script seats f = f.open_on
-
--- a client alone is never passed over
-never-passed : (free : Bool) → (free || not false) ≡ false → ⊥
-never-passed true passed = cc (passed)
-never-passed false passed = cc (passed)
 
 -- where scripts are run there are workers
 some-workers : (scripts named : Bool) (count : ℕ) → (scripts && named) ≡ true → scripts ≡ runs_scripts count → 0 < count
@@ -84,7 +77,7 @@ module _ (shelf : Shelf) (crew : Crew) (laws : AllLaws crew) (m : State) (order 
   client-left : (fd c : ℕ) (conn : Conn) (run : Option Running) (script : List ℕ) → Fits shelf crew m (p.came c) (p.sent c) fd c (of conn run script) seats
       → Blocks m server workers clients fd (of conn run script) → Left c (of conn run script)
   client-left fd c conn None script f blocks = elim blocks.1 [
-    | inl passed ↦ absurd (never-passed (has_free workers clients) passed)
+    | inl passed ↦ absurd (never_passed (has_free workers clients) passed)
     | inr step ↦ elim (alone-left shelf crew laws m order fixed (p.came c) (p.sent c) fd c (is_for_script (runs_scripts workers) conn.q) conn.kept script conn.q conn.doing f blocks.0 step) [
       | inl rests ↦ inl (record { answered = rests.0; alone = refl; none = rests.1 })
       | inr held ↦ inr (inl held)

@@ -20,8 +20,8 @@ use Rattle.flash_laws.specs.Served.{Aside, AllFit}
 use Rattle.flash_laws.specs.Shelf.{Shelf, Begins, IsAnswer}
 use Rattle.flash_laws.specs.Site.{net_pool, KeepsSite}
 use Rattle.flash_laws.specs.Tied.{Waits}
-use Rattle.flash_laws.proofs.Lists.{not-equal, self}
-use Rattle.flash_laws.proofs.Site.Pasts.{or-false, or-left}
+use Rattle.flash_laws.proofs.Lists.{not-equal, self, former_of}
+use Rattle.flash_laws.proofs.Site.Pasts.{or-false}
 use Rattle.flash_laws.proofs.Site.Peers.{IsTold}
 use Rattle.flash_laws.proofs.World.AllLaws.{AllLaws}
 use Rattle.flash_laws.proofs.World.Outside.Conns.{Goes, outside}
@@ -152,7 +152,7 @@ module _ (shelf : Shelf) (crew : Crew) (laws : AllLaws crew) where
         closed = (elim did.conn [ inl conn ↦ ap (λ (z : Connection). z.closed) conn ∙ w.closed | inr over ↦ over.1 ]);
         begins = subst (λ (l : List ℕ). Begins shelf l ((p.sent c ++ (if c == c then bytes else [])) ++ bytes_of (conn_at n c).outgoing)) (sym (append-nil (p.came c))) (subst (λ (l : List ℕ). Begins shelf (p.came c) l) total w.begins);
         whole = elim w.whole [
-          | inl gone ↦ inl (or-left (p.gone c) false gone)
+          | inl gone ↦ inl (former_of (p.gone c) false gone)
           | inr all ↦ inr (subst (λ (l : List ℕ). IsAnswer shelf l ((p.sent c ++ (if c == c then bytes else [])) ++ bytes_of (conn_at n c).outgoing)) (sym (append-nil (p.came c))) (subst (λ (l : List ℕ). IsAnswer shelf (p.came c) l) total all))
         ];
       }))
@@ -163,7 +163,7 @@ module _ (shelf : Shelf) (crew : Crew) (laws : AllLaws crew) where
 
       left : IsTold (p.gone c || false) (conn_at n c)
       left still gone = elim did.conn [
-        | inl conn ↦ or-left (p.gone c) false (all.left c (ap (λ (z : Connection). z.closed) (sym conn) ∙ still) (ap (λ (z : Connection). is_gone z.peer) (sym conn) ∙ gone))
+        | inl conn ↦ former_of (p.gone c) false (all.left c (ap (λ (z : Connection). z.closed) (sym conn) ∙ still) (ap (λ (z : Connection). is_gone z.peer) (sym conn) ∙ gone))
         | inr over ↦ (let closed = over.1 in absurd (cc (closed, still)))
       ]
 

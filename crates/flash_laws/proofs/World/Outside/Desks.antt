@@ -1,7 +1,6 @@
 -- What is no call of the server or a worker leaves of the desks, and of the pipes of scripts that run.
-use Rattle.std.proofs.Common.{inl, inr, ◌≡◌, ◌≢◌, ◌<◌, ℕ, List, ap, ◌∙◌, refl, sym, subst, Option, Some, None, true, false, Bool, slice_get}
+use Rattle.std.proofs.Common.{inl, inr, ◌≡◌, ◌≢◌, ◌<◌, ℕ, List, ap, ◌∙◌, refl, sym, subst, Option, Some, true, false, slice_get}
 use Rattle.std.specs.Prelude.{◌||◌}
-use Rattle.iol_core.specs.Numbered.{in_place}
 use Rattle.iol_core.specs.State.{State, descriptor, pipe_at}
 use Rattle.iol_core.specs.Run.{StepsTo}
 use Rattle.iol_core.specs.declared.descriptors.Descriptor.TheVariants as on
@@ -15,10 +14,9 @@ use Rattle.flash_http.specs.Request.{Wanted}
 use Rattle.flash_cgi.specs.Beside.{is_call_of}
 use Rattle.flash_laws.specs.Client.{Client}
 use Rattle.flash_laws.specs.ClientFits.{FitsBy, FitsRun, Fits}
-use Rattle.flash_laws.specs.Conn.{Conn}
 use Rattle.flash_laws.specs.Crew.{Crew, IsFixedFor}
 use Rattle.flash_laws.specs.Past.{Past}
-use Rattle.flash_laws.specs.Places.{is_run_by, runs_at, is_free}
+use Rattle.flash_laws.specs.Places.{is_free}
 use Rattle.flash_laws.specs.PutsOut.{PutsOut}
 use Rattle.flash_laws.specs.RunFits.{Progress, HasPipe, HasStep}
 use Rattle.flash_laws.specs.RunOffers.{is_stopping}
@@ -29,15 +27,13 @@ use Rattle.flash_laws.specs.Site.{server, KeepsSite}
 use Rattle.flash_laws.specs.Stages.{HasPipeOf, IsGiven, IsPuttingOut, Stage}
 use Rattle.flash_laws.specs.declared.running.Run.{Run}
 use Rattle.flash_laws.specs.declared.running.Step.{Step}
-use Rattle.flash_laws.specs.declared.running.Step.TheVariants.{Gives, Makes, Hands, Lets, Heads, Sending, Hears, Spills, Gathers, Frames, Wraps, Trims, Ended, Unholds, Stops, Unframes, Lasts, WrapsLast, TrimsLast, Unwraps, Returns, Lapses, Fails}
+use Rattle.flash_laws.specs.declared.running.Step.TheVariants.{Gives, Makes, Hands, Wraps, Trims, Ended, Unholds, Stops, Unframes, Lasts, WrapsLast, TrimsLast, Unwraps, Returns, Lapses, Fails}
 use Rattle.flash_laws.specs.declared.running.Running.{Running}
-use Rattle.flash_laws.specs.declared.running.Running.TheVariants.{Awaits, Runs, Leaves, Closes}
-use Rattle.flash_laws.proofs.Conn.Answering.{some-inj}
-use Rattle.flash_laws.proofs.Lists.{clash, self, later_of}
-use Rattle.flash_laws.proofs.Site.Pasts.{or-left}
-use Rattle.flash_laws.proofs.Site.Sharing.{runs-one}
-use Rattle.flash_laws.proofs.Conn.Uses.{same-number}
+use Rattle.flash_laws.specs.declared.running.Running.TheVariants.{Runs, Leaves}
+use Rattle.flash_laws.proofs.Forms.{of}
+use Rattle.flash_laws.proofs.Lists.{clash, self, later_of, former_of}
 use Rattle.flash_laws.proofs.World.AllLaws.{AllLaws}
+use Rattle.flash_laws.proofs.World.Desk.Jobs.{reads-jobs}
 use Rattle.flash_laws.proofs.World.Desk.Leaving.{LeavesOne, none-given, none-touched}
 
 -- an end names one pipe
@@ -51,52 +47,7 @@ module _ (crew : Crew) (laws : AllLaws crew) where
       → ((d : ℕ) → is_call_of e d ≡ true → HasNotEnd m d (on.WriteEnd p))
       → ((pipe_at m p).reading || (pipe_at m p).writing) ≡ true → pipe_at n p ≡ pipe_at m p
   pipe-left m n (event.Call d k) r p step reads writes there = laws.pipes.pipe m n d k r p step (reads d (self d)) (writes d (self d)) there
-  pipe-left m n (event.ConnNew q) r p step reads writes there = (laws.the.steps.leaves m n (event.ConnNew q) r step).pipes p refl
-  pipe-left m n (event.Arrive c bytes) r p step reads writes there = (laws.the.steps.leaves m n (event.Arrive c bytes) r step).pipes p refl
-  pipe-left m n (event.PeerClosed c w) r p step reads writes there = (laws.the.steps.leaves m n (event.PeerClosed c w) r step).pipes p refl
-  pipe-left m n (event.Transmit c max) r p step reads writes there = (laws.the.steps.leaves m n (event.Transmit c max) r step).pipes p refl
-  pipe-left m n event.Flush r p step reads writes there = (laws.the.steps.leaves m n event.Flush r step).pipes p refl
-  pipe-left m n event.DropClean r p step reads writes there = (laws.the.steps.leaves m n event.DropClean r step).pipes p refl
-
-  -- ---- a worker reads its jobs
-
-  free-reads : (m : State) (j : ℕ) (seat : Seat crew.Worker) → crew.Free m j seat → descriptor m seat.by 0 ≡ Some (on.ReadEnd j)
-  free-reads m j seat free = (laws.workers.none m j seat free).jobs
-
-  puts-reads : (m : State) (seat : Seat crew.Worker) (run : Run) (output : List ℕ) (o : Progress) → IsPuttingOut crew m seat run output o
-      → descriptor m seat.by 0 ≡ Some (on.ReadEnd (crew.desk run.worker))
-  puts-reads m seat run output o h = by h.puts_out
-    where
-      by : PutsOut crew.turns crew.pools crew.Free crew.Due m (crew.desk run.worker) h.has.pipe seat h.more
-          → descriptor m seat.by 0 ≡ Some (on.ReadEnd (crew.desk run.worker))
-      by (inl due) = laws.workers.reads m (crew.desk run.worker) h.has.pipe seat h.more due
-      by (inr there) = free-reads m (crew.desk run.worker) seat there.free
-
-  stage-reads : (m : State) (seat : Seat crew.Worker) (run : Run) (output : List ℕ) (o : Progress) (s : Step) → Stage crew m seat run output o s
-      → descriptor m seat.by 0 ≡ Some (on.ReadEnd (crew.desk run.worker))
-  stage-reads m seat run output o (Gives write) h = free-reads m (crew.desk run.worker) seat h.free
-  stage-reads m seat run output o (Makes f) h = free-reads m (crew.desk run.worker) seat h.ready.free
-  stage-reads m seat run output o (Hands j f) h = free-reads m (crew.desk run.worker) seat h.0.ready.free
-  stage-reads m seat run output o (Lets j) h = puts-reads m seat run output o h
-  stage-reads m seat run output o Heads h = puts-reads m seat run output o h
-  stage-reads m seat run output o (Sending d frame) h = puts-reads m seat run output o h
-  stage-reads m seat run output o (Hears held frame) h = puts-reads m seat run output o h
-  stage-reads m seat run output o (Spills a frame) h = puts-reads m seat run output o h
-  stage-reads m seat run output o (Gathers held size piece len frame) h = puts-reads m seat run output o h
-  stage-reads m seat run output o (Frames held) h = puts-reads m seat run output o h
-  stage-reads m seat run output o (Wraps held frame) h = puts-reads m seat run output o h
-  stage-reads m seat run output o (Trims held chunk len frame) h = puts-reads m seat run output o h
-  stage-reads m seat run output o (Ended a held frame) h = free-reads m (crew.desk run.worker) seat h.free
-  stage-reads m seat run output o (Unholds held frame) h = free-reads m (crew.desk run.worker) seat h.free
-  stage-reads m seat run output o (Stops held frame) h = free-reads m (crew.desk run.worker) seat h.free
-  stage-reads m seat run output o (Unframes frame held) h = free-reads m (crew.desk run.worker) seat h.free
-  stage-reads m seat run output o (Lasts held) h = free-reads m (crew.desk run.worker) seat h.free
-  stage-reads m seat run output o (WrapsLast held size frame) h = free-reads m (crew.desk run.worker) seat h.free
-  stage-reads m seat run output o (TrimsLast held chunk len frame) h = free-reads m (crew.desk run.worker) seat h.free
-  stage-reads m seat run output o (Unwraps frame chunk len) h = free-reads m (crew.desk run.worker) seat h.free
-  stage-reads m seat run output o (Returns write) h = absurd h
-  stage-reads m seat run output o (Lapses j) h = absurd h
-  stage-reads m seat run output o Fails h = absurd h
+  pipe-left m n e r p step reads writes there = (laws.the.steps.leaves m n e r step).pipes p refl
 
   -- ---- nobody but the server and its worker writes to the pipe of a run, while its output is heard
 
@@ -127,15 +78,6 @@ module _ (crew : Crew) (laws : AllLaws crew) where
     stage-writes job w output o (Gives write) has h going = had-writes write has.0
     stage-writes job w output o (Makes f) has h going = given-writes f h
     stage-writes job w output o (Hands j f) has h going = given-writes f h.0
-    stage-writes job w output o (Lets j) has h going = puts-writes output o h
-    stage-writes job w output o Heads has h going = puts-writes output o h
-    stage-writes job w output o (Sending t frame) has h going = puts-writes output o h
-    stage-writes job w output o (Hears held frame) has h going = puts-writes output o h
-    stage-writes job w output o (Spills a frame) has h going = puts-writes output o h
-    stage-writes job w output o (Gathers held size piece len frame) has h going = puts-writes output o h
-    stage-writes job w output o (Frames held) has h going = puts-writes output o h
-    stage-writes job w output o (Wraps held frame) has h going = puts-writes output o h
-    stage-writes job w output o (Trims held chunk len frame) has h going = puts-writes output o h
     stage-writes job w output o (Ended a held frame) has h going = absurd (cc (going))
     stage-writes job w output o (Unholds held frame) has h going = absurd (cc (going))
     stage-writes job w output o (Stops held frame) has h going = absurd (cc (going))
@@ -147,47 +89,17 @@ module _ (crew : Crew) (laws : AllLaws crew) where
     stage-writes job w output o (Returns write) has h going = absurd h
     stage-writes job w output o (Lapses j) has h going = absurd h
     stage-writes job w output o Fails has h going = absurd h
+    stage-writes job w output o s has h going = puts-writes output o h
 
 -- ---- all desks, and each client
 
-abbrev of : Conn → Option Running → List ℕ → Client
-of c run script = record { conn = c; run = run; script = script }
-
 module _ (shelf : Shelf) (crew : Crew) (laws : AllLaws crew) where
-  -- the worker of a client reads its jobs
-  run-reads : (m : State) (came sent : List ℕ) (fd c : ℕ) (x : Conn) (run : Option Running) (script : List ℕ) (seats : List (Seat crew.Worker)) (j : ℕ)
-      (seat : Seat crew.Worker) → is_run_by (of x run script) j ≡ true → Fits shelf crew m came sent fd c (of x run script) seats → slice_get seats j ≡ Some seat
-      → descriptor m seat.by 0 ≡ Some (on.ReadEnd (crew.desk j))
-  run-reads m came sent fd c x None script seats j seat runs f sits = absurd (cc (runs))
-  run-reads m came sent fd c x (Some Awaits) script seats j seat runs f sits = absurd (cc (runs))
-  run-reads m came sent fd c x (Some (Runs run s)) script seats j seat runs f sits =
-      let here : run.worker ≡ j = same-number run.worker j runs in
-      let mine : f.desk.seat ≡ seat = some-inj f.desk.seat seat (sym f.desk.sits ∙ (ap (λ k. slice_get seats k) here ∙ sits)) in
-      subst (λ k. descriptor m seat.by 0 ≡ Some (on.ReadEnd (crew.desk k))) here
-      (subst (λ (t : Seat crew.Worker). descriptor m t.by 0 ≡ Some (on.ReadEnd (crew.desk run.worker))) mine (stage-reads crew laws m f.desk.seat run _ f.so_far s f.desk.stage))
-  run-reads m came sent fd c x (Some (Leaves d)) script seats j seat runs f sits = absurd (cc (runs))
-  run-reads m came sent fd c x (Some Closes) script seats j seat runs f sits = absurd (cc (runs))
-
   module _ (m n : State) (p : Past) (clients : List (Option Client)) (seats : List (Seat crew.Worker)) (e : Event) (r : Reply) (order : IsOrderly m)
       (fixed : IsFixedFor shelf crew m) (site : KeepsSite m n) (step : StepsTo m e r n) (not_server : is_call_of e server ≡ false)
       (not_worker : (k : ℕ) → k < crew.count → is_call_of e (worker_domain k) ≡ false) (all : AllFit shelf crew m p clients seats) where
     -- whoever calls is neither
     other-than : (d q : ℕ) → is_call_of e d ≡ true → is_call_of e q ≡ false → d ≢ q
     other-than d q is none same = clash (is_call_of e q) (subst (λ z. is_call_of e z ≡ true) same is) none
-
-    -- each worker reads its jobs
-    worker-reads : (k : ℕ) (seat : Seat crew.Worker) → slice_get seats k ≡ Some seat → descriptor m seat.by 0 ≡ Some (on.ReadEnd (crew.desk k))
-    worker-reads k seat sits = by (is_free clients k) refl
-      where
-        at-place : (fd : ℕ) (o : Option Client) → in_place clients fd ≡ o → runs_at k o ≡ true → descriptor m seat.by 0 ≡ Some (on.ReadEnd (crew.desk k))
-        at-place fd None is runs = absurd (cc (runs))
-        at-place fd (Some x) is runs =
-            let f = all.each fd x is in
-            run-reads m (p.came f.conn) (p.sent f.conn) fd f.conn x.conn x.run x.script seats k seat runs f.fits sits
-
-        by : (b : Bool) → is_free clients k ≡ b → descriptor m seat.by 0 ≡ Some (on.ReadEnd (crew.desk k))
-        by true is = free-reads crew laws m (crew.desk k) seat (all.free k seat sits is)
-        by false is = let one = runs-one clients k is in at-place one.place (in_place clients one.place) refl one.passes
 
     -- so whoever calls has no end of a desk's pipe, and leaves it
     pub desk-left : (k : ℕ) → k < crew.count → pipe_at n (crew.desk k) ≡ pipe_at m (crew.desk k)
@@ -196,7 +108,7 @@ module _ (shelf : Shelf) (crew : Crew) (laws : AllLaws crew) where
         reads : (d : ℕ) → is_call_of e d ≡ true → HasNotEnd m d (on.ReadEnd (crew.desk k))
         reads d is g there =
             let sits = all.desks.seated k lt in
-            other-than d (worker_domain k) is (not_worker k lt) ((order.one d sits.0.by g 0 (on.ReadEnd (crew.desk k)) refl there (worker-reads k sits.0 sits.1)).0 ∙ (all.desks.by k sits.0 sits.1).1)
+            other-than d (worker_domain k) is (not_worker k lt) ((order.one d sits.0.by g 0 (on.ReadEnd (crew.desk k)) refl there (reads-jobs shelf crew laws m p clients seats all k sits.0 sits.1)).0 ∙ (all.desks.by k sits.0 sits.1).1)
 
         writes : (d : ℕ) → is_call_of e d ≡ true → HasNotEnd m d (on.WriteEnd (crew.desk k))
         writes d is g there = other-than d server is not_server (order.one d server g (job_pipe k) (on.WriteEnd (crew.desk k)) refl there (all.desks.desks k lt)).0
@@ -204,7 +116,7 @@ module _ (shelf : Shelf) (crew : Crew) (laws : AllLaws crew) where
     -- nor has it an end of the pipe of a run, while its output is heard
     run-left : (fd c : ℕ) (x : Client) (run : Run) (s : Step) (q : ℕ) → Fits shelf crew m (p.came c) (p.sent c) fd c x seats → x.run ≡ Some (Runs run s)
         → descriptor m server run.from ≡ Some (on.ReadEnd q) → is_stopping (Runs run s) ≡ false → pipe_at n q ≡ pipe_at m q
-    run-left fd c x run s q fits runs opens going = pipe-left crew laws m n e r q step reads writes (or-left (pipe_at m q).reading (pipe_at m q).writing (order.all_stand server run.from (on.ReadEnd q) opens))
+    run-left fd c x run s q fits runs opens going = pipe-left crew laws m n e r q step reads writes (former_of (pipe_at m q).reading (pipe_at m q).writing (order.all_stand server run.from (on.ReadEnd q) opens))
       where
         f : FitsRun shelf crew m (p.came c) (p.sent c) fd c x (Runs run s) seats
         f = subst (λ (o : Option Running). FitsBy shelf crew o m (p.came c) (p.sent c) fd c x seats) runs fits

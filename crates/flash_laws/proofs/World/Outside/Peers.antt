@@ -21,8 +21,8 @@ use Rattle.flash_laws.specs.Served.{Ended, Aside, AllFit}
 use Rattle.flash_laws.specs.Shelf.{Shelf, Begins, IsAnswer}
 use Rattle.flash_laws.specs.Site.{KeepsSite}
 use Rattle.flash_laws.specs.Tied.{Waits, Foreign}
-use Rattle.flash_laws.proofs.Lists.{not-equal, self, later_of}
-use Rattle.flash_laws.proofs.Site.Pasts.{or-false, or-left, peer_told}
+use Rattle.flash_laws.proofs.Lists.{not-equal, self, later_of, former_of}
+use Rattle.flash_laws.proofs.Site.Pasts.{or-false, peer_told}
 use Rattle.flash_laws.proofs.Site.Peers.{IsTold, peer-done, over-done}
 use Rattle.flash_laws.proofs.World.AllLaws.{AllLaws}
 use Rattle.flash_laws.proofs.World.Leaving.{Changes}
@@ -73,7 +73,7 @@ module _ (shelf : Shelf) where
       → ((left || gone_by c (event.PeerClosed c w) reply.Done) ≡ true) ⊎ IsAnswer shelf s (sent ++ bytes_of (closed_by k w).outgoing)
   whole-closed k c how.Gone s sent left whole = inl (later_of left (c == c) (self c))
   whole-closed k c how.Done s sent left (inr all) = inr all
-  whole-closed k c how.Done s sent left (inl gone) = inl (or-left left false gone)
+  whole-closed k c how.Done s sent left (inl gone) = inl (former_of left false gone)
 
 module _ (shelf : Shelf) (crew : Crew) (laws : AllLaws crew) where
   pub peer_closes : (m n : State) (p : Past) (clients : List (Option Client)) (seats : List (Seat crew.Worker)) (c : ℕ) (w : How) → IsOrderly m
@@ -109,7 +109,7 @@ module _ (shelf : Shelf) (crew : Crew) (laws : AllLaws crew) where
           → IsTold (p.gone c || gone_by c (event.PeerClosed c w) reply.Done) (conn_at n c)
       left how.Gone step still gone = later_of (p.gone c) (c == c) (self c)
       left how.Done step still gone = elim (peer-done m n c order step) [
-        | inl conn ↦ or-left (p.gone c) false (all.left c (ap (λ (z : Connection). z.closed) (sym conn) ∙ still) (sym (gone-same (is_gone (conn_at m c).peer)) ∙ (ap (λ (z : Connection). is_gone z.peer) (sym conn) ∙ gone)))
+        | inl conn ↦ former_of (p.gone c) false (all.left c (ap (λ (z : Connection). z.closed) (sym conn) ∙ still) (sym (gone-same (is_gone (conn_at m c).peer)) ∙ (ap (λ (z : Connection). is_gone z.peer) (sym conn) ∙ gone)))
         | inr over ↦ (let closed = ap (λ (z : Connection). z.closed) over.0 in absurd (cc (closed, still)))
       ]
 
@@ -121,7 +121,7 @@ module _ (shelf : Shelf) (crew : Crew) (laws : AllLaws crew) where
         | inl conn ↦ (let was = order.waits c waits in let is = ap (λ (z : Connection). z.closed) conn in absurd (cc (was, is, closed)))
         | inr over ↦ elim (over-done (conn_at m c) over.1).1 [
           | inl is ↦ (let was = order.waits c waits in absurd (cc (was, is)))
-          | inr gone ↦ or-left (p.gone c) false (all.left c (order.waits c waits) gone)
+          | inr gone ↦ former_of (p.gone c) false (all.left c (order.waits c waits) gone)
         ]
       ]
 
@@ -130,7 +130,7 @@ module _ (shelf : Shelf) (crew : Crew) (laws : AllLaws crew) where
           → (p.gone c ≡ true) ⊎ IsAnswer shelf (p.came c) (p.sent c ++ bytes_of (conn_at m c).outgoing)
           → ((p.gone c || gone_by c (event.PeerClosed c w) reply.Done) ≡ true) ⊎ IsAnswer shelf (p.came c) (p.sent c ++ bytes_of (conn_at n c).outgoing)
       forgotten how.Gone step none whole = inl (later_of (p.gone c) (c == c) (self c))
-      forgotten how.Done step none (inl gone) = inl (or-left (p.gone c) false gone)
+      forgotten how.Done step none (inl gone) = inl (former_of (p.gone c) false gone)
       forgotten how.Done step none (inr whole) = inr (subst (λ (t : Text). IsAnswer shelf (p.came c) (p.sent c ++ bytes_of t)) same whole)
         where
           same : (conn_at m c).outgoing ≡ (conn_at n c).outgoing
