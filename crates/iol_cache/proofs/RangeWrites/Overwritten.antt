@@ -7,9 +7,8 @@ use Rattle.std.proofs.lemmas.List.FromFn.{get_or-map-range_with_len, length-map-
 use Rattle.iol_back.specs.Disk.{content, overwritten}
 use Rattle.iol_core.specs.Numbered.{is_numbered}
 use Rattle.iol_core.specs.Text as text
-use Rattle.iol_hold.specs.Moves.{Covers, Moves, SameLists, Stays, tally}
+use Rattle.iol_hold.specs.Moves.{Covers, Moves, Stays, tally}
 use Rattle.iol_hold.specs.Places.{byte_len, places}
-use Rattle.iol_hold.specs.Stored.{AllSettled}
 use Rattle.iol_hold.specs.Texts.{bufs_of, byte_at, text_of}
 use Rattle.iol_hold.specs.declared.slices.Slice.{Slice}
 use Rattle.iol_hold.proofs.Counting.{bufs-append, tally-append, tally_none}
@@ -29,7 +28,7 @@ use Rattle.iol_cache.specs.Writing.{Changes, parts_put}
 use Rattle.iol_cache.proofs.Extents.Changed as changed
 use Rattle.iol_cache.proofs.Evictions.GivenUp.{file_stays, read_stays, stored_stays}
 use Rattle.iol_cache.proofs.RangeWrites.Overlaid.{beside_is, last_end-over, map_over, over_is}
-use Rattle.iol_cache.proofs.RangeWrites.Prepared.{prepared_covers, prepared_ends, prepared_laid, prepared_lists, prepared_long, prepared_moves, prepared_settles, prepared_sound}
+use Rattle.iol_cache.proofs.RangeWrites.Prepared.{prepared_covers, prepared_ends, prepared_laid, prepared_long, prepared_moves, prepared_sound}
 use Rattle.iol_cache.proofs.RangeWrites.Replaced.{some-parts}
 use Rattle.iol_cache.proofs.RangeReads.Shared.{length-places_over}
 use Rattle.iol_cache.proofs.Extents.Using.{covers_file}
@@ -238,9 +237,3 @@ module _ (old new : Holding) (f at : ℕ) (source : List Slice) (sound : IsSound
         still = λ h. last.still (first.still h);
         tidy = λ h. last.tidy (first.tidy h);
       }
-
-  pub over_lists : SameLists old.store new.store
-  over_lists = w.puts.lists ∙ prepared_lists w.prepares
-
-  pub over_settles : AllSettled old.store → AllSettled new.store
-  over_settles h = w.puts.settles (prepared_settles w.prepares h)

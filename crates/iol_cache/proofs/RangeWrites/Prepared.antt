@@ -8,7 +8,7 @@ use Rattle.iol_core.specs.declared.limits.TheConstants.{MAX_FILE_BYTES}
 use Rattle.iol_core.specs.declared.numbers.BufId.{BufId}
 use Rattle.iol_hold.specs.Moves.{Covers, Moves, SameLists, Shares, pool_meant, tally}
 use Rattle.iol_hold.specs.Places.{byte_len}
-use Rattle.iol_hold.specs.Stored.{AllSettled, Stored}
+use Rattle.iol_hold.specs.Stored.{Stored}
 use Rattle.iol_hold.specs.Texts.{AllReadable, bufs_of, text_of}
 use Rattle.iol_hold.specs.declared.slices.Slice.{Slice}
 use Rattle.iol_hold.proofs.Counting.{bufs-append, tally-append, tally_none}
@@ -25,7 +25,7 @@ use Rattle.iol_cache.proofs.RangeWrites.Composed.{composed_long}
 use Rattle.iol_cache.proofs.RangeWrites.CutOut.{right_of}
 use Rattle.iol_cache.proofs.RangeReads.Pooled.{pooled_text}
 use Rattle.iol_cache.proofs.RangeReads.Ranged.{tally_len}
-use Rattle.iol_cache.proofs.RangeReads.Shared.{over_readable, readable_same, settles_shares}
+use Rattle.iol_cache.proofs.RangeReads.Shared.{over_readable, readable_same}
 use Rattle.iol_cache.proofs.Extents.Stepping.{sound_on}
 use Rattle.iol_cache.proofs.RangeWrites.Written.{left_len, over_end}
 
@@ -71,9 +71,6 @@ module _ {s t : Stored} {p : ℕ} {es : List Extent} {at : ℕ} {source : List S
 
   pub prepared_pages : page_count t.arena ≡ page_count s.arena
   prepared_pages = ap page_count a.shares.arena ∙ a.composes.pages.pages.count
-
-  pub prepared_settles : AllSettled s → AllSettled t
-  prepared_settles h = settles_shares a.shares (a.composes.settles h)
 
   pub prepared_covers : (bufs : List BufId) → Covers s bufs → Covers t (bufs ++ bufs_of (parts_put left right e))
   prepared_covers bufs c = record { each = λ b. omega (arith, c.each b, prepared_moves.counts.each b, tally_none b, tally-append b bufs (bufs_of (parts_put left right e))) }
