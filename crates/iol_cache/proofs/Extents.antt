@@ -1,4 +1,5 @@
 pub mod Filing
+pub mod Finding
 pub mod Using
 pub mod Extending
 pub mod Adding

@@ -1,5 +1,5 @@
-//! One file of the cache.
-use iol_core::numbers::PoolId;
+//! One file of the cache, and a part of one.
+use iol_core::numbers::{FileId, PoolId};
 use iol_extent::extents::Extents;
 
 /// A file: the pool of its bytes, and those of them that are in memory.
@@ -7,4 +7,12 @@ use iol_extent::extents::Extents;
 pub(crate) struct CachedFile {
     pub(crate) pool: PoolId,
     pub(crate) extents: Extents,
+}
+
+/// A part of a file: its bytes from `from` up to `to`.
+#[derive(Clone, Copy)]
+pub(crate) struct FilePart {
+    pub(crate) file: FileId,
+    pub(crate) from: u32,
+    pub(crate) to: u32,
 }

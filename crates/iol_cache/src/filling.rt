@@ -16,13 +16,13 @@ ghost use Rattle.iol_cache.specs.Sharing.{CountsBelow};
 ghost use Rattle.iol_cache.specs.Weaving.{len_beside};
 ghost use Rattle.iol_cache.specs.Cached.{all_parts};
 
+use crate::files::{CachedFile, FilePart};
 use crate::gaps::{fill_gaps, take_back};
 use crate::weaving::weave;
 use iol_agg::Agg;
 use iol_back::backing::Backing;
-use iol_core::numbers::{FileId, PoolId};
+use iol_core::limits::MAX_FILE_BYTES;
 use iol_core::refusals::Refusal;
-use iol_extent::extents::Extents;
 use iol_extent::spans::Span;
 use iol_hold::Store;
 use std::alloc::Global;
@@ -33,44 +33,61 @@ pub(crate) fn fill_range<B: Backing>(
     alloc: Global,
     store: &mut Store,
     backing: &mut B,
-    extents: &mut Extents,
-    file: FileId,
-    pool: PoolId,
-    from: u32,
-    to: u32,
+    cached: &mut CachedFile,
+    part: &FilePart,
     beside: &Agg,
     gaps: &[Span],
 ) -> Result<Agg, Refusal>
-    requires ordered { from ≤ to }
-    requires apart { IsApart 0 extents.old.extents }
-    requires order { AreInOrder from to gaps.now }
-    requires gaps { All (IsGapSpan extents.old.extents) gaps.now }
-    requires room { length gaps.now ≤ extents.old.room }
-    requires open { (pool_in store.old.pools pool).closed ≡ false }
-    requires held { Covers store.old (bufs_of (all_parts extents.old.extents)) }
-    requires readable { AllReadable store.old (all_parts extents.old.extents) }
-    requires beside_len { byte_len beside.now ≡ len_beside from to gaps.now }
+    requires ordered { part.now.from ≤ part.now.to }
+    requires end { part.now.to ≤ MAX_FILE_BYTES }
+    requires apart { IsApart 0 cached.old.extents.extents }
+    requires order { AreInOrder part.now.from part.now.to gaps.now }
+    requires gaps { All (IsGapSpan cached.old.extents.extents) gaps.now }
+    requires room { length gaps.now ≤ cached.old.extents.room }
+    requires open { (pool_in store.old.pools cached.old.pool).closed ≡ false }
+    requires held { Covers store.old (bufs_of (all_parts cached.old.extents.extents)) }
+    requires readable { AllReadable store.old (all_parts cached.old.extents.extents) }
+    requires beside_len { byte_len beside.now ≡ len_beside part.now.from part.now.to gaps.now }
     requires beside_held { Covers store.old (bufs_of beside.now) }
     requires beside_readable { AllReadable store.old beside.now }
     requires few { CountsBelow store.old (2 ^ 60) }
-    ensures fills { IfOk result (λ a. FillsRange store.old store.new extents.old extents.new pool
-        (places beside.now) gaps.now from to (B.disk backing.old) file a) }
-    ensures apart { IsApart 0 extents.new.extents }
-    ensures same { OnErr result (extents.new ≡ extents.old) }
+    ensures fills { IfOk result (λ a. FillsRange store.old store.new cached.old.extents
+        cached.new.extents cached.old.pool (places beside.now) gaps.now part.now.from part.now.to
+        (B.disk backing.old) part.now.file a) }
+    ensures pool { cached.new.pool ≡ cached.old.pool }
+    ensures apart { IsApart 0 cached.new.extents.extents }
+    ensures same { OnErr result (cached.new ≡ cached.old) }
     ensures none { OnErr result (Moves store.old store.new [] []) }
-    ensures given_back { OnErr result (PlacesSome store.old store.new pool (gap_pages gaps.now)) }
+    ensures given_back { OnErr result
+        (PlacesSome store.old store.new cached.old.pool (gap_pages gaps.now)) }
     ensures lists { SameLists store.old store.new }
     ensures settles { AllSettled store.old → AllSettled store.new }
     ensures no_room { (p : ℕ) → result ≡ Err (Refusal.NoRoom p) →
-        length (free_of store.old pool) < gap_pages gaps.now }
+        length (free_of store.old cached.old.pool) < gap_pages gaps.now }
     ensures disk { Asks (length gaps.now) (B.disk backing.old) (B.disk backing.new) result }
-    ensures late { IfErr result (WantOfRoomOrFault pool file) }
+    ensures late { IfErr result (WantOfRoomOrFault cached.old.pool part.now.file) }
 {
-    if let Err(refusal) = fill_gaps(alloc, store, backing, extents, file, pool, gaps) {
+    if let Err(refusal) = fill_gaps(
+        alloc,
+        store,
+        backing,
+        &mut cached.extents,
+        part.file,
+        cached.pool,
+        gaps,
+    ) {
         return Err(refusal);
     }
-    let Ok(agg) = weave(alloc, extents, store, beside, gaps, from, to) else {
-        take_back(extents, store, gaps);
+    let Ok(agg) = weave(
+        alloc,
+        &cached.extents,
+        store,
+        beside,
+        gaps,
+        part.from,
+        part.to,
+    ) else {
+        take_back(&mut cached.extents, store, gaps);
         return Err(Refusal::Memory);
     };
     Ok(agg)

@@ -21,13 +21,13 @@ ghost use Rattle.iol_cache.specs.Sound.{IsSound};
 ghost use Rattle.iol_cache.specs.Weaving.{IsCoveredBeside, len_beside, places_beside};
 
 use crate::cache::Cache;
+use crate::files::FilePart;
 use crate::filling::fill_range;
 use crate::ranking::{count_hits, enter_all};
 use crate::weaving::share_beside;
 use iol_agg::Agg;
 use iol_back::backing::Backing;
 use iol_core::limits::{MAX_FILE_BYTES, PAGE_BYTES};
-use iol_core::numbers::FileId;
 use iol_core::refusals::Refusal;
 use iol_extent::spans::Span;
 use iol_hold::Store;
@@ -51,36 +51,41 @@ impl Cache {
         &mut self,
         alloc: Global,
         store: &mut Store,
-        file: FileId,
-        from: u32,
-        to: u32,
+        part: &FilePart,
         hits: &[Span],
         gaps: &[Span],
     ) -> Result<Agg, AllocError>
         requires sound { IsSound store.old (cached_of self.old) }
-        requires file { is_numbered self.old.files.items file ≡ true }
+        requires file { is_numbered self.old.files.items part.now.file ≡ true }
         requires few { CountsBelow store.old (2 ^ 59) }
-        requires in_order { AreInOrder from to gaps.now }
-        requires covered { let es = extents_in self.old.files.items file in
-            IsCoveredBeside es from to gaps.now }
-        ensures places { let es = extents_in self.old.files.items file in
-            IfOk result (λ a. places a ≡ places_beside es from to gaps.now) }
+        requires in_order { AreInOrder part.now.from part.now.to gaps.now }
+        requires covered { let es = extents_in self.old.files.items part.now.file in
+            IsCoveredBeside es part.now.from part.now.to gaps.now }
+        ensures places { let es = extents_in self.old.files.items part.now.file in
+            IfOk result (λ a. places a ≡ places_beside es part.now.from part.now.to gaps.now) }
         ensures shares { IfOk result (λ a. Shares store.old store.new [] (bufs_of a)) }
         ensures counted { OnOk result
-            (CountsHits file hits.now (cached_of self.old) (cached_of self.new)) }
+            (CountsHits part.now.file hits.now (cached_of self.old) (cached_of self.new)) }
         ensures err { OnErr result (self.new ≡ self.old) }
         ensures none { OnErr result (Moves store.old store.new [] []) }
         ensures frees { FreesOnly store.old store.new }
         ensures lists { SameLists store.old store.new }
         ensures settles { AllSettled store.old → AllSettled store.new }
     {
-        let place = file.number() as usize - 1;
+        let place = part.file.number() as usize - 1;
         let pool = self.files[place].pool;
-        let pins = share_beside(alloc, &self.files[place].extents, store, gaps, from, to)?;
+        let pins = share_beside(
+            alloc,
+            &self.files[place].extents,
+            store,
+            gaps,
+            part.from,
+            part.to,
+        )?;
         count_hits(
             &mut self.orders[pool.number() as usize - 1],
             &self.files[place].extents,
-            file,
+            part.file,
             hits,
         );
         Ok(pins)
@@ -92,52 +97,49 @@ impl Cache {
         alloc: Global,
         store: &mut Store,
         backing: &mut B,
-        file: FileId,
-        from: u32,
-        to: u32,
+        part: &FilePart,
         beside: &Agg,
         gaps: &[Span],
     ) -> Result<Agg, Refusal>
         requires sound { IsSound store.old (cached_of self.old) }
-        requires file { is_numbered self.old.files.items file ≡ true }
-        requires ordered { from ≤ to }
-        requires end { to ≤ MAX_FILE_BYTES }
-        requires in_order { AreInOrder from to gaps.now }
-        requires gaps { All (IsGapSpan (extents_in self.old.files.items file)) gaps.now }
-        requires beside_len { byte_len beside.now ≡ len_beside from to gaps.now }
+        requires file { is_numbered self.old.files.items part.now.file ≡ true }
+        requires ordered { part.now.from ≤ part.now.to }
+        requires end { part.now.to ≤ MAX_FILE_BYTES }
+        requires in_order { AreInOrder part.now.from part.now.to gaps.now }
+        requires gaps { All (IsGapSpan (extents_in self.old.files.items part.now.file)) gaps.now }
+        requires beside_len { byte_len beside.now ≡ len_beside part.now.from part.now.to gaps.now }
         requires beside_held { Covers store.old (bufs_of beside.now) }
         requires beside_readable { AllReadable store.old beside.now }
-        requires room { length gaps.now ≤ (file_in self.old.files.items file).extents.room }
-        requires entries { let p = (file_in self.old.files.items file).pool in
+        requires room { length gaps.now ≤
+            (file_in self.old.files.items part.now.file).extents.room }
+        requires entries { let p = (file_in self.old.files.items part.now.file).pool in
             length gaps.now ≤ (order_in self.old.orders.items p).room }
         requires few { CountsBelow store.old (2 ^ 60) }
-        ensures filled { IfOk result (FillsFile file from to (places beside.now) gaps.now
-            (B.disk backing.old) (holding store.old self.old) (holding store.new self.new)) }
+        ensures filled { IfOk result (FillsFile part.now.file part.now.from part.now.to
+            (places beside.now) gaps.now (B.disk backing.old) (holding store.old self.old)
+            (holding store.new self.new)) }
         ensures sound { IsSound store.new (cached_of self.new) }
         ensures same { OnErr result (SameButRoom (cached_of self.old) (cached_of self.new)) }
         ensures none { OnErr result (Moves store.old store.new [] []) }
-        ensures given_back { OnErr result
-            (PlacesSome store.old store.new (file_in self.old.files.items file).pool (gap_pages gaps.now)) }
+        ensures given_back { let p = (file_in self.old.files.items part.now.file).pool in
+            OnErr result (PlacesSome store.old store.new p (gap_pages gaps.now)) }
         ensures lists { SameLists store.old store.new }
         ensures settles { AllSettled store.old → AllSettled store.new }
         ensures no_room { (p : ℕ) → result ≡ Err (Refusal.NoRoom p) →
-            length (free_of store.old (file_in self.old.files.items file).pool) <
+            length (free_of store.old (file_in self.old.files.items part.now.file).pool) <
             gap_pages gaps.now }
         ensures disk { Asks (length gaps.now) (B.disk backing.old) (B.disk backing.new) result }
         ensures late { IfErr result
-            (WantOfRoomOrFault (file_in self.old.files.items file).pool file) }
+            (WantOfRoomOrFault (file_in self.old.files.items part.now.file).pool part.now.file) }
     {
-        let place = file.number() as usize - 1;
+        let place = part.file.number() as usize - 1;
         let pool = self.files[place].pool;
         let agg = match fill_range(
             alloc,
             store,
             backing,
-            &mut self.files[place].extents,
-            file,
-            pool,
-            from,
-            to,
+            &mut self.files[place],
+            part,
             beside,
             gaps,
         ) {
@@ -148,7 +150,7 @@ impl Cache {
             &mut self.orders[pool.number() as usize - 1],
             &mut self.marks,
             &self.files[place].extents,
-            file,
+            part.file,
             gaps,
         );
         Ok(agg)
@@ -160,15 +162,13 @@ impl Cache {
         &mut self,
         alloc: Global,
         store: &mut Store,
-        file: FileId,
-        from: u32,
-        to: u32,
+        part: &FilePart,
     ) -> Result<(Agg, Vec<Span>), AllocError>
         requires sound { IsSound store.old (cached_of self.old) }
-        requires file { is_numbered self.old.files.items file ≡ true }
-        requires ordered { from ≤ to }
+        requires file { is_numbered self.old.files.items part.now.file ≡ true }
+        requires ordered { part.now.from ≤ part.now.to }
         requires few { CountsBelow store.old (2 ^ 59) }
-        ensures pinned { IfOk result (λ x. PinsRange file from to
+        ensures pinned { IfOk result (λ x. PinsRange part.now.file part.now.from part.now.to
             (holding store.old self.old) (holding store.new self.new) x.0 x.1.items) }
         ensures sound { IsSound store.new (cached_of self.new) }
         ensures same { OnErr result (SameButRoom (cached_of self.old) (cached_of self.new)) }
@@ -177,10 +177,10 @@ impl Cache {
         ensures lists { SameLists store.old store.new }
         ensures settles { AllSettled store.old → AllSettled store.new }
     {
-        let place = file.number() as usize - 1;
-        let found = self.files[place].extents.find(alloc, from, to)?;
-        self.reserve_places(file, found.gaps.len())?;
-        let pins = self.share_hits(alloc, store, file, from, to, &found.hits, &found.gaps)?;
+        let place = part.file.number() as usize - 1;
+        let found = self.files[place].extents.find(alloc, part.from, part.to)?;
+        self.reserve_places(part.file, found.gaps.len())?;
+        let pins = self.share_hits(alloc, store, part, &found.hits, &found.gaps)?;
         Ok((pins, found.gaps))
     }
 }

@@ -25,6 +25,7 @@ ghost use Rattle.iol_cache.specs.Sound.{IsSound};
 ghost use Rattle.iol_cache.specs.Weaving.{len_beside};
 
 use crate::cache::Cache;
+use crate::files::FilePart;
 use crate::reading::count_pages;
 use iol_agg::Agg;
 use iol_back::backing::Backing;
@@ -43,28 +44,27 @@ impl Cache {
         alloc: Global,
         store: &mut Store,
         backing: &mut B,
-        file: FileId,
-        from: u32,
-        to: u32,
+        part: &FilePart,
         pins: Agg,
         gaps: &[Span],
     ) -> Result<Agg, Refusal>
         requires sound { IsSound store.old (cached_of self.old) }
-        requires file { is_numbered self.old.files.items file ≡ true }
-        requires ordered { from ≤ to }
-        requires end { to ≤ MAX_FILE_BYTES }
-        requires in_order { AreInOrder from to gaps.now }
-        requires gaps { All (IsGapSpan (extents_in self.old.files.items file)) gaps.now }
-        requires pins_len { byte_len pins ≡ len_beside from to gaps.now }
+        requires file { is_numbered self.old.files.items part.now.file ≡ true }
+        requires ordered { part.now.from ≤ part.now.to }
+        requires end { part.now.to ≤ MAX_FILE_BYTES }
+        requires in_order { AreInOrder part.now.from part.now.to gaps.now }
+        requires gaps { All (IsGapSpan (extents_in self.old.files.items part.now.file)) gaps.now }
+        requires pins_len { byte_len pins ≡ len_beside part.now.from part.now.to gaps.now }
         requires held { Covers store.old (held self.old.files.items ++ bufs_of pins) }
         requires readable { AllReadable store.old pins }
-        requires room { length gaps.now ≤ (file_in self.old.files.items file).extents.room }
-        requires entries { let p = (file_in self.old.files.items file).pool in
+        requires room { length gaps.now ≤
+            (file_in self.old.files.items part.now.file).extents.room }
+        requires entries { let p = (file_in self.old.files.items part.now.file).pool in
             length gaps.now ≤ (order_in self.old.orders.items p).room }
         requires few { CountsBelow store.old (2 ^ 60) }
-        ensures filled { IfOk result (FillsAfter file from to pins gaps.now (B.disk backing.old)
-            (holding store.old self.old) (holding store.new self.new)) }
-        ensures undone { IfErr result (UndoesAfter file pins gaps.now
+        ensures filled { IfOk result (FillsAfter part.now.file part.now.from part.now.to pins gaps.now
+            (B.disk backing.old) (holding store.old self.old) (holding store.new self.new)) }
+        ensures undone { IfErr result (UndoesAfter part.now.file pins gaps.now
             (holding store.old self.old) (holding store.new self.new)) }
         ensures readable { IfOk result (AllReadable store.new) }
         ensures goes { IfOk result (λ a. Goes (B.disk backing.old) (bufs_of pins) (bufs_of a)
@@ -72,21 +72,21 @@ impl Cache {
         ensures gone { OnErr result (Goes (B.disk backing.old) (bufs_of pins) []
             (holding store.old self.old) (holding store.new self.new)) }
         ensures sound { IsSound store.new (cached_of self.new) }
-        ensures room { let p = (file_in self.old.files.items file).pool in
+        ensures room { let p = (file_in self.old.files.items part.now.file).pool in
             let wanted = pinned_beside store.old (clean_held self.old.files.items) p +
             gap_pages gaps.now in let all = length (pages_of store.old p) in
             TellsRoom (wanted ≤ all) (all < wanted) result }
         ensures disk { Asks (length gaps.now) (B.disk backing.old) (B.disk backing.new) result }
         ensures late { IfErr result
-            (WantOfRoomOrFault (file_in self.old.files.items file).pool file) }
+            (WantOfRoomOrFault (file_in self.old.files.items part.now.file).pool part.now.file) }
     {
-        let place = file.number() as usize - 1;
+        let place = part.file.number() as usize - 1;
         let pool = self.files[place].pool;
         if !self.make_room(store, pool, count_pages(gaps)) {
             pins.release(store);
             return Err(Refusal::NoRoom { pool });
         }
-        let filled = self.fill(alloc, store, backing, file, from, to, &pins, gaps);
+        let filled = self.fill(alloc, store, backing, part, &pins, gaps);
         pins.release(store);
         filled
     }
@@ -97,18 +97,16 @@ impl Cache {
         alloc: Global,
         store: &mut Store,
         backing: &mut B,
-        file: FileId,
-        from: u32,
-        to: u32,
+        part: &FilePart,
     ) -> Result<Agg, Refusal>
         requires sound { IsSound store.old (cached_of self.old) }
-        requires file { is_numbered self.old.files.items file ≡ true }
-        requires ordered { from ≤ to }
-        requires end { to ≤ MAX_FILE_BYTES }
+        requires file { is_numbered self.old.files.items part.now.file ≡ true }
+        requires ordered { part.now.from ≤ part.now.to }
+        requires end { part.now.to ≤ MAX_FILE_BYTES }
         requires few { CountsBelow store.old (2 ^ 59) }
-        ensures reads { IfOk result (ReadsRange file from to (B.disk backing.old)
-            (holding store.old self.old) (holding store.new self.new)) }
-        ensures refused { IfErr result (LeavesRange file from to
+        ensures reads { IfOk result (ReadsRange part.now.file part.now.from part.now.to
+            (B.disk backing.old) (holding store.old self.old) (holding store.new self.new)) }
+        ensures refused { IfErr result (LeavesRange part.now.file part.now.from part.now.to
             (holding store.old self.old) (holding store.new self.new)) }
         ensures readable { IfOk result (AllReadable store.new) }
         ensures goes { IfOk result (λ a. Goes (B.disk backing.old) [] (bufs_of a)
@@ -117,16 +115,17 @@ impl Cache {
             (holding store.old self.old) (holding store.new self.new)) }
         ensures sound { IsSound store.new (cached_of self.new) }
         ensures room { let old = cached_of self.old in TellsRoom
-            (HasRoom store.old old file from to) (LacksRoom store.old old file from to) result }
+            (HasRoom store.old old part.now.file part.now.from part.now.to)
+            (LacksRoom store.old old part.now.file part.now.from part.now.to) result }
         ensures fault { TellsFault (B.disk backing.old) (B.disk backing.new) result }
         ensures late { IfErr result
-            (WantOfRoomOrFault (file_in self.old.files.items file).pool file) }
+            (WantOfRoomOrFault (file_in self.old.files.items part.now.file).pool part.now.file) }
     {
-        let (pins, gaps) = self.pin(alloc, store, file, from, to)?;
+        let (pins, gaps) = self.pin(alloc, store, part)?;
         if gaps.as_slice().is_empty() {
             return Ok(pins);
         }
-        self.fill_pinned(alloc, store, backing, file, from, to, pins, &gaps)
+        self.fill_pinned(alloc, store, backing, part, pins, &gaps)
     }
 
     // The end of a file: that of what the store tells of it, or of the last extent.
@@ -206,6 +205,7 @@ impl Cache {
         let end = self.file_end(backing, file);
         let from = at.min(end);
         let to = from + count.min(end - from);
-        self.read_range(alloc, store, backing, file, from, to)
+        let part = FilePart { file, from, to };
+        self.read_range(alloc, store, backing, &part)
     }
 }

@@ -10,7 +10,7 @@ use Rattle.iol_cache.specs.Cache.{cached_of}
 use Rattle.iol_cache.specs.Going.{CountsHits}
 use Rattle.iol_cache.specs.Sound.{IsSound}
 use Rattle.iol_cache.specs.Weaving.{IsCoveredBeside, places_beside}
-use Rattle.iol_cache.proofs.Extents.Filing.{file_at_number, numbered_bounds}
+use Rattle.iol_cache.proofs.Extents.Finding.{file_here}
 use Rattle.iol_cache.proofs.Evictions.Roomy.{sound_same, sound_hits}
 use Rattle.iol_cache.proofs.Extents.Stepping.{sound_on, sound_to}
 use Rattle.iol_cache.proofs.Extents.Steps.{hits_entries_left, numbered_same}
@@ -21,11 +21,11 @@ use Rattle.iol_cache.proofs.cache.Cache.pin.Goals as goal
 pub share_hits-requires-clause-covered : goal.share_hits-requires-clause-covered
 share_hits-requires-clause-covered c =
     let fs = c.args.self.now.files.items in
-    let x = file_at_number fs c.args.file c.number.result c.index.result.now c.number.ensures (numbered_bounds fs c.args.file c.requires.file) c.index.ensures in
-    let tile = subst (λ (y : CachedFile). Tile y.extents.extents c.args.from c.args.to c.in_ok-found.found.hits.items c.in_ok-found.found.gaps.items) x c.in_ok-found.ensures in
-    let beside = tile_beside (extents_in fs c.args.file) c.args.from c.args.to c.in_ok-found.found.hits.items c.in_ok-found.found.gaps.items tile in
-    let here = subst (λ (es : List Extent). IsCoveredBeside es c.args.from c.args.to c.in_ok-found.found.gaps.items) (sym (c.reserve_places.ensures.same.extents c.args.file)) beside in
-    subst (λ (gs : List Span). IsCoveredBeside (extents_in c.reserve_places.new.self.files.items c.args.file) c.args.from c.args.to gs) (sym c.deref-2.ensures.value) here
+    let x = file_here _ c.number.ensures c.index.ensures c.requires.file in
+    let tile = subst (λ (y : CachedFile). Tile y.extents.extents c.args.part.now.from c.args.part.now.to c.in_ok-found.found.hits.items c.in_ok-found.found.gaps.items) x c.in_ok-found.ensures in
+    let beside = tile_beside (extents_in fs c.args.part.now.file) c.args.part.now.from c.args.part.now.to c.in_ok-found.found.hits.items c.in_ok-found.found.gaps.items tile in
+    let here = subst (λ (es : List Extent). IsCoveredBeside es c.args.part.now.from c.args.part.now.to c.in_ok-found.found.gaps.items) (sym (c.reserve_places.ensures.same.extents c.args.part.now.file)) beside in
+    subst (λ (gs : List Span). IsCoveredBeside (extents_in c.reserve_places.new.self.files.items c.args.part.now.file) c.args.part.now.from c.args.part.now.to gs) (sym c.deref-2.ensures.value) here
 
 pub returns-in_err-reserve_places-clause-sound : goal.returns-in_err-reserve_places-clause-sound
 returns-in_err-reserve_places-clause-sound c = sound_same c.args.store.now (cached_of c.args.self.now) (cached_of c.reserve_places.new.self) c.requires.sound c.reserve_places.ensures.same
@@ -43,25 +43,24 @@ returns-in_err-pins-clause-sound c =
 
 pub returns-clause-pinned : goal.returns-clause-pinned
 returns-clause-pinned c =
-    let fs = c.args.self.now.files.items in
     let s = c.args.store.now in
     let now = cached_of c.reserve_places.new.self in
     let next = cached_of c.share_hits.new.self in
     let found = c.in_ok-found.found in
-    let x = file_at_number fs c.args.file c.number.result c.index.result.now c.number.ensures (numbered_bounds fs c.args.file c.requires.file) c.index.ensures in
+    let x = file_here _ c.number.ensures c.index.ensures c.requires.file in
     let same = c.reserve_places.ensures.same in
     let sound = sound_same s (cached_of c.args.self.now) now c.requires.sound same in
-    let counted = subst (λ (hs : List Span). CountsHits c.args.file hs now next) c.deref.ensures.value c.in_ok-pins.ensures.counted in
+    let counted = subst (λ (hs : List Span). CountsHits c.args.part.now.file hs now next) c.deref.ensures.value c.in_ok-pins.ensures.counted in
     record {
       hits = found.hits.items;
-      tile = subst (λ (y : CachedFile). Tile y.extents.extents c.args.from c.args.to found.hits.items found.gaps.items) x c.in_ok-found.ensures;
-      lies = c.in_ok-pins.ensures.places ∙ ap (places_beside (extents_in now.files c.args.file) c.args.from c.args.to) c.deref-2.ensures.value ∙ ap (λ (es : List Extent). places_beside es c.args.from c.args.to found.gaps.items) (same.extents c.args.file);
+      tile = subst (λ (y : CachedFile). Tile y.extents.extents c.args.part.now.from c.args.part.now.to found.hits.items found.gaps.items) x c.in_ok-found.ensures;
+      lies = c.in_ok-pins.ensures.places ∙ ap (places_beside (extents_in now.files c.args.part.now.file) c.args.part.now.from c.args.part.now.to) c.deref-2.ensures.value ∙ ap (λ (es : List Extent). places_beside es c.args.part.now.from c.args.part.now.to found.gaps.items) (same.extents c.args.part.now.file);
       shares = c.in_ok-pins.ensures.shares;
       reserved = now;
       rooms = same;
       counted = counted;
-      space = omega (arith, c.len.ensures, c.in_ok-reserve_places.ensures.extents, ap (λ gs. (file_in gs c.args.file).extents.room) counted.files);
-      entries = hits_entries_left s now next c.args.file (length found.gaps.items) found.hits.items sound (numbered_same (cached_of c.args.self.now) now c.args.file same c.requires.file) counted (omega (arith, c.len.ensures, c.in_ok-reserve_places.ensures.entries, ap (λ p. (order_in now.orders p).room) (same.pools c.args.file)));
+      space = omega (arith, c.len.ensures, c.in_ok-reserve_places.ensures.extents, ap (λ gs. (file_in gs c.args.part.now.file).extents.room) counted.files);
+      entries = hits_entries_left s now next c.args.part.now.file (length found.gaps.items) found.hits.items sound (numbered_same (cached_of c.args.self.now) now c.args.part.now.file same c.requires.file) counted (omega (arith, c.len.ensures, c.in_ok-reserve_places.ensures.entries, ap (λ p. (order_in now.orders p).room) (same.pools c.args.part.now.file)));
     }
 
 pub returns-clause-sound : goal.returns-clause-sound
@@ -74,4 +73,4 @@ returns-clause-sound c =
     let sound = sound_same s (cached_of c.args.self.now) now c.requires.sound same in
     let shares = c.in_ok-pins.ensures.shares in
     let sound-t = sound_on s t now sound (shares_move shares) (still_covers sound.covered shares) c.share_hits.ensures.lists c.share_hits.ensures.frees.count in
-    sound_hits t now next c.args.file c.deref.result.now sound-t (numbered_same (cached_of c.args.self.now) now c.args.file same c.requires.file) c.in_ok-pins.ensures.counted
+    sound_hits t now next c.args.part.now.file c.deref.result.now sound-t (numbered_same (cached_of c.args.self.now) now c.args.part.now.file same c.requires.file) c.in_ok-pins.ensures.counted

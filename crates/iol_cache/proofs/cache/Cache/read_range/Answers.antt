@@ -42,14 +42,14 @@ returns-then-is_empty-clause-reads g c =
     let pins = c.in_ok-pins.pins in
     let items = c.in_ok-pins.gaps.items in
     let none = none_of c.as_slice.result.now items c.is_empty.result c.is_empty.ensures c.if-is_empty.true c.as_slice.ensures.value in
-    let whole : CompletesRange c.args.file c.args.from c.args.to pins items d hit hit pins = inl (record { none = none; all = refl; same = refl }) in
+    let whole : CompletesRange c.args.part.now.file c.args.part.now.from c.args.part.now.to pins items d hit hit pins = inl (record { none = none; all = refl; same = refl }) in
     record {
       pins = pins;
       gaps = items;
       hit = hit;
       pinned = c.in_ok-pins.ensures.pinned;
       completed = whole;
-      lies = lies_read c.args.file c.args.from c.args.to old hit pins items c.requires.sound c.requires.file c.in_ok-pins.ensures.pinned d hit pins whole;
+      lies = lies_read c.args.part.now.file c.args.part.now.from c.args.part.now.to old hit pins items c.requires.sound c.requires.file c.in_ok-pins.ensures.pinned d hit pins whole;
       answers = λ some. absurd (omega (arith, some, ap length none));
     }
 
@@ -57,23 +57,23 @@ pub returns-then-is_empty-clause-readable : goal.returns-then-is_empty-clause-re
 returns-then-is_empty-clause-readable g c =
     let old = holding c.args.store.now c.args.self.now in
     let hit = holding c.pin.new.store c.pin.new.self in
-    readable_hit c.args.file c.args.from c.args.to old hit c.in_ok-pins.pins c.in_ok-pins.gaps.items c.requires.sound c.requires.file c.in_ok-pins.ensures.pinned
+    readable_hit c.args.part.now.file c.args.part.now.from c.args.part.now.to old hit c.in_ok-pins.pins c.in_ok-pins.gaps.items c.requires.sound c.requires.file c.in_ok-pins.ensures.pinned
 
 pub returns-then-is_empty-clause-goes : goal.returns-then-is_empty-clause-goes
 returns-then-is_empty-clause-goes g c =
     let old = holding c.args.store.now c.args.self.now in
     let hit = holding c.pin.new.store c.pin.new.self in
-    goes_hit c.args.file c.args.from c.args.to old hit c.in_ok-pins.pins c.in_ok-pins.gaps.items c.requires.sound c.requires.file c.in_ok-pins.ensures.pinned (g.B.Backing.disk c.args.backing.now)
+    goes_hit c.args.part.now.file c.args.part.now.from c.args.part.now.to old hit c.in_ok-pins.pins c.in_ok-pins.gaps.items c.requires.sound c.requires.file c.in_ok-pins.ensures.pinned (g.B.Backing.disk c.args.backing.now)
 
 pub returns-then-is_empty-clause-room : goal.returns-then-is_empty-clause-room
 returns-then-is_empty-clause-room g c =
     let old = holding c.args.store.now c.args.self.now in
     let hit = holding c.pin.new.store c.pin.new.self in
     let items = c.in_ok-pins.gaps.items in
-    let p = (file_in hit.cache.files c.args.file).pool in
+    let p = (file_in hit.cache.files c.args.part.now.file).pool in
     let none = none_of c.as_slice.result.now items c.is_empty.result c.is_empty.ensures c.if-is_empty.true c.as_slice.ensures.value in
     let r : Result (List Slice) Refusal = Ok c.in_ok-pins.pins in
-    room_hit c.args.file c.args.from c.args.to old hit c.in_ok-pins.pins items c.requires.sound c.requires.file c.in_ok-pins.ensures.pinned r
+    room_hit c.args.part.now.file c.args.part.now.from c.args.part.now.to old hit c.in_ok-pins.pins items c.requires.sound c.requires.file c.in_ok-pins.ensures.pinned r
     (omega (arith, ap gap_pages none, at_most hit.store (clean_held hit.cache.files) (pages_of hit.store p)))
 
 -- With gaps.
@@ -82,25 +82,25 @@ pub fill_pinned-requires-clause-pins_len : goal.fill_pinned-requires-clause-pins
 fill_pinned-requires-clause-pins_len g c =
     let old = holding c.args.store.now c.args.self.now in
     let hit = holding c.pin.new.store c.pin.new.self in
-    len_hit c.args.file c.args.from c.args.to old hit c.in_ok-pins.pins c.in_ok-pins.gaps.items c.requires.sound c.requires.file c.in_ok-pins.ensures.pinned ∙ ap (len_beside c.args.from c.args.to) (sym c.deref.ensures.value)
+    len_hit c.args.part.now.file c.args.part.now.from c.args.part.now.to old hit c.in_ok-pins.pins c.in_ok-pins.gaps.items c.requires.sound c.requires.file c.in_ok-pins.ensures.pinned ∙ ap (len_beside c.args.part.now.from c.args.part.now.to) (sym c.deref.ensures.value)
 
 pub fill_pinned-requires-clause-held : goal.fill_pinned-requires-clause-held
 fill_pinned-requires-clause-held g c =
     let old = holding c.args.store.now c.args.self.now in
     let hit = holding c.pin.new.store c.pin.new.self in
-    covers_hit c.args.file c.args.from c.args.to old hit c.in_ok-pins.pins c.in_ok-pins.gaps.items c.requires.sound c.requires.file c.in_ok-pins.ensures.pinned
+    covers_hit c.args.part.now.file c.args.part.now.from c.args.part.now.to old hit c.in_ok-pins.pins c.in_ok-pins.gaps.items c.requires.sound c.requires.file c.in_ok-pins.ensures.pinned
 
 pub fill_pinned-requires-clause-readable : goal.fill_pinned-requires-clause-readable
 fill_pinned-requires-clause-readable g c =
     let old = holding c.args.store.now c.args.self.now in
     let hit = holding c.pin.new.store c.pin.new.self in
-    readable_hit c.args.file c.args.from c.args.to old hit c.in_ok-pins.pins c.in_ok-pins.gaps.items c.requires.sound c.requires.file c.in_ok-pins.ensures.pinned
+    readable_hit c.args.part.now.file c.args.part.now.from c.args.part.now.to old hit c.in_ok-pins.pins c.in_ok-pins.gaps.items c.requires.sound c.requires.file c.in_ok-pins.ensures.pinned
 
 pub fill_pinned-requires-clause-few : goal.fill_pinned-requires-clause-few
 fill_pinned-requires-clause-few g c =
     let old = holding c.args.store.now c.args.self.now in
     let hit = holding c.pin.new.store c.pin.new.self in
-    few_hit c.args.file c.args.from c.args.to old hit c.in_ok-pins.pins c.in_ok-pins.gaps.items c.requires.sound c.requires.file c.in_ok-pins.ensures.pinned (let f = c.ranges.to.fits in omega (arith, f)) c.requires.few
+    few_hit c.args.part.now.file c.args.part.now.from c.args.part.now.to old hit c.in_ok-pins.pins c.in_ok-pins.gaps.items c.requires.sound c.requires.file c.in_ok-pins.ensures.pinned (omega (arith, c.requires.end)) c.requires.few
 
 pub returns-clause-reads : goal.returns-clause-reads
 returns-clause-reads g c =
@@ -112,19 +112,19 @@ returns-clause-reads g c =
     let gaps = c.deref.result.now in
     let items = c.in_ok-pins.gaps.items in
     let r = c.fill_pinned.result in
-    let filled : List Slice → Type 0 = λ xs. FillsAfter c.args.file c.args.from c.args.to pins gaps d hit new xs in
+    let filled : List Slice → Type 0 = λ xs. FillsAfter c.args.part.now.file c.args.part.now.from c.args.part.now.to pins gaps d hit new xs in
     let answers : List Slice → Type 0 = λ xs. 0 < length gaps → d.failures < last_failure in
     let asked = c.fill_pinned.ensures.disk in
     let both = ok_both filled answers r c.fill_pinned.ensures.filled (asks_ok (length gaps) d (g.B.Backing.disk c.fill_pinned.new.backing) r asked.counts) in
-    IfOk-weaker r (λ xs. filled xs × answers xs) (ReadsRange c.args.file c.args.from c.args.to d old new) (λ xs h.
-    let here = subst (λ (l : List Span). FillsAfter c.args.file c.args.from c.args.to pins l d hit new xs) c.deref.ensures.value h.0 in
+    IfOk-weaker r (λ xs. filled xs × answers xs) (ReadsRange c.args.part.now.file c.args.part.now.from c.args.part.now.to d old new) (λ xs h.
+    let here = subst (λ (l : List Span). FillsAfter c.args.part.now.file c.args.part.now.from c.args.part.now.to pins l d hit new xs) c.deref.ensures.value h.0 in
     record {
       pins = pins;
       gaps = items;
       hit = hit;
       pinned = c.in_ok-pins.ensures.pinned;
       completed = inr here;
-      lies = lies_read c.args.file c.args.from c.args.to old hit pins items c.requires.sound c.requires.file c.in_ok-pins.ensures.pinned d new xs (inr here);
+      lies = lies_read c.args.part.now.file c.args.part.now.from c.args.part.now.to old hit pins items c.requires.sound c.requires.file c.in_ok-pins.ensures.pinned d new xs (inr here);
       answers = λ some. h.1 (omega (arith, some, ap length c.deref.ensures.value));
     }) both
 
@@ -134,17 +134,17 @@ returns-clause-refused g c =
     let new = holding c.fill_pinned.new.store c.fill_pinned.new.self in
     let old = holding c.args.store.now c.args.self.now in
     let gaps = c.deref.result.now in
-    let p = (file_in hit.cache.files c.args.file).pool in
+    let p = (file_in hit.cache.files c.args.part.now.file).pool in
     let wanted = pinned_beside hit.store (clean_held hit.cache.files) p + gap_pages gaps in
     let all = length (pages_of hit.store p) in
-    told_late (length gaps) (g.B.Backing.disk c.args.backing.now) (g.B.Backing.disk c.fill_pinned.new.backing) (wanted ≤ all) (all < wanted) c.fill_pinned.result (LeavesRange c.args.file c.args.from c.args.to old new) c.fill_pinned.ensures.disk.counts c.fill_pinned.ensures.room (λ y faults roomy u. inr (record {
+    told_late (length gaps) (g.B.Backing.disk c.args.backing.now) (g.B.Backing.disk c.fill_pinned.new.backing) (wanted ≤ all) (all < wanted) c.fill_pinned.result (LeavesRange c.args.part.now.file c.args.part.now.from c.args.part.now.to old new) c.fill_pinned.ensures.disk.counts c.fill_pinned.ensures.room (λ y faults roomy u. inr (record {
       pins = c.in_ok-pins.pins;
       gaps = c.in_ok-pins.gaps.items;
       faults = λ n is. omega (arith, faults n is, ap length c.deref.ensures.value);
       roomy = λ q is. omega (arith, some_lacked hit.store (clean_held hit.cache.files) p gaps (roomy q is), ap length c.deref.ensures.value);
       hit = hit;
       pinned = c.in_ok-pins.ensures.pinned;
-      undone = subst (λ (l : List Span). UndoesAfter c.args.file c.in_ok-pins.pins l hit new y) c.deref.ensures.value u;
+      undone = subst (λ (l : List Span). UndoesAfter c.args.part.now.file c.in_ok-pins.pins l hit new y) c.deref.ensures.value u;
     })) c.fill_pinned.ensures.undone
 
 pub returns-clause-goes : goal.returns-clause-goes
@@ -154,7 +154,7 @@ returns-clause-goes g c =
     let hit = holding c.pin.new.store c.pin.new.self in
     let new = holding c.fill_pinned.new.store c.fill_pinned.new.self in
     let pins = c.in_ok-pins.pins in
-    let first = goes_hit c.args.file c.args.from c.args.to old hit pins c.in_ok-pins.gaps.items c.requires.sound c.requires.file c.in_ok-pins.ensures.pinned d in
+    let first = goes_hit c.args.part.now.file c.args.part.now.from c.args.part.now.to old hit pins c.in_ok-pins.gaps.items c.requires.sound c.requires.file c.in_ok-pins.ensures.pinned d in
     IfOk-weaker c.fill_pinned.result (λ a. Goes d (bufs_of pins) (bufs_of a) hit new) (λ a. Goes d [] (bufs_of a) old new) (λ xs h. goes_trans d [] (bufs_of pins) (bufs_of xs) old hit new first h) c.fill_pinned.ensures.goes
 
 pub returns-clause-gone : goal.returns-clause-gone
@@ -164,17 +164,17 @@ returns-clause-gone g c =
     let hit = holding c.pin.new.store c.pin.new.self in
     let new = holding c.fill_pinned.new.store c.fill_pinned.new.self in
     let pins = c.in_ok-pins.pins in
-    let first = goes_hit c.args.file c.args.from c.args.to old hit pins c.in_ok-pins.gaps.items c.requires.sound c.requires.file c.in_ok-pins.ensures.pinned d in
+    let first = goes_hit c.args.part.now.file c.args.part.now.from c.args.part.now.to old hit pins c.in_ok-pins.gaps.items c.requires.sound c.requires.file c.in_ok-pins.ensures.pinned d in
     on_err_weaker c.fill_pinned.result (λ h. goes_trans d [] (bufs_of pins) [] old hit new first h) c.fill_pinned.ensures.gone
 
 pub returns-clause-room : goal.returns-clause-room
 returns-clause-room g c =
     let old = holding c.args.store.now c.args.self.now in
     let hit = holding c.pin.new.store c.pin.new.self in
-    let p = (file_in hit.cache.files c.args.file).pool in
+    let p = (file_in hit.cache.files c.args.part.now.file).pool in
     let pinned = pinned_beside hit.store (clean_held hit.cache.files) p in
     let all = length (pages_of hit.store p) in
-    room_hit c.args.file c.args.from c.args.to old hit c.in_ok-pins.pins c.in_ok-pins.gaps.items c.requires.sound c.requires.file c.in_ok-pins.ensures.pinned c.fill_pinned.result
+    room_hit c.args.part.now.file c.args.part.now.from c.args.part.now.to old hit c.in_ok-pins.pins c.in_ok-pins.gaps.items c.requires.sound c.requires.file c.in_ok-pins.ensures.pinned c.fill_pinned.result
     (subst (λ (l : List Span). TellsRoom (pinned + gap_pages l ≤ all) (all < pinned + gap_pages l) c.fill_pinned.result) c.deref.ensures.value c.fill_pinned.ensures.room)
 
 pub returns-clause-fault : goal.returns-clause-fault
