@@ -28,6 +28,14 @@ impl Model for Edge {
     ghost view = { λ e. record { at = e.at; parts = e.agg; dirty = e.dirty } };
 }
 
+/// What comes in place of a range: the parts of extents on both sides of it, and its bytes.
+#[derive(Drop)]
+pub(crate) struct Replacement {
+    pub(crate) left: Edge,
+    pub(crate) right: Edge,
+    pub(crate) bytes: Edge,
+}
+
 /// Shares what the extent over `from` has before it.
 pub(crate) fn cut_left(
     alloc: Global,

@@ -14,7 +14,7 @@ ghost use Rattle.iol_hold.specs.Texts.{AllReadable, bufs_of};
 ghost use Rattle.iol_pool.specs.Pools.{pool_in};
 
 use crate::composing::compose;
-use crate::cutting::{Edge, cut_left, cut_right};
+use crate::cutting::{Edge, Replacement, cut_left, cut_right};
 use iol_agg::Agg;
 use iol_core::limits::MAX_AGGREGATE_BYTES;
 use iol_core::numbers::PoolId;
@@ -32,7 +32,7 @@ pub(crate) fn prepare(
     pool: PoolId,
     at: u32,
     source: &Agg,
-) -> Result<(Edge, Edge, Edge), Refusal>
+) -> Result<Replacement, Refusal>
     requires some { 0 < byte_len source.now }
     requires small { byte_len source.now ≤ MAX_AGGREGATE_BYTES }
     requires fits { at + byte_len source.now < 2 ^ 32 }
@@ -44,7 +44,7 @@ pub(crate) fn prepare(
     requires all_readable { AllReadable store.old (all_parts extents.now.extents) }
     requires tidy { IsTidy store.old }
     ensures prepares { IfOk result (λ x. Prepares store.old store.new pool extents.now.extents
-        at source.now x.0 x.1 x.2) }
+        at source.now x.left x.right x.bytes) }
     ensures none { OnErr result (Moves store.old store.new [] []) }
     ensures given_back { OnErr result (PlacesSome store.old store.new pool (copied_pages pool source.now)) }
     ensures lists { SameLists store.old store.new }
@@ -66,10 +66,10 @@ pub(crate) fn prepare(
         agg.release(store);
         return Err(Refusal::Memory);
     };
-    let new = Edge {
+    let bytes = Edge {
         at,
         agg,
         dirty: true,
     };
-    Ok((left, right, new))
+    Ok(Replacement { left, right, bytes })
 }

@@ -7,6 +7,7 @@ ghost use Rattle.iol_cache.specs.Cutting.{CutsLeft, CutsRight};
 ghost use Rattle.iol_cache.specs.Marks.{AreWithin, HasMarksLeft};
 ghost use Rattle.iol_cache.specs.Reading.{RanksFile};
 ghost use Rattle.iol_cache.specs.Replacing.{HaveClean, IsReady, Reindexes, all_forgotten, forgotten, put_some, remembered, reordered};
+ghost use Rattle.iol_cache.specs.Writing.{parts_put};
 ghost use Rattle.iol_extent.specs.Extents.{Adds, IsApart, IsGap, begins_at, end_of, last_end, meets, unmet, without_at};
 ghost use Rattle.iol_hold.specs.Moves.{Covers, Moves, SameLists};
 ghost use Rattle.iol_hold.specs.Places.{byte_len};
@@ -14,7 +15,7 @@ ghost use Rattle.iol_hold.specs.Releases.{FreesOnly};
 ghost use Rattle.iol_hold.specs.Stored.{AllSettled};
 ghost use Rattle.iol_hold.specs.Texts.{AllReadable, bufs_of};
 
-use crate::cutting::Edge;
+use crate::cutting::{Edge, Replacement};
 use crate::marks::CleanHolds;
 use iol_core::numbers::FileId;
 use iol_evict::order::Order;
@@ -170,43 +171,41 @@ pub(crate) fn replace_range(
     store: &mut Store,
     file: FileId,
     range: Span,
-    left: Edge,
-    right: Edge,
-    new: Edge,
+    put: Replacement,
 )
     requires some { range.from < range.to }
-    requires left { CutsLeft extents.old.extents range.from left }
-    requires right { CutsRight extents.old.extents range.to right }
-    requires begins { new.at ≡ range.from }
-    requires ends { end_of new ≡ range.to }
-    requires fits { end_of right < 2 ^ 32 }
+    requires left { CutsLeft extents.old.extents range.from put.left }
+    requires right { CutsRight extents.old.extents range.to put.right }
+    requires begins { put.bytes.at ≡ range.from }
+    requires ends { end_of put.bytes ≡ range.to }
+    requires fits { end_of put.right < 2 ^ 32 }
     requires apart { IsApart 0 extents.old.extents }
     requires ranked { RanksFile order.old file extents.old.extents }
     requires ready { IsReady order.old extents.old.extents }
     requires pages { length marks.old ≡ page_count store.old.arena }
     requires marked { HaveClean marks.old extents.old.extents }
-    requires few { HasMarksLeft marks.old (left.parts ++ (right.parts ++ new.parts)) }
+    requires few { HasMarksLeft marks.old (parts_put put.left put.right put.bytes) }
     requires held { Covers store.old (bufs_of (all_parts extents.old.extents ++
-        (left.parts ++ (right.parts ++ new.parts)))) }
+        parts_put put.left put.right put.bytes)) }
     requires readable { AllReadable store.old (all_parts extents.old.extents) }
     requires room { 3 ≤ extents.old.room }
     requires order_room { 3 ≤ order.old.room }
     ensures extents { let others = unmet extents.old.extents range.from range.to in
-        extents.new.extents ≡ put_some (put_some (put_some others left) right) new }
-    ensures adds { Adds extents.old.extents new extents.new.extents }
+        extents.new.extents ≡ put_some (put_some (put_some others put.left) put.right) put.bytes }
+    ensures adds { Adds extents.old.extents put.bytes extents.new.extents }
     ensures apart { IsApart 0 extents.new.extents }
     ensures follows { Reindexes file extents.old.extents extents.new.extents order.old order.new
         marks.old marks.new }
     ensures order { order.new ≡ reordered order.old file extents.old.extents
-        range.from range.to left right new }
+        range.from range.to put.left put.right put.bytes }
     ensures moves { Moves store.old store.new (bufs_of (all_parts extents.old.extents ++
-        (left.parts ++ (right.parts ++ new.parts)))) (bufs_of (all_parts extents.new.extents)) }
+        parts_put put.left put.right put.bytes)) (bufs_of (all_parts extents.new.extents)) }
     ensures frees { FreesOnly store.old store.new }
     ensures lists { SameLists store.old store.new }
     ensures settles { AllSettled store.old → AllSettled store.new }
 {
     clear_range(order, marks, extents, store, file, range.from, range.to);
-    put_edge(order, marks, extents, file, left);
-    put_edge(order, marks, extents, file, right);
-    put_edge(order, marks, extents, file, new);
+    put_edge(order, marks, extents, file, put.left);
+    put_edge(order, marks, extents, file, put.right);
+    put_edge(order, marks, extents, file, put.bytes);
 }

@@ -22,7 +22,7 @@ ghost use Rattle.iol_cache.specs.Writing.{PutsOver, parts_put};
 
 use crate::cache::Cache;
 use crate::composing::foreign_pages;
-use crate::cutting::Edge;
+use crate::cutting::Replacement;
 use crate::preparing::prepare;
 use crate::replacing::replace_range;
 use iol_agg::Agg;
@@ -35,32 +35,24 @@ use std::alloc::Global;
 
 impl Cache {
     // Replaces a range of a file, in room that was made for its parts and the new bytes. No memory is taken.
-    fn put_over(
-        &mut self,
-        store: &mut Store,
-        file: FileId,
-        range: Span,
-        left: Edge,
-        right: Edge,
-        new: Edge,
-    )
+    fn put_over(&mut self, store: &mut Store, file: FileId, range: Span, put: Replacement)
         requires sound { IsSound store.old (cached_of self.old) }
         requires file { is_numbered self.old.files.items file ≡ true }
         requires some { range.from < range.to }
         requires short { range.to ≤ MAX_FILE_BYTES }
-        requires left { CutsLeft (extents_in self.old.files.items file) range.from left }
-        requires right { CutsRight (extents_in self.old.files.items file) range.to right }
-        requires fits { end_of right < 2 ^ 32 }
-        requires begins { new.at ≡ range.from }
-        requires ends { end_of new ≡ range.to }
-        requires laid { IsLaid store.old (file_in self.old.files.items file).pool new }
+        requires left { CutsLeft (extents_in self.old.files.items file) range.from put.left }
+        requires right { CutsRight (extents_in self.old.files.items file) range.to put.right }
+        requires fits { end_of put.right < 2 ^ 32 }
+        requires begins { put.bytes.at ≡ range.from }
+        requires ends { end_of put.bytes ≡ range.to }
+        requires laid { IsLaid store.old (file_in self.old.files.items file).pool put.bytes }
         requires held { Covers store.old
-            (held self.old.files.items ++ bufs_of (parts_put left right new)) }
+            (held self.old.files.items ++ bufs_of (parts_put put.left put.right put.bytes)) }
         requires few { CountsBelow store.old (2 ^ 61) }
         requires room { 3 ≤ (file_in self.old.files.items file).extents.room }
         requires entries { let p = (file_in self.old.files.items file).pool in
             3 ≤ (order_in self.old.orders.items p).room }
-        ensures puts { PutsOver file range.from range.to left right new
+        ensures puts { PutsOver file range.from range.to put.left put.right put.bytes
             (holding store.old self.old) (holding store.new self.new) }
         ensures sound { IsSound store.new (cached_of self.new) }
     {
@@ -73,9 +65,7 @@ impl Cache {
             store,
             file,
             range,
-            left,
-            right,
-            new,
+            put,
         );
     }
 
@@ -151,14 +141,7 @@ impl Cache {
     {
         let place = file.number() as usize - 1;
         let pool = self.files[place].pool;
-        let (left, right, new) = match prepare(
-            alloc,
-            store,
-            &self.files[place].extents,
-            pool,
-            at,
-            source,
-        ) {
+        let put = match prepare(alloc, store, &self.files[place].extents, pool, at, source) {
             Ok(prepared) => prepared,
             Err(refusal) => return Err(refusal),
         };
@@ -166,7 +149,7 @@ impl Cache {
             from: at,
             to: at + source.len(),
         };
-        self.put_over(store, file, range, left, right, new);
+        self.put_over(store, file, range, put);
         Ok(())
     }
 

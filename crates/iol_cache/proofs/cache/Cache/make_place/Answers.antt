@@ -13,32 +13,30 @@ use Rattle.iol_cache.specs.Evicting.{EvictsAll, GivesUp, Holding}
 use Rattle.iol_cache.specs.Overwriting.{LeavesAll, MakesRoom}
 use Rattle.iol_cache.specs.Pinned.{pinned_beside}
 use Rattle.iol_cache.specs.Reading.{SameButRoom}
-use Rattle.iol_cache.proofs.Extents.Filing.{file_at_number, numbered_bounds}
+use Rattle.iol_cache.proofs.Extents.Finding.{file_here}
 use Rattle.iol_cache.proofs.Evictions.Roomy.{sound_same}
+use Rattle.iol_cache.proofs.cache.Cache.make_place.Goals.{After-make_room}
 use Rattle.iol_cache.proofs.cache.Cache.make_place.Goals as goal
 
-module _ (s : Stored) (source : List Slice) (fs : List CachedFile) (f n : ℕ) (x : CachedFile) (is : x ≡ file_in fs f) (pages : n ≡ copied_pages x.pool source) where
-  abbrev p : ℕ
-  p = (file_in fs f).pool
-
-  count : n ≡ copied_pages p source
+module _ (s : Stored) (source : List Slice) (fs : List CachedFile) (f : ℕ) {n : ℕ} {x : CachedFile} (is : x ≡ file_in fs f) (pages : n ≡ copied_pages x.pool source) where
+  count : n ≡ copied_pages (file_in fs f).pool source
   count = pages ∙ ap (λ (y : CachedFile). copied_pages y.pool source) is
 
-  makes : (c reserved : Cached) (new : Holding) → SameButRoom c reserved → EvictsAll x.pool (Some n) (record { store = s; cache = reserved }) new → GivesUp (record { store = s; cache = reserved }) new → MakesRoom p (copied_pages p source) (record { store = s; cache = c }) new
+  makes : (c reserved : Cached) (new : Holding) → SameButRoom c reserved → EvictsAll x.pool (Some n) (record { store = s; cache = reserved }) new → GivesUp (record { store = s; cache = reserved }) new → MakesRoom (file_in fs f).pool (copied_pages (file_in fs f).pool source) (record { store = s; cache = c }) new
   makes c reserved new same all less = record {
     reserved = reserved;
     rooms = same;
-    victims = subst (λ k. EvictsAll p (Some k) (record { store = s; cache = reserved }) new) count (subst (λ (y : CachedFile). EvictsAll y.pool (Some n) (record { store = s; cache = reserved }) new) is all);
+    victims = subst (λ k. EvictsAll (file_in fs f).pool (Some k) (record { store = s; cache = reserved }) new) count (subst (λ (y : CachedFile). EvictsAll y.pool (Some n) (record { store = s; cache = reserved }) new) is all);
     gives_up = less;
   }
 
-  enough : (t : Stored) → n ≤ length (free_of t x.pool) → copied_pages p source ≤ length (free_of t p)
+  enough : (t : Stored) → n ≤ length (free_of t x.pool) → copied_pages (file_in fs f).pool source ≤ length (free_of t (file_in fs f).pool)
   enough t h = omega (arith, h, count, ap (λ (y : CachedFile). length (free_of t y.pool)) is)
 
-  pinned_is : (old now : List BufId) → now ≡ old → pinned_beside s now x.pool ≡ pinned_beside s old p
+  pinned_is : (old now : List BufId) → now ≡ old → pinned_beside s now x.pool ≡ pinned_beside s old (file_in fs f).pool
   pinned_is old now same = ap (λ l. pinned_beside s l x.pool) same ∙ ap (λ (y : CachedFile). pinned_beside s old y.pool) is
 
-  pages_are : length (pages_of s x.pool) ≡ length (pages_of s p)
+  pages_are : length (pages_of s x.pool) ≡ length (pages_of s (file_in fs f).pool)
   pages_are = ap (λ (y : CachedFile). length (pages_of s y.pool)) is
 
 -- where there was no room, only what was reserved differs
@@ -53,51 +51,35 @@ make_room-requires-clause-sound c = sound_same c.args.store.now (cached_of c.arg
 
 pub make_room-requires-clause-open : goal.make_room-requires-clause-open
 make_room-requires-clause-open c =
-    let fs = c.args.self.now.files.items in
-    let x = file_at_number fs c.args.file c.number.result c.index.result.now c.number.ensures (numbered_bounds fs c.args.file c.requires.file) c.index.ensures in
-    ap (λ (y : CachedFile). (pool_in c.args.store.now.pools y.pool).closed) x ∙ (c.requires.sound.opened c.args.file c.requires.file).is_open
+    ap (λ (y : CachedFile). (pool_in c.args.store.now.pools y.pool).closed) (file_here _ c.number.ensures c.index.ensures c.requires.file) ∙ (c.requires.sound.opened c.args.file c.requires.file).is_open
+
+room : (c : After-make_room) → MakesRoom (file_in c.args.self.now.files.items c.args.file).pool (copied_pages (file_in c.args.self.now.files.items c.args.file).pool c.args.source.now) (holding c.args.store.now c.args.self.now) (holding c.make_room.new.store c.make_room.new.self)
+room c = makes c.args.store.now c.args.source.now c.args.self.now.files.items c.args.file (file_here _ c.number.ensures c.index.ensures c.requires.file) c.foreign_pages.ensures (cached_of c.args.self.now) (cached_of c.reserve_places.new.self) _ c.in-Ok.ensures.same c.make_room.ensures.victims c.make_room.ensures.gives_up
+
+-- how many pages the file's pool has and how many of them are pinned, where the file was read
+pinned : (c : After-make_room) → pinned_beside c.args.store.now (clean_held c.reserve_places.new.self.files.items) c.index.result.now.pool ≡ pinned_beside c.args.store.now (clean_held c.args.self.now.files.items) (file_in c.args.self.now.files.items c.args.file).pool
+pinned c = pinned_is c.args.store.now c.args.source.now c.args.self.now.files.items c.args.file (file_here _ c.number.ensures c.index.ensures c.requires.file) c.foreign_pages.ensures (clean_held c.args.self.now.files.items) (clean_held c.reserve_places.new.self.files.items) c.in-Ok.ensures.same.clean
 
 pub returns-then-make_room-clause-room : goal.returns-then-make_room-clause-room
-returns-then-make_room-clause-room c =
-    let fs = c.args.self.now.files.items in
-    let x = file_at_number fs c.args.file c.number.result c.index.result.now c.number.ensures (numbered_bounds fs c.args.file c.requires.file) c.index.ensures in
-    makes c.args.store.now c.args.source.now fs c.args.file c.foreign_pages.result c.index.result.now x c.foreign_pages.ensures (cached_of c.args.self.now) (cached_of c.reserve_places.new.self) (holding c.make_room.new.store c.make_room.new.self) c.in-Ok.ensures.same c.make_room.ensures.victims c.make_room.ensures.gives_up
+returns-then-make_room-clause-room c = room (goal.at.returns-then-make_room-clause-room c).After-make_room
 
 pub returns-then-make_room-clause-free : goal.returns-then-make_room-clause-free
 returns-then-make_room-clause-free c =
-    let fs = c.args.self.now.files.items in
-    let x = file_at_number fs c.args.file c.number.result c.index.result.now c.number.ensures (numbered_bounds fs c.args.file c.requires.file) c.index.ensures in
-    enough c.args.store.now c.args.source.now fs c.args.file c.foreign_pages.result c.index.result.now x c.foreign_pages.ensures c.make_room.new.store (c.make_room.ensures.free c.if-make_room.true)
+    enough c.args.store.now c.args.source.now c.args.self.now.files.items c.args.file (file_here _ c.number.ensures c.index.ensures c.requires.file) c.foreign_pages.ensures c.make_room.new.store (c.make_room.ensures.free c.if-make_room.true)
 
 pub returns-then-make_room-clause-fits : goal.returns-then-make_room-clause-fits
 returns-then-make_room-clause-fits c =
-    let s = c.args.store.now in
-    let fs = c.args.self.now.files.items in
-    let xs = c.args.source.now in
-    let n = c.foreign_pages.result in
-    let y = c.index.result.now in
-    let x = file_at_number fs c.args.file c.number.result y c.number.ensures (numbered_bounds fs c.args.file c.requires.file) c.index.ensures in
-    omega (arith, c.make_room.ensures.room.0 c.if-make_room.true, count s xs fs c.args.file n y x c.foreign_pages.ensures, pages_are s xs fs c.args.file n y x c.foreign_pages.ensures, pinned_is s xs fs c.args.file n y x c.foreign_pages.ensures (clean_held fs) (clean_held c.reserve_places.new.self.files.items) c.in-Ok.ensures.same.clean)
+    omega (arith, c.make_room.ensures.room.0 c.if-make_room.true, count c.args.store.now c.args.source.now c.args.self.now.files.items c.args.file (file_here _ c.number.ensures c.index.ensures c.requires.file) c.foreign_pages.ensures, pages_are c.args.store.now c.args.source.now c.args.self.now.files.items c.args.file (file_here _ c.number.ensures c.index.ensures c.requires.file) c.foreign_pages.ensures, pinned (goal.at.returns-then-make_room-clause-fits c).After-make_room)
 
 pub returns-clause-room : goal.returns-clause-room
-returns-clause-room c =
-    let fs = c.args.self.now.files.items in
-    let x = file_at_number fs c.args.file c.number.result c.index.result.now c.number.ensures (numbered_bounds fs c.args.file c.requires.file) c.index.ensures in
-    makes c.args.store.now c.args.source.now fs c.args.file c.foreign_pages.result c.index.result.now x c.foreign_pages.ensures (cached_of c.args.self.now) (cached_of c.reserve_places.new.self) (holding c.make_room.new.store c.make_room.new.self) c.in-Ok.ensures.same c.make_room.ensures.victims c.make_room.ensures.gives_up
+returns-clause-room c = room (goal.at.returns-clause-room c).After-make_room
 
 pub returns-clause-lacks : goal.returns-clause-lacks
 returns-clause-lacks c = λ q e.
-    let s = c.args.store.now in
-    let fs = c.args.self.now.files.items in
-    let xs = c.args.source.now in
     let n = c.foreign_pages.result in
-    let y = c.index.result.now in
-    let x = file_at_number fs c.args.file c.number.result y c.number.ensures (numbered_bounds fs c.args.file c.requires.file) c.index.ensures in
-    let k = count s xs fs c.args.file n y x c.foreign_pages.ensures in
-    let pages = pages_are s xs fs c.args.file n y x c.foreign_pages.ensures in
-    let pinned = pinned_is s xs fs c.args.file n y x c.foreign_pages.ensures (clean_held fs) (clean_held c.reserve_places.new.self.files.items) c.in-Ok.ensures.same.clean in
-    elim (cases_lt (length (pages_of s y.pool)) (pinned_beside s (clean_held c.reserve_places.new.self.files.items) y.pool + n)) [
-      | inl lacks ↦ omega (arith, lacks, k, pages, pinned)
+    let p = c.index.result.now.pool in
+    elim (cases_lt (length (pages_of c.args.store.now p)) (pinned_beside c.args.store.now (clean_held c.reserve_places.new.self.files.items) p + n)) [
+      | inl lacks ↦ omega (arith, lacks, count c.args.store.now c.args.source.now c.args.self.now.files.items c.args.file (file_here _ c.number.ensures c.index.ensures c.requires.file) c.foreign_pages.ensures, pages_are c.args.store.now c.args.source.now c.args.self.now.files.items c.args.file (file_here _ c.number.ensures c.index.ensures c.requires.file) c.foreign_pages.ensures, pinned (goal.at.returns-clause-lacks c).After-make_room)
       | inr fits ↦ absurd (true_false (sym (c.make_room.ensures.room.1 (omega (arith, fits))) ∙ c.if-make_room.false))
     ]
   where
@@ -108,6 +90,4 @@ pub returns-clause-kept : goal.returns-clause-kept
 returns-clause-kept c = refused_room c.args.store.now (cached_of c.args.self.now) (cached_of c.reserve_places.new.self) (holding c.make_room.new.store c.make_room.new.self) c.in-Ok.ensures.same (c.make_room.ensures.refused c.if-make_room.false)
 
 pub returns-clause-late : goal.returns-clause-late
-returns-clause-late c =
-    let fs = c.args.self.now.files.items in
-    ap (λ (y : CachedFile). y.pool) (file_at_number fs c.args.file c.number.result c.index.result.now c.number.ensures (numbered_bounds fs c.args.file c.requires.file) c.index.ensures)
+returns-clause-late c = ap (λ (y : CachedFile). y.pool) (file_here _ c.number.ensures c.index.ensures c.requires.file)

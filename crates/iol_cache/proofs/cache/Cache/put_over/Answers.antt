@@ -1,16 +1,16 @@
-use Rattle.std.proofs.Common.{◌∙◌, ◌-◌, ◌++◌, set, sym, ap, arith, subst}
+use Rattle.std.proofs.Common.{◌∙◌, ◌++◌, sym, ap, arith, subst}
 use Rattle.iol_hold.specs.Moves.{Covers, Moves}
 use Rattle.iol_hold.specs.Texts.{bufs_of, AllReadable}
 use Rattle.iol_extent.specs.Extents.{Adds, IsApart, unmet}
 use Rattle.iol_evict.specs.Ranking.{Ranking}
 use Rattle.iol_cache.specs.declared.files.CachedFile.{CachedFile}
-use Rattle.iol_cache.specs.Cached.{file_in, extents_in, order_in, all_parts}
+use Rattle.iol_cache.specs.Cached.{file_in, with_file, extents_in, order_in, all_parts}
 use Rattle.iol_cache.specs.Cache.{cached_of, holding}
 use Rattle.iol_cache.specs.Cutting.{CutsLeft, CutsRight}
 use Rattle.iol_cache.specs.Reading.{RanksFile}
 use Rattle.iol_cache.specs.Replacing.{Reindexes, HaveClean, IsReady, put_some, reordered}
 use Rattle.iol_cache.specs.Writing.{parts_put}
-use Rattle.iol_cache.proofs.Extents.Filing.{file_at_number, file_set, order_at_number, order_set, numbered_bounds}
+use Rattle.iol_cache.proofs.Extents.Finding.{file_here, file_put, order_here, order_put, pool_bounds}
 use Rattle.iol_cache.proofs.RangeReads.Ranged.{laid_readable}
 use Rattle.iol_cache.proofs.Evictions.Ready.{is_ready}
 use Rattle.iol_cache.proofs.Evictions.Roomy.{ranks_file}
@@ -18,134 +18,73 @@ use Rattle.iol_cache.proofs.RangeWrites.Written.{left_len, have_clean, covers_pu
 use Rattle.iol_cache.proofs.cache.Cache.put_over.Goals as goal
 
 pub overflow_sub-number : goal.overflow_sub-number
-overflow_sub-number c =
-    let fs = c.args.self.now.files.items in
-    let nb = numbered_bounds fs c.args.file c.requires.file in
-    let w = file_at_number fs c.args.file c.number.result c.index.result.now c.number.ensures nb c.index.ensures in
-    let ob = numbered_bounds c.args.self.now.orders.items (file_in fs c.args.file).pool (c.requires.sound.opened c.args.file c.requires.file).ordered in
-    let pool = c.number-2.ensures ∙ ap (λ (y : CachedFile). y.pool) w in
-    omega (arith, ob.0, pool)
+overflow_sub-number c = (let b = pool_bounds c.args.file c.requires.sound c.requires.file in omega (arith, b.0, c.number-2.ensures, ap (λ (y : CachedFile). y.pool) (file_here _ c.number.ensures c.index.ensures c.requires.file)))
 
 pub index_mut-requires : goal.index_mut-requires
 index_mut-requires c =
-    let fs = c.args.self.now.files.items in
-    let nb = numbered_bounds fs c.args.file c.requires.file in
-    let w = file_at_number fs c.args.file c.number.result c.index.result.now c.number.ensures nb c.index.ensures in
-    let ob = numbered_bounds c.args.self.now.orders.items (file_in fs c.args.file).pool (c.requires.sound.opened c.args.file c.requires.file).ordered in
-    let pool = c.number-2.ensures ∙ ap (λ (y : CachedFile). y.pool) w in
-    omega (arith, ob.0, ob.1, pool, c.args.self.now.orders.ok.0)
+    let b = pool_bounds c.args.file c.requires.sound c.requires.file in
+    omega (arith, b.0, b.1, c.number-2.ensures, ap (λ (y : CachedFile). y.pool) (file_here _ c.number.ensures c.index.ensures c.requires.file), c.args.self.now.orders.ok.0)
 
 pub replace_range-requires-clause-left : goal.replace_range-requires-clause-left
-replace_range-requires-clause-left c =
-    let fs = c.args.self.now.files.items in
-    let nb = numbered_bounds fs c.args.file c.requires.file in
-    let x = file_at_number fs c.args.file c.number.result c.index_mut-2.result.now c.number.ensures nb c.index_mut-2.ensures.value in
-    subst (λ (y : CachedFile). CutsLeft y.extents.extents c.args.range.from c.args.left) (sym x) c.requires.left
+replace_range-requires-clause-left c = subst (λ (y : CachedFile). CutsLeft y.extents.extents c.args.range.from c.args.put.left) (sym (file_here _ c.number.ensures c.index_mut-2.ensures.value c.requires.file)) c.requires.left
 
 pub replace_range-requires-clause-right : goal.replace_range-requires-clause-right
-replace_range-requires-clause-right c =
-    let fs = c.args.self.now.files.items in
-    let nb = numbered_bounds fs c.args.file c.requires.file in
-    let x = file_at_number fs c.args.file c.number.result c.index_mut-2.result.now c.number.ensures nb c.index_mut-2.ensures.value in
-    subst (λ (y : CachedFile). CutsRight y.extents.extents c.args.range.to c.args.right) (sym x) c.requires.right
+replace_range-requires-clause-right c = subst (λ (y : CachedFile). CutsRight y.extents.extents c.args.range.to c.args.put.right) (sym (file_here _ c.number.ensures c.index_mut-2.ensures.value c.requires.file)) c.requires.right
 
 pub replace_range-requires-clause-apart : goal.replace_range-requires-clause-apart
-replace_range-requires-clause-apart c =
-    let fs = c.args.self.now.files.items in
-    let nb = numbered_bounds fs c.args.file c.requires.file in
-    let x = file_at_number fs c.args.file c.number.result c.index_mut-2.result.now c.number.ensures nb c.index_mut-2.ensures.value in
-    subst (λ (y : CachedFile). IsApart 0 y.extents.extents) (sym x) (c.requires.sound.files c.args.file).apart
+replace_range-requires-clause-apart c = subst (λ (y : CachedFile). IsApart 0 y.extents.extents) (sym (file_here _ c.number.ensures c.index_mut-2.ensures.value c.requires.file)) (c.requires.sound.files c.args.file).apart
 
 pub replace_range-requires-clause-ranked : goal.replace_range-requires-clause-ranked
 replace_range-requires-clause-ranked c =
-    let fs = c.args.self.now.files.items in
-    let nb = numbered_bounds fs c.args.file c.requires.file in
-    let x = file_at_number fs c.args.file c.number.result c.index_mut-2.result.now c.number.ensures nb c.index_mut-2.ensures.value in
-    let w = file_at_number fs c.args.file c.number.result c.index.result.now c.number.ensures nb c.index.ensures in
-    let ob = numbered_bounds c.args.self.now.orders.items (file_in fs c.args.file).pool (c.requires.sound.opened c.args.file c.requires.file).ordered in
-    let pool = c.number-2.ensures ∙ ap (λ (y : CachedFile). y.pool) w in
-    let o = order_at_number c.args.self.now.orders.items (file_in fs c.args.file).pool c.number-2.result c.index_mut.result.now pool ob c.index_mut.ensures.value in
-    subst (λ (y : CachedFile). RanksFile c.index_mut.result.now c.args.file y.extents.extents) (sym x)
-    (subst (λ (q : Ranking). RanksFile q c.args.file (extents_in fs c.args.file)) (sym o) (ranks_file c.args.store.now (cached_of c.args.self.now) c.args.file c.requires.sound))
+    subst (λ (y : CachedFile). RanksFile c.index_mut.result.now c.args.file y.extents.extents) (sym (file_here _ c.number.ensures c.index_mut-2.ensures.value c.requires.file))
+    (subst (λ (q : Ranking). RanksFile q c.args.file (extents_in c.args.self.now.files.items c.args.file)) (sym (order_here c.args.file c.requires.sound c.requires.file (file_here _ c.number.ensures c.index.ensures c.requires.file) c.number-2.ensures c.index_mut.ensures.value)) (ranks_file c.args.store.now (cached_of c.args.self.now) c.args.file c.requires.sound))
 
 pub replace_range-requires-clause-ready : goal.replace_range-requires-clause-ready
 replace_range-requires-clause-ready c =
     let fs = c.args.self.now.files.items in
-    let os = c.args.self.now.orders.items in
-    let nb = numbered_bounds fs c.args.file c.requires.file in
-    let x = file_at_number fs c.args.file c.number.result c.index_mut-2.result.now c.number.ensures nb c.index_mut-2.ensures.value in
-    let w = file_at_number fs c.args.file c.number.result c.index.result.now c.number.ensures nb c.index.ensures in
-    let ob = numbered_bounds os (file_in fs c.args.file).pool (c.requires.sound.opened c.args.file c.requires.file).ordered in
-    let pool = c.number-2.ensures ∙ ap (λ (y : CachedFile). y.pool) w in
-    let o = order_at_number os (file_in fs c.args.file).pool c.number-2.result c.index_mut.result.now pool ob c.index_mut.ensures.value in
-    subst (λ (y : CachedFile). IsReady c.index_mut.result.now y.extents.extents) (sym x)
-    (subst (λ (q : Ranking). IsReady q (extents_in fs c.args.file)) (sym o) (is_ready fs os c.args.file c.requires.sound.ready))
+    subst (λ (y : CachedFile). IsReady c.index_mut.result.now y.extents.extents) (sym (file_here _ c.number.ensures c.index_mut-2.ensures.value c.requires.file))
+    (subst (λ (q : Ranking). IsReady q (extents_in fs c.args.file)) (sym (order_here c.args.file c.requires.sound c.requires.file (file_here _ c.number.ensures c.index.ensures c.requires.file) c.number-2.ensures c.index_mut.ensures.value)) (is_ready fs c.args.self.now.orders.items c.args.file c.requires.sound.ready))
 
 pub replace_range-requires-clause-marked : goal.replace_range-requires-clause-marked
-replace_range-requires-clause-marked c =
-    let fs = c.args.self.now.files.items in
-    let nb = numbered_bounds fs c.args.file c.requires.file in
-    let x = file_at_number fs c.args.file c.number.result c.index_mut-2.result.now c.number.ensures nb c.index_mut-2.ensures.value in
-    subst (λ (y : CachedFile). HaveClean c.args.self.now.marks y.extents.extents) (sym x) (have_clean fs c.args.file c.args.self.now.marks c.requires.sound.marked)
+replace_range-requires-clause-marked c = subst (λ (y : CachedFile). HaveClean c.args.self.now.marks y.extents.extents) (sym (file_here _ c.number.ensures c.index_mut-2.ensures.value c.requires.file)) (have_clean c.args.self.now.files.items c.args.file c.args.self.now.marks c.requires.sound.marked)
 
 pub replace_range-requires-clause-few : goal.replace_range-requires-clause-few
 replace_range-requires-clause-few c =
     let es = extents_in c.args.self.now.files.items c.args.file in
-    marks_left c.args.store.now (cached_of c.args.self.now) c.args.left.parts c.args.right.parts c.args.new.parts c.requires.sound c.requires.few
-    (omega (arith, left_len es c.args.range.from c.args.left c.requires.left, c.requires.some, c.requires.short))
+    marks_left c.args.store.now (cached_of c.args.self.now) c.args.put.left.parts c.args.put.right.parts c.args.put.bytes.parts c.requires.sound c.requires.few
+    (omega (arith, left_len es c.args.range.from c.args.put.left c.requires.left, c.requires.some, c.requires.short))
     (omega (arith, c.requires.fits))
     (omega (arith, c.requires.begins, c.requires.ends, c.requires.short))
 
 pub replace_range-requires-clause-held : goal.replace_range-requires-clause-held
 replace_range-requires-clause-held c =
-    let fs = c.args.self.now.files.items in
-    let nb = numbered_bounds fs c.args.file c.requires.file in
-    let x = file_at_number fs c.args.file c.number.result c.index_mut-2.result.now c.number.ensures nb c.index_mut-2.ensures.value in
-    let ps = parts_put c.args.left c.args.right c.args.new in
-    subst (λ (y : CachedFile). Covers c.args.store.now (bufs_of (all_parts y.extents.extents ++ ps))) (sym x) (covers_put fs c.args.file ps c.requires.held)
+    let ps = parts_put c.args.put.left c.args.put.right c.args.put.bytes in
+    subst (λ (y : CachedFile). Covers c.args.store.now (bufs_of (all_parts y.extents.extents ++ ps))) (sym (file_here _ c.number.ensures c.index_mut-2.ensures.value c.requires.file)) (covers_put c.args.self.now.files.items c.args.file ps c.requires.held)
 
 pub replace_range-requires-clause-readable : goal.replace_range-requires-clause-readable
-replace_range-requires-clause-readable c =
-    let fs = c.args.self.now.files.items in
-    let nb = numbered_bounds fs c.args.file c.requires.file in
-    let x = file_at_number fs c.args.file c.number.result c.index_mut-2.result.now c.number.ensures nb c.index_mut-2.ensures.value in
-    subst (λ (y : CachedFile). AllReadable c.args.store.now (all_parts y.extents.extents)) (sym x) (laid_readable (file_in fs c.args.file).pool (extents_in fs c.args.file) (c.requires.sound.files c.args.file).laid)
+replace_range-requires-clause-readable c = subst (λ (y : CachedFile). AllReadable c.args.store.now (all_parts y.extents.extents)) (sym (file_here _ c.number.ensures c.index_mut-2.ensures.value c.requires.file)) (laid_readable _ _ (c.requires.sound.files c.args.file).laid)
 
 pub replace_range-requires-clause-room : goal.replace_range-requires-clause-room
-replace_range-requires-clause-room c =
-    let fs = c.args.self.now.files.items in
-    let nb = numbered_bounds fs c.args.file c.requires.file in
-    let x = file_at_number fs c.args.file c.number.result c.index_mut-2.result.now c.number.ensures nb c.index_mut-2.ensures.value in
-    omega (arith, c.requires.room, ap (λ (y : CachedFile). y.extents.room) x)
+replace_range-requires-clause-room c = omega (arith, c.requires.room, ap (λ (y : CachedFile). y.extents.room) (file_here _ c.number.ensures c.index_mut-2.ensures.value c.requires.file))
 
 pub replace_range-requires-clause-order_room : goal.replace_range-requires-clause-order_room
-replace_range-requires-clause-order_room c =
-    let fs = c.args.self.now.files.items in
-    let nb = numbered_bounds fs c.args.file c.requires.file in
-    let w = file_at_number fs c.args.file c.number.result c.index.result.now c.number.ensures nb c.index.ensures in
-    let ob = numbered_bounds c.args.self.now.orders.items (file_in fs c.args.file).pool (c.requires.sound.opened c.args.file c.requires.file).ordered in
-    let pool = c.number-2.ensures ∙ ap (λ (y : CachedFile). y.pool) w in
-    let o = order_at_number c.args.self.now.orders.items (file_in fs c.args.file).pool c.number-2.result c.index_mut.result.now pool ob c.index_mut.ensures.value in
-    omega (arith, c.requires.entries, ap (λ (r : Ranking). r.room) o)
+replace_range-requires-clause-order_room c = omega (arith, c.requires.entries, ap (λ (r : Ranking). r.room) (order_here c.args.file c.requires.sound c.requires.file (file_here _ c.number.ensures c.index.ensures c.requires.file) c.number-2.ensures c.index_mut.ensures.value))
 
 pub returns-clause-puts : goal.returns-clause-puts
 returns-clause-puts c =
     let fs = c.args.self.now.files.items in
-    let nb = numbered_bounds fs c.args.file c.requires.file in
-    let x = file_at_number fs c.args.file c.number.result c.index_mut-2.result.now c.number.ensures nb c.index_mut-2.ensures.value in
-    let w = file_at_number fs c.args.file c.number.result c.index.result.now c.number.ensures nb c.index.ensures in
-    let ob = numbered_bounds c.args.self.now.orders.items (file_in fs c.args.file).pool (c.requires.sound.opened c.args.file c.requires.file).ordered in
-    let pool = c.number-2.ensures ∙ ap (λ (y : CachedFile). y.pool) w in
-    let o = order_at_number c.args.self.now.orders.items (file_in fs c.args.file).pool c.number-2.result c.index_mut.result.now pool ob c.index_mut.ensures.value in
     let os = c.args.self.now.orders.items in
-    let p = (file_in fs c.args.file).pool in
+    let f = c.args.file in
+    let p = (file_in fs f).pool in
+    let x = file_here _ c.number.ensures c.index_mut-2.ensures.value c.requires.file in
+    let w = file_here _ c.number.ensures c.index.ensures c.requires.file in
+    let o = order_here f c.requires.sound c.requires.file w c.number-2.ensures c.index_mut.ensures.value in
     let m = c.replace_range.new.extents in
     let r = c.replace_range.new.order in
-    let l = c.args.left in
-    let t = c.args.right in
-    let n = c.args.new in
+    let l = c.args.put.left in
+    let t = c.args.put.right in
+    let n = c.args.put.bytes in
     let e = c.replace_range.ensures in
-    let new : CachedFile = record { pool = p; extents = m } in
     let at = c.args.range in
     record {
       extents = m;
@@ -153,10 +92,10 @@ returns-clause-puts c =
       is = e.extents ∙ ap (λ (y : CachedFile). put_some (put_some (put_some (unmet y.extents.extents at.from at.to) l) t) n) x;
       adds = subst (λ (y : CachedFile). Adds y.extents.extents n m.extents) x e.adds;
       apart = e.apart;
-      files = ap (λ k. set fs (c.number.result - 1) (let z : CachedFile = record { pool = k; extents = m } in z)) (ap (λ (z : CachedFile). z.pool) x) ∙ ap (λ k. set fs (k - 1) new) c.number.ensures ∙ file_set fs c.args.file new nb.0;
-      orders = ap (λ k. set os (k - 1) r) pool ∙ order_set os p r ob.0;
-      ranks = e.order ∙ ap (λ q. reordered q c.args.file c.index_mut-2.result.now.extents.extents at.from at.to l t n) o ∙ ap (λ (y : CachedFile). reordered (order_in os p) c.args.file y.extents.extents at.from at.to l t n) x;
-      follows = subst (λ (q : Ranking). Reindexes c.args.file (extents_in fs c.args.file) m.extents q r c.args.self.now.marks c.replace_range.new.marks) o (subst (λ (y : CachedFile). Reindexes c.args.file y.extents.extents m.extents c.index_mut.result.now r c.args.self.now.marks c.replace_range.new.marks) x e.follows);
+      files = file_put fs _ c.number.ensures c.requires.file ∙ ap (λ k. with_file fs f (let z : CachedFile = record { pool = k; extents = m } in z)) (ap (λ (z : CachedFile). z.pool) x);
+      orders = order_put f c.requires.sound c.requires.file r w c.number-2.ensures;
+      ranks = e.order ∙ ap (λ q. reordered q f c.index_mut-2.result.now.extents.extents at.from at.to l t n) o ∙ ap (λ (y : CachedFile). reordered (order_in os p) f y.extents.extents at.from at.to l t n) x;
+      follows = subst (λ (q : Ranking). Reindexes f (extents_in fs f) m.extents q r c.args.self.now.marks c.replace_range.new.marks) o (subst (λ (y : CachedFile). Reindexes f y.extents.extents m.extents c.index_mut.result.now r c.args.self.now.marks c.replace_range.new.marks) x e.follows);
       moves = subst (λ (y : CachedFile). Moves c.args.store.now c.replace_range.new.store (bufs_of (all_parts y.extents.extents ++ parts_put l t n)) (bufs_of (all_parts m.extents))) x e.moves;
       frees = e.frees;
       lists = e.lists;
@@ -165,4 +104,4 @@ returns-clause-puts c =
 
 pub returns-clause-sound : goal.returns-clause-sound
 returns-clause-sound c =
-    sound_put (holding c.args.store.now c.args.self.now) _ c.args.file c.args.range.from c.args.range.to c.args.left c.args.right c.args.new c.requires.sound c.requires.file (returns-clause-puts c) c.requires.held c.requires.some c.requires.short c.requires.ends c.requires.left c.requires.right c.requires.laid
+    sound_put (holding c.args.store.now c.args.self.now) _ c.args.file c.args.range.from c.args.range.to c.args.put.left c.args.put.right c.args.put.bytes c.requires.sound c.requires.file (returns-clause-puts c) c.requires.held c.requires.some c.requires.short c.requires.ends c.requires.left c.requires.right c.requires.laid

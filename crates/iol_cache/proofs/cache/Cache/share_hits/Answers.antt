@@ -1,4 +1,4 @@
-use Rattle.std.proofs.Common.{◌∙◌, ◌-◌, refl, sym, ap, arith, subst}
+use Rattle.std.proofs.Common.{◌∙◌, refl, sym, ap, arith, subst}
 use Rattle.iol_hold.specs.Moves.{Covers}
 use Rattle.iol_hold.specs.Texts.{bufs_of, AllReadable}
 use Rattle.iol_extent.specs.Extents.{IsApart}
