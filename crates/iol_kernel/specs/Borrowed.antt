@@ -1,11 +1,14 @@
 -- What comes in from a reader and what goes out to a writer, in the copying machine's words.
-use Rattle.std.specs.Prelude.{◌≡◌, ℕ, zero, suc, ◌==◌, List, [], ◌∷◌, length, Option, Ok}
+use Rattle.std.specs.Prelude.{◌≡◌, ℕ, zero, suc, ◌-◌, ◌≤◌, ◌==◌, min, List, [], ◌∷◌, length, Option, Ok}
 use Rattle.std.specs.Io.KnownBytes.{Consumes}
-use Rattle.iol_core.specs.State.{State}
+use Rattle.iol_core.specs.State.{State, conn_at}
 use Rattle.iol_core.specs.Meaning.{◌when◌, Step}
 use Rattle.iol_core.specs.Calls.Outside.{arrive, transmit, lacks_conn}
+use Rattle.iol_core.specs.declared.limits.TheConstants.{MAX_QUEUE_BYTES, PAGE_BYTES}
 use Rattle.iol_core.specs.declared.refusals.Refusal.{Refusal}
 use Rattle.iol_core.specs.declared.refusals.Refusal.TheVariants.{BadFd, BadRange}
+use Rattle.iol_kernel.specs.Calls.{Arrives, Steps}
+use Rattle.iol_kernel.specs.KernelState.{KernelState, IsSound, machine_of}
 
 -- at most max bytes are asked of a reader: refused as one byte that arrives, whatever it is
 abbrev pub arrive_from_refusals : State → (c max : ℕ) → List (Option Refusal)
@@ -27,6 +30,14 @@ pub record TakesIn (left after : Option (List ℕ)) (n : ℕ) (P : List ℕ → 
   pub count : length bytes ≡ n
   pub given : Consumes left after bytes
   pub arrives : P bytes
+
+-- One read came in on a connection: n bytes, within these limits. Where it gave none, the system stands for what it stood for.
+pub record ComesIn (c max n : ℕ) (left after : Option (List ℕ)) (old new : KernelState) : Type 0 where
+  pub read : TakesIn left after n (λ bytes. Steps (λ s. arrive s c bytes) old (Ok n) new)
+  pub made : Arrives c n old new
+  pub most : n ≤ min (min max PAGE_BYTES) (MAX_QUEUE_BYTES - length (conn_at (machine_of [] old) c).incoming)
+  pub none : n ≡ 0 → (stored : List (List ℕ)) → machine_of stored new ≡ machine_of stored old
+  pub sound : IsSound new
 
 -- n bytes are sent: what `transmit` of as many leaves; of none, what was there
 abbrev pub sent_on : (c n : ℕ) → State → State

@@ -12,10 +12,10 @@ ghost use Rattle.iol_pool.specs.Pools.{pool_in};
 ghost use Rattle.iol_hold.specs.Moves.{Stays};
 ghost use Rattle.iol_hold.specs.Room.{has_room};
 ghost use Rattle.iol_sock.specs.Refused.{IsPassed, IsRefused};
-ghost use Rattle.iol_kernel.specs.Borrowed.{arrive_from_refusals, TakesIn, sent_on};
+ghost use Rattle.iol_kernel.specs.Borrowed.{arrive_from_refusals, ComesIn, TakesIn, sent_on};
 ghost use Rattle.iol_kernel.specs.Backed.{Serves};
 ghost use Rattle.iol_kernel.specs.Calls as calls;
-ghost use Rattle.iol_kernel.specs.KernelState.{machine_of, IsSound};
+ghost use Rattle.iol_kernel.specs.KernelState.{IsSound};
 ghost use Rattle.iol_kernel.specs.MakingRoom.{AfterRoom, IsSame, MayHaveEvicted, can_fit};
 
 use crate::kernel::Kernel;
@@ -26,7 +26,7 @@ use iol_sock::{Arrived, Drained};
 use std::io::{Read, Write};
 
 impl Kernel {
-    ghost use Rattle.iol_kernel.specs.Kernel.{state_of, machine, Arrives, Leaves, Steps};
+    ghost use Rattle.iol_kernel.specs.Kernel.{state_of, machine, Leaves};
 
     /// The bytes of one read come in from a connection's peer, straight into a new buffer on the lowest free page of the
     /// connection's pool. At most `max` bytes are asked for, a page of them, and what fits. Clean extents of the pool's
@@ -109,19 +109,13 @@ impl Kernel {
         ensures passed { OnOk result (IsPassed (arrive_from_refusals (machine self.old) conn max)) }
         ensures refused { IfErr result (IsRefused (arrive_from_refusals (machine self.old) conn max)
             (WantOfRoom (conn_at (machine self.old) conn).pool)) }
-        ensures read { IfOk result (λ a. TakesIn (R.remaining reader.old) (R.remaining reader.new)
-            a.taken (λ bytes. Steps (λ s. outside.arrive s conn bytes) self.old (Ok a.taken)
-            self.new)) }
-        ensures made { IfOk result (λ a. Arrives conn a.taken self.old self.new) }
-        ensures most { IfOk result (λ a. a.taken ≤ min (min max PAGE_BYTES) (MAX_QUEUE_BYTES -
-            length (conn_at (machine self.old) conn).incoming)) }
+        ensures came { IfOk result (λ a. ComesIn conn max a.taken (R.remaining reader.old)
+            (R.remaining reader.new) (state_of self.old) (state_of self.new)) }
         ensures some { IfOk result (λ a. a.end ≡ false → a.failed ≡ false → 0 < a.taken) }
         ensures either { IfOk result (λ a. a.end ≡ true → a.failed ≡ false) }
         ensures ended { IfOk result (λ a. a.end ≡ true → (a.taken ≡ 0) × IsAtEnd
             (R.remaining reader.new)) }
         ensures failed { IfOk result (λ a. a.failed ≡ true → a.taken ≡ 0) }
-        ensures none { IfOk result (λ a. a.taken ≡ 0 → (stored : List (List ℕ)) →
-            machine_of stored (state_of self.new) ≡ machine_of stored (state_of self.old)) }
         ensures cache { (state_of self.new).cache ≡ (state_of self.old).cache }
         ensures room { OnOk result (has_room self.old.store (conn_at (machine self.old) conn).pool
             1 ≡ true) }
@@ -129,7 +123,6 @@ impl Kernel {
             (conn_at (machine self.old) conn).pool 1 ≡ false }
         ensures err { OnErr result (state_of self.new ≡ state_of self.old) }
         ensures err_reader { OnErr result (reader.new ≡ reader.old) }
-        ensures sound { IsSound (state_of self.new) }
         ensures stays { Stays self.old.store self.new.store }
     {
         Ok(

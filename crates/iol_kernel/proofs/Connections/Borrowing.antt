@@ -27,8 +27,8 @@ use Rattle.iol_sock.specs.Connections.{Conn, conn_view}
 use Rattle.iol_sock.specs.Refused.{arrive_refusals, read_refusals, IsRefused}
 use Rattle.iol_sock.specs.Table.{conn_in}
 use Rattle.iol_sock.proofs.Meaning.{conn_at-is, arrives_meant}
-use Rattle.iol_kernel.specs.Borrowed.{arrive_from_refusals, TakesIn, sent_on}
-use Rattle.iol_kernel.specs.Calls.{Arrives, Leaves, Steps}
+use Rattle.iol_kernel.specs.Borrowed.{arrive_from_refusals, ComesIn, sent_on}
+use Rattle.iol_kernel.specs.Calls.{Leaves}
 use Rattle.iol_kernel.specs.KernelState.{KernelState, IsSound, read_of, machine_of}
 use Rattle.iol_kernel.proofs.Connections.Arriving.{going, passed_open, arrive_pool, all_sound, all_step, all_made}
 use Rattle.iol_kernel.proofs.Connections.Connecting.{conn_found, conn_in-found, conn_there, there-changed, rising-read_of, not_over, conn_left}
@@ -127,25 +127,22 @@ module _ (h k : KernelState) (c max n : ℕ) (left after : Option (List ℕ)) (s
   adds : AddsBytes h.store k.store y.incoming (conn_in k.conns c).incoming y.pool (take n reads.bytes)
   adds = subst (λ (bs : List ℕ). AddsBytes h.store k.store y.incoming (conn_in k.conns c).incoming y.pool bs) (sym (take_all n reads.bytes (omega (arith, reads.count)))) reads.added
 
-  pub read_sound : IsSound k
-  read_sound = all_sound h k c n reads.bytes sound there open' number adds same
-
-  pub read_made : Arrives c n h k
-  read_made = all_made h k c n reads.bytes sound there open' number adds same
-
-  pub read_takes : TakesIn left after n (λ bytes. Steps (λ s. outside.arrive s c bytes) h (Ok n) k)
-  read_takes = record { bytes = reads.bytes; count = reads.count; given = reads.given; arrives = all_step h k c n reads.bytes sound there open' number adds same }
-
-  pub read_none : n ≡ 0 → (stored : List (List ℕ)) → machine_of stored k ≡ machine_of stored h
-  read_none none stored =
+  none : n ≡ 0 → (stored : List (List ℕ)) → machine_of stored k ≡ machine_of stored h
+  none is stored =
       let f = bytes_over stored h.store in
       let w : Connection = conn_view (read f) y in
       (all_step h k c n reads.bytes sound there open' number adds same stored).2
-      ∙ none_arrives (machine_of stored h) c reads.bytes (reads.count ∙ none)
+      ∙ none_arrives (machine_of stored h) c reads.bytes (reads.count ∙ is)
       ∙ not_over (machine_of stored h) c h.next_conn w (rising-read_of f h sound) (conn_found f h c y (conn_in-found h.conns c there)) (going w (passed_open y (length reads.bytes) open'))
 
-  pub read_most : n ≤ min (min max PAGE_BYTES) (MAX_QUEUE_BYTES - length (conn_at (machine_of [] h) c).incoming)
-  read_most = subst (λ l. n ≤ min (min max PAGE_BYTES) (MAX_QUEUE_BYTES - l)) (sym (incoming_len h c max there)) most
+  pub came_in : ComesIn c max n left after h k
+  came_in = record {
+    read = record { bytes = reads.bytes; count = reads.count; given = reads.given; arrives = all_step h k c n reads.bytes sound there open' number adds same };
+    made = all_made h k c n reads.bytes sound there open' number adds same;
+    most = subst (λ l. n ≤ min (min max PAGE_BYTES) (MAX_QUEUE_BYTES - l)) (sym (incoming_len h c max there)) most;
+    none = none;
+    sound = all_sound h k c n reads.bytes sound there open' number adds same;
+  }
 
 -- What goes out.
 

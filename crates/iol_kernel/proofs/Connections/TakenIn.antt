@@ -16,11 +16,12 @@ use Rattle.iol_hold.specs.Room.{has_room}
 use Rattle.iol_hold.specs.Texts.{byte_at}
 use Rattle.iol_hold.specs.declared.slices.Slice.{Slice}
 use Rattle.iol_hold.proofs.Moving.{stays_trans}
+use Rattle.iol_pipe.specs.declared.arriving.Arrived.{Arrived}
 use Rattle.iol_sock.specs.Connections.{Conn}
 use Rattle.iol_sock.specs.Refused.{arrive_refusals, read_refusals, IsRefused}
 use Rattle.iol_sock.proofs.Meaning.{arrives_meant}
 use Rattle.iol_kernel.specs.Backed.{Serves, with_slots}
-use Rattle.iol_kernel.specs.Borrowed.{TakesIn, arrive_from_refusals}
+use Rattle.iol_kernel.specs.Borrowed.{ComesIn, TakesIn, arrive_from_refusals}
 use Rattle.iol_kernel.specs.Calls.{Arrives, Steps}
 use Rattle.iol_kernel.specs.KernelState.{KernelState, IsSound, machine_of}
 use Rattle.iol_kernel.specs.MakingRoom.{AfterRoom, IsSame, MakesRoom, MayHaveEvicted, RefusedRoomy, can_fit}
@@ -40,9 +41,10 @@ pub if_ok : {A : Type 0} (P Q : A → Type 0) (r : Result A Refusal) → ((a : A
 if_ok P Q (Ok a) f p = f a p
 if_ok P Q (Err x) f p = tt
 
-pub if_ok_both : {A : Type 0} (P R Q : A → Type 0) (r : Result A Refusal) → ((a : A) → P a → R a → Q a) → IfOk r P → IfOk r R → IfOk r Q
-if_ok_both P R Q (Ok a) f p q = f a p q
-if_ok_both P R Q (Err x) f p q = tt
+-- what came in leaves the kernel sound, and a refusal leaves it as it was
+pub came_sound : (c max : ℕ) (left after : Option (List ℕ)) (h k : KernelState) (r : Result Arrived Refusal) → IsSound h → IfOk r (λ a. ComesIn c max a.taken left after h k) → OnErr r (k ≡ h) → IsSound k
+came_sound c max left after h k (Ok a) sound came same = came.sound
+came_sound c max left after h k (Err x) sound came same = subst IsSound (sym same) sound
 
 -- Whether bytes may be read, in the machine's words.
 

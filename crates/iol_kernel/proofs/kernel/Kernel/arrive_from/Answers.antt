@@ -1,4 +1,4 @@
-use Rattle.std.proofs.Common.{[], ◌≡◌, ◌∙◌, ℕ, ◌-◌, ◌≤◌, List, length}
+use Rattle.std.proofs.Common.{[], ◌≡◌, ◌∙◌, ◌-◌, ◌≤◌, length}
 use Rattle.std.specs.Prelude.{Ok, min}
 use Rattle.iol_back.specs.Disk.{Disk}
 use Rattle.iol_core.specs.State.{conn_at}
@@ -6,12 +6,11 @@ use Rattle.iol_core.specs.Calls.Outside as outside
 use Rattle.iol_core.specs.declared.limits.TheConstants.{MAX_QUEUE_BYTES, PAGE_BYTES}
 use Rattle.iol_pipe.specs.declared.arriving.Arrived.{Arrived}
 use Rattle.iol_kernel.specs.Backed.{Serves}
-use Rattle.iol_kernel.specs.Borrowed.{TakesIn}
-use Rattle.iol_kernel.specs.Calls.{Arrives, Steps}
+use Rattle.iol_kernel.specs.Borrowed.{ComesIn, TakesIn}
 use Rattle.iol_kernel.specs.Kernel.{state_of}
 use Rattle.iol_kernel.specs.KernelState.{machine_of}
 use Rattle.iol_kernel.specs.MakingRoom.{IsSame}
-use Rattle.iol_kernel.proofs.Connections.TakenIn.{if_ok, if_ok_both, still_there, takes_evicted, takes_most, takes_none, takes_refused, takes_room, takes_serves, takes_stays}
+use Rattle.iol_kernel.proofs.Connections.TakenIn.{came_sound, if_ok, still_there, takes_evicted, takes_most, takes_none, takes_refused, takes_room, takes_serves, takes_stays}
 use Rattle.iol_kernel.proofs.kernel.Kernel.arrive_from.Goals as goal
 
 pub read_in-requires-clause-there : goal.read_in-requires-clause-there
@@ -29,12 +28,17 @@ returns-clause-no_room g c = takes_room c.args.conn c.args.max c.in_ok-pool.pool
 pub returns-clause-stays : goal.returns-clause-stays
 returns-clause-stays g c = takes_stays c.args.conn c.args.max c.in_ok-pool.pool (state_of c.args.self.now) (state_of c.make_room_for.new.self) c.make_room_for.ensures.made c.in_ok-pool.ensures.pool (state_of c.read_in.new.self) c.read_in.ensures.stays
 
+pub returns-clause-sound : goal.returns-clause-sound
+returns-clause-sound g c =
+    came_sound c.args.conn c.args.max (g.R.Read.remaining c.args.reader.now) (g.R.Read.remaining c.read_in.new.reader) (state_of c.make_room_for.new.self) (state_of c.read_in.new.self) c.read_in.result c.make_room_for.ensures.made.sound c.read_in.ensures.came c.read_in.ensures.err
+
 pub returns-clause-most : goal.returns-clause-most
 returns-clause-most g c =
     let h = state_of c.args.self.now in
     let k = state_of c.make_room_for.new.self in
-    if_ok (λ (a : Arrived). a.taken ≤ min (min c.args.max PAGE_BYTES) (MAX_QUEUE_BYTES - length (conn_at (machine_of [] k) c.args.conn).incoming)) (λ (a : Arrived). a.taken ≤ min (min c.args.max PAGE_BYTES) (MAX_QUEUE_BYTES - length (conn_at (machine_of [] h) c.args.conn).incoming)) c.read_in.result
-    (λ a le. takes_most c.args.conn c.args.max c.in_ok-pool.pool h k c.make_room_for.ensures.made c.in_ok-pool.ensures.pool a.taken le) c.read_in.ensures.most
+    if_ok (λ (a : Arrived). ComesIn c.args.conn c.args.max a.taken (g.R.Read.remaining c.args.reader.now) (g.R.Read.remaining c.read_in.new.reader) k (state_of c.read_in.new.self))
+    (λ (a : Arrived). a.taken ≤ min (min c.args.max PAGE_BYTES) (MAX_QUEUE_BYTES - length (conn_at (machine_of [] h) c.args.conn).incoming)) c.read_in.result
+    (λ a came. takes_most c.args.conn c.args.max c.in_ok-pool.pool h k c.make_room_for.ensures.made c.in_ok-pool.ensures.pool a.taken came.most) c.read_in.ensures.came
 
 pub returns-clause-none : goal.returns-clause-none
 returns-clause-none g c =
@@ -42,8 +46,8 @@ returns-clause-none g c =
     let k = state_of c.make_room_for.new.self in
     let l = state_of c.read_in.new.self in
     let e = c.read_in.ensures in
-    if_ok (λ (a : Arrived). a.taken ≡ 0 → (stored : List (List ℕ)) → machine_of stored l ≡ machine_of stored k) (λ (a : Arrived). a.taken ≡ 0 → IsSame h l) c.read_in.result
-    (λ a same none. takes_none c.args.conn c.args.max c.in_ok-pool.pool h k c.make_room_for.ensures.made c.in_ok-pool.ensures.pool l e.sound e.cache e.stays (same none)) e.none
+    if_ok (λ (a : Arrived). ComesIn c.args.conn c.args.max a.taken (g.R.Read.remaining c.args.reader.now) (g.R.Read.remaining c.read_in.new.reader) k l) (λ (a : Arrived). a.taken ≡ 0 → IsSame h l) c.read_in.result
+    (λ a came none. takes_none c.args.conn c.args.max c.in_ok-pool.pool h k c.make_room_for.ensures.made c.in_ok-pool.ensures.pool l came.sound e.cache e.stays (came.none none)) e.came
 
 pub returns-clause-read : goal.returns-clause-read
 returns-clause-read g c =
@@ -53,6 +57,5 @@ returns-clause-read g c =
     let e = c.read_in.ensures in
     let left = g.R.Read.remaining c.args.reader.now in
     let after = g.R.Read.remaining c.read_in.new.reader in
-    if_ok_both (λ (a : Arrived). TakesIn left after a.taken (λ bytes. Steps (λ s. outside.arrive s c.args.conn bytes) k (Ok a.taken) l)) (λ (a : Arrived). Arrives c.args.conn a.taken k l)
-    (λ (a : Arrived). TakesIn left after a.taken (λ bytes. (disk : Disk) → Serves (λ s. outside.arrive s c.args.conn bytes) disk h (Ok a.taken) disk l)) c.read_in.result
-    (λ a takes made. takes_serves c.args.conn c.args.max c.in_ok-pool.pool h k c.make_room_for.ensures.made c.in_ok-pool.ensures.pool left after a.taken l e.sound e.cache e.stays takes made) e.read e.made
+    if_ok (λ (a : Arrived). ComesIn c.args.conn c.args.max a.taken left after k l) (λ (a : Arrived). TakesIn left after a.taken (λ bytes. (disk : Disk) → Serves (λ s. outside.arrive s c.args.conn bytes) disk h (Ok a.taken) disk l)) c.read_in.result
+    (λ a came. takes_serves c.args.conn c.args.max c.in_ok-pool.pool h k c.make_room_for.ensures.made c.in_ok-pool.ensures.pool left after a.taken l came.sound e.cache e.stays came.read came.made) e.came

@@ -1,7 +1,8 @@
 use Rattle.std.proofs.Common.{[], ap, rules, true, false}
 use Rattle.iol_sock.specs.Table.{ConnTable, conn_in}
 use Rattle.iol_kernel.specs.Kernel.{state_of}
-use Rattle.iol_kernel.proofs.Connections.Borrowing.{read_passed, read_refused, read_room, read_sound, read_made, read_takes, read_none, read_most}
+use Rattle.iol_kernel.specs.KernelState.{KernelState}
+use Rattle.iol_kernel.proofs.Connections.Borrowing.{came_in, read_passed, read_refused, read_room}
 use Rattle.iol_kernel.proofs.Connections.Connecting.{conn_held, conn_in-found, conn_open}
 use Rattle.iol_kernel.proofs.kernel.Kernel.read_in.Goals as goal
 use Rattle.iol_kernel.specs.Readings.{bytes_over}
@@ -29,37 +30,10 @@ returns-in_err-arrive_from-clause-refused g c =
     let refused = read_refused h c.args.conn c.args.max (conn_held (bytes_over [] h.store) h c.args.conn c.requires.there) c.in_err-arrive_from.field-0.0 (search (rules)) in
     search (rules, refused)
 
-pub returns-clause-read : goal.returns-clause-read
-returns-clause-read g c =
+pub returns-clause-came : goal.returns-clause-came
+returns-clause-came g c =
     let h = state_of c.args.self.now in
+    let k : KernelState = record h { store = c.arrive_from.new.store; conns = c.arrive_from.new.self.conns; next_conn = c.arrive_from.new.self.next } in
     let e = c.in_ok-arrive_from.ensures in
-    read_takes h (record h { store = c.arrive_from.new.store; conns = c.arrive_from.new.self.conns; next_conn = c.arrive_from.new.self.next }) c.args.conn c.args.max c.in_ok-arrive_from.field-0.taken (g.R.Read.remaining c.args.reader.now) (g.R.Read.remaining c.arrive_from.new.reader) c.requires.sound (conn_held (bytes_over [] h.store) h c.args.conn c.requires.there) e.passed e.most e.read
-    (ap (λ (w : ConnTable). record h { store = c.arrive_from.new.store; conns = w.conns; next_conn = w.next }) c.arrive_from.ensures.others)
-
-pub returns-clause-made : goal.returns-clause-made
-returns-clause-made g c =
-    let h = state_of c.args.self.now in
-    let e = c.in_ok-arrive_from.ensures in
-    read_made h (record h { store = c.arrive_from.new.store; conns = c.arrive_from.new.self.conns; next_conn = c.arrive_from.new.self.next }) c.args.conn c.args.max c.in_ok-arrive_from.field-0.taken (g.R.Read.remaining c.args.reader.now) (g.R.Read.remaining c.arrive_from.new.reader) c.requires.sound (conn_held (bytes_over [] h.store) h c.args.conn c.requires.there) e.passed e.most e.read
-    (ap (λ (w : ConnTable). record h { store = c.arrive_from.new.store; conns = w.conns; next_conn = w.next }) c.arrive_from.ensures.others)
-
-pub returns-clause-most : goal.returns-clause-most
-returns-clause-most g c =
-    let h = state_of c.args.self.now in
-    let e = c.in_ok-arrive_from.ensures in
-    read_most h (record h { store = c.arrive_from.new.store; conns = c.arrive_from.new.self.conns; next_conn = c.arrive_from.new.self.next }) c.args.conn c.args.max c.in_ok-arrive_from.field-0.taken (g.R.Read.remaining c.args.reader.now) (g.R.Read.remaining c.arrive_from.new.reader) c.requires.sound (conn_held (bytes_over [] h.store) h c.args.conn c.requires.there) e.passed e.most e.read
-    (ap (λ (w : ConnTable). record h { store = c.arrive_from.new.store; conns = w.conns; next_conn = w.next }) c.arrive_from.ensures.others)
-
-pub returns-clause-none : goal.returns-clause-none
-returns-clause-none g c =
-    let h = state_of c.args.self.now in
-    let e = c.in_ok-arrive_from.ensures in
-    read_none h (record h { store = c.arrive_from.new.store; conns = c.arrive_from.new.self.conns; next_conn = c.arrive_from.new.self.next }) c.args.conn c.args.max c.in_ok-arrive_from.field-0.taken (g.R.Read.remaining c.args.reader.now) (g.R.Read.remaining c.arrive_from.new.reader) c.requires.sound (conn_held (bytes_over [] h.store) h c.args.conn c.requires.there) e.passed e.most e.read
-    (ap (λ (w : ConnTable). record h { store = c.arrive_from.new.store; conns = w.conns; next_conn = w.next }) c.arrive_from.ensures.others)
-
-pub returns-clause-sound : goal.returns-clause-sound
-returns-clause-sound g c =
-    let h = state_of c.args.self.now in
-    let e = c.in_ok-arrive_from.ensures in
-    read_sound h (record h { store = c.arrive_from.new.store; conns = c.arrive_from.new.self.conns; next_conn = c.arrive_from.new.self.next }) c.args.conn c.args.max c.in_ok-arrive_from.field-0.taken (g.R.Read.remaining c.args.reader.now) (g.R.Read.remaining c.arrive_from.new.reader) c.requires.sound (conn_held (bytes_over [] h.store) h c.args.conn c.requires.there) e.passed e.most e.read
+    came_in h k c.args.conn c.args.max c.in_ok-arrive_from.field-0.taken (g.R.Read.remaining c.args.reader.now) (g.R.Read.remaining c.arrive_from.new.reader) c.requires.sound (conn_held (bytes_over [] h.store) h c.args.conn c.requires.there) e.passed e.most e.read
     (ap (λ (w : ConnTable). record h { store = c.arrive_from.new.store; conns = w.conns; next_conn = w.next }) c.arrive_from.ensures.others)
