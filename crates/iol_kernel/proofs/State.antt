@@ -7,6 +7,7 @@ pub mod Rows
 pub mod Uses
 pub mod Once
 pub mod Sound
+pub mod FileLimits
 pub mod RoomMade
 pub mod Pooling
 pub mod Effects
