@@ -1,13 +1,14 @@
 -- What comes in from a reader and what goes out to a writer, in the copying machine's words.
-use Rattle.std.specs.Prelude.{◌≡◌, ℕ, zero, suc, ◌-◌, ◌≤◌, ◌==◌, min, List, [], ◌∷◌, length, Option, Ok}
-use Rattle.std.specs.Io.KnownBytes.{Consumes}
+use Rattle.std.specs.Prelude.{◌≡◌, ℕ, zero, suc, ◌-◌, ◌<◌, ◌≤◌, ◌==◌, Bool, false, true, min, take, List, [], ◌∷◌, length, Option, Ok}
+use Rattle.std.specs.Io.KnownBytes.{Appends, Consumes}
 use Rattle.iol_core.specs.State.{State, conn_at}
+use Rattle.iol_core.specs.Text.{bytes_of}
 use Rattle.iol_core.specs.Meaning.{◌when◌, Step}
 use Rattle.iol_core.specs.Calls.Outside.{arrive, transmit, lacks_conn}
 use Rattle.iol_core.specs.declared.limits.TheConstants.{MAX_QUEUE_BYTES, PAGE_BYTES}
 use Rattle.iol_core.specs.declared.refusals.Refusal.{Refusal}
 use Rattle.iol_core.specs.declared.refusals.Refusal.TheVariants.{BadFd, BadRange}
-use Rattle.iol_kernel.specs.Calls.{Arrives, Steps}
+use Rattle.iol_kernel.specs.Calls.{Arrives, Leaves, Steps}
 use Rattle.iol_kernel.specs.KernelState.{KernelState, IsSound, machine_of}
 
 -- at most max bytes are asked of a reader: refused as one byte that arrives, whatever it is
@@ -43,3 +44,11 @@ pub record ComesIn (c max n : ℕ) (left after : Option (List ℕ)) (old new : K
 abbrev pub sent_on : (c n : ℕ) → State → State
 sent_on c zero s = s
 sent_on c (suc n) s = (transmit s c (suc n)).after
+
+-- The first bytes to be sent on a connection went to a writer: n of at most max, which are fewer just where it failed.
+pub record LendsOut (c max n : ℕ) (failed : Bool) (before after : Option (List ℕ)) (old new : KernelState) : Type 0 where
+  pub most : n ≤ min max (length (conn_at (machine_of [] old) c).outgoing)
+  pub all : failed ≡ false → n ≡ min max (length (conn_at (machine_of [] old) c).outgoing)
+  pub fewer : failed ≡ true → n < min max (length (conn_at (machine_of [] old) c).outgoing)
+  pub written : Appends before after (take n (bytes_of (conn_at (machine_of [] old) c).outgoing))
+  pub left : Leaves (sent_on c n) old new

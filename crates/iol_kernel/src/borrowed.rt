@@ -1,6 +1,6 @@
 //! Connections that are served from outside in place: what a reader gives comes straight into a page, and a writer takes
 //! bytes from where they lie.
-ghost use Rattle.std.specs.Prelude.{◌≡◌, ℕ, ◌<◌, ◌≤◌, ◌-◌, length, min, take, true, false, List, Some, Ok, Err, IfOk, IfErr, OnOk, OnErr};
+ghost use Rattle.std.specs.Prelude.{◌≡◌, ℕ, ◌<◌, ◌≤◌, ◌-◌, length, min, take, true, false, Some, Ok, Err, IfOk, IfErr, OnOk, OnErr};
 ghost use Rattle.std.specs.Io.KnownBytes.{Appends, IsAtEnd};
 ghost use Rattle.iol_core.specs.Meaning.{WantOfRoom, first};
 ghost use Rattle.iol_core.specs.State.{conn_at};
@@ -12,7 +12,7 @@ ghost use Rattle.iol_pool.specs.Pools.{pool_in};
 ghost use Rattle.iol_hold.specs.Moves.{Stays};
 ghost use Rattle.iol_hold.specs.Room.{has_room};
 ghost use Rattle.iol_sock.specs.Refused.{IsPassed, IsRefused};
-ghost use Rattle.iol_kernel.specs.Borrowed.{arrive_from_refusals, ComesIn, TakesIn, sent_on};
+ghost use Rattle.iol_kernel.specs.Borrowed.{arrive_from_refusals, ComesIn, LendsOut, TakesIn, sent_on};
 ghost use Rattle.iol_kernel.specs.Backed.{Serves};
 ghost use Rattle.iol_kernel.specs.Calls as calls;
 ghost use Rattle.iol_kernel.specs.KernelState.{IsSound};
@@ -170,14 +170,8 @@ impl Kernel {
     fn lend_out<W: Write>(&mut self, conn: ConnId, writer: &mut W, max: u32) -> Drained
         requires sound { IsSound (state_of self.old) }
         requires there { lacks_conn (machine self.old) conn ≡ false }
-        ensures most { result.taken ≤ min max (length (conn_at (machine self.old) conn).outgoing) }
-        ensures all { result.failed ≡ false → result.taken ≡ min max (length (conn_at
-            (machine self.old) conn).outgoing) }
-        ensures fewer { result.failed ≡ true → result.taken < min max (length (conn_at
-            (machine self.old) conn).outgoing) }
-        ensures written { Appends (W.contents writer.old) (W.contents writer.new) (take result.taken
-            (bytes_of (conn_at (machine self.old) conn).outgoing)) }
-        ensures left { Leaves (sent_on conn result.taken) self.old self.new }
+        ensures { LendsOut conn max result.taken result.failed (W.contents writer.old)
+            (W.contents writer.new) (state_of self.old) (state_of self.new) }
     {
         let drained = self.conns.drain_to(&mut self.store, conn, writer, max);
         if drained.taken == 0 {

@@ -1,9 +1,10 @@
 -- What comes in from a reader and what goes out to a writer, of a connection.
-use Rattle.std.proofs.Common.{◌≡◌, ◌≢◌, ℕ, zero, suc, ◌-◌, ◌≤◌, ◌==◌, ◌&&◌, ◌||◌, Bool, List, [], ◌∷◌, ◌++◌, length, take, drop, ap, ◌∙◌, refl, sym, subst, arith, Option, Some, None, true, false}
-use Rattle.std.specs.Prelude.{min, nat_lt, is_some, MatchOption, Ok}
+use Rattle.std.proofs.Common.{◌≡◌, ◌≢◌, ℕ, zero, suc, ◌-◌, ◌<◌, ◌≤◌, ◌==◌, ◌&&◌, ◌||◌, Bool, List, [], ◌∷◌, ◌++◌, length, take, drop, ap, ◌∙◌, refl, sym, subst, arith, Option, Some, None, true, false}
+use Rattle.std.specs.Prelude.{min, nat_lt, is_some, MatchOption}
+use Rattle.std.specs.Io.KnownBytes.{Appends}
 use Rattle.std.proofs.lemmas.Bool.Decides.{nat_tests}
 use Rattle.std.proofs.lemmas.List.{take_all, append-nil}
-use Rattle.iol_core.specs.Text.{Text, labelled}
+use Rattle.iol_core.specs.Text.{Text, bytes_of, labelled}
 use Rattle.iol_core.specs.Numbered.{lookup, changed}
 use Rattle.iol_core.specs.State.{State, Connection, conn_at, with_conn}
 use Rattle.iol_core.specs.Meaning.{◌when◌, first, WantOfRoom}
@@ -27,7 +28,7 @@ use Rattle.iol_sock.specs.Connections.{Conn, conn_view}
 use Rattle.iol_sock.specs.Refused.{arrive_refusals, read_refusals, IsRefused}
 use Rattle.iol_sock.specs.Table.{conn_in}
 use Rattle.iol_sock.proofs.Meaning.{conn_at-is, arrives_meant}
-use Rattle.iol_kernel.specs.Borrowed.{arrive_from_refusals, ComesIn, sent_on}
+use Rattle.iol_kernel.specs.Borrowed.{arrive_from_refusals, ComesIn, LendsOut, sent_on}
 use Rattle.iol_kernel.specs.Calls.{Leaves}
 use Rattle.iol_kernel.specs.KernelState.{KernelState, IsSound, read_of, machine_of}
 use Rattle.iol_kernel.proofs.Connections.Arriving.{going, passed_open, arrive_pool, all_sound, all_step, all_made}
@@ -81,11 +82,21 @@ module _ (h : KernelState) (c max : ℕ) (there : lookup h.conns c ≢ None) whe
   pub incoming_len : length (conn_at (machine_of [] h) c).incoming ≡ byte_len x.incoming
   incoming_len = ap (λ (y : Connection). length y.incoming) is ∙ length-read (byte_at h.store) x.incoming
 
-  pub outgoing_len : length (conn_at (machine_of [] h) c).outgoing ≡ byte_len x.outgoing
+  outgoing_len : length (conn_at (machine_of [] h) c).outgoing ≡ byte_len x.outgoing
   outgoing_len = ap (λ (y : Connection). length y.outgoing) is ∙ length-read (byte_at h.store) x.outgoing
 
-  pub outgoing_text : (conn_at (machine_of [] h) c).outgoing ≡ text_of h.store x.outgoing
+  outgoing_text : (conn_at (machine_of [] h) c).outgoing ≡ text_of h.store x.outgoing
   outgoing_text = ap (λ (y : Connection). y.outgoing) is
+
+  -- what went out, in the machine's words
+  pub lent_out : (k : KernelState) (n : ℕ) (failed : Bool) (before after : Option (List ℕ)) → n ≤ min max (byte_len x.outgoing) → (failed ≡ false → n ≡ min max (byte_len x.outgoing)) → (failed ≡ true → n < min max (byte_len x.outgoing)) → Appends before after (take n (bytes_of (text_of h.store x.outgoing))) → Leaves (sent_on c n) h k → LendsOut c max n failed before after h k
+  lent_out k n failed before after most all fewer written left = record {
+    most = subst (λ l. n ≤ min max l) (sym outgoing_len) most;
+    all = subst (λ l. failed ≡ false → n ≡ min max l) (sym outgoing_len) all;
+    fewer = subst (λ l. failed ≡ true → n < min max l) (sym outgoing_len) fewer;
+    written = subst (λ (t : Text). Appends before after (take n (bytes_of t))) (sym outgoing_text) written;
+    left = left;
+  }
 
   -- refused as the connection is
   asked : (b : Bool) → first ((BadRange when b) ∷ (outside.arrive (machine_of [] h) c (0 ∷ [])).refusals) ≡ first ((BadRange when b) ∷ arrive_refusals x 1)

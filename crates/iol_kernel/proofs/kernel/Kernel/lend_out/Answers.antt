@@ -1,10 +1,8 @@
-use Rattle.std.proofs.Common.{[], ◌≡◌, ap, sym, subst, arith, take, true, false}
-use Rattle.std.specs.Prelude.{◌≤◌, ◌<◌, min}
-use Rattle.std.specs.Io.KnownBytes.{Appends}
-use Rattle.iol_core.specs.Text.{Text, bytes_of}
+use Rattle.std.proofs.Common.{[], ap, arith}
 use Rattle.iol_sock.specs.Table.{ConnTable, conn_in}
 use Rattle.iol_kernel.specs.Kernel.{state_of}
-use Rattle.iol_kernel.proofs.Connections.Borrowing.{outgoing_len, outgoing_text, lent_sound, lent_there, lent_none, lent_some}
+use Rattle.iol_kernel.specs.KernelState.{KernelState}
+use Rattle.iol_kernel.proofs.Connections.Borrowing.{lent_none, lent_out, lent_some, lent_sound, lent_there}
 use Rattle.iol_kernel.proofs.Connections.Connecting.{conn_held, conn_in-found, conn_readable, outgoing_covered}
 use Rattle.iol_kernel.proofs.kernel.Kernel.lend_out.Goals as goal
 use Rattle.iol_kernel.specs.Readings.{bytes_over}
@@ -22,42 +20,6 @@ drain_to-drained-requires-clause-readable g c =
     let h = state_of c.args.self.now in
     (conn_readable h c.args.conn (conn_in h.conns c.args.conn) c.requires.sound (conn_in-found h.conns c.args.conn (conn_held (bytes_over [] h.store) h c.args.conn c.requires.there))).1
 
-pub returns-then-drained-eq0-clause-all : goal.returns-then-drained-eq0-clause-all
-returns-then-drained-eq0-clause-all g c =
-    let h = state_of c.args.self.now in
-    let len = outgoing_len h c.args.conn c.args.max (conn_held (bytes_over [] h.store) h c.args.conn c.requires.there) in
-    subst (λ l. c.drain_to-drained.result.failed ≡ false → c.drain_to-drained.result.taken ≡ min c.args.max l) (sym len) c.drain_to-drained.ensures.all
-
-pub returns-then-drained-eq0-clause-fewer : goal.returns-then-drained-eq0-clause-fewer
-returns-then-drained-eq0-clause-fewer g c =
-    let h = state_of c.args.self.now in
-    let len = outgoing_len h c.args.conn c.args.max (conn_held (bytes_over [] h.store) h c.args.conn c.requires.there) in
-    subst (λ l. c.drain_to-drained.result.failed ≡ true → c.drain_to-drained.result.taken < min c.args.max l) (sym len) c.drain_to-drained.ensures.fewer
-
-pub returns-clause-most : goal.returns-clause-most
-returns-clause-most g c =
-    let h = state_of c.args.self.now in
-    let len = outgoing_len h c.args.conn c.args.max (conn_held (bytes_over [] h.store) h c.args.conn c.requires.there) in
-    subst (λ l. c.drain_to-drained.result.taken ≤ min c.args.max l) (sym len) c.drain_to-drained.ensures.most
-
-pub returns-clause-all : goal.returns-clause-all
-returns-clause-all g c =
-    let h = state_of c.args.self.now in
-    let len = outgoing_len h c.args.conn c.args.max (conn_held (bytes_over [] h.store) h c.args.conn c.requires.there) in
-    subst (λ l. c.drain_to-drained.result.failed ≡ false → c.drain_to-drained.result.taken ≡ min c.args.max l) (sym len) c.drain_to-drained.ensures.all
-
-pub returns-clause-fewer : goal.returns-clause-fewer
-returns-clause-fewer g c =
-    let h = state_of c.args.self.now in
-    let len = outgoing_len h c.args.conn c.args.max (conn_held (bytes_over [] h.store) h c.args.conn c.requires.there) in
-    subst (λ l. c.drain_to-drained.result.failed ≡ true → c.drain_to-drained.result.taken < min c.args.max l) (sym len) c.drain_to-drained.ensures.fewer
-
-pub returns-clause-written : goal.returns-clause-written
-returns-clause-written g c =
-    let h = state_of c.args.self.now in
-    let text = outgoing_text h c.args.conn c.args.max (conn_held (bytes_over [] h.store) h c.args.conn c.requires.there) in
-    subst (λ (t : Text). Appends (g.W.Write.contents c.args.writer.now) (g.W.Write.contents c.drain_to-drained.new.writer) (take c.drain_to-drained.result.taken (bytes_of t))) (sym text) c.drain_to-drained.ensures.written
-
 pub settle-requires-clause-sound : goal.settle-requires-clause-sound
 settle-requires-clause-sound g c =
     let h = state_of c.args.self.now in
@@ -72,16 +34,22 @@ settle-requires-clause-there g c =
     lent_there h (record h { store = c.drain_to-drained.new.store; conns = c.drain_to-drained.new.self.conns; next_conn = c.drain_to-drained.new.self.next }) c.args.conn c.drain_to-drained.result.taken c.requires.sound (conn_held (bytes_over [] h.store) h c.args.conn c.requires.there) e.rest
     (ap (λ (w : ConnTable). record h { store = c.drain_to-drained.new.store; conns = w.conns; next_conn = w.next }) e.others) e.moves e.lists e.frees e.settles
 
-pub returns-then-drained-eq0-clause-left : goal.returns-then-drained-eq0-clause-left
-returns-then-drained-eq0-clause-left g c =
+pub returns-then-drained-eq0 : goal.returns-then-drained-eq0
+returns-then-drained-eq0 g c =
     let h = state_of c.args.self.now in
+    let m : KernelState = record h { store = c.drain_to-drained.new.store; conns = c.drain_to-drained.new.self.conns; next_conn = c.drain_to-drained.new.self.next } in
+    let there = conn_held (bytes_over [] h.store) h c.args.conn c.requires.there in
+    let d = c.drain_to-drained.result in
     let e = c.drain_to-drained.ensures in
-    lent_none h (record h { store = c.drain_to-drained.new.store; conns = c.drain_to-drained.new.self.conns; next_conn = c.drain_to-drained.new.self.next }) c.args.conn c.drain_to-drained.result.taken c.requires.sound (conn_held (bytes_over [] h.store) h c.args.conn c.requires.there) e.rest
-    (ap (λ (w : ConnTable). record h { store = c.drain_to-drained.new.store; conns = w.conns; next_conn = w.next }) e.others) e.moves e.lists e.frees e.settles (omega (arith, c.if-drained-eq0.true))
+    lent_out h c.args.conn c.args.max there m d.taken d.failed (g.W.Write.contents c.args.writer.now) (g.W.Write.contents c.drain_to-drained.new.writer) e.most e.all e.fewer e.written
+    (lent_none h m c.args.conn d.taken c.requires.sound there e.rest (ap (λ (w : ConnTable). record h { store = c.drain_to-drained.new.store; conns = w.conns; next_conn = w.next }) e.others) e.moves e.lists e.frees e.settles (omega (arith, c.if-drained-eq0.true)))
 
-pub returns-clause-left : goal.returns-clause-left
-returns-clause-left g c =
+pub returns : goal.returns
+returns g c =
     let h = state_of c.args.self.now in
+    let m : KernelState = record h { store = c.drain_to-drained.new.store; conns = c.drain_to-drained.new.self.conns; next_conn = c.drain_to-drained.new.self.next } in
+    let there = conn_held (bytes_over [] h.store) h c.args.conn c.requires.there in
+    let d = c.drain_to-drained.result in
     let e = c.drain_to-drained.ensures in
-    lent_some h (record h { store = c.drain_to-drained.new.store; conns = c.drain_to-drained.new.self.conns; next_conn = c.drain_to-drained.new.self.next }) c.args.conn c.drain_to-drained.result.taken c.requires.sound (conn_held (bytes_over [] h.store) h c.args.conn c.requires.there) e.rest
-    (ap (λ (w : ConnTable). record h { store = c.drain_to-drained.new.store; conns = w.conns; next_conn = w.next }) e.others) e.moves e.lists e.frees e.settles (state_of c.settle.new.self) (λ none. omega (arith, none, c.if-drained-eq0.false)) c.settle.ensures.left
+    lent_out h c.args.conn c.args.max there (state_of c.settle.new.self) d.taken d.failed (g.W.Write.contents c.args.writer.now) (g.W.Write.contents c.drain_to-drained.new.writer) e.most e.all e.fewer e.written
+    (lent_some h m c.args.conn d.taken c.requires.sound there e.rest (ap (λ (w : ConnTable). record h { store = c.drain_to-drained.new.store; conns = w.conns; next_conn = w.next }) e.others) e.moves e.lists e.frees e.settles (state_of c.settle.new.self) (λ none. omega (arith, none, c.if-drained-eq0.false)) c.settle.ensures.left)
