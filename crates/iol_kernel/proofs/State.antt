@@ -8,6 +8,7 @@ pub mod Rows
 pub mod Uses
 pub mod Once
 pub mod Sound
+pub mod FileLimits
 pub mod RoomMade
 pub mod Pooling
 pub mod Effects

@@ -15,9 +15,9 @@ use Rattle.iol_core.specs.declared.refusals.Refusal.{Refusal}
 use Rattle.iol_core.specs.declared.refusals.Refusal.TheVariants.{BadFd, NoDomain, TooMany, WouldBlock, WrongMode}
 use Rattle.iol_back.specs.Disk.{Disk}
 use Rattle.iol_kernel.specs.Backed.{Serves, with_slots}
-use Rattle.iol_kernel.specs.FileReading.{FileRead, IsOpenAt}
-use Rattle.iol_kernel.specs.KernelState.{KernelState, IsSound, machine_of}
-use Rattle.iol_kernel.specs.Readings.{bytes_over}
+use Rattle.iol_kernel.specs.FileReading.{FileRead, IsOpenAt, held_by}
+use Rattle.iol_kernel.specs.KernelState.{KernelState, IsSound, machine_of, read_of}
+use Rattle.iol_kernel.specs.Readings.{Reading, bytes_over}
 use Rattle.iol_kernel.proofs.FileCalls.FileReads.{iol_read-tests, read-tests, refuses}
 
 -- of a file nothing has to be waited for
@@ -94,5 +94,9 @@ pub refuses_read : (h k : KernelState) (d fd n : ℕ) (y : Refusal) → IsSound 
 refuses_read h k d fd n y sound is = refuses (λ s. reading.read s d fd n) h k y sound (λ slots. refused_now (reading.read (with_slots slots h) d fd n) y (read-tests slots h d fd n ∙ is))
 
 -- what is open on a file is no queue
-pub no_queue : (live : Bool) (o : Option Descriptor) (f at : ℕ) (mode : Mode) → live ≡ true → o ≡ Some (on.File f at mode) → open_on (if live then o else None) ≡ None → ⊥
-no_queue live o f at mode is there none = (let both : ◌≡◌ {A = Option (ℕ × ℕ × Mode)} (Some (f, at, mode)) None = ap (λ (p : Option Descriptor). open_on p) (sym there) ∙ ap (λ b. open_on (if b then o else None)) (sym is) ∙ none in cc both)
+
+on_file : (live : Bool) (o : Option Descriptor) (f at : ℕ) (mode : Mode) → live ≡ true → o ≡ Some (on.File f at mode) → open_on (if live then o else None) ≡ None → ⊥
+on_file live o f at mode is there none = (let both : ◌≡◌ {A = Option (ℕ × ℕ × Mode)} (Some (f, at, mode)) None = ap (λ (p : Option Descriptor). open_on p) (sym there) ∙ ap (λ b. open_on (if b then o else None)) (sym is) ∙ none in cc both)
+
+pub no_queue : (h : KernelState) (d fd : ℕ) {f at : ℕ} {mode : Mode} → machine.is_live (machine_of [] h) d ≡ true → machine.descriptor (machine_of [] h) d fd ≡ Some (on.File f at mode) → ((r : Reading) → open_on (held_by (read_of r h) d fd) ≡ None) → ⊥
+no_queue h d fd {f} {at} {mode} live from none = on_file (machine.is_live (machine_of [] h) d) (machine.descriptor (machine_of [] h) d fd) f at mode live from (none (bytes_over [] h.store))

@@ -9,7 +9,7 @@ use Rattle.std.proofs.lemmas.List.FromFn.{get_or-map-range_with_len, length-map-
 use Rattle.std.proofs.lemmas.List.Sums.{sum_by_push}
 use Rattle.iol_core.specs.Numbered.{is_numbered, numbered_or}
 use Rattle.iol_core.specs.State as machine
-use Rattle.iol_core.specs.State.{State, Domain}
+use Rattle.iol_core.specs.State.{State}
 use Rattle.iol_core.specs.Calls.Files as calls
 use Rattle.iol_core.specs.Calls.Files.{file_called}
 use Rattle.iol_core.specs.declared.descriptors.Descriptor.{Descriptor}
@@ -19,7 +19,6 @@ use Rattle.iol_core.specs.declared.numbers.BufId.{BufId}
 use Rattle.iol_back.specs.Disk.{Disk, IfHonest, content}
 use Rattle.iol_hold.specs.Moves.{tally}
 use Rattle.iol_hold.specs.Texts.{bufs_of}
-use Rattle.iol_hold.specs.declared.slices.Slice.{Slice}
 use Rattle.iol_hold.proofs.Counting.{tally_none}
 use Rattle.iol_cache.specs.Cached.{Cached, file_in, no_file, new_file, extents_in, all_parts, held, order_in}
 use Rattle.iol_cache.specs.Contents.{AreStored, file_bytes}
@@ -32,7 +31,8 @@ use Rattle.iol_kernel.specs.KernelState.{KernelState, objects_of, Each, AreFiled
 use Rattle.iol_kernel.specs.Readings.{Reading, slot_read, slots_read}
 use Rattle.iol_kernel.specs.Views.{state_view}
 use Rattle.iol_kernel.proofs.State.Slots.{file_bytes-none}
-use Rattle.iol_kernel.proofs.State.Sound.{each-push, each-weaker}
+use Rattle.iol_kernel.proofs.State.FileLimits.{ends_weaker, with_files}
+use Rattle.iol_kernel.proofs.State.Sound.{each-push}
 
 pub files-read_of : (f : Reading) (h : KernelState) → (read_of f h).files ≡ h.files
 unfolding read_of state_view
@@ -177,31 +177,16 @@ module _ (h : KernelState) (name : List ℕ) (p : ℕ) (c : Cached) (sound : IsS
   named-sound : IsSound named
   unfolding IsCached
   named-sound =
-      let l = sound.limits.objects in
       record {
         domains = sound.domains;
         objects = record { pipes = sound.objects.pipes; conns = sound.objects.conns; files = λ n. record { laid = (kept.files n).laid } };
-        fds = each-weaker (λ (d : Domain (List Slice)). Each (IsOpenEnd (objects_of h)) d.fds) (λ (d : Domain (List Slice)). Each (IsOpenEnd (objects_of named)) d.fds) h.domains
-            (λ d e. each-weaker (IsOpenEnd (objects_of h)) (IsOpenEnd (objects_of named)) d.fds same_end e) sound.fds;
+        fds = ends_weaker (objects_of h) (objects_of named) h.domains same_end sound.fds;
         once = sound.once;
         counted = record { each = λ b. omega (arith, sound.counted.each b, ap (λ (fs : Files). tally b (held fs)) added, held-push b h.cache.files p) };
         tidy = sound.tidy;
         still = sound.still;
         settled = sound.settled;
-        limits = record {
-          aggs = sound.limits.aggs;
-          few = sound.limits.few;
-          objects = record {
-            queues = l.queues;
-            few_pipes = l.few_pipes;
-            conns = l.conns;
-            few_conns = l.few_conns;
-            rising = l.rising;
-            last = l.last;
-            cached = subst (λ (fs : Files). Each IsFile fs) (sym added) (each-push IsFile h.cache.files (new_file p) l.cached (record { apart = tt; short = omega arith }));
-            few_files = kept.few_files;
-          };
-        };
+        limits = record { aggs = sound.limits.aggs; few = sound.limits.few; objects = with_files _ _ sound.limits.objects (subst (λ (fs : Files). Each IsFile fs) (sym added) (each-push IsFile h.cache.files (new_file p) sound.limits.objects.cached (record { apart = tt; short = omega arith }))) kept.few_files };
         pooled = record { few = sound.pooled.few; opened = sound.pooled.opened; files_open = λ n there. (kept.opened n there).is_open };
         sums = sound.sums;
         filed = filed;

@@ -1,6 +1,6 @@
 -- The extents of files change as the cache goes on: a system stays sound, and all but the bytes of its files stays.
 use Rattle.std.proofs.Common.{◌≡◌, ℕ, suc, ◌+◌, List, [], ◌∷◌, length, get_or, map, refl, sym, ap, ◌∙◌, subst, arith, Option, Some, None}
-use Rattle.iol_core.specs.State.{State, Domain}
+use Rattle.iol_core.specs.State.{State}
 use Rattle.iol_core.specs.declared.descriptors.Descriptor.{Descriptor}
 use Rattle.iol_core.specs.declared.descriptors.Descriptor.TheVariants as on
 use Rattle.iol_arena.specs.State.{page_count}
@@ -19,7 +19,8 @@ use Rattle.iol_kernel.specs.Readings.{bytes_over, slots_read}
 use Rattle.iol_kernel.specs.Views.{Objects, state_view}
 use Rattle.iol_kernel.proofs.State.Pooling.{same_pooled}
 use Rattle.iol_kernel.proofs.State.Slots.{held-none, none_readable}
-use Rattle.iol_kernel.proofs.State.Sound.{AreHeld, domains_stay, each-weaker, objects_stay, view-stays}
+use Rattle.iol_kernel.proofs.State.FileLimits.{ends_weaker, with_files}
+use Rattle.iol_kernel.proofs.State.Sound.{AreHeld, domains_stay, objects_stay, view-stays}
 use Rattle.iol_kernel.proofs.State.Views.{pools-view}
 
 -- What became of the pages and of the extents: holds came and went with the extents alone, and no file came or went.
@@ -90,31 +91,16 @@ module _ (h : KernelState) (t : Stored) (d : Cached) (sound : IsSound h) (m : Re
 
   pub recached_sound : IsSound next
   recached_sound =
-      let o = sound.limits.objects in
       record {
         domains = domains_stay h.store t m.moves.stays h.domains bare bare_held sound.domains;
         objects = record { pipes = bare_good.pipes; conns = bare_good.conns; files = λ n. record { laid = (m.sound.files n).laid } };
-        fds = each-weaker (λ (z : Domain (List Slice)). Each (IsOpenEnd (objects_of h)) z.fds) (λ (z : Domain (List Slice)). Each (IsOpenEnd (objects_of next)) z.fds) h.domains
-            (λ z e. each-weaker (IsOpenEnd (objects_of h)) (IsOpenEnd (objects_of next)) z.fds (ends_recached (objects_of h) d.files) e) sound.fds;
+        fds = ends_weaker (objects_of h) (objects_of next) h.domains (ends_recached (objects_of h) d.files) sound.fds;
         once = sound.once;
         counted = recounted;
         tidy = m.moves.tidy sound.tidy;
         still = m.moves.still sound.still;
         settled = m.settles sound.settled;
-        limits = record {
-          aggs = sound.limits.aggs;
-          few = sound.limits.few;
-          objects = record {
-            queues = o.queues;
-            few_pipes = o.few_pipes;
-            conns = o.conns;
-            few_conns = o.few_conns;
-            rising = o.rising;
-            last = o.last;
-            cached = all_apart t d.files m.sound.files;
-            few_files = m.sound.few_files;
-          };
-        };
+        limits = record { aggs = sound.limits.aggs; few = sound.limits.few; objects = with_files _ _ sound.limits.objects (all_apart t d.files m.sound.files) m.sound.few_files };
         pooled = repooled;
         sums = IsRight-keeps h.store.arena t.arena h.sums m.moves.stays.keeps sound.sums;
         filed = same_pools h.cache.files d.files m.files m.pools ∙ sound.filed;

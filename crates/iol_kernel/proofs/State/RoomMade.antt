@@ -1,9 +1,9 @@
 -- Clean extents of files give way: what the kernel's state is then.
-use Rattle.std.proofs.Common.{◌≡◌, ℕ, suc, ◌<◌, ◌∙◌, List, [], ◌∷◌, length, get_or, map, Option, Some, None, refl, sym, ap, subst, arith}
+use Rattle.std.proofs.Common.{◌≡◌, ℕ, suc, ◌<◌, ◌∙◌, List, [], ◌∷◌, length, get_or, map, Option, Some, refl, sym, ap, subst, arith}
 use Rattle.std.proofs.lemmas.Bool.Decides.{nat_tests}
 use Rattle.std.specs.List.{range_with_len}
 use Rattle.iol_core.specs.State as machine
-use Rattle.iol_core.specs.State.{State, Domain}
+use Rattle.iol_core.specs.State.{State}
 use Rattle.iol_core.specs.declared.descriptors.Descriptor.{Descriptor}
 use Rattle.iol_core.specs.declared.descriptors.Descriptor.TheVariants as on
 use Rattle.iol_core.specs.declared.limits.TheConstants.{MAX_FILES}
@@ -25,7 +25,8 @@ use Rattle.iol_kernel.specs.Readings.{Reading, bytes_over, slots_read}
 use Rattle.iol_kernel.specs.Views.{Objects, state_view}
 use Rattle.iol_kernel.proofs.State.Pooling.{same_pooled}
 use Rattle.iol_kernel.proofs.State.Slots.{held-none, none_readable}
-use Rattle.iol_kernel.proofs.State.Sound.{AreHeld, domains_stay, each-weaker, objects_stay, view-stays}
+use Rattle.iol_kernel.proofs.State.FileLimits.{ends_weaker, with_files}
+use Rattle.iol_kernel.proofs.State.Sound.{AreHeld, domains_stay, objects_stay, view-stays}
 
 -- Files by slot, and as a list.
 
@@ -47,11 +48,8 @@ same_pools (x ∷ fs) (y ∷ gs) len same =
 
 -- An end that is open is so whatever is in memory of files.
 pub ends_recached : (qs : Objects (List Slice)) (fs : List CachedFile) (e : Option Descriptor) → IsOpenEnd qs e → IsOpenEnd (record qs { cached = fs }) e
-ends_recached qs fs None is = tt
-ends_recached qs fs (Some (on.ReadEnd q)) is = is
-ends_recached qs fs (Some (on.WriteEnd q)) is = is
 ends_recached qs fs (Some (on.File f at mode)) is = is
-ends_recached qs fs (Some (on.Connection n)) is = is
+ends_recached qs fs e is = is
 
 module _ (h : KernelState) (t : Stored) (c : Cached) (sound : IsSound h) (kept : cache.IsSound t c) (gone : GivesUp (holding_of h) (record { store = t; cache = c })) where
   abbrev k : KernelState
@@ -82,32 +80,17 @@ module _ (h : KernelState) (t : Stored) (c : Cached) (sound : IsSound h) (kept :
   pub room_sound : IsSound k
   unfolding IsCached
   room_sound =
-      let l = sound.limits.objects in
       let pooled = same_pooled h.store t h.conns h.cache.files gone.lists sound.pooled in
       record {
         domains = domains_stay h.store t gone.moves.stays h.domains beside_files still_held sound.domains;
         objects = record { pipes = readable_still.pipes; conns = readable_still.conns; files = λ n. record { laid = (kept.files n).laid } };
-        fds = each-weaker (λ (d : Domain (List Slice)). Each (IsOpenEnd (objects_of h)) d.fds) (λ (d : Domain (List Slice)). Each (IsOpenEnd (objects_of k)) d.fds) h.domains
-            (λ d e. each-weaker (IsOpenEnd (objects_of h)) (IsOpenEnd (objects_of k)) d.fds (ends_recached (objects_of h) c.files) e) sound.fds;
+        fds = ends_weaker (objects_of h) (objects_of k) h.domains (ends_recached (objects_of h) c.files) sound.fds;
         once = sound.once;
         counted = record { each = λ b. omega (arith, sound.counted.each b, gone.moves.counts.each b) };
         tidy = gone.moves.tidy sound.tidy;
         still = gone.moves.still sound.still;
         settled = gone.settles sound.settled;
-        limits = record {
-          aggs = sound.limits.aggs;
-          few = sound.limits.few;
-          objects = record {
-            queues = l.queues;
-            few_pipes = l.few_pipes;
-            conns = l.conns;
-            few_conns = l.few_conns;
-            rising = l.rising;
-            last = l.last;
-            cached = files_each IsFile c.files file_good;
-            few_files = kept.few_files;
-          };
-        };
+        limits = record { aggs = sound.limits.aggs; few = sound.limits.few; objects = with_files _ _ sound.limits.objects (files_each IsFile c.files file_good) kept.few_files };
         pooled = record { few = pooled.few; opened = pooled.opened; files_open = λ n there. (kept.opened n there).is_open };
         sums = IsRight-keeps h.store.arena t.arena h.sums gone.moves.stays.keeps sound.sums;
         filed = filed;
