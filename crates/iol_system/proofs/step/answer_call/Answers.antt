@@ -3,7 +3,6 @@ use Rattle.std.proofs.Common.{refl, subst, ℕ, List}
 use Rattle.iol_core.specs.Calls.Domains as domains
 use Rattle.iol_core.specs.Calls.Pools as pools
 use Rattle.iol_core.specs.Calls.Aggregates as aggs
-use Rattle.iol_core.specs.Calls.Aggregates.{default_pool}
 use Rattle.iol_core.specs.Calls.Descriptors as fds
 use Rattle.iol_core.specs.Calls.Files as files
 use Rattle.iol_core.specs.declared.events.Call.TheVariants as call
