@@ -1,5 +1,5 @@
 -- What the calls that copy do for their own domain.
-use Rattle.std.proofs.Common.{◌≡◌, ℕ, ◌+◌, ◌≤◌, List, [], ◌∷◌, ◌++◌, length, take, drop, ap, ◌∙◌, refl, sym, subst, arith, Option, Some, None, true, false, Bool}
+use Rattle.std.proofs.Common.{◌≡◌, ℕ, ◌+◌, ◌≤◌, List, [], ◌∷◌, ◌++◌, length, take, drop, ap, ◌∙◌, refl, subst, arith, Option, Some, None, true, false, Bool}
 use Rattle.std.specs.Prelude.{option_map, slice_set, not, is_none, min, nat_lt, ◌&&◌, ◌==◌, MatchOption}
 use Rattle.std.proofs.lemmas.Bool.Decides.{nat_tests}
 use Rattle.std.proofs.lemmas.List.{take_all}
@@ -23,7 +23,6 @@ use Rattle.iol_core.specs.declared.events.Event.TheVariants as event
 use Rattle.iol_core.specs.declared.events.Reply.{Reply}
 use Rattle.iol_core.specs.declared.events.Reply.TheVariants as reply
 use Rattle.iol_core.proofs.Lookups.{domain-same}
-use Rattle.iol_core.proofs.Passing.{passed, when-none}
 use Rattle.iol_laws.specs.Order.{IsOrderly}
 use Rattle.iol_laws.specs.Caller.{WritesConn, WritesPipe}
 use Rattle.iol_laws.specs.CallerCopies.{SameLent, CopiesFile, CopiesConn, CopiesPipe}
@@ -32,7 +31,7 @@ use Rattle.iol_laws.proofs.Caller.Descriptors.{puts_conn}
 use Rattle.iol_laws.proofs.Caller.FileBytes.{file-left, refused-write, rough-late, wrote, write-left}
 use Rattle.iol_laws.proofs.Caller.Files.{moved-fd}
 use Rattle.iol_laws.proofs.Caller.Pipes.{puts_pipe}
-use Rattle.iol_laws.proofs.Caller.Queues.{copy_passes, front, takes_front}
+use Rattle.iol_laws.proofs.Caller.Queues.{copy_passes, front, takes_front, wrote_bytes}
 use Rattle.iol_laws.proofs.Connections.{conn-with_same, not-over}
 use Rattle.iol_laws.proofs.Domains.{domain-with_same, domains-with_conn, domains-with_pipe}
 use Rattle.iol_laws.proofs.Order.Ends.{pipe-with_same}
@@ -54,25 +53,17 @@ within k n room is = grind (arith, nat_tests, is)
 
 pub does_copy_to_conn : (s t : State) (d fd c : ℕ) (bytes : List ℕ) (r : Reply) → IsOrderly s → descriptor s d fd ≡ Some (on.Connection c) → StepsTo s (event.Call d (call.Write fd bytes)) r t → WritesConn s c bytes r t
 does_copy_to_conn s t d fd c bytes (reply.Count k) order is step =
-    let o : Option Descriptor = Some (on.Connection c) in
+    let wrote = wrote_bytes s t d fd k _ is bytes step in
     let p : ℕ = default_pool s d in
-    let k_is : k ≡ writing.fitting s o (length bytes) = ap number step.1 ∙ ap (λ o. writing.fitting s o (length bytes)) is in
-    let to : t ≡ writing.written s d fd o (labelled p (take (writing.fitting s o (length bytes)) bytes)) = step.2 ∙ ap (λ o. writing.written s d fd o (labelled (writing.pool_for s d o) (take (writing.fitting s o (length bytes)) bytes))) is in
-    let same : t ≡ with_conn s c (record (conn_at s c) { outgoing = (conn_at s c).outgoing ++ labelled p (take k bytes) }) = to ∙ ap (λ n. writing.written s d fd o (labelled p (take n bytes))) (sym k_is) in
-    let broken = when-none refuse.BrokenPipe (writing.is_broken s (descriptor s d fd)) (passed (writing.write s d fd bytes).refusals 6 step.0) in
-    puts_conn s t d fd c bytes k (labelled p (take k bytes)) order is (record { within = within k (length bytes) _ k_is; most = k_is; text_is = bytes-labelled p (take k bytes) }) (sym (ap (λ o. writing.is_broken s o) is) ∙ broken) same
+    puts_conn s t d fd c bytes k (labelled p (take k bytes)) order is (record { within = within k (length bytes) _ wrote.0; most = wrote.0; text_is = bytes-labelled p (take k bytes) }) wrote.2 wrote.1
 does_copy_to_conn s t d fd c bytes (reply.Refused x) order is step = step.1
 does_copy_to_conn s t d fd c bytes r order is step = (let e = step.1 in absurd (cc))
 
 pub does_copy_to_pipe : (s t : State) (d fd p : ℕ) (bytes : List ℕ) (r : Reply) → IsOrderly s → descriptor s d fd ≡ Some (on.WriteEnd p) → StepsTo s (event.Call d (call.Write fd bytes)) r t → WritesPipe s p bytes r t
 does_copy_to_pipe s t d fd q bytes (reply.Count k) order is step =
-    let o : Option Descriptor = Some (on.WriteEnd q) in
+    let wrote = wrote_bytes s t d fd k _ is bytes step in
     let p : ℕ = default_pool s d in
-    let k_is : k ≡ writing.fitting s o (length bytes) = ap number step.1 ∙ ap (λ o. writing.fitting s o (length bytes)) is in
-    let to : t ≡ writing.written s d fd o (labelled p (take (writing.fitting s o (length bytes)) bytes)) = step.2 ∙ ap (λ o. writing.written s d fd o (labelled (writing.pool_for s d o) (take (writing.fitting s o (length bytes)) bytes))) is in
-    let same : t ≡ with_pipe s q (record (pipe_at s q) { queue = (pipe_at s q).queue ++ labelled p (take k bytes) }) = to ∙ ap (λ n. writing.written s d fd o (labelled p (take n bytes))) (sym k_is) in
-    let broken = when-none refuse.BrokenPipe (writing.is_broken s (descriptor s d fd)) (passed (writing.write s d fd bytes).refusals 6 step.0) in
-    puts_pipe s t q bytes k (labelled p (take k bytes)) (record { within = within k (length bytes) _ k_is; most = k_is; text_is = bytes-labelled p (take k bytes) }) (sym (ap (λ o. writing.is_broken s o) is) ∙ broken) same
+    puts_pipe s t q bytes k (labelled p (take k bytes)) (record { within = within k (length bytes) _ wrote.0; most = wrote.0; text_is = bytes-labelled p (take k bytes) }) wrote.2 wrote.1
 does_copy_to_pipe s t d fd q bytes (reply.Refused x) order is step = step.1
 does_copy_to_pipe s t d fd q bytes r order is step = (let e = step.1 in absurd (cc))
 

@@ -8,7 +8,6 @@ use Rattle.iol_core.specs.Run.{StepsTo}
 use Rattle.iol_core.specs.Calls.Aggregates as aggs
 use Rattle.iol_core.specs.Calls.Descriptors as fds
 use Rattle.iol_core.specs.Calls.Reading as reading
-use Rattle.iol_core.specs.Calls.Writing as writing
 use Rattle.iol_core.specs.declared.limits.TheConstants.{MAX_QUEUE_BYTES}
 use Rattle.iol_core.specs.declared.refusals.Refusal.TheVariants as refuse
 use Rattle.iol_core.specs.declared.descriptors.Descriptor.TheVariants as on
@@ -20,7 +19,7 @@ use Rattle.iol_core.proofs.Lookups.{domain-same}
 use Rattle.iol_core.proofs.Passing.{passed, when-none}
 use Rattle.iol_laws.specs.Order.{IsOrderly}
 use Rattle.iol_laws.specs.Caller.{lent_at, Puts, ReadsConn, WritesConn, Closes, ClosesConn, Accepts}
-use Rattle.iol_laws.proofs.Caller.Queues.{FitsIn, fits_in, front, read_passes, takes_front}
+use Rattle.iol_laws.proofs.Caller.Queues.{FitsIn, fits_in, front, read_passes, takes_front, wrote_agg}
 use Rattle.iol_laws.proofs.Connections.{conn-remains, conn-with_same, conns-with_agg, conns-with_fds, conns_conn, not-over}
 use Rattle.iol_laws.proofs.Domains.{domain-with_same, domains-closed_on, domains-with_conn, live-first}
 use Rattle.iol_laws.proofs.Numbers.{got-agg, new-fd, number, text-of}
@@ -38,13 +37,8 @@ puts_conn s t d fd c bytes k x order is fits takes same =
 
 pub does_write_conn : (s t : State) (d fd c a : ℕ) (bytes : List ℕ) (r : Reply) → IsOrderly s → descriptor s d fd ≡ Some (on.Connection c) → lent_at s d a ≡ Some bytes → StepsTo s (event.Call d (call.IolWrite fd a)) r t → WritesConn s c bytes r t
 does_write_conn s t d fd c a bytes (reply.Count k) order is has step =
-    let w : Text = text s d a in
-    let fit : ℕ = writing.fitting s (Some (on.Connection c)) (length w) in
-    let k_is : k ≡ fit = ap number step.1 ∙ ap (λ o. writing.fitting s o (length w)) is in
-    let to : t ≡ with_conn s c (record (conn_at s c) { outgoing = (conn_at s c).outgoing ++ take fit w }) = step.2 ∙ ap (λ o. writing.written s d fd o (take (writing.fitting s o (length w)) w)) is in
-    let same = to ∙ ap (λ n. with_conn s c (record (conn_at s c) { outgoing = (conn_at s c).outgoing ++ take n w })) (sym k_is) in
-    let broken = when-none refuse.BrokenPipe (writing.is_broken s (descriptor s d fd)) (passed (writing.iol_write s d fd a).refusals 5 step.0) in
-    puts_conn s t d fd c bytes k (take k w) order is (fits_in w bytes (MAX_QUEUE_BYTES - length (conn_at s c).outgoing) k (text-of s d a bytes has) k_is) (sym (ap (λ o. writing.is_broken s o) is) ∙ broken) same
+    let wrote = wrote_agg s t d fd k _ is a step in
+    puts_conn s t d fd c bytes k (take k (text s d a)) order is (fits_in (text s d a) bytes (MAX_QUEUE_BYTES - length (conn_at s c).outgoing) k (text-of s d a bytes has) wrote.0) wrote.2 wrote.1
 does_write_conn s t d fd c a bytes (reply.Refused x) order is has step = step.1
 does_write_conn s t d fd c a bytes r order is has step = (let e = step.1 in absurd (cc))
 

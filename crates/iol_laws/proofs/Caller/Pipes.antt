@@ -9,8 +9,6 @@ use Rattle.iol_core.specs.Run.{StepsTo}
 use Rattle.iol_core.specs.Calls.Aggregates as aggs
 use Rattle.iol_core.specs.Calls.Descriptors as fds
 use Rattle.iol_core.specs.Calls.Reading as reading
-use Rattle.iol_core.specs.Calls.Writing as writing
-use Rattle.iol_core.specs.declared.refusals.Refusal.TheVariants as refuse
 use Rattle.iol_core.specs.declared.descriptors.Descriptor.{Descriptor}
 use Rattle.iol_core.specs.declared.descriptors.Descriptor.TheVariants as on
 use Rattle.iol_core.specs.declared.events.Call.TheVariants as call
@@ -18,10 +16,9 @@ use Rattle.iol_core.specs.declared.events.Event.TheVariants as event
 use Rattle.iol_core.specs.declared.events.Reply.{Reply}
 use Rattle.iol_core.specs.declared.events.Reply.TheVariants as reply
 use Rattle.iol_core.proofs.Lookups.{domain-same}
-use Rattle.iol_core.proofs.Passing.{passed, when-none}
 use Rattle.iol_laws.specs.Order.{IsOrderly}
 use Rattle.iol_laws.specs.Caller.{lent_at, PutsInPipe, ReadsPipe, WritesPipe, MakesPipe, ClosesReadEnd, ClosesWriteEnd}
-use Rattle.iol_laws.proofs.Caller.Queues.{FitsIn, fits_in, front, read_passes, takes_front}
+use Rattle.iol_laws.proofs.Caller.Queues.{FitsIn, fits_in, front, read_passes, takes_front, wrote_agg}
 use Rattle.iol_laws.proofs.Domains.{domain-with_same, domains-with_pipe, live-first}
 use Rattle.iol_laws.proofs.Order.Ends.{pipe-with_same}
 use Rattle.iol_laws.proofs.Order.EndsOfCalls.{pipe-there, pipe-twice}
@@ -75,13 +72,8 @@ puts_pipe s t p bytes k x fits unbroken same =
 
 pub does_write_pipe : (s t : State) (d fd p a : ℕ) (bytes : List ℕ) (r : Reply) → IsOrderly s → descriptor s d fd ≡ Some (on.WriteEnd p) → lent_at s d a ≡ Some bytes → StepsTo s (event.Call d (call.IolWrite fd a)) r t → WritesPipe s p bytes r t
 does_write_pipe s t d fd p a bytes (reply.Count k) order is has step =
-    let w : Text = text s d a in
-    let fit : ℕ = writing.fitting s (Some (on.WriteEnd p)) (length w) in
-    let k_is : k ≡ fit = ap number step.1 ∙ ap (λ o. writing.fitting s o (length w)) is in
-    let to : t ≡ with_pipe s p (record (pipe_at s p) { queue = (pipe_at s p).queue ++ take fit w }) = step.2 ∙ ap (λ o. writing.written s d fd o (take (writing.fitting s o (length w)) w)) is in
-    let same = to ∙ ap (λ n. with_pipe s p (record (pipe_at s p) { queue = (pipe_at s p).queue ++ take n w })) (sym k_is) in
-    let broken = when-none refuse.BrokenPipe (writing.is_broken s (descriptor s d fd)) (passed (writing.iol_write s d fd a).refusals 5 step.0) in
-    puts_pipe s t p bytes k (take k w) (fits_in w bytes (MAX_QUEUE_BYTES - length (pipe_at s p).queue) k (text-of s d a bytes has) k_is) (sym (ap (λ o. writing.is_broken s o) is) ∙ broken) same
+    let wrote = wrote_agg s t d fd k _ is a step in
+    puts_pipe s t p bytes k (take k (text s d a)) (fits_in (text s d a) bytes (MAX_QUEUE_BYTES - length (pipe_at s p).queue) k (text-of s d a bytes has) wrote.0) wrote.2 wrote.1
 does_write_pipe s t d fd p a bytes (reply.Refused x) order is has step = step.1
 does_write_pipe s t d fd p a bytes r order is has step = (let e = step.1 in absurd (cc))
 

@@ -1,14 +1,20 @@
 -- What is read of a queue and written to one, whether it is a pipe's or a connection's.
 use Rattle.std.proofs.Common.{◌≡◌, ℕ, ◌==◌, ◌<◌, ◌≤◌, List, [], ◌++◌, length, take, drop, ap, ◌∙◌, sym, arith, Option, None, false, Bool}
 use Rattle.std.specs.Prelude.{min, nat_lt, option_map, ◌&&◌}
-use Rattle.iol_core.specs.Text.{Text, admitted, barred, bytes_of}
-use Rattle.iol_core.specs.State.{State, descriptor}
+use Rattle.iol_core.specs.Text.{Text, admitted, barred, bytes_of, labelled}
+use Rattle.iol_core.specs.State.{State, descriptor, text}
 use Rattle.iol_core.specs.Meaning.{first}
+use Rattle.iol_core.specs.Run.{StepsTo}
 use Rattle.iol_core.specs.Calls.Reading as reading
+use Rattle.iol_core.specs.Calls.Writing as writing
 use Rattle.iol_core.specs.declared.refusals.Refusal.TheVariants as refuse
 use Rattle.iol_core.specs.declared.descriptors.Descriptor.{Descriptor}
+use Rattle.iol_core.specs.declared.events.Call.TheVariants as call
+use Rattle.iol_core.specs.declared.events.Event.TheVariants as event
+use Rattle.iol_core.specs.declared.events.Reply.TheVariants as reply
 use Rattle.iol_core.proofs.Passing.{passed, when-none}
 use Rattle.iol_laws.proofs.Ended.{none-admitted, none-comes}
+use Rattle.iol_laws.proofs.Numbers.{number}
 use Rattle.iol_laws.proofs.Texts.{admitted-rest, bytes-take, length-bytes}
 
 abbrev pub front : (may : ℕ → Bool) (n : ℕ) → Text → Text
@@ -50,3 +56,22 @@ fits_in w bytes free k is most =
       most = most ∙ ap (λ z. min z free) same;
       text_is = bytes-take k w ∙ ap (λ (l : List ℕ). take k l) is;
     }
+
+-- what a write that is done did, by what the descriptor is open on
+module _ (s t : State) (d fd k : ℕ) (o : Option Descriptor) (is : descriptor s d fd ≡ o) where
+  pub wrote_agg : (a : ℕ) → StepsTo s (event.Call d (call.IolWrite fd a)) (reply.Count k) t → (k ≡ writing.fitting s o (length (text s d a))) × (t ≡ writing.written s d fd o (take k (text s d a))) × (writing.is_broken s o ≡ false)
+  wrote_agg a step =
+      let w : Text = text s d a in
+      let k_is : k ≡ writing.fitting s o (length w) = ap number step.1 ∙ ap (λ x. writing.fitting s x (length w)) is in (
+        k_is,
+        step.2 ∙ (ap (λ x. writing.written s d fd x (take (writing.fitting s x (length w)) w)) is ∙ ap (λ n. writing.written s d fd o (take n w)) (sym k_is)),
+        sym (ap (λ x. writing.is_broken s x) is) ∙ when-none refuse.BrokenPipe (writing.is_broken s (descriptor s d fd)) (passed (writing.iol_write s d fd a).refusals 5 step.0),
+      )
+
+  pub wrote_bytes : (bytes : List ℕ) → StepsTo s (event.Call d (call.Write fd bytes)) (reply.Count k) t → (k ≡ writing.fitting s o (length bytes)) × (t ≡ writing.written s d fd o (labelled (writing.pool_for s d o) (take k bytes))) × (writing.is_broken s o ≡ false)
+  wrote_bytes bytes step =
+      let k_is : k ≡ writing.fitting s o (length bytes) = ap number step.1 ∙ ap (λ x. writing.fitting s x (length bytes)) is in (
+        k_is,
+        step.2 ∙ (ap (λ x. writing.written s d fd x (labelled (writing.pool_for s d x) (take (writing.fitting s x (length bytes)) bytes))) is ∙ ap (λ n. writing.written s d fd o (labelled (writing.pool_for s d o) (take n bytes))) (sym k_is)),
+        sym (ap (λ x. writing.is_broken s x) is) ∙ when-none refuse.BrokenPipe (writing.is_broken s (descriptor s d fd)) (passed (writing.write s d fd bytes).refusals 6 step.0),
+      )
