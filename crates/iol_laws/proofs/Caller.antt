@@ -1,3 +1,4 @@
+pub mod Queues
 pub mod Aggregates
 pub mod Descriptors
 pub mod Pipes

@@ -45,6 +45,15 @@ pub lent-made : (s t : State) (d : ℕ) (kept : List (ℕ × Text)) (x : Text) �
 lent-made s t d kept x live none same =
     ap (λ (u : State). lent_at u d (aggs.next_agg s d)) same ∙ ap (λ (o : Option Text). option_map bytes_of o) (new_agg s d kept x live none)
 
+-- the same after a change that leaves the domain as it was
+pub got-agg : (s mid t : State) (d a : ℕ) (x : Text) → lookup (domain s d).aggs (aggs.next_agg s d) ≡ None → domain mid d ≡ domain s d → is_live s d ≡ true → a ≡ aggs.next_agg s d → t ≡ aggs.with_agg mid d x → (lent_at t d a ≡ Some (bytes_of x)) × (lent_at s d a ≡ None)
+got-agg s mid t d a x none same live is made =
+    let next : aggs.next_agg mid d ≡ aggs.next_agg s d = ap (λ (y : Domain Text). y.next_agg) same in
+    let none_mid : lookup (domain mid d).aggs (aggs.next_agg mid d) ≡ None = ap (λ (y : Domain Text). lookup y.aggs y.next_agg) same ∙ none in (
+      ap (λ k. lent_at t d k) (is ∙ sym next) ∙ lent-made mid t d (domain mid d).aggs x (ap (λ (y : Domain Text). y.live) same ∙ live) none_mid made,
+      ap (λ k. lent_at s d k) is ∙ ap (λ (o : Option Text). option_map bytes_of o) none,
+    )
+
 -- a new descriptor is open under the lowest number
 pub new-fd : (s : State) (d : ℕ) (x : Descriptor) → is_live s d ≡ true → descriptor (fds.opened s d x) d (fds.next_fd s d) ≡ Some x
 new-fd s d x live = ap (λ (y : Domain Text). in_place y.fds (fds.next_fd s d)) (domain-with_same s d _ live) ∙ place-new (domain s d).fds x

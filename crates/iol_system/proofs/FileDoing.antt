@@ -1,5 +1,5 @@
 -- What an event does that places bytes, or reads and writes files.
-use Rattle.std.proofs.Common.{◌≡◌, ℕ, Bool, List, length, true, false, refl, ap, sym, subst, Option, Some, None}
+use Rattle.std.proofs.Common.{◌≡◌, ◌∙◌, ℕ, Bool, List, length, true, false, refl, ap, sym, subst, Option, Some, None}
 use Rattle.std.proofs.lemmas.Bool.{true≢false}
 use Rattle.std.specs.Prelude.{◌⊎◌, Result, Ok, Err, IfErr, OnErr, OnOk, not, if◌then◌else◌}
 use Rattle.iol_back.specs.Disk.{Disk}
@@ -43,14 +43,14 @@ use Rattle.iol_system.specs.Doing.{Does}
 use Rattle.iol_system.specs.FileEnds.{TellsEnd}
 use Rattle.iol_system.specs.Late.{CopyLeaves, LeavesCopied, LeavesLate, MadeRoomFor, PutLeaves, ReadLeaves, SameTables, WriteLeaves}
 use Rattle.iol_system.specs.Machine.{system_of, tables_of}
-use Rattle.iol_system.specs.InPlace.{IsInRange, IsWritten, KeepsInPlace, MayLetGo, ReadWantsMore, SharesCopy, SharesPut, SharesRead, SharesWrite, WantsMore, WriteWantsMore}
+use Rattle.iol_system.specs.InPlace.{IsInRange, IsWritten, KeepsInPlace, MayLetGo, ReadWantsMore, SharesCopy, SharesPut, SharesRead, SharesWrite, WantsMore, WriteWantsMore, SharesFile}
 use Rattle.iol_system.specs.Placed.{Creates, FillsForFile, Makes, Publishes, Puts}
 use Rattle.iol_system.specs.Remembered.{Remembers}
 use Rattle.iol_system.specs.Replies.{told}
 use Rattle.iol_system.specs.Room.{HasRoomFor, HasRoomToRead, HasRoomToWrite, LacksRoomFor, LacksRoomToRead, LacksRoomToWrite, IsDone, IsEarly, IsFault, IsNoRoom, IsRefused}
 use Rattle.iol_system.specs.Wants.{Fits, FitsNot, Wants}
 use Rattle.iol_system.specs.Still.{is_still, keeps_store, takes_out}
-use Rattle.iol_system.proofs.Doing.{answer_lies, asks_none, does_of, lies_apart, never, served, unlooking_of}
+use Rattle.iol_system.proofs.Doing.{Lies, answer_lies, asks_none, does_of, lies_apart, never, served, unlooking_of}
 use Rattle.iol_system.proofs.Telling.{Means, Tells, early_told, no_room_told, refused_told, told_step}
 use Rattle.iol_system.proofs.InPlace.{beside_in_place, cache_in_place, places_in_place, shares_file, shares_none, unless_in_place}
 use Rattle.iol_system.proofs.Paged.{carried_pages, fills_then_frees}
@@ -157,6 +157,25 @@ module _ {A : Type 0} (by fd n : ℕ) (disk after : Disk) (old new : KernelState
     in_place = λ goes. cache_in_place disk old new e c.cache;
   }
 
+  -- what it does, by what is said of either kind
+  read_does : (m : State → Meaning A) (o : Option Descriptor) → HasRead o → asks_store (tables_of old) e ≡ is_file o → uses_cache (tables_of old) e ≡ is_file o → writes_back e ≡ false → (HasRoomToRead (system_of old disk) o n → HasRoomFor (system_of old disk) e)
+      → (LacksRoomToRead (system_of old disk) o n → LacksRoomFor (system_of old disk) e) → ((p : ℕ) → ReadWantsMore (system_of old disk) o n p → MayLetGo (system_of old disk) e p) → TellsEnd (system_of old disk) e (told f r) → Means f m e → Serves m disk old r after new
+      → (IsEarly (told f r) → (new ≡ old) × (after ≡ disk)) → LeavesLate (system_of old disk) e (told f r) (system_of new after) → (IsDone (told f r) → SharesFile (system_of old disk) e (told f r) new) → (IsDone (told f r) → Publishes old e new) → Creates old e (told f r) new
+      → (new.sums ≡ old.sums → Remembers old e (told f r) new) → Lies disk old e (told f r) after new → Does disk old e (told f r) after new
+  read_does m o any asks uses unwritten room lacks goes ends means serves early late shares fills creates sums lies =
+      does_of ends (served f means serves)
+      (record { unasked = λ none. any.unasked (sym asks ∙ none); faults = λ is. any.faults (sym asks ∙ is); slots = λ honest back. any.slots honest; asked = λ is fault. room (any.asked (sym asks ∙ is) fault) })
+      (record { room = λ is. room (any.room is); no_room = λ is. lacks (any.no_room is); early = early; refused = λ none is. any.refused (sym uses ∙ none) is; late = late })
+      (record {
+        uncached = λ none other. any.uncached (sym uses ∙ none);
+        in_place = any.in_place goes;
+        shares_file = shares;
+        publishes = fills;
+        creates = creates;
+        sums = sums serves.sums;
+        written_back = none_back disk old (told f r) after new e unwritten;
+      }) lies
+
 -- A read by reference.
 module _ (by fd n : ℕ) (disk after : Disk) (old new : KernelState) (r : Result ℕ Refusal) where
   abbrev read_event : Event
@@ -192,18 +211,7 @@ module _ (by fd n : ℕ) (disk after : Disk) (old new : KernelState) (r : Result
       let any = has_read by fd n disk after old new reply.Agg r read_event new refl (λ a. refl) o (read_any o reads) in
       let queue : is_sharing (tables_of old) read_event ≡ true → CarriesOut (λ s. reading.iol_read s by fd n) old r new = (λ shared. read_carried o reads (shared_held (is_live (tables_of old) by) (descriptor (tables_of old) by fd) shared)) in
       let means : Means reply.Agg (λ s. reading.iol_read s by fd n) read_event = (λ s. told_step reply.Agg (λ a. refl) (reading.iol_read s by fd n) s) in
-      does_of tt (served reply.Agg means serves)
-      (record { unasked = any.unasked; faults = any.faults; slots = λ honest back. any.slots honest; asked = any.asked })
-      (record { room = any.room; no_room = any.no_room; early = read_early o reads; refused = any.refused; late = read_late o reads })
-      (record {
-        uncached = λ unused other. any.uncached unused;
-        in_place = any.in_place (λ p k. k);
-        shares_file = read_shares o reads;
-        publishes = λ done. read_fills o reads;
-        creates = tt;
-        sums = serves.sums;
-        written_back = none_back disk old (told reply.Agg r) after new read_event refl;
-      })
+      read_does by fd n disk after old new reply.Agg r read_event (λ s. reading.iol_read s by fd n) o any refl refl refl (λ k. k) (λ k. k) (λ p k. k) tt means serves (read_early o reads) (read_late o reads) (read_shares o reads) (λ is. read_fills o reads) tt (λ k. k)
       (record {
         looks = never refl;
         shares = λ shared. means (layout_of old) (layout_of new) r (carried_layout (λ s. reading.iol_read s by fd n) old new r (queue shared));
@@ -339,18 +347,7 @@ module _ (by fd n : ℕ) (disk after : Disk) (old new : KernelState) (r : Result
       let o : Option Descriptor = held_by (tables_of old) by fd in
       let any = has_read by fd n disk after old new reply.Bytes r copy_event (record new { store = copy_over o copies }) refl (λ a. refl) o (copy_any o copies) in
       let means : Means reply.Bytes (λ s. reading.read s by fd n) copy_event = (λ s. told_step reply.Bytes (λ a. refl) (reading.read s by fd n) s) in
-      does_of tt (served reply.Bytes means serves)
-      (record { unasked = any.unasked; faults = any.faults; slots = λ honest back. any.slots honest; asked = any.asked })
-      (record { room = any.room; no_room = any.no_room; early = copy_early o copies; refused = any.refused; late = copy_late o copies })
-      (record {
-        uncached = λ unused other. any.uncached unused;
-        in_place = any.in_place (λ p k. k);
-        shares_file = copy_shares o copies;
-        publishes = λ done. copy_fills o copies;
-        creates = tt;
-        sums = serves.sums;
-        written_back = none_back disk old (told reply.Bytes r) after new copy_event refl;
-      })
+      read_does by fd n disk after old new reply.Bytes r copy_event (λ s. reading.read s by fd n) o any refl refl refl (λ k. k) (λ k. k) (λ p k. k) tt means serves (copy_early o copies) (copy_late o copies) (copy_shares o copies) (λ is. copy_fills o copies) tt (λ k. k)
       (lies_apart refl refl (never refl) (copy_places o copies) (never refl))
 
 -- A write by copying.

@@ -1,9 +1,9 @@
 -- What the calls that copy do for their own domain.
-use Rattle.std.proofs.Common.{◌≡◌, ℕ, ◌+◌, ◌≤◌, List, [], ◌∷◌, ◌++◌, length, take, drop, ap, ◌∙◌, refl, sym, subst, arith, Option, Some, None, true, false, Bool}
+use Rattle.std.proofs.Common.{◌≡◌, ℕ, ◌+◌, ◌≤◌, List, [], ◌∷◌, ◌++◌, length, take, drop, ap, ◌∙◌, refl, subst, arith, Option, Some, None, true, false, Bool}
 use Rattle.std.specs.Prelude.{option_map, slice_set, not, is_none, min, nat_lt, ◌&&◌, ◌==◌, MatchOption}
 use Rattle.std.proofs.lemmas.Bool.Decides.{nat_tests}
 use Rattle.std.proofs.lemmas.List.{take_all}
-use Rattle.iol_core.specs.Text.{Text, bytes_of, labelled, admitted}
+use Rattle.iol_core.specs.Text.{Text, bytes_of, labelled}
 use Rattle.iol_core.specs.Numbered.{lookup}
 use Rattle.iol_core.specs.State.{State, Domain, Pipe, Connection, domain, pool, descriptor, content, file, may_read, conn_at, pipe_at, is_live, with_conn, with_content, with_pipe}
 use Rattle.iol_core.specs.Positions.{ArePlaced}
@@ -23,7 +23,6 @@ use Rattle.iol_core.specs.declared.events.Event.TheVariants as event
 use Rattle.iol_core.specs.declared.events.Reply.{Reply}
 use Rattle.iol_core.specs.declared.events.Reply.TheVariants as reply
 use Rattle.iol_core.proofs.Lookups.{domain-same}
-use Rattle.iol_core.proofs.Passing.{passed, when-none}
 use Rattle.iol_laws.specs.Order.{IsOrderly}
 use Rattle.iol_laws.specs.Caller.{WritesConn, WritesPipe}
 use Rattle.iol_laws.specs.CallerCopies.{SameLent, CopiesFile, CopiesConn, CopiesPipe}
@@ -32,14 +31,14 @@ use Rattle.iol_laws.proofs.Caller.Descriptors.{puts_conn}
 use Rattle.iol_laws.proofs.Caller.FileBytes.{file-left, refused-write, rough-late, wrote, write-left}
 use Rattle.iol_laws.proofs.Caller.Files.{moved-fd}
 use Rattle.iol_laws.proofs.Caller.Pipes.{puts_pipe}
+use Rattle.iol_laws.proofs.Caller.Queues.{copy_passes, front, takes_front, wrote_bytes}
 use Rattle.iol_laws.proofs.Connections.{conn-with_same, not-over}
 use Rattle.iol_laws.proofs.Domains.{domain-with_same, domains-with_conn, domains-with_pipe}
-use Rattle.iol_laws.proofs.Ended.{none-admitted, none-comes}
 use Rattle.iol_laws.proofs.Order.Ends.{pipe-with_same}
 use Rattle.iol_laws.proofs.Numbers.{number}
 use Rattle.iol_laws.proofs.Refusals.Refusing.{past-live}
 use Rattle.iol_laws.proofs.Tests.{left-true}
-use Rattle.iol_laws.proofs.Texts.{admitted-rest, bytes-labelled, length-labelled}
+use Rattle.iol_laws.proofs.Texts.{bytes-labelled, length-labelled}
 use Rattle.iol_laws.proofs.Streams.Waiting.{opened-conn}
 
 -- the bytes of a reply
@@ -54,25 +53,17 @@ within k n room is = grind (arith, nat_tests, is)
 
 pub does_copy_to_conn : (s t : State) (d fd c : ℕ) (bytes : List ℕ) (r : Reply) → IsOrderly s → descriptor s d fd ≡ Some (on.Connection c) → StepsTo s (event.Call d (call.Write fd bytes)) r t → WritesConn s c bytes r t
 does_copy_to_conn s t d fd c bytes (reply.Count k) order is step =
-    let o : Option Descriptor = Some (on.Connection c) in
+    let wrote = wrote_bytes s t d fd k _ is bytes step in
     let p : ℕ = default_pool s d in
-    let k_is : k ≡ writing.fitting s o (length bytes) = ap number step.1 ∙ ap (λ o. writing.fitting s o (length bytes)) is in
-    let to : t ≡ writing.written s d fd o (labelled p (take (writing.fitting s o (length bytes)) bytes)) = step.2 ∙ ap (λ o. writing.written s d fd o (labelled (writing.pool_for s d o) (take (writing.fitting s o (length bytes)) bytes))) is in
-    let same : t ≡ with_conn s c (record (conn_at s c) { outgoing = (conn_at s c).outgoing ++ labelled p (take k bytes) }) = to ∙ ap (λ n. writing.written s d fd o (labelled p (take n bytes))) (sym k_is) in
-    let broken = when-none refuse.BrokenPipe (writing.is_broken s (descriptor s d fd)) (passed (writing.write s d fd bytes).refusals 6 step.0) in
-    puts_conn s t d fd c bytes k (labelled p (take k bytes)) order is (within k (length bytes) _ k_is) k_is (bytes-labelled p (take k bytes)) (sym (ap (λ o. writing.is_broken s o) is) ∙ broken) same
+    puts_conn s t d fd c bytes k (labelled p (take k bytes)) order is (record { within = within k (length bytes) _ wrote.0; most = wrote.0; text_is = bytes-labelled p (take k bytes) }) wrote.2 wrote.1
 does_copy_to_conn s t d fd c bytes (reply.Refused x) order is step = step.1
 does_copy_to_conn s t d fd c bytes r order is step = (let e = step.1 in absurd (cc))
 
 pub does_copy_to_pipe : (s t : State) (d fd p : ℕ) (bytes : List ℕ) (r : Reply) → IsOrderly s → descriptor s d fd ≡ Some (on.WriteEnd p) → StepsTo s (event.Call d (call.Write fd bytes)) r t → WritesPipe s p bytes r t
 does_copy_to_pipe s t d fd q bytes (reply.Count k) order is step =
-    let o : Option Descriptor = Some (on.WriteEnd q) in
+    let wrote = wrote_bytes s t d fd k _ is bytes step in
     let p : ℕ = default_pool s d in
-    let k_is : k ≡ writing.fitting s o (length bytes) = ap number step.1 ∙ ap (λ o. writing.fitting s o (length bytes)) is in
-    let to : t ≡ writing.written s d fd o (labelled p (take (writing.fitting s o (length bytes)) bytes)) = step.2 ∙ ap (λ o. writing.written s d fd o (labelled (writing.pool_for s d o) (take (writing.fitting s o (length bytes)) bytes))) is in
-    let same : t ≡ with_pipe s q (record (pipe_at s q) { queue = (pipe_at s q).queue ++ labelled p (take k bytes) }) = to ∙ ap (λ n. writing.written s d fd o (labelled p (take n bytes))) (sym k_is) in
-    let broken = when-none refuse.BrokenPipe (writing.is_broken s (descriptor s d fd)) (passed (writing.write s d fd bytes).refusals 6 step.0) in
-    puts_pipe s t q bytes k (labelled p (take k bytes)) (within k (length bytes) _ k_is) k_is (bytes-labelled p (take k bytes)) (sym (ap (λ o. writing.is_broken s o) is) ∙ broken) same
+    puts_pipe s t q bytes k (labelled p (take k bytes)) (record { within = within k (length bytes) _ wrote.0; most = wrote.0; text_is = bytes-labelled p (take k bytes) }) wrote.2 wrote.1
 does_copy_to_pipe s t d fd q bytes (reply.Refused x) order is step = step.1
 does_copy_to_pipe s t d fd q bytes r order is step = (let e = step.1 in absurd (cc))
 
@@ -137,47 +128,42 @@ does_copy_from_file s t d fd f at n mode r live may reads is step = (let e = ste
 
 pub does_copy_from_conn : (s t : State) (d fd c n : ℕ) (r : Reply) → IsOrderly s → descriptor s d fd ≡ Some (on.Connection c) → StepsTo s (event.Call d (call.Read fd n)) r t → CopiesConn s d c n r t
 does_copy_from_conn s t d fd c n (reply.Bytes found) order is step =
-    let refusals = (reading.read s d fd n).refusals in
-    let free = sym (ap (λ o. reading.read_denied s d o n) is) ∙ passed refusals 3 step.0 in
-    let still = sym (ap (λ o. reading.must_wait s o n) is) ∙ when-none refuse.WouldBlock (reading.must_wait s (descriptor s d fd) n) (passed refusals 4 step.0) in
+    let passes = copy_passes s d fd n _ is step.0 in
     let both = opened-conn s d fd c order is in
     let inc : Text = (conn_at s c).incoming in
-    let tx : Text = admitted (may_read s d) (take n inc) in
-    let x : Connection = record (conn_at s c) { incoming = drop (length tx) inc } in
+    let taken = takes_front (may_read s d) n inc (is_none (conn_at s c).peer) passes.0 passes.1 in
+    let x : Connection = record (conn_at s c) { incoming = drop (length (front (may_read s d) n inc)) inc } in
     let same : t ≡ with_conn s c x = step.2 ∙ ap (λ o. reading.read_on s d fd o (length (reading.read_text s d o n))) is in
     record {
-      text = tx;
-      incoming = drop (length tx) inc;
+      text = front (may_read s d) n inc;
+      incoming = x.incoming;
       found_is = ap told step.1 ∙ ap (λ o. bytes_of (reading.read_text s d o n)) is;
-      was = admitted-rest (may_read s d) n inc;
+      was = taken.was;
       most = refl;
       conn = ap (λ u. conn_at u c) same ∙ conn-with_same s c x both.1 (not-over x both.0 both.1);
       lent = same_lent s t d (ap (λ u. (domain u d).aggs) same ∙ ap (λ (z : Domain Text). z.aggs) (domain-same s (with_conn s c x) d (domains-with_conn s c x)));
-      ended = λ some none. (let gone = none-admitted (may_read s d) n inc some free none in (gone, none-comes n inc (is_none (conn_at s c).peer) some gone still));
+      ended = taken.ended;
     }
 does_copy_from_conn s t d fd c n (reply.Refused x) order is step = step.1
 does_copy_from_conn s t d fd c n r order is step = (let e = step.1 in absurd (cc))
 
 pub does_copy_from_pipe : (s t : State) (d fd p n : ℕ) (r : Reply) → IsOrderly s → descriptor s d fd ≡ Some (on.ReadEnd p) → StepsTo s (event.Call d (call.Read fd n)) r t → CopiesPipe s d p n r t
 does_copy_from_pipe s t d fd p n (reply.Bytes found) order is step =
-    let refusals = (reading.read s d fd n).refusals in
-    let free = sym (ap (λ o. reading.read_denied s d o n) is) ∙ passed refusals 3 step.0 in
-    let still = sym (ap (λ o. reading.must_wait s o n) is) ∙ when-none refuse.WouldBlock (reading.must_wait s (descriptor s d fd) n) (passed refusals 4 step.0) in
-    let reads : (pipe_at s p).reading ≡ true = order.all_stand d fd (on.ReadEnd p) is in
-    let on_yet = left-true (pipe_at s p).reading (pipe_at s p).writing reads in
+    let passes = copy_passes s d fd n _ is step.0 in
+    let on_yet = left-true (pipe_at s p).reading (pipe_at s p).writing (order.all_stand d fd (on.ReadEnd p) is) in
     let q : Text = (pipe_at s p).queue in
-    let tx : Text = admitted (may_read s d) (take n q) in
-    let x : Pipe = record (pipe_at s p) { queue = drop (length tx) q } in
+    let taken = takes_front (may_read s d) n q (pipe_at s p).writing passes.0 passes.1 in
+    let x : Pipe = record (pipe_at s p) { queue = drop (length (front (may_read s d) n q)) q } in
     let same : t ≡ with_pipe s p x = step.2 ∙ ap (λ o. reading.read_on s d fd o (length (reading.read_text s d o n))) is in
     record {
-      text = tx;
-      rest = drop (length tx) q;
+      text = front (may_read s d) n q;
+      rest = x.queue;
       found_is = ap told step.1 ∙ ap (λ o. bytes_of (reading.read_text s d o n)) is;
-      was = admitted-rest (may_read s d) n q;
+      was = taken.was;
       most = refl;
       pipe = ap (λ u. pipe_at u p) same ∙ pipe-with_same s p x on_yet on_yet;
       lent = same_lent s t d (ap (λ u. (domain u d).aggs) same ∙ ap (λ (z : Domain Text). z.aggs) (domain-same s (with_pipe s p x) d (domains-with_pipe s p x)));
-      ended = λ some none. (let gone = none-admitted (may_read s d) n q some free none in (gone, none-comes n q (pipe_at s p).writing some gone still));
+      ended = taken.ended;
     }
 does_copy_from_pipe s t d fd p n (reply.Refused x) order is step = step.1
 does_copy_from_pipe s t d fd p n r order is step = (let e = step.1 in absurd (cc))

@@ -1,14 +1,13 @@
 -- What reading, writing, accepting and closing do for their own domain.
-use Rattle.std.proofs.Common.{◌≡◌, ℕ, ◌≤◌, List, [], ◌++◌, length, take, drop, ap, ◌∙◌, refl, sym, arith, Option, Some, None, true, false}
-use Rattle.std.specs.Prelude.{min, ◌-◌, option_map, unwrap_or, is_none}
-use Rattle.iol_core.specs.Text.{Text, bytes_of, admitted}
-use Rattle.iol_core.specs.Numbered.{lookup, in_place, lowest, placed}
+use Rattle.std.proofs.Common.{◌≡◌, ℕ, List, [], ◌++◌, length, take, drop, ap, ◌∙◌, refl, sym, arith, Some, true, false}
+use Rattle.std.specs.Prelude.{◌-◌, unwrap_or, is_none}
+use Rattle.iol_core.specs.Text.{Text}
+use Rattle.iol_core.specs.Numbered.{in_place, lowest, placed}
 use Rattle.iol_core.specs.State.{State, Domain, Connection, domain, text, descriptor, may_read, conn_at, is_live, is_gone, with_conn}
 use Rattle.iol_core.specs.Run.{StepsTo}
 use Rattle.iol_core.specs.Calls.Aggregates as aggs
 use Rattle.iol_core.specs.Calls.Descriptors as fds
 use Rattle.iol_core.specs.Calls.Reading as reading
-use Rattle.iol_core.specs.Calls.Writing as writing
 use Rattle.iol_core.specs.declared.limits.TheConstants.{MAX_QUEUE_BYTES}
 use Rattle.iol_core.specs.declared.refusals.Refusal.TheVariants as refuse
 use Rattle.iol_core.specs.declared.descriptors.Descriptor.TheVariants as on
@@ -20,64 +19,48 @@ use Rattle.iol_core.proofs.Lookups.{domain-same}
 use Rattle.iol_core.proofs.Passing.{passed, when-none}
 use Rattle.iol_laws.specs.Order.{IsOrderly}
 use Rattle.iol_laws.specs.Caller.{lent_at, Puts, ReadsConn, WritesConn, Closes, ClosesConn, Accepts}
+use Rattle.iol_laws.proofs.Caller.Queues.{FitsIn, fits_in, front, read_passes, takes_front, wrote_agg}
 use Rattle.iol_laws.proofs.Connections.{conn-remains, conn-with_same, conns-with_agg, conns-with_fds, conns_conn, not-over}
 use Rattle.iol_laws.proofs.Domains.{domain-with_same, domains-closed_on, domains-with_conn, live-first}
-use Rattle.iol_laws.proofs.Ended.{none-admitted, none-comes}
-use Rattle.iol_laws.proofs.Numbers.{lent-made, new-fd, number, text-of}
+use Rattle.iol_laws.proofs.Numbers.{got-agg, new-fd, number, text-of}
 use Rattle.iol_laws.proofs.Places.{lowest-free, place-set_free}
 use Rattle.iol_laws.proofs.Tests.{is_some-or}
-use Rattle.iol_laws.proofs.Texts.{admitted-rest, bytes-take, length-bytes}
 use Rattle.iol_laws.proofs.Streams.Waiting.{opened-conn, waiting-is}
 
 -- a text goes behind what is to be sent
-pub puts_conn : (s t : State) (d fd c : ℕ) (bytes : List ℕ) (k : ℕ) (x : Text) → IsOrderly s → descriptor s d fd ≡ Some (on.Connection c) → k ≤ length bytes → k ≡ min (length bytes) (MAX_QUEUE_BYTES - length (conn_at s c).outgoing) → bytes_of x ≡ take k bytes → is_gone (conn_at s c).peer ≡ false
+pub puts_conn : (s t : State) (d fd c : ℕ) (bytes : List ℕ) (k : ℕ) (x : Text) → IsOrderly s → descriptor s d fd ≡ Some (on.Connection c) → FitsIn bytes (MAX_QUEUE_BYTES - length (conn_at s c).outgoing) k x → is_gone (conn_at s c).peer ≡ false
     → t ≡ with_conn s c (record (conn_at s c) { outgoing = (conn_at s c).outgoing ++ x }) → Puts s c bytes k t
-puts_conn s t d fd c bytes k x order is within most x_is takes same =
+puts_conn s t d fd c bytes k x order is fits takes same =
     let both = opened-conn s d fd c order is in
     let y : Connection = record (conn_at s c) { outgoing = (conn_at s c).outgoing ++ x } in
-    record { text = x; within = within; text_is = x_is; most = most; takes = takes; conn = ap (λ u. conn_at u c) same ∙ conn-with_same s c y both.1 (not-over y both.0 both.1) }
+    record { text = x; within = fits.within; text_is = fits.text_is; most = fits.most; takes = takes; conn = ap (λ u. conn_at u c) same ∙ conn-with_same s c y both.1 (not-over y both.0 both.1) }
 
 pub does_write_conn : (s t : State) (d fd c a : ℕ) (bytes : List ℕ) (r : Reply) → IsOrderly s → descriptor s d fd ≡ Some (on.Connection c) → lent_at s d a ≡ Some bytes → StepsTo s (event.Call d (call.IolWrite fd a)) r t → WritesConn s c bytes r t
 does_write_conn s t d fd c a bytes (reply.Count k) order is has step =
-    let w : Text = text s d a in
-    let fit : ℕ = writing.fitting s (Some (on.Connection c)) (length w) in
-    let k_is : k ≡ fit = ap number step.1 ∙ ap (λ o. writing.fitting s o (length w)) is in
-    let to : t ≡ with_conn s c (record (conn_at s c) { outgoing = (conn_at s c).outgoing ++ take fit w }) = step.2 ∙ ap (λ o. writing.written s d fd o (take (writing.fitting s o (length w)) w)) is in
-    let same = to ∙ ap (λ n. with_conn s c (record (conn_at s c) { outgoing = (conn_at s c).outgoing ++ take n w })) (sym k_is) in
-    let broken = when-none refuse.BrokenPipe (writing.is_broken s (descriptor s d fd)) (passed (writing.iol_write s d fd a).refusals 5 step.0) in
-    let text_is = text-of s d a bytes has in
-    let within : k ≤ length bytes = (let e = ap (λ (l : List ℕ). length l) text_is in let l : length (bytes_of w) ≡ length w = length-bytes w in omega (arith, k_is, e, l)) in
-    let same_length : length w ≡ length bytes = (let l : length (bytes_of w) ≡ length w = length-bytes w in sym l ∙ ap (λ (l : List ℕ). length l) text_is) in
-    let most = k_is ∙ ap (λ z. min z (MAX_QUEUE_BYTES - length (conn_at s c).outgoing)) same_length in
-    puts_conn s t d fd c bytes k (take k w) order is within most (bytes-take k w ∙ ap (λ (l : List ℕ). take k l) text_is) (sym (ap (λ o. writing.is_broken s o) is) ∙ broken) same
+    let wrote = wrote_agg s t d fd k _ is a step in
+    puts_conn s t d fd c bytes k (take k (text s d a)) order is (fits_in (text s d a) bytes (MAX_QUEUE_BYTES - length (conn_at s c).outgoing) k (text-of s d a bytes has) wrote.0) wrote.2 wrote.1
 does_write_conn s t d fd c a bytes (reply.Refused x) order is has step = step.1
 does_write_conn s t d fd c a bytes r order is has step = (let e = step.1 in absurd (cc))
 
 pub does_read_conn : (s t : State) (d fd c n : ℕ) (r : Reply) → IsOrderly s → descriptor s d fd ≡ Some (on.Connection c) → StepsTo s (event.Call d (call.IolRead fd n)) r t → ReadsConn s d c n r t
 does_read_conn s t d fd c n (reply.Agg a) order is step =
-    let free = sym (ap (λ o. reading.read_denied s d o n) is) ∙ passed (reading.iol_read s d fd n).refusals 4 step.0 in
-    let still = sym (ap (λ o. reading.must_wait s o n) is) ∙ when-none refuse.WouldBlock (reading.must_wait s (descriptor s d fd) n) (passed (reading.iol_read s d fd n).refusals 5 step.0) in
+    let passes = read_passes s d fd n _ is step.0 in
     let both = opened-conn s d fd c order is in
-    let live = live-first s d _ step.0 in
     let inc : Text = (conn_at s c).incoming in
-    let tx : Text = admitted (may_read s d) (take n inc) in
-    let x : Connection = record (conn_at s c) { incoming = drop (length tx) inc } in
+    let taken = takes_front (may_read s d) n inc (is_none (conn_at s c).peer) passes.0 passes.1 in
+    let x : Connection = record (conn_at s c) { incoming = drop (length (front (may_read s d) n inc)) inc } in
     let mid : State = with_conn s c x in
-    let same : t ≡ aggs.with_agg mid d tx = step.2 ∙ ap (λ o. aggs.with_agg (reading.read_on s d fd o (length (reading.read_text s d o n))) d (reading.read_text s d o n)) is in
-    let dom : domain mid d ≡ domain s d = domain-same s mid d (domains-with_conn s c x) in
-    let next : aggs.next_agg mid d ≡ aggs.next_agg s d = ap (λ (y : Domain Text). y.next_agg) dom in
-    let a_is : a ≡ aggs.next_agg mid d = ap number step.1 ∙ sym next in
-    let none = order.aggs d (aggs.next_agg s d) (omega arith) in
-    let none_mid : lookup (domain mid d).aggs (aggs.next_agg mid d) ≡ None = ap (λ (y : Domain Text). lookup y.aggs y.next_agg) dom ∙ none in
+    let same : t ≡ aggs.with_agg mid d (front (may_read s d) n inc) = step.2 ∙ ap (λ o. aggs.with_agg (reading.read_on s d fd o (length (reading.read_text s d o n))) d (reading.read_text s d o n)) is in
+    let got = got-agg s mid t d a (front (may_read s d) n inc) (order.aggs d (aggs.next_agg s d) (omega arith)) (domain-same s mid d (domains-with_conn s c x)) (live-first s d _ step.0) (ap number step.1) same in
     record {
-      text = tx;
-      incoming = drop (length tx) inc;
-      lends = ap (λ k. lent_at t d k) a_is ∙ lent-made mid t d (domain mid d).aggs tx (ap (λ (y : Domain Text). y.live) dom ∙ live) none_mid same;
-      new = ap (λ k. lent_at s d k) (a_is ∙ next) ∙ ap (λ (o : Option Text). option_map bytes_of o) none;
-      was = admitted-rest (may_read s d) n inc;
+      text = front (may_read s d) n inc;
+      incoming = x.incoming;
+      lends = got.0;
+      new = got.1;
+      was = taken.was;
       most = refl;
-      conn = ap (λ u. conn_at u c) same ∙ (conns-with_agg mid d tx c ∙ conn-with_same s c x both.1 (not-over x both.0 both.1));
-      ended = λ some none. (let gone = none-admitted (may_read s d) n inc some free none in (gone, none-comes n inc (is_none (conn_at s c).peer) some gone still));
+      conn = ap (λ u. conn_at u c) same ∙ (conns-with_agg mid d (front (may_read s d) n inc) c ∙ conn-with_same s c x both.1 (not-over x both.0 both.1));
+      ended = taken.ended;
     }
 does_read_conn s t d fd c n (reply.Refused x) order is step = step.1
 does_read_conn s t d fd c n r order is step = (let e = step.1 in absurd (cc))

@@ -1,16 +1,14 @@
 -- What the calls on pipes do for their own domain.
-use Rattle.std.proofs.Common.{◌≡◌, ℕ, ◌≤◌, List, [], ◌++◌, length, take, drop, ap, ◌∙◌, refl, sym, arith, Option, Some, None, true, false, Bool}
+use Rattle.std.proofs.Common.{◌≡◌, ℕ, List, [], ◌++◌, length, take, drop, ap, ◌∙◌, refl, sym, arith, Option, Some, None, true, false, Bool}
 use Rattle.iol_core.specs.declared.limits.TheConstants.{MAX_QUEUE_BYTES}
-use Rattle.std.specs.Prelude.{min, ◌-◌, option_map, slice_set, unwrap_or, not, ◌||◌, if◌then◌else◌}
-use Rattle.iol_core.specs.Text.{Text, bytes_of, admitted}
-use Rattle.iol_core.specs.Numbered.{lookup, in_place, lowest, placed}
+use Rattle.std.specs.Prelude.{◌-◌, slice_set, unwrap_or, not, ◌||◌, if◌then◌else◌}
+use Rattle.iol_core.specs.Text.{Text}
+use Rattle.iol_core.specs.Numbered.{in_place, lowest, placed}
 use Rattle.iol_core.specs.State.{State, Domain, Pipe, domain, text, descriptor, may_read, pipe_at, no_pipe, new_pipe, is_live, with_domain, with_pipe}
 use Rattle.iol_core.specs.Run.{StepsTo}
 use Rattle.iol_core.specs.Calls.Aggregates as aggs
 use Rattle.iol_core.specs.Calls.Descriptors as fds
 use Rattle.iol_core.specs.Calls.Reading as reading
-use Rattle.iol_core.specs.Calls.Writing as writing
-use Rattle.iol_core.specs.declared.refusals.Refusal.TheVariants as refuse
 use Rattle.iol_core.specs.declared.descriptors.Descriptor.{Descriptor}
 use Rattle.iol_core.specs.declared.descriptors.Descriptor.TheVariants as on
 use Rattle.iol_core.specs.declared.events.Call.TheVariants as call
@@ -18,18 +16,16 @@ use Rattle.iol_core.specs.declared.events.Event.TheVariants as event
 use Rattle.iol_core.specs.declared.events.Reply.{Reply}
 use Rattle.iol_core.specs.declared.events.Reply.TheVariants as reply
 use Rattle.iol_core.proofs.Lookups.{domain-same}
-use Rattle.iol_core.proofs.Passing.{passed, when-none}
 use Rattle.iol_laws.specs.Order.{IsOrderly}
 use Rattle.iol_laws.specs.Caller.{lent_at, PutsInPipe, ReadsPipe, WritesPipe, MakesPipe, ClosesReadEnd, ClosesWriteEnd}
+use Rattle.iol_laws.proofs.Caller.Queues.{FitsIn, fits_in, front, read_passes, takes_front, wrote_agg}
 use Rattle.iol_laws.proofs.Domains.{domain-with_same, domains-with_pipe, live-first}
 use Rattle.iol_laws.proofs.Order.Ends.{pipe-with_same}
 use Rattle.iol_laws.proofs.Order.EndsOfCalls.{pipe-there, pipe-twice}
 use Rattle.iol_laws.proofs.Left.Pipes.{pipes_same}
-use Rattle.iol_laws.proofs.Ended.{none-admitted, none-comes}
-use Rattle.iol_laws.proofs.Numbers.{lent-made, new-fd, number, text-of}
+use Rattle.iol_laws.proofs.Numbers.{got-agg, new-fd, number, text-of}
 use Rattle.iol_laws.proofs.Places.{lowest-free, place-placed, place-set_free}
 use Rattle.iol_laws.proofs.Tests.{left-true, right-true}
-use Rattle.iol_laws.proofs.Texts.{admitted-rest, bytes-take, length-bytes}
 
 pipes-with_agg : (s : State) (d : ℕ) (x : Text) (p : ℕ) → pipe_at (aggs.with_agg s d x) p ≡ pipe_at s p
 unfolding with_domain
@@ -41,29 +37,23 @@ pipes-with_fds s d xs p = pipes_same s (fds.with_fds s d xs) (λ k. false) refl 
 
 pub does_read_pipe : (s t : State) (d fd p n : ℕ) (r : Reply) → IsOrderly s → descriptor s d fd ≡ Some (on.ReadEnd p) → StepsTo s (event.Call d (call.IolRead fd n)) r t → ReadsPipe s d p n r t
 does_read_pipe s t d fd p n (reply.Agg a) order is step =
-    let free = sym (ap (λ o. reading.read_denied s d o n) is) ∙ passed (reading.iol_read s d fd n).refusals 4 step.0 in
-    let still = sym (ap (λ o. reading.must_wait s o n) is) ∙ when-none refuse.WouldBlock (reading.must_wait s (descriptor s d fd) n) (passed (reading.iol_read s d fd n).refusals 5 step.0) in
-    let reads : (pipe_at s p).reading ≡ true = order.all_stand d fd (on.ReadEnd p) is in
-    let live = live-first s d _ step.0 in
+    let passes = read_passes s d fd n _ is step.0 in
+    let on_yet = left-true (pipe_at s p).reading (pipe_at s p).writing (order.all_stand d fd (on.ReadEnd p) is) in
     let q : Text = (pipe_at s p).queue in
-    let tx : Text = admitted (may_read s d) (take n q) in
-    let x : Pipe = record (pipe_at s p) { queue = drop (length tx) q } in
+    let taken = takes_front (may_read s d) n q (pipe_at s p).writing passes.0 passes.1 in
+    let x : Pipe = record (pipe_at s p) { queue = drop (length (front (may_read s d) n q)) q } in
     let mid : State = with_pipe s p x in
-    let same : t ≡ aggs.with_agg mid d tx = step.2 ∙ ap (λ o. aggs.with_agg (reading.read_on s d fd o (length (reading.read_text s d o n))) d (reading.read_text s d o n)) is in
-    let dom : domain mid d ≡ domain s d = domain-same s mid d (domains-with_pipe s p x) in
-    let next : aggs.next_agg mid d ≡ aggs.next_agg s d = ap (λ (y : Domain Text). y.next_agg) dom in
-    let a_is : a ≡ aggs.next_agg mid d = ap number step.1 ∙ sym next in
-    let none = order.aggs d (aggs.next_agg s d) (omega arith) in
-    let none_mid : lookup (domain mid d).aggs (aggs.next_agg mid d) ≡ None = ap (λ (y : Domain Text). lookup y.aggs y.next_agg) dom ∙ none in
+    let same : t ≡ aggs.with_agg mid d (front (may_read s d) n q) = step.2 ∙ ap (λ o. aggs.with_agg (reading.read_on s d fd o (length (reading.read_text s d o n))) d (reading.read_text s d o n)) is in
+    let got = got-agg s mid t d a (front (may_read s d) n q) (order.aggs d (aggs.next_agg s d) (omega arith)) (domain-same s mid d (domains-with_pipe s p x)) (live-first s d _ step.0) (ap number step.1) same in
     record {
-      text = tx;
-      rest = drop (length tx) q;
-      lends = ap (λ k. lent_at t d k) a_is ∙ lent-made mid t d (domain mid d).aggs tx (ap (λ (y : Domain Text). y.live) dom ∙ live) none_mid same;
-      new = ap (λ k. lent_at s d k) (a_is ∙ next) ∙ ap (λ (o : Option Text). option_map bytes_of o) none;
-      was = admitted-rest (may_read s d) n q;
+      text = front (may_read s d) n q;
+      rest = x.queue;
+      lends = got.0;
+      new = got.1;
+      was = taken.was;
       most = refl;
-      pipe = ap (λ u. pipe_at u p) same ∙ (pipes-with_agg mid d tx p ∙ pipe-with_same s p x (left-true (pipe_at s p).reading (pipe_at s p).writing reads) (left-true (pipe_at s p).reading (pipe_at s p).writing reads));
-      ended = λ some none. (let gone = none-admitted (may_read s d) n q some free none in (gone, none-comes n q (pipe_at s p).writing some gone still));
+      pipe = ap (λ u. pipe_at u p) same ∙ (pipes-with_agg mid d (front (may_read s d) n q) p ∙ pipe-with_same s p x on_yet on_yet);
+      ended = taken.ended;
     }
 does_read_pipe s t d fd p n (reply.Refused x) order is step = step.1
 does_read_pipe s t d fd p n r order is step = (let e = step.1 in absurd (cc))
@@ -73,26 +63,17 @@ not-false true is = refl
 not-false false is = absurd (cc)
 
 -- a text goes behind what is to be read
-pub puts_pipe : (s t : State) (p : ℕ) (bytes : List ℕ) (k : ℕ) (x : Text) → k ≤ length bytes → k ≡ min (length bytes) (MAX_QUEUE_BYTES - length (pipe_at s p).queue) → bytes_of x ≡ take k bytes → not (pipe_at s p).reading ≡ false
+pub puts_pipe : (s t : State) (p : ℕ) (bytes : List ℕ) (k : ℕ) (x : Text) → FitsIn bytes (MAX_QUEUE_BYTES - length (pipe_at s p).queue) k x → not (pipe_at s p).reading ≡ false
     → t ≡ with_pipe s p (record (pipe_at s p) { queue = (pipe_at s p).queue ++ x }) → PutsInPipe s p bytes k t
-puts_pipe s t p bytes k x within most x_is unbroken same =
+puts_pipe s t p bytes k x fits unbroken same =
     let reads : (pipe_at s p).reading ≡ true = not-false (pipe_at s p).reading unbroken in
     let on_yet = left-true (pipe_at s p).reading (pipe_at s p).writing reads in
-    record { text = x; within = within; text_is = x_is; most = most; takes = reads; pipe = ap (λ u. pipe_at u p) same ∙ pipe-with_same s p (record (pipe_at s p) { queue = (pipe_at s p).queue ++ x }) on_yet on_yet }
+    record { text = x; within = fits.within; text_is = fits.text_is; most = fits.most; takes = reads; pipe = ap (λ u. pipe_at u p) same ∙ pipe-with_same s p (record (pipe_at s p) { queue = (pipe_at s p).queue ++ x }) on_yet on_yet }
 
 pub does_write_pipe : (s t : State) (d fd p a : ℕ) (bytes : List ℕ) (r : Reply) → IsOrderly s → descriptor s d fd ≡ Some (on.WriteEnd p) → lent_at s d a ≡ Some bytes → StepsTo s (event.Call d (call.IolWrite fd a)) r t → WritesPipe s p bytes r t
 does_write_pipe s t d fd p a bytes (reply.Count k) order is has step =
-    let w : Text = text s d a in
-    let fit : ℕ = writing.fitting s (Some (on.WriteEnd p)) (length w) in
-    let k_is : k ≡ fit = ap number step.1 ∙ ap (λ o. writing.fitting s o (length w)) is in
-    let to : t ≡ with_pipe s p (record (pipe_at s p) { queue = (pipe_at s p).queue ++ take fit w }) = step.2 ∙ ap (λ o. writing.written s d fd o (take (writing.fitting s o (length w)) w)) is in
-    let same = to ∙ ap (λ n. with_pipe s p (record (pipe_at s p) { queue = (pipe_at s p).queue ++ take n w })) (sym k_is) in
-    let broken = when-none refuse.BrokenPipe (writing.is_broken s (descriptor s d fd)) (passed (writing.iol_write s d fd a).refusals 5 step.0) in
-    let text_is = text-of s d a bytes has in
-    let within : k ≤ length bytes = (let e = ap (λ (l : List ℕ). length l) text_is in let l : length (bytes_of w) ≡ length w = length-bytes w in omega (arith, k_is, e, l)) in
-    let same_length : length w ≡ length bytes = (let l : length (bytes_of w) ≡ length w = length-bytes w in sym l ∙ ap (λ (l : List ℕ). length l) text_is) in
-    let most = k_is ∙ ap (λ z. min z (MAX_QUEUE_BYTES - length (pipe_at s p).queue)) same_length in
-    puts_pipe s t p bytes k (take k w) within most (bytes-take k w ∙ ap (λ (l : List ℕ). take k l) text_is) (sym (ap (λ o. writing.is_broken s o) is) ∙ broken) same
+    let wrote = wrote_agg s t d fd k _ is a step in
+    puts_pipe s t p bytes k (take k (text s d a)) (fits_in (text s d a) bytes (MAX_QUEUE_BYTES - length (pipe_at s p).queue) k (text-of s d a bytes has) wrote.0) wrote.2 wrote.1
 does_write_pipe s t d fd p a bytes (reply.Refused x) order is has step = step.1
 does_write_pipe s t d fd p a bytes r order is has step = (let e = step.1 in absurd (cc))
 

@@ -163,35 +163,28 @@ grows_named xs d = elim (list_any (λ e. e == d) xs) as (λ b. Grows xs (if b th
   | false ↦ record { more = d ∷ []; few = omega arith; is = refl }
 ]
 
-pub store_kept : (s t : State) (e : Event) → SameStore s t → KeepsStore s e t
-store_kept s t e same = record {
-  files = λ un. (same.files, same.slots);
-  contents = λ f un. content-same s t f same.slots;
-  known = λ f is. file-same s t f same.files;
-  called = λ name f is. called-same s t name f same.files is;
-  numbered = λ p is. there-same s t p same.pools is;
-  lists = λ p is. grows_same _ _ (ap (λ (x : Pool). x.domains) (pool-same s t p same.pools));
-  pools = λ p is un none. pool-same s t p same.pools;
-  listed = λ p is none. ap (λ (x : Pool). x.domains) (pool-same s t p same.pools);
-  table = λ un. same.pools;
+-- the same files by name, and the same pools
+store_of : (s t : State) (e : Event) → t.files ≡ s.files → t.pools ≡ s.pools → (changes_files s e ≡ false → t.slots ≡ s.slots) → ((f : ℕ) → writes_file s e f ≡ false → content t f ≡ content s f) → KeepsStore s e t
+store_of s t e files pools slots contents = record {
+  files = λ un. (files, slots un);
+  contents = contents;
+  known = λ f is. file-same s t f files;
+  called = λ name f is. called-same s t name f files is;
+  numbered = λ p is. there-same s t p pools is;
+  lists = λ p is. grows_same _ _ (ap (λ (x : Pool). x.domains) (pool-same s t p pools));
+  pools = λ p is un none. pool-same s t p pools;
+  listed = λ p is none. ap (λ (x : Pool). x.domains) (pool-same s t p pools);
+  table = λ un. pools;
 }
+
+pub store_kept : (s t : State) (e : Event) → SameStore s t → KeepsStore s e t
+store_kept s t e same = store_of s t e same.files same.pools (λ un. same.slots) (λ f un. content-same s t f same.slots)
 
 -- a call that writes what a descriptor is open on
 store_wrote : (s : State) (e : Event) (by fd : ℕ) (to : Option Descriptor) (w : Text) → changes_files s e ≡ writing.is_file to → ((f : ℕ) → writes_file s e f ≡ is_on_file f to) → KeepsStore s e (writing.written s by fd to w)
 store_wrote s e by fd to w changes writes =
-    let t : State = writing.written s by fd to w in
     let wrote = store_written s by fd to w in
-    record {
-      files = λ un. files_written s by fd to w (sym changes ∙ un);
-      contents = λ f un. wrote.contents f (sym (writes f) ∙ un);
-      known = λ f is. file-same s t f wrote.files;
-      called = λ name f is. called-same s t name f wrote.files is;
-      numbered = λ p is. there-same s t p wrote.pools is;
-      lists = λ p is. grows_same _ _ (ap (λ (x : Pool). x.domains) (pool-same s t p wrote.pools));
-      pools = λ p is un none. pool-same s t p wrote.pools;
-      listed = λ p is none. ap (λ (x : Pool). x.domains) (pool-same s t p wrote.pools);
-      table = λ un. wrote.pools;
-    }
+    store_of s (writing.written s by fd to w) e wrote.files wrote.pools (λ un. (files_written s by fd to w (sym changes ∙ un)).1) (λ f un. wrote.contents f (sym (writes f) ∙ un))
 
 -- one more of a list
 numbered-push : {A : Type 0} (xs : List A) (x z : A) (n : ℕ) → is_numbered xs n ≡ true → numbered_or (xs ++ x ∷ []) n z ≡ numbered_or xs n z

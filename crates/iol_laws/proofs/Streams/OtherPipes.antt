@@ -8,7 +8,7 @@ use Rattle.std.proofs.lemmas.Grind.{common_steps}
 use Rattle.std.proofs.lemmas.List.{append-nil, take-append-drop}
 use Rattle.iol_core.specs.Text.{Text}
 use Rattle.iol_core.specs.Numbered.{in_place, lowest}
-use Rattle.iol_core.specs.State.{State, Domain, Pipe, domain, descriptor, pipe_at, no_pipe, no_domain, with_domain}
+use Rattle.iol_core.specs.State.{State, Domain, Pipe, domain, descriptor, pipe_at, no_pipe, no_domain, with_domain, with_pipe}
 use Rattle.iol_core.specs.Meaning.{Meaning, Step}
 use Rattle.iol_core.specs.Run.{called, StepsTo, outcome}
 use Rattle.iol_core.specs.Calls.Descriptors as fds
@@ -43,132 +43,124 @@ pipe-domain : (s : State) (d : ℕ) (x : Domain Text) (p : ℕ) → pipe_at (wit
 unfolding with_domain
 pipe-domain s d x p = pipes_same s (with_domain s d x) (λ k. false) refl p refl
 
--- What stays unread.
-
-unread_same : (s t : State) (p : ℕ) → pipe_at t p ≡ pipe_at s p → (pipe_at s p).reading ≡ true → StaysUnread s p t
-unread_same s t p same reads = record { more = []; queue = ap (λ (k : Pipe). k.queue) same ∙ sym (append-nil (pipe_at s p).queue); reading = ap (λ (k : Pipe). k.reading) same ∙ reads }
-
-unread_shut : (s t : State) (p : ℕ) (reads writes : Bool) → MayShut (pipe_at s p) (pipe_at t p) reads writes → reads ≡ false → (pipe_at s p).reading ≡ true → StaysUnread s p t
-unread_shut s t p reads writes shut none on_yet =
-    let still : (pipe_at t p).reading ≡ true = shut.reading ∙ grind (arith, none, on_yet) in
-    record { more = []; queue = shut.kept none (left-true (pipe_at t p).reading (pipe_at t p).writing still) ∙ sym (append-nil (pipe_at s p).queue); reading = still }
-
-unread_then : (s t : State) (d : ℕ) (x : Domain Text) (p : ℕ) → StaysUnread s p t → StaysUnread s p (with_domain t d x)
-unread_then s t d x p stays = (let e = pipe-domain t d x p in record { more = stays.more; queue = ap (λ (k : Pipe). k.queue) e ∙ stays.queue; reading = ap (λ (k : Pipe). k.reading) e ∙ stays.reading })
-
 -- what an end is of
 end-apart : (q p : ℕ) → q ≢ p → (q == p) ≡ false
 end-apart q p differ = grind (arith, nat_tests, differ)
-
-unread_written : (s : State) (by fd : ℕ) (o : Option Descriptor) (w : Text) (p : ℕ) → (pipe_at s p).reading ≡ true → StaysUnread s p (writing.written s by fd o w)
-unread_written s by fd None w p reads = unread_same s s p refl reads
-unread_written s by fd (Some (on.File f at mode)) w p reads = unread_same s _ p (pipes_written s by fd (Some (on.File f at mode)) w p refl) reads
-unread_written s by fd (Some (on.Connection c)) w p reads = unread_same s _ p (pipes_written s by fd (Some (on.Connection c)) w p refl) reads
-unread_written s by fd (Some (on.ReadEnd q)) w p reads = unread_same s s p refl reads
-unread_written s by fd (Some (on.WriteEnd q)) w p reads = elim (cases_eq q p) [
-  | inr differ ↦ unread_same s _ p (pipes_written s by fd (Some (on.WriteEnd q)) w p (end-apart q p differ)) reads
-  | inl same ↦ subst (λ n. StaysUnread s n (writing.written s by fd (Some (on.WriteEnd q)) w)) same (here (ap (λ n. (pipe_at s n).reading) same ∙ reads))
-]
-  where
-    here : (pipe_at s q).reading ≡ true → StaysUnread s q (writing.written s by fd (Some (on.WriteEnd q)) w)
-    here on_yet =
-        let lives = left-true (pipe_at s q).reading (pipe_at s q).writing on_yet in
-        let e = pipe-with_same s q (record (pipe_at s q) { queue = (pipe_at s q).queue ++ w }) lives lives in
-        record { more = w; queue = ap (λ (k : Pipe). k.queue) e; reading = ap (λ (k : Pipe). k.reading) e ∙ on_yet }
-
-unread_read_on : (s : State) (by fd : ℕ) (o : Option Descriptor) (n p : ℕ) → (o ≡ Some (on.ReadEnd p) → ⊥) → (pipe_at s p).reading ≡ true → StaysUnread s p (reading.read_on s by fd o n)
-unread_read_on s by fd None n p never reads = unread_same s s p refl reads
-unread_read_on s by fd (Some (on.File f at mode)) n p never reads = unread_same s _ p (pipes_read_on s by fd (Some (on.File f at mode)) n p refl) reads
-unread_read_on s by fd (Some (on.Connection c)) n p never reads = unread_same s _ p (pipes_read_on s by fd (Some (on.Connection c)) n p refl) reads
-unread_read_on s by fd (Some (on.WriteEnd q)) n p never reads = unread_same s s p refl reads
-unread_read_on s by fd (Some (on.ReadEnd q)) n p never reads = unread_same s _ p (pipes_read_on s by fd (Some (on.ReadEnd q)) n p (not-reading p (Some (on.ReadEnd q)) never)) reads
 
 -- a call that uses no descriptor
 unused : (s : State) (d : ℕ) (k : Call) (p : ℕ) → touches_pipe s (event.Call d k) p ≡ false → pipe_at (called s d k).after p ≡ pipe_at s p
 unused s d k p un = pipes_meant s (event.Call d k) p un
 
-unread_called : (s : State) (d : ℕ) (k : Call) (p : ℕ) → HasNotEnd s d (on.ReadEnd p) → (pipe_at s p).reading ≡ true → StaysUnread s p (called s d k).after
-unread_called s d call.Exit p never reads =
-    let closed : State = fold fds.closed_on s (domain s d).fds in
-    unread_then s closed d no_domain p (unread_shut s closed p _ _ (all_shut s (domain s d).fds p) (none-reading p (domain s d).fds never) reads)
-unread_called s d (call.Close fd) p never reads =
-    let o : Option Descriptor = descriptor s d fd in
-    unread_then s (fds.closed_on s o) d _ p (unread_shut s (fds.closed_on s o) p _ _ (may_shut s o p) (not-reading p o (never fd)) reads)
-unread_called s d (call.IolRead fd n) p never reads = unread_then s _ d _ p (unread_read_on s d fd (descriptor s d fd) _ p (never fd) reads)
-unread_called s d (call.Read fd n) p never reads = unread_read_on s d fd (descriptor s d fd) _ p (never fd) reads
-unread_called s d (call.IolWrite fd a) p never reads = unread_written s d fd (descriptor s d fd) _ p reads
-unread_called s d (call.Write fd bytes) p never reads = unread_written s d fd (descriptor s d fd) _ p reads
-unread_called s d call.Pipe p never reads = unread_same s _ p (unused s d call.Pipe p (end-apart (lowest s.pipes) p (not-next s p (left-true (pipe_at s p).reading (pipe_at s p).writing reads)))) reads
-unread_called s d k p never reads = unread_same s (called s d k).after p (unused s d k p refl) reads
+-- What holds of a pipe that is open, and goes on to each state in which the pipe is the same, holds after a call of a domain, if it
+-- holds after what the domain's descriptors may do.
+module _ (s : State) (p : ℕ) (Holds : State → Type 0) (lives : IsOpen s p) (goes : (t u : State) → pipe_at u p ≡ pipe_at t p → Holds t → Holds u) (holds : Holds s) where
+  holds_called : (d : ℕ) (k : Call) → Holds (fold fds.closed_on s (domain s d).fds) → ((fd : ℕ) → Holds (fds.closed_on s (descriptor s d fd))) → ((fd n : ℕ) → Holds (reading.read_on s d fd (descriptor s d fd) n)) → ((fd : ℕ) (w : Text) → Holds (writing.written s d fd (descriptor s d fd) w))
+      → Holds (called s d k).after
+  holds_called d call.Exit ended closed read wrote = goes (fold fds.closed_on s (domain s d).fds) _ (pipe-domain _ d no_domain p) ended
+  holds_called d (call.Close fd) ended closed read wrote = goes (fds.closed_on s (descriptor s d fd)) _ (pipe-domain _ d _ p) (closed fd)
+  holds_called d (call.IolRead fd n) ended closed read wrote = goes (reading.read_on s d fd (descriptor s d fd) _) _ (pipe-domain _ d _ p) (read fd _)
+  holds_called d (call.Read fd n) ended closed read wrote = read fd _
+  holds_called d (call.IolWrite fd a) ended closed read wrote = wrote fd _
+  holds_called d (call.Write fd bytes) ended closed read wrote = wrote fd _
+  holds_called d call.Pipe ended closed read wrote = goes s _ (unused s d call.Pipe p (end-apart (lowest s.pipes) p (not-next s p lives))) holds
+  holds_called d k ended closed read wrote = goes s _ (unused s d k p refl) holds
 
-unread_outcome : (m : Meaning Reply) (s t : State) (r : Result Reply Refusal) (p : ℕ) → StaysUnread s p m.after → (pipe_at s p).reading ≡ true → Step m s r t → StaysUnread s p t
-unread_outcome m s t (Ok a) p stays reads step = subst (λ (u : State). StaysUnread s p u) (sym step.2) stays
-unread_outcome m s t (Err x) p stays reads step = unread_same s t p (ap (λ (u : State). pipe_at u p) step.1) reads
+  holds_after : (m : Meaning Reply) (t : State) (r : Result Reply Refusal) → Holds m.after → Step m s r t → Holds t
+  holds_after m t (Ok a) after step = subst (λ (u : State). Holds u) (sym step.2) after
+  holds_after m t (Err x) after step = goes s t (ap (λ (u : State). pipe_at u p) step.1) holds
+
+-- What stays unread.
+
+module _ (s : State) (p : ℕ) (reads : (pipe_at s p).reading ≡ true) where
+  unread_goes : (t u : State) → pipe_at u p ≡ pipe_at t p → StaysUnread s p t → StaysUnread s p u
+  unread_goes t u same stays = record { more = stays.more; queue = ap (λ (k : Pipe). k.queue) same ∙ stays.queue; reading = ap (λ (k : Pipe). k.reading) same ∙ stays.reading }
+
+  unread_here : StaysUnread s p s
+  unread_here = record { more = []; queue = sym (append-nil (pipe_at s p).queue); reading = reads }
+
+  unread_shut : (t : State) (shuts_reads shuts_writes : Bool) → MayShut (pipe_at s p) (pipe_at t p) shuts_reads shuts_writes → shuts_reads ≡ false → StaysUnread s p t
+  unread_shut t shuts_reads shuts_writes shut none =
+      let still : (pipe_at t p).reading ≡ true = shut.reading ∙ grind (arith, none, reads) in
+      record { more = []; queue = shut.kept none (left-true (pipe_at t p).reading (pipe_at t p).writing still) ∙ sym (append-nil (pipe_at s p).queue); reading = still }
+
+  unread_into : (w : Text) → StaysUnread s p (with_pipe s p (record (pipe_at s p) { queue = (pipe_at s p).queue ++ w }))
+  unread_into w =
+      let lives = left-true (pipe_at s p).reading (pipe_at s p).writing reads in
+      let e = pipe-with_same s p (record (pipe_at s p) { queue = (pipe_at s p).queue ++ w }) lives lives in
+      record { more = w; queue = ap (λ (k : Pipe). k.queue) e; reading = ap (λ (k : Pipe). k.reading) e ∙ reads }
+
+  unread_written : (by fd : ℕ) (o : Option Descriptor) (w : Text) → StaysUnread s p (writing.written s by fd o w)
+  unread_written by fd (Some (on.ReadEnd q)) w = unread_here
+  unread_written by fd (Some (on.WriteEnd q)) w = elim (cases_eq q p) [
+    | inr differ ↦ unread_goes s _ (pipes_written s by fd (Some (on.WriteEnd q)) w p (end-apart q p differ)) unread_here
+    | inl same ↦ subst (λ n. StaysUnread s p (writing.written s by fd (Some (on.WriteEnd n)) w)) (sym same) (unread_into w)
+  ]
+  unread_written by fd o w = unread_goes s _ (pipes_written s by fd o w p refl) unread_here
+
+  unread_read_on : (by fd : ℕ) (o : Option Descriptor) (n : ℕ) → (o ≡ Some (on.ReadEnd p) → ⊥) → StaysUnread s p (reading.read_on s by fd o n)
+  unread_read_on by fd (Some (on.WriteEnd q)) n never = unread_here
+  unread_read_on by fd (Some (on.ReadEnd q)) n never = unread_goes s _ (pipes_read_on s by fd (Some (on.ReadEnd q)) n p (not-reading p (Some (on.ReadEnd q)) never)) unread_here
+  unread_read_on by fd o n never = unread_goes s _ (pipes_read_on s by fd o n p refl) unread_here
+
+  unread_called : (d : ℕ) (k : Call) → HasNotEnd s d (on.ReadEnd p) → StaysUnread s p (called s d k).after
+  unread_called d k never =
+      holds_called s p (StaysUnread s p) (left-true (pipe_at s p).reading (pipe_at s p).writing reads) unread_goes unread_here d k
+      (unread_shut (fold fds.closed_on s (domain s d).fds) _ _ (all_shut s (domain s d).fds p) (none-reading p (domain s d).fds never))
+      (λ fd. unread_shut (fds.closed_on s (descriptor s d fd)) _ _ (may_shut s (descriptor s d fd) p) (not-reading p (descriptor s d fd) (never fd)))
+      (λ fd n. unread_read_on d fd (descriptor s d fd) n (never fd))
+      (λ fd w. unread_written d fd (descriptor s d fd) w)
 
 pub others_unread : (s t : State) (d : ℕ) (k : Call) (r : Reply) (p : ℕ) → StepsTo s (event.Call d k) r t → HasNotEnd s d (on.ReadEnd p) → (pipe_at s p).reading ≡ true → StaysUnread s p t
-others_unread s t d k r p step never reads = unread_outcome (called s d k) s t (outcome r) p (unread_called s d k p never reads) reads step
+others_unread s t d k r p step never reads = holds_after s p (StaysUnread s p) (left-true (pipe_at s p).reading (pipe_at s p).writing reads) (unread_goes s p reads) (unread_here s p reads) (called s d k) t (outcome r) (unread_called s p reads d k never) step
 
 -- What was written.
 
-written_same : (s t : State) (p : ℕ) → pipe_at t p ≡ pipe_at s p → (pipe_at s p).writing ≡ true → GoesFromFront s p t
-written_same s t p same writes = record { gone = []; queue = sym (ap (λ (k : Pipe). k.queue) same); writing = ap (λ (k : Pipe). k.writing) same ∙ writes }
+module _ (s : State) (p : ℕ) (writes : (pipe_at s p).writing ≡ true) where
+  written_goes : (t u : State) → pipe_at u p ≡ pipe_at t p → GoesFromFront s p t → GoesFromFront s p u
+  written_goes t u same went = record { gone = went.gone; queue = went.queue ∙ ap (λ (k : Pipe). went.gone ++ k.queue) (sym same); writing = ap (λ (k : Pipe). k.writing) same ∙ went.writing }
 
-written_shut : (s t : State) (p : ℕ) (reads writes : Bool) → MayShut (pipe_at s p) (pipe_at t p) reads writes → writes ≡ false → (pipe_at s p).writing ≡ true → GoesFromFront s p t
-written_shut s t p reads writes shut none on_yet = by reads refl
-  where
-    still : (pipe_at t p).writing ≡ true
-    still = shut.writing ∙ grind (arith, none, on_yet)
+  written_here : GoesFromFront s p s
+  written_here = record { gone = []; queue = refl; writing = writes }
 
-    by : (b : Bool) → reads ≡ b → GoesFromFront s p t
-    by true is = record { gone = (pipe_at s p).queue; queue = sym (append-nil (pipe_at s p).queue) ∙ ap (λ (l : Text). (pipe_at s p).queue ++ l) (sym (shut.emptied (inl is))); writing = still }
-    by false is = record { gone = []; queue = sym (shut.kept is (right-true (pipe_at t p).reading (pipe_at t p).writing still)); writing = still }
+  written_shut : (t : State) (shuts_reads shuts_writes : Bool) → MayShut (pipe_at s p) (pipe_at t p) shuts_reads shuts_writes → shuts_writes ≡ false → GoesFromFront s p t
+  written_shut t shuts_reads shuts_writes shut none = by shuts_reads refl
+    where
+      still : (pipe_at t p).writing ≡ true
+      still = shut.writing ∙ grind (arith, none, writes)
 
-written_then : (s t : State) (d : ℕ) (x : Domain Text) (p : ℕ) → GoesFromFront s p t → GoesFromFront s p (with_domain t d x)
-written_then s t d x p goes = (let e = pipe-domain t d x p in record { gone = goes.gone; queue = goes.queue ∙ ap (λ (k : Pipe). goes.gone ++ k.queue) (sym e); writing = ap (λ (k : Pipe). k.writing) e ∙ goes.writing })
+      by : (b : Bool) → shuts_reads ≡ b → GoesFromFront s p t
+      by true is = record { gone = (pipe_at s p).queue; queue = sym (append-nil (pipe_at s p).queue) ∙ ap (λ (l : Text). (pipe_at s p).queue ++ l) (sym (shut.emptied (inl is))); writing = still }
+      by false is = record { gone = []; queue = sym (shut.kept is (right-true (pipe_at t p).reading (pipe_at t p).writing still)); writing = still }
 
-written_on : (s : State) (by fd : ℕ) (o : Option Descriptor) (w : Text) (p : ℕ) → (o ≡ Some (on.WriteEnd p) → ⊥) → (pipe_at s p).writing ≡ true → GoesFromFront s p (writing.written s by fd o w)
-written_on s by fd None w p never writes = written_same s s p refl writes
-written_on s by fd (Some (on.File f at mode)) w p never writes = written_same s _ p (pipes_written s by fd (Some (on.File f at mode)) w p refl) writes
-written_on s by fd (Some (on.Connection c)) w p never writes = written_same s _ p (pipes_written s by fd (Some (on.Connection c)) w p refl) writes
-written_on s by fd (Some (on.ReadEnd q)) w p never writes = written_same s s p refl writes
-written_on s by fd (Some (on.WriteEnd q)) w p never writes = written_same s _ p (pipes_written s by fd (Some (on.WriteEnd q)) w p (not-writing p (Some (on.WriteEnd q)) never)) writes
+  written_on : (by fd : ℕ) (o : Option Descriptor) (w : Text) → (o ≡ Some (on.WriteEnd p) → ⊥) → GoesFromFront s p (writing.written s by fd o w)
+  written_on by fd (Some (on.ReadEnd q)) w never = written_here
+  written_on by fd (Some (on.WriteEnd q)) w never = written_goes s _ (pipes_written s by fd (Some (on.WriteEnd q)) w p (not-writing p (Some (on.WriteEnd q)) never)) written_here
+  written_on by fd o w never = written_goes s _ (pipes_written s by fd o w p refl) written_here
 
-written_read : (s : State) (by fd : ℕ) (o : Option Descriptor) (n p : ℕ) → (pipe_at s p).writing ≡ true → GoesFromFront s p (reading.read_on s by fd o n)
-written_read s by fd None n p writes = written_same s s p refl writes
-written_read s by fd (Some (on.File f at mode)) n p writes = written_same s _ p (pipes_read_on s by fd (Some (on.File f at mode)) n p refl) writes
-written_read s by fd (Some (on.Connection c)) n p writes = written_same s _ p (pipes_read_on s by fd (Some (on.Connection c)) n p refl) writes
-written_read s by fd (Some (on.WriteEnd q)) n p writes = written_same s s p refl writes
-written_read s by fd (Some (on.ReadEnd q)) n p writes = elim (cases_eq q p) [
-  | inr differ ↦ written_same s _ p (pipes_read_on s by fd (Some (on.ReadEnd q)) n p (end-apart q p differ)) writes
-  | inl same ↦ subst (λ m. GoesFromFront s m (reading.read_on s by fd (Some (on.ReadEnd q)) n)) same (here (ap (λ m. (pipe_at s m).writing) same ∙ writes))
-]
-  where
-    here : (pipe_at s q).writing ≡ true → GoesFromFront s q (reading.read_on s by fd (Some (on.ReadEnd q)) n)
-    here on_yet =
-        let lives = right-true (pipe_at s q).reading (pipe_at s q).writing on_yet in
-        let e = pipe-with_same s q (record (pipe_at s q) { queue = drop n (pipe_at s q).queue }) lives lives in
-        record { gone = take n (pipe_at s q).queue; queue = sym (take-append-drop n (pipe_at s q).queue) ∙ ap (λ (k : Pipe). take n (pipe_at s q).queue ++ k.queue) (sym e); writing = ap (λ (k : Pipe). k.writing) e ∙ on_yet }
+  taken_from : (n : ℕ) → GoesFromFront s p (with_pipe s p (record (pipe_at s p) { queue = drop n (pipe_at s p).queue }))
+  taken_from n =
+      let lives = right-true (pipe_at s p).reading (pipe_at s p).writing writes in
+      let e = pipe-with_same s p (record (pipe_at s p) { queue = drop n (pipe_at s p).queue }) lives lives in
+      record { gone = take n (pipe_at s p).queue; queue = sym (take-append-drop n (pipe_at s p).queue) ∙ ap (λ (k : Pipe). take n (pipe_at s p).queue ++ k.queue) (sym e); writing = ap (λ (k : Pipe). k.writing) e ∙ writes }
 
-written_called : (s : State) (d : ℕ) (k : Call) (p : ℕ) → HasNotEnd s d (on.WriteEnd p) → (pipe_at s p).writing ≡ true → GoesFromFront s p (called s d k).after
-written_called s d call.Exit p never writes =
-    let closed : State = fold fds.closed_on s (domain s d).fds in
-    written_then s closed d no_domain p (written_shut s closed p _ _ (all_shut s (domain s d).fds p) (none-writing p (domain s d).fds never) writes)
-written_called s d (call.Close fd) p never writes =
-    let o : Option Descriptor = descriptor s d fd in
-    written_then s (fds.closed_on s o) d _ p (written_shut s (fds.closed_on s o) p _ _ (may_shut s o p) (not-writing p o (never fd)) writes)
-written_called s d (call.IolRead fd n) p never writes = written_then s _ d _ p (written_read s d fd (descriptor s d fd) _ p writes)
-written_called s d (call.Read fd n) p never writes = written_read s d fd (descriptor s d fd) _ p writes
-written_called s d (call.IolWrite fd a) p never writes = written_on s d fd (descriptor s d fd) _ p (never fd) writes
-written_called s d (call.Write fd bytes) p never writes = written_on s d fd (descriptor s d fd) _ p (never fd) writes
-written_called s d call.Pipe p never writes = written_same s _ p (unused s d call.Pipe p (end-apart (lowest s.pipes) p (not-next s p (right-true (pipe_at s p).reading (pipe_at s p).writing writes)))) writes
-written_called s d k p never writes = written_same s (called s d k).after p (unused s d k p refl) writes
+  written_read : (by fd : ℕ) (o : Option Descriptor) (n : ℕ) → GoesFromFront s p (reading.read_on s by fd o n)
+  written_read by fd (Some (on.WriteEnd q)) n = written_here
+  written_read by fd (Some (on.ReadEnd q)) n = elim (cases_eq q p) [
+    | inr differ ↦ written_goes s _ (pipes_read_on s by fd (Some (on.ReadEnd q)) n p (end-apart q p differ)) written_here
+    | inl same ↦ subst (λ m. GoesFromFront s p (reading.read_on s by fd (Some (on.ReadEnd m)) n)) (sym same) (taken_from n)
+  ]
+  written_read by fd o n = written_goes s _ (pipes_read_on s by fd o n p refl) written_here
 
-written_outcome : (m : Meaning Reply) (s t : State) (r : Result Reply Refusal) (p : ℕ) → GoesFromFront s p m.after → (pipe_at s p).writing ≡ true → Step m s r t → GoesFromFront s p t
-written_outcome m s t (Ok a) p goes writes step = subst (λ (u : State). GoesFromFront s p u) (sym step.2) goes
-written_outcome m s t (Err x) p goes writes step = written_same s t p (ap (λ (u : State). pipe_at u p) step.1) writes
+  written_called : (d : ℕ) (k : Call) → HasNotEnd s d (on.WriteEnd p) → GoesFromFront s p (called s d k).after
+  written_called d k never =
+      holds_called s p (GoesFromFront s p) (right-true (pipe_at s p).reading (pipe_at s p).writing writes) written_goes written_here d k
+      (written_shut (fold fds.closed_on s (domain s d).fds) _ _ (all_shut s (domain s d).fds p) (none-writing p (domain s d).fds never))
+      (λ fd. written_shut (fds.closed_on s (descriptor s d fd)) _ _ (may_shut s (descriptor s d fd) p) (not-writing p (descriptor s d fd) (never fd)))
+      (λ fd n. written_read d fd (descriptor s d fd) n)
+      (λ fd w. written_on d fd (descriptor s d fd) w (never fd))
 
 pub others_written : (s t : State) (d : ℕ) (k : Call) (r : Reply) (p : ℕ) → StepsTo s (event.Call d k) r t → HasNotEnd s d (on.WriteEnd p) → (pipe_at s p).writing ≡ true → GoesFromFront s p t
-others_written s t d k r p step never writes = written_outcome (called s d k) s t (outcome r) p (written_called s d k p never writes) writes step
+others_written s t d k r p step never writes = holds_after s p (GoesFromFront s p) (right-true (pipe_at s p).reading (pipe_at s p).writing writes) (written_goes s p writes) (written_here s p writes) (called s d k) t (outcome r) (written_called s p writes d k never) step
 
 -- A pipe of which the domain has no end.
 
