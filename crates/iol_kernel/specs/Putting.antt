@@ -3,14 +3,14 @@ use Rattle.std.specs.Prelude.{◌≡◌, ℕ, false, List, [], Some, Result, Err
 use Rattle.iol_core.specs.State as machine
 use Rattle.iol_core.specs.State.{State, descriptor}
 use Rattle.iol_core.specs.Text.{Text}
-use Rattle.iol_core.specs.Meaning.{Meaning}
+use Rattle.iol_core.specs.Meaning.{Meaning, Never}
 use Rattle.iol_core.specs.Calls.Writing as writing
 use Rattle.iol_core.specs.declared.descriptors.Descriptor.{Descriptor}
 use Rattle.iol_core.specs.declared.refusals.Refusal.{Refusal}
 use Rattle.iol_core.specs.declared.refusals.Refusal.TheVariants.{NoRoom}
 use Rattle.iol_hold.specs.Moves.{Stays}
 use Rattle.iol_hold.specs.Room.{has_room}
-use Rattle.iol_sock.specs.Refused.{IsPassed}
+use Rattle.iol_sock.specs.Refused.{IsPassed, IsRefused}
 use Rattle.iol_kernel.specs.Calls.{MakesBytes, Steps}
 use Rattle.iol_kernel.specs.KernelState.{KernelState, IsSound, machine_of, read_of}
 use Rattle.iol_kernel.specs.MakingRoom.{Places}
@@ -24,13 +24,22 @@ written_to d fd s t = writing.written s d fd (descriptor s d fd) t
 abbrev pub lands_in : (d fd : ℕ) → State → ℕ
 lands_in d fd s = writing.pool_for s d (descriptor s d fd)
 
--- These bytes may be written to a descriptor that is open on this, and are to lie in this pool, which is open.
-pub record MayPut (d fd : ℕ) (target : Descriptor) (p : ℕ) (bytes : List ℕ) (h : KernelState) : Type 0 where
-  pub sound : IsSound h
+-- A write of these bytes passes its tests, and they are to lie in this pool, which is open.
+pub record PassesTests (d fd : ℕ) (bytes : List ℕ) (p : ℕ) (h : KernelState) : Type 0 where
   pub passed : (f : Reading) → IsPassed (writing.write (read_of f h) d fd bytes).refusals
-  pub to : (f : Reading) → descriptor (read_of f h) d fd ≡ Some target
   pub pool : (f : Reading) → p ≡ lands_in d fd (read_of f h)
   pub opened : (machine.pool (machine_of [] h) p).closed ≡ false
+
+-- It is refused by the first test that holds.
+pub record FailsTests (d fd : ℕ) (bytes : List ℕ) (x : Refusal) (h : KernelState) : Type 0 where
+  pub refused : (f : Reading) → IsRefused (writing.write (read_of f h) d fd bytes).refusals Never x
+  pub roomy : (p : ℕ) → x ≡ NoRoom p → ⊥
+
+-- These bytes may be written to a descriptor that is open on this, and are to lie in this pool.
+pub record MayPut (d fd : ℕ) (target : Descriptor) (p : ℕ) (bytes : List ℕ) (h : KernelState) : Type 0 where
+  pub sound : IsSound h
+  pub to : (f : Reading) → descriptor (read_of f h) d fd ≡ Some target
+  pub passes : PassesTests d fd bytes p h
 
 -- A call that places new bytes where there is room for them: the machine's step. They come into a pool, put where `put` says. A
 -- refusal changes nothing, and comes for want of room only where there is none.

@@ -1,13 +1,10 @@
 //! Bytes are written to pipes and connections by copying: they lie in new buffers.
-ghost use Rattle.std.specs.Prelude.{◌≡◌, ℕ, ◌-◌, ◌≤◌, length, true, false, Some, Err, IfOk, IfErr, OnOk};
-ghost use Rattle.iol_core.specs.Meaning.{Never};
+ghost use Rattle.std.specs.Prelude.{◌≡◌, ◌-◌, ◌≤◌, length, true, false, Some, Err, IfOk, IfErr};
 ghost use Rattle.iol_core.specs.Numbered.{is_numbered};
-ghost use Rattle.iol_core.specs.State as state;
 ghost use Rattle.iol_core.specs.State.{is_live, descriptor, domain, conn_at, is_gone};
 ghost use Rattle.iol_core.specs.Calls.Writing as calls;
-ghost use Rattle.iol_sock.specs.Refused.{IsPassed, IsRefused};
 ghost use Rattle.iol_kernel.specs.KernelState.{IsSound};
-ghost use Rattle.iol_kernel.specs.Putting.{FillsQueue, MayPut, PlacesInQueue, lands_in};
+ghost use Rattle.iol_kernel.specs.Putting.{FailsTests, FillsQueue, MayPut, PassesTests, PlacesInQueue};
 ghost use Rattle.iol_kernel.specs.Readings.{Reading};
 
 use crate::kernel::Kernel;
@@ -18,22 +15,19 @@ use iol_core::numbers::{ConnId, DomainId, Fd, FileId, PipeId, PoolId};
 use iol_core::refusals::Refusal;
 
 impl Kernel {
-    ghost use Rattle.iol_kernel.specs.Kernel.{state_of, machine, as_read};
+    ghost use Rattle.iol_kernel.specs.Kernel.{state_of, as_read};
 
     /// The pool in which these bytes lie once they are written to a descriptor. It is refused as that write is, but for
     /// want of room and of memory.
-    pub fn pool_to_write(&self, by: DomainId, fd: Fd, bytes: &[u8]) -> Result<PoolId, Refusal>
+    pub(crate) fn pool_to_write(
+        &self,
+        by: DomainId,
+        fd: Fd,
+        bytes: &[u8],
+    ) -> Result<PoolId, Refusal>
         requires { IsSound (state_of self.now) }
-        ensures passed { OnOk result ((f : Reading) → IsPassed (calls.write (as_read f self.now) by
-            fd bytes.now).refusals) }
-        ensures refused { IfErr result (λ x. (f : Reading) → IsRefused (calls.write (as_read f
-            self.now) by fd bytes.now).refusals Never x) }
-        ensures roomy { (p : ℕ) → result ≡ Err (Refusal.NoRoom p) → ⊥ }
-        ensures live { OnOk result (is_live (machine self.now) by ≡ true) }
-        ensures writable { OnOk result (calls.can_write (descriptor (machine self.now) by fd) ≡
-            true) }
-        ensures pool { IfOk result (λ p. (f : Reading) → p ≡ lands_in by fd (as_read f self.now)) }
-        ensures open { IfOk result (λ p. (state.pool (machine self.now) p).closed ≡ false) }
+        ensures passes { IfOk result (λ p. PassesTests by fd bytes.now p (state_of self.now)) }
+        ensures refused { IfErr result (λ x. FailsTests by fd bytes.now x (state_of self.now)) }
     {
         if !self.is_live(by) {
             return Err(Refusal::NoDomain);
@@ -62,14 +56,8 @@ impl Kernel {
         requires to { (f : Reading) → descriptor (as_read f self.now) by fd ≡ Some (Descriptor.File file at mode) }
         requires there { is_numbered (state_of self.now).files file ≡ true }
         requires within { at ≤ MAX_FILE_BYTES }
-        ensures passed { OnOk result ((f : Reading) → IsPassed (calls.write (as_read f self.now) by
-            fd bytes.now).refusals) }
-        ensures refused { IfErr result (λ x. (f : Reading) → IsRefused (calls.write (as_read f
-            self.now) by fd bytes.now).refusals Never x) }
-        ensures roomy { (p : ℕ) → result ≡ Err (Refusal.NoRoom p) → ⊥ }
-        ensures writable { OnOk result (calls.writes mode ≡ true) }
-        ensures pool { IfOk result (λ p. (f : Reading) → p ≡ (state.file (as_read f self.now) file).pool) }
-        ensures open { IfOk result (λ p. (state.pool (machine self.now) p).closed ≡ false) }
+        ensures passes { IfOk result (λ p. PassesTests by fd bytes.now p (state_of self.now)) }
+        ensures refused { IfErr result (λ x. FailsTests by fd bytes.now x (state_of self.now)) }
     {
         if !is_for_writing(mode) {
             return Err(Refusal::WrongMode);
@@ -91,14 +79,8 @@ impl Kernel {
         requires live { (f : Reading) → is_live (as_read f self.now) by ≡ true }
         requires to { (f : Reading) → descriptor (as_read f self.now) by fd ≡ Some to }
         requires no_file { calls.is_file (Some to) ≡ false }
-        ensures passed { OnOk result ((f : Reading) → IsPassed (calls.write (as_read f self.now) by
-            fd bytes.now).refusals) }
-        ensures refused { IfErr result (λ x. (f : Reading) → IsRefused (calls.write (as_read f
-            self.now) by fd bytes.now).refusals Never x) }
-        ensures roomy { (p : ℕ) → result ≡ Err (Refusal.NoRoom p) → ⊥ }
-        ensures writable { OnOk result (calls.can_write (Some to) ≡ true) }
-        ensures pool { IfOk result (λ p. (f : Reading) → p ≡ calls.pool_for (as_read f self.now) by (Some to)) }
-        ensures open { IfOk result (λ p. (state.pool (machine self.now) p).closed ≡ false) }
+        ensures passes { IfOk result (λ p. PassesTests by fd bytes.now p (state_of self.now)) }
+        ensures refused { IfErr result (λ x. FailsTests by fd bytes.now x (state_of self.now)) }
     {
         let Some(pool) = self.default_of(by) else {
             return Err(Refusal::NoPool);
@@ -122,13 +104,8 @@ impl Kernel {
         requires live { (f : Reading) → is_live (as_read f self.now) by ≡ true }
         requires default { (f : Reading) → (domain (as_read f self.now) by).default ≡ Some pool }
         requires to { (f : Reading) → descriptor (as_read f self.now) by fd ≡ Some (Descriptor.WriteEnd pipe) }
-        ensures passed { OnOk result ((f : Reading) → IsPassed (calls.write (as_read f self.now) by
-            fd bytes.now).refusals) }
-        ensures refused { IfErr result (λ x. (f : Reading) → IsRefused (calls.write (as_read f
-            self.now) by fd bytes.now).refusals Never x) }
-        ensures roomy { (p : ℕ) → result ≡ Err (Refusal.NoRoom p) → ⊥ }
-        ensures same { IfOk result (λ p. p ≡ pool) }
-        ensures open { OnOk result ((state.pool (machine self.now) pool).closed ≡ false) }
+        ensures passes { IfOk result (λ p. PassesTests by fd bytes.now p (state_of self.now)) }
+        ensures refused { IfErr result (λ x. FailsTests by fd bytes.now x (state_of self.now)) }
     {
         if self.is_closed(pool) {
             return Err(Refusal::PoolClosed { pool });
@@ -154,13 +131,8 @@ impl Kernel {
         requires live { (f : Reading) → is_live (as_read f self.now) by ≡ true }
         requires default { (f : Reading) → (domain (as_read f self.now) by).default ≡ Some pool }
         requires to { (f : Reading) → descriptor (as_read f self.now) by fd ≡ Some (Descriptor.Connection conn) }
-        ensures passed { OnOk result ((f : Reading) → IsPassed (calls.write (as_read f self.now) by
-            fd bytes.now).refusals) }
-        ensures refused { IfErr result (λ x. (f : Reading) → IsRefused (calls.write (as_read f
-            self.now) by fd bytes.now).refusals Never x) }
-        ensures roomy { (p : ℕ) → result ≡ Err (Refusal.NoRoom p) → ⊥ }
-        ensures same { IfOk result (λ p. p ≡ pool) }
-        ensures open { OnOk result ((state.pool (machine self.now) pool).closed ≡ false) }
+        ensures passes { IfOk result (λ p. PassesTests by fd bytes.now p (state_of self.now)) }
+        ensures refused { IfErr result (λ x. FailsTests by fd bytes.now x (state_of self.now)) }
     {
         if self.is_closed(pool) {
             return Err(Refusal::PoolClosed { pool });

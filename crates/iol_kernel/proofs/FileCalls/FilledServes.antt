@@ -51,13 +51,13 @@ module _ (h : KernelState) (by fd f at pool : ℕ) (mode : Mode) (bytes : List �
   over stored = bytes_over stored h.store
 
   pub held_live : (domain_in h.domains by).live ≡ true
-  held_live = live_held (over []) h by (passed_live (machine_of [] h) by fd bytes (may.passed (over [])))
+  held_live = live_held (over []) h by (passed_live (machine_of [] h) by fd bytes (may.passes.passed (over [])))
 
   pub held_file : in_place (domain_in h.domains by).fds fd ≡ Some (on.File f at mode)
   held_file = sym (descriptor-read_of (over []) h by fd) ∙ may.to (over [])
 
   pub held_short : at + length bytes ≤ MAX_FILE_BYTES
-  held_short = passed_short (machine_of [] h) by fd bytes (may.passed (over [])) f at mode (may.to (over []))
+  held_short = passed_short (machine_of [] h) by fd bytes (may.passes.passed (over [])) f at mode (may.to (over []))
 
   pub file_count : (r : Reading) → (writing.write (read_of r h) by fd bytes).answer ≡ length bytes
   file_count r = ap (λ (o : Option Descriptor). writing.fitting (read_of r h) o (length bytes)) (may.to r)
@@ -68,7 +68,7 @@ module _ (h : KernelState) (by fd f at pool : ℕ) (mode : Mode) (bytes : List �
   left : (stored : List (List ℕ)) → (m (machine_of stored h)).after ≡ writing.written (machine_of stored h) by fd (Some (on.File f at mode)) (labelled pool bytes)
   left stored =
       let s : State = machine_of stored h in
-      ap (λ p. writing.written s by fd (machine.descriptor s by fd) (labelled p (take (writing.fitting s (machine.descriptor s by fd) (length bytes)) bytes))) (sym (may.pool (over stored)))
+      ap (λ p. writing.written s by fd (machine.descriptor s by fd) (labelled p (take (writing.fitting s (machine.descriptor s by fd) (length bytes)) bytes))) (sym (may.passes.pool (over stored)))
       ∙ ap (λ (o : Option Descriptor). writing.written s by fd o (labelled pool (take (writing.fitting s o (length bytes)) bytes))) (may.to (over stored))
       ∙ ap (λ (l : List ℕ). writing.written s by fd (Some (on.File f at mode)) (labelled pool l)) (take_all (length bytes) bytes (omega arith))
 
@@ -76,15 +76,15 @@ module _ (h : KernelState) (by fd f at pool : ℕ) (mode : Mode) (bytes : List �
       → k ≡ record h { store = u; cache = d; domains = with_fds_in h.domains by (repositioned h by fd f (at + length bytes) mode) } → (disk : Disk) → Serves m disk h (Ok n) disk k
   filled_serves k u d n re puts count same disk =
       subst (λ z. Serves m disk h (Ok z) disk k) (long ∙ sym count)
-      (write_serves m h k u d by fd f at mode (labelled pool bytes) may.sound held_live held_file re puts (omega (arith, held_short, long)) (λ stored. may.passed (over stored)) (λ stored. long ∙ sym (file_count (over stored))) left
+      (write_serves m h k u d by fd f at mode (labelled pool bytes) may.sound held_live held_file re puts (omega (arith, held_short, long)) (λ stored. may.passes.passed (over stored)) (λ stored. long ∙ sym (file_count (over stored))) left
       (same ∙ ap (λ z. let l : KernelState = record h { store = u; cache = d; domains = with_fds_in h.domains by (repositioned h by fd f (at + z) mode) } in l) (sym long)) disk)
 
   pub unfilled_serves : (k : KernelState) (u : Stored) (d : Cached) → Recaches h.store u h.cache d → KeepsFiles (holding_of h) (record { store = u; cache = d }) → KeepsMirrors (holding_of h) (record { store = u; cache = d }) → k ≡ record h { store = u; cache = d } → (disk : Disk) → Serves m disk h (Err Memory) disk k
-  unfilled_serves k u d re keeps mirrors same = late_serves m h k u d Memory may.sound re keeps mirrors (λ stored. may.passed (over stored)) (λ stored. tt) same
+  unfilled_serves k u d re keeps mirrors same = late_serves m h k u d Memory may.sound re keeps mirrors (λ stored. may.passes.passed (over stored)) (λ stored. tt) same
 
   pub unplaced_serves : (k : KernelState) → k ≡ h → (disk : Disk) → Serves m disk h (Err Memory) disk k
   unplaced_serves k same disk = subst (λ (l : KernelState). Serves m disk h (Err Memory) disk l) (sym same)
-      (still_serves m h h (Err Memory) may.sound may.sound (λ stored. (late (m (machine_of stored h)) (may.passed (over stored)) tt, refl)) refl refl (stays_here h.store) disk)
+      (still_serves m h h (Err Memory) may.sound may.sound (λ stored. (late (m (machine_of stored h)) (may.passes.passed (over stored)) tt, refl)) refl refl (stays_here h.store) disk)
     where
       late : (n : Meaning ℕ) → first n.refusals ≡ None → n.Late Memory → MatchOption (first n.refusals) (n.Late Memory) (λ y. Memory ≡ y)
       late n none is = rw none is

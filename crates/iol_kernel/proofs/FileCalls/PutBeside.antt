@@ -181,7 +181,7 @@ module _ (f at pool count : ℕ) (bytes : List ℕ) (h k : KernelState) (same : 
 
 -- the pool in which the bytes lie is the file's
 pub own_pool : (h : KernelState) (by fd f at pool : ℕ) (mode : Mode) (bytes : List ℕ) → MayPut by fd (on.File f at mode) pool bytes h → pool_of_file h f ≡ pool
-own_pool h by fd f at pool mode bytes may = let r = bytes_over [] h.store in sym (may.pool r ∙ ap (writing.pool_for (read_of r h) by) (may.to r) ∙ pool-file r h f may.sound)
+own_pool h by fd f at pool mode bytes may = let r = bytes_over [] h.store in sym (may.passes.pool r ∙ ap (writing.pool_for (read_of r h) by) (may.to r) ∙ pool-file r h f may.sound)
 
 pub files_apart : (h : KernelState) → IsSound h → AreApart h.cache
 files_apart h sound = apart_of {h = holding_of h} (cache_sound h sound)

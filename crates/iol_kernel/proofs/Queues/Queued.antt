@@ -81,21 +81,23 @@ module _ (d fd : ℕ) (target : Descriptor) (pool count : ℕ) (bytes : List ℕ
   pub may_still : MayPut d fd target pool bytes k
   may_still = record {
     sound = room.sound;
-    passed = λ f. kept_reading (λ s. first (writing.write s d fd bytes).refusals) pool (pages_for count) h k f room (write_first d fd bytes) ∙ may.passed f;
     to = λ f. kept_reading (λ s. descriptor s d fd) pool (pages_for count) h k f room (to_same d fd) ∙ may.to f;
-    pool = λ f. may.pool f ∙ sym (kept_reading (lands_in d fd) pool (pages_for count) h k f room (write_pool d fd));
-    opened = open_after pool (pages_for count) h k room pool may.opened;
+    passes = record {
+      passed = λ f. kept_reading (λ s. first (writing.write s d fd bytes).refusals) pool (pages_for count) h k f room (write_first d fd bytes) ∙ may.passes.passed f;
+      pool = λ f. may.passes.pool f ∙ sym (kept_reading (lands_in d fd) pool (pages_for count) h k f room (write_pool d fd));
+      opened = open_after pool (pages_for count) h k room pool may.passes.opened;
+    };
   }
 
   module _ (counted : (f : Reading) → (writing.write (read_of f h) d fd bytes).answer ≡ count) where
     pub write_places : (l : KernelState) (r : Result ℕ Refusal) → has_room k.store pool count ≡ true → can_fit h pool count ≡ true → FillsQueue d fd pool bytes k r l → PlacesInQueue d fd bytes h r l
     write_places l r roomy fits' filled =
-        queue_places (λ s. writing.write s d fd bytes) (written_to d fd) (lands_in d fd) pool count h k room (write_first d fd bytes) (write_answer d fd bytes) (write_pool d fd) (λ s x late. late) may.passed (λ f. sym (may.pool f)) counted
-        l r roomy fits' (subst (λ p. FillsQueue d fd p bytes k r l) (may_still.pool (bytes_over [] k.store)) filled)
+        queue_places (λ s. writing.write s d fd bytes) (written_to d fd) (lands_in d fd) pool count h k room (write_first d fd bytes) (write_answer d fd bytes) (write_pool d fd) (λ s x late. late) may.passes.passed (λ f. sym (may.passes.pool f)) counted
+        l r roomy fits' (subst (λ p. FillsQueue d fd p bytes k r l) (may_still.passes.pool (bytes_over [] k.store)) filled)
 
     pub write_none : k ≡ h → can_fit h pool count ≡ false → PlacesInQueue d fd bytes h (Err (NoRoom pool)) k
     write_none same lacks =
-        queue_none (λ s. writing.write s d fd bytes) (written_to d fd) (lands_in d fd) pool count h k room (write_first d fd bytes) (write_answer d fd bytes) (write_pool d fd) (λ s x late. late) may.passed (λ f. sym (may.pool f)) counted same may.pool lacks
+        queue_none (λ s. writing.write s d fd bytes) (written_to d fd) (lands_in d fd) pool count h k room (write_first d fd bytes) (write_answer d fd bytes) (write_pool d fd) (λ s x late. late) may.passes.passed (λ f. sym (may.passes.pool f)) counted same may.passes.pool lacks
 
 -- how many bytes fit into a queue
 pub count_fitting : (h : KernelState) (d fd : ℕ) (target : Descriptor) (pool n : ℕ) (bytes : List ℕ) → MayPut d fd target pool bytes h → writing.is_file (Some target) ≡ false → ((f : Reading) → n ≡ min (length bytes) (MAX_QUEUE_BYTES - length (writing.unsent (read_of f h) (Some target)))) → (f : Reading) → (writing.write (read_of f h) d fd bytes).answer ≡ n

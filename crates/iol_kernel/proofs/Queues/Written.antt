@@ -156,12 +156,12 @@ module _ (h : KernelState) (d fd : ℕ) (target : Descriptor) (pool : ℕ) (byte
       (cache : k.cache ≡ h.cache) (sound : IsSound k) where
     put_step : Steps (λ s. writing.write s d fd bytes) h (Ok n) k
     put_step stored = let f = bytes_over stored h.store in let s : State = machine_of stored h in (
-      may.passed f,
+      may.passes.passed f,
       number f,
       each (bytes_over stored k.store)
           ∙ ap (λ (x : State). written_to d fd x (text_of k.store adds.slices)) (added-read h k.store old q pool (take n bytes) may.sound adds stored)
           ∙ ap (written_to d fd s) adds.is_text
-          ∙ ap (λ p. written_to d fd s (labelled p (take n bytes))) (may.pool f)
+          ∙ ap (λ p. written_to d fd s (labelled p (take n bytes))) (may.passes.pool f)
           ∙ ap (λ m. written_to d fd s (labelled (lands_in d fd s) (take m bytes))) (number f),
     )
 
@@ -184,7 +184,7 @@ module _ (h : KernelState) (d fd : ℕ) (target : Descriptor) (pool : ℕ) (byte
   -- a late refusal, of a queue that takes so many
   put_none : (k : KernelState) (r : Refusal) (n : ℕ) → (writing.write (machine_of [] h) d fd bytes).answer ≡ n → WantOfRoom pool r → k ≡ h → ((p : ℕ) → ◌≡◌ {A = Result ℕ Refusal} (Err r) (Err (NoRoom p)) → has_room h.store pool n ≡ false) → FillsQueue d fd pool bytes h (Err r) k
   put_none k r n number late same lacks = fills_none (λ s. writing.write s d fd bytes) (written_to d fd) pool h k r may.sound same
-      (λ stored. let f = bytes_over stored h.store in (late_step (writing.write (machine_of stored h) d fd bytes) r (may.passed f) (subst (λ p. WantOfRoom p r) (may.pool f) late), refl))
+      (λ stored. let f = bytes_over stored h.store in (late_step (writing.write (machine_of stored h) d fd bytes) r (may.passes.passed f) (subst (λ p. WantOfRoom p r) (may.passes.pool f) late), refl))
       (λ p is. ap (has_room h.store pool) number ∙ lacks p is)
 
 -- On a connection.
@@ -202,7 +202,7 @@ module _ (h : KernelState) (d fd c pool : ℕ) (bytes : List ℕ) (may : MayPut 
   late' : (r : Refusal) → IsRefused (queue_refusals y (length bytes)) (WantOfRoom pool) r → WantOfRoom pool r
   late' r refused =
       let f = bytes_over [] h.store in
-      let none = sym (queues_meant f.at (machine_of [] h) c (length bytes) y (conn_found f h c y here)) ∙ passed_last (machine_of [] h) d fd bytes (may.passed f) (Some (on.Connection c)) (may.to f) in
+      let none = sym (queues_meant f.at (machine_of [] h) c (length bytes) y (conn_found f h c y here)) ∙ passed_last (machine_of [] h) d fd bytes (may.passes.passed f) (Some (on.Connection c)) (may.to f) in
       subst (λ (o : Option Refusal). MatchOption o (WantOfRoom pool r) (λ z. r ≡ z)) none refused
 
   module _ (k : KernelState) (n : ℕ) (count : n ≡ fitting y.outgoing (length bytes)) (adds : AddsBytes h.store k.store y.outgoing (conn_in k.conns c).outgoing pool (take n bytes))

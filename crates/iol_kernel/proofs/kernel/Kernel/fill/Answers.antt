@@ -26,5 +26,5 @@ unreachable-requires c =
     let apart : (n : ℕ) → c.args.to ≡ on.Connection n → ⊥ =
     λ n e. elim c.in-ReadEnd.is [ inl x ↦ (let k = sym x.1 ∙ e in cc) | inr x ↦ (let k = sym x.3 ∙ e in cc) ] in
     let wrong = not_writable c.args.to differs apart c.requires.no_file in
-    let right : can_write (Some c.args.to) ≡ true = sym (ap can_write (may.to f)) ∙ passed_writable (machine_of [] h) c.args.by c.args.fd c.args.bytes.now (may.passed f) in
+    let right : can_write (Some c.args.to) ≡ true = sym (ap can_write (may.to f)) ∙ passed_writable (machine_of [] h) c.args.by c.args.fd c.args.bytes.now (may.passes.passed f) in
     cc (wrong, right)

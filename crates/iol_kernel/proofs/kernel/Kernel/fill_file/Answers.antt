@@ -22,7 +22,7 @@ use Rattle.iol_kernel.proofs.FileCalls.WrittenOver.{in_cache}
 use Rattle.iol_kernel.proofs.kernel.Kernel.fill_file.Goals as goal
 
 pub fill-requires-clause-open : goal.fill-requires-clause-open
-fill-requires-clause-open c = sym (closed-read_of (bytes_over [] c.args.self.now.store) (state_of c.args.self.now) c.args.pool) ∙ c.requires.opened
+fill-requires-clause-open c = sym (closed-read_of (bytes_over [] c.args.self.now.store) (state_of c.args.self.now) c.args.pool) ∙ c.requires.passes.opened
 
 pub returns-in_default-clause-serves : goal.returns-in_default-clause-serves
 returns-in_default-clause-serves c =

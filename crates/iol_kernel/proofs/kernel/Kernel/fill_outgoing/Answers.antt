@@ -12,7 +12,7 @@ pub write-requires-clause-there : goal.write-requires-clause-there
 write-requires-clause-there c = conn_there_held (state_of c.args.self.now) c.args.by c.args.fd c.args.conn c.requires.sound c.requires.to
 
 pub write-requires-clause-pool : goal.write-requires-clause-pool
-write-requires-clause-pool c = sym (closed-read_of _ (state_of c.args.self.now) c.args.pool) ∙ c.requires.opened
+write-requires-clause-pool c = sym (closed-read_of _ (state_of c.args.self.now) c.args.pool) ∙ c.requires.passes.opened
 
 pub returns : goal.returns
 returns c =

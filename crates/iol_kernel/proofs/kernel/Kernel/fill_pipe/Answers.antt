@@ -7,7 +7,7 @@ use Rattle.iol_kernel.proofs.Queues.Written.{fills, kept_pipes}
 use Rattle.iol_kernel.proofs.kernel.Kernel.fill_pipe.Goals as goal
 
 pub fill-requires-clause-open : goal.fill-requires-clause-open
-fill-requires-clause-open c = sym (closed-read_of _ (state_of c.args.self.now) c.args.pool) ∙ c.requires.opened
+fill-requires-clause-open c = sym (closed-read_of _ (state_of c.args.self.now) c.args.pool) ∙ c.requires.passes.opened
 
 pub fill-requires-clause-writing : goal.fill-requires-clause-writing
 fill-requires-clause-writing c = let h = state_of c.args.self.now in writing_held _ h c.args.by c.args.fd c.args.pipe c.requires.sound (c.requires.to (bytes_over [] h.store))

@@ -6,7 +6,7 @@ use Rattle.iol_kernel.proofs.State.ReadOf.{closed-read_of}
 use Rattle.iol_kernel.proofs.kernel.Kernel.put.Goals as goal
 
 pub make_room_for-requires-clause-open : goal.make_room_for-requires-clause-open
-make_room_for-requires-clause-open c = sym (closed-read_of (bytes_over [] c.args.self.now.store) (state_of c.args.self.now) c.args.pool) ∙ c.requires.may.opened
+make_room_for-requires-clause-open c = sym (closed-read_of (bytes_over [] c.args.self.now.store) (state_of c.args.self.now) c.args.pool) ∙ c.requires.may.passes.opened
 
 pub returns-then-not-make_room_for : goal.returns-then-not-make_room_for
 returns-then-not-make_room_for c =

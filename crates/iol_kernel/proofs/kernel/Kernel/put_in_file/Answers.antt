@@ -12,7 +12,7 @@ use Rattle.iol_kernel.proofs.State.ReadOf.{closed-read_of}
 use Rattle.iol_kernel.proofs.kernel.Kernel.put_in_file.Goals as goal
 
 pub make_room_for-requires-clause-open : goal.make_room_for-requires-clause-open
-make_room_for-requires-clause-open c = sym (closed-read_of (bytes_over [] c.args.self.now.store) (state_of c.args.self.now) c.args.pool) ∙ c.requires.opened
+make_room_for-requires-clause-open c = sym (closed-read_of (bytes_over [] c.args.self.now.store) (state_of c.args.self.now) c.args.pool) ∙ c.requires.passes.opened
 
 pub returns-then-not-make_room_for-clause-serves : goal.returns-then-not-make_room_for-clause-serves
 returns-then-not-make_room_for-clause-serves c =

@@ -1,16 +1,22 @@
-use Rattle.std.proofs.Common.{[], ◌∙◌, ap}
+use Rattle.std.proofs.Common.{[], ◌∙◌, ap, rules, sym}
+use Rattle.iol_core.specs.Calls.Writing.{pool_for}
 use Rattle.iol_pool.specs.Pools.{pool_in}
 use Rattle.iol_kernel.specs.Kernel.{state_of}
+use Rattle.iol_kernel.specs.KernelState.{read_of}
 use Rattle.iol_kernel.specs.Readings.{bytes_over}
 use Rattle.iol_kernel.proofs.State.ReadOf.{closed-read_of}
 use Rattle.iol_kernel.proofs.FileCalls.Seeking.{file_cached}
 use Rattle.iol_kernel.proofs.FileCalls.WrittenOver.{pool-file}
 use Rattle.iol_kernel.proofs.kernel.Kernel.test_file.Goals as goal
 
-pub returns-clause-open : goal.returns-clause-open
-returns-clause-open c =
+pub returns-clause-passes : goal.returns-clause-passes
+returns-clause-passes c =
     let h = state_of c.args.self.now in
     let r = bytes_over [] h.store in
-    closed-read_of r h c.file_pool.result
-    ∙ ap (λ q. (pool_in h.store.pools q).closed) (c.file_pool.ensures r ∙ pool-file r h c.args.file c.requires.sound)
-    ∙ c.requires.sound.pooled.files_open c.args.file (file_cached h c.args.file c.requires.sound c.requires.there)
+    record {
+      passed = search (rules);
+      pool = λ f. c.file_pool.ensures f ∙ ap (pool_for (read_of f h) c.args.by) (sym (c.requires.to f));
+      opened = closed-read_of r h c.file_pool.result
+          ∙ ap (λ q. (pool_in h.store.pools q).closed) (c.file_pool.ensures r ∙ pool-file r h c.args.file c.requires.sound)
+          ∙ c.requires.sound.pooled.files_open c.args.file (file_cached h c.args.file c.requires.sound c.requires.there);
+    }

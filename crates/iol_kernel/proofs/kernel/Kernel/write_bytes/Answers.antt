@@ -1,7 +1,8 @@
 use Rattle.iol_core.specs.Calls.Writing as calls
-use Rattle.std.proofs.Common.{[], ◌∙◌, length, Option, subst, sym}
+use Rattle.std.proofs.Common.{[], ◌≡◌, ◌∙◌, length, Option, subst, sym}
 use Rattle.iol_core.specs.declared.descriptors.Descriptor.{Descriptor}
 use Rattle.iol_core.specs.State.{descriptor}
+use Rattle.iol_core.specs.declared.refusals.Refusal.TheVariants.{NoRoom}
 use Rattle.iol_kernel.specs.Kernel.{state_of}
 use Rattle.iol_kernel.specs.KernelState.{machine_of}
 use Rattle.iol_kernel.specs.Putting.{lands_in, written_to}
@@ -14,13 +15,15 @@ use Rattle.iol_kernel.proofs.kernel.Kernel.write_bytes.Goals as goal
 pub returns-in-Err-clause-serves : goal.returns-in-Err-clause-serves
 returns-in-Err-clause-serves c =
     let h = state_of c.args.self.now in
-    let refused = put_refused (λ s. calls.write s c.args.by c.args.fd c.args.bytes.now) (written_to c.args.by c.args.fd) 0 0 h c.in-Err.refusal c.pool_to_write.result c.requires c.in-Err.ensures.refused c.pool_to_write.ensures.roomy c.in-Err.is in
-    refused.serves
+    (put_refused (written_to c.args.by c.args.fd) 0 0 c.args.by c.args.fd c.args.bytes.now h c.in-Err.refusal c.requires c.in-Err.ensures.refused).serves
 
 pub returns-in-Err-clause-queue : goal.returns-in-Err-clause-queue
 returns-in-Err-clause-queue c = λ no_file.
     let h = state_of c.args.self.now in
-    put_refused (λ s. calls.write s c.args.by c.args.fd c.args.bytes.now) (written_to c.args.by c.args.fd) _ _ h c.in-Err.refusal c.pool_to_write.result c.requires c.in-Err.ensures.refused c.pool_to_write.ensures.roomy c.in-Err.is
+    put_refused (written_to c.args.by c.args.fd) _ _ c.args.by c.args.fd c.args.bytes.now h c.in-Err.refusal c.requires c.in-Err.ensures.refused
+
+pub returns-in-Err-clause-no_room : goal.returns-in-Err-clause-no_room
+returns-in-Err-clause-no_room c p e = let is : c.in-Err.refusal ≡ NoRoom p = cc in absurd (c.in-Err.ensures.refused.roomy p is)
 
 pub returns-in-Err-clause-puts : goal.returns-in-Err-clause-puts
 returns-in-Err-clause-puts c =
