@@ -1,5 +1,6 @@
 -- What comes in from a reader and what goes out to a writer, in the copying machine's words.
-use Rattle.std.specs.Prelude.{◌≡◌, ℕ, zero, suc, ◌-◌, ◌<◌, ◌≤◌, ◌==◌, Bool, true, false, List, [], ◌∷◌, length, min, take, Option, Result, Err, OnOk, IfErr, OnErr}
+use Rattle.std.specs.Prelude.{◌≡◌, ℕ, zero, suc, ◌-◌, ◌<◌, ◌≤◌, ◌==◌, min, Bool, true, false}
+use Rattle.std.specs.Prelude.{List, [], ◌∷◌, length, take, Option, Result, Err, OnOk, IfErr, OnErr}
 use Rattle.std.specs.Io.KnownBytes.{Appends, Consumes, IsAtEnd}
 use Rattle.iol_core.specs.State.{State, conn_at}
 use Rattle.iol_core.specs.Text.{Text, bytes_of}
@@ -58,7 +59,8 @@ pub record RefusesByte {A : Type 0} (s : State) (c max : ℕ) (has_room : Bool) 
   pub no_room : (p : ℕ) → r ≡ Err (NoRoom p) → has_room ≡ false
 
 -- So it is refused before anything was read, and at most clean extents have given way by then.
-pub record RefusesArrival {A R : Type 0} (c max : ℕ) (old new : KernelState) (reader after : R) (r : Result A Refusal) : Type 0 where
+pub record RefusesArrival {A R : Type 0} (c max : ℕ) (old new : KernelState) (reader after : R)
+    (r : Result A Refusal) : Type 0 where
   pub byte : RefusesByte (machine_of [] old) c max (can_fit old (conn_at (machine_of [] old) c).pool 1) r
   pub err : IfErr r (MayHaveEvicted (conn_at (machine_of [] old) c).pool 1 old new)
   pub err_reader : OnErr r (after ≡ reader)
@@ -80,7 +82,8 @@ pub record DrainsTo (c max : ℕ) (held now : Option (List ℕ)) (old new : Kern
   pub left : Leaves (sent_on c d.taken) old new
 
 -- It is refused just where there is no such connection. Then the writer is as it was, and so is whatever was asked.
-pub record RefusesDrain {A S W : Type 0} (s : State) (c : ℕ) (old new : S) (writer after : W) (r : Result A Refusal) : Type 0 where
+pub record RefusesDrain {A S W : Type 0} (s : State) (c : ℕ) (old new : S) (writer after : W)
+    (r : Result A Refusal) : Type 0 where
   pub passed : OnOk r (lacks_conn s c ≡ false)
   pub refused : IfErr r (λ x. (x ≡ BadFd) × (lacks_conn s c ≡ true))
   pub err : OnErr r (new ≡ old)

@@ -10,7 +10,8 @@ ghost use Rattle.iol_pool.specs.Pools.{pool_in};
 ghost use Rattle.iol_hold.specs.Moves.{Stays};
 ghost use Rattle.iol_hold.specs.Room.{has_room};
 ghost use Rattle.iol_sock.specs.Refused.{IsPassed};
-ghost use Rattle.iol_kernel.specs.Borrowed.{arrive_from_refusals, most_asked, BringsIn, DrainsTo, IsOneRead, RefusesByte, RefusesDrain, RefusesArrival, TakesIn};
+ghost use Rattle.iol_kernel.specs.Borrowed.{arrive_from_refusals, most_asked, BringsIn, DrainsTo, IsOneRead, TakesIn};
+ghost use Rattle.iol_kernel.specs.Borrowed.{RefusesArrival, RefusesByte, RefusesDrain};
 ghost use Rattle.iol_kernel.specs.Backed.{Serves};
 ghost use Rattle.iol_kernel.specs.KernelState.{machine_of, IsSound};
 

@@ -16,12 +16,15 @@ read_in-requires-clause-there g c = still_there c.args.conn c.args.max c.in_ok-p
 pub returns-clause-refuses : goal.returns-clause-refuses
 returns-clause-refuses g c =
     let e = c.read_in.ensures in
-    takes_refuses c.args.conn c.args.max c.in_ok-pool.pool (state_of c.args.self.now) (state_of c.make_room_for.new.self) c.make_room_for.ensures.made c.in_ok-pool.ensures.pool c.in_ok-pool.ensures.passed c.args.reader.now c.read_in.new.reader c.read_in.result (state_of c.read_in.new.self) (c.make_room_for.ensures.room c.if-not-make_room_for.false) (c.make_room_for.ensures.fits ∙ c.if-not-make_room_for.false) e.refuses e.err e.err_reader
+    let m = c.make_room_for.ensures in
+    takes_refuses c.args.conn c.args.max c.in_ok-pool.pool (state_of c.args.self.now) (state_of c.make_room_for.new.self) m.made c.in_ok-pool.ensures.pool c.in_ok-pool.ensures.passed
+    c.args.reader.now c.read_in.new.reader c.read_in.result (state_of c.read_in.new.self) (m.room c.if-not-make_room_for.false) (m.fits ∙ c.if-not-make_room_for.false) e.refuses e.err e.err_reader
 
 pub returns-clause-brings : goal.returns-clause-brings
 returns-clause-brings g c =
     let e = c.read_in.ensures in
-    takes_brought c.args.conn c.args.max c.in_ok-pool.pool (state_of c.args.self.now) (state_of c.make_room_for.new.self) c.make_room_for.ensures.made c.in_ok-pool.ensures.pool (g.R.Read.remaining c.read_in.new.reader) c.read_in.result (state_of c.read_in.new.self) e.sound e.cache e.stays e.told e.made e.none
+    takes_brought c.args.conn c.args.max c.in_ok-pool.pool (state_of c.args.self.now) (state_of c.make_room_for.new.self) c.make_room_for.ensures.made c.in_ok-pool.ensures.pool
+    (g.R.Read.remaining c.read_in.new.reader) c.read_in.result (state_of c.read_in.new.self) e.sound e.cache e.stays e.told e.made e.none
 
 pub returns-clause-stays : goal.returns-clause-stays
 returns-clause-stays g c = takes_stays c.args.conn c.args.max c.in_ok-pool.pool (state_of c.args.self.now) (state_of c.make_room_for.new.self) c.make_room_for.ensures.made c.in_ok-pool.ensures.pool (state_of c.read_in.new.self) c.read_in.ensures.stays
