@@ -2,7 +2,7 @@
 use Rattle.std.specs.Prelude.{◌≡◌, ◌⊎◌, ℕ, ◌+◌, ◌<◌, ◌≤◌, List, [], length, slice_set, Option, Some, Result, Err, IfErr, OnErr, OnOk, true, ⊤}
 use Rattle.iol_arena.specs.State.{pages_for}
 use Rattle.iol_core.specs.Meaning.{WantOfRoom}
-use Rattle.iol_core.specs.State.{Domain, descriptor, is_live}
+use Rattle.iol_core.specs.State.{Domain}
 use Rattle.iol_core.specs.Text.{labelled}
 use Rattle.iol_core.specs.Calls.Writing.{iol_write}
 use Rattle.iol_core.specs.declared.descriptors.Mode.{Mode}
@@ -30,9 +30,8 @@ use Rattle.iol_cache.specs.Pinned.{pinned_beside}
 use Rattle.iol_kernel.specs.Backed.{Serves, holding_of}
 use Rattle.iol_kernel.specs.Calls.{CarriesOut}
 use Rattle.iol_kernel.specs.Keeping.{KeepsBeside, LacksPages}
-use Rattle.iol_kernel.specs.KernelState.{IsSound, KernelState, read_of, slices_in}
+use Rattle.iol_kernel.specs.KernelState.{KernelState, slices_in}
 use Rattle.iol_kernel.specs.MakingRoom.{AfterRoom, can_fit}
-use Rattle.iol_kernel.specs.Readings.{Reading}
 
 -- the pool of the file in slot f
 abbrev pub pool_of_file : KernelState → (f : ℕ) → ℕ
@@ -80,12 +79,6 @@ pub record WritesOver {A : Type 0} (f at : ℕ) (source : List Slice) (old : Ker
   pub same : new ≡ record old { store = new.store; domains = new.domains; cache = new.cache }
   pub refused : OnErr r (new.domains ≡ old.domains)
   pub leaves : IfErr r (LeavesUnwritten f source old new)
-
--- A live domain's descriptor is open on a file, at this position.
-pub record IsOpenOn (d fd f at : ℕ) (mode : Mode) (h : KernelState) : Type 0 where
-  pub sound : IsSound h
-  pub live : (r : Reading) → is_live (read_of r h) d ≡ true
-  pub to : (r : Reading) → descriptor (read_of r h) d fd ≡ Some (on.File f at mode)
 
 -- An aggregate is written over the bytes of the file that a descriptor is open on: what that means, and what it leaves.
 pub record WritesAgg (d fd a f at : ℕ) (old : KernelState) (r : Result ℕ Refusal) (new : KernelState) : Type 0 where

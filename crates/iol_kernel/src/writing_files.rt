@@ -6,7 +6,7 @@ ghost use Rattle.iol_core.specs.Calls.Writing as calls;
 ghost use Rattle.iol_hold.specs.Places.{byte_len};
 ghost use Rattle.iol_kernel.specs.KernelState.{slices_in};
 ghost use Rattle.iol_kernel.specs.Readings.{Reading};
-ghost use Rattle.iol_kernel.specs.WritingFiles.{IsOpenOn, WritesAgg};
+ghost use Rattle.iol_kernel.specs.WritingFiles.{WritesAgg};
 
 use crate::kernel::Kernel;
 use crate::reading_files::OpenFile;
@@ -27,7 +27,7 @@ pub(crate) fn is_for_writing(mode: Mode) -> bool
 }
 
 impl Kernel {
-    ghost use Rattle.iol_kernel.specs.Kernel.{state_of, machine, as_read, CarriesOut};
+    ghost use Rattle.iol_kernel.specs.Kernel.{state_of, machine, as_read, CarriesOut, IsOpenOn};
 
     /// Writes an aggregate over the bytes of a file, from the descriptor's position on, which moves past them.
     pub(crate) fn write_file(
@@ -37,7 +37,7 @@ impl Kernel {
         agg: AggId,
         found: OpenFile,
     ) -> Result<u32, Refusal>
-        requires { IsOpenOn by fd found.file found.at found.mode (state_of self.old) }
+        requires { IsOpenOn self.old by fd (Descriptor.File found.file found.at found.mode) }
         ensures { WritesAgg by fd agg found.file found.at (state_of self.old) result (state_of
             self.new) }
     {
@@ -50,7 +50,7 @@ impl Kernel {
     /// Whether an aggregate may be written to a file.
     #[tactic(auto, using(crate::proofs::State::Stay::stay_rules))]
     fn test_write(&self, by: DomainId, fd: Fd, agg: AggId, found: &OpenFile) -> Result<(), Refusal>
-        requires { IsOpenOn by fd found.now.file found.now.at found.now.mode (state_of self.now) }
+        requires { IsOpenOn self.now by fd (Descriptor.File found.now.file found.now.at found.now.mode) }
         ensures passed { OnOk result ((f : Reading) → first (calls.iol_write (as_read f self.now) by
             fd agg).refusals ≡ None) }
         ensures there { OnOk result (lacks_agg (machine self.now) by agg ≡ false) }
@@ -78,7 +78,7 @@ impl Kernel {
         agg: AggId,
         found: OpenFile,
     ) -> Result<u32, Refusal>
-        requires open { IsOpenOn by fd found.file found.at found.mode (state_of self.old) }
+        requires open { IsOpenOn self.old by fd (Descriptor.File found.file found.at found.mode) }
         requires there { lacks_agg (machine self.old) by agg ≡ false }
         requires passed { (f : Reading) → first (calls.iol_write (as_read f self.old) by fd
             agg).refusals ≡ None }

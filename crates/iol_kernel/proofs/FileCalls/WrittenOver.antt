@@ -41,7 +41,8 @@ use Rattle.iol_kernel.specs.KernelState.{KernelState, IsSound, machine_of, objec
 use Rattle.iol_kernel.specs.Readings.{Reading, bytes_over}
 use Rattle.iol_kernel.specs.Views.{state_view}
 use Rattle.iol_kernel.specs.Keeping.{KeepsBeside, LacksPages}
-use Rattle.iol_kernel.specs.WritingFiles.{IsOpenOn, WritesAgg, WritesOn, WritesOver, pages_to_write, pool_of_file}
+use Rattle.iol_kernel.specs.Opened.{IsOpenOn}
+use Rattle.iol_kernel.specs.WritingFiles.{WritesAgg, WritesOn, WritesOver, pages_to_write, pool_of_file}
 use Rattle.iol_cache.proofs.Extents.Keeping.{apart_of}
 use Rattle.iol_kernel.proofs.FileCalls.Kept.{beside_same, unwritten_unless, write_unless}
 use Rattle.iol_kernel.proofs.FileCalls.FileWrites.{SamePools, late_serves, unwritten_pools, write_serves, written_pools}
@@ -110,7 +111,7 @@ queued_on d fd a h k r (on.ReadEnd p) other c = c
 queued_on d fd a h k r (on.WriteEnd p) other c = c
 queued_on d fd a h k r (on.Connection n) other c = c
 
-module _ (h : KernelState) (t : Stored) (d : Cached) (by fd a f at : ℕ) (mode : Mode) (xs : List Slice) (open' : IsOpenOn by fd f at mode h) (found : Some xs ≡ agg_in h.domains by a)
+module _ (h : KernelState) (t : Stored) (d : Cached) (by fd a f at : ℕ) (mode : Mode) (xs : List Slice) (open' : IsOpenOn h by fd (on.File f at mode)) (found : Some xs ≡ agg_in h.domains by a)
     (moves : Moves h.store t (held h.cache.files) (held d.files)) (lists : SameLists h.store t) (settles : AllSettled h.store → AllSettled t) (pages : FillsLowest (pool_of_file h f) h.store t) (after : cache.IsSound t d) (mirrors : KeepsMirrors (holding_of h) (record { store = t; cache = d }))
     (passed : (r : Reading) → first (writing.iol_write (read_of r h) by fd a).refusals ≡ None) where
   abbrev new : Holding
@@ -123,10 +124,10 @@ module _ (h : KernelState) (t : Stored) (d : Cached) (by fd a f at : ℕ) (mode 
   live = live_held (over []) h by (open'.live (over []))
 
   is : in_place (domain_in h.domains by).fds fd ≡ Some (on.File f at mode)
-  is = sym (descriptor-read_of (over []) h by fd) ∙ open'.to (over [])
+  is = sym (descriptor-read_of (over []) h by fd) ∙ open'.from (over [])
 
   there : is_numbered h.cache.files f ≡ true
-  there = in_cache h f open'.sound (end_held (over []) h by fd (on.File f at mode) open'.sound (open'.to (over []))).0
+  there = in_cache h f open'.sound (end_held (over []) h by fd (on.File f at mode) open'.sound (open'.from (over []))).0
 
   same_source : xs ≡ slices_in h.domains by a
   same_source = slices_found h.domains by a xs found
@@ -146,12 +147,12 @@ module _ (h : KernelState) (t : Stored) (d : Cached) (by fd a f at : ℕ) (mode 
   answered : (stored : List (List ℕ)) → length (text_of h.store xs) ≡ (m (machine_of stored h)).answer
   answered stored =
       let s : State = machine_of stored h in
-      sym (ap (λ (o : Option Descriptor). writing.fitting s o (length (machine.text s by a))) (open'.to (over stored)) ∙ ap (λ (w : Text). length w) (source stored))
+      sym (ap (λ (o : Option Descriptor). writing.fitting s o (length (machine.text s by a))) (open'.from (over stored)) ∙ ap (λ (w : Text). length w) (source stored))
 
   left : (stored : List (List ℕ)) → (m (machine_of stored h)).after ≡ writing.written (machine_of stored h) by fd (Some (on.File f at mode)) (text_of h.store xs)
   left stored =
       let s : State = machine_of stored h in
-      ap (λ (o : Option Descriptor). writing.written s by fd o (take (writing.fitting s o (length (machine.text s by a))) (machine.text s by a))) (open'.to (over stored))
+      ap (λ (o : Option Descriptor). writing.written s by fd o (take (writing.fitting s o (length (machine.text s by a))) (machine.text s by a))) (open'.from (over stored))
       ∙ ap (λ (w : Text). writing.written s by fd (Some (on.File f at mode)) (take (length w) w)) (source stored)
       ∙ ap (λ (w : Text). writing.written s by fd (Some (on.File f at mode)) w) (take_all (length (text_of h.store xs)) (text_of h.store xs) (omega arith))
 
@@ -198,7 +199,7 @@ module _ (h : KernelState) (t : Stored) (d : Cached) (by fd a f at : ℕ) (mode 
       → ((p : ℕ) → x ≡ NoRoom p → LeavesAll (holding_of h) new) → WantOfRoom (pool_of_file h f) x → WritesAgg by fd a f at h (Err x) (record h { store = t; cache = d })
   unwritten x room keeps lacks kept late = let k : KernelState = record h { store = t; cache = d } in record {
     serves = late_serves m h k t d x open'.sound (recaches (unwritten_pools (pool_of_file h f) (copied_pages (pool_of_file h f) xs) (holding_of h) new room)) keeps mirrors (λ stored. passed (over stored))
-        (λ stored. subst (λ (o : Option Descriptor). writing.write_late (machine_of stored h) o x) (sym (open'.to (over stored))) (subst (λ p. WantOfRoom p x) (sym (pool-file (over stored) h f open'.sound)) late))
+        (λ stored. subst (λ (o : Option Descriptor). writing.write_late (machine_of stored h) o x) (sym (open'.from (over stored))) (subst (λ p. WantOfRoom p x) (sym (pool-file (over stored) h f open'.sound)) late))
         refl;
     over = subst (λ (ys : List Slice). WritesOver {A = ℕ} f at ys h (Err x) k) same_source (record {
       lies = tt;

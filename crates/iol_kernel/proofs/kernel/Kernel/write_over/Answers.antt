@@ -20,7 +20,7 @@ write-requires-clause-file c =
     let h = state_of c.args.self.now in
     let r = bytes_over [] h.store in
     let held = c.requires.open in
-    in_cache h c.args.found.file held.sound (end_held r h c.args.by c.args.fd (on.File c.args.found.file c.args.found.at c.args.found.mode) held.sound (held.to r)).0
+    in_cache h c.args.found.file held.sound (end_held r h c.args.by c.args.fd (on.File c.args.found.file c.args.found.at c.args.found.mode) held.sound (held.from r)).0
 
 pub write-requires-clause-held : goal.write-requires-clause-held
 write-requires-clause-held c =
@@ -50,5 +50,5 @@ pub set_fd-requires-clause-there : goal.set_fd-requires-clause-there
 set_fd-requires-clause-there c none =
     let h = state_of c.args.self.now in
     let r = bytes_over [] h.store in
-    let is = sym (descriptor-read_of r h c.args.by c.args.fd) ∙ c.requires.open.to r in
+    let is = sym (descriptor-read_of r h c.args.by c.args.fd) ∙ c.requires.open.from r in
     absurd (cc (none, is))
