@@ -12,8 +12,8 @@ use Rattle.iol_hold.specs.Texts.{text_of}
 use Rattle.iol_cache.specs.Cached.{Cached, extents_in, file_in, order_in, with_file, with_order}
 use Rattle.iol_cache.specs.Contents.{Mirrors, bytes_in_slot}
 use Rattle.iol_cache.specs.Replacing.{Reindexes}
-use Rattle.iol_cache.specs.declared.syncing.Flushed.{Flushed}
-use Rattle.iol_cache.specs.declared.syncing.Flushed.TheVariants.{Nothing, Wrote}
+use Rattle.iol_cache.specs.declared.sync.Flushed.{Flushed}
+use Rattle.iol_cache.specs.declared.sync.Flushed.TheVariants.{Nothing, Wrote}
 
 -- Bytes of the store.
 

@@ -32,26 +32,17 @@
 #![tactic(auto)]
 
 mod cache;
-mod composing;
-mod cutting;
-mod evicting;
+mod evict;
 mod files;
-mod filling;
-mod gaps;
 pub mod laws;
-mod loading;
 mod marks;
-mod preparing;
-mod ranking;
-mod reading;
-mod replacing;
-mod reserving;
-mod serving;
-mod sharing;
-mod syncing;
+mod rank;
+mod read;
+mod reserve;
+mod share;
+mod sync;
 mod users;
-mod weaving;
-mod writing;
+mod write;
 
 pub use cache::{Cache, CacheReport};
-pub use syncing::Flushed;
+pub use sync::Flushed;

@@ -27,7 +27,7 @@ use Rattle.iol_kernel.specs.Calls.{CarriesOut}
 use Rattle.iol_kernel.specs.Keeping.{KeepsUnless, LacksPagesToRead}
 use Rattle.iol_kernel.specs.KernelState.{KernelState, machine_of}
 use Rattle.iol_kernel.specs.Opened.{IsOpenOn}
-use Rattle.iol_kernel.specs.declared.reading_files.OpenFile.{OpenFile}
+use Rattle.iol_kernel.specs.declared.open_file.OpenFile.{OpenFile}
 
 -- Of n bytes of a file from `at` on, it has so many: as far as the file goes.
 pub record IsReadable (disk : Disk) (c : Cached) (f at n many : ℕ) : Type 0 where

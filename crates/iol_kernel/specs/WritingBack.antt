@@ -7,7 +7,7 @@ use Rattle.iol_extent.specs.Extents.{dirty_in}
 use Rattle.iol_cache.specs.Cached.{extents_in}
 use Rattle.iol_cache.specs.Serving.{FaultCounts}
 use Rattle.iol_cache.specs.Syncing as cache
-use Rattle.iol_cache.specs.declared.syncing.Flushed.{Flushed}
+use Rattle.iol_cache.specs.declared.sync.Flushed.{Flushed}
 use Rattle.iol_kernel.specs.KernelState.{KernelState}
 
 -- The first dirty extents of the file in slot f were written back and are clean: all of them, or those before the one at which

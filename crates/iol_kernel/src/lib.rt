@@ -26,29 +26,12 @@
 //! ```
 #![tactic(auto)]
 
-pub mod aggregates;
-mod borrowed;
-pub mod copying;
-pub mod copying_files;
-pub mod descriptors;
-pub mod domains;
-mod evicting;
+mod calls;
 mod file_table;
 mod files;
-mod filling_files;
-mod flushing;
 pub mod kernel;
-pub mod naming;
-pub mod outside;
+pub mod open_file;
 mod pipes;
-mod placing;
-pub mod pools;
-pub mod positions;
-pub mod putting;
-pub mod reading;
-pub mod reading_files;
 pub mod report;
+mod room;
 mod tables;
-mod taking;
-pub mod writing;
-mod writing_files;

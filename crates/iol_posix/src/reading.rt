@@ -16,7 +16,7 @@ use iol_core::lists::Bytes;
 use iol_core::numbers::{DomainId, Fd};
 use iol_core::refusals::Refusal;
 use iol_kernel::kernel::Kernel;
-use iol_kernel::reading_files::OpenFile;
+use iol_kernel::open_file::OpenFile;
 
 // Puts bytes over the first ones of a memory.
 fn put_front(into: &mut [u8], bytes: &[u8])

@@ -20,8 +20,8 @@ use Rattle.iol_cache.specs.Keeping.{KeepsCover, KeepsDirty}
 use Rattle.iol_cache.specs.Syncing.{Flushes, Syncs, first_cleaned}
 use Rattle.iol_extent.specs.Extents.{as_clean, cleaned_at}
 use Rattle.iol_cache.specs.declared.files.CachedFile.{CachedFile}
-use Rattle.iol_cache.specs.declared.syncing.Flushed.{Flushed}
-use Rattle.iol_cache.specs.declared.syncing.Flushed.TheVariants.{Nothing, Wrote}
+use Rattle.iol_cache.specs.declared.sync.Flushed.{Flushed}
+use Rattle.iol_cache.specs.declared.sync.Flushed.TheVariants.{Nothing, Wrote}
 use Rattle.iol_kernel.specs.Calls.{MakesBytes}
 use Rattle.iol_kernel.specs.WritingBack.{FlushesOne}
 use Rattle.iol_kernel.proofs.FileCalls.Named.{cache_sound}

@@ -22,8 +22,8 @@ use Rattle.iol_cache.specs.Contents.{AreStored, IsStored, byte_in, file_bytes, r
 use Rattle.iol_cache.specs.Sound as cache
 use Rattle.iol_cache.specs.Syncing.{AllClean, Cleans, Flushes}
 use Rattle.iol_cache.specs.declared.files.CachedFile.{CachedFile}
-use Rattle.iol_cache.specs.declared.syncing.Flushed.{Flushed}
-use Rattle.iol_cache.specs.declared.syncing.Flushed.TheVariants.{Nothing, Wrote}
+use Rattle.iol_cache.specs.declared.sync.Flushed.{Flushed}
+use Rattle.iol_cache.specs.declared.sync.Flushed.TheVariants.{Nothing, Wrote}
 use Rattle.iol_cache.proofs.RangeWrites.Cleaned.{bytes_alike, count-cleaned, first_dirty}
 use Rattle.iol_cache.proofs.Extents.Extending.{over_yes}
 use Rattle.iol_cache.proofs.Extents.Filing.{file_other, file_same, numbered_bounds, sum-with_file}

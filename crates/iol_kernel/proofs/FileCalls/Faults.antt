@@ -15,8 +15,8 @@ use Rattle.iol_cache.specs.Cached.{Cached}
 use Rattle.iol_cache.specs.Serving.{FaultCounts}
 use Rattle.iol_cache.specs.Sound as cache
 use Rattle.iol_cache.specs.Syncing.{Flushes, KeepsBytes, KeepsStored}
-use Rattle.iol_cache.specs.declared.syncing.Flushed.{Flushed}
-use Rattle.iol_cache.specs.declared.syncing.Flushed.TheVariants.{Nothing, Wrote}
+use Rattle.iol_cache.specs.declared.sync.Flushed.{Flushed}
+use Rattle.iol_cache.specs.declared.sync.Flushed.TheVariants.{Nothing, Wrote}
 use Rattle.iol_cache.proofs.Extents.Filing.{numbered_bounds, numbered_yes}
 use Rattle.iol_cache.proofs.RangeWrites.Synced.{syncs_none}
 use Rattle.iol_kernel.specs.Backed.{Serves}

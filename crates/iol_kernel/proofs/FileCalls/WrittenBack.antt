@@ -25,8 +25,8 @@ use Rattle.iol_cache.specs.Sound as cache
 use Rattle.iol_cache.specs.Syncing.{Cleans, Flushes, KeepsBytes, KeepsStored, Syncs, first_cleaned}
 use Rattle.iol_extent.specs.Extents.{as_clean}
 use Rattle.iol_cache.specs.declared.files.CachedFile.{CachedFile}
-use Rattle.iol_cache.specs.declared.syncing.Flushed.{Flushed}
-use Rattle.iol_cache.specs.declared.syncing.Flushed.TheVariants.{Nothing, Wrote}
+use Rattle.iol_cache.specs.declared.sync.Flushed.{Flushed}
+use Rattle.iol_cache.specs.declared.sync.Flushed.TheVariants.{Nothing, Wrote}
 use Rattle.iol_core.specs.declared.refusals.Refusal.TheVariants as because
 use Rattle.iol_cache.proofs.RangeWrites.Cleaned.{parts-cleaned}
 use Rattle.iol_cache.proofs.Extents.Filing.{file_nowhere, file_other, file_same, length-with_file, numbered_bounds, numbered_yes}

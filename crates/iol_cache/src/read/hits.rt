@@ -1,0 +1,186 @@
+//! Reading of files.
+ghost use Rattle.std.specs.Prelude.{◌≡◌, ℕ, ◌<◌, ◌≤◌, ◌^◌, [], All, length, true, Err, OnOk, OnErr, IfOk, IfErr};
+ghost use Rattle.iol_core.specs.Meaning.{WantOfRoomOrFault};
+ghost use Rattle.iol_core.specs.Numbered.{is_numbered};
+ghost use Rattle.iol_hold.specs.Moves.{Moves, Covers, Shares, SameLists};
+ghost use Rattle.iol_hold.specs.Places.{places, byte_len};
+ghost use Rattle.iol_hold.specs.Room.{free_of};
+ghost use Rattle.iol_hold.specs.Releases.{FreesOnly};
+ghost use Rattle.iol_hold.specs.Stored.{AllSettled};
+ghost use Rattle.iol_hold.specs.Texts.{bufs_of, AllReadable};
+ghost use Rattle.iol_extent.specs.Spans.{AreInOrder, IsGapSpan};
+ghost use Rattle.iol_cache.specs.Cached.{file_in, extents_in, order_in};
+ghost use Rattle.iol_cache.specs.Cache.{cached_of, holding};
+ghost use Rattle.iol_cache.specs.Gaps.{gap_pages};
+ghost use Rattle.iol_cache.specs.Going.{CountsHits, FillsFile};
+ghost use Rattle.iol_cache.specs.Loading.{Asks, PlacesSome};
+ghost use Rattle.iol_cache.specs.Ranges.{PinsRange};
+ghost use Rattle.iol_cache.specs.Reading.{SameButRoom};
+ghost use Rattle.iol_cache.specs.Sharing.{CountsBelow};
+ghost use Rattle.iol_cache.specs.Sound.{IsSound};
+ghost use Rattle.iol_cache.specs.Weaving.{IsCoveredBeside, len_beside, places_beside};
+
+use crate::cache::Cache;
+use crate::files::FilePart;
+use crate::rank::{count_hits, enter_all};
+use crate::read::fill::fill_range;
+use crate::read::weave::share_beside;
+use iol_agg::Agg;
+use iol_back::backing::Backing;
+use iol_core::limits::{MAX_FILE_BYTES, PAGE_BYTES};
+use iol_core::refusals::Refusal;
+use iol_extent::spans::Span;
+use iol_hold::Store;
+use std::alloc::{AllocError, Global};
+
+/// How many pages gaps need.
+pub(crate) fn count_pages(gaps: &[Span]) -> u32
+    requires { AreInOrder 0 u32.MAX gaps.now }
+    ensures { result ≡ gap_pages gaps.now }
+{
+    let mut pages = 0;
+    for gap in gaps {
+        pages += (gap.to - gap.from).div_ceil(PAGE_BYTES as u32);
+    }
+    pages
+}
+
+impl Cache {
+    // Shares the bytes of a range that lie beside its gaps, and counts the hits.
+    fn share_hits(
+        &mut self,
+        alloc: Global,
+        store: &mut Store,
+        part: &FilePart,
+        hits: &[Span],
+        gaps: &[Span],
+    ) -> Result<Agg, AllocError>
+        requires sound { IsSound store.old (cached_of self.old) }
+        requires file { is_numbered self.old.files.items part.now.file ≡ true }
+        requires few { CountsBelow store.old (2 ^ 59) }
+        requires in_order { AreInOrder part.now.from part.now.to gaps.now }
+        requires covered { let es = extents_in self.old.files.items part.now.file in
+            IsCoveredBeside es part.now.from part.now.to gaps.now }
+        ensures places { let es = extents_in self.old.files.items part.now.file in
+            IfOk result (λ a. places a ≡ places_beside es part.now.from part.now.to gaps.now) }
+        ensures shares { IfOk result (λ a. Shares store.old store.new [] (bufs_of a)) }
+        ensures counted { OnOk result
+            (CountsHits part.now.file hits.now (cached_of self.old) (cached_of self.new)) }
+        ensures err { OnErr result (self.new ≡ self.old) }
+        ensures none { OnErr result (Moves store.old store.new [] []) }
+        ensures frees { FreesOnly store.old store.new }
+        ensures lists { SameLists store.old store.new }
+        ensures settles { AllSettled store.old → AllSettled store.new }
+    {
+        let place = part.file.number() as usize - 1;
+        let pool = self.files[place].pool;
+        let pins = share_beside(
+            alloc,
+            &self.files[place].extents,
+            store,
+            gaps,
+            part.from,
+            part.to,
+        )?;
+        count_hits(
+            &mut self.orders[pool.number() as usize - 1],
+            &self.files[place].extents,
+            part.file,
+            hits,
+        );
+        Ok(pins)
+    }
+
+    // Reads the gaps of a range, and puts the range together: all or nothing.
+    pub(crate) fn fill<B: Backing>(
+        &mut self,
+        alloc: Global,
+        store: &mut Store,
+        backing: &mut B,
+        part: &FilePart,
+        beside: &Agg,
+        gaps: &[Span],
+    ) -> Result<Agg, Refusal>
+        requires sound { IsSound store.old (cached_of self.old) }
+        requires file { is_numbered self.old.files.items part.now.file ≡ true }
+        requires ordered { part.now.from ≤ part.now.to }
+        requires end { part.now.to ≤ MAX_FILE_BYTES }
+        requires in_order { AreInOrder part.now.from part.now.to gaps.now }
+        requires gaps { All (IsGapSpan (extents_in self.old.files.items part.now.file)) gaps.now }
+        requires beside_len { byte_len beside.now ≡ len_beside part.now.from part.now.to gaps.now }
+        requires beside_held { Covers store.old (bufs_of beside.now) }
+        requires beside_readable { AllReadable store.old beside.now }
+        requires room { length gaps.now ≤
+            (file_in self.old.files.items part.now.file).extents.room }
+        requires entries { let p = (file_in self.old.files.items part.now.file).pool in
+            length gaps.now ≤ (order_in self.old.orders.items p).room }
+        requires few { CountsBelow store.old (2 ^ 60) }
+        ensures filled { IfOk result (FillsFile part.now.file part.now.from part.now.to
+            (places beside.now) gaps.now (B.disk backing.old) (holding store.old self.old)
+            (holding store.new self.new)) }
+        ensures sound { IsSound store.new (cached_of self.new) }
+        ensures same { OnErr result (SameButRoom (cached_of self.old) (cached_of self.new)) }
+        ensures none { OnErr result (Moves store.old store.new [] []) }
+        ensures given_back { let p = (file_in self.old.files.items part.now.file).pool in
+            OnErr result (PlacesSome store.old store.new p (gap_pages gaps.now)) }
+        ensures lists { SameLists store.old store.new }
+        ensures settles { AllSettled store.old → AllSettled store.new }
+        ensures no_room { (p : ℕ) → result ≡ Err (Refusal.NoRoom p) →
+            length (free_of store.old (file_in self.old.files.items part.now.file).pool) <
+            gap_pages gaps.now }
+        ensures disk { Asks (length gaps.now) (B.disk backing.old) (B.disk backing.new) result }
+        ensures late { IfErr result
+            (WantOfRoomOrFault (file_in self.old.files.items part.now.file).pool part.now.file) }
+    {
+        let place = part.file.number() as usize - 1;
+        let pool = self.files[place].pool;
+        let agg = match fill_range(
+            alloc,
+            store,
+            backing,
+            &mut self.files[place],
+            part,
+            beside,
+            gaps,
+        ) {
+            Ok(agg) => agg,
+            Err(refusal) => return Err(refusal),
+        };
+        enter_all(
+            &mut self.orders[pool.number() as usize - 1],
+            &mut self.marks,
+            &self.files[place].extents,
+            part.file,
+            gaps,
+        );
+        Ok(agg)
+    }
+
+    // The gaps of a range, for which there is room in the file and in the order, and the bytes beside them, shared. The
+    // hits are counted.
+    pub(crate) fn pin(
+        &mut self,
+        alloc: Global,
+        store: &mut Store,
+        part: &FilePart,
+    ) -> Result<(Agg, Vec<Span>), AllocError>
+        requires sound { IsSound store.old (cached_of self.old) }
+        requires file { is_numbered self.old.files.items part.now.file ≡ true }
+        requires ordered { part.now.from ≤ part.now.to }
+        requires few { CountsBelow store.old (2 ^ 59) }
+        ensures pinned { IfOk result (λ x. PinsRange part.now.file part.now.from part.now.to
+            (holding store.old self.old) (holding store.new self.new) x.0 x.1.items) }
+        ensures sound { IsSound store.new (cached_of self.new) }
+        ensures same { OnErr result (SameButRoom (cached_of self.old) (cached_of self.new)) }
+        ensures none { OnErr result (Moves store.old store.new [] []) }
+        ensures frees { FreesOnly store.old store.new }
+        ensures lists { SameLists store.old store.new }
+        ensures settles { AllSettled store.old → AllSettled store.new }
+    {
+        let place = part.file.number() as usize - 1;
+        let found = self.files[place].extents.find(alloc, part.from, part.to)?;
+        self.reserve_places(part.file, found.gaps.len())?;
+        let pins = self.share_hits(alloc, store, part, &found.hits, &found.gaps)?;
+        Ok((pins, found.gaps))
+    }
+}

@@ -1,0 +1,140 @@
+//! A range of a file, put together from what was shared before its gaps were read and from the gaps.
+ghost use Rattle.std.specs.Prelude.{◌≡◌, ◌+◌, ◌-◌, ◌<◌, ◌≤◌, ◌^◌, ◌++◌, [], All, IfOk, OnErr, slice_range};
+ghost use Rattle.iol_hold.specs.Moves.{Moves, Shares, Covers, SameLists};
+ghost use Rattle.iol_hold.specs.Places.{places, byte_len};
+ghost use Rattle.iol_hold.specs.Releases.{FreesOnly};
+ghost use Rattle.iol_hold.specs.Stored.{AllSettled};
+ghost use Rattle.iol_hold.specs.Texts.{bufs_of, AllReadable};
+ghost use Rattle.iol_extent.specs.Extents.{IsApart};
+ghost use Rattle.iol_extent.specs.Spans.{AreInOrder};
+ghost use Rattle.iol_cache.specs.Cached.{all_parts};
+ghost use Rattle.iol_cache.specs.Sharing.{IsCoveredSpan, CountsBelow};
+ghost use Rattle.iol_cache.specs.Weaving.{IsCoveredBeside, len_beside, places_beside, woven};
+
+use crate::share::share_over;
+use iol_agg::Agg;
+use iol_extent::extents::Extents;
+use iol_extent::spans::Span;
+use iol_hold::Store;
+use std::alloc::{AllocError, Global};
+
+/// Shares the bytes of a range that lie beside its gaps.
+pub(crate) fn share_beside(
+    alloc: Global,
+    extents: &Extents,
+    store: &mut Store,
+    gaps: &[Span],
+    from: u32,
+    to: u32,
+) -> Result<Agg, AllocError>
+    requires apart { IsApart 0 extents.now.extents }
+    requires in_order { AreInOrder from to gaps.now }
+    requires covered { IsCoveredBeside extents.now.extents from to gaps.now }
+    requires held { Covers store.old (bufs_of (all_parts extents.now.extents)) }
+    requires readable { AllReadable store.old (all_parts extents.now.extents) }
+    requires few { CountsBelow store.old (2 ^ 62) }
+    ensures places { IfOk result (λ a. places a ≡ places_beside extents.now.extents from to gaps.now) }
+    ensures shares { IfOk result (λ a. Shares store.old store.new [] (bufs_of a)) }
+    ensures none { OnErr result (Moves store.old store.new [] []) }
+    ensures frees { FreesOnly store.old store.new }
+    ensures lists { SameLists store.old store.new }
+    ensures settles { AllSettled store.old → AllSettled store.new }
+{
+    let mut shared = Agg::new(alloc);
+    let mut at = from;
+    for gap in gaps {
+        shared = match share_over(extents, store, shared, at, gap.from) {
+            Ok(more) => more,
+            Err(refused) => return Err(refused),
+        };
+        at = gap.to;
+    }
+    match share_over(extents, store, shared, at, to) {
+        Ok(all) => Ok(all),
+        Err(refused) => Err(refused),
+    }
+}
+
+// Adds a part of other bytes. Refused, all is released.
+fn add_part(
+    store: &mut Store,
+    so_far: Agg,
+    other: &Agg,
+    from: u32,
+    to: u32,
+) -> Result<Agg, AllocError>
+    requires ordered { from ≤ to }
+    requires within { to ≤ byte_len other.now }
+    requires held { Covers store.old (bufs_of other.now) }
+    requires readable { AllReadable store.old other.now }
+    requires own { Covers store.old (bufs_of so_far) }
+    requires own_readable { AllReadable store.old so_far }
+    requires few { CountsBelow store.old (2 ^ 62) }
+    requires small { byte_len so_far + (to - from) < 2 ^ 32 }
+    ensures places { IfOk result (λ a.
+        places a ≡ places so_far ++ slice_range (places other.now) from to) }
+    ensures shares { IfOk result (λ a. Shares store.old store.new (bufs_of so_far) (bufs_of a)) }
+    ensures gone { OnErr result (Moves store.old store.new (bufs_of so_far) []) }
+    ensures frees { FreesOnly store.old store.new }
+    ensures lists { SameLists store.old store.new }
+    ensures settles { AllSettled store.old → AllSettled store.new }
+{
+    let mut shared = so_far;
+    match shared.add_range(store, other, from, to) {
+        Ok(()) => Ok(shared),
+        Err(refused) => {
+            shared.release(store);
+            Err(refused)
+        }
+    }
+}
+
+/// Puts a range together from what was shared beside its gaps, and from the extents over the gaps.
+pub(crate) fn weave(
+    alloc: Global,
+    extents: &Extents,
+    store: &mut Store,
+    beside: &Agg,
+    gaps: &[Span],
+    from: u32,
+    to: u32,
+) -> Result<Agg, AllocError>
+    requires apart { IsApart 0 extents.now.extents }
+    requires in_order { AreInOrder from to gaps.now }
+    requires covered { All (IsCoveredSpan extents.now.extents) gaps.now }
+    requires held { Covers store.old (bufs_of (all_parts extents.now.extents)) }
+    requires readable { AllReadable store.old (all_parts extents.now.extents) }
+    requires beside_len { byte_len beside.now ≡ len_beside from to gaps.now }
+    requires beside_held { Covers store.old (bufs_of beside.now) }
+    requires beside_readable { AllReadable store.old beside.now }
+    requires few { CountsBelow store.old (2 ^ 61) }
+    ensures places { IfOk result (λ a.
+        places a ≡ woven (places beside.now) extents.now.extents from to gaps.now) }
+    ensures shares { IfOk result (λ a. Shares store.old store.new [] (bufs_of a)) }
+    ensures none { OnErr result (Moves store.old store.new [] []) }
+    ensures frees { FreesOnly store.old store.new }
+    ensures lists { SameLists store.old store.new }
+    ensures settles { AllSettled store.old → AllSettled store.new }
+{
+    let mut shared = Agg::new(alloc);
+    let mut at = from;
+    let mut used = 0;
+    for gap in gaps {
+        let next = used + (gap.from - at);
+        shared = match add_part(store, shared, beside, used, next) {
+            Ok(more) => more,
+            Err(refused) => return Err(refused),
+        };
+        shared = match share_over(extents, store, shared, gap.from, gap.to) {
+            Ok(more) => more,
+            Err(refused) => return Err(refused),
+        };
+        used = next;
+        at = gap.to;
+    }
+    let end = used + (to - at);
+    match add_part(store, shared, beside, used, end) {
+        Ok(all) => Ok(all),
+        Err(refused) => Err(refused),
+    }
+}

@@ -1,0 +1,198 @@
+//! Writing back of dirty extents.
+ghost use Rattle.std.specs.Prelude.{◌≡◌, ◌+◌, ◌<◌, ◌^◌, length, true, None, IfErr, IfSome, OnErr, OnOk};
+ghost use Rattle.iol_core.specs.Text as text;
+ghost use Rattle.iol_core.specs.Numbered.{is_numbered};
+ghost use Rattle.iol_cache.specs.Cache.{cached_of};
+ghost use Rattle.iol_cache.specs.Cached.{extents_in, parts_in};
+ghost use Rattle.iol_cache.specs.Sharing.{CountsBelow};
+ghost use Rattle.iol_cache.specs.Sound.{IsSound};
+ghost use Rattle.iol_cache.specs.Marks.{AreWithin, HasMarksLeft};
+ghost use Rattle.iol_cache.specs.Reading.{RanksFile};
+ghost use Rattle.iol_cache.specs.Replacing.{Reindexes, IsReady};
+ghost use Rattle.iol_cache.specs.Syncing.{Flushes, KeepsBytes, KeepsStored, StoresFirst, Syncs, WritesBack, WritesDirty};
+ghost use Rattle.iol_extent.specs.Extents.{IsFirstDirty, cleaned_at};
+ghost use Rattle.iol_back.specs.Disk.{raised};
+ghost use Rattle.iol_core.specs.Meaning.{FaultOf};
+ghost use Rattle.iol_extent.specs.Extents.{IsApart, begins_at, dirty_in};
+ghost use Rattle.iol_evict.specs.Ranking.{entered, with_one_given_back};
+ghost use Rattle.iol_hold.specs.Places.{byte_len};
+ghost use Rattle.iol_hold.specs.Texts.{AllReadable, text_of};
+
+use crate::cache::Cache;
+use crate::marks::CleanHolds;
+use crate::rank::enter_one;
+use iol_back::backing::{Backing, StoreFault};
+use iol_core::numbers::FileId;
+use iol_core::refusals::Refusal;
+use iol_evict::order::Order;
+use iol_extent::extents::Extents;
+use iol_hold::{Slice, Store};
+
+/// What was written back.
+#[derive(Clone, Copy, Debug, PartialEq, Eq)]
+pub enum Flushed {
+    /// Nothing is dirty.
+    Nothing,
+    /// An extent of this file, the first that was dirty.
+    Wrote { file: FileId },
+}
+
+// Writes slices back to the bytes of a file from place `at` on, one write for each, up to the first that fails.
+fn write_back<B: Backing>(
+    store: &Store,
+    backing: &mut B,
+    file: FileId,
+    at: u32,
+    slices: &[Slice],
+) -> Result<(), StoreFault>
+    requires some { 0 < byte_len slices.now }
+    requires fits { at + byte_len slices.now < 2 ^ 32 }
+    requires readable { AllReadable store.now slices.now }
+    ensures { WritesBack file at (text.bytes_of (text_of store.now slices.now))
+        (B.disk backing.old) (B.disk backing.new) result }
+{
+    let mut to = at;
+    for slice in slices {
+        match backing.write_at(file, to, slice.bytes(store)) {
+            Ok(()) => {}
+            Err(fault) => return Err(fault),
+        }
+        to += slice.len;
+    }
+    Ok(())
+}
+
+// The first dirty extent becomes clean where it stands, which begins at a place: it is marked, and enters the order in the place that was
+// kept for it.
+fn settle(order: &mut Order, marks: &mut CleanHolds, extents: &mut Extents, file: FileId, at: u32)
+    requires apart { IsApart 0 extents.old.extents }
+    requires dirty { IsFirstDirty extents.old.extents at }
+    requires ranked { RanksFile order.old file extents.old.extents }
+    requires ready { IsReady order.old extents.old.extents }
+    requires within { AreWithin (length marks.old) (parts_in (begins_at extents.old.extents at)) }
+    requires few { HasMarksLeft marks.old (parts_in (begins_at extents.old.extents at)) }
+    ensures extents { extents.new.extents ≡ cleaned_at extents.old.extents at }
+    ensures apart { IsApart 0 extents.new.extents }
+    ensures follows { Reindexes file extents.old.extents extents.new.extents order.old order.new
+        marks.old marks.new }
+    ensures order { IfSome (dirty_in extents.old.extents) (λ e. order.new ≡
+        entered (with_one_given_back order.old) file e.at (byte_len e.parts) 1) }
+{
+    order.give_back();
+    enter_one(order, marks, extents, file, at);
+    extents.clean(at);
+}
+
+impl Cache {
+    // Writes the first dirty extent of a file back, which is clean then. False: none is dirty.
+    fn store_first<B: Backing>(
+        &mut self,
+        store: &Store,
+        backing: &mut B,
+        file: FileId,
+    ) -> Result<bool, Refusal>
+        requires sound { IsSound store.now (cached_of self.old) }
+        requires file { is_numbered self.old.files.items file ≡ true }
+        requires few { CountsBelow store.now (2 ^ 61) }
+        ensures stores { StoresFirst store.now file (cached_of self.old) (cached_of self.new)
+            (B.disk backing.old) (B.disk backing.new) result }
+        ensures files { KeepsBytes store.now (cached_of self.old) (cached_of self.new)
+            (B.disk backing.old) (B.disk backing.new) }
+        ensures mirrors { KeepsStored store.now (cached_of self.old) (cached_of self.new)
+            (B.disk backing.old) (B.disk backing.new) }
+        ensures sound { IsSound store.now (cached_of self.new) }
+    {
+        let place = file.number() as usize - 1;
+        let pool = self.files[place].pool;
+        let Some((at, agg)) = self.files[place].extents.first_dirty() else {
+            return Ok(false);
+        };
+        if let Err(_fault) = write_back(store, backing, file, at, agg.slices()) {
+            return Err(Refusal::Fault { file });
+        }
+        settle(
+            &mut self.orders[pool.number() as usize - 1],
+            &mut self.marks,
+            &mut self.files[place].extents,
+            file,
+            at,
+        );
+        Ok(true)
+    }
+
+    /// Writes all dirty extents of a file back, in the order of offsets, up to the first that fails. Those that were written
+    /// are clean then. It wants no memory.
+    ///
+    /// Refused with `Fault` where the store fails: the extent that it failed at, and those after it, are dirty as before.
+    pub fn sync<B: Backing>(
+        &mut self,
+        store: &Store,
+        backing: &mut B,
+        file: FileId,
+    ) -> Result<(), Refusal>
+        requires sound { IsSound store.now (cached_of self.old) }
+        requires file { is_numbered (cached_of self.old).files file ≡ true }
+        requires few { CountsBelow store.now (2 ^ 61) }
+        // Which extents are clean then.
+        ensures writes { WritesDirty store.now file (cached_of self.old) (cached_of self.new)
+            (B.disk backing.old) (B.disk backing.new) result }
+        ensures clean { let new = (cached_of self.new).files in
+            OnOk result (dirty_in (extents_in new file) ≡ None) }
+        ensures syncs { Syncs store.now file (cached_of self.old) (cached_of self.new)
+            (B.disk backing.old) (B.disk backing.new) }
+
+        // What stays.
+        ensures files { KeepsBytes store.now (cached_of self.old) (cached_of self.new)
+            (B.disk backing.old) (B.disk backing.new) }
+        ensures mirrors { KeepsStored store.now (cached_of self.old) (cached_of self.new)
+            (B.disk backing.old) (B.disk backing.new) }
+        ensures sound { IsSound store.now (cached_of self.new) }
+
+        // Refusals.
+        ensures fails { OnErr result
+            ((B.disk backing.new).failures ≡ raised (B.disk backing.old).failures) }
+        ensures succeeds { OnOk result
+            ((B.disk backing.new).failures ≡ (B.disk backing.old).failures) }
+        ensures late { IfErr result (FaultOf file) }
+    {
+        let mut more = true;
+        while more {
+            more = match self.store_first(store, backing, file) {
+                Ok(more) => more,
+                Err(refusal) => return Err(refusal),
+            };
+        }
+        Ok(())
+    }
+
+    /// Writes the dirty extent of least file and offset back, which is clean then. It wants no memory.
+    ///
+    /// Refused with `Fault` of the extent's file where the store fails: nothing has become clean.
+    pub fn flush_one<B: Backing>(
+        &mut self,
+        store: &Store,
+        backing: &mut B,
+    ) -> Result<Flushed, Refusal>
+        requires sound { IsSound store.now (cached_of self.old) }
+        requires few { CountsBelow store.now (2 ^ 61) }
+        ensures flushes { Flushes store.now (cached_of self.old) (cached_of self.new)
+            (B.disk backing.old) (B.disk backing.new) result }
+        ensures files { KeepsBytes store.now (cached_of self.old) (cached_of self.new)
+            (B.disk backing.old) (B.disk backing.new) }
+        ensures mirrors { KeepsStored store.now (cached_of self.old) (cached_of self.new)
+            (B.disk backing.old) (B.disk backing.new) }
+        ensures sound { IsSound store.now (cached_of self.new) }
+    {
+        for i in 0..self.files.len() {
+            let file = FileId::new(i as u32 + 1);
+            let wrote = match self.store_first(store, backing, file) {
+                Ok(wrote) => wrote,
+                Err(refusal) => return Err(refusal),
+            };
+            if wrote {
+                return Ok(Flushed::Wrote { file });
+            }
+        }
+        Ok(Flushed::Nothing)
+    }
+}

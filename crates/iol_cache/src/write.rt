@@ -1,0 +1,232 @@
+//! Writing of files.
+ghost use Rattle.std.specs.Prelude.{◌≡◌, ℕ, ◌+◌, ◌<◌, ◌≤◌, ◌^◌, ◌++◌, [], length, true, Err, IfErr, OnErr, OnOk};
+ghost use Rattle.iol_core.specs.Meaning.{WantOfRoom};
+ghost use Rattle.iol_core.specs.Numbered.{is_numbered};
+ghost use Rattle.iol_extent.specs.Extents.{end_of};
+ghost use Rattle.iol_hold.specs.Moves.{Covers, Moves, SameLists};
+ghost use Rattle.iol_hold.specs.Places.{byte_len};
+ghost use Rattle.iol_hold.specs.Room.{free_of, pages_of};
+ghost use Rattle.iol_hold.specs.Stored.{AllSettled};
+ghost use Rattle.iol_hold.specs.Texts.{AllReadable, bufs_of};
+ghost use Rattle.iol_cache.specs.Cache.{cached_of, holding};
+ghost use Rattle.iol_cache.specs.Cached.{clean_held, extents_in, file_in, held, order_in};
+ghost use Rattle.iol_cache.specs.Composing.{copied_pages};
+ghost use Rattle.iol_cache.specs.Cutting.{CutsLeft, CutsRight};
+ghost use Rattle.iol_cache.specs.Loading.{PlacesSome};
+ghost use Rattle.iol_cache.specs.Overwriting.{IsWritten, KeepsFiles, KeepsMirrors, KeepsOthers, LeavesAll, LiesDirty, MakesRoom, OnlyMakesRoom, Overwrites, WritesFile};
+ghost use Rattle.iol_cache.specs.Paging.{FillsLowest};
+ghost use Rattle.iol_cache.specs.Pinned.{pinned_beside};
+ghost use Rattle.iol_cache.specs.Sharing.{CountsBelow};
+ghost use Rattle.iol_cache.specs.Sound.{IsLaid, IsSound};
+ghost use Rattle.iol_cache.specs.Writing.{PutsOver, parts_put};
+
+mod copies;
+mod cut;
+mod prepare;
+mod replace;
+
+use crate::cache::Cache;
+use crate::write::copies::foreign_pages;
+use crate::write::cut::Replacement;
+use crate::write::prepare::prepare;
+use crate::write::replace::replace_range;
+use iol_agg::Agg;
+use iol_core::limits::MAX_FILE_BYTES;
+use iol_core::numbers::FileId;
+use iol_core::refusals::Refusal;
+use iol_extent::spans::Span;
+use iol_hold::Store;
+use std::alloc::Global;
+
+impl Cache {
+    // Replaces a range of a file, in room that was made for its parts and the new bytes. No memory is taken.
+    fn put_over(&mut self, store: &mut Store, file: FileId, range: Span, put: Replacement)
+        requires sound { IsSound store.old (cached_of self.old) }
+        requires file { is_numbered self.old.files.items file ≡ true }
+        requires some { range.from < range.to }
+        requires short { range.to ≤ MAX_FILE_BYTES }
+        requires left { CutsLeft (extents_in self.old.files.items file) range.from put.left }
+        requires right { CutsRight (extents_in self.old.files.items file) range.to put.right }
+        requires fits { end_of put.right < 2 ^ 32 }
+        requires begins { put.bytes.at ≡ range.from }
+        requires ends { end_of put.bytes ≡ range.to }
+        requires laid { IsLaid store.old (file_in self.old.files.items file).pool put.bytes }
+        requires held { Covers store.old
+            (held self.old.files.items ++ bufs_of (parts_put put.left put.right put.bytes)) }
+        requires few { CountsBelow store.old (2 ^ 61) }
+        requires room { 3 ≤ (file_in self.old.files.items file).extents.room }
+        requires entries { let p = (file_in self.old.files.items file).pool in
+            3 ≤ (order_in self.old.orders.items p).room }
+        ensures puts { PutsOver file range.from range.to put.left put.right put.bytes
+            (holding store.old self.old) (holding store.new self.new) }
+        ensures sound { IsSound store.new (cached_of self.new) }
+    {
+        let place = file.number() as usize - 1;
+        let pool = self.files[place].pool;
+        replace_range(
+            &mut self.orders[pool.number() as usize - 1],
+            &mut self.marks,
+            &mut self.files[place].extents,
+            store,
+            file,
+            range,
+            put,
+        );
+    }
+
+    // Room for the extents of a write, for their entries and for the pages of the bytes that are copied.
+    fn make_place(&mut self, store: &mut Store, file: FileId, source: &Agg) -> Result<(), Refusal>
+        requires sound { IsSound store.old (cached_of self.old) }
+        requires file { is_numbered self.old.files.items file ≡ true }
+        requires small { byte_len source.now ≤ MAX_FILE_BYTES }
+        ensures room { let p = (file_in self.old.files.items file).pool in
+            MakesRoom p (copied_pages p source.now) (holding store.old self.old)
+            (holding store.new self.new) }
+        ensures free { let p = (file_in self.old.files.items file).pool in
+            OnOk result (copied_pages p source.now ≤ length (free_of store.new p)) }
+        ensures fits { let p = (file_in self.old.files.items file).pool in
+            let clean = clean_held self.old.files.items in
+            OnOk result (pinned_beside store.old clean p + copied_pages p source.now ≤
+            length (pages_of store.old p)) }
+        ensures lacks { let p = (file_in self.old.files.items file).pool in
+            let clean = clean_held self.old.files.items in
+            (q : ℕ) → result ≡ Err (Refusal.NoRoom q) → length (pages_of store.old p) <
+            pinned_beside store.old clean p + copied_pages p source.now }
+        ensures kept { OnErr result
+            (LeavesAll (holding store.old self.old) (holding store.new self.new)) }
+        ensures late { IfErr result (WantOfRoom (file_in self.old.files.items file).pool) }
+        ensures extents { OnOk result (3 ≤ (file_in self.new.files.items file).extents.room) }
+        ensures entries { let p = (file_in self.old.files.items file).pool in
+            OnOk result (3 ≤ (order_in self.new.orders.items p).room) }
+        ensures sound { IsSound store.new (cached_of self.new) }
+    {
+        let place = file.number() as usize - 1;
+        let pool = self.files[place].pool;
+        let Ok(()) = self.reserve_places(file, 3) else {
+            return Err(Refusal::Memory);
+        };
+        if self.make_room(store, pool, foreign_pages(source, pool)) {
+            return Ok(());
+        }
+        Err(Refusal::NoRoom { pool })
+    }
+
+    // Replaces a range of a file by the bytes of an aggregate, in room that was made for extents and entries.
+    fn overwrite(
+        &mut self,
+        alloc: Global,
+        store: &mut Store,
+        file: FileId,
+        at: u32,
+        source: &Agg,
+    ) -> Result<(), Refusal>
+        requires sound { IsSound store.old (cached_of self.old) }
+        requires file { is_numbered self.old.files.items file ≡ true }
+        requires some { 0 < byte_len source.now }
+        requires short { at + byte_len source.now ≤ MAX_FILE_BYTES }
+        requires held { Covers store.old (held self.old.files.items ++ bufs_of source.now) }
+        requires readable { AllReadable store.old source.now }
+        requires few { CountsBelow store.old (2 ^ 60) }
+        requires room { 3 ≤ (file_in self.old.files.items file).extents.room }
+        requires entries { let p = (file_in self.old.files.items file).pool in
+            3 ≤ (order_in self.old.orders.items p).room }
+        ensures overwrites { OnOk result
+            (Overwrites file at source.now (holding store.old self.old) (holding store.new self.new)) }
+        ensures same { OnErr result (self.new ≡ self.old) }
+        ensures none { OnErr result (Moves store.old store.new [] []) }
+        ensures given_back { OnErr result
+            (let p = (file_in self.old.files.items file).pool in PlacesSome store.old store.new p (copied_pages p source.now)) }
+        ensures lists { SameLists store.old store.new }
+        ensures settles { AllSettled store.old → AllSettled store.new }
+        ensures no_room { let p = (file_in self.old.files.items file).pool in
+            (q : ℕ) → result ≡ Err (Refusal.NoRoom q) →
+            length (free_of store.old p) < copied_pages p source.now }
+        ensures late { IfErr result (WantOfRoom (file_in self.old.files.items file).pool) }
+        ensures sound { IsSound store.new (cached_of self.new) }
+    {
+        let place = file.number() as usize - 1;
+        let pool = self.files[place].pool;
+        let put = match prepare(alloc, store, &self.files[place].extents, pool, at, source) {
+            Ok(prepared) => prepared,
+            Err(refusal) => return Err(refusal),
+        };
+        let range = Span {
+            from: at,
+            to: at + source.len(),
+        };
+        self.put_over(store, file, range, put);
+        Ok(())
+    }
+
+    /// Writes the bytes of an aggregate over those of a file, from byte `at` on, as one dirty extent. Those that lie in the
+    /// file's pool are shared, and the others are copied there.
+    ///
+    /// Refused, no file has changed: `NoRoom` where pinned pages and those for the copies are more than the pool has, which
+    /// leaves each extent and the order, and `Memory`, before which clean extents may have gone where they are not more.
+    pub fn write(
+        &mut self,
+        alloc: Global,
+        store: &mut Store,
+        file: FileId,
+        at: u32,
+        source: &Agg,
+    ) -> Result<(), Refusal>
+        requires sound { IsSound store.old (cached_of self.old) }
+        requires file { is_numbered (cached_of self.old).files file ≡ true }
+        requires short { at + byte_len source.now ≤ MAX_FILE_BYTES }
+        requires held { Covers store.old (held (cached_of self.old).files ++ bufs_of source.now) }
+        requires readable { AllReadable store.old source.now }
+        requires few { CountsBelow store.old (2 ^ 60) }
+
+        // The bytes of files.
+        ensures written { OnOk result (IsWritten file at source.now (holding store.old self.old)
+            (holding store.new self.new)) }
+        ensures others { KeepsOthers file (holding store.old self.old) (holding store.new self.new) }
+        ensures refused { OnErr result
+            (KeepsFiles (holding store.old self.old) (holding store.new self.new)) }
+        ensures mirrors { KeepsMirrors (holding store.old self.old) (holding store.new self.new) }
+
+        // Which extents there are then.
+        ensures lies { OnOk result (LiesDirty file at source.now (cached_of self.new)) }
+        ensures writes { 0 < byte_len source.now → OnOk result
+            (WritesFile file at source.now (holding store.old self.old) (holding store.new self.new)) }
+        ensures evicts { let p = (file_in (cached_of self.old).files file).pool in
+            OnErr result (OnlyMakesRoom p (copied_pages p source.now) (holding store.old self.old)
+            (holding store.new self.new)) }
+        ensures nothing { byte_len source.now ≡ 0 →
+            holding store.new self.new ≡ holding store.old self.old }
+
+        // When it is refused.
+        ensures room { let p = (file_in (cached_of self.old).files file).pool in
+            let clean = clean_held (cached_of self.old).files in
+            OnOk result (pinned_beside store.old clean p + copied_pages p source.now ≤
+            length (pages_of store.old p)) }
+        ensures no_room { let p = (file_in (cached_of self.old).files file).pool in
+            let clean = clean_held (cached_of self.old).files in
+            (q : ℕ) → result ≡ Err (Refusal.NoRoom q) → length (pages_of store.old p) <
+            pinned_beside store.old clean p + copied_pages p source.now }
+        ensures kept { (q : ℕ) → result ≡ Err (Refusal.NoRoom q) →
+            LeavesAll (holding store.old self.old) (holding store.new self.new) }
+        ensures late { IfErr result (WantOfRoom (file_in (cached_of self.old).files file).pool) }
+
+        // Holds come and go with the extents alone, live buffers keep their bytes, and pages are filled as in a read.
+        ensures moves { Moves store.old store.new (held (cached_of self.old).files)
+            (held (cached_of self.new).files) }
+        ensures pages { let p = (file_in (cached_of self.old).files file).pool in
+            FillsLowest p store.old store.new }
+        ensures lists { SameLists store.old store.new }
+        ensures settles { AllSettled store.old → AllSettled store.new }
+        ensures sound { IsSound store.new (cached_of self.new) }
+    {
+        if source.is_empty() {
+            return Ok(());
+        }
+        if let Err(refusal) = self.make_place(store, file, source) {
+            return Err(refusal);
+        }
+        match self.overwrite(alloc, store, file, at, source) {
+            Ok(()) => Ok(()),
+            Err(refusal) => Err(refusal),
+        }
+    }
+}

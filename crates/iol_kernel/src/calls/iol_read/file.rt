@@ -1,0 +1,96 @@
+//! Reading files by reference: what is in memory is shared, and what is not is read into clean extents.
+ghost use Rattle.std.specs.Prelude.{◌≡◌, true, false, Some, None, IfSome};
+ghost use Rattle.iol_core.specs.Meaning.{first};
+ghost use Rattle.iol_core.specs.State.{is_live, descriptor};
+ghost use Rattle.iol_core.specs.Calls.Aggregates.{too_many_aggs};
+ghost use Rattle.iol_core.specs.Calls.Files.{open_on};
+ghost use Rattle.iol_core.specs.Calls.Reading as calls;
+ghost use Rattle.iol_kernel.specs.FileReading.{held_by, read_at};
+ghost use Rattle.iol_kernel.specs.Readings.{Reading};
+
+use crate::kernel::Kernel;
+use crate::open_file::{OpenFile, may_be_read};
+use iol_back::backing::Backing;
+use iol_core::descriptors::{Descriptor, Mode};
+use iol_core::numbers::{AggId, DomainId, Fd, FileId};
+use iol_core::refusals::Refusal;
+
+impl Kernel {
+    ghost use Rattle.iol_kernel.specs.Kernel.{machine, as_read, IsOpenAt, TakesFromFile};
+
+    /// The file that a live domain's descriptor is open on, with its position and mode.
+    pub fn file_open(&self, by: DomainId, fd: Fd) -> Option<OpenFile>
+        ensures live { IfSome result (λ x. (f : Reading) → is_live (as_read f self.now) by ≡ true) }
+        ensures from { IfSome result (λ x. (f : Reading) → descriptor (as_read f self.now) by fd ≡ Some
+            (Descriptor.File x.file x.at x.mode)) }
+        ensures none { result ≡ None → (f : Reading) → open_on (held_by (as_read f self.now) by fd) ≡
+            None }
+    {
+        if !self.is_live(by) {
+            return None;
+        }
+        let Descriptor::File { file, at, mode } = self.descriptor(by, fd)? else {
+            return None;
+        };
+        Some(OpenFile { file, at, mode })
+    }
+
+    /// Reads from a file at a descriptor's position, as the caller's next aggregate. The position moves on.
+    pub(crate) fn read_file<B: Backing>(
+        &mut self,
+        backing: &mut B,
+        by: DomainId,
+        fd: Fd,
+        found: OpenFile,
+        count: u32,
+    ) -> Result<AggId, Refusal>
+        requires { IsOpenAt self.old (read_at by fd found count) }
+        ensures { TakesFromFile (read_at by fd found count) (B.disk backing.old) self.old result
+            (B.disk backing.new) self.new }
+    {
+        if !may_be_read(found.mode) {
+            return Err(Refusal::WrongMode);
+        }
+        if self.is_too_many(by, 1, 0) {
+            return Err(Refusal::TooMany);
+        }
+        if let Some(pool) = self.hidden_file(by, found.file) {
+            return Err(Refusal::Denied { pool });
+        }
+        self.take_from_file(backing, by, fd, found, count)
+    }
+
+    /// Reads from a file that the caller may read, as its next aggregate.
+    fn take_from_file<B: Backing>(
+        &mut self,
+        backing: &mut B,
+        by: DomainId,
+        fd: Fd,
+        found: OpenFile,
+        count: u32,
+    ) -> Result<AggId, Refusal>
+        requires held { IsOpenAt self.old (read_at by fd found count) }
+        requires few { too_many_aggs (machine self.old) by 1 0 ≡ false }
+        requires passed { first (calls.iol_read (machine self.old) by fd count).refusals ≡ None }
+        ensures { TakesFromFile (read_at by fd found count) (B.disk backing.old) self.old result
+            (B.disk backing.new) self.new }
+    {
+        let OpenFile { file, at, mode } = found;
+        self.domains.reserve_aggs(by, 1)?;
+        let outcome = self
+            .files
+            .cache
+            .read(self.alloc, &mut self.store, backing, file, at, count);
+        let agg = match outcome {
+            Ok(agg) => agg,
+            Err(refusal) => return Err(refusal),
+        };
+        let moved = Descriptor::File {
+            file,
+            at: at + agg.len(),
+            mode,
+        };
+        self.domains.set_fd(by, fd, moved);
+        Ok(self.domains.add_agg(by, agg))
+    }
+}

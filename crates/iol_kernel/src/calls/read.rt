@@ -1,0 +1,54 @@
+//! Reading by copying: no aggregate is made of what is read.
+ghost use Rattle.std.specs.Prelude.{◌≡◌, None};
+ghost use Rattle.iol_core.specs.Calls.Files.{open_on};
+ghost use Rattle.iol_core.specs.Calls.Reading as calls;
+ghost use Rattle.iol_kernel.specs.Copying.{Copies, ReadsOut};
+ghost use Rattle.iol_kernel.specs.FileReading.{held_by};
+ghost use Rattle.iol_kernel.specs.KernelState.{IsSound};
+ghost use Rattle.iol_kernel.specs.Readings.{Reading};
+
+mod file;
+mod queue;
+
+use crate::kernel::Kernel;
+use iol_back::backing::Backing;
+use iol_core::lists::Bytes;
+use iol_core::numbers::{DomainId, Fd};
+use iol_core::refusals::Refusal;
+
+impl Kernel {
+    ghost use Rattle.iol_kernel.specs.Kernel.{state_of, as_read, Serves};
+
+    /// Reads up to `count` bytes, as a list of their own.
+    pub fn read_bytes<B: Backing>(
+        &mut self,
+        backing: &mut B,
+        by: DomainId,
+        fd: Fd,
+        count: u32,
+    ) -> Result<Bytes, Refusal>
+        requires { IsSound (state_of self.old) }
+        ensures serves { Serves (λ s. calls.read s by fd count) (B.disk backing.old) self.old result
+            (B.disk backing.new) self.new }
+        ensures copies { Copies by fd count (B.disk backing.old) (state_of self.old) result
+            (B.disk backing.new) (state_of self.new) }
+    {
+        match self.file_open(by, fd) {
+            Some(found) => self.copy_file(backing, by, fd, found, count),
+            None => self.copy_queue(by, fd, count),
+        }
+    }
+
+    /// Takes up to `count` bytes off a queue. Of memory it takes as much as waits, and that before it reads.
+    fn copy_queue(&mut self, by: DomainId, fd: Fd, count: u32) -> Result<Bytes, Refusal>
+        requires sound { IsSound (state_of self.old) }
+        requires no_file { (f : Reading) → open_on (held_by (as_read f self.old) by fd) ≡ None }
+        ensures { ReadsOut by fd count (state_of self.old) result (state_of self.new) }
+    {
+        let most = self.waiting(by, fd, count as usize)?;
+        let mut list = Vec::from_elem(self.alloc, 0, most)?;
+        let taken = self.take_into(by, fd, list.as_mut_slice());
+        list.truncate(taken as usize);
+        Ok(Bytes::from_vec(list))
+    }
+}
