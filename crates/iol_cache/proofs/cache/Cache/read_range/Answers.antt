@@ -19,12 +19,18 @@ use Rattle.iol_cache.proofs.RangeReads.Hits.{covers_hit, few_hit, goes_hit, len_
 use Rattle.iol_cache.proofs.Evictions.Rooming.{at_most}
 use Rattle.iol_cache.proofs.RangeReads.Served.{always_err, asks_ok, goes_reserved, ok_both, some_lacked, tells_fault, told_late}
 use Rattle.iol_cache.proofs.Extents.Steps.{goes_trans}
+use Rattle.iol_cache.proofs.cache.Cache.read_range.Given.{Over}
+use Rattle.iol_cache.proofs.cache.Cache.read_range.Goals.{In_ok-pins}
 use Rattle.iol_cache.proofs.cache.Cache.read_range.Goals as goal
 
 pub returns-in_err-pins-clause-gone : goal.returns-in_err-pins-clause-gone
 returns-in_err-pins-clause-gone g c =
     let e = c.in_err-pins.ensures in
     always_err c.from_residual.result (goes_reserved (g.B.Backing.disk c.args.backing.now) (holding c.args.store.now c.args.self.now) (holding c.pin.new.store c.pin.new.self) c.requires.sound e.same e.none e.lists e.settles e.frees.count)
+
+-- What was in memory was shared.
+shared : (g : Over) (c : In_ok-pins g) → Goes (g.B.Backing.disk c.args.backing.now) [] (bufs_of c.in_ok-pins.pins) (holding c.args.store.now c.args.self.now) (holding c.pin.new.store c.pin.new.self)
+shared g c = goes_hit c.args.part.now.file c.args.part.now.from c.args.part.now.to _ _ c.in_ok-pins.pins c.in_ok-pins.gaps.items c.requires.sound c.requires.file c.in_ok-pins.ensures.pinned (g.B.Backing.disk c.args.backing.now)
 
 -- Without gaps.
 
@@ -60,10 +66,7 @@ returns-then-is_empty-clause-readable g c =
     readable_hit c.args.part.now.file c.args.part.now.from c.args.part.now.to old hit c.in_ok-pins.pins c.in_ok-pins.gaps.items c.requires.sound c.requires.file c.in_ok-pins.ensures.pinned
 
 pub returns-then-is_empty-clause-goes : goal.returns-then-is_empty-clause-goes
-returns-then-is_empty-clause-goes g c =
-    let old = holding c.args.store.now c.args.self.now in
-    let hit = holding c.pin.new.store c.pin.new.self in
-    goes_hit c.args.part.now.file c.args.part.now.from c.args.part.now.to old hit c.in_ok-pins.pins c.in_ok-pins.gaps.items c.requires.sound c.requires.file c.in_ok-pins.ensures.pinned (g.B.Backing.disk c.args.backing.now)
+returns-then-is_empty-clause-goes g c = shared g (goal.at.returns-then-is_empty-clause-goes g c).In_ok-pins
 
 pub returns-then-is_empty-clause-room : goal.returns-then-is_empty-clause-room
 returns-then-is_empty-clause-room g c =
@@ -153,19 +156,11 @@ returns-clause-goes g c =
     let old = holding c.args.store.now c.args.self.now in
     let hit = holding c.pin.new.store c.pin.new.self in
     let new = holding c.fill_pinned.new.store c.fill_pinned.new.self in
-    let pins = c.in_ok-pins.pins in
-    let first = goes_hit c.args.part.now.file c.args.part.now.from c.args.part.now.to old hit pins c.in_ok-pins.gaps.items c.requires.sound c.requires.file c.in_ok-pins.ensures.pinned d in
-    IfOk-weaker c.fill_pinned.result (λ a. Goes d (bufs_of pins) (bufs_of a) hit new) (λ a. Goes d [] (bufs_of a) old new) (λ xs h. goes_trans d [] (bufs_of pins) (bufs_of xs) old hit new first h) c.fill_pinned.ensures.goes
+    let taken = bufs_of c.in_ok-pins.pins in
+    IfOk-weaker c.fill_pinned.result (λ a. Goes d taken (bufs_of a) hit new) (λ a. Goes d [] (bufs_of a) old new) (λ xs h. goes_trans d [] taken (bufs_of xs) old hit new (shared g (goal.at.returns-clause-goes g c).In_ok-pins) h) c.fill_pinned.ensures.goes
 
 pub returns-clause-gone : goal.returns-clause-gone
-returns-clause-gone g c =
-    let d = g.B.Backing.disk c.args.backing.now in
-    let old = holding c.args.store.now c.args.self.now in
-    let hit = holding c.pin.new.store c.pin.new.self in
-    let new = holding c.fill_pinned.new.store c.fill_pinned.new.self in
-    let pins = c.in_ok-pins.pins in
-    let first = goes_hit c.args.part.now.file c.args.part.now.from c.args.part.now.to old hit pins c.in_ok-pins.gaps.items c.requires.sound c.requires.file c.in_ok-pins.ensures.pinned d in
-    on_err_weaker c.fill_pinned.result (λ h. goes_trans d [] (bufs_of pins) [] old hit new first h) c.fill_pinned.ensures.gone
+returns-clause-gone g c = on_err_weaker c.fill_pinned.result (λ h. goes_trans _ [] (bufs_of c.in_ok-pins.pins) [] _ _ _ (shared g (goal.at.returns-clause-gone g c).In_ok-pins) h) c.fill_pinned.ensures.gone
 
 pub returns-clause-room : goal.returns-clause-room
 returns-clause-room g c =

@@ -9,6 +9,8 @@ use Rattle.iol_cache.specs.Sound.{IsSound}
 use Rattle.iol_cache.specs.Syncing.{AreCleaned, StoresFirst, Syncs}
 use Rattle.iol_cache.proofs.Extents.Filing.{numbered_bounds, numbered_yes}
 use Rattle.iol_cache.proofs.RangeWrites.Synced.{clean_fewer, syncs_fail, syncs_more}
+use Rattle.iol_cache.proofs.cache.Cache.sync.Given.{Over}
+use Rattle.iol_cache.proofs.cache.Cache.sync.Goals.{In-Ok}
 use Rattle.iol_cache.proofs.cache.Cache.sync.Goals as goal
 
 still_there : (s : Stored) (f : ℕ) (old new : Cached) (d e : Disk) → Syncs s f old new d e → is_numbered old.files f ≡ true → is_numbered new.files f ≡ true
@@ -55,28 +57,27 @@ returns-in-Err-clause-syncs g c =
 pub returns-in-Err-clause-files : goal.returns-in-Err-clause-files
 returns-in-Err-clause-files g c = (returns-in-Err-clause-syncs g c).contents
 
+-- what one step did, after those before it
+step : (g : Over) (c : In-Ok g) → let old = cached_of c.args.self.now in let mid = cached_of c.loop-more.self in let new = cached_of c.store_first.new.self in
+    let d = g.B.Backing.disk c.args.backing.now in let e = g.B.Backing.disk c.store_first.new.backing in
+    Syncs c.args.store.now c.args.file old new d e × (e.failures ≡ d.failures) × (c.in-Ok.more ≡ false → dirty_in (extents_in new.files c.args.file) ≡ None)
+    × (dirty_count (extents_in new.files c.args.file) + cond {A = ℕ} c.in-Ok.more 1 0 < dirty_count (extents_in mid.files c.args.file) + 1)
+step g c =
+    let v = c.loop-more.invariant in
+    after c.args.store.now c.args.file _ _ _ _ _ _ c.requires.sound v.sound (still_there c.args.store.now c.args.file _ _ _ _ v.syncs c.requires.file) v.syncs v.failures c.in-Ok.more c.in-Ok.ensures.stores
+
 pub loop-more-smaller : goal.loop-more-smaller
 loop-more-smaller g c =
-    let v = c.loop-more.invariant in
-    let f = c.args.file in
-    let old = cached_of c.args.self.now in
-    let mid = cached_of c.loop-more.self in
-    let new = cached_of c.store_first.new.self in
-    let d = g.B.Backing.disk c.args.backing.now in
-    let m = g.B.Backing.disk c.loop-more.backing in
-    let e = g.B.Backing.disk c.store_first.new.backing in
-    let r = after c.args.store.now f old mid new d m e c.requires.sound v.sound (still_there c.args.store.now f old mid d m v.syncs c.requires.file) v.syncs v.failures c.in-Ok.more c.in-Ok.ensures.stores in
-    subst (λ b. dirty_count (extents_in new.files f) + cond {A = ℕ} c.in-Ok.more 1 0 < dirty_count (extents_in mid.files f) + cond {A = ℕ} b 1 0) (sym c.loop-more-test.true) r.3
+    let left = λ (k : Cached). dirty_count (extents_in k.files c.args.file) in
+    subst (λ b. left (cached_of c.store_first.new.self) + cond {A = ℕ} c.in-Ok.more 1 0 < left (cached_of c.loop-more.self) + cond {A = ℕ} b 1 0) (sym c.loop-more-test.true) (step g (goal.at.loop-more-smaller g c).In-Ok).3
 
 pub loop-more-preserved : goal.loop-more-preserved
 loop-more-preserved g c =
-    let v = c.loop-more.invariant in
-    let f = c.args.file in
-    let old = cached_of c.args.self.now in
-    let mid = cached_of c.loop-more.self in
-    let new = cached_of c.store_first.new.self in
-    let d = g.B.Backing.disk c.args.backing.now in
-    let m = g.B.Backing.disk c.loop-more.backing in
-    let e = g.B.Backing.disk c.store_first.new.backing in
-    let r = after c.args.store.now f old mid new d m e c.requires.sound v.sound (still_there c.args.store.now f old mid d m v.syncs c.requires.file) v.syncs v.failures c.in-Ok.more c.in-Ok.ensures.stores in
-    record { sound = c.store_first.ensures.sound; syncs = r.0; cleaned = one_more c.args.store.now f old mid new d m e v.cleaned c.in-Ok.more c.in-Ok.ensures.stores; failures = r.1; done = r.2 }
+    let r = step g (goal.at.loop-more-preserved g c).In-Ok in
+    record {
+      sound = c.store_first.ensures.sound;
+      syncs = r.0;
+      cleaned = one_more c.args.store.now c.args.file _ _ _ _ _ _ c.loop-more.invariant.cleaned c.in-Ok.more c.in-Ok.ensures.stores;
+      failures = r.1;
+      done = r.2;
+    }
