@@ -30,12 +30,12 @@ use Rattle.flash_cgi.specs.Output as script
 use Rattle.flash_laws.specs.Answers.{Found, Failed}
 use Rattle.flash_laws.specs.Conn.{most_read}
 use Rattle.flash_laws.specs.declared.doing.Flight.TheVariants.{Accepting}
-use Rattle.flash_laws.specs.Crew.{Crew, IsFixedFor}
-use Rattle.flash_laws.specs.Crews.{crew_with, OfSome}
+use Rattle.flash_laws.specs.Workers.Crew.{Crew, IsFixedFor}
+use Rattle.flash_laws.specs.Workers.Crews.{crew_with, OfSome}
 use Rattle.flash_laws.specs.Serves.{new_server}
 use Rattle.flash_laws.specs.Shelf.{Shelf}
 use Rattle.flash_laws.specs.Site.{server, outcome_in, IsFixed}
-use Rattle.flash_laws.specs.Tie.{tells_over, made_over, Actor, Serving}
+use Rattle.flash_laws.specs.World.Tie.{tells_over, made_over, Actor, Serving}
 use Rattle.flash_laws.specs.World.{IsNew, ARunIsCalm}
 use Rattle.flash_laws.proofs.Lists.{not-equal}
 

@@ -1,4 +1,7 @@
 -- A turn of the server: the reply to the call that is out is filed, a client is picked, and its next call is made.
+pub mod Rounds
+pub mod GoesRound
+pub mod Wanting
 use Rattle.std.specs.Prelude.{◌≡◌, ℕ, true, List, [], Option, Some, unwrap_or}
 use Rattle.iol_core.specs.Numbered.{in_place}
 use Rattle.iol_core.specs.State.{State}
@@ -10,9 +13,9 @@ use Rattle.iol_core.specs.declared.events.Reply.TheVariants as reply
 use Rattle.iol_proc.specs.declared.process.Turn.{Turn}
 use Rattle.iol_proc.specs.declared.process.Turn.TheVariants as turn
 use Rattle.flash_laws.specs.Client.{Client, wants, Readies}
-use Rattle.flash_laws.specs.Places.{has_free, may_go, runs_scripts, filed}
+use Rattle.flash_laws.specs.Site.Places.{has_free, may_go, runs_scripts, filed}
 use Rattle.flash_laws.specs.Site.{server}
-use Rattle.flash_laws.specs.Tied.{with_at}
+use Rattle.flash_laws.specs.Site.Tied.{with_at}
 use Rattle.flash_laws.specs.declared.doing.Flight.{Flight}
 use Rattle.flash_laws.specs.declared.doing.Flight.TheVariants.{Nothing, Accepting, At}
 

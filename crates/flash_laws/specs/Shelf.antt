@@ -1,12 +1,13 @@
 -- What lies on the shelf of a site: the response that is due to each request, and so the answer to a stream, with the files as they
 -- are.
+pub mod Due
 use Rattle.std.specs.Prelude.{◌≡◌, ℕ, ◌⊎◌, Bool, true, List, ◌++◌}
 use Rattle.std.specs.List.{flat_map}
 use Rattle.flash_http.specs.declared.windows.Window.TheVariants.{Wait}
 use Rattle.flash_http.specs.Window.{window_in}
 use Rattle.flash_http.specs.Request.{Answer}
 use Rattle.flash_laws.specs.Answers.{Outcome, Reads, last_may_close, last_closes}
-use Rattle.flash_laws.specs.Due.{Seen, due}
+use Rattle.flash_laws.specs.Shelf.Due.{Seen, due}
 
 pub record Shelf : Type 0 where
   -- the outcome of each name for the server

@@ -1,4 +1,11 @@
 -- The tie of a world: the server in domain 1, its workers in theirs, and all connections, over what was chosen and replied.
+pub mod Calm
+pub mod Tie
+pub mod Idle
+pub mod Settles
+pub mod Remains
+pub mod Done
+pub mod Host
 use Rattle.std.specs.Prelude.{◌≡◌, ◌<◌, ℕ, true, false, List, [], ◌∷◌, ◌++◌, length, map, Some, None, slice_get}
 use Rattle.iol_core.specs.Text.{bytes_of}
 use Rattle.iol_core.specs.State.{State, conn_at, no_conn}
@@ -11,17 +18,17 @@ use Rattle.iol_proc.specs.Smooth.{AreSmooth}
 use Rattle.iol_proc.specs.World.{Stage, copying, WorldStep, WorldRun}
 use Rattle.iol_proc.specs.declared.choice.Choice.{Choice}
 use Rattle.iol_proc.specs.declared.seat.Seat.{Seat}
-use Rattle.flash_laws.specs.Calm.{IsMild, AreMild}
-use Rattle.flash_laws.specs.Crew.{Crew, IsFixedFor}
-use Rattle.flash_laws.specs.Fits.{Names}
-use Rattle.flash_laws.specs.Past.{Past}
-use Rattle.flash_laws.specs.Places.{filed}
-use Rattle.flash_laws.specs.Rounds.{in_rounds}
-use Rattle.flash_laws.specs.Served.{AreAtDesks, AllFit, AreOwned}
+use Rattle.flash_laws.specs.World.Calm.{IsMild, AreMild}
+use Rattle.flash_laws.specs.Workers.Crew.{Crew, IsFixedFor}
+use Rattle.flash_laws.specs.Conn.Fits.{Names}
+use Rattle.flash_laws.specs.Site.Past.{Past}
+use Rattle.flash_laws.specs.Site.Places.{filed}
+use Rattle.flash_laws.specs.Serves.Rounds.{in_rounds}
+use Rattle.flash_laws.specs.Site.Served.{AreAtDesks, AllFit, AreOwned}
 use Rattle.flash_laws.specs.Serves.{Server, new_server, Policy}
 use Rattle.flash_laws.specs.Shelf.{Shelf, Begins, IsAnswer}
 use Rattle.flash_laws.specs.Site.{server}
-use Rattle.flash_laws.specs.Tie.{past_of, made_over, gone_over, Actor, Serving, Working, actor_turns}
+use Rattle.flash_laws.specs.World.Tie.{past_of, made_over, gone_over, Actor, Serving, Working, actor_turns}
 
 -- a worker at its seat, as a process of the world
 abbrev pub as_actor : {W : Type 0} → Seat W → Seat (Actor W)

@@ -3,9 +3,9 @@
 ghost use Rattle.std.specs.Prelude.{ℕ, Bool};
 ghost use Rattle.flash_cgi.specs.Waiting.{HasWaited};
 ghost use Rattle.flash_cgi.specs.Works.{worker_turns};
-ghost use Rattle.flash_laws.specs.Due.{DueMayCome};
-ghost use Rattle.flash_laws.specs.PutsOut.{TextsArePutOut};
-ghost use Rattle.flash_laws.specs.WorkersRun.{IsDueOf, IsFreeFor, WorkersRun};
+ghost use Rattle.flash_laws.specs.Shelf.Due.{DueMayCome};
+ghost use Rattle.flash_laws.specs.Workers.PutsOut.{TextsArePutOut};
+ghost use Rattle.flash_laws.specs.Workers.{IsDueOf, IsFreeFor, WorkersRun};
 
 use flash_cgi::laws as scripts;
 use iol_laws::laws;

@@ -7,11 +7,11 @@ use Rattle.iol_core.specs.declared.events.Reply.{Reply}
 use Rattle.iol_core.specs.declared.events.Reply.TheVariants as reply
 use Rattle.iol_proc.specs.declared.process.Turn.{Turn}
 use Rattle.flash_laws.specs.Client.{Client, new_client, told, left_over}
-use Rattle.flash_laws.specs.Places.{first_free, runs_scripts, told_at, filed}
-use Rattle.flash_laws.specs.Policy.{door, flight_to, most_conns}
-use Rattle.flash_laws.specs.Rounds.{next_flight, next_place, place_after}
+use Rattle.flash_laws.specs.Site.Places.{first_free, runs_scripts, told_at, filed}
+use Rattle.flash_laws.specs.Conn.Policy.{door, flight_to, most_conns}
+use Rattle.flash_laws.specs.Serves.Rounds.{next_flight, next_place, place_after}
 use Rattle.flash_laws.specs.Serves.{Picks}
-use Rattle.flash_laws.specs.Tied.{with_at}
+use Rattle.flash_laws.specs.Site.Tied.{with_at}
 use Rattle.flash_laws.specs.declared.doing.Flight.{Flight}
 use Rattle.flash_laws.specs.declared.doing.Flight.TheVariants.{Nothing, Accepting, At}
 use Rattle.flash_lite.specs.Few.{most_in, IsFew}

@@ -7,8 +7,8 @@ use Rattle.std.proofs.lemmas.List.{get_or-set_same, length-replicate, length-set
 use Rattle.std.proofs.lemmas.List.Elements.{filter_agree}
 use Rattle.iol_core.specs.Numbered.{in_place, taken}
 use Rattle.flash_laws.specs.Client.{Client}
-use Rattle.flash_laws.specs.Rounds.{goes_in, next_in}
-use Rattle.flash_laws.specs.Tied.{grown, with_at}
+use Rattle.flash_laws.specs.Serves.Rounds.{goes_in, next_in}
+use Rattle.flash_laws.specs.Site.Tied.{grown, with_at}
 use Rattle.flash_lite.specs.Order.{CanNote, goers, marked, places_from}
 use Rattle.flash_lite.proofs.Marks.{all_fail, all_pass}
 use Rattle.flash_lite.proofs.Fewer.{taken_few}

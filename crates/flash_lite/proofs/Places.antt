@@ -11,12 +11,12 @@ use Rattle.iol_core.specs.declared.events.Reply.{Reply}
 use Rattle.iol_proc.specs.declared.process.Turn.{Turn}
 use Rattle.iol_proc.specs.declared.process.Turn.TheVariants as turn
 use Rattle.flash_laws.specs.Client.{Client, told, left_over}
-use Rattle.flash_laws.specs.Places.{first_free, has_free, may_go, runs_scripts, told_at, filed}
-use Rattle.flash_laws.specs.Policy.{door, flight_to, most_conns}
-use Rattle.flash_laws.specs.Rounds.{goes_in, leaves_off, flight_from, place_after}
-use Rattle.flash_laws.specs.Rounds.{next_in}
+use Rattle.flash_laws.specs.Site.Places.{first_free, has_free, may_go, runs_scripts, told_at, filed}
+use Rattle.flash_laws.specs.Conn.Policy.{door, flight_to, most_conns}
+use Rattle.flash_laws.specs.Serves.Rounds.{goes_in, leaves_off, flight_from, place_after}
+use Rattle.flash_laws.specs.Serves.Rounds.{next_in}
 use Rattle.flash_laws.specs.Serves.{Picks}
-use Rattle.flash_laws.specs.Tied.{with_at, left_by}
+use Rattle.flash_laws.specs.Site.Tied.{with_at, left_by}
 use Rattle.flash_laws.specs.declared.doing.Doing.{Doing}
 use Rattle.flash_laws.specs.declared.doing.Doing.TheVariants.{Rests, Got, Opens, Reads, Shuts, Picks as Picking, Spares, Heads, Joins, Sends, Cuts, Offers, Swaps, Sent, Breaks, Drops, Closes, Over}
 use Rattle.flash_laws.specs.declared.doing.Flight.{Flight}

@@ -6,11 +6,11 @@ use Rattle.iol_core.specs.declared.events.Reply.{Reply}
 use Rattle.iol_core.specs.declared.events.Reply.TheVariants as reply
 use Rattle.flash_http.specs.Request.{Answer, serve, refuse}
 use Rattle.flash_laws.specs.Client.{Client, Readies, can_run, kept_if, wants, left_over}
-use Rattle.flash_laws.specs.Tied.{left_by}
+use Rattle.flash_laws.specs.Site.Tied.{left_by}
 use Rattle.flash_laws.specs.Conn.{most_read, is_head_only}
-use Rattle.flash_laws.specs.Rounds.{leaves_off}
-use Rattle.flash_laws.specs.Running as running
-use Rattle.flash_laws.specs.Running.{is_over}
+use Rattle.flash_laws.specs.Serves.Rounds.{leaves_off}
+use Rattle.flash_laws.specs.Run as running
+use Rattle.flash_laws.specs.Run.{is_over}
 use Rattle.flash_laws.specs.declared.doing.Content.{Content}
 use Rattle.flash_laws.specs.declared.doing.Content.TheVariants.{Script}
 use Rattle.flash_laws.specs.declared.doing.Learnt.TheVariants.{Text}

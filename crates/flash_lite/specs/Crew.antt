@@ -1,8 +1,8 @@
 -- The workers of a site, as the law over whole worlds has them.
 use Rattle.std.specs.Prelude.{ℕ, ◌==◌, ◌||◌, Bool}
 use Rattle.flash_cgi.specs.declared.worker.Worker.{Worker}
-use Rattle.flash_laws.specs.Crew.{Crew}
-use Rattle.flash_laws.specs.WorkersRun.{IsDueOf, IsFreeFor}
+use Rattle.flash_laws.specs.Workers.Crew.{Crew}
+use Rattle.flash_laws.specs.Workers.{IsDueOf, IsFreeFor}
 use Rattle.flash_lite.specs.Setup.{workers_used}
 use Rattle.flash_lite.specs.Workers.{worker_settled, worker_turns}
 use Rattle.flash_lite.specs.declared.site.Site.{Site}

@@ -10,11 +10,11 @@ use Rattle.iol_proc.specs.World.{Stage}
 use Rattle.iol_proc.specs.declared.choice.Choice.{Choice}
 use Rattle.iol_proc.specs.declared.choice.Choice.TheVariants as choice
 use Rattle.flash_cgi.specs.declared.worker.Worker.{Worker}
-use Rattle.flash_laws.specs.Calm.{AreMild}
-use Rattle.flash_laws.specs.Rounds.{in_rounds}
+use Rattle.flash_laws.specs.World.Calm.{AreMild}
+use Rattle.flash_laws.specs.Serves.Rounds.{in_rounds}
 use Rattle.flash_laws.specs.Site.{server}
-use Rattle.flash_laws.specs.Tie.{Actor, actor_turns}
-use Rattle.flash_laws.specs.WorldHost.{IsRight}
+use Rattle.flash_laws.specs.World.Tie.{Actor, actor_turns}
+use Rattle.flash_laws.specs.World.Host.{IsRight}
 use Rattle.flash_lite.specs.Crew.{crew_of}
 use Rattle.flash_lite.specs.Hosting.{Hosts}
 use Rattle.flash_lite.specs.Library.{library_of}

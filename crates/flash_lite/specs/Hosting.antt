@@ -10,11 +10,11 @@ use Rattle.iol_proc.specs.World.{Stage, copying, sharing, WorldRun, domains_of}
 use Rattle.iol_proc.specs.declared.choice.Choice.{Choice}
 use Rattle.iol_system.specs.Machine.{SystemState}
 use Rattle.flash_cgi.specs.declared.worker.Worker.{Worker}
-use Rattle.flash_laws.specs.Calm.{AreMild}
-use Rattle.flash_laws.specs.Rounds.{in_rounds}
-use Rattle.flash_laws.specs.Tie.{Actor, actor_turns}
+use Rattle.flash_laws.specs.World.Calm.{AreMild}
+use Rattle.flash_laws.specs.Serves.Rounds.{in_rounds}
+use Rattle.flash_laws.specs.World.Tie.{Actor, actor_turns}
 use Rattle.flash_laws.specs.World.{IsNew}
-use Rattle.flash_laws.specs.WorldHost.{IsRight}
+use Rattle.flash_laws.specs.World.Host.{IsRight}
 use Rattle.flash_lite.specs.Crew.{crew_of}
 use Rattle.flash_lite.specs.Library.{library_of}
 use Rattle.flash_lite.specs.NewWorld.{AreSeated}

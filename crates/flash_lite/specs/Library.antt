@@ -3,7 +3,7 @@ use Rattle.std.specs.Prelude.{ℕ, List, [], Option, Some, None, if◌then◌els
 use Rattle.std.specs.List.{slice_get}
 use Rattle.iol_core.specs.declared.refusals.Refusal.TheVariants.{Denied, NoFile}
 use Rattle.flash_cgi.specs.Output.{Outcome, Failed, Found}
-use Rattle.flash_laws.specs.Due.{Seen}
+use Rattle.flash_laws.specs.Shelf.Due.{Seen}
 use Rattle.flash_laws.specs.Shelf.{Shelf}
 use Rattle.flash_lite.specs.Setup.{has_script}
 use Rattle.flash_lite.specs.Shelf.{shelf_of}

@@ -3,7 +3,7 @@ use Rattle.std.specs.Prelude.{◌≡◌, ℕ, List, map}
 use Rattle.iol_proc.specs.World.{seat_of}
 use Rattle.iol_proc.specs.declared.seat.Seat.{Seat}
 use Rattle.flash_cgi.specs.declared.worker.Worker.{Worker}
-use Rattle.flash_laws.specs.Tie.{Actor}
+use Rattle.flash_laws.specs.World.Tie.{Actor}
 use Rattle.flash_lite.specs.Setup.{AreActors}
 use Rattle.flash_lite.specs.declared.site.Site.{Site}
 

@@ -6,9 +6,9 @@ use Rattle.iol_core.specs.declared.events.Call.TheVariants as call
 use Rattle.iol_proc.specs.declared.process.Turn.{Turn}
 use Rattle.iol_proc.specs.declared.process.Turn.TheVariants as turn
 use Rattle.flash_laws.specs.Client.{Client}
-use Rattle.flash_laws.specs.ClientOffers.{taken_by, HandsJob}
-use Rattle.flash_laws.specs.Known.{Known, HasKnown, IsNextOf}
-use Rattle.flash_laws.specs.Places.{runs_scripts}
+use Rattle.flash_laws.specs.Client.Offering.{taken_by, HandsJob}
+use Rattle.flash_laws.specs.Client.Known.{Known, HasKnown, IsNextOf}
+use Rattle.flash_laws.specs.Site.Places.{runs_scripts}
 use Rattle.flash_laws.specs.Serves.{Server}
 use Rattle.flash_laws.specs.declared.doing.Flight.TheVariants.{At}
 

@@ -2,8 +2,8 @@
 use Rattle.std.specs.Prelude.{◌≡◌, ℕ, Bool, true, false, List, [], Some}
 use Rattle.iol_core.specs.declared.events.Reply.{Reply}
 use Rattle.flash_laws.specs.Conn.{Conn, told, wants, Starts, Readies, IsAwaiting}
-use Rattle.flash_laws.specs.Policy.{is_later, is_bare, leaves_off}
-use Rattle.flash_laws.specs.Tied.{left_over}
+use Rattle.flash_laws.specs.Conn.Policy.{is_later, is_bare, leaves_off}
+use Rattle.flash_laws.specs.Site.Tied.{left_over}
 use Rattle.flash_laws.specs.declared.doing.Doing.{Doing}
 use Rattle.flash_laws.specs.declared.doing.Doing.TheVariants.{Rests, Over}
 use Rattle.flash_lite.specs.Small.{IsSmall}

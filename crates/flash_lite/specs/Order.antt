@@ -4,7 +4,7 @@ use Rattle.std.specs.Prelude.{filter, length, if◌then◌else◌, nat_lt}
 use Rattle.std.specs.List.Sorted.{IsStrictlyIncreasing}
 use Rattle.iol_core.specs.Numbered.{in_place}
 use Rattle.flash_laws.specs.Client.{Client}
-use Rattle.flash_laws.specs.Rounds.{goes_in}
+use Rattle.flash_laws.specs.Serves.Rounds.{goes_in}
 
 -- the places of those that pass a test, where the first stands at `at`
 abbrev pub places_from : {A : Type 0} → (p : A → Bool) → (at : ℕ) → List A → List ℕ

@@ -3,7 +3,7 @@ use Rattle.std.specs.Prelude.{◌≡◌, ◌<◌, ◌==◌, ℕ, Bool, true, fal
 use Rattle.flash_cgi.specs.Job.{job_text}
 use Rattle.flash_http.specs.Request.{Wanted}
 use Rattle.flash_laws.specs.Conn.{Following}
-use Rattle.flash_laws.specs.Running.{is_left, hearing}
+use Rattle.flash_laws.specs.Run.{is_left, hearing}
 use Rattle.flash_laws.specs.declared.doing.Doing.{Doing}
 use Rattle.flash_laws.specs.declared.running.TheConstants.{CHUNK_BYTES}
 use Rattle.flash_laws.specs.declared.running.Run.{Run}

@@ -6,7 +6,7 @@ use Rattle.iol_core.specs.State.{State, Domain, Pool, File, descriptor, pipe_at,
 use Rattle.iol_core.specs.Text.{Text}
 use Rattle.iol_core.specs.declared.descriptors.Descriptor.{Descriptor}
 use Rattle.iol_core.specs.declared.descriptors.Descriptor.TheVariants as on
-use Rattle.flash_laws.specs.Running.{job_pipe, worker_domain}
+use Rattle.flash_laws.specs.Run.{job_pipe, worker_domain}
 use Rattle.flash_laws.specs.Site.{server}
 use Rattle.flash_lite.specs.Setup.{is_private}
 use Rattle.flash_lite.specs.declared.site.Site.{Site}

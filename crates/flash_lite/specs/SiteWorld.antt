@@ -4,7 +4,7 @@ use Rattle.iol_core.specs.State.{State, new_state}
 use Rattle.iol_core.specs.declared.limits.TheConstants.{MAX_FILES}
 use Rattle.iol_proc.specs.World.{Stage}
 use Rattle.flash_cgi.specs.declared.worker.Worker.{Worker}
-use Rattle.flash_laws.specs.Tie.{Actor}
+use Rattle.flash_laws.specs.World.Tie.{Actor}
 use Rattle.flash_laws.specs.World.{IsNew}
 use Rattle.flash_lite.specs.Crew.{crew_of}
 use Rattle.flash_lite.specs.Library.{library_of}

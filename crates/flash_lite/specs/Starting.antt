@@ -13,7 +13,7 @@ use Rattle.iol_proc.specs.World.{Stage}
 use Rattle.iol_system.specs.Machine.{SystemState, machine_of}
 use Rattle.iol_system.specs.Safe.{IsSafe}
 use Rattle.flash_cgi.specs.declared.worker.Worker.{Worker}
-use Rattle.flash_laws.specs.Tie.{Actor}
+use Rattle.flash_laws.specs.World.Tie.{Actor}
 use Rattle.flash_lite.specs.NewWorld.{AreSeated}
 use Rattle.flash_lite.specs.Setup.{IsMade, IsRefused, is_in_range}
 use Rattle.flash_lite.specs.SiteState.{IsSetUp}

@@ -1,9 +1,9 @@
 -- What the server keeps: its clients, which call is out, and which of its workers are free.
 use Rattle.std.specs.Prelude.{◌≡◌, ◌<◌, ◌≤◌, ℕ, Bool, false, List, length, get_or, Option}
 use Rattle.flash_laws.specs.Client.{Client}
-use Rattle.flash_laws.specs.Places.{NoneRuns, is_free}
+use Rattle.flash_laws.specs.Site.Places.{NoneRuns, is_free}
 use Rattle.flash_laws.specs.Serves.{Server}
-use Rattle.flash_laws.specs.Sharing.{IsShared}
+use Rattle.flash_laws.specs.Workers.Sharing.{IsShared}
 use Rattle.flash_laws.specs.declared.doing.Flight.{Flight}
 use Rattle.flash_lite.specs.Few.{IsFew}
 use Rattle.flash_lite.specs.declared.site.TheConstants.{MAX_WORKERS}

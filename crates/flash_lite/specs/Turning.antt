@@ -8,8 +8,8 @@ use Rattle.iol_core.specs.declared.events.Reply.{Reply}
 use Rattle.iol_proc.specs.declared.process.Turn.{Turn}
 use Rattle.iol_proc.specs.declared.process.Turn.TheVariants as turn
 use Rattle.flash_laws.specs.Client.{Client, told, wants, Readies}
-use Rattle.flash_laws.specs.Places.{filed}
-use Rattle.flash_laws.specs.Rounds.{in_rounds, next_in}
+use Rattle.flash_laws.specs.Site.Places.{filed}
+use Rattle.flash_laws.specs.Serves.Rounds.{in_rounds, next_in}
 use Rattle.flash_laws.specs.Serves.{Picks}
 use Rattle.flash_laws.specs.declared.doing.Doing.TheVariants.{Over}
 use Rattle.flash_laws.specs.declared.doing.Flight.{Flight}

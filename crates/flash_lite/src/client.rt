@@ -4,12 +4,12 @@
 ghost use Rattle.std.specs.Prelude.{◌≡◌, ◌≢◌, ◌<◌, [], IfOk, IfSome, OnErr, None, Some, false, length, true};
 ghost use Rattle.iol_core.specs.declared.events.Reply.TheVariants as reply;
 ghost use Rattle.flash_laws.specs.Client as spec;
-ghost use Rattle.flash_laws.specs.ClientWants.{WantsOn, makes_bytes, needs_memory};
+ghost use Rattle.flash_laws.specs.Client.Wanting.{WantsOn, makes_bytes, needs_memory};
 ghost use Rattle.flash_laws.specs.Conn as conn;
-ghost use Rattle.flash_laws.specs.Rounds.{leaves_off};
-ghost use Rattle.flash_laws.specs.RunWants.{makes_any};
-ghost use Rattle.flash_laws.specs.Running.{is_over};
-ghost use Rattle.flash_laws.specs.Wanting as wanting;
+ghost use Rattle.flash_laws.specs.Serves.Rounds.{leaves_off};
+ghost use Rattle.flash_laws.specs.Run.Wanting.{makes_any};
+ghost use Rattle.flash_laws.specs.Run.{is_over};
+ghost use Rattle.flash_laws.specs.Conn.Wanting as wanting;
 ghost use Rattle.flash_laws.specs.declared.doing.Doing.TheVariants.{Rests, Over};
 ghost use Rattle.flash_lite.specs.Course.{CanRest, IsCourse, ended, left_with, run_after, text_heard, worker_of};
 ghost use Rattle.flash_lite.specs.Heard.{heard};

@@ -5,8 +5,8 @@
 ghost use Rattle.std.specs.Prelude.{◌≡◌, ◌<◌, IfOk, IfSome, MatchOption, OnErr, false, true};
 ghost use Rattle.flash_http.specs.Request.{wanted};
 ghost use Rattle.flash_laws.specs.Client as client;
-ghost use Rattle.flash_laws.specs.RunWants.{makes_any};
-ghost use Rattle.flash_laws.specs.Running as spec;
+ghost use Rattle.flash_laws.specs.Run.Wanting.{makes_any};
+ghost use Rattle.flash_laws.specs.Run as spec;
 ghost use Rattle.flash_lite.specs.Heard.{heard};
 ghost use Rattle.flash_lite.specs.Runs.{IsSmallRun, IsSmallStep, IsSmallRunning, job_for, run_worker, waits};
 ghost use Rattle.flash_lite.specs.Small.{IsSmall};

@@ -6,7 +6,7 @@ ghost use Rattle.iol_core.specs.declared.refusals.Refusal.TheVariants.{BrokenPip
 ghost use Rattle.flash_http.specs.Request.{Answer, answer};
 ghost use Rattle.flash_laws.specs.Answers.{keeps};
 ghost use Rattle.flash_laws.specs.Conn as spec;
-ghost use Rattle.flash_laws.specs.Running.{told_part};
+ghost use Rattle.flash_laws.specs.Run.{told_part};
 ghost use Rattle.flash_laws.specs.declared.doing.Doing.TheVariants.{Joins, Sends, Sent};
 ghost use Rattle.flash_lite.specs.Heard.{heard};
 ghost use Rattle.flash_lite.specs.Runs.{IsGoing};

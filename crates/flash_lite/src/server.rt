@@ -2,12 +2,12 @@
 ghost use Rattle.std.specs.Prelude.{◌≡◌, IfOk, OnErr, OnOk, min};
 ghost use Rattle.iol_proc.specs.Looks.{lent};
 ghost use Rattle.iol_proc.specs.Quiet.{IsQuiet};
-ghost use Rattle.flash_laws.specs.Places.{NoneRuns};
-ghost use Rattle.flash_laws.specs.Rounds.{in_rounds};
+ghost use Rattle.flash_laws.specs.Site.Places.{NoneRuns};
+ghost use Rattle.flash_laws.specs.Serves.Rounds.{in_rounds};
 ghost use Rattle.flash_laws.specs.Serves.{new_server, heard_of, server_turns};
-ghost use Rattle.flash_laws.specs.Sharing.{IsShared};
-ghost use Rattle.flash_laws.specs.Tie.{server_account};
-ghost use Rattle.flash_laws.specs.TurnWants.{server_wants};
+ghost use Rattle.flash_laws.specs.Workers.Sharing.{IsShared};
+ghost use Rattle.flash_laws.specs.World.Tie.{server_account};
+ghost use Rattle.flash_laws.specs.Serves.Wanting.{server_wants};
 ghost use Rattle.flash_lite.specs.Few.{IsFew};
 ghost use Rattle.flash_lite.specs.Heard.{heard};
 ghost use Rattle.flash_lite.specs.Offering.{OffersNext};

@@ -2,8 +2,8 @@
 ghost use Rattle.std.specs.Prelude.{◌≡◌, ◌<◌, ◌≤◌, ◌+◌, [], IfOk};
 ghost use Rattle.std.specs.Prelude.{OnErr, Some, length, min, replicate, true};
 ghost use Rattle.iol_core.specs.Numbered.{in_place};
-ghost use Rattle.flash_laws.specs.Places.{runs_scripts};
-ghost use Rattle.flash_laws.specs.TurnWants.{MayWant, WantsFrom, WantsPlace};
+ghost use Rattle.flash_laws.specs.Site.Places.{runs_scripts};
+ghost use Rattle.flash_laws.specs.Serves.Wanting.{MayWant, WantsFrom, WantsPlace};
 ghost use Rattle.flash_laws.specs.declared.doing.Flight.TheVariants.{Nothing, Accepting, At};
 ghost use Rattle.flash_lite.specs.Heard.{heard};
 ghost use Rattle.flash_lite.specs.Table.{IsKept};

@@ -20,7 +20,7 @@ use Rattle.iol_laws.specs.Order.{IsOrderly}
 use Rattle.flash_http.specs.Request.{Answer, serve, refuse, Wanted}
 use Rattle.flash_laws.specs.Answers.{Outcome, Failed, script_text}
 use Rattle.flash_laws.specs.Client.{Client, is_for_script, conn_wants, wants, can_run, kept_if, told_spares, conn_told, file_told, told}
-use Rattle.flash_laws.specs.ClientOffers.{ConnLearns, Learns}
+use Rattle.flash_laws.specs.Client.Offering.{ConnLearns, Learns}
 use Rattle.flash_laws.specs.Conn as conn
 use Rattle.flash_laws.specs.Conn.{Conn, most_read, status_of}
 use Rattle.flash_laws.specs.declared.doing.Learnt.TheVariants.{File, Text as TextOf}
@@ -28,11 +28,11 @@ use Rattle.flash_laws.specs.declared.doing.Content.TheVariants.{Script}
 use Rattle.flash_laws.specs.declared.doing.Doing.{Doing}
 use Rattle.flash_laws.specs.declared.doing.Doing.TheVariants.{Rests, Got, Opens, Reads as Reading, Shuts, Spares, Heads, Sends, Breaks, Drops, Closes}
 use Rattle.flash_laws.specs.declared.running.Running.TheVariants.{Leaves}
-use Rattle.flash_laws.specs.Fits.{IsFile, Has, is_closing, Names}
-use Rattle.flash_laws.specs.Known as known
-use Rattle.flash_laws.specs.Known.{Known, OfFile, OfScript, is_read, is_silent, IsAfter, ReadsOn, HasNoRun, HasFile, HasKnown}
-use Rattle.flash_laws.specs.Offers as single
-use Rattle.flash_laws.specs.RunFits.{Progress, nothing_yet}
+use Rattle.flash_laws.specs.Conn.Fits.{IsFile, Has, is_closing, Names}
+use Rattle.flash_laws.specs.Client.Known as known
+use Rattle.flash_laws.specs.Client.Known.{Known, OfFile, OfScript, is_read, is_silent, IsAfter, ReadsOn, HasNoRun, HasFile, HasKnown}
+use Rattle.flash_laws.specs.Conn.Offering as single
+use Rattle.flash_laws.specs.Run.Fits.{Progress, nothing_yet}
 use Rattle.flash_laws.specs.Site.{server}
 use Rattle.flash_laws.proofs.Forms.{at, of as client}
 use Rattle.flash_laws.proofs.Client.Phases as phases

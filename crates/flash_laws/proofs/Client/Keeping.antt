@@ -16,8 +16,8 @@ use Rattle.iol_laws.specs.Order.{IsOrderly}
 use Rattle.flash_http.specs.Request.{Answer, serve, refuse, Wanted}
 use Rattle.flash_laws.specs.Answers.{response, script_text}
 use Rattle.flash_laws.specs.Client.{Client, uses_agg, is_for_script, conn_wants, job_of, wants, told_text, told_spares, file_told, goes_on, run_told, told}
-use Rattle.flash_laws.specs.ClientKeeping.{has_fd, ClientsLeaveNothing}
-use Rattle.flash_laws.specs.ClientOffers.{is_ending}
+use Rattle.flash_laws.specs.Client.Keeping.{has_fd, ClientsLeaveNothing}
+use Rattle.flash_laws.specs.Client.Offering.{is_ending}
 use Rattle.flash_laws.specs.Conn as conn
 use Rattle.flash_laws.specs.Conn.{Conn, is_head_only}
 use Rattle.flash_laws.specs.declared.doing.Content.TheVariants.{Script}
@@ -25,12 +25,12 @@ use Rattle.flash_laws.specs.declared.doing.Doing.{Doing}
 use Rattle.flash_laws.specs.declared.doing.Doing.TheVariants.{Reads as Reading, Spares}
 use Rattle.flash_laws.specs.declared.running.Running.{Running}
 use Rattle.flash_laws.specs.declared.running.Running.TheVariants.{Awaits, Runs, Leaves, Closes as Ends}
-use Rattle.flash_laws.specs.Fits.{Has}
-use Rattle.flash_laws.specs.Known.{Known, OfFile, OfScript, IsRun, HasKnown}
-use Rattle.flash_laws.specs.RunFits.{Progress}
-use Rattle.flash_laws.specs.RunKeeping.{has_end, RunsKeepNothing}
-use Rattle.flash_laws.specs.Running as running
-use Rattle.flash_laws.specs.Running.{is_over}
+use Rattle.flash_laws.specs.Conn.Fits.{Has}
+use Rattle.flash_laws.specs.Client.Known.{Known, OfFile, OfScript, IsRun, HasKnown}
+use Rattle.flash_laws.specs.Run.Fits.{Progress}
+use Rattle.flash_laws.specs.Run.Keeping.{has_end, RunsKeepNothing}
+use Rattle.flash_laws.specs.Run as running
+use Rattle.flash_laws.specs.Run.{is_over}
 use Rattle.flash_laws.specs.Site.{server}
 use Rattle.flash_laws.proofs.Forms.{at, of as client}
 use Rattle.flash_laws.proofs.Client.Moving.{client-opened, client-piped}

@@ -9,19 +9,19 @@ use Rattle.iol_core.specs.declared.events.Reply.{Reply}
 use Rattle.iol_core.specs.declared.events.Reply.TheVariants as reply
 use Rattle.flash_http.specs.Request.{Answer, serve, refuse}
 use Rattle.flash_laws.specs.Client.{Client, is_for_script, conn_wants, job_of, wants, told_text, file_told, goes_on, told, awaits}
-use Rattle.flash_laws.specs.ClientKeeping.{has_fd}
-use Rattle.flash_laws.specs.ClientOffers.{is_ending}
+use Rattle.flash_laws.specs.Client.Keeping.{has_fd}
+use Rattle.flash_laws.specs.Client.Offering.{is_ending}
 use Rattle.flash_laws.specs.Conn.{most_read}
 use Rattle.flash_laws.specs.declared.doing.Content.TheVariants.{Script}
 use Rattle.flash_laws.specs.declared.doing.Doing.{Doing}
 use Rattle.flash_laws.specs.declared.doing.Doing.TheVariants.{Opens, Reads as Reading, Spares}
 use Rattle.flash_laws.specs.declared.running.Running.{Running}
 use Rattle.flash_laws.specs.declared.running.Running.TheVariants.{Awaits}
-use Rattle.flash_laws.specs.Fits.{is_closing}
-use Rattle.flash_laws.specs.Known.{Known, OfFile, OfScript, HasKnown}
-use Rattle.flash_laws.specs.Offers.{may_repeat}
-use Rattle.flash_laws.specs.Running as running
-use Rattle.flash_laws.specs.Running.{is_over}
+use Rattle.flash_laws.specs.Conn.Fits.{is_closing}
+use Rattle.flash_laws.specs.Client.Known.{Known, OfFile, OfScript, HasKnown}
+use Rattle.flash_laws.specs.Conn.Offering.{may_repeat}
+use Rattle.flash_laws.specs.Run as running
+use Rattle.flash_laws.specs.Run.{is_over}
 use Rattle.flash_laws.specs.Site.{server}
 use Rattle.flash_laws.proofs.Forms.{at, of as client}
 use Rattle.flash_laws.proofs.Conn.Answering.{some-inj}

@@ -18,16 +18,16 @@ use Rattle.iol_laws.specs.RefusalsLeft.{RefusalsThatAreLeft}
 use Rattle.flash_http.specs.Request.{Answer, serve, refuse, Wanted}
 use Rattle.flash_laws.specs.Answers.{response, script_text}
 use Rattle.flash_laws.specs.Client.{Client, is_for_script, conn_wants, job_of, wants, told_spares, conn_told, file_told, keeps_text, text_on, after_run, goes_on, run_told, told}
-use Rattle.flash_laws.specs.ClientOffers.{is_working, HearsMore}
+use Rattle.flash_laws.specs.Client.Offering.{is_working, HearsMore}
 use Rattle.flash_laws.specs.Conn as conn
 use Rattle.flash_laws.specs.Conn.{Conn, most_read, told_shuts}
-use Rattle.flash_laws.specs.Fits.{Has, Names}
-use Rattle.flash_laws.specs.Known.{Known, OfFile, OfScript, is_read, HasNoRun, IsRun, HasKnown}
-use Rattle.flash_laws.specs.Nears.{Rank, IsBelow, Nears, CanMake, is_busy}
-use Rattle.flash_laws.specs.RunFits.{Progress, HasRun}
-use Rattle.flash_laws.specs.RunOffers.{HearsMore as RunHears}
-use Rattle.flash_laws.specs.Running as running
-use Rattle.flash_laws.specs.Running.{is_over}
+use Rattle.flash_laws.specs.Conn.Fits.{Has, Names}
+use Rattle.flash_laws.specs.Client.Known.{Known, OfFile, OfScript, is_read, HasNoRun, IsRun, HasKnown}
+use Rattle.flash_laws.specs.Conn.Nearing.{Rank, IsBelow, Nears, CanMake, is_busy}
+use Rattle.flash_laws.specs.Run.Fits.{Progress, HasRun}
+use Rattle.flash_laws.specs.Run.Offering.{HearsMore as RunHears}
+use Rattle.flash_laws.specs.Run as running
+use Rattle.flash_laws.specs.Run.{is_over}
 use Rattle.flash_laws.specs.Site.{server}
 use Rattle.flash_laws.specs.declared.doing.Learnt.TheVariants.{Text as TextOf}
 use Rattle.flash_laws.specs.declared.doing.Content.TheVariants.{Script}

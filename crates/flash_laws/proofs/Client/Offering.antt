@@ -21,7 +21,7 @@ use Rattle.iol_laws.specs.RefusalsLeft.{RefusalsThatAreLeft}
 use Rattle.flash_http.specs.Request.{Answer, serve, refuse, Wanted}
 use Rattle.flash_laws.specs.Answers.{Outcome, response, script_text}
 use Rattle.flash_laws.specs.Client.{Client, uses_agg, uses_fd, is_for_script, conn_wants, job_of, wants, file_told, keeps_text, text_on, after_run, goes_on, run_told, run_on, told, awaits}
-use Rattle.flash_laws.specs.ClientOffers.{begun, is_ending, Learns, taken_by, HandsJob, IsAsItsConn, IsAsItsRun, ClientsAreOfferedTheResponse}
+use Rattle.flash_laws.specs.Client.Offering.{begun, is_ending, Learns, taken_by, HandsJob, IsAsItsConn, IsAsItsRun, ClientsAreOfferedTheResponse}
 use Rattle.flash_laws.specs.Conn as conn
 use Rattle.flash_laws.specs.Conn.{Conn, most_read}
 use Rattle.flash_laws.specs.declared.doing.Learnt.TheVariants.{File, Length}
@@ -31,14 +31,14 @@ use Rattle.flash_laws.specs.declared.doing.Doing.TheVariants.{Rests, Opens, Read
 use Rattle.flash_laws.specs.declared.running.Step.TheVariants as act
 use Rattle.flash_laws.specs.declared.running.Running.{Running}
 use Rattle.flash_laws.specs.declared.running.Running.TheVariants.{Runs, Leaves}
-use Rattle.flash_laws.specs.Fits.{Has, Names}
-use Rattle.flash_laws.specs.Known as known
-use Rattle.flash_laws.specs.Known.{Known, OfFile, OfScript, MayPutOut, IsNextOf, is_read, is_silent, IsAfter, HasNoRun, IsRun, HasKnown}
-use Rattle.flash_laws.specs.Offers as single
-use Rattle.flash_laws.specs.RunFits.{Progress, HasJobPipe, HasRun}
-use Rattle.flash_laws.specs.RunOffers.{past_of, IsNextOf as IsNextOfRun, taken_by as taken_by_run}
-use Rattle.flash_laws.specs.Running as running
-use Rattle.flash_laws.specs.Running.{in_phase, is_over, job_pipe}
+use Rattle.flash_laws.specs.Conn.Fits.{Has, Names}
+use Rattle.flash_laws.specs.Client.Known as known
+use Rattle.flash_laws.specs.Client.Known.{Known, OfFile, OfScript, MayPutOut, IsNextOf, is_read, is_silent, IsAfter, HasNoRun, IsRun, HasKnown}
+use Rattle.flash_laws.specs.Conn.Offering as single
+use Rattle.flash_laws.specs.Run.Fits.{Progress, HasJobPipe, HasRun}
+use Rattle.flash_laws.specs.Run.Offering.{past_of, IsNextOf as IsNextOfRun, taken_by as taken_by_run}
+use Rattle.flash_laws.specs.Run as running
+use Rattle.flash_laws.specs.Run.{in_phase, is_over, job_pipe}
 use Rattle.flash_laws.specs.Site.{server}
 use Rattle.flash_laws.proofs.Forms.{at, of as client}
 use Rattle.flash_laws.proofs.Client.Alone.{no-text, of-file, of-script}

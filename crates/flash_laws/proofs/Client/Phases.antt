@@ -30,9 +30,9 @@ use Rattle.flash_laws.specs.declared.doing.Content.{Content}
 use Rattle.flash_laws.specs.declared.doing.Content.TheVariants.{Body}
 use Rattle.flash_laws.specs.declared.doing.Doing.{Doing}
 use Rattle.flash_laws.specs.declared.doing.Doing.TheVariants.{Rests, Got, Opens, Reads as Reading, Shuts, Picks, Spares, Heads, Joins, Sends, Cuts, Offers, Swaps, Sent, Breaks, Drops, Closes, Over}
-use Rattle.flash_laws.specs.Fits.{Has, is_closing, Names}
-use Rattle.flash_laws.specs.Known.{is_read, is_opening}
-use Rattle.flash_laws.specs.Offers.{taken_of}
+use Rattle.flash_laws.specs.Conn.Fits.{Has, is_closing, Names}
+use Rattle.flash_laws.specs.Client.Known.{is_read, is_opening}
+use Rattle.flash_laws.specs.Conn.Offering.{taken_of}
 use Rattle.flash_laws.specs.Site.{server}
 use Rattle.flash_laws.proofs.Forms.{at}
 use Rattle.flash_laws.proofs.Conn.Having as having

@@ -6,8 +6,8 @@ use Rattle.iol_core.specs.declared.events.Reply.{Reply}
 use Rattle.iol_core.specs.declared.events.Reply.TheVariants as reply
 use Rattle.flash_http.specs.Request.{Answer, serve, refuse}
 use Rattle.flash_laws.specs.Client.{Client, is_for_script, conn_wants, wants, can_run, kept_if, told_spares, file_told, keeps_text, text_on, goes_on, told, Readies, new_client}
-use Rattle.flash_laws.specs.ClientKeeping.{HoldsNoOther}
-use Rattle.flash_laws.specs.ClientOffers.{kept_by}
+use Rattle.flash_laws.specs.Client.Keeping.{HoldsNoOther}
+use Rattle.flash_laws.specs.Client.Offering.{kept_by}
 use Rattle.flash_laws.specs.Conn as conn
 use Rattle.flash_laws.specs.Conn.{Conn, most_read, is_head_only}
 use Rattle.flash_laws.specs.declared.doing.Learnt.TheVariants.{Text as TextOf}
@@ -15,9 +15,9 @@ use Rattle.flash_laws.specs.declared.doing.Content.TheVariants.{Body, Script}
 use Rattle.flash_laws.specs.declared.doing.Doing.{Doing}
 use Rattle.flash_laws.specs.declared.doing.Doing.TheVariants.{Rests, Reads as Reading, Shuts, Spares}
 use Rattle.flash_laws.specs.declared.running.Running.{Running}
-use Rattle.flash_laws.specs.Known.{is_read}
-use Rattle.flash_laws.specs.Running as running
-use Rattle.flash_laws.specs.Running.{is_over}
+use Rattle.flash_laws.specs.Client.Known.{is_read}
+use Rattle.flash_laws.specs.Run as running
+use Rattle.flash_laws.specs.Run.{is_over}
 use Rattle.flash_laws.proofs.Forms.{at, of as client}
 
 -- ---- a script is read whole

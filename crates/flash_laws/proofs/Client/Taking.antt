@@ -15,15 +15,15 @@ use Rattle.iol_laws.specs.Order.{IsOrderly}
 use Rattle.flash_http.specs.Request.{Answer, serve, refuse, Wanted}
 use Rattle.flash_laws.specs.Answers.{Outcome, Failed, response, script_text}
 use Rattle.flash_laws.specs.Client.{Client, is_for_script, conn_wants, job_of, wants, can_run, told_text, told_spares, file_told, after_run, goes_on, run_told, told}
-use Rattle.flash_laws.specs.ClientOffers.{is_ending, is_working, drops_rest, ConnLearns, Learns, taken_by}
+use Rattle.flash_laws.specs.Client.Offering.{is_ending, is_working, drops_rest, ConnLearns, Learns, taken_by}
 use Rattle.flash_laws.specs.Conn.{Conn, is_head_only, told_spares as told_spares_conn}
-use Rattle.flash_laws.specs.Fits.{Has}
-use Rattle.flash_laws.specs.Known.{Known, OfFile, OfScript, of_text, taken_before, is_opening, IsRun, HasKnown}
-use Rattle.flash_laws.specs.Offers.{taken_of, newly_taken, is_dropping}
-use Rattle.flash_laws.specs.RunFits.{Progress, nothing_yet}
-use Rattle.flash_laws.specs.RunOffers.{past_of, breaks_off, taken_by as run_taken}
-use Rattle.flash_laws.specs.Running as running
-use Rattle.flash_laws.specs.Running.{is_over}
+use Rattle.flash_laws.specs.Conn.Fits.{Has}
+use Rattle.flash_laws.specs.Client.Known.{Known, OfFile, OfScript, of_text, taken_before, is_opening, IsRun, HasKnown}
+use Rattle.flash_laws.specs.Conn.Offering.{taken_of, newly_taken, is_dropping}
+use Rattle.flash_laws.specs.Run.Fits.{Progress, nothing_yet}
+use Rattle.flash_laws.specs.Run.Offering.{past_of, breaks_off, taken_by as run_taken}
+use Rattle.flash_laws.specs.Run as running
+use Rattle.flash_laws.specs.Run.{is_over}
 use Rattle.flash_laws.specs.Site.{server}
 use Rattle.flash_laws.specs.declared.doing.Content.TheVariants.{Script}
 use Rattle.flash_laws.specs.declared.doing.Doing.{Doing}

@@ -31,7 +31,7 @@ use Rattle.flash_laws.specs.declared.doing.Content.{Content}
 use Rattle.flash_laws.specs.declared.doing.Content.TheVariants.{Body}
 use Rattle.flash_laws.specs.declared.doing.Doing.{Doing}
 use Rattle.flash_laws.specs.declared.doing.Doing.TheVariants.{Rests, Shuts, Picks, Spares, Heads, Joins, Sends, Cuts, Offers, Swaps, Sent, Breaks, Drops, Closes}
-use Rattle.flash_laws.specs.Fits.{LendsMore, HoldsRest, HoldsUnsent, HasFile, HasLearnt, HasContent, Has, Names}
+use Rattle.flash_laws.specs.Conn.Fits.{LendsMore, HoldsRest, HoldsUnsent, HasFile, HasLearnt, HasContent, Has, Names}
 use Rattle.flash_laws.specs.Site.{server}
 use Rattle.flash_laws.proofs.Conn.Answering.{some-inj}
 use Rattle.flash_laws.proofs.Counts.{counted, made-short}

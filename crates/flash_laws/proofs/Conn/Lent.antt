@@ -22,7 +22,7 @@ use Rattle.flash_laws.specs.declared.doing.Content.{Content}
 use Rattle.flash_laws.specs.declared.doing.Content.TheVariants.{Body}
 use Rattle.flash_laws.specs.declared.doing.Doing.{Doing}
 use Rattle.flash_laws.specs.declared.doing.Doing.TheVariants.{Rests, Got, Opens, Reads as Reading, Shuts, Picks, Spares, Heads, Joins, Sends, Cuts, Offers, Swaps, Sent, Breaks, Drops, Closes, Over}
-use Rattle.flash_laws.specs.Fits.{IsLent, LendsMore, HoldsRest, HoldsRestFrom, HoldsUnsent, HasLearnt, HasContent, Has}
+use Rattle.flash_laws.specs.Conn.Fits.{IsLent, LendsMore, HoldsRest, HoldsRestFrom, HoldsUnsent, HasLearnt, HasContent, Has}
 use Rattle.flash_laws.specs.Site.{server}
 use Rattle.flash_laws.proofs.Lists.{not-equal, self, first_of, later_of}
 

@@ -15,8 +15,8 @@ use Rattle.flash_http.specs.Range.{selected}
 use Rattle.flash_http.specs.Request.{Answer, serve, refuse}
 use Rattle.flash_laws.specs.Answers.{keeps}
 use Rattle.flash_laws.specs.Conn.{Following, Conn, uses_fd, name_of, text_of, is_head_only, most_kept, most_read, piece_end, count_of, wants, sends_of, settled, told_rests, told_opens, told_reads, told_shuts, told_picks, told_spares, following, headed, told_heads, told_joins, told_sends, told_cuts, told_offers, told_swaps, goes_on, told_sent, told_breaks, drops_next, told_drops, told_got, told}
-use Rattle.flash_laws.specs.Fits.{is_closing}
-use Rattle.flash_laws.specs.Offers.{may_repeat}
+use Rattle.flash_laws.specs.Conn.Fits.{is_closing}
+use Rattle.flash_laws.specs.Conn.Offering.{may_repeat}
 use Rattle.flash_laws.specs.Site.{server}
 use Rattle.flash_laws.specs.declared.doing.Learnt.{Learnt}
 use Rattle.flash_laws.specs.declared.doing.Learnt.TheVariants.{File}

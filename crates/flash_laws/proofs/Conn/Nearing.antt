@@ -29,9 +29,9 @@ use Rattle.flash_http.specs.Range.{selected}
 use Rattle.flash_http.specs.Request.{Answer, serve, refuse}
 use Rattle.flash_laws.specs.Answers.{keeps}
 use Rattle.flash_laws.specs.Conn.{Following, Conn, is_head_only, most_kept, most_read, name_of, text_of, piece_end, count_of, wants, sends_of, settled, following, headed, told_rests, told_opens, told_reads, told_shuts, told_picks, told_spares, told_heads, told_joins, told_sends, told_cuts, moved_on, told_offers, told_swaps, goes_on, told_sent, told_breaks, drops_next, told_drops, told_got, told}
-use Rattle.flash_laws.specs.Fits.{Has, Names}
-use Rattle.flash_laws.specs.Nears.{Rank, IsBelow, Nears, HasPlaceFor, CanMake, is_busy}
-use Rattle.flash_laws.specs.Policy.{is_later}
+use Rattle.flash_laws.specs.Conn.Fits.{Has, Names}
+use Rattle.flash_laws.specs.Conn.Nearing.{Rank, IsBelow, Nears, HasPlaceFor, CanMake, is_busy}
+use Rattle.flash_laws.specs.Conn.Policy.{is_later}
 use Rattle.flash_laws.specs.Site.{server}
 use Rattle.flash_laws.specs.declared.doing.Learnt.{Learnt}
 use Rattle.flash_laws.specs.declared.doing.Learnt.TheVariants.{File, Length}

@@ -27,9 +27,9 @@ use Rattle.flash_laws.specs.Answers.{Outcome, Found, Failed, body_unless, chosen
 use Rattle.flash_laws.specs.Conn.{Conn, is_head_only, most_read, piece_end, name_of, wants, begins, status_of, told_rests, told}
 use Rattle.flash_laws.specs.declared.doing.Doing.{Doing}
 use Rattle.flash_laws.specs.declared.doing.Doing.TheVariants.{Rests, Got, Opens, Reads as Reading, Shuts, Picks, Spares, Heads, Joins, Sends, Cuts, Offers, Swaps, Sent, Breaks, Drops, Closes, Over}
-use Rattle.flash_laws.specs.Fits.{IsFile, Has, is_closing, Names}
+use Rattle.flash_laws.specs.Conn.Fits.{IsFile, Has, is_closing, Names}
 use Rattle.flash_laws.specs.Site.{server}
-use Rattle.flash_laws.specs.Offers.{HasAnswer, FirstCall, Learns, taken_of, IsNextOf, OffersTheResponse}
+use Rattle.flash_laws.specs.Conn.Offering.{HasAnswer, FirstCall, Learns, taken_of, IsNextOf, OffersTheResponse}
 use Rattle.flash_laws.proofs.Forms.{at}
 use Rattle.flash_laws.proofs.Conn.Answering.{some-inj}
 use Rattle.flash_laws.proofs.Counts.{counted, short-take}

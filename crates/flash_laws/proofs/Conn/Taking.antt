@@ -23,9 +23,9 @@ use Rattle.flash_http.specs.Range.{selected}
 use Rattle.flash_http.specs.Request.{Answer, serve, refuse}
 use Rattle.flash_laws.specs.Answers.{keeps}
 use Rattle.flash_laws.specs.Conn.{Following, Conn, is_head_only, most_kept, most_read, piece_end, count_of, wants, sends_of, settled, following, headed, told_rests, told_sends, told_cuts, told_offers, told_swaps, told_sent, told}
-use Rattle.flash_laws.specs.Fits.{Has}
-use Rattle.flash_laws.specs.Nears.{is_busy}
-use Rattle.flash_laws.specs.Offers.{taken_of, newly_taken, is_dropping}
+use Rattle.flash_laws.specs.Conn.Fits.{Has}
+use Rattle.flash_laws.specs.Conn.Nearing.{is_busy}
+use Rattle.flash_laws.specs.Conn.Offering.{taken_of, newly_taken, is_dropping}
 use Rattle.flash_laws.specs.Site.{server}
 use Rattle.flash_laws.specs.declared.doing.Learnt.{Learnt}
 use Rattle.flash_laws.specs.declared.doing.Learnt.TheVariants.{File, Length}

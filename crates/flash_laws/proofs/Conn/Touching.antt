@@ -16,7 +16,7 @@ use Rattle.flash_http.specs.Request.{Answer}
 use Rattle.flash_laws.specs.Conn.{Conn, uses_fd, is_head_only, most_read, wants}
 use Rattle.flash_laws.specs.declared.doing.Doing.{Doing}
 use Rattle.flash_laws.specs.declared.doing.Doing.TheVariants.{Rests, Reads as Reading, Shuts, Sends, Offers, Closes, Over}
-use Rattle.flash_laws.specs.Fits.{Has}
+use Rattle.flash_laws.specs.Conn.Fits.{Has}
 use Rattle.flash_laws.specs.Site.{server}
 use Rattle.flash_laws.proofs.Forms.{at}
 use Rattle.flash_laws.proofs.Conn.Uses.{same-number}

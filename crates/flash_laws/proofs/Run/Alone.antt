@@ -17,10 +17,10 @@ use Rattle.iol_laws.specs.Frame.{is_conn, is_end, touches_fd, touches_conn, touc
 use Rattle.flash_http.specs.Request.{serve, Wanted}
 use Rattle.flash_laws.specs.Conn as conn
 use Rattle.flash_laws.specs.Conn.{has_followed, piece_end}
-use Rattle.flash_laws.specs.RunFits.{Progress, IsSending, HasRun}
-use Rattle.flash_laws.specs.RunKeeping.{has_end, may_make, MayTouch, KeepsToItself}
-use Rattle.flash_laws.specs.Running.{worker_domain, job_pipe, has_frame, uses_agg, held_size, in_phase, step_wants, wants, told, is_left, is_over}
-use Rattle.flash_laws.specs.Scripts.{script_text, frame_of, place_in_frame, end_around}
+use Rattle.flash_laws.specs.Run.Fits.{Progress, IsSending, HasRun}
+use Rattle.flash_laws.specs.Run.Keeping.{has_end, may_make, MayTouch, KeepsToItself}
+use Rattle.flash_laws.specs.Run.{worker_domain, job_pipe, has_frame, uses_agg, held_size, in_phase, step_wants, wants, told, is_left, is_over}
+use Rattle.flash_laws.specs.Answers.Scripts.{script_text, frame_of, place_in_frame, end_around}
 use Rattle.flash_laws.specs.Site.{server}
 use Rattle.flash_laws.specs.declared.doing.Content.TheVariants.{Error}
 use Rattle.flash_laws.specs.declared.doing.Doing.{Doing}

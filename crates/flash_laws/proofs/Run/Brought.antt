@@ -18,11 +18,11 @@ use Rattle.iol_laws.specs.Order.{IsOrderly}
 use Rattle.flash_http.specs.Request.{serve, Wanted}
 use Rattle.flash_laws.specs.Conn as conn
 use Rattle.flash_laws.specs.Conn.{Following, has_followed, count_of, piece_end}
-use Rattle.flash_laws.specs.Fits.{Has}
-use Rattle.flash_laws.specs.RunFits.{Progress, HasHeard, HasPart, HasLeft, HasRun}
-use Rattle.flash_laws.specs.RunKeeping.{RunsKeepNothing}
-use Rattle.flash_laws.specs.Running.{both, worker_domain, has_frame, uses_agg, held_size, in_phase, step_wants, wants, ending, told_sending, told_hears, told_step, told, is_left, is_over}
-use Rattle.flash_laws.specs.Scripts.{script_text, frame_of, place_in_frame, end_around}
+use Rattle.flash_laws.specs.Conn.Fits.{Has}
+use Rattle.flash_laws.specs.Run.Fits.{Progress, HasHeard, HasPart, HasLeft, HasRun}
+use Rattle.flash_laws.specs.Run.Keeping.{RunsKeepNothing}
+use Rattle.flash_laws.specs.Run.{both, worker_domain, has_frame, uses_agg, held_size, in_phase, step_wants, wants, ending, told_sending, told_hears, told_step, told, is_left, is_over}
+use Rattle.flash_laws.specs.Answers.Scripts.{script_text, frame_of, place_in_frame, end_around}
 use Rattle.flash_laws.specs.Site.{server}
 use Rattle.flash_laws.specs.declared.doing.Doing.{Doing}
 use Rattle.flash_laws.specs.declared.doing.Doing.TheVariants as doing

@@ -8,9 +8,9 @@ use Rattle.flash_http.specs.Request.{Wanted}
 use Rattle.flash_laws.specs.Client.{job_of, keeps_text, after_run}
 use Rattle.flash_laws.specs.Conn.{Following, count_of}
 use Rattle.iol_core.specs.State.{State}
-use Rattle.flash_laws.specs.Known.{IsTaken, IsAfter}
-use Rattle.flash_laws.specs.RunFits.{Progress, Ran, Broken, NotRun, IsLeft, HasNone, HasLeft, HasRun}
-use Rattle.flash_laws.specs.Running.{is_again, is_left, is_over, wants, told, told_step, holding, hearing, filled, finishing, both}
+use Rattle.flash_laws.specs.Client.Known.{IsTaken, IsAfter}
+use Rattle.flash_laws.specs.Run.Fits.{Progress, Ran, Broken, NotRun, IsLeft, HasNone, HasLeft, HasRun}
+use Rattle.flash_laws.specs.Run.{is_again, is_left, is_over, wants, told, told_step, holding, hearing, filled, finishing, both}
 use Rattle.flash_laws.specs.declared.doing.Doing.{Doing}
 use Rattle.flash_laws.specs.declared.doing.Doing.TheVariants as doing
 use Rattle.flash_laws.specs.declared.running.TheConstants.{CHUNK_BYTES}

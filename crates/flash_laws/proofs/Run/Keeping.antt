@@ -19,9 +19,9 @@ use Rattle.iol_laws.specs.Order.{IsOrderly}
 use Rattle.flash_http.specs.Request.{serve, Wanted}
 use Rattle.flash_laws.specs.Conn as conn
 use Rattle.flash_laws.specs.Conn.{Following, has_followed, count_of}
-use Rattle.flash_laws.specs.RunFits.{Progress, Goes, Ends, IsHeld, HasHeard, HasAll, HasPart, HasStep, HasRun}
-use Rattle.flash_laws.specs.RunKeeping.{has_end}
-use Rattle.flash_laws.specs.Running.{both, worker_domain, has_frame, step_agg, ends_of, uses_agg, step_wants, wants, is_again, told_gives, told_sending, told_hears, filled, holding, hearing, unread, finishing, told_step, told}
+use Rattle.flash_laws.specs.Run.Fits.{Progress, Goes, Ends, IsHeld, HasHeard, HasAll, HasPart, HasStep, HasRun}
+use Rattle.flash_laws.specs.Run.Keeping.{has_end}
+use Rattle.flash_laws.specs.Run.{both, worker_domain, has_frame, step_agg, ends_of, uses_agg, step_wants, wants, is_again, told_gives, told_sending, told_hears, filled, holding, hearing, unread, finishing, told_step, told}
 use Rattle.flash_laws.specs.Site.{server}
 use Rattle.flash_laws.specs.declared.doing.Doing.{Doing}
 use Rattle.flash_laws.specs.declared.doing.Doing.TheVariants as doing

@@ -21,11 +21,11 @@ use Rattle.flash_http.specs.Request.{serve, Wanted}
 use Rattle.flash_laws.specs.Answers.{error_text}
 use Rattle.flash_laws.specs.Conn as conn
 use Rattle.flash_laws.specs.Conn.{piece_end}
-use Rattle.flash_laws.specs.Fits.{Has, Names}
-use Rattle.flash_laws.specs.RunFits.{Progress, Ran, Broken, NotRun, IsLeft, HasNone, sent_agg, IsPart, IsSending, HasRest, HasLeft}
-use Rattle.flash_laws.specs.Offers.{taken_of, newly_taken, is_dropping}
-use Rattle.flash_laws.specs.RunOffers.{takes_on, PartLearns}
-use Rattle.flash_laws.specs.Running.{in_phase, is_left}
+use Rattle.flash_laws.specs.Conn.Fits.{Has, Names}
+use Rattle.flash_laws.specs.Run.Fits.{Progress, Ran, Broken, NotRun, IsLeft, HasNone, sent_agg, IsPart, IsSending, HasRest, HasLeft}
+use Rattle.flash_laws.specs.Conn.Offering.{taken_of, newly_taken, is_dropping}
+use Rattle.flash_laws.specs.Run.Offering.{takes_on, PartLearns}
+use Rattle.flash_laws.specs.Run.{in_phase, is_left}
 use Rattle.flash_laws.specs.Site.{server}
 use Rattle.flash_laws.specs.declared.doing.Content.TheVariants.{Error}
 use Rattle.flash_laws.specs.declared.doing.Doing.{Doing}

@@ -21,13 +21,13 @@ use Rattle.flash_http.specs.Chunk.{chunk_head, chunk_end, last_chunk}
 use Rattle.flash_http.specs.Request.{serve, Wanted}
 use Rattle.flash_laws.specs.Conn as conn
 use Rattle.flash_laws.specs.Conn.{Following, count_of}
-use Rattle.flash_laws.specs.Fits.{Names}
-use Rattle.flash_laws.specs.Nears.{Rank, IsBelow, Nears, CanMake, is_busy}
-use Rattle.flash_laws.specs.Policy.{is_later}
-use Rattle.flash_laws.specs.RunFits.{Progress, HasPart, HasRun}
-use Rattle.flash_laws.specs.RunOffers.{HearsMore}
-use Rattle.flash_laws.specs.Running.{both, worker_domain, job_pipe, held_size, in_phase, step_wants, wants, is_again, broken, told_awaits, told_gives, told_makes, told_hands, told_heads, told_sending, told_gathers, told_frames, told_wraps, told_wraps_last, told_returns, told_hears, told_stops, told_unframes, told_lasts, told_unwraps, told_fails, filled, holding, unread, finishing, stopped, ending, told_step, told, is_left, is_over}
-use Rattle.flash_laws.specs.Scripts.{script_text, frame_of, place_in_frame, end_around}
+use Rattle.flash_laws.specs.Conn.Fits.{Names}
+use Rattle.flash_laws.specs.Conn.Nearing.{Rank, IsBelow, Nears, CanMake, is_busy}
+use Rattle.flash_laws.specs.Conn.Policy.{is_later}
+use Rattle.flash_laws.specs.Run.Fits.{Progress, HasPart, HasRun}
+use Rattle.flash_laws.specs.Run.Offering.{HearsMore}
+use Rattle.flash_laws.specs.Run.{both, worker_domain, job_pipe, held_size, in_phase, step_wants, wants, is_again, broken, told_awaits, told_gives, told_makes, told_hands, told_heads, told_sending, told_gathers, told_frames, told_wraps, told_wraps_last, told_returns, told_hears, told_stops, told_unframes, told_lasts, told_unwraps, told_fails, filled, holding, unread, finishing, stopped, ending, told_step, told, is_left, is_over}
+use Rattle.flash_laws.specs.Answers.Scripts.{script_text, frame_of, place_in_frame, end_around}
 use Rattle.flash_laws.specs.Site.{server}
 use Rattle.flash_laws.specs.declared.doing.Content.TheVariants.{Error}
 use Rattle.flash_laws.specs.declared.doing.Doing.{Doing}

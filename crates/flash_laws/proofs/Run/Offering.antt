@@ -20,12 +20,12 @@ use Rattle.iol_laws.specs.RefusalsLeft.{RefusalsThatAreLeft}
 use Rattle.flash_http.specs.Request.{serve, Wanted}
 use Rattle.flash_laws.specs.Conn as conn
 use Rattle.flash_laws.specs.Conn.{Following, piece_end}
-use Rattle.flash_laws.specs.Fits.{Has, Names}
-use Rattle.flash_laws.specs.Offers.{taken_of}
-use Rattle.flash_laws.specs.RunFits.{Progress, Ran, Broken, NotRun, Follows, MayAnswer, Continues, IsLeft, HasJobPipe, HasPart, HasRest, HasLeft, HasRun}
-use Rattle.flash_laws.specs.RunOffers.{takes_on, Learns, taken_by, past_of, IsNextOf, HasWorker, RunsOfferTheResponse}
-use Rattle.flash_laws.specs.Running.{worker_domain, job_pipe, held_size, in_phase, wants, broken, told_lets, told_sending, told_spills, told_trims, told_ended, told_unholds, told_trims_last, told_lapses, told_hears, told_stops, told_unframes, told_lasts, told_unwraps, told_fails, finishing, told, is_left, is_over}
-use Rattle.flash_laws.specs.Scripts.{script_body, script_response}
+use Rattle.flash_laws.specs.Conn.Fits.{Has, Names}
+use Rattle.flash_laws.specs.Conn.Offering.{taken_of}
+use Rattle.flash_laws.specs.Run.Fits.{Progress, Ran, Broken, NotRun, Follows, MayAnswer, Continues, IsLeft, HasJobPipe, HasPart, HasRest, HasLeft, HasRun}
+use Rattle.flash_laws.specs.Run.Offering.{takes_on, Learns, taken_by, past_of, IsNextOf, HasWorker, RunsOfferTheResponse}
+use Rattle.flash_laws.specs.Run.{worker_domain, job_pipe, held_size, in_phase, wants, broken, told_lets, told_sending, told_spills, told_trims, told_ended, told_unholds, told_trims_last, told_lapses, told_hears, told_stops, told_unframes, told_lasts, told_unwraps, told_fails, finishing, told, is_left, is_over}
+use Rattle.flash_laws.specs.Answers.Scripts.{script_body, script_response}
 use Rattle.flash_laws.specs.Site.{server}
 use Rattle.flash_laws.specs.declared.doing.Doing.{Doing}
 use Rattle.flash_laws.specs.declared.doing.Doing.TheVariants as doing

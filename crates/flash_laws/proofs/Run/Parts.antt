@@ -22,10 +22,10 @@ use Rattle.iol_laws.specs.Caller.{CallsServeTheirDomain, lent_at}
 use Rattle.flash_http.specs.Request.{Wanted}
 use Rattle.flash_laws.specs.Conn as conn
 use Rattle.flash_laws.specs.Conn.{piece_end}
-use Rattle.flash_laws.specs.RunFits.{Progress, Ran, Broken, NotRun, HoldsBack, Continues, Goes, HasFrame, HasHeard, sends_frame, HasPart}
-use Rattle.flash_laws.specs.RunOffers.{takes_on}
-use Rattle.flash_laws.specs.Running.{has_frame}
-use Rattle.flash_laws.specs.Scripts.{frame_of}
+use Rattle.flash_laws.specs.Run.Fits.{Progress, Ran, Broken, NotRun, HoldsBack, Continues, Goes, HasFrame, HasHeard, sends_frame, HasPart}
+use Rattle.flash_laws.specs.Run.Offering.{takes_on}
+use Rattle.flash_laws.specs.Run.{has_frame}
+use Rattle.flash_laws.specs.Answers.Scripts.{frame_of}
 use Rattle.flash_laws.specs.Site.{server}
 use Rattle.flash_laws.specs.declared.doing.Doing.{Doing}
 use Rattle.flash_laws.specs.declared.doing.Doing.TheVariants as doing

@@ -5,7 +5,7 @@ use Rattle.std.proofs.Math.Seq.{take-append_seam, drop-append_seam}
 use Rattle.std.specs.List.{flat_map}
 use Rattle.flash_http.specs.Chunk.{chunk_head, chunk_end, chunk, last_chunk}
 use Rattle.flash_laws.specs.declared.running.TheConstants.{CHUNK_BYTES}
-use Rattle.flash_laws.specs.Scripts.{pieces_by, pieces, script_body}
+use Rattle.flash_laws.specs.Answers.Scripts.{pieces_by, pieces, script_body}
 
 fewer : (n : ℕ) (x : ℕ) (xs : List ℕ) → length (x ∷ xs) ≤ suc n → length (drop CHUNK_BYTES (x ∷ xs)) ≤ n
 fewer n x xs le = let e = length-drop CHUNK_BYTES (x ∷ xs) in omega (arith, e, le)

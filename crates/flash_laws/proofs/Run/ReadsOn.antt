@@ -6,8 +6,8 @@ use Rattle.iol_core.specs.declared.events.Reply.{Reply}
 use Rattle.iol_core.specs.declared.events.Reply.TheVariants as reply
 use Rattle.flash_http.specs.Request.{Wanted}
 use Rattle.flash_laws.specs.Conn.{Following, count_of}
-use Rattle.flash_laws.specs.RunOffers.{is_stopping, StopsBy}
-use Rattle.flash_laws.specs.Running.{both, is_again, told_gives, told_makes, told_hands, told_lets, told_heads, told_sending, told_spills, told_gathers, told_frames, told_wraps, told_trims, told_returns, told_lapses, told_hears, told_fails, filled, holding, hearing, told}
+use Rattle.flash_laws.specs.Run.Offering.{is_stopping, StopsBy}
+use Rattle.flash_laws.specs.Run.{both, is_again, told_gives, told_makes, told_hands, told_lets, told_heads, told_sending, told_spills, told_gathers, told_frames, told_wraps, told_trims, told_returns, told_lapses, told_hears, told_fails, filled, holding, hearing, told}
 use Rattle.flash_laws.specs.declared.doing.Doing.{Doing}
 use Rattle.flash_laws.specs.declared.doing.Doing.TheVariants as doing
 use Rattle.flash_laws.specs.declared.running.TheConstants.{CHUNK_BYTES}

@@ -2,7 +2,7 @@
 use Rattle.std.proofs.Common.{◌≡◌, ℕ, true, false, List, [], ◌++◌, refl}
 use Rattle.std.specs.Prelude.{codes, replicate}
 use Rattle.std.specs.Fmt.{digits}
-use Rattle.flash_laws.specs.Scripts.{script_body}
+use Rattle.flash_laws.specs.Answers.Scripts.{script_body}
 
 -- so many bytes
 abbrev some : ℕ → List ℕ

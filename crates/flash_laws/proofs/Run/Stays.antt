@@ -13,10 +13,10 @@ use Rattle.iol_laws.specs.Frame.{EachStepLeavesTheRest, touches_fd}
 use Rattle.flash_http.specs.Request.{serve, Wanted}
 use Rattle.flash_laws.specs.Conn as conn
 use Rattle.flash_laws.specs.Conn.{Following, has_followed}
-use Rattle.flash_laws.specs.Fits.{IsLent}
-use Rattle.flash_laws.specs.RunFits.{Progress, HasJobPipe, IsReading, HoldsOutput, IsHeld, HasFrame, HasOutput, HasHeard, HasAll, HasPipe, sent_agg, IsPart, HasPart, HasEnd, HasStep, IsSending, HasRest, HasLeft, HasRun}
-use Rattle.flash_laws.specs.Running.{job_pipe, has_frame, step_agg, is_reading, step_fd, uses_agg, uses_fd}
-use Rattle.flash_laws.specs.Scripts.{frame_of, end_around}
+use Rattle.flash_laws.specs.Conn.Fits.{IsLent}
+use Rattle.flash_laws.specs.Run.Fits.{Progress, HasJobPipe, IsReading, HoldsOutput, IsHeld, HasFrame, HasOutput, HasHeard, HasAll, HasPipe, sent_agg, IsPart, HasPart, HasEnd, HasStep, IsSending, HasRest, HasLeft, HasRun}
+use Rattle.flash_laws.specs.Run.{job_pipe, has_frame, step_agg, is_reading, step_fd, uses_agg, uses_fd}
+use Rattle.flash_laws.specs.Answers.Scripts.{frame_of, end_around}
 use Rattle.flash_laws.specs.Site.{server}
 use Rattle.flash_laws.specs.declared.doing.Content.TheVariants.{Error}
 use Rattle.flash_laws.specs.declared.doing.Doing.{Doing}

@@ -22,11 +22,11 @@ use Rattle.iol_laws.specs.Caller.{CallsServeTheirDomain, lent_at}
 use Rattle.flash_http.specs.Chunk.{chunk_head, chunk_end, chunk}
 use Rattle.flash_http.specs.Request.{Wanted}
 use Rattle.flash_laws.specs.Conn.{Following, has_followed, count_of}
-use Rattle.flash_laws.specs.Fits.{HoldsRest, Names}
-use Rattle.flash_laws.specs.RunFits.{Progress, Broken, nothing_yet, HoldsBack, Continues, Goes, HasJobPipe, IsReading, IsHeld, HasFrame, meets, HasOutput, HasHeard, sends_frame, HasChunk, HasStep, HasRun}
-use Rattle.flash_laws.specs.RunOffers.{hears_on, Learns}
-use Rattle.flash_laws.specs.Running.{both, worker_domain, job_pipe, has_frame, step_agg, uses_fd, held_size, is_again, broken, told_awaits, told_gives, told_makes, told_hands, told_heads, filled, holding, hearing, unread, told_hears, told_gathers, told_frames, told_wraps}
-use Rattle.flash_laws.specs.Scripts.{script_text, frame_of, place_in_frame}
+use Rattle.flash_laws.specs.Conn.Fits.{HoldsRest, Names}
+use Rattle.flash_laws.specs.Run.Fits.{Progress, Broken, nothing_yet, HoldsBack, Continues, Goes, HasJobPipe, IsReading, IsHeld, HasFrame, meets, HasOutput, HasHeard, sends_frame, HasChunk, HasStep, HasRun}
+use Rattle.flash_laws.specs.Run.Offering.{hears_on, Learns}
+use Rattle.flash_laws.specs.Run.{both, worker_domain, job_pipe, has_frame, step_agg, uses_fd, held_size, is_again, broken, told_awaits, told_gives, told_makes, told_hands, told_heads, filled, holding, hearing, unread, told_hears, told_gathers, told_frames, told_wraps}
+use Rattle.flash_laws.specs.Answers.Scripts.{script_text, frame_of, place_in_frame}
 use Rattle.flash_laws.specs.Site.{server}
 use Rattle.flash_laws.specs.declared.doing.Doing.TheVariants as doing
 use Rattle.flash_laws.specs.declared.running.TheConstants.{CHUNK_BYTES}

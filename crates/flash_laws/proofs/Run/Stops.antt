@@ -21,11 +21,11 @@ use Rattle.flash_http.specs.Chunk.{chunk_head, chunk_end, chunk, last_chunk}
 use Rattle.flash_http.specs.Request.{Wanted}
 use Rattle.flash_laws.specs.Answers.{error_text}
 use Rattle.flash_laws.specs.Conn.{Following, has_followed, count_of}
-use Rattle.flash_laws.specs.Fits.{Names}
-use Rattle.flash_laws.specs.RunFits.{Progress, Ran, Broken, NotRun, IsLeft, Ends, HasJobPipe, IsReading, IsHeld, meets, HasAll, HasStep, HasNone, HasRun}
-use Rattle.flash_laws.specs.RunOffers.{Learns}
-use Rattle.flash_laws.specs.Running.{job_pipe, step_agg, uses_fd, broken, told_wraps, finishing, stopped, told_stops, told_unframes, ending, told_lasts, told_wraps_last, told_unwraps, told_returns, told_fails}
-use Rattle.flash_laws.specs.Scripts.{script_body, place_in_frame, end_around}
+use Rattle.flash_laws.specs.Conn.Fits.{Names}
+use Rattle.flash_laws.specs.Run.Fits.{Progress, Ran, Broken, NotRun, IsLeft, Ends, HasJobPipe, IsReading, IsHeld, meets, HasAll, HasStep, HasNone, HasRun}
+use Rattle.flash_laws.specs.Run.Offering.{Learns}
+use Rattle.flash_laws.specs.Run.{job_pipe, step_agg, uses_fd, broken, told_wraps, finishing, stopped, told_stops, told_unframes, ending, told_lasts, told_wraps_last, told_unwraps, told_returns, told_fails}
+use Rattle.flash_laws.specs.Answers.Scripts.{script_body, place_in_frame, end_around}
 use Rattle.flash_laws.specs.Site.{server}
 use Rattle.flash_laws.specs.declared.doing.Doing.TheVariants as doing
 use Rattle.flash_laws.specs.declared.running.TheConstants.{CHUNK_BYTES}

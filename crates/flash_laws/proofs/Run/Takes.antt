@@ -22,10 +22,10 @@ use Rattle.iol_laws.specs.RefusalsLeft.{RefusalsThatAreLeft, CannotPut}
 use Rattle.flash_http.specs.Request.{serve, Wanted}
 use Rattle.flash_laws.specs.Conn as conn
 use Rattle.flash_laws.specs.Conn.{Following}
-use Rattle.flash_laws.specs.RunFits.{Progress, Ran, Broken, NotRun, IsLeft, Continues, HasPart, HasRest, HasStep, HasRun}
-use Rattle.flash_laws.specs.Offers.{taken_of, newly_taken, is_dropping}
-use Rattle.flash_laws.specs.RunOffers.{hears_on, takes_on, PartLearns, StepLearns, Learns, taken_by, past_of, breaks_off, IsCutOff, is_failing, IsLost, ComesAfter}
-use Rattle.flash_laws.specs.Running.{worker_domain, job_pipe, held_size, in_phase, step_wants, wants, is_again, told_gives, told_hands, told_sending, told_step, told, is_left, is_over}
+use Rattle.flash_laws.specs.Run.Fits.{Progress, Ran, Broken, NotRun, IsLeft, Continues, HasPart, HasRest, HasStep, HasRun}
+use Rattle.flash_laws.specs.Conn.Offering.{taken_of, newly_taken, is_dropping}
+use Rattle.flash_laws.specs.Run.Offering.{hears_on, takes_on, PartLearns, StepLearns, Learns, taken_by, past_of, breaks_off, IsCutOff, is_failing, IsLost, ComesAfter}
+use Rattle.flash_laws.specs.Run.{worker_domain, job_pipe, held_size, in_phase, step_wants, wants, is_again, told_gives, told_hands, told_sending, told_step, told, is_left, is_over}
 use Rattle.flash_laws.specs.Site.{server}
 use Rattle.flash_laws.specs.declared.doing.Content.TheVariants.{Error}
 use Rattle.flash_laws.specs.declared.doing.Doing.{Doing}

@@ -18,11 +18,11 @@ use Rattle.flash_http.specs.Request.{Answer, serve, refuse, Wanted}
 use Rattle.flash_laws.specs.Client.{Client, is_for_script, conn_wants, wants, Readies, IsAwaiting, kept_text, told_spares, file_told, keeps_text, text_on, goes_on, run_told, told, left_over}
 use Rattle.flash_laws.specs.Conn as conn
 use Rattle.flash_laws.specs.Conn.{Conn, is_head_only, text_of, begins, Starts}
-use Rattle.flash_laws.specs.Idle.{WouldWait, Blocks, BlocksAt}
-use Rattle.flash_laws.specs.Places.{first_free, has_free, runs_scripts, told_at}
-use Rattle.flash_laws.specs.Running as running
-use Rattle.flash_laws.specs.Running.{is_over, told_sending}
-use Rattle.flash_laws.specs.Tied.{with_at, left_by}
+use Rattle.flash_laws.specs.World.Idle.{WouldWait, Blocks, BlocksAt}
+use Rattle.flash_laws.specs.Site.Places.{first_free, has_free, runs_scripts, told_at}
+use Rattle.flash_laws.specs.Run as running
+use Rattle.flash_laws.specs.Run.{is_over, told_sending}
+use Rattle.flash_laws.specs.Site.Tied.{with_at, left_by}
 use Rattle.flash_laws.specs.declared.doing.Content.TheVariants.{Error, Script}
 use Rattle.flash_laws.specs.declared.doing.Doing.{Doing}
 use Rattle.flash_laws.specs.declared.doing.Doing.TheVariants.{Rests, Reads as Reading, Spares, Sent, Drops, Over}

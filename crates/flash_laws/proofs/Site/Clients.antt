@@ -10,9 +10,9 @@ use Rattle.flash_http.specs.Request.{Answer, serve, refuse}
 use Rattle.flash_laws.specs.Client.{Client, new_client, is_for_script, file_told, told, Readies, left_over}
 use Rattle.flash_laws.specs.Conn as conn
 use Rattle.flash_laws.specs.Conn.{Conn}
-use Rattle.flash_laws.specs.Places.{NoneRuns, first_free, runs_scripts, told_at, accepted, filed}
+use Rattle.flash_laws.specs.Site.Places.{NoneRuns, first_free, runs_scripts, told_at, accepted, filed}
 use Rattle.flash_laws.specs.Serves.{Picks}
-use Rattle.flash_laws.specs.Tied.{with_at}
+use Rattle.flash_laws.specs.Site.Tied.{with_at}
 use Rattle.flash_laws.specs.declared.doing.Flight.{Flight}
 use Rattle.flash_laws.specs.declared.doing.Flight.TheVariants.{Nothing, Accepting, At}
 use Rattle.flash_laws.specs.declared.running.Running.{Running}

@@ -11,10 +11,10 @@ use Rattle.flash_cgi.specs.declared.line.Line.{Line}
 use Rattle.flash_cgi.specs.declared.line.Line.TheVariants as line
 use Rattle.flash_laws.specs.Answers.{Outcome, Found, Failed, Shelf, due_to}
 use Rattle.flash_laws.specs.Client.{is_for_script}
-use Rattle.flash_laws.specs.Due.{DueMayCome, Seen, due, due_if, due_of_run, due_of_script, due_of_text, outcomes_by}
-use Rattle.flash_laws.specs.Known.{Known, OfFile, OfScript, of_text, MayAnswer, MayPutOut}
-use Rattle.flash_laws.specs.RunFits.{Ran, Follows, nothing_yet}
-use Rattle.flash_laws.specs.Scripts.{script_response}
+use Rattle.flash_laws.specs.Shelf.Due.{DueMayCome, Seen, due, due_if, due_of_run, due_of_script, due_of_text, outcomes_by}
+use Rattle.flash_laws.specs.Client.Known.{Known, OfFile, OfScript, of_text, MayAnswer, MayPutOut}
+use Rattle.flash_laws.specs.Run.Fits.{Ran, Follows, nothing_yet}
+use Rattle.flash_laws.specs.Answers.Scripts.{script_response}
 
 file : (scripts : Bool) (shelf : Shelf) (seen : Seen) (q : Answer) → is_for_script scripts q ≡ false → due scripts shelf seen q ≡ due_to shelf q
 file scripts shelf seen q is = ap (λ b. due_if b shelf seen q) is

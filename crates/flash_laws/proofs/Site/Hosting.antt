@@ -5,7 +5,7 @@ use Rattle.iol_core.specs.declared.events.Reply.{Reply}
 use Rattle.iol_proc.specs.Idle.{rounds}
 use Rattle.iol_proc.specs.Turns.{Account}
 use Rattle.iol_proc.specs.World.{Stage, copying, WorldRun}
-use Rattle.flash_laws.specs.Calm.{AreMild}
+use Rattle.flash_laws.specs.World.Calm.{AreMild}
 
 pub rounds-mild : {P : Type 0} (turns : Account P) (ds : List ℕ) (i n : ℕ) (rs : List Reply) (w after : Stage State P)
     → (run : WorldRun copying turns w (rounds ds i n) rs after) → AreMild turns w (rounds ds i n) rs after run

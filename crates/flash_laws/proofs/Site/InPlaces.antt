@@ -4,7 +4,7 @@ use Rattle.std.specs.Prelude.{option_map}
 use Rattle.std.proofs.lemmas.Bool.Decides.{nat_tests}
 use Rattle.std.proofs.lemmas.Grind.{common_steps}
 use Rattle.iol_core.specs.Numbered.{in_place}
-use Rattle.flash_laws.specs.Tied.{with_at, left_by}
+use Rattle.flash_laws.specs.Site.Tied.{with_at, left_by}
 use Rattle.flash_laws.specs.declared.doing.Doing.{Doing}
 use Rattle.flash_laws.specs.declared.doing.Doing.TheVariants.{Over}
 use Rattle.flash_laws.proofs.Conn.Answering.{some-inj}

@@ -11,12 +11,12 @@ use Rattle.iol_core.specs.declared.events.Event.{Event}
 use Rattle.iol_core.specs.declared.events.Event.TheVariants as event
 use Rattle.iol_core.specs.declared.events.Reply.{Reply}
 use Rattle.iol_core.specs.declared.events.Reply.TheVariants as reply
-use Rattle.flash_laws.specs.Past.{Past, made_by, gone_by, given_by, and_then}
+use Rattle.flash_laws.specs.Site.Past.{Past, made_by, gone_by, given_by, and_then}
 use Rattle.iol_proc.specs.Histories.{stream_over, sent_over}
 use Rattle.iol_proc.proofs.Streams.{stream_over-more, sent_over-more}
 use Rattle.iol_proc.specs.declared.choice.Choice.{Choice}
 use Rattle.iol_proc.specs.declared.choice.Choice.TheVariants as choice
-use Rattle.flash_laws.specs.Tie.{tells_with, tells_over, made_over, gone_over, given_over, past_of}
+use Rattle.flash_laws.specs.World.Tie.{tells_with, tells_over, made_over, gone_over, given_over, past_of}
 
 -- ---- events
 

@@ -5,10 +5,10 @@ use Rattle.iol_core.specs.Numbered.{in_place, taken}
 use Rattle.iol_core.specs.declared.events.Reply.{Reply}
 use Rattle.iol_core.specs.declared.events.Reply.TheVariants as reply
 use Rattle.flash_laws.specs.Client.{Client, is_bare, awaits}
-use Rattle.flash_laws.specs.GoesRound.{IsAfter, IsBefore, TurnsGoRound}
-use Rattle.flash_laws.specs.Places.{has_free, may_go}
-use Rattle.flash_laws.specs.Policy.{most_conns, is_later, door, flight_to}
-use Rattle.flash_laws.specs.Rounds.{leaves_off, place_after, goes_in, next_place, flight_from, in_rounds}
+use Rattle.flash_laws.specs.Serves.GoesRound.{IsAfter, IsBefore, TurnsGoRound}
+use Rattle.flash_laws.specs.Site.Places.{has_free, may_go}
+use Rattle.flash_laws.specs.Conn.Policy.{most_conns, is_later, door, flight_to}
+use Rattle.flash_laws.specs.Serves.Rounds.{leaves_off, place_after, goes_in, next_place, flight_from, in_rounds}
 use Rattle.flash_laws.specs.declared.doing.Flight.{Flight}
 use Rattle.flash_laws.specs.declared.doing.Flight.TheVariants.{Nothing, Accepting, At}
 use Rattle.flash_laws.proofs.Conn.Answering.{some-inj}

@@ -21,13 +21,13 @@ use Rattle.iol_proc.specs.declared.process.Turn.{Turn}
 use Rattle.iol_proc.specs.declared.process.Turn.TheVariants as turn
 use Rattle.flash_laws.specs.Client.{Client, wants, IsAwaiting}
 use Rattle.flash_laws.specs.Conn.{Conn}
-use Rattle.flash_laws.specs.Idle.{WouldWait, BlocksAt, AllBlock, BlockUpTo, HasYielded, IsPolling, server_settled, actor_settled}
-use Rattle.flash_laws.specs.Places.{has_free, may_go, runs_scripts, filed}
-use Rattle.flash_laws.specs.Policy.{most_conns, flight_to}
-use Rattle.flash_laws.specs.Rounds.{leaves_off, goes_in, next_place, flight_from, next_flight, in_rounds}
+use Rattle.flash_laws.specs.World.Idle.{WouldWait, BlocksAt, AllBlock, BlockUpTo, HasYielded, IsPolling, server_settled, actor_settled}
+use Rattle.flash_laws.specs.Site.Places.{has_free, may_go, runs_scripts, filed}
+use Rattle.flash_laws.specs.Conn.Policy.{most_conns, flight_to}
+use Rattle.flash_laws.specs.Serves.Rounds.{leaves_off, goes_in, next_place, flight_from, next_flight, in_rounds}
 use Rattle.flash_laws.specs.Serves.{Server, heard_of, PicksAt, Picks, filed_in, server_turns}
-use Rattle.flash_laws.specs.Tie.{Actor, Serving, Working, actor_goes, actor_turns}
-use Rattle.flash_laws.specs.Tied.{with_at}
+use Rattle.flash_laws.specs.World.Tie.{Actor, Serving, Working, actor_goes, actor_turns}
+use Rattle.flash_laws.specs.Site.Tied.{with_at}
 use Rattle.flash_laws.specs.declared.doing.Flight.{Flight}
 use Rattle.flash_laws.specs.declared.doing.Flight.TheVariants.{Nothing, Accepting, At}
 use Rattle.flash_laws.specs.declared.running.Running.{Running}

@@ -13,13 +13,13 @@ use Rattle.iol_proc.specs.declared.process.Turn.{Turn}
 use Rattle.flash_http.specs.Request.{Answer, serve, refuse, Wanted}
 use Rattle.flash_laws.specs.Client.{Client, new_client, uses_agg, uses_fd, is_for_script, Readies, told_spares, file_told, goes_on, run_told, told, left_over, awaits}
 use Rattle.flash_laws.specs.Conn.{Conn, is_head_only}
-use Rattle.flash_laws.specs.Places.{has_worker, is_run_by, runs_at, is_free, first_free, has_free, may_go, EachHasItsOwn, runs_scripts, told_at, accepted, filed}
-use Rattle.flash_laws.specs.RunOffers.{HasWorker}
-use Rattle.flash_laws.specs.Running as running
-use Rattle.flash_laws.specs.Running.{is_over, told_awaits}
+use Rattle.flash_laws.specs.Site.Places.{has_worker, is_run_by, runs_at, is_free, first_free, has_free, may_go, EachHasItsOwn, runs_scripts, told_at, accepted, filed}
+use Rattle.flash_laws.specs.Run.Offering.{HasWorker}
+use Rattle.flash_laws.specs.Run as running
+use Rattle.flash_laws.specs.Run.{is_over, told_awaits}
 use Rattle.flash_laws.specs.Serves.{heard_of, filed_in, Picks}
-use Rattle.flash_laws.specs.Sharing.{FlightGoes, RunsForAnother, WorkersAreShared}
-use Rattle.flash_laws.specs.Tied.{with_at}
+use Rattle.flash_laws.specs.Workers.Sharing.{FlightGoes, RunsForAnother, WorkersAreShared}
+use Rattle.flash_laws.specs.Site.Tied.{with_at}
 use Rattle.flash_laws.specs.declared.doing.Content.TheVariants.{Script}
 use Rattle.flash_laws.specs.declared.doing.Doing.{Doing}
 use Rattle.flash_laws.specs.declared.doing.Doing.TheVariants.{Spares}

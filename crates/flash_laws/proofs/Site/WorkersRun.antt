@@ -32,7 +32,7 @@ use Rattle.flash_cgi.specs.Waiting.{HasWaited}
 use Rattle.flash_cgi.specs.Works.{worker_turns}
 use Rattle.flash_cgi.specs.declared.line.Line.{Line}
 use Rattle.flash_cgi.specs.declared.worker.Worker.{Worker}
-use Rattle.flash_laws.specs.WorkersRun.{Gave, IsDueOf, IsFreeFor, WorkersRun, Wrote}
+use Rattle.flash_laws.specs.Workers.{Gave, IsDueOf, IsFreeFor, WorkersRun, Wrote}
 
 no_exit : (e : Event) (d : ℕ) → is_call_of e d ≡ false → sets_default e d ≡ false
 no_exit (event.Call by call.Exit) d other = other

@@ -18,18 +18,18 @@ use Rattle.iol_laws.specs.Order.{IsOrderly}
 use Rattle.iol_proc.specs.declared.seat.Seat.{Seat}
 use Rattle.flash_http.specs.Request.{Answer}
 use Rattle.flash_laws.specs.Client.{Client, new_client, uses_agg, Readies}
-use Rattle.flash_laws.specs.ClientFits.{FitsBy, Fits}
-use Rattle.flash_laws.specs.ClientKeeping.{has_fd}
+use Rattle.flash_laws.specs.Client.Fits.{FitsBy, Fits}
+use Rattle.flash_laws.specs.Client.Keeping.{has_fd}
 use Rattle.flash_laws.specs.Conn as conn
 use Rattle.flash_laws.specs.Conn.{Conn, begins}
-use Rattle.flash_laws.specs.Crew.{Crew, IsFixedFor}
-use Rattle.flash_laws.specs.Past.{Past}
-use Rattle.flash_laws.specs.Places.{EachHasItsOwn, is_run_by, is_free, accepted}
-use Rattle.flash_laws.specs.Running.{worker_domain, job_pipe}
-use Rattle.flash_laws.specs.Served.{Held, Ended, Aside, AreAtDesks, FitsAt, AllFit}
+use Rattle.flash_laws.specs.Workers.Crew.{Crew, IsFixedFor}
+use Rattle.flash_laws.specs.Site.Past.{Past}
+use Rattle.flash_laws.specs.Site.Places.{EachHasItsOwn, is_run_by, is_free, accepted}
+use Rattle.flash_laws.specs.Run.{worker_domain, job_pipe}
+use Rattle.flash_laws.specs.Site.Served.{Held, Ended, Aside, AreAtDesks, FitsAt, AllFit}
 use Rattle.flash_laws.specs.Shelf.{Shelf}
 use Rattle.flash_laws.specs.Site.{server, KeepsSite}
-use Rattle.flash_laws.specs.Tied.{with_at, Waits}
+use Rattle.flash_laws.specs.Site.Tied.{with_at, Waits}
 use Rattle.flash_laws.specs.declared.doing.Doing.{Doing}
 use Rattle.flash_laws.specs.declared.doing.Doing.TheVariants as doing
 use Rattle.flash_laws.specs.declared.running.Running.{Running}

@@ -6,12 +6,12 @@ use Rattle.iol_laws.specs.RefusalsLeft.{RefusalsThatAreLeft}
 use Rattle.iol_laws.specs.Sources.{LabelsFollow}
 use Rattle.flash_cgi.specs.Beside.{OthersHear}
 use Rattle.flash_http.specs.Request.{ClosesWithoutChunks, QueriesFit}
-use Rattle.flash_laws.specs.Crew.{Crew}
-use Rattle.flash_laws.specs.Due.{DueMayCome}
-use Rattle.flash_laws.specs.PutsOut.{TextsArePutOut}
-use Rattle.flash_laws.specs.RunKeeping.{RunsKeepNothing}
-use Rattle.flash_laws.specs.RunOffers.{RunsOfferTheResponse}
-use Rattle.flash_laws.specs.WorkersRun.{WorkersRun}
+use Rattle.flash_laws.specs.Workers.Crew.{Crew}
+use Rattle.flash_laws.specs.Shelf.Due.{DueMayCome}
+use Rattle.flash_laws.specs.Workers.PutsOut.{TextsArePutOut}
+use Rattle.flash_laws.specs.Run.Keeping.{RunsKeepNothing}
+use Rattle.flash_laws.specs.Run.Offering.{RunsOfferTheResponse}
+use Rattle.flash_laws.specs.Workers.{WorkersRun}
 use Rattle.flash_laws.specs.World.{DesksAreApart}
 use Rattle.flash_laws.proofs.TheLaws.{TheLaws}
 

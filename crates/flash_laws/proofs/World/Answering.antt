@@ -8,11 +8,11 @@ use Rattle.flash_http.specs.Window.{window_in}
 use Rattle.flash_http.specs.Request.{Answer, serve, Wanted}
 use Rattle.flash_laws.specs.Answers.{Reads}
 use Rattle.flash_laws.specs.Client.{Client}
-use Rattle.flash_laws.specs.ClientFits.{Answers, Finished, TieAlone, TieRun, is_at_rest, given_of}
-use Rattle.flash_laws.specs.Fits.{asked}
-use Rattle.flash_laws.specs.Offers.{taken_of}
-use Rattle.flash_laws.specs.RunFits.{Progress}
-use Rattle.flash_laws.specs.RunOffers.{past_of, taken_by}
+use Rattle.flash_laws.specs.Client.Fits.{Answers, Finished, TieAlone, TieRun, is_at_rest, given_of}
+use Rattle.flash_laws.specs.Conn.Fits.{asked}
+use Rattle.flash_laws.specs.Conn.Offering.{taken_of}
+use Rattle.flash_laws.specs.Run.Fits.{Progress}
+use Rattle.flash_laws.specs.Run.Offering.{past_of, taken_by}
 use Rattle.flash_laws.specs.Shelf.{Shelf, due_to, responses, Begins, IsAnswer}
 use Rattle.flash_laws.specs.declared.doing.Doing.{Doing}
 use Rattle.flash_laws.specs.declared.doing.Doing.TheVariants.{Rests, Got}

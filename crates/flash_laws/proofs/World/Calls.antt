@@ -14,14 +14,14 @@ use Rattle.iol_core.specs.declared.events.Event.TheVariants as event
 use Rattle.iol_laws.specs.Frame.{is_conn, is_end, touches_conn, touches_pipe, touches_fd, changes_files, admits_to, ends, sets_default}
 use Rattle.flash_http.specs.Request.{Answer}
 use Rattle.flash_laws.specs.Client.{Client, is_for_script, conn_wants, job_of, wants, uses_agg}
-use Rattle.flash_laws.specs.ClientFits.{due_in, Fits}
-use Rattle.flash_laws.specs.ClientKeeping.{has_fd}
+use Rattle.flash_laws.specs.Client.Fits.{due_in, Fits}
+use Rattle.flash_laws.specs.Client.Keeping.{has_fd}
 use Rattle.flash_laws.specs.Conn as conn
 use Rattle.flash_laws.specs.Conn.{Conn, is_head_only, most_read}
-use Rattle.flash_laws.specs.Crew.{Crew}
-use Rattle.flash_laws.specs.Fits.{IsLent, Has}
-use Rattle.flash_laws.specs.RunKeeping.{may_make, MayTouch, KeepsToItself}
-use Rattle.flash_laws.specs.Running as running
+use Rattle.flash_laws.specs.Workers.Crew.{Crew}
+use Rattle.flash_laws.specs.Conn.Fits.{IsLent, Has}
+use Rattle.flash_laws.specs.Run.Keeping.{may_make, MayTouch, KeepsToItself}
+use Rattle.flash_laws.specs.Run as running
 use Rattle.flash_laws.specs.Shelf.{Shelf}
 use Rattle.flash_laws.specs.Site.{server}
 use Rattle.flash_laws.specs.declared.doing.Doing.{Doing}

@@ -9,18 +9,18 @@ use Rattle.iol_laws.specs.Frame.{touches_pipe}
 use Rattle.iol_proc.specs.declared.seat.Seat.{Seat}
 use Rattle.flash_http.specs.Request.{Wanted}
 use Rattle.flash_laws.specs.Client.{uses_fd, job_of, wants}
-use Rattle.flash_laws.specs.ClientFits.{due_in, output_of, FitsRun, Fits}
-use Rattle.flash_laws.specs.ClientKeeping.{has_fd}
+use Rattle.flash_laws.specs.Client.Fits.{due_in, output_of, FitsRun, Fits}
+use Rattle.flash_laws.specs.Client.Keeping.{has_fd}
 use Rattle.flash_laws.specs.Conn as conn
 use Rattle.flash_laws.specs.Conn.{Conn}
-use Rattle.flash_laws.specs.Crew.{Crew}
-use Rattle.flash_laws.specs.RunFits.{Progress, HasStep, HasLeft}
-use Rattle.flash_laws.specs.RunKeeping.{has_end}
-use Rattle.flash_laws.specs.Running.{job_pipe, is_reading, step_fd, ends_of, step_wants}
-use Rattle.flash_laws.specs.Running as running
+use Rattle.flash_laws.specs.Workers.Crew.{Crew}
+use Rattle.flash_laws.specs.Run.Fits.{Progress, HasStep, HasLeft}
+use Rattle.flash_laws.specs.Run.Keeping.{has_end}
+use Rattle.flash_laws.specs.Run.{job_pipe, is_reading, step_fd, ends_of, step_wants}
+use Rattle.flash_laws.specs.Run as running
 use Rattle.flash_laws.specs.Shelf.{Shelf}
 use Rattle.flash_laws.specs.Site.{server}
-use Rattle.flash_laws.specs.Stages.{AtDesk, HasWorkerAt}
+use Rattle.flash_laws.specs.Run.Stages.{AtDesk, HasWorkerAt}
 use Rattle.flash_laws.specs.declared.doing.Doing.{Doing}
 use Rattle.flash_laws.specs.declared.doing.Doing.TheVariants as doing
 use Rattle.flash_laws.specs.declared.running.Run.{Run}

@@ -16,16 +16,16 @@ use Rattle.flash_cgi.specs.Beside.{is_call_of}
 use Rattle.flash_http.specs.Request.{Answer, Wanted}
 use Rattle.flash_laws.specs.Answers.{Found}
 use Rattle.flash_laws.specs.Client.{Client, job_of}
-use Rattle.flash_laws.specs.ClientFits.{Finds, TieAlone, TieRun, FitsAlone, FitsRun, Fits, due_in, output_of}
+use Rattle.flash_laws.specs.Client.Fits.{Finds, TieAlone, TieRun, FitsAlone, FitsRun, Fits, due_in, output_of}
 use Rattle.flash_laws.specs.Conn as conn
 use Rattle.flash_laws.specs.Conn.{Conn, most_read}
-use Rattle.flash_laws.specs.Crew.{Crew, IsFixedFor}
-use Rattle.flash_laws.specs.RunFits.{Progress, HasRun}
-use Rattle.flash_laws.specs.Running.{job_pipe, is_reading, step_fd, ends_of}
-use Rattle.flash_laws.specs.Served.{AreAtDesks}
+use Rattle.flash_laws.specs.Workers.Crew.{Crew, IsFixedFor}
+use Rattle.flash_laws.specs.Run.Fits.{Progress, HasRun}
+use Rattle.flash_laws.specs.Run.{job_pipe, is_reading, step_fd, ends_of}
+use Rattle.flash_laws.specs.Site.Served.{AreAtDesks}
 use Rattle.flash_laws.specs.Shelf.{Shelf}
 use Rattle.flash_laws.specs.Site.{server, KeepsSite}
-use Rattle.flash_laws.specs.Stages.{HasWorkerAt}
+use Rattle.flash_laws.specs.Run.Stages.{HasWorkerAt}
 use Rattle.flash_laws.specs.declared.doing.Doing.{Doing}
 use Rattle.flash_laws.specs.declared.doing.Doing.TheVariants.{Opens, Reads as Reading, Shuts, Spares}
 use Rattle.flash_laws.specs.declared.running.Running.{Running}

@@ -9,19 +9,19 @@ use Rattle.iol_laws.specs.Caller.{lent_at}
 use Rattle.iol_laws.specs.Order.{IsOrderly}
 use Rattle.iol_proc.specs.declared.seat.Seat.{Seat}
 use Rattle.flash_laws.specs.Client.{Client, uses_agg, is_for_script, job_of, wants, told, left_over}
-use Rattle.flash_laws.specs.ClientFits.{due_in, FitsRun, Fits}
+use Rattle.flash_laws.specs.Client.Fits.{due_in, FitsRun, Fits}
 use Rattle.flash_laws.specs.Conn as conn
 use Rattle.flash_laws.specs.Conn.{Conn}
-use Rattle.flash_laws.specs.Crew.{Crew, IsFixedFor}
-use Rattle.flash_laws.specs.Fits.{IsLent}
-use Rattle.flash_laws.specs.Past.{Past}
-use Rattle.flash_laws.specs.Places.{first_free}
-use Rattle.flash_laws.specs.Running as running
-use Rattle.flash_laws.specs.Running.{is_over}
-use Rattle.flash_laws.specs.Served.{FitsAt, IsUsed, AreOwned}
+use Rattle.flash_laws.specs.Workers.Crew.{Crew, IsFixedFor}
+use Rattle.flash_laws.specs.Conn.Fits.{IsLent}
+use Rattle.flash_laws.specs.Site.Past.{Past}
+use Rattle.flash_laws.specs.Site.Places.{first_free}
+use Rattle.flash_laws.specs.Run as running
+use Rattle.flash_laws.specs.Run.{is_over}
+use Rattle.flash_laws.specs.Site.Served.{FitsAt, IsUsed, AreOwned}
 use Rattle.flash_laws.specs.Shelf.{Shelf}
 use Rattle.flash_laws.specs.Site.{server}
-use Rattle.flash_laws.specs.Tied.{with_at, left_by}
+use Rattle.flash_laws.specs.Site.Tied.{with_at, left_by}
 use Rattle.flash_laws.specs.declared.doing.Doing.{Doing}
 use Rattle.flash_laws.specs.declared.doing.Doing.TheVariants as doing
 use Rattle.flash_laws.specs.declared.running.Running.{Running}

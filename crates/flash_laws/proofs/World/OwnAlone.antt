@@ -18,11 +18,11 @@ use Rattle.flash_http.specs.Window.{window_in, FitsIn}
 use Rattle.flash_http.specs.Request.{Answer, serve, refuse, IsAnswerTo}
 use Rattle.flash_laws.specs.Answers.{Next, NextIn, Reads}
 use Rattle.flash_laws.specs.Client.{Client, wants, Readies, IsAwaiting, is_for_script, told}
-use Rattle.flash_laws.specs.ClientFits.{IsProper, TieAlone, due_in, Finds, FitsAlone, Fits}
+use Rattle.flash_laws.specs.Client.Fits.{IsProper, TieAlone, due_in, Finds, FitsAlone, Fits}
 use Rattle.flash_laws.specs.Conn as conn
 use Rattle.flash_laws.specs.Conn.{Conn, begins}
-use Rattle.flash_laws.specs.Crew.{Crew, IsFixedFor}
-use Rattle.flash_laws.specs.Fits.{Has, asked, quits, is_closing, Names}
+use Rattle.flash_laws.specs.Workers.Crew.{Crew, IsFixedFor}
+use Rattle.flash_laws.specs.Conn.Fits.{Has, asked, quits, is_closing, Names}
 use Rattle.flash_laws.specs.Shelf.{Shelf, responses, Begins, IsAnswer}
 use Rattle.flash_laws.specs.Site.{server}
 use Rattle.flash_laws.specs.declared.doing.Doing.{Doing}

@@ -13,17 +13,17 @@ use Rattle.iol_laws.specs.Order.{IsOrderly}
 use Rattle.iol_proc.specs.declared.seat.Seat.{Seat}
 use Rattle.flash_http.specs.Request.{Answer, serve, Wanted}
 use Rattle.flash_laws.specs.Client.{Client, job_of, run_wants, wants, awaits, keeps_text, text_on, after_run, goes_on, run_on, run_told, told}
-use Rattle.flash_laws.specs.ClientFits.{IsProper, IsScript, output_of, due_in, TieAlone, FitsRun, Fits, Finds}
+use Rattle.flash_laws.specs.Client.Fits.{IsProper, IsScript, output_of, due_in, TieAlone, FitsRun, Fits, Finds}
 use Rattle.flash_laws.specs.Conn.{Conn}
-use Rattle.flash_laws.specs.Crew.{Crew, IsFixedFor}
-use Rattle.flash_laws.specs.Fits.{Has, Names}
-use Rattle.flash_laws.specs.Places.{has_worker, is_run_by}
-use Rattle.flash_laws.specs.RunFits.{Progress, HasRun}
-use Rattle.flash_laws.specs.RunKeeping.{KeepsToItself}
-use Rattle.flash_laws.specs.RunOffers.{Learns}
-use Rattle.flash_laws.specs.Running as running
-use Rattle.flash_laws.specs.Running.{is_over}
-use Rattle.flash_laws.specs.Served.{AreAtDesks}
+use Rattle.flash_laws.specs.Workers.Crew.{Crew, IsFixedFor}
+use Rattle.flash_laws.specs.Conn.Fits.{Has, Names}
+use Rattle.flash_laws.specs.Site.Places.{has_worker, is_run_by}
+use Rattle.flash_laws.specs.Run.Fits.{Progress, HasRun}
+use Rattle.flash_laws.specs.Run.Keeping.{KeepsToItself}
+use Rattle.flash_laws.specs.Run.Offering.{Learns}
+use Rattle.flash_laws.specs.Run as running
+use Rattle.flash_laws.specs.Run.{is_over}
+use Rattle.flash_laws.specs.Site.Served.{AreAtDesks}
 use Rattle.flash_laws.specs.Shelf.{Shelf}
 use Rattle.flash_laws.specs.Site.{server}
 use Rattle.flash_laws.specs.declared.doing.Doing.{Doing}

@@ -21,18 +21,18 @@ use Rattle.iol_laws.specs.Order.{IsOrderly}
 use Rattle.iol_proc.specs.declared.seat.Seat.{Seat}
 use Rattle.flash_http.specs.Request.{serve, Wanted}
 use Rattle.flash_laws.specs.Client.{Client, uses_agg, uses_fd, is_for_script, conn_wants, wants, IsAwaiting, awaits, file_told, told, left_over}
-use Rattle.flash_laws.specs.ClientFits.{due_in, FitsAlone, FitsBy, Fits}
-use Rattle.flash_laws.specs.ClientKeeping.{has_fd}
+use Rattle.flash_laws.specs.Client.Fits.{due_in, FitsAlone, FitsBy, Fits}
+use Rattle.flash_laws.specs.Client.Keeping.{has_fd}
 use Rattle.flash_laws.specs.Conn.{Conn, told_closes}
-use Rattle.flash_laws.specs.Crew.{Crew, IsFixedFor}
-use Rattle.flash_laws.specs.Fits.{Has, Names, is_closing}
-use Rattle.flash_laws.specs.Past.{Past}
-use Rattle.flash_laws.specs.Places.{EachHasItsOwn, is_run_by, is_free, has_free, first_free, may_go, told_at}
-use Rattle.flash_laws.specs.Running.{worker_domain, job_pipe, is_over}
-use Rattle.flash_laws.specs.Served.{Held, Ended, Aside, AreAtDesks, FitsAt, AllFit}
+use Rattle.flash_laws.specs.Workers.Crew.{Crew, IsFixedFor}
+use Rattle.flash_laws.specs.Conn.Fits.{Has, Names, is_closing}
+use Rattle.flash_laws.specs.Site.Past.{Past}
+use Rattle.flash_laws.specs.Site.Places.{EachHasItsOwn, is_run_by, is_free, has_free, first_free, may_go, told_at}
+use Rattle.flash_laws.specs.Run.{worker_domain, job_pipe, is_over}
+use Rattle.flash_laws.specs.Site.Served.{Held, Ended, Aside, AreAtDesks, FitsAt, AllFit}
 use Rattle.flash_laws.specs.Shelf.{Shelf}
 use Rattle.flash_laws.specs.Site.{server, KeepsSite}
-use Rattle.flash_laws.specs.Tied.{with_at, left_by, Waits}
+use Rattle.flash_laws.specs.Site.Tied.{with_at, left_by, Waits}
 use Rattle.flash_laws.specs.declared.doing.Flight.TheVariants.{At}
 use Rattle.flash_laws.specs.declared.doing.Doing.{Doing}
 use Rattle.flash_laws.specs.declared.doing.Doing.TheVariants as doing

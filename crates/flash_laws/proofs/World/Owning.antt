@@ -20,14 +20,14 @@ use Rattle.iol_proc.specs.declared.seat.Seat.{Seat}
 use Rattle.flash_laws.specs.Client.{Client, new_client, uses_agg, Readies}
 use Rattle.flash_laws.specs.Conn as conn
 use Rattle.flash_laws.specs.Conn.{Conn}
-use Rattle.flash_laws.specs.Crew.{Crew}
-use Rattle.flash_laws.specs.Fits.{IsLent}
-use Rattle.flash_laws.specs.Past.{Past, given_by, and_then, IsAct}
-use Rattle.flash_laws.specs.Places.{accepted}
-use Rattle.flash_laws.specs.Served.{Held, Aside, AllFit, IsUsed, AreOwned}
+use Rattle.flash_laws.specs.Workers.Crew.{Crew}
+use Rattle.flash_laws.specs.Conn.Fits.{IsLent}
+use Rattle.flash_laws.specs.Site.Past.{Past, given_by, and_then, IsAct}
+use Rattle.flash_laws.specs.Site.Places.{accepted}
+use Rattle.flash_laws.specs.Site.Served.{Held, Aside, AllFit, IsUsed, AreOwned}
 use Rattle.flash_laws.specs.Shelf.{Shelf}
 use Rattle.flash_laws.specs.Site.{server}
-use Rattle.flash_laws.specs.Tied.{with_at}
+use Rattle.flash_laws.specs.Site.Tied.{with_at}
 use Rattle.flash_laws.specs.declared.doing.Doing.{Doing}
 use Rattle.flash_laws.specs.declared.doing.Doing.TheVariants as doing
 use Rattle.flash_laws.specs.declared.running.Running.{Running}

@@ -17,14 +17,14 @@ use Rattle.iol_laws.specs.Order.{IsOrderly}
 use Rattle.flash_http.specs.Request.{Answer, serve, Wanted}
 use Rattle.flash_laws.specs.Answers.{Reads}
 use Rattle.flash_laws.specs.Client.{Client, after_run}
-use Rattle.flash_laws.specs.ClientFits.{IsProper, Answers, IsLeftAlone, TieAlone, TieRun}
-use Rattle.flash_laws.specs.Crew.{Crew}
-use Rattle.flash_laws.specs.Fits.{Names}
-use Rattle.flash_laws.specs.Offers.{newly_taken}
-use Rattle.flash_laws.specs.RunFits.{Progress, Ran, Broken, NotRun, Follows, IsLeft, HasNone, HasLeft, HasRun, MayAnswer}
-use Rattle.flash_laws.specs.RunOffers.{Learns, taken_by, past_of, IsNextOf, breaks_off}
-use Rattle.flash_laws.specs.Running.{wants, told, is_over}
-use Rattle.flash_laws.specs.Scripts.{script_response}
+use Rattle.flash_laws.specs.Client.Fits.{IsProper, Answers, IsLeftAlone, TieAlone, TieRun}
+use Rattle.flash_laws.specs.Workers.Crew.{Crew}
+use Rattle.flash_laws.specs.Conn.Fits.{Names}
+use Rattle.flash_laws.specs.Conn.Offering.{newly_taken}
+use Rattle.flash_laws.specs.Run.Fits.{Progress, Ran, Broken, NotRun, Follows, IsLeft, HasNone, HasLeft, HasRun, MayAnswer}
+use Rattle.flash_laws.specs.Run.Offering.{Learns, taken_by, past_of, IsNextOf, breaks_off}
+use Rattle.flash_laws.specs.Run.{wants, told, is_over}
+use Rattle.flash_laws.specs.Answers.Scripts.{script_response}
 use Rattle.flash_laws.specs.Shelf.{Shelf, due_to, responses}
 use Rattle.flash_laws.specs.Site.{server}
 use Rattle.flash_laws.specs.declared.doing.Doing.{Doing}

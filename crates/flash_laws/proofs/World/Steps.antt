@@ -22,17 +22,17 @@ use Rattle.iol_proc.specs.declared.process.Turn.{Turn}
 use Rattle.iol_proc.specs.declared.process.Turn.TheVariants as turn
 use Rattle.iol_proc.specs.declared.seat.Seat.{Seat}
 use Rattle.flash_laws.specs.Client.{Client}
-use Rattle.flash_laws.specs.Calm.{IsMild, AreMild}
-use Rattle.flash_laws.specs.Crew.{Crew, IsFixedFor}
-use Rattle.flash_laws.specs.Fits.{Names}
-use Rattle.flash_laws.specs.Past.{Past, and_then, IsAct}
-use Rattle.flash_laws.specs.Places.{filed}
-use Rattle.flash_laws.specs.Running.{worker_domain}
-use Rattle.flash_laws.specs.Served.{AllFit, AreOwned}
+use Rattle.flash_laws.specs.World.Calm.{IsMild, AreMild}
+use Rattle.flash_laws.specs.Workers.Crew.{Crew, IsFixedFor}
+use Rattle.flash_laws.specs.Conn.Fits.{Names}
+use Rattle.flash_laws.specs.Site.Past.{Past, and_then, IsAct}
+use Rattle.flash_laws.specs.Site.Places.{filed}
+use Rattle.flash_laws.specs.Run.{worker_domain}
+use Rattle.flash_laws.specs.Site.Served.{AllFit, AreOwned}
 use Rattle.flash_laws.specs.Serves.{Policy, Made}
 use Rattle.flash_laws.specs.Shelf.{Shelf}
 use Rattle.flash_laws.specs.Site.{server, KeepsSite}
-use Rattle.flash_laws.specs.Tie.{past_of, Actor, Serving, Working, actor_goes, actor_turns}
+use Rattle.flash_laws.specs.World.Tie.{past_of, Actor, Serving, Working, actor_goes, actor_turns}
 use Rattle.flash_laws.specs.World.{as_actor, AreSeated, Tied}
 use Rattle.flash_laws.proofs.Conn.Answering.{some-inj}
 use Rattle.flash_laws.proofs.Conn.Lent.{lent-stays}

@@ -5,11 +5,11 @@ use Rattle.iol_core.specs.Text.{bytes_of}
 use Rattle.iol_core.specs.State.{Connection, is_gone}
 use Rattle.flash_http.specs.Request.{serve, Wanted}
 use Rattle.flash_laws.specs.Client.{Client}
-use Rattle.flash_laws.specs.ClientFits.{is_at_rest, Answers, IsLeftAlone, given_of, IsFinished, TieAlone, TieRun}
-use Rattle.flash_laws.specs.Fits.{asked}
-use Rattle.flash_laws.specs.Offers.{taken_of}
-use Rattle.flash_laws.specs.RunFits.{Progress}
-use Rattle.flash_laws.specs.RunOffers.{past_of, taken_by}
+use Rattle.flash_laws.specs.Client.Fits.{is_at_rest, Answers, IsLeftAlone, given_of, IsFinished, TieAlone, TieRun}
+use Rattle.flash_laws.specs.Conn.Fits.{asked}
+use Rattle.flash_laws.specs.Conn.Offering.{taken_of}
+use Rattle.flash_laws.specs.Run.Fits.{Progress}
+use Rattle.flash_laws.specs.Run.Offering.{past_of, taken_by}
 use Rattle.flash_laws.specs.Shelf.{Shelf, due_to, Begins}
 use Rattle.flash_laws.specs.declared.doing.Doing.{Doing}
 use Rattle.flash_laws.specs.declared.running.Running.{Running}

@@ -13,18 +13,18 @@ use Rattle.iol_laws.proofs.Places.{lowest-free}
 use Rattle.iol_proc.specs.declared.seat.Seat.{Seat}
 use Rattle.flash_cgi.specs.Beside.{is_call_of}
 use Rattle.flash_laws.specs.Client.{Client, uses_agg}
-use Rattle.flash_laws.specs.ClientFits.{Fits}
-use Rattle.flash_laws.specs.ClientKeeping.{has_fd}
+use Rattle.flash_laws.specs.Client.Fits.{Fits}
+use Rattle.flash_laws.specs.Client.Keeping.{has_fd}
 use Rattle.flash_laws.specs.Conn.{Conn}
-use Rattle.flash_laws.specs.Crew.{Crew}
-use Rattle.flash_laws.specs.Past.{Past}
-use Rattle.flash_laws.specs.Places.{EachHasItsOwn, is_run_by, is_free}
-use Rattle.flash_laws.specs.Running.{worker_domain, job_pipe}
-use Rattle.flash_laws.specs.Served.{Held, Aside, AreAtDesks, FitsAt, AllFit}
+use Rattle.flash_laws.specs.Workers.Crew.{Crew}
+use Rattle.flash_laws.specs.Site.Past.{Past}
+use Rattle.flash_laws.specs.Site.Places.{EachHasItsOwn, is_run_by, is_free}
+use Rattle.flash_laws.specs.Run.{worker_domain, job_pipe}
+use Rattle.flash_laws.specs.Site.Served.{Held, Aside, AreAtDesks, FitsAt, AllFit}
 use Rattle.flash_laws.specs.Shelf.{Shelf}
 use Rattle.flash_laws.specs.Site.{server}
-use Rattle.flash_laws.specs.Stages.{AtDesk}
-use Rattle.flash_laws.specs.Tied.{with_at}
+use Rattle.flash_laws.specs.Run.Stages.{AtDesk}
+use Rattle.flash_laws.specs.Site.Tied.{with_at}
 use Rattle.flash_laws.specs.declared.running.Run.{Run}
 use Rattle.flash_laws.specs.declared.running.Step.{Step}
 use Rattle.flash_laws.specs.declared.running.Step.TheVariants.{Gives, Hands, Returns}

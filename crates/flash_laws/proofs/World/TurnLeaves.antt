@@ -20,18 +20,18 @@ use Rattle.iol_proc.specs.declared.seat.Seat.{Seat}
 use Rattle.flash_cgi.specs.Leaving.{LeavesAllBut}
 use Rattle.flash_laws.specs.Answers.{Outcome}
 use Rattle.flash_laws.specs.Client.{Client}
-use Rattle.flash_laws.specs.ClientFits.{Fits, output_of}
-use Rattle.flash_laws.specs.ClientKeeping.{has_fd}
+use Rattle.flash_laws.specs.Client.Fits.{Fits, output_of}
+use Rattle.flash_laws.specs.Client.Keeping.{has_fd}
 use Rattle.flash_laws.specs.Conn.{Conn}
-use Rattle.flash_laws.specs.Crew.{Crew, IsFixedFor}
-use Rattle.flash_laws.specs.Past.{Past}
-use Rattle.flash_laws.specs.Places.{has_worker, is_run_by}
-use Rattle.flash_laws.specs.RunFits.{Progress}
-use Rattle.flash_laws.specs.Running.{worker_domain}
-use Rattle.flash_laws.specs.Served.{FitsAt, AllFit}
+use Rattle.flash_laws.specs.Workers.Crew.{Crew, IsFixedFor}
+use Rattle.flash_laws.specs.Site.Past.{Past}
+use Rattle.flash_laws.specs.Site.Places.{has_worker, is_run_by}
+use Rattle.flash_laws.specs.Run.Fits.{Progress}
+use Rattle.flash_laws.specs.Run.{worker_domain}
+use Rattle.flash_laws.specs.Site.Served.{FitsAt, AllFit}
 use Rattle.flash_laws.specs.Shelf.{Shelf}
 use Rattle.flash_laws.specs.Site.{server, net_pool, IsFixed, KeepsSite}
-use Rattle.flash_laws.specs.Stages.{HasWorkerAt}
+use Rattle.flash_laws.specs.Run.Stages.{HasWorkerAt}
 use Rattle.flash_laws.specs.declared.running.Run.{Run}
 use Rattle.flash_laws.specs.declared.running.Step.{Step}
 use Rattle.flash_laws.specs.declared.running.Running.{Running}

@@ -12,14 +12,14 @@ use Rattle.iol_proc.specs.World.{Stage}
 use Rattle.iol_proc.specs.declared.choice.Choice.{Choice}
 use Rattle.iol_proc.specs.declared.seat.Seat.{Seat}
 use Rattle.flash_laws.specs.Client.{Client}
-use Rattle.flash_laws.specs.ClientFits.{FitsBy}
-use Rattle.flash_laws.specs.Crew.{Crew}
-use Rattle.flash_laws.specs.Past.{Past}
-use Rattle.flash_laws.specs.Places.{filed}
-use Rattle.flash_laws.specs.Served.{Held, Aside, AllFit, AreAnswered}
+use Rattle.flash_laws.specs.Client.Fits.{FitsBy}
+use Rattle.flash_laws.specs.Workers.Crew.{Crew}
+use Rattle.flash_laws.specs.Site.Past.{Past}
+use Rattle.flash_laws.specs.Site.Places.{filed}
+use Rattle.flash_laws.specs.Site.Served.{Held, Aside, AllFit, AreAnswered}
 use Rattle.flash_laws.specs.Shelf.{Shelf, Begins, IsAnswer}
 use Rattle.flash_laws.specs.Site.{server}
-use Rattle.flash_laws.specs.Tie.{tells_over, made_over, gone_over, given_over, past_of, Actor}
+use Rattle.flash_laws.specs.World.Tie.{tells_over, made_over, gone_over, given_over, past_of, Actor}
 use Rattle.flash_laws.specs.World.{server_with, Tied, IsNew, AllAnswered, ClosedAreWhole}
 use Rattle.flash_laws.specs.declared.running.Running.{Running}
 use Rattle.flash_laws.proofs.Conn.Answering.{WindowLaws}

@@ -13,11 +13,11 @@ use Rattle.iol_proc.specs.World.{copying}
 use Rattle.iol_proc.specs.declared.seat.Seat.{Seat}
 use Rattle.flash_cgi.specs.Leaving.{LeavesAllBut}
 use Rattle.flash_laws.specs.Client.{Client}
-use Rattle.flash_laws.specs.Crew.{Crew, IsFixedFor}
-use Rattle.flash_laws.specs.Past.{Past}
-use Rattle.flash_laws.specs.Places.{is_run_by, is_free}
-use Rattle.flash_laws.specs.Running.{worker_domain, job_pipe}
-use Rattle.flash_laws.specs.Served.{Held, Aside, AreAtDesks, FitsAt, AllFit}
+use Rattle.flash_laws.specs.Workers.Crew.{Crew, IsFixedFor}
+use Rattle.flash_laws.specs.Site.Past.{Past}
+use Rattle.flash_laws.specs.Site.Places.{is_run_by, is_free}
+use Rattle.flash_laws.specs.Run.{worker_domain, job_pipe}
+use Rattle.flash_laws.specs.Site.Served.{Held, Aside, AreAtDesks, FitsAt, AllFit}
 use Rattle.flash_laws.specs.Shelf.{Shelf}
 use Rattle.flash_laws.specs.Site.{server}
 use Rattle.flash_laws.proofs.Conn.Answering.{some-inj}

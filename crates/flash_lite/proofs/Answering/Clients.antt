@@ -12,14 +12,14 @@ use Rattle.iol_core.specs.declared.events.Reply.TheVariants as reply
 use Rattle.flash_http.specs.Request.{Answer}
 use Rattle.flash_http.specs.Window.{window_in}
 use Rattle.flash_laws.specs.Client.{Client, Readies, is_bare, can_run, kept_if, conn_wants, conn_told, file_told, told_spares, is_for_script, left_over, wants, awaits}
-use Rattle.flash_laws.specs.ClientWants.{Hears, ClientHears, needs_memory, WantsOn}
+use Rattle.flash_laws.specs.Client.Wanting.{Hears, ClientHears, needs_memory, WantsOn}
 use Rattle.flash_laws.specs.Conn as conn
 use Rattle.flash_laws.specs.Conn.{Conn, is_head_only}
-use Rattle.flash_laws.specs.Policy as policy
-use Rattle.flash_laws.specs.Policy.{is_later}
-use Rattle.flash_laws.specs.Rounds.{leaves_off}
-use Rattle.flash_laws.specs.Tied as tied
-use Rattle.flash_laws.specs.Wanting as wanting
+use Rattle.flash_laws.specs.Conn.Policy as policy
+use Rattle.flash_laws.specs.Conn.Policy.{is_later}
+use Rattle.flash_laws.specs.Serves.Rounds.{leaves_off}
+use Rattle.flash_laws.specs.Site.Tied as tied
+use Rattle.flash_laws.specs.Conn.Wanting as wanting
 use Rattle.flash_laws.specs.declared.running.Running.{Running}
 use Rattle.flash_laws.specs.declared.doing.Content.TheVariants.{Script}
 use Rattle.flash_laws.specs.declared.doing.Doing.{Doing}

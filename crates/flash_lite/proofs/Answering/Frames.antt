@@ -5,7 +5,7 @@ use Rattle.std.specs.Fmt.{digits, digits_onto, digit_glyph}
 use Rattle.std.proofs.Math.Nat.{pow-succ'}
 use Rattle.std.proofs.lemmas.List.{length-append}
 use Rattle.std.proofs.lemmas.Bool.Decides.{nat_tests}
-use Rattle.flash_laws.specs.Scripts.{place_in_frame}
+use Rattle.flash_laws.specs.Answers.Scripts.{place_in_frame}
 
 none : (m : ℕ) → (m == 0) ≡ true → m ≡ 0
 none m e = grind (arith, nat_tests)

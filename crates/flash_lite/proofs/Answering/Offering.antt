@@ -5,8 +5,8 @@ use Rattle.iol_core.specs.declared.events.Call.TheVariants as call
 use Rattle.iol_proc.specs.declared.process.Turn.{Turn}
 use Rattle.iol_proc.specs.declared.process.Turn.TheVariants as turn
 use Rattle.flash_laws.specs.Client.{Client, wants}
-use Rattle.flash_laws.specs.ClientOffers.{ClientsAreOfferedTheResponse}
-use Rattle.flash_laws.specs.Places.{runs_scripts}
+use Rattle.flash_laws.specs.Client.Offering.{ClientsAreOfferedTheResponse}
+use Rattle.flash_laws.specs.Site.Places.{runs_scripts}
 use Rattle.flash_laws.specs.Serves.{Server, Picks, PicksAt}
 use Rattle.flash_laws.specs.declared.doing.Flight.{Flight}
 use Rattle.flash_laws.specs.declared.doing.Flight.TheVariants.{At}

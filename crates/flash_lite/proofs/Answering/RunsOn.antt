@@ -9,14 +9,14 @@ use Rattle.flash_http.specs.Request.{Answer, serve, refuse, Wanted}
 use Rattle.flash_laws.proofs.Conn.Answering.{some-inj}
 use Rattle.flash_laws.proofs.Run.Offering.{keeps}
 use Rattle.flash_laws.specs.Client.{Client, is_bare, keeps_text, text_on, after_run, goes_on, run_told, run_wants, wants, left_over, awaits}
-use Rattle.flash_laws.specs.ClientWants.{needs_memory, WantsOn}
+use Rattle.flash_laws.specs.Client.Wanting.{needs_memory, WantsOn}
 use Rattle.flash_laws.specs.Conn as conn
-use Rattle.flash_laws.specs.Policy.{is_later}
-use Rattle.flash_laws.specs.RunOffers.{HasWorker}
-use Rattle.flash_laws.specs.Rounds.{leaves_off}
-use Rattle.flash_laws.specs.RunWants.{makes_any}
-use Rattle.flash_laws.specs.Running as running
-use Rattle.flash_laws.specs.Running.{is_over, is_left, in_phase, told_awaits, told_sending, told_step}
+use Rattle.flash_laws.specs.Conn.Policy.{is_later}
+use Rattle.flash_laws.specs.Run.Offering.{HasWorker}
+use Rattle.flash_laws.specs.Serves.Rounds.{leaves_off}
+use Rattle.flash_laws.specs.Run.Wanting.{makes_any}
+use Rattle.flash_laws.specs.Run as running
+use Rattle.flash_laws.specs.Run.{is_over, is_left, in_phase, told_awaits, told_sending, told_step}
 use Rattle.flash_laws.specs.declared.doing.Doing.{Doing}
 use Rattle.flash_laws.specs.declared.doing.Doing.TheVariants.{Heads, Sends, Cuts, Offers, Swaps, Sent, Breaks, Drops}
 use Rattle.flash_laws.specs.declared.running.Run.{Run}

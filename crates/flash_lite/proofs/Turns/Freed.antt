@@ -12,9 +12,9 @@ use Rattle.iol_core.specs.declared.events.Reply.{Reply}
 use Rattle.flash_http.specs.Request.{Answer, serve, refuse}
 use Rattle.flash_laws.specs.Client.{Client, Readies, told, run_told, left_over, awaits}
 use Rattle.flash_laws.specs.Conn.{Conn}
-use Rattle.flash_laws.specs.Places.{is_run_by, runs_at, is_free, first_free, has_free, may_go, EachHasItsOwn}
-use Rattle.flash_laws.specs.Sharing.{FlightGoes}
-use Rattle.flash_laws.specs.Tied.{left_by, with_at}
+use Rattle.flash_laws.specs.Site.Places.{is_run_by, runs_at, is_free, first_free, has_free, may_go, EachHasItsOwn}
+use Rattle.flash_laws.specs.Workers.Sharing.{FlightGoes}
+use Rattle.flash_laws.specs.Site.Tied.{left_by, with_at}
 use Rattle.flash_laws.specs.declared.doing.Doing.{Doing}
 use Rattle.flash_laws.specs.declared.doing.Flight.TheVariants.{At}
 use Rattle.flash_laws.specs.declared.running.Running.{Running}

@@ -9,9 +9,9 @@ use Rattle.flash_http.specs.Request.{Answer, serve, refuse, Wanted}
 use Rattle.flash_laws.specs.Client.{Client, is_for_script, conn_wants, job_of, run_wants, wants}
 use Rattle.flash_laws.specs.Conn as conn
 use Rattle.flash_laws.specs.Conn.{Conn, is_head_only, most_read}
-use Rattle.flash_laws.specs.Places.{runs_scripts}
-use Rattle.flash_laws.specs.Running as running
-use Rattle.flash_laws.specs.Running.{in_phase, step_wants}
+use Rattle.flash_laws.specs.Site.Places.{runs_scripts}
+use Rattle.flash_laws.specs.Run as running
+use Rattle.flash_laws.specs.Run.{in_phase, step_wants}
 use Rattle.flash_laws.specs.Serves.{Picks}
 use Rattle.flash_laws.specs.declared.doing.Doing.{Doing}
 use Rattle.flash_laws.specs.declared.doing.Doing.TheVariants.{Reads}

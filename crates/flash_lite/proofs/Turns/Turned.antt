@@ -9,12 +9,12 @@ use Rattle.iol_core.specs.declared.events.Reply.TheVariants as reply
 use Rattle.iol_proc.specs.declared.process.Turn.{Turn}
 use Rattle.iol_proc.specs.declared.process.Turn.TheVariants as turn
 use Rattle.flash_laws.specs.Client.{Client, new_client, told, left_over, awaits, is_bare}
-use Rattle.flash_laws.specs.Places.{has_free, may_go, runs_scripts, filed}
-use Rattle.flash_laws.specs.Policy.{door, is_later}
-use Rattle.flash_laws.specs.Rounds.{leaves_off, flight_from, next_flight, place_after}
+use Rattle.flash_laws.specs.Site.Places.{has_free, may_go, runs_scripts, filed}
+use Rattle.flash_laws.specs.Conn.Policy.{door, is_later}
+use Rattle.flash_laws.specs.Serves.Rounds.{leaves_off, flight_from, next_flight, place_after}
 use Rattle.flash_laws.specs.Serves.{Picks, PicksAt}
-use Rattle.flash_laws.specs.Sharing.{FlightGoes}
-use Rattle.flash_laws.specs.Tied.{with_at}
+use Rattle.flash_laws.specs.Workers.Sharing.{FlightGoes}
+use Rattle.flash_laws.specs.Site.Tied.{with_at}
 use Rattle.flash_laws.specs.declared.doing.Flight.{Flight}
 use Rattle.flash_laws.specs.declared.doing.Flight.TheVariants.{Nothing, Accepting, At}
 use Rattle.flash_lite.specs.Course.{GoesOn, IsLeft, worker_of}

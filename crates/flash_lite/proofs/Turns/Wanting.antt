@@ -4,12 +4,12 @@ use Rattle.std.specs.Prelude.{min}
 use Rattle.iol_core.specs.Numbered.{in_place}
 use Rattle.iol_core.specs.declared.events.Reply.{Reply}
 use Rattle.flash_laws.specs.Client.{Client}
-use Rattle.flash_laws.specs.Places.{first_free, has_free, runs_scripts, filed}
-use Rattle.flash_laws.specs.Rounds.{leaves_off}
-use Rattle.flash_laws.specs.Rounds.{next_in}
-use Rattle.flash_laws.specs.TurnWants.{MayWant, WantsFrom, WantsHere, WantsPast, wants_in, wants_there}
+use Rattle.flash_laws.specs.Site.Places.{first_free, has_free, runs_scripts, filed}
+use Rattle.flash_laws.specs.Serves.Rounds.{leaves_off}
+use Rattle.flash_laws.specs.Serves.Rounds.{next_in}
+use Rattle.flash_laws.specs.Serves.Wanting.{MayWant, WantsFrom, WantsHere, WantsPast, wants_in, wants_there}
 use Rattle.flash_laws.specs.declared.doing.Flight.TheVariants.{Nothing, At}
-use Rattle.flash_laws.specs.ClientWants.{WantsOn}
+use Rattle.flash_laws.specs.Client.Wanting.{WantsOn}
 use Rattle.flash_lite.specs.Table.{Table, IsKept, TellsFree}
 use Rattle.flash_lite.specs.Turning.{CourseAt, TurnsFree, first_in, has_in, left_as, left_at, worker_at, worker_left}
 use Rattle.flash_lite.specs.declared.client.Course.TheVariants.{Leaves}

@@ -8,8 +8,8 @@ use Rattle.iol_proc.specs.World.{IsRising, Stage, copied, copying, domains_of, s
 use Rattle.iol_proc.specs.declared.choice.Choice.{Choice}
 use Rattle.iol_system.specs.Machine.{SystemState, machine_of}
 use Rattle.flash_cgi.specs.declared.worker.Worker.{Worker}
-use Rattle.flash_laws.specs.Rounds.{in_rounds}
-use Rattle.flash_laws.specs.Tie.{Actor, actor_turns}
+use Rattle.flash_laws.specs.Serves.Rounds.{in_rounds}
+use Rattle.flash_laws.specs.World.Tie.{Actor, actor_turns}
 use Rattle.flash_lite.specs.Hosting.{Hosts, IsNewWorld}
 use Rattle.flash_lite.specs.Setup.{AreActors}
 use Rattle.flash_lite.specs.SiteState.{LeavesSite, state_of}

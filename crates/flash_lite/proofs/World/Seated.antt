@@ -7,7 +7,7 @@ use Rattle.std.proofs.lemmas.List.Sorted.{All-permutation, IsPermutation-sym}
 use Rattle.iol_proc.specs.World.{IsRising, domains_of, seat_of}
 use Rattle.iol_proc.specs.declared.seat.Seat.{Seat}
 use Rattle.flash_cgi.specs.declared.worker.Worker.{Worker}
-use Rattle.flash_laws.specs.Tie.{Actor}
+use Rattle.flash_laws.specs.World.Tie.{Actor}
 use Rattle.flash_lite.specs.NewWorld.{AreSeated}
 use Rattle.flash_lite.specs.Setup.{AreActors, workers_used}
 use Rattle.flash_lite.specs.declared.site.Site.{Site}

@@ -16,7 +16,7 @@ use Rattle.iol_laws.specs.Opening.{AreLow}
 use Rattle.flash_cgi.specs.Outcomes.{AreFiles, outcome_in, outcome_of}
 use Rattle.flash_cgi.specs.Output.{Found, Failed}
 use Rattle.flash_cgi.specs.Shown.{HoldFiles}
-use Rattle.flash_laws.specs.Crew.{IsFixedFor}
+use Rattle.flash_laws.specs.Workers.Crew.{IsFixedFor}
 use Rattle.flash_lite.specs.Crew.{crew_of, is_shown, is_work}
 use Rattle.flash_lite.specs.Library.{library_of, seen, seen_at, seen_of}
 use Rattle.flash_lite.specs.Setup.{has_script, is_in_range, is_private, workers_used}

@@ -6,9 +6,9 @@ use Rattle.iol_proc.specs.World.{seat_of}
 use Rattle.iol_proc.specs.declared.seat.Seat.{Seat}
 use Rattle.flash_cgi.specs.Works.{IsNew}
 use Rattle.flash_cgi.specs.declared.worker.Worker.{Worker}
-use Rattle.flash_laws.specs.Running.{worker_domain}
+use Rattle.flash_laws.specs.Run.{worker_domain}
 use Rattle.flash_laws.specs.Site.{server}
-use Rattle.flash_laws.specs.Tie.{Actor, Serving, Working}
+use Rattle.flash_laws.specs.World.Tie.{Actor, Serving, Working}
 use Rattle.flash_laws.specs.World.{as_actor, seats_of, server_with}
 use Rattle.flash_lite.specs.NewWorld.{AreSeated}
 use Rattle.flash_lite.specs.Setup.{IsWorkerAt, workers_used}

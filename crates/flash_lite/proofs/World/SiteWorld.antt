@@ -16,11 +16,11 @@ use Rattle.iol_proc.specs.declared.seat.Seat.{Seat}
 use Rattle.iol_system.specs.Machine.{SystemState, machine_of}
 use Rattle.flash_cgi.specs.Free.{HasNoJob, WorkersStayFree}
 use Rattle.flash_cgi.specs.declared.worker.Worker.{Worker}
-use Rattle.flash_laws.specs.Running.{worker_domain}
+use Rattle.flash_laws.specs.Run.{worker_domain}
 use Rattle.flash_laws.specs.Site.{server}
-use Rattle.flash_laws.specs.Tie.{Actor}
+use Rattle.flash_laws.specs.World.Tie.{Actor}
 use Rattle.flash_laws.specs.World.{DesksAreApart, IsNew}
-use Rattle.flash_laws.specs.WorkersRun.{IsFreeFor}
+use Rattle.flash_laws.specs.Workers.{IsFreeFor}
 use Rattle.flash_lite.specs.Crew.{crew_of, is_shown}
 use Rattle.flash_lite.specs.Library.{library_of}
 use Rattle.flash_lite.specs.Setup.{AreActors, SetsUp, calls, is_in_range, workers_used}

@@ -19,8 +19,8 @@ use Rattle.iol_system.specs.Machine.{SystemState, machine_of}
 use Rattle.iol_system.specs.Promises.{Chain}
 use Rattle.iol_system.specs.Safe.{IsSafe}
 use Rattle.flash_cgi.specs.declared.worker.Worker.{Worker}
-use Rattle.flash_laws.specs.Rounds.{in_rounds}
-use Rattle.flash_laws.specs.Tie.{Actor, actor_turns}
+use Rattle.flash_laws.specs.Serves.Rounds.{in_rounds}
+use Rattle.flash_laws.specs.World.Tie.{Actor, actor_turns}
 use Rattle.flash_lite.specs.Hosting.{HostsOver}
 use Rattle.flash_lite.specs.Setup.{AreActors, IsMade, WhyRefused, calls}
 use Rattle.flash_lite.specs.SiteState.{IsSetUp, LeavesSite}

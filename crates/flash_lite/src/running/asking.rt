@@ -2,9 +2,9 @@
 ghost use Rattle.std.specs.Prelude.{◌≡◌, ◌-◌, ◌<◌, IfOk, OnErr, true};
 ghost use Rattle.iol_core.specs.declared.events.Call.TheVariants.{AggMake, AggReplace, GiveFd, IolWrite};
 ghost use Rattle.flash_http.specs.Request.{wanted};
-ghost use Rattle.flash_laws.specs.RunWants.{makes_bytes};
-ghost use Rattle.flash_laws.specs.Running as spec;
-ghost use Rattle.flash_laws.specs.Scripts.{script_text, frame_of, end_around, place_in_frame};
+ghost use Rattle.flash_laws.specs.Run.Wanting.{makes_bytes};
+ghost use Rattle.flash_laws.specs.Run as spec;
+ghost use Rattle.flash_laws.specs.Answers.Scripts.{script_text, frame_of, end_around, place_in_frame};
 ghost use Rattle.flash_laws.specs.declared.running.TheConstants.{CHUNK_BYTES};
 ghost use Rattle.flash_lite.specs.Runs.{IsPiece, IsSmallRun, IsSmallStep, job_for};
 

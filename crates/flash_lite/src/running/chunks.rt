@@ -1,7 +1,7 @@
 //! What follows each call that makes a chunk: its frame is made once, and what is held is set into
 //! it.
 ghost use Rattle.std.specs.Prelude.{◌≡◌};
-ghost use Rattle.flash_laws.specs.Running as spec;
+ghost use Rattle.flash_laws.specs.Run as spec;
 ghost use Rattle.flash_lite.specs.Heard.{heard};
 ghost use Rattle.flash_lite.specs.Runs.{IsSmallStep};
 

@@ -1,7 +1,7 @@
 //! What follows each call that starts a script: a pipe is made for its output, and a worker is
 //! given the write end, and the job.
 ghost use Rattle.std.specs.Prelude.{◌≡◌, ◌<◌};
-ghost use Rattle.flash_laws.specs.Running as spec;
+ghost use Rattle.flash_laws.specs.Run as spec;
 ghost use Rattle.flash_lite.specs.Heard.{heard};
 ghost use Rattle.flash_lite.specs.Runs.{IsSmallRun, IsSmallStep, IsSmallRunning};
 ghost use Rattle.flash_lite.specs.declared.site.TheConstants.{MAX_WORKERS};

@@ -26,14 +26,14 @@ use Rattle.flash_http.specs.Range.{selected}
 use Rattle.flash_http.specs.Request.{Answer, serve, refuse, Wanted}
 use Rattle.flash_laws.specs.Answers.{Outcome, Found, Failed, body_unless, chosen, file_text, unsatisfiable, response}
 use Rattle.flash_laws.specs.Client.{Client, is_for_script, can_run, kept_if, script_told}
-use Rattle.flash_laws.specs.ClientFits.{TieAlone, due_in, Finds, FitsAlone, Fits}
+use Rattle.flash_laws.specs.Client.Fits.{TieAlone, due_in, Finds, FitsAlone, Fits}
 use Rattle.flash_laws.specs.Conn as conn
 use Rattle.flash_laws.specs.Conn.{Conn, most_read, name_of, count_of, text_of}
-use Rattle.flash_laws.specs.Crew.{Crew}
-use Rattle.flash_laws.specs.Fits.{Has, is_closing, Names}
-use Rattle.flash_laws.specs.Known as known
-use Rattle.flash_laws.specs.Known.{OfFile, OfScript, is_read, is_opening}
-use Rattle.flash_laws.specs.RunFits.{nothing_yet}
+use Rattle.flash_laws.specs.Workers.Crew.{Crew}
+use Rattle.flash_laws.specs.Conn.Fits.{Has, is_closing, Names}
+use Rattle.flash_laws.specs.Client.Known as known
+use Rattle.flash_laws.specs.Client.Known.{OfFile, OfScript, is_read, is_opening}
+use Rattle.flash_laws.specs.Run.Fits.{nothing_yet}
 use Rattle.flash_laws.specs.Shelf.{Shelf, due_to}
 use Rattle.flash_laws.specs.Site.{server, found_in, IsFixed}
 use Rattle.flash_laws.specs.declared.doing.Learnt.TheVariants.{File, Length, Text as TextOf}

@@ -29,14 +29,14 @@ use Rattle.flash_cgi.specs.declared.line.Line.{Line}
 use Rattle.flash_laws.specs.Answers.{Failed, keeps}
 use Rattle.flash_laws.specs.Client as client
 use Rattle.flash_laws.specs.Client.{Client, is_for_script, conn_wants, conn_told, script_told, file_told}
-use Rattle.flash_laws.specs.ClientFits.{TieAlone, due_in, HasText, Finds, FitsAlone, TieRun, FitsRun, Fits}
+use Rattle.flash_laws.specs.Client.Fits.{TieAlone, due_in, HasText, Finds, FitsAlone, TieRun, FitsRun, Fits}
 use Rattle.flash_laws.specs.Conn as conn
 use Rattle.flash_laws.specs.Conn.{Following, Conn, piece_end, count_of, text_of, sends_of, settled, told_shuts, told_picks, told_spares, following, headed, told_heads, told_joins, told_cuts, told_swaps, goes_on, told_sent, told_breaks, drops_next, told_drops, told_got}
-use Rattle.flash_laws.specs.Crew.{Crew}
-use Rattle.flash_laws.specs.Fits.{Has, quits, is_closing, HoldsMore, Names}
-use Rattle.flash_laws.specs.Known as known
-use Rattle.flash_laws.specs.Known.{OfFile, OfScript, MayPutOut, is_read, is_opening}
-use Rattle.flash_laws.specs.RunFits.{nothing_yet}
+use Rattle.flash_laws.specs.Workers.Crew.{Crew}
+use Rattle.flash_laws.specs.Conn.Fits.{Has, quits, is_closing, HoldsMore, Names}
+use Rattle.flash_laws.specs.Client.Known as known
+use Rattle.flash_laws.specs.Client.Known.{OfFile, OfScript, MayPutOut, is_read, is_opening}
+use Rattle.flash_laws.specs.Run.Fits.{nothing_yet}
 use Rattle.flash_laws.specs.Shelf.{Shelf, due_to}
 use Rattle.flash_laws.specs.Site.{server, IsFixed}
 use Rattle.flash_laws.specs.declared.doing.Learnt.{Learnt}

@@ -23,10 +23,10 @@ use Rattle.flash_http.specs.Window.{window_in, FitsIn}
 use Rattle.flash_http.specs.Request.{Answer}
 use Rattle.flash_laws.specs.Answers.{Reads}
 use Rattle.flash_laws.specs.Client.{Client, conn_told}
-use Rattle.flash_laws.specs.ClientFits.{TieAlone, due_in, Finds, FitsAlone}
+use Rattle.flash_laws.specs.Client.Fits.{TieAlone, due_in, Finds, FitsAlone}
 use Rattle.flash_laws.specs.Conn as conn
 use Rattle.flash_laws.specs.Conn.{Following, Conn, most_kept, piece_end, moved_on}
-use Rattle.flash_laws.specs.Fits.{Has, quits, Names}
+use Rattle.flash_laws.specs.Conn.Fits.{Has, quits, Names}
 use Rattle.flash_laws.specs.Shelf.{Shelf, due_to, responses}
 use Rattle.flash_laws.specs.Site.{server}
 use Rattle.flash_laws.specs.declared.doing.Doing.{Doing}

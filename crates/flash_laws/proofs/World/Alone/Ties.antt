@@ -6,9 +6,9 @@ use Rattle.iol_core.specs.State.{Connection}
 use Rattle.flash_http.specs.Request.{Answer}
 use Rattle.flash_laws.specs.Answers.{keeps, Reads}
 use Rattle.flash_laws.specs.Client.{Client}
-use Rattle.flash_laws.specs.ClientFits.{TieAlone, is_at_rest, given_of}
-use Rattle.flash_laws.specs.Fits.{asked, quits}
-use Rattle.flash_laws.specs.Offers.{taken_of}
+use Rattle.flash_laws.specs.Client.Fits.{TieAlone, is_at_rest, given_of}
+use Rattle.flash_laws.specs.Conn.Fits.{asked, quits}
+use Rattle.flash_laws.specs.Conn.Offering.{taken_of}
 use Rattle.flash_laws.specs.Shelf.{Shelf, due_to, responses}
 use Rattle.flash_laws.specs.declared.doing.Doing.{Doing}
 use Rattle.flash_laws.specs.declared.doing.Doing.TheVariants.{Rests, Sent, Closes}

@@ -4,12 +4,12 @@ use Rattle.std.specs.Prelude.{◌==◌}
 use Rattle.iol_core.specs.State.{State, conn_at, is_gone}
 use Rattle.iol_proc.specs.declared.seat.Seat.{Seat}
 use Rattle.flash_http.specs.Request.{serve, Wanted}
-use Rattle.flash_laws.specs.Crew.{Crew}
-use Rattle.flash_laws.specs.Places.{has_worker}
-use Rattle.flash_laws.specs.RunFits.{Progress, MayAnswer}
-use Rattle.flash_laws.specs.RunOffers.{breaks_off}
+use Rattle.flash_laws.specs.Workers.Crew.{Crew}
+use Rattle.flash_laws.specs.Site.Places.{has_worker}
+use Rattle.flash_laws.specs.Run.Fits.{Progress, MayAnswer}
+use Rattle.flash_laws.specs.Run.Offering.{breaks_off}
 use Rattle.flash_laws.specs.Shelf.{Shelf, due_to}
-use Rattle.flash_laws.specs.Stages.{HasWorkerAt, Stage}
+use Rattle.flash_laws.specs.Run.Stages.{HasWorkerAt, Stage}
 use Rattle.flash_laws.specs.declared.running.Run.{Run}
 use Rattle.flash_laws.specs.declared.running.Step.{Step}
 use Rattle.flash_laws.specs.declared.running.Running.{Running}

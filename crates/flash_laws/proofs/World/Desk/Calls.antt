@@ -14,14 +14,14 @@ use Rattle.iol_laws.specs.Frame.{Leaves, touches_fd, touches_pipe, is_end, chang
 use Rattle.iol_laws.specs.Order.{IsOrderly}
 use Rattle.iol_proc.specs.declared.seat.Seat.{Seat}
 use Rattle.flash_cgi.specs.Beside.{is_call_of, LeavesFiles, LeavesWorker}
-use Rattle.flash_laws.specs.Crew.{Crew, IsFixedFor}
-use Rattle.flash_laws.specs.RunFits.{Progress}
-use Rattle.flash_laws.specs.RunKeeping.{may_make, KeepsToItself}
-use Rattle.flash_laws.specs.Running.{worker_domain}
-use Rattle.flash_laws.specs.Served.{AreAtDesks}
+use Rattle.flash_laws.specs.Workers.Crew.{Crew, IsFixedFor}
+use Rattle.flash_laws.specs.Run.Fits.{Progress}
+use Rattle.flash_laws.specs.Run.Keeping.{may_make, KeepsToItself}
+use Rattle.flash_laws.specs.Run.{worker_domain}
+use Rattle.flash_laws.specs.Site.Served.{AreAtDesks}
 use Rattle.flash_laws.specs.Shelf.{Shelf}
 use Rattle.flash_laws.specs.Site.{server}
-use Rattle.flash_laws.specs.Stages.{IsReadyFor, IsGiven, IsPuttingOut, HasPutOut, IsToCome}
+use Rattle.flash_laws.specs.Run.Stages.{IsReadyFor, IsGiven, IsPuttingOut, HasPutOut, IsToCome}
 use Rattle.flash_laws.specs.declared.running.Run.{Run}
 use Rattle.flash_laws.specs.declared.running.Running.{Running}
 use Rattle.flash_laws.proofs.Lists.{not-equal}

@@ -34,15 +34,15 @@ use Rattle.flash_cgi.specs.declared.line.Line.{Line}
 use Rattle.flash_cgi.specs.declared.script.TheConstants.{MAX_SCRIPT_BYTES}
 use Rattle.flash_cgi.proofs.Written.{regroup}
 use Rattle.flash_laws.specs.Client.{Client, job_of}
-use Rattle.flash_laws.specs.ClientFits.{IsScript, output_of}
-use Rattle.flash_laws.specs.Crew.{Crew}
-use Rattle.flash_laws.specs.RunFits.{Progress, nothing_yet, HasPipe}
-use Rattle.flash_laws.specs.RunOffers.{is_failing, IsLost}
-use Rattle.flash_laws.specs.Running.{worker_domain, job_pipe, is_again, told_awaits, told_gives, told_makes, told_hands}
-use Rattle.flash_laws.specs.Served.{AreAtDesks}
+use Rattle.flash_laws.specs.Client.Fits.{IsScript, output_of}
+use Rattle.flash_laws.specs.Workers.Crew.{Crew}
+use Rattle.flash_laws.specs.Run.Fits.{Progress, nothing_yet, HasPipe}
+use Rattle.flash_laws.specs.Run.Offering.{is_failing, IsLost}
+use Rattle.flash_laws.specs.Run.{worker_domain, job_pipe, is_again, told_awaits, told_gives, told_makes, told_hands}
+use Rattle.flash_laws.specs.Site.Served.{AreAtDesks}
 use Rattle.flash_laws.specs.Shelf.{Shelf}
 use Rattle.flash_laws.specs.Site.{server}
-use Rattle.flash_laws.specs.Stages.{IsReadyFor, IsGiven, IsPuttingOut}
+use Rattle.flash_laws.specs.Run.Stages.{IsReadyFor, IsGiven, IsPuttingOut}
 use Rattle.flash_laws.specs.declared.running.Run.{Run}
 use Rattle.flash_laws.specs.declared.running.Step.{Step}
 use Rattle.flash_laws.specs.declared.running.Step.TheVariants.{Gives, Makes, Hands, Lets, Returns, Lapses}

@@ -4,16 +4,16 @@ use Rattle.iol_core.specs.State.{State, descriptor}
 use Rattle.iol_core.specs.declared.descriptors.Descriptor.TheVariants as on
 use Rattle.iol_proc.specs.declared.seat.Seat.{Seat}
 use Rattle.flash_laws.specs.Client.{Client}
-use Rattle.flash_laws.specs.ClientFits.{Fits}
+use Rattle.flash_laws.specs.Client.Fits.{Fits}
 use Rattle.flash_laws.specs.Conn.{Conn}
-use Rattle.flash_laws.specs.Crew.{Crew}
-use Rattle.flash_laws.specs.Past.{Past}
-use Rattle.flash_laws.specs.Places.{is_run_by, is_free}
-use Rattle.flash_laws.specs.PutsOut.{PutsOut}
-use Rattle.flash_laws.specs.RunFits.{Progress}
-use Rattle.flash_laws.specs.Served.{AllFit}
+use Rattle.flash_laws.specs.Workers.Crew.{Crew}
+use Rattle.flash_laws.specs.Site.Past.{Past}
+use Rattle.flash_laws.specs.Site.Places.{is_run_by, is_free}
+use Rattle.flash_laws.specs.Workers.PutsOut.{PutsOut}
+use Rattle.flash_laws.specs.Run.Fits.{Progress}
+use Rattle.flash_laws.specs.Site.Served.{AllFit}
 use Rattle.flash_laws.specs.Shelf.{Shelf}
-use Rattle.flash_laws.specs.Stages.{IsPuttingOut, Stage}
+use Rattle.flash_laws.specs.Run.Stages.{IsPuttingOut, Stage}
 use Rattle.flash_laws.specs.declared.running.Run.{Run}
 use Rattle.flash_laws.specs.declared.running.Step.{Step}
 use Rattle.flash_laws.specs.declared.running.Step.TheVariants.{Makes, Hands, Lets, Heads, Sending, Hears, Spills, Gathers, Frames, Wraps, Trims, Returns, Lapses, Fails}

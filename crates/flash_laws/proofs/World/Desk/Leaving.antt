@@ -24,14 +24,14 @@ use Rattle.flash_cgi.specs.Beside.{is_call_of, LeavesFiles}
 use Rattle.flash_cgi.specs.Outcomes.{outcome_of}
 use Rattle.flash_cgi.specs.Output.{Found, Failed}
 use Rattle.flash_laws.specs.Client.{Client, uses_agg, uses_fd}
-use Rattle.flash_laws.specs.ClientKeeping.{has_fd}
-use Rattle.flash_laws.specs.Crew.{Crew}
-use Rattle.flash_laws.specs.Places.{is_run_by}
-use Rattle.flash_laws.specs.RunFits.{Progress, HasStep}
-use Rattle.flash_laws.specs.RunOffers.{is_stopping}
-use Rattle.flash_laws.specs.Running.{worker_domain, is_reading, step_agg}
+use Rattle.flash_laws.specs.Client.Keeping.{has_fd}
+use Rattle.flash_laws.specs.Workers.Crew.{Crew}
+use Rattle.flash_laws.specs.Site.Places.{is_run_by}
+use Rattle.flash_laws.specs.Run.Fits.{Progress, HasStep}
+use Rattle.flash_laws.specs.Run.Offering.{is_stopping}
+use Rattle.flash_laws.specs.Run.{worker_domain, is_reading, step_agg}
 use Rattle.flash_laws.specs.Site.{server, KeepsSite}
-use Rattle.flash_laws.specs.Stages.{HasPipeOf, IsReadyFor, IsGiven, IsPuttingOut, HasPutOut, Stage}
+use Rattle.flash_laws.specs.Run.Stages.{HasPipeOf, IsReadyFor, IsGiven, IsPuttingOut, HasPutOut, Stage}
 use Rattle.flash_laws.specs.declared.running.Run.{Run}
 use Rattle.flash_laws.specs.declared.running.Step.{Step}
 use Rattle.flash_laws.specs.declared.running.Step.TheVariants.{Gives, Makes, Hands, Wraps, Trims, Ended, Unholds, Stops, Unframes, Lasts, WrapsLast, TrimsLast, Unwraps, Returns, Lapses, Fails}

@@ -11,16 +11,16 @@ use Rattle.iol_laws.specs.Order.{IsOrderly}
 use Rattle.iol_proc.specs.declared.seat.Seat.{Seat}
 use Rattle.flash_http.specs.Request.{Wanted}
 use Rattle.flash_laws.specs.Client.{Client, job_of}
-use Rattle.flash_laws.specs.ClientFits.{IsScript, output_of}
-use Rattle.flash_laws.specs.Crew.{Crew, IsFixedFor}
-use Rattle.flash_laws.specs.Fits.{Names}
-use Rattle.flash_laws.specs.RunFits.{Progress, HasRun}
-use Rattle.flash_laws.specs.RunOffers.{Learns, is_failing}
-use Rattle.flash_laws.specs.Running.{job_pipe, step_wants, wants, told, told_step, is_over}
-use Rattle.flash_laws.specs.Served.{AreAtDesks}
+use Rattle.flash_laws.specs.Client.Fits.{IsScript, output_of}
+use Rattle.flash_laws.specs.Workers.Crew.{Crew, IsFixedFor}
+use Rattle.flash_laws.specs.Conn.Fits.{Names}
+use Rattle.flash_laws.specs.Run.Fits.{Progress, HasRun}
+use Rattle.flash_laws.specs.Run.Offering.{Learns, is_failing}
+use Rattle.flash_laws.specs.Run.{job_pipe, step_wants, wants, told, told_step, is_over}
+use Rattle.flash_laws.specs.Site.Served.{AreAtDesks}
 use Rattle.flash_laws.specs.Shelf.{Shelf}
 use Rattle.flash_laws.specs.Site.{server}
-use Rattle.flash_laws.specs.Stages.{HasWorkerAt, AtDesk, IsPuttingOut, HasPutOut, IsToCome}
+use Rattle.flash_laws.specs.Run.Stages.{HasWorkerAt, AtDesk, IsPuttingOut, HasPutOut, IsToCome}
 use Rattle.flash_laws.specs.declared.running.Run.{Run}
 use Rattle.flash_laws.specs.declared.running.Step.{Step}
 use Rattle.flash_laws.specs.declared.running.Step.TheVariants.{Gives, Makes, Hands, Sending, Hears, Wraps, Trims, Ended, Unholds, Stops, Unframes, Lasts, WrapsLast, TrimsLast, Unwraps, Returns, Lapses, Fails}

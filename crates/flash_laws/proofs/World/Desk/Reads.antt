@@ -16,20 +16,20 @@ use Rattle.iol_laws.specs.Sources.{MayReadAll, lie_in}
 use Rattle.iol_proc.specs.declared.seat.Seat.{Seat}
 use Rattle.flash_http.specs.Request.{serve, Wanted}
 use Rattle.flash_laws.specs.Client.{Client}
-use Rattle.flash_laws.specs.ClientFits.{IsScript, output_of}
+use Rattle.flash_laws.specs.Client.Fits.{IsScript, output_of}
 use Rattle.flash_laws.specs.Conn as conn
 use Rattle.flash_laws.specs.Conn.{Following, count_of}
-use Rattle.flash_laws.specs.Crew.{Crew}
-use Rattle.flash_laws.specs.Fits.{Names}
-use Rattle.flash_laws.specs.Known.{MayPutOut}
-use Rattle.flash_laws.specs.Offers.{is_dropping}
-use Rattle.flash_laws.specs.PutsOut.{PutsOut}
-use Rattle.flash_laws.specs.RunFits.{Progress, Ran, Broken, NotRun, Follows, MayAnswer, IsSending}
-use Rattle.flash_laws.specs.RunOffers.{hears_on, takes_on, PartLearns, StepLearns, IsCutOff}
-use Rattle.flash_laws.specs.Running.{in_phase, held_size, broken, both, told_part, told_sending, told_hears, told_step, filled, holding, hearing}
+use Rattle.flash_laws.specs.Workers.Crew.{Crew}
+use Rattle.flash_laws.specs.Conn.Fits.{Names}
+use Rattle.flash_laws.specs.Client.Known.{MayPutOut}
+use Rattle.flash_laws.specs.Conn.Offering.{is_dropping}
+use Rattle.flash_laws.specs.Workers.PutsOut.{PutsOut}
+use Rattle.flash_laws.specs.Run.Fits.{Progress, Ran, Broken, NotRun, Follows, MayAnswer, IsSending}
+use Rattle.flash_laws.specs.Run.Offering.{hears_on, takes_on, PartLearns, StepLearns, IsCutOff}
+use Rattle.flash_laws.specs.Run.{in_phase, held_size, broken, both, told_part, told_sending, told_hears, told_step, filled, holding, hearing}
 use Rattle.flash_laws.specs.Shelf.{Shelf, due_to}
 use Rattle.flash_laws.specs.Site.{server}
-use Rattle.flash_laws.specs.Stages.{IsPuttingOut, IsToCome, IsHeardWhole, Stage}
+use Rattle.flash_laws.specs.Run.Stages.{IsPuttingOut, IsToCome, IsHeardWhole, Stage}
 use Rattle.flash_laws.specs.declared.doing.Content.TheVariants.{Error}
 use Rattle.flash_laws.specs.declared.doing.Doing.{Doing}
 use Rattle.flash_laws.specs.declared.doing.Doing.TheVariants as doing

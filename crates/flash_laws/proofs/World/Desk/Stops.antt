@@ -13,13 +13,13 @@ use Rattle.iol_proc.specs.declared.seat.Seat.{Seat}
 use Rattle.flash_http.specs.Request.{serve, Wanted}
 use Rattle.flash_laws.specs.Conn as conn
 use Rattle.flash_laws.specs.Conn.{Following, count_of}
-use Rattle.flash_laws.specs.Crew.{Crew}
-use Rattle.flash_laws.specs.RunFits.{Progress}
-use Rattle.flash_laws.specs.RunOffers.{PartLearns, breaks_off}
-use Rattle.flash_laws.specs.Running.{in_phase, told_step, finishing, ending}
+use Rattle.flash_laws.specs.Workers.Crew.{Crew}
+use Rattle.flash_laws.specs.Run.Fits.{Progress}
+use Rattle.flash_laws.specs.Run.Offering.{PartLearns, breaks_off}
+use Rattle.flash_laws.specs.Run.{in_phase, told_step, finishing, ending}
 use Rattle.flash_laws.specs.Shelf.{Shelf, due_to}
 use Rattle.flash_laws.specs.Site.{server}
-use Rattle.flash_laws.specs.Stages.{HasWorkerAt, HasPutOut, Stage}
+use Rattle.flash_laws.specs.Run.Stages.{HasWorkerAt, HasPutOut, Stage}
 use Rattle.flash_laws.specs.declared.doing.Doing.{Doing}
 use Rattle.flash_laws.specs.declared.doing.Doing.TheVariants as doing
 use Rattle.flash_laws.specs.declared.running.Run.{Run}

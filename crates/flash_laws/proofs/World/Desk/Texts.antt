@@ -22,8 +22,8 @@ use Rattle.flash_cgi.specs.Beside.{is_call_of, LeavesFiles, OthersHear}
 use Rattle.flash_cgi.specs.Outcomes.{AreFiles}
 use Rattle.flash_cgi.specs.Shown.{HoldFiles}
 use Rattle.flash_cgi.proofs.Feeding.{bytes-append}
-use Rattle.flash_laws.specs.PutsOut.{HasRead, IsAllThere, PutsOut, TextsArePutOut}
-use Rattle.flash_laws.specs.WorkersRun.{WorkersRun, Wrote}
+use Rattle.flash_laws.specs.Workers.PutsOut.{HasRead, IsAllThere, PutsOut, TextsArePutOut}
+use Rattle.flash_laws.specs.Workers.{WorkersRun, Wrote}
 
 -- nothing went from a pipe that was left
 no_front : (gone queue : Text) → queue ≡ gone ++ queue → gone ≡ []

@@ -13,19 +13,19 @@ use Rattle.flash_http.specs.Request.{Wanted}
 use Rattle.flash_cgi.specs.Leaving.{LeavesAllBut}
 use Rattle.flash_cgi.specs.Shown.{HoldFiles}
 use Rattle.flash_laws.specs.Client.{Client, job_of}
-use Rattle.flash_laws.specs.ClientFits.{TieRun, output_of}
-use Rattle.flash_laws.specs.ClientKeeping.{has_fd}
+use Rattle.flash_laws.specs.Client.Fits.{TieRun, output_of}
+use Rattle.flash_laws.specs.Client.Keeping.{has_fd}
 use Rattle.flash_laws.specs.Conn.{Conn}
-use Rattle.flash_laws.specs.Crew.{Crew}
-use Rattle.flash_laws.specs.Past.{Past}
-use Rattle.flash_laws.specs.Places.{is_run_by}
-use Rattle.flash_laws.specs.PutsOut as puts
-use Rattle.flash_laws.specs.RunFits.{Progress, HasRun}
-use Rattle.flash_laws.specs.Running.{is_reading, step_fd, ends_of}
-use Rattle.flash_laws.specs.Served.{FitsAt}
+use Rattle.flash_laws.specs.Workers.Crew.{Crew}
+use Rattle.flash_laws.specs.Site.Past.{Past}
+use Rattle.flash_laws.specs.Site.Places.{is_run_by}
+use Rattle.flash_laws.specs.Workers.PutsOut as puts
+use Rattle.flash_laws.specs.Run.Fits.{Progress, HasRun}
+use Rattle.flash_laws.specs.Run.{is_reading, step_fd, ends_of}
+use Rattle.flash_laws.specs.Site.Served.{FitsAt}
 use Rattle.flash_laws.specs.Shelf.{Shelf}
 use Rattle.flash_laws.specs.Site.{server}
-use Rattle.flash_laws.specs.Stages.{HasPipeOf, IsReadyFor, IsGiven, IsPuttingOut, HasPutOut, Stage}
+use Rattle.flash_laws.specs.Run.Stages.{HasPipeOf, IsReadyFor, IsGiven, IsPuttingOut, HasPutOut, Stage}
 use Rattle.flash_laws.specs.declared.running.Run.{Run}
 use Rattle.flash_laws.specs.declared.running.Step.{Step}
 use Rattle.flash_laws.specs.declared.running.Step.TheVariants.{Gives, Makes, Hands, Lets, Heads, Sending, Hears, Spills, Gathers, Frames, Wraps, Trims, Ended, Unholds, Stops, Unframes, Lasts, WrapsLast, TrimsLast, Unwraps, Returns, Lapses, Fails}

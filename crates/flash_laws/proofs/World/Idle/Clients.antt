@@ -13,14 +13,14 @@ use Rattle.iol_laws.specs.RefusalsLeft.{may_wait}
 use Rattle.flash_http.specs.Request.{Answer}
 use Rattle.flash_laws.specs.Answers.{Reads}
 use Rattle.flash_laws.specs.Client.{IsAwaiting, uses_agg, script_wants, conn_wants}
-use Rattle.flash_laws.specs.ClientFits.{FitsAlone, TieAlone}
+use Rattle.flash_laws.specs.Client.Fits.{FitsAlone, TieAlone}
 use Rattle.flash_laws.specs.Conn.{most_kept, most_read, name_of, text_of, is_head_only, piece_end, wants}
-use Rattle.flash_laws.specs.Crew.{Crew, IsFixedFor}
-use Rattle.flash_laws.specs.Done.{StaysOpen}
-use Rattle.flash_laws.specs.Idle.{WouldWait}
+use Rattle.flash_laws.specs.Workers.Crew.{Crew, IsFixedFor}
+use Rattle.flash_laws.specs.World.Remains.{StaysOpen}
+use Rattle.flash_laws.specs.World.Idle.{WouldWait}
 use Rattle.flash_laws.specs.Shelf.{Shelf, responses, IsAnswer}
 use Rattle.flash_laws.specs.Site.{server}
-use Rattle.flash_laws.specs.WorldDone.{IsHeldUp}
+use Rattle.flash_laws.specs.World.Done.{IsHeldUp}
 use Rattle.flash_laws.specs.declared.doing.Doing.{Doing}
 use Rattle.flash_laws.specs.declared.doing.Doing.TheVariants.{Rests, Got, Opens, Reads as Reading, Shuts, Picks, Spares, Heads, Joins, Sends, Cuts, Offers, Swaps, Sent, Breaks, Drops, Closes, Over}
 use Rattle.flash_laws.proofs.Forms.{at}

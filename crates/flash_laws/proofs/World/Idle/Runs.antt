@@ -11,16 +11,16 @@ use Rattle.iol_proc.specs.declared.seat.Seat.{Seat}
 use Rattle.flash_http.specs.Request.{serve, Wanted}
 use Rattle.flash_laws.specs.Conn as conn
 use Rattle.flash_laws.specs.Conn.{name_of, text_of, piece_end}
-use Rattle.flash_laws.specs.Crew.{Crew, IsFixedFor}
-use Rattle.flash_laws.specs.Idle.{WouldWait}
-use Rattle.flash_laws.specs.RunFits.{Progress, IsPart, sent_agg, HasStep, HasRun}
-use Rattle.flash_laws.specs.Running.{worker_domain, job_pipe, in_phase, held_size, step_wants, wants, is_over}
-use Rattle.flash_laws.specs.Scripts.{script_text, frame_of, place_in_frame, end_around}
-use Rattle.flash_laws.specs.Served.{AreAtDesks}
+use Rattle.flash_laws.specs.Workers.Crew.{Crew, IsFixedFor}
+use Rattle.flash_laws.specs.World.Idle.{WouldWait}
+use Rattle.flash_laws.specs.Run.Fits.{Progress, IsPart, sent_agg, HasStep, HasRun}
+use Rattle.flash_laws.specs.Run.{worker_domain, job_pipe, in_phase, held_size, step_wants, wants, is_over}
+use Rattle.flash_laws.specs.Answers.Scripts.{script_text, frame_of, place_in_frame, end_around}
+use Rattle.flash_laws.specs.Site.Served.{AreAtDesks}
 use Rattle.flash_laws.specs.Shelf.{Shelf}
 use Rattle.flash_laws.specs.Site.{server}
-use Rattle.flash_laws.specs.Stages.{HasWorkerAt, AtDesk}
-use Rattle.flash_laws.specs.WorldDone.{IsHeldUp}
+use Rattle.flash_laws.specs.Run.Stages.{HasWorkerAt, AtDesk}
+use Rattle.flash_laws.specs.World.Done.{IsHeldUp}
 use Rattle.flash_laws.specs.declared.doing.Doing.{Doing}
 use Rattle.flash_laws.specs.declared.doing.Doing.TheVariants as doing
 use Rattle.flash_laws.specs.declared.running.TheConstants.{CHUNK_BYTES}

@@ -15,23 +15,23 @@ use Rattle.flash_http.specs.MediaType.{is_script}
 use Rattle.flash_http.specs.Request.{serve}
 use Rattle.flash_laws.specs.Answers.{Reads}
 use Rattle.flash_laws.specs.Client.{Client, uses_agg, is_for_script, job_of, awaits}
-use Rattle.flash_laws.specs.ClientFits.{output_of, Fits, FitsRun}
+use Rattle.flash_laws.specs.Client.Fits.{output_of, Fits, FitsRun}
 use Rattle.flash_laws.specs.Conn.{Conn}
-use Rattle.flash_laws.specs.Crew.{Crew, IsFixedFor}
-use Rattle.flash_laws.specs.Done.{IsFull, StaysOpen}
-use Rattle.flash_laws.specs.Fits.{IsLent}
-use Rattle.flash_laws.specs.Idle.{WouldWait, Blocks, AllBlock, server_settled}
-use Rattle.flash_laws.specs.Past.{Past}
-use Rattle.flash_laws.specs.Places.{is_run_by, has_free, may_go, runs_scripts, filed}
-use Rattle.flash_laws.specs.RunFits.{Progress}
-use Rattle.flash_laws.specs.RunOffers.{past_of as past_taken, taken_by}
-use Rattle.flash_laws.specs.Served.{Held, Aside, AllFit, IsUsed, AreOwned}
+use Rattle.flash_laws.specs.Workers.Crew.{Crew, IsFixedFor}
+use Rattle.flash_laws.specs.World.Remains.{IsFull, StaysOpen}
+use Rattle.flash_laws.specs.Conn.Fits.{IsLent}
+use Rattle.flash_laws.specs.World.Idle.{WouldWait, Blocks, AllBlock, server_settled}
+use Rattle.flash_laws.specs.Site.Past.{Past}
+use Rattle.flash_laws.specs.Site.Places.{is_run_by, has_free, may_go, runs_scripts, filed}
+use Rattle.flash_laws.specs.Run.Fits.{Progress}
+use Rattle.flash_laws.specs.Run.Offering.{past_of as past_taken, taken_by}
+use Rattle.flash_laws.specs.Site.Served.{Held, Aside, AllFit, IsUsed, AreOwned}
 use Rattle.flash_laws.specs.Shelf.{Shelf, IsAnswer, due_to}
-use Rattle.flash_laws.specs.Sharing.{RunsForAnother}
+use Rattle.flash_laws.specs.Workers.Sharing.{RunsForAnother}
 use Rattle.flash_laws.specs.Site.{server}
-use Rattle.flash_laws.specs.Tie.{past_of, Actor, Serving}
+use Rattle.flash_laws.specs.World.Tie.{past_of, Actor, Serving}
 use Rattle.flash_laws.specs.World.{as_actor}
-use Rattle.flash_laws.specs.WorldDone.{IsHeldUp, IsHeldUpAt, AsksForScript, RunsForHeldUp, AwaitsWorker, IsDone, IdleIsDone}
+use Rattle.flash_laws.specs.World.Done.{IsHeldUp, IsHeldUpAt, AsksForScript, RunsForHeldUp, AwaitsWorker, IsDone, IdleIsDone}
 use Rattle.flash_laws.specs.declared.running.Running.{Running}
 use Rattle.flash_laws.specs.declared.running.Running.TheVariants.{Awaits}
 use Rattle.flash_laws.proofs.Forms.{of}

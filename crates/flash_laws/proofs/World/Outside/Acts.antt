@@ -14,12 +14,12 @@ use Rattle.iol_laws.specs.Others as o
 use Rattle.iol_laws.proofs.Streams.Remaining.{Went, went-out}
 use Rattle.iol_proc.specs.declared.seat.Seat.{Seat}
 use Rattle.flash_laws.specs.Client.{Client}
-use Rattle.flash_laws.specs.Crew.{Crew, IsFixedFor}
-use Rattle.flash_laws.specs.Past.{Past, and_then}
-use Rattle.flash_laws.specs.Served.{Aside, AllFit}
+use Rattle.flash_laws.specs.Workers.Crew.{Crew, IsFixedFor}
+use Rattle.flash_laws.specs.Site.Past.{Past, and_then}
+use Rattle.flash_laws.specs.Site.Served.{Aside, AllFit}
 use Rattle.flash_laws.specs.Shelf.{Shelf, Begins, IsAnswer}
 use Rattle.flash_laws.specs.Site.{net_pool, KeepsSite}
-use Rattle.flash_laws.specs.Tied.{Waits}
+use Rattle.flash_laws.specs.Site.Tied.{Waits}
 use Rattle.flash_laws.proofs.Lists.{not-equal, self, former_of}
 use Rattle.flash_laws.proofs.Site.Pasts.{or-false}
 use Rattle.flash_laws.proofs.Site.Peers.{IsTold}

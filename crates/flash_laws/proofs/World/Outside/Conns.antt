@@ -11,11 +11,11 @@ use Rattle.iol_laws.specs.Order.{IsOrderly}
 use Rattle.iol_proc.specs.declared.seat.Seat.{Seat}
 use Rattle.flash_cgi.specs.Beside.{is_call_of}
 use Rattle.flash_laws.specs.Client.{Client}
-use Rattle.flash_laws.specs.ClientFits.{FitsBy, Fits}
-use Rattle.flash_laws.specs.Crew.{Crew, IsFixedFor}
-use Rattle.flash_laws.specs.Past.{Past}
-use Rattle.flash_laws.specs.Running.{worker_domain}
-use Rattle.flash_laws.specs.Served.{Held, Aside, FitsAt, AllFit}
+use Rattle.flash_laws.specs.Client.Fits.{FitsBy, Fits}
+use Rattle.flash_laws.specs.Workers.Crew.{Crew, IsFixedFor}
+use Rattle.flash_laws.specs.Site.Past.{Past}
+use Rattle.flash_laws.specs.Run.{worker_domain}
+use Rattle.flash_laws.specs.Site.Served.{Held, Aside, FitsAt, AllFit}
 use Rattle.flash_laws.specs.Shelf.{Shelf, Begins, IsAnswer}
 use Rattle.flash_laws.specs.Site.{server, KeepsSite}
 use Rattle.flash_laws.specs.declared.running.Running.{Running}

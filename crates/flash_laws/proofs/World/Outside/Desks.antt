@@ -13,18 +13,18 @@ use Rattle.iol_proc.specs.declared.seat.Seat.{Seat}
 use Rattle.flash_http.specs.Request.{Wanted}
 use Rattle.flash_cgi.specs.Beside.{is_call_of}
 use Rattle.flash_laws.specs.Client.{Client}
-use Rattle.flash_laws.specs.ClientFits.{FitsBy, FitsRun, Fits}
-use Rattle.flash_laws.specs.Crew.{Crew, IsFixedFor}
-use Rattle.flash_laws.specs.Past.{Past}
-use Rattle.flash_laws.specs.Places.{is_free}
-use Rattle.flash_laws.specs.PutsOut.{PutsOut}
-use Rattle.flash_laws.specs.RunFits.{Progress, HasPipe, HasStep}
-use Rattle.flash_laws.specs.RunOffers.{is_stopping}
-use Rattle.flash_laws.specs.Running.{worker_domain, job_pipe}
-use Rattle.flash_laws.specs.Served.{FitsAt, AreAtDesks, AllFit}
+use Rattle.flash_laws.specs.Client.Fits.{FitsBy, FitsRun, Fits}
+use Rattle.flash_laws.specs.Workers.Crew.{Crew, IsFixedFor}
+use Rattle.flash_laws.specs.Site.Past.{Past}
+use Rattle.flash_laws.specs.Site.Places.{is_free}
+use Rattle.flash_laws.specs.Workers.PutsOut.{PutsOut}
+use Rattle.flash_laws.specs.Run.Fits.{Progress, HasPipe, HasStep}
+use Rattle.flash_laws.specs.Run.Offering.{is_stopping}
+use Rattle.flash_laws.specs.Run.{worker_domain, job_pipe}
+use Rattle.flash_laws.specs.Site.Served.{FitsAt, AreAtDesks, AllFit}
 use Rattle.flash_laws.specs.Shelf.{Shelf}
 use Rattle.flash_laws.specs.Site.{server, KeepsSite}
-use Rattle.flash_laws.specs.Stages.{HasPipeOf, IsGiven, IsPuttingOut, Stage}
+use Rattle.flash_laws.specs.Run.Stages.{HasPipeOf, IsGiven, IsPuttingOut, Stage}
 use Rattle.flash_laws.specs.declared.running.Run.{Run}
 use Rattle.flash_laws.specs.declared.running.Step.{Step}
 use Rattle.flash_laws.specs.declared.running.Step.TheVariants.{Gives, Makes, Hands, Wraps, Trims, Ended, Unholds, Stops, Unframes, Lasts, WrapsLast, TrimsLast, Unwraps, Returns, Lapses, Fails}

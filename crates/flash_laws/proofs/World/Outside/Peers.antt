@@ -15,12 +15,12 @@ use Rattle.iol_laws.specs.Others as o
 use Rattle.iol_laws.proofs.Streams.Remaining.{LeavesPeer, peer-left}
 use Rattle.iol_proc.specs.declared.seat.Seat.{Seat}
 use Rattle.flash_laws.specs.Client.{Client}
-use Rattle.flash_laws.specs.Crew.{Crew, IsFixedFor}
-use Rattle.flash_laws.specs.Past.{Past, gone_by}
-use Rattle.flash_laws.specs.Served.{Ended, Aside, AllFit}
+use Rattle.flash_laws.specs.Workers.Crew.{Crew, IsFixedFor}
+use Rattle.flash_laws.specs.Site.Past.{Past, gone_by}
+use Rattle.flash_laws.specs.Site.Served.{Ended, Aside, AllFit}
 use Rattle.flash_laws.specs.Shelf.{Shelf, Begins, IsAnswer}
 use Rattle.flash_laws.specs.Site.{KeepsSite}
-use Rattle.flash_laws.specs.Tied.{Waits, Foreign}
+use Rattle.flash_laws.specs.Site.Tied.{Waits, Foreign}
 use Rattle.flash_laws.proofs.Lists.{not-equal, self, later_of, former_of}
 use Rattle.flash_laws.proofs.Site.Pasts.{or-false, peer_told}
 use Rattle.flash_laws.proofs.Site.Peers.{IsTold, peer-done, over-done}

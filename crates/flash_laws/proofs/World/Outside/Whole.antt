@@ -15,13 +15,13 @@ use Rattle.iol_laws.specs.Order.{IsOrderly}
 use Rattle.iol_laws.specs.Others as o
 use Rattle.iol_proc.specs.declared.seat.Seat.{Seat}
 use Rattle.flash_laws.specs.Client.{Client}
-use Rattle.flash_laws.specs.Crew.{Crew, IsFixedFor}
-use Rattle.flash_laws.specs.Past.{Past, and_then, IsAct}
-use Rattle.flash_laws.specs.Running.{worker_domain}
-use Rattle.flash_laws.specs.Served.{Ended, Aside, AllFit}
+use Rattle.flash_laws.specs.Workers.Crew.{Crew, IsFixedFor}
+use Rattle.flash_laws.specs.Site.Past.{Past, and_then, IsAct}
+use Rattle.flash_laws.specs.Run.{worker_domain}
+use Rattle.flash_laws.specs.Site.Served.{Ended, Aside, AllFit}
 use Rattle.flash_laws.specs.Shelf.{Shelf}
 use Rattle.flash_laws.specs.Site.{server, KeepsSite}
-use Rattle.flash_laws.specs.Tied.{Waits}
+use Rattle.flash_laws.specs.Site.Tied.{Waits}
 use Rattle.flash_laws.proofs.Lists.{not-equal}
 use Rattle.flash_laws.proofs.Site.Pasts.{past-same, none-told, past-told}
 use Rattle.flash_laws.proofs.Site.Peers.{told-call}

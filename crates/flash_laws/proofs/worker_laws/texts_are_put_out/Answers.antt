@@ -1,6 +1,6 @@
 use Rattle.flash_cgi.specs.Waiting.{HasWaited}
 use Rattle.flash_cgi.specs.Works.{worker_turns}
-use Rattle.flash_laws.specs.WorkersRun.{IsDueOf, IsFreeFor}
+use Rattle.flash_laws.specs.Workers.{IsDueOf, IsFreeFor}
 use Rattle.flash_laws.proofs.World.Desk.Texts.{texts_are_put_out}
 use Rattle.flash_laws.proofs.worker_laws.texts_are_put_out.Goals as goal
 

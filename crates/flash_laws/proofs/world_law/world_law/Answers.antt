@@ -2,13 +2,13 @@ use Rattle.std.proofs.Common.{ℕ, Bool, [], ◌++◌, length, map, subst}
 use Rattle.iol_proc.specs.Idle.{Idles, rounds}
 use Rattle.iol_proc.specs.World.{copying, domains_of}
 use Rattle.iol_proc.proofs.Smooth.{rough_as_it_runs}
-use Rattle.flash_laws.specs.Crew.{Crew}
-use Rattle.flash_laws.specs.Crews.{crew_with}
-use Rattle.flash_laws.specs.Rounds.{in_rounds}
+use Rattle.flash_laws.specs.Workers.Crew.{Crew}
+use Rattle.flash_laws.specs.Workers.Crews.{crew_with}
+use Rattle.flash_laws.specs.Serves.Rounds.{in_rounds}
 use Rattle.flash_laws.specs.Serves.{any}
-use Rattle.flash_laws.specs.Tie.{actor_turns}
+use Rattle.flash_laws.specs.World.Tie.{actor_turns}
 use Rattle.flash_laws.specs.World.{DesksAreApart}
-use Rattle.flash_laws.specs.WorldHost.{HostIsRight}
+use Rattle.flash_laws.specs.World.Host.{HostIsRight}
 use Rattle.flash_laws.proofs.Conn.Answering.{WindowLaws}
 use Rattle.flash_laws.proofs.Site.Hosting.{rounds-mild}
 use Rattle.flash_laws.proofs.Site.Settling.{actor_settles}

@@ -1,8 +1,8 @@
 use Rattle.std.proofs.Common.{[], length, map}
 use Rattle.iol_proc.specs.Idle.{rounds}
 use Rattle.iol_proc.specs.World.{domains_of}
-use Rattle.flash_laws.specs.Rounds.{in_rounds}
-use Rattle.flash_laws.specs.Tie.{actor_turns}
+use Rattle.flash_laws.specs.Serves.Rounds.{in_rounds}
+use Rattle.flash_laws.specs.World.Tie.{actor_turns}
 use Rattle.flash_lite.specs.Crew.{crew_of}
 use Rattle.flash_lite.specs.Harmless.{HarmlessIsMild}
 use Rattle.flash_lite.specs.Library.{library_of}

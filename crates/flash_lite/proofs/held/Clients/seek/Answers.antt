@@ -1,5 +1,5 @@
 use Rattle.std.proofs.Common.{◌∙◌, ap, sym, true, false}
-use Rattle.flash_laws.specs.Rounds.{next_in}
+use Rattle.flash_laws.specs.Serves.Rounds.{next_in}
 use Rattle.flash_lite.proofs.Order.{ascend, next_is, next_some}
 use Rattle.flash_lite.proofs.held.Clients.seek.Goals as goal
 

@@ -1,7 +1,7 @@
 use Rattle.std.proofs.Common.{◌≡◌, ◌∙◌, [], Some, ap, refl, subst, sym, rules}
 use Rattle.iol_core.specs.declared.events.Reply.TheVariants as reply
 use Rattle.flash_laws.specs.Client.{new_client}
-use Rattle.flash_laws.specs.Tied.{with_at}
+use Rattle.flash_laws.specs.Site.Tied.{with_at}
 use Rattle.flash_lite.specs.Table.{Table, IsKept}
 use Rattle.flash_lite.specs.Turning.{Turns, door_to, worker_at}
 use Rattle.flash_lite.specs.declared.server.TheConstants.{MAX_CONNS}

@@ -1,5 +1,5 @@
 use Rattle.std.proofs.Common.{◌≡◌, ◌∙◌, ap, subst}
-use Rattle.flash_laws.specs.Places.{runs_scripts}
+use Rattle.flash_laws.specs.Site.Places.{runs_scripts}
 use Rattle.flash_lite.specs.Table.{Table}
 use Rattle.flash_lite.specs.Turning.{PicksFrom, has_in}
 use Rattle.flash_lite.specs.declared.server.TheConstants.{MAX_CONNS}

@@ -1,0 +1,176 @@
+-- What ties one client to what came on its connection and what was sent: as a connection alone, or with the run of a script.
+use Rattle.std.specs.Prelude.{◌≡◌, ◌≤◌, ℕ, ◌+◌, ◌⊎◌, Bool, true, false, List, [], ◌∷◌, ◌++◌, length, take, Option, Some, None, is_none, if◌then◌else◌}
+use Rattle.std.specs.List.{list_all}
+use Rattle.iol_core.specs.Text.{bytes_of}
+use Rattle.iol_core.specs.State.{State, Connection, descriptor, content, file, may_read, conn_at, is_gone}
+use Rattle.iol_core.specs.declared.descriptors.Descriptor.TheVariants as on
+use Rattle.iol_core.specs.declared.descriptors.Mode.TheVariants as modes
+use Rattle.iol_proc.specs.declared.seat.Seat.{Seat}
+use Rattle.flash_http.specs.declared.windows.Window.TheVariants.{Wait}
+use Rattle.flash_http.specs.Window.{window_in}
+use Rattle.flash_http.specs.Request.{Answer, serve, refuse, Wanted}
+use Rattle.flash_cgi.specs.Output.{output}
+use Rattle.flash_cgi.specs.Script.{script_of}
+use Rattle.flash_cgi.specs.declared.line.Line.{Line}
+use Rattle.flash_laws.specs.Answers.{Found, keeps, Reads, last_may_close, last_closes}
+use Rattle.flash_laws.specs.Client.{Client, is_for_script, can_run, job_of, keeps_text}
+use Rattle.flash_laws.specs.Conn.{most_kept, most_read, name_of, text_of, is_head_only}
+use Rattle.flash_laws.specs.Workers.Crew.{Crew}
+use Rattle.flash_laws.specs.Shelf.Due.{outcomes_by}
+use Rattle.flash_laws.specs.Conn.Fits.{Has, quits, asked}
+use Rattle.flash_laws.specs.Client.Known.{is_read}
+use Rattle.flash_laws.specs.Conn.Offering.{taken_of}
+use Rattle.flash_laws.specs.Run.Fits as run
+use Rattle.flash_laws.specs.Run.Fits.{Progress, HasRun}
+use Rattle.flash_laws.specs.Run.Offering.{past_of, taken_by, breaks_off}
+use Rattle.flash_laws.specs.Run.{is_over}
+use Rattle.flash_laws.specs.Shelf.{Shelf, due_to, responses, Begins}
+use Rattle.flash_laws.specs.Site.{server}
+use Rattle.flash_laws.specs.Run.Stages.{HasWorkerAt}
+use Rattle.flash_laws.specs.declared.doing.Learnt.TheVariants.{Text}
+use Rattle.flash_laws.specs.declared.doing.Content.TheVariants.{Script}
+use Rattle.flash_laws.specs.declared.doing.Doing.{Doing}
+use Rattle.flash_laws.specs.declared.doing.Doing.TheVariants as doing
+use Rattle.flash_laws.specs.declared.running.Running.{Running}
+
+-- a request whose query is no longer than a head, and that closes the connection where its response is in no chunks: such are all
+-- that are read from a stream
+abbrev pub IsProper : Answer → Type 0
+IsProper (serve w) = (length w.query ≤ most_kept) × (w.chunked ≡ false → w.keep ≡ false)
+IsProper (refuse status head_only close) = Unit {0}
+
+-- whether nothing is asked
+abbrev pub is_at_rest : Doing → Bool
+is_at_rest doing.Rests = true
+is_at_rest (doing.Got a) = true
+is_at_rest d = false
+
+-- All is answered: the last response closes, or the stream is at its end, and no request is left.
+pub record Finished (shelf : Shelf) (k : Connection) (took out : List ℕ) : Type 0 where
+  pub qs : List Answer
+  pub rest : List ℕ
+  pub reads : Reads took qs rest
+  pub order : last_may_close qs ≡ true
+  pub all : out ≡ responses shelf qs
+  pub no_more : (last_closes qs ≡ true) ⊎ ((window_in rest ≡ Wait) × (k.incoming ≡ []) × (is_none k.peer ≡ false))
+
+-- The requests before the one in progress are answered whole, that one up to these bytes, and the rest of the stream is kept.
+pub record Answers (shelf : Shelf) (took out kept : List ℕ) (now : List Answer) (given : List ℕ) : Type 0 where
+  pub done : List Answer
+  pub open_yet : list_all (λ p. keeps p) done ≡ true
+  pub reads : Reads took (done ++ now) kept
+  pub out_is : out ≡ responses shelf done ++ given
+
+-- The peer is gone, which drops what was to be sent; what was sent begins the answer.
+pub record IsLeftAlone (shelf : Shelf) (k : Connection) (took out : List ℕ) : Type 0 where
+  pub gone : is_gone k.peer ≡ true
+  pub begins : Begins shelf took out
+
+-- ---- a connection alone
+
+module _ (shelf : Shelf) where
+  -- what is given of the response to the request in progress, where so many bytes of it are taken
+  abbrev pub given_of : Answer → (rests : Bool) → (taken : ℕ) → List ℕ
+  given_of q rests taken = if rests then [] else take taken (due_to shelf q)
+
+  -- what the phase makes or sends the bytes of: where the text of a script was read the head for one, else the response
+  abbrev pub due_in : Answer → Doing → List ℕ
+  due_in q d = if is_read d then text_of q Script else due_to shelf q
+
+  -- the text of a script was read that can run, and is kept but for HEAD
+  pub record HasText (q : Answer) (script : List ℕ) : Type 0 where
+    pub asks : is_for_script shelf.scripts q ≡ true
+    pub text : List ℕ
+    pub found : shelf.finds (name_of q) ≡ Found text
+    pub runs : can_run text ≡ true
+    pub kept : is_head_only q ≡ false → script ≡ text
+
+  -- the file that is being read is the one that is asked for
+  pub record FindsFile (m : State) (q : Answer) (fd : ℕ) : Type 0 where
+    pub number : ℕ
+    pub open_on : descriptor m server fd ≡ Some (on.File number 0 modes.Read)
+    pub may : may_read m server (file m number).pool ≡ true
+    pub short : length (content m number) ≤ most_read
+    pub found : shelf.finds (name_of q) ≡ Found (content m number)
+
+  abbrev pub Finds : State → Answer → (script : List ℕ) → Doing → Type 0
+  Finds m q script (doing.Reads f) = FindsFile m q f
+  Finds m q script (doing.Shuts f (Text a true)) = HasText q script
+  Finds m q script (doing.Spares a Script) = HasText q script
+  Finds m q script d = Unit {0}
+
+  -- all is answered, and the connection will only be closed
+  pub record IsFinished (k : Connection) (took out : List ℕ) (d : Doing) : Type 0 where
+    pub quits : quits d ≡ true
+    pub finished : Finished shelf k took out
+    pub begins : Begins shelf took out
+
+  abbrev pub TieAlone : Connection → (took sent : List ℕ) → Client → Type 0
+  TieAlone k took sent x =
+      ((quits x.conn.doing ≡ false) × Answers shelf took (sent ++ bytes_of k.outgoing) x.conn.kept (asked x.conn.q x.conn.doing)
+      (given_of x.conn.q (is_at_rest x.conn.doing) (taken_of x.conn.doing)))
+      ⊎ (IsFinished k took (sent ++ bytes_of k.outgoing) x.conn.doing
+      ⊎ IsLeftAlone shelf k took (sent ++ bytes_of k.outgoing))
+
+  -- A client for which no script runs: the server's descriptor is open on its connection; what it took of the stream is what came
+  -- before what waits; and it is tied.
+  pub record FitsAlone (m : State) (came sent : List ℕ) (fd c : ℕ) (x : Client) : Type 0 where
+    pub open_on : descriptor m server fd ≡ Some (on.Connection c)
+    pub took : List ℕ
+    pub came_is : came ≡ took ++ bytes_of (conn_at m c).incoming
+    pub tie : TieAlone (conn_at m c) took sent x
+    pub has : Has m x.conn.q (due_in x.conn.q x.conn.doing) x.conn.doing
+    pub finds : Finds m x.conn.q x.script x.conn.doing
+    pub proper : IsProper x.conn.q
+
+-- ---- with the run of a script
+
+module _ (shelf : Shelf) where
+  -- The script that a client asked for, and what it puts out.
+  pub record IsScript (x : Client) (w : Wanted) : Type 0 where
+    pub asks : x.conn.q ≡ serve w
+    pub stands : x.conn.doing ≡ doing.Heads Script
+    pub get : w.head_only ≡ false
+    pub is_for : is_for_script shelf.scripts (serve w) ≡ true
+    pub text : List ℕ
+    pub found : shelf.finds w.name ≡ Found text
+    pub lines : List Line
+    pub is_script : script_of text ≡ Some lines
+    pub proper : IsProper (serve w)
+
+  abbrev pub output_of : Wanted → List Line → List ℕ
+  output_of w lines = output w.query lines (outcomes_by shelf.shows lines)
+
+  -- the response that is due may be the one that is being sent
+  pub record GoesOn (took out kept : List ℕ) (w : Wanted) (o : Progress) (y : Running) : Type 0 where
+    pub answers : Answers shelf took out kept (serve w ∷ []) (take (past_of o + taken_by y) (due_to shelf (serve w)))
+    pub may : run.MayAnswer w o (due_to shelf (serve w))
+    pub whole : breaks_off y ≡ false
+
+  abbrev pub TieRun : Connection → (took sent kept : List ℕ) → Wanted → Progress → Running → Type 0
+  TieRun k took sent kept w o y = GoesOn took (sent ++ bytes_of k.outgoing) kept w o y
+      ⊎ IsLeftAlone shelf k took (sent ++ bytes_of k.outgoing)
+
+module _ (shelf : Shelf) (crew : Crew) where
+  -- A client for which a script runs.
+  pub record FitsRun (m : State) (came sent : List ℕ) (fd c : ℕ) (x : Client) (y : Running)
+      (seats : List (Seat crew.Worker)) : Type 0 where
+    pub open_on : descriptor m server fd ≡ Some (on.Connection c)
+    pub took : List ℕ
+    pub came_is : came ≡ took ++ bytes_of (conn_at m c).incoming
+    pub wanted : Wanted
+    pub script : IsScript shelf x wanted
+    pub kept : keeps_text y ≡ true → x.script ≡ script.text
+    pub so_far : Progress
+    pub has : HasRun (job_of wanted script.text) m wanted so_far y
+    pub ongoing : is_over y ≡ false
+    pub tie : TieRun shelf (conn_at m c) took sent x.conn.kept wanted so_far y
+    pub desk : HasWorkerAt crew m seats (output_of shelf wanted script.lines) so_far y
+
+  abbrev pub FitsBy : Option Running → State → (came sent : List ℕ) → (fd c : ℕ) → Client → List (Seat crew.Worker) → Type 0
+  FitsBy None m came sent fd c x seats = FitsAlone shelf m came sent fd c x
+  FitsBy (Some y) m came sent fd c x seats = FitsRun m came sent fd c x y seats
+
+  -- Of a client, where `came` came by arrivals, and `sent` went by segments.
+  abbrev pub Fits : State → (came sent : List ℕ) → (fd c : ℕ) → Client → List (Seat crew.Worker) → Type 0
+  Fits m came sent fd c x seats = FitsBy x.run m came sent fd c x seats

@@ -1,0 +1,352 @@
+-- A run of a script, by itself: what it uses, its next call, and what it is after the reply.
+--
+-- It begins once the text of the script is read, and is the answer to a request that is served and is no HEAD. `job` is the
+-- text of the job, which names the descriptor at which the worker has the pipe's write end.
+pub mod Fits
+pub mod Offering
+pub mod Keeping
+pub mod Wanting
+pub mod Stages
+use Rattle.std.specs.Prelude.{ℕ, min, ◌+◌, ◌-◌, ◌==◌, ◌&&◌, ◌||◌, nat_lt, not, Bool, true, false, List, [], ◌∷◌, Option, Some, None, if◌then◌else◌}
+use Rattle.iol_core.specs.declared.refusals.Refusal.{Refusal}
+use Rattle.iol_core.specs.declared.refusals.Refusal.TheVariants as no
+use Rattle.iol_core.specs.declared.events.Call.{Call}
+use Rattle.iol_core.specs.declared.events.Call.TheVariants as call
+use Rattle.iol_core.specs.declared.events.Reply.{Reply}
+use Rattle.iol_core.specs.declared.events.Reply.TheVariants as reply
+use Rattle.flash_http.specs.Request.{serve, Wanted}
+use Rattle.flash_laws.specs.Conn as conn
+use Rattle.flash_laws.specs.Conn.{Following, Conn, has_followed, count_of}
+use Rattle.flash_laws.specs.Answers.Scripts.{script_text, frame_of, place_in_frame, end_around}
+use Rattle.flash_laws.specs.declared.doing.Content.TheVariants.{Error}
+use Rattle.flash_laws.specs.declared.doing.Doing.{Doing}
+use Rattle.flash_laws.specs.declared.doing.Doing.TheVariants as doing
+use Rattle.flash_laws.specs.declared.running.TheConstants.{CHUNK_BYTES}
+use Rattle.flash_laws.specs.declared.running.Run.{Run}
+use Rattle.flash_laws.specs.declared.running.Step.{Step}
+use Rattle.flash_laws.specs.declared.running.Step.TheVariants.{Gives, Makes, Hands, Lets, Heads, Sending, Hears, Spills, Gathers, Frames, Wraps, Trims, Ended, Unholds, Stops, Unframes, Lasts, WrapsLast, TrimsLast, Unwraps, Returns, Lapses, Fails}
+use Rattle.flash_laws.specs.declared.running.Running.{Running}
+use Rattle.flash_laws.specs.declared.running.Running.TheVariants.{Awaits, Runs, Leaves, Closes}
+
+-- ---- what it uses
+
+-- Worker k, counted from 0, is domain k + 2, and the write end of its job pipe is the server's descriptor k + 1.
+abbrev pub worker_domain : (worker : ℕ) → ℕ
+worker_domain worker = worker + 2
+
+abbrev pub job_pipe : (worker : ℕ) → ℕ
+job_pipe worker = worker + 1
+
+-- whether what is left of a response is still to be made, or to be sent
+abbrev pub is_left : Doing → Bool
+is_left (doing.Heads k) = true
+is_left (doing.Sends a len taken more) = true
+is_left (doing.Cuts a from len taken more) = true
+is_left (doing.Offers a from len piece taken more) = true
+is_left (doing.Swaps a from len piece taken more) = true
+is_left (doing.Sent a taken more) = true
+is_left (doing.Breaks piece a more) = true
+is_left (doing.Drops a more) = true
+is_left d = false
+
+-- whether it makes no more calls
+abbrev pub is_over : Running → Bool
+is_over (Leaves d) = not (is_left d)
+is_over Closes = true
+is_over x = false
+
+abbrev pub has_frame : Option ℕ → (a : ℕ) → Bool
+has_frame None a = false
+has_frame (Some f) a = f == a
+
+abbrev pub step_agg : Step → (a : ℕ) → Bool
+step_agg (Hands job f) a = job == a
+step_agg (Lets job) a = job == a
+step_agg (Sending d frame) a = conn.uses_agg d a || has_frame frame a
+step_agg (Hears held frame) a = has_followed held a || has_frame frame a
+step_agg (Spills b frame) a = (b == a) || has_frame frame a
+step_agg (Gathers held size piece len frame) a = (held == a) || ((piece == a) || has_frame frame a)
+step_agg (Frames held) a = held == a
+step_agg (Wraps held frame) a = (held == a) || (frame == a)
+step_agg (Trims held chunk len frame) a = (held == a) || ((chunk == a) || (frame == a))
+step_agg (Ended b held frame) a = (b == a) || (has_followed held a || has_frame frame a)
+step_agg (Unholds held frame) a = (held == a) || has_frame frame a
+step_agg (Stops held frame) a = has_followed held a || has_frame frame a
+step_agg (Unframes frame held) a = (frame == a) || has_followed held a
+step_agg (Lasts held) a = has_followed held a
+step_agg (WrapsLast held size frame) a = (held == a) || (frame == a)
+step_agg (TrimsLast held chunk len frame) a = (held == a) || ((chunk == a) || (frame == a))
+step_agg (Unwraps frame chunk len) a = (frame == a) || (chunk == a)
+step_agg (Lapses job) a = job == a
+step_agg s a = false
+
+-- whether the read end is still open
+abbrev pub is_reading : Step → Bool
+is_reading (Unframes frame held) = false
+is_reading (Lasts held) = false
+is_reading (WrapsLast held size frame) = false
+is_reading (TrimsLast held chunk len frame) = false
+is_reading (Unwraps frame chunk len) = false
+is_reading s = true
+
+-- the write end, as long as the server has it
+abbrev pub step_fd : Step → (g : ℕ) → Bool
+step_fd (Gives write) g = write == g
+step_fd (Returns write) g = write == g
+step_fd s g = false
+
+-- the ends of the pipe that the server has
+abbrev pub ends_of : Run → Step → (g : ℕ) → Bool
+ends_of run step g = (is_reading step && (run.from == g)) || step_fd step g
+
+abbrev pub uses_agg : Running → (a : ℕ) → Bool
+uses_agg Awaits a = false
+uses_agg (Runs run step) a = step_agg step a
+uses_agg (Leaves d) a = conn.uses_agg d a
+uses_agg Closes a = false
+
+abbrev pub uses_fd : Running → (g : ℕ) → Bool
+uses_fd Awaits g = false
+uses_fd (Runs run step) g = (job_pipe run.worker == g) || ends_of run step g
+uses_fd (Leaves d) g = conn.uses_fd d g
+uses_fd Closes g = false
+
+-- ---- what it wants
+
+abbrev pub held_size : Following → ℕ
+held_size None = 0
+held_size (Some x) = x.1
+
+-- a connection in this phase, for the words of any response
+abbrev pub in_phase : Wanted → Doing → Conn
+in_phase w d = record { kept = []; q = serve w; doing = d }
+
+module _ (job : (fd : ℕ) → List ℕ) where
+  abbrev pub step_wants : (fd : ℕ) → Wanted → Run → Step → Call
+  step_wants fd w run (Gives write) = call.GiveFd write (worker_domain run.worker)
+  step_wants fd w run (Makes f) = call.AggMake (job f)
+  step_wants fd w run (Hands j f) = call.IolWrite (job_pipe run.worker) j
+  step_wants fd w run (Lets j) = call.AggDrop j
+  step_wants fd w run Heads = call.AggMake (script_text w)
+  step_wants fd w run (Sending d frame) = conn.wants fd (in_phase w d)
+  step_wants fd w run (Hears held frame) = call.IolRead run.from (CHUNK_BYTES - held_size held)
+  step_wants fd w run (Spills a frame) = call.AggDrop a
+  step_wants fd w run (Gathers held size piece len frame) = call.AggJoin held piece
+  step_wants fd w run (Frames held) = call.AggMake (frame_of CHUNK_BYTES)
+  step_wants fd w run (Wraps held frame) = call.AggReplace frame (place_in_frame CHUNK_BYTES) (place_in_frame CHUNK_BYTES) held
+  step_wants fd w run (Trims held chunk len frame) = call.AggDrop held
+  step_wants fd w run (Ended a held frame) = call.AggDrop a
+  step_wants fd w run (Unholds held frame) = call.AggDrop held
+  step_wants fd w run (Stops held frame) = call.Close run.from
+  step_wants fd w run (Unframes frame held) = call.AggDrop frame
+  step_wants fd w run (Lasts held) = call.AggMake (end_around held)
+  step_wants fd w run (WrapsLast held size frame) = call.AggReplace frame (place_in_frame size) (place_in_frame size) held
+  step_wants fd w run (TrimsLast held chunk len frame) = call.AggDrop held
+  step_wants fd w run (Unwraps frame chunk len) = call.AggDrop frame
+  step_wants fd w run (Returns write) = call.Close write
+  step_wants fd w run (Lapses j) = call.AggDrop j
+  step_wants fd w run Fails = call.Close run.from
+
+  -- its next call; fd is the descriptor of its connection
+  abbrev pub wants : (fd : ℕ) → Wanted → Running → Call
+  wants fd w Awaits = call.Pipe
+  wants fd w (Runs run step) = step_wants fd w run step
+  wants fd w (Leaves d) = conn.wants fd (in_phase w d)
+  wants fd w Closes = call.Close fd
+
+-- ---- what it is after the reply to its call; `heard` is what the aggregate of the reply holds
+
+-- whether the call is made again
+abbrev pub is_again : Refusal → Bool
+is_again no.WouldBlock = true
+is_again no.TooMany = true
+is_again (no.NoRoom p) = true
+is_again no.Memory = true
+is_again x = false
+
+abbrev pub broken : Run → Run
+broken run = record run { broken = true }
+
+-- a worker that is free runs it
+abbrev pub told_awaits : (worker : ℕ) → Reply → Running
+told_awaits worker (reply.Fds from write) = Runs (record { worker = worker; from = from; broken = false }) (Gives write)
+told_awaits worker r = Awaits
+
+abbrev pub told_gives : (write : ℕ) → Reply → Step
+told_gives write (reply.Fd f) = Makes f
+told_gives write (reply.Refused x) = if is_again x then Gives write else Returns write
+told_gives write r = Gives write
+
+abbrev pub told_makes : (fd : ℕ) → Reply → Step
+told_makes f (reply.Agg n) = Hands n f
+told_makes f r = Makes f
+
+abbrev pub told_hands : (job fd : ℕ) → Reply → Step
+told_hands j f (reply.Count n) = Lets j
+told_hands j f (reply.Refused x) = if is_again x then Hands j f else Lapses j
+told_hands j f r = Hands j f
+
+abbrev pub told_lets : (job : ℕ) → Reply → Step
+told_lets j reply.Done = Heads
+told_lets j r = Lets j
+
+abbrev pub told_heads : Reply → (heard : List ℕ) → Step
+told_heads (reply.Agg n) heard = Sending (doing.Sends n (count_of heard) 0 None) None
+told_heads r heard = Heads
+
+-- a part goes on being sent as a file's response does
+abbrev pub told_part : Doing → Reply → Doing
+told_part (doing.Sends a len taken more) r = conn.told_sends a len taken more r
+told_part (doing.Cuts a from len taken more) r = conn.told_cuts a from len taken more r
+told_part (doing.Offers a from len piece taken more) r = conn.told_offers a from len piece taken more r
+told_part (doing.Swaps a from len piece taken more) r = conn.told_swaps a from len piece taken more r
+told_part (doing.Breaks piece a more) r = conn.told_breaks piece a more r
+told_part d r = d
+
+-- once it is sent, or nobody takes it, output is read
+abbrev pub told_sending : Run → Doing → (frame : Option ℕ) → Reply → Running
+told_sending run (doing.Sent a taken None) frame reply.Done = Runs run (Hears None frame)
+told_sending run (doing.Drops a None) frame reply.Done = Runs (broken run) (Hears None frame)
+told_sending run d frame r = Runs run (Sending (told_part d r) frame)
+
+abbrev pub filled : (held : ℕ) → (frame : Option ℕ) → Step
+filled held None = Frames held
+filled held (Some f) = Wraps held f
+
+-- so many bytes are held: once they are a chunk's, it is made
+abbrev pub holding : (held size : ℕ) → (frame : Option ℕ) → Step
+holding held size frame = if nat_lt size CHUNK_BYTES then Hears (Some (held, size)) frame else filled held frame
+
+-- some output was read
+abbrev pub hearing : (broken chunked : Bool) → Following → (frame : Option ℕ) → (agg len : ℕ) → Step
+hearing true chunked held frame a len = Spills a frame
+hearing false false held frame a len = Sending (doing.Sends a len 0 None) frame
+hearing false true None frame a len = holding a len frame
+hearing false true (Some x) frame a len = Gathers x.0 x.1 a len frame
+
+-- it may not be read
+abbrev pub unread : Following → (frame : Option ℕ) → Step
+unread None frame = Stops None frame
+unread (Some x) frame = Unholds x.0 frame
+
+abbrev pub told_hears : Wanted → Run → Following → (frame : Option ℕ) → Reply → (heard : List ℕ) → Running
+told_hears w run held frame (reply.Agg n) [] = Runs run (Ended n held frame)
+told_hears w run held frame (reply.Agg n) (b ∷ heard) =
+    Runs run (hearing run.broken w.chunked held frame n (count_of (b ∷ heard)))
+told_hears w run held frame (reply.Refused (no.Denied p)) heard = Runs (broken run) (unread held frame)
+told_hears w run held frame r heard = Runs run (Hears held frame)
+
+abbrev pub told_spills : (agg : ℕ) → (frame : Option ℕ) → Reply → Step
+told_spills a frame reply.Done = Hears None frame
+told_spills a frame r = Spills a frame
+
+-- how many bytes two aggregates have, as a number of 32 bits
+abbrev pub both : (size len : ℕ) → ℕ
+both size len = min (size + len) 4294967295
+
+abbrev pub told_gathers : (held size piece len : ℕ) → (frame : Option ℕ) → Reply → Step
+told_gathers held size piece len frame (reply.Agg n) = holding n (both size len) frame
+told_gathers held size piece len frame r = Gathers held size piece len frame
+
+abbrev pub told_frames : (held : ℕ) → Reply → Step
+told_frames held (reply.Agg n) = Wraps held n
+told_frames held r = Frames held
+
+abbrev pub told_wraps : (held frame : ℕ) → Reply → (heard : List ℕ) → Step
+told_wraps held frame (reply.Agg n) heard = Trims held n (count_of heard) frame
+told_wraps held frame r heard = Wraps held frame
+
+abbrev pub told_trims : (held chunk len frame : ℕ) → Reply → Step
+told_trims held chunk len frame reply.Done = Sending (doing.Sends chunk len 0 None) (Some frame)
+told_trims held chunk len frame r = Trims held chunk len frame
+
+abbrev pub told_ended : (agg : ℕ) → Following → (frame : Option ℕ) → Reply → Step
+told_ended a held frame reply.Done = Stops held frame
+told_ended a held frame r = Ended a held frame
+
+abbrev pub told_unholds : (held : ℕ) → (frame : Option ℕ) → Reply → Step
+told_unholds held frame reply.Done = Stops None frame
+told_unholds held frame r = Unholds held frame
+
+-- the end of the body is to be made, where its chunks tell it, and somebody takes it
+abbrev pub finishing : (broken chunked : Bool) → Run → Following → Running
+finishing false true run held = Runs run (Lasts held)
+finishing b c run held = Closes
+
+abbrev pub stopped : Wanted → Run → Following → (frame : Option ℕ) → Running
+stopped w run held (Some f) = Runs run (Unframes f held)
+stopped w run held None = finishing run.broken w.chunked run held
+
+abbrev pub told_stops : Wanted → Run → Following → (frame : Option ℕ) → Reply → Running
+told_stops w run held frame reply.Done = stopped w run held frame
+told_stops w run held frame r = Runs run (Stops held frame)
+
+abbrev pub told_unframes : Wanted → Run → (frame : ℕ) → Following → Reply → Running
+told_unframes w run f held reply.Done = finishing run.broken w.chunked run held
+told_unframes w run f held r = Runs run (Unframes f held)
+
+-- the end of the body alone is sent, or it is set around what is held
+abbrev pub ending : Run → Following → (agg len : ℕ) → Running
+ending run None a len = Leaves (doing.Sends a len 0 None)
+ending run (Some x) a len = Runs run (WrapsLast x.0 x.1 a)
+
+abbrev pub told_lasts : Run → Following → Reply → (heard : List ℕ) → Running
+told_lasts run held (reply.Agg n) heard = ending run held n (count_of heard)
+told_lasts run held r heard = Runs run (Lasts held)
+
+abbrev pub told_wraps_last : (held size frame : ℕ) → Reply → (heard : List ℕ) → Step
+told_wraps_last held size frame (reply.Agg n) heard = TrimsLast held n (count_of heard) frame
+told_wraps_last held size frame r heard = WrapsLast held size frame
+
+abbrev pub told_trims_last : (held chunk len frame : ℕ) → Reply → Step
+told_trims_last held chunk len frame reply.Done = Unwraps frame chunk len
+told_trims_last held chunk len frame r = TrimsLast held chunk len frame
+
+abbrev pub told_unwraps : Run → (frame chunk len : ℕ) → Reply → Running
+told_unwraps run frame chunk len reply.Done = Leaves (doing.Sends chunk len 0 None)
+told_unwraps run frame chunk len r = Runs run (Unwraps frame chunk len)
+
+abbrev pub told_returns : (write : ℕ) → Reply → Step
+told_returns write reply.Done = Fails
+told_returns write r = Returns write
+
+abbrev pub told_lapses : (job : ℕ) → Reply → Step
+told_lapses j reply.Done = Fails
+told_lapses j r = Lapses j
+
+-- a script that cannot run now is answered with an error (RFC 9110, section 15.6.4)
+abbrev pub told_fails : Run → Reply → Running
+told_fails run reply.Done = Leaves (doing.Heads (Error 503))
+told_fails run r = Runs run Fails
+
+abbrev pub told_step : Wanted → Run → Step → Reply → (heard : List ℕ) → Running
+told_step w run (Gives write) r heard = Runs run (told_gives write r)
+told_step w run (Makes f) r heard = Runs run (told_makes f r)
+told_step w run (Hands j f) r heard = Runs run (told_hands j f r)
+told_step w run (Lets j) r heard = Runs run (told_lets j r)
+told_step w run Heads r heard = Runs run (told_heads r heard)
+told_step w run (Sending d frame) r heard = told_sending run d frame r
+told_step w run (Hears held frame) r heard = told_hears w run held frame r heard
+told_step w run (Spills a frame) r heard = Runs run (told_spills a frame r)
+told_step w run (Gathers held size piece len frame) r heard = Runs run (told_gathers held size piece len frame r)
+told_step w run (Frames held) r heard = Runs run (told_frames held r)
+told_step w run (Wraps held frame) r heard = Runs run (told_wraps held frame r heard)
+told_step w run (Trims held chunk len frame) r heard = Runs run (told_trims held chunk len frame r)
+told_step w run (Ended a held frame) r heard = Runs run (told_ended a held frame r)
+told_step w run (Unholds held frame) r heard = Runs run (told_unholds held frame r)
+told_step w run (Stops held frame) r heard = told_stops w run held frame r
+told_step w run (Unframes frame held) r heard = told_unframes w run frame held r
+told_step w run (Lasts held) r heard = told_lasts run held r heard
+told_step w run (WrapsLast held size frame) r heard = Runs run (told_wraps_last held size frame r heard)
+told_step w run (TrimsLast held chunk len frame) r heard = Runs run (told_trims_last held chunk len frame r)
+told_step w run (Unwraps frame chunk len) r heard = told_unwraps run frame chunk len r
+told_step w run (Returns write) r heard = Runs run (told_returns write r)
+told_step w run (Lapses j) r heard = Runs run (told_lapses j r)
+told_step w run Fails r heard = told_fails run r
+
+-- What it is after the reply to its call, where `worker` is one that is free.
+abbrev pub told : (worker : ℕ) → Wanted → Running → Reply → (heard : List ℕ) → Running
+told worker w Awaits r heard = told_awaits worker r
+told worker w (Runs run step) r heard = told_step w run step r heard
+told worker w (Leaves d) r heard = Leaves (conn.told (in_phase w d) r heard).doing
+told worker w Closes r heard = Closes

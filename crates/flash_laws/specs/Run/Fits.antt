@@ -1,0 +1,268 @@
+-- What ties the run of a script to the machine and to the output that was read: what it has of the response.
+use Rattle.std.specs.Prelude.{◌≡◌, ◌≤◌, ◌<◌, ℕ, ◌+◌, ◌==◌, ◌⊎◌, not, Bool, true, false, List, [], ◌++◌, length, Option, Some, None}
+use Rattle.iol_core.specs.State.{State, descriptor}
+use Rattle.iol_core.specs.declared.descriptors.Descriptor.TheVariants as on
+use Rattle.iol_laws.specs.Caller.{lent_at}
+use Rattle.flash_http.specs.Chunk.{chunk}
+use Rattle.flash_http.specs.Request.{serve, Wanted}
+use Rattle.flash_laws.specs.Answers.{error_text}
+use Rattle.flash_laws.specs.Conn as conn
+use Rattle.flash_laws.specs.Conn.{Following}
+use Rattle.flash_laws.specs.Conn.Fits.{IsLent, Has}
+use Rattle.flash_laws.specs.Conn.Offering.{taken_of}
+use Rattle.flash_laws.specs.Run.{has_frame, job_pipe, step_agg}
+use Rattle.flash_laws.specs.Answers.Scripts.{script_body, script_response, frame_of, end_around}
+use Rattle.flash_laws.specs.Site.{server}
+use Rattle.flash_laws.specs.declared.doing.Content.TheVariants.{Error}
+use Rattle.flash_laws.specs.declared.doing.Doing.{Doing}
+use Rattle.flash_laws.specs.declared.doing.Doing.TheVariants as doing
+use Rattle.flash_laws.specs.declared.running.TheConstants.{CHUNK_BYTES}
+use Rattle.flash_laws.specs.declared.running.Run.{Run}
+use Rattle.flash_laws.specs.declared.running.Step.{Step}
+use Rattle.flash_laws.specs.declared.running.Step.TheVariants.{Gives, Makes, Hands, Lets, Heads, Sending, Hears, Spills, Gathers, Frames, Wraps, Trims, Ended, Unholds, Stops, Unframes, Lasts, WrapsLast, TrimsLast, Unwraps, Returns, Lapses, Fails}
+use Rattle.flash_laws.specs.declared.running.Running.{Running}
+use Rattle.flash_laws.specs.declared.running.Running.TheVariants.{Awaits, Runs, Leaves, Closes}
+
+-- ---- what the calls of a run gave so far
+
+pub data Progress : Type 0 where
+  -- the output that was read, whether its end was seen, and the bytes of the response in aggregates that were taken whole
+  Ran : (heard : List ℕ) → (ended : Bool) → (past : List ℕ) → Progress
+  -- nobody takes the response any more, or the output may not be read: no more of it is sent
+  Broken : Progress
+  -- the script could not be run; of the error these bytes were taken
+  NotRun : (status : ℕ) → (past : List ℕ) → Progress
+
+abbrev pub nothing_yet : Progress
+nothing_yet = Ran [] false []
+
+-- what may still be read of an output
+abbrev pub Follows : (ended : Bool) → List ℕ → Type 0
+Follows true more = more ≡ []
+Follows false more = Unit {0}
+
+-- What may be the response, whatever the script still puts out: once its end was seen, the response to its output.
+abbrev pub MayAnswer : Wanted → Progress → List ℕ → Type 0
+MayAnswer w (Ran heard ended past) r = (more : List ℕ) × Follows ended more × (r ≡ script_response w (heard ++ more))
+MayAnswer w Broken r = ⊥
+MayAnswer w (NotRun status past) r = r ≡ error_text status w.head_only (not w.keep)
+
+-- All that was read is taken, but for what is held: whatever the script still puts out, the response is what was taken, and then
+-- the body of what is held and of that.
+abbrev pub HoldsBack : Wanted → Progress → (held : List ℕ) → Type 0
+HoldsBack w (Ran heard ended past) held =
+    (more : List ℕ) → script_response w (heard ++ more) ≡ past ++ script_body w.chunked (held ++ more)
+HoldsBack w o held = ⊥
+
+-- the same of these bytes of the response and then of what is held
+abbrev pub Continues : Wanted → Progress → (part held : List ℕ) → Type 0
+Continues w (Ran heard ended past) part held = HoldsBack w (Ran heard ended (past ++ part)) held
+Continues w o part held = ⊥
+
+-- all of the response is known: the end of the output was seen, or it is an error; and these bytes of it are not yet taken
+abbrev pub IsLeft : Wanted → Progress → (rest : List ℕ) → Type 0
+IsLeft w (Ran heard ended past) rest = (ended ≡ true) × (script_response w heard ≡ past ++ rest)
+IsLeft w Broken rest = ⊥
+IsLeft w (NotRun status past) rest = error_text status w.head_only (not w.keep) ≡ past ++ rest
+
+abbrev pub Goes : (broken : Bool) → Wanted → Progress → (held : List ℕ) → Type 0
+Goes true w o held = (o ≡ Broken) × (held ≡ [])
+Goes false w o held = HoldsBack w o held
+
+abbrev pub Ends : (broken : Bool) → Wanted → Progress → (held : List ℕ) → Type 0
+Ends true w o held = (o ≡ Broken) × (held ≡ [])
+Ends false w o held = IsLeft w o (script_body w.chunked held)
+
+-- ---- what the machine has
+
+-- the write end of a worker's job pipe
+abbrev pub HasJobPipe : State → (worker : ℕ) → Type 0
+HasJobPipe m worker = (p : ℕ) × (descriptor m server (job_pipe worker) ≡ Some (on.WriteEnd p))
+
+abbrev pub IsReading : State → Run → Type 0
+IsReading m run = (p : ℕ) × (descriptor m server run.from ≡ Some (on.ReadEnd p))
+
+-- both ends of the pipe
+pub record HasPipe (m : State) (run : Run) (write : ℕ) : Type 0 where
+  pub pipe : ℕ
+  pub read_end : descriptor m server run.from ≡ Some (on.ReadEnd pipe)
+  pub write_end : descriptor m server write ≡ Some (on.WriteEnd pipe)
+  pub apart : (write == job_pipe run.worker) ≡ false
+
+-- nothing was read yet
+abbrev pub IsFresh : Run → Progress → Type 0
+IsFresh run o = (run.broken ≡ false) × (o ≡ nothing_yet)
+
+-- An aggregate of these bytes, fewer than a chunk has, and some; a body that is not in chunks holds none back.
+pub record HoldsOutput (m : State) (w : Wanted) (a size : ℕ) (bytes : List ℕ) : Type 0 where
+  pub lends : lent_at m server a ≡ Some bytes
+  pub count : size ≡ length bytes
+  pub some : 0 < size
+  pub few : size < CHUNK_BYTES
+  pub chunked : w.chunked ≡ true
+
+abbrev pub IsHeld : State → Wanted → Following → (bytes : List ℕ) → Type 0
+IsHeld m w None bytes = bytes ≡ []
+IsHeld m w (Some x) bytes = HoldsOutput m w x.0 x.1 bytes
+
+abbrev pub HasFrame : State → Option ℕ → Type 0
+HasFrame m None = Unit {0}
+HasFrame m (Some f) = lent_at m server f ≡ Some (frame_of CHUNK_BYTES)
+
+-- what is held is not the frame
+abbrev pub meets : Following → (frame : Option ℕ) → Bool
+meets None frame = false
+meets (Some x) frame = has_frame frame x.0
+
+pub record HasOutput (m : State) (w : Wanted) (held : Following) (frame : Option ℕ) (bytes : List ℕ) : Type 0 where
+  pub holds : IsHeld m w held bytes
+  pub frames : HasFrame m frame
+  pub apart : meets held frame ≡ false
+
+-- output is read
+pub record HasHeard (m : State) (w : Wanted) (o : Progress) (run : Run) (held : Following) (frame : Option ℕ) : Type 0 where
+  pub reads : IsReading m run
+  pub bytes : List ℕ
+  pub has : HasOutput m w held frame bytes
+  pub goes : Goes run.broken w o bytes
+
+-- it is at its end
+pub record HasAll (m : State) (w : Wanted) (o : Progress) (run : Run) (held : Following) (frame : Option ℕ) : Type 0 where
+  pub bytes : List ℕ
+  pub has : HasOutput m w held frame bytes
+  pub ends : Ends run.broken w o bytes
+
+-- the aggregate that is being sent, with none to follow it
+abbrev pub sent_agg : Doing → Option ℕ
+sent_agg (doing.Sends a len taken None) = Some a
+sent_agg (doing.Cuts a from len taken None) = Some a
+sent_agg (doing.Offers a from len piece taken None) = Some a
+sent_agg (doing.Swaps a from len piece taken None) = Some a
+sent_agg (doing.Sent a taken None) = Some a
+sent_agg (doing.Breaks piece a None) = Some a
+sent_agg (doing.Drops a None) = Some a
+sent_agg d = None
+
+-- it has these bytes
+abbrev pub IsPart : State → Option ℕ → List ℕ → Type 0
+IsPart m None part = ⊥
+IsPart m (Some a) part = lent_at m server a ≡ Some part
+
+abbrev pub sends_frame : Doing → (frame : Option ℕ) → Bool
+sends_frame d None = false
+sends_frame d (Some f) = conn.uses_agg d f
+
+-- A part of the response is being sent: for the phases of any response it is all that is due.
+pub record HasPart (m : State) (w : Wanted) (o : Progress) (run : Run) (d : Doing) (frame : Option ℕ) : Type 0 where
+  pub reads : IsReading m run
+  pub frames : HasFrame m frame
+  pub part : List ℕ
+  pub is_part : IsPart m (sent_agg d) part
+  pub has : Has m (serve w) part d
+  pub within : taken_of d ≤ length part
+  pub apart : sends_frame d frame ≡ false
+  pub whole : run.broken ≡ false
+  pub continues : Continues w o part []
+
+-- what is held, and a piece that comes after it
+pub record HasPiece (m : State) (w : Wanted) (o : Progress) (run : Run) (held size piece len : ℕ)
+    (frame : Option ℕ) : Type 0 where
+  pub reads : IsReading m run
+  pub bytes : List ℕ
+  pub more : List ℕ
+  pub has : HasOutput m w (Some (held, size)) frame bytes
+  pub lends : lent_at m server piece ≡ Some more
+  pub count : len ≡ length more
+  pub within : size + len ≤ CHUNK_BYTES
+  pub other : (held == piece) ≡ false
+  pub apart : has_frame frame piece ≡ false
+  pub whole : run.broken ≡ false
+  pub goes : HoldsBack w o (bytes ++ more)
+
+-- the bytes of a whole chunk
+pub record HasChunk (m : State) (w : Wanted) (o : Progress) (run : Run) (held : ℕ) : Type 0 where
+  pub reads : IsReading m run
+  pub bytes : List ℕ
+  pub lends : lent_at m server held ≡ Some bytes
+  pub count : length bytes ≡ CHUNK_BYTES
+  pub chunked : w.chunked ≡ true
+  pub whole : run.broken ≡ false
+  pub goes : HoldsBack w o bytes
+
+-- the last bytes of a body in chunks, and what ends it around them
+pub record HasLast (m : State) (w : Wanted) (o : Progress) (held size frame : ℕ) : Type 0 where
+  pub bytes : List ℕ
+  pub holds : HoldsOutput m w held size bytes
+  pub frames : lent_at m server frame ≡ Some (end_around (Some (held, size)))
+  pub apart : (frame == held) ≡ false
+  pub left : IsLeft w o (script_body true bytes)
+
+-- these bytes of the response are in an aggregate, and no more come
+pub record HasEnd (m : State) (w : Wanted) (o : Progress) (a len : ℕ) : Type 0 where
+  pub bytes : List ℕ
+  pub lends : lent_at m server a ≡ Some bytes
+  pub count : len ≡ length bytes
+  pub left : IsLeft w o bytes
+
+-- an aggregate is to be dropped, and is none that is used then
+abbrev pub IsSpare : State → (a : ℕ) → (next : Step) → Type 0
+IsSpare m a next = IsLent m a × (step_agg next a ≡ false)
+
+-- an error is to be made, or all that is due is being sent, with nothing to follow it
+abbrev pub IsSending : State → (due : List ℕ) → Doing → Type 0
+IsSending m due (doing.Heads (Error status)) = Unit {0}
+IsSending m due d = IsPart m (sent_agg d) due × (taken_of d ≤ length due)
+
+-- What is left of the response is sent: for the phases of any response it is all that is due.
+pub record HasRest (m : State) (w : Wanted) (o : Progress) (d : Doing) : Type 0 where
+  pub due : List ℕ
+  pub left : IsLeft w o due
+  pub has : Has m (serve w) due d
+  pub sends : IsSending m due d
+
+-- nothing of it is left, and it ends with the connection; or nobody takes it
+abbrev pub HasNone : Wanted → Progress → Type 0
+HasNone w Broken = Unit {0}
+HasNone w o = IsLeft w o [] × ((w.keep ≡ false) ⊎ (w.chunked ≡ false))
+
+-- the rest is sent; or nothing is left, and the connection goes on where the response lets it, and is else to be closed
+abbrev pub HasLeft : State → Wanted → Progress → Doing → Type 0
+HasLeft m w o doing.Rests = IsLeft w o [] × (w.keep ≡ true)
+HasLeft m w o doing.Closes = HasNone w o
+HasLeft m w o d = HasRest m w o d
+
+-- `job` is the text of the job, by the descriptor that it names.
+module _ (job : (fd : ℕ) → List ℕ) where
+  abbrev pub HasStep : State → Wanted → Progress → Run → Step → Type 0
+  HasStep m w o run (Gives write) = HasPipe m run write × IsFresh run o
+  HasStep m w o run (Makes f) = IsReading m run × IsFresh run o
+  HasStep m w o run (Hands j f) = IsReading m run × (lent_at m server j ≡ Some (job f)) × IsFresh run o
+  HasStep m w o run (Lets j) = IsReading m run × IsLent m j × IsFresh run o
+  HasStep m w o run Heads = IsReading m run × IsFresh run o
+  HasStep m w o run (Sending d frame) = HasPart m w o run d frame
+  HasStep m w o run (Hears held frame) = HasHeard m w o run held frame
+  HasStep m w o run (Spills a frame) = IsSpare m a (Hears None frame) × HasHeard m w o run None frame
+  HasStep m w o run (Gathers held size piece len frame) = HasPiece m w o run held size piece len frame
+  HasStep m w o run (Frames held) = HasChunk m w o run held
+  HasStep m w o run (Wraps held frame) = HasChunk m w o run held × HasFrame m (Some frame) × ((frame == held) ≡ false)
+  HasStep m w o run (Trims held chunk len frame) = IsSpare m held (Sending (doing.Sends chunk len 0 None) (Some frame))
+      × HasPart m w o run (doing.Sends chunk len 0 None) (Some frame)
+  HasStep m w o run (Ended a held frame) = IsSpare m a (Stops held frame) × IsReading m run × HasAll m w o run held frame
+  HasStep m w o run (Unholds held frame) = IsSpare m held (Stops None frame) × IsReading m run × HasAll m w o run None frame
+  HasStep m w o run (Stops held frame) = IsReading m run × HasAll m w o run held frame
+  HasStep m w o run (Unframes f held) = HasAll m w o run held (Some f)
+  HasStep m w o run (Lasts held) = (w.chunked ≡ true) × (run.broken ≡ false) × HasAll m w o run held None
+  HasStep m w o run (WrapsLast held size frame) = HasLast m w o held size frame
+  HasStep m w o run (TrimsLast held chunk len frame) = IsSpare m held (Unwraps frame chunk len) × IsSpare m frame (Lapses chunk)
+      × HasEnd m w o chunk len
+  HasStep m w o run (Unwraps frame chunk len) = IsSpare m frame (Lapses chunk) × HasEnd m w o chunk len
+  HasStep m w o run (Returns write) = HasPipe m run write × IsFresh run o
+  HasStep m w o run (Lapses j) = IsReading m run × IsLent m j × IsFresh run o
+  HasStep m w o run Fails = IsReading m run × IsFresh run o
+
+  -- The machine has what a run needs, where its calls gave so much.
+  abbrev pub HasRun : State → Wanted → Progress → Running → Type 0
+  HasRun m w o Awaits = o ≡ nothing_yet
+  HasRun m w o (Runs run step) = HasJobPipe m run.worker × HasStep m w o run step
+  HasRun m w o (Leaves d) = HasLeft m w o d
+  HasRun m w o Closes = HasNone w o

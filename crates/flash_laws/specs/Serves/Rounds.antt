@@ -1,0 +1,49 @@
+-- Which client has its turn, and when the server yields: its policy.
+--
+-- A round goes over the places of the clients, then accepts those that wait, and ends with a yield. A client goes on until
+-- its call is to be made again later, or nothing is left to do for it but to read more, or it has to wait for a worker. One that
+-- waits for a worker is passed over while none is free; one that comes free goes to the first that waits behind.
+use Rattle.std.specs.Prelude.{◌≡◌, ℕ, ◌+◌, ◌||◌, Bool, true, false, if◌then◌else◌, List, drop, position, Option, Some, None, option_map}
+use Rattle.iol_core.specs.Numbered.{in_place}
+use Rattle.iol_core.specs.declared.events.Reply.{Reply}
+use Rattle.flash_laws.specs.Client.{Client, is_bare, awaits}
+use Rattle.flash_laws.specs.Site.Places.{has_free, may_go}
+use Rattle.flash_laws.specs.Conn.Policy.{is_later, flight_to, flight_past}
+use Rattle.flash_laws.specs.Serves.{Policy}
+use Rattle.flash_laws.specs.declared.doing.Flight.{Flight}
+use Rattle.flash_laws.specs.declared.doing.Flight.TheVariants.{Nothing, Accepting, At}
+
+-- whether its turn passes to the next: its call is to be made again later, or it waits for a worker, or nothing is left to do
+-- but to read more
+abbrev pub leaves_off : Option Client → Reply → Bool
+leaves_off None r = true
+leaves_off (Some x) r = is_later r || (awaits x || is_bare x)
+
+-- from where on the next one is looked for
+abbrev pub place_after : (fd : ℕ) → Option Client → Reply → ℕ
+place_after fd x r = if leaves_off x r then fd + 1 else fd
+
+-- whether a client is there that may have its turn
+abbrev pub goes_in : (free : Bool) → Option Client → Bool
+goes_in free None = false
+goes_in free (Some x) = may_go free x
+
+-- the first place from here on that has one, where a worker is free or none
+abbrev pub next_in : (free : Bool) → List (Option Client) → (from : ℕ) → Option ℕ
+next_in free clients from = option_map (λ k. from + k) (position (λ o. goes_in free o) (drop from clients))
+
+abbrev pub next_place : (workers : ℕ) → List (Option Client) → (from : ℕ) → Option ℕ
+next_place workers clients from = next_in (has_free workers clients) clients from
+
+abbrev pub flight_from : (workers : ℕ) → List (Option Client) → (from : ℕ) → Flight
+flight_from workers clients from = flight_to clients (next_place workers clients from)
+
+-- what is picked after a reply, once it is filed
+abbrev pub next_flight : (workers : ℕ) → List (Option Client) → (was : Flight) → (last : Reply) → Flight
+next_flight workers clients Nothing r = flight_from workers clients 0
+next_flight workers clients Accepting r = flight_past clients r
+next_flight workers clients (At fd) r = flight_from workers clients (place_after fd (in_place clients fd) r)
+
+-- in rounds
+abbrev pub in_rounds : Policy
+in_rounds workers clients was last next = next ≡ next_flight workers clients was last

@@ -1,0 +1,77 @@
+-- The clients of a server, each in the place of its descriptor, and the workers that run scripts for them.
+use Rattle.std.specs.Prelude.{◌≡◌, ◌<◌, ℕ, ◌==◌, ◌||◌, not, Bool, true, false, List, Option, Some, None, nat_lt}
+use Rattle.std.specs.List.{list_any, position_or_len, range_with_len}
+use Rattle.iol_core.specs.Numbered.{in_place}
+use Rattle.iol_core.specs.declared.events.Reply.{Reply}
+use Rattle.iol_core.specs.declared.events.Reply.TheVariants as reply
+use Rattle.flash_laws.specs.Client.{Client, new_client, told, left_over, awaits}
+use Rattle.flash_laws.specs.Site.Tied.{with_at}
+use Rattle.flash_laws.specs.declared.doing.Flight.{Flight}
+use Rattle.flash_laws.specs.declared.doing.Flight.TheVariants.{Nothing, Accepting, At}
+use Rattle.flash_laws.specs.declared.running.Running.{Running}
+use Rattle.flash_laws.specs.declared.running.Running.TheVariants.{Runs}
+
+-- for none of them a script runs
+abbrev pub NoneRuns : List (Option Client) → Type 0
+NoneRuns clients = (fd : ℕ) (x : Client) → in_place clients fd ≡ Some x → x.run ≡ None
+
+-- ---- workers, counted from 0
+
+abbrev pub has_worker : Running → (worker : ℕ) → Bool
+has_worker (Runs run step) worker = run.worker == worker
+has_worker y worker = false
+
+abbrev pub is_run_by : Client → (worker : ℕ) → Bool
+is_run_by x worker = by x.run
+  where
+    by : Option Running → Bool
+    by None = false
+    by (Some y) = has_worker y worker
+
+-- whether the worker runs the script of the client in a place
+abbrev pub runs_at : (worker : ℕ) → Option Client → Bool
+runs_at worker None = false
+runs_at worker (Some x) = is_run_by x worker
+
+-- whether it runs none
+abbrev pub is_free : List (Option Client) → (worker : ℕ) → Bool
+is_free clients worker = not (list_any (λ o. runs_at worker o) clients)
+
+-- the first of so many that is free, or their number where none is
+abbrev pub first_free : (workers : ℕ) → List (Option Client) → ℕ
+first_free workers clients = position_or_len (λ k. is_free clients k) (range_with_len 0 workers)
+
+abbrev pub has_free : (workers : ℕ) → List (Option Client) → Bool
+has_free workers clients = nat_lt (first_free workers clients) workers
+
+-- a client that waits for a worker has its turn only where one is free
+abbrev pub may_go : (free : Bool) → Client → Bool
+may_go free x = free || not (awaits x)
+
+-- no worker runs the scripts of two clients, and each that runs one is of so many
+pub record EachHasItsOwn (workers : ℕ) (clients : List (Option Client)) : Type 0 where
+  pub apart : (fd gd k : ℕ) (x y : Client) → in_place clients fd ≡ Some x → in_place clients gd ≡ Some y
+      → is_run_by x k ≡ true → is_run_by y k ≡ true → fd ≡ gd
+  pub among : (fd k : ℕ) (x : Client) → in_place clients fd ≡ Some x → is_run_by x k ≡ true → k < workers
+
+-- ---- replies are filed
+
+-- whether scripts are run at all
+abbrev pub runs_scripts : (workers : ℕ) → Bool
+runs_scripts workers = nat_lt 0 workers
+
+abbrev pub told_at : (workers : ℕ) → List (Option Client) → (fd : ℕ) → Option Client → Reply → (heard : List ℕ)
+    → List (Option Client)
+told_at workers clients fd None r heard = clients
+told_at workers clients fd (Some x) r heard =
+    with_at clients fd (left_over (told (runs_scripts workers) (first_free workers clients) x r heard))
+
+abbrev pub accepted : List (Option Client) → Reply → List (Option Client)
+accepted clients (reply.Fd fd) = with_at clients fd (Some new_client)
+accepted clients r = clients
+
+-- the clients, once the reply to the call that is out is filed
+abbrev pub filed : (workers : ℕ) → List (Option Client) → Flight → Reply → (heard : List ℕ) → List (Option Client)
+filed workers clients Nothing r heard = clients
+filed workers clients Accepting r heard = accepted clients r
+filed workers clients (At fd) r heard = told_at workers clients fd (in_place clients fd) r heard

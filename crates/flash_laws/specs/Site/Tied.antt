@@ -1,0 +1,36 @@
+-- Places for the descriptors of the server, and the connections that it does not have: that wait for it, or are of others.
+use Rattle.std.specs.Prelude.{◌≡◌, ℕ, ◌+◌, ◌-◌, true, false, List, [], ◌++◌, length, replicate, slice_set, Option, Some, None}
+use Rattle.iol_core.specs.Text.{bytes_of}
+use Rattle.iol_core.specs.State.{Connection}
+use Rattle.flash_laws.specs.Conn.{Conn}
+use Rattle.flash_laws.specs.declared.doing.Doing.{Doing}
+use Rattle.flash_laws.specs.declared.doing.Doing.TheVariants.{Over}
+use Rattle.flash_laws.specs.Site.Past.{Past}
+use Rattle.flash_laws.specs.Site.{net_pool}
+
+-- a place for each descriptor, with what stands at one of them
+abbrev pub grown : {A : Type 0} → List (Option A) → (fd : ℕ) → List (Option A)
+grown conns fd = conns ++ replicate (fd + 1 - length conns) None
+
+abbrev pub with_at : {A : Type 0} → List (Option A) → (fd : ℕ) → Option A → List (Option A)
+with_at conns fd x = slice_set (grown conns fd) fd x
+
+-- a connection that is over is forgotten
+abbrev pub left_by : {A : Type 0} → Doing → A → Option A
+left_by Over x = None
+left_by d x = Some x
+
+abbrev pub left_over : Conn → Option Conn
+left_over x = left_by x.doing x
+
+-- a connection that waits for the server
+pub record Waits (p : Past) (c : ℕ) (k : Connection) : Type 0 where
+  pub waits : k.accepted ≡ false
+  pub pool_is : p.net c ≡ true → k.pool ≡ net_pool
+  pub came_is : p.came c ≡ bytes_of k.incoming
+  pub none_sent : p.sent c ++ bytes_of k.outgoing ≡ []
+
+-- one that another domain accepted, or that was never made; nothing is said of it
+pub record Foreign (p : Past) (c : ℕ) (k : Connection) : Type 0 where
+  pub other_pool : p.net c ≡ false
+  pub taken : k.accepted ≡ true

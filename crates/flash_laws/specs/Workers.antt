@@ -1,0 +1,104 @@
+-- What the law needs of workers that run scripts: what a script puts out is one text, which whoever reads its pipe may read.
+--
+-- Which workers are free, and what text is due of one that runs, are words of the worker's own.
+pub mod Crew
+pub mod Crews
+pub mod PutsOut
+pub mod Sharing
+use Rattle.std.specs.Prelude.{◌≡◌, ◌⊎◌, ◌≤◌, ℕ, Bool, true, false, List, ◌++◌, length, Some}
+use Rattle.iol_core.specs.Access.{HasAccess}
+use Rattle.iol_core.specs.Text.{bytes_of}
+use Rattle.iol_core.specs.State.{State, descriptor, pipe_at}
+use Rattle.iol_core.specs.declared.descriptors.Descriptor.TheVariants as on
+use Rattle.iol_core.specs.Calls.Aggregates.{default_pool}
+use Rattle.iol_core.specs.Positions.{ArePlaced}
+use Rattle.iol_core.specs.Run.{StepsTo}
+use Rattle.iol_core.specs.declared.limits.TheConstants.{MAX_QUEUE_BYTES}
+use Rattle.iol_core.specs.declared.events.Event.{Event}
+use Rattle.iol_core.specs.declared.events.Reply.{Reply}
+use Rattle.iol_core.specs.declared.events.Reply.TheVariants as reply
+use Rattle.iol_laws.specs.Caller.{is_rough, ClosesWriteEnd}
+use Rattle.iol_laws.specs.Order.{IsOrderly}
+use Rattle.iol_laws.specs.Others.{GoesFromFront}
+use Rattle.iol_laws.specs.Sources.{lie_in}
+use Rattle.iol_proc.specs.Settled.{Claim}
+use Rattle.iol_proc.specs.Turns.{Account, SeatTurn}
+use Rattle.iol_proc.specs.World.{copying}
+use Rattle.iol_proc.specs.declared.seat.Seat.{Seat}
+use Rattle.flash_cgi.specs.Beside.{is_call_of, LeavesFiles}
+use Rattle.flash_cgi.specs.Due.{IsDue}
+use Rattle.flash_cgi.specs.Free.{HasNoJob}
+use Rattle.flash_cgi.specs.Leaving.{LeavesAllBut}
+use Rattle.flash_cgi.specs.Outcomes.{AreFiles, outcomes_in}
+use Rattle.flash_cgi.specs.Output.{output}
+use Rattle.flash_cgi.specs.Shown.{HoldFiles, IsShown}
+use Rattle.flash_cgi.specs.Taking.{HasJob}
+use Rattle.flash_cgi.specs.Turns.{IsFree}
+use Rattle.flash_cgi.specs.declared.line.Line.{Line}
+use Rattle.flash_cgi.specs.declared.worker.Worker.{Worker}
+
+-- Free m j seat: the worker that sits here is free, and reads its jobs from pipe j, in which nothing lies.
+-- Due m j p seat text: this text is still to be had from pipe p, by the worker whose jobs come from pipe j.
+module _ {W : Type 0} (works : Account W) (settled : Claim W) (pools : ℕ → Bool) (Free : State → (j : ℕ) → Seat W → Type 0)
+    (Due : State → (j p : ℕ) → Seat W → (text : List ℕ) → Type 0) where
+  -- all of it lies in the pipe, whose write end is closed, and the worker is free again
+  pub record Wrote (m n : State) (j p : ℕ) (next : Seat W) (text : List ℕ) (r : Reply) : Type 0 where
+    pub all : text ≡ bytes_of (pipe_at m p).queue
+    pub done : r ≡ reply.Done
+    pub closes : ClosesWriteEnd m p r n
+    pub free : Free n j next
+    pub lies : lie_in pools (pipe_at n p).queue ≡ true
+
+  -- what went from the pipe was the front of the text, and the rest is due
+  pub record Gave (m n : State) (j p : ℕ) (seat : Seat W) (text : List ℕ) : Type 0 where
+    pub goes : GoesFromFront m p n
+    pub rest : List ℕ
+    pub splits : text ≡ bytes_of goes.gone ++ rest
+    pub due : Due n j p seat rest
+
+  pub record WorkersRun : Type 0 where
+    -- nothing lies in the job pipe of one that is free, and one of which a text is due has the write end of the pipe
+    pub none : (m : State) (j : ℕ) (seat : Seat W) → Free m j seat → HasNoJob m seat.by j
+    pub writes : (m : State) (j p : ℕ) (seat : Seat W) (text : List ℕ) → Due m j p seat text
+        → (fd : ℕ) × (descriptor m seat.by fd ≡ Some (on.WriteEnd p))
+    -- and it reads its job pipe
+    pub reads : (m : State) (j p : ℕ) (seat : Seat W) (text : List ℕ) → Due m j p seat text
+        → descriptor m seat.by 0 ≡ Some (on.ReadEnd j)
+    -- a worker that is free changes nothing, and stays free; so do others leave it, as long as they leave its job pipe
+    pub waits : (m n : State) (j : ℕ) (seat next : Seat W) (yields : Bool) (r : Reply) → IsOrderly m → Free m j seat
+        → SeatTurn copying works m seat yields r n next → (n ≡ m) × Free n j next
+    pub free_others : (m n : State) (j : ℕ) (seat : Seat W) (e : Event) (r : Reply) → ArePlaced m → StepsTo m e r n
+        → is_call_of e seat.by ≡ false → pipe_at n j ≡ pipe_at m j → Free m j seat → Free n j seat
+    -- with a job in its pipe all of that job's output is due, behind what lies in the pipe for it
+    pub begins : (m n : State) (j p fd : ℕ) (seat : Seat W) (query script : List ℕ) (lines : List Line) (e : Event) (r : Reply)
+        → ArePlaced m → Free m j seat → StepsTo m e r n → is_call_of e seat.by ≡ false
+        → HasJob n seat.by j p fd query script lines → (pipe_at n j).writing ≡ true → lie_in pools (pipe_at n p).queue ≡ true
+        → Due n j p seat (bytes_of (pipe_at n p).queue ++ output query lines (outcomes_in n seat.by lines))
+    -- its turn leaves a text due, until all of it is written, or nobody reads
+    pub turns : (m n : State) (j p : ℕ) (seat next : Seat W) (yields : Bool) (r : Reply) (text : List ℕ) → IsOrderly m
+        → ArePlaced m → AreFiles m → HoldFiles pools m seat.by → Due m j p seat text
+        → SeatTurn copying works m seat yields r n next → is_rough r ≡ false
+        → Due n j p next text ⊎ Wrote m n j p next text r ⊎ ((pipe_at n p).reading ≡ false)
+    -- what others do takes its front, as long as they leave the files and the job pipe
+    pub others : (m n : State) (j p : ℕ) (seat : Seat W) (e : Event) (r : Reply) (text : List ℕ) → IsOrderly m → ArePlaced m
+        → StepsTo m e r n → is_call_of e seat.by ≡ false → LeavesFiles m seat.by n → pipe_at n j ≡ pipe_at m j
+        → Due m j p seat text → Gave m n j p seat text
+    -- its turn touches nothing but its own, and one pipe
+    pub quiet : (m n : State) (j p : ℕ) (seat next : Seat W) (yields : Bool) (r : Reply) (text : List ℕ) → Due m j p seat text
+        → SeatTurn copying works m seat yields r n next → LeavesAllBut m seat.by j n ⊎ LeavesAllBut m seat.by p n
+    -- what lies in the pipe is of these pools, and where all is idle it is full
+    pub shown : (m : State) (j p : ℕ) (seat : Seat W) (text : List ℕ) → Due m j p seat text
+        → lie_in pools (pipe_at m p).queue ≡ true
+    pub full : (m : State) (j p : ℕ) (seat : Seat W) (text : List ℕ) → IsOrderly m → HasAccess m → Due m j p seat text
+        → settled 2 seat.by seat.process seat.last m → MAX_QUEUE_BYTES ≤ length (pipe_at m p).queue
+
+-- ---- the words of the worker that runs scripts
+
+pub record IsFreeFor (pools : ℕ → Bool) (m : State) (j : ℕ) (seat : Seat Worker) : Type 0 where
+  pub free : IsFree m seat
+  pub none : HasNoJob m seat.by j
+  pub default : pools (default_pool m seat.by) ≡ true
+
+pub record IsDueOf (pools : ℕ → Bool) (m : State) (j p : ℕ) (seat : Seat Worker) (text : List ℕ) : Type 0 where
+  pub due : IsDue m j p seat text
+  pub shown : IsShown pools m p seat

@@ -1,0 +1,85 @@
+-- What holds where all is idle: nothing is left to do but where a peer takes nothing.
+use Rattle.std.specs.Prelude.{◌≡◌, ◌<◌, ◌≤◌, ◌⊎◌, ℕ, true, false, List, [], ◌++◌, length, Option, Some, None}
+use Rattle.iol_core.specs.Numbered.{in_place}
+use Rattle.iol_core.specs.Text.{bytes_of}
+use Rattle.iol_core.specs.State.{State, descriptor, conn_at}
+use Rattle.iol_core.specs.declared.descriptors.Descriptor.TheVariants as on
+use Rattle.iol_core.specs.declared.limits.TheConstants.{MAX_QUEUE_BYTES}
+use Rattle.iol_core.specs.declared.events.Reply.{Reply}
+use Rattle.iol_proc.specs.Idle.{Idles}
+use Rattle.iol_proc.specs.World.{Stage, copying}
+use Rattle.iol_proc.specs.declared.choice.Choice.{Choice}
+use Rattle.flash_laws.specs.Client.{Client, uses_agg, awaits}
+use Rattle.flash_laws.specs.Workers.Crew.{Crew}
+use Rattle.flash_laws.specs.World.Remains.{IsFull, StaysOpen, AnswersScript}
+use Rattle.flash_laws.specs.Conn.Fits.{IsLent}
+use Rattle.flash_laws.specs.World.Settles.{ActorsAreSettled}
+use Rattle.flash_laws.specs.Site.Past.{Past}
+use Rattle.flash_laws.specs.Site.Places.{is_run_by}
+use Rattle.flash_laws.specs.Serves.Rounds.{in_rounds}
+use Rattle.flash_laws.specs.Site.Served.{IsUsed}
+use Rattle.flash_laws.specs.Shelf.{Shelf, IsAnswer}
+use Rattle.flash_laws.specs.Site.{server}
+use Rattle.flash_laws.specs.World.Tie.{past_of, Actor, actor_turns}
+use Rattle.flash_laws.specs.World.{Tied}
+
+-- as much waits to be sent as may
+abbrev pub IsHeldUp : State → (c : ℕ) → Type 0
+IsHeldUp m c = MAX_QUEUE_BYTES ≤ length (conn_at m c).outgoing
+
+-- the client at this descriptor is held up
+abbrev pub IsHeldUpAt : State → (fd : ℕ) → Type 0
+IsHeldUpAt m fd = (c : ℕ) × (descriptor m server fd ≡ Some (on.Connection c)) × IsHeldUp m c
+
+-- The request in progress on this connection asks for a script, and so much of the response is made; or its peer left.
+abbrev pub AsksForScript : Shelf → State → Past → (c : ℕ) → (part : List ℕ) → Type 0
+AsksForScript shelf m p c part = (p.gone c ≡ true)
+    ⊎ AnswersScript shelf (p.came c) (p.sent c ++ bytes_of (conn_at m c).outgoing) part
+
+-- this worker runs the script that was asked for on a connection that is held up
+pub record RunsForHeldUp (shelf : Shelf) (m : State) (p : Past) (clients : List (Option Client)) (k : ℕ) : Type 0 where
+  pub place : ℕ
+  pub client : Client
+  pub there : in_place clients place ≡ Some client
+  pub runs : is_run_by client k ≡ true
+  pub conn : ℕ
+  pub open_on : descriptor m server place ≡ Some (on.Connection conn)
+  pub held : IsHeldUp m conn
+  pub part : List ℕ
+  pub asks : AsksForScript shelf m p conn part
+
+-- The client of this connection asked for a script, of whose response nothing is made yet: it waits for a worker, while each runs
+-- the script of one that is held up.
+pub record AwaitsWorker (shelf : Shelf) (workers : ℕ) (m : State) (p : Past) (clients : List (Option Client)) (c : ℕ) : Type 0 where
+  pub place : ℕ
+  pub client : Client
+  pub there : in_place clients place ≡ Some client
+  pub open_on : descriptor m server place ≡ Some (on.Connection c)
+  pub waits : awaits client ≡ true
+  pub asks : AsksForScript shelf m p c []
+  pub some : 0 < workers
+  pub busy : (k : ℕ) → k < workers → RunsForHeldUp shelf m p clients k
+
+pub record IsDone (shelf : Shelf) (workers : ℕ) (m : State) (p : Past) (clients : List (Option Client)) : Type 0 where
+  -- each connection of the net is accepted, unless the server has as many open as it may
+  pub accepted : (c : ℕ) → p.net c ≡ true → ((conn_at m c).accepted ≡ true) ⊎ IsFull m clients
+  -- each that was accepted, and whose peer did not leave, is answered whole, closed or not, or as much waits to be sent as may, or it
+  -- waits for a worker
+  pub answered : (c : ℕ) → p.net c ≡ true → (conn_at m c).accepted ≡ true → p.gone c ≡ false
+      → IsAnswer shelf (p.came c) (p.sent c ++ bytes_of (conn_at m c).outgoing)
+      ⊎ IsHeldUp m c ⊎ AwaitsWorker shelf workers m p clients c
+  -- each that was accepted is closed, or is held up, or waits for a worker, or its peer is there and may ask for more
+  pub closes : (c : ℕ) → p.net c ≡ true → (conn_at m c).accepted ≡ true
+      → ((conn_at m c).closed ≡ true) ⊎ IsHeldUp m c ⊎ AwaitsWorker shelf workers m p clients c
+      ⊎ (((conn_at m c).peer ≡ None) × StaysOpen (p.came c))
+  -- one that uses an aggregate is held up
+  pub lends : (fd a : ℕ) (x : Client) → in_place clients fd ≡ Some x → uses_agg x a ≡ true → IsHeldUpAt m fd
+  -- and the server has no other: each that it has is used by such a client, or a call from outside gave it
+  pub owned : (a : ℕ) → IsLent m a → ((used : IsUsed clients a) × IsHeldUpAt m used.fd) ⊎ (p.given a ≡ true)
+
+-- Where all is idle in a tied world nothing is left to do.
+abbrev pub IdleIsDone : Crew → Type 0
+IdleIsDone crew = ActorsAreSettled crew.turns crew.settled
+    → (shelf : Shelf) (xs : List Choice) (rs : List Reply) (w after : Stage State (Actor crew.Worker)) (most : ℕ)
+    → Idles copying (actor_turns in_rounds crew.turns) w most true after → (tied : Tied shelf crew xs rs after)
+    → IsDone shelf crew.count after.machine (past_of xs rs) tied.seated.state.clients

@@ -1,0 +1,35 @@
+-- A whole run of a world with workers: choices, and then turns in rounds until all is idle.
+use Rattle.std.specs.Prelude.{◌≡◌, ℕ, Bool, true, false, List, ◌++◌, length, map}
+use Rattle.iol_core.specs.State.{State}
+use Rattle.iol_core.specs.declared.events.Reply.{Reply}
+use Rattle.iol_proc.specs.Idle.{Idles, rounds}
+use Rattle.iol_proc.specs.World.{Stage, copying, WorldRun, domains_of}
+use Rattle.iol_proc.specs.declared.choice.Choice.{Choice}
+use Rattle.flash_laws.specs.World.Calm.{AreMild}
+use Rattle.flash_laws.specs.Workers.Crew.{Crew}
+use Rattle.flash_laws.specs.World.Settles.{ActorsAreSettled}
+use Rattle.flash_laws.specs.Serves.Rounds.{in_rounds}
+use Rattle.flash_laws.specs.Shelf.{Shelf}
+use Rattle.flash_laws.specs.World.Tie.{past_of, Actor, actor_turns}
+use Rattle.flash_laws.specs.World.{Tied, IsNew, AllAnswered, ClosedAreWhole}
+use Rattle.flash_laws.specs.World.Done.{IsDone}
+
+module _ (crew : Crew) where
+  -- what holds at the end, if no turn was rough
+  pub record IsRight (shelf : Shelf) (xs : List Choice) (rs : List Reply) (idle : Bool)
+      (after : Stage State (Actor crew.Worker)) : Type 0 where
+    pub answered : AllAnswered shelf xs rs after.machine
+    pub whole : ClosedAreWhole shelf xs rs after.machine
+    pub tied : Tied shelf crew xs rs after
+    pub done : idle ≡ true → IsDone shelf crew.count after.machine (past_of xs rs) tied.seated.state.clients
+
+  -- A new world runs choices whose calls from outside are mild, and then turns until it is idle; no turn was rough.
+  abbrev pub HostIsRight : Type 0
+  HostIsRight = ActorsAreSettled crew.turns crew.settled
+      → (shelf : Shelf) (xs : List Choice) (rs : List Reply)
+      (w mid after : Stage State (Actor crew.Worker)) (most : ℕ) (idle : Bool) → IsNew shelf crew w
+      → (run : WorldRun copying (actor_turns in_rounds crew.turns) w xs rs mid)
+      → AreMild (actor_turns in_rounds crew.turns) w xs rs mid run
+      → (ends : Idles copying (actor_turns in_rounds crew.turns) mid most idle after)
+      → after.rough ≡ false
+      → IsRight shelf (xs ++ rounds (domains_of mid.seats) 0 (length ends.went)) (rs ++ map (λ t. t.1) ends.went) idle after

@@ -1,0 +1,64 @@
+-- What the server declares of the moments at which all is idle.
+use Rattle.std.specs.Prelude.{◌≡◌, ◌≤◌, ℕ, zero, suc, ◌⊎◌, false, nat_lt, List, Option, Some}
+use Rattle.iol_core.specs.Numbered.{in_place, taken}
+use Rattle.iol_core.specs.State.{State}
+use Rattle.iol_core.specs.Run.{StepsTo}
+use Rattle.iol_core.specs.declared.refusals.Refusal.TheVariants as no
+use Rattle.iol_core.specs.declared.events.Call.{Call}
+use Rattle.iol_core.specs.declared.events.Call.TheVariants as call
+use Rattle.iol_core.specs.declared.events.Event.TheVariants as event
+use Rattle.iol_core.specs.declared.events.Reply.{Reply}
+use Rattle.iol_core.specs.declared.events.Reply.TheVariants as reply
+use Rattle.iol_proc.specs.Settled.{Claim}
+use Rattle.flash_laws.specs.Client.{Client, wants, IsAwaiting}
+use Rattle.flash_laws.specs.Site.Places.{has_free, may_go, runs_scripts}
+use Rattle.flash_laws.specs.declared.doing.Flight.{Flight}
+use Rattle.flash_laws.specs.declared.doing.Flight.TheVariants.{Nothing, Accepting, At}
+use Rattle.flash_laws.specs.Serves.{Server}
+use Rattle.flash_laws.specs.Conn.Policy.{most_conns}
+use Rattle.flash_laws.specs.World.Tie.{Actor, Serving, Working}
+
+-- a call would block, in this very state
+abbrev pub WouldWait : State → (by : ℕ) → Call → Type 0
+WouldWait m by k = StepsTo m (event.Call by k) (reply.Refused no.WouldBlock) m
+
+-- a client has no request that could begin, and waits for a worker while none is free, or its call would block
+abbrev pub Blocks : State → (by workers : ℕ) → List (Option Client) → (place : ℕ) → Client → Type 0
+Blocks m by workers clients place x = IsAwaiting x
+    × ((may_go (has_free workers clients) x ≡ false) ⊎ WouldWait m by (wants (runs_scripts workers) place x))
+
+-- so does the client at a place, if one is there
+abbrev pub BlocksAt : State → (by workers : ℕ) → List (Option Client) → (place : ℕ) → Type 0
+BlocksAt m by workers clients place = (x : Client) → in_place clients place ≡ Some x → Blocks m by workers clients place x
+
+-- so do all of a round: the clients, and accepting one, unless the server holds as many as it may
+pub record AllBlock (m : State) (by workers : ℕ) (clients : List (Option Client)) : Type 0 where
+  pub places : (place : ℕ) → BlocksAt m by workers clients place
+  pub door : (nat_lt (taken clients) most_conns ≡ false) ⊎ WouldWait m by call.Accept
+
+-- so do those of a round up to this one
+abbrev pub BlockUpTo : State → (by workers : ℕ) → List (Option Client) → Flight → Type 0
+BlockUpTo m by workers clients Nothing = ⊥
+BlockUpTo m by workers clients (At fd) = (place : ℕ) → place ≤ fd → BlocksAt m by workers clients place
+BlockUpTo m by workers clients Accepting = AllBlock m by workers clients
+
+-- the server has just yielded, or its call would have blocked
+abbrev pub HasYielded : Server → Reply → Type 0
+HasYielded s l = (s.flight ≡ Nothing) × (l ≡ reply.Done)
+
+abbrev pub HasBlocked : State → (by : ℕ) → Server → Reply → Type 0
+HasBlocked m by s l = (l ≡ reply.Refused no.WouldBlock) × BlockUpTo m by s.workers s.clients s.flight
+
+abbrev pub IsPolling : State → (by : ℕ) → Server → Reply → Type 0
+IsPolling m by s l = HasYielded s l ⊎ HasBlocked m by s l
+
+-- since so many yields, up to two: after one, what was polled since would block; after two, everything would
+abbrev pub server_settled : Claim Server
+server_settled zero by s l m = Unit {0}
+server_settled (suc zero) by s l m = IsPolling m by s l
+server_settled (suc (suc n)) by s l m = IsPolling m by s l × AllBlock m by s.workers s.clients
+
+module _ {W : Type 0} (Settled : Claim W) where
+  abbrev pub actor_settled : Claim (Actor W)
+  actor_settled n by (Serving s) l m = server_settled n by s l m
+  actor_settled n by (Working w) l m = Settled n by w l m

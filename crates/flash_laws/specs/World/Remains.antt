@@ -1,0 +1,41 @@
+-- Where all is idle nothing is left to do.
+use Rattle.std.specs.Prelude.{◌≡◌, ℕ, true, false, nat_lt, List, [], ◌∷◌, ◌++◌, Option, Some}
+use Rattle.std.specs.List.{list_all}
+use Rattle.iol_core.specs.Numbered.{in_place, taken}
+use Rattle.iol_core.specs.State.{State, descriptor}
+use Rattle.iol_core.specs.declared.descriptors.Descriptor.TheVariants as on
+use Rattle.flash_http.specs.declared.windows.Window.TheVariants.{Wait}
+use Rattle.flash_http.specs.Window.{window_in}
+use Rattle.flash_http.specs.Request.{Answer}
+use Rattle.flash_laws.specs.Answers.{Reads, keeps}
+use Rattle.flash_laws.specs.Client.{is_for_script}
+use Rattle.flash_laws.specs.Conn.Policy.{most_conns}
+use Rattle.flash_laws.specs.Shelf.{Shelf, due_to, responses}
+use Rattle.flash_laws.specs.Site.{server}
+
+-- The server has as many connections as it may: so many are kept, and each of these is open on one.
+pub record IsFull {A : Type 0} (m : State) (kept : List (Option A)) : Type 0 where
+  pub most : nat_lt (taken kept) most_conns ≡ false
+  pub each : (fd : ℕ) (x : A) → in_place kept fd ≡ Some x → (c : ℕ) × (descriptor m server fd ≡ Some (on.Connection c))
+
+-- Nothing that came on the stream asks for the connection to be closed: after each of its requests it stays open, and no further
+-- one is there (RFC 9112, section 9.3).
+pub record StaysOpen (s : List ℕ) : Type 0 where
+  pub qs : List Answer
+  pub rest : List ℕ
+  pub reads : Reads s qs rest
+  pub open_yet : list_all (λ q. keeps q) qs ≡ true
+  pub no_more : window_in rest ≡ Wait
+
+-- The first request of the stream that is not answered whole asks for a script: these bytes answer those before it, and it up to
+-- this part of its response.
+pub record AnswersScript (shelf : Shelf) (s bytes part : List ℕ) : Type 0 where
+  pub qs : List Answer
+  pub q : Answer
+  pub rest : List ℕ
+  pub reads : Reads s (qs ++ q ∷ []) rest
+  pub open_yet : list_all (λ p. keeps p) qs ≡ true
+  pub script : is_for_script shelf.scripts q ≡ true
+  pub so_far : bytes ≡ responses shelf qs ++ part
+  pub after : List ℕ
+  pub due : due_to shelf q ≡ part ++ after

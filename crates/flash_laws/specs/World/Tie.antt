@@ -1,0 +1,71 @@
+-- The processes of a world, the server and workers, and the past of what was chosen and replied. W is what a worker is.
+use Rattle.std.specs.Prelude.{ℕ, ◌||◌, Bool, false, List, ◌∷◌, Option}
+use Rattle.iol_core.specs.declared.events.Event.{Event}
+use Rattle.iol_core.specs.declared.events.Reply.{Reply}
+use Rattle.iol_proc.specs.Turns.{Account}
+use Rattle.iol_proc.specs.Histories.{stream_over, sent_over}
+use Rattle.iol_proc.specs.declared.choice.Choice.{Choice}
+use Rattle.iol_proc.specs.declared.choice.Choice.TheVariants as choice
+use Rattle.iol_proc.specs.declared.process.Turn.{Turn}
+use Rattle.flash_laws.specs.Site.Past.{Past, made_by, gone_by, given_by}
+use Rattle.flash_laws.specs.Serves.{Server, Policy, server_turns}
+use Rattle.flash_laws.specs.Serves.Wanting.{server_wants}
+
+-- ---- the past of choices and their replies
+
+-- whether a choice is such an event, with this reply
+abbrev pub tells_with : (Event → Reply → Bool) → Choice → Reply → Bool
+tells_with p (choice.Outside e) r = p e r
+tells_with p (choice.Turn by) r = false
+
+-- whether one of these is
+unfoldable pub tells_over : (Event → Reply → Bool) → List Choice → List Reply → Bool
+tells_over p (x ∷ xs) (r ∷ rs) = tells_with p x r || tells_over p xs rs
+tells_over p xs rs = false
+
+-- whether one of them made this connection in the pool `net`
+unfoldable pub made_over : (c : ℕ) → List Choice → List Reply → Bool
+made_over c xs rs = tells_over (λ e r. made_by c e r) xs rs
+
+-- whether one of them told that the peer of this connection left
+unfoldable pub gone_over : (c : ℕ) → List Choice → List Reply → Bool
+gone_over c xs rs = tells_over (λ e r. gone_by c e r) xs rs
+
+-- whether one of them gave the server an aggregate, under this number
+unfoldable pub given_over : (a : ℕ) → List Choice → List Reply → Bool
+given_over a xs rs = tells_over (λ e r. given_by a e r) xs rs
+
+abbrev pub past_of : List Choice → List Reply → Past
+past_of xs rs = record {
+  came = λ c. stream_over c xs rs;
+  sent = λ c. sent_over c xs rs;
+  net = λ c. made_over c xs rs;
+  gone = λ c. gone_over c xs rs;
+  given = λ a. given_over a xs rs;
+}
+
+-- ---- processes
+
+-- a process of a world: the server, or a worker
+pub data Actor (W : Type 0) : Type 0 where
+  Serving : (s : Server) → Actor W
+  Working : (w : W) → Actor W
+
+-- the server by itself: the turns that it takes, and when it may want memory
+abbrev pub server_account : Policy → Account Server
+server_account may = record { goes = server_turns may; may_want = server_wants }
+
+-- when a process may want memory
+abbrev pub actor_wants : {W : Type 0} → Account W → Actor W → Reply → (lent : ℕ → Option (List ℕ)) → Type 0
+actor_wants works (Serving s) last lent = server_wants s last lent
+actor_wants works (Working w) last lent = works.may_want w last lent
+
+module _ (may : Policy) {W : Type 0} (works : Account W) where
+  -- the turns that it takes
+  abbrev pub actor_goes : Actor W → Reply → (lent : ℕ → Option (List ℕ)) → Turn → Actor W → Type 0
+  actor_goes (Serving s) last lent t (Serving after) = server_turns may s last lent t after
+  actor_goes (Working w) last lent t (Working after) = works.goes w last lent t after
+  actor_goes x last lent t y = ⊥
+
+  abbrev pub actor_turns : Account (Actor W)
+  actor_turns = record { goes = actor_goes; may_want = actor_wants works }
