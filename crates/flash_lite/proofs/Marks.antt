@@ -1,7 +1,7 @@
 -- Numbers of places in ascending order.
 use mathlib.Core.Bool.{beq}
 use Rattle.std.proofs.Common.{◌≡◌, ⊎_elim, ℕ, zero, suc, ◌<◌, ◌≤◌, List, [], ◌∷◌, ◌++◌, length, get_or, take, drop, ap, ◌∙◌, refl, sym, subst, arith, Bool, true, false, cond, Option, Some, None}
-use Rattle.std.specs.Prelude.{filter, find, insert, remove, nat_lt, nat_le, not, if◌then◌else◌, AllPairs}
+use Rattle.std.specs.Prelude.{filter, find, insert, remove, nat_lt, nat_le, not, if◌then◌else◌}
 use Rattle.std.specs.List.Sorted.{IsStrictlyIncreasing, IsPartitionedBy, IsPartitionPoint}
 use Rattle.std.proofs.lemmas.Bool.{cases_eq}
 use Rattle.std.proofs.lemmas.Bool.Decides.{nat_tests}
