@@ -1,12 +1,12 @@
 -- What a write puts in place of a range, and the store over which it lies.
-use Rattle.std.proofs.Common.{inl, inr, ◌≡◌, ◌∙◌, ℕ, ◌+◌, ◌-◌, ◌<◌, ◌≤◌, ◌^◌, List, [], ◌++◌, Option, Some, None, refl, sym, ap, arith, subst}
+use Rattle.std.proofs.Common.{inl, inr, ◌≡◌, ◌∙◌, ℕ, ◌+◌, ◌-◌, ◌<◌, ◌≤◌, ◌^◌, List, [], ◌++◌, map, Option, Some, None, refl, sym, ap, arith, subst}
 use Rattle.std.specs.Prelude.{MatchOption}
 use Rattle.std.proofs.lemmas.Bool.{cases_lt}
 use Rattle.iol_arena.specs.State.{page_count}
 use Rattle.iol_core.specs.Text as text
 use Rattle.iol_core.specs.declared.limits.TheConstants.{MAX_FILE_BYTES}
 use Rattle.iol_core.specs.declared.numbers.BufId.{BufId}
-use Rattle.iol_hold.specs.Moves.{Covers, Moves, Shares, tally}
+use Rattle.iol_hold.specs.Moves.{Covers, Moves, SameLists, Shares, pool_meant, tally}
 use Rattle.iol_hold.specs.Places.{byte_len}
 use Rattle.iol_hold.specs.Stored.{Stored}
 use Rattle.iol_hold.specs.Texts.{AllReadable, bufs_of, text_of}
@@ -65,6 +65,9 @@ module _ {s t : Stored} {p : ℕ} {es : List Extent} {at : ℕ} {source : List S
     still = λ h. (shares_move a.shares).still (a.composes.moves.still h);
     tidy = λ h. (shares_move a.shares).tidy (a.composes.moves.tidy h);
   }
+
+  pub prepared_lists : SameLists s t
+  prepared_lists = ap (map pool_meant) (a.shares.pools ∙ a.composes.pages.pools)
 
   pub prepared_pages : page_count t.arena ≡ page_count s.arena
   prepared_pages = ap page_count a.shares.arena ∙ a.composes.pages.pages.count
