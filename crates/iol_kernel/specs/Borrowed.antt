@@ -51,7 +51,7 @@ pub record BringsIn (c max : ℕ) (after : Option (List ℕ)) (old new : KernelS
   pub made : AfterRoom (conn_at (machine_of [] old) c).pool 1 old (λ roomy. Arrives c a.taken roomy new)
   pub none : a.taken ≡ 0 → IsSame old new
 
--- A read is refused as one byte that arrives: for want of room just where that has none.
+-- A read is refused as one byte that arrives: for want of room only where that has none, and it is done only where it has.
 pub record RefusesByte {A : Type 0} (s : State) (c max : ℕ) (has_room : Bool) (r : Result A Refusal) : Type 0 where
   pub passed : OnOk r (IsPassed (arrive_from_refusals s c max))
   pub refused : IfErr r (IsRefused (arrive_from_refusals s c max) (WantOfRoom (conn_at s c).pool))

@@ -26,7 +26,7 @@ pub record ReadsOut (by fd n : ℕ) (old : KernelState) (r : Result (List ℕ) R
   pub cache : new.cache ≡ old.cache
   pub refused : OnErr r (new ≡ old)
 
--- How many bytes a read of n bytes of a queue would answer. It is refused as that read is.
+-- How many of n bytes of a queue wait, whoever may read them. It is refused as a read of n bytes is.
 pub record TellsWaiting (by fd n : ℕ) (h : KernelState) (r : Result ℕ Refusal) : Type 0 where
   pub passed : OnOk r (IsPassed (read (machine_of [] h) by fd n).refusals)
   pub refused : IfErr r (IsRefused (read (machine_of [] h) by fd n).refusals Never)
