@@ -52,8 +52,8 @@ pub record OutputsAreShown : Type 0 where
       → pools (default_pool m seat.by) ≡ true → lie_in pools (pipe_at m p).queue ≡ true → IsShown pools m p seat
   -- its turns leave it so, and so does all that others do
   pub turns : (pools : ℕ → Bool) (m n : State) (p : ℕ) (seat next : Seat Worker) (yields : Bool) (r : Reply)
-      (unseen : List Outcome → List ℕ) → IsOrderly m → HoldFiles pools m seat.by → RunsJob m p seat unseen → IsShown pools m p seat
-      → SeatTurn copying worker_turns m seat yields r n next → IsShown pools n p next
+      (unseen : List Outcome → List ℕ) → IsOrderly m → HoldFiles pools m seat.by → RunsJob m p seat unseen
+      → IsShown pools m p seat → SeatTurn copying worker_turns m seat yields r n next → IsShown pools n p next
   pub others : (pools : ℕ → Bool) (m n : State) (p : ℕ) (seat : Seat Worker) (e : Event) (r : Reply)
       (unseen : List Outcome → List ℕ) → IsOrderly m → ArePlaced m → RunsJob m p seat unseen → IsShown pools m p seat
       → StepsTo m e r n → is_call_of e seat.by ≡ false → IsShown pools n p seat

@@ -24,7 +24,8 @@ framing_line UntilClose = []
 abbrev pub range_line : Option ContentRange → List ℕ
 range_line None = []
 range_line (Some (Bytes first last len)) =
-    codes "Content-Range: bytes " ++ (decimal first ++ (codes "-" ++ (decimal last ++ (codes "/" ++ (decimal len ++ codes "\r\n")))))
+    codes "Content-Range: bytes " ++ (decimal first ++ (codes "-" ++ (decimal last ++ (codes "/" ++ (decimal len
+    ++ codes "\r\n")))))
 range_line (Some (Unsatisfied len)) = codes "Content-Range: bytes */" ++ (decimal len ++ codes "\r\n")
 
 -- with 405 Method Not Allowed (RFC 9110, section 10.2.1)

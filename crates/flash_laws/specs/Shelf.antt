@@ -1,5 +1,5 @@
--- What lies on the shelf of a site: the response that is due to each request, and so the answer to a stream, with the files as they
--- are.
+-- What lies on the shelf of a site: the response that is due to each request, and so the answer to a stream, with the
+-- files as they are.
 pub mod Due
 use Rattle.std.specs.Prelude.{◌≡◌, ℕ, ◌⊎◌, Bool, true, List, ◌++◌}
 use Rattle.std.specs.List.{flat_map}

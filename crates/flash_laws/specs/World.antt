@@ -122,7 +122,8 @@ module _ (may : Policy) (crew : Crew) where
       → AreMild (actor_turns may crew.turns) w xs rs after run
       → AreSmooth xs rs → Tied shelf crew past ps w → Tied shelf crew (past ++ xs) (ps ++ rs) after
 
--- The premises can be met: files, a new world on them, and a calm run of it in which a connection of the net comes and is accepted.
+-- The premises can be met: files, a new world on them, and a calm run of it in which a connection of the net comes
+-- and is accepted.
 pub record ARunIsCalm (crew : Crew) : Type 0 where
   pub shelf : Shelf
   pub first : Stage State (Actor crew.Worker)

@@ -27,7 +27,8 @@ pub record CanMark (places : List ℕ) (place : ℕ) (was there : Bool) (room : 
   pub fits : length (marked places place there) ≤ room
 
 -- Marked by whether the client in that place may go, they are the places of all that may.
-pub record CanNote (free : Bool) (clients : List (Option Client)) (places : List ℕ) (place : ℕ) (was : Bool) (room : ℕ) : Type 0 where
+pub record CanNote (free : Bool) (clients : List (Option Client)) (places : List ℕ) (place : ℕ) (was : Bool)
+    (room : ℕ) : Type 0 where
   pub can : CanMark places place was (goes_in free (in_place clients place)) room
   pub noted : marked places place (goes_in free (in_place clients place)) ≡ goers free clients
 

@@ -60,8 +60,8 @@ abbrev pub WriteLeaves : (old : KernelState) → Option Descriptor → List Slic
 WriteLeaves old (Some (on.File f at mode)) xs r new = IfRefused r (λ x. SameTables old new × LeavesUnwritten f xs old new x)
 WriteLeaves old o xs r new = ⊤
 
--- A refused write of bytes by copying made room at most, to a queue for those of them that it takes, and what it placed for a file
--- is gone; where there is no room it changed nothing.
+-- A refused write of bytes by copying made room at most, to a queue for those of them that it takes, and what it
+-- placed for a file is gone; where there is no room it changed nothing.
 abbrev pub PutLeaves : Wants → List ℕ → (old : KernelState) → Option Descriptor → Reply → (new : KernelState) → Type 0
 PutLeaves w bytes old (Some (on.File f at mode)) r new = IfRefused r (LeavesUnlaid w.pool bytes old new)
 PutLeaves w bytes old o r new = MadeRoomFor w old r new

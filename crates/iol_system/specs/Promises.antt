@@ -54,8 +54,8 @@ pub record Promises (old : SystemState) (e : Event) (r : Reply) (new : SystemSta
   pub refused : uses_cache (tables_of old.kernel) e ≡ false → IsRefused r → new ≡ old
   -- such an event leaves what memory has of files, but that a new file has nothing there
   pub uncached : uses_cache (tables_of old.kernel) e ≡ false → makes_file e ≡ false → new.kernel.cache ≡ old.kernel.cache
-  -- what a late refusal may leave: clean parts of files gone, the first ones before the others, hits counted, and pages raised that
-  -- were filled and are free again
+  -- what a late refusal may leave: clean parts of files gone, the first ones before the others, hits counted, and
+  -- pages raised that were filled and are free again
   pub late : LeavesLate old e r new
   -- `show` and `length` change nothing at all
   pub looks : only_looks e ≡ true → new ≡ old
@@ -74,12 +74,14 @@ pub record Promises (old : SystemState) (e : Event) (r : Reply) (new : SystemSta
   pub store : keeps_store e ≡ true → new.kernel.store ≡ old.kernel.store
   -- calls on files share what is in memory, and what is read or written by copying is in memory then, too
   pub shares_file : IsDone r → SharesFile old e r new.kernel
-  -- Buffers are made on the lowest free pages, each of which is raised by one, and no more gives way for new bytes than was wanted. An
-  -- open pool keeps its chunks, a closed one all of them or none.
+  -- Buffers are made on the lowest free pages, each of which is raised by one, and no more gives way for new bytes
+  -- than was wanted. An open pool keeps its chunks, a closed one all of them or none.
   pub publishes : IsDone r → Publishes old.kernel e new.kernel
-  -- A new pool has the lowest free chunks. Admitting a domain changes the pool's list alone, and a new file has nothing in memory.
+  -- A new pool has the lowest free chunks. Admitting a domain changes the pool's list alone, and a new file has
+  -- nothing in memory.
   pub creates : Creates old.kernel e r new.kernel
-  -- over any store `length` answers where a read would end, `seek` goes just as far, and `file_new` takes no slot with too many bytes
+  -- over any store `length` answers where a read would end, `seek` goes just as far, and `file_new` takes no slot with
+  -- too many bytes
   pub ends : TellsEnd old e r
   -- sending remembers the sums of what is sent, and nothing else does
   pub sums : Remembers old.kernel e r new.kernel

@@ -120,8 +120,8 @@ pub record GoesOnAs (x : Client) (z : Running) (after : Client) : Type 0 where
   pub ended : is_over z ≡ true
       → after ≡ record { conn = record x.conn { doing = after_run z }; run = None; script = [] }
 
--- A client with a run wants, uses and has what that does, and goes on as it does; so what is said of runs (`Run/Offering`) is said
--- of it.
+-- A client with a run wants, uses and has what that does, and goes on as it does; so what is said of runs
+-- (`Run/Offering`) is said of it.
 pub record IsAsItsRun (scripts : Bool) (m : State) (x : Client) (w : Wanted) (y : Running) (text : List ℕ)
     (o : Progress) : Type 0 where
   pub has : HasRun (job_of w text) m w o y

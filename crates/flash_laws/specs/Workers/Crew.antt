@@ -34,8 +34,8 @@ pub record Crew : Type 1 where
   -- one of which this text is still to be had, from pipe p, and whose jobs come by pipe j
   pub Due : State → (j p : ℕ) → Seat Worker → (text : List ℕ) → Type 0
 
--- What stays as it is: the files and who may read them are those of the shelf, for the server and for each worker; what workers put
--- out the server may read, and jobs the workers.
+-- What stays as it is: the files and who may read them are those of the shelf, for the server and for each worker; what
+-- workers put out the server may read, and jobs the workers.
 pub record IsFixedFor (shelf : Shelf) (crew : Crew) (m : State) : Type 0 where
   pub site : site.IsFixed shelf.finds m
   pub access : HasAccess m

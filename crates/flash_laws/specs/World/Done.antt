@@ -50,7 +50,8 @@ pub record RunsForHeldUp (shelf : Shelf) (m : State) (p : Past) (clients : List 
 
 -- The client of this connection asked for a script, of whose response nothing is made yet: it waits for a worker, while each runs
 -- the script of one that is held up.
-pub record AwaitsWorker (shelf : Shelf) (workers : ℕ) (m : State) (p : Past) (clients : List (Option Client)) (c : ℕ) : Type 0 where
+pub record AwaitsWorker (shelf : Shelf) (workers : ℕ) (m : State) (p : Past) (clients : List (Option Client))
+    (c : ℕ) : Type 0 where
   pub place : ℕ
   pub client : Client
   pub there : in_place clients place ≡ Some client
@@ -63,8 +64,8 @@ pub record AwaitsWorker (shelf : Shelf) (workers : ℕ) (m : State) (p : Past) (
 pub record IsDone (shelf : Shelf) (workers : ℕ) (m : State) (p : Past) (clients : List (Option Client)) : Type 0 where
   -- each connection of the net is accepted, unless the server has as many open as it may
   pub accepted : (c : ℕ) → p.net c ≡ true → ((conn_at m c).accepted ≡ true) ⊎ IsFull m clients
-  -- each that was accepted, and whose peer did not leave, is answered whole, closed or not, or as much waits to be sent as may, or it
-  -- waits for a worker
+  -- each that was accepted, and whose peer did not leave, is answered whole, closed or not, or as much waits to be sent
+  -- as may, or it waits for a worker
   pub answered : (c : ℕ) → p.net c ≡ true → (conn_at m c).accepted ≡ true → p.gone c ≡ false
       → IsAnswer shelf (p.came c) (p.sent c ++ bytes_of (conn_at m c).outgoing)
       ⊎ IsHeldUp m c ⊎ AwaitsWorker shelf workers m p clients c
