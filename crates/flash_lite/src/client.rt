@@ -149,7 +149,7 @@ impl Client {
     }
 
     // No script runs for it: what it does after the reply to a call for a file, or a script's text.
-    #[tactic(auto, using(crate::proofs::Answering::Clients::file_hears, crate::proofs::Answering::Clients::file_runs, crate::proofs::Answering::Clients::file_alone, crate::proofs::Answering::Clients::hears_wants, crate::proofs::Answering::Clients::alone_wants))]
+    #[tactic(auto, using(crate::proofs::Answering::Clients::file_rules))]
     fn go_on_file(
         &mut self,
         scripts: bool,
@@ -272,7 +272,7 @@ impl Client {
     }
 
     // Its run is over, and all is sent: what is kept of its stream goes on.
-    #[tactic(auto, using(crate::proofs::Answering::Clients::rests_asks, crate::proofs::Answering::Clients::rests_leaves, crate::proofs::Answering::Clients::rests_wants))]
+    #[tactic(auto, using(crate::proofs::Answering::Clients::rest_rules))]
     fn end_free(&mut self, scripts: bool, fd: Fd) -> Result<Course, AllocError>
         ensures course { IfOk result (λ o. IsCourse scripts fd (ended self.old Rests) self.old
             reply.Done o self.new) }
@@ -331,7 +331,7 @@ impl Client {
     }
 
     // What it does after the reply to the call of its run.
-    #[tactic(auto, using(crate::proofs::Answering::RunsOn::run_stays, crate::proofs::Answering::RunsOn::run_waits, crate::proofs::Answering::RunsOn::run_goes, crate::proofs::Answering::RunsOn::run_ends, crate::proofs::Answering::RunsOn::goes_wants, crate::proofs::Answering::RunsOn::run_wants_on))]
+    #[tactic(auto, using(crate::proofs::Answering::RunsOn::run_rules))]
     fn go_on_running(
         &mut self,
         scripts: bool,

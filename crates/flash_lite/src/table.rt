@@ -164,7 +164,7 @@ impl Table {
     }
 
     // What follows the reply to the call of the client in a place.
-    #[tactic(auto, using(crate::proofs::Turns::Turned::none_turns, crate::proofs::Turns::Turned::asks_turns, crate::proofs::Turns::Turned::leaves_turns, crate::proofs::Turns::Turned::left_same, crate::proofs::Turns::Turned::table_same, crate::proofs::Turns::Wanting::here_wants, crate::proofs::Turns::Wanting::none_wants, crate::proofs::Turns::Wanting::left_wants))]
+    #[tactic(auto, using(crate::proofs::Turns::Turned::place_rules, crate::proofs::Turns::Wanting::place_rules))]
     fn go_on_at(
         &mut self,
         fd: u32,
@@ -197,7 +197,7 @@ impl Table {
     }
 
     /// What follows the reply to the call that is out, and the next call.
-    #[tactic(auto, using(crate::proofs::Turns::Turned::nothing_turns, crate::proofs::Turns::Turned::unheard, crate::proofs::Turns::Wanting::nothing_wants))]
+    #[tactic(auto, using(crate::proofs::Turns::Turned::silent_rules, crate::proofs::Turns::Wanting::nothing_wants))]
     pub(crate) fn go_on(
         &mut self,
         last: &Reply,

@@ -338,3 +338,11 @@ ready-plain c (Some y) script ready = refl
 
 pub ready_alone : (x : Client) → conn.Readies x.conn x.conn → Readies x x
 ready_alone x ready = ready-plain x.conn x.run x.script ready
+
+-- a file of which a client was told
+
+pub ruleset file_rules = (file_hears, file_runs, file_alone, hears_wants, alone_wants)
+
+-- the end of a client whose connection rests
+
+pub ruleset rest_rules = (rests_asks, rests_leaves, rests_wants)

@@ -272,3 +272,11 @@ module _ (s : Table) (kept : IsKept s) (fd : ℕ) (flies : s.flight ≡ At fd) (
       (subst (λ b. PicksFrom (runs_scripts s.workers) b s.clients (fd + 1) (most_with l) t.flight made) has old)
       clients (ap (λ (u : Table). u.workers) same)
       (subst (λ (n : List (Option Client)). TellsFree t.free n) (sym clients) (subst (λ (f : List Bool). TellsFree f (left_at s.clients fd l)) (sym freed) tells))
+
+-- what a client in a place may do with its turn
+
+pub ruleset place_rules = (none_turns, asks_turns, leaves_turns, left_same, table_same)
+
+-- what a turn is for which nothing was heard
+
+pub ruleset silent_rules = (nothing_turns, unheard)

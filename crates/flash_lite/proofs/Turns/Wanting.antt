@@ -71,3 +71,5 @@ module _ (s : Table) (kept : IsKept s) (fd : ℕ) (flies : s.flight ≡ At fd) (
         ap (λ (o : Option Client). leaves_off o r) w.in_is ∙ w.by.passed,
         wants-same (has_free s.workers (left_at s.clients fd l)) (fd + 1) (left_at s.clients fd l) s.clients (same_left s.clients fd (left_as (in_place s.clients fd) l)) here,
       )
+
+pub ruleset place_rules = (here_wants, none_wants, left_wants)
