@@ -169,7 +169,7 @@ taken_at : (old new : List Block) (skip more e at place : ℕ) (x b : Block) →
     → AreFilled old skip (length (joined old)) → skip + length (joined old) ≤ length old * 128 → place < length (joined old) → x ≡ get_or old at x
     → b.keys ≡ remove x.keys (place - (at * 128 - skip)) → b.capacity ≡ x.capacity → Shifts at e (set old at b) new
     → ((k t : ℕ) → t + one_if k e ≡ size_at old k → before_block skip (length (joined old)) k + size_at old k ≡ before_block skip (length (joined old)) (k + 1)
-        → before_block more (length (joined old) - 1) k + t ≡ before_block more (length (joined old) - 1) (k + 1))
+    → before_block more (length (joined old) - 1) k + t ≡ before_block more (length (joined old) - 1) (k + 1))
     → Becomes (remove (joined old) place) more old new
 taken_at old new skip more e at place x b low high filled fits most read gone wide s left =
     let len : ℕ = length (joined old) in
