@@ -1,19 +1,20 @@
 -- Parts marked one after another: what stands on which page so far.
 use Rattle.std.proofs.Common.{◌≡◌, true, ℕ, zero, suc, ◌+◌, ◌<◌, ◌≤◌, inl, inr, List, [], ◌∷◌, ◌++◌, length, get_or, take, sym, ap, ◌∙◌, arith, subst}
+use Rattle.std.specs.Prelude.{◌&&◌, nat_lt}
 use Rattle.std.specs.List.{range_with_len}
 use Rattle.std.proofs.lemmas.List.{append-nil, take_more}
 use Rattle.std.proofs.lemmas.Grind.{flat_map-append}
 use Rattle.std.proofs.lemmas.Bool.{lt-ltb}
-use Rattle.iol_arena.specs.State.{State, entry_in, entry_at, is_free, marked, with_marked}
+use Rattle.iol_arena.specs.State.{State, entry_in, entry_at, is_free, kind_free, marked, with_marked}
 use Rattle.iol_arena.specs.Buffers.{IsUnraised}
-use Rattle.iol_arena.specs.Pages.{IsSameBut}
+use Rattle.iol_arena.specs.Pages.{IsSameBut, AreUsable}
 use Rattle.iol_arena.specs.Parts.{IsAll, AreAll, AreApart, no_part, part_pages}
 use Rattle.iol_arena.specs.declared.pages.PageKind as kind
 use Rattle.iol_arena.specs.declared.pages.PageKind.TheVariants.{Free}
 use Rattle.iol_arena.specs.declared.pages.Entry.{Entry}
 use Rattle.iol_arena.specs.declared.pages.Part.{Part}
 use Rattle.iol_arena.proofs.Each.{order, each_before, each_after, each_there}
-use Rattle.iol_arena.proofs.Members.{In, in_left, in_right, in_either, in_or_out, in_range, range_in, contains_in}
+use Rattle.iol_arena.proofs.Members.{In, in_left, in_right, in_either, in_or_out, in_range, range_in, contains_in, in_contains}
 use Rattle.iol_arena.proofs.Steps.{all_at, first_at}
 
 -- Of the parts so far, and one more.
@@ -115,3 +116,11 @@ all_marked k0 k s t pages (p ∷ ps) m among limit long all =
 -- a page that goes back may be used again
 pub usable_left : (limit : ℕ) (e : Entry) → e.generation < limit → is_free limit (marked Free 0 e) ≡ true
 usable_left limit e h = lt-ltb (e.generation + 0) limit (omega (arith, h))
+
+-- pages of parts that are free may be used
+pub usable_all : (s : State) (ps : List Part) → AreAll Free s.limit s.entries ps → AreUsable s (part_pages ps)
+usable_all s ps all = record {
+  each = λ q h.
+      let a = page_all Free s.limit s.entries ps q all (in_contains (part_pages ps) q h) in
+      ap (λ k. kind_free k && nat_lt (entry_at s q).generation s.limit) a.0 ∙ lt-ltb (entry_at s q).generation s.limit a.1;
+}

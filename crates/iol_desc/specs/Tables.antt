@@ -1,5 +1,5 @@
 -- The table of domains, whatever an aggregate is.
-use Rattle.std.specs.Prelude.{◌≡◌, ◌<◌, ◌^◌, ℕ, ◌+◌, ◌==◌, ◌||◌, Bool, nat_lt, List, [], ◌∷◌, ◌++◌, length, Option, Some, map, sum_by, slice_set}
+use Rattle.std.specs.Prelude.{◌≡◌, ◌<◌, ◌≤◌, ◌^◌, ℕ, ◌+◌, ◌==◌, ◌||◌, Bool, nat_lt, List, [], ◌∷◌, ◌++◌, length, Option, Some, map, sum_by, slice_set}
 use Rattle.std.specs.List.{AllByRecursion, position_or_len}
 use Rattle.iol_core.specs.State.{Domain, no_domain}
 use Rattle.iol_core.specs.Numbered.{numbered_or, with_numbered, lookup, without, lowest, placed}
@@ -12,6 +12,11 @@ use Rattle.iol_core.specs.declared.limits.TheConstants.{MAX_AGGREGATES, LAST_AGG
 pub record Row (A : Type 0) : Type 0 where
   pub domain : Domain A
   pub room : ℕ
+
+-- a domain has as many aggregates as before, and room for no fewer
+pub record KeepsAggs {A : Type 0} (old new : Row A) : Type 0 where
+  pub room : old.room ≤ new.room
+  pub count : length new.domain.aggs ≡ length old.domain.aggs
 
 -- places, some of them free, and how many more can be taken without asking for memory
 pub record Slots (A : Type 0) : Type 0 where

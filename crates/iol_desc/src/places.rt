@@ -9,13 +9,6 @@ use std::alloc::{AllocError, Global};
 use std::marker::Model;
 use std::mem;
 
-/// How many places are taken.
-pub fn taken_places<T>(places: &[Option<T>]) -> usize
-    ensures { result ≡ taken places.now }
-{
-    places.iter().filter(|p| p.is_some()).count()
-}
-
 /// The lowest free place, which may be the first past the end.
 #[tactic(auto, using(crate::proofs::Taken::lowest_rules))]
 pub fn lowest_place<T>(places: &[Option<T>]) -> usize

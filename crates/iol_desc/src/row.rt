@@ -3,7 +3,7 @@ ghost use Rattle.std.specs.Prelude.{◌≡◌, ◌≢◌, ◌+◌, ◌-◌, ◌<
 ghost use Rattle.std.specs.Option.{option_copied};
 ghost use Rattle.iol_core.specs.State.{new_domain, no_domain};
 ghost use Rattle.iol_core.specs.Numbered.{in_place, lookup, without, lowest, taken};
-ghost use Rattle.iol_desc.specs.Tables.{with_next, exchanged, with_next_fd, next_ends, with_ends};
+ghost use Rattle.iol_desc.specs.Tables.{KeepsAggs, with_next, exchanged, with_next_fd, next_ends, with_ends};
 
 use crate::entries::{Entries, Taken};
 use crate::places::Places;
@@ -139,8 +139,7 @@ impl<A: Drop> Domain<A> {
         ensures given { Some result ≡ lookup self.old.domain.aggs agg }
         ensures swapped { self.new.domain ≡ record self.old.domain
             { aggs = exchanged self.old.domain.aggs agg other } }
-        ensures room { self.old.room ≤ self.new.room }
-        ensures count { length self.new.domain.aggs ≡ length self.old.domain.aggs }
+        ensures kept { KeepsAggs self.old self.new }
     {
         self.aggs.swap(agg.number(), other)
     }
@@ -164,8 +163,7 @@ impl<A: Drop> Domain<A> {
     pub(crate) fn take_fds(&mut self, alloc: Global) -> Vec<Option<Descriptor>>
         ensures given { result.items ≡ self.old.domain.fds }
         ensures rest { self.new.domain ≡ record self.old.domain { fds = [] } }
-        ensures room { self.old.room ≤ self.new.room }
-        ensures count { length self.new.domain.aggs ≡ length self.old.domain.aggs }
+        ensures kept { KeepsAggs self.old self.new }
     {
         self.fds.take(alloc)
     }
@@ -193,8 +191,7 @@ impl<A: Drop> Domain<A> {
         ensures opened { OnOk result (self.new.domain ≡ record self.old.domain
             { fds = with_ends self.old.domain.fds pipe }) }
         ensures err { OnErr result (self.new.domain ≡ self.old.domain) }
-        ensures room { self.old.room ≤ self.new.room }
-        ensures count { length self.new.domain.aggs ≡ length self.old.domain.aggs }
+        ensures kept { KeepsAggs self.old self.new }
     {
         open_ends(&mut self.fds, pipe)
     }
@@ -206,8 +203,7 @@ impl<A: Drop> Domain<A> {
         ensures opened { OnOk result (self.new.domain ≡ record self.old.domain
             { fds = with_next_fd self.old.domain.fds on }) }
         ensures err { OnErr result (self.new.domain ≡ self.old.domain) }
-        ensures room { self.old.room ≤ self.new.room }
-        ensures count { length self.new.domain.aggs ≡ length self.old.domain.aggs }
+        ensures kept { KeepsAggs self.old self.new }
     {
         open_next(&mut self.fds, on)
     }
@@ -217,8 +213,7 @@ impl<A: Drop> Domain<A> {
         requires { in_place self.old.domain.fds fd ≢ None }
         ensures closed { self.new.domain ≡ record self.old.domain
             { fds = slice_set self.old.domain.fds fd None } }
-        ensures room { self.old.room ≤ self.new.room }
-        ensures count { length self.new.domain.aggs ≡ length self.old.domain.aggs }
+        ensures kept { KeepsAggs self.old self.new }
     {
         self.fds.free(fd.number() as usize);
     }
@@ -228,8 +223,7 @@ impl<A: Drop> Domain<A> {
         requires { in_place self.old.domain.fds fd ≢ None }
         ensures set { self.new.domain ≡ record self.old.domain
             { fds = slice_set self.old.domain.fds fd (Some on) } }
-        ensures room { self.old.room ≤ self.new.room }
-        ensures count { length self.new.domain.aggs ≡ length self.old.domain.aggs }
+        ensures kept { KeepsAggs self.old self.new }
     {
         *self.fds.value_mut(fd.number() as usize) = on;
     }
@@ -240,8 +234,7 @@ impl<A: Drop> Domain<A> {
         ensures number { result ≡ lowest (slice_set self.old.domain.fds fd None) }
         ensures moved { self.new.domain ≡ record self.old.domain
             { fds = with_next_fd (slice_set self.old.domain.fds fd None) on } }
-        ensures room { self.old.room ≤ self.new.room }
-        ensures count { length self.new.domain.aggs ≡ length self.old.domain.aggs }
+        ensures kept { KeepsAggs self.old self.new }
     {
         Fd::new(self.fds.put_lower(fd.number() as usize, on) as u32)
     }

@@ -44,27 +44,21 @@ pub place-within : (by : By) (s : Slab Entry) (keys : List ℕ) (rank : Rank) (n
 place-within by s keys rank n rising there place =
     subst (λ (k : ℕ). k < length keys) (place-has by s keys rank n there.index rising place there.within there.has) there.within
 
--- the key in the place of a rank that is there
-pub finds : (by : By) (s : Slab Entry) (keys : List ℕ) (rank : Rank) (n key : ℕ) → IsRising by s keys → HasRank by s keys rank → IsPlace by s keys rank n → key ≡ get_or keys n key → Finds by s keys rank key
-finds by s keys rank n key rising there place read =
+-- what is found in the place of a rank that is there
+found : (by : By) (s : Slab Entry) (keys : List ℕ) (rank : Rank) (n key : ℕ) → IsRising by s keys → HasRank by s keys rank → IsPlace by s keys rank n → key ≡ get_or keys n key → (n < length keys) × (get_or keys n 0 ≡ key) × (rank_at by s keys n ≡ rank)
+found by s keys rank n key rising there place read =
     let e = place-has by s keys rank n there.index rising place there.within there.has in
     let within = subst (λ (k : ℕ). k < length keys) e there.within in
-    record {
-      index = n;
-      within = within;
-      is = get_or_default keys n 0 key within ∙ sym read;
-      has = subst (λ (k : ℕ). rank_at by s keys k ≡ rank) e there.has;
-    }
+    (within, get_or_default keys n 0 key within ∙ sym read, subst (λ (k : ℕ). rank_at by s keys k ≡ rank) e there.has)
 
--- the key taken from the place of a rank that is there
+-- the key in that place
+pub finds : (by : By) (s : Slab Entry) (keys : List ℕ) (rank : Rank) (n key : ℕ) → IsRising by s keys → HasRank by s keys rank → IsPlace by s keys rank n → key ≡ get_or keys n key → Finds by s keys rank key
+finds by s keys rank n key rising there place read =
+    let f = found by s keys rank n key rising there place read in
+    record { index = n; within = f.0; is = f.1; has = f.2 }
+
+-- the key taken from it
 pub takes : (by : By) (s : Slab Entry) (old new : List ℕ) (rank : Rank) (n key : ℕ) → IsRising by s old → HasRank by s old rank → IsPlace by s old rank n → key ≡ get_or old n key → new ≡ remove old n → Takes by s rank key old new
 takes by s old new rank n key rising there place read keys =
-    let e = place-has by s old rank n there.index rising place there.within there.has in
-    let within = subst (λ (k : ℕ). k < length old) e there.within in
-    record {
-      index = n;
-      within = within;
-      is = get_or_default old n 0 key within ∙ sym read;
-      has = subst (λ (k : ℕ). rank_at by s old k ≡ rank) e there.has;
-      keys = keys;
-    }
+    let f = found by s old rank n key rising there place read in
+    record { index = n; within = f.0; is = f.1; has = f.2; keys = keys }

@@ -69,7 +69,7 @@ module _ (ps : List Pool) (d : ℕ) (xs : List Slice) (i left : ℕ) (x : Slice)
   begun = at_drop_more (λ ys. take left (places ys)) xs i x there ∙ ap (λ y. take left (slice_places y ++ after)) (sym is)
 
   pub seen_barred : 0 < left → names_in ps x.hold.pool d ≡ false → seen ps d xs i left ≡ 0
-  seen_barred some barred = ap (λ t. length (take_while (may_see ps d) t)) begun ∙ ap length (take_while_none ps d (x ∷ drop (i + 1) xs) x left (omega arith) refl some barred)
+  seen_barred some barred = ap (λ t. length (take_while (may_see ps d) t)) begun ∙ ap length (take_while_none (λ p. names_in ps p d) (x ∷ drop (i + 1) xs) x left (omega arith) refl some barred)
 
   pub seen_more : (len : ℕ) → len ≡ min x.len left → names_in ps x.hold.pool d ≡ true → seen ps d xs i left ≡ len + seen ps d xs (i + 1) (left - len)
   seen_more len offered listed =

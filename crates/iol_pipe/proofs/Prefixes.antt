@@ -1,5 +1,5 @@
 -- Prefixes of places, slice by slice.
-use Rattle.std.proofs.Common.{◌≡◌, ℕ, zero, suc, ◌+◌, ◌-◌, ◌<◌, ◌≤◌, true, false, cond, min, Some, List, [], ◌∷◌, ◌++◌, map, length, take, drop, get_or, slice_range, refl, sym, ap, ◌∙◌, arith, append_assoc}
+use Rattle.std.proofs.Common.{◌≡◌, ℕ, zero, suc, ◌+◌, ◌-◌, ◌<◌, ◌≤◌, Bool, true, false, cond, min, Some, List, [], ◌∷◌, ◌++◌, map, length, take, drop, get_or, slice_range, refl, sym, ap, ◌∙◌, arith, append_assoc}
 use Rattle.std.specs.List.{take_while, slice_get, range_with_len}
 use Rattle.std.specs.Option.{option_map}
 use Rattle.std.proofs.lemmas.List.{take-append-drop, take_all, at_drop_more, length-take, take_min, length-drop}
@@ -7,8 +7,7 @@ use Rattle.std.proofs.lemmas.List.Sums.{take_while-cons}
 use Rattle.iol_hold.specs.declared.slices.Slice.{Slice}
 use Rattle.iol_hold.specs.Places.{Place, place_in, slice_places, places}
 use Rattle.iol_hold.proofs.Slicing.{row, length-slice_places}
-use Rattle.iol_pool.specs.Pools.{Pool, names_in}
-use Rattle.iol_pipe.specs.Queue.{first_pool, may_see}
+use Rattle.iol_pipe.specs.Queue.{first_pool}
 
 -- the places of a slice begin with its first
 slice_begins : (x : Slice) → slice_places x ≡ place_in x x.from ∷ row x.hold.pool x.hold.buf (x.from + 1) (x.len - 1)
@@ -56,33 +55,36 @@ take_step xs i left x a h e part =
 
 -- Places as long as their pools are among these.
 
-passes : (ps : List Pool) (d : ℕ) (x : Slice) (js : List ℕ) (t : List Place) → names_in ps x.hold.pool d ≡ true → take_while (may_see ps d) (map (place_in x) js ++ t) ≡ map (place_in x) js ++ take_while (may_see ps d) t
-passes ps d x [] t listed = refl
-passes ps d x (j ∷ js) t listed =
-    take_while-cons (may_see ps d) (place_in x j) (map (place_in x) js ++ t)
-    ∙ ap (λ b. cond b (place_in x j ∷ take_while (may_see ps d) (map (place_in x) js ++ t)) []) listed
-    ∙ ap (λ u. place_in x j ∷ u) (passes ps d x js t listed)
+abbrev at_pool : (ℕ → Bool) → Place → Bool
+at_pool f p = f p.pool
+
+passes : (f : ℕ → Bool) (x : Slice) (js : List ℕ) (t : List Place) → f x.hold.pool ≡ true → take_while (at_pool f) (map (place_in x) js ++ t) ≡ map (place_in x) js ++ take_while (at_pool f) t
+passes f x [] t listed = refl
+passes f x (j ∷ js) t listed =
+    take_while-cons (at_pool f) (place_in x j) (map (place_in x) js ++ t)
+    ∙ ap (λ b. cond b (place_in x j ∷ take_while (at_pool f) (map (place_in x) js ++ t)) []) listed
+    ∙ ap (λ u. place_in x j ∷ u) (passes f x js t listed)
 
 -- a slice whose pool is one of these, before others
-pub take_while_step : (ps : List Pool) (d : ℕ) (x : Slice) (left : ℕ) (qs : List Place) (rest : List Slice) → slice_places x ++ places rest ≡ qs → x.len ≤ left → names_in ps x.hold.pool d ≡ true → take_while (may_see ps d) (take left qs) ≡ slice_places x ++ take_while (may_see ps d) (take (left - x.len) (places rest))
-take_while_step ps d x left qs rest whole h listed =
+pub take_while_step : (f : ℕ → Bool) (x : Slice) (left : ℕ) (qs : List Place) (rest : List Slice) → slice_places x ++ places rest ≡ qs → x.len ≤ left → f x.hold.pool ≡ true → take_while (at_pool f) (take left qs) ≡ slice_places x ++ take_while (at_pool f) (take (left - x.len) (places rest))
+take_while_step f x left qs rest whole h listed =
     let long : length (slice_places x) ≡ x.len = length-slice_places x in
-    ap (λ t. take_while (may_see ps d) (take left t)) (sym whole)
-    ∙ ap (take_while (may_see ps d)) (take-append (slice_places x) (places rest) left ∙ ap (λ t. t ++ take (left - length (slice_places x)) (places rest)) (take_all left (slice_places x) (omega arith)))
-    ∙ passes ps d x (range_with_len x.from x.len) (take (left - length (slice_places x)) (places rest)) listed
-    ∙ ap (λ k. slice_places x ++ take_while (may_see ps d) (take (left - k) (places rest))) long
+    ap (λ t. take_while (at_pool f) (take left t)) (sym whole)
+    ∙ ap (take_while (at_pool f)) (take-append (slice_places x) (places rest) left ∙ ap (λ t. t ++ take (left - length (slice_places x)) (places rest)) (take_all left (slice_places x) (omega arith)))
+    ∙ passes f x (range_with_len x.from x.len) (take (left - length (slice_places x)) (places rest)) listed
+    ∙ ap (λ k. slice_places x ++ take_while (at_pool f) (take (left - k) (places rest))) long
 
 -- the first slice's pool is none of these
-pub take_while_none : (ps : List Pool) (d : ℕ) (xs : List Slice) (x : Slice) (left : ℕ) → 0 < length xs → x ≡ get_or xs 0 x → 0 < left → names_in ps x.hold.pool d ≡ false → take_while (may_see ps d) (take left (places xs)) ≡ []
-take_while_none ps d [] x left h e some barred = absurd (omega arith)
-take_while_none ps d (y ∷ ys) x zero h e some barred = absurd (omega arith)
-take_while_none ps d (y ∷ ys) x (suc left) h e some barred =
+pub take_while_none : (f : ℕ → Bool) (xs : List Slice) (x : Slice) (left : ℕ) → 0 < length xs → x ≡ get_or xs 0 x → 0 < left → f x.hold.pool ≡ false → take_while (at_pool f) (take left (places xs)) ≡ []
+take_while_none f [] x left h e some barred = absurd (omega arith)
+take_while_none f (y ∷ ys) x zero h e some barred = absurd (omega arith)
+take_while_none f (y ∷ ys) x (suc left) h e some barred =
     let p : Place = place_in y y.from in
     let r : List Place = row y.hold.pool y.hold.buf (y.from + 1) (y.len - 1) ++ places ys in
-    let first : names_in ps y.hold.pool d ≡ false = ap (λ (z : Slice). names_in ps z.hold.pool d) (sym e) ∙ barred in
-    ap (λ t. take_while (may_see ps d) (take (suc left) (t ++ places ys))) (slice_begins y)
-    ∙ take_while-cons (may_see ps d) p (take left r)
-    ∙ ap (λ b. cond b (p ∷ take_while (may_see ps d) (take left r)) []) first
+    let first : f y.hold.pool ≡ false = ap (λ (z : Slice). f z.hold.pool) (sym e) ∙ barred in
+    ap (λ t. take_while (at_pool f) (take (suc left) (t ++ places ys))) (slice_begins y)
+    ∙ take_while-cons (at_pool f) p (take left r)
+    ∙ ap (λ b. cond b (p ∷ take_while (at_pool f) (take left r)) []) first
 
 -- Of a slice that is cut.
 

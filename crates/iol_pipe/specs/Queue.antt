@@ -1,10 +1,13 @@
 -- A queue of slices.
-use Rattle.std.specs.Prelude.{◌≡◌, ℕ, zero, suc, ◌-◌, ◌≤◌, Bool, List, [], ◌∷◌, length, take, min, Option, option_map}
-use Rattle.std.specs.List.{slice_get}
+use Rattle.std.specs.Prelude.{◌≡◌, ℕ, zero, suc, ◌-◌, ◌≤◌, Bool, true, List, [], ◌∷◌, ◌++◌, length, map, take, min, Option, Some, None, option_map}
+use Rattle.std.specs.List.{slice_get, take_while}
 use Rattle.iol_core.specs.declared.limits.TheConstants.{MAX_QUEUE_BYTES}
 use Rattle.iol_pool.specs.Pools.{Pool, names_in}
 use Rattle.iol_hold.specs.declared.slices.Slice.{Slice}
-use Rattle.iol_hold.specs.Places.{Place, places, byte_len}
+use Rattle.iol_hold.specs.Moves.{Shares}
+use Rattle.iol_hold.specs.Places.{Place, slice_places, places, byte_len}
+use Rattle.iol_hold.specs.Stored.{Stored}
+use Rattle.iol_hold.specs.Texts.{bufs_of}
 
 -- n is the number of bytes, and there are not too many
 pub record IsBounded (xs : List Slice) (n : ℕ) : Type 0 where
@@ -28,3 +31,16 @@ first_pool xs = option_map (λ p. p.pool) (slice_get (places xs) 0)
 -- whether the domain may read the byte at the place
 abbrev pub may_see : List Pool → (d : ℕ) → Place → Bool
 may_see pools d p = names_in pools p.pool d
+
+-- whether the pool names the domain, if one is given
+abbrev pub names_given : List Pool → (d : Option ℕ) → (pool : ℕ) → Bool
+names_given pools None p = true
+names_given pools (Some d) p = names_in pools p d
+
+-- The first bytes of a queue went to others, at most n, for as long as their pools name the domain, if one is given. If
+-- none is, only the last of these slices may have been cut.
+pub record TakesFirst (s t : Stored) (old given new : List Slice) (n : ℕ) (d : Option ℕ) : Type 0 where
+  pub taken : places given ≡ take_while (λ (p : Place). names_given s.pools d p.pool) (take n (places old))
+  pub cut : d ≡ None → map slice_places given ≡ first_parts n (map slice_places old)
+  pub whole : places given ++ places new ≡ places old
+  pub shares : Shares s t (bufs_of old) (bufs_of given ++ bufs_of new)

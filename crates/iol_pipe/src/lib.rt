@@ -25,7 +25,7 @@ ghost use Rattle.iol_hold.specs.Places.{slice_places, places, byte_len};
 ghost use Rattle.iol_hold.specs.Releases.{FreesOnly};
 ghost use Rattle.iol_hold.specs.Stored.{AllSettled};
 ghost use Rattle.iol_hold.specs.Texts.{bufs_of, AllReadable};
-ghost use Rattle.iol_pipe.specs.Queue.{first_parts, first_pool, may_see};
+ghost use Rattle.iol_pipe.specs.Queue.{TakesFirst, first_parts, first_pool, may_see, names_given};
 
 mod arriving;
 mod copying;
@@ -135,9 +135,26 @@ impl Pipe {
         ensures err { OnErr result (self.new ≡ self.old) }
         ensures err_store { OnErr result (store.new ≡ store.old) }
     {
+        Ok(self.take_off(alloc, store, n, Some(d))?)
+    }
+
+    // Takes off the longest prefix of at most `n` bytes whose pools all name the domain, if one is given.
+    fn take_off(
+        &mut self,
+        alloc: Global,
+        store: &mut Store,
+        n: u32,
+        d: Option<DomainId>,
+    ) -> Result<Agg, AllocError>
+        requires covered { Covers store.old (bufs_of self.old) }
+        requires countable { IsCountable store.old (bufs_of self.old) }
+        ensures takes { IfOk result (λ a. TakesFirst store.old store.new self.old a self.new n d) }
+        ensures err { OnErr result (self.new ≡ self.old) }
+        ensures err_store { OnErr result (store.new ≡ store.old) }
+    {
         let room = self.queue.len().min(n as usize);
         let mut slices = Vec::with_capacity(alloc, room)?;
-        take_prefix(&mut self.queue, store, &mut slices, n, d);
+        take_prefix(&mut self.queue, store, &mut slices, n, &d);
         let given = Agg::from_slices(slices);
         self.len -= given.len();
         Ok(given)
@@ -193,30 +210,36 @@ fn add_prefix(queue: &mut VecDeque<Slice>, store: &mut Store, slices: &[Slice], 
     }
 }
 
-// Moves the first bytes, at most n, for as long as their pools name the domain.
+// Whether the pool names the domain, if one is given.
+fn names(store: &Store, pool: PoolId, d: &Option<DomainId>) -> bool
+    ensures { result ≡ names_given store.now.pools d.now pool }
+{
+    match d {
+        Some(d) => store.pools().names(pool, *d),
+        None => true,
+    }
+}
+
+// Moves the first bytes, at most n, for as long as their pools name the domain, if one is given.
 fn take_prefix(
     queue: &mut VecDeque<Slice>,
     store: &mut Store,
     out: &mut Vec<Slice>,
     n: u32,
-    d: DomainId,
+    d: &Option<DomainId>,
 )
     requires none { out.old.items ≡ [] }
     requires room { min (length queue.old.items) n ≤ vec_capacity out.old }
     requires covered { Covers store.old (bufs_of queue.old.items) }
     requires countable { IsCountable store.old (bufs_of queue.old.items) }
-    ensures given { places out.new.items ≡
-        take_while (may_see store.old.pools d) (take n (places queue.old.items)) }
-    ensures whole { places out.new.items ++ places queue.new.items ≡ places queue.old.items }
-    ensures shares { Shares store.old store.new (bufs_of queue.old.items)
-        (bufs_of out.new.items ++ bufs_of queue.new.items) }
+    ensures { TakesFirst store.old store.new queue.old.items out.new.items queue.new.items n d.now }
 {
     let mut left = n;
     while left > 0 {
         let Some(first) = queue.front() else {
             return;
         };
-        if !store.pools().names(first.hold.pool(), d) {
+        if !names(store, first.hold.pool(), d) {
             return;
         }
         let slice = take_first(queue, store, left);

@@ -1,6 +1,5 @@
 //! The first bytes of a queue, whoever may read them.
-ghost use Rattle.std.specs.Prelude.{◌≡◌, ◌≤◌, [], ◌++◌, length, map, take, drop, min, slice_index_or, ◌↔◌, ◌<◌, IsSome, IfSome, IfOk, OnOk, OnErr};
-ghost use Rattle.std.specs.Vec.{vec_capacity};
+ghost use Rattle.std.specs.Prelude.{◌≡◌, ◌++◌, length, map, take, drop, min, slice_index_or, ◌↔◌, ◌<◌, IsSome, IfSome, IfOk, OnOk, OnErr};
 ghost use Rattle.iol_hold.specs.Moves.{Covers, IsCountable, Moves, SameLists, Shares};
 ghost use Rattle.iol_hold.specs.Places.{slice_places, places};
 ghost use Rattle.iol_hold.specs.Releases.{FreesOnly};
@@ -8,7 +7,7 @@ ghost use Rattle.iol_hold.specs.Stored.{AllSettled};
 ghost use Rattle.iol_hold.specs.Texts.{bufs_of, AllReadable};
 ghost use Rattle.iol_pipe.specs.Queue.{first_parts};
 
-use crate::{Pipe, take_first};
+use crate::Pipe;
 use iol_agg::Agg;
 use iol_hold::{Slice, Store};
 use std::alloc::{AllocError, Global};
@@ -28,12 +27,7 @@ impl Pipe {
         ensures err { OnErr result (self.new ≡ self.old) }
         ensures err_store { OnErr result (store.new ≡ store.old) }
     {
-        let room = self.queue.len().min(n as usize);
-        let mut slices = Vec::with_capacity(alloc, room)?;
-        take_bytes(&mut self.queue, store, &mut slices, n);
-        let given = Agg::from_slices(slices);
-        self.len -= given.len();
-        Ok(given)
+        Ok(self.take_off(alloc, store, n, None)?)
     }
 
     /// The slice in a place, counted from 0 in the order of the bytes, if there are so many.
@@ -57,27 +51,6 @@ impl Pipe {
         let skipped = self.len.min(n);
         skip_bytes(&mut self.queue, store, n);
         self.len -= skipped;
-    }
-}
-
-// Moves the first n bytes, or all.
-fn take_bytes(queue: &mut VecDeque<Slice>, store: &mut Store, out: &mut Vec<Slice>, n: u32)
-    requires none { out.old.items ≡ [] }
-    requires room { min (length queue.old.items) n ≤ vec_capacity out.old }
-    requires covered { Covers store.old (bufs_of queue.old.items) }
-    requires countable { IsCountable store.old (bufs_of queue.old.items) }
-    ensures given { places out.new.items ≡ take n (places queue.old.items) }
-    ensures cut { map slice_places out.new.items ≡
-        first_parts n (map slice_places queue.old.items) }
-    ensures whole { places out.new.items ++ places queue.new.items ≡ places queue.old.items }
-    ensures shares { Shares store.old store.new (bufs_of queue.old.items)
-        (bufs_of out.new.items ++ bufs_of queue.new.items) }
-{
-    let mut left = n;
-    while left > 0 && !queue.is_empty() {
-        let slice = take_first(queue, store, left);
-        left -= slice.len;
-        out.push_reserved(slice);
     }
 }
 

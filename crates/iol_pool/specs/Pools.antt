@@ -4,7 +4,7 @@ use Rattle.std.specs.List.{list_any, list_all, range_with_len}
 use Rattle.iol_core.specs.Numbered.{numbered_or, with_numbered}
 use Rattle.iol_core.specs.Calls.Pools.{with_name}
 use Rattle.iol_arena.specs.State.{State}
-use Rattle.iol_arena.specs.Chunks.{is_unused, TakesChunks}
+use Rattle.iol_arena.specs.Chunks.{is_unused, spent, usable, TakesChunks}
 
 -- the domains that may read, whether the pool is closed, and its chunks, by rising number
 pub record Pool : Type 0 where
@@ -61,3 +61,8 @@ settled s ps p = if goes_back s ps p then with_emptied ps p else ps
 
 unfoldable pub settled_arena : State → List Pool → (p : ℕ) → State
 settled_arena s ps p = if goes_back s ps p then with_returned s (pool_in ps p).chunks else s
+
+-- whether the page is retired, or may be used
+abbrev pub is_counted : State → (retired : Bool) → ℕ → Bool
+is_counted s true = spent s
+is_counted s false = usable s

@@ -1,12 +1,12 @@
 //! The table of pools.
-ghost use Rattle.std.specs.Prelude.{◌≡◌, ◌+◌, ◌*◌, ◌<◌, ◌≤◌, ◌==◌, length, true, false, not, find, Option, Some, None, Err, is_some, IfSome, IfOk, IfErr, OnOk, OnErr, List, [], ◌↔◌, IsTrue};
+ghost use Rattle.std.specs.Prelude.{◌≡◌, ◌+◌, ◌*◌, ◌<◌, ◌≤◌, ◌==◌, length, true, false, not, find, Option, Some, None, Err, is_some, IfSome, IfOk, IfErr, OnOk, OnErr, List, [], ◌∷◌, flat_map, ◌↔◌, IsTrue};
 ghost use Rattle.std.specs.Option.{option_copied};
-ghost use Rattle.std.specs.List.{All, list_all};
+ghost use Rattle.std.specs.List.{All, filter, list_all};
 ghost use Rattle.iol_core.specs.Numbered.{is_numbered};
 ghost use Rattle.iol_core.specs.Calls.Pools.{has_place};
 ghost use Rattle.iol_arena.specs.State.{chunk_count};
-ghost use Rattle.iol_arena.specs.Chunks.{free_chunks, free_pages, is_unused, retired_pages};
-ghost use Rattle.iol_pool.specs.Pools.{AddsPool, goes_back, names_in, no_pool, pool_in, settled, settled_arena, with_admitted, with_closed, with_emptied, with_returned};
+ghost use Rattle.iol_arena.specs.Chunks.{chunk_pages, free_chunks, free_pages, is_unused, retired_pages};
+ghost use Rattle.iol_pool.specs.Pools.{AddsPool, goes_back, is_counted, names_in, no_pool, pool_in, settled, settled_arena, with_admitted, with_closed, with_emptied, with_returned};
 ghost use Rattle.iol_pool.specs.Owned.{AreOwned};
 
 use crate::names::Names;
@@ -128,28 +128,28 @@ fn return_all(arena: &mut Arena, chunks: &[ChunkNo])
     }
 }
 
-// How many pages of the chunks may be used.
-fn count_free(arena: &Arena, chunks: &[ChunkNo]) -> u32
-    requires within { All (λ c. c < chunk_count arena.now) chunks.now }
-    requires few { length chunks.now ≤ MAX_CHUNKS }
-    ensures { result ≡ length (free_pages arena.now chunks.now) }
+// The same of one chunk.
+fn count_in(arena: &Arena, chunk: ChunkNo, retired: bool) -> u32
+    requires { chunk < chunk_count arena.now }
+    ensures { result ≡
+        length (filter (is_counted arena.now retired) (flat_map chunk_pages (chunk ∷ []))) }
 {
-    let mut count = 0;
-    for chunk in chunks {
-        count += arena.free_in(*chunk);
+    if retired {
+        return arena.retired_in(chunk);
     }
-    count
+    arena.free_in(chunk)
 }
 
-// How many pages of the chunks are retired.
-fn count_retired(arena: &Arena, chunks: &[ChunkNo]) -> u32
+// How many pages of the chunks are retired, or may be used.
+fn count_pages(arena: &Arena, chunks: &[ChunkNo], retired: bool) -> u32
     requires within { All (λ c. c < chunk_count arena.now) chunks.now }
     requires few { length chunks.now ≤ MAX_CHUNKS }
-    ensures { result ≡ length (retired_pages arena.now chunks.now) }
+    ensures { result ≡
+        length (filter (is_counted arena.now retired) (flat_map chunk_pages chunks.now)) }
 {
     let mut count = 0;
     for chunk in chunks {
-        count += arena.retired_in(*chunk);
+        count += count_in(arena, *chunk, retired);
     }
     count
 }
@@ -228,6 +228,19 @@ impl Pools {
         chunks_of(&self.list, p)
     }
 
+    // The same: they are few, and of the arena.
+    fn chunks_in(&self, arena: &Arena, p: PoolId) -> &[ChunkNo]
+        requires there { is_numbered self.now p ≡ true }
+        requires owned { AreOwned arena.now self.now }
+        ensures value { result.now ≡ (pool_in self.now p).chunks }
+        ensures within { All (λ c. c < chunk_count arena.now) result.now }
+        ensures few { length result.now ≤ MAX_CHUNKS }
+    {
+        // Tells that a pool has few chunks.
+        let _few = arena.chunk_count();
+        self.chunks(p).as_slice()
+    }
+
     /// Makes a pool of so many chunks, the lowest that are free, for these domains.
     pub fn create(
         &mut self,
@@ -264,7 +277,7 @@ impl Pools {
         requires owned { AreOwned arena.now self.now }
         ensures { result ≡ goes_back arena.now self.now p }
     {
-        self.is_closed(p) && are_unused(arena, self.chunks(p).as_slice())
+        self.is_closed(p) && are_unused(arena, self.chunks_in(arena, p))
     }
 
     /// Whether the pool's list names the domain, or has a place for its name.
@@ -299,7 +312,7 @@ impl Pools {
         if !self.goes_back(arena, p) {
             return;
         }
-        return_all(arena, self.chunks(p).as_slice());
+        return_all(arena, self.chunks_in(arena, p));
         set_emptied(self.alloc, &mut self.list, p);
     }
 
@@ -321,10 +334,7 @@ impl Pools {
         requires owned { AreOwned arena.now self.now }
         ensures { result ≡ length (free_pages arena.now (pool_in self.now p).chunks) }
     {
-        let chunks = self.chunks(p).as_slice();
-        // Tells that a pool has few chunks, so that the sum fits.
-        let _few = arena.chunk_count();
-        count_free(arena, chunks)
+        count_pages(arena, self.chunks_in(arena, p), false)
     }
 
     /// The pages of a pool, counted. Those that are retired cost a look at each page.
@@ -337,14 +347,12 @@ impl Pools {
         ensures retired { result.retired ≡
             length (retired_pages arena.now (pool_in self.now p).chunks) }
     {
-        let chunks = self.chunks(p).as_slice();
-        // Tells that a pool has few chunks, so that the sums fit.
-        let _few = arena.chunk_count();
+        let chunks = self.chunks_in(arena, p);
         PoolReport {
             pool: p,
             pages: chunks.len() as u32 * CHUNK_PAGES as u32,
-            free: count_free(arena, chunks),
-            retired: count_retired(arena, chunks),
+            free: count_pages(arena, chunks, false),
+            retired: count_pages(arena, chunks, true),
         }
     }
 }

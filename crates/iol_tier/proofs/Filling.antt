@@ -164,19 +164,31 @@ put_right_becomes old mid skip e at place key x b e_low e_high low high filled f
       | inr apart ↦ omega (arith, e_low, e_high, low, high, most, f, d, xl, apart, one_other at e apart, one_here at at refl)
     ]
 
+-- a key that goes out of block `at`, where the places that are left are filled
+taken_at : (old new : List Block) (skip more e at place : ℕ) (x b : Block) → at * 128 ≤ skip + place → skip + place < at * 128 + 128
+    → AreFilled old skip (length (joined old)) → skip + length (joined old) ≤ length old * 128 → place < length (joined old) → x ≡ get_or old at x
+    → b.keys ≡ remove x.keys (place - (at * 128 - skip)) → b.capacity ≡ x.capacity → Shifts at e (set old at b) new
+    → ((k t : ℕ) → t + one_if k e ≡ size_at old k → before_block skip (length (joined old)) k + size_at old k ≡ before_block skip (length (joined old)) (k + 1)
+    → before_block more (length (joined old) - 1) k + t ≡ before_block more (length (joined old) - 1) (k + 1))
+    → Becomes (remove (joined old) place) more old new
+taken_at old new skip more e at place x b low high filled fits most read gone wide s left =
+    let len : ℕ = length (joined old) in
+    let within : at < length old = omega (arith, low, fits, most) in
+    let x_long : length x.keys ≡ size_at old at = ap (λ (y : Block). length y.keys) (read ∙ get_or_default old at x no_block within) in
+    let before = length-before old skip len at (λ j l. filled.each j (omega (arith, l, within))) (omega (arith, within)) in
+    take_becomes old new e at (place - (at * 128 - skip)) place (len - 1) more x b within read
+    (omega (arith, filled.each at within, x_long, low, high, most)) gone wide s (omega (arith, most)) (omega (arith, most))
+    (omega (arith, before, low, high, most))
+    (λ k t l d. left k t d (filled.each k l))
+
 pub take_left_becomes : (old new : List Block) (skip more e at place : ℕ) (x b : Block) → more ≡ skip + 1 → e * 128 ≤ skip → skip < e * 128 + 128 → at * 128 ≤ skip + place → skip + place < at * 128 + 128
     → AreFilled old skip (length (joined old)) → skip + length (joined old) ≤ length old * 128 → place < length (joined old) → x ≡ get_or old at x
     → b.keys ≡ remove x.keys (place - (at * 128 - skip)) → b.capacity ≡ x.capacity → Shifts at e (set old at b) new → Becomes (remove (joined old) place) more old new
 take_left_becomes old new skip more e at place x b m e_low e_high low high filled fits most read gone wide s =
     let len : ℕ = length (joined old) - 1 in
     let long : len + 1 ≡ length (joined old) = omega (arith, most) in
-    let within : at < length old = omega (arith, low, fits, most) in
-    let x_long : length x.keys ≡ size_at old at = ap (λ (y : Block). length y.keys) (read ∙ get_or_default old at x no_block within) in
-    let before = length-before old skip (length (joined old)) at (λ j l. filled.each j (omega (arith, l, within))) (omega (arith, within)) in
-    take_becomes old new e at (place - (at * 128 - skip)) place len more x b within read
-    (omega (arith, filled.each at within, x_long, low, high, most)) gone wide s long (omega (arith, most))
-    (omega (arith, before, low, high, most))
-    (λ k t l d. left_of_filled skip more len k e (size_at old k) t m e_low e_high d (subst (λ n. before_block skip n k + size_at old k ≡ before_block skip n (k + 1)) (sym long) (filled.each k l)))
+    taken_at old new skip more e at place x b low high filled fits most read gone wide s
+    (λ k t d f. left_of_filled skip more len k e (size_at old k) t m e_low e_high d (subst (λ n. before_block skip n k + size_at old k ≡ before_block skip n (k + 1)) (sym long) f))
 
 pub take_right_becomes : (old new : List Block) (skip e at place : ℕ) (x b : Block) → e * 128 ≤ skip + length (joined old) - 1 → skip + length (joined old) - 1 < e * 128 + 128 → at * 128 ≤ skip + place → skip + place < at * 128 + 128
     → AreFilled old skip (length (joined old)) → skip + length (joined old) ≤ length old * 128 → place < length (joined old) → x ≡ get_or old at x
@@ -184,10 +196,5 @@ pub take_right_becomes : (old new : List Block) (skip e at place : ℕ) (x b : B
 take_right_becomes old new skip e at place x b e_low e_high low high filled fits most read gone wide s =
     let len : ℕ = length (joined old) - 1 in
     let long : len + 1 ≡ length (joined old) = omega (arith, most) in
-    let within : at < length old = omega (arith, low, fits, most) in
-    let x_long : length x.keys ≡ size_at old at = ap (λ (y : Block). length y.keys) (read ∙ get_or_default old at x no_block within) in
-    let before = length-before old skip (length (joined old)) at (λ j l. filled.each j (omega (arith, l, within))) (omega (arith, within)) in
-    take_becomes old new e at (place - (at * 128 - skip)) place len skip x b within read
-    (omega (arith, filled.each at within, x_long, low, high, most)) gone wide s long (omega (arith, most))
-    (omega (arith, before, low, high, most))
-    (λ k t l d. right_of_filled skip len k e (size_at old k) t (omega (arith, e_low, long)) (omega (arith, e_high, long)) d (subst (λ n. before_block skip n k + size_at old k ≡ before_block skip n (k + 1)) (sym long) (filled.each k l)))
+    taken_at old new skip skip e at place x b low high filled fits most read gone wide s
+    (λ k t d f. right_of_filled skip len k e (size_at old k) t (omega (arith, e_low, long)) (omega (arith, e_high, long)) d (subst (λ n. before_block skip n k + size_at old k ≡ before_block skip n (k + 1)) (sym long) f))

@@ -45,31 +45,34 @@ joined-at bs k i at d h l is =
     ∙ ap (λ n. get_or (keys ++ joined (drop (suc k) bs)) n d) back
     ∙ get_or_append_left keys (joined (drop (suc k) bs)) d i l
 
-pub joined-put : (bs : List Block) (k i at key : ℕ) (b : Block) → k < length bs → i ≤ size_at bs k → at ≡ length (joined (take k bs)) + i → b.keys ≡ insert (block_at bs k).keys i key → joined (set bs k b) ≡ insert (joined bs) at key
-joined-put bs k i at key b h l is new =
+-- An edit of one block is that edit of all keys, if it reads a list by its parts.
+joined-edit : (edit : List ℕ → ℕ → List ℕ) (bs : List Block) (k i at : ℕ) (b : Block) → k < length bs → at ≡ length (joined (take k bs)) + i → b.keys ≡ edit (block_at bs k).keys i
+    → ((high : List ℕ) → edit ((block_at bs k).keys ++ high) i ≡ edit (block_at bs k).keys i ++ high)
+    → ((low rest : List ℕ) → length low ≤ at → edit (low ++ rest) at ≡ low ++ edit rest (at - length low))
+    → joined (set bs k b) ≡ edit (joined bs) at
+joined-edit edit bs k i at b h is new left right =
     let keys = (block_at bs k).keys in
     let low = joined (take k bs) in
     let high = joined (drop (suc k) bs) in
     let back : at - length low ≡ i = omega (arith, is) in
     joined-set bs k b h
     ∙ ap (λ (ks : List ℕ). low ++ (ks ++ high)) new
-    ∙ ap (λ (ks : List ℕ). low ++ ks) (sym (insert-append_left keys high i key l))
-    ∙ ap (λ n. low ++ insert (keys ++ high) n key) (sym back)
-    ∙ sym (insert-append_right low (keys ++ high) (length low) at key refl (omega (arith, is)))
-    ∙ ap (λ (ks : List ℕ). insert ks at key) (sym (joined-split bs k h))
+    ∙ ap (λ (ks : List ℕ). low ++ ks) (sym (left high))
+    ∙ ap (λ n. low ++ edit (keys ++ high) n) (sym back)
+    ∙ sym (right low (keys ++ high) (omega (arith, is)))
+    ∙ ap (λ (ks : List ℕ). edit ks at) (sym (joined-split bs k h))
+
+pub joined-put : (bs : List Block) (k i at key : ℕ) (b : Block) → k < length bs → i ≤ size_at bs k → at ≡ length (joined (take k bs)) + i → b.keys ≡ insert (block_at bs k).keys i key → joined (set bs k b) ≡ insert (joined bs) at key
+joined-put bs k i at key b h l is new =
+    joined-edit (λ ks n. insert ks n key) bs k i at b h is new
+    (λ high. insert-append_left (block_at bs k).keys high i key l)
+    (λ low rest le. insert-append_right low rest (length low) at key refl le)
 
 pub joined-take : (bs : List Block) (k i at : ℕ) (b : Block) → k < length bs → i < size_at bs k → at ≡ length (joined (take k bs)) + i → b.keys ≡ remove (block_at bs k).keys i → joined (set bs k b) ≡ remove (joined bs) at
 joined-take bs k i at b h l is new =
-    let keys = (block_at bs k).keys in
-    let low = joined (take k bs) in
-    let high = joined (drop (suc k) bs) in
-    let back : at - length low ≡ i = omega (arith, is) in
-    joined-set bs k b h
-    ∙ ap (λ (ks : List ℕ). low ++ (ks ++ high)) new
-    ∙ ap (λ (ks : List ℕ). low ++ ks) (sym (remove-append_left keys high i l))
-    ∙ ap (λ n. low ++ remove (keys ++ high) n) (sym back)
-    ∙ sym (remove-append_right low (keys ++ high) (length low) at refl (omega (arith, is)))
-    ∙ ap (λ (ks : List ℕ). remove ks at) (sym (joined-split bs k h))
+    joined-edit (λ ks n. remove ks n) bs k i at b h is new
+    (λ high. remove-append_left (block_at bs k).keys high i l)
+    (λ low rest le. remove-append_right low rest (length low) at refl le)
 
 -- Keys that move over the border between two blocks.
 

@@ -24,33 +24,35 @@ two_set bs i j b c k h l d P f g other = elim (cases_eq k i) [
 
 -- A key moves over a border.
 
-pub pulled : (bs : List Block) (at next : ℕ) (b c : Block) → next ≡ at + 1 → next < length bs → b.keys ++ c.keys ≡ (block_at bs at).keys ++ (block_at bs next).keys → length b.keys ≡ size_at bs at + 1 → length c.keys + 1 ≡ size_at bs next → b.capacity ≡ width_at bs at → c.capacity ≡ width_at bs next → Shifts at next bs (set (set bs next c) at b)
-pulled bs at next b c n h e bl cl bw cw = record {
+crossed : (bs : List Block) (at next to from : ℕ) (b c : Block) → next ≡ at + 1 → next < length bs → b.keys ++ c.keys ≡ (block_at bs at).keys ++ (block_at bs next).keys
+    → length b.keys + one_if at from ≡ size_at bs at + one_if at to → length c.keys + one_if next from ≡ size_at bs next + one_if next to → ((k : ℕ) → k ≢ at → k ≢ next → one_if k from ≡ one_if k to)
+    → b.capacity ≡ width_at bs at → c.capacity ≡ width_at bs next → Shifts to from bs (set (set bs next c) at b)
+crossed bs at next to from b c n h e bl cl other bw cw = record {
   keys = joined-border bs at next b c n h e;
   count = length-set (set bs next c) at b ∙ length-set bs next c;
-  sizes = λ k. two_set bs at next b c k (omega (arith, n, h)) h (omega (arith, n)) (λ x. length x.keys + one_if k next ≡ size_at bs k + one_if k at)
-      (λ is. omega (arith, bl, one_here k at is, one_other k next (omega (arith, is, n)), ap (size_at bs) is))
-      (λ is. omega (arith, cl, one_here k next is, one_other k at (omega (arith, is, n)), ap (size_at bs) is))
-      (λ d f. omega (arith, one_other k at d, one_other k next f));
+  sizes = λ k. two_set bs at next b c k (omega (arith, n, h)) h (omega (arith, n)) (λ x. length x.keys + one_if k from ≡ size_at bs k + one_if k to)
+      (λ is. omega (arith, bl, ap (λ i. one_if i from) is, ap (λ i. one_if i to) is, ap (size_at bs) is))
+      (λ is. omega (arith, cl, ap (λ i. one_if i from) is, ap (λ i. one_if i to) is, ap (size_at bs) is))
+      (λ d f. omega (arith, other k d f));
   widths = λ k. two_set bs at next b c k (omega (arith, n, h)) h (omega (arith, n)) (λ x. x.capacity ≡ width_at bs k)
       (λ is. bw ∙ sym (ap (width_at bs) is))
       (λ is. cw ∙ sym (ap (width_at bs) is))
       (λ d f. refl);
 }
 
+pub pulled : (bs : List Block) (at next : ℕ) (b c : Block) → next ≡ at + 1 → next < length bs → b.keys ++ c.keys ≡ (block_at bs at).keys ++ (block_at bs next).keys → length b.keys ≡ size_at bs at + 1 → length c.keys + 1 ≡ size_at bs next → b.capacity ≡ width_at bs at → c.capacity ≡ width_at bs next → Shifts at next bs (set (set bs next c) at b)
+pulled bs at next b c n h e bl cl bw cw =
+    crossed bs at next at next b c n h e
+    (omega (arith, bl, one_here at at refl, one_other at next (omega (arith, n))))
+    (omega (arith, cl, one_here next next refl, one_other next at (omega (arith, n))))
+    (λ k d f. one_other k next f ∙ sym (one_other k at d)) bw cw
+
 pub pushed : (bs : List Block) (at next : ℕ) (b c : Block) → next ≡ at + 1 → next < length bs → b.keys ++ c.keys ≡ (block_at bs at).keys ++ (block_at bs next).keys → length b.keys + 1 ≡ size_at bs at → length c.keys ≡ size_at bs next + 1 → b.capacity ≡ width_at bs at → c.capacity ≡ width_at bs next → Shifts next at bs (set (set bs at b) next c)
-pushed bs at next b c n h e bl cl bw cw = subst (Shifts next at bs) (set_comm bs next at c b (omega (arith, n))) (record {
-  keys = joined-border bs at next b c n h e;
-  count = length-set (set bs next c) at b ∙ length-set bs next c;
-  sizes = λ k. two_set bs at next b c k (omega (arith, n, h)) h (omega (arith, n)) (λ x. length x.keys + one_if k at ≡ size_at bs k + one_if k next)
-      (λ is. omega (arith, bl, one_here k at is, one_other k next (omega (arith, is, n)), ap (size_at bs) is))
-      (λ is. omega (arith, cl, one_here k next is, one_other k at (omega (arith, is, n)), ap (size_at bs) is))
-      (λ d f. omega (arith, one_other k at d, one_other k next f));
-  widths = λ k. two_set bs at next b c k (omega (arith, n, h)) h (omega (arith, n)) (λ x. x.capacity ≡ width_at bs k)
-      (λ is. bw ∙ sym (ap (width_at bs) is))
-      (λ is. cw ∙ sym (ap (width_at bs) is))
-      (λ d f. refl);
-})
+pushed bs at next b c n h e bl cl bw cw = subst (Shifts next at bs) (set_comm bs next at c b (omega (arith, n)))
+    (crossed bs at next next at b c n h e
+    (omega (arith, bl, one_here at at refl, one_other at next (omega (arith, n))))
+    (omega (arith, cl, one_here next next refl, one_other next at (omega (arith, n))))
+    (λ k d f. one_other k at d ∙ sym (one_other k next f)) bw cw)
 
 -- as it is done: the block that loses the key first
 pub pull_step : (bs : List Block) (at key : ℕ) (x y b c : Block) → at + 1 < length bs → y ≡ get_or bs (at + 1) y → y.keys ≡ key ∷ c.keys → c.capacity ≡ y.capacity → x ≡ get_or (set bs (at + 1) c) at x → b ≡ record x { keys = x.keys ++ key ∷ [] } → Shifts at (at + 1) bs (set (set bs (at + 1) c) at b)

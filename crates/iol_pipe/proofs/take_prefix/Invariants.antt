@@ -1,18 +1,14 @@
-use Rattle.std.proofs.Common.{◌≡◌, ◌+◌, ◌≤◌, ◌<◌, ◌++◌, min, length, take, vec_len, vec_capacity}
-use Rattle.std.specs.List.{take_while}
+use Rattle.std.proofs.Common.{◌+◌, ◌≤◌, ◌<◌, min, length, vec_len, vec_capacity}
 use Rattle.iol_core.specs.declared.numbers.BufId.{BufId}
-use Rattle.iol_hold.specs.Moves.{tally, Shares}
-use Rattle.iol_hold.specs.Places.{places}
+use Rattle.iol_hold.specs.Moves.{tally}
 use Rattle.iol_hold.specs.Texts.{bufs_of}
-use Rattle.iol_pipe.specs.Queue.{may_see}
+use Rattle.iol_pipe.proofs.Parts.{IsTakenSoFar}
 use Rattle.iol_pipe.proofs.take_prefix.Given as goal
 
 abbrev pub invariant-loop-left : goal.invariant-loop-left
 invariant-loop-left l = record {
-  given : places l.out.items ++ take_while (may_see l.fn.store.pools l.d) (take l.left (places l.queue.items)) ≡ take_while (may_see l.fn.store.pools l.d) (take l.n (places l.fn.queue.items));
-  whole : places l.out.items ++ places l.queue.items ≡ places l.fn.queue.items;
+  so_far : IsTakenSoFar l.fn.store l.store l.fn.queue.items l.out.items l.queue.items l.n l.left l.d;
   room : vec_len l.out + min (length l.queue.items) l.left ≤ vec_capacity l.out;
-  shares : Shares l.fn.store l.store (bufs_of l.fn.queue.items) (bufs_of l.out.items ++ bufs_of l.queue.items);
   unsplit : 0 < l.left → (b : BufId) → tally b (bufs_of l.out.items) + tally b (bufs_of l.queue.items) ≤ tally b (bufs_of l.fn.queue.items);
 }
 

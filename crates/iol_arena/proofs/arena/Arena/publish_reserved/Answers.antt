@@ -1,11 +1,11 @@
 use Rattle.std.proofs.Common.{subst, List}
-use Rattle.iol_arena.specs.State.{State, HasRuns}
 use Rattle.iol_arena.specs.Buffers.{SharesNoPage}
 use Rattle.iol_arena.specs.Pages.{MadeOn, IsSameBut, AreUsable}
 use Rattle.iol_arena.specs.Parts.{part_pages, needed_pages, spare_pages}
 use Rattle.iol_arena.specs.declared.pages.Part.{Part}
 use Rattle.iol_arena.specs.View.{state_of}
 use Rattle.iol_arena.proofs.Keeps.{runs_alone}
+use Rattle.iol_arena.proofs.Marks.{sound_runs}
 use Rattle.iol_arena.proofs.arena.Arena.publish_reserved.Goals as goal
 
 pub returns-clause-alone : goal.returns-clause-alone
@@ -21,4 +21,4 @@ pub returns-clause-returned : goal.returns-clause-returned
 returns-clause-returned c = subst (λ (ps : List Part). AreUsable c.publish_all.new.self (spare_pages ps c.args.len)) c.as_slice.ensures c.publish_all.ensures.returned
 
 pub returns-clause-runs : goal.returns-clause-runs
-returns-clause-runs c = subst (λ (s : State). HasRuns s.entries) c.self.view_is c.self.invariant.sound.runs
+returns-clause-runs c = sound_runs c.self.invariant.sound c.self.view_is

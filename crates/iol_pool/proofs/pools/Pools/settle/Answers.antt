@@ -1,9 +1,8 @@
-use Rattle.std.proofs.Common.{◌<◌, sym, ◌∙◌, ap, subst, List, ℕ}
-use Rattle.std.specs.List.{All}
-use Rattle.iol_arena.specs.State.{State, chunk_count}
+use Rattle.std.proofs.Common.{sym, ◌∙◌, ap, subst, List}
+use Rattle.iol_arena.specs.State.{State}
 use Rattle.iol_pool.specs.Pools.{Pool, pool_in, with_emptied, with_returned}
 use Rattle.iol_pool.specs.Owned.{AreOwned}
-use Rattle.iol_pool.proofs.Owning.{all_owned, owned_settled, settled-no, settled-nowhere, settled-yes, settled_arena-no, settled_arena-nowhere, settled_arena-yes}
+use Rattle.iol_pool.proofs.Owning.{owned_settled, settled-no, settled-nowhere, settled-yes, settled_arena-no, settled_arena-nowhere, settled_arena-yes}
 use Rattle.iol_pool.proofs.pools.Pools.settle.Goals as goal
 
 pub returns-then-not-is_pool-clause-pools : goal.returns-then-not-is_pool-clause-pools
@@ -18,9 +17,6 @@ returns-then-not-goes_back-clause-pools c = sym (settled-no c.args.arena.now c.a
 pub returns-then-not-goes_back-clause-arena : goal.returns-then-not-goes_back-clause-arena
 returns-then-not-goes_back-clause-arena c = sym (settled_arena-no c.args.arena.now c.args.self.now c.args.p (sym c.goes_back.ensures ∙ c.if-not-goes_back.true))
 
-pub return_all-requires-clause-within : goal.return_all-requires-clause-within
-return_all-requires-clause-within c = subst (λ (l : List ℕ). All (λ k. k < chunk_count c.args.arena.now) l) (sym (c.as_slice.ensures.value ∙ c.chunks.ensures)) (all_owned c.args.arena.now c.args.self.now c.args.p c.requires)
-
 pub returns-clause-pools : goal.returns-clause-pools
 returns-clause-pools c =
     c.set_emptied.ensures ∙ ap (λ (l : List Pool). with_emptied l c.args.p) c.self.view_is
@@ -28,12 +24,12 @@ returns-clause-pools c =
 
 pub returns-clause-arena : goal.returns-clause-arena
 returns-clause-arena c =
-    c.return_all.ensures ∙ ap (λ l. with_returned c.args.arena.now l) (c.as_slice.ensures.value ∙ c.chunks.ensures)
+    c.return_all.ensures ∙ ap (λ l. with_returned c.args.arena.now l) c.chunks_in.ensures.value
     ∙ sym (settled_arena-yes c.args.arena.now c.args.self.now c.args.p (sym c.goes_back.ensures ∙ c.if-not-goes_back.false))
 
 pub returns-clause-owned : goal.returns-clause-owned
 returns-clause-owned c =
-    let a = c.return_all.ensures ∙ ap (λ l. with_returned c.args.arena.now l) (c.as_slice.ensures.value ∙ c.chunks.ensures) in
+    let a = c.return_all.ensures ∙ ap (λ l. with_returned c.args.arena.now l) c.chunks_in.ensures.value in
     let p = c.set_emptied.ensures ∙ ap (λ (l : List Pool). with_emptied l c.args.p) c.self.view_is in
     subst (λ (s : State). AreOwned s c.set_emptied.new.pools.items) (sym a)
     (subst (λ (l : List Pool). AreOwned (with_returned c.args.arena.now (pool_in c.args.self.now c.args.p).chunks) l) (sym p)

@@ -1,0 +1,46 @@
+use Rattle.std.proofs.Common.{◌≡◌, ℕ, arith, ap, sym, subst, ◌^◌, ◌<◌, ◌∙◌, Bool, true, false, not, refl}
+use Rattle.iol_arena.specs.State.{CanMark, with_marked, kind_head}
+use Rattle.iol_arena.specs.Written.{reserved_kind}
+use Rattle.iol_arena.specs.Buffers.{Grows}
+use Rattle.iol_arena.specs.declared.pages.PageKind.TheVariants.{Head, Tail}
+use Rattle.iol_arena.proofs.Marks.{sound_runs, can_mark}
+use Rattle.iol_arena.proofs.Keeps.{marks_spare}
+use Rattle.iol_arena.proofs.Grows.{marks_grow}
+use Rattle.iol_arena.proofs.arena.Arena.set_pending.Goals as goal
+
+-- neither kind is a buffer's
+no_head : (b : Bool) (n : ℕ) → reserved_kind b ≡ Head n → ⊥
+no_head true n e = cc
+no_head false n e = cc
+
+no_tail : (b : Bool) (p : ℕ) → reserved_kind b ≡ Tail p → ⊥
+no_tail true p e = cc
+no_tail false p e = cc
+
+bare : (b : Bool) → kind_head (reserved_kind b) ≡ false
+bare true = refl
+bare false = refl
+
+pub set_run-requires : goal.set_run-requires
+set_run-requires c =
+    let es = c.args.self.now.entries in
+    let p = c.args.part in
+    let b = c.args.pending in
+    let runs = sound_runs c.self.invariant.sound c.self.view_is in
+    let small : c.args.self.now.limit < 2 ^ 32 = omega (arith, ap (λ s. s.limit) c.self.view_is) in
+    subst (λ k. CanMark es p.first p.count k 0) (sym c.reserved_kind.ensures)
+    (can_mark es p.first p.count (reserved_kind (not b)) (reserved_kind b) 0 c.args.self.now.limit runs c.requires.within c.requires.each c.requires.below (no_tail (not b)) (no_head b) small (omega arith))
+
+pub returns-clause-arena : goal.returns-clause-arena
+returns-clause-arena c = c.set_run.ensures ∙ ap (λ k. with_marked c.args.self.now c.args.part.first c.args.part.count k 0) c.reserved_kind.ensures
+
+pub returns-clause-grows : goal.returns-clause-grows
+returns-clause-grows c =
+    let b = c.args.pending in
+    subst (λ x. Grows c.args.self.now x) (sym (returns-clause-arena c))
+    (marks_grow c.args.self.now c.args.part.first c.args.part.count (reserved_kind (not b)) (reserved_kind b) 0 c.requires.within c.requires.each (bare (not b)) (bare b) (no_head b))
+
+pub returns-clause-spares : goal.returns-clause-spares
+returns-clause-spares c =
+    let b = c.args.pending in
+    marks_spare c.args.self.now c.set_run.new.self c.args.part.first c.args.part.count (reserved_kind (not b)) (reserved_kind b) 0 (ap (λ s. s.entries) (returns-clause-arena c)) c.requires.within c.requires.each (bare (not b)) (bare b)
