@@ -70,8 +70,8 @@ pub told_errs : {A E P Q R : Type 0} {S : E → Type 0} (r : Result A E) → OnE
 told_errs (Ok x) p q s f = tt
 told_errs (Err y) p q s f = f y refl p q s
 
-pub told_is : {A E : Type 0} (r : Result A E) (y z : E) → r ≡ Err y → y ≡ z → r ≡ Err z
-told_is r y z told is = told ∙ ap (λ e. Err e) is
+pub told_err : {A E : Type 0} (P : E → Type 0) (r : Result A E) (y : E) → r ≡ Err y → IfErr r P → P y
+told_err P r y told h = subst (λ x. IfErr x P) told h
 
 pub always_err : {A E Q : Type 0} (r : Result A E) → Q → OnErr r Q
 always_err (Ok x) q = tt

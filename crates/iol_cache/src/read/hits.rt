@@ -1,10 +1,9 @@
 //! Reading of files.
-ghost use Rattle.std.specs.Prelude.{◌≡◌, ℕ, ◌<◌, ◌≤◌, ◌^◌, [], All, length, true, Err, OnOk, OnErr, IfOk, IfErr};
+ghost use Rattle.std.specs.Prelude.{◌≡◌, ◌≤◌, ◌^◌, [], All, length, true, OnOk, OnErr, IfOk, IfErr};
 ghost use Rattle.iol_core.specs.Meaning.{WantOfRoomOrFault};
 ghost use Rattle.iol_core.specs.Numbered.{is_numbered};
 ghost use Rattle.iol_hold.specs.Moves.{Moves, Covers, Shares, SameLists};
 ghost use Rattle.iol_hold.specs.Places.{places, byte_len};
-ghost use Rattle.iol_hold.specs.Room.{free_of};
 ghost use Rattle.iol_hold.specs.Releases.{FreesOnly};
 ghost use Rattle.iol_hold.specs.Stored.{AllSettled};
 ghost use Rattle.iol_hold.specs.Texts.{bufs_of, AllReadable};
@@ -13,7 +12,7 @@ ghost use Rattle.iol_cache.specs.Cached.{file_in, extents_in, order_in};
 ghost use Rattle.iol_cache.specs.Cache.{cached_of, holding};
 ghost use Rattle.iol_cache.specs.Gaps.{gap_pages};
 ghost use Rattle.iol_cache.specs.Going.{CountsHits, FillsFile};
-ghost use Rattle.iol_cache.specs.Loading.{Asks, PlacesSome};
+ghost use Rattle.iol_cache.specs.Loading.{Asks, PlacesOrReleases};
 ghost use Rattle.iol_cache.specs.Ranges.{PinsRange};
 ghost use Rattle.iol_cache.specs.Reading.{SameButRoom};
 ghost use Rattle.iol_cache.specs.Sharing.{CountsBelow};
@@ -120,14 +119,8 @@ impl Cache {
             (holding store.new self.new)) }
         ensures sound { IsSound store.new (cached_of self.new) }
         ensures same { OnErr result (SameButRoom (cached_of self.old) (cached_of self.new)) }
-        ensures none { OnErr result (Moves store.old store.new [] []) }
-        ensures given_back { let p = (file_in self.old.files.items part.now.file).pool in
-            OnErr result (PlacesSome store.old store.new p (gap_pages gaps.now)) }
-        ensures lists { SameLists store.old store.new }
-        ensures settles { AllSettled store.old → AllSettled store.new }
-        ensures no_room { (p : ℕ) → result ≡ Err (Refusal.NoRoom p) →
-            length (free_of store.old (file_in self.old.files.items part.now.file).pool) <
-            gap_pages gaps.now }
+        ensures leaves { let p = (file_in self.old.files.items part.now.file).pool in
+            PlacesOrReleases p (gap_pages gaps.now) store.old store.new result }
         ensures disk { Asks (length gaps.now) (B.disk backing.old) (B.disk backing.new) result }
         ensures late { IfErr result
             (WantOfRoomOrFault (file_in self.old.files.items part.now.file).pool part.now.file) }

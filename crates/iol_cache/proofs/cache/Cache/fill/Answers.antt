@@ -1,10 +1,8 @@
 use Rattle.std.proofs.Common.{◌≡◌, ◌∙◌, ℕ, ◌<◌, ◌^◌, List, length, refl, sym, ap, arith, subst}
-use Rattle.iol_cache.specs.Gaps.{gap_pages}
 use Rattle.std.specs.List.{All}
 use Rattle.iol_core.specs.Meaning.{WantOfRoomOrFault}
 use Rattle.iol_pool.specs.Pools.{pool_in}
 use Rattle.iol_hold.specs.Moves.{Covers}
-use Rattle.iol_hold.specs.Room.{free_of}
 use Rattle.iol_hold.specs.Places.{Place, places}
 use Rattle.iol_hold.specs.Stored.{Stored}
 use Rattle.iol_hold.specs.Texts.{bufs_of, AllReadable}
@@ -18,7 +16,6 @@ use Rattle.iol_cache.specs.declared.files.CachedFile.{CachedFile}
 use Rattle.iol_cache.specs.Marks.{HasMarksLeft, Marks, at_page}
 use Rattle.iol_cache.specs.Cached.{Cached, file_in, with_file, extents_in, order_in, with_order, all_parts}
 use Rattle.iol_cache.specs.Cache.{cached_of, holding}
-use Rattle.iol_cache.specs.Loading.{PlacesSome}
 use Rattle.iol_cache.specs.Reading.{FillsRange, AllBeginAt, AllWithin, AreAbsent, all_entered, parts_of_spans}
 use Rattle.iol_cache.specs.Sharing.{CountsBelow}
 use Rattle.iol_cache.specs.Sound.{IsSound}
@@ -26,7 +23,7 @@ use Rattle.iol_cache.proofs.Extents.Filing.{numbered_bounds}
 use Rattle.iol_cache.proofs.Extents.Finding.{file_back, file_here, file_put, order_here, order_put, pool_bounds}
 use Rattle.iol_cache.proofs.Extents.Using.{covers_file}
 use Rattle.iol_cache.proofs.RangeReads.Undone.{none_gaps}
-use Rattle.iol_cache.proofs.RangeReads.Filled.{order_wide}
+use Rattle.iol_cache.proofs.RangeReads.Filled.{leaves_as, order_wide}
 use Rattle.iol_cache.proofs.RangeReads.Putting.{begins_made, zip_begins, absent_gaps}
 use Rattle.iol_cache.proofs.RangeReads.Ranged.{laid_readable, range_held, made_len}
 use Rattle.iol_cache.proofs.Evictions.Roomy.{ranks_file, same_room, sound_same}
@@ -93,15 +90,10 @@ returns-in-Err-clause-same g c =
 pub returns-in-Err-clause-sound : goal.returns-in-Err-clause-sound
 returns-in-Err-clause-sound g c =
     let e = c.in-Err.ensures in
-    sound_same c.fill_range.new.store (cached_of c.args.self.now) _ (sound_to c.args.store.now c.fill_range.new.store (cached_of c.args.self.now) c.requires.sound e.none e.lists e.given_back.pages.count) (returns-in-Err-clause-same g c)
+    sound_same c.fill_range.new.store (cached_of c.args.self.now) _ (sound_to c.args.store.now c.fill_range.new.store (cached_of c.args.self.now) c.requires.sound e.leaves.none e.leaves.lists e.leaves.given_back.pages.count) (returns-in-Err-clause-same g c)
 
-pub returns-in-Err-clause-given_back : goal.returns-in-Err-clause-given_back
-returns-in-Err-clause-given_back g c =
-    subst (λ (y : CachedFile). PlacesSome c.args.store.now c.fill_range.new.store y.pool (gap_pages c.args.gaps.now)) (file_here _ c.number.ensures c.index_mut.ensures.value c.requires.file) c.in-Err.ensures.given_back
-
-pub returns-in-Err-clause-no_room : goal.returns-in-Err-clause-no_room
-returns-in-Err-clause-no_room g c = λ p e.
-    omega (arith, c.in-Err.ensures.no_room p e, ap (λ (y : CachedFile). length (free_of c.args.store.now y.pool)) (file_here _ c.number.ensures c.index_mut.ensures.value c.requires.file))
+pub returns-in-Err-clause-leaves : goal.returns-in-Err-clause-leaves
+returns-in-Err-clause-leaves g c = leaves_as (ap (λ (y : CachedFile). y.pool) (file_here _ c.number.ensures c.index_mut.ensures.value c.requires.file)) refl c.in-Err.ensures.leaves
 
 pub returns-in-Err-clause-late : goal.returns-in-Err-clause-late
 returns-in-Err-clause-late g c = subst (λ (y : CachedFile). WantOfRoomOrFault y.pool c.args.part.now.file c.in-Err.refusal) (file_here _ c.number.ensures c.index_mut.ensures.value c.requires.file) c.in-Err.ensures.late

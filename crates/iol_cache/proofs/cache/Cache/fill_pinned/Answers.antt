@@ -23,7 +23,7 @@ use Rattle.iol_cache.specs.Ranges.{FillsAfter}
 use Rattle.iol_cache.specs.Sound.{IsSound}
 use Rattle.iol_cache.proofs.Extents.Finding.{file_here}
 use Rattle.iol_cache.proofs.RangeReads.Filled.{order_wide}
-use Rattle.iol_cache.proofs.RangeReads.Served.{Undone, Went, either_way, goes_out, pins_held, pins_left, on_errs, places_none, readable_c, readable_filled, readable_left, readable_out, same_none, sound_out, stand_filled, tells_has, told_errs, told_is, went_filled, went_none, went_undone}
+use Rattle.iol_cache.proofs.RangeReads.Served.{Undone, Went, either_way, goes_out, pins_held, pins_left, on_errs, places_none, readable_c, readable_filled, readable_left, readable_out, same_none, sound_out, stand_filled, tells_has, told_err, told_errs, went_filled, went_none, went_undone}
 use Rattle.iol_cache.proofs.cache.Cache.fill_pinned.Given.{Over}
 use Rattle.iol_cache.proofs.cache.Cache.fill_pinned.Goals.{After-fill-filled, Then-not-make_room}
 use Rattle.iol_cache.proofs.cache.Cache.fill_pinned.Goals as goal
@@ -128,19 +128,19 @@ module _ (g : Over) (c : After-fill-filled g) where
   Leaves = Undone mid full (file_in mid.cache.files c.args.part.now.file).pool (gap_pages c.args.gaps.now)
 
   undone : OnErr c.fill-filled.result Leaves
-  undone = let e = c.fill-filled.ensures in on_errs c.fill-filled.result e.same e.none e.given_back (λ same none back. record { same = same; none = none; back = back })
+  undone = let e = c.fill-filled.ensures in on_errs c.fill-filled.result e.same e.leaves.none e.leaves.given_back (λ same none back. record { same = same; none = none; back = back })
 
   went_ok : (xs : List Slice) → Fills xs → Went d old full (bufs_of c.args.pins) (bufs_of xs)
   went_ok xs h =
       let e = c.fill-filled.ensures in
       let b = c.make_room.ensures in
-      went_filled d c.args.part.now.file c.args.part.now.from c.args.part.now.to old mid full c.args.pins c.args.gaps.now c.requires.file c.requires.held c.requires.readable b.gives_up b.sound xs c.requires.in_order c.requires.gaps h e.lists e.settles
+      went_filled d c.args.part.now.file c.args.part.now.from c.args.part.now.to old mid full c.args.pins c.args.gaps.now c.requires.file c.requires.held c.requires.readable b.gives_up b.sound xs c.requires.in_order c.requires.gaps h e.leaves.lists e.leaves.settles
 
   went_err : Leaves → Went d old full (bufs_of c.args.pins) []
   went_err h =
       let e = c.fill-filled.ensures in
       let b = c.make_room.ensures in
-      went_undone d c.args.part.now.file c.args.part.now.from c.args.part.now.to old mid full c.args.pins c.args.gaps.now c.requires.file c.requires.held c.requires.readable b.gives_up b.sound h.same h.none e.lists e.settles h.back.pages.count
+      went_undone d c.args.part.now.file c.args.part.now.from c.args.part.now.to old mid full c.args.pins c.args.gaps.now c.requires.file c.requires.held c.requires.readable b.gives_up b.sound h.same h.none e.leaves.lists e.leaves.settles h.back.pages.count
 
 pub release-requires-2 : goal.release-requires-2
 release-requires-2 g c =
@@ -177,17 +177,17 @@ returns-clause-undone g c =
     let e = c.fill-filled.ensures in
     let has = c.if-not-make_room.false in
     let pages = subst (λ n. EvictsAll c.index.result.now.pool (Some n) (old g at) (mid g at)) c.count_pages.ensures b.victims in
-    told_errs c.fill-filled.result e.same e.none e.given_back (λ y told same none back. record {
+    told_errs c.fill-filled.result e.same e.leaves.none e.leaves.given_back (λ y told same none back. record {
       mid = mid g at;
       victims = subst (λ (y : CachedFile). EvictsAll y.pool (Some (gap_pages c.args.gaps.now)) (old g at) (mid g at)) x pages;
       less = b.gives_up;
       full = full g at;
       met = inl (omega (arith, b.room.0 has, c.count_pages.ensures, ap (λ (z : CachedFile). length (pages_of s z.pool)) x, ap (λ (z : CachedFile). pinned_beside s (clean_held fs) z.pool) x));
-      kept = λ p is. absurd (omega (arith, b.free has, c.count_pages.ensures, e.no_room p (told_is c.fill-filled.result y (NoRoom p) told is), ap (λ q. length (free_of t q)) (b.gives_up.keeps.pools c.args.part.now.file), ap (λ (z : CachedFile). length (free_of t z.pool)) x));
+      kept = λ p is. absurd (omega (arith, b.free has, c.count_pages.ensures, told_err _ c.fill-filled.result y told e.leaves.no_room p is, ap (λ q. length (free_of t q)) (b.gives_up.keeps.pools c.args.part.now.file), ap (λ (z : CachedFile). length (free_of t z.pool)) x));
       same = same;
       moves = none;
       placed = subst (λ q. PlacesSome t c.fill-filled.new.store q (gap_pages c.args.gaps.now)) (b.gives_up.keeps.pools c.args.part.now.file) back;
-      lists = e.lists;
+      lists = e.leaves.lists;
       cache = refl;
       released = c.release-2.ensures.moves;
       frees = c.release-2.ensures.frees;
@@ -233,4 +233,4 @@ returns-clause-room g c =
     let has = c.if-not-make_room.false in
     tells_has _ _ c.fill-filled.result
     (omega (arith, b.room.0 has, c.count_pages.ensures, ap (λ (y : CachedFile). length (pages_of s y.pool)) x, ap (λ (y : CachedFile). pinned_beside s (clean_held fs) y.pool) x))
-    (λ p e. omega (arith, b.free has, c.count_pages.ensures, c.fill-filled.ensures.no_room p e, ap (λ q. length (free_of t q)) (b.gives_up.keeps.pools c.args.part.now.file), ap (λ (y : CachedFile). length (free_of t y.pool)) x))
+    (λ p e. omega (arith, b.free has, c.count_pages.ensures, told_err _ c.fill-filled.result (NoRoom p) e c.fill-filled.ensures.leaves.no_room p refl, ap (λ q. length (free_of t q)) (b.gives_up.keeps.pools c.args.part.now.file), ap (λ (y : CachedFile). length (free_of t y.pool)) x))

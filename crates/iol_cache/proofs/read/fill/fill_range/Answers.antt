@@ -1,4 +1,4 @@
-use Rattle.std.proofs.Common.{◌≡◌, ◌∙◌, ◌+◌, length, refl, sym, ap, subst, arith}
+use Rattle.std.proofs.Common.{◌≡◌, ◌∙◌, ◌+◌, length, refl, sym, ap, subst, arith, rules}
 use Rattle.iol_cache.specs.Gaps.{gap_pages}
 use Rattle.iol_hold.specs.Texts.{bufs_of}
 use Rattle.iol_hold.proofs.Paging.{keeps_pages_same}
@@ -59,17 +59,17 @@ returns-in_default-weave-clause-same g c =
     let e = c.take_back.ensures in
     ap (λ (m : ExtentMap). let x : CachedFile = record { pool = c.args.cached.now.pool; extents = m } in x) (same g (goal.at.returns-in_default-weave-clause-same g c).In_default-weave c.take_back.new.extents e.extents e.room)
 
-pub returns-in_default-weave-clause-none : goal.returns-in_default-weave-clause-none
-returns-in_default-weave-clause-none g c = moved_back c.in_default.ensures.fills.moves c.in_default-weave.ensures.none c.take_back.ensures.moves (back g (goal.at.returns-in_default-weave-clause-none g c).In_default-weave).same
-
-pub returns-in_default-weave-clause-given_back : goal.returns-in_default-weave-clause-given_back
-returns-in_default-weave-clause-given_back g c =
+pub returns-in_default-weave-clause-leaves : goal.returns-in_default-weave-clause-leaves
+returns-in_default-weave-clause-leaves g c =
     let t = c.fill_gaps.new.store in
-    placed_some (gap_pages c.args.gaps.now) (omega arith) c.in_default.ensures.places (keeps_pages_same t t refl refl) (frees_trans c.weave.ensures.frees c.take_back.ensures.frees c.take_back.ensures.moves.counts) refl
-
-pub returns-in_default-weave-clause-settles : goal.returns-in_default-weave-clause-settles
-returns-in_default-weave-clause-settles g c = λ all.
-    let back = back g (goal.at.returns-in_default-weave-clause-settles g c).In_default-weave in
-    let covers = covers_back c.in_default.ensures.fills.moves c.in_default-weave.ensures.none back.same in
-    let readable = readable_stays (parts_back c.fill_gaps.new.extents.extents c.args.gaps.now) c.in_default-weave.ensures.none.stays covers back.readable in
-    c.take_back.ensures.settles readable (c.weave.ensures.settles (c.fill_gaps.ensures.settles all))
+    let fills = c.in_default.ensures.fills in
+    let none = c.in_default-weave.ensures.none in
+    let back = back g (goal.at.returns-in_default-weave-clause-leaves g c).In_default-weave in
+    let readable = readable_stays (parts_back c.fill_gaps.new.extents.extents c.args.gaps.now) none.stays (covers_back fills.moves none back.same) back.readable in
+    record {
+      none = moved_back fills.moves none c.take_back.ensures.moves back.same;
+      given_back = placed_some (gap_pages c.args.gaps.now) (omega arith) c.in_default.ensures.places (keeps_pages_same t t refl refl) (frees_trans c.weave.ensures.frees c.take_back.ensures.frees c.take_back.ensures.moves.counts) refl;
+      lists = search (rules);
+      settles = λ all. c.take_back.ensures.settles readable (c.weave.ensures.settles (c.fill_gaps.ensures.leaves.settles all));
+      no_room = search (rules);
+    }
