@@ -14,7 +14,7 @@
 //!   every store, bytes over hits lie where they lay, those over gaps in the new extents (`reads`). NoRoom comes only where
 //!   the pages that something else holds, the hits among them, and those that the gaps want are more than the pool has
 //!   (`room`), Fault only where the store failed (`fault`). A refused read leaves no extent (`refused`).
-//! - `make_room` evicts, those that go first before the others, until so many pages of the pool are free. It fails just
+//! - `make_room` evicts, those that go first before the others, until so many pages of the pool are free. It fails only
 //!   where the pages that something else holds, and those wanted, are more than the pool has (`room`). Which extents
 //!   went is `EvictsAll`, and what they leave is `GivesUp`: with an honest store every file has its bytes.
 //! - `drop_clean` evicts all clean extents, pool by pool.

@@ -2,7 +2,7 @@
 ghost use Rattle.std.specs.Prelude.{◌≡◌, ◌≤◌, ◌^◌, [], All, length, true, OnOk, OnErr, IfOk, IfErr};
 ghost use Rattle.iol_core.specs.Meaning.{WantOfRoomOrFault};
 ghost use Rattle.iol_core.specs.Numbered.{is_numbered};
-ghost use Rattle.iol_hold.specs.Moves.{Moves, Covers, Shares, SameLists};
+ghost use Rattle.iol_hold.specs.Moves.{Moves, Covers, SameLists};
 ghost use Rattle.iol_hold.specs.Places.{places, byte_len};
 ghost use Rattle.iol_hold.specs.Releases.{FreesOnly};
 ghost use Rattle.iol_hold.specs.Stored.{AllSettled};
@@ -15,7 +15,7 @@ ghost use Rattle.iol_cache.specs.Going.{CountsHits, FillsFile};
 ghost use Rattle.iol_cache.specs.Loading.{Asks, PlacesOrReleases};
 ghost use Rattle.iol_cache.specs.Ranges.{PinsRange};
 ghost use Rattle.iol_cache.specs.Reading.{SameButRoom};
-ghost use Rattle.iol_cache.specs.Sharing.{CountsBelow};
+ghost use Rattle.iol_cache.specs.Sharing.{CountsBelow, SharesOrReleases};
 ghost use Rattle.iol_cache.specs.Sound.{IsSound};
 ghost use Rattle.iol_cache.specs.Weaving.{IsCoveredBeside, len_beside, places_beside};
 
@@ -62,14 +62,10 @@ impl Cache {
             IsCoveredBeside es part.now.from part.now.to gaps.now }
         ensures places { let es = extents_in self.old.files.items part.now.file in
             IfOk result (λ a. places a ≡ places_beside es part.now.from part.now.to gaps.now) }
-        ensures shares { IfOk result (λ a. Shares store.old store.new [] (bufs_of a)) }
+        ensures shared { SharesOrReleases [] (λ a. a) store.old store.new result }
         ensures counted { OnOk result
             (CountsHits part.now.file hits.now (cached_of self.old) (cached_of self.new)) }
         ensures err { OnErr result (self.new ≡ self.old) }
-        ensures none { OnErr result (Moves store.old store.new [] []) }
-        ensures frees { FreesOnly store.old store.new }
-        ensures lists { SameLists store.old store.new }
-        ensures settles { AllSettled store.old → AllSettled store.new }
     {
         let place = part.file.number() as usize - 1;
         let pool = self.files[place].pool;

@@ -46,7 +46,7 @@ pub take_back-requires-clause-begin : goal.take_back-requires-clause-begin
 take_back-requires-clause-begin g c = (back g (goal.at.take_back-requires-clause-begin g c).In_default-weave).begin
 
 pub take_back-requires-clause-covered : goal.take_back-requires-clause-covered
-take_back-requires-clause-covered g c = covers_back c.in_default.ensures.fills.moves c.in_default-weave.ensures.none (back g (goal.at.take_back-requires-clause-covered g c).In_default-weave).same
+take_back-requires-clause-covered g c = covers_back c.in_default.ensures.fills.moves c.in_default-weave.ensures.shared.gone (back g (goal.at.take_back-requires-clause-covered g c).In_default-weave).same
 
 same : (g : Over) (c : In_default-weave g) → (m : ExtentMap) → m.extents ≡ without_spans c.fill_gaps.new.extents.extents c.args.gaps.now → m.room ≡ c.fill_gaps.new.extents.room + length c.args.gaps.now → m ≡ c.args.cached.now.extents
 same g c m extents room = same_map m c.args.cached.now.extents (extents ∙ (back g c).without) (omega (arith, room, c.in_default.ensures.fills.room))
@@ -63,13 +63,13 @@ pub returns-in_default-weave-clause-leaves : goal.returns-in_default-weave-claus
 returns-in_default-weave-clause-leaves g c =
     let t = c.fill_gaps.new.store in
     let fills = c.in_default.ensures.fills in
-    let none = c.in_default-weave.ensures.none in
+    let none = c.in_default-weave.ensures.shared.gone in
     let back = back g (goal.at.returns-in_default-weave-clause-leaves g c).In_default-weave in
     let readable = readable_stays (parts_back c.fill_gaps.new.extents.extents c.args.gaps.now) none.stays (covers_back fills.moves none back.same) back.readable in
     record {
       none = moved_back fills.moves none c.take_back.ensures.moves back.same;
-      given_back = placed_some (gap_pages c.args.gaps.now) (omega arith) c.in_default.ensures.places (keeps_pages_same t t refl refl) (frees_trans c.weave.ensures.frees c.take_back.ensures.frees c.take_back.ensures.moves.counts) refl;
+      given_back = placed_some (gap_pages c.args.gaps.now) (omega arith) c.in_default.ensures.places (keeps_pages_same t t refl refl) (frees_trans c.weave.ensures.shared.frees c.take_back.ensures.frees c.take_back.ensures.moves.counts) refl;
       lists = search (rules);
-      settles = λ all. c.take_back.ensures.settles readable (c.weave.ensures.settles (c.fill_gaps.ensures.leaves.settles all));
+      settles = λ all. c.take_back.ensures.settles readable (c.weave.ensures.shared.settles (c.fill_gaps.ensures.leaves.settles all));
       no_room = search (rules);
     }

@@ -7,7 +7,7 @@ use Rattle.iol_hold.specs.Places.{places}
 use Rattle.iol_cache.specs.Cached.{all_parts}
 use Rattle.iol_cache.specs.Sharing.{places_over}
 use Rattle.iol_cache.specs.Weaving.{IsCoveredBeside, places_beside}
-use Rattle.iol_cache.proofs.RangeReads.Shared.{held_beside, length-places_over, over_there, readable_places, readable_same, settles_shares, shared_gone}
+use Rattle.iol_cache.proofs.RangeReads.Shared.{all_shared, held_beside, length-places_over, over_there, readable_places, readable_same, refused_then}
 use Rattle.iol_cache.proofs.read.weave.share_beside.Goals as goal
 
 abbrev no_span : Span
@@ -19,14 +19,28 @@ share_over-requires-clause-held c = held_beside c.requires.held c.loop-gap.invar
 pub share_over-requires-2-clause-held : goal.share_over-requires-2-clause-held
 share_over-requires-2-clause-held c = held_beside c.requires.held c.loop-gap.invariant.shares
 
-pub returns-in-Err-clause-none : goal.returns-in-Err-clause-none
-returns-in-Err-clause-none c = shared_gone c.loop-gap.invariant.shares c.in-Err.ensures.gone
+pub share_over-requires-clause-readable : goal.share_over-requires-clause-readable
+share_over-requires-clause-readable c =
+    let m = c.loop-gap.invariant.shares in
+    readable_same c.args.store.now c.loop-gap.store (all_parts c.args.extents.now.extents) m.arena m.pools c.requires.readable
 
-pub returns-in-Err-clause-settles : goal.returns-in-Err-clause-settles
-returns-in-Err-clause-settles c = λ settled.
+pub share_over-requires-clause-own_readable : goal.share_over-requires-clause-own_readable
+share_over-requires-clause-own_readable c =
     let v = c.loop-gap.invariant in
-    c.share_over.ensures.settles (readable_same c.args.store.now c.loop-gap.store (all_parts c.args.extents.now.extents) v.shares.arena v.shares.pools c.requires.readable)
-    (readable_same c.args.store.now c.loop-gap.store c.loop-gap.shared v.shares.arena v.shares.pools v.readable) (settles_shares v.shares settled)
+    readable_same c.args.store.now c.loop-gap.store c.loop-gap.shared v.shares.arena v.shares.pools v.readable
+
+pub share_over-requires-2-clause-readable : goal.share_over-requires-2-clause-readable
+share_over-requires-2-clause-readable c =
+    let m = c.loop-gap.invariant.shares in
+    readable_same c.args.store.now c.loop-gap.store (all_parts c.args.extents.now.extents) m.arena m.pools c.requires.readable
+
+pub share_over-requires-2-clause-own_readable : goal.share_over-requires-2-clause-own_readable
+share_over-requires-2-clause-own_readable c =
+    let v = c.loop-gap.invariant in
+    readable_same c.args.store.now c.loop-gap.store c.loop-gap.shared v.shares.arena v.shares.pools v.readable
+
+pub returns-in-Err-clause-shared : goal.returns-in-Err-clause-shared
+returns-in-Err-clause-shared c = refused_then c.loop-gap.invariant.shares c.in-Err.ensures.shared
 
 pub loop-gap-preserved : goal.loop-gap-preserved
 loop-gap-preserved c =
@@ -44,18 +58,15 @@ loop-gap-preserved c =
     let is = c.in-Ok.ensures.places in
     record {
       places = ap (λ l. l ++ places_beside es g.to to rest) is ∙ append_assoc (places c.loop-gap.shared) (places_over es at g.from) (places_beside es g.to to rest) ∙ sym (ap (λ l. places c.loop-gap.shared ++ places_beside es at to l) more) ∙ v.places;
-      shares = shares_then v.shares c.in-Ok.ensures.shares;
+      shares = shares_then v.shares c.in-Ok.ensures.shared.shares;
       in_order = order.2;
       covered = covered.1;
       few = omega (arith, ap length is, length-append (places c.loop-gap.shared) (places_over es at g.from), length-places_over es at g.from, v.few, order.0, order.1);
       readable = readable_places c.in-Ok.more c.loop-gap.shared (places_over es at g.from) is v.readable (over_there es at g.from covered.0 c.requires.readable);
     }
 
-pub returns-in-Err-share_over-clause-none : goal.returns-in-Err-share_over-clause-none
-returns-in-Err-share_over-clause-none c = shared_gone c.loop-gap.invariant.shares c.in-Err-share_over.ensures.gone
+pub returns-in-Err-share_over-clause-shared : goal.returns-in-Err-share_over-clause-shared
+returns-in-Err-share_over-clause-shared c = refused_then c.loop-gap.invariant.shares c.in-Err-share_over.ensures.shared
 
-pub returns-in-Err-share_over-clause-settles : goal.returns-in-Err-share_over-clause-settles
-returns-in-Err-share_over-clause-settles c = λ settled.
-    let v = c.loop-gap.invariant in
-    c.share_over-2.ensures.settles (readable_same c.args.store.now c.loop-gap.store (all_parts c.args.extents.now.extents) v.shares.arena v.shares.pools c.requires.readable)
-    (readable_same c.args.store.now c.loop-gap.store c.loop-gap.shared v.shares.arena v.shares.pools v.readable) (settles_shares v.shares settled)
+pub returns-in-Ok-share_over-clause-shared : goal.returns-in-Ok-share_over-clause-shared
+returns-in-Ok-share_over-clause-shared c = all_shared _ (shares_then c.loop-gap.invariant.shares c.in-Ok-share_over.ensures.shared.shares)
