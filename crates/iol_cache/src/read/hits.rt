@@ -1,5 +1,5 @@
 //! Reading of files.
-ghost use Rattle.std.specs.Prelude.{◌≡◌, ◌≤◌, ◌^◌, [], All, length, true, OnOk, OnErr, IfOk, IfErr};
+ghost use Rattle.std.specs.Prelude.{◌≡◌, ◌≤◌, ◌^◌, [], length, true, OnOk, OnErr, IfOk, IfErr};
 ghost use Rattle.iol_core.specs.Meaning.{WantOfRoomOrFault};
 ghost use Rattle.iol_core.specs.Numbered.{is_numbered};
 ghost use Rattle.iol_hold.specs.Moves.{Moves, Covers, SameLists};
@@ -7,14 +7,14 @@ ghost use Rattle.iol_hold.specs.Places.{places, byte_len};
 ghost use Rattle.iol_hold.specs.Releases.{FreesOnly};
 ghost use Rattle.iol_hold.specs.Stored.{AllSettled};
 ghost use Rattle.iol_hold.specs.Texts.{bufs_of, AllReadable};
-ghost use Rattle.iol_extent.specs.Spans.{AreInOrder, IsGapSpan};
-ghost use Rattle.iol_cache.specs.Cached.{file_in, extents_in, order_in};
+ghost use Rattle.iol_extent.specs.Spans.{AreInOrder};
+ghost use Rattle.iol_cache.specs.Cached.{file_in, extents_in};
 ghost use Rattle.iol_cache.specs.Cache.{cached_of, holding};
 ghost use Rattle.iol_cache.specs.Gaps.{gap_pages};
 ghost use Rattle.iol_cache.specs.Going.{CountsHits, FillsFile};
 ghost use Rattle.iol_cache.specs.Loading.{Asks, PlacesOrReleases};
 ghost use Rattle.iol_cache.specs.Ranges.{PinsRange};
-ghost use Rattle.iol_cache.specs.Reading.{SameButRoom};
+ghost use Rattle.iol_cache.specs.Reading.{CanFill, SameButRoom};
 ghost use Rattle.iol_cache.specs.Sharing.{CountsBelow, SharesOrReleases};
 ghost use Rattle.iol_cache.specs.Sound.{IsSound};
 ghost use Rattle.iol_cache.specs.Weaving.{IsCoveredBeside, len_beside, places_beside};
@@ -97,18 +97,10 @@ impl Cache {
         gaps: &[Span],
     ) -> Result<Agg, Refusal>
         requires sound { IsSound store.old (cached_of self.old) }
-        requires file { is_numbered self.old.files.items part.now.file ≡ true }
-        requires ordered { part.now.from ≤ part.now.to }
-        requires end { part.now.to ≤ MAX_FILE_BYTES }
-        requires in_order { AreInOrder part.now.from part.now.to gaps.now }
-        requires gaps { All (IsGapSpan (extents_in self.old.files.items part.now.file)) gaps.now }
+        requires range { CanFill (cached_of self.old) part.now.file part.now.from part.now.to gaps.now }
         requires beside_len { byte_len beside.now ≡ len_beside part.now.from part.now.to gaps.now }
         requires beside_held { Covers store.old (bufs_of beside.now) }
         requires beside_readable { AllReadable store.old beside.now }
-        requires room { length gaps.now ≤
-            (file_in self.old.files.items part.now.file).extents.room }
-        requires entries { let p = (file_in self.old.files.items part.now.file).pool in
-            length gaps.now ≤ (order_in self.old.orders.items p).room }
         requires few { CountsBelow store.old (2 ^ 60) }
         ensures filled { IfOk result (FillsFile part.now.file part.now.from part.now.to
             (places beside.now) gaps.now (B.disk backing.old) (holding store.old self.old)
