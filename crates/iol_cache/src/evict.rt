@@ -53,7 +53,7 @@ impl Cache {
         let place = file.number() as usize - 1;
         let pool = self.files[place].pool;
         let agg = self.files[place].extents.remove(at);
-        self.marks.unmark(agg.slices());
+        self.marks.set_clean(agg.slices(), false);
         self.orders[pool.number() as usize - 1].evict(file, at, passed);
         agg.release(store);
     }

@@ -45,7 +45,7 @@ fn forget(order: &mut Order, marks: &mut CleanHolds, extents: &Extents, file: Fi
         order.give_back();
         return;
     }
-    marks.unmark(agg.slices());
+    marks.set_clean(agg.slices(), false);
     order.leave(file, at);
 }
 
@@ -157,7 +157,7 @@ pub(crate) fn put_edge(
         extents.put(at, agg, true);
         return;
     }
-    marks.mark(agg.slices());
+    marks.set_clean(agg.slices(), true);
     order.enter(file, at, agg.len(), 1);
     extents.put(at, agg, false);
 }

@@ -39,15 +39,15 @@ remove-agg-requires c =
     let x = file_at_number fs c.args.file c.number.result c.index_mut.result.now c.number.ensures (clean_numbered c.requires.clean) c.index_mut.ensures.value in
     some_of c.index_mut.result.now.extents.extents c.args.at c.requires.clean.extent (begins_in fs c.args.file c.args.at c.index_mut.result.now c.requires.clean.extent x c.requires.clean.begins)
 
-pub unmark-requires-clause-within : goal.unmark-requires-clause-within
-unmark-requires-clause-within c =
+pub set_clean-requires-clause-within : goal.set_clean-requires-clause-within
+set_clean-requires-clause-within c =
     let fs = c.args.self.now.files.items in
     let x = file_at_number fs c.args.file c.number.result c.index_mut.result.now c.number.ensures (clean_numbered c.requires.clean) c.index_mut.ensures.value in
     let parts = c.slices.ensures ∙ given_is c.index_mut.result.now.extents.extents c.args.at c.requires.clean.extent c.remove-agg.result (begins_in fs c.args.file c.args.at c.index_mut.result.now c.requires.clean.extent x c.requires.clean.begins) c.remove-agg.ensures.given in
     are_within c.slices.result.now _ c.requires.sound.pages (subst (λ xs. Covers c.args.store.now (bufs_of xs)) (sym parts) (covers_at fs c.args.file c.args.at c.requires.clean.extent c.requires.clean.begins c.requires.sound.covered))
 
-pub unmark-requires-clause-marked : goal.unmark-requires-clause-marked
-unmark-requires-clause-marked c =
+pub set_clean-requires-clause-can : goal.set_clean-requires-clause-can
+set_clean-requires-clause-can c =
     let fs = c.args.self.now.files.items in
     let there = c.requires.clean in
     let x = file_at_number fs c.args.file c.number.result c.index_mut.result.now c.number.ensures (clean_numbered there) c.index_mut.ensures.value in
@@ -119,7 +119,7 @@ returns-clause-sound c =
     let x = file_at_number fs c.args.file c.number.result c.index_mut.result.now c.number.ensures (clean_numbered there) c.index_mut.ensures.value in
     let parts = given_is c.index_mut.result.now.extents.extents c.args.at there.extent c.remove-agg.result (begins_in fs c.args.file c.args.at c.index_mut.result.now there.extent x there.begins) c.remove-agg.ensures.given in
     let whole : c.slices.result.now ≡ parts_at fs c.args.file c.args.at = c.slices.ensures ∙ parts ∙ sym (ap parts_in there.begins) in
-    sound_evicted (holding c.args.store.now c.args.self.now) _ c.args.file c.args.at c.requires.sound (returns-clause-evicts c) (subst (Unmarks c.args.self.now.marks c.unmark.new.self) whole c.unmark.ensures.unmarks)
+    sound_evicted (holding c.args.store.now c.args.self.now) _ c.args.file c.args.at c.requires.sound (returns-clause-evicts c) (subst (Unmarks c.args.self.now.marks c.set_clean.new.self) whole c.set_clean.ensures)
 
 pub returns-clause-below : goal.returns-clause-below
 returns-clause-below c = λ passed. (

@@ -14,19 +14,13 @@ use Rattle.iol_cache.specs.Serving.{IsEnd, LeavesRange, NoRoomToRead, Range, Rea
 use Rattle.iol_cache.proofs.RangeReads.Paging.{read_pages, refused_pages}
 use Rattle.iol_cache.proofs.RangeReads.Served.{either_told, ok_both, tells_more}
 use Rattle.iol_cache.proofs.RangeReads.Texts.{long_read, pooled_read, text_read}
+use Rattle.iol_cache.proofs.cache.Cache.read.Given.{Over}
+use Rattle.iol_cache.proofs.cache.Cache.read.Goals.{After-read_range}
 use Rattle.iol_cache.proofs.cache.Cache.read.Goals as goal
 
 -- the range that the code computes
 abbrev range_of : (disk : Disk) (c : Cached) (f at n end from count : ℕ) → IsEnd disk c f end → from ≡ min at end → count ≡ min n (end - from) → Range disk c f at n
 range_of disk c f at n end from count ends begins counts = record { end = end; ends = ends; from = from; begins = begins; to = from + count; stops = omega (arith, begins, counts) }
-
-pub returns-clause-reads : goal.returns-clause-reads
-returns-clause-reads g c =
-    let d = g.B.Backing.disk c.args.backing.now in
-    let old = holding c.args.store.now c.args.self.now in
-    let new = holding c.read_range.new.store c.read_range.new.self in
-    let range = range_of d old.cache c.args.file c.args.at c.args.count c.file_end-end.result c.min-from.result c.min.result c.file_end-end.ensures c.min-from.ensures c.min.ensures in
-    IfOk-weaker c.read_range.result (ReadsRange c.args.file range.from range.to d old new) (ReadsFile c.args.file c.args.at c.args.count d old new) (λ xs h. record { range = range; reads = h }) c.read_range.ensures.reads
 
 -- all that is known of what was read
 abbrev Told : (old new : Holding) (disk : Disk) (f at n : ℕ) → List Slice → Type 0
@@ -36,33 +30,44 @@ told : {A : Type 0} (old new : Holding) (disk : Disk) (f at n : ℕ) (r : Result
 told old new disk f at n r reads readable goes =
     ok_both (λ xs. ReadsFile f at n disk old new xs × AllReadable new.store xs) (λ xs. Goes disk [] (bufs_of xs) old new) r (ok_both (ReadsFile f at n disk old new) (AllReadable new.store) r reads readable) goes
 
+module _ (g : Over) (c : After-read_range g) where
+  abbrev d : Disk
+  d = g.B.Backing.disk c.args.backing.now
+
+  abbrev old : Holding
+  old = holding c.args.store.now c.args.self.now
+
+  abbrev new : Holding
+  new = holding c.read_range.new.store c.read_range.new.self
+
+  reads : IfOk c.read_range.result (ReadsFile c.args.file c.args.at c.args.count d old new)
+  reads =
+      let range = range_of d old.cache c.args.file c.args.at c.args.count c.file_end-end.result c.min-from.result c.min.result c.file_end-end.ensures c.min-from.ensures c.min.ensures in
+      IfOk-weaker c.read_range.result (ReadsRange c.args.file range.from range.to d old new) (ReadsFile c.args.file c.args.at c.args.count d old new) (λ xs h. record { range = range; reads = h }) c.read_range.ensures.reads
+
+  all : IfOk c.read_range.result (Told old new d c.args.file c.args.at c.args.count)
+  all = told old new d c.args.file c.args.at c.args.count c.read_range.result reads c.read_range.ensures.readable c.read_range.ensures.goes
+
+pub returns-clause-reads : goal.returns-clause-reads
+returns-clause-reads g c = reads g (goal.at.returns-clause-reads g c).After-read_range
+
 pub returns-clause-text : goal.returns-clause-text
 returns-clause-text g c = λ backed.
-    let d = g.B.Backing.disk c.args.backing.now in
-    let old = holding c.args.store.now c.args.self.now in
-    let new = holding c.read_range.new.store c.read_range.new.self in
-    let r = c.read_range.result in
-    let e = c.read_range.ensures in
-    let all = told old new d c.args.file c.args.at c.args.count r (returns-clause-reads g c) e.readable e.goes in
-    IfOk-weaker r (Told old new d c.args.file c.args.at c.args.count) (λ xs. text_of new.store xs ≡ text.labelled (file_in old.cache.files c.args.file).pool (bytes_read old.store d.slots old.cache c.args.file c.args.at c.args.count))
-    (λ xs h. text_read c.args.file c.args.at c.args.count d old new xs c.requires.sound e.sound c.requires.file h.1 h.0.1 h.0.0 backed) all
+    let at = (goal.at.returns-clause-text g c).After-read_range in
+    let now = (old g at).cache in
+    IfOk-weaker c.read_range.result (Told (old g at) (new g at) (d g at) c.args.file c.args.at c.args.count) (λ xs. text_of (new g at).store xs ≡ text.labelled (file_in now.files c.args.file).pool (bytes_read (old g at).store (d g at).slots now c.args.file c.args.at c.args.count))
+    (λ xs h. text_read c.args.file c.args.at c.args.count (d g at) (old g at) (new g at) xs c.requires.sound c.read_range.ensures.sound c.requires.file h.1 h.0.1 h.0.0 backed) (all g at)
 
 pub returns-clause-pool : goal.returns-clause-pool
 returns-clause-pool g c =
-    let d = g.B.Backing.disk c.args.backing.now in
-    let old = holding c.args.store.now c.args.self.now in
-    let new = holding c.read_range.new.store c.read_range.new.self in
-    let r = c.read_range.result in
-    let e = c.read_range.ensures in
-    let all = told old new d c.args.file c.args.at c.args.count r (returns-clause-reads g c) e.readable e.goes in
-    IfOk-weaker r (Told old new d c.args.file c.args.at c.args.count) (AreOf (file_in old.cache.files c.args.file).pool) (λ xs h. pooled_read c.args.file c.args.at c.args.count d old new xs c.requires.sound e.sound h.1 h.0.0) all
+    let at = (goal.at.returns-clause-pool g c).After-read_range in
+    IfOk-weaker c.read_range.result (Told (old g at) (new g at) (d g at) c.args.file c.args.at c.args.count) (AreOf (file_in (old g at).cache.files c.args.file).pool)
+    (λ xs h. pooled_read c.args.file c.args.at c.args.count (d g at) (old g at) (new g at) xs c.requires.sound c.read_range.ensures.sound h.1 h.0.0) (all g at)
 
 pub returns-clause-short : goal.returns-clause-short
 returns-clause-short g c =
-    let d = g.B.Backing.disk c.args.backing.now in
-    let old = holding c.args.store.now c.args.self.now in
-    let new = holding c.read_range.new.store c.read_range.new.self in
-    IfOk-weaker c.read_range.result (ReadsFile c.args.file c.args.at c.args.count d old new) (λ xs. byte_len xs ≤ c.args.count) (λ xs h. long_read c.args.file c.args.at c.args.count d old new xs h) (returns-clause-reads g c)
+    let at = (goal.at.returns-clause-short g c).After-read_range in
+    IfOk-weaker c.read_range.result (ReadsFile c.args.file c.args.at c.args.count (d g at) (old g at) (new g at)) (λ xs. byte_len xs ≤ c.args.count) (λ xs h. long_read c.args.file c.args.at c.args.count (d g at) (old g at) (new g at) xs h) (reads g at)
 
 pub returns-clause-refused : goal.returns-clause-refused
 returns-clause-refused g c =

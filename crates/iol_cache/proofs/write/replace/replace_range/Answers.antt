@@ -1,4 +1,4 @@
-use Rattle.std.proofs.Common.{◌∙◌, ◌+◌, ◌++◌, sym, ap, subst, arith, length, List}
+use Rattle.std.proofs.Common.{◌≡◌, ◌∙◌, ℕ, ◌+◌, ◌++◌, sym, ap, subst, arith, length, List}
 use Rattle.iol_hold.specs.Moves.{Covers, tally}
 use Rattle.iol_hold.specs.Places.{places}
 use Rattle.iol_hold.specs.Stored.{Stored}
@@ -13,6 +13,7 @@ use Rattle.iol_cache.proofs.Extents.Filing.{additive_page}
 use Rattle.iol_cache.proofs.RangeWrites.Replaced.{page-three, some-clean, some-parts, tally-four, unmet-clean}
 use Rattle.iol_cache.proofs.Evictions.Reordered.{reordered_is}
 use Rattle.iol_cache.proofs.Extents.Using.{are_within}
+use Rattle.iol_cache.proofs.write.replace.replace_range.Goals.{After-put_edge}
 use Rattle.iol_cache.proofs.write.replace.replace_range.Goals as goal
 
 pub clear_range-requires-clause-held : goal.clear_range-requires-clause-held
@@ -51,14 +52,20 @@ put_edge-requires-2-clause-gap c = λ some.
 pub put_edge-requires-2-clause-within : goal.put_edge-requires-2-clause-within
 put_edge-requires-2-clause-within c = are_within c.args.put.right.parts _ (c.put_edge.ensures.follows.long ∙ c.clear_range.ensures.follows.long ∙ c.requires.pages) (held_right c.args.store.now (all_parts c.args.extents.now.extents) c.args.put.left.parts c.args.put.right.parts c.args.put.bytes.parts c.requires.held)
 
+-- the clean extents when the part on the left was put in
+with_left : (c : After-put_edge) → (p : ℕ) → at_page p (bufs_of (clean_in c.put_edge.new.extents.extents)) ≡ at_page p (bufs_of (clean_in (put_some (unmet c.args.extents.now.extents c.args.range.from c.args.range.to) c.args.put.left)))
+with_left c p = ap (λ xs. at_page p (bufs_of (clean_in xs))) (c.put_edge.ensures.extents ∙ ap (λ xs. put_some xs c.args.put.left) c.clear_range.ensures.extents)
+
+cleared : (c : After-put_edge) → (p : ℕ) → at_page p (bufs_of (clean_in c.clear_range.new.extents.extents)) ≡ at_page p (bufs_of (clean_in (unmet c.args.extents.now.extents c.args.range.from c.args.range.to)))
+cleared c p = ap (λ xs. at_page p (bufs_of (clean_in xs))) c.clear_range.ensures.extents
+
 pub put_edge-requires-2-clause-few : goal.put_edge-requires-2-clause-few
 put_edge-requires-2-clause-few c =
     let es = c.args.extents.now.extents in
     let others = unmet es c.args.range.from c.args.range.to in
     record {
       each = λ p.
-          let first = ap (λ xs. at_page p (bufs_of (clean_in xs))) c.clear_range.ensures.extents in
-          let second = ap (λ xs. at_page p (bufs_of (clean_in xs))) (c.put_edge.ensures.extents ∙ ap (λ xs. put_some xs c.args.put.left) c.clear_range.ensures.extents) in
+          let at = (goal.at.put_edge-requires-2-clause-few c).After-put_edge in
           omega (
             arith,
             c.requires.few.each p,
@@ -66,8 +73,8 @@ put_edge-requires-2-clause-few c =
             c.clear_range.ensures.follows.each p,
             c.put_edge.ensures.follows.each p,
             unmet-clean (at_page p) (additive_page p) es c.args.range.from c.args.range.to,
-            first,
-            second,
+            cleared at p,
+            with_left at p,
             some-clean (at_page p) (additive_page p) others c.args.put.left,
           );
     }
@@ -88,8 +95,7 @@ put_edge-requires-3-clause-few c =
     let both = put_some others c.args.put.left in
     record {
       each = λ p.
-          let first = ap (λ xs. at_page p (bufs_of (clean_in xs))) c.clear_range.ensures.extents in
-          let second = ap (λ xs. at_page p (bufs_of (clean_in xs))) (c.put_edge.ensures.extents ∙ ap (λ xs. put_some xs c.args.put.left) c.clear_range.ensures.extents) in
+          let at = (goal.at.put_edge-requires-3-clause-few c).After-put_edge in
           let third = ap (λ xs. at_page p (bufs_of (clean_in xs))) (c.put_edge-2.ensures.extents ∙ ap (λ xs. put_some xs c.args.put.right) (c.put_edge.ensures.extents ∙ ap (λ xs. put_some xs c.args.put.left) c.clear_range.ensures.extents)) in
           omega (
             arith,
@@ -99,8 +105,8 @@ put_edge-requires-3-clause-few c =
             c.put_edge.ensures.follows.each p,
             c.put_edge-2.ensures.follows.each p,
             unmet-clean (at_page p) (additive_page p) es c.args.range.from c.args.range.to,
-            first,
-            second,
+            cleared at p,
+            with_left at p,
             third,
             some-clean (at_page p) (additive_page p) others c.args.put.left,
             some-clean (at_page p) (additive_page p) both c.args.put.right,
