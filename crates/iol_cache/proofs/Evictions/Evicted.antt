@@ -13,7 +13,7 @@ use Rattle.iol_extent.specs.Extents.{Extent, ExtentMap, begins_at, without_at}
 use Rattle.iol_evict.specs.Ranking.{Ranking, evicted_at}
 use Rattle.iol_cache.specs.declared.files.CachedFile.{CachedFile}
 use Rattle.iol_cache.specs.Marks.{at_page, Unmarks}
-use Rattle.iol_cache.specs.Cached.{Cached, file_in, order_in, extents_in, parts_in, parts_at, all_parts, clean_in, clean_parts, held, clean_held, lacking, without_extent, with_evicted, AreRanked, AreReady}
+use Rattle.iol_cache.specs.Cached.{Cached, file_in, order_in, extents_in, parts_in, parts_at, all_parts, clean_parts, held, clean_held, lacking, without_extent, with_evicted, AreRanked, AreReady}
 use Rattle.iol_cache.specs.Sound.{IsLaid, IsFiled, IsSound, IsUsable}
 use Rattle.iol_cache.specs.Evicting.{Holding, IsCleanAt, Evicts}
 use Rattle.iol_cache.proofs.Extents.Filing.{file_same, file_other, file_set, order_set, length-with_file, length-with_order, numbered_bounds, numbered_yes, IsAdditive, additive_tally, additive_page, additive_bufs, sum-flat, sum-with_file, sum-without_at, each-without_at}

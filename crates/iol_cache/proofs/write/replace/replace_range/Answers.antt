@@ -22,7 +22,7 @@ clear_range-requires-clause-held c = record { each = λ b. omega (arith, c.requi
 pub put_edge-requires-clause-gap : goal.put_edge-requires-clause-gap
 put_edge-requires-clause-gap c = λ some.
     let l = c.args.put.left in
-    subst (λ (xs : List Extent). IsGap xs l.at (l.at + length (places l.parts))) (sym c.clear_range.ensures.extents) (left_gap c.args.extents.now.extents c.args.range.from c.args.range.to l c.requires.apart c.requires.some c.requires.left some)
+    subst (λ (xs : List Extent). IsGap xs l.at (l.at + length (places l.parts))) (sym c.clear_range.ensures.extents) (left_gap c.args.extents.now.extents c.args.range.from c.args.range.to l c.requires.indexed.apart c.requires.some c.requires.left some)
 
 -- parts that are held beside the extents
 held_left : (s : Stored) (as' ls rs ns : List Slice) → Covers s (bufs_of (as' ++ (ls ++ (rs ++ ns)))) → Covers s (bufs_of ls)
@@ -47,7 +47,7 @@ put_edge-requires-clause-few c =
 pub put_edge-requires-2-clause-gap : goal.put_edge-requires-2-clause-gap
 put_edge-requires-2-clause-gap c = λ some.
     let adds = subst (λ (xs : List Extent). Adds xs c.args.put.left c.put_edge.new.extents.extents) c.clear_range.ensures.extents c.put_edge.ensures.adds in
-    right_gap c.args.extents.now.extents c.put_edge.new.extents.extents c.args.range.from c.args.range.to c.args.put.left c.args.put.right c.requires.apart c.requires.some c.requires.left c.requires.right some adds
+    right_gap c.args.extents.now.extents c.put_edge.new.extents.extents c.args.range.from c.args.range.to c.args.put.left c.args.put.right c.requires.indexed.apart c.requires.some c.requires.left c.requires.right some adds
 
 pub put_edge-requires-2-clause-within : goal.put_edge-requires-2-clause-within
 put_edge-requires-2-clause-within c = are_within c.args.put.right.parts _ (c.put_edge.ensures.follows.long ∙ c.clear_range.ensures.follows.long ∙ c.requires.pages) (held_right c.args.store.now (all_parts c.args.extents.now.extents) c.args.put.left.parts c.args.put.right.parts c.args.put.bytes.parts c.requires.held)
@@ -82,7 +82,7 @@ put_edge-requires-2-clause-few c =
 pub put_edge-requires-3-clause-gap : goal.put_edge-requires-3-clause-gap
 put_edge-requires-3-clause-gap c = λ some.
     let adds = subst (λ (xs : List Extent). Adds xs c.args.put.left c.put_edge.new.extents.extents) c.clear_range.ensures.extents c.put_edge.ensures.adds in
-    let gap = new_gap c.args.extents.now.extents c.put_edge.new.extents.extents c.put_edge-2.new.extents.extents c.args.range.from c.args.range.to c.args.put.left c.args.put.right c.requires.apart c.requires.some c.requires.left c.requires.right adds c.put_edge-2.ensures.adds in
+    let gap = new_gap c.args.extents.now.extents c.put_edge.new.extents.extents c.put_edge-2.new.extents.extents c.args.range.from c.args.range.to c.args.put.left c.args.put.right c.requires.indexed.apart c.requires.some c.requires.left c.requires.right adds c.put_edge-2.ensures.adds in
     subst (λ n. IsGap c.put_edge-2.new.extents.extents n (c.args.put.bytes.at + length (places c.args.put.bytes.parts))) (sym c.requires.begins) (subst (λ n. IsGap c.put_edge-2.new.extents.extents c.args.range.from n) (sym c.requires.ends) gap)
 
 pub put_edge-requires-3-clause-within : goal.put_edge-requires-3-clause-within
@@ -117,7 +117,7 @@ pub returns-clause-adds : goal.returns-clause-adds
 returns-clause-adds c =
     let adds = subst (λ (xs : List Extent). Adds xs c.args.put.left c.put_edge.new.extents.extents) c.clear_range.ensures.extents c.put_edge.ensures.adds in
     replaced c.args.extents.now.extents c.put_edge.new.extents.extents c.put_edge-2.new.extents.extents c.put_edge-3.new.extents.extents c.args.range.from c.args.range.to c.args.put.left c.args.put.right c.args.put.bytes
-    c.requires.apart c.requires.some c.requires.left c.requires.right c.requires.begins c.requires.ends adds c.put_edge-2.ensures.adds c.put_edge-3.ensures.adds
+    c.requires.indexed.apart c.requires.some c.requires.left c.requires.right c.requires.begins c.requires.ends adds c.put_edge-2.ensures.adds c.put_edge-3.ensures.adds
 
 pub returns-clause-moves : goal.returns-clause-moves
 returns-clause-moves c =
