@@ -101,7 +101,8 @@ pub record GivesUp (old new : Holding) : Type 0 where
       → SameFiles old.store old.cache.files new.store new.cache.files slots
   pub keeps : KeepsPlaces old.cache new.cache
 
--- Clean extents of the pool's files were evicted until n pages of the pool were free, or all of them, where there is no room for so many.
+-- Clean extents of the pool's files were evicted until n pages of the pool were free, or all of them, where there is no room for
+-- so many.
 pub record MakesFree (p n : ℕ) (old new : Holding) (has_room : Bool) : Type 0 where
   pub room : IsTrue has_room ↔ HasPages p n old
   pub free : IsTrue has_room → n ≤ length (free_of new.store p)

@@ -36,7 +36,8 @@ pub record CountsBelow (s : Stored) (n : ℕ) : Type 0 where
   pub each : (b : BufId) → count_of s b < n
 
 -- Slices are shared, beside those that were held so far, and handed out with them. Refused, all of them are released.
-pub record SharesOrReleases {A E : Type 0} (so_far : List Slice) (given : A → List Slice) (old new : Stored) (r : Result A E) : Type 0 where
+pub record SharesOrReleases {A E : Type 0} (so_far : List Slice) (given : A → List Slice) (old new : Stored)
+    (r : Result A E) : Type 0 where
   pub shares : IfOk r (λ a. Shares old new (bufs_of so_far) (bufs_of (given a)))
   pub gone : OnErr r (Moves old new (bufs_of so_far) [])
   pub frees : FreesOnly old new

@@ -1,5 +1,5 @@
 //! Extents, one after another.
-ghost use Rattle.std.specs.Prelude.{◌≡◌, ℕ, ◌+◌, ◌-◌, ◌/◌, ◌<◌, ◌≤◌, ◌^◌, [], length, slice_index_or, slice_set, insert, remove, Some, OnOk, OnErr};
+ghost use Rattle.std.specs.Prelude.{◌≡◌, ℕ, ◌+◌, ◌-◌, ◌/◌, ◌<◌, ◌≤◌, ◌^◌, [], length, slice_index_or, slice_set, insert, remove, Some};
 ghost use Rattle.slab.specs.Slab.{ContainsKey, Updates, slab_len};
 ghost use Rattle.iol_extent.specs.Extents.{Extent, as_clean, end_of, IsApart, Reserves};
 ghost use Rattle.iol_extent.specs.Keys.{extent_at};

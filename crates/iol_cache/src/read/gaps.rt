@@ -1,5 +1,5 @@
 //! Gaps that become clean extents.
-ghost use Rattle.std.specs.Prelude.{◌≡◌, ◌+◌, ◌-◌, ◌<◌, ◌≤◌, ◌^◌, [], false, length, take, drop, OnOk, OnErr, IfOk, IfErr, All};
+ghost use Rattle.std.specs.Prelude.{◌≡◌, ◌+◌, ◌-◌, ◌<◌, ◌≤◌, [], false, length, take, drop, OnOk, OnErr, IfOk, IfErr, All};
 ghost use Rattle.iol_core.specs.Meaning.{WantOfRoomOrFault};
 ghost use Rattle.iol_core.specs.Text as text;
 ghost use Rattle.iol_back.specs.Disk.{IfHonest, content};
@@ -31,26 +31,25 @@ fn gap_agg<B: Backing>(
     backing: &mut B,
     file: FileId,
     pool: PoolId,
-    at: u32,
-    n: u32,
+    gap: Span,
 ) -> Result<Agg, Refusal>
-    requires some { 0 < n }
-    requires fits { at + n < 2 ^ 32 }
+    requires some { gap.from < gap.to }
     requires open { (pool_in store.old.pools pool).closed ≡ false }
-    ensures loads { IfOk result (LoadsSlices store.old store.new pool n) }
+    ensures loads { IfOk result (LoadsSlices store.old store.new pool (gap.to - gap.from)) }
     ensures value { let old = B.disk backing.old in IfHonest old (IfOk result (λ a.
-        text_of store.new a ≡
-        text.labelled pool (take n (drop at (content old.slots file))))) }
+        text_of store.new a ≡ text.labelled pool
+        (take (gap.to - gap.from) (drop gap.from (content old.slots file))))) }
     ensures inside { let old = B.disk backing.old in IfHonest old
-        (OnOk result (at + n ≤ length (content old.slots file))) }
-    ensures leaves { LoadsOrKeeps pool n store.old store.new result }
+        (OnOk result (gap.to ≤ length (content old.slots file))) }
+    ensures leaves { LoadsOrKeeps pool (gap.to - gap.from) store.old store.new result }
     ensures disk { Asks 1 (B.disk backing.old) (B.disk backing.new) result }
     ensures late { IfErr result (WantOfRoomOrFault pool file) }
 {
+    let n = gap.to - gap.from;
     let Ok(slices) = Vec::with_capacity(alloc, (n as usize).div_ceil(PAGE_BYTES)) else {
         return Err(Refusal::Memory);
     };
-    let holds = match load(alloc, store, backing, file, pool, at, n) {
+    let holds = match load(alloc, store, backing, file, pool, gap.from, n) {
         Ok(holds) => holds,
         Err(refusal) => return Err(refusal),
     };
@@ -78,15 +77,7 @@ fn fill_gap<B: Backing>(
     ensures disk { Asks 1 (B.disk backing.old) (B.disk backing.new) result }
     ensures late { IfErr result (WantOfRoomOrFault pool file) }
 {
-    let agg = match gap_agg(
-        alloc,
-        store,
-        backing,
-        file,
-        pool,
-        gap.from,
-        gap.to - gap.from,
-    ) {
+    let agg = match gap_agg(alloc, store, backing, file, pool, gap) {
         Ok(agg) => agg,
         Err(refusal) => return Err(refusal),
     };
