@@ -122,6 +122,9 @@ readable_same s t xs arena pools h = record {
       });
 }
 
+pub readable_on : {s t : Stored} {xs ys : List BufId} (zs : List Slice) → Shares s t xs ys → AllReadable s zs → AllReadable t zs
+readable_on {s = s} {t = t} zs m h = readable_same s t zs m.arena m.pools h
+
 pub settles_shares : {s t : Stored} {xs ys : List BufId} → Shares s t xs ys → AllSettled s → AllSettled t
 settles_shares {s = s} {t = t} m all = all_settled_same s t m.arena m.pools all
 

@@ -12,7 +12,7 @@ use Rattle.iol_hold.specs.declared.slices.Slice.{Slice}
 use Rattle.iol_hold.proofs.Counting.{tally-append}
 use Rattle.iol_cache.specs.Cached.{all_parts}
 use Rattle.iol_cache.specs.Sharing.{IsCovered, places_over}
-use Rattle.iol_cache.proofs.RangeReads.Shared.{all_shared, covered_over, length-places_over, over_join, over_none, over_there, readable_places, readable_same, refused_then}
+use Rattle.iol_cache.proofs.RangeReads.Shared.{all_shared, covered_over, length-places_over, over_join, over_none, over_there, readable_places, readable_on, refused_then}
 use Rattle.iol_cache.proofs.share.share_over.Goals as goal
 
 -- so many bytes so far
@@ -54,9 +54,7 @@ share_next-requires-clause-small c =
     omega (arith, n, c.requires.small, c.loop-at.invariant.begun, c.loop-at.invariant.within)
 
 pub share_next-requires-clause-readable : goal.share_next-requires-clause-readable
-share_next-requires-clause-readable c =
-    let m = c.loop-at.invariant.shares in
-    readable_same c.args.store.now c.loop-at.store (all_parts c.args.extents.now.extents) m.arena m.pools c.requires.readable
+share_next-requires-clause-readable c = readable_on (all_parts c.args.extents.now.extents) c.loop-at.invariant.shares c.requires.readable
 
 pub share_next-requires-clause-own_readable : goal.share_next-requires-clause-own_readable
 share_next-requires-clause-own_readable c =
@@ -65,7 +63,7 @@ share_next-requires-clause-own_readable c =
     let es = c.args.extents.now.extents in
     let covered : IsCovered es c.args.from c.loop-at.at = record { each = λ i lo hi. c.requires.covered.each i lo (omega (arith, hi, v.within)) } in
     let there = readable_places {s = s} c.loop-at.shared c.args.so_far (places_over es c.args.from c.loop-at.at) v.places c.requires.own_readable (over_there es c.args.from c.loop-at.at covered c.requires.readable) in
-    readable_same s c.loop-at.store c.loop-at.shared v.shares.arena v.shares.pools there
+    readable_on c.loop-at.shared v.shares there
 
 pub returns-in-Err-clause-shared : goal.returns-in-Err-clause-shared
 returns-in-Err-clause-shared c = refused_then c.loop-at.invariant.shares c.in-Err.ensures.shared

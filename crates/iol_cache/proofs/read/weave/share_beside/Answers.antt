@@ -1,4 +1,4 @@
-use Rattle.std.proofs.Common.{◌∙◌, ◌+◌, ◌++◌, ap, sym, subst, get_or, length, drop, arith, append_assoc, length-append}
+use Rattle.std.proofs.Common.{ap, subst, get_or, length, arith, length-append}
 use Rattle.std.proofs.lemmas.List.{drop_more}
 use Rattle.iol_agg.proofs.Poured.{shares_then}
 use Rattle.iol_extent.specs.Spans.{AreInOrder}
@@ -6,8 +6,9 @@ use Rattle.iol_extent.specs.declared.spans.Span.{Span}
 use Rattle.iol_hold.specs.Places.{places}
 use Rattle.iol_cache.specs.Cached.{all_parts}
 use Rattle.iol_cache.specs.Sharing.{places_over}
-use Rattle.iol_cache.specs.Weaving.{IsCoveredBeside, places_beside}
-use Rattle.iol_cache.proofs.RangeReads.Shared.{all_shared, held_beside, length-places_over, over_there, readable_places, readable_same, refused_then}
+use Rattle.iol_cache.specs.Weaving.{IsCoveredBeside}
+use Rattle.iol_cache.proofs.RangeReads.Shared.{all_shared, held_beside, length-places_over, over_there, readable_places, readable_on, refused_then}
+use Rattle.iol_cache.proofs.RangeReads.Woven.{beside_more}
 use Rattle.iol_cache.proofs.read.weave.share_beside.Goals as goal
 
 abbrev no_span : Span
@@ -20,24 +21,16 @@ pub share_over-requires-2-clause-held : goal.share_over-requires-2-clause-held
 share_over-requires-2-clause-held c = held_beside c.requires.held c.loop-gap.invariant.shares
 
 pub share_over-requires-clause-readable : goal.share_over-requires-clause-readable
-share_over-requires-clause-readable c =
-    let m = c.loop-gap.invariant.shares in
-    readable_same c.args.store.now c.loop-gap.store (all_parts c.args.extents.now.extents) m.arena m.pools c.requires.readable
+share_over-requires-clause-readable c = readable_on (all_parts c.args.extents.now.extents) c.loop-gap.invariant.shares c.requires.readable
 
 pub share_over-requires-clause-own_readable : goal.share_over-requires-clause-own_readable
-share_over-requires-clause-own_readable c =
-    let v = c.loop-gap.invariant in
-    readable_same c.args.store.now c.loop-gap.store c.loop-gap.shared v.shares.arena v.shares.pools v.readable
+share_over-requires-clause-own_readable c = readable_on c.loop-gap.shared c.loop-gap.invariant.shares c.loop-gap.invariant.readable
 
 pub share_over-requires-2-clause-readable : goal.share_over-requires-2-clause-readable
-share_over-requires-2-clause-readable c =
-    let m = c.loop-gap.invariant.shares in
-    readable_same c.args.store.now c.loop-gap.store (all_parts c.args.extents.now.extents) m.arena m.pools c.requires.readable
+share_over-requires-2-clause-readable c = readable_on (all_parts c.args.extents.now.extents) c.loop-gap.invariant.shares c.requires.readable
 
 pub share_over-requires-2-clause-own_readable : goal.share_over-requires-2-clause-own_readable
-share_over-requires-2-clause-own_readable c =
-    let v = c.loop-gap.invariant in
-    readable_same c.args.store.now c.loop-gap.store c.loop-gap.shared v.shares.arena v.shares.pools v.readable
+share_over-requires-2-clause-own_readable c = readable_on c.loop-gap.shared c.loop-gap.invariant.shares c.loop-gap.invariant.readable
 
 pub returns-in-Err-clause-shared : goal.returns-in-Err-clause-shared
 returns-in-Err-clause-shared c = refused_then c.loop-gap.invariant.shares c.in-Err.ensures.shared
@@ -46,23 +39,19 @@ pub loop-gap-preserved : goal.loop-gap-preserved
 loop-gap-preserved c =
     let v = c.loop-gap.invariant in
     let es = c.args.extents.now.extents in
-    let gaps = c.args.gaps.now in
-    let i = c.loop-gap.gap-index in
-    let g = get_or gaps i no_span in
-    let rest = drop (i + 1) gaps in
-    let at = c.loop-gap.at in
-    let to = c.args.to in
-    let more = drop_more gaps i no_span c.loop-gap-test.true in
-    let order = subst (AreInOrder at to) more v.in_order in
-    let covered = subst (IsCoveredBeside es at to) more v.covered in
+    let g = get_or c.args.gaps.now c.loop-gap.gap-index no_span in
+    let more = drop_more c.args.gaps.now c.loop-gap.gap-index no_span c.loop-gap-test.true in
+    let order = subst (AreInOrder c.loop-gap.at c.args.to) more v.in_order in
+    let covered = subst (IsCoveredBeside es c.loop-gap.at c.args.to) more v.covered in
     let is = c.in-Ok.ensures.places in
+    let over = places_over es c.loop-gap.at g.from in
     record {
-      places = ap (λ l. l ++ places_beside es g.to to rest) is ∙ append_assoc (places c.loop-gap.shared) (places_over es at g.from) (places_beside es g.to to rest) ∙ sym (ap (λ l. places c.loop-gap.shared ++ places_beside es at to l) more) ∙ v.places;
+      places = beside_more es (places c.loop-gap.shared) (places c.in-Ok.more) c.loop-gap.at c.args.to more is v.places;
       shares = shares_then v.shares c.in-Ok.ensures.shared.shares;
       in_order = order.2;
       covered = covered.1;
-      few = omega (arith, ap length is, length-append (places c.loop-gap.shared) (places_over es at g.from), length-places_over es at g.from, v.few, order.0, order.1);
-      readable = readable_places c.in-Ok.more c.loop-gap.shared (places_over es at g.from) is v.readable (over_there es at g.from covered.0 c.requires.readable);
+      few = omega (arith, ap length is, length-append (places c.loop-gap.shared) over, length-places_over es c.loop-gap.at g.from, v.few, order.0, order.1);
+      readable = readable_places c.in-Ok.more c.loop-gap.shared over is v.readable (over_there es c.loop-gap.at g.from covered.0 c.requires.readable);
     }
 
 pub returns-in-Err-share_over-clause-shared : goal.returns-in-Err-share_over-clause-shared

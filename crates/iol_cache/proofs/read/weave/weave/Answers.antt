@@ -9,7 +9,7 @@ use Rattle.iol_hold.specs.Places.{Place, byte_len, places}
 use Rattle.iol_cache.specs.Cached.{all_parts}
 use Rattle.iol_cache.specs.Sharing.{IsCoveredSpan, places_over}
 use Rattle.iol_cache.specs.Weaving.{len_beside, woven}
-use Rattle.iol_cache.proofs.RangeReads.Shared.{all_shared, held_beside, length-places_over, over_there, readable_places, readable_same, refused_then}
+use Rattle.iol_cache.proofs.RangeReads.Shared.{all_shared, held_beside, length-places_over, over_there, readable_places, readable_on, refused_then}
 use Rattle.iol_cache.proofs.RangeReads.Woven.{beside_few, shared_covers, still_covers, shared_few, readable_more}
 use Rattle.iol_cache.proofs.read.weave.weave.Goals as goal
 
@@ -28,13 +28,13 @@ pub add_part-requires-clause-held : goal.add_part-requires-clause-held
 add_part-requires-clause-held c = still_covers c.requires.beside_held c.loop-gap.invariant.shares
 
 pub add_part-requires-clause-readable : goal.add_part-requires-clause-readable
-add_part-requires-clause-readable c = readable_same c.args.store.now c.loop-gap.store c.args.beside.now c.loop-gap.invariant.shares.arena c.loop-gap.invariant.shares.pools c.requires.beside_readable
+add_part-requires-clause-readable c = readable_on c.args.beside.now c.loop-gap.invariant.shares c.requires.beside_readable
 
 pub add_part-requires-clause-own : goal.add_part-requires-clause-own
 add_part-requires-clause-own c = shared_covers c.loop-gap.invariant.shares
 
 pub add_part-requires-clause-own_readable : goal.add_part-requires-clause-own_readable
-add_part-requires-clause-own_readable c = readable_same c.args.store.now c.loop-gap.store c.loop-gap.shared c.loop-gap.invariant.shares.arena c.loop-gap.invariant.shares.pools c.loop-gap.invariant.readable
+add_part-requires-clause-own_readable c = readable_on c.loop-gap.shared c.loop-gap.invariant.shares c.loop-gap.invariant.readable
 
 at_few : (low at to : ℕ) (gs : List Span) → AreInOrder at to gs → to < 4294967296 → low ≤ at → low < 4294967296
 at_few low at to [] order small le = omega (arith, order, small, le)
@@ -52,13 +52,13 @@ share_over-requires-clause-held c = held_beside c.requires.held (shares_then c.l
 pub share_over-requires-clause-readable : goal.share_over-requires-clause-readable
 share_over-requires-clause-readable c =
     let m = shares_then c.loop-gap.invariant.shares c.in-Ok.ensures.shared.shares in
-    readable_same c.args.store.now c.add_part.new.store (all_parts c.args.extents.now.extents) m.arena m.pools c.requires.readable
+    readable_on (all_parts c.args.extents.now.extents) m c.requires.readable
 
 pub share_over-requires-clause-own_readable : goal.share_over-requires-clause-own_readable
 share_over-requires-clause-own_readable c =
     let v = c.loop-gap.invariant in
     let m = shares_then v.shares c.in-Ok.ensures.shared.shares in
-    readable_same c.args.store.now c.add_part.new.store c.in-Ok.more m.arena m.pools (readable_more c.in-Ok.more c.loop-gap.shared c.args.beside.now _ _ c.in-Ok.ensures.places v.readable c.requires.beside_readable)
+    readable_on c.in-Ok.more m (readable_more c.in-Ok.more c.loop-gap.shared c.args.beside.now _ _ c.in-Ok.ensures.places v.readable c.requires.beside_readable)
 
 pub returns-in-Err-share_over-clause-shared : goal.returns-in-Err-share_over-clause-shared
 returns-in-Err-share_over-clause-shared c = refused_then (shares_then c.loop-gap.invariant.shares c.in-Ok.ensures.shared.shares) c.in-Err-share_over.ensures.shared
@@ -113,13 +113,13 @@ pub add_part-requires-2-clause-held : goal.add_part-requires-2-clause-held
 add_part-requires-2-clause-held c = still_covers c.requires.beside_held c.loop-gap.invariant.shares
 
 pub add_part-requires-2-clause-readable : goal.add_part-requires-2-clause-readable
-add_part-requires-2-clause-readable c = readable_same c.args.store.now c.loop-gap.store c.args.beside.now c.loop-gap.invariant.shares.arena c.loop-gap.invariant.shares.pools c.requires.beside_readable
+add_part-requires-2-clause-readable c = readable_on c.args.beside.now c.loop-gap.invariant.shares c.requires.beside_readable
 
 pub add_part-requires-2-clause-own : goal.add_part-requires-2-clause-own
 add_part-requires-2-clause-own c = shared_covers c.loop-gap.invariant.shares
 
 pub add_part-requires-2-clause-own_readable : goal.add_part-requires-2-clause-own_readable
-add_part-requires-2-clause-own_readable c = readable_same c.args.store.now c.loop-gap.store c.loop-gap.shared c.loop-gap.invariant.shares.arena c.loop-gap.invariant.shares.pools c.loop-gap.invariant.readable
+add_part-requires-2-clause-own_readable c = readable_on c.loop-gap.shared c.loop-gap.invariant.shares c.loop-gap.invariant.readable
 
 pub add_part-requires-2-clause-few : goal.add_part-requires-2-clause-few
 add_part-requires-2-clause-few c = (let t = c.ranges.to.fits in shared_few c.loop-gap.shared c.loop-gap.invariant.shares (at_few (byte_len c.loop-gap.shared) c.loop-gap.at c.args.to _ c.loop-gap.invariant.in_order t c.loop-gap.invariant.few) c.requires.few)

@@ -1,4 +1,4 @@
-use Rattle.std.proofs.Common.{◌≡◌, ◌∙◌, ℕ, ◌+◌, ◌++◌, sym, ap, subst, arith, length, List}
+use Rattle.std.proofs.Common.{◌≡◌, ◌∙◌, ℕ, ◌+◌, ◌++◌, sym, ap, subst, arith, length, get_or, List}
 use Rattle.iol_hold.specs.Moves.{Covers, tally}
 use Rattle.iol_hold.specs.Places.{places}
 use Rattle.iol_hold.specs.Stored.{Stored}
@@ -56,28 +56,15 @@ put_edge-requires-2-clause-within c = are_within c.args.put.right.parts _ (c.put
 with_left : (c : After-put_edge) → (p : ℕ) → at_page p (bufs_of (clean_in c.put_edge.new.extents.extents)) ≡ at_page p (bufs_of (clean_in (put_some (unmet c.args.extents.now.extents c.args.range.from c.args.range.to) c.args.put.left)))
 with_left c p = ap (λ xs. at_page p (bufs_of (clean_in xs))) (c.put_edge.ensures.extents ∙ ap (λ xs. put_some xs c.args.put.left) c.clear_range.ensures.extents)
 
-cleared : (c : After-put_edge) → (p : ℕ) → at_page p (bufs_of (clean_in c.clear_range.new.extents.extents)) ≡ at_page p (bufs_of (clean_in (unmet c.args.extents.now.extents c.args.range.from c.args.range.to)))
-cleared c p = ap (λ xs. at_page p (bufs_of (clean_in xs))) c.clear_range.ensures.extents
+-- and the marks
+marked : (c : After-put_edge) → (p : ℕ) → get_or c.put_edge.new.marks p 0 + at_page p (bufs_of (clean_in c.args.extents.now.extents)) ≡ get_or c.args.marks.now p 0 + at_page p (bufs_of (clean_in (put_some (unmet c.args.extents.now.extents c.args.range.from c.args.range.to) c.args.put.left)))
+marked c p = omega (arith, c.clear_range.ensures.follows.each p, c.put_edge.ensures.follows.each p, with_left c p)
 
 pub put_edge-requires-2-clause-few : goal.put_edge-requires-2-clause-few
 put_edge-requires-2-clause-few c =
     let es = c.args.extents.now.extents in
-    let others = unmet es c.args.range.from c.args.range.to in
-    record {
-      each = λ p.
-          let at = (goal.at.put_edge-requires-2-clause-few c).After-put_edge in
-          omega (
-            arith,
-            c.requires.few.each p,
-            page-three p c.args.put.left.parts c.args.put.right.parts c.args.put.bytes.parts,
-            c.clear_range.ensures.follows.each p,
-            c.put_edge.ensures.follows.each p,
-            unmet-clean (at_page p) (additive_page p) es c.args.range.from c.args.range.to,
-            cleared at p,
-            with_left at p,
-            some-clean (at_page p) (additive_page p) others c.args.put.left,
-          );
-    }
+    let put = c.args.put in
+    record { each = λ p. omega (arith, c.requires.few.each p, page-three p put.left.parts put.right.parts put.bytes.parts, marked (goal.at.put_edge-requires-2-clause-few c).After-put_edge p, unmet-clean (at_page p) (additive_page p) es c.args.range.from c.args.range.to, some-clean (at_page p) (additive_page p) (unmet es c.args.range.from c.args.range.to) put.left) }
 
 pub put_edge-requires-3-clause-gap : goal.put_edge-requires-3-clause-gap
 put_edge-requires-3-clause-gap c = λ some.
@@ -101,11 +88,9 @@ put_edge-requires-3-clause-few c =
             arith,
             c.requires.few.each p,
             page-three p c.args.put.left.parts c.args.put.right.parts c.args.put.bytes.parts,
-            c.clear_range.ensures.follows.each p,
-            c.put_edge.ensures.follows.each p,
+            marked at p,
             c.put_edge-2.ensures.follows.each p,
             unmet-clean (at_page p) (additive_page p) es c.args.range.from c.args.range.to,
-            cleared at p,
             with_left at p,
             third,
             some-clean (at_page p) (additive_page p) others c.args.put.left,
