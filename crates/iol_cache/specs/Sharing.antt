@@ -2,14 +2,15 @@
 use Rattle.std.specs.Prelude.{ℕ, ◌-◌, ◌<◌, ◌≤◌, List, [], map, Option, Some, None, IsSome, Result, IfOk, OnErr}
 use Rattle.std.specs.List.{range_with_len}
 use Rattle.iol_core.specs.declared.numbers.BufId.{BufId}
-use Rattle.iol_extent.specs.Extents.{Cell, Extent, cover, no_place}
+use Rattle.iol_extent.specs.Extents.{Cell, Extent, IsApart, cover, no_place}
 use Rattle.iol_extent.specs.declared.spans.Span.{Span}
-use Rattle.iol_hold.specs.Moves.{Moves, SameLists, Shares}
+use Rattle.iol_hold.specs.Moves.{Covers, Moves, SameLists, Shares}
 use Rattle.iol_hold.specs.Places.{Place}
 use Rattle.iol_hold.specs.Releases.{FreesOnly}
 use Rattle.iol_hold.specs.Stored.{AllSettled, Stored, count_of}
-use Rattle.iol_hold.specs.Texts.{bufs_of}
+use Rattle.iol_hold.specs.Texts.{AllReadable, bufs_of}
 use Rattle.iol_hold.specs.declared.slices.Slice.{Slice}
+use Rattle.iol_cache.specs.Cached.{all_parts}
 
 -- each byte of the range lies under an extent
 pub record IsCovered (es : List Extent) (from to : ℕ) : Type 0 where
@@ -30,6 +31,12 @@ places_over es from to = map (place_over es) (range_with_len from (to - from))
 -- each of these ranges lies under extents
 abbrev pub IsCoveredSpan : List Extent → Span → Type 0
 IsCoveredSpan es s = IsCovered es s.from s.to
+
+-- these extents stand apart, their slices are held, and their bytes can be read
+pub record AreHeld (s : Stored) (es : List Extent) : Type 0 where
+  pub apart : IsApart 0 es
+  pub held : Covers s (bufs_of (all_parts es))
+  pub readable : AllReadable s (all_parts es)
 
 -- each buffer is held fewer than n times
 pub record CountsBelow (s : Stored) (n : ℕ) : Type 0 where

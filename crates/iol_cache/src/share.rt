@@ -1,7 +1,7 @@
 //! Bytes of a file, shared from the extents over them.
 ghost use Rattle.std.specs.Prelude.{◌≡◌, ◌+◌, ◌-◌, ◌<◌, ◌≤◌, ◌^◌, ◌++◌, IsSome, IfOk};
 ghost use Rattle.iol_cache.specs.Cached.{all_parts};
-ghost use Rattle.iol_cache.specs.Sharing.{CountsBelow, IsCovered, SharesOrReleases, places_over};
+ghost use Rattle.iol_cache.specs.Sharing.{AreHeld, CountsBelow, IsCovered, SharesOrReleases, places_over};
 ghost use Rattle.iol_extent.specs.Extents.{IsApart, extent_over};
 ghost use Rattle.iol_core.specs.declared.numbers.BufId.{BufId};
 ghost use Rattle.iol_hold.specs.Moves.{Covers, tally};
@@ -22,12 +22,10 @@ fn share_next(
     at: u32,
     to: u32,
 ) -> Result<(Agg, u32), AllocError>
+    requires there { AreHeld store.old extents.now.extents }
     requires before { at < to }
-    requires apart { IsApart 0 extents.now.extents }
     requires covered { IsSome (extent_over extents.now.extents at) }
-    requires held { Covers store.old (bufs_of (all_parts extents.now.extents)) }
     requires own { Covers store.old (bufs_of so_far) }
-    requires readable { AllReadable store.old (all_parts extents.now.extents) }
     requires own_readable { AllReadable store.old so_far }
     requires few { CountsBelow store.old (2 ^ 62 + 2 ^ 32) }
     requires small { byte_len so_far + (to - at) < 2 ^ 32 }

@@ -10,9 +10,8 @@ ghost use Rattle.iol_extent.specs.Spans.{AreInOrder, IsGapSpan};
 ghost use Rattle.iol_cache.specs.Gaps.{gap_pages};
 ghost use Rattle.iol_cache.specs.Loading.{Asks, PlacesOrReleases};
 ghost use Rattle.iol_cache.specs.Reading.{FillsRange};
-ghost use Rattle.iol_cache.specs.Sharing.{CountsBelow};
+ghost use Rattle.iol_cache.specs.Sharing.{AreHeld, CountsBelow};
 ghost use Rattle.iol_cache.specs.Weaving.{len_beside};
-ghost use Rattle.iol_cache.specs.Cached.{all_parts};
 
 use crate::files::{CachedFile, FilePart};
 use crate::read::gaps::{fill_gaps, take_back};
@@ -36,15 +35,13 @@ pub(crate) fn fill_range<B: Backing>(
     beside: &Agg,
     gaps: &[Span],
 ) -> Result<Agg, Refusal>
+    requires there { AreHeld store.old cached.old.extents.extents }
     requires ordered { part.now.from ≤ part.now.to }
     requires end { part.now.to ≤ MAX_FILE_BYTES }
-    requires apart { IsApart 0 cached.old.extents.extents }
     requires order { AreInOrder part.now.from part.now.to gaps.now }
     requires gaps { All (IsGapSpan cached.old.extents.extents) gaps.now }
     requires room { length gaps.now ≤ cached.old.extents.room }
     requires open { (pool_in store.old.pools cached.old.pool).closed ≡ false }
-    requires held { Covers store.old (bufs_of (all_parts cached.old.extents.extents)) }
-    requires readable { AllReadable store.old (all_parts cached.old.extents.extents) }
     requires beside_len { byte_len beside.now ≡ len_beside part.now.from part.now.to gaps.now }
     requires beside_held { Covers store.old (bufs_of beside.now) }
     requires beside_readable { AllReadable store.old beside.now }

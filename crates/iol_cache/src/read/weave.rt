@@ -3,10 +3,8 @@ ghost use Rattle.std.specs.Prelude.{◌≡◌, ◌+◌, ◌-◌, ◌<◌, ◌≤
 ghost use Rattle.iol_hold.specs.Moves.{Covers};
 ghost use Rattle.iol_hold.specs.Places.{places, byte_len};
 ghost use Rattle.iol_hold.specs.Texts.{bufs_of, AllReadable};
-ghost use Rattle.iol_extent.specs.Extents.{IsApart};
 ghost use Rattle.iol_extent.specs.Spans.{AreInOrder};
-ghost use Rattle.iol_cache.specs.Cached.{all_parts};
-ghost use Rattle.iol_cache.specs.Sharing.{CountsBelow, IsCoveredSpan, SharesOrReleases};
+ghost use Rattle.iol_cache.specs.Sharing.{AreHeld, CountsBelow, IsCoveredSpan, SharesOrReleases};
 ghost use Rattle.iol_cache.specs.Weaving.{IsCoveredBeside, len_beside, places_beside, woven};
 
 use crate::share::share_over;
@@ -25,11 +23,9 @@ pub(crate) fn share_beside(
     from: u32,
     to: u32,
 ) -> Result<Agg, AllocError>
-    requires apart { IsApart 0 extents.now.extents }
+    requires there { AreHeld store.old extents.now.extents }
     requires in_order { AreInOrder from to gaps.now }
     requires covered { IsCoveredBeside extents.now.extents from to gaps.now }
-    requires held { Covers store.old (bufs_of (all_parts extents.now.extents)) }
-    requires readable { AllReadable store.old (all_parts extents.now.extents) }
     requires few { CountsBelow store.old (2 ^ 62) }
     ensures places { IfOk result (λ a. places a ≡ places_beside extents.now.extents from to gaps.now) }
     ensures shared { SharesOrReleases [] (λ a. a) store.old store.new result }
@@ -89,11 +85,9 @@ pub(crate) fn weave(
     from: u32,
     to: u32,
 ) -> Result<Agg, AllocError>
-    requires apart { IsApart 0 extents.now.extents }
+    requires there { AreHeld store.old extents.now.extents }
     requires in_order { AreInOrder from to gaps.now }
     requires covered { All (IsCoveredSpan extents.now.extents) gaps.now }
-    requires held { Covers store.old (bufs_of (all_parts extents.now.extents)) }
-    requires readable { AllReadable store.old (all_parts extents.now.extents) }
     requires beside_len { byte_len beside.now ≡ len_beside from to gaps.now }
     requires beside_held { Covers store.old (bufs_of beside.now) }
     requires beside_readable { AllReadable store.old beside.now }

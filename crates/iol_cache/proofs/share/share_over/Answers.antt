@@ -33,10 +33,15 @@ loop-at-init c = record {
 pub share_next-requires-clause-covered : goal.share_next-requires-clause-covered
 share_next-requires-clause-covered c = covered_over c.args.extents.now.extents c.loop-at.at (c.requires.covered.each c.loop-at.at c.loop-at.invariant.begun c.loop-at-test.true)
 
-pub share_next-requires-clause-held : goal.share_next-requires-clause-held
-share_next-requires-clause-held c =
-    let all = bufs_of (all_parts c.args.extents.now.extents) in
-    record { each = λ b. omega (arith, c.requires.held.each b, tally-append b (bufs_of c.args.so_far) all, c.loop-at.invariant.shares.counts.each b) }
+pub share_next-requires-clause-there : goal.share_next-requires-clause-there
+share_next-requires-clause-there c =
+    let es = c.args.extents.now.extents in
+    let m = c.loop-at.invariant.shares in
+    record {
+      apart = c.requires.apart;
+      held = record { each = λ b. omega (arith, c.requires.held.each b, tally-append b (bufs_of c.args.so_far) (bufs_of (all_parts es)), m.counts.each b) };
+      readable = readable_on (all_parts es) m c.requires.readable;
+    }
 
 pub share_next-requires-clause-own : goal.share_next-requires-clause-own
 share_next-requires-clause-own c =
@@ -52,9 +57,6 @@ pub share_next-requires-clause-small : goal.share_next-requires-clause-small
 share_next-requires-clause-small c =
     let n = long c.loop-at.shared c.args.so_far c.args.extents.now.extents c.args.from c.loop-at.at c.loop-at.invariant.places in
     omega (arith, n, c.requires.small, c.loop-at.invariant.begun, c.loop-at.invariant.within)
-
-pub share_next-requires-clause-readable : goal.share_next-requires-clause-readable
-share_next-requires-clause-readable c = readable_on (all_parts c.args.extents.now.extents) c.loop-at.invariant.shares c.requires.readable
 
 pub share_next-requires-clause-own_readable : goal.share_next-requires-clause-own_readable
 share_next-requires-clause-own_readable c =

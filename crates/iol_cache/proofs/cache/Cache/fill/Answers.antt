@@ -2,10 +2,9 @@ use Rattle.std.proofs.Common.{◌≡◌, ◌∙◌, ℕ, ◌<◌, ◌^◌, List,
 use Rattle.std.specs.List.{All}
 use Rattle.iol_core.specs.Meaning.{WantOfRoomOrFault}
 use Rattle.iol_pool.specs.Pools.{pool_in}
-use Rattle.iol_hold.specs.Moves.{Covers}
 use Rattle.iol_hold.specs.Places.{Place, places}
 use Rattle.iol_hold.specs.Stored.{Stored}
-use Rattle.iol_hold.specs.Texts.{bufs_of, AllReadable}
+use Rattle.iol_hold.specs.Texts.{bufs_of}
 use Rattle.iol_extent.specs.Extents.{Extent, ExtentMap, IsApart}
 use Rattle.iol_extent.specs.Spans.{AreInOrder, IsGapSpan}
 use Rattle.iol_extent.specs.declared.spans.Span.{Span}
@@ -17,7 +16,7 @@ use Rattle.iol_cache.specs.Marks.{HasMarksLeft, Marks, at_page}
 use Rattle.iol_cache.specs.Cached.{Cached, file_in, with_file, extents_in, order_in, with_order, all_parts}
 use Rattle.iol_cache.specs.Cache.{cached_of, holding}
 use Rattle.iol_cache.specs.Reading.{FillsRange, AllBeginAt, AllWithin, AreAbsent, all_entered, parts_of_spans}
-use Rattle.iol_cache.specs.Sharing.{CountsBelow}
+use Rattle.iol_cache.specs.Sharing.{AreHeld, CountsBelow}
 use Rattle.iol_cache.specs.Sound.{IsSound}
 use Rattle.iol_cache.proofs.Extents.Filing.{numbered_bounds}
 use Rattle.iol_cache.proofs.Extents.Finding.{file_back, file_here, file_put, order_here, order_put, pool_bounds}
@@ -25,7 +24,7 @@ use Rattle.iol_cache.proofs.Extents.Using.{covers_file}
 use Rattle.iol_cache.proofs.RangeReads.Undone.{none_gaps}
 use Rattle.iol_cache.proofs.RangeReads.Filled.{leaves_as, order_wide}
 use Rattle.iol_cache.proofs.RangeReads.Putting.{begins_made, zip_begins, absent_gaps}
-use Rattle.iol_cache.proofs.RangeReads.Ranged.{laid_readable, range_held, made_len}
+use Rattle.iol_cache.proofs.RangeReads.Ranged.{file_held, made_len, range_held}
 use Rattle.iol_cache.proofs.Evictions.Roomy.{ranks_file, same_room, sound_same}
 use Rattle.iol_cache.proofs.Extents.Stepping.{sound_to, all_within, page_len, mark_few}
 use Rattle.iol_cache.proofs.RangeReads.Completed.{sound_filled}
@@ -54,9 +53,8 @@ all_made {s} {t} {c} {f} {from} {to} {m} {beside} {gs} {disk} {xs} sound order a
       absent = absent_gaps (order_in c.orders pool) f (extents_in c.files f) from to gs (ranks_file s c f sound).each none;
     }
 
-pub fill_range-requires-clause-apart : goal.fill_range-requires-clause-apart
-fill_range-requires-clause-apart g c =
-    subst (λ (y : CachedFile). IsApart 0 y.extents.extents) (sym (file_here _ c.number.ensures c.index_mut.ensures.value c.requires.range.file)) (c.requires.sound.files c.args.part.now.file).apart
+pub fill_range-requires-clause-there : goal.fill_range-requires-clause-there
+fill_range-requires-clause-there g c = subst (λ (y : CachedFile). AreHeld c.args.store.now y.extents.extents) (sym (file_here _ c.number.ensures c.index_mut.ensures.value c.requires.range.file)) (file_held c.args.part.now.file c.requires.sound)
 
 pub fill_range-requires-clause-gaps : goal.fill_range-requires-clause-gaps
 fill_range-requires-clause-gaps g c =
@@ -68,14 +66,6 @@ fill_range-requires-clause-room g c = omega (arith, c.requires.range.room, ap (�
 pub fill_range-requires-clause-open : goal.fill_range-requires-clause-open
 fill_range-requires-clause-open g c =
     ap (λ (y : CachedFile). (pool_in c.args.store.now.pools y.pool).closed) (file_here _ c.number.ensures c.index_mut.ensures.value c.requires.range.file) ∙ (c.requires.sound.opened c.args.part.now.file c.requires.range.file).is_open
-
-pub fill_range-requires-clause-held : goal.fill_range-requires-clause-held
-fill_range-requires-clause-held g c =
-    subst (λ (y : CachedFile). Covers c.args.store.now (bufs_of (all_parts y.extents.extents))) (sym (file_here _ c.number.ensures c.index_mut.ensures.value c.requires.range.file)) (covers_file c.args.self.now.files.items c.args.part.now.file c.requires.sound.covered)
-
-pub fill_range-requires-clause-readable : goal.fill_range-requires-clause-readable
-fill_range-requires-clause-readable g c =
-    subst (λ (y : CachedFile). AllReadable c.args.store.now (all_parts y.extents.extents)) (sym (file_here _ c.number.ensures c.index_mut.ensures.value c.requires.range.file)) (laid_readable _ _ (c.requires.sound.files c.args.part.now.file).laid)
 
 -- Refused.
 

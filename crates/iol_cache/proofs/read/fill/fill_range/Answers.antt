@@ -20,11 +20,11 @@ fill_gaps-requires-clause-order g c = order_wide c.args.part.now.from c.args.par
 pub weave-requires-clause-covered : goal.weave-requires-clause-covered
 weave-requires-clause-covered g c = range_covered _ _ _ _ _ _ c.args.part.now.from c.args.part.now.to _ _ c.in_default.ensures.fills c.requires.order c.requires.gaps
 
-pub weave-requires-clause-held : goal.weave-requires-clause-held
-weave-requires-clause-held g c = range_held _ _ _ _ _ _ c.args.part.now.from c.args.part.now.to _ _ c.in_default.ensures.fills c.requires.held
-
-pub weave-requires-clause-readable : goal.weave-requires-clause-readable
-weave-requires-clause-readable g c = range_readable _ _ _ _ _ _ _ _ c.in_default.ensures.fills c.requires.readable (range_held _ _ _ _ _ _ c.args.part.now.from c.args.part.now.to _ _ c.in_default.ensures.fills c.requires.held)
+pub weave-requires-clause-there : goal.weave-requires-clause-there
+weave-requires-clause-there g c =
+    let e = c.in_default.ensures in
+    let held = range_held _ _ _ _ _ _ c.args.part.now.from c.args.part.now.to _ _ e.fills c.requires.there.held in
+    record { apart = e.apart; held = held; readable = range_readable _ _ _ _ _ _ _ _ e.fills c.requires.there.readable held }
 
 pub weave-requires-clause-beside_held : goal.weave-requires-clause-beside_held
 weave-requires-clause-beside_held g c = range_still _ _ _ _ _ _ c.args.part.now.from c.args.part.now.to _ _ c.in_default.ensures.fills (bufs_of c.args.beside.now) c.requires.beside_held
@@ -40,7 +40,7 @@ weave-requires-clause-few g c = range_few _ _ _ _ _ _ c.args.part.now.from c.arg
 -- The gaps were read, and there was no memory for the range.
 
 back : (g : Over) (c : In_default-weave g) → CanTakeBack c.fill_gaps.new.store c.args.cached.now.extents.extents c.fill_gaps.new.extents.extents c.args.gaps.now (bufs_of (all_parts c.in_default.ensures.fills.made))
-back g c = can_take_back c.args.part.now.from c.args.part.now.to c.requires.apart c.requires.order c.requires.gaps c.in_default.ensures.fills
+back g c = can_take_back c.args.part.now.from c.args.part.now.to c.requires.there.apart c.requires.order c.requires.gaps c.in_default.ensures.fills
 
 pub take_back-requires-clause-begin : goal.take_back-requires-clause-begin
 take_back-requires-clause-begin g c = (back g (goal.at.take_back-requires-clause-begin g c).In_default-weave).begin
@@ -52,7 +52,7 @@ same : (g : Over) (c : In_default-weave g) → (m : ExtentMap) → m.extents ≡
 same g c m extents room = same_map m c.args.cached.now.extents (extents ∙ (back g c).without) (omega (arith, room, c.in_default.ensures.fills.room))
 
 pub returns-in_default-weave-clause-apart : goal.returns-in_default-weave-clause-apart
-returns-in_default-weave-clause-apart g c = subst (IsApart 0) (sym (c.take_back.ensures.extents ∙ (back g (goal.at.returns-in_default-weave-clause-apart g c).In_default-weave).without)) c.requires.apart
+returns-in_default-weave-clause-apart g c = subst (IsApart 0) (sym (c.take_back.ensures.extents ∙ (back g (goal.at.returns-in_default-weave-clause-apart g c).In_default-weave).without)) c.requires.there.apart
 
 pub returns-in_default-weave-clause-same : goal.returns-in_default-weave-clause-same
 returns-in_default-weave-clause-same g c =

@@ -15,19 +15,19 @@ abbrev no_span : Span
 no_span = record { from = 0; to = 0 }
 
 pub share_over-requires-clause-held : goal.share_over-requires-clause-held
-share_over-requires-clause-held c = held_beside c.requires.held c.loop-gap.invariant.shares
+share_over-requires-clause-held c = held_beside c.requires.there.held c.loop-gap.invariant.shares
 
 pub share_over-requires-2-clause-held : goal.share_over-requires-2-clause-held
-share_over-requires-2-clause-held c = held_beside c.requires.held c.loop-gap.invariant.shares
+share_over-requires-2-clause-held c = held_beside c.requires.there.held c.loop-gap.invariant.shares
 
 pub share_over-requires-clause-readable : goal.share_over-requires-clause-readable
-share_over-requires-clause-readable c = readable_on (all_parts c.args.extents.now.extents) c.loop-gap.invariant.shares c.requires.readable
+share_over-requires-clause-readable c = readable_on (all_parts c.args.extents.now.extents) c.loop-gap.invariant.shares c.requires.there.readable
 
 pub share_over-requires-clause-own_readable : goal.share_over-requires-clause-own_readable
 share_over-requires-clause-own_readable c = readable_on c.loop-gap.shared c.loop-gap.invariant.shares c.loop-gap.invariant.readable
 
 pub share_over-requires-2-clause-readable : goal.share_over-requires-2-clause-readable
-share_over-requires-2-clause-readable c = readable_on (all_parts c.args.extents.now.extents) c.loop-gap.invariant.shares c.requires.readable
+share_over-requires-2-clause-readable c = readable_on (all_parts c.args.extents.now.extents) c.loop-gap.invariant.shares c.requires.there.readable
 
 pub share_over-requires-2-clause-own_readable : goal.share_over-requires-2-clause-own_readable
 share_over-requires-2-clause-own_readable c = readable_on c.loop-gap.shared c.loop-gap.invariant.shares c.loop-gap.invariant.readable
@@ -51,7 +51,7 @@ loop-gap-preserved c =
       in_order = order.2;
       covered = covered.1;
       few = omega (arith, ap length is, length-append (places c.loop-gap.shared) over, length-places_over es c.loop-gap.at g.from, v.few, order.0, order.1);
-      readable = readable_places c.in-Ok.more c.loop-gap.shared over is v.readable (over_there es c.loop-gap.at g.from covered.0 c.requires.readable);
+      readable = readable_places c.in-Ok.more c.loop-gap.shared over is v.readable (over_there es c.loop-gap.at g.from covered.0 c.requires.there.readable);
     }
 
 pub returns-in-Err-share_over-clause-shared : goal.returns-in-Err-share_over-clause-shared

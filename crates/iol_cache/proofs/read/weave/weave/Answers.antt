@@ -47,12 +47,12 @@ pub returns-in-Err-clause-shared : goal.returns-in-Err-clause-shared
 returns-in-Err-clause-shared c = refused_then c.loop-gap.invariant.shares c.in-Err.ensures.shared
 
 pub share_over-requires-clause-held : goal.share_over-requires-clause-held
-share_over-requires-clause-held c = held_beside c.requires.held (shares_then c.loop-gap.invariant.shares c.in-Ok.ensures.shared.shares)
+share_over-requires-clause-held c = held_beside c.requires.there.held (shares_then c.loop-gap.invariant.shares c.in-Ok.ensures.shared.shares)
 
 pub share_over-requires-clause-readable : goal.share_over-requires-clause-readable
 share_over-requires-clause-readable c =
     let m = shares_then c.loop-gap.invariant.shares c.in-Ok.ensures.shared.shares in
-    readable_on (all_parts c.args.extents.now.extents) m c.requires.readable
+    readable_on (all_parts c.args.extents.now.extents) m c.requires.there.readable
 
 pub share_over-requires-clause-own_readable : goal.share_over-requires-clause-own_readable
 share_over-requires-clause-own_readable c =
@@ -94,7 +94,7 @@ loop-gap-preserved c =
       covered = All-tail (IsCoveredSpan es) g rest covered;
       left = omega (arith, v.left, ap (len_beside at to) more);
       few = omega (arith, ap length two, length-append (places c.in-Ok.more) (places_over es g.from g.to), length-places_over es g.from g.to, ap length one, length-append (places c.loop-gap.shared) (slice_range ps used (used + n)), ap length part, length-take n (drop used ps), v.few, order.0, order.1);
-      readable = readable_places c.in-Ok-share_over.more c.in-Ok.more (places_over es g.from g.to) two read (over_there es g.from g.to (All-head (IsCoveredSpan es) g rest covered) c.requires.readable);
+      readable = readable_places c.in-Ok-share_over.more c.in-Ok.more (places_over es g.from g.to) two read (over_there es g.from g.to (All-head (IsCoveredSpan es) g rest covered) c.requires.there.readable);
     }
   where
     regroup : (a b d e : List Place) → ((a ++ b) ++ d) ++ e ≡ a ++ (b ++ d ++ e)
