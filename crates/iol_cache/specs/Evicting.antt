@@ -1,5 +1,5 @@
 -- Clean extents that go, one after another.
-use Rattle.std.specs.Prelude.{◌≡◌, ℕ, zero, suc, ◌+◌, ◌<◌, ◌≤◌, Bool, true, false, List, [], ◌∷◌, length, Option, Some, None}
+use Rattle.std.specs.Prelude.{◌≡◌, ◌↔◌, ℕ, zero, suc, ◌+◌, ◌<◌, ◌≤◌, Bool, true, false, List, [], ◌∷◌, length, Option, Some, None, IsTrue}
 use Rattle.std.specs.List.{list_any}
 use Rattle.iol_core.specs.declared.numbers.BufId.{BufId}
 use Rattle.iol_hold.specs.Stored.{Stored, AllSettled, count_of}
@@ -100,3 +100,11 @@ pub record GivesUp (old new : Holding) : Type 0 where
   pub files : (slots : List (List ℕ)) → Mirrors old.store slots old.cache.files
       → SameFiles old.store old.cache.files new.store new.cache.files slots
   pub keeps : KeepsPlaces old.cache new.cache
+
+-- Clean extents of the pool's files were evicted until n pages of the pool were free, or all of them, where there is no room for
+-- so many.
+pub record MakesFree (p n : ℕ) (old new : Holding) (has_room : Bool) : Type 0 where
+  pub room : IsTrue has_room ↔ HasPages p n old
+  pub free : IsTrue has_room → n ≤ length (free_of new.store p)
+  pub victims : EvictsAll p (Some n) old new
+  pub gives_up : GivesUp old new

@@ -1,16 +1,17 @@
 -- Bytes of the store read into new buffers.
-use Rattle.std.specs.Prelude.{◌≡◌, ℕ, ◌<◌, ◌≤◌, false, List, length, take, drop, Result, Ok, Err, IfOk}
+use Rattle.std.specs.Prelude.{◌≡◌, ℕ, ◌<◌, ◌≤◌, false, List, [], length, take, drop, Result, Ok, Err, IfErr, IfOk, OnErr}
 use Rattle.std.specs.List.{Contains}
 use Rattle.iol_core.specs.declared.refusals.Refusal.{Refusal}
-use Rattle.iol_core.specs.declared.refusals.Refusal.TheVariants.{Fault}
-use Rattle.iol_arena.specs.State.{entry_at, kind_free, with_bytes}
+use Rattle.iol_core.specs.declared.refusals.Refusal.TheVariants.{Fault, NoRoom}
+use Rattle.iol_arena.specs.State.{entry_at, kind_free, pages_for, with_bytes}
 use Rattle.iol_arena.specs.Pages.{IsSameBut}
 use Rattle.iol_arena.specs.Parts.{part_bytes, part_room}
 use Rattle.iol_arena.specs.declared.pages.Part.{Part}
 use Rattle.iol_back.specs.Disk.{Disk, IfHonest, Succeeds, last_failure, raised}
+use Rattle.iol_hold.specs.Moves.{Moves, SameLists}
 use Rattle.iol_hold.specs.Pages.{KeepsPages}
 use Rattle.iol_hold.specs.Room.{free_of}
-use Rattle.iol_hold.specs.Stored.{Stored, with_arena}
+use Rattle.iol_hold.specs.Stored.{AllSettled, Stored, with_arena}
 
 -- reads were made, and the first that failed ended them
 abbrev pub ReadCounts : {A E : Type 0} → (old new : Disk) → Result A E → Type 0
@@ -57,3 +58,21 @@ pub record PlacesSome (old new : Stored) (pool most : ℕ) : Type 0 where
   pub count : ℕ
   pub few : count ≤ most
   pub pages : KeepsPages old new (take count (free_of old pool))
+
+-- n bytes are read into new buffers of a pool. Refused, no page and no hold is another than before, and NoRoom tells that fewer
+-- pages are free.
+pub record LoadsOrKeeps {A : Type 0} (pool n : ℕ) (old new : Stored) (r : Result A Refusal) : Type 0 where
+  pub none : OnErr r (Moves old new [] [])
+  pub kept : OnErr r (KeepsPages old new [])
+  pub pools : new.pools ≡ old.pools
+  pub settles : AllSettled old → AllSettled new
+  pub no_room : IfErr r (λ x. (p : ℕ) → x ≡ NoRoom p → length (free_of old pool) < pages_for n)
+
+-- Bytes are placed on so many pages of a pool. Refused, no hold is another than before, what was placed is gone, and NoRoom tells
+-- that fewer pages are free.
+pub record PlacesOrReleases {A : Type 0} (pool n : ℕ) (old new : Stored) (r : Result A Refusal) : Type 0 where
+  pub none : OnErr r (Moves old new [] [])
+  pub given_back : OnErr r (PlacesSome old new pool n)
+  pub lists : SameLists old new
+  pub settles : AllSettled old → AllSettled new
+  pub no_room : IfErr r (λ x. (p : ℕ) → x ≡ NoRoom p → length (free_of old pool) < n)

@@ -1,5 +1,5 @@
 -- How often clean extents hold each buffer, by the page at which it begins.
-use Rattle.std.specs.Prelude.{◌≡◌, ℕ, ◌+◌, ◌<◌, ◌≤◌, ◌^◌, eqb, cond, Bool, nat_lt, List, [], ◌∷◌, length, slice_index}
+use Rattle.std.specs.Prelude.{◌≡◌, ℕ, ◌+◌, ◌-◌, ◌<◌, ◌≤◌, ◌^◌, eqb, cond, Bool, true, false, nat_lt, List, [], ◌∷◌, length, slice_index}
 use Rattle.std.specs.List.{All, list_any}
 use Rattle.iol_core.specs.declared.numbers.BufId.{BufId}
 use Rattle.iol_hold.specs.Stored.{Stored, count_of}
@@ -38,6 +38,21 @@ pub record HaveMarks (marks : List ℕ) (xs : List Slice) : Type 0 where
 
 pub record HasMarksLeft (marks : List ℕ) (xs : List Slice) : Type 0 where
   pub each : (p : ℕ) → slice_index marks p + at_page p (bufs_of xs) < 2 ^ 63
+
+-- Slices of an extent that becomes clean, or is so no longer: they can be counted, or uncounted, and were.
+
+abbrev pub CanTurn : (is_clean : Bool) → (marks : List ℕ) → List Slice → Type 0
+CanTurn true marks xs = HasMarksLeft marks xs
+CanTurn false marks xs = HaveMarks marks xs
+
+abbrev pub Turns : (is_clean : Bool) → (old new : List ℕ) → List Slice → Type 0
+Turns true old new xs = Marks old new xs
+Turns false old new xs = Unmarks old new xs
+
+-- the mark of a page, with one slice more or fewer
+abbrev pub turned : (is_clean : Bool) → (mark : ℕ) → ℕ
+turned true n = n + 1
+turned false n = n - 1
 
 -- the buffer is held by more than clean extents
 abbrev pub is_held_more : Stored → List ℕ → BufId → Bool

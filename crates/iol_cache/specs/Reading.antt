@@ -1,5 +1,7 @@
 -- Reading a range of a file.
-use Rattle.std.specs.Prelude.{◌≡◌, ℕ, if◌then◌else◌, List, [], ◌∷◌, length, Option, Some, None, IsSome, flat_map}
+use Rattle.std.specs.Prelude.{◌≡◌, ℕ, ◌≤◌, true, if◌then◌else◌, List, [], ◌∷◌, All, length, Option, Some, None, IsSome, flat_map}
+use Rattle.iol_core.specs.Numbered.{is_numbered}
+use Rattle.iol_core.specs.declared.limits.TheConstants.{MAX_FILE_BYTES}
 use Rattle.iol_back.specs.Disk.{Disk}
 use Rattle.iol_hold.specs.Moves.{Shares}
 use Rattle.iol_hold.specs.Places.{Place, places, byte_len}
@@ -7,6 +9,7 @@ use Rattle.iol_hold.specs.Stored.{Stored}
 use Rattle.iol_hold.specs.Texts.{bufs_of}
 use Rattle.iol_hold.specs.declared.slices.Slice.{Slice}
 use Rattle.iol_extent.specs.Extents.{Extent, ExtentMap, begins_at, extent_over}
+use Rattle.iol_extent.specs.Spans.{AreInOrder, IsGapSpan}
 use Rattle.iol_extent.specs.declared.spans.Span.{Span}
 use Rattle.iol_evict.specs.Ranking.{Ranking, hit_at, entered}
 use Rattle.iol_cache.specs.Gaps.{FillsGaps, gap_pages}
@@ -80,3 +83,13 @@ pub record FillsRange (s t : Stored) (old new : ExtentMap) (pool : ℕ) (beside 
   pub filled : PlacesPages s mid pool (gap_pages gaps)
   pub shares : Shares mid t [] (bufs_of xs)
   pub lies : places xs ≡ woven beside new.extents from to gaps
+
+-- These are gaps of a range of a file, and there is room in the file and in its pool's order for as many extents.
+pub record CanFill (c : Cached) (f from to : ℕ) (gs : List Span) : Type 0 where
+  pub file : is_numbered c.files f ≡ true
+  pub ordered : from ≤ to
+  pub end : to ≤ MAX_FILE_BYTES
+  pub in_order : AreInOrder from to gs
+  pub gaps : All (IsGapSpan (extents_in c.files f)) gs
+  pub room : length gs ≤ (file_in c.files f).extents.room
+  pub entries : length gs ≤ (order_in c.orders (file_in c.files f).pool).room

@@ -2,7 +2,7 @@
 use Rattle.std.specs.Prelude.{◌≡◌, ℕ, ◌+◌, ◌≤◌, ◌==◌, if◌then◌else◌, List, [], ◌∷◌, length, slice_index}
 use Rattle.std.specs.List.{filter}
 use Rattle.iol_evict.specs.Ranking.{Ranking, entered, left_at, with_one_given_back, with_one_kept}
-use Rattle.iol_extent.specs.Extents.{Extent, meets, put_in, dirty_count}
+use Rattle.iol_extent.specs.Extents.{Extent, IsApart, meets, put_in, dirty_count}
 use Rattle.iol_hold.specs.Places.{byte_len}
 use Rattle.iol_hold.specs.Texts.{bufs_of}
 use Rattle.iol_cache.specs.Cached.{clean_in, entries_at}
@@ -26,6 +26,13 @@ pub record HaveClean (marks : List ℕ) (es : List Extent) : Type 0 where
 -- the order keeps a place for each of these extents that is dirty
 pub record IsReady (r : Ranking) (es : List Extent) : Type 0 where
   pub enough : dirty_count es ≤ r.kept
+
+-- The extents of file f stand apart; the order has the clean ones and a place for each dirty one, and the marks count them.
+pub record IsIndexed (f : ℕ) (es : List Extent) (r : Ranking) (marks : List ℕ) : Type 0 where
+  pub apart : IsApart 0 es
+  pub ranked : RanksFile r f es
+  pub ready : IsReady r es
+  pub marked : HaveClean marks es
 
 -- with one extent more, if it has a byte
 abbrev pub put_some : List Extent → Extent → List Extent

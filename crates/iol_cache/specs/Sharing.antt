@@ -1,11 +1,16 @@
 -- Bytes of a file, shared from the extents over them.
-use Rattle.std.specs.Prelude.{ℕ, ◌-◌, ◌<◌, ◌≤◌, List, map, Option, Some, None, IsSome}
+use Rattle.std.specs.Prelude.{ℕ, ◌-◌, ◌<◌, ◌≤◌, List, [], map, Option, Some, None, IsSome, Result, IfOk, OnErr}
 use Rattle.std.specs.List.{range_with_len}
 use Rattle.iol_core.specs.declared.numbers.BufId.{BufId}
-use Rattle.iol_extent.specs.Extents.{Cell, Extent, cover, no_place}
+use Rattle.iol_extent.specs.Extents.{Cell, Extent, IsApart, cover, no_place}
 use Rattle.iol_extent.specs.declared.spans.Span.{Span}
+use Rattle.iol_hold.specs.Moves.{Covers, Moves, SameLists, Shares}
 use Rattle.iol_hold.specs.Places.{Place}
-use Rattle.iol_hold.specs.Stored.{Stored, count_of}
+use Rattle.iol_hold.specs.Releases.{FreesOnly}
+use Rattle.iol_hold.specs.Stored.{AllSettled, Stored, count_of}
+use Rattle.iol_hold.specs.Texts.{AllReadable, bufs_of}
+use Rattle.iol_hold.specs.declared.slices.Slice.{Slice}
+use Rattle.iol_cache.specs.Cached.{all_parts}
 
 -- each byte of the range lies under an extent
 pub record IsCovered (es : List Extent) (from to : ℕ) : Type 0 where
@@ -27,6 +32,21 @@ places_over es from to = map (place_over es) (range_with_len from (to - from))
 abbrev pub IsCoveredSpan : List Extent → Span → Type 0
 IsCoveredSpan es s = IsCovered es s.from s.to
 
+-- these extents stand apart, their slices are held, and their bytes can be read
+pub record AreHeld (s : Stored) (es : List Extent) : Type 0 where
+  pub apart : IsApart 0 es
+  pub held : Covers s (bufs_of (all_parts es))
+  pub readable : AllReadable s (all_parts es)
+
 -- each buffer is held fewer than n times
 pub record CountsBelow (s : Stored) (n : ℕ) : Type 0 where
   pub each : (b : BufId) → count_of s b < n
+
+-- Slices are shared, beside those that were held so far, and handed out with them. Refused, all of them are released.
+pub record SharesOrReleases {A E : Type 0} (so_far : List Slice) (given : A → List Slice) (old new : Stored)
+    (r : Result A E) : Type 0 where
+  pub shares : IfOk r (λ a. Shares old new (bufs_of so_far) (bufs_of (given a)))
+  pub gone : OnErr r (Moves old new (bufs_of so_far) [])
+  pub frees : FreesOnly old new
+  pub lists : SameLists old new
+  pub settles : AllSettled old → AllSettled new

@@ -62,6 +62,10 @@ KeepsBytes s old new d e = IfHonest d (SameContents s old new d e)
 abbrev pub KeepsStored : (s : Stored) (old new : Cached) (d e : Disk) → Type 0
 KeepsStored s old new d e = IfHonest d (Mirrors s d.slots old.files → Mirrors s e.slots new.files)
 
+pub record KeepsContents (s : Stored) (old new : Cached) (d e : Disk) : Type 0 where
+  pub bytes : KeepsBytes s old new d e
+  pub stored : KeepsStored s old new d e
+
 -- The first dirty extent of a file is written back.
 
 -- it was written, is clean, and stands in the order, where it came in with the height of a new entry

@@ -1,5 +1,7 @@
 -- What a write does to a store and a cache over it.
-use Rattle.std.specs.Prelude.{◌≡◌, ℕ, List, ◌++◌}
+use Rattle.std.specs.Prelude.{◌≡◌, ℕ, false, List, ◌++◌}
+use Rattle.iol_arena.specs.State.{page_count}
+use Rattle.iol_pool.specs.Pools.{pool_in}
 use Rattle.iol_hold.specs.Moves.{Moves, SameLists}
 use Rattle.iol_hold.specs.Releases.{FreesOnly}
 use Rattle.iol_hold.specs.Stored.{AllSettled}
@@ -47,4 +49,5 @@ pub record Changes (f : ℕ) (own : List Slice) (old new : Holding) : Type 0 whe
       (order_in old.cache.orders (file_in old.cache.files f).pool) order old.cache.marks new.cache.marks
   pub moves : Moves old.store new.store (bufs_of (all_parts (extents_in old.cache.files f) ++ own))
       (bufs_of (all_parts extents.extents))
-  pub frees : FreesOnly old.store new.store
+  pub pages : page_count new.store.arena ≡ page_count old.store.arena
+  pub pools : (p : ℕ) → (pool_in old.store.pools p).closed ≡ false → pool_in new.store.pools p ≡ pool_in old.store.pools p

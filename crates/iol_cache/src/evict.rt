@@ -1,11 +1,11 @@
 //! Eviction of clean extents.
-ghost use Rattle.std.specs.Prelude.{◌≡◌, ◌≢◌, ◌↔◌, ℕ, ◌+◌, ◌-◌, ◌<◌, ◌≤◌, [], length, true, false, Some, None, MatchOption, IsTrue};
+ghost use Rattle.std.specs.Prelude.{◌≡◌, ◌≢◌, ◌↔◌, ℕ, ◌+◌, ◌≤◌, [], length, false, Some, None, MatchOption, IsTrue};
 ghost use Rattle.iol_pool.specs.Pools.{pool_in};
 ghost use Rattle.iol_hold.specs.Room.{pages_of, free_of};
 ghost use Rattle.iol_evict.specs.Victims.{IsVictim};
 ghost use Rattle.iol_cache.specs.Cached.{extents_in, file_in, order_in, clean_held};
 ghost use Rattle.iol_cache.specs.Cache.{cached_of, holding};
-ghost use Rattle.iol_cache.specs.Evicting.{in_use, ArePassed, IsCleanAt, AllDirty, Evicts, EvictsAll, EvictsPools, GivesUp};
+ghost use Rattle.iol_cache.specs.Evicting.{in_use, ArePassed, IsCleanAt, AllDirty, Evicts, EvictsAll, EvictsPools, GivesUp, MakesFree};
 ghost use Rattle.iol_cache.specs.Pinned.{pinned_beside};
 ghost use Rattle.iol_cache.specs.Sound.{IsSound};
 
@@ -53,7 +53,7 @@ impl Cache {
         let place = file.number() as usize - 1;
         let pool = self.files[place].pool;
         let agg = self.files[place].extents.remove(at);
-        self.marks.unmark(agg.slices());
+        self.marks.set_clean(agg.slices(), false);
         self.orders[pool.number() as usize - 1].evict(file, at, passed);
         agg.release(store);
     }
@@ -63,13 +63,8 @@ impl Cache {
     fn evict_for(&mut self, store: &mut Store, pool: PoolId, pages: u32) -> bool
         requires sound { IsSound store.old (cached_of self.old) }
         requires open { (pool_in store.old.pools pool).closed ≡ false }
-        ensures room { let clean = clean_held (cached_of self.old).files in
-            IsTrue result ↔
-            (pinned_beside store.old clean pool + pages ≤ length (pages_of store.old pool)) }
-        ensures free { IsTrue result → pages ≤ length (free_of store.new pool) }
-        ensures victims { EvictsAll pool (Some pages) (holding store.old self.old)
-            (holding store.new self.new) }
-        ensures gives_up { GivesUp (holding store.old self.old) (holding store.new self.new) }
+        ensures makes { MakesFree pool pages (holding store.old self.old)
+            (holding store.new self.new) result }
         ensures sound { IsSound store.new (cached_of self.new) }
     {
         let mut passed = Rank::least();

@@ -11,10 +11,10 @@
 //!
 //! - `read` shares the bytes of a range that are in memory, makes room for its gaps, and reads these into clean extents.
 //!   With an honest store it gives the file's bytes (`text`), and every file has its bytes after it (`goes`, `gone`). Over
-//!   every store, bytes over hits lie where they lay, those over gaps in the new extents (`reads`). NoRoom comes just where
+//!   every store, bytes over hits lie where they lay, those over gaps in the new extents (`reads`). NoRoom comes only where
 //!   the pages that something else holds, the hits among them, and those that the gaps want are more than the pool has
-//!   (`room`), Fault just where the store failed (`fault`). A refused read leaves no extent (`refused`).
-//! - `make_room` evicts, those that go first before the others, until so many pages of the pool are free. It fails just
+//!   (`room`), Fault only where the store failed (`fault`). A refused read leaves no extent (`refused`).
+//! - `make_room` evicts, those that go first before the others, until so many pages of the pool are free. It fails only
 //!   where the pages that something else holds, and those wanted, are more than the pool has (`room`). Which extents
 //!   went is `EvictsAll`, and what they leave is `GivesUp`: with an honest store every file has its bytes.
 //! - `drop_clean` evicts all clean extents, pool by pool.
@@ -22,7 +22,7 @@
 //!   there. The file then has the bytes that the machine gives it (`written`), and every other file its own (`others`).
 //! - `file_length`: how many bytes a file has. `report`: how many extents there are, and how many of them are dirty.
 //! - `sync` writes the dirty extents of a file back, `flush_one` the dirty extent of least file and offset. They want no
-//!   memory, change no file's bytes (`files`), and are refused just where the store fails.
+//!   memory, change no file's bytes (`files`), and are refused only where the store fails.
 //! - `laws`: whether a read has room is one question, over any store and in whichever slices its hits are held.
 //!
 //! ```text

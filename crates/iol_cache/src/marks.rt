@@ -1,9 +1,9 @@
 //! How often clean extents hold each buffer.
-ghost use Rattle.std.specs.Prelude.{◌≡◌, ℕ, ◌+◌, ◌-◌, ◌<◌, ◌^◌, length, slice_index, slice_set, replicate, true, IfOk};
+ghost use Rattle.std.specs.Prelude.{◌≡◌, ◌<◌, ◌^◌, length, slice_index, slice_set, replicate, true, false, IfOk};
 ghost use Rattle.iol_hold.specs.Stored.{count_of};
 ghost use Rattle.iol_hold.specs.Moves.{Covers};
 ghost use Rattle.iol_hold.specs.Texts.{bufs_of};
-ghost use Rattle.iol_cache.specs.Marks.{Marks, Unmarks, AreWithin, HaveMarks, HasMarksLeft, is_held_more, is_in_use};
+ghost use Rattle.iol_cache.specs.Marks.{AreWithin, CanTurn, Turns, is_held_more, is_in_use, turned};
 
 use iol_hold::{Slice, Store};
 use std::alloc::{AllocError, Global};
@@ -23,24 +23,19 @@ impl Model for CleanHolds {
     ghost view = { λ c. c.marks.items };
 }
 
-// One slice more of the buffer that begins at the page.
-fn mark_one(marks: &mut Vec<u64>, page: usize)
+// One slice more of the buffer that begins at the page, or one fewer.
+fn turn_one(marks: &mut Vec<u64>, page: usize, is_clean: bool)
     requires within { page < length marks.old.items }
-    requires few { slice_index marks.old.items page < 2 ^ 63 }
+    requires few { is_clean ≡ true → slice_index marks.old.items page < 2 ^ 63 }
+    requires some { is_clean ≡ false → 0 < slice_index marks.old.items page }
     ensures { marks.new.items ≡
-        slice_set marks.old.items page (slice_index marks.old.items page + 1) }
+        slice_set marks.old.items page (turned is_clean (slice_index marks.old.items page)) }
 {
-    marks[page] += 1;
-}
-
-// One fewer.
-fn unmark_one(marks: &mut Vec<u64>, page: usize)
-    requires within { page < length marks.old.items }
-    requires some { 0 < slice_index marks.old.items page }
-    ensures { marks.new.items ≡
-        slice_set marks.old.items page (slice_index marks.old.items page - 1) }
-{
-    marks[page] -= 1;
+    if is_clean {
+        marks[page] += 1;
+    } else {
+        marks[page] -= 1;
+    }
 }
 
 // Whether the buffer of a slice is held by more than the clean extents.
@@ -69,25 +64,14 @@ impl CleanHolds {
         self.marks.as_slice()
     }
 
-    /// Counts the slices of an extent that becomes clean.
-    pub(crate) fn mark(&mut self, slices: &[Slice])
+    /// Counts the slices of an extent that becomes clean, or of one that is so no longer.
+    pub(crate) fn set_clean(&mut self, slices: &[Slice], is_clean: bool)
         requires within { AreWithin (length self.old) slices.now }
-        requires few { HasMarksLeft self.old slices.now }
-        ensures marks { Marks self.old self.new slices.now }
+        requires can { CanTurn is_clean self.old slices.now }
+        ensures { Turns is_clean self.old self.new slices.now }
     {
         for slice in slices {
-            mark_one(&mut self.marks, slice.hold.buf().page as usize);
-        }
-    }
-
-    /// Counts them no longer.
-    pub(crate) fn unmark(&mut self, slices: &[Slice])
-        requires within { AreWithin (length self.old) slices.now }
-        requires marked { HaveMarks self.old slices.now }
-        ensures unmarks { Unmarks self.old self.new slices.now }
-    {
-        for slice in slices {
-            unmark_one(&mut self.marks, slice.hold.buf().page as usize);
+            turn_one(&mut self.marks, slice.hold.buf().page as usize, is_clean);
         }
     }
 

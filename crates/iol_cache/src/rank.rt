@@ -50,7 +50,7 @@ pub(crate) fn enter_one(
     let Some((_, agg, _)) = extents.over(at) else {
         return;
     };
-    marks.mark(agg.slices());
+    marks.set_clean(agg.slices(), true);
     order.enter(file, at, agg.len(), 1);
 }
 

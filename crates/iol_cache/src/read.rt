@@ -1,5 +1,5 @@
 //! Reads of files: what is in memory is shared, room is made for the gaps, and these are read.
-ghost use Rattle.std.specs.Prelude.{◌≡◌, ◌+◌, ◌<◌, ◌≤◌, ◌^◌, ◌++◌, [], All, length, true, OnErr, IfOk, IfErr};
+ghost use Rattle.std.specs.Prelude.{◌≡◌, ◌+◌, ◌<◌, ◌≤◌, ◌^◌, ◌++◌, [], length, true, OnErr, IfOk, IfErr};
 ghost use Rattle.iol_core.specs.Meaning.{WantOfRoomOrFault};
 ghost use Rattle.iol_core.specs.Numbered.{is_numbered};
 ghost use Rattle.iol_core.specs.Text as text;
@@ -9,8 +9,7 @@ ghost use Rattle.iol_hold.specs.Room.{pages_of};
 ghost use Rattle.iol_hold.specs.Stored.{Stored};
 ghost use Rattle.iol_hold.specs.Texts.{bufs_of, text_of, AllReadable};
 ghost use Rattle.iol_extent.specs.Extents.{last_end};
-ghost use Rattle.iol_extent.specs.Spans.{AreInOrder, IsGapSpan};
-ghost use Rattle.iol_cache.specs.Cached.{clean_held, extents_in, file_in, held, order_in};
+ghost use Rattle.iol_cache.specs.Cached.{clean_held, extents_in, file_in, held};
 ghost use Rattle.iol_cache.specs.Cache.{cached_of, holding};
 ghost use Rattle.iol_cache.specs.Contents.{bytes_in_slot};
 ghost use Rattle.iol_cache.specs.Gaps.{AreOf, gap_pages};
@@ -19,6 +18,7 @@ ghost use Rattle.iol_cache.specs.Loading.{Asks};
 ghost use Rattle.iol_cache.specs.Paging.{FillsLowest};
 ghost use Rattle.iol_cache.specs.Pinned.{pinned_beside};
 ghost use Rattle.iol_cache.specs.Ranges.{FillsAfter, UndoesAfter};
+ghost use Rattle.iol_cache.specs.Reading.{CanFill};
 ghost use Rattle.iol_cache.specs.Serving.{IsBacked, IsEnd, LeavesRange, NoRoomToRead, ReadsFile, ReadsRange, RefusesRead, RoomToRead, TellsFault, TellsRoom, bytes_read};
 ghost use Rattle.iol_cache.specs.Sharing.{CountsBelow};
 ghost use Rattle.iol_cache.specs.Sound.{IsSound};
@@ -55,18 +55,10 @@ impl Cache {
         gaps: &[Span],
     ) -> Result<Agg, Refusal>
         requires sound { IsSound store.old (cached_of self.old) }
-        requires file { is_numbered self.old.files.items part.now.file ≡ true }
-        requires ordered { part.now.from ≤ part.now.to }
-        requires end { part.now.to ≤ MAX_FILE_BYTES }
-        requires in_order { AreInOrder part.now.from part.now.to gaps.now }
-        requires gaps { All (IsGapSpan (extents_in self.old.files.items part.now.file)) gaps.now }
+        requires range { CanFill (cached_of self.old) part.now.file part.now.from part.now.to gaps.now }
         requires pins_len { byte_len pins ≡ len_beside part.now.from part.now.to gaps.now }
         requires held { Covers store.old (held self.old.files.items ++ bufs_of pins) }
         requires readable { AllReadable store.old pins }
-        requires room { length gaps.now ≤
-            (file_in self.old.files.items part.now.file).extents.room }
-        requires entries { let p = (file_in self.old.files.items part.now.file).pool in
-            length gaps.now ≤ (order_in self.old.orders.items p).room }
         requires few { CountsBelow store.old (2 ^ 60) }
         ensures filled { IfOk result (FillsAfter part.now.file part.now.from part.now.to pins gaps.now
             (B.disk backing.old) (holding store.old self.old) (holding store.new self.new)) }

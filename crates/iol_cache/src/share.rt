@@ -1,13 +1,12 @@
 //! Bytes of a file, shared from the extents over them.
-ghost use Rattle.std.specs.Prelude.{◌≡◌, ◌+◌, ◌-◌, ◌<◌, ◌≤◌, ◌^◌, ◌++◌, [], All, IsSome, IfOk, OnErr};
+ghost use Rattle.std.specs.Prelude.{◌≡◌, ◌+◌, ◌-◌, ◌<◌, ◌≤◌, ◌^◌, ◌++◌, IsSome, IfOk};
 ghost use Rattle.iol_cache.specs.Cached.{all_parts};
-ghost use Rattle.iol_cache.specs.Sharing.{CountsBelow, IsCovered, places_over};
+ghost use Rattle.iol_cache.specs.Sharing.{AreHeld, CountsBelow, IsCovered, SharesOrReleases, places_over};
 ghost use Rattle.iol_extent.specs.Extents.{IsApart, extent_over};
 ghost use Rattle.iol_core.specs.declared.numbers.BufId.{BufId};
-ghost use Rattle.iol_hold.specs.Moves.{Covers, Moves, SameLists, Shares, tally};
+ghost use Rattle.iol_hold.specs.Moves.{Covers, tally};
 ghost use Rattle.iol_hold.specs.Places.{byte_len, places};
-ghost use Rattle.iol_hold.specs.Releases.{FreesOnly};
-ghost use Rattle.iol_hold.specs.Stored.{AllSettled, count_of};
+ghost use Rattle.iol_hold.specs.Stored.{count_of};
 ghost use Rattle.iol_hold.specs.Texts.{AllReadable, bufs_of};
 
 use iol_agg::Agg;
@@ -23,23 +22,18 @@ fn share_next(
     at: u32,
     to: u32,
 ) -> Result<(Agg, u32), AllocError>
+    requires there { AreHeld store.old extents.now.extents }
     requires before { at < to }
-    requires apart { IsApart 0 extents.now.extents }
     requires covered { IsSome (extent_over extents.now.extents at) }
-    requires held { Covers store.old (bufs_of (all_parts extents.now.extents)) }
     requires own { Covers store.old (bufs_of so_far) }
+    requires own_readable { AllReadable store.old so_far }
     requires few { CountsBelow store.old (2 ^ 62 + 2 ^ 32) }
     requires small { byte_len so_far + (to - at) < 2 ^ 32 }
     ensures further { IfOk result (λ r. at < r.1) }
     ensures within { IfOk result (λ r. r.1 ≤ to) }
     ensures places { IfOk result (λ r.
         places r.0 ≡ places so_far ++ places_over extents.now.extents at r.1) }
-    ensures shares { IfOk result (λ r. Shares store.old store.new (bufs_of so_far) (bufs_of r.0)) }
-    ensures gone { OnErr result (Moves store.old store.new (bufs_of so_far) []) }
-    ensures frees { FreesOnly store.old store.new }
-    ensures lists { SameLists store.old store.new }
-    ensures settles { AllReadable store.old (all_parts extents.now.extents) →
-        AllReadable store.old so_far → AllSettled store.old → AllSettled store.new }
+    ensures shared { SharesOrReleases so_far (λ r. r.0) store.old store.new result }
 {
     let Some((begin, agg, _dirty)) = extents.over(at) else {
         unreachable!();
@@ -69,16 +63,13 @@ pub(crate) fn share_over(
     requires covered { IsCovered extents.now.extents from to }
     requires held { Covers store.old
         (bufs_of so_far ++ bufs_of (all_parts extents.now.extents)) }
+    requires readable { AllReadable store.old (all_parts extents.now.extents) }
+    requires own_readable { AllReadable store.old so_far }
     requires few { (b : BufId) → count_of store.old b < 2 ^ 62 + tally b (bufs_of so_far) }
     requires small { byte_len so_far + (to - from) < 2 ^ 32 }
     ensures places { IfOk result (λ a.
         places a ≡ places so_far ++ places_over extents.now.extents from to) }
-    ensures shares { IfOk result (λ a. Shares store.old store.new (bufs_of so_far) (bufs_of a)) }
-    ensures gone { OnErr result (Moves store.old store.new (bufs_of so_far) []) }
-    ensures frees { FreesOnly store.old store.new }
-    ensures lists { SameLists store.old store.new }
-    ensures settles { AllReadable store.old (all_parts extents.now.extents) →
-        AllReadable store.old so_far → AllSettled store.old → AllSettled store.new }
+    ensures shared { SharesOrReleases so_far (λ a. a) store.old store.new result }
 {
     let mut shared = so_far;
     let mut at = from;

@@ -9,7 +9,7 @@ ghost use Rattle.iol_cache.specs.Sound.{IsSound};
 ghost use Rattle.iol_cache.specs.Marks.{AreWithin, HasMarksLeft};
 ghost use Rattle.iol_cache.specs.Reading.{RanksFile};
 ghost use Rattle.iol_cache.specs.Replacing.{Reindexes, IsReady};
-ghost use Rattle.iol_cache.specs.Syncing.{Flushes, KeepsBytes, KeepsStored, StoresFirst, Syncs, WritesBack, WritesDirty};
+ghost use Rattle.iol_cache.specs.Syncing.{Flushes, KeepsBytes, KeepsContents, KeepsStored, StoresFirst, Syncs, WritesBack, WritesDirty};
 ghost use Rattle.iol_extent.specs.Extents.{IsFirstDirty, cleaned_at};
 ghost use Rattle.iol_back.specs.Disk.{raised};
 ghost use Rattle.iol_core.specs.Meaning.{FaultOf};
@@ -96,9 +96,7 @@ impl Cache {
         requires few { CountsBelow store.now (2 ^ 61) }
         ensures stores { StoresFirst store.now file (cached_of self.old) (cached_of self.new)
             (B.disk backing.old) (B.disk backing.new) result }
-        ensures files { KeepsBytes store.now (cached_of self.old) (cached_of self.new)
-            (B.disk backing.old) (B.disk backing.new) }
-        ensures mirrors { KeepsStored store.now (cached_of self.old) (cached_of self.new)
+        ensures keeps { KeepsContents store.now (cached_of self.old) (cached_of self.new)
             (B.disk backing.old) (B.disk backing.new) }
         ensures sound { IsSound store.now (cached_of self.new) }
     {

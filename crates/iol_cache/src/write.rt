@@ -1,5 +1,5 @@
 //! Writing of files.
-ghost use Rattle.std.specs.Prelude.{◌≡◌, ℕ, ◌+◌, ◌<◌, ◌≤◌, ◌^◌, ◌++◌, [], length, true, Err, IfErr, OnErr, OnOk};
+ghost use Rattle.std.specs.Prelude.{◌≡◌, ℕ, ◌+◌, ◌<◌, ◌≤◌, ◌^◌, ◌++◌, length, true, Err, IfErr, OnErr, OnOk};
 ghost use Rattle.iol_core.specs.Meaning.{WantOfRoom};
 ghost use Rattle.iol_core.specs.Numbered.{is_numbered};
 ghost use Rattle.iol_extent.specs.Extents.{end_of};
@@ -12,13 +12,13 @@ ghost use Rattle.iol_cache.specs.Cache.{cached_of, holding};
 ghost use Rattle.iol_cache.specs.Cached.{clean_held, extents_in, file_in, held, order_in};
 ghost use Rattle.iol_cache.specs.Composing.{copied_pages};
 ghost use Rattle.iol_cache.specs.Cutting.{CutsLeft, CutsRight};
-ghost use Rattle.iol_cache.specs.Loading.{PlacesSome};
 ghost use Rattle.iol_cache.specs.Overwriting.{IsWritten, KeepsFiles, KeepsMirrors, KeepsOthers, LeavesAll, LiesDirty, MakesRoom, OnlyMakesRoom, Overwrites, WritesFile};
 ghost use Rattle.iol_cache.specs.Paging.{FillsLowest};
 ghost use Rattle.iol_cache.specs.Pinned.{pinned_beside};
 ghost use Rattle.iol_cache.specs.Sharing.{CountsBelow};
 ghost use Rattle.iol_cache.specs.Sound.{IsLaid, IsSound};
 ghost use Rattle.iol_cache.specs.Writing.{PutsOver, parts_put};
+ghost use Rattle.iol_cache.specs.Loading.{PlacesOrReleases};
 
 mod copies;
 mod cut;
@@ -133,14 +133,8 @@ impl Cache {
         ensures overwrites { OnOk result
             (Overwrites file at source.now (holding store.old self.old) (holding store.new self.new)) }
         ensures same { OnErr result (self.new ≡ self.old) }
-        ensures none { OnErr result (Moves store.old store.new [] []) }
-        ensures given_back { OnErr result
-            (let p = (file_in self.old.files.items file).pool in PlacesSome store.old store.new p (copied_pages p source.now)) }
-        ensures lists { SameLists store.old store.new }
-        ensures settles { AllSettled store.old → AllSettled store.new }
-        ensures no_room { let p = (file_in self.old.files.items file).pool in
-            (q : ℕ) → result ≡ Err (Refusal.NoRoom q) →
-            length (free_of store.old p) < copied_pages p source.now }
+        ensures leaves { let p = (file_in self.old.files.items file).pool in
+            PlacesOrReleases p (copied_pages p source.now) store.old store.new result }
         ensures late { IfErr result (WantOfRoom (file_in self.old.files.items file).pool) }
         ensures sound { IsSound store.new (cached_of self.new) }
     {

@@ -4,6 +4,7 @@ use Rattle.std.proofs.lemmas.Bool.Decides.{nat_tests}
 use Rattle.std.proofs.lemmas.List.Sums.{sum_by-cons}
 use Rattle.iol_extent.specs.Extents.{AreCleanBefore, Extent, IsApart, as_clean, begins_at, cleaned_at, dirty_count, dirty_in, end_of, one_dirty}
 use Rattle.iol_extent.proofs.Cover.{begins_is}
+use Rattle.iol_extent.proofs.Every.{each_insert, each_remove}
 
 eq_yes : (m n : ℕ) → m ≡ n → (m == n) ≡ true
 eq_yes m n h = grind (arith, nat_tests)
@@ -22,16 +23,10 @@ clean_above p low [] le a = tt
 clean_above p low (x ∷ xs) le a = ((λ l. absurd (omega (arith, l, le, a.0))), clean_above p (end_of x) xs (omega (arith, le, a.0)) a.2)
 
 pub clean_insert : (p : ℕ) (es : List Extent) (k : ℕ) (e : Extent) → AreCleanBefore p es → (e.at < p → e.dirty ≡ false) → AreCleanBefore p (insert es k e)
-clean_insert p [] zero e h here = (here, tt)
-clean_insert p [] (suc k) e h here = (here, tt)
-clean_insert p (x ∷ xs) zero e h here = (here, h)
-clean_insert p (x ∷ xs) (suc k) e h here = (h.0, clean_insert p xs k e h.1 here)
+clean_insert p es k e h here = each_insert (λ (x : Extent). x.at < p → x.dirty ≡ false) es k e h here
 
 pub clean_remove : (p : ℕ) (es : List Extent) (k : ℕ) → AreCleanBefore p es → AreCleanBefore p (remove es k)
-clean_remove p [] zero h = tt
-clean_remove p [] (suc k) h = tt
-clean_remove p (x ∷ xs) zero h = h.1
-clean_remove p (x ∷ xs) (suc k) h = (h.0, clean_remove p xs k h.1)
+clean_remove p es k h = each_remove (λ (x : Extent). x.at < p → x.dirty ≡ false) es k h
 
 -- How many are dirty.
 

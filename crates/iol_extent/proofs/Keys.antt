@@ -7,6 +7,7 @@ use Rattle.std.proofs.lemmas.List.Elements.{All-nil, All-cons, All-head, All-tai
 use Rattle.slab.specs.Slab.{Slab, get, ContainsKey, Updates}
 use Rattle.iol_extent.specs.Extents.{Extent, extent_of}
 use Rattle.iol_extent.specs.Keys.{AreDistinct, AreKeys, IsNotIn, extent_at}
+use Rattle.iol_extent.proofs.Every.{each_insert, each_remove}
 
 none_some : (o : Option Extent) → o ≡ None → IsSome o → ⊥
 none_some None e h = cc
@@ -15,16 +16,10 @@ none_some (Some x) e h = cc
 -- Keys that are not in a list.
 
 pub not_in_insert : (x : ℕ) (ks : List ℕ) (i key : ℕ) → IsNotIn x ks → key ≢ x → IsNotIn x (insert ks i key)
-not_in_insert x [] zero key n d = (d, tt)
-not_in_insert x [] (suc i) key n d = (d, tt)
-not_in_insert x (k ∷ ks) zero key n d = (d, n)
-not_in_insert x (k ∷ ks) (suc i) key n d = (n.0, not_in_insert x ks i key n.1 d)
+not_in_insert x ks i key n d = each_insert (λ (other : ℕ). other ≢ x) ks i key n d
 
 pub not_in_remove : (x : ℕ) (ks : List ℕ) (i : ℕ) → IsNotIn x ks → IsNotIn x (remove ks i)
-not_in_remove x [] zero n = tt
-not_in_remove x [] (suc i) n = tt
-not_in_remove x (k ∷ ks) zero n = n.1
-not_in_remove x (k ∷ ks) (suc i) n = (n.0, not_in_remove x ks i n.1)
+not_in_remove x ks i n = each_remove (λ (other : ℕ). other ≢ x) ks i n
 
 not_in_at : (x : ℕ) (ks : List ℕ) (i d : ℕ) → IsNotIn x ks → i < length ks → get_or ks i d ≢ x
 not_in_at x [] i d n l = absurd (omega (arith, l))

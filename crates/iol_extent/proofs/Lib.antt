@@ -4,5 +4,6 @@ pub mod Tiling
 pub mod Meeting
 pub mod Alone
 pub mod Counts
+pub mod Every
 pub mod Clearing
 pub mod Keys

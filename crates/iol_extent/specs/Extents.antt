@@ -1,5 +1,5 @@
 -- The extents of a file: in memory, between gaps that only the store has.
-use Rattle.std.specs.Prelude.{◌≡◌, ℕ, ◌+◌, ◌-◌, ◌<◌, ◌≤◌, ◌&&◌, nat_lt, nat_le, max, Bool, true, false, if◌then◌else◌, cond, sum_by, List, [], ◌∷◌, Option, Some, None, slice_index_or, ◌==◌}
+use Rattle.std.specs.Prelude.{◌≡◌, ℕ, ◌+◌, ◌-◌, ◌<◌, ◌≤◌, ◌&&◌, nat_lt, nat_le, max, Bool, true, false, if◌then◌else◌, cond, sum_by, List, [], ◌∷◌, Option, Some, None, slice_index_or, ◌==◌, Result, OnOk, OnErr}
 use Rattle.std.specs.Borrow.{Bor}
 use Rattle.iol_hold.specs.declared.slices.Slice.{Slice}
 use Rattle.iol_hold.specs.Places.{Place, places, byte_len}
@@ -23,6 +23,14 @@ pub record ExtentMap : Type 0 where
 pub record Cell : Type 0 where
   pub place : Place
   pub dirty : Bool
+
+-- room was made for so many more, and the extents are as they were; refused, the room is so, too
+pub record Reserves {A E : Type 0} (count : ℕ) (old new : ExtentMap) (r : Result A E) : Type 0 where
+  pub room : OnOk r (count ≤ new.room)
+  pub same : new ≡ record old { room = new.room }
+  pub no_less : old.room ≤ new.room
+  pub needed : OnErr r (old.room < count)
+  pub err : OnErr r (new.room ≡ old.room)
 
 abbrev pub extent_of : (at : ℕ) → (parts : List Slice) → (dirty : Bool) → Extent
 extent_of at parts dirty = record { at = at; parts = parts; dirty = dirty }
@@ -91,10 +99,14 @@ dirty_in (e ∷ es) = if e.dirty then Some e else dirty_in es
 abbrev pub one_dirty : Extent → ℕ
 one_dirty e = cond e.dirty 1 0
 
+-- P holds of each of a list
+abbrev pub Each : {A : Type 0} → (A → Type 0) → List A → Type 0
+Each P [] = Unit {0}
+Each P (x ∷ xs) = P x × Each P xs
+
 -- none that begins before the place is dirty
 abbrev pub AreCleanBefore : (place : ℕ) → List Extent → Type 0
-AreCleanBefore place [] = Unit {0}
-AreCleanBefore place (e ∷ es) = (e.at < place → e.dirty ≡ false) × AreCleanBefore place es
+AreCleanBefore place es = Each (λ (e : Extent). e.at < place → e.dirty ≡ false) es
 
 -- the first dirty extent begins there
 pub record IsFirstDirty (es : List Extent) (at : ℕ) : Type 0 where

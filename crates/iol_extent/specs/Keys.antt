@@ -1,7 +1,7 @@
 -- Extents in a slab, by their keys.
 use Rattle.std.specs.Prelude.{◌≢◌, ℕ, false, List, [], ◌∷◌, All, unwrap_or}
 use Rattle.slab.specs.Slab.{Slab, get, ContainsKey}
-use Rattle.iol_extent.specs.Extents.{Extent, extent_of}
+use Rattle.iol_extent.specs.Extents.{Each, Extent, extent_of}
 
 -- the extent at a key
 abbrev pub extent_at : Slab Extent → (key : ℕ) → Extent
@@ -9,8 +9,7 @@ extent_at s key = unwrap_or (get s key) (extent_of 0 [] false)
 
 -- a key stands nowhere in a list
 abbrev pub IsNotIn : (key : ℕ) → List ℕ → Type 0
-IsNotIn key [] = Unit {0}
-IsNotIn key (other ∷ keys) = (other ≢ key) × IsNotIn key keys
+IsNotIn key keys = Each (λ (other : ℕ). other ≢ key) keys
 
 -- each key stands there once
 abbrev pub AreDistinct : List ℕ → Type 0

@@ -1,7 +1,7 @@
 //! Extents, one after another.
-ghost use Rattle.std.specs.Prelude.{◌≡◌, ℕ, ◌+◌, ◌-◌, ◌/◌, ◌<◌, ◌≤◌, ◌^◌, [], length, slice_index_or, slice_set, insert, remove, Some, OnOk, OnErr};
+ghost use Rattle.std.specs.Prelude.{◌≡◌, ℕ, ◌+◌, ◌-◌, ◌/◌, ◌<◌, ◌≤◌, ◌^◌, [], length, slice_index_or, slice_set, insert, remove, Some};
 ghost use Rattle.slab.specs.Slab.{ContainsKey, Updates, slab_len};
-ghost use Rattle.iol_extent.specs.Extents.{Extent, as_clean, end_of, IsApart};
+ghost use Rattle.iol_extent.specs.Extents.{Extent, as_clean, end_of, IsApart, Reserves};
 ghost use Rattle.iol_extent.specs.Keys.{extent_at};
 
 use crate::piece::Piece;
@@ -65,11 +65,7 @@ impl Pieces {
     /// Makes room for so many more. Where there is so much room, it is not refused; refused, it leaves the room that
     /// there was.
     pub(crate) fn reserve(&mut self, count: usize) -> Result<(), AllocError>
-        ensures room { OnOk result (count ≤ self.new.room) }
-        ensures same { self.new ≡ record self.old { room = self.new.room } }
-        ensures no_less { self.old.room ≤ self.new.room }
-        ensures needed { OnErr result (self.old.room < count) }
-        ensures err { OnErr result (self.new.room ≡ self.old.room) }
+        ensures { Reserves count self.old self.new result }
     {
         if count <= self.room {
             return Ok(());

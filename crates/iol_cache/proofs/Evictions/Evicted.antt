@@ -1,5 +1,5 @@
 -- What an eviction leaves.
-use Rattle.std.proofs.Common.{inl, inr, ◌≡◌, ℕ, ◌+◌, ◌-◌, ◌<◌, ◌≤◌, Bool, false, cond, List, [], length, set, Option, Some, IfSome, sym, ap, ◌∙◌, arith, subst}
+use Rattle.std.proofs.Common.{inl, inr, ◌≡◌, ℕ, ◌+◌, ◌-◌, ◌<◌, ◌≤◌, Bool, false, cond, List, [], flat_map, length, set, Option, Some, IfSome, sym, ap, ◌∙◌, arith, subst}
 use Rattle.std.proofs.lemmas.Bool.{cases_eq}
 use Rattle.iol_core.specs.Numbered.{is_numbered}
 use Rattle.iol_core.specs.declared.numbers.BufId.{BufId}
@@ -13,7 +13,7 @@ use Rattle.iol_extent.specs.Extents.{Extent, ExtentMap, begins_at, without_at}
 use Rattle.iol_evict.specs.Ranking.{Ranking, evicted_at}
 use Rattle.iol_cache.specs.declared.files.CachedFile.{CachedFile}
 use Rattle.iol_cache.specs.Marks.{at_page, Unmarks}
-use Rattle.iol_cache.specs.Cached.{Cached, file_in, order_in, extents_in, parts_in, parts_at, all_parts, clean_in, clean_parts, held, clean_held, lacking, without_extent, with_evicted, AreRanked, AreReady}
+use Rattle.iol_cache.specs.Cached.{Cached, file_in, order_in, extents_in, parts_in, parts_at, all_parts, clean_parts, held, clean_held, lacking, without_extent, with_evicted, AreRanked, AreReady}
 use Rattle.iol_cache.specs.Sound.{IsLaid, IsFiled, IsSound, IsUsable}
 use Rattle.iol_cache.specs.Evicting.{Holding, IsCleanAt, Evicts}
 use Rattle.iol_cache.proofs.Extents.Filing.{file_same, file_other, file_set, order_set, length-with_file, length-with_order, numbered_bounds, numbered_yes, IsAdditive, additive_tally, additive_page, additive_bufs, sum-flat, sum-with_file, sum-without_at, each-without_at}
@@ -27,34 +27,31 @@ usable_of sound = record { files = sound.files; covered = sound.covered; marked 
 
 -- How often buffers are held.
 
+-- the buffers that some slices of each extent hold
+abbrev held_by : (Extent → List Slice) → CachedFile → List BufId
+held_by some x = bufs_of (flat_map some x.extents.extents)
+
+some_less : (some : Extent → List Slice) (h : List BufId → ℕ) → IsAdditive h → (fs : List CachedFile) (f at : ℕ) (e : Extent) → (0 < f) × (f ≤ length fs) → begins_at (extents_in fs f) at ≡ Some e → h (flat_map (held_by some) fs) ≡ h (bufs_of (some e)) + h (flat_map (held_by some) (without_extent fs f at))
+some_less some h a fs f at e numbered begins =
+    let es = extents_in fs f in
+    omega (
+      arith,
+      sum-flat a (held_by some) fs,
+      sum-flat a (held_by some) (without_extent fs f at),
+      sum-with_file (λ x. h (held_by some x)) fs f (lacking (file_in fs f) at) numbered.0 numbered.1,
+      sum-flat (additive_bufs a) some es,
+      sum-flat (additive_bufs a) some (without_at es at),
+      sum-without_at (λ (y : Extent). h (bufs_of (some y))) es at e begins,
+    )
+
 pub held_less : (h : List BufId → ℕ) → IsAdditive h → (fs : List CachedFile) (f at : ℕ) (e : Extent) → (0 < f) × (f ≤ length fs) → begins_at (extents_in fs f) at ≡ Some e → h (held fs) ≡ h (bufs_of e.parts) + h (held (without_extent fs f at))
 unfolding held
-held_less h a fs f at e numbered begins =
-    let w : CachedFile → ℕ = λ x. h (bufs_of (all_parts x.extents.extents)) in
-    let x = lacking (file_in fs f) at in
-    let es = extents_in fs f in
-    let all = sum-flat a (λ (y : CachedFile). bufs_of (all_parts y.extents.extents)) fs in
-    let rest = sum-flat a (λ (y : CachedFile). bufs_of (all_parts y.extents.extents)) (without_extent fs f at) in
-    let changed = sum-with_file w fs f x numbered.0 numbered.1 in
-    let was = sum-flat (additive_bufs a) (λ (y : Extent). y.parts) es in
-    let is = sum-flat (additive_bufs a) (λ (y : Extent). y.parts) (without_at es at) in
-    let less = sum-without_at (λ (y : Extent). h (bufs_of y.parts)) es at e begins in
-    omega (arith, all, rest, changed, was, is, less)
+held_less = some_less (λ (e : Extent). e.parts)
 
 pub clean_less : (h : List BufId → ℕ) → IsAdditive h → (fs : List CachedFile) (f at : ℕ) (e : Extent) → (0 < f) × (f ≤ length fs) → begins_at (extents_in fs f) at ≡ Some e → e.dirty ≡ false → h (clean_held fs) ≡ h (bufs_of e.parts) + h (clean_held (without_extent fs f at))
 unfolding clean_held
 clean_less h a fs f at e numbered begins clean =
-    let w : CachedFile → ℕ = λ x. h (bufs_of (clean_in x.extents.extents)) in
-    let x = lacking (file_in fs f) at in
-    let es = extents_in fs f in
-    let all = sum-flat a (λ (y : CachedFile). bufs_of (clean_in y.extents.extents)) fs in
-    let rest = sum-flat a (λ (y : CachedFile). bufs_of (clean_in y.extents.extents)) (without_extent fs f at) in
-    let changed = sum-with_file w fs f x numbered.0 numbered.1 in
-    let was = sum-flat (additive_bufs a) clean_parts es in
-    let is = sum-flat (additive_bufs a) clean_parts (without_at es at) in
-    let less = sum-without_at (λ (y : Extent). h (bufs_of (clean_parts y))) es at e begins in
-    let one = ap (λ (b : Bool). h (bufs_of (cond b [] e.parts))) clean in
-    omega (arith, all, rest, changed, was, is, less, one)
+    some_less clean_parts h a fs f at e numbered begins ∙ ap (λ (b : Bool). h (bufs_of (cond b [] e.parts)) + h (flat_map (held_by clean_parts) (without_extent fs f at))) clean
 
 -- A file without a clean extent, and the others.
 

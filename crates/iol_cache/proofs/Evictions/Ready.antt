@@ -21,21 +21,29 @@ use Rattle.iol_cache.proofs.RangeReads.Putting.{sum-all_put}
 
 -- What hits, entries and evictions leave kept.
 
-pub hits_kept : (r : Ranking) (f : ℕ) (es : List Extent) (ss : List Span) → (hits_counted r f es ss).kept ≡ r.kept
-hits_kept r f es [] = refl
-hits_kept r f es (s ∷ ss) = hits_kept (hit_counted r f (extent_over es s.from)) f es ss ∙ one (extent_over es s.from)
+-- what a hit does not change
+pub hits_same : {A : Type 0} (g : Ranking → A) → ((r : Ranking) (f at : ℕ) → g (hit_at r f at) ≡ g r) → (r : Ranking) (f : ℕ) (es : List Extent) (ss : List Span) → g (hits_counted r f es ss) ≡ g r
+hits_same g one r f es [] = refl
+hits_same g one r f es (s ∷ ss) = hits_same g one (hit_counted r f (extent_over es s.from)) f es ss ∙ here (extent_over es s.from)
   where
-    dirty : (d : Bool) (at : ℕ) → (cond d r (hit_at r f at)).kept ≡ r.kept
-    dirty true at = refl
-    dirty false at = refl
+    counted : (d : Bool) (at : ℕ) → g (cond d r (hit_at r f at)) ≡ g r
+    counted true at = refl
+    counted false at = one r f at
 
-    one : (o : Option Extent) → (hit_counted r f o).kept ≡ r.kept
-    one None = refl
-    one (Some e) = dirty e.dirty e.at
+    here : (o : Option Extent) → g (hit_counted r f o) ≡ g r
+    here None = refl
+    here (Some e) = counted e.dirty e.at
+
+pub hits_kept : (r : Ranking) (f : ℕ) (es : List Extent) (ss : List Span) → (hits_counted r f es ss).kept ≡ r.kept
+hits_kept = hits_same (λ r. r.kept) (λ r f at. refl)
 
 pub entered_kept : (r : Ranking) (f : ℕ) (es : List Extent) (ss : List Span) → (all_entered r f es ss).kept ≡ r.kept
 entered_kept r f es [] = refl
 entered_kept r f es (s ∷ ss) = entered_kept (entered r f s.from (byte_len (parts_from es s)) 1) f es ss
+
+pub entered_low : (r : Ranking) (f : ℕ) (es : List Extent) (ss : List Span) → (all_entered r f es ss).low ≡ r.low
+entered_low r f es [] = refl
+entered_low r f es (s ∷ ss) = entered_low (entered r f s.from (byte_len (parts_from es s)) 1) f es ss
 
 lowered_kept : (r : Ranking) → (lowered r).kept ≡ r.kept
 lowered_kept r = pick (nat_lt MAX_LOW r.low) where

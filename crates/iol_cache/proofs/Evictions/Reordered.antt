@@ -16,21 +16,17 @@ forgot_dirty r t f x dirty is = is ∙ sym (ap (λ b. cond b (with_one_given_bac
 pub forgot_clean : (r t : Ranking) (f at : ℕ) (x : Extent) → x.dirty ≡ false → x.at ≡ at → t ≡ left_at r f at → t ≡ forgotten r f x
 forgot_clean r t f at x clean begins is = is ∙ ap (left_at r f) (sym begins) ∙ sym (ap (λ b. cond b (with_one_given_back r) (left_at r f x.at)) clean)
 
-pub remembered_clean : (r : Ranking) (f : ℕ) (x : Extent) → x.dirty ≡ false → 0 < byte_len x.parts → remembered r f x ≡ entered r f x.at (byte_len x.parts) 1
-remembered_clean r f x clean some =
-    ap (λ b. cond b r (cond x.dirty (with_one_kept r) (entered r f x.at (byte_len x.parts) 1))) (some_bytes (byte_len x.parts) some)
-    ∙ ap (λ b. cond b (with_one_kept r) (entered r f x.at (byte_len x.parts) 1)) clean
+remembered_some : (r : Ranking) (f : ℕ) (x : Extent) → 0 < byte_len x.parts → remembered r f x ≡ cond x.dirty (with_one_kept r) (entered r f x.at (byte_len x.parts) 1)
+remembered_some r f x some = ap (λ b. cond b r (cond x.dirty (with_one_kept r) (entered r f x.at (byte_len x.parts) 1))) (some_bytes (byte_len x.parts) some)
   where
     some_bytes : (n : ℕ) → 0 < n → (n == 0) ≡ false
     some_bytes n h = grind (arith, nat_tests, h)
 
+pub remembered_clean : (r : Ranking) (f : ℕ) (x : Extent) → x.dirty ≡ false → 0 < byte_len x.parts → remembered r f x ≡ entered r f x.at (byte_len x.parts) 1
+remembered_clean r f x clean some = remembered_some r f x some ∙ ap (λ b. cond b (with_one_kept r) (entered r f x.at (byte_len x.parts) 1)) clean
+
 pub remembered_dirty : (r : Ranking) (f : ℕ) (x : Extent) → x.dirty ≡ true → 0 < byte_len x.parts → remembered r f x ≡ with_one_kept r
-remembered_dirty r f x dirty some =
-    ap (λ b. cond b r (cond x.dirty (with_one_kept r) (entered r f x.at (byte_len x.parts) 1))) (some_bytes (byte_len x.parts) some)
-    ∙ ap (λ b. cond b (with_one_kept r) (entered r f x.at (byte_len x.parts) 1)) dirty
-  where
-    some_bytes : (n : ℕ) → 0 < n → (n == 0) ≡ false
-    some_bytes n h = grind (arith, nat_tests, h)
+remembered_dirty r f x dirty some = remembered_some r f x some ∙ ap (λ b. cond b (with_one_kept r) (entered r f x.at (byte_len x.parts) 1)) dirty
 
 pub remembered_none : (r : Ranking) (f : ℕ) (x : Extent) → byte_len x.parts ≡ 0 → remembered r f x ≡ r
 remembered_none r f x none = ap (λ n. cond (n == 0) r (cond x.dirty (with_one_kept r) (entered r f x.at n 1))) none

@@ -81,11 +81,14 @@ module _ (old new : Holding) (f : ℕ) (own : List Slice) (sound : IsSound old.s
   covers_of : (g : ℕ) → Covers new.store (bufs_of (all_parts (extents_in new.cache.files g)))
   covers_of g = covers_file new.cache.files g covers_new
 
-  filed : Each (IsLaid old.store pool) puts.extents.extents → last_end puts.extents.extents ≤ MAX_FILE_BYTES → (g : ℕ) → IsFiled new.store (file_in new.cache.files g)
+  covers_here : Covers new.store (bufs_of (all_parts puts.extents.extents))
+  covers_here = subst (λ (y : CachedFile). Covers new.store (bufs_of (all_parts y.extents.extents))) file_is (covers_of f)
+
+  filed : Each (IsLaid new.store pool) puts.extents.extents → last_end puts.extents.extents ≤ MAX_FILE_BYTES → (g : ℕ) → IsFiled new.store (file_in new.cache.files g)
   filed laid short g = elim (cases_eq g f) [
     | inl same ↦ subst (λ n. IsFiled new.store (file_in new.cache.files n)) (sym same) (subst (IsFiled new.store) (sym file_is) (record {
       apart = puts.apart;
-      laid = laid_stays pool puts.extents.extents puts.moves.stays (subst (λ (y : CachedFile). Covers new.store (bufs_of (all_parts y.extents.extents))) file_is (covers_of f)) laid;
+      laid = laid;
       short = short;
     }))
     | inr ne ↦ (
@@ -143,18 +146,18 @@ module _ (old new : Holding) (f : ℕ) (own : List Slice) (sound : IsSound old.s
     ]
   ]
 
-  pub sound_changed : Each (IsLaid old.store pool) puts.extents.extents → last_end puts.extents.extents ≤ MAX_FILE_BYTES → IsSound new.store new.cache
-  sound_changed laid short =
+  pub sound_laid : Each (IsLaid new.store pool) puts.extents.extents → last_end puts.extents.extents ≤ MAX_FILE_BYTES → IsSound new.store new.cache
+  sound_laid laid short =
       record {
         files = filed laid short;
         opened = λ g is. (
             let b = numbered_bounds new.cache.files g is in
             let o = sound.opened g (numbered_yes fs g b.0 (omega (arith, b.1, count_same))) in
             let ob = numbered_bounds old.cache.orders (file_in fs g).pool o.ordered in
-            record { is_open = ap (λ p. (pool_in new.store.pools p).closed) (pool_same g) ∙ ap (λ (y : Pool). y.closed) (puts.frees.pools (file_in fs g).pool o.is_open) ∙ o.is_open; ordered = ap (is_numbered new.cache.orders) (pool_same g) ∙ numbered_yes new.cache.orders (file_in fs g).pool ob.0 (omega (arith, ob.1, orders_same)) });
+            record { is_open = ap (λ p. (pool_in new.store.pools p).closed) (pool_same g) ∙ ap (λ (y : Pool). y.closed) (puts.pools (file_in fs g).pool o.is_open) ∙ o.is_open; ordered = ap (is_numbered new.cache.orders) (pool_same g) ∙ numbered_yes new.cache.orders (file_in fs g).pool ob.0 (omega (arith, ob.1, orders_same)) });
         covered = covers_new;
         marked = record { each = λ q. omega (arith, puts.follows.each q, sound.marked.each q, ap (λ l. at_page q (clean_held l)) puts.files, clean_change (at_page q) (additive_page q) fs f x numbered) };
-        pages = puts.follows.long ∙ sound.pages ∙ sym puts.frees.count;
+        pages = puts.follows.long ∙ sound.pages ∙ sym puts.pages;
         ranked = record { each = ranked };
         ready = subst (λ l. AreReady l new.cache.orders) (sym puts.files) (subst (AreReady (with_file fs f x)) (sym puts.orders) (ready_changed fs old.cache.orders f x puts.order numbered ordered refl puts.follows.kept sound.ready));
         few_files = omega (arith, count_same, sound.few_files);
@@ -162,3 +165,7 @@ module _ (old new : Holding) (f : ℕ) (own : List Slice) (sound : IsSound old.s
         tidy = puts.moves.tidy sound.tidy;
         still = puts.moves.still sound.still;
       }
+
+  -- they lay there already
+  pub sound_changed : Each (IsLaid old.store pool) puts.extents.extents → last_end puts.extents.extents ≤ MAX_FILE_BYTES → IsSound new.store new.cache
+  sound_changed laid short = sound_laid (laid_stays pool puts.extents.extents puts.moves.stays covers_here laid) short

@@ -1,5 +1,5 @@
 -- Steps of a read, one after another.
-use Rattle.std.proofs.Common.{◌≡◌, ℕ, ◌≤◌, Bool, true, false, cond, List, [], ◌∷◌, ◌++◌, length, Option, Some, None, refl, sym, ap, ◌∙◌, arith, subst}
+use Rattle.std.proofs.Common.{◌≡◌, ℕ, ◌+◌, ◌≤◌, true, List, ◌++◌, length, refl, sym, ap, ◌∙◌, arith, subst}
 use Rattle.iol_arena.specs.State.{page_count}
 use Rattle.iol_back.specs.Disk.{Disk, content}
 use Rattle.iol_core.specs.declared.numbers.BufId.{BufId}
@@ -12,10 +12,10 @@ use Rattle.iol_cache.specs.Contents.{AreStored, file_bytes, byte_in}
 use Rattle.iol_cache.specs.Evicting.{Holding, GivesUp}
 use Rattle.iol_cache.specs.Going.{Goes, CountsHits}
 use Rattle.iol_core.specs.Numbered.{is_numbered}
-use Rattle.iol_extent.specs.Extents.{Extent, extent_over}
 use Rattle.iol_extent.specs.declared.spans.Span.{Span}
-use Rattle.iol_evict.specs.Ranking.{Ranking, hit_at}
-use Rattle.iol_cache.specs.Reading.{SameButRoom, hit_counted, hits_counted}
+use Rattle.iol_evict.specs.Ranking.{Ranking}
+use Rattle.iol_cache.specs.Reading.{SameButRoom, hits_counted}
+use Rattle.iol_cache.proofs.Evictions.Ready.{hits_same}
 use Rattle.iol_cache.proofs.Extents.Filing.{order_same, numbered_bounds, numbered_yes}
 use Rattle.iol_cache.specs.Sound.{IsSound}
 use Rattle.iol_cache.proofs.Extents.Staying.{files_stay, mirrors_stay}
@@ -73,11 +73,11 @@ goes_cache d own s c e count pools extents same = record {
   files = λ honest h. record { each = λ f. ap (file_bytes (byte_in s) (content d.slots f)) (extents f) };
 }
 
--- only the store went on
-pub goes_store : (d : Disk) (xs ys : List BufId) (s t : Stored) (c : Cached) → IsSound s c → Moves s t xs ys → Covers t (held c.files) → SameLists s t → (AllSettled s → AllSettled t) → page_count t.arena ≡ page_count s.arena → Goes d xs ys (record { store = s; cache = c }) (record { store = t; cache = c })
-goes_store d xs ys s t c sound m covers lists settles pages = record {
+-- only the store went on: of what others hold, some went and some came
+pub goes_moved : (d : Disk) (own more gone come : List BufId) (s t : Stored) (c : Cached) → ((x : BufId) → tally x own + tally x come ≡ tally x gone + tally x more) → IsSound s c → Moves s t gone come → Covers t (held c.files) → SameLists s t → (AllSettled s → AllSettled t) → page_count t.arena ≡ page_count s.arena → Goes d own more (record { store = s; cache = c }) (record { store = t; cache = c })
+goes_moved d own more gone come s t c split sound m covers lists settles pages = record {
   moves = record {
-    counts = record { each = λ x. omega (arith, m.counts.each x, tally-append x (held c.files) xs, tally-append x (held c.files) ys) };
+    counts = record { each = λ x. omega (arith, m.counts.each x, split x, tally-append x (held c.files) own, tally-append x (held c.files) more) };
     stays = m.stays;
     still = m.still;
     tidy = m.tidy;
@@ -91,6 +91,9 @@ goes_store d xs ys s t c sound m covers lists settles pages = record {
   files = λ honest h. files_stay d.slots c.files sound.files m.stays covers;
 }
 
+pub goes_store : (d : Disk) (xs ys : List BufId) (s t : Stored) (c : Cached) → IsSound s c → Moves s t xs ys → Covers t (held c.files) → SameLists s t → (AllSettled s → AllSettled t) → page_count t.arena ≡ page_count s.arena → Goes d xs ys (record { store = s; cache = c }) (record { store = t; cache = c })
+goes_store d xs ys s t c = goes_moved d xs ys xs ys s t c (λ x. refl)
+
 pub goes_covers : (d : Disk) (xs ys : List BufId) (a b : Holding) → Goes d xs ys a b → Covers a.store (held a.cache.files ++ xs) → Covers b.store (held b.cache.files ++ ys)
 goes_covers d xs ys a b m covers = record { each = λ x. omega (arith, covers.each x, m.moves.counts.each x) }
 
@@ -102,24 +105,12 @@ covers_right s xs ys covers = record { each = λ x. omega (arith, covers.each x,
 
 -- Hits leave room.
 
-hits_room : (r : Ranking) (f : ℕ) (es : List Extent) (ss : List Span) → (hits_counted r f es ss).room ≡ r.room
-hits_room r f es [] = refl
-hits_room r f es (s ∷ ss) = hits_room (hit_counted r f (extent_over es s.from)) f es ss ∙ one (extent_over es s.from)
-  where
-    dirty : (d : Bool) (at : ℕ) → (cond d r (hit_at r f at)).room ≡ r.room
-    dirty true at = refl
-    dirty false at = refl
-
-    one : (o : Option Extent) → (hit_counted r f o).room ≡ r.room
-    one None = refl
-    one (Some e) = dirty e.dirty e.at
-
 pub hits_entries_left : (s : Stored) (r e : Cached) (f n : ℕ) (hits : List Span) → IsSound s r → is_numbered r.files f ≡ true → CountsHits f hits r e → n ≤ (order_in r.orders (file_in r.files f).pool).room → n ≤ (order_in e.orders (file_in e.files f).pool).room
 hits_entries_left s r e f n hits sound numbered m h =
     let p = (file_in r.files f).pool in
     let x = hits_counted (order_in r.orders p) f (extents_in r.files f) hits in
     let ob = numbered_bounds r.orders p (sound.opened f numbered).ordered in
-    omega (arith, h, ap (λ fs. (order_in e.orders (file_in fs f).pool).room) m.files, ap (λ os. (order_in os p).room) m.orders, ap (λ (y : Ranking). y.room) (order_same r.orders p x ob.0 ob.1), hits_room (order_in r.orders p) f (extents_in r.files f) hits)
+    omega (arith, h, ap (λ fs. (order_in e.orders (file_in fs f).pool).room) m.files, ap (λ os. (order_in os p).room) m.orders, ap (λ (y : Ranking). y.room) (order_same r.orders p x ob.0 ob.1), hits_same (λ (y : Ranking). y.room) (λ y g at. refl) (order_in r.orders p) f (extents_in r.files f) hits)
 
 -- a file of a cache with other room
 pub numbered_same : (c e : Cached) (f : ℕ) → SameButRoom c e → is_numbered c.files f ≡ true → is_numbered e.files f ≡ true

@@ -1,11 +1,12 @@
 -- Gaps filled one after another.
-use Rattle.std.proofs.Common.{add-one, inl, inr, ◌≡◌, ◌⊎◌, false, ℕ, zero, suc, ◌+◌, ◌-◌, ◌<◌, ◌≤◌, ◌++◌, All, List, [], ◌∷◌, length, take, drop, get_or, refl, sym, ap, ◌∙◌, arith, subst}
+use Rattle.std.proofs.Common.{add-one, Err, inl, inr, ◌≡◌, ◌⊎◌, false, ℕ, zero, suc, ◌+◌, ◌-◌, ◌<◌, ◌≤◌, ◌++◌, All, List, [], ◌∷◌, length, take, drop, get_or, refl, sym, ap, ◌∙◌, arith, subst}
 use Rattle.std.specs.List.{AllZip, Contains}
 use Rattle.std.proofs.lemmas.List.{append-nil, length-append, length-drop, drop-drop}
 use Rattle.std.proofs.lemmas.List.Elements.{All-append, All-cons, All-nil, All-weaker}
 use Rattle.std.proofs.Math.Seq.{drop-cons}
 use Rattle.std.proofs.lemmas.Grind.{flat_map-append}
 use Rattle.iol_core.specs.declared.numbers.BufId.{BufId}
+use Rattle.iol_core.specs.declared.refusals.Refusal.{Refusal}
 use Rattle.iol_arena.specs.Adds.{IsNew}
 use Rattle.iol_arena.specs.Buffers.{Grows}
 use Rattle.iol_arena.specs.Chunks.{usable}
@@ -31,7 +32,7 @@ use Rattle.iol_hold.proofs.Releasing.{all_or_none}
 use Rattle.iol_hold.proofs.Reading.{readable_stays, text_stays}
 use Rattle.iol_pool.specs.Pools.{Pool, pool_in}
 use Rattle.iol_cache.specs.Gaps.{AllBegin, FillsGap, FillsGaps, IsMade, Mirrors, all_put, gap_pages, parts_back, without_spans}
-use Rattle.iol_cache.specs.Loading.{PlacesPages, PlacesSome}
+use Rattle.iol_cache.specs.Loading.{PlacesOrReleases, PlacesPages, PlacesSome}
 use Rattle.iol_cache.proofs.RangeReads.Paged.{usable_free}
 use Rattle.iol_cache.proofs.RangeReads.Undone.{Begin, CanRead, all_put-push, back_put, back_readable, begin_put, gap_left, none_gaps, without_put}
 use Rattle.iol_cache.specs.Cached.{all_parts}
@@ -287,6 +288,16 @@ moved_back m n o same = record {
 }
 
 -- pages that were filled, then nothing was placed, and some were freed
+-- a refusal that is handed on, told of a pool that is the same
+pub leaves_as : {A B : Type 0} {p q m n : ℕ} {s t : Stored} {x : Refusal} → p ≡ q → m ≡ n → PlacesOrReleases {A = A} p m s t (Err x) → PlacesOrReleases {A = B} q n s t (Err x)
+leaves_as {p = p} {n = n} {s = s} {t = t} pool pages h = record {
+  none = h.none;
+  given_back = subst (λ k. PlacesSome s t k n) pool (subst (PlacesSome s t p) pages h.given_back);
+  lists = h.lists;
+  settles = h.settles;
+  no_room = λ r is. omega (arith, h.no_room r is, pages, ap (λ k. length (free_of s k)) pool);
+}
+
 pub placed_some : {s t u v : Stored} {p k : ℕ} (n : ℕ) → k ≤ n → PlacesPages s t p k → KeepsPages t u [] → FreesOnly u v → u.pools ≡ t.pools → PlacesSome s v p n
 placed_some {s = s} {t = t} {u = u} {v = v} {p = p} {k = k} n few a b c same =
     let P = take k (free_of s p) in

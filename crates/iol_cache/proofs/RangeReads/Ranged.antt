@@ -18,11 +18,12 @@ use Rattle.iol_extent.specs.Extents.{Extent, ExtentMap, cover}
 use Rattle.iol_extent.specs.Spans.{AreInOrder, IsGapSpan, LiesIn}
 use Rattle.iol_extent.specs.declared.spans.Span.{Span}
 use Rattle.iol_cache.specs.Gaps.{all_put, IsMade, FillsGaps}
-use Rattle.iol_cache.specs.Sound.{Each, IsLaid}
-use Rattle.iol_cache.specs.Sharing.{IsCoveredSpan, CountsBelow}
+use Rattle.iol_cache.specs.Sound.{Each, IsLaid, IsSound}
+use Rattle.iol_cache.specs.Sharing.{AreHeld, CountsBelow, IsCoveredSpan}
 use Rattle.iol_cache.proofs.Extents.Filing.{additive_tally, additive_bufs, sum-flat}
 use Rattle.iol_cache.proofs.RangeReads.Putting.{made_fits, covered-made, sum-all_put, each-all_put}
-use Rattle.iol_cache.specs.Cached.{all_parts}
+use Rattle.iol_cache.proofs.Extents.Using.{covers_file}
+use Rattle.iol_cache.specs.Cached.{Cached, all_parts, extents_in}
 
 pub tally_len : (b : BufId) (xs : List Slice) → tally b (bufs_of xs) ≤ byte_len xs
 unfolding tally
@@ -104,3 +105,7 @@ range_readable s t old new p file gs d f readable held =
     let was : Covers t (bufs_of (all_parts old.extents)) = record { each = λ b. omega (arith, held.each b, tally-all_put b old.extents f.made, ap (λ es. tally b (bufs_of (all_parts es))) f.extents) } in
     let old' = readable_stays (all_parts old.extents) f.moves.stays was readable in
     subst (λ es. AllReadable t (all_parts es)) (sym f.extents) (readable_each (all_put old.extents f.made) (each-all_put (CanBeRead t) old.extents f.made (each_readable old.extents old') (made_readable s t p gs f.made f.each.each)))
+
+-- the extents of a file of a sound cache
+pub file_held : {s : Stored} {c : Cached} (f : ℕ) → IsSound s c → AreHeld s (extents_in c.files f)
+file_held {c = c} f sound = record { apart = (sound.files f).apart; held = covers_file c.files f sound.covered; readable = laid_readable _ _ (sound.files f).laid }

@@ -44,7 +44,7 @@ use Rattle.iol_cache.proofs.Evictions.Rooming.{at_most}
 use Rattle.iol_cache.proofs.RangeReads.Shared.{over_there, readable_of}
 use Rattle.iol_cache.proofs.Extents.Stepping.{sound_on}
 use Rattle.iol_cache.proofs.RangeReads.Undone.{NoneBegins, begins_at-put_in, none_beside, none_gaps}
-use Rattle.iol_cache.proofs.Extents.Steps.{covers_right, goes_cache, goes_covers, goes_less, goes_store, goes_trans}
+use Rattle.iol_cache.proofs.Extents.Steps.{covers_right, goes_cache, goes_covers, goes_less, goes_moved, goes_trans}
 
 -- what holds of both results
 pub either_way : {A E : Type 0} (P Q : Type 0) (F : A → Type 0) (r : Result A E) → IfOk r F → OnErr r Q → ((x : A) → F x → P) → (Q → P) → P
@@ -70,8 +70,8 @@ pub told_errs : {A E P Q R : Type 0} {S : E → Type 0} (r : Result A E) → OnE
 told_errs (Ok x) p q s f = tt
 told_errs (Err y) p q s f = f y refl p q s
 
-pub told_is : {A E : Type 0} (r : Result A E) (y z : E) → r ≡ Err y → y ≡ z → r ≡ Err z
-told_is r y z told is = told ∙ ap (λ e. Err e) is
+pub told_err : {A E : Type 0} (P : E → Type 0) (r : Result A E) (y : E) → r ≡ Err y → IfErr r P → P y
+told_err P r y told h = subst (λ x. IfErr x P) told h
 
 pub always_err : {A E Q : Type 0} (r : Result A E) → Q → OnErr r Q
 always_err (Ok x) q = tt
@@ -221,22 +221,7 @@ extents_filled f from to b c beside gs d xs there filled =
 pub goes_released : (d : Disk) (own gone more : List BufId) (s t : Stored) (c : Cached) → ((x : BufId) → tally x own ≡ tally x gone + tally x more) → IsSound s c → Covers s (held c.files ++ own) → Moves s t gone [] → SameLists s t → (AllSettled s → AllSettled t) → page_count t.arena ≡ page_count s.arena → Goes d own more (record { store = s; cache = c }) (record { store = t; cache = c })
 goes_released d own gone more s t c split sound covers m lists settles pages =
     let left : Covers t (held c.files) = record { each = λ x. omega (arith, covers.each x, m.counts.each x, tally_none x, tally-append x (held c.files) own, split x) } in
-    let g = goes_store d gone [] s t c sound m left lists settles pages in
-    record {
-      moves = record {
-        counts = record { each = λ x. omega (arith, m.counts.each x, tally_none x, split x, tally-append x (held c.files) own, tally-append x (held c.files) more) };
-        stays = m.stays;
-        still = m.still;
-        tidy = m.tidy;
-      };
-      lists = lists;
-      settles = settles;
-      pages = pages;
-      count = refl;
-      pools = λ f. refl;
-      mirrors = g.mirrors;
-      files = g.files;
-    }
+    goes_moved d own more gone [] s t c (λ x. omega (arith, split x, tally_none x)) sound m left lists settles pages
 
 -- only room changed
 pub goes_reserved : (d : Disk) (a b : Holding) → IsSound a.store a.cache → SameButRoom a.cache b.cache → Moves a.store b.store [] [] → SameLists a.store b.store → (AllSettled a.store → AllSettled b.store) → page_count b.store.arena ≡ page_count a.store.arena → Goes d [] [] a b

@@ -1,7 +1,7 @@
 -- Bytes of a file, shared from the extents over them.
-use Rattle.std.proofs.Common.{◌≡◌, ℕ, zero, suc, ◌+◌, ◌-◌, ◌/◌, ◌<◌, ◌≤◌, inr, Bool, true, false, cond, All, List, [], ◌∷◌, ◌++◌, length, map, take, drop, get_or, Option, Some, None, IsSome, slice_range, refl, sym, ap, ◌∙◌, arith, subst}
+use Rattle.std.proofs.Common.{◌≡◌, ℕ, zero, suc, ◌+◌, ◌-◌, ◌/◌, ◌<◌, ◌≤◌, inr, Bool, true, false, cond, All, List, [], ◌∷◌, ◌++◌, length, map, take, drop, get_or, Option, Some, None, IsSome, Ok, Err, slice_range, refl, sym, ap, ◌∙◌, arith, subst}
 use Rattle.std.specs.List.{Contains, range_with_len}
-use Rattle.std.proofs.lemmas.List.Elements.{All-append, All-drop, All-same, All-take}
+use Rattle.std.proofs.lemmas.List.Elements.{All-append, All-same}
 use Rattle.std.proofs.lemmas.List.FromFn.{get_or-map-range_with_len, length-map-range_with_len}
 use Rattle.std.proofs.lemmas.Bool.Decides.{nat_tests}
 use Rattle.std.proofs.lemmas.List.{take_at, drop_at, map-append}
@@ -9,9 +9,8 @@ use Rattle.std.proofs.Math.Seq.{drop-cons}
 use Rattle.iol_core.specs.declared.numbers.BufId.{BufId}
 use Rattle.iol_extent.specs.Extents.{Cell, Extent, IsApart, cell_at, cover, end_of, extent_over, is_over, no_place}
 use Rattle.iol_extent.proofs.Cover.{cover_no, cover_yes}
-use Rattle.iol_hold.specs.Moves.{Covers, Moves, Shares, tally}
+use Rattle.iol_hold.specs.Moves.{Covers, Moves, Shares, pool_meant, tally}
 use Rattle.iol_hold.specs.Places.{Place, places}
-use Rattle.iol_hold.specs.Releases.{FreesOnly}
 use Rattle.iol_hold.specs.Stored.{Stored, AllSettled}
 use Rattle.iol_hold.specs.Texts.{AllReadable, IsThere, bufs_of}
 use Rattle.iol_hold.specs.declared.slices.Slice.{Slice}
@@ -19,13 +18,14 @@ use Rattle.iol_hold.proofs.Counting.{bufs-append, tally-append, tally_none}
 use Rattle.iol_hold.proofs.Emptied.{all_settled_same}
 use Rattle.iol_hold.proofs.Moving.{stays_trans, shares_move}
 use Rattle.iol_hold.proofs.Reading.{readable_taken, readable_rest}
-use Rattle.iol_hold.proofs.Releasing.{frees_none, frees_trans}
+use Rattle.iol_hold.proofs.Releasing.{frees_trans}
 use Rattle.iol_hold.proofs.Slicing.{places-append, range_with_len_split}
 use Rattle.iol_arena.specs.Buffers.{IsLive, bytes_of}
 use Rattle.iol_arena.specs.State.{State}
 use Rattle.iol_pool.specs.Pools.{Pool, pool_in}
 use Rattle.iol_cache.specs.Cached.{all_parts}
-use Rattle.iol_cache.specs.Sharing.{IsCovered, place_in, place_over, places_over}
+use Rattle.iol_cache.specs.Sharing.{IsCovered, SharesOrReleases, place_in, place_over, places_over}
+use Rattle.iol_cache.proofs.RangeReads.Paging.{frees_shares}
 
 over_from : (e : Extent) (i : ℕ) → is_over e i ≡ true → (e.at ≤ i) × (i < end_of e)
 over_from e i h = (grind (arith, nat_tests), grind (arith, nat_tests))
@@ -122,30 +122,11 @@ readable_same s t xs arena pools h = record {
       });
 }
 
-pub frees_shares : {s t : Stored} {xs ys : List BufId} → Shares s t xs ys → FreesOnly s t
-frees_shares {s = s} {t = t} m = frees_none s t (ap (λ (a : State). a.entries) m.arena) (ap (λ (a : State). a.limit) m.arena) m.pools
+pub readable_on : {s t : Stored} {xs ys : List BufId} (zs : List Slice) → Shares s t xs ys → AllReadable s zs → AllReadable t zs
+readable_on {s = s} {t = t} zs m h = readable_same s t zs m.arena m.pools h
 
 pub settles_shares : {s t : Stored} {xs ys : List BufId} → Shares s t xs ys → AllSettled s → AllSettled t
 settles_shares {s = s} {t = t} m all = all_settled_same s t m.arena m.pools all
-
-pub readable_range : {s : Stored} (xs ys : List Slice) (from to : ℕ) → places xs ≡ slice_range (places ys) from to → AllReadable s ys → AllReadable s xs
-readable_range {s} xs ys from to e h = record { each = All-same (IsThere s) _ _ e (All-take (IsThere s) (to - from) (drop from (places ys)) (All-drop (IsThere s) from (places ys) h.each)) }
-
--- A part that was shared, and is given up with what was shared before.
-module _ {a b c d : Stored} {xs ys : List BufId} (m : Shares a b [] ys) (n : Moves b c xs []) (o : Moves c d ys []) where
-  pub given_up : Moves a d xs []
-  given_up = record {
-    counts = record { each = λ x. omega (arith, m.counts.each x, n.counts.each x, o.counts.each x, tally_none x) };
-    stays = stays_trans (shares_move m).stays (stays_trans n.stays o.stays);
-    still = λ h. o.still (n.still ((shares_move m).still h));
-    tidy = λ h. o.tidy (n.tidy (m.tidy h));
-  }
-
-  pub given_frees : FreesOnly b c → FreesOnly c d → FreesOnly a d
-  given_frees f g = frees_trans (frees_trans (frees_shares m) f n.counts) g o.counts
-
-pub covers_shared : {a b : Stored} {xs ys : List BufId} → Covers a xs → Shares a b [] ys → Covers b xs
-covers_shared c m = record { each = λ x. omega (arith, c.each x, m.counts.each x, tally_none x) }
 
 pub covers_part : {a b c : Stored} {xs ys : List BufId} → Covers a xs → Shares a b [] ys → Moves b c xs [] → Covers c ys
 covers_part c m n = record { each = λ x. omega (arith, c.each x, m.counts.each x, n.counts.each x, tally_none x) }
@@ -193,13 +174,21 @@ length-places_over es from to = length-map-range_with_len (place_over es) from (
 pub readable_places : {s : Stored} (xs ys : List Slice) (ps : List Place) → places xs ≡ places ys ++ ps → AllReadable s ys → All (IsThere s) ps → AllReadable s xs
 readable_places {s} xs ys ps e h all = record { each = All-same (IsThere s) _ _ e (All-append (IsThere s) (places ys) ps h.each all) }
 
-pub shared_gone : {a b c : Stored} {xs : List BufId} → Shares a b [] xs → Moves b c xs [] → Moves a c [] []
+pub shared_gone : {a b c : Stored} {ws xs : List BufId} → Shares a b ws xs → Moves b c xs [] → Moves a c ws []
 shared_gone m n = record {
   counts = record { each = λ x. omega (arith, m.counts.each x, n.counts.each x, tally_none x) };
   stays = stays_trans (shares_move m).stays n.stays;
   still = λ h. n.still ((shares_move m).still h);
   tidy = λ h. n.tidy (m.tidy h);
 }
+
+-- all was shared
+pub all_shared : {A E : Type 0} {s t : Stored} {xs : List Slice} {given : A → List Slice} (a : A) → Shares s t (bufs_of xs) (bufs_of (given a)) → SharesOrReleases {A = A} {E = E} xs given s t (Ok a)
+all_shared a m = record { shares = m; gone = tt; frees = frees_shares m; lists = ap (map pool_meant) m.pools; settles = settles_shares m }
+
+-- some was, and then no more
+pub refused_then : {A B E : Type 0} {s t u : Stored} {xs ys : List Slice} {given : A → List Slice} {more : B → List Slice} {e : E} → Shares s t (bufs_of xs) (bufs_of ys) → SharesOrReleases {A = A} ys given t u (Err e) → SharesOrReleases {A = B} xs more s u (Err e)
+refused_then m h = record { shares = tt; gone = shared_gone m h.gone; frees = frees_trans (frees_shares m) h.frees h.gone.counts; lists = h.lists ∙ ap (map pool_meant) m.pools; settles = λ all. h.settles (settles_shares m all) }
 
 -- what is shared already is held beside what was held
 pub held_beside : {a b : Stored} {xs ys : List BufId} → Covers a ys → Shares a b [] xs → Covers b (xs ++ ys)

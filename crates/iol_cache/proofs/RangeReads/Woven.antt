@@ -1,5 +1,5 @@
 -- Parts of a range, put together.
-use Rattle.std.proofs.Common.{◌≡◌, ℕ, ◌+◌, ◌-◌, ◌<◌, ◌≤◌, ◌++◌, ◌^◌, List, [], ◌∷◌, length, take, drop, sym, ap, ◌∙◌, arith, length-append}
+use Rattle.std.proofs.Common.{◌≡◌, ℕ, ◌+◌, ◌-◌, ◌<◌, ◌≤◌, ◌++◌, ◌^◌, List, [], ◌∷◌, length, take, drop, sym, ap, ◌∙◌, arith, append_assoc, length-append}
 use Rattle.std.proofs.lemmas.List.{take_at, drop_at, append-nil}
 use Rattle.iol_core.specs.declared.numbers.BufId.{BufId}
 use Rattle.iol_hold.specs.Moves.{Shares, Covers}
@@ -54,3 +54,10 @@ woven-beside old new at to (g ∷ gs) =
 -- with a part of what can be read
 pub readable_more : {s : Stored} (more xs ys : List Slice) (from to : ℕ) → places more ≡ places xs ++ slice_range (places ys) from to → AllReadable s xs → AllReadable s ys → AllReadable s more
 readable_more {s = s} more xs ys from to e h k = readable_places more xs (slice_range (places ys) from to) e h (All-take (IsThere s) (to - from) (drop from (places ys)) (All-drop (IsThere s) from (places ys) k.each))
+
+-- where the bytes lie that were shared up to a gap, and then up to the next
+pub beside_more : (es : List Extent) (so_far more : List Place) (at to : ℕ) {gs rest : List Span} {g : Span} {all : List Place} → gs ≡ g ∷ rest → more ≡ so_far ++ places_over es at g.from → so_far ++ places_beside es at to gs ≡ all → more ++ places_beside es g.to to rest ≡ all
+beside_more es so_far more at to {rest = rest} {g = g} next is whole =
+    ap (λ l. l ++ places_beside es g.to to rest) is
+    ∙ append_assoc so_far (places_over es at g.from) (places_beside es g.to to rest)
+    ∙ sym (ap (λ l. so_far ++ places_beside es at to l) next) ∙ whole

@@ -13,6 +13,7 @@ use Rattle.iol_cache.specs.Contents.{IsStored, byte_in, file_byte, file_bytes, f
 use Rattle.iol_cache.specs.Sound.{Each, IsLaid}
 use Rattle.iol_cache.specs.Syncing.{first_cleaned}
 use Rattle.iol_extent.specs.Extents.{as_clean, cleaned_at}
+use Rattle.iol_extent.proofs.Clearing.{first_begins}
 use Rattle.iol_cache.proofs.Extents.Extending.{cover-begins, eq_of, over_yes}
 use Rattle.iol_cache.proofs.Extents.Filing.{sum-put_in, sum-without_at}
 
@@ -34,16 +35,7 @@ not_before m n h = grind (arith, nat_tests)
 -- The first dirty extent.
 
 pub first_dirty : (low : ℕ) (es : List Extent) (e : Extent) → IsApart low es → dirty_in es ≡ Some e → (begins_at es e.at ≡ Some e) × (e.dirty ≡ true) × (low ≤ e.at)
-first_dirty low [] e apart is = cc
-first_dirty low (x ∷ xs) e apart is = here x.dirty refl is (λ h. first_dirty (end_of x) xs e apart.2 h)
-  where
-    here : (b : Bool) → x.dirty ≡ b → cond b (Some x) (dirty_in xs) ≡ Some e → (dirty_in xs ≡ Some e → (begins_at xs e.at ≡ Some e) × (e.dirty ≡ true) × (end_of x ≤ e.at)) → (begins_at (x ∷ xs) e.at ≡ Some e) × (e.dirty ≡ true) × (low ≤ e.at)
-    here true dirty h ih =
-        let same : x ≡ e = cc in
-        (ap (λ b. cond b (Some x) (begins_at xs e.at)) (ap (λ (y : Extent). y.at == e.at) same ∙ same_at e.at) ∙ ap Some same, sym (ap (λ (y : Extent). y.dirty) same) ∙ dirty, omega (arith, apart.0, ap (λ (y : Extent). y.at) same))
-    here false dirty h ih =
-        let r = ih h in
-        (ap (λ b. cond b (Some x) (begins_at xs e.at)) (other_at x.at e.at (omega (arith, r.2, apart.1))) ∙ r.0, r.1, omega (arith, r.2, apart.0))
+first_dirty = first_begins
 
 pub dirty_some : (low : ℕ) (es : List Extent) (e : Extent) → IsApart low es → dirty_in es ≡ Some e → 0 < byte_len e.parts
 dirty_some low [] e apart is = cc
@@ -80,21 +72,20 @@ module _ (at : ℕ) (e : Extent) where
           let r = above (end_of x) xs apart.2 h in
           ap (λ b. cond b (as_clean e ∷ x ∷ without_at xs at) (x ∷ put_in (without_at xs at) (as_clean e))) (not_before e.at x.at (omega (arith, r.0, apart.1))) ∙ ap (λ l. x ∷ l) (ih h)
 
-pub parts-cleaned : (es : List Extent) (at : ℕ) → all_parts (cleaned_at es at) ≡ all_parts es
-parts-cleaned [] at = refl
-parts-cleaned (x ∷ xs) at = here (x.at == at) (parts-cleaned xs at)
+-- what is told of each extent by itself, but for whether it is dirty
+cleaned-same : {A : Type 0} (g : List Extent → A) → ((x : Extent) (xs ys : List Extent) → g xs ≡ g ys → g (x ∷ xs) ≡ g (x ∷ ys)) → ((x : Extent) (xs : List Extent) → g (as_clean x ∷ xs) ≡ g (x ∷ xs)) → (es : List Extent) (at : ℕ) → g (cleaned_at es at) ≡ g es
+cleaned-same g more clean [] at = refl
+cleaned-same g more clean (x ∷ xs) at = here (x.at == at) (cleaned-same g more clean xs at)
   where
-    here : (b : Bool) → all_parts (cleaned_at xs at) ≡ all_parts xs → all_parts (cond b (as_clean x ∷ xs) (x ∷ cleaned_at xs at)) ≡ all_parts (x ∷ xs)
-    here true ih = refl
-    here false ih = ap (λ l. x.parts ++ l) ih
+    here : (b : Bool) → g (cleaned_at xs at) ≡ g xs → g (cond b (as_clean x ∷ xs) (x ∷ cleaned_at xs at)) ≡ g (x ∷ xs)
+    here true ih = clean x xs
+    here false ih = more x (cleaned_at xs at) xs ih
+
+pub parts-cleaned : (es : List Extent) (at : ℕ) → all_parts (cleaned_at es at) ≡ all_parts es
+parts-cleaned = cleaned-same all_parts (λ x xs ys same. ap (λ l. x.parts ++ l) same) (λ x xs. refl)
 
 pub end-cleaned : (es : List Extent) (at : ℕ) → last_end (cleaned_at es at) ≡ last_end es
-end-cleaned [] at = refl
-end-cleaned (x ∷ xs) at = here (x.at == at) (end-cleaned xs at)
-  where
-    here : (b : Bool) → last_end (cleaned_at xs at) ≡ last_end xs → last_end (cond b (as_clean x ∷ xs) (x ∷ cleaned_at xs at)) ≡ last_end (x ∷ xs)
-    here true ih = refl
-    here false ih = ap (max (end_of x)) ih
+end-cleaned = cleaned-same last_end (λ x xs ys same. ap (max (end_of x)) same) (λ x xs. refl)
 
 pub laid-cleaned : (s : Stored) (p : ℕ) (es : List Extent) (at : ℕ) → Each (IsLaid s p) es → Each (IsLaid s p) (cleaned_at es at)
 laid-cleaned s p [] at all = tt

@@ -8,18 +8,8 @@ use Rattle.iol_extent.specs.Extents.{Adds, Extent, IsApart, IsGap, cell_at, cove
 use Rattle.iol_extent.proofs.Cover.{cover-extent, extent_no, extent_yes}
 use Rattle.iol_extent.proofs.Meeting.{unmet_free, unmet_gone, unmet_stays}
 use Rattle.iol_cache.specs.Cutting.{CutsLeft, CutsRight, IsAfter, IsBefore}
+use Rattle.iol_cache.proofs.Extents.Extending.{over_not, over_yes}
 use Rattle.iol_cache.proofs.RangeReads.Shared.{over_at, over_low}
-
-over_yes : (e : Extent) (i : ℕ) → e.at ≤ i → i < end_of e → is_over e i ≡ true
-over_yes e i h k = grind (arith, nat_tests)
-
-over_no : (e : Extent) (i : ℕ) → (i < e.at) ⊎ (end_of e ≤ i) → is_over e i ≡ false
-over_no e i (inl h) = below e i h where
-  below : (e : Extent) (i : ℕ) → i < e.at → is_over e i ≡ false
-  below e i h = grind (arith, nat_tests)
-over_no e i (inr h) = above e i h where
-  above : (e : Extent) (i : ℕ) → end_of e ≤ i → is_over e i ≡ false
-  above e i h = grind (arith, nat_tests)
 
 met : (e : Extent) (from to : ℕ) → e.at < to → from < end_of e → meets from to e ≡ true
 met e from to h k = grind (arith, nat_tests)
@@ -109,8 +99,8 @@ right_of es to x pos c some = elim (found (extent_over es (to - 1))) [
 -- a part that has ended, or has none of its bytes there
 no_edge : (x : Extent) (i : ℕ) → (0 < byte_len x.parts → (i < x.at) ⊎ (end_of x ≤ i)) → is_over x i ≡ false
 no_edge x i out = elim (cases_lt 0 (byte_len x.parts)) [
-  | inl some ↦ over_no x i (out some)
-  | inr none ↦ elim (cases_lt i x.at) [ inl l ↦ over_no x i (inl l) | inr l ↦ over_no x i (inr (omega (arith, none, l))) ]
+  | inl some ↦ over_not x i (out some)
+  | inr none ↦ elim (cases_lt i x.at) [ inl l ↦ over_not x i (inl l) | inr l ↦ over_not x i (inr (omega (arith, none, l))) ]
 ]
 
 -- Where they are put.

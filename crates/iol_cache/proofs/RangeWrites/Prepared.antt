@@ -115,11 +115,3 @@ still_held a b = record { each = λ x. omega (arith, a.counts.each x, b.counts.e
 
 pub held_after : {s t u v : Stored} {xs ys : List BufId} → Moves s t [] xs → Moves t u [] ys → Moves u v ys [] → Covers v xs
 held_after a b c = record { each = λ x. omega (arith, a.counts.each x, b.counts.each x, c.counts.each x, tally_none x) }
-
-pub gone_after : {s t u v w : Stored} {xs ys : List BufId} → Moves s t [] xs → Moves t u [] ys → Moves u v ys [] → Moves v w xs [] → Moves s w [] []
-gone_after a b c d = record {
-  counts = record { each = λ x. omega (arith, a.counts.each x, b.counts.each x, c.counts.each x, d.counts.each x, tally_none x) };
-  stays = stays_trans a.stays (stays_trans b.stays (stays_trans c.stays d.stays));
-  still = λ h. d.still (c.still (b.still (a.still h)));
-  tidy = λ h. d.tidy (c.tidy (b.tidy (a.tidy h)));
-}

@@ -13,7 +13,6 @@ use Rattle.iol_hold.specs.Texts.{byte_at, bufs_of, text_of}
 use Rattle.iol_hold.specs.declared.slices.Slice.{Slice}
 use Rattle.iol_hold.proofs.Counting.{tally-append, tally_none}
 use Rattle.iol_hold.proofs.Moving.{moves_none}
-use Rattle.iol_hold.proofs.Releasing.{frees_none}
 use Rattle.iol_extent.specs.Extents.{Extent, IsApart, begins_at, cell_at, dirty_in, end_of, is_over, last_end, no_place, dirty_count}
 use Rattle.iol_cache.specs.declared.files.CachedFile.{CachedFile}
 use Rattle.iol_cache.specs.Cached.{Cached, extents_in, file_in, held, all_parts}
@@ -103,7 +102,8 @@ module _ (s : Stored) (f : ℕ) (old new : Cached) (d e : Disk) (sound : IsSound
       still = λ h. h;
       tidy = λ h. h;
     };
-    frees = frees_none s s refl refl refl;
+    pages = refl;
+    pools = λ p is. refl;
   }
 
   pub cleaned_sound : IsSound s new

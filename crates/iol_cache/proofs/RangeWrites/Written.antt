@@ -162,14 +162,11 @@ marks_left s c l r n sound few hl hr hn = record { each = λ p. omega (arith, ma
 -- What holds after.
 
 module _ (old new : Holding) (f from to : ℕ) (left right e : Extent) (sound : IsSound old.store old.cache) (there : is_numbered old.cache.files f ≡ true) (puts : PutsOver f from to left right e old new) (held_all : Covers old.store (held old.cache.files ++ bufs_of (parts_put left right e))) where
-  abbrev fs : List CachedFile
-  fs = old.cache.files
-
   abbrev pool : ℕ
-  pool = (file_in fs f).pool
+  pool = (file_in old.cache.files f).pool
 
   abbrev es : List Extent
-  es = extents_in fs f
+  es = extents_in old.cache.files f
 
   abbrev pub changes : Changes f (parts_put left right e) old new
   changes = record {
@@ -180,7 +177,8 @@ module _ (old new : Holding) (f from to : ℕ) (left right e : Extent) (sound : 
     orders = puts.orders;
     follows = puts.follows;
     moves = puts.moves;
-    frees = puts.frees;
+    pages = puts.frees.count;
+    pools = puts.frees.pools;
   }
 
   pub laid_put : 0 < to → CutsLeft es from left → CutsRight es to right → IsLaid old.store pool e → Each (IsLaid old.store pool) puts.extents.extents

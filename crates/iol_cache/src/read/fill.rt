@@ -1,20 +1,17 @@
 //! Gaps of a range that are read, and the range that is shared then.
-ghost use Rattle.std.specs.Prelude.{◌≡◌, ℕ, ◌<◌, ◌≤◌, ◌^◌, [], Err, OnErr, IfOk, IfErr, All, length, false};
+ghost use Rattle.std.specs.Prelude.{◌≡◌, ◌≤◌, ◌^◌, OnErr, IfOk, IfErr, All, length, false};
 ghost use Rattle.iol_core.specs.Meaning.{WantOfRoomOrFault};
 ghost use Rattle.iol_pool.specs.Pools.{pool_in};
-ghost use Rattle.iol_hold.specs.Moves.{Moves, Covers, SameLists};
+ghost use Rattle.iol_hold.specs.Moves.{Covers};
 ghost use Rattle.iol_hold.specs.Places.{places, byte_len};
-ghost use Rattle.iol_hold.specs.Room.{free_of};
-ghost use Rattle.iol_hold.specs.Stored.{AllSettled};
 ghost use Rattle.iol_hold.specs.Texts.{bufs_of, AllReadable};
 ghost use Rattle.iol_extent.specs.Extents.{IsApart};
 ghost use Rattle.iol_extent.specs.Spans.{AreInOrder, IsGapSpan};
 ghost use Rattle.iol_cache.specs.Gaps.{gap_pages};
-ghost use Rattle.iol_cache.specs.Loading.{Asks, PlacesSome};
+ghost use Rattle.iol_cache.specs.Loading.{Asks, PlacesOrReleases};
 ghost use Rattle.iol_cache.specs.Reading.{FillsRange};
-ghost use Rattle.iol_cache.specs.Sharing.{CountsBelow};
+ghost use Rattle.iol_cache.specs.Sharing.{AreHeld, CountsBelow};
 ghost use Rattle.iol_cache.specs.Weaving.{len_beside};
-ghost use Rattle.iol_cache.specs.Cached.{all_parts};
 
 use crate::files::{CachedFile, FilePart};
 use crate::read::gaps::{fill_gaps, take_back};
@@ -38,15 +35,13 @@ pub(crate) fn fill_range<B: Backing>(
     beside: &Agg,
     gaps: &[Span],
 ) -> Result<Agg, Refusal>
+    requires there { AreHeld store.old cached.old.extents.extents }
     requires ordered { part.now.from ≤ part.now.to }
     requires end { part.now.to ≤ MAX_FILE_BYTES }
-    requires apart { IsApart 0 cached.old.extents.extents }
     requires order { AreInOrder part.now.from part.now.to gaps.now }
     requires gaps { All (IsGapSpan cached.old.extents.extents) gaps.now }
     requires room { length gaps.now ≤ cached.old.extents.room }
     requires open { (pool_in store.old.pools cached.old.pool).closed ≡ false }
-    requires held { Covers store.old (bufs_of (all_parts cached.old.extents.extents)) }
-    requires readable { AllReadable store.old (all_parts cached.old.extents.extents) }
     requires beside_len { byte_len beside.now ≡ len_beside part.now.from part.now.to gaps.now }
     requires beside_held { Covers store.old (bufs_of beside.now) }
     requires beside_readable { AllReadable store.old beside.now }
@@ -57,13 +52,8 @@ pub(crate) fn fill_range<B: Backing>(
     ensures pool { cached.new.pool ≡ cached.old.pool }
     ensures apart { IsApart 0 cached.new.extents.extents }
     ensures same { OnErr result (cached.new ≡ cached.old) }
-    ensures none { OnErr result (Moves store.old store.new [] []) }
-    ensures given_back { OnErr result
-        (PlacesSome store.old store.new cached.old.pool (gap_pages gaps.now)) }
-    ensures lists { SameLists store.old store.new }
-    ensures settles { AllSettled store.old → AllSettled store.new }
-    ensures no_room { (p : ℕ) → result ≡ Err (Refusal.NoRoom p) →
-        length (free_of store.old cached.old.pool) < gap_pages gaps.now }
+    ensures leaves { PlacesOrReleases cached.old.pool (gap_pages gaps.now) store.old store.new
+        result }
     ensures disk { Asks (length gaps.now) (B.disk backing.old) (B.disk backing.new) result }
     ensures late { IfErr result (WantOfRoomOrFault cached.old.pool part.now.file) }
 {

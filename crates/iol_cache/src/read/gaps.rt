@@ -1,17 +1,14 @@
 //! Gaps that become clean extents.
-ghost use Rattle.std.specs.Prelude.{◌≡◌, ℕ, ◌+◌, ◌-◌, ◌<◌, ◌≤◌, ◌^◌, [], false, length, take, drop, Err, OnOk, OnErr, IfOk, IfErr, All};
-ghost use Rattle.iol_arena.specs.State.{pages_for};
+ghost use Rattle.std.specs.Prelude.{◌≡◌, ◌+◌, ◌-◌, ◌<◌, ◌≤◌, [], false, length, take, drop, OnOk, OnErr, IfOk, IfErr, All};
 ghost use Rattle.iol_core.specs.Meaning.{WantOfRoomOrFault};
 ghost use Rattle.iol_core.specs.Text as text;
 ghost use Rattle.iol_back.specs.Disk.{IfHonest, content};
 ghost use Rattle.iol_cache.specs.Gaps.{AllBegin, FillsGap, FillsGaps, LoadsSlices, gap_pages, parts_back, without_spans};
-ghost use Rattle.iol_cache.specs.Loading.{Asks, PlacesPages, PlacesSome};
+ghost use Rattle.iol_cache.specs.Loading.{Asks, LoadsOrKeeps, PlacesOrReleases, PlacesPages};
 ghost use Rattle.iol_extent.specs.Extents.{IsApart, IsGap};
 ghost use Rattle.iol_extent.specs.Spans.{AreInOrder, IsGapSpan};
 ghost use Rattle.iol_hold.specs.Moves.{Covers, Moves, SameLists};
-ghost use Rattle.iol_hold.specs.Pages.{KeepsPages};
 ghost use Rattle.iol_hold.specs.Releases.{FreesOnly};
-ghost use Rattle.iol_hold.specs.Room.{free_of};
 ghost use Rattle.iol_hold.specs.Stored.{AllSettled};
 ghost use Rattle.iol_hold.specs.Texts.{text_of, bufs_of, AllReadable};
 ghost use Rattle.iol_pool.specs.Pools.{pool_in};
@@ -34,31 +31,25 @@ fn gap_agg<B: Backing>(
     backing: &mut B,
     file: FileId,
     pool: PoolId,
-    at: u32,
-    n: u32,
+    gap: Span,
 ) -> Result<Agg, Refusal>
-    requires some { 0 < n }
-    requires fits { at + n < 2 ^ 32 }
+    requires some { gap.from < gap.to }
     requires open { (pool_in store.old.pools pool).closed ≡ false }
-    ensures loads { IfOk result (LoadsSlices store.old store.new pool n) }
+    ensures loads { IfOk result (LoadsSlices store.old store.new pool (gap.to - gap.from)) }
     ensures value { let old = B.disk backing.old in IfHonest old (IfOk result (λ a.
-        text_of store.new a ≡
-        text.labelled pool (take n (drop at (content old.slots file))))) }
+        text_of store.new a ≡ text.labelled pool
+        (take (gap.to - gap.from) (drop gap.from (content old.slots file))))) }
     ensures inside { let old = B.disk backing.old in IfHonest old
-        (OnOk result (at + n ≤ length (content old.slots file))) }
-    ensures none { OnErr result (Moves store.old store.new [] []) }
-    ensures kept { OnErr result (KeepsPages store.old store.new []) }
-    ensures pools { store.new.pools ≡ store.old.pools }
-    ensures settles { AllSettled store.old → AllSettled store.new }
-    ensures no_room { (p : ℕ) → result ≡ Err (Refusal.NoRoom p) →
-        length (free_of store.old pool) < pages_for n }
+        (OnOk result (gap.to ≤ length (content old.slots file))) }
+    ensures leaves { LoadsOrKeeps pool (gap.to - gap.from) store.old store.new result }
     ensures disk { Asks 1 (B.disk backing.old) (B.disk backing.new) result }
     ensures late { IfErr result (WantOfRoomOrFault pool file) }
 {
+    let n = gap.to - gap.from;
     let Ok(slices) = Vec::with_capacity(alloc, (n as usize).div_ceil(PAGE_BYTES)) else {
         return Err(Refusal::Memory);
     };
-    let holds = match load(alloc, store, backing, file, pool, at, n) {
+    let holds = match load(alloc, store, backing, file, pool, gap.from, n) {
         Ok(holds) => holds,
         Err(refusal) => return Err(refusal),
     };
@@ -82,24 +73,11 @@ fn fill_gap<B: Backing>(
     ensures fills { OnOk result (FillsGap store.old store.new extents.old extents.new pool gap
         (B.disk backing.old) file) }
     ensures same { OnErr result (extents.new ≡ extents.old) }
-    ensures none { OnErr result (Moves store.old store.new [] []) }
-    ensures kept { OnErr result (KeepsPages store.old store.new []) }
-    ensures pools { store.new.pools ≡ store.old.pools }
-    ensures settles { AllSettled store.old → AllSettled store.new }
-    ensures no_room { (p : ℕ) → result ≡ Err (Refusal.NoRoom p) →
-        length (free_of store.old pool) < pages_for (gap.to - gap.from) }
+    ensures leaves { LoadsOrKeeps pool (gap.to - gap.from) store.old store.new result }
     ensures disk { Asks 1 (B.disk backing.old) (B.disk backing.new) result }
     ensures late { IfErr result (WantOfRoomOrFault pool file) }
 {
-    let agg = match gap_agg(
-        alloc,
-        store,
-        backing,
-        file,
-        pool,
-        gap.from,
-        gap.to - gap.from,
-    ) {
+    let agg = match gap_agg(alloc, store, backing, file, pool, gap) {
         Ok(agg) => agg,
         Err(refusal) => return Err(refusal),
     };
@@ -148,12 +126,7 @@ pub(crate) fn fill_gaps<B: Backing>(
     ensures places { OnOk result (PlacesPages store.old store.new pool (gap_pages gaps.now)) }
     ensures apart { IsApart 0 extents.new.extents }
     ensures same { OnErr result (extents.new ≡ extents.old) }
-    ensures none { OnErr result (Moves store.old store.new [] []) }
-    ensures given_back { OnErr result (PlacesSome store.old store.new pool (gap_pages gaps.now)) }
-    ensures lists { SameLists store.old store.new }
-    ensures settles { AllSettled store.old → AllSettled store.new }
-    ensures no_room { (p : ℕ) → result ≡ Err (Refusal.NoRoom p) →
-        length (free_of store.old pool) < gap_pages gaps.now }
+    ensures leaves { PlacesOrReleases pool (gap_pages gaps.now) store.old store.new result }
     ensures disk { Asks (length gaps.now) (B.disk backing.old) (B.disk backing.new) result }
     ensures late { IfErr result (WantOfRoomOrFault pool file) }
 {

@@ -1,22 +1,21 @@
 //! Reading of files.
-ghost use Rattle.std.specs.Prelude.{◌≡◌, ℕ, ◌<◌, ◌≤◌, ◌^◌, [], All, length, true, Err, OnOk, OnErr, IfOk, IfErr};
+ghost use Rattle.std.specs.Prelude.{◌≡◌, ◌≤◌, ◌^◌, [], length, true, OnOk, OnErr, IfOk, IfErr};
 ghost use Rattle.iol_core.specs.Meaning.{WantOfRoomOrFault};
 ghost use Rattle.iol_core.specs.Numbered.{is_numbered};
-ghost use Rattle.iol_hold.specs.Moves.{Moves, Covers, Shares, SameLists};
+ghost use Rattle.iol_hold.specs.Moves.{Moves, Covers, SameLists};
 ghost use Rattle.iol_hold.specs.Places.{places, byte_len};
-ghost use Rattle.iol_hold.specs.Room.{free_of};
 ghost use Rattle.iol_hold.specs.Releases.{FreesOnly};
 ghost use Rattle.iol_hold.specs.Stored.{AllSettled};
 ghost use Rattle.iol_hold.specs.Texts.{bufs_of, AllReadable};
-ghost use Rattle.iol_extent.specs.Spans.{AreInOrder, IsGapSpan};
-ghost use Rattle.iol_cache.specs.Cached.{file_in, extents_in, order_in};
+ghost use Rattle.iol_extent.specs.Spans.{AreInOrder};
+ghost use Rattle.iol_cache.specs.Cached.{file_in, extents_in};
 ghost use Rattle.iol_cache.specs.Cache.{cached_of, holding};
 ghost use Rattle.iol_cache.specs.Gaps.{gap_pages};
 ghost use Rattle.iol_cache.specs.Going.{CountsHits, FillsFile};
-ghost use Rattle.iol_cache.specs.Loading.{Asks, PlacesSome};
+ghost use Rattle.iol_cache.specs.Loading.{Asks, PlacesOrReleases};
 ghost use Rattle.iol_cache.specs.Ranges.{PinsRange};
-ghost use Rattle.iol_cache.specs.Reading.{SameButRoom};
-ghost use Rattle.iol_cache.specs.Sharing.{CountsBelow};
+ghost use Rattle.iol_cache.specs.Reading.{CanFill, SameButRoom};
+ghost use Rattle.iol_cache.specs.Sharing.{CountsBelow, SharesOrReleases};
 ghost use Rattle.iol_cache.specs.Sound.{IsSound};
 ghost use Rattle.iol_cache.specs.Weaving.{IsCoveredBeside, len_beside, places_beside};
 
@@ -63,14 +62,10 @@ impl Cache {
             IsCoveredBeside es part.now.from part.now.to gaps.now }
         ensures places { let es = extents_in self.old.files.items part.now.file in
             IfOk result (λ a. places a ≡ places_beside es part.now.from part.now.to gaps.now) }
-        ensures shares { IfOk result (λ a. Shares store.old store.new [] (bufs_of a)) }
+        ensures shared { SharesOrReleases [] (λ a. a) store.old store.new result }
         ensures counted { OnOk result
             (CountsHits part.now.file hits.now (cached_of self.old) (cached_of self.new)) }
         ensures err { OnErr result (self.new ≡ self.old) }
-        ensures none { OnErr result (Moves store.old store.new [] []) }
-        ensures frees { FreesOnly store.old store.new }
-        ensures lists { SameLists store.old store.new }
-        ensures settles { AllSettled store.old → AllSettled store.new }
     {
         let place = part.file.number() as usize - 1;
         let pool = self.files[place].pool;
@@ -102,32 +97,18 @@ impl Cache {
         gaps: &[Span],
     ) -> Result<Agg, Refusal>
         requires sound { IsSound store.old (cached_of self.old) }
-        requires file { is_numbered self.old.files.items part.now.file ≡ true }
-        requires ordered { part.now.from ≤ part.now.to }
-        requires end { part.now.to ≤ MAX_FILE_BYTES }
-        requires in_order { AreInOrder part.now.from part.now.to gaps.now }
-        requires gaps { All (IsGapSpan (extents_in self.old.files.items part.now.file)) gaps.now }
+        requires range { CanFill (cached_of self.old) part.now.file part.now.from part.now.to gaps.now }
         requires beside_len { byte_len beside.now ≡ len_beside part.now.from part.now.to gaps.now }
         requires beside_held { Covers store.old (bufs_of beside.now) }
         requires beside_readable { AllReadable store.old beside.now }
-        requires room { length gaps.now ≤
-            (file_in self.old.files.items part.now.file).extents.room }
-        requires entries { let p = (file_in self.old.files.items part.now.file).pool in
-            length gaps.now ≤ (order_in self.old.orders.items p).room }
         requires few { CountsBelow store.old (2 ^ 60) }
         ensures filled { IfOk result (FillsFile part.now.file part.now.from part.now.to
             (places beside.now) gaps.now (B.disk backing.old) (holding store.old self.old)
             (holding store.new self.new)) }
         ensures sound { IsSound store.new (cached_of self.new) }
         ensures same { OnErr result (SameButRoom (cached_of self.old) (cached_of self.new)) }
-        ensures none { OnErr result (Moves store.old store.new [] []) }
-        ensures given_back { let p = (file_in self.old.files.items part.now.file).pool in
-            OnErr result (PlacesSome store.old store.new p (gap_pages gaps.now)) }
-        ensures lists { SameLists store.old store.new }
-        ensures settles { AllSettled store.old → AllSettled store.new }
-        ensures no_room { (p : ℕ) → result ≡ Err (Refusal.NoRoom p) →
-            length (free_of store.old (file_in self.old.files.items part.now.file).pool) <
-            gap_pages gaps.now }
+        ensures leaves { let p = (file_in self.old.files.items part.now.file).pool in
+            PlacesOrReleases p (gap_pages gaps.now) store.old store.new result }
         ensures disk { Asks (length gaps.now) (B.disk backing.old) (B.disk backing.new) result }
         ensures late { IfErr result
             (WantOfRoomOrFault (file_in self.old.files.items part.now.file).pool part.now.file) }

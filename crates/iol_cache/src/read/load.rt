@@ -1,5 +1,5 @@
 //! Bytes of the store, read into new buffers.
-ghost use Rattle.std.specs.Prelude.{◌≡◌, ℕ, ◌+◌, ◌-◌, ◌<◌, ◌≤◌, ◌^◌, [], false, length, take, drop, min, Err, OnOk, OnErr, IfOk, IfErr};
+ghost use Rattle.std.specs.Prelude.{◌≡◌, ◌+◌, ◌<◌, ◌≤◌, ◌^◌, [], false, length, take, drop, min, OnOk, IfOk, IfErr};
 ghost use Rattle.std.specs.List.{All};
 ghost use Rattle.iol_core.specs.Meaning.{WantOfRoomOrFault};
 ghost use Rattle.iol_arena.specs.Adds.{IsNew};
@@ -8,12 +8,11 @@ ghost use Rattle.iol_arena.specs.Pages.{MadeOn};
 ghost use Rattle.iol_arena.specs.Parts.{part_pages, part_room};
 ghost use Rattle.iol_arena.specs.State.{pages_for};
 ghost use Rattle.iol_back.specs.Disk.{IfHonest, content};
-ghost use Rattle.iol_cache.specs.Loading.{IsRead, ReadsPart, Asks, PlacesPages};
+ghost use Rattle.iol_cache.specs.Loading.{Asks, IsRead, LoadsOrKeeps, PlacesPages, ReadsPart};
 ghost use Rattle.iol_hold.specs.Filling.{filling_store, filling_parts, filling_part, filling_lender, filling_bytes, IsFilling};
 ghost use Rattle.iol_hold.specs.Moves.{Moves};
-ghost use Rattle.iol_hold.specs.Pages.{KeepsPages};
-ghost use Rattle.iol_hold.specs.Room.{free_of, lowest_of};
-ghost use Rattle.iol_hold.specs.Stored.{AllSettled, held_bufs};
+ghost use Rattle.iol_hold.specs.Room.{lowest_of};
+ghost use Rattle.iol_hold.specs.Stored.{held_bufs};
 ghost use Rattle.iol_hold.specs.Texts.{IsFilled};
 ghost use Rattle.iol_hold.specs.Waiting.{Fills};
 ghost use Rattle.iol_pool.specs.Pools.{pool_in};
@@ -141,12 +140,7 @@ pub(crate) fn load<B: Backing>(
         take n (drop at (content old.slots file)))) }
     ensures inside { let old = B.disk backing.old in IfHonest old
         (OnOk result (at + n ≤ length (content old.slots file))) }
-    ensures none { OnErr result (Moves store.old store.new [] []) }
-    ensures kept { OnErr result (KeepsPages store.old store.new []) }
-    ensures pools { store.new.pools ≡ store.old.pools }
-    ensures settles { AllSettled store.old → AllSettled store.new }
-    ensures no_room { (p : ℕ) → result ≡ Err (Refusal.NoRoom p) →
-        length (free_of store.old pool) < pages_for n }
+    ensures leaves { LoadsOrKeeps pool n store.old store.new result }
     ensures disk { Asks 1 (B.disk backing.old) (B.disk backing.new) result }
     ensures late { IfErr result (WantOfRoomOrFault pool file) }
 {

@@ -1,14 +1,10 @@
 //! A range of a file, put together from what was shared before its gaps were read and from the gaps.
-ghost use Rattle.std.specs.Prelude.{◌≡◌, ◌+◌, ◌-◌, ◌<◌, ◌≤◌, ◌^◌, ◌++◌, [], All, IfOk, OnErr, slice_range};
-ghost use Rattle.iol_hold.specs.Moves.{Moves, Shares, Covers, SameLists};
+ghost use Rattle.std.specs.Prelude.{◌≡◌, ◌+◌, ◌-◌, ◌<◌, ◌≤◌, ◌^◌, ◌++◌, [], All, IfOk, slice_range};
+ghost use Rattle.iol_hold.specs.Moves.{Covers};
 ghost use Rattle.iol_hold.specs.Places.{places, byte_len};
-ghost use Rattle.iol_hold.specs.Releases.{FreesOnly};
-ghost use Rattle.iol_hold.specs.Stored.{AllSettled};
 ghost use Rattle.iol_hold.specs.Texts.{bufs_of, AllReadable};
-ghost use Rattle.iol_extent.specs.Extents.{IsApart};
 ghost use Rattle.iol_extent.specs.Spans.{AreInOrder};
-ghost use Rattle.iol_cache.specs.Cached.{all_parts};
-ghost use Rattle.iol_cache.specs.Sharing.{IsCoveredSpan, CountsBelow};
+ghost use Rattle.iol_cache.specs.Sharing.{AreHeld, CountsBelow, IsCoveredSpan, SharesOrReleases};
 ghost use Rattle.iol_cache.specs.Weaving.{IsCoveredBeside, len_beside, places_beside, woven};
 
 use crate::share::share_over;
@@ -27,18 +23,12 @@ pub(crate) fn share_beside(
     from: u32,
     to: u32,
 ) -> Result<Agg, AllocError>
-    requires apart { IsApart 0 extents.now.extents }
+    requires there { AreHeld store.old extents.now.extents }
     requires in_order { AreInOrder from to gaps.now }
     requires covered { IsCoveredBeside extents.now.extents from to gaps.now }
-    requires held { Covers store.old (bufs_of (all_parts extents.now.extents)) }
-    requires readable { AllReadable store.old (all_parts extents.now.extents) }
     requires few { CountsBelow store.old (2 ^ 62) }
     ensures places { IfOk result (λ a. places a ≡ places_beside extents.now.extents from to gaps.now) }
-    ensures shares { IfOk result (λ a. Shares store.old store.new [] (bufs_of a)) }
-    ensures none { OnErr result (Moves store.old store.new [] []) }
-    ensures frees { FreesOnly store.old store.new }
-    ensures lists { SameLists store.old store.new }
-    ensures settles { AllSettled store.old → AllSettled store.new }
+    ensures shared { SharesOrReleases [] (λ a. a) store.old store.new result }
 {
     let mut shared = Agg::new(alloc);
     let mut at = from;
@@ -73,11 +63,7 @@ fn add_part(
     requires small { byte_len so_far + (to - from) < 2 ^ 32 }
     ensures places { IfOk result (λ a.
         places a ≡ places so_far ++ slice_range (places other.now) from to) }
-    ensures shares { IfOk result (λ a. Shares store.old store.new (bufs_of so_far) (bufs_of a)) }
-    ensures gone { OnErr result (Moves store.old store.new (bufs_of so_far) []) }
-    ensures frees { FreesOnly store.old store.new }
-    ensures lists { SameLists store.old store.new }
-    ensures settles { AllSettled store.old → AllSettled store.new }
+    ensures shared { SharesOrReleases so_far (λ a. a) store.old store.new result }
 {
     let mut shared = so_far;
     match shared.add_range(store, other, from, to) {
@@ -99,22 +85,16 @@ pub(crate) fn weave(
     from: u32,
     to: u32,
 ) -> Result<Agg, AllocError>
-    requires apart { IsApart 0 extents.now.extents }
+    requires there { AreHeld store.old extents.now.extents }
     requires in_order { AreInOrder from to gaps.now }
     requires covered { All (IsCoveredSpan extents.now.extents) gaps.now }
-    requires held { Covers store.old (bufs_of (all_parts extents.now.extents)) }
-    requires readable { AllReadable store.old (all_parts extents.now.extents) }
     requires beside_len { byte_len beside.now ≡ len_beside from to gaps.now }
     requires beside_held { Covers store.old (bufs_of beside.now) }
     requires beside_readable { AllReadable store.old beside.now }
     requires few { CountsBelow store.old (2 ^ 61) }
     ensures places { IfOk result (λ a.
         places a ≡ woven (places beside.now) extents.now.extents from to gaps.now) }
-    ensures shares { IfOk result (λ a. Shares store.old store.new [] (bufs_of a)) }
-    ensures none { OnErr result (Moves store.old store.new [] []) }
-    ensures frees { FreesOnly store.old store.new }
-    ensures lists { SameLists store.old store.new }
-    ensures settles { AllSettled store.old → AllSettled store.new }
+    ensures shared { SharesOrReleases [] (λ a. a) store.old store.new result }
 {
     let mut shared = Agg::new(alloc);
     let mut at = from;

@@ -1,18 +1,18 @@
 //! The bytes of a write, as an aggregate of the file's pool: its own are shared, and each run of others is copied.
-ghost use Rattle.std.specs.Prelude.{◌≡◌, ℕ, ◌+◌, ◌-◌, ◌==◌, ◌<◌, ◌≤◌, ◌^◌, [], All, not, false, length, take, drop, slice_index_or, Err, IfOk, IfErr, OnErr};
+ghost use Rattle.std.specs.Prelude.{◌≡◌, ℕ, ◌==◌, ◌<◌, ◌≤◌, ◌^◌, All, not, false, length, take, drop, slice_index_or, Err, IfOk, IfErr, OnErr};
 ghost use Rattle.iol_arena.specs.State.{pages_for};
 ghost use Rattle.iol_cache.specs.Composing.{Composes, ComposesRun, copied_pages};
-ghost use Rattle.iol_cache.specs.Loading.{PlacesSome};
 ghost use Rattle.iol_cache.specs.Sharing.{CountsBelow};
 ghost use Rattle.iol_core.specs.Meaning.{WantOfRoom};
 ghost use Rattle.iol_core.specs.Text as text;
-ghost use Rattle.iol_hold.specs.Moves.{Covers, IsCountable, Moves, SameLists};
+ghost use Rattle.iol_hold.specs.Moves.{Covers, IsCountable};
 ghost use Rattle.iol_hold.specs.Places.{byte_len};
 ghost use Rattle.iol_hold.specs.Room.{free_of};
-ghost use Rattle.iol_hold.specs.Stored.{AllSettled, IsTidy};
+ghost use Rattle.iol_hold.specs.Stored.{IsTidy};
 ghost use Rattle.iol_hold.specs.Texts.{AllReadable, bufs_of, text_of};
 ghost use Rattle.iol_hold.specs.declared.slices.Slice.{Slice};
 ghost use Rattle.iol_pool.specs.Pools.{pool_in};
+ghost use Rattle.iol_cache.specs.Loading.{PlacesOrReleases};
 
 use iol_agg::Agg;
 use iol_core::limits::{MAX_AGGREGATE_BYTES, PAGE_BYTES};
@@ -156,12 +156,8 @@ pub(crate) fn compose(
     requires tidy { IsTidy store.old }
     ensures composes { IfOk result
         (Composes store.old store.new pool (copied_pages pool source.now) source.now) }
-    ensures none { OnErr result (Moves store.old store.new [] []) }
-    ensures given_back { OnErr result (PlacesSome store.old store.new pool (copied_pages pool source.now)) }
-    ensures lists { SameLists store.old store.new }
-    ensures settles { AllSettled store.old → AllSettled store.new }
-    ensures no_room { (p : ℕ) → result ≡ Err (Refusal.NoRoom p) →
-        length (free_of store.old pool) < copied_pages pool source.now }
+    ensures leaves { PlacesOrReleases pool (copied_pages pool source.now) store.old store.new
+        result }
     ensures late { IfErr result (WantOfRoom pool) }
 {
     let mut so_far = Agg::new(alloc);

@@ -1,17 +1,16 @@
 //! What a write puts in place of a range: its bytes in the file's pool, and the parts of extents on both sides.
-ghost use Rattle.std.specs.Prelude.{◌≡◌, ℕ, ◌+◌, ◌<◌, ◌≤◌, ◌^◌, [], false, length, Err, IfOk, IfErr, OnErr};
+ghost use Rattle.std.specs.Prelude.{◌≡◌, ◌+◌, ◌<◌, ◌≤◌, ◌^◌, false, IfOk, IfErr};
 ghost use Rattle.iol_cache.specs.Composing.{copied_pages};
 ghost use Rattle.iol_cache.specs.Cached.{all_parts};
-ghost use Rattle.iol_cache.specs.Loading.{PlacesSome};
 ghost use Rattle.iol_cache.specs.Preparing.{Prepares};
 ghost use Rattle.iol_cache.specs.Sharing.{CountsBelow};
 ghost use Rattle.iol_core.specs.Meaning.{WantOfRoom};
-ghost use Rattle.iol_hold.specs.Moves.{Covers, Moves, SameLists};
+ghost use Rattle.iol_hold.specs.Moves.{Covers};
 ghost use Rattle.iol_hold.specs.Places.{byte_len};
-ghost use Rattle.iol_hold.specs.Room.{free_of};
-ghost use Rattle.iol_hold.specs.Stored.{AllSettled, IsTidy};
+ghost use Rattle.iol_hold.specs.Stored.{IsTidy};
 ghost use Rattle.iol_hold.specs.Texts.{AllReadable, bufs_of};
 ghost use Rattle.iol_pool.specs.Pools.{pool_in};
+ghost use Rattle.iol_cache.specs.Loading.{PlacesOrReleases};
 
 use crate::write::copies::compose;
 use crate::write::cut::{Edge, Replacement, cut_left, cut_right};
@@ -45,12 +44,8 @@ pub(crate) fn prepare(
     requires tidy { IsTidy store.old }
     ensures prepares { IfOk result (λ x. Prepares store.old store.new pool extents.now.extents
         at source.now x.left x.right x.bytes) }
-    ensures none { OnErr result (Moves store.old store.new [] []) }
-    ensures given_back { OnErr result (PlacesSome store.old store.new pool (copied_pages pool source.now)) }
-    ensures lists { SameLists store.old store.new }
-    ensures settles { AllSettled store.old → AllSettled store.new }
-    ensures no_room { (p : ℕ) → result ≡ Err (Refusal.NoRoom p) →
-        length (free_of store.old pool) < copied_pages pool source.now }
+    ensures leaves { PlacesOrReleases pool (copied_pages pool source.now) store.old store.new
+        result }
     ensures late { IfErr result (WantOfRoom pool) }
 {
     let agg = match compose(alloc, store, pool, source) {

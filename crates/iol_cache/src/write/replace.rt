@@ -6,7 +6,7 @@ ghost use Rattle.iol_cache.specs.Cached.{parts_in, all_parts};
 ghost use Rattle.iol_cache.specs.Cutting.{CutsLeft, CutsRight};
 ghost use Rattle.iol_cache.specs.Marks.{AreWithin, HasMarksLeft};
 ghost use Rattle.iol_cache.specs.Reading.{RanksFile};
-ghost use Rattle.iol_cache.specs.Replacing.{HaveClean, IsReady, Reindexes, all_forgotten, forgotten, put_some, remembered, reordered};
+ghost use Rattle.iol_cache.specs.Replacing.{IsIndexed, Reindexes, all_forgotten, forgotten, put_some, remembered, reordered};
 ghost use Rattle.iol_cache.specs.Writing.{parts_put};
 ghost use Rattle.iol_extent.specs.Extents.{Adds, IsApart, IsGap, begins_at, end_of, last_end, meets, unmet, without_at};
 ghost use Rattle.iol_hold.specs.Moves.{Covers, Moves, SameLists};
@@ -26,12 +26,9 @@ use iol_hold::Store;
 // The extent that begins at a place is to go: where it is clean, it leaves the order, and its marks are taken away. The
 // place that is kept for a dirty one is given back.
 fn forget(order: &mut Order, marks: &mut CleanHolds, extents: &Extents, file: FileId, at: u32)
-    requires apart { IsApart 0 extents.now.extents }
     requires begins { IsSome (begins_at extents.now.extents at) }
-    requires ranked { RanksFile order.old file extents.now.extents }
-    requires ready { IsReady order.old extents.now.extents }
+    requires indexed { IsIndexed file extents.now.extents order.old marks.old }
     requires within { AreWithin (length marks.old) (parts_in (begins_at extents.now.extents at)) }
-    requires marked { HaveClean marks.old extents.now.extents }
     ensures follows { let es = extents.now.extents in
         Reindexes file es (without_at es at) order.old order.new marks.old marks.new }
     ensures order { IfSome (begins_at extents.now.extents at)
@@ -45,7 +42,7 @@ fn forget(order: &mut Order, marks: &mut CleanHolds, extents: &Extents, file: Fi
         order.give_back();
         return;
     }
-    marks.unmark(agg.slices());
+    marks.set_clean(agg.slices(), false);
     order.leave(file, at);
 }
 
@@ -58,12 +55,9 @@ fn take_out(
     file: FileId,
     at: u32,
 )
-    requires apart { IsApart 0 extents.old.extents }
     requires begins { IsSome (begins_at extents.old.extents at) }
-    requires ranked { RanksFile order.old file extents.old.extents }
-    requires ready { IsReady order.old extents.old.extents }
+    requires indexed { IsIndexed file extents.old.extents order.old marks.old }
     requires pages { length marks.old ≡ page_count store.old.arena }
-    requires marked { HaveClean marks.old extents.old.extents }
     requires held { Covers store.old (bufs_of (all_parts extents.old.extents)) }
     ensures extents { extents.new.extents ≡ without_at extents.old.extents at }
     ensures room { extents.old.room ≤ extents.new.room }
@@ -95,11 +89,8 @@ fn clear_range(
     from: u32,
     to: u32,
 )
-    requires apart { IsApart 0 extents.old.extents }
-    requires ranked { RanksFile order.old file extents.old.extents }
-    requires ready { IsReady order.old extents.old.extents }
+    requires indexed { IsIndexed file extents.old.extents order.old marks.old }
     requires pages { length marks.old ≡ page_count store.old.arena }
-    requires marked { HaveClean marks.old extents.old.extents }
     requires held { Covers store.old (bufs_of (all_parts extents.old.extents)) }
     requires readable { AllReadable store.old (all_parts extents.old.extents) }
     ensures extents { extents.new.extents ≡ unmet extents.old.extents from to }
@@ -157,7 +148,7 @@ pub(crate) fn put_edge(
         extents.put(at, agg, true);
         return;
     }
-    marks.mark(agg.slices());
+    marks.set_clean(agg.slices(), true);
     order.enter(file, at, agg.len(), 1);
     extents.put(at, agg, false);
 }
@@ -179,11 +170,8 @@ pub(crate) fn replace_range(
     requires begins { put.bytes.at ≡ range.from }
     requires ends { end_of put.bytes ≡ range.to }
     requires fits { end_of put.right < 2 ^ 32 }
-    requires apart { IsApart 0 extents.old.extents }
-    requires ranked { RanksFile order.old file extents.old.extents }
-    requires ready { IsReady order.old extents.old.extents }
+    requires indexed { IsIndexed file extents.old.extents order.old marks.old }
     requires pages { length marks.old ≡ page_count store.old.arena }
-    requires marked { HaveClean marks.old extents.old.extents }
     requires few { HasMarksLeft marks.old (parts_put put.left put.right put.bytes) }
     requires held { Covers store.old (bufs_of (all_parts extents.old.extents ++
         parts_put put.left put.right put.bytes)) }

@@ -13,13 +13,13 @@ returns-in_default-clause-order c = absurd (begin_not c.args.extents.now.extents
 pub returns-in_default-clause-marks : goal.returns-in_default-clause-marks
 returns-in_default-clause-marks c = absurd (begin_not c.args.extents.now.extents c.args.at c.requires.apart c.requires.begins c.in_default.ensures.extent)
 
-pub mark-requires-clause-within : goal.mark-requires-clause-within
-mark-requires-clause-within c =
+pub set_clean-requires-clause-within : goal.set_clean-requires-clause-within
+set_clean-requires-clause-within c =
     let is = c.slices.ensures ∙ begin_is c.args.extents.now.extents c.args.at _ c.requires.apart c.requires.begins c.in-Some.ensures.extent in
     subst (λ (xs : List Slice). AreWithin (length c.args.marks.now) xs) (sym is) c.requires.within
 
-pub mark-requires-clause-few : goal.mark-requires-clause-few
-mark-requires-clause-few c =
+pub set_clean-requires-clause-can : goal.set_clean-requires-clause-can
+set_clean-requires-clause-can c =
     let is = c.slices.ensures ∙ begin_is c.args.extents.now.extents c.args.at _ c.requires.apart c.requires.begins c.in-Some.ensures.extent in
     subst (HasMarksLeft c.args.marks.now) (sym is) c.requires.few
 
@@ -39,4 +39,4 @@ returns-clause-order c =
 pub returns-clause-marks : goal.returns-clause-marks
 returns-clause-marks c =
     let is = c.slices.ensures ∙ begin_is c.args.extents.now.extents c.args.at _ c.requires.apart c.requires.begins c.in-Some.ensures.extent in
-    subst (Marks c.args.marks.now c.mark.new.self) is c.mark.ensures.marks
+    subst (Marks c.args.marks.now c.set_clean.new.self) is c.set_clean.ensures

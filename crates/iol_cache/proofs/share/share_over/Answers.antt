@@ -12,7 +12,7 @@ use Rattle.iol_hold.specs.declared.slices.Slice.{Slice}
 use Rattle.iol_hold.proofs.Counting.{tally-append}
 use Rattle.iol_cache.specs.Cached.{all_parts}
 use Rattle.iol_cache.specs.Sharing.{IsCovered, places_over}
-use Rattle.iol_cache.proofs.RangeReads.Shared.{covered_over, length-places_over, over_join, over_none, over_there, readable_places, readable_same, settles_shares}
+use Rattle.iol_cache.proofs.RangeReads.Shared.{all_shared, covered_over, length-places_over, over_join, over_none, over_there, readable_places, readable_on, refused_then}
 use Rattle.iol_cache.proofs.share.share_over.Goals as goal
 
 -- so many bytes so far
@@ -33,10 +33,15 @@ loop-at-init c = record {
 pub share_next-requires-clause-covered : goal.share_next-requires-clause-covered
 share_next-requires-clause-covered c = covered_over c.args.extents.now.extents c.loop-at.at (c.requires.covered.each c.loop-at.at c.loop-at.invariant.begun c.loop-at-test.true)
 
-pub share_next-requires-clause-held : goal.share_next-requires-clause-held
-share_next-requires-clause-held c =
-    let all = bufs_of (all_parts c.args.extents.now.extents) in
-    record { each = λ b. omega (arith, c.requires.held.each b, tally-append b (bufs_of c.args.so_far) all, c.loop-at.invariant.shares.counts.each b) }
+pub share_next-requires-clause-there : goal.share_next-requires-clause-there
+share_next-requires-clause-there c =
+    let es = c.args.extents.now.extents in
+    let m = c.loop-at.invariant.shares in
+    record {
+      apart = c.requires.apart;
+      held = record { each = λ b. omega (arith, c.requires.held.each b, tally-append b (bufs_of c.args.so_far) (bufs_of (all_parts es)), m.counts.each b) };
+      readable = readable_on (all_parts es) m c.requires.readable;
+    }
 
 pub share_next-requires-clause-own : goal.share_next-requires-clause-own
 share_next-requires-clause-own c =
@@ -53,15 +58,20 @@ share_next-requires-clause-small c =
     let n = long c.loop-at.shared c.args.so_far c.args.extents.now.extents c.args.from c.loop-at.at c.loop-at.invariant.places in
     omega (arith, n, c.requires.small, c.loop-at.invariant.begun, c.loop-at.invariant.within)
 
-pub returns-in-Err-clause-settles : goal.returns-in-Err-clause-settles
-returns-in-Err-clause-settles c = λ all own settled.
+pub share_next-requires-clause-own_readable : goal.share_next-requires-clause-own_readable
+share_next-requires-clause-own_readable c =
     let v = c.loop-at.invariant in
     let s = c.args.store.now in
     let es = c.args.extents.now.extents in
     let covered : IsCovered es c.args.from c.loop-at.at = record { each = λ i lo hi. c.requires.covered.each i lo (omega (arith, hi, v.within)) } in
-    let there = readable_places {s = s} c.loop-at.shared c.args.so_far (places_over es c.args.from c.loop-at.at) v.places own (over_there es c.args.from c.loop-at.at covered all) in
-    c.share_next.ensures.settles (readable_same s c.loop-at.store (all_parts es) v.shares.arena v.shares.pools all)
-    (readable_same s c.loop-at.store c.loop-at.shared v.shares.arena v.shares.pools there) (settles_shares v.shares settled)
+    let there = readable_places {s = s} c.loop-at.shared c.args.so_far (places_over es c.args.from c.loop-at.at) v.places c.requires.own_readable (over_there es c.args.from c.loop-at.at covered c.requires.readable) in
+    readable_on c.loop-at.shared v.shares there
+
+pub returns-in-Err-clause-shared : goal.returns-in-Err-clause-shared
+returns-in-Err-clause-shared c = refused_then c.loop-at.invariant.shares c.in-Err.ensures.shared
+
+pub returns-clause-shared : goal.returns-clause-shared
+returns-clause-shared c = all_shared _ c.loop-at.invariant.shares
 
 pub loop-at-preserved : goal.loop-at-preserved
 loop-at-preserved c =
@@ -73,5 +83,5 @@ loop-at-preserved c =
       places = c.in-Ok.ensures.places ∙ ap (λ l. l ++ places_over es c.loop-at.at c.in-Ok.next.1) v.places
           ∙ append_assoc (places c.args.so_far) (places_over es c.args.from c.loop-at.at) (places_over es c.loop-at.at c.in-Ok.next.1)
           ∙ ap (λ l. places c.args.so_far ++ l) (over_join es c.args.from c.loop-at.at c.in-Ok.next.1 v.begun (omega (arith, c.in-Ok.ensures.further)));
-      shares = shares_then v.shares c.in-Ok.ensures.shares;
+      shares = shares_then v.shares c.in-Ok.ensures.shared.shares;
     }

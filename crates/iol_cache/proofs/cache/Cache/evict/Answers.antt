@@ -16,6 +16,7 @@ use Rattle.iol_cache.proofs.Extents.Using.{clean_numbered, are_within, covers_at
 use Rattle.iol_cache.proofs.Evictions.Ranked.{clean_ranked, entry_there}
 use Rattle.iol_cache.proofs.Evictions.Evicted.{given_is, begins_in, files_are, orders_are, sound_evicted}
 use Rattle.iol_cache.proofs.Evictions.Passed.{passed_evicted}
+use Rattle.iol_cache.proofs.cache.Cache.evict.Goals.{After-index_mut-2}
 use Rattle.iol_cache.proofs.cache.Cache.evict.Goals as goal
 
 ordered_pool : (s : Stored) (c : Cached) (f at : ℕ) → IsSound s c → IsCleanAt c.files f at → (0 < (file_in c.files f).pool) × ((file_in c.files f).pool ≤ length c.orders)
@@ -23,6 +24,13 @@ ordered_pool s c f at sound there = (let n = clean_numbered there in numbered_bo
 
 some_of : (es : List Extent) (at : ℕ) (e : Extent) → begins_at es at ≡ Some e → IsSome (begins_at es at)
 some_of es at e h = subst IsSome (sym h) refl
+
+-- the order of its pool
+order : (c : After-index_mut-2) → c.index_mut-2.result.now ≡ order_in c.args.self.now.orders.items (file_in c.args.self.now.files.items c.args.file).pool
+order c =
+    let fs = c.args.self.now.files.items in
+    let read = file_at_number fs c.args.file c.number.result c.index.result.now c.number.ensures (clean_numbered c.requires.clean) c.index.ensures in
+    order_at_number c.args.self.now.orders.items (file_in fs c.args.file).pool c.number-2.result c.index_mut-2.result.now (c.number-2.ensures ∙ ap (λ (y : CachedFile). y.pool) read) (ordered_pool c.args.store.now (cached_of c.args.self.now) c.args.file c.args.at c.requires.sound c.requires.clean) c.index_mut-2.ensures.value
 
 pub overflow_sub-place : goal.overflow_sub-place
 overflow_sub-place c = let b = clean_numbered c.requires.clean in omega (arith, b.0, c.number.ensures)
@@ -39,15 +47,15 @@ remove-agg-requires c =
     let x = file_at_number fs c.args.file c.number.result c.index_mut.result.now c.number.ensures (clean_numbered c.requires.clean) c.index_mut.ensures.value in
     some_of c.index_mut.result.now.extents.extents c.args.at c.requires.clean.extent (begins_in fs c.args.file c.args.at c.index_mut.result.now c.requires.clean.extent x c.requires.clean.begins)
 
-pub unmark-requires-clause-within : goal.unmark-requires-clause-within
-unmark-requires-clause-within c =
+pub set_clean-requires-clause-within : goal.set_clean-requires-clause-within
+set_clean-requires-clause-within c =
     let fs = c.args.self.now.files.items in
     let x = file_at_number fs c.args.file c.number.result c.index_mut.result.now c.number.ensures (clean_numbered c.requires.clean) c.index_mut.ensures.value in
     let parts = c.slices.ensures ∙ given_is c.index_mut.result.now.extents.extents c.args.at c.requires.clean.extent c.remove-agg.result (begins_in fs c.args.file c.args.at c.index_mut.result.now c.requires.clean.extent x c.requires.clean.begins) c.remove-agg.ensures.given in
     are_within c.slices.result.now _ c.requires.sound.pages (subst (λ xs. Covers c.args.store.now (bufs_of xs)) (sym parts) (covers_at fs c.args.file c.args.at c.requires.clean.extent c.requires.clean.begins c.requires.sound.covered))
 
-pub unmark-requires-clause-marked : goal.unmark-requires-clause-marked
-unmark-requires-clause-marked c =
+pub set_clean-requires-clause-can : goal.set_clean-requires-clause-can
+set_clean-requires-clause-can c =
     let fs = c.args.self.now.files.items in
     let there = c.requires.clean in
     let x = file_at_number fs c.args.file c.number.result c.index_mut.result.now c.number.ensures (clean_numbered there) c.index_mut.ensures.value in
@@ -72,12 +80,8 @@ pub evict-requires : goal.evict-requires
 evict-requires c =
     let fs = c.args.self.now.files.items in
     let os = c.args.self.now.orders.items in
-    let p = (file_in fs c.args.file).pool in
-    let x = file_at_number fs c.args.file c.number.result c.index.result.now c.number.ensures (clean_numbered c.requires.clean) c.index.ensures in
-    let b = ordered_pool c.args.store.now (cached_of c.args.self.now) c.args.file c.args.at c.requires.sound c.requires.clean in
-    let o = order_at_number os p c.number-2.result c.index_mut-2.result.now (c.number-2.ensures ∙ ap (λ (y : CachedFile). y.pool) x) b c.index_mut-2.ensures.value in
-    let there = entry_there (order_in os p).entries c.args.file c.args.at (clean_ranked fs os c.args.file c.args.at c.requires.sound.ranked (c.requires.sound.files c.args.file) c.requires.clean) in
-    λ none. there (sym (ap (λ (r : Ranking). entry_at r.entries c.args.file c.args.at) o) ∙ none)
+    let there = entry_there (order_in os (file_in fs c.args.file).pool).entries c.args.file c.args.at (clean_ranked fs os c.args.file c.args.at c.requires.sound.ranked (c.requires.sound.files c.args.file) c.requires.clean) in
+    λ none. there (sym (ap (λ (r : Ranking). entry_at r.entries c.args.file c.args.at) (order (goal.at.evict-requires c).After-index_mut-2)) ∙ none)
 
 pub release-requires : goal.release-requires
 release-requires c =
@@ -100,7 +104,7 @@ returns-clause-evicts c =
     let whole : c.remove-agg.result ≡ parts_at fs c.args.file c.args.at = parts ∙ sym (ap parts_in there.begins) in
     let b = ordered_pool c.args.store.now (cached_of c.args.self.now) c.args.file c.args.at c.requires.sound there in
     let pool = c.number-2.ensures ∙ ap (λ (y : CachedFile). y.pool) read in
-    let o = order_at_number os p c.number-2.result c.index_mut-2.result.now pool b c.index_mut-2.ensures.value in
+    let o = order (goal.at.returns-clause-evicts c).After-index_mut-2 in
     let laid = each-begins (IsLaid c.args.store.now p) (extents_in fs c.args.file) c.args.at there.extent (c.requires.sound.files c.args.file).laid there.begins in
     record {
       there = there;
@@ -119,15 +123,9 @@ returns-clause-sound c =
     let x = file_at_number fs c.args.file c.number.result c.index_mut.result.now c.number.ensures (clean_numbered there) c.index_mut.ensures.value in
     let parts = given_is c.index_mut.result.now.extents.extents c.args.at there.extent c.remove-agg.result (begins_in fs c.args.file c.args.at c.index_mut.result.now there.extent x there.begins) c.remove-agg.ensures.given in
     let whole : c.slices.result.now ≡ parts_at fs c.args.file c.args.at = c.slices.ensures ∙ parts ∙ sym (ap parts_in there.begins) in
-    sound_evicted (holding c.args.store.now c.args.self.now) _ c.args.file c.args.at c.requires.sound (returns-clause-evicts c) (subst (Unmarks c.args.self.now.marks c.unmark.new.self) whole c.unmark.ensures.unmarks)
+    sound_evicted (holding c.args.store.now c.args.self.now) _ c.args.file c.args.at c.requires.sound (returns-clause-evicts c) (subst (Unmarks c.args.self.now.marks c.set_clean.new.self) whole c.set_clean.ensures)
 
 pub returns-clause-below : goal.returns-clause-below
-returns-clause-below c = λ passed. (
-    let fs = c.args.self.now.files.items in
-    let os = c.args.self.now.orders.items in
-    let p = (file_in fs c.args.file).pool in
-    let read = file_at_number fs c.args.file c.number.result c.index.result.now c.number.ensures (clean_numbered c.requires.clean) c.index.ensures in
-    let b = ordered_pool c.args.store.now (cached_of c.args.self.now) c.args.file c.args.at c.requires.sound c.requires.clean in
-    let o = order_at_number os p c.number-2.result c.index_mut-2.result.now (c.number-2.ensures ∙ ap (λ (y : CachedFile). y.pool) read) b c.index_mut-2.ensures.value in
+returns-clause-below c = λ passed.
     passed_evicted (holding c.args.store.now c.args.self.now) _ c.args.file c.args.at c.args.passed.now c.evict.new.passed c.index_mut-2.result.now c.evict.new.self
-    c.requires.sound (returns-clause-sound c) (returns-clause-evicts c) o c.evict.ensures.evicted c.evict.ensures.below passed)
+    c.requires.sound (returns-clause-sound c) (returns-clause-evicts c) (order (goal.at.returns-clause-below c).After-index_mut-2) c.evict.ensures.evicted c.evict.ensures.below passed

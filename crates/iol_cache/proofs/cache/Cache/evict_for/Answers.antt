@@ -45,22 +45,37 @@ loop-pool-preserved c =
       gives_up = gives_up_more old now next c.in-Some.place.0 c.in-Some.place.1 c.loop-pool.invariant.gives_up c.loop-pool.invariant.sound c.evict.ensures.evicts;
     }
 
-pub returns-clause-room : goal.returns-clause-room
-returns-clause-room c =
+pub returns-clause-makes : goal.returns-clause-makes
+returns-clause-makes c =
     let s = c.args.store.now in
     let t = c.loop-pool.store in
-    let m = c.loop-pool.invariant.gives_up in
+    let v = c.loop-pool.invariant in
+    let m = v.gives_up in
     let enough : c.args.pages ≤ length (free_of t c.args.pool) = omega (arith, c.free_count.ensures, c.loop-pool-test.false) in
-    ((λ y. room_at_most s t c.args.pool c.args.pages (clean_held c.args.self.now.files.items) (clean_held c.loop-pool.self.files.items) (same_pages s t c.args.pool m.frees c.requires.open) m.frees m.clean enough), (λ y. refl))
+    record {
+      room = ((λ y. room_at_most s t c.args.pool c.args.pages (clean_held c.args.self.now.files.items) (clean_held c.loop-pool.self.files.items) (same_pages s t c.args.pool m.frees c.requires.open) m.frees m.clean enough), (λ y. refl));
+      free = λ y. enough;
+      victims = v.victims;
+      gives_up = m;
+    }
 
-pub returns-in_default-clause-room : goal.returns-in_default-clause-room
-returns-in_default-clause-room c =
+pub returns-in_default-clause-makes : goal.returns-in_default-clause-makes
+returns-in_default-clause-makes c =
     let s = c.args.store.now in
     let t = c.loop-pool.store in
-    let m = c.loop-pool.invariant.gives_up in
-    let sound = c.loop-pool.invariant.sound in
-    let few : length (free_of t c.args.pool) < c.args.pages = omega (arith, c.free_count.ensures, c.loop-pool-test.true) in (
-      (λ y. absurd (let f : ◌≡◌ {A = Bool} false true = y in cc)),
-      (λ room. absurd (no_room_left s t c.args.pool c.args.pages (clean_held c.args.self.now.files.items) (clean_held c.loop-pool.self.files.items) (same_pages s t c.args.pool m.frees c.requires.open) m.frees m.clean sound.tidy sound.still
-          (λ q there. none_beside t (cached_of c.loop-pool.self) c.args.pool q sound c.in_default.ensures.first there) few room)),
-    )
+    let v = c.loop-pool.invariant in
+    let m = v.gives_up in
+    let few : length (free_of t c.args.pool) < c.args.pages = omega (arith, c.free_count.ensures, c.loop-pool-test.true) in
+    record {
+      room = (
+        (λ y. absurd (false_true y)),
+        (λ room. absurd (no_room_left s t c.args.pool c.args.pages (clean_held c.args.self.now.files.items) (clean_held c.loop-pool.self.files.items) (same_pages s t c.args.pool m.frees c.requires.open) m.frees m.clean v.sound.tidy v.sound.still
+            (λ q there. none_beside t (cached_of c.loop-pool.self) c.args.pool q v.sound c.in_default.ensures.first there) few room)),
+      );
+      free = λ y. absurd (false_true y);
+      victims = v.victims;
+      gives_up = m;
+    }
+  where
+    false_true : ◌≡◌ {A = Bool} false true → ⊥
+    false_true h = cc

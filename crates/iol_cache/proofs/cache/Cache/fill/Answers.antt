@@ -1,13 +1,10 @@
 use Rattle.std.proofs.Common.{◌≡◌, ◌∙◌, ℕ, ◌<◌, ◌^◌, List, length, refl, sym, ap, arith, subst}
-use Rattle.iol_cache.specs.Gaps.{gap_pages}
 use Rattle.std.specs.List.{All}
 use Rattle.iol_core.specs.Meaning.{WantOfRoomOrFault}
 use Rattle.iol_pool.specs.Pools.{pool_in}
-use Rattle.iol_hold.specs.Moves.{Covers}
-use Rattle.iol_hold.specs.Room.{free_of}
 use Rattle.iol_hold.specs.Places.{Place, places}
 use Rattle.iol_hold.specs.Stored.{Stored}
-use Rattle.iol_hold.specs.Texts.{bufs_of, AllReadable}
+use Rattle.iol_hold.specs.Texts.{bufs_of}
 use Rattle.iol_extent.specs.Extents.{Extent, ExtentMap, IsApart}
 use Rattle.iol_extent.specs.Spans.{AreInOrder, IsGapSpan}
 use Rattle.iol_extent.specs.declared.spans.Span.{Span}
@@ -18,17 +15,16 @@ use Rattle.iol_cache.specs.declared.files.CachedFile.{CachedFile}
 use Rattle.iol_cache.specs.Marks.{HasMarksLeft, Marks, at_page}
 use Rattle.iol_cache.specs.Cached.{Cached, file_in, with_file, extents_in, order_in, with_order, all_parts}
 use Rattle.iol_cache.specs.Cache.{cached_of, holding}
-use Rattle.iol_cache.specs.Loading.{PlacesSome}
 use Rattle.iol_cache.specs.Reading.{FillsRange, AllBeginAt, AllWithin, AreAbsent, all_entered, parts_of_spans}
-use Rattle.iol_cache.specs.Sharing.{CountsBelow}
+use Rattle.iol_cache.specs.Sharing.{AreHeld, CountsBelow}
 use Rattle.iol_cache.specs.Sound.{IsSound}
 use Rattle.iol_cache.proofs.Extents.Filing.{numbered_bounds}
 use Rattle.iol_cache.proofs.Extents.Finding.{file_back, file_here, file_put, order_here, order_put, pool_bounds}
 use Rattle.iol_cache.proofs.Extents.Using.{covers_file}
 use Rattle.iol_cache.proofs.RangeReads.Undone.{none_gaps}
-use Rattle.iol_cache.proofs.RangeReads.Filled.{order_wide}
+use Rattle.iol_cache.proofs.RangeReads.Filled.{leaves_as, order_wide}
 use Rattle.iol_cache.proofs.RangeReads.Putting.{begins_made, zip_begins, absent_gaps}
-use Rattle.iol_cache.proofs.RangeReads.Ranged.{laid_readable, range_held, made_len}
+use Rattle.iol_cache.proofs.RangeReads.Ranged.{file_held, made_len, range_held}
 use Rattle.iol_cache.proofs.Evictions.Roomy.{ranks_file, same_room, sound_same}
 use Rattle.iol_cache.proofs.Extents.Stepping.{sound_to, all_within, page_len, mark_few}
 use Rattle.iol_cache.proofs.RangeReads.Completed.{sound_filled}
@@ -57,28 +53,19 @@ all_made {s} {t} {c} {f} {from} {to} {m} {beside} {gs} {disk} {xs} sound order a
       absent = absent_gaps (order_in c.orders pool) f (extents_in c.files f) from to gs (ranks_file s c f sound).each none;
     }
 
-pub fill_range-requires-clause-apart : goal.fill_range-requires-clause-apart
-fill_range-requires-clause-apart g c =
-    subst (λ (y : CachedFile). IsApart 0 y.extents.extents) (sym (file_here _ c.number.ensures c.index_mut.ensures.value c.requires.file)) (c.requires.sound.files c.args.part.now.file).apart
+pub fill_range-requires-clause-there : goal.fill_range-requires-clause-there
+fill_range-requires-clause-there g c = subst (λ (y : CachedFile). AreHeld c.args.store.now y.extents.extents) (sym (file_here _ c.number.ensures c.index_mut.ensures.value c.requires.range.file)) (file_held c.args.part.now.file c.requires.sound)
 
 pub fill_range-requires-clause-gaps : goal.fill_range-requires-clause-gaps
 fill_range-requires-clause-gaps g c =
-    subst (λ (y : CachedFile). All (IsGapSpan y.extents.extents) c.args.gaps.now) (sym (file_here _ c.number.ensures c.index_mut.ensures.value c.requires.file)) c.requires.gaps
+    subst (λ (y : CachedFile). All (IsGapSpan y.extents.extents) c.args.gaps.now) (sym (file_here _ c.number.ensures c.index_mut.ensures.value c.requires.range.file)) c.requires.range.gaps
 
 pub fill_range-requires-clause-room : goal.fill_range-requires-clause-room
-fill_range-requires-clause-room g c = omega (arith, c.requires.room, ap (λ (y : CachedFile). y.extents.room) (file_here _ c.number.ensures c.index_mut.ensures.value c.requires.file))
+fill_range-requires-clause-room g c = omega (arith, c.requires.range.room, ap (λ (y : CachedFile). y.extents.room) (file_here _ c.number.ensures c.index_mut.ensures.value c.requires.range.file))
 
 pub fill_range-requires-clause-open : goal.fill_range-requires-clause-open
 fill_range-requires-clause-open g c =
-    ap (λ (y : CachedFile). (pool_in c.args.store.now.pools y.pool).closed) (file_here _ c.number.ensures c.index_mut.ensures.value c.requires.file) ∙ (c.requires.sound.opened c.args.part.now.file c.requires.file).is_open
-
-pub fill_range-requires-clause-held : goal.fill_range-requires-clause-held
-fill_range-requires-clause-held g c =
-    subst (λ (y : CachedFile). Covers c.args.store.now (bufs_of (all_parts y.extents.extents))) (sym (file_here _ c.number.ensures c.index_mut.ensures.value c.requires.file)) (covers_file c.args.self.now.files.items c.args.part.now.file c.requires.sound.covered)
-
-pub fill_range-requires-clause-readable : goal.fill_range-requires-clause-readable
-fill_range-requires-clause-readable g c =
-    subst (λ (y : CachedFile). AllReadable c.args.store.now (all_parts y.extents.extents)) (sym (file_here _ c.number.ensures c.index_mut.ensures.value c.requires.file)) (laid_readable _ _ (c.requires.sound.files c.args.part.now.file).laid)
+    ap (λ (y : CachedFile). (pool_in c.args.store.now.pools y.pool).closed) (file_here _ c.number.ensures c.index_mut.ensures.value c.requires.range.file) ∙ (c.requires.sound.opened c.args.part.now.file c.requires.range.file).is_open
 
 -- Refused.
 
@@ -86,71 +73,66 @@ pub returns-in-Err-clause-same : goal.returns-in-Err-clause-same
 returns-in-Err-clause-same g c =
     let old = cached_of c.args.self.now in
     let f = c.args.part.now.file in
-    let x = c.in-Err.ensures.same ∙ file_here _ c.number.ensures c.index_mut.ensures.value c.requires.file in
-    same_room old _ f c.fill_range.new.cached (numbered_bounds old.files f c.requires.file) (file_put old.files c.fill_range.new.cached c.number.ensures c.requires.file) (ap (λ (y : CachedFile). y.pool) x) (ap (λ (y : CachedFile). y.extents.extents) x)
+    let x = c.in-Err.ensures.same ∙ file_here _ c.number.ensures c.index_mut.ensures.value c.requires.range.file in
+    same_room old _ f c.fill_range.new.cached (numbered_bounds old.files f c.requires.range.file) (file_put old.files c.fill_range.new.cached c.number.ensures c.requires.range.file) (ap (λ (y : CachedFile). y.pool) x) (ap (λ (y : CachedFile). y.extents.extents) x)
     (λ p. refl) (λ p. refl) (λ p. refl) refl refl
 
 pub returns-in-Err-clause-sound : goal.returns-in-Err-clause-sound
 returns-in-Err-clause-sound g c =
     let e = c.in-Err.ensures in
-    sound_same c.fill_range.new.store (cached_of c.args.self.now) _ (sound_to c.args.store.now c.fill_range.new.store (cached_of c.args.self.now) c.requires.sound e.none e.lists e.given_back.pages.count) (returns-in-Err-clause-same g c)
+    sound_same c.fill_range.new.store (cached_of c.args.self.now) _ (sound_to c.args.store.now c.fill_range.new.store (cached_of c.args.self.now) c.requires.sound e.leaves.none e.leaves.lists e.leaves.given_back.pages.count) (returns-in-Err-clause-same g c)
 
-pub returns-in-Err-clause-given_back : goal.returns-in-Err-clause-given_back
-returns-in-Err-clause-given_back g c =
-    subst (λ (y : CachedFile). PlacesSome c.args.store.now c.fill_range.new.store y.pool (gap_pages c.args.gaps.now)) (file_here _ c.number.ensures c.index_mut.ensures.value c.requires.file) c.in-Err.ensures.given_back
-
-pub returns-in-Err-clause-no_room : goal.returns-in-Err-clause-no_room
-returns-in-Err-clause-no_room g c = λ p e.
-    omega (arith, c.in-Err.ensures.no_room p e, ap (λ (y : CachedFile). length (free_of c.args.store.now y.pool)) (file_here _ c.number.ensures c.index_mut.ensures.value c.requires.file))
+pub returns-in-Err-clause-leaves : goal.returns-in-Err-clause-leaves
+returns-in-Err-clause-leaves g c = leaves_as (ap (λ (y : CachedFile). y.pool) (file_here _ c.number.ensures c.index_mut.ensures.value c.requires.range.file)) refl c.in-Err.ensures.leaves
 
 pub returns-in-Err-clause-late : goal.returns-in-Err-clause-late
-returns-in-Err-clause-late g c = subst (λ (y : CachedFile). WantOfRoomOrFault y.pool c.args.part.now.file c.in-Err.refusal) (file_here _ c.number.ensures c.index_mut.ensures.value c.requires.file) c.in-Err.ensures.late
+returns-in-Err-clause-late g c = subst (λ (y : CachedFile). WantOfRoomOrFault y.pool c.args.part.now.file c.in-Err.refusal) (file_here _ c.number.ensures c.index_mut.ensures.value c.requires.range.file) c.in-Err.ensures.late
 
 -- Filled.
 
 pub overflow_sub-number : goal.overflow_sub-number
-overflow_sub-number g c = (let b = pool_bounds c.args.part.now.file c.requires.sound c.requires.file in omega (arith, b.0, c.number-2.ensures, ap (λ (y : CachedFile). y.pool) (file_here _ c.number.ensures c.index.ensures c.requires.file)))
+overflow_sub-number g c = (let b = pool_bounds c.args.part.now.file c.requires.sound c.requires.range.file in omega (arith, b.0, c.number-2.ensures, ap (λ (y : CachedFile). y.pool) (file_here _ c.number.ensures c.index.ensures c.requires.range.file)))
 
 pub index_mut-requires-2 : goal.index_mut-requires-2
 index_mut-requires-2 g c =
-    let b = pool_bounds c.args.part.now.file c.requires.sound c.requires.file in
-    omega (arith, b.0, b.1, c.number-2.ensures, ap (λ (y : CachedFile). y.pool) (file_here _ c.number.ensures c.index.ensures c.requires.file), c.args.self.now.orders.ok.0)
+    let b = pool_bounds c.args.part.now.file c.requires.sound c.requires.range.file in
+    omega (arith, b.0, b.1, c.number-2.ensures, ap (λ (y : CachedFile). y.pool) (file_here _ c.number.ensures c.index.ensures c.requires.range.file), c.args.self.now.orders.ok.0)
 
 fills : (g : Over) (c : In-Ok g) → FillsRange c.args.store.now c.fill_range.new.store (file_in c.args.self.now.files.items c.args.part.now.file).extents c.fill_range.new.cached.extents (file_in c.args.self.now.files.items c.args.part.now.file).pool (places c.args.beside.now) c.args.gaps.now c.args.part.now.from c.args.part.now.to (g.B.Backing.disk c.args.backing.now) c.args.part.now.file c.in-Ok.agg
 fills g c =
     subst (λ (y : CachedFile). FillsRange c.args.store.now c.fill_range.new.store y.extents c.fill_range.new.cached.extents y.pool (places c.args.beside.now) c.args.gaps.now c.args.part.now.from c.args.part.now.to (g.B.Backing.disk c.args.backing.now) c.args.part.now.file c.in-Ok.agg)
-    (file_here _ c.number.ensures c.index_mut.ensures.value c.requires.file) c.in-Ok.ensures.fills
+    (file_here _ c.number.ensures c.index_mut.ensures.value c.requires.range.file) c.in-Ok.ensures.fills
 
 made : (g : Over) (c : In-Ok g) → Made (cached_of c.args.self.now) c.args.part.now.file c.fill_range.new.cached.extents c.args.gaps.now
-made g c = all_made c.requires.sound c.requires.in_order c.requires.gaps (fills g c) (omega (arith, c.requires.end)) c.requires.few
+made g c = all_made c.requires.sound c.requires.range.in_order c.requires.range.gaps (fills g c) (omega (arith, c.requires.range.end)) c.requires.few
 
 pub enter_all-requires-clause-apart : goal.enter_all-requires-clause-apart
-enter_all-requires-clause-apart g c = subst (λ (y : CachedFile). IsApart 0 y.extents.extents) (sym (file_back _ _ c.number.ensures c.index-2.ensures c.requires.file)) c.in-Ok.ensures.apart
+enter_all-requires-clause-apart g c = subst (λ (y : CachedFile). IsApart 0 y.extents.extents) (sym (file_back _ _ c.number.ensures c.index-2.ensures c.requires.range.file)) c.in-Ok.ensures.apart
 
 pub enter_all-requires-clause-begin : goal.enter_all-requires-clause-begin
 enter_all-requires-clause-begin g c =
-    subst (λ (y : CachedFile). AllBeginAt y.extents.extents c.args.gaps.now) (sym (file_back _ _ c.number.ensures c.index-2.ensures c.requires.file)) (made g (goal.at.enter_all-requires-clause-begin g c).In-Ok).begin
+    subst (λ (y : CachedFile). AllBeginAt y.extents.extents c.args.gaps.now) (sym (file_back _ _ c.number.ensures c.index-2.ensures c.requires.range.file)) (made g (goal.at.enter_all-requires-clause-begin g c).In-Ok).begin
 
 pub enter_all-requires-clause-in_order : goal.enter_all-requires-clause-in_order
-enter_all-requires-clause-in_order g c = order_wide c.args.part.now.from c.args.part.now.to 0 4294967295 c.args.gaps.now (omega arith) (omega (arith, c.requires.end)) c.requires.in_order
+enter_all-requires-clause-in_order g c = order_wide c.args.part.now.from c.args.part.now.to 0 4294967295 c.args.gaps.now (omega arith) (omega (arith, c.requires.range.end)) c.requires.range.in_order
 
 pub enter_all-requires-clause-absent : goal.enter_all-requires-clause-absent
 enter_all-requires-clause-absent g c =
-    let o = order_here c.args.part.now.file c.requires.sound c.requires.file (file_here _ c.number.ensures c.index.ensures c.requires.file) c.number-2.ensures c.index_mut-2.ensures.value in
+    let o = order_here c.args.part.now.file c.requires.sound c.requires.range.file (file_here _ c.number.ensures c.index.ensures c.requires.range.file) c.number-2.ensures c.index_mut-2.ensures.value in
     subst (λ (r : Ranking). AreAbsent r c.args.part.now.file c.args.gaps.now) (sym o) (made g (goal.at.enter_all-requires-clause-absent g c).In-Ok).absent
 
 pub enter_all-requires-clause-room : goal.enter_all-requires-clause-room
 enter_all-requires-clause-room g c =
-    let o = order_here c.args.part.now.file c.requires.sound c.requires.file (file_here _ c.number.ensures c.index.ensures c.requires.file) c.number-2.ensures c.index_mut-2.ensures.value in
-    omega (arith, c.requires.entries, ap (λ (r : Ranking). r.room) o)
+    let o = order_here c.args.part.now.file c.requires.sound c.requires.range.file (file_here _ c.number.ensures c.index.ensures c.requires.range.file) c.number-2.ensures c.index_mut-2.ensures.value in
+    omega (arith, c.requires.range.entries, ap (λ (r : Ranking). r.room) o)
 
 pub enter_all-requires-clause-within : goal.enter_all-requires-clause-within
 enter_all-requires-clause-within g c =
-    subst (λ (y : CachedFile). AllWithin (length c.args.self.now.marks) y.extents.extents) (sym (file_back _ _ c.number.ensures c.index-2.ensures c.requires.file)) (made g (goal.at.enter_all-requires-clause-within g c).In-Ok).within
+    subst (λ (y : CachedFile). AllWithin (length c.args.self.now.marks) y.extents.extents) (sym (file_back _ _ c.number.ensures c.index-2.ensures c.requires.range.file)) (made g (goal.at.enter_all-requires-clause-within g c).In-Ok).within
 
 pub enter_all-requires-clause-few : goal.enter_all-requires-clause-few
 enter_all-requires-clause-few g c =
-    subst (λ (y : CachedFile). HasMarksLeft c.args.self.now.marks (parts_of_spans y.extents.extents c.args.gaps.now)) (sym (file_back _ _ c.number.ensures c.index-2.ensures c.requires.file)) (made g (goal.at.enter_all-requires-clause-few g c).In-Ok).few
+    subst (λ (y : CachedFile). HasMarksLeft c.args.self.now.marks (parts_of_spans y.extents.extents c.args.gaps.now)) (sym (file_back _ _ c.number.ensures c.index-2.ensures c.requires.range.file)) (made g (goal.at.enter_all-requires-clause-few g c).In-Ok).few
 
 pub returns-clause-filled : goal.returns-clause-filled
 returns-clause-filled g c =
@@ -159,21 +141,21 @@ returns-clause-filled g c =
     let f = c.args.part.now.file in
     let p = (file_in fs f).pool in
     let x = c.fill_range.new.cached in
-    let w = file_here _ c.number.ensures c.index.ensures c.requires.file in
-    let y = file_back _ _ c.number.ensures c.index-2.ensures c.requires.file in
-    let o = order_here c.args.part.now.file c.requires.sound c.requires.file w c.number-2.ensures c.index_mut-2.ensures.value in
+    let w = file_here _ c.number.ensures c.index.ensures c.requires.range.file in
+    let y = file_back _ _ c.number.ensures c.index-2.ensures c.requires.range.file in
+    let o = order_here c.args.part.now.file c.requires.sound c.requires.range.file w c.number-2.ensures c.index_mut-2.ensures.value in
     let r = all_entered (order_in os p) f x.extents.extents c.args.gaps.now in
     let entered : c.enter_all.new.order ≡ r = c.enter_all.ensures.order ∙ ap (λ (q : Ranking). all_entered q f c.index-2.result.now.extents.extents c.args.gaps.now) o ∙ ap (λ (z : CachedFile). all_entered (order_in os p) f z.extents.extents c.args.gaps.now) y in
-    let pool : x.pool ≡ p = c.fill_range.ensures.pool ∙ ap (λ (z : CachedFile). z.pool) (file_here _ c.number.ensures c.index_mut.ensures.value c.requires.file) in
+    let pool : x.pool ≡ p = c.fill_range.ensures.pool ∙ ap (λ (z : CachedFile). z.pool) (file_here _ c.number.ensures c.index_mut.ensures.value c.requires.range.file) in
     record {
       extents = x.extents;
       range = fills g (goal.at.returns-clause-filled g c).In-Ok;
       apart = c.in-Ok.ensures.apart;
-      files = file_put fs x c.number.ensures c.requires.file ∙ ap (λ k. with_file fs f (let z : CachedFile = record { pool = k; extents = x.extents } in z)) pool;
-      orders = order_put c.args.part.now.file c.requires.sound c.requires.file c.enter_all.new.order w c.number-2.ensures ∙ ap (with_order os p) entered;
+      files = file_put fs x c.number.ensures c.requires.range.file ∙ ap (λ k. with_file fs f (let z : CachedFile = record { pool = k; extents = x.extents } in z)) pool;
+      orders = order_put c.args.part.now.file c.requires.sound c.requires.range.file c.enter_all.new.order w c.number-2.ensures ∙ ap (with_order os p) entered;
       marks = subst (λ (z : CachedFile). Marks c.args.self.now.marks c.enter_all.new.marks (parts_of_spans z.extents.extents c.args.gaps.now)) y c.enter_all.ensures.marks;
     }
 
 pub returns-clause-sound : goal.returns-clause-sound
 returns-clause-sound g c =
-    sound_filled (holding c.args.store.now c.args.self.now) _ c.args.part.now.file c.args.part.now.from c.args.part.now.to (places c.args.beside.now) c.args.gaps.now (g.B.Backing.disk c.args.backing.now) c.in-Ok.agg c.requires.sound c.requires.file c.requires.in_order c.requires.gaps (returns-clause-filled g c) c.requires.end
+    sound_filled (holding c.args.store.now c.args.self.now) _ c.args.part.now.file c.args.part.now.from c.args.part.now.to (places c.args.beside.now) c.args.gaps.now (g.B.Backing.disk c.args.backing.now) c.in-Ok.agg c.requires.sound c.requires.range.file c.requires.range.in_order c.requires.range.gaps (returns-clause-filled g c) c.requires.range.end

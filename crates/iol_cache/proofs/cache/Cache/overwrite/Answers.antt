@@ -1,21 +1,19 @@
-use Rattle.std.proofs.Common.{Err, ◌≡◌, ◌∙◌, ◌+◌, ◌<◌, length, sym, ap, arith, subst}
+use Rattle.std.proofs.Common.{◌∙◌, ◌+◌, sym, ap, arith, subst}
 use Rattle.iol_core.specs.Meaning.{WantOfRoom}
-use Rattle.iol_core.specs.declared.refusals.Refusal.TheVariants.{NoRoom}
 use Rattle.iol_pool.specs.Pools.{pool_in}
 use Rattle.iol_hold.specs.Moves.{Covers}
 use Rattle.iol_hold.specs.Places.{byte_len}
-use Rattle.iol_hold.specs.Room.{free_of}
 use Rattle.iol_hold.specs.Texts.{AllReadable, bufs_of}
 use Rattle.iol_cache.specs.declared.files.CachedFile.{CachedFile}
 use Rattle.iol_cache.specs.Cache.{cached_of, holding}
 use Rattle.iol_cache.specs.Cached.{extents_in, file_in, held, all_parts}
 use Rattle.iol_cache.specs.Composing.{copied_pages}
 use Rattle.iol_cache.specs.Cutting.{CutsRight}
-use Rattle.iol_cache.specs.Loading.{PlacesSome}
 use Rattle.iol_cache.specs.Preparing.{Prepares}
 use Rattle.iol_cache.specs.Writing.{PutsOver}
 use Rattle.iol_cache.proofs.Extents.Finding.{file_here}
 use Rattle.iol_cache.proofs.RangeWrites.Prepared.{prepared_covers, prepared_few, prepared_laid, prepared_sound, right_len}
+use Rattle.iol_cache.proofs.RangeReads.Filled.{leaves_as}
 use Rattle.iol_cache.proofs.RangeReads.Ranged.{laid_readable}
 use Rattle.iol_cache.proofs.Extents.Stepping.{sound_to}
 use Rattle.iol_cache.proofs.Extents.Steps.{covers_right}
@@ -38,19 +36,16 @@ pub prepare-requires-clause-all_readable : goal.prepare-requires-clause-all_read
 prepare-requires-clause-all_readable c =
     subst (λ (y : CachedFile). AllReadable c.args.store.now (all_parts y.extents.extents)) (sym (file_here _ c.number.ensures c.index-2.ensures c.requires.file)) (laid_readable _ _ (c.requires.sound.files c.args.file).laid)
 
-pub returns-in-Err-clause-given_back : goal.returns-in-Err-clause-given_back
-returns-in-Err-clause-given_back c =
-    subst (λ (y : CachedFile). PlacesSome c.args.store.now c.prepare.new.store y.pool (copied_pages y.pool c.args.source.now)) (file_here _ c.number.ensures c.index.ensures c.requires.file) c.in-Err.ensures.given_back
-
-pub returns-in-Err-clause-no_room : goal.returns-in-Err-clause-no_room
-returns-in-Err-clause-no_room c = λ q e.
-    subst (λ (y : CachedFile). length (free_of c.args.store.now y.pool) < copied_pages y.pool c.args.source.now) (file_here _ c.number.ensures c.index.ensures c.requires.file) (c.in-Err.ensures.no_room q (let is : c.in-Err.refusal ≡ NoRoom q = cc in ap (λ x. Err x) is))
+pub returns-in-Err-clause-leaves : goal.returns-in-Err-clause-leaves
+returns-in-Err-clause-leaves c =
+    let x = file_here _ c.number.ensures c.index.ensures c.requires.file in
+    leaves_as (ap (λ (y : CachedFile). y.pool) x) (ap (λ (y : CachedFile). copied_pages y.pool c.args.source.now) x) c.in-Err.ensures.leaves
 
 pub returns-in-Err-clause-late : goal.returns-in-Err-clause-late
 returns-in-Err-clause-late c = subst (λ (y : CachedFile). WantOfRoom y.pool c.in-Err.refusal) (file_here _ c.number.ensures c.index.ensures c.requires.file) c.in-Err.ensures.late
 
 pub returns-in-Err-clause-sound : goal.returns-in-Err-clause-sound
-returns-in-Err-clause-sound c = (let e = c.in-Err.ensures in sound_to c.args.store.now c.prepare.new.store (cached_of c.args.self.now) c.requires.sound e.none e.lists e.given_back.pages.count)
+returns-in-Err-clause-sound c = (let e = c.in-Err.ensures.leaves in sound_to c.args.store.now c.prepare.new.store (cached_of c.args.self.now) c.requires.sound e.none e.lists e.given_back.pages.count)
 
 -- what was prepared for the file
 prepares : (c : In-Ok) → Prepares c.args.store.now c.prepare.new.store (file_in c.args.self.now.files.items c.args.file).pool (extents_in c.args.self.now.files.items c.args.file) c.args.at c.args.source.now c.in-Ok.prepared.left c.in-Ok.prepared.right c.in-Ok.prepared.bytes

@@ -39,7 +39,7 @@ returns-in_err-pins-clause-sound c =
     let t = c.share_hits.new.store in
     let now = cached_of c.reserve_places.new.self in
     let sound = sound_same s (cached_of c.args.self.now) now c.requires.sound c.reserve_places.ensures.same in
-    subst (λ (x : Cache). IsSound t (cached_of x)) (sym c.in_err-pins.ensures.err) (sound_to s t now sound c.in_err-pins.ensures.none c.share_hits.ensures.lists c.share_hits.ensures.frees.count)
+    subst (λ (x : Cache). IsSound t (cached_of x)) (sym c.in_err-pins.ensures.err) (sound_to s t now sound c.in_err-pins.ensures.shared.gone c.share_hits.ensures.shared.lists c.share_hits.ensures.shared.frees.count)
 
 pub returns-clause-pinned : goal.returns-clause-pinned
 returns-clause-pinned c =
@@ -55,7 +55,7 @@ returns-clause-pinned c =
       hits = found.hits.items;
       tile = subst (λ (y : CachedFile). Tile y.extents.extents c.args.part.now.from c.args.part.now.to found.hits.items found.gaps.items) x c.in_ok-found.ensures;
       lies = c.in_ok-pins.ensures.places ∙ ap (places_beside (extents_in now.files c.args.part.now.file) c.args.part.now.from c.args.part.now.to) c.deref-2.ensures.value ∙ ap (λ (es : List Extent). places_beside es c.args.part.now.from c.args.part.now.to found.gaps.items) (same.extents c.args.part.now.file);
-      shares = c.in_ok-pins.ensures.shares;
+      shares = c.in_ok-pins.ensures.shared.shares;
       reserved = now;
       rooms = same;
       counted = counted;
@@ -71,6 +71,6 @@ returns-clause-sound c =
     let next = cached_of c.share_hits.new.self in
     let same = c.reserve_places.ensures.same in
     let sound = sound_same s (cached_of c.args.self.now) now c.requires.sound same in
-    let shares = c.in_ok-pins.ensures.shares in
-    let sound-t = sound_on s t now sound (shares_move shares) (still_covers sound.covered shares) c.share_hits.ensures.lists c.share_hits.ensures.frees.count in
+    let shares = c.in_ok-pins.ensures.shared.shares in
+    let sound-t = sound_on s t now sound (shares_move shares) (still_covers sound.covered shares) c.share_hits.ensures.shared.lists c.share_hits.ensures.shared.frees.count in
     sound_hits t now next c.args.part.now.file c.deref.result.now sound-t (numbered_same (cached_of c.args.self.now) now c.args.part.now.file same c.requires.file) c.in_ok-pins.ensures.counted

@@ -1,14 +1,13 @@
 use Rattle.std.proofs.Common.{◌∙◌, ◌++◌, sym, ap, arith, subst}
 use Rattle.iol_hold.specs.Moves.{Covers, Moves}
 use Rattle.iol_hold.specs.Texts.{bufs_of, AllReadable}
-use Rattle.iol_extent.specs.Extents.{Adds, IsApart, unmet}
+use Rattle.iol_extent.specs.Extents.{Adds, unmet}
 use Rattle.iol_evict.specs.Ranking.{Ranking}
 use Rattle.iol_cache.specs.declared.files.CachedFile.{CachedFile}
 use Rattle.iol_cache.specs.Cached.{file_in, with_file, extents_in, order_in, all_parts}
 use Rattle.iol_cache.specs.Cache.{cached_of, holding}
 use Rattle.iol_cache.specs.Cutting.{CutsLeft, CutsRight}
-use Rattle.iol_cache.specs.Reading.{RanksFile}
-use Rattle.iol_cache.specs.Replacing.{Reindexes, HaveClean, IsReady, put_some, reordered}
+use Rattle.iol_cache.specs.Replacing.{IsIndexed, Reindexes, put_some, reordered}
 use Rattle.iol_cache.specs.Writing.{parts_put}
 use Rattle.iol_cache.proofs.Extents.Finding.{file_here, file_put, order_here, order_put, pool_bounds}
 use Rattle.iol_cache.proofs.RangeReads.Ranged.{laid_readable}
@@ -31,22 +30,21 @@ replace_range-requires-clause-left c = subst (λ (y : CachedFile). CutsLeft y.ex
 pub replace_range-requires-clause-right : goal.replace_range-requires-clause-right
 replace_range-requires-clause-right c = subst (λ (y : CachedFile). CutsRight y.extents.extents c.args.range.to c.args.put.right) (sym (file_here _ c.number.ensures c.index_mut-2.ensures.value c.requires.file)) c.requires.right
 
-pub replace_range-requires-clause-apart : goal.replace_range-requires-clause-apart
-replace_range-requires-clause-apart c = subst (λ (y : CachedFile). IsApart 0 y.extents.extents) (sym (file_here _ c.number.ensures c.index_mut-2.ensures.value c.requires.file)) (c.requires.sound.files c.args.file).apart
-
-pub replace_range-requires-clause-ranked : goal.replace_range-requires-clause-ranked
-replace_range-requires-clause-ranked c =
-    subst (λ (y : CachedFile). RanksFile c.index_mut.result.now c.args.file y.extents.extents) (sym (file_here _ c.number.ensures c.index_mut-2.ensures.value c.requires.file))
-    (subst (λ (q : Ranking). RanksFile q c.args.file (extents_in c.args.self.now.files.items c.args.file)) (sym (order_here c.args.file c.requires.sound c.requires.file (file_here _ c.number.ensures c.index.ensures c.requires.file) c.number-2.ensures c.index_mut.ensures.value)) (ranks_file c.args.store.now (cached_of c.args.self.now) c.args.file c.requires.sound))
-
-pub replace_range-requires-clause-ready : goal.replace_range-requires-clause-ready
-replace_range-requires-clause-ready c =
+pub replace_range-requires-clause-indexed : goal.replace_range-requires-clause-indexed
+replace_range-requires-clause-indexed c =
+    let f = c.args.file in
     let fs = c.args.self.now.files.items in
-    subst (λ (y : CachedFile). IsReady c.index_mut.result.now y.extents.extents) (sym (file_here _ c.number.ensures c.index_mut-2.ensures.value c.requires.file))
-    (subst (λ (q : Ranking). IsReady q (extents_in fs c.args.file)) (sym (order_here c.args.file c.requires.sound c.requires.file (file_here _ c.number.ensures c.index.ensures c.requires.file) c.number-2.ensures c.index_mut.ensures.value)) (is_ready fs c.args.self.now.orders.items c.args.file c.requires.sound.ready))
-
-pub replace_range-requires-clause-marked : goal.replace_range-requires-clause-marked
-replace_range-requires-clause-marked c = subst (λ (y : CachedFile). HaveClean c.args.self.now.marks y.extents.extents) (sym (file_here _ c.number.ensures c.index_mut-2.ensures.value c.requires.file)) (have_clean c.args.self.now.files.items c.args.file c.args.self.now.marks c.requires.sound.marked)
+    let marks = c.args.self.now.marks in
+    let sound = c.requires.sound in
+    let x = file_here _ c.number.ensures c.index_mut-2.ensures.value c.requires.file in
+    let o = order_here f sound c.requires.file (file_here _ c.number.ensures c.index.ensures c.requires.file) c.number-2.ensures c.index_mut.ensures.value in
+    let there : IsIndexed f (extents_in fs f) (order_in c.args.self.now.orders.items (file_in fs f).pool) marks = record {
+      apart = (sound.files f).apart;
+      ranked = ranks_file c.args.store.now (cached_of c.args.self.now) f sound;
+      ready = is_ready fs c.args.self.now.orders.items f sound.ready;
+      marked = have_clean fs f marks sound.marked;
+    } in
+    subst (λ (y : CachedFile). IsIndexed f y.extents.extents c.index_mut.result.now marks) (sym x) (subst (λ (q : Ranking). IsIndexed f (extents_in fs f) q marks) (sym o) there)
 
 pub replace_range-requires-clause-few : goal.replace_range-requires-clause-few
 replace_range-requires-clause-few c =

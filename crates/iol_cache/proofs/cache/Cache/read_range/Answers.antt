@@ -151,13 +151,7 @@ returns-clause-refused g c =
     })) c.fill_pinned.ensures.undone
 
 pub returns-clause-goes : goal.returns-clause-goes
-returns-clause-goes g c =
-    let d = g.B.Backing.disk c.args.backing.now in
-    let old = holding c.args.store.now c.args.self.now in
-    let hit = holding c.pin.new.store c.pin.new.self in
-    let new = holding c.fill_pinned.new.store c.fill_pinned.new.self in
-    let taken = bufs_of c.in_ok-pins.pins in
-    IfOk-weaker c.fill_pinned.result (λ a. Goes d taken (bufs_of a) hit new) (λ a. Goes d [] (bufs_of a) old new) (λ xs h. goes_trans d [] taken (bufs_of xs) old hit new (shared g (goal.at.returns-clause-goes g c).In_ok-pins) h) c.fill_pinned.ensures.goes
+returns-clause-goes g c = IfOk-weaker c.fill_pinned.result _ _ (λ xs h. goes_trans _ [] (bufs_of c.in_ok-pins.pins) (bufs_of xs) _ _ _ (shared g (goal.at.returns-clause-goes g c).In_ok-pins) h) c.fill_pinned.ensures.goes
 
 pub returns-clause-gone : goal.returns-clause-gone
 returns-clause-gone g c = on_err_weaker c.fill_pinned.result (λ h. goes_trans _ [] (bufs_of c.in_ok-pins.pins) [] _ _ _ (shared g (goal.at.returns-clause-gone g c).In_ok-pins) h) c.fill_pinned.ensures.gone

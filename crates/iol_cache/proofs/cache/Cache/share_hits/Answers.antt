@@ -1,38 +1,22 @@
 use Rattle.std.proofs.Common.{◌∙◌, refl, sym, ap, arith, subst}
-use Rattle.iol_hold.specs.Moves.{Covers}
-use Rattle.iol_hold.specs.Texts.{bufs_of, AllReadable}
 use Rattle.iol_extent.specs.Extents.{IsApart}
 use Rattle.iol_evict.specs.Ranking.{Ranking}
 use Rattle.iol_cache.specs.declared.files.CachedFile.{CachedFile}
-use Rattle.iol_cache.specs.Cached.{file_in, order_in, with_order, all_parts}
+use Rattle.iol_cache.specs.Cached.{file_in, order_in, with_order}
 use Rattle.iol_cache.specs.Cache.{cached_of}
 use Rattle.iol_cache.specs.Reading.{RanksFile, hits_counted}
+use Rattle.iol_cache.specs.Sharing.{AreHeld}
 use Rattle.iol_cache.specs.Weaving.{IsCoveredBeside, places_beside}
 use Rattle.iol_cache.proofs.Extents.Finding.{file_here, order_here, order_put, pool_bounds}
-use Rattle.iol_cache.proofs.Extents.Using.{covers_file}
-use Rattle.iol_cache.proofs.RangeReads.Ranged.{laid_readable}
+use Rattle.iol_cache.proofs.RangeReads.Ranged.{file_held}
 use Rattle.iol_cache.proofs.Evictions.Roomy.{ranks_file}
 use Rattle.iol_cache.proofs.cache.Cache.share_hits.Goals as goal
 
-pub share_beside-requires-clause-apart : goal.share_beside-requires-clause-apart
-share_beside-requires-clause-apart c =
-    let x = file_here _ c.number.ensures c.index-2.ensures c.requires.file in
-    subst (λ (y : CachedFile). IsApart 0 y.extents.extents) (sym x) (c.requires.sound.files c.args.part.now.file).apart
+pub share_beside-requires-clause-there : goal.share_beside-requires-clause-there
+share_beside-requires-clause-there c = subst (λ (y : CachedFile). AreHeld c.args.store.now y.extents.extents) (sym (file_here _ c.number.ensures c.index-2.ensures c.requires.file)) (file_held c.args.part.now.file c.requires.sound)
 
 pub share_beside-requires-clause-covered : goal.share_beside-requires-clause-covered
-share_beside-requires-clause-covered c =
-    let x = file_here _ c.number.ensures c.index-2.ensures c.requires.file in
-    subst (λ (y : CachedFile). IsCoveredBeside y.extents.extents c.args.part.now.from c.args.part.now.to c.args.gaps.now) (sym x) c.requires.covered
-
-pub share_beside-requires-clause-held : goal.share_beside-requires-clause-held
-share_beside-requires-clause-held c =
-    let x = file_here _ c.number.ensures c.index-2.ensures c.requires.file in
-    subst (λ (y : CachedFile). Covers c.args.store.now (bufs_of (all_parts y.extents.extents))) (sym x) (covers_file c.args.self.now.files.items c.args.part.now.file c.requires.sound.covered)
-
-pub share_beside-requires-clause-readable : goal.share_beside-requires-clause-readable
-share_beside-requires-clause-readable c =
-    let x = file_here _ c.number.ensures c.index-2.ensures c.requires.file in
-    subst (λ (y : CachedFile). AllReadable c.args.store.now (all_parts y.extents.extents)) (sym x) (laid_readable _ _ (c.requires.sound.files c.args.part.now.file).laid)
+share_beside-requires-clause-covered c = subst (λ (y : CachedFile). IsCoveredBeside y.extents.extents c.args.part.now.from c.args.part.now.to c.args.gaps.now) (sym (file_here _ c.number.ensures c.index-2.ensures c.requires.file)) c.requires.covered
 
 pub overflow_sub-number : goal.overflow_sub-number
 overflow_sub-number c =
@@ -47,9 +31,7 @@ index_mut-requires c =
     omega (arith, b.0, b.1, c.number-2.ensures, ap (λ (y : CachedFile). y.pool) x, c.args.self.now.orders.ok.0)
 
 pub count_hits-requires-clause-apart : goal.count_hits-requires-clause-apart
-count_hits-requires-clause-apart c =
-    let x = file_here _ c.number.ensures c.index-3.ensures c.requires.file in
-    subst (λ (y : CachedFile). IsApart 0 y.extents.extents) (sym x) (c.requires.sound.files c.args.part.now.file).apart
+count_hits-requires-clause-apart c = subst (λ (y : CachedFile). IsApart 0 y.extents.extents) (sym (file_here _ c.number.ensures c.index-3.ensures c.requires.file)) (c.requires.sound.files c.args.part.now.file).apart
 
 pub count_hits-requires-clause-ranked : goal.count_hits-requires-clause-ranked
 count_hits-requires-clause-ranked c =

@@ -161,19 +161,24 @@ pub returns-clause-sound : goal.returns-clause-sound
 returns-clause-sound g c =
     cleaned_sound c.args.store.now c.args.file (cached_of c.args.self.now) _ (g.B.Backing.disk c.args.backing.now) (g.B.Backing.disk c.write_back.new.backing) c.requires.sound c.requires.file (returns-clause-stores g c)
 
-pub returns-in-Err-clause-files : goal.returns-in-Err-clause-files
-returns-in-Err-clause-files g c =
-    fail_bytes c.args.store.now c.args.file (cached_of c.args.self.now) (cached_of c.args.self.now) (g.B.Backing.disk c.args.backing.now) (g.B.Backing.disk c.write_back.new.backing) c.requires.sound (returns-in-Err-clause-stores g c).0
+pub returns-in-Err-clause-keeps : goal.returns-in-Err-clause-keeps
+returns-in-Err-clause-keeps g c =
+    let s = c.args.store.now in
+    let old = cached_of c.args.self.now in
+    let d = g.B.Backing.disk c.args.backing.now in
+    let e = g.B.Backing.disk c.write_back.new.backing in
+    let failed = (returns-in-Err-clause-stores g c).0 in
+    record { bytes = fail_bytes s c.args.file old old d e c.requires.sound failed; stored = fail_stored s c.args.file old old d e c.requires.sound failed }
 
-pub returns-in-Err-clause-mirrors : goal.returns-in-Err-clause-mirrors
-returns-in-Err-clause-mirrors g c =
-    fail_stored c.args.store.now c.args.file (cached_of c.args.self.now) (cached_of c.args.self.now) (g.B.Backing.disk c.args.backing.now) (g.B.Backing.disk c.write_back.new.backing) c.requires.sound (returns-in-Err-clause-stores g c).0
-
-pub returns-clause-files : goal.returns-clause-files
-returns-clause-files g c = λ h. record {
-  each = clean_bytes c.args.store.now c.args.file (cached_of c.args.self.now) _ (g.B.Backing.disk c.args.backing.now) (g.B.Backing.disk c.write_back.new.backing) c.requires.sound c.requires.file (returns-clause-stores g c) h;
-}
-
-pub returns-clause-mirrors : goal.returns-clause-mirrors
-returns-clause-mirrors g c =
-    clean_mirrors c.args.store.now c.args.file (cached_of c.args.self.now) _ (g.B.Backing.disk c.args.backing.now) (g.B.Backing.disk c.write_back.new.backing) c.requires.sound c.requires.file (returns-clause-stores g c)
+pub returns-clause-keeps : goal.returns-clause-keeps
+returns-clause-keeps g c =
+    let s = c.args.store.now in
+    let f = c.args.file in
+    let old = cached_of c.args.self.now in
+    let d = g.B.Backing.disk c.args.backing.now in
+    let e = g.B.Backing.disk c.write_back.new.backing in
+    let cleaned = returns-clause-stores g c in
+    record {
+      bytes = λ h. record { each = clean_bytes s f old _ d e c.requires.sound c.requires.file cleaned h };
+      stored = clean_mirrors s f old _ d e c.requires.sound c.requires.file cleaned;
+    }

@@ -98,7 +98,7 @@ stayed c =
     let old = holding c.args.store.now c.args.self.now in
     let t = c.overwrite.new.store in
     let e = c.in-Err-overwrite.ensures in
-    subst (λ (x : Cache). KeepsAll c.args.file old (holding t x)) (sym e.same) (goes_all c.args.file old _ (λ d. goes_refused d _ _ _ _ t c.make_place.ensures.room c.make_place.ensures.sound e.none e.lists e.settles e.given_back.pages.count))
+    subst (λ (x : Cache). KeepsAll c.args.file old (holding t x)) (sym e.same) (goes_all c.args.file old _ (λ d. goes_refused d _ _ _ _ t c.make_place.ensures.room c.make_place.ensures.sound e.leaves.none e.leaves.lists e.leaves.settles e.leaves.given_back.pages.count))
 
 pub returns-in-Err-overwrite-clause-others : goal.returns-in-Err-overwrite-clause-others
 returns-in-Err-overwrite-clause-others c = (stayed c).others

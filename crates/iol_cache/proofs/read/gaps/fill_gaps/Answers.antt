@@ -1,9 +1,8 @@
-use Rattle.std.proofs.Common.{Err, refl, ◌≡◌, ◌∙◌, ◌+◌, ◌-◌, ◌<◌, [], All, ap, sym, subst, get_or, length, take, drop, List, ℕ, arith}
+use Rattle.std.proofs.Common.{refl, ◌≡◌, ◌∙◌, ◌+◌, ◌-◌, ◌<◌, [], All, ap, sym, subst, get_or, length, take, drop, List, ℕ, arith, rules}
 use Rattle.std.proofs.lemmas.List.{take_more, length-drop}
 use Rattle.std.proofs.lemmas.List.Elements.{All-take, All-tail, All-head}
 use Rattle.iol_arena.specs.State.{pages_for}
 use Rattle.iol_back.specs.Disk.{Disk}
-use Rattle.iol_core.specs.declared.refusals.Refusal.TheVariants.{NoRoom}
 use Rattle.iol_hold.specs.Moves.{Covers, Moves}
 use Rattle.iol_hold.specs.Room.{free_of}
 use Rattle.iol_hold.specs.Stored.{Stored}
@@ -63,7 +62,7 @@ take_back-requires-clause-covered g c =
     let v = c.loop-i.invariant in
     let gaps = c.args.gaps.now in
     let back = can c.args.store.now c.loop-i.store c.args.extents.now c.loop-i.extents c.args.pool c.args.file c.loop-i.i gaps (g.B.Backing.disk c.args.backing.now) c.requires.apart c.requires.order c.requires.gaps v.fills in
-    subst (λ (m : ExtentMap). Covers c.fill_gap.new.store (bufs_of (parts_back m.extents (take c.loop-i.i gaps)))) (sym c.in-Err.ensures.same) (covers_back v.fills.moves c.in-Err.ensures.none back.same)
+    subst (λ (m : ExtentMap). Covers c.fill_gap.new.store (bufs_of (parts_back m.extents (take c.loop-i.i gaps)))) (sym c.in-Err.ensures.same) (covers_back v.fills.moves c.in-Err.ensures.leaves.none back.same)
 
 pub returns-in-Err-clause-apart : goal.returns-in-Err-clause-apart
 returns-in-Err-clause-apart g c =
@@ -81,36 +80,26 @@ returns-in-Err-clause-same g c =
     (c.take_back.ensures.extents ∙ ap (λ (m : ExtentMap). without_spans m.extents (take c.loop-i.i gaps)) c.in-Err.ensures.same ∙ back.without)
     (omega (arith, c.take_back.ensures.room, ap (λ (m : ExtentMap). m.room) c.in-Err.ensures.same, v.fills.room))
 
-pub returns-in-Err-clause-none : goal.returns-in-Err-clause-none
-returns-in-Err-clause-none g c =
-    let v = c.loop-i.invariant in
-    let gaps = c.args.gaps.now in
-    let back = can c.args.store.now c.loop-i.store c.args.extents.now c.loop-i.extents c.args.pool c.args.file c.loop-i.i gaps (g.B.Backing.disk c.args.backing.now) c.requires.apart c.requires.order c.requires.gaps v.fills in
-    moved_back v.fills.moves c.in-Err.ensures.none (subst (λ (m : ExtentMap). Moves c.fill_gap.new.store c.take_back.new.store (bufs_of (parts_back m.extents (take c.loop-i.i gaps))) []) c.in-Err.ensures.same c.take_back.ensures.moves) back.same
-
-pub returns-in-Err-clause-given_back : goal.returns-in-Err-clause-given_back
-returns-in-Err-clause-given_back g c = placed_some (gap_pages c.args.gaps.now) (gap_pages-take c.args.gaps.now c.loop-i.i) c.loop-i.invariant.places c.in-Err.ensures.kept c.take_back.ensures.frees c.fill_gap.ensures.pools
-
-pub returns-in-Err-clause-settles : goal.returns-in-Err-clause-settles
-returns-in-Err-clause-settles g c = λ all.
-    let v = c.loop-i.invariant in
-    let gaps = c.args.gaps.now in
-    let back = can c.args.store.now c.loop-i.store c.args.extents.now c.loop-i.extents c.args.pool c.args.file c.loop-i.i gaps (g.B.Backing.disk c.args.backing.now) c.requires.apart c.requires.order c.requires.gaps v.fills in
-    let covers = covers_back v.fills.moves c.in-Err.ensures.none back.same in
-    let readable = readable_stays (parts_back c.loop-i.extents.extents (take c.loop-i.i gaps)) c.in-Err.ensures.none.stays covers back.readable in
-    c.take_back.ensures.settles (subst (λ (m : ExtentMap). AllReadable c.fill_gap.new.store (parts_back m.extents (take c.loop-i.i gaps))) (sym c.in-Err.ensures.same) readable) (c.fill_gap.ensures.settles (v.settles all))
-
 pages_more : (gaps : List Span) (i : ℕ) → i < length gaps → gap_pages (take (i + 1) gaps) ≡ gap_pages (take i gaps) + pages_for ((get_or gaps i no_span).to - (get_or gaps i no_span).from)
 pages_more gaps i h = ap gap_pages (take_more gaps i no_span h) ∙ gap_pages-push (take i gaps) (get_or gaps i no_span)
 
-pub returns-in-Err-clause-no_room : goal.returns-in-Err-clause-no_room
-returns-in-Err-clause-no_room g c = λ p e.
+pub returns-in-Err-clause-leaves : goal.returns-in-Err-clause-leaves
+returns-in-Err-clause-leaves g c =
     let v = c.loop-i.invariant in
     let gaps = c.args.gaps.now in
     let i = c.loop-i.i in
-    let none : c.in-Err.refusal ≡ NoRoom p = cc in
-    let few = c.in-Err.ensures.no_room p (ap (λ x. Err x) none) in
-    omega (arith, few, ap length v.places.free, length-drop (gap_pages (take i gaps)) (free_of c.args.store.now c.args.pool), v.places.enough, pages_more gaps i c.loop-i-test.true, gap_pages-take gaps (i + 1))
+    let none = c.in-Err.ensures.leaves.none in
+    let same = c.in-Err.ensures.same in
+    let gone = take i gaps in
+    let back = can c.args.store.now c.loop-i.store c.args.extents.now c.loop-i.extents c.args.pool c.args.file i gaps (g.B.Backing.disk c.args.backing.now) c.requires.apart c.requires.order c.requires.gaps v.fills in
+    let readable = readable_stays (parts_back c.loop-i.extents.extents gone) none.stays (covers_back v.fills.moves none back.same) back.readable in
+    record {
+      none = moved_back v.fills.moves none (subst (λ (m : ExtentMap). Moves c.fill_gap.new.store c.take_back.new.store (bufs_of (parts_back m.extents gone)) []) same c.take_back.ensures.moves) back.same;
+      given_back = placed_some (gap_pages gaps) (gap_pages-take gaps i) v.places c.in-Err.ensures.leaves.kept c.take_back.ensures.frees c.fill_gap.ensures.leaves.pools;
+      lists = search (rules);
+      settles = λ all. c.take_back.ensures.settles (subst (λ (m : ExtentMap). AllReadable c.fill_gap.new.store (parts_back m.extents gone)) (sym same) readable) (c.fill_gap.ensures.leaves.settles (v.settles all));
+      no_room = λ p is. omega (arith, c.in-Err.ensures.leaves.no_room p is, ap length v.places.free, length-drop (gap_pages gone) (free_of c.args.store.now c.args.pool), v.places.enough, pages_more gaps i c.loop-i-test.true, gap_pages-take gaps (i + 1));
+    }
 
 pub loop-i-preserved : goal.loop-i-preserved
 loop-i-preserved g c =
@@ -131,7 +120,7 @@ loop-i-preserved g c =
       places = subst (λ n. PlacesPages c.args.store.now c.fill_gap.new.store c.args.pool n) (sym (pages_more gaps i h)) (places_then v.places f.places);
       apart = f.apart;
       left = gaps_left c.loop-i.extents.extents c.fill_gap.new.extents.extents f.made 4294967295 (drop (i + 1) gaps) (subst (λ n. AreInOrder n 4294967295 (drop (i + 1) gaps)) (sym f.is.ends) order) rest f.adds;
-      settles = λ all. c.fill_gap.ensures.settles (v.settles all);
+      settles = λ all. c.fill_gap.ensures.leaves.settles (v.settles all);
       honest = c.fill_gap.ensures.disk.honest ∙ v.honest;
       slots = λ y. c.fill_gap.ensures.disk.slots (v.honest ∙ y) ∙ v.slots y;
       failures = c.in_default.ensures.disk.counts.0 ∙ v.failures;

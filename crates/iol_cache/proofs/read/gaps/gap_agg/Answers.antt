@@ -24,7 +24,7 @@ pub of_holds-requires-clause-small : goal.of_holds-requires-clause-small
 of_holds-requires-clause-small g c =
     let t = c.load.new.store in
     let bytes = bytes_in t.arena (held_bufs c.in-Ok-load.holds) in
-    omega (arith, ap length (whole_texts-one t c.args.pool c.in-Ok-load.holds c.in-Ok-load.ensures.pool), length-labelled c.args.pool bytes, c.in-Ok-load.ensures.len, c.requires.fits)
+    omega (arith, ap length (whole_texts-one t c.args.pool c.in-Ok-load.holds c.in-Ok-load.ensures.pool), length-labelled c.args.pool bytes, c.in-Ok-load.ensures.len, c.requires.some)
 
 pub returns-clause-loads : goal.returns-clause-loads
 returns-clause-loads g c =
@@ -48,3 +48,6 @@ pub returns-clause-value : goal.returns-clause-value
 returns-clause-value g c = λ y.
     let t = c.load.new.store in
     texts t c.of_holds.result c.in-Ok-load.holds c.args.pool c.of_holds.ensures.text c.in-Ok-load.ensures.pool ∙ ap (text.labelled c.args.pool) (c.in-Ok-load.ensures.value y)
+
+pub returns-clause-inside : goal.returns-clause-inside
+returns-clause-inside g c = λ y. omega (arith, c.in-Ok-load.ensures.inside y, c.requires.some)

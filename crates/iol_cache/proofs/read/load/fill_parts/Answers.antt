@@ -11,6 +11,8 @@ use Rattle.iol_arena.proofs.Steps.{some_at}
 use Rattle.iol_arena.proofs.Marks.{pages_hold}
 use Rattle.iol_back.specs.Disk.{content}
 use Rattle.iol_cache.proofs.RangeReads.Loaded.{one_more, read_more, fills_trans, some_parts}
+use Rattle.iol_cache.proofs.read.load.fill_parts.Given.{Over}
+use Rattle.iol_cache.proofs.read.load.fill_parts.Goals.{After-loop-i}
 use Rattle.iol_cache.proofs.read.load.fill_parts.Goals as goal
 
 parts_are : (r q : Reserved) → r ≡ q → r.reservation.parts.items ≡ q.reservation.parts.items
@@ -52,31 +54,33 @@ loop-i-preserved g c =
 pub returns-clause-disk : goal.returns-clause-disk
 returns-clause-disk g c = record { honest = c.loop-i.invariant.honest; slots = c.loop-i.invariant.slots; counts = (c.loop-i.invariant.failures, c.loop-i.invariant.works (omega (arith, c.loop-i-test.false, c.part_count-i-end.ensures, some_parts (filling_parts c.args.filling.now) c.args.n c.requires.some c.requires.long))) }
 
+-- after the last part
+module _ (g : Over) (c : After-loop-i g) where
+  abbrev ps : List Part
+  ps = filling_parts c.args.filling.now
+
+  all : take c.loop-i.i ps ≡ ps
+  all = ap (λ k. take k ps) (let i : c.loop-i.i ≡ length ps = omega (arith, c.loop-i-test.false, c.part_count-i-end.ensures, c.loop-i.invariant.within) in i) ∙ take-length ps
+
+  whole : c.loop-i.done ≡ c.args.n
+  whole = c.loop-i.invariant.done ∙ ap (λ (xs : List Part). min c.args.n (length (part_pages xs) * 4096)) all ∙ omega (arith, c.requires.long, pages_hold c.args.n)
+
+  parts : filling_parts c.loop-i.filling ≡ take c.loop-i.i ps
+  parts = parts_are _ _ c.loop-i.invariant.reserved ∙ sym all
+
 pub returns-clause-read : goal.returns-clause-read
 returns-clause-read g c = λ h.
-    let ps = filling_parts c.args.filling.now in
-    let v = c.loop-i.invariant in
-    let i : c.loop-i.i ≡ length ps = omega (arith, c.loop-i-test.false, c.part_count-i-end.ensures, v.within) in
-    let all : take c.loop-i.i ps ≡ ps = ap (λ k. take k ps) i ∙ take-length ps in
-    let n : c.loop-i.done ≡ c.args.n = v.done ∙ ap (λ (xs : List Part). min c.args.n (length (part_pages xs) * 4096)) all ∙ omega (arith, c.requires.long, pages_hold c.args.n) in
-    let bytes = ap (λ (xs : List Part). take c.args.n (flat_map (part_bytes (filling_store c.loop-i.filling).arena) xs)) (parts_are _ _ v.reserved ∙ sym all) in
-    bytes ∙ ap (λ k. take k (flat_map (part_bytes (filling_store c.loop-i.filling).arena) (take c.loop-i.i ps))) (sym n) ∙ v.read h ∙ ap (λ k. take k (drop c.args.at (content (g.B.Backing.disk c.args.backing.now).slots c.args.file))) n
+    let at = (goal.at.returns-clause-read g c).After-loop-i in
+    let n = whole g at in
+    let s = (filling_store c.loop-i.filling).arena in
+    ap (λ (xs : List Part). take c.args.n (flat_map (part_bytes s) xs)) (parts g at)
+    ∙ ap (λ k. take k (flat_map (part_bytes s) (take c.loop-i.i (ps g at)))) (sym n) ∙ c.loop-i.invariant.read h ∙ ap (λ k. take k (drop c.args.at (content (g.B.Backing.disk c.args.backing.now).slots c.args.file))) n
 
 pub returns-clause-whole : goal.returns-clause-whole
 returns-clause-whole g c =
-    let ps = filling_parts c.args.filling.now in
-    let v = c.loop-i.invariant in
-    let i : c.loop-i.i ≡ length ps = omega (arith, c.loop-i-test.false, c.part_count-i-end.ensures, v.within) in
-    let all : take c.loop-i.i ps ≡ ps = ap (λ k. take k ps) i ∙ take-length ps in
-    let bytes = ap (λ (xs : List Part). length (flat_map (part_bytes (filling_store c.loop-i.filling).arena) xs)) (parts_are _ _ v.reserved ∙ sym all) in
-    let pages = ap (λ (xs : List Part). length (part_pages xs) * 4096) all in
-    omega (arith, bytes, v.whole, pages, c.requires.long, pages_hold c.args.n)
+    let at = (goal.at.returns-clause-whole g c).After-loop-i in
+    let bytes = ap (λ (xs : List Part). length (flat_map (part_bytes (filling_store c.loop-i.filling).arena) xs)) (parts g at) in
+    omega (arith, bytes, c.loop-i.invariant.whole, ap (λ (xs : List Part). length (part_pages xs) * 4096) (all g at), c.requires.long, pages_hold c.args.n)
 
 pub returns-clause-inside : goal.returns-clause-inside
-returns-clause-inside g c = λ h.
-    let ps = filling_parts c.args.filling.now in
-    let v = c.loop-i.invariant in
-    let i : c.loop-i.i ≡ length ps = omega (arith, c.loop-i-test.false, c.part_count-i-end.ensures, v.within) in
-    let all : take c.loop-i.i ps ≡ ps = ap (λ k. take k ps) i ∙ take-length ps in
-    let n : c.loop-i.done ≡ c.args.n = v.done ∙ ap (λ (xs : List Part). min c.args.n (length (part_pages xs) * 4096)) all ∙ omega (arith, c.requires.long, pages_hold c.args.n) in
-    omega (arith, v.inside h (omega (arith, n, c.requires.some)), n)
+returns-clause-inside g c = λ h. (let n = whole g (goal.at.returns-clause-inside g c).After-loop-i in omega (arith, c.loop-i.invariant.inside h (omega (arith, n, c.requires.some)), n))

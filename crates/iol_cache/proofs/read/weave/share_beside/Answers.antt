@@ -1,4 +1,4 @@
-use Rattle.std.proofs.Common.{◌∙◌, ◌+◌, ◌++◌, ap, sym, subst, get_or, length, drop, arith, append_assoc, length-append}
+use Rattle.std.proofs.Common.{ap, subst, get_or, length, arith, length-append}
 use Rattle.std.proofs.lemmas.List.{drop_more}
 use Rattle.iol_agg.proofs.Poured.{shares_then}
 use Rattle.iol_extent.specs.Spans.{AreInOrder}
@@ -6,56 +6,56 @@ use Rattle.iol_extent.specs.declared.spans.Span.{Span}
 use Rattle.iol_hold.specs.Places.{places}
 use Rattle.iol_cache.specs.Cached.{all_parts}
 use Rattle.iol_cache.specs.Sharing.{places_over}
-use Rattle.iol_cache.specs.Weaving.{IsCoveredBeside, places_beside}
-use Rattle.iol_cache.proofs.RangeReads.Shared.{held_beside, length-places_over, over_there, readable_places, readable_same, settles_shares, shared_gone}
+use Rattle.iol_cache.specs.Weaving.{IsCoveredBeside}
+use Rattle.iol_cache.proofs.RangeReads.Shared.{all_shared, held_beside, length-places_over, over_there, readable_places, readable_on, refused_then}
+use Rattle.iol_cache.proofs.RangeReads.Woven.{beside_more}
 use Rattle.iol_cache.proofs.read.weave.share_beside.Goals as goal
 
 abbrev no_span : Span
 no_span = record { from = 0; to = 0 }
 
 pub share_over-requires-clause-held : goal.share_over-requires-clause-held
-share_over-requires-clause-held c = held_beside c.requires.held c.loop-gap.invariant.shares
+share_over-requires-clause-held c = held_beside c.requires.there.held c.loop-gap.invariant.shares
 
 pub share_over-requires-2-clause-held : goal.share_over-requires-2-clause-held
-share_over-requires-2-clause-held c = held_beside c.requires.held c.loop-gap.invariant.shares
+share_over-requires-2-clause-held c = held_beside c.requires.there.held c.loop-gap.invariant.shares
 
-pub returns-in-Err-clause-none : goal.returns-in-Err-clause-none
-returns-in-Err-clause-none c = shared_gone c.loop-gap.invariant.shares c.in-Err.ensures.gone
+pub share_over-requires-clause-readable : goal.share_over-requires-clause-readable
+share_over-requires-clause-readable c = readable_on (all_parts c.args.extents.now.extents) c.loop-gap.invariant.shares c.requires.there.readable
 
-pub returns-in-Err-clause-settles : goal.returns-in-Err-clause-settles
-returns-in-Err-clause-settles c = λ settled.
-    let v = c.loop-gap.invariant in
-    c.share_over.ensures.settles (readable_same c.args.store.now c.loop-gap.store (all_parts c.args.extents.now.extents) v.shares.arena v.shares.pools c.requires.readable)
-    (readable_same c.args.store.now c.loop-gap.store c.loop-gap.shared v.shares.arena v.shares.pools v.readable) (settles_shares v.shares settled)
+pub share_over-requires-clause-own_readable : goal.share_over-requires-clause-own_readable
+share_over-requires-clause-own_readable c = readable_on c.loop-gap.shared c.loop-gap.invariant.shares c.loop-gap.invariant.readable
+
+pub share_over-requires-2-clause-readable : goal.share_over-requires-2-clause-readable
+share_over-requires-2-clause-readable c = readable_on (all_parts c.args.extents.now.extents) c.loop-gap.invariant.shares c.requires.there.readable
+
+pub share_over-requires-2-clause-own_readable : goal.share_over-requires-2-clause-own_readable
+share_over-requires-2-clause-own_readable c = readable_on c.loop-gap.shared c.loop-gap.invariant.shares c.loop-gap.invariant.readable
+
+pub returns-in-Err-clause-shared : goal.returns-in-Err-clause-shared
+returns-in-Err-clause-shared c = refused_then c.loop-gap.invariant.shares c.in-Err.ensures.shared
 
 pub loop-gap-preserved : goal.loop-gap-preserved
 loop-gap-preserved c =
     let v = c.loop-gap.invariant in
     let es = c.args.extents.now.extents in
-    let gaps = c.args.gaps.now in
-    let i = c.loop-gap.gap-index in
-    let g = get_or gaps i no_span in
-    let rest = drop (i + 1) gaps in
-    let at = c.loop-gap.at in
-    let to = c.args.to in
-    let more = drop_more gaps i no_span c.loop-gap-test.true in
-    let order = subst (AreInOrder at to) more v.in_order in
-    let covered = subst (IsCoveredBeside es at to) more v.covered in
+    let g = get_or c.args.gaps.now c.loop-gap.gap-index no_span in
+    let more = drop_more c.args.gaps.now c.loop-gap.gap-index no_span c.loop-gap-test.true in
+    let order = subst (AreInOrder c.loop-gap.at c.args.to) more v.in_order in
+    let covered = subst (IsCoveredBeside es c.loop-gap.at c.args.to) more v.covered in
     let is = c.in-Ok.ensures.places in
+    let over = places_over es c.loop-gap.at g.from in
     record {
-      places = ap (λ l. l ++ places_beside es g.to to rest) is ∙ append_assoc (places c.loop-gap.shared) (places_over es at g.from) (places_beside es g.to to rest) ∙ sym (ap (λ l. places c.loop-gap.shared ++ places_beside es at to l) more) ∙ v.places;
-      shares = shares_then v.shares c.in-Ok.ensures.shares;
+      places = beside_more es (places c.loop-gap.shared) (places c.in-Ok.more) c.loop-gap.at c.args.to more is v.places;
+      shares = shares_then v.shares c.in-Ok.ensures.shared.shares;
       in_order = order.2;
       covered = covered.1;
-      few = omega (arith, ap length is, length-append (places c.loop-gap.shared) (places_over es at g.from), length-places_over es at g.from, v.few, order.0, order.1);
-      readable = readable_places c.in-Ok.more c.loop-gap.shared (places_over es at g.from) is v.readable (over_there es at g.from covered.0 c.requires.readable);
+      few = omega (arith, ap length is, length-append (places c.loop-gap.shared) over, length-places_over es c.loop-gap.at g.from, v.few, order.0, order.1);
+      readable = readable_places c.in-Ok.more c.loop-gap.shared over is v.readable (over_there es c.loop-gap.at g.from covered.0 c.requires.there.readable);
     }
 
-pub returns-in-Err-share_over-clause-none : goal.returns-in-Err-share_over-clause-none
-returns-in-Err-share_over-clause-none c = shared_gone c.loop-gap.invariant.shares c.in-Err-share_over.ensures.gone
+pub returns-in-Err-share_over-clause-shared : goal.returns-in-Err-share_over-clause-shared
+returns-in-Err-share_over-clause-shared c = refused_then c.loop-gap.invariant.shares c.in-Err-share_over.ensures.shared
 
-pub returns-in-Err-share_over-clause-settles : goal.returns-in-Err-share_over-clause-settles
-returns-in-Err-share_over-clause-settles c = λ settled.
-    let v = c.loop-gap.invariant in
-    c.share_over-2.ensures.settles (readable_same c.args.store.now c.loop-gap.store (all_parts c.args.extents.now.extents) v.shares.arena v.shares.pools c.requires.readable)
-    (readable_same c.args.store.now c.loop-gap.store c.loop-gap.shared v.shares.arena v.shares.pools v.readable) (settles_shares v.shares settled)
+pub returns-in-Ok-share_over-clause-shared : goal.returns-in-Ok-share_over-clause-shared
+returns-in-Ok-share_over-clause-shared c = all_shared _ (shares_then c.loop-gap.invariant.shares c.in-Ok-share_over.ensures.shared.shares)

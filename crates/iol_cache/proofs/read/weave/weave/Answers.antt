@@ -9,7 +9,7 @@ use Rattle.iol_hold.specs.Places.{Place, byte_len, places}
 use Rattle.iol_cache.specs.Cached.{all_parts}
 use Rattle.iol_cache.specs.Sharing.{IsCoveredSpan, places_over}
 use Rattle.iol_cache.specs.Weaving.{len_beside, woven}
-use Rattle.iol_cache.proofs.RangeReads.Shared.{held_beside, length-places_over, over_there, readable_places, readable_same, settles_shares, shared_gone}
+use Rattle.iol_cache.proofs.RangeReads.Shared.{all_shared, held_beside, length-places_over, over_there, readable_places, readable_on, refused_then}
 use Rattle.iol_cache.proofs.RangeReads.Woven.{beside_few, shared_covers, still_covers, shared_few, readable_more}
 use Rattle.iol_cache.proofs.read.weave.weave.Goals as goal
 
@@ -28,13 +28,13 @@ pub add_part-requires-clause-held : goal.add_part-requires-clause-held
 add_part-requires-clause-held c = still_covers c.requires.beside_held c.loop-gap.invariant.shares
 
 pub add_part-requires-clause-readable : goal.add_part-requires-clause-readable
-add_part-requires-clause-readable c = readable_same c.args.store.now c.loop-gap.store c.args.beside.now c.loop-gap.invariant.shares.arena c.loop-gap.invariant.shares.pools c.requires.beside_readable
+add_part-requires-clause-readable c = readable_on c.args.beside.now c.loop-gap.invariant.shares c.requires.beside_readable
 
 pub add_part-requires-clause-own : goal.add_part-requires-clause-own
 add_part-requires-clause-own c = shared_covers c.loop-gap.invariant.shares
 
 pub add_part-requires-clause-own_readable : goal.add_part-requires-clause-own_readable
-add_part-requires-clause-own_readable c = readable_same c.args.store.now c.loop-gap.store c.loop-gap.shared c.loop-gap.invariant.shares.arena c.loop-gap.invariant.shares.pools c.loop-gap.invariant.readable
+add_part-requires-clause-own_readable c = readable_on c.loop-gap.shared c.loop-gap.invariant.shares c.loop-gap.invariant.readable
 
 at_few : (low at to : ℕ) (gs : List Span) → AreInOrder at to gs → to < 4294967296 → low ≤ at → low < 4294967296
 at_few low at to [] order small le = omega (arith, order, small, le)
@@ -43,21 +43,25 @@ at_few low at to (g ∷ gs) order small le = at_few low g.to to gs order.2 small
 pub add_part-requires-clause-few : goal.add_part-requires-clause-few
 add_part-requires-clause-few c = (let t = c.ranges.to.fits in shared_few c.loop-gap.shared c.loop-gap.invariant.shares (at_few (byte_len c.loop-gap.shared) c.loop-gap.at c.args.to _ c.loop-gap.invariant.in_order t c.loop-gap.invariant.few) c.requires.few)
 
-pub returns-in-Err-clause-settles : goal.returns-in-Err-clause-settles
-returns-in-Err-clause-settles c = λ settled. c.add_part.ensures.settles (settles_shares c.loop-gap.invariant.shares settled)
+pub returns-in-Err-clause-shared : goal.returns-in-Err-clause-shared
+returns-in-Err-clause-shared c = refused_then c.loop-gap.invariant.shares c.in-Err.ensures.shared
 
 pub share_over-requires-clause-held : goal.share_over-requires-clause-held
-share_over-requires-clause-held c = held_beside c.requires.held (shares_then c.loop-gap.invariant.shares c.in-Ok.ensures.shares)
+share_over-requires-clause-held c = held_beside c.requires.there.held (shares_then c.loop-gap.invariant.shares c.in-Ok.ensures.shared.shares)
 
-pub returns-in-Err-share_over-clause-none : goal.returns-in-Err-share_over-clause-none
-returns-in-Err-share_over-clause-none c = shared_gone (shares_then c.loop-gap.invariant.shares c.in-Ok.ensures.shares) c.in-Err-share_over.ensures.gone
+pub share_over-requires-clause-readable : goal.share_over-requires-clause-readable
+share_over-requires-clause-readable c =
+    let m = shares_then c.loop-gap.invariant.shares c.in-Ok.ensures.shared.shares in
+    readable_on (all_parts c.args.extents.now.extents) m c.requires.there.readable
 
-pub returns-in-Err-share_over-clause-settles : goal.returns-in-Err-share_over-clause-settles
-returns-in-Err-share_over-clause-settles c = λ settled.
+pub share_over-requires-clause-own_readable : goal.share_over-requires-clause-own_readable
+share_over-requires-clause-own_readable c =
     let v = c.loop-gap.invariant in
-    let m = shares_then v.shares c.in-Ok.ensures.shares in
-    c.share_over.ensures.settles (readable_same c.args.store.now c.add_part.new.store (all_parts c.args.extents.now.extents) m.arena m.pools c.requires.readable)
-    (readable_same c.args.store.now c.add_part.new.store c.in-Ok.more m.arena m.pools (readable_more c.in-Ok.more c.loop-gap.shared c.args.beside.now _ _ c.in-Ok.ensures.places v.readable c.requires.beside_readable)) (settles_shares m settled)
+    let m = shares_then v.shares c.in-Ok.ensures.shared.shares in
+    readable_on c.in-Ok.more m (readable_more c.in-Ok.more c.loop-gap.shared c.args.beside.now _ _ c.in-Ok.ensures.places v.readable c.requires.beside_readable)
+
+pub returns-in-Err-share_over-clause-shared : goal.returns-in-Err-share_over-clause-shared
+returns-in-Err-share_over-clause-shared c = refused_then (shares_then c.loop-gap.invariant.shares c.in-Ok.ensures.shared.shares) c.in-Err-share_over.ensures.shared
 
 pub loop-gap-preserved : goal.loop-gap-preserved
 loop-gap-preserved c =
@@ -85,12 +89,12 @@ loop-gap-preserved c =
           ∙ regroup (places c.loop-gap.shared) (take n (drop used ps)) (places_over es g.from g.to) left
           ∙ ap (λ l. places c.loop-gap.shared ++ (take n (drop used ps) ++ places_over es g.from g.to ++ woven l es g.to to rest)) (sym (drop-drop n used ps))
           ∙ sym (ap (λ l. places c.loop-gap.shared ++ woven (drop used ps) es at to l) more) ∙ v.places;
-      shares = shares_then (shares_then v.shares c.in-Ok.ensures.shares) c.in-Ok-share_over.ensures.shares;
+      shares = shares_then (shares_then v.shares c.in-Ok.ensures.shared.shares) c.in-Ok-share_over.ensures.shared.shares;
       in_order = order.2;
       covered = All-tail (IsCoveredSpan es) g rest covered;
       left = omega (arith, v.left, ap (len_beside at to) more);
       few = omega (arith, ap length two, length-append (places c.in-Ok.more) (places_over es g.from g.to), length-places_over es g.from g.to, ap length one, length-append (places c.loop-gap.shared) (slice_range ps used (used + n)), ap length part, length-take n (drop used ps), v.few, order.0, order.1);
-      readable = readable_places c.in-Ok-share_over.more c.in-Ok.more (places_over es g.from g.to) two read (over_there es g.from g.to (All-head (IsCoveredSpan es) g rest covered) c.requires.readable);
+      readable = readable_places c.in-Ok-share_over.more c.in-Ok.more (places_over es g.from g.to) two read (over_there es g.from g.to (All-head (IsCoveredSpan es) g rest covered) c.requires.there.readable);
     }
   where
     regroup : (a b d e : List Place) → ((a ++ b) ++ d) ++ e ≡ a ++ (b ++ d ++ e)
@@ -109,16 +113,19 @@ pub add_part-requires-2-clause-held : goal.add_part-requires-2-clause-held
 add_part-requires-2-clause-held c = still_covers c.requires.beside_held c.loop-gap.invariant.shares
 
 pub add_part-requires-2-clause-readable : goal.add_part-requires-2-clause-readable
-add_part-requires-2-clause-readable c = readable_same c.args.store.now c.loop-gap.store c.args.beside.now c.loop-gap.invariant.shares.arena c.loop-gap.invariant.shares.pools c.requires.beside_readable
+add_part-requires-2-clause-readable c = readable_on c.args.beside.now c.loop-gap.invariant.shares c.requires.beside_readable
 
 pub add_part-requires-2-clause-own : goal.add_part-requires-2-clause-own
 add_part-requires-2-clause-own c = shared_covers c.loop-gap.invariant.shares
 
 pub add_part-requires-2-clause-own_readable : goal.add_part-requires-2-clause-own_readable
-add_part-requires-2-clause-own_readable c = readable_same c.args.store.now c.loop-gap.store c.loop-gap.shared c.loop-gap.invariant.shares.arena c.loop-gap.invariant.shares.pools c.loop-gap.invariant.readable
+add_part-requires-2-clause-own_readable c = readable_on c.loop-gap.shared c.loop-gap.invariant.shares c.loop-gap.invariant.readable
 
 pub add_part-requires-2-clause-few : goal.add_part-requires-2-clause-few
 add_part-requires-2-clause-few c = (let t = c.ranges.to.fits in shared_few c.loop-gap.shared c.loop-gap.invariant.shares (at_few (byte_len c.loop-gap.shared) c.loop-gap.at c.args.to _ c.loop-gap.invariant.in_order t c.loop-gap.invariant.few) c.requires.few)
 
-pub returns-in-Err-add_part-clause-settles : goal.returns-in-Err-add_part-clause-settles
-returns-in-Err-add_part-clause-settles c = λ settled. c.add_part-2.ensures.settles (settles_shares c.loop-gap.invariant.shares settled)
+pub returns-in-Err-add_part-clause-shared : goal.returns-in-Err-add_part-clause-shared
+returns-in-Err-add_part-clause-shared c = refused_then c.loop-gap.invariant.shares c.in-Err-add_part.ensures.shared
+
+pub returns-in-Ok-add_part-clause-shared : goal.returns-in-Ok-add_part-clause-shared
+returns-in-Ok-add_part-clause-shared c = all_shared _ (shares_then c.loop-gap.invariant.shares c.in-Ok-add_part.ensures.shared.shares)

@@ -1,9 +1,10 @@
-use Rattle.std.proofs.Common.{◌≤◌, [], List, ℕ, length, drop, refl, sym, ap, subst, arith}
+use Rattle.std.proofs.Common.{Err, ◌≤◌, [], List, ℕ, length, drop, refl, sym, ap, subst, arith, rules}
 use Rattle.iol_cache.specs.Composing.{copied_pages}
-use Rattle.std.proofs.lemmas.List.{drop_all}
+use Rattle.std.proofs.lemmas.List.{drop_all, length-drop}
 use Rattle.iol_agg.proofs.Holding.{tally-few}
 use Rattle.iol_hold.specs.Moves.{Covers, Moves}
 use Rattle.iol_hold.specs.Places.{byte_len}
+use Rattle.iol_hold.specs.Room.{free_of}
 use Rattle.iol_hold.specs.Stored.{Stored}
 use Rattle.iol_hold.specs.Texts.{AllReadable, bufs_of}
 use Rattle.iol_hold.specs.declared.slices.Slice.{Slice}
@@ -46,14 +47,18 @@ compose_run-requires-clause-readable c =
 pub release-requires : goal.release-requires
 release-requires c = subst (λ (u : Stored). Covers u (bufs_of c.loop-i.so_far)) (sym c.in-Err.ensures.err) (covers_given c.loop-i.invariant.composes.composes.moves.counts)
 
-pub returns-in-Err-clause-none : goal.returns-in-Err-clause-none
-returns-in-Err-clause-none c =
-    moved_back c.loop-i.invariant.composes.composes.moves (subst (λ (u : Stored). Moves c.loop-i.store u [] []) (sym c.in-Err.ensures.err) (moves_none c.loop-i.store)) c.release.ensures.moves (λ b. refl)
-
-pub returns-in-Err-clause-given_back : goal.returns-in-Err-clause-given_back
-returns-in-Err-clause-given_back c =
+pub returns-in-Err-clause-leaves : goal.returns-in-Err-clause-leaves
+returns-in-Err-clause-leaves c =
     let err = c.in-Err.ensures.err in
-    placed_some (copied_pages c.args.pool c.args.source.now) (omega (arith, c.loop-i.invariant.composes.pages)) c.loop-i.invariant.composes.composes.pages (keeps_pages_same c.loop-i.store c.compose_run.new.store (ap (λ (x : Stored). x.arena) err) (ap (λ (x : Stored). x.pools) err)) c.release.ensures.frees (ap (λ (x : Stored). x.pools) err)
+    let pools = ap (λ (x : Stored). x.pools) err in
+    let m = c.loop-i.invariant.composes in
+    record {
+      none = moved_back m.composes.moves (subst (λ (u : Stored). Moves c.loop-i.store u [] []) (sym err) (moves_none c.loop-i.store)) c.release.ensures.moves (λ b. refl);
+      given_back = placed_some (copied_pages c.args.pool c.args.source.now) (omega (arith, m.pages)) m.composes.pages (keeps_pages_same c.loop-i.store c.compose_run.new.store (ap (λ (x : Stored). x.arena) err) pools) c.release.ensures.frees pools;
+      lists = search (rules);
+      settles = search (rules);
+      no_room = λ p is. omega (arith, c.in-Err.ensures.no_room p (ap (λ x. Err x) is), ap length m.composes.pages.free, length-drop m.count (free_of c.args.store.now c.args.pool), m.composes.pages.enough, m.pages);
+    }
 
 pub release-requires-in-Err-join : goal.release-requires-in-Err-join
 release-requires-in-Err-join c =
@@ -67,31 +72,28 @@ release-requires-in-Err-join-2 c =
     let gone = subst (λ (x : List Slice). Moves c.compose_run.new.store c.release-in-Err-join.new.store (bufs_of x) []) is0 c.release-in-Err-join.ensures.moves in
     subst (λ (x : List Slice). Covers c.release-in-Err-join.new.store (bufs_of x)) (sym is1) (covers_second c.loop-i.invariant.composes.composes.moves c.in-Ok.ensures.composes.composes.moves gone)
 
-pub returns-in-Err-join-clause-none : goal.returns-in-Err-join-clause-none
-returns-in-Err-join-clause-none c =
-    let is0 = ap (λ (q : List Slice × List Slice). q.0) c.in-Err-join.ensures.back in
-    let is1 = ap (λ (q : List Slice × List Slice). q.1) c.in-Err-join.ensures.back in
-    gone_both c.loop-i.invariant.composes.composes.moves c.in-Ok.ensures.composes.composes.moves
-    (subst (λ (x : List Slice). Moves c.compose_run.new.store c.release-in-Err-join.new.store (bufs_of x) []) is0 c.release-in-Err-join.ensures.moves)
-    (subst (λ (x : List Slice). Moves c.release-in-Err-join.new.store c.release-in-Err-join-2.new.store (bufs_of x) []) is1 c.release-in-Err-join-2.ensures.moves)
-
-pub returns-in-Err-join-clause-given_back : goal.returns-in-Err-join-clause-given_back
-returns-in-Err-join-clause-given_back c =
+pub returns-in-Err-join-clause-leaves : goal.returns-in-Err-join-clause-leaves
+returns-in-Err-join-clause-leaves c =
     let u = c.compose_run.new.store in
-    placed_some (copied_pages c.args.pool c.args.source.now) (omega (arith, c.loop-i.invariant.composes.pages, c.in-Ok.ensures.composes.pages)) (places_then c.loop-i.invariant.composes.composes.pages c.in-Ok.ensures.composes.composes.pages) (keeps_pages_same u u refl refl)
-    (frees_trans c.release-in-Err-join.ensures.frees c.release-in-Err-join-2.ensures.frees c.release-in-Err-join-2.ensures.moves.counts) refl
-
-pub returns-in-Err-join-clause-settles : goal.returns-in-Err-join-clause-settles
-returns-in-Err-join-clause-settles c = λ all.
-    let a = c.loop-i.invariant.composes.composes in
-    let b = c.in-Ok.ensures.composes.composes in
+    let v = c.release-in-Err-join.new.store in
+    let one = c.release-in-Err-join.ensures in
+    let two = c.release-in-Err-join-2.ensures in
+    let m = c.loop-i.invariant.composes in
+    let n = c.in-Ok.ensures.composes in
+    let a = m.composes in
+    let b = n.composes in
     let is0 = ap (λ (q : List Slice × List Slice). q.0) c.in-Err-join.ensures.back in
     let is1 = ap (λ (q : List Slice × List Slice). q.1) c.in-Err-join.ensures.back in
-    let gone = subst (λ (x : List Slice). Moves c.compose_run.new.store c.release-in-Err-join.new.store (bufs_of x) []) is0 c.release-in-Err-join.ensures.moves in
+    let gone = subst (λ (x : List Slice). Moves u v (bufs_of x) []) is0 one.moves in
     let first = readable_stays c.loop-i.so_far b.moves.stays (covers_first a.moves b.moves) a.readable in
     let second = readable_stays c.in-Ok.composed.2 gone.stays (covers_second a.moves b.moves gone) b.readable in
-    c.release-in-Err-join-2.ensures.settles (subst (AllReadable c.release-in-Err-join.new.store) (sym is1) second)
-    (c.release-in-Err-join.ensures.settles (subst (AllReadable c.compose_run.new.store) (sym is0) first) (b.settles (a.settles all)))
+    record {
+      none = gone_both a.moves b.moves gone (subst (λ (x : List Slice). Moves v c.release-in-Err-join-2.new.store (bufs_of x) []) is1 two.moves);
+      given_back = placed_some (copied_pages c.args.pool c.args.source.now) (omega (arith, m.pages, n.pages)) (places_then a.pages b.pages) (keeps_pages_same u u refl refl) (frees_trans one.frees two.frees two.moves.counts) refl;
+      lists = search (rules);
+      settles = λ all. two.settles (subst (AllReadable v) (sym is1) second) (one.settles (subst (AllReadable u) (sym is0) first) (b.settles (a.settles all)));
+      no_room = search (rules);
+    }
 
 pub loop-i-preserved : goal.loop-i-preserved
 loop-i-preserved c =

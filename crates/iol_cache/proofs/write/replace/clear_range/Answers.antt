@@ -16,6 +16,11 @@ use Rattle.iol_cache.proofs.write.replace.clear_range.Goals as goal
 pub take_out-requires-clause-begins : goal.take_out-requires-clause-begins
 take_out-requires-clause-begins c = subst IsSome (sym (met_begins_at c.loop-at.extents.extents c.args.from c.args.to c.in-Some.at c.loop-at.invariant.apart c.in-Some.ensures)) refl
 
+pub take_out-requires-clause-indexed : goal.take_out-requires-clause-indexed
+take_out-requires-clause-indexed c =
+    let v = c.loop-at.invariant in
+    record { apart = v.apart; ranked = v.follows.ranked c.requires.indexed.ranked; ready = v.ready; marked = record { each = λ p. omega (arith, v.follows.each p, c.requires.indexed.marked.each p) } }
+
 pub loop-at-smaller : goal.loop-at-smaller
 loop-at-smaller c =
     let es = c.loop-at.extents.extents in

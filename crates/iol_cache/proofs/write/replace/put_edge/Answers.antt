@@ -29,10 +29,10 @@ pub returns-clause-follows : goal.returns-clause-follows
 returns-clause-follows c =
     let es = c.args.extents.now.extents in
     let x : Extent = extent_of c.edge.inside.at c.edge.inside.agg false in
-    let marks = subst (Marks c.args.marks.now c.mark.new.self) c.slices.ensures c.mark.ensures.marks in
-    let done = clean_comes c.args.file es x c.len.result c.args.order.now c.args.marks.now c.mark.new.self refl marks in
-    subst (λ (xs : List Extent). Reindexes c.args.file es xs c.args.order.now c.enter.new.self c.args.marks.now c.mark.new.self) (sym c.put-2.ensures.extents)
-    (subst (λ (r : Ranking). Reindexes c.args.file es (put_in es x) c.args.order.now r c.args.marks.now c.mark.new.self) (sym c.enter.ensures) done)
+    let marks = subst (Marks c.args.marks.now c.set_clean.new.self) c.slices.ensures c.set_clean.ensures in
+    let done = clean_comes c.args.file es x c.len.result c.args.order.now c.args.marks.now c.set_clean.new.self refl marks in
+    subst (λ (xs : List Extent). Reindexes c.args.file es xs c.args.order.now c.enter.new.self c.args.marks.now c.set_clean.new.self) (sym c.put-2.ensures.extents)
+    (subst (λ (r : Ranking). Reindexes c.args.file es (put_in es x) c.args.order.now r c.args.marks.now c.set_clean.new.self) (sym c.enter.ensures) done)
 
 -- what the code has of the edge
 edge_is : (r t : Ranking) (f : ℕ) (x e : Extent) → x ≡ e → t ≡ remembered r f x → t ≡ remembered r f e

@@ -1,4 +1,4 @@
-use Rattle.std.proofs.Common.{◌∙◌, ◌+◌, ◌++◌, sym, ap, subst, arith, length, List}
+use Rattle.std.proofs.Common.{◌≡◌, ◌∙◌, ℕ, ◌+◌, ◌++◌, sym, ap, subst, arith, length, get_or, List}
 use Rattle.iol_hold.specs.Moves.{Covers, tally}
 use Rattle.iol_hold.specs.Places.{places}
 use Rattle.iol_hold.specs.Stored.{Stored}
@@ -13,6 +13,7 @@ use Rattle.iol_cache.proofs.Extents.Filing.{additive_page}
 use Rattle.iol_cache.proofs.RangeWrites.Replaced.{page-three, some-clean, some-parts, tally-four, unmet-clean}
 use Rattle.iol_cache.proofs.Evictions.Reordered.{reordered_is}
 use Rattle.iol_cache.proofs.Extents.Using.{are_within}
+use Rattle.iol_cache.proofs.write.replace.replace_range.Goals.{After-put_edge}
 use Rattle.iol_cache.proofs.write.replace.replace_range.Goals as goal
 
 pub clear_range-requires-clause-held : goal.clear_range-requires-clause-held
@@ -21,7 +22,7 @@ clear_range-requires-clause-held c = record { each = λ b. omega (arith, c.requi
 pub put_edge-requires-clause-gap : goal.put_edge-requires-clause-gap
 put_edge-requires-clause-gap c = λ some.
     let l = c.args.put.left in
-    subst (λ (xs : List Extent). IsGap xs l.at (l.at + length (places l.parts))) (sym c.clear_range.ensures.extents) (left_gap c.args.extents.now.extents c.args.range.from c.args.range.to l c.requires.apart c.requires.some c.requires.left some)
+    subst (λ (xs : List Extent). IsGap xs l.at (l.at + length (places l.parts))) (sym c.clear_range.ensures.extents) (left_gap c.args.extents.now.extents c.args.range.from c.args.range.to l c.requires.indexed.apart c.requires.some c.requires.left some)
 
 -- parts that are held beside the extents
 held_left : (s : Stored) (as' ls rs ns : List Slice) → Covers s (bufs_of (as' ++ (ls ++ (rs ++ ns)))) → Covers s (bufs_of ls)
@@ -46,36 +47,29 @@ put_edge-requires-clause-few c =
 pub put_edge-requires-2-clause-gap : goal.put_edge-requires-2-clause-gap
 put_edge-requires-2-clause-gap c = λ some.
     let adds = subst (λ (xs : List Extent). Adds xs c.args.put.left c.put_edge.new.extents.extents) c.clear_range.ensures.extents c.put_edge.ensures.adds in
-    right_gap c.args.extents.now.extents c.put_edge.new.extents.extents c.args.range.from c.args.range.to c.args.put.left c.args.put.right c.requires.apart c.requires.some c.requires.left c.requires.right some adds
+    right_gap c.args.extents.now.extents c.put_edge.new.extents.extents c.args.range.from c.args.range.to c.args.put.left c.args.put.right c.requires.indexed.apart c.requires.some c.requires.left c.requires.right some adds
 
 pub put_edge-requires-2-clause-within : goal.put_edge-requires-2-clause-within
 put_edge-requires-2-clause-within c = are_within c.args.put.right.parts _ (c.put_edge.ensures.follows.long ∙ c.clear_range.ensures.follows.long ∙ c.requires.pages) (held_right c.args.store.now (all_parts c.args.extents.now.extents) c.args.put.left.parts c.args.put.right.parts c.args.put.bytes.parts c.requires.held)
 
+-- the clean extents when the part on the left was put in
+with_left : (c : After-put_edge) → (p : ℕ) → at_page p (bufs_of (clean_in c.put_edge.new.extents.extents)) ≡ at_page p (bufs_of (clean_in (put_some (unmet c.args.extents.now.extents c.args.range.from c.args.range.to) c.args.put.left)))
+with_left c p = ap (λ xs. at_page p (bufs_of (clean_in xs))) (c.put_edge.ensures.extents ∙ ap (λ xs. put_some xs c.args.put.left) c.clear_range.ensures.extents)
+
+-- and the marks
+marked : (c : After-put_edge) → (p : ℕ) → get_or c.put_edge.new.marks p 0 + at_page p (bufs_of (clean_in c.args.extents.now.extents)) ≡ get_or c.args.marks.now p 0 + at_page p (bufs_of (clean_in (put_some (unmet c.args.extents.now.extents c.args.range.from c.args.range.to) c.args.put.left)))
+marked c p = omega (arith, c.clear_range.ensures.follows.each p, c.put_edge.ensures.follows.each p, with_left c p)
+
 pub put_edge-requires-2-clause-few : goal.put_edge-requires-2-clause-few
 put_edge-requires-2-clause-few c =
     let es = c.args.extents.now.extents in
-    let others = unmet es c.args.range.from c.args.range.to in
-    record {
-      each = λ p.
-          let first = ap (λ xs. at_page p (bufs_of (clean_in xs))) c.clear_range.ensures.extents in
-          let second = ap (λ xs. at_page p (bufs_of (clean_in xs))) (c.put_edge.ensures.extents ∙ ap (λ xs. put_some xs c.args.put.left) c.clear_range.ensures.extents) in
-          omega (
-            arith,
-            c.requires.few.each p,
-            page-three p c.args.put.left.parts c.args.put.right.parts c.args.put.bytes.parts,
-            c.clear_range.ensures.follows.each p,
-            c.put_edge.ensures.follows.each p,
-            unmet-clean (at_page p) (additive_page p) es c.args.range.from c.args.range.to,
-            first,
-            second,
-            some-clean (at_page p) (additive_page p) others c.args.put.left,
-          );
-    }
+    let put = c.args.put in
+    record { each = λ p. omega (arith, c.requires.few.each p, page-three p put.left.parts put.right.parts put.bytes.parts, marked (goal.at.put_edge-requires-2-clause-few c).After-put_edge p, unmet-clean (at_page p) (additive_page p) es c.args.range.from c.args.range.to, some-clean (at_page p) (additive_page p) (unmet es c.args.range.from c.args.range.to) put.left) }
 
 pub put_edge-requires-3-clause-gap : goal.put_edge-requires-3-clause-gap
 put_edge-requires-3-clause-gap c = λ some.
     let adds = subst (λ (xs : List Extent). Adds xs c.args.put.left c.put_edge.new.extents.extents) c.clear_range.ensures.extents c.put_edge.ensures.adds in
-    let gap = new_gap c.args.extents.now.extents c.put_edge.new.extents.extents c.put_edge-2.new.extents.extents c.args.range.from c.args.range.to c.args.put.left c.args.put.right c.requires.apart c.requires.some c.requires.left c.requires.right adds c.put_edge-2.ensures.adds in
+    let gap = new_gap c.args.extents.now.extents c.put_edge.new.extents.extents c.put_edge-2.new.extents.extents c.args.range.from c.args.range.to c.args.put.left c.args.put.right c.requires.indexed.apart c.requires.some c.requires.left c.requires.right adds c.put_edge-2.ensures.adds in
     subst (λ n. IsGap c.put_edge-2.new.extents.extents n (c.args.put.bytes.at + length (places c.args.put.bytes.parts))) (sym c.requires.begins) (subst (λ n. IsGap c.put_edge-2.new.extents.extents c.args.range.from n) (sym c.requires.ends) gap)
 
 pub put_edge-requires-3-clause-within : goal.put_edge-requires-3-clause-within
@@ -88,19 +82,16 @@ put_edge-requires-3-clause-few c =
     let both = put_some others c.args.put.left in
     record {
       each = λ p.
-          let first = ap (λ xs. at_page p (bufs_of (clean_in xs))) c.clear_range.ensures.extents in
-          let second = ap (λ xs. at_page p (bufs_of (clean_in xs))) (c.put_edge.ensures.extents ∙ ap (λ xs. put_some xs c.args.put.left) c.clear_range.ensures.extents) in
+          let at = (goal.at.put_edge-requires-3-clause-few c).After-put_edge in
           let third = ap (λ xs. at_page p (bufs_of (clean_in xs))) (c.put_edge-2.ensures.extents ∙ ap (λ xs. put_some xs c.args.put.right) (c.put_edge.ensures.extents ∙ ap (λ xs. put_some xs c.args.put.left) c.clear_range.ensures.extents)) in
           omega (
             arith,
             c.requires.few.each p,
             page-three p c.args.put.left.parts c.args.put.right.parts c.args.put.bytes.parts,
-            c.clear_range.ensures.follows.each p,
-            c.put_edge.ensures.follows.each p,
+            marked at p,
             c.put_edge-2.ensures.follows.each p,
             unmet-clean (at_page p) (additive_page p) es c.args.range.from c.args.range.to,
-            first,
-            second,
+            with_left at p,
             third,
             some-clean (at_page p) (additive_page p) others c.args.put.left,
             some-clean (at_page p) (additive_page p) both c.args.put.right,
@@ -111,7 +102,7 @@ pub returns-clause-adds : goal.returns-clause-adds
 returns-clause-adds c =
     let adds = subst (λ (xs : List Extent). Adds xs c.args.put.left c.put_edge.new.extents.extents) c.clear_range.ensures.extents c.put_edge.ensures.adds in
     replaced c.args.extents.now.extents c.put_edge.new.extents.extents c.put_edge-2.new.extents.extents c.put_edge-3.new.extents.extents c.args.range.from c.args.range.to c.args.put.left c.args.put.right c.args.put.bytes
-    c.requires.apart c.requires.some c.requires.left c.requires.right c.requires.begins c.requires.ends adds c.put_edge-2.ensures.adds c.put_edge-3.ensures.adds
+    c.requires.indexed.apart c.requires.some c.requires.left c.requires.right c.requires.begins c.requires.ends adds c.put_edge-2.ensures.adds c.put_edge-3.ensures.adds
 
 pub returns-clause-moves : goal.returns-clause-moves
 returns-clause-moves c =

@@ -36,4 +36,4 @@ returns-clause-settles c = λ all.
     let es = c.args.extents.now.extents in
     let e = some_begins (begins_at es c.args.at) c.requires.begins in
     let given = given_is es c.args.at e.0 c.remove-agg.result e.1 c.remove-agg.ensures.given in
-    c.release.ensures.settles (subst (AllReadable c.args.store.now) (sym given) (readable_part es c.args.at e.0 c.requires.apart e.1 all))
+    c.release.ensures.settles (subst (AllReadable c.args.store.now) (sym given) (readable_part es c.args.at e.0 c.requires.indexed.apart e.1 all))

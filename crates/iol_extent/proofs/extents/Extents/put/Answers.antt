@@ -1,10 +1,19 @@
-use Rattle.std.proofs.Common.{◌≡◌, List, insert, ap, sym, ◌∙◌, subst, arith}
+use Rattle.std.proofs.Common.{◌≡◌, insert, ap, sym, ◌∙◌, subst, arith}
 use Rattle.iol_extent.specs.Extents.{AreCleanBefore, dirty_count, ExtentMap, Extent, extent_of, end_of, IsApart, IsGap, put_in}
 use Rattle.iol_extent.proofs.Cover.{put_apart, adds_insert, last_end_insert}
 use Rattle.iol_extent.proofs.Clearing.{clean_insert, clean_lower, dirty_insert}
 use Rattle.iol_extent.proofs.Counts.{dirty_few, one_few}
 use Rattle.iol_extent.proofs.Words.{put_insert}
+use Rattle.iol_extent.proofs.extents.Extents.put.Goals.{After-insert}
 use Rattle.iol_extent.proofs.extents.Extents.put.Goals as goal
+
+gap : (c : After-insert) → IsGap c.self.inside.pieces.extents c.args.at (end_of (extent_of c.args.at c.args.agg c.args.dirty))
+gap c = rw ((ap (λ (m : ExtentMap). m.extents) c.self.view_is)) c.requires.gap
+
+apart : (c : After-insert) → IsApart 0 c.insert.new.self.extents
+apart c =
+    let place = c.count_before-place in
+    subst (IsApart 0) (sym c.insert.ensures.extents) (put_apart c.self.inside.pieces.extents place.result (extent_of c.args.at c.args.agg c.args.dirty) c.self.invariant.apart place.ensures.within place.ensures.before place.ensures.after c.requires.some (gap c))
 
 pub overflow_add-self : goal.overflow_add-self
 overflow_add-self c = omega (arith, c.self.invariant.dirty, dirty_few c.self.inside.pieces.extents, c.insert.ensures.few, c.count_dirty.ensures, one_few (extent_of c.args.at c.args.agg c.args.dirty))
@@ -13,10 +22,9 @@ pub invariant_of-self : goal.invariant_of-self
 invariant_of-self c =
     let ps = c.self.inside.pieces.extents in
     let new : Extent = extent_of c.args.at c.args.agg c.args.dirty in
-    let gap : IsGap ps c.args.at (end_of new) = rw ((ap (λ (m : ExtentMap). m.extents) c.self.view_is)) c.requires.gap in
     let items : c.insert.new.self.extents ≡ insert ps c.count_before-place.result new = c.insert.ensures.extents in
     record {
-      apart = subst (IsApart 0) (sym items) (put_apart ps c.count_before-place.result new c.self.invariant.apart c.count_before-place.ensures.within c.count_before-place.ensures.before c.count_before-place.ensures.after c.requires.some gap);
+      apart = apart (goal.at.invariant_of-self c).After-insert;
       dirty = omega (arith, c.self.invariant.dirty, c.count_dirty.ensures, dirty_insert ps c.count_before-place.result new, ap dirty_count items);
       clean = subst (AreCleanBefore c.clean_with-self-inside.result) (sym items) (clean_insert c.clean_with-self-inside.result ps c.count_before-place.result new (clean_lower c.self.inside.clean_to c.clean_with-self-inside.result ps c.clean_with-self-inside.ensures.lower c.self.invariant.clean) c.clean_with-self-inside.ensures.clean);
     }
@@ -33,16 +41,11 @@ returns-clause-ends c =
 
 pub returns-clause-extents : goal.returns-clause-extents
 returns-clause-extents c =
-    let ps = c.self.inside.pieces.extents in
+    let place = c.count_before-place in
     let new : Extent = extent_of c.args.at c.args.agg c.args.dirty in
-    let gap : IsGap ps c.args.at (end_of new) = rw ((ap (λ (m : ExtentMap). m.extents) c.self.view_is)) c.requires.gap in
-    let items : c.insert.new.self.extents ≡ insert ps c.count_before-place.result new = c.insert.ensures.extents in
-    items ∙ put_insert ps c.count_before-place.result new c.self.invariant.apart c.count_before-place.ensures.within c.count_before-place.ensures.before c.count_before-place.ensures.after c.requires.some gap ∙ ap (λ (xs : List Extent). put_in xs new) (ap (λ (m : ExtentMap). m.extents) c.self.view_is)
+    c.insert.ensures.extents
+    ∙ put_insert c.self.inside.pieces.extents place.result new c.self.invariant.apart place.ensures.within place.ensures.before place.ensures.after c.requires.some (gap (goal.at.returns-clause-extents c).After-insert)
+    ∙ ap (λ (m : ExtentMap). put_in m.extents new) c.self.view_is
 
 pub returns-clause-apart : goal.returns-clause-apart
-returns-clause-apart c =
-    let ps = c.self.inside.pieces.extents in
-    let new : Extent = extent_of c.args.at c.args.agg c.args.dirty in
-    let gap : IsGap ps c.args.at (end_of new) = rw ((ap (λ (m : ExtentMap). m.extents) c.self.view_is)) c.requires.gap in
-    let items : c.insert.new.self.extents ≡ insert ps c.count_before-place.result new = c.insert.ensures.extents in
-    subst (IsApart 0) (sym items) (put_apart ps c.count_before-place.result new c.self.invariant.apart c.count_before-place.ensures.within c.count_before-place.ensures.before c.count_before-place.ensures.after c.requires.some gap)
+returns-clause-apart c = apart (goal.at.returns-clause-apart c).After-insert
