@@ -16,7 +16,7 @@ ghost use Rattle.iol_hold.specs.Stored.{AllSettled, held_bufs};
 ghost use Rattle.iol_hold.specs.Texts.{text_of, bufs_of, AllReadable, IsFilled};
 ghost use Rattle.iol_agg.specs.Parts.{parts_of, whole_texts};
 
-use crate::reading::Parts;
+use crate::parts::Parts;
 use iol_core::limits::{MAX_AGGREGATE_BYTES, PAGE_BYTES};
 use iol_core::numbers::PoolId;
 use iol_core::refusals::Refusal;
@@ -24,9 +24,9 @@ use iol_hold::{Holds, Slice, Store};
 use std::alloc::{AllocError, Global};
 use std::marker::Model;
 
-mod moving;
-mod pouring;
-mod sharing;
+mod join;
+mod pour;
+mod share;
 
 /// Bytes that do not change, as a list of slices.
 #[derive(Drop)]

@@ -8,7 +8,7 @@ ghost use Rattle.iol_evict.specs.Victims.{AreUsedBelow, IsVictim};
 
 use crate::entry::{By, Entry, Rank};
 use crate::index::{find_key, insert_key, read_entry, remove_key, write_height};
-use crate::lowering::{insert_all, lower_each};
+use crate::lower::{insert_all, lower_each};
 use crate::rank::rank_of;
 use crate::users::InUse;
 use crate::victim::first_idle;

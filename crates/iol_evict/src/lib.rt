@@ -21,7 +21,7 @@
 mod entries;
 pub mod entry;
 mod index;
-mod lowering;
+mod lower;
 pub mod order;
 mod rank;
 pub mod users;

@@ -9,9 +9,9 @@ use Rattle.iol_core.specs.Calls.Outside.{arrive, transmit, lacks_conn}
 use Rattle.iol_core.specs.declared.limits.TheConstants.{MAX_QUEUE_BYTES, PAGE_BYTES}
 use Rattle.iol_core.specs.declared.refusals.Refusal.{Refusal}
 use Rattle.iol_core.specs.declared.refusals.Refusal.TheVariants.{BadFd, BadRange, NoRoom}
-use Rattle.iol_pipe.specs.declared.arriving.Arrived.{Arrived}
+use Rattle.iol_pipe.specs.declared.arrive.Arrived.{Arrived}
 use Rattle.iol_sock.specs.Refused.{IsPassed, IsRefused}
-use Rattle.iol_sock.specs.declared.draining.Drained.{Drained}
+use Rattle.iol_sock.specs.declared.drain_to.Drained.{Drained}
 use Rattle.iol_kernel.specs.Calls.{Arrives, Leaves}
 use Rattle.iol_kernel.specs.KernelState.{KernelState, machine_of}
 use Rattle.iol_kernel.specs.MakingRoom.{AfterRoom, IsSame, MayHaveEvicted, can_fit}

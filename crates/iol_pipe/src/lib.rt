@@ -27,12 +27,12 @@ ghost use Rattle.iol_hold.specs.Stored.{AllSettled};
 ghost use Rattle.iol_hold.specs.Texts.{bufs_of, AllReadable};
 ghost use Rattle.iol_pipe.specs.Queue.{TakesFirst, first_parts, first_pool, may_see, names_given};
 
-mod arriving;
-mod copying;
-mod filling;
-mod taking;
+mod arrive;
+mod copy;
+mod fill;
+mod take;
 
-pub use arriving::Arrived;
+pub use arrive::Arrived;
 use iol_agg::Agg;
 use iol_core::limits::MAX_QUEUE_BYTES;
 use iol_core::numbers::{DomainId, PoolId};

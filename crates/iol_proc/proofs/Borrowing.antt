@@ -12,8 +12,8 @@ use Rattle.iol_kernel.specs.Borrowed.{DrainsTo, TakesIn, sent_on}
 use Rattle.iol_kernel.specs.KernelState as held
 use Rattle.iol_kernel.specs.KernelState.{KernelState, read_of}
 use Rattle.iol_kernel.specs.Views.{state_view}
-use Rattle.iol_pipe.specs.declared.arriving.Arrived.{Arrived}
-use Rattle.iol_sock.specs.declared.draining.Drained.{Drained}
+use Rattle.iol_pipe.specs.declared.arrive.Arrived.{Arrived}
+use Rattle.iol_sock.specs.declared.drain_to.Drained.{Drained}
 use Rattle.iol_system.specs.Machine.{SystemState, machine_of, tables_of}
 use Rattle.iol_system.specs.Served.{Comes}
 use Rattle.iol_proc.specs.Borrowed.{ArrivesAs, SendsAs}

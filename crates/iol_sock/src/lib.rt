@@ -22,11 +22,11 @@
 //! ```
 #![tactic(auto)]
 
-mod arriving;
+mod arrive_from;
 mod busy;
 mod connections;
-mod copying;
-mod draining;
+mod copy;
+mod drain_to;
 mod incoming;
 pub mod laws;
 mod outgoing;
@@ -35,7 +35,7 @@ mod passing_out;
 mod table;
 
 pub use connections::Connection;
-pub use draining::Drained;
+pub use drain_to::Drained;
 pub use iol_pipe::Arrived;
 pub use outgoing::Segment;
 pub use table::Connections;

@@ -21,7 +21,7 @@ ghost use Rattle.std.specs.Io.KnownBytes.{Appends};
 ghost use Rattle.std.specs.Prelude.{Err, IfErr, IfOk, None, OnErr, OnOk, drop, false, length, min, take, true, ℕ, ◌++◌, ◌<◌, ◌≡◌, ◌≢◌, ◌≤◌};
 
 use crate::connections::Connection;
-use crate::draining::Drained;
+use crate::drain_to::Drained;
 use crate::outgoing::Segment;
 use crate::table::{Connections, conn_mut};
 use iol_agg::Agg;

@@ -12,8 +12,8 @@ use Rattle.iol_core.proofs.Positions.{placed_step}
 use Rattle.iol_core.specs.declared.events.Event.TheVariants as event
 use Rattle.iol_core.specs.declared.events.Reply.TheVariants as reply
 use Rattle.iol_core.specs.declared.refusals.Refusal.{Refusal}
-use Rattle.iol_sock.specs.declared.draining.Drained.{Drained}
-use Rattle.iol_pipe.specs.declared.arriving.Arrived.{Arrived}
+use Rattle.iol_sock.specs.declared.drain_to.Drained.{Drained}
+use Rattle.iol_pipe.specs.declared.arrive.Arrived.{Arrived}
 use Rattle.iol_kernel.specs.Backed.{Serves, StepsBeside}
 use Rattle.iol_kernel.specs.Borrowed.{DrainsTo, TakesIn, sent_on}
 use Rattle.iol_kernel.specs.KernelState as held

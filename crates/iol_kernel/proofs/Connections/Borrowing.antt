@@ -27,7 +27,7 @@ use Rattle.iol_pipe.specs.Queue.{fitting}
 use Rattle.iol_sock.specs.Connections.{Conn, conn_view}
 use Rattle.iol_sock.specs.Refused.{arrive_refusals, read_refusals, IsRefused}
 use Rattle.iol_sock.specs.Table.{conn_in}
-use Rattle.iol_sock.specs.declared.draining.Drained.{Drained}
+use Rattle.iol_sock.specs.declared.drain_to.Drained.{Drained}
 use Rattle.iol_sock.proofs.Meaning.{conn_at-is, arrives_meant}
 use Rattle.iol_kernel.specs.Borrowed.{arrive_from_refusals, DrainsTo, TakesIn, sent_on}
 use Rattle.iol_kernel.specs.Calls.{Arrives, Leaves, Steps}

@@ -16,7 +16,7 @@ use Rattle.iol_hold.specs.Room.{has_room}
 use Rattle.iol_hold.specs.Texts.{byte_at}
 use Rattle.iol_hold.specs.declared.slices.Slice.{Slice}
 use Rattle.iol_hold.proofs.Moving.{stays_trans}
-use Rattle.iol_pipe.specs.declared.arriving.Arrived.{Arrived}
+use Rattle.iol_pipe.specs.declared.arrive.Arrived.{Arrived}
 use Rattle.iol_sock.specs.Connections.{Conn}
 use Rattle.iol_sock.specs.Refused.{arrive_refusals, read_refusals, IsRefused}
 use Rattle.iol_sock.proofs.Meaning.{arrives_meant}

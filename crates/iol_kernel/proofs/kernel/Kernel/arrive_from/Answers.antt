@@ -2,7 +2,7 @@ use Rattle.std.proofs.Common.{◌∙◌}
 use Rattle.std.specs.Prelude.{Ok}
 use Rattle.iol_back.specs.Disk.{Disk}
 use Rattle.iol_core.specs.Calls.Outside as outside
-use Rattle.iol_pipe.specs.declared.arriving.Arrived.{Arrived}
+use Rattle.iol_pipe.specs.declared.arrive.Arrived.{Arrived}
 use Rattle.iol_kernel.specs.Backed.{Serves}
 use Rattle.iol_kernel.specs.Borrowed.{TakesIn}
 use Rattle.iol_kernel.specs.Calls.{Arrives, Steps}

@@ -1,0 +1,119 @@
+//! Aggregates made of the bytes of others, by reference.
+ghost use Rattle.std.specs.Prelude.{◌≡◌, ◌+◌, ◌-◌, ◌<◌, ◌≤◌, ◌^◌, ◌++◌, [], take, drop, slice_range, IfOk, OnErr, OnOk};
+ghost use Rattle.iol_hold.specs.Moves.{Shares, Covers, IsCountable};
+ghost use Rattle.iol_hold.specs.Places.{places, byte_len};
+ghost use Rattle.iol_hold.specs.Texts.{bufs_of};
+ghost use Rattle.iol_agg.specs.Pours.{meeting};
+
+use super::pour::pour;
+use crate::aggregates::Agg;
+use iol_hold::Store;
+use std::alloc::{AllocError, Global};
+
+impl Agg {
+    /// The same bytes once more.
+    pub fn dup(&self, alloc: Global, store: &mut Store) -> Result<Agg, AllocError>
+        requires covered { Covers store.old (bufs_of self.now) }
+        requires countable { IsCountable store.old (bufs_of self.now) }
+        ensures places { IfOk result (λ a. places a ≡ places self.now) }
+        ensures shares { IfOk result (λ a. Shares store.old store.new [] (bufs_of a)) }
+        ensures most { IfOk result (λ a. bufs_of a ≡ bufs_of self.now) }
+        ensures err { OnErr result (store.new ≡ store.old) }
+    {
+        self.cut(alloc, store, 0, self.len)
+    }
+
+    /// Makes an aggregate of the bytes from place `from` up to `to`. It shares their buffers and copies no byte. Fails where there
+    /// is no memory for its list of slices.
+    pub fn cut(
+        &self,
+        alloc: Global,
+        store: &mut Store,
+        from: u32,
+        to: u32,
+    ) -> Result<Agg, AllocError>
+        requires ordered { from ≤ to }
+        requires within { to ≤ byte_len self.now }
+        requires covered { Covers store.old (bufs_of self.now) }
+        requires countable { IsCountable store.old (bufs_of self.now) }
+        ensures places { IfOk result (λ a. places a ≡ slice_range (places self.now) from to) }
+        ensures shares { IfOk result (λ a. Shares store.old store.new [] (bufs_of a)) }
+        ensures most { IfOk result (λ a. bufs_of a ≡ bufs_of (meeting from to self.now)) }
+        ensures err { OnErr result (store.new ≡ store.old) }
+    {
+        let room = self.slices.len().min((to - from) as usize);
+        let mut slices = Vec::with_capacity(alloc, room)?;
+        pour(&self.slices, &mut slices, store, from, to);
+        Ok(Agg {
+            slices,
+            len: to - from,
+        })
+    }
+
+    /// Adds the bytes of another aggregate from place `from` up to `to`. It shares their buffers and copies no byte. Fails where
+    /// there is no memory for the list of slices, and changes nothing then.
+    pub fn add_range(
+        &mut self,
+        store: &mut Store,
+        other: &Agg,
+        from: u32,
+        to: u32,
+    ) -> Result<(), AllocError>
+        requires ordered { from ≤ to }
+        requires within { to ≤ byte_len other.now }
+        requires small { byte_len self.old + (to - from) < 2 ^ 32 }
+        requires covered { Covers store.old (bufs_of other.now) }
+        requires countable { IsCountable store.old (bufs_of other.now) }
+        ensures places { OnOk result (places self.new ≡
+            places self.old ++ slice_range (places other.now) from to) }
+        ensures shares { OnOk result
+            (Shares store.old store.new (bufs_of self.old) (bufs_of self.new)) }
+        ensures most { OnOk result (bufs_of self.new ≡
+            bufs_of self.old ++ bufs_of (meeting from to other.now)) }
+        ensures err { OnErr result (self.new ≡ self.old) }
+        ensures err_store { OnErr result (store.new ≡ store.old) }
+    {
+        let room = other.slices.len().min((to - from) as usize);
+        self.slices.reserve(room)?;
+        pour(&other.slices, &mut self.slices, store, from, to);
+        self.len += to - from;
+        Ok(())
+    }
+
+    /// Makes an aggregate of these bytes with those from place `from` up to `to` replaced by another's. It shares the buffers
+    /// of both and copies no byte. Fails where there is no memory for its list of slices.
+    pub fn replace(
+        &self,
+        alloc: Global,
+        store: &mut Store,
+        from: u32,
+        to: u32,
+        other: &Agg,
+    ) -> Result<Agg, AllocError>
+        requires ordered { from ≤ to }
+        requires within { to ≤ byte_len self.now }
+        requires small { byte_len self.now + byte_len other.now < 2 ^ 32 }
+        requires covered { Covers store.old (bufs_of self.now) }
+        requires other_covered { Covers store.old (bufs_of other.now) }
+        requires countable { IsCountable store.old
+            (bufs_of self.now ++ bufs_of self.now ++ bufs_of other.now) }
+        ensures places { IfOk result (λ a. places a ≡ take from (places self.now) ++
+            places other.now ++ drop to (places self.now)) }
+        ensures shares { IfOk result (λ a. Shares store.old store.new [] (bufs_of a)) }
+        ensures most { let xs = self.now in
+            IfOk result (λ a. bufs_of a ≡ bufs_of (meeting 0 from xs) ++
+            bufs_of other.now ++ bufs_of (meeting to (byte_len xs) xs)) }
+        ensures err { OnErr result (store.new ≡ store.old) }
+    {
+        let before = self.slices.len().min(from as usize);
+        let after = self.slices.len().min((self.len - to) as usize);
+        let mut slices = Vec::with_capacity(alloc, before + other.slices.len() + after)?;
+        pour(&self.slices, &mut slices, store, 0, from);
+        pour(&other.slices, &mut slices, store, 0, other.len);
+        pour(&self.slices, &mut slices, store, to, self.len);
+        Ok(Agg {
+            slices,
+            len: from + other.len + (self.len - to),
+        })
+    }
+}

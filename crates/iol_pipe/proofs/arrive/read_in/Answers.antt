@@ -1,0 +1,66 @@
+use Rattle.std.proofs.Common.{sym, ap, ◌∙◌, arith, length, rules}
+use Rattle.iol_pipe.proofs.ReadIn.{room_for_one, kept_consumes, consumes_none, home_as, read_made, none_made, read_as}
+use Rattle.iol_pipe.proofs.arrive.read_in.Goals as goal
+
+pub returns-in_err-filling-clause-no_room : goal.returns-in_err-filling-clause-no_room
+returns-in_err-filling-clause-no_room g c = λ p is.
+    sym (room_for_one c.args.store.now c.args.pool c.args.n c.requires.some c.requires.page) ∙ c.in_err-filling.ensures.no_room p (search rules)
+
+pub returns-then-taken-eq0-clause-room : goal.returns-then-taken-eq0-clause-room
+returns-then-taken-eq0-clause-room g c = sym (room_for_one c.args.store.now c.args.pool c.args.n c.requires.some c.requires.page) ∙ c.in_ok-filling.ensures.room
+
+pub returns-else-taken-eq0-clause-room : goal.returns-else-taken-eq0-clause-room
+returns-else-taken-eq0-clause-room g c = sym (room_for_one c.args.store.now c.args.pool c.args.n c.requires.some c.requires.page) ∙ c.in_ok-filling.ensures.room
+
+pub returns-in-Err-clause-room : goal.returns-in-Err-clause-room
+returns-in-Err-clause-room g c = sym (room_for_one c.args.store.now c.args.pool c.args.n c.requires.some c.requires.page) ∙ c.in_ok-filling.ensures.room
+
+pub returns-then-taken-eq0-clause-made : goal.returns-then-taken-eq0-clause-made
+returns-then-taken-eq0-clause-made g c =
+    let begun = c.in_ok-filling.ensures in
+    let f = c.in_ok-filling.filling in
+    let memory = c.read_some.new.memory in
+    let lent = c.part_mut.ensures in
+    let there = c.abandon.ensures in
+    let left = g.R.Read.remaining c.args.reader.now in
+    let after = g.R.Read.remaining c.read_some.new.reader in
+    let size = c.read_some.auto.memory in
+    read_as c.abandon.new.self.0 _
+    (none_made c.args.store.now f.store.now c.abandon.new.self.0 f.reserved.reservation.parts.items c.args.pool c.args.n memory
+    begun.fills begun.pages begun.others begun.filling.pages.apart begun.some c.requires.some c.requires.page
+    (size ∙ lent.len) (omega (arith, size, lent.some)) lent.keeps
+    left after (consumes_none left after c.in-Ok.len memory c.if-taken-eq0.true c.in-Ok.ensures.given) there.publishes there.tidy there.unraised there.others there.returned)
+    (search rules)
+
+pub returns-else-taken-eq0-clause-made : goal.returns-else-taken-eq0-clause-made
+returns-else-taken-eq0-clause-made g c =
+    let begun = c.in_ok-filling.ensures in
+    let f = c.in_ok-filling.filling in
+    let memory = c.read_some.new.memory in
+    let lent = c.part_mut.ensures in
+    let there = c.publish-holds.ensures in
+    let size = c.read_some.auto.memory in
+    read_as c.publish-holds.new.self.0 _
+    (read_made c.args.store.now f.store.now c.publish-holds.new.self.0 f.reserved.reservation.parts.items c.args.pool c.args.n memory
+    begun.fills begun.pages begun.others begun.filling.pages.apart begun.some c.requires.some c.requires.page
+    (size ∙ lent.len) (omega (arith, size, lent.some)) lent.keeps
+    (g.R.Read.remaining c.args.reader.now) (g.R.Read.remaining c.read_some.new.reader) c.publish-holds.result c.in-Ok.len (omega (arith, c.if-taken-eq0.false)) c.in-Ok.ensures.most c.in-Ok.ensures.inside (sym (ap length lent.value) ∙ lent.len)
+    c.in-Ok.ensures.given there.publishes there.tidy there.value there.filled (home_as c.publish-holds.result f.reserved.pool c.args.pool begun.pool there.pool) there.few there.made_on there.others)
+    (search rules)
+
+pub returns-in-Err-clause-made : goal.returns-in-Err-clause-made
+returns-in-Err-clause-made g c =
+    let begun = c.in_ok-filling.ensures in
+    let f = c.in_ok-filling.filling in
+    let memory = c.read_some.new.memory in
+    let lent = c.part_mut.ensures in
+    let there = c.abandon-in-Err.ensures in
+    let left = g.R.Read.remaining c.args.reader.now in
+    let after = g.R.Read.remaining c.read_some.new.reader in
+    let size = c.read_some.auto.memory in
+    read_as c.abandon-in-Err.new.self.0 _
+    (none_made c.args.store.now f.store.now c.abandon-in-Err.new.self.0 f.reserved.reservation.parts.items c.args.pool c.args.n memory
+    begun.fills begun.pages begun.others begun.filling.pages.apart begun.some c.requires.some c.requires.page
+    (size ∙ lent.len) (omega (arith, size, lent.some)) lent.keeps
+    left after (kept_consumes left after c.in-Err.ensures.err) there.publishes there.tidy there.unraised there.others there.returned)
+    (search rules)

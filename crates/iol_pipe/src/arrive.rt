@@ -1,0 +1,152 @@
+//! The bytes of one read, straight into a new buffer.
+ghost use Rattle.std.specs.Prelude.{◌≡◌, ℕ, ◌+◌, ◌<◌, ◌≤◌, length, take, true, false, Err, IfOk, IfErr, OnOk, OnErr};
+ghost use Rattle.std.specs.Io.KnownBytes.{Consumes, IsAtEnd, Keeps};
+ghost use Rattle.iol_core.specs.Meaning.{WantOfRoom};
+ghost use Rattle.iol_pool.specs.Pools.{pool_in};
+ghost use Rattle.iol_hold.specs.Places.{byte_len};
+ghost use Rattle.iol_hold.specs.Room.{has_room};
+ghost use Rattle.iol_pipe.specs.Arriving.{listed, MakesRead, ReadsIn};
+
+use crate::Pipe;
+use crate::fill::add_whole;
+use iol_core::limits::{MAX_QUEUE_BYTES, PAGE_BYTES};
+use iol_core::numbers::PoolId;
+use iol_core::refusals::Refusal;
+use iol_hold::{Holds, Store};
+use std::alloc::Global;
+use std::io;
+use std::io::Read;
+
+/// What one read gave.
+#[derive(Clone, Copy, Debug, PartialEq, Eq)]
+pub struct Arrived {
+    /// The number of bytes.
+    pub taken: u32,
+
+    /// Whether the reader is at its end.
+    pub end: bool,
+
+    /// Whether it failed.
+    pub failed: bool,
+}
+
+impl Arrived {
+    const END: Arrived = Arrived {
+        taken: 0,
+        end: true,
+        failed: false,
+    };
+
+    const FAILURE: Arrived = Arrived {
+        taken: 0,
+        end: false,
+        failed: true,
+    };
+}
+
+impl Pipe {
+    /// Takes in the bytes of one read, at most `n` and straight into a new buffer on the lowest free page of an open pool.
+    ///
+    /// Room and memory are had before it reads. Where the reader gives no byte, the queue is as it was, and the page is
+    /// free again.
+    pub fn fill_from<R: Read>(
+        &mut self,
+        alloc: Global,
+        store: &mut Store,
+        pool: PoolId,
+        reader: &mut R,
+        n: u32,
+    ) -> Result<Arrived, Refusal>
+        requires open { (pool_in store.old.pools pool).closed ≡ false }
+        requires some { 0 < n }
+        requires page { n ≤ PAGE_BYTES }
+        requires fits { byte_len self.old + n ≤ MAX_QUEUE_BYTES }
+        ensures read { IfOk result (λ a. ReadsIn (R.remaining reader.old) (R.remaining reader.new)
+            store.old store.new self.old self.new pool a.taken) }
+        ensures most { IfOk result (λ a. a.taken ≤ n) }
+        ensures some { IfOk result (λ a. a.end ≡ false → a.failed ≡ false → 0 < a.taken) }
+        ensures either { IfOk result (λ a. a.end ≡ true → a.failed ≡ false) }
+        ensures ended { IfOk result (λ a. a.end ≡ true →
+            (a.taken ≡ 0) × IsAtEnd (R.remaining reader.new)) }
+        ensures failed { IfOk result (λ a. a.failed ≡ true → a.taken ≡ 0) }
+        ensures room { OnOk result (has_room store.old pool 1 ≡ true) }
+        ensures no_room { (p : ℕ) → result ≡ Err (Refusal.NoRoom p) → has_room store.old pool 1 ≡
+            false }
+        ensures late { IfErr result (WantOfRoom pool) }
+        ensures err { OnErr result (self.new ≡ self.old) }
+        ensures err_store { OnErr result (store.new ≡ store.old) }
+        ensures err_reader { OnErr result (reader.new ≡ reader.old) }
+    {
+        self.queue.reserve(1)?;
+        let (made, arrived) = read_in(alloc, store, pool, reader, n)?;
+        let Some(holds) = made else {
+            return Ok(arrived);
+        };
+        add_whole(&mut self.queue, store, holds);
+        self.len += arrived.taken;
+        Ok(arrived)
+    }
+}
+
+// Reads at most n bytes at once, into a new buffer of the pool. Where the reader gives none, there is no buffer, and its
+// page is free again.
+fn read_in<R: Read>(
+    alloc: Global,
+    store: &mut Store,
+    pool: PoolId,
+    reader: &mut R,
+    n: u32,
+) -> Result<(Option<Holds>, Arrived), Refusal>
+    requires open { (pool_in store.old.pools pool).closed ≡ false }
+    requires some { 0 < n }
+    requires page { n ≤ PAGE_BYTES }
+    ensures made { IfOk result (λ r. MakesRead (R.remaining reader.old) (R.remaining reader.new)
+        store.old store.new (listed r.0) pool r.1.taken) }
+    ensures most { IfOk result (λ r. r.1.taken ≤ n) }
+    ensures some { IfOk result (λ r. r.1.end ≡ false → r.1.failed ≡ false → 0 < r.1.taken) }
+    ensures either { IfOk result (λ r. r.1.end ≡ true → r.1.failed ≡ false) }
+    ensures ended { IfOk result (λ r. r.1.end ≡ true →
+        (r.1.taken ≡ 0) × IsAtEnd (R.remaining reader.new)) }
+    ensures failed { IfOk result (λ r. r.1.failed ≡ true → r.1.taken ≡ 0) }
+    ensures room { OnOk result (has_room store.old pool 1 ≡ true) }
+    ensures no_room { (p : ℕ) → result ≡ Err (Refusal.NoRoom p) → has_room store.old pool 1 ≡
+        false }
+    ensures late { IfErr result (WantOfRoom pool) }
+    ensures err { OnErr result (store.new ≡ store.old) }
+    ensures err_reader { OnErr result (reader.new ≡ reader.old) }
+{
+    let mut filling = store.begin(alloc, pool, n)?;
+    match read_some(reader, filling.part_mut(0), n as usize) {
+        Ok(len) => {
+            let taken = len as u32;
+            if taken == 0 {
+                filling.abandon();
+                return Ok((None, Arrived::END));
+            }
+            let holds = filling.publish(taken);
+            let arrived = Arrived {
+                taken,
+                end: false,
+                failed: false,
+            };
+            Ok((Some(holds), arrived))
+        }
+        Err(_) => {
+            filling.abandon();
+            Ok((None, Arrived::FAILURE))
+        }
+    }
+}
+
+// Reads at most n bytes at once, to the front of the memory.
+fn read_some<R: Read>(reader: &mut R, memory: &mut [u8], n: usize) -> io::Result<usize>
+    requires { n ≤ length memory.old }
+    ensures most { IfOk result (λ k. k ≤ n) }
+    ensures inside { IfOk result (λ k. k ≤ length memory.new) }
+    ensures given { IfOk result (λ k.
+        Consumes (R.remaining reader.old) (R.remaining reader.new) (take k memory.new)) }
+    ensures end { IfOk result (λ k. k ≡ 0 → 0 < n → IsAtEnd (R.remaining reader.new)) }
+    ensures err { OnErr result (Keeps (R.remaining reader.old) (R.remaining reader.new)) }
+{
+    reader.read(&mut memory[..n])
+}
