@@ -1,11 +1,11 @@
-use Rattle.std.proofs.Common.{◌∙◌, ◌++◌, ℕ, List, Some, ap, sym, subst, length, drop}
-use Rattle.iol_core.specs.declared.descriptors.Descriptor.{Descriptor}
+use Rattle.std.proofs.Common.{◌∙◌, ◌++◌, ℕ, List, ap, sym, length, drop}
 use Rattle.iol_kernel.specs.Kernel.{state_of}
-use Rattle.iol_kernel.specs.KernelState.{IsOpenEnd, objects_of, queue_at}
-use Rattle.iol_kernel.proofs.Connections.Connecting.{conn_readable, open_conn-there}
+use Rattle.iol_kernel.specs.KernelState.{queue_at}
+use Rattle.iol_kernel.proofs.Connections.Connecting.{conn_readable}
 use Rattle.iol_kernel.proofs.Queues.LookUps.{conn_at-there, unread-conn, unread-pipe}
 use Rattle.iol_kernel.proofs.Queues.Queueing.{queue_readable}
 use Rattle.iol_kernel.proofs.Queues.Skipped.{front_bytes, front_count}
+use Rattle.iol_kernel.proofs.Queues.Sources.{source_there}
 use Rattle.iol_kernel.proofs.kernel.Kernel.copy_front.Goals as goal
 
 pub copy_front-requires-clause-readable : goal.copy_front-requires-clause-readable
@@ -24,9 +24,7 @@ returns-in-ReadEnd-clause-count c =
     front_count h c.args.by (length c.args.into.now) c.copy_front.result c.args.from.now (queue_at h.pipes c.in-ReadEnd.pipe).queue c.requires.no_file (λ f. unread-pipe f h c.args.from.now c.in-ReadEnd.pipe c.in-ReadEnd.is) c.copy_front.ensures.count
 
 pub unreachable-requires : goal.unreachable-requires
-unreachable-requires c =
-    let h = state_of c.args.self.now in
-    open_conn-there h.conns c.in-Connection.conn (subst (λ (x : Descriptor). IsOpenEnd (objects_of h) (Some x)) c.in-Connection.is c.requires.opened) (sym c.in_default.ensures)
+unreachable-requires c = source_there (state_of c.args.self.now) c.args.from.now c.in-Connection.conn c.requires c.in-Connection.is (sym c.in_default.ensures)
 
 pub copy_front-requires-in-Connection : goal.copy_front-requires-in-Connection
 copy_front-requires-in-Connection c = (conn_readable (state_of c.args.self.now) c.in-Connection.conn c.in-Some.found.now c.requires.sound (sym c.in-Some.ensures)).0

@@ -1,19 +1,15 @@
-use Rattle.std.proofs.Common.{Some, ap, arith, subst, sym}
+use Rattle.std.proofs.Common.{ap, arith, subst, sym}
 use Rattle.iol_core.specs.declared.descriptors.Descriptor.{Descriptor}
 use Rattle.iol_sock.specs.Table.{ConnTable, conn_in}
 use Rattle.iol_kernel.specs.Kernel.{state_of}
-use Rattle.iol_kernel.specs.KernelState.{KernelState, IsOpenEnd, objects_of, queue_at}
+use Rattle.iol_kernel.specs.KernelState.{KernelState, objects_of, queue_at}
 use Rattle.iol_kernel.specs.QueueEnds.{GivesFront}
-use Rattle.iol_kernel.proofs.Connections.Connecting.{IsOpenConn, conn_in-found, conn_limit, incoming_covered, open_conn-there}
+use Rattle.iol_kernel.proofs.Connections.Connecting.{conn_limit}
 use Rattle.iol_kernel.proofs.Connections.Incoming.{conn_front}
+use Rattle.iol_kernel.proofs.Queues.Sources.{source_covered, source_found, source_there}
 use Rattle.iol_kernel.proofs.Queues.Queueing.{pipe_front, queue_short}
 use Rattle.iol_kernel.proofs.State.Uses.{countable}
 use Rattle.iol_kernel.proofs.kernel.Kernel.front.Goals as goal
-use Rattle.iol_kernel.proofs.kernel.Kernel.front.Goals.{In-Connection}
-
--- the connection is open
-on_conn : (c : In-Connection) → IsOpenConn (conn_in (state_of c.args.self.now).conns c.in-Connection.conn)
-on_conn c = subst (λ (x : Descriptor). IsOpenEnd (objects_of (state_of c.args.self.now)) (Some x)) c.in-Connection.is c.requires.opened
 
 pub front-requires-clause-countable : goal.front-requires-clause-countable
 front-requires-clause-countable c =
@@ -28,19 +24,16 @@ returns-in_ok-front-in-ReadEnd-clause-given c =
     (pipe_front h c.front.new.store c.front.new.self.places c.in-ReadEnd.pipe c.args.by c.args.n c.in_ok-front-in-ReadEnd.field-0 e.given e.rest e.pipes e.shares)
 
 pub front-requires-in-Connection-clause-there : goal.front-requires-in-Connection-clause-there
-front-requires-in-Connection-clause-there c = open_conn-there (state_of c.args.self.now).conns c.in-Connection.conn (on_conn (goal.at.front-requires-in-Connection-clause-there c).In-Connection)
+front-requires-in-Connection-clause-there c = source_there (state_of c.args.self.now) c.args.from.now c.in-Connection.conn c.requires c.in-Connection.is
 
 pub front-requires-in-Connection-clause-covered : goal.front-requires-in-Connection-clause-covered
-front-requires-in-Connection-clause-covered c =
-    let h = state_of c.args.self.now in
-    let n = c.in-Connection.conn in
-    incoming_covered h n (conn_in h.conns n) c.requires.sound (conn_in-found h.conns n (open_conn-there h.conns n (on_conn (goal.at.front-requires-in-Connection-clause-covered c).In-Connection)))
+front-requires-in-Connection-clause-covered c = source_covered (state_of c.args.self.now) c.args.from.now c.in-Connection.conn c.requires c.in-Connection.is
 
 pub front-requires-in-Connection-clause-countable : goal.front-requires-in-Connection-clause-countable
 front-requires-in-Connection-clause-countable c =
     let h = state_of c.args.self.now in
     let n = c.in-Connection.conn in
-    let short = (conn_limit h n (conn_in h.conns n) c.requires.sound (conn_in-found h.conns n (open_conn-there h.conns n (on_conn (goal.at.front-requires-in-Connection-clause-countable c).In-Connection)))).incoming in
+    let short = (conn_limit h n (conn_in h.conns n) c.requires.sound (source_found h c.args.from.now n c.requires c.in-Connection.is)).incoming in
     countable h.store h.domains (objects_of h) (conn_in h.conns n).incoming c.requires.sound.counted c.requires.sound.limits (omega (arith, short))
 
 pub returns-in_ok-front-in-Connection-clause-given : goal.returns-in_ok-front-in-Connection-clause-given

@@ -4,7 +4,9 @@ use Rattle.std.proofs.lemmas.List.{length-take}
 use Rattle.iol_core.specs.Calls.Writing.{iol_write}
 use Rattle.iol_core.specs.declared.descriptors.Descriptor.{Descriptor}
 use Rattle.iol_core.specs.declared.limits.TheConstants.{MAX_QUEUE_BYTES}
+use Rattle.iol_hold.specs.Moves.{Covers, IsCountable}
 use Rattle.iol_hold.specs.Places.{places, byte_len}
+use Rattle.iol_hold.specs.Texts.{bufs_of}
 use Rattle.iol_sock.specs.Table.{ConnTable}
 use Rattle.iol_kernel.specs.Kernel.{state_of}
 use Rattle.iol_kernel.specs.Readings.{bytes_over}
@@ -17,34 +19,37 @@ use Rattle.iol_kernel.proofs.State.ReadOf.{open_row}
 use Rattle.iol_kernel.proofs.State.Sound.{agg_small}
 use Rattle.iol_kernel.proofs.State.Uses.{agg_covered, countable}
 use Rattle.iol_kernel.proofs.kernel.Kernel.push.Goals as goal
+use Rattle.iol_kernel.proofs.kernel.Kernel.push.Goals.{In-Some}
 
 pub push-requires-clause-writing : goal.push-requires-clause-writing
 push-requires-clause-writing c =
     let h = state_of c.args.self.now in
     writing_held (bytes_over [] h.store) h c.args.by c.args.fd c.in-WriteEnd.pipe c.requires.open.sound (c.requires.open.from (bytes_over [] h.store) ∙ ap (λ (x : Descriptor). Some x) c.in-WriteEnd.is)
 
-pub push-requires-clause-covered : goal.push-requires-clause-covered
-push-requires-clause-covered c =
+-- the aggregate's buffers are counted
+covered : (c : In-Some) → Covers c.args.self.now.store (bufs_of c.in-Some.found.now)
+covered c = let h = state_of c.args.self.now in agg_covered h.store h.domains (objects_of h) c.args.by c.args.agg c.in-Some.found.now c.requires.open.sound.counted (open_row c.requires.open) c.in-Some.ensures
+
+countable_there : (c : In-Some) → IsCountable c.args.self.now.store (bufs_of c.in-Some.found.now)
+countable_there c =
     let h = state_of c.args.self.now in
-    agg_covered h.store h.domains (objects_of h) c.args.by c.args.agg c.in-Some.found.now c.requires.open.sound.counted (open_row c.requires.open) c.in-Some.ensures
+    let sound = c.requires.open.sound in
+    countable h.store h.domains (objects_of h) c.in-Some.found.now sound.counted sound.limits (agg_small h c.args.by c.args.agg c.in-Some.found.now sound c.in-Some.ensures)
+
+pub push-requires-clause-covered : goal.push-requires-clause-covered
+push-requires-clause-covered c = covered (goal.at.push-requires-clause-covered c).In-Some
 
 pub push-requires-clause-countable : goal.push-requires-clause-countable
-push-requires-clause-countable c =
-    let h = state_of c.args.self.now in
-    countable h.store h.domains (objects_of h) c.in-Some.found.now c.requires.open.sound.counted c.requires.open.sound.limits (agg_small h c.args.by c.args.agg c.in-Some.found.now c.requires.open.sound c.in-Some.ensures)
+push-requires-clause-countable c = countable_there (goal.at.push-requires-clause-countable c).In-Some
+
+pub queue-requires-clause-covered : goal.queue-requires-clause-covered
+queue-requires-clause-covered c = covered (goal.at.queue-requires-clause-covered c).In-Some
+
+pub queue-requires-clause-countable : goal.queue-requires-clause-countable
+queue-requires-clause-countable c = countable_there (goal.at.queue-requires-clause-countable c).In-Some
 
 pub queue-requires-clause-there : goal.queue-requires-clause-there
 queue-requires-clause-there c = conn_there_held (state_of c.args.self.now) c.args.by c.args.fd c.in-Connection.conn c.requires.open.sound (λ f. c.requires.open.from f ∙ ap (λ (x : Descriptor). Some x) c.in-Connection.is)
-
-pub queue-requires-clause-covered : goal.queue-requires-clause-covered
-queue-requires-clause-covered c =
-    let h = state_of c.args.self.now in
-    agg_covered h.store h.domains (objects_of h) c.args.by c.args.agg c.in-Some.found.now c.requires.open.sound.counted (open_row c.requires.open) c.in-Some.ensures
-
-pub queue-requires-clause-countable : goal.queue-requires-clause-countable
-queue-requires-clause-countable c =
-    let h = state_of c.args.self.now in
-    countable h.store h.domains (objects_of h) c.in-Some.found.now c.requires.open.sound.counted c.requires.open.sound.limits (agg_small h c.args.by c.args.agg c.in-Some.found.now c.requires.open.sound c.in-Some.ensures)
 
 -- what fits keeps the queue within its bound
 short : (old new given n : ℕ) → old ≤ MAX_QUEUE_BYTES → n ≡ min given (MAX_QUEUE_BYTES - old) → new ≤ old + n → new ≤ MAX_QUEUE_BYTES

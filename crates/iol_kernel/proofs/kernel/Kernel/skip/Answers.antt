@@ -1,20 +1,17 @@
 use Rattle.std.proofs.Common.{◌≡◌, Some, ap, subst, sym, true}
 use Rattle.iol_core.specs.Calls.Reading.{read_on}
 use Rattle.iol_core.specs.declared.descriptors.Descriptor.{Descriptor}
-use Rattle.iol_sock.specs.Table.{ConnTable, conn_in}
+use Rattle.iol_sock.specs.Table.{ConnTable}
 use Rattle.iol_kernel.specs.Calls.{Leaves}
 use Rattle.iol_kernel.specs.Kernel.{state_of}
 use Rattle.iol_kernel.specs.KernelState.{KernelState, IsOpenEnd, objects_of, queue_at}
-use Rattle.iol_kernel.proofs.Connections.Connecting.{IsOpenConn, conn_in-found, incoming_covered, open_conn-there}
+use Rattle.iol_kernel.proofs.Queues.Sources.{source_covered, source_open, source_there}
 use Rattle.iol_kernel.proofs.Queues.Skipped.{conn_skipped, pipe_skipped}
 use Rattle.iol_kernel.proofs.kernel.Kernel.skip.Goals as goal
-use Rattle.iol_kernel.proofs.kernel.Kernel.skip.Goals.{In-Connection, In-ReadEnd}
+use Rattle.iol_kernel.proofs.kernel.Kernel.skip.Goals.{In-ReadEnd}
 
 reading : (c : In-ReadEnd) → (queue_at (state_of c.args.self.now).pipes c.in-ReadEnd.pipe).reading ≡ true
 reading c = subst (λ (x : Descriptor). IsOpenEnd (objects_of (state_of c.args.self.now)) (Some x)) c.in-ReadEnd.is c.requires.opened
-
-on_conn : (c : In-Connection) → IsOpenConn (conn_in (state_of c.args.self.now).conns c.in-Connection.conn)
-on_conn c = subst (λ (x : Descriptor). IsOpenEnd (objects_of (state_of c.args.self.now)) (Some x)) c.in-Connection.is c.requires.opened
 
 pub returns-in-ReadEnd : goal.returns-in-ReadEnd
 returns-in-ReadEnd c = λ d fd.
@@ -25,13 +22,10 @@ returns-in-ReadEnd c = λ d fd.
     (pipe_skipped h c.skip.new.store c.skip.new.self.places c.in-ReadEnd.pipe c.args.count c.requires.sound (reading (goal.at.returns-in-ReadEnd c).In-ReadEnd) e.rest e.pipes e.moves e.lists e.frees e.settles)
 
 pub skip-requires-in-Connection-clause-there : goal.skip-requires-in-Connection-clause-there
-skip-requires-in-Connection-clause-there c = open_conn-there (state_of c.args.self.now).conns c.in-Connection.conn (on_conn (goal.at.skip-requires-in-Connection-clause-there c).In-Connection)
+skip-requires-in-Connection-clause-there c = source_there (state_of c.args.self.now) c.args.from.now c.in-Connection.conn c.requires c.in-Connection.is
 
 pub skip-requires-in-Connection-clause-covered : goal.skip-requires-in-Connection-clause-covered
-skip-requires-in-Connection-clause-covered c =
-    let h = state_of c.args.self.now in
-    let n = c.in-Connection.conn in
-    incoming_covered h n (conn_in h.conns n) c.requires.sound (conn_in-found h.conns n (open_conn-there h.conns n (on_conn (goal.at.skip-requires-in-Connection-clause-covered c).In-Connection)))
+skip-requires-in-Connection-clause-covered c = source_covered (state_of c.args.self.now) c.args.from.now c.in-Connection.conn c.requires c.in-Connection.is
 
 pub returns-in-Connection : goal.returns-in-Connection
 returns-in-Connection c = λ d fd.
@@ -40,5 +34,5 @@ returns-in-Connection c = λ d fd.
     let k : KernelState = record h { store = w.store; conns = w.self.conns; next_conn = w.self.next } in
     let e = c.skip-in-Connection.ensures in
     subst (λ (x : Descriptor). Leaves (λ s. read_on s d fd (Some x) c.args.count) h k) (sym c.in-Connection.is)
-    (conn_skipped h k c.in-Connection.conn c.args.count c.requires.sound (on_conn (goal.at.returns-in-Connection c).In-Connection) e.rest
+    (conn_skipped h k c.in-Connection.conn c.args.count c.requires.sound (source_open h c.args.from.now c.in-Connection.conn c.requires c.in-Connection.is) e.rest
     (ap (λ (t : ConnTable). record h { store = w.store; conns = t.conns; next_conn = t.next }) e.others) e.moves e.lists e.frees e.settles)
