@@ -14,6 +14,8 @@ use Rattle.iol_cache.specs.Serving.{IsEnd}
 use Rattle.iol_kernel.specs.FileEnds.{EndsAt, EndsOn, SeeksAt, SeeksOn, SeeksTo, is_next_long}
 use Rattle.iol_kernel.specs.FileReading.{held_by}
 use Rattle.iol_kernel.specs.KernelState.{KernelState, machine_of}
+use Rattle.iol_kernel.specs.Opened.{IsOpenOn}
+use Rattle.iol_kernel.specs.Readings.{bytes_over}
 
 -- A word of what a live domain's descriptor is open on.
 
@@ -40,12 +42,12 @@ module _ (disk : Disk) (h : KernelState) (d fd : ℕ) where
   pub seeks_nothing : {A : Type 0} (at : ℕ) (r : Result A Refusal) → open_on (held_by (machine_of [] h) d fd) ≡ None → SeeksAt d fd at disk h r
   seeks_nothing at r none = seeks_none (held_by (machine_of [] h) d fd) at r none
 
-  module _ (f was : ℕ) (mode : Mode) (live : machine.is_live (machine_of [] h) d ≡ true) (there : machine.descriptor (machine_of [] h) d fd ≡ Some (on.File f was mode)) where
+  module _ (f was : ℕ) (mode : Mode) (held : IsOpenOn h d fd (on.File f was mode)) where
     pub seeks_file : {A : Type 0} (at : ℕ) (r : Result A Refusal) → SeeksTo f at disk h.cache r → SeeksAt d fd at disk h r
-    seeks_file at r seeks = held_as h d fd true (Some (on.File f was mode)) (λ x. SeeksOn x at disk h r) live there seeks
+    seeks_file at r seeks = held_as h d fd true (Some (on.File f was mode)) (λ x. SeeksOn x at disk h r) (held.live (bytes_over [] h.store)) (held.from (bytes_over [] h.store)) seeks
 
     pub ends_file : (end : ℕ) → IsEnd disk h.cache f end → EndsAt d fd end disk h
-    ends_file end ends = held_as h d fd true (Some (on.File f was mode)) (λ x. EndsOn x end disk h) live there ends
+    ends_file end ends = held_as h d fd true (Some (on.File f was mode)) (λ x. EndsOn x end disk h) (held.live (bytes_over [] h.store)) (held.from (bytes_over [] h.store)) ends
 
 -- Whether the next slot is told to be too long.
 

@@ -24,6 +24,7 @@ use Rattle.iol_desc.specs.Tables.{domain_in, with_fds_in}
 use Rattle.iol_kernel.specs.Backed.{IsBackedBy, LooksUp, Serves, with_slots}
 use Rattle.iol_kernel.specs.Ends.{IsOpenOnce}
 use Rattle.iol_kernel.specs.KernelState.{KernelState, objects_of, IsOpenEnd, IsSound, machine_of, read_of}
+use Rattle.iol_kernel.specs.Opened.{IsOpenOn}
 use Rattle.iol_kernel.specs.Readings.{Reading, KeepsPools, bytes_over}
 use Rattle.iol_kernel.proofs.State.Beside.{content-machine_of, descriptor-with_slots, even, fds-with_slots, length_content-even, live-with_slots, open-with_slots, serves_refused, serves_where, with_slots-own}
 use Rattle.iol_kernel.proofs.FileCalls.Called.{file_within, same_end-file}
@@ -128,9 +129,18 @@ beyond n at lt = let b : nat_lt n at ≡ true = grind (arith, nat_tests, lt) in 
 within : (n at : ℕ) → at ≤ n → first ((BadRange when nat_lt n at) ∷ []) ≡ None
 within n at le = let b : nat_lt n at ≡ false = grind (arith, nat_tests, le) in ap (λ b. first ((BadRange when b) ∷ [])) b
 
-module _ (disk : Disk) (h : KernelState) (d fd f was len : ℕ) (mode : Mode) (sound : IsSound h) (live : machine.is_live (machine_of [] h) d ≡ true) (there : machine.descriptor (machine_of [] h) d fd ≡ Some (on.File f was mode))
+module _ (disk : Disk) (h : KernelState) (d fd f was len : ℕ) (mode : Mode) (held : IsOpenOn h d fd (on.File f was mode))
     (sized : IsBackedBy disk h → len ≡ length (machine.content (machine_of disk.slots h) f)) where
-  pub is_open : IsOpenEnd (objects_of h) (Some (on.File f was mode))
+  sound : IsSound h
+  sound = held.sound
+
+  live : machine.is_live (machine_of [] h) d ≡ true
+  live = held.live (bytes_over [] h.store)
+
+  there : machine.descriptor (machine_of [] h) d fd ≡ Some (on.File f was mode)
+  there = held.from (bytes_over [] h.store)
+
+  is_open : IsOpenEnd (objects_of h) (Some (on.File f was mode))
   is_open = end_held (bytes_over [] h.store) h d fd (on.File f was mode) sound there
 
   -- the file has so many bytes

@@ -1,8 +1,8 @@
 //! Positions of descriptors on files, and lengths of files.
-ghost use Rattle.std.specs.Prelude.{◌≡◌, ◌≤◌, length, true, None, Some, IfErr, IfOk, OnErr, OnOk};
+ghost use Rattle.std.specs.Prelude.{◌≡◌, ◌≤◌, length, true, None, Some, IfErr, IfOk, OnErr};
 ghost use Rattle.iol_core.specs.Numbered.{is_numbered};
 ghost use Rattle.iol_core.specs.Meaning.{first};
-ghost use Rattle.iol_core.specs.State.{content, descriptor, is_live};
+ghost use Rattle.iol_core.specs.State.{content};
 ghost use Rattle.iol_core.specs.Calls.Files as calls;
 ghost use Rattle.iol_core.specs.Calls.Files.{open_on};
 ghost use Rattle.iol_cache.specs.Serving.{IsEnd};
@@ -21,7 +21,7 @@ use iol_core::numbers::{DomainId, Fd, FileId};
 use iol_core::refusals::Refusal;
 
 impl Kernel {
-    ghost use Rattle.iol_kernel.specs.Kernel.{state_of, as_read, LooksUp};
+    ghost use Rattle.iol_kernel.specs.Kernel.{state_of, as_read, IsOpenOn, LooksUp};
 
     /// Puts a descriptor on a file at a position, at most at the file's end. Of a store that is not honest, that is where a
     /// read of the file would end now.
@@ -74,9 +74,7 @@ impl Kernel {
     /// `WrongMode` where that is open on no file.
     pub(crate) fn find_open(&self, by: DomainId, fd: Fd) -> Result<OpenFile, Refusal>
         requires { IsSound (state_of self.now) }
-        ensures live { OnOk result ((f : Reading) → is_live (as_read f self.now) by ≡ true) }
-        ensures from { IfOk result (λ x. (f : Reading) → descriptor (as_read f self.now) by fd ≡ Some
-            (Descriptor.File x.file x.at x.mode)) }
+        ensures open { IfOk result (λ x. IsOpenOn self.now by fd (Descriptor.File x.file x.at x.mode)) }
         ensures there { IfOk result (λ x. is_numbered (state_of self.now).files x.file ≡ true) }
         ensures refused { IfErr result (λ x. (f : Reading) → first (calls.file_length (as_read f
             self.now) by fd).refusals ≡ Some x) }

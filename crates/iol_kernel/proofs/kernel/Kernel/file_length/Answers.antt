@@ -12,17 +12,9 @@ returns-in-Err-clause-told g c =
 
 pub returns-clause-told : goal.returns-clause-told
 returns-clause-told g c =
-    let h = state_of c.args.self.now in
-    let f = bytes_over [] h.store in
     let x = c.in-Ok.found in
-    let e = c.in-Ok.ensures in
-    let told = length_told (g.B.Backing.disk c.args.backing.now) h c.args.by c.args.fd x.file x.at c.length_of.result x.mode c.requires (e.live f) (e.from f) c.length_of.ensures.is in
+    let told = length_told (g.B.Backing.disk c.args.backing.now) (state_of c.args.self.now) c.args.by c.args.fd x.file x.at c.length_of.result x.mode c.in-Ok.ensures.open c.length_of.ensures.is in
     search (rules, told)
 
 pub returns-clause-ends : goal.returns-clause-ends
-returns-clause-ends g c =
-    let h = state_of c.args.self.now in
-    let f = bytes_over [] h.store in
-    let x = c.in-Ok.found in
-    let e = c.in-Ok.ensures in
-    ends_file (g.B.Backing.disk c.args.backing.now) h c.args.by c.args.fd x.file x.at x.mode (e.live f) (e.from f) c.length_of.result c.length_of.ensures.end
+returns-clause-ends g c = let x = c.in-Ok.found in ends_file (g.B.Backing.disk c.args.backing.now) (state_of c.args.self.now) c.args.by c.args.fd x.file x.at x.mode c.in-Ok.ensures.open c.length_of.result c.length_of.ensures.end

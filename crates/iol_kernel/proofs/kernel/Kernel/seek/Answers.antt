@@ -3,7 +3,7 @@ use Rattle.iol_desc.specs.Tables.{domains_of}
 use Rattle.iol_kernel.specs.Kernel.{state_of}
 use Rattle.iol_kernel.specs.Readings.{bytes_over}
 use Rattle.iol_kernel.proofs.Queues.Opening.{not_none}
-use Rattle.iol_kernel.proofs.State.ReadOf.{descriptor-read_of, live_held}
+use Rattle.iol_kernel.proofs.State.ReadOf.{descriptor-read_of, open_row}
 use Rattle.iol_kernel.proofs.FileCalls.FileEnds.{seeks_file, seeks_nothing}
 use Rattle.iol_kernel.proofs.FileCalls.Seeking.{moved-places, seek_beyond, seek_refused, sought}
 use Rattle.iol_kernel.proofs.kernel.Kernel.seek.Goals as goal
@@ -20,44 +20,35 @@ returns-in-Err-clause-ends g c =
 
 pub returns-then-at-length_of-clause-looks : goal.returns-then-at-length_of-clause-looks
 returns-then-at-length_of-clause-looks g c =
-    let h = state_of c.args.self.now in
-    let f = bytes_over [] h.store in
-    let e = c.in-Ok.ensures in
-    let told = seek_beyond (g.B.Backing.disk c.args.backing.now) h c.args.by c.args.fd c.in-Ok.found.file c.in-Ok.found.at c.length_of.result c.in-Ok.found.mode c.requires (e.live f) (e.from f) c.length_of.ensures.is c.args.at (omega (arith, c.if-at-length_of.true)) in
+    let x = c.in-Ok.found in
+    let told = seek_beyond (g.B.Backing.disk c.args.backing.now) (state_of c.args.self.now) c.args.by c.args.fd x.file x.at c.length_of.result x.mode c.in-Ok.ensures.open c.length_of.ensures.is c.args.at (omega (arith, c.if-at-length_of.true)) in
     search (rules, told)
 
+pub returns-then-at-length_of-clause-ends : goal.returns-then-at-length_of-clause-ends
+returns-then-at-length_of-clause-ends g c =
+    let x = c.in-Ok.found in
+    seeks_file (g.B.Backing.disk c.args.backing.now) (state_of c.args.self.now) c.args.by c.args.fd x.file x.at x.mode c.in-Ok.ensures.open c.args.at _
+    (record { end = c.length_of.result; ends = c.length_of.ensures.end; within = tt; beyond = λ is. omega (arith, c.if-at-length_of.true) })
+
 pub set_fd-requires-clause-live : goal.set_fd-requires-clause-live
-set_fd-requires-clause-live g c = let h = state_of c.args.self.now in live_held (bytes_over [] h.store) h c.args.by (c.in-Ok.ensures.live (bytes_over [] h.store))
+set_fd-requires-clause-live g c = open_row c.in-Ok.ensures.open
 
 pub set_fd-requires-clause-there : goal.set_fd-requires-clause-there
 set_fd-requires-clause-there g c =
     let h = state_of c.args.self.now in
-    not_none _ _ _ (c.in-Ok.ensures.from (bytes_over [] h.store)) (sym (descriptor-read_of (bytes_over [] h.store) h c.args.by c.args.fd))
+    not_none _ _ _ (c.in-Ok.ensures.open.from (bytes_over [] h.store)) (sym (descriptor-read_of (bytes_over [] h.store) h c.args.by c.args.fd))
 
 pub returns-clause-looks : goal.returns-clause-looks
 returns-clause-looks g c =
-    let h = state_of c.args.self.now in
-    let f = bytes_over [] h.store in
     let x = c.in-Ok.found in
-    let e = c.in-Ok.ensures in
-    let told = sought (g.B.Backing.disk c.args.backing.now) h c.args.by c.args.fd x.file x.at c.length_of.result x.mode c.requires (e.live f) (e.from f) c.length_of.ensures.is c.args.at (domains_of c.set_fd.new.self) (omega (arith, c.if-at-length_of.false)) c.length_of.ensures.short c.set_fd.ensures.set in
-    let lies = moved-places (g.B.Backing.disk c.args.backing.now) h c.args.by c.args.fd x.file x.at c.length_of.result x.mode c.requires (e.live f) (e.from f) c.length_of.ensures.is c.args.at (domains_of c.set_fd.new.self) c.set_fd.ensures.set in
+    let is = c.length_of.ensures.is in
+    let ds = domains_of c.set_fd.new.self in
+    let told = sought (g.B.Backing.disk c.args.backing.now) (state_of c.args.self.now) c.args.by c.args.fd x.file x.at c.length_of.result x.mode c.in-Ok.ensures.open is c.args.at ds (omega (arith, c.if-at-length_of.false)) c.length_of.ensures.short c.set_fd.ensures.set in
+    let lies = moved-places (g.B.Backing.disk c.args.backing.now) (state_of c.args.self.now) c.args.by c.args.fd x.file x.at c.length_of.result x.mode c.in-Ok.ensures.open is c.args.at ds c.set_fd.ensures.set in
     search (rules, told, lies)
-
-pub returns-then-at-length_of-clause-ends : goal.returns-then-at-length_of-clause-ends
-returns-then-at-length_of-clause-ends g c =
-    let h = state_of c.args.self.now in
-    let f = bytes_over [] h.store in
-    let x = c.in-Ok.found in
-    let e = c.in-Ok.ensures in
-    seeks_file (g.B.Backing.disk c.args.backing.now) h c.args.by c.args.fd x.file x.at x.mode (e.live f) (e.from f) c.args.at _
-    (record { end = c.length_of.result; ends = c.length_of.ensures.end; within = tt; beyond = λ is. omega (arith, c.if-at-length_of.true) })
 
 pub returns-clause-ends : goal.returns-clause-ends
 returns-clause-ends g c =
-    let h = state_of c.args.self.now in
-    let f = bytes_over [] h.store in
     let x = c.in-Ok.found in
-    let e = c.in-Ok.ensures in
-    seeks_file (g.B.Backing.disk c.args.backing.now) h c.args.by c.args.fd x.file x.at x.mode (e.live f) (e.from f) c.args.at _
+    seeks_file (g.B.Backing.disk c.args.backing.now) (state_of c.args.self.now) c.args.by c.args.fd x.file x.at x.mode c.in-Ok.ensures.open c.args.at _
     (record { end = c.length_of.result; ends = c.length_of.ensures.end; within = omega (arith, c.if-at-length_of.false); beyond = λ is. absurd (cc is) })
