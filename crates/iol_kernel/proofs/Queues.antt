@@ -4,6 +4,8 @@ pub mod TakenOut
 pub mod Listing
 pub mod Ends
 pub mod Opening
+pub mod LookUps
+pub mod Sources
 pub mod Flowing
 pub mod Queueing
 pub mod CloseAll

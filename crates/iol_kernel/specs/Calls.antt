@@ -1,11 +1,11 @@
 -- What a call does to what a system holds, said of the copying machine whatever is read at the places of bytes.
 use Rattle.std.specs.Prelude.{◌≡◌, ℕ, ◌+◌, ◌≤◌, Bool, nat_lt, length, ◌⊎◌, ◌++◌, true, false, List, [], ◌∷◌, None, Some, Result, Ok, Err, OnOk, OnErr}
 use Rattle.iol_core.specs.Text.{Text, labelled}
-use Rattle.iol_core.specs.State.{State, is_live, text, conn_at, with_conn}
+use Rattle.iol_core.specs.State.{State, is_live, text, descriptor, conn_at, with_conn}
 use Rattle.iol_core.specs.Meaning.{Meaning, Step, first}
 use Rattle.iol_core.specs.Calls.Aggregates.{lacks_agg, with_agg, show}
 use Rattle.iol_core.specs.declared.refusals.Refusal.{Refusal}
-use Rattle.iol_core.specs.declared.refusals.Refusal.TheVariants.{NoDomain, BadAgg, NoRoom}
+use Rattle.iol_core.specs.declared.refusals.Refusal.TheVariants.{NoDomain, BadAgg, BadFd, NoRoom}
 use Rattle.iol_core.specs.State as machine
 use Rattle.iol_core.specs.declared.limits.TheConstants.{MAX_FILE_BYTES}
 use Rattle.iol_back.specs.Disk.{Disk, IfHonest, content}
@@ -178,6 +178,12 @@ abbrev pub IsMissing : KernelState → (d a : ℕ) → Refusal → Type 0
 IsMissing h d a x =
     ((x ≡ NoDomain) × ((f : Reading) → is_live (read_of f h) d ≡ false))
     ⊎ ((x ≡ BadAgg) × ((f : Reading) → (is_live (read_of f h) d ≡ true) × (lacks_agg (read_of f h) d a ≡ true)))
+
+-- the refusal where there is no such domain, or no such descriptor of it
+abbrev pub IsUnopened : KernelState → (d fd : ℕ) → Refusal → Type 0
+IsUnopened h d fd x =
+    ((x ≡ NoDomain) × ((f : Reading) → is_live (read_of f h) d ≡ false))
+    ⊎ ((x ≡ BadFd) × ((f : Reading) → (is_live (read_of f h) d ≡ true) × (descriptor (read_of f h) d fd ≡ None)))
 
 -- what was sent, as the bytes and their checksum
 abbrev pub told : Result Segment Refusal → Result (List ℕ × ℕ) Refusal

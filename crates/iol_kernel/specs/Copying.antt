@@ -1,17 +1,13 @@
 -- What reads by copying do to what a system holds.
-use Rattle.std.specs.Prelude.{◌≡◌, ◌++◌, ℕ, min, List, [], length, drop, Option, Some, Result, Err, IfErr, IfOk, OnOk, OnErr}
-use Rattle.iol_core.specs.Meaning.{Never}
-use Rattle.iol_core.specs.State.{descriptor}
-use Rattle.iol_core.specs.Calls.Reading.{read, unread}
+use Rattle.std.specs.Prelude.{◌≡◌, ℕ, List, [], Option, Some, Result, Err, OnOk, OnErr}
+use Rattle.iol_core.specs.Calls.Reading.{read}
 use Rattle.iol_core.specs.declared.descriptors.Descriptor.{Descriptor}
 use Rattle.iol_core.specs.declared.descriptors.Descriptor.TheVariants as on
 use Rattle.iol_core.specs.declared.refusals.Refusal.{Refusal}
 use Rattle.iol_core.specs.declared.refusals.Refusal.TheVariants.{NoRoom}
 use Rattle.iol_back.specs.Disk.{Disk}
 use Rattle.iol_hold.specs.Pages.{KeepsPages}
-use Rattle.iol_sock.specs.Refused.{IsPassed, IsRefused}
 use Rattle.iol_kernel.specs.Backed.{Serves}
-use Rattle.iol_kernel.specs.Calls.{Leaves}
 use Rattle.iol_kernel.specs.FileReading.{CopiesFileAs, file_read, held_by}
 use Rattle.iol_kernel.specs.KernelState.{KernelState, read_of, machine_of}
 use Rattle.iol_kernel.specs.Readings.{Reading, KeepsPools}
@@ -25,18 +21,6 @@ pub record ReadsOut (by fd n : ℕ) (old : KernelState) (r : Result (List ℕ) R
   pub pages : KeepsPages old.store new.store []
   pub cache : new.cache ≡ old.cache
   pub refused : OnErr r (new ≡ old)
-
--- How many of n bytes of a queue wait, whoever may read them. It is refused as a read of n bytes is.
-pub record TellsWaiting (by fd n : ℕ) (h : KernelState) (r : Result ℕ Refusal) : Type 0 where
-  pub passed : OnOk r (IsPassed (read (machine_of [] h) by fd n).refusals)
-  pub refused : IfErr r (IsRefused (read (machine_of [] h) by fd n).refusals Never)
-  pub some : IfOk r (λ k. (f : Reading) → k ≡ min n (length (unread (read_of f h) (descriptor (read_of f h) by fd))))
-
--- A read of as many bytes of a queue as `into` has was written to its front, and taken off the queue.
-pub record TakesInto (by fd : ℕ) (into filled : List ℕ) (many : ℕ) (old new : KernelState) : Type 0 where
-  pub copied : filled ≡ (read (machine_of [] old) by fd (length into)).answer ++ drop many into
-  pub count : many ≡ length (read (machine_of [] old) by fd (length into)).answer
-  pub left : Leaves (λ s. (read s by fd (length into)).after) old new
 
 -- by what the descriptor is open on
 abbrev pub CopiesOn : (by fd n : ℕ) → Option Descriptor → Disk → KernelState → Result (List ℕ) Refusal → Disk

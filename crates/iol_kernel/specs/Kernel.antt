@@ -13,6 +13,7 @@ use Rattle.iol_kernel.specs.Backed as backed
 use Rattle.iol_kernel.specs.Calls as calls
 use Rattle.iol_kernel.specs.MakingRoom as making
 use Rattle.iol_kernel.specs.Opened as opened
+use Rattle.iol_kernel.specs.QueueEnds as ends
 use Rattle.iol_kernel.specs.FileReading as files
 use Rattle.iol_kernel.specs.FileReading.{FileRead}
 use Rattle.iol_kernel.specs.KernelState.{KernelState, read_of, machine_of}
@@ -108,6 +109,15 @@ IsFound k d a xs = calls.IsFound (state_of k) d a xs
 
 abbrev pub IsMissing : Kernel → (d a : ℕ) → Refusal → Type 0
 IsMissing k d a x = calls.IsMissing (state_of k) d a x
+
+abbrev pub IsUnopened : Kernel → (d fd : ℕ) → Refusal → Type 0
+IsUnopened k d fd x = calls.IsUnopened (state_of k) d fd x
+
+abbrev pub IsSource : Kernel → Descriptor → Type 0
+IsSource k end = ends.IsSource (state_of k) end
+
+abbrev pub GivesFront : Descriptor → (d n : ℕ) → Kernel → Kernel → List Slice → Type 0
+GivesFront end d n old new slices = ends.GivesFront end d n (state_of old) (state_of new) slices
 
 abbrev pub Places : {A : Type 0} → (State → Meaning A) → (State → Text → State) → (pool n : ℕ) → Kernel
     → Result A Refusal → Kernel → Type 0

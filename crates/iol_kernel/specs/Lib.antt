@@ -20,5 +20,6 @@ pub mod Copying
 pub mod Adding
 pub mod Regrouped
 pub mod Queues
+pub mod QueueEnds
 pub mod Borrowed
 pub mod Keeping

@@ -1,5 +1,5 @@
 //! What a system holds, and the tests that its calls make.
-ghost use Rattle.std.specs.Prelude.{replicate, ◌*◌, ◌⊎◌, ◌↔◌, Err, IfOk, IfErr, ◌≡◌, ◌≤◌, ℕ, length, true, false, Option, List, []};
+ghost use Rattle.std.specs.Prelude.{replicate, ◌*◌, ◌⊎◌, ◌↔◌, Err, IfOk, IfErr, OnOk, ◌≡◌, ◌≤◌, ℕ, length, true, false, Option, Some, List, []};
 ghost use Rattle.iol_core.specs.Configuration.{IsInRange};
 ghost use Rattle.iol_core.specs.State.{new_state, is_live, may_read, text, descriptor};
 ghost use Rattle.iol_core.specs.Calls.Aggregates.{lacks_agg, too_many_aggs};
@@ -38,7 +38,7 @@ pub struct Kernel {
 }
 
 impl Kernel {
-    ghost use Rattle.iol_kernel.specs.Kernel.{state_of, machine, as_read, IsFound, IsMissing};
+    ghost use Rattle.iol_kernel.specs.Kernel.{state_of, machine, as_read, IsFound, IsMissing, IsUnopened};
 
     /// A kernel with domain 1 and nothing else. A size out of its range is `BadRange`.
     pub fn new(alloc: Global, config: Config) -> Result<Kernel, Refusal>
@@ -108,6 +108,23 @@ impl Kernel {
     {
         let found = self.find(d, agg)?;
         Ok(found.len())
+    }
+
+    /// What a domain's descriptor is open on. `NoDomain` where the domain is not live, `BadFd` where it has no such
+    /// descriptor.
+    pub(crate) fn opened(&self, d: DomainId, fd: Fd) -> Result<Descriptor, Refusal>
+        ensures live { OnOk result ((f : Reading) → is_live (as_read f self.now) d ≡ true) }
+        ensures open { IfOk result (λ x. (f : Reading) → descriptor (as_read f self.now) d fd ≡ Some
+            x) }
+        ensures err { IfErr result (IsUnopened self.now d fd) }
+    {
+        if !self.is_live(d) {
+            return Err(Refusal::NoDomain);
+        }
+        match self.descriptor(d, fd) {
+            Some(found) => Ok(found),
+            None => Err(Refusal::BadFd),
+        }
     }
 
     /// Whether so many new aggregates, with so many given up, are too many.

@@ -32,6 +32,7 @@ mod files;
 pub mod kernel;
 pub mod open_file;
 mod pipes;
+mod queue_end;
 pub mod report;
 mod room;
 mod tables;

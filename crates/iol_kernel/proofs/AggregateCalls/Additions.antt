@@ -3,6 +3,7 @@ use Rattle.std.proofs.Common.{[], refl, ◌≡◌, ℕ, ◌-◌, ◌<◌, ◌≤
 use Rattle.std.proofs.lemmas.List.Elements.{All-append, All-take, All-drop, All-same}
 use Rattle.std.proofs.lemmas.List.{take_all, length-take, length-drop}
 use Rattle.iol_core.specs.Text.{Text}
+use Rattle.iol_core.specs.Meaning.{Meaning}
 use Rattle.iol_core.specs.State as machine
 use Rattle.iol_core.specs.State.{State, Domain}
 use Rattle.iol_core.specs.Calls.Aggregates as aggs
@@ -13,7 +14,7 @@ use Rattle.iol_hold.specs.Places.{Place, places, byte_len}
 use Rattle.iol_kernel.specs.Readings.{Reading, read, bytes_over}
 use Rattle.iol_hold.specs.Texts.{AllReadable, IsThere}
 use Rattle.iol_hold.specs.declared.slices.Slice.{Slice}
-use Rattle.iol_hold.proofs.AtPlaces.{read_same, read_cut, read_replaced}
+use Rattle.iol_hold.proofs.AtPlaces.{read_cut, read_replaced}
 use Rattle.iol_hold.proofs.Emptied.{all_settled_same}
 use Rattle.iol_hold.proofs.Moving.{shares_move, covers_given}
 use Rattle.iol_hold.proofs.Reading.{readable_stays}
@@ -41,7 +42,20 @@ module _ (h : KernelState) (t : Stored) (ds : List (Domain (List Slice))) (d : �
       gained-sound h t ds d adds.slices sound live few small (readable_stays adds.slices (shares_move adds.shares).stays (covers_given adds.shares.counts) readable) (shares_move adds.shares)
       (all_settled_same h.store t adds.shares.arena adds.shares.pools sound.settled) adds.shares.pools (ap page_count adds.shares.arena) adds.added
 
--- Part of an aggregate, or all of it.
+  -- a call that adds these bytes and does nothing else is answered
+  added_answers : (m : State → Meaning ℕ) (n : ℕ) → ((f : Reading) → n ≡ (m (read_of f h)).answer) → ((f : Reading) → aggs.with_agg (read_of f h) d (read f adds.slices) ≡ (m (read_of f h)).after) → IsSound (record h { store = t; domains = ds }) → Answers m h n (record h { store = t; domains = ds })
+  added_answers m n number after sound = record {
+    answer = λ f keeps. number f;
+    after = λ f keeps. added-read f ∙ after f;
+    arena = adds.shares.arena;
+    pools = adds.shares.pools;
+    sums = refl;
+    cache = refl;
+    sound = sound;
+    stays = (shares_move adds.shares).stays;
+  }
+
+-- Part of an aggregate.
 
 module _ (h : KernelState) (t : Stored) (ds : List (Domain (List Slice))) (d a from to n : ℕ) (adds : AddsShared h.store t h.domains ds d (slice_range (places (slices_in h.domains d a)) from to))
     (sound : IsSound h) (live : (domain_in h.domains d).live ≡ true) (few : live_aggs_in h.domains < MAX_AGGREGATES) (number : n ≡ (domain_in h.domains d).next_agg) where
@@ -53,33 +67,24 @@ module _ (h : KernelState) (t : Stored) (ds : List (Domain (List Slice))) (d a f
       (omega (arith, slices_small h d a sound, ap length adds.is_there, length-take (to - from) (drop from (places xs)), length-drop from (places xs)))
 
   pub cut_answers : Answers (λ s. aggs.agg_cut s d a from to) h n (record h { store = t; domains = ds })
-  cut_answers = record {
-    answer = λ f keeps. number ∙ sym (next_agg-read_of f h d);
-    after = λ f keeps. added-read h t ds d _ adds f
-        ∙ ap (aggs.with_agg (read_of f h) d) (read_cut f.at adds.slices (slices_in h.domains d a) from to adds.is_there ∙ ap (λ (u : Text). slice_range u from to) (sym (text-read_of f h d a)));
-    arena = adds.shares.arena;
-    pools = adds.shares.pools;
-    sums = refl;
-    cache = refl;
-    sound = cut-sound;
-    stays = (shares_move adds.shares).stays;
-  }
+  cut_answers = added_answers h t ds d _ adds (λ s. aggs.agg_cut s d a from to) n (λ f. number ∙ sym (next_agg-read_of f h d))
+      (λ f. ap (aggs.with_agg (read_of f h) d) (read_cut f.at adds.slices (slices_in h.domains d a) from to adds.is_there ∙ ap (λ (u : Text). slice_range u from to) (sym (text-read_of f h d a)))) cut-sound
 
-  pub dup_answers : from ≡ 0 → to ≡ byte_len (slices_in h.domains d a) → Answers (λ s. aggs.agg_dup s d a) h n (record h { store = t; domains = ds })
-  dup_answers none all = record {
-    answer = λ f keeps. number ∙ sym (next_agg-read_of f h d);
-    after = λ f keeps. added-read h t ds d _ adds f
-        ∙ ap (aggs.with_agg (read_of f h) d) (read_same f.at adds.slices (slices_in h.domains d a) (adds.is_there ∙ whole (places (slices_in h.domains d a)) from to none all) ∙ sym (text-read_of f h d a));
-    arena = adds.shares.arena;
-    pools = adds.shares.pools;
-    sums = refl;
-    cache = refl;
-    sound = cut-sound;
-    stays = (shares_move adds.shares).stays;
-  }
-    where
-      whole : (ps : List Place) (from to : ℕ) → from ≡ 0 → to ≡ length ps → slice_range ps from to ≡ ps
-      whole ps from to none all = rw none (rw all (take_all (length ps - 0) ps (omega arith)))
+-- all of it, once more
+pub dup_answers : (h k : KernelState) (d a len n : ℕ) → ((f : Reading) → len ≡ length (machine.text (read_of f h) d a)) → Answers (λ s. aggs.agg_cut s d a 0 len) h n k → Answers (λ s. aggs.agg_dup s d a) h n k
+dup_answers h k d a len n all cut = record {
+  answer = cut.answer;
+  after = λ f keeps. cut.after f keeps ∙ ap (aggs.with_agg (read_of f h) d) (whole (machine.text (read_of f h) d a) len (all f));
+  arena = cut.arena;
+  pools = cut.pools;
+  sums = cut.sums;
+  cache = cut.cache;
+  sound = cut.sound;
+  stays = cut.stays;
+}
+  where
+    whole : (u : Text) (n : ℕ) → n ≡ length u → slice_range u 0 n ≡ u
+    whole u n is = rw is (take_all (length u - 0) u (omega arith))
 
 -- An aggregate with another in place of a range.
 
@@ -120,17 +125,8 @@ module _ (h : KernelState) (t : Stored) (ds : List (Domain (List Slice))) (d a f
           )
 
   pub replaced_answers : Answers (λ s. aggs.agg_replace s d a from to b) h n (record h { store = t; domains = ds })
-  replaced_answers = record {
-    answer = λ f keeps. number ∙ sym (next_agg-read_of f h d);
-    after = λ f keeps. added-read h t ds d _ adds f
-        ∙ ap (aggs.with_agg (read_of f h) d)
-        (read_replaced f.at adds.slices (slices_in h.domains d a) (slices_in h.domains d b) from to adds.is_there
-        ∙ ap (λ (u : Text). replaced u from to (read f (slices_in h.domains d b))) (sym (text-read_of f h d a))
-        ∙ ap (λ (u : Text). replaced (machine.text (read_of f h) d a) from to u) (sym (text-read_of f h d b)));
-    arena = adds.shares.arena;
-    pools = adds.shares.pools;
-    sums = refl;
-    cache = refl;
-    sound = replaced-sound;
-    stays = (shares_move adds.shares).stays;
-  }
+  replaced_answers = added_answers h t ds d _ adds (λ s. aggs.agg_replace s d a from to b) n (λ f. number ∙ sym (next_agg-read_of f h d))
+      (λ f. ap (aggs.with_agg (read_of f h) d)
+      (read_replaced f.at adds.slices (slices_in h.domains d a) (slices_in h.domains d b) from to adds.is_there
+      ∙ ap (λ (u : Text). replaced u from to (read f (slices_in h.domains d b))) (sym (text-read_of f h d a))
+      ∙ ap (λ (u : Text). replaced (machine.text (read_of f h) d a) from to u) (sym (text-read_of f h d b)))) replaced-sound

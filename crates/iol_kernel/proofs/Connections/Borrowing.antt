@@ -120,6 +120,14 @@ module _ (h : KernelState) (c max : ℕ) (there : lookup h.conns c ≢ None) whe
   pub read_room : (b : Bool) → has_room h.store x.pool 1 ≡ b → has_room h.store (conn_at (machine_of [] h) c).pool 1 ≡ b
   read_room b has = ap (λ p. has_room h.store p 1) (arrive_pool [] h c x found) ∙ has
 
+-- what one read brings in, of n bytes
+pub record BroughtIn (h k : KernelState) (c max n : ℕ) (left after : Option (List ℕ)) : Type 0 where
+  pub sound : IsSound k
+  pub made : Arrives c n h k
+  pub takes : TakesIn left after n (λ bytes. Steps (λ s. outside.arrive s c bytes) h (Ok n) k)
+  pub none : n ≡ 0 → (stored : List (List ℕ)) → machine_of stored k ≡ machine_of stored h
+  pub most : n ≤ min (min max PAGE_BYTES) (MAX_QUEUE_BYTES - length (conn_at (machine_of [] h) c).incoming)
+
 module _ (h k : KernelState) (c max n : ℕ) (left after : Option (List ℕ)) (sound : IsSound h) (there : lookup h.conns c ≢ None) (passed : first (read_refusals (conn_in h.conns c) max) ≡ None)
     (most : n ≤ min (min max PAGE_BYTES) (MAX_QUEUE_BYTES - byte_len (conn_in h.conns c).incoming))
     (reads : ReadsIn left after h.store k.store (conn_in h.conns c).incoming (conn_in k.conns c).incoming (conn_in h.conns c).pool n)
@@ -139,25 +147,19 @@ module _ (h k : KernelState) (c max n : ℕ) (left after : Option (List ℕ)) (s
   adds : AddsBytes h.store k.store y.incoming (conn_in k.conns c).incoming y.pool (take n reads.bytes)
   adds = subst (λ (bs : List ℕ). AddsBytes h.store k.store y.incoming (conn_in k.conns c).incoming y.pool bs) (sym (take_all n reads.bytes (omega (arith, reads.count)))) reads.added
 
-  pub read_sound : IsSound k
-  read_sound = all_sound h k c n reads.bytes sound there open' number adds same
-
-  pub read_made : Arrives c n h k
-  read_made = all_made h k c n reads.bytes sound there open' number adds same
-
-  pub read_takes : TakesIn left after n (λ bytes. Steps (λ s. outside.arrive s c bytes) h (Ok n) k)
-  read_takes = record { bytes = reads.bytes; count = reads.count; given = reads.given; arrives = all_step h k c n reads.bytes sound there open' number adds same }
-
-  pub read_none : n ≡ 0 → (stored : List (List ℕ)) → machine_of stored k ≡ machine_of stored h
-  read_none none stored =
-      let f = bytes_over stored h.store in
-      let w : Connection = conn_view (read f) y in
-      (all_step h k c n reads.bytes sound there open' number adds same stored).2
-      ∙ none_arrives (machine_of stored h) c reads.bytes (reads.count ∙ none)
-      ∙ not_over (machine_of stored h) c h.next_conn w (rising-read_of f h sound) (conn_found f h c y (conn_in-found h.conns c there)) (going w (passed_open y (length reads.bytes) open'))
-
-  pub read_most : n ≤ min (min max PAGE_BYTES) (MAX_QUEUE_BYTES - length (conn_at (machine_of [] h) c).incoming)
-  read_most = subst (λ l. n ≤ min (min max PAGE_BYTES) (MAX_QUEUE_BYTES - l)) (sym (incoming_len h c max there)) most
+  pub brought_in : BroughtIn h k c max n left after
+  brought_in = record {
+    sound = all_sound h k c n reads.bytes sound there open' number adds same;
+    made = all_made h k c n reads.bytes sound there open' number adds same;
+    takes = record { bytes = reads.bytes; count = reads.count; given = reads.given; arrives = all_step h k c n reads.bytes sound there open' number adds same };
+    none = λ none stored.
+        let f = bytes_over stored h.store in
+        let w : Connection = conn_view (read f) y in
+        (all_step h k c n reads.bytes sound there open' number adds same stored).2
+        ∙ none_arrives (machine_of stored h) c reads.bytes (reads.count ∙ none)
+        ∙ not_over (machine_of stored h) c h.next_conn w (rising-read_of f h sound) (conn_found f h c y (conn_in-found h.conns c there)) (going w (passed_open y (length reads.bytes) open'));
+    most = subst (λ l. n ≤ min (min max PAGE_BYTES) (MAX_QUEUE_BYTES - l)) (sym (incoming_len h c max there)) most;
+  }
 
 -- What goes out.
 
@@ -169,6 +171,13 @@ sent_none : (c n to : ℕ) (s : State) (w : Connection) → n ≡ 0 → Rises 0 
 sent_none c zero to s w none rising found is = ap (λ (y : Connection). record s { conns = changed s.conns c y }) is ∙ ap (λ (cs : List (ℕ × Connection)). record s { conns = cs }) (changed_same s.conns 0 to c w rising found)
 sent_none c (suc n) to s w none rising found is = absurd (cc none)
 
+-- what was lent is off the queue, once the connection is settled where some of it was sent
+pub record Lent (h m : KernelState) (c n : ℕ) : Type 0 where
+  pub sound : IsSound m
+  pub there : lookup m.conns c ≢ None
+  pub nothing : n ≡ 0 → Leaves (sent_on c n) h m
+  pub some : (l : KernelState) → (n ≡ 0 → ⊥) → Leaves (λ s. with_conn s c (conn_at s c)) m l → Leaves (sent_on c n) h l
+
 module _ (h m : KernelState) (c n : ℕ) (sound : IsSound h) (there : lookup h.conns c ≢ None) (rest : places (conn_in m.conns c).outgoing ≡ drop n (places (conn_in h.conns c).outgoing))
     (same : m ≡ record h { store = m.store; conns = changed h.conns c (record (conn_in h.conns c) { outgoing = (conn_in m.conns c).outgoing }) })
     (moves : Moves h.store m.store (bufs_of (conn_in h.conns c).outgoing) (bufs_of (conn_in m.conns c).outgoing)) (lists : SameLists h.store m.store) (frees : FreesOnly h.store m.store) (settles : AllSettled h.store → AllSettled m.store) where
@@ -178,20 +187,16 @@ module _ (h m : KernelState) (c n : ℕ) (sound : IsSound h) (there : lookup h.c
   here : lookup h.conns c ≡ Some z
   here = conn_in-found h.conns c there
 
-  pub lent_sound : IsSound m
-  lent_sound = subst IsSound (sym same) (sent-sound h m.store c n z (conn_in m.conns c).outgoing sound here rest moves lists frees (settles sound.settled))
-
-  pub lent_there : lookup m.conns c ≢ None
-  lent_there = subst (λ (k : KernelState). lookup k.conns c ≢ None) (sym same) (there-changed h.conns c z (record z { outgoing = (conn_in m.conns c).outgoing }) here)
-
   lent : Leaves (λ s. record s { conns = changed s.conns c (shorter n (conn_at s c)) }) h m
   lent = subst (λ (k : KernelState). Leaves (λ s. record s { conns = changed s.conns c (shorter n (conn_at s c)) }) h k) (sym same)
       (sent_leaves h m.store c n z (conn_in m.conns c).outgoing sound here rest moves lists frees (settles sound.settled))
 
-  pub lent_none : n ≡ 0 → Leaves (sent_on c n) h m
-  lent_none none = leaves_as (λ s. record s { conns = changed s.conns c (shorter n (conn_at s c)) }) (sent_on c n) h m
-      (λ f. sent_none c n h.next_conn (read_of f h) (conn_view (read f) z) none (rising-read_of f h sound) (conn_found f h c z here) (conn_at-is f.at (read_of f h) c z (conn_found f h c z here))) lent
-
-  pub lent_some : (l : KernelState) → (n ≡ 0 → ⊥) → Leaves (λ s. with_conn s c (conn_at s c)) m l → Leaves (sent_on c n) h l
-  lent_some l some settled = leaves_as (λ s. with_conn s c (shorter n (conn_at s c))) (sent_on c n) h l (λ f. sent_some c n (read_of f h) some)
-      (conn_left h m l c z (shorter n) sound here lent settled)
+  pub lent_out : Lent h m c n
+  lent_out = record {
+    sound = subst IsSound (sym same) (sent-sound h m.store c n z (conn_in m.conns c).outgoing sound here rest moves lists frees (settles sound.settled));
+    there = subst (λ (k : KernelState). lookup k.conns c ≢ None) (sym same) (there-changed h.conns c z (record z { outgoing = (conn_in m.conns c).outgoing }) here);
+    nothing = λ none. leaves_as (λ s. record s { conns = changed s.conns c (shorter n (conn_at s c)) }) (sent_on c n) h m
+        (λ f. sent_none c n h.next_conn (read_of f h) (conn_view (read f) z) none (rising-read_of f h sound) (conn_found f h c z here) (conn_at-is f.at (read_of f h) c z (conn_found f h c z here))) lent;
+    some = λ l some settled. leaves_as (λ s. with_conn s c (shorter n (conn_at s c))) (sent_on c n) h l (λ f. sent_some c n (read_of f h) some)
+        (conn_left h m l c z (shorter n) sound here lent settled);
+  }

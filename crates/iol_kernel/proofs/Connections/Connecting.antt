@@ -368,6 +368,12 @@ module _ (h : KernelState) (c : ℕ) (x : Conn (List Slice)) (sound : IsSound h)
 pub some_same : {x y : Conn (List Slice)} → Some x ≡ Some y → x ≡ y
 some_same e = cc
 
+-- A connection changed, and is there yet: what the call means once it is settled, which is forgotten where it is over.
+pub record IsChanged (c : ℕ) (after : State → State) (h k : KernelState) : Type 0 where
+  pub sound : IsSound k
+  pub there : lookup k.conns c ≢ None
+  pub left : (l : KernelState) → Leaves (λ s. machine.with_conn s c (machine.conn_at s c)) k l → Leaves after h l
+
 -- changed and settled: what the call means
 pub conn_left : (h k l : KernelState) (c : ℕ) (x : Conn (List Slice)) (F : Connection → Connection) → IsSound h → lookup h.conns c ≡ Some x
     → Leaves (λ s. record s { conns = changed s.conns c (F (machine.conn_at s c)) }) h k → Leaves (λ s. machine.with_conn s c (machine.conn_at s c)) k l → Leaves (λ s. machine.with_conn s c (F (machine.conn_at s c))) h l

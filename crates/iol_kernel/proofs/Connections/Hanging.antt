@@ -25,7 +25,7 @@ use Rattle.iol_kernel.specs.KernelState.{KernelState, objects_of, Each, IsOpenEn
 use Rattle.iol_kernel.specs.ClosedEnds.{KeepsEnds}
 use Rattle.iol_kernel.specs.Calls.{Leaves}
 use Rattle.iol_kernel.proofs.Queues.ClosedEnds.{not_same, all_ends_kept}
-use Rattle.iol_kernel.proofs.Connections.Connecting.{IsOpenConn, conn_in-found, there-changed, open_conn-there, open-changed_other, conn_left, turned, turned-sound, turned_leaves, conn_readable, conn_limit}
+use Rattle.iol_kernel.proofs.Connections.Connecting.{IsChanged, IsOpenConn, conn_in-found, there-changed, open_conn-there, open-changed_other, conn_left, turned, turned-sound, turned_leaves, conn_readable, conn_limit}
 
 -- closed by its domain
 abbrev pub hung : Conn (List Slice) → Conn (List Slice)
@@ -50,7 +50,7 @@ module _ (h k : KernelState) (c : ℕ) (sound : IsSound h) (open' : IsOpenConn (
   abbrev x : Conn (List Slice)
   x = conn_in h.conns c
 
-  pub hung_there : lookup h.conns c ≢ None
+  hung_there : lookup h.conns c ≢ None
   hung_there = open_conn-there h.conns c open'
 
   found : lookup h.conns c ≡ Some x
@@ -77,20 +77,18 @@ module _ (h k : KernelState) (c : ℕ) (sound : IsSound h) (open' : IsOpenConn (
   all_settled : AllSettled k.store
   all_settled = settles good.0 sound.settled
 
-  pub hung_sound : IsSound k
-  hung_sound = subst IsSound (sym same)
-      (turned-sound h k.store c x (hung x) sound found counts moves.stays (moves.tidy sound.tidy) (moves.still sound.still) all_settled lists (keeps_pages_frees frees).count (readable_none h.store, good.1) limit refl fds)
-
   hung_leaves : Leaves (λ s. record s { conns = changed s.conns c (record (machine.conn_at s c) { incoming = []; closed = true }) }) h now
   hung_leaves = turned_leaves h k.store c x (hung x) sound found counts moves.stays (moves.tidy sound.tidy) (moves.still sound.still) all_settled lists (keeps_pages_frees frees).count (readable_none h.store, good.1) limit refl fds
       (λ w. record w { incoming = []; closed = true }) (λ f. refl) (keeps_pages_frees frees)
 
-  pub hung_still : lookup k.conns c ≢ None
-  hung_still = subst (λ (l : KernelState). lookup l.conns c ≢ None) (sym same) (there-changed h.conns c x (hung x) found)
-
-  pub hung_left : (l : KernelState) → Leaves (λ s. machine.with_conn s c (machine.conn_at s c)) k l → Leaves (λ s. closed_on s (Some (on.Connection c))) h l
-  hung_left l settled = conn_left h k l c x (λ w. record w { incoming = []; closed = true }) sound found
-      (subst (λ (m : KernelState). Leaves (λ s. record s { conns = changed s.conns c (record (machine.conn_at s c) { incoming = []; closed = true }) }) h m) (sym same) hung_leaves) settled
+  pub hung_changed : IsChanged c (λ s. closed_on s (Some (on.Connection c))) h k
+  hung_changed = record {
+    sound = subst IsSound (sym same)
+        (turned-sound h k.store c x (hung x) sound found counts moves.stays (moves.tidy sound.tidy) (moves.still sound.still) all_settled lists (keeps_pages_frees frees).count (readable_none h.store, good.1) limit refl fds);
+    there = subst (λ (l : KernelState). lookup l.conns c ≢ None) (sym same) (there-changed h.conns c x (hung x) found);
+    left = λ l settled. conn_left h k l c x (λ w. record w { incoming = []; closed = true }) sound found
+        (subst (λ (m : KernelState). Leaves (λ s. record s { conns = changed s.conns c (record (machine.conn_at s c) { incoming = []; closed = true }) }) h m) (sym same) hung_leaves) settled;
+  }
 
   pub hung_others : (l : KernelState) → KeepsEnds (on.Connection c) (objects_of k) (objects_of l) → KeepsEnds (on.Connection c) (objects_of h) (objects_of l)
   hung_others l = keeps_then (on.Connection c) (objects_of h) (objects_of k) (objects_of l)

@@ -1,10 +1,8 @@
 -- Reading from a connection: a domain gets the front of what came in, whatever is read at the places.
-use Rattle.std.proofs.Common.{◌≡◌, ℕ, ◌+◌, ◌<◌, ◌≤◌, List, [], ◌∷◌, ◌++◌, length, take, drop, map, ap, ◌∙◌, refl, sym, subst, arith, Option, Some, None, true, false, inl, inr, ◌⊎◌}
-use Rattle.std.specs.Prelude.{min, nat_lt, ◌==◌, ◌&&◌, is_none, Bool}
-use Rattle.std.specs.List.{prefix_len}
-use Rattle.std.proofs.lemmas.Bool.Decides.{nat_tests}
+use Rattle.std.proofs.Common.{◌≡◌, ℕ, ◌+◌, ◌<◌, ◌≤◌, List, [], ◌∷◌, ◌++◌, length, take, drop, map, ap, ◌∙◌, refl, sym, subst, arith, Option, Some}
+use Rattle.std.specs.List.{prefix_len, take_while}
 use Rattle.std.proofs.lemmas.List.{length-take, length-drop}
-use Rattle.iol_core.specs.Text.{Text, admitted, barred}
+use Rattle.iol_core.specs.Text.{Text, admitted}
 use Rattle.iol_core.specs.Numbered.{lookup, changed}
 use Rattle.iol_core.specs.State as machine
 use Rattle.iol_core.specs.State.{State, Domain, Connection}
@@ -14,32 +12,32 @@ use Rattle.iol_core.specs.declared.descriptors.Descriptor.{Descriptor}
 use Rattle.iol_core.specs.declared.descriptors.Descriptor.TheVariants as on
 use Rattle.iol_core.specs.declared.limits.TheConstants.{MAX_AGGREGATES, MAX_QUEUE_BYTES}
 use Rattle.iol_pool.specs.Pools.{names_in}
-use Rattle.iol_hold.specs.Moves.{SameLists, pool_meant}
+use Rattle.iol_hold.specs.Moves.{SameLists, Shares, pool_meant}
 use Rattle.iol_arena.specs.State.{page_count}
 use Rattle.iol_hold.specs.Places.{places, byte_len}
 use Rattle.iol_hold.specs.Texts.{bufs_of, AllReadable}
 use Rattle.iol_hold.specs.declared.slices.Slice.{Slice}
-use Rattle.iol_hold.proofs.AtPlaces.{length-read}
 use Rattle.iol_hold.proofs.Counting.{tally-append}
 use Rattle.iol_hold.proofs.Emptied.{all_settled_same}
 use Rattle.iol_hold.proofs.Moving.{shares_move}
 use Rattle.iol_hold.proofs.Reading.{readable_rest}
-use Rattle.iol_pipe.specs.Queue.{first_pool, may_see}
+use Rattle.iol_pipe.specs.Queue.{may_see}
 use Rattle.iol_pipe.proofs.Given.{read_given, read_left}
 use Rattle.iol_pipe.proofs.Texts.{readable_given}
 use Rattle.iol_desc.specs.Tables.{domain_in, with_agg_in, live_aggs_in}
 use Rattle.iol_sock.specs.Connections.{Conn, conn_view}
-use Rattle.iol_sock.specs.Table.{conn_in, no_conn}
+use Rattle.iol_sock.specs.Table.{conn_in}
 use Rattle.iol_kernel.specs.Adding.{TakesFront}
+use Rattle.iol_kernel.specs.QueueEnds.{GivesFront}
 use Rattle.iol_kernel.specs.Calls.{Answers}
 use Rattle.iol_kernel.specs.Counted.{IsCounted, conn_uses}
 use Rattle.iol_kernel.specs.KernelState.{IsConn, KernelState, objects_of, Each, AreReadable, IsConnReadable, IsOpenEnd, IsSound, read_of}
 use Rattle.iol_kernel.specs.Opened.{IsOpenOn}
 use Rattle.iol_kernel.specs.Readings.{Reading, read, KeepsPools}
-use Rattle.iol_kernel.proofs.Connections.Connecting.{conn_in-is, conn_readable, conn_limit, turned, turned_fds, turned_limits, turned_pooled, turned-read}
-use Rattle.iol_kernel.proofs.Connections.ConnQueues.{open_held, found_held, conn_at-read_of, incoming-read_of, conn_in-none, with_on}
+use Rattle.iol_kernel.proofs.Connections.Connecting.{conn_readable, conn_limit, turned, turned_fds, turned_limits, turned_pooled, turned-read}
+use Rattle.iol_kernel.proofs.Connections.ConnQueues.{open_held, found_held, conn_at-read_of, incoming-read_of, with_on}
 use Rattle.iol_kernel.proofs.State.Effects.{moved-sound}
-use Rattle.iol_kernel.proofs.Queues.Flowing.{admitted-same, barred_of, denied_at}
+use Rattle.iol_kernel.proofs.Queues.Flowing.{admitted-same}
 use Rattle.iol_kernel.proofs.State.Numbering.{each-changed, sum-changed}
 use Rattle.iol_kernel.proofs.State.Once.{once_same}
 use Rattle.iol_kernel.proofs.State.Pooling.{pools_pooled}
@@ -47,67 +45,6 @@ use Rattle.iol_kernel.proofs.State.ReadOf.{may_read-read_of, next_agg-read_of, o
 use Rattle.iol_kernel.proofs.State.Sound.{add_readable, fds_stay, limits_agg}
 use Rattle.iol_kernel.proofs.State.Uses.{uses-with_agg}
 use Rattle.iol_kernel.proofs.State.Views.{with_agg-view}
-
--- the first byte's pool, where the reader may not read it
-
-module _ (f : Reading) (keeps : KeepsPools f) (h : KernelState) (d c n : ℕ) where
-  abbrev first_barred : Option ℕ
-  first_barred = barred (machine.may_read (read_of f h) d) (take (min n 1) (machine.conn_at (read_of f h) c).incoming)
-
-  unread_barred : (x : Conn (List Slice)) → conn_in h.conns c ≡ x → 0 < n → first_barred ≡ denied_at (read_of f h) d (first_pool x.incoming)
-  unread_barred x is some =
-      let m : State = read_of f h in
-      ap (λ (t : Text). barred (machine.may_read m d) (take (min n 1) t)) (incoming-read_of f h c ∙ ap (λ (y : Conn (List Slice)). read f y.incoming) is)
-      ∙ barred_of f keeps m d n x.incoming some
-
-  pub lacking_unread : 0 < n → None ≡ lookup h.conns c → None ≡ first_barred
-  lacking_unread some none = sym (unread_barred no_conn (conn_in-none h.conns c none) some)
-
-  module _ (x : Conn (List Slice)) (found : Some x ≡ lookup h.conns c) where
-    here : conn_in h.conns c ≡ x
-    here = conn_in-is h.conns c x (sym found)
-
-    pub none_unread : 0 < n → None ≡ first_pool x.incoming → None ≡ first_barred
-    none_unread some is = sym (unread_barred x here some ∙ ap (λ (o : Option ℕ). denied_at (read_of f h) d o) (sym is))
-
-    pub unread_admitted : (q : ℕ) → 0 < n → Some q ≡ first_pool x.incoming → machine.may_read (read_of f h) d q ≡ true → None ≡ first_barred
-    unread_admitted q some is named = sym (unread_barred x here some ∙ ap (λ (o : Option ℕ). denied_at (read_of f h) d o) (sym is) ∙ rw named refl)
-
-    pub unread_denied : (q : ℕ) → 0 < n → Some q ≡ first_pool x.incoming → machine.may_read (read_of f h) d q ≡ false → Some q ≡ first_barred
-    unread_denied q some is named = sym (unread_barred x here some ∙ ap (λ (o : Option ℕ). denied_at (read_of f h) d o) (sym is) ∙ rw named refl)
-
--- whether the reader must wait
-
-abbrev must_wait : Reading → KernelState → (c n : ℕ) → Bool
-must_wait f h c n = reading.must_wait (read_of f h) (Some (on.Connection c)) n
-
-module _ (f : Reading) (h : KernelState) (c n : ℕ) where
-  waits_for : (x : Conn (List Slice)) → conn_in h.conns c ≡ x → must_wait f h c n ≡ (nat_lt 0 n && (byte_len x.incoming == 0) && is_none x.peer)
-  waits_for x is =
-      ap (λ (y : Connection). nat_lt 0 n && (length y.incoming == 0) && is_none y.peer) (conn_at-read_of f h c ∙ ap (conn_view (read f)) is)
-      ∙ ap (λ k. nat_lt 0 n && (k == 0) && is_none x.peer) (length-read f.at x.incoming)
-
-  pub waits_for_none : None ≡ lookup h.conns c → must_wait f h c n ≡ false
-  waits_for_none none = waits_for no_conn (conn_in-none h.conns c none) ∙ of (nat_lt 0 n)
-    where
-      of : (b : Bool) → (b && true && false) ≡ false
-      of true = refl
-      of false = refl
-
-  pub waits_for_peer : (x : Conn (List Slice)) → Some x ≡ lookup h.conns c → 0 < n → byte_len x.incoming ≡ 0 → must_wait f h c n ≡ is_none x.peer
-  waits_for_peer x found some empty = waits_for x (conn_in-is h.conns c x (sym found)) ∙ of n (byte_len x.incoming) (is_none x.peer) some empty
-    where
-      of : (n k : ℕ) (b : Bool) → 0 < n → k ≡ 0 → (nat_lt 0 n && (k == 0) && b) ≡ b
-      of n k b some empty = grind (arith, nat_tests, some, empty)
-
-  pub needs_no_peer : (x : Conn (List Slice)) → Some x ≡ lookup h.conns c → (n ≡ 0) ⊎ (0 < byte_len x.incoming) → must_wait f h c n ≡ false
-  needs_no_peer x found some = waits_for x (conn_in-is h.conns c x (sym found)) ∙ elim some [ inl e ↦ none n (byte_len x.incoming) (is_none x.peer) e | inr l ↦ more n (byte_len x.incoming) (is_none x.peer) l ]
-    where
-      none : (n k : ℕ) (b : Bool) → n ≡ 0 → (nat_lt 0 n && (k == 0) && b) ≡ false
-      none n k b e = grind (arith, nat_tests, e)
-
-      more : (n k : ℕ) (b : Bool) → 0 < k → (nat_lt 0 n && (k == 0) && b) ≡ false
-      more n k b l = grind (arith, nat_tests, l)
 
 -- A domain gets the front.
 
@@ -221,3 +158,13 @@ module _ (h k : KernelState) (d fd c n : ℕ) (held : IsOpenOn h d fd (on.Connec
       sound = subst IsSound (sym is_taken) taken-sound;
       stays = (shares_move takes.shares).stays;
     }
+
+-- A front that was taken off, to be given to a domain.
+pub conn_front : (h k : KernelState) (c d n : ℕ) (slices : List Slice) → places slices ≡ take_while (may_see h.store.pools d) (take n (places (conn_in h.conns c).incoming)) → places (conn_in k.conns c).incoming ≡ drop (byte_len slices) (places (conn_in h.conns c).incoming)
+    → k ≡ record h { store = k.store; conns = changed h.conns c (record (conn_in h.conns c) { incoming = (conn_in k.conns c).incoming }) } → Shares h.store k.store (bufs_of (conn_in h.conns c).incoming) (bufs_of slices ++ bufs_of (conn_in k.conns c).incoming) → GivesFront (on.Connection c) d n h k slices
+conn_front h k c d n slices given' left same shares = record {
+  answers = λ fd held few.
+      let ds : List (Domain (List Slice)) = with_agg_in h.domains d slices in
+      unread_taken h (record k { domains = ds }) d fd c n held (record { slices = slices; given = given'; left = left; shares = shares; added = refl })
+      (ap (λ (l : KernelState). let w : KernelState = record l { domains = ds } in w) same) few (domain_in h.domains d).next_agg refl;
+}

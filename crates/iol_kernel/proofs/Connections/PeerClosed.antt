@@ -21,7 +21,7 @@ use Rattle.iol_kernel.specs.Counted.{conn_uses}
 use Rattle.iol_kernel.specs.KernelState as held
 use Rattle.iol_kernel.specs.KernelState.{KernelState, objects_of, Each, IsOpenEnd, IsConnReadable, IsSound}
 use Rattle.iol_kernel.specs.Calls.{Leaves}
-use Rattle.iol_kernel.proofs.Connections.Connecting.{conn_in-found, conn_in-changed, there-changed, conn_left, turned, turned_fds, turned-sound, turned_leaves, IsOpenConn, conn_readable, conn_limit}
+use Rattle.iol_kernel.proofs.Connections.Connecting.{IsChanged, conn_in-found, conn_in-changed, there-changed, conn_left, turned, turned_fds, turned-sound, turned_leaves, IsOpenConn, conn_readable, conn_limit}
 
 module _ (h : KernelState) (t : Stored) (c : ℕ) (x : Conn (List Slice)) (sound : IsSound h) (found : lookup h.conns c ≡ Some x) where
   left_good : (how : How) → IsConnReadable h.store (c, closed_by x how)
@@ -71,12 +71,10 @@ module _ (h k : KernelState) (c : ℕ) (how : How) (sound : IsSound h) (there : 
   all_settled : AllSettled k.store
   all_settled = settles (conn_readable h c (conn_in h.conns c) sound found).1 sound.settled
 
-  pub peer_sound : IsSound k
-  peer_sound = subst IsSound (sym same) (peer_closed-sound h k.store c (conn_in h.conns c) sound found how moved lists frees all_settled)
-
-  pub peer_there : lookup k.conns c ≢ None
-  peer_there = subst (λ (l : KernelState). lookup l.conns c ≢ None) (sym same) (there-changed h.conns c (conn_in h.conns c) (closed_by (conn_in h.conns c) how) found)
-
-  pub peer_left : (l : KernelState) → Leaves (λ s. machine.with_conn s c (machine.conn_at s c)) k l → Leaves (λ s. machine.with_conn s c (outside.closed_by (machine.conn_at s c) how)) h l
-  peer_left l settled = conn_left h k l c (conn_in h.conns c) (λ w. outside.closed_by w how) sound found
-      (subst (λ (m : KernelState). Leaves (λ s. record s { conns = changed s.conns c (outside.closed_by (machine.conn_at s c) how) }) h m) (sym same) (peer_closed_leaves h k.store c (conn_in h.conns c) sound found how moved lists frees all_settled)) settled
+  pub peer_changed : IsChanged c (λ s. machine.with_conn s c (outside.closed_by (machine.conn_at s c) how)) h k
+  peer_changed = record {
+    sound = subst IsSound (sym same) (peer_closed-sound h k.store c (conn_in h.conns c) sound found how moved lists frees all_settled);
+    there = subst (λ (l : KernelState). lookup l.conns c ≢ None) (sym same) (there-changed h.conns c (conn_in h.conns c) (closed_by (conn_in h.conns c) how) found);
+    left = λ l settled. conn_left h k l c (conn_in h.conns c) (λ w. outside.closed_by w how) sound found
+        (subst (λ (m : KernelState). Leaves (λ s. record s { conns = changed s.conns c (outside.closed_by (machine.conn_at s c) how) }) h m) (sym same) (peer_closed_leaves h k.store c (conn_in h.conns c) sound found how moved lists frees all_settled)) settled;
+  }

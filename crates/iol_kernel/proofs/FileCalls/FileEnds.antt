@@ -1,5 +1,5 @@
 -- Where a file ends for the calls that ask for a length, over any store.
-use Rattle.std.proofs.Common.{◌≡◌, ℕ, ◌+◌, ◌<◌, ◌≤◌, Bool, true, false, [], length, Option, Some, None, refl, sym, ap, subst, arith, ◌∙◌}
+use Rattle.std.proofs.Common.{◌≡◌, ℕ, ◌+◌, ◌<◌, ◌≤◌, Bool, true, false, [], length, Option, Some, None, sym, ap, subst, arith, ◌∙◌}
 use Rattle.std.specs.Prelude.{Result, nat_lt, if◌then◌else◌}
 use Rattle.std.proofs.lemmas.Bool.Decides.{nat_tests}
 use Rattle.iol_core.specs.State as machine
@@ -12,7 +12,10 @@ use Rattle.iol_core.specs.declared.refusals.Refusal.{Refusal}
 use Rattle.iol_back.specs.Disk.{Disk, length_told}
 use Rattle.iol_cache.specs.Serving.{IsEnd}
 use Rattle.iol_kernel.specs.FileEnds.{EndsAt, EndsOn, SeeksAt, SeeksOn, SeeksTo, is_next_long}
+use Rattle.iol_kernel.specs.FileReading.{held_by}
 use Rattle.iol_kernel.specs.KernelState.{KernelState, machine_of}
+use Rattle.iol_kernel.specs.Opened.{IsOpenOn}
+use Rattle.iol_kernel.specs.Readings.{bytes_over}
 
 -- A word of what a live domain's descriptor is open on.
 
@@ -27,13 +30,6 @@ held_as h d fd live o P is there p =
     subst (λ (b : Bool). P (if_live b (machine.descriptor (machine_of [] h) d fd))) (sym is)
     (subst (λ (x : Option Descriptor). P (if_live live x)) (sym there) p)
 
--- what is open on no file
-pub no_file_open : (x : Descriptor) → ((f was : ℕ) (mode : Mode) → x ≡ on.File f was mode → ⊥) → open_on (Some x) ≡ None
-no_file_open (on.File f was mode) differs = absurd (differs f was mode refl)
-no_file_open (on.ReadEnd p) differs = refl
-no_file_open (on.WriteEnd p) differs = refl
-no_file_open (on.Connection c) differs = refl
-
 module _ (disk : Disk) (h : KernelState) (d fd : ℕ) where
   -- a position in what is no file
   seeks_none : {A : Type 0} (o : Option Descriptor) (at : ℕ) (r : Result A Refusal) → open_on o ≡ None → SeeksOn o at disk h r
@@ -43,18 +39,15 @@ module _ (disk : Disk) (h : KernelState) (d fd : ℕ) where
   seeks_none (Some (on.WriteEnd p)) at r none = tt
   seeks_none (Some (on.Connection c)) at r none = tt
 
-  pub seeks_nothing : {A : Type 0} (at : ℕ) (r : Result A Refusal) (live : Bool) (o : Option Descriptor)
-      → machine.is_live (machine_of [] h) d ≡ live → machine.descriptor (machine_of [] h) d fd ≡ o → open_on (if_live live o) ≡ None
-      → SeeksAt d fd at disk h r
-  seeks_nothing at r live o is there none =
-      held_as h d fd live o (λ x. SeeksOn x at disk h r) is there (seeks_none (if_live live o) at r none)
+  pub seeks_nothing : {A : Type 0} (at : ℕ) (r : Result A Refusal) → open_on (held_by (machine_of [] h) d fd) ≡ None → SeeksAt d fd at disk h r
+  seeks_nothing at r none = seeks_none (held_by (machine_of [] h) d fd) at r none
 
-  module _ (f was : ℕ) (mode : Mode) (live : machine.is_live (machine_of [] h) d ≡ true) (there : machine.descriptor (machine_of [] h) d fd ≡ Some (on.File f was mode)) where
+  module _ (f was : ℕ) (mode : Mode) (held : IsOpenOn h d fd (on.File f was mode)) where
     pub seeks_file : {A : Type 0} (at : ℕ) (r : Result A Refusal) → SeeksTo f at disk h.cache r → SeeksAt d fd at disk h r
-    seeks_file at r seeks = held_as h d fd true (Some (on.File f was mode)) (λ x. SeeksOn x at disk h r) live there seeks
+    seeks_file at r seeks = held_as h d fd true (Some (on.File f was mode)) (λ x. SeeksOn x at disk h r) (held.live (bytes_over [] h.store)) (held.from (bytes_over [] h.store)) seeks
 
     pub ends_file : (end : ℕ) → IsEnd disk h.cache f end → EndsAt d fd end disk h
-    ends_file end ends = held_as h d fd true (Some (on.File f was mode)) (λ x. EndsOn x end disk h) live there ends
+    ends_file end ends = held_as h d fd true (Some (on.File f was mode)) (λ x. EndsOn x end disk h) (held.live (bytes_over [] h.store)) (held.from (bytes_over [] h.store)) ends
 
 -- Whether the next slot is told to be too long.
 

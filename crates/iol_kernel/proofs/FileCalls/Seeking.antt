@@ -1,6 +1,6 @@
 -- Positions and lengths of files.
 use Rattle.std.proofs.Common.{◌≡◌, ℕ, ◌<◌, ◌≤◌, ◌∙◌, Bool, true, false, List, [], ◌∷◌, length, Option, Some, None, refl, sym, ap, subst, arith}
-use Rattle.std.specs.Prelude.{MatchOption, Ok, Err, option_map, unwrap_or, is_none, not, nat_lt, slice_set}
+use Rattle.std.specs.Prelude.{MatchOption, Result, Ok, Err, option_map, unwrap_or, is_none, not, nat_lt, slice_set}
 use Rattle.std.proofs.lemmas.Bool.Decides.{nat_tests}
 use Rattle.iol_core.specs.Numbered.{is_numbered}
 use Rattle.iol_core.specs.State as machine
@@ -14,16 +14,17 @@ use Rattle.iol_core.specs.declared.descriptors.Descriptor.TheVariants as on
 use Rattle.iol_core.specs.declared.descriptors.Mode.{Mode}
 use Rattle.iol_core.specs.declared.limits.TheConstants.{MAX_FILES, MAX_FILE_BYTES}
 use Rattle.iol_core.specs.declared.refusals.Refusal.{Refusal}
-use Rattle.iol_core.specs.declared.refusals.Refusal.TheVariants.{NoDomain, BadFd, WrongMode, BadRange}
+use Rattle.iol_core.specs.declared.refusals.Refusal.TheVariants.{NoDomain, BadFd, WrongMode, BadRange, Fault, NoRoom}
 use Rattle.iol_back.specs.Disk.{Disk}
 use Rattle.iol_extent.specs.Extents.{last_end}
 use Rattle.iol_cache.proofs.Extents.Filing.{numbered_bounds, numbered_yes}
 use Rattle.iol_cache.specs.Cached.{extents_in}
 use Rattle.iol_cache.specs.Contents.{bytes_in_slot}
 use Rattle.iol_desc.specs.Tables.{domain_in, with_fds_in}
-use Rattle.iol_kernel.specs.Backed.{IsBackedBy, Serves, with_slots}
+use Rattle.iol_kernel.specs.Backed.{IsBackedBy, LooksUp, Serves, with_slots}
 use Rattle.iol_kernel.specs.Ends.{IsOpenOnce}
 use Rattle.iol_kernel.specs.KernelState.{KernelState, objects_of, IsOpenEnd, IsSound, machine_of, read_of}
+use Rattle.iol_kernel.specs.Opened.{IsOpenOn}
 use Rattle.iol_kernel.specs.Readings.{Reading, KeepsPools, bytes_over}
 use Rattle.iol_kernel.proofs.State.Beside.{content-machine_of, descriptor-with_slots, even, fds-with_slots, length_content-even, live-with_slots, open-with_slots, serves_refused, serves_where, with_slots-own}
 use Rattle.iol_kernel.proofs.FileCalls.Called.{file_within, same_end-file}
@@ -53,34 +54,72 @@ length-first s d fd live o is there =
     ∙ ap (λ (p : Option Descriptor). first ((NoDomain when not live) ∷ (BadFd when is_none p) ∷ (WrongMode when is_none (open_on p)) ∷ [])) there
 
 -- what is open on no file
-pub no_file : (x : Descriptor) → ((f was : ℕ) (mode : Mode) → x ≡ on.File f was mode → ⊥) → (at n : ℕ) → first ((NoDomain when not true) ∷ (BadFd when is_none (Some x)) ∷ (WrongMode when is_none (open_on (Some x))) ∷ (BadRange when nat_lt n at) ∷ []) ≡ Some WrongMode
-no_file (on.File f was mode) differs at n = absurd (differs f was mode refl)
-no_file (on.ReadEnd p) differs at n = refl
-no_file (on.WriteEnd p) differs at n = refl
-no_file (on.Connection c) differs at n = refl
-
-pub no_file_long : (x : Descriptor) → ((f was : ℕ) (mode : Mode) → x ≡ on.File f was mode → ⊥) → first ((NoDomain when not true) ∷ (BadFd when is_none (Some x)) ∷ (WrongMode when is_none (open_on (Some x))) ∷ []) ≡ Some WrongMode
-no_file_long (on.File f was mode) differs = absurd (differs f was mode refl)
-no_file_long (on.ReadEnd p) differs = refl
-no_file_long (on.WriteEnd p) differs = refl
-no_file_long (on.Connection c) differs = refl
+pub wrong_kind : (s : State) (d fd : ℕ) (x : Descriptor) → machine.is_live s d ≡ true → machine.descriptor s d fd ≡ Some x → ((f was : ℕ) (mode : Mode) → x ≡ on.File f was mode → ⊥) → first (calls.file_length s d fd).refusals ≡ Some WrongMode
+wrong_kind s d fd x live there differs = length-first s d fd true (Some x) live there ∙ of x differs
+  where
+    of : (x : Descriptor) → ((f was : ℕ) (mode : Mode) → x ≡ on.File f was mode → ⊥) → first ((NoDomain when not true) ∷ (BadFd when is_none (Some x)) ∷ (WrongMode when is_none (open_on (Some x))) ∷ []) ≡ Some WrongMode
+    of (on.File f was mode) differs = absurd (differs f was mode refl)
+    of (on.ReadEnd p) differs = refl
+    of (on.WriteEnd p) differs = refl
+    of (on.Connection c) differs = refl
 
 -- a call whose first refusal is known is refused so
 refuses : {A : Type 0} (m : Meaning A) (s : State) (x : Refusal) → first m.refusals ≡ Some x → Step m s (Err x) s
 refuses m s x is = (subst (λ (o : Option Refusal). MatchOption o (m.Late x) (λ y. x ≡ y)) (sym is) refl, refl)
 
--- Refusals that do not ask for a length.
+-- Refusals of a descriptor that is open on no file. They do not ask for a length.
 
-module _ (disk : Disk) (h : KernelState) (d fd : ℕ) (x : Refusal) (live : Bool) (o : Option Descriptor) (sound : IsSound h) (is : machine.is_live (machine_of [] h) d ≡ live) (there : machine.descriptor (machine_of [] h) d fd ≡ o) where
-  pub seek_refused : (at : ℕ) → ((n : ℕ) → first ((NoDomain when not live) ∷ (BadFd when is_none o) ∷ (WrongMode when is_none (open_on o)) ∷ (BadRange when nat_lt n at) ∷ []) ≡ Some x) → Serves (λ s. calls.seek s d fd at) disk h (Err x) disk h
-  seek_refused at one = serves_refused (λ s. calls.seek s d fd at) disk h x
-      (λ slots. refuses (calls.seek (with_slots slots h) d fd at) (with_slots slots h) x
-      (seek-first (with_slots slots h) d fd at live o (live-with_slots slots h d ∙ is) (descriptor-with_slots slots h d fd ∙ there) ∙ one (length (machine.content (with_slots slots h) (on_file o))))) sound
+refused_more : (a b c e : Option Refusal) (x : Refusal) → first (a ∷ b ∷ c ∷ []) ≡ Some x → first (a ∷ b ∷ c ∷ e ∷ []) ≡ Some x
+refused_more (Some y) b c e x is = is
+refused_more None (Some y) c e x is = is
+refused_more None None (Some y) e x is = is
+refused_more None None None e x is = absurd (cc is)
 
-  pub length_refused : first ((NoDomain when not live) ∷ (BadFd when is_none o) ∷ (WrongMode when is_none (open_on o)) ∷ []) ≡ Some x → Serves (λ s. calls.file_length s d fd) disk h (Err x) disk h
-  length_refused one = serves_refused (λ s. calls.file_length s d fd) disk h x
-      (λ slots. refuses (calls.file_length (with_slots slots h) d fd) (with_slots slots h) x
-      (length-first (with_slots slots h) d fd live o (live-with_slots slots h d ∙ is) (descriptor-with_slots slots h d fd ∙ there) ∙ one)) sound
+-- one of these three
+by_three : (P : Refusal → Type 0) (a b c : Bool) (x : Refusal) → P NoDomain → P BadFd → P WrongMode → first ((NoDomain when a) ∷ (BadFd when b) ∷ (WrongMode when c) ∷ []) ≡ Some x → P x
+by_three P true b c x one two three is = subst P (some is) one
+  where
+    some : {y : Refusal} → ◌≡◌ {A = Option Refusal} (Some NoDomain) (Some y) → NoDomain ≡ y
+    some e = cc e
+by_three P false true c x one two three is = subst P (some is) two
+  where
+    some : {y : Refusal} → ◌≡◌ {A = Option Refusal} (Some BadFd) (Some y) → BadFd ≡ y
+    some e = cc e
+by_three P false false true x one two three is = subst P (some is) three
+  where
+    some : {y : Refusal} → ◌≡◌ {A = Option Refusal} (Some WrongMode) (Some y) → WrongMode ≡ y
+    some e = cc e
+by_three P false false false x one two three is = absurd (cc is)
+
+module _ (disk : Disk) (h : KernelState) (d fd : ℕ) (x : Refusal) (sound : IsSound h) (refused : first (calls.file_length (machine_of [] h) d fd).refusals ≡ Some x) where
+  early : (P : Refusal → Type 0) → P NoDomain → P BadFd → P WrongMode → P x
+  early P one two three = let s : State = machine_of [] h in by_three P (not (machine.is_live s d)) (is_none (machine.descriptor s d fd)) (is_none (open_on (machine.descriptor s d fd))) x one two three refused
+
+  pub no_fault : (n : ℕ) → x ≡ Fault n → ⊥
+  no_fault n = early (λ y. y ≡ Fault n → ⊥) (λ e. cc e) (λ e. cc e) (λ e. cc e)
+
+  no_room : (p : ℕ) → x ≡ NoRoom p → ⊥
+  no_room p = early (λ y. y ≡ NoRoom p → ⊥) (λ e. cc e) (λ e. cc e) (λ e. cc e)
+
+  refused_over : (slots : List (List ℕ)) → first (calls.file_length (with_slots slots h) d fd).refusals ≡ Some x
+  refused_over slots = length-first (with_slots slots h) d fd (machine.is_live (machine_of [] h) d) (machine.descriptor (machine_of [] h) d fd) (live-with_slots slots h d) (descriptor-with_slots slots h d fd) ∙ refused
+
+  looks : {A : Type 0} (m : State → Meaning A) → Serves m disk h (Err x) disk h → LooksUp m disk h (Err x) h
+  looks {A} m served = record { serves = served; places = tt; store = refl; cache = refl; roomy = λ p e. no_room p (error e); refused = refl }
+    where
+      error : {p : ℕ} → ◌≡◌ {A = Result A Refusal} (Err x) (Err (NoRoom p)) → x ≡ NoRoom p
+      error e = cc e
+
+  pub seek_refused : (at : ℕ) → LooksUp (λ s. calls.seek s d fd at) disk h (Err x) h
+  seek_refused at = looks (λ s. calls.seek s d fd at) (serves_refused (λ s. calls.seek s d fd at) disk h x
+      (λ slots. let s : State = with_slots slots h in let o : Option Descriptor = machine.descriptor s d fd in
+      refuses (calls.seek s d fd at) s x (refused_more (NoDomain when not (machine.is_live s d)) (BadFd when is_none o) (WrongMode when is_none (open_on o)) (BadRange when nat_lt (length (machine.content s (on_file o))) at) x (refused_over slots))) sound)
+
+  pub length_refused : LooksUp (λ s. calls.file_length s d fd) disk h (Err x) h
+  length_refused = looks (λ s. calls.file_length s d fd) (serves_refused (λ s. calls.file_length s d fd) disk h x (λ slots. refuses (calls.file_length (with_slots slots h) d fd) (with_slots slots h) x (refused_over slots)) sound)
+
+  pub fsync_refused : Serves (λ s. calls.fsync s d fd) disk h (Err x) disk h
+  fsync_refused = serves_refused (λ s. calls.fsync s d fd) disk h x (λ slots. refuses (calls.fsync (with_slots slots h) d fd) (with_slots slots h) x (refused_over slots)) sound
 
 -- A descriptor on a file that is so long.
 
@@ -90,9 +129,18 @@ beyond n at lt = let b : nat_lt n at ≡ true = grind (arith, nat_tests, lt) in 
 within : (n at : ℕ) → at ≤ n → first ((BadRange when nat_lt n at) ∷ []) ≡ None
 within n at le = let b : nat_lt n at ≡ false = grind (arith, nat_tests, le) in ap (λ b. first ((BadRange when b) ∷ [])) b
 
-module _ (disk : Disk) (h : KernelState) (d fd f was len : ℕ) (mode : Mode) (sound : IsSound h) (live : machine.is_live (machine_of [] h) d ≡ true) (there : machine.descriptor (machine_of [] h) d fd ≡ Some (on.File f was mode))
+module _ (disk : Disk) (h : KernelState) (d fd f was len : ℕ) (mode : Mode) (held : IsOpenOn h d fd (on.File f was mode))
     (sized : IsBackedBy disk h → len ≡ length (machine.content (machine_of disk.slots h) f)) where
-  pub is_open : IsOpenEnd (objects_of h) (Some (on.File f was mode))
+  sound : IsSound h
+  sound = held.sound
+
+  live : machine.is_live (machine_of [] h) d ≡ true
+  live = held.live (bytes_over [] h.store)
+
+  there : machine.descriptor (machine_of [] h) d fd ≡ Some (on.File f was mode)
+  there = held.from (bytes_over [] h.store)
+
+  is_open : IsOpenEnd (objects_of h) (Some (on.File f was mode))
   is_open = end_held (bytes_over [] h.store) h d fd (on.File f was mode) sound there
 
   -- the file has so many bytes

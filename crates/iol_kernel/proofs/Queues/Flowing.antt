@@ -1,9 +1,9 @@
 -- What is written to queues and read from them, whatever is read at the places.
-use Rattle.std.proofs.Common.{◌≡◌, ℕ, ◌+◌, ◌-◌, ◌<◌, cond, List, [], ◌∷◌, ◌++◌, length, take, drop, ap, ◌∙◌, refl, sym, arith, Option, Some, None, true, false, Bool}
-use Rattle.std.specs.Prelude.{slice_set, ◌||◌, min, not, option_map, option_and_then, if◌then◌else◌}
-use Rattle.std.specs.List.{prefix_len, slice_get}
+use Rattle.std.proofs.Common.{◌≡◌, ℕ, ◌+◌, ◌-◌, cond, List, [], ◌∷◌, ◌++◌, length, take, drop, ap, ◌∙◌, refl, sym, arith, Option, Some, true, Bool}
+use Rattle.std.specs.Prelude.{slice_set, ◌||◌, min}
+use Rattle.std.specs.List.{prefix_len}
 use Rattle.std.proofs.lemmas.Bool.Decides.{nat_tests}
-use Rattle.iol_core.specs.Text.{Text, admitted, barred}
+use Rattle.iol_core.specs.Text.{Text, admitted}
 use Rattle.iol_core.specs.State as machine
 use Rattle.iol_core.specs.State.{State, Domain}
 use Rattle.iol_core.specs.Calls.Aggregates as aggs
@@ -16,8 +16,7 @@ use Rattle.iol_hold.specs.Places.{places, byte_len}
 use Rattle.iol_hold.specs.Texts.{bufs_of}
 use Rattle.iol_hold.specs.declared.slices.Slice.{Slice}
 use Rattle.iol_hold.proofs.AtPlaces.{read_pushed}
-use Rattle.iol_pipe.proofs.Given.{read_given, read_left, first_pool-read}
-use Rattle.iol_pipe.specs.Queue.{first_pool}
+use Rattle.iol_pipe.proofs.Given.{read_given, read_left}
 use Rattle.iol_desc.specs.Tables.{agg_in}
 use Rattle.iol_kernel.specs.Views.{Pipe, pipe_view, state_view}
 use Rattle.iol_kernel.specs.KernelState.{KernelState, objects_of, queue_at, read_of}
@@ -101,39 +100,3 @@ fits f h p d a xs n found is =
     is
     ∙ ap (λ k. min k (65536 - byte_len (queue_at h.pipes p).queue)) (ap byte_len (slices_found h.domains d a xs found) ∙ sym (length_text-read_of f h d a))
     ∙ ap (λ k. min (length (machine.text (read_of f h) d a)) (65536 - k)) (sym (length_queue-read_of f h p))
-
--- the first byte's pool, where the reader may not read it
-
-abbrev pub denied_at : State → (d : ℕ) → Option ℕ → Option ℕ
-denied_at m d o = option_and_then (λ q. if machine.may_read m d q then None else Some q) o
-
-pub barred_of : (f : Reading) → KeepsPools f → (m : State) (d n : ℕ) (queue : List Slice) → 0 < n → barred (machine.may_read m d) (take (min n 1) (read f queue)) ≡ denied_at m d (first_pool queue)
-barred_of f keeps m d n queue some =
-    ap (λ k. barred (machine.may_read m d) (take k (read f queue))) one
-    ∙ first (read f queue)
-    ∙ ap (λ (o : Option ℕ). denied_at m d o) (sym (first_pool-read f.at keeps queue))
-  where
-    one : min n 1 ≡ 1
-    one = omega arith
-
-    first : (t : Text) → barred (machine.may_read m d) (take 1 t) ≡ denied_at m d (option_map (λ b. b.1) (slice_get t 0))
-    first [] = refl
-    first (x ∷ t) = elim (machine.may_read m d x.1) as (λ b. option_map (λ (y : ℕ × ℕ). y.1) (cond (not b) (Some x) None) ≡ (if b then None else Some x.1)) [ true ↦ refl | false ↦ refl ]
-
-abbrev first_barred : State → (d p n : ℕ) → Option ℕ
-first_barred m d p n = barred (machine.may_read m d) (take (min n 1) (machine.pipe_at m p).queue)
-
-barred_first : (f : Reading) → KeepsPools f → (h : KernelState) (d p n : ℕ) → 0 < n → first_barred (read_of f h) d p n ≡ denied_at (read_of f h) d (first_pool (queue_at h.pipes p).queue)
-barred_first f keeps h d p n some =
-    let m : State = read_of f h in
-    ap (λ (t : Text). barred (machine.may_read m d) (take (min n 1) t)) (queue-read_of f h p)
-    ∙ barred_of f keeps m d n (queue_at h.pipes p).queue some
-
-pub first_admitted : (f : Reading) → KeepsPools f → (h : KernelState) (d p n q : ℕ) → 0 < n → Some q ≡ first_pool (queue_at h.pipes p).queue → machine.may_read (read_of f h) d q ≡ true → None ≡ first_barred (read_of f h) d p n
-first_admitted f keeps h d p n q some is named = sym (barred_first f keeps h d p n some ∙ ap (λ (o : Option ℕ). denied_at (read_of f h) d o) (sym is) ∙ rw named refl)
-
-pub first_denied : (f : Reading) → KeepsPools f → (h : KernelState) (d p n q : ℕ) → 0 < n → Some q ≡ first_pool (queue_at h.pipes p).queue → machine.may_read (read_of f h) d q ≡ false → Some q ≡ first_barred (read_of f h) d p n
-first_denied f keeps h d p n q some is named = sym (barred_first f keeps h d p n some ∙ ap (λ (o : Option ℕ). denied_at (read_of f h) d o) (sym is) ∙ rw named refl)
-
-pub first_empty : (f : Reading) → KeepsPools f → (h : KernelState) (d p n : ℕ) → 0 < n → None ≡ first_pool (queue_at h.pipes p).queue → None ≡ first_barred (read_of f h) d p n
-first_empty f keeps h d p n some is = sym (barred_first f keeps h d p n some ∙ ap (λ (o : Option ℕ). denied_at (read_of f h) d o) (sym is))

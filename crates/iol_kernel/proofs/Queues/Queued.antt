@@ -1,7 +1,6 @@
 -- New bytes at the end of a queue that a domain writes to, after clean extents gave way.
-use Rattle.std.proofs.Common.{◌≡◌, ℕ, ◌-◌, ◌∙◌, List, [], ◌∷◌, length, Option, Some, None, refl, sym, ap, subst, true, false}
-use Rattle.std.specs.Prelude.{Result, Err, not, is_none, min, ◌&&◌}
-use Rattle.iol_core.specs.declared.limits.TheConstants.{MAX_QUEUE_BYTES}
+use Rattle.std.proofs.Common.{◌≡◌, ℕ, ◌∙◌, List, [], ◌∷◌, length, Option, Some, None, refl, sym, ap, subst, true, false}
+use Rattle.std.specs.Prelude.{Result, Err, not, is_none, ◌&&◌}
 use Rattle.iol_arena.specs.State.{pages_for}
 use Rattle.iol_core.specs.State as machine
 use Rattle.iol_core.specs.State.{State, descriptor}
@@ -98,13 +97,3 @@ module _ (d fd : ℕ) (target : Descriptor) (pool count : ℕ) (bytes : List ℕ
     pub write_none : k ≡ h → can_fit h pool count ≡ false → PlacesInQueue d fd bytes h (Err (NoRoom pool)) k
     write_none same lacks =
         queue_none (λ s. writing.write s d fd bytes) (written_to d fd) (lands_in d fd) pool count h k room (write_first d fd bytes) (write_answer d fd bytes) (write_pool d fd) (λ s x late. late) may.passes.passed (λ f. sym (may.passes.pool f)) counted same may.passes.pool lacks
-
--- how many bytes fit into a queue
-pub count_fitting : (h : KernelState) (d fd : ℕ) (target : Descriptor) (pool n : ℕ) (bytes : List ℕ) → MayPut d fd target pool bytes h → writing.is_file (Some target) ≡ false → ((f : Reading) → n ≡ min (length bytes) (MAX_QUEUE_BYTES - length (writing.unsent (read_of f h) (Some target)))) → (f : Reading) → (writing.write (read_of f h) d fd bytes).answer ≡ n
-count_fitting h d fd target pool n bytes may no_file is f = ap (λ (o : Option Descriptor). writing.fitting (read_of f h) o (length bytes)) (may.to f) ∙ of target no_file ∙ sym (is f)
-  where
-    of : (x : Descriptor) → writing.is_file (Some x) ≡ false → writing.fitting (read_of f h) (Some x) (length bytes) ≡ min (length bytes) (MAX_QUEUE_BYTES - length (writing.unsent (read_of f h) (Some x)))
-    of (on.File g at mode) no_file = absurd (cc no_file)
-    of (on.ReadEnd p) no_file = refl
-    of (on.WriteEnd p) no_file = refl
-    of (on.Connection c) no_file = refl

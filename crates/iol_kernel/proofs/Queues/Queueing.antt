@@ -1,7 +1,7 @@
 -- Pipes stay sound where a queue gets bytes or gives them to a domain.
-use Rattle.std.proofs.Common.{◌≡◌, ◌∙◌, ℕ, ◌+◌, ◌-◌, ◌<◌, ◌≤◌, List, [], ◌∷◌, ◌++◌, length, take, ap, refl, sym, subst, arith, Option, Some, None, true, false, inl, inr, length-set}
+use Rattle.std.proofs.Common.{◌≡◌, ◌∙◌, ℕ, ◌+◌, ◌-◌, ◌<◌, ◌≤◌, List, [], ◌∷◌, ◌++◌, length, take, drop, ap, refl, sym, subst, arith, Option, Some, None, true, false, inl, inr, length-set}
 use Rattle.std.specs.Prelude.{slice_set, unwrap_or, min}
-use Rattle.std.specs.List.{prefix_len}
+use Rattle.std.specs.List.{prefix_len, take_while}
 use Rattle.std.proofs.lemmas.List.{length-take, length-drop}
 use Rattle.iol_core.specs.Numbered.{in_place}
 use Rattle.iol_core.specs.Calls.Aggregates as aggs
@@ -38,6 +38,7 @@ use Rattle.iol_kernel.proofs.State.Effects.{moved-sound}
 use Rattle.iol_kernel.proofs.Queues.Opening.{end_held}
 use Rattle.iol_core.specs.declared.limits.TheConstants.{MAX_AGGREGATES, MAX_QUEUE_BYTES}
 use Rattle.iol_kernel.specs.Adding.{TakesFront}
+use Rattle.iol_kernel.specs.QueueEnds.{GivesFront}
 use Rattle.iol_kernel.proofs.Queues.Flowing.{fits, pushed-read, taken-read}
 use Rattle.iol_kernel.proofs.State.ReadOf.{next_agg-read_of, open_row}
 use Rattle.iol_kernel.specs.Calls.{Answers}
@@ -100,8 +101,8 @@ pub reading_held : {h : KernelState} {d fd p : ℕ} → IsOpenOn h d fd (on.Read
 reading_held {h} {d} {fd} {p} held = end_held (bytes_over [] h.store) h d fd (on.ReadEnd p) held.sound (held.from (bytes_over [] h.store))
 
 -- its buffers are counted
-pub reading_covered : {h : KernelState} {d fd p : ℕ} → IsOpenOn h d fd (on.ReadEnd p) → Covers h.store (bufs_of (queue_at h.pipes p).queue)
-reading_covered {h} {d} {fd} {p} held = queue_covered h.store h.domains (objects_of h) p held.sound.counted (there_if_open h.pipes p (inl (reading_held held)))
+pub reading_covered : (h : KernelState) (p : ℕ) → IsSound h → (queue_at h.pipes p).reading ≡ true → Covers h.store (bufs_of (queue_at h.pipes p).queue)
+reading_covered h p sound reading' = queue_covered h.store h.domains (objects_of h) p sound.counted (there_if_open h.pipes p (inl reading'))
 
 -- Reading: a domain gets the front.
 
@@ -161,20 +162,6 @@ module _ (h : KernelState) (t : Stored) (ds : List (Domain (List Slice))) (qs : 
         (once_same h.domains d (record x { aggs = x.aggs ++ (x.next_agg, takes.slices) ∷ []; next_agg = x.next_agg + 1 }) live refl sound.once)
         (limits_agg h.domains (record (objects_of h) { pipes = less }) d takes.slices (queue_limits h p (queue_at qs p).queue sound parts_short.1) live (omega (arith, parts_short.0)) few) (pools_pooled h.store t h.conns h.cache.files takes.shares.pools sound.pooled) sound.sums sound.filed sound.cached (ap page_count takes.shares.arena)))
 
--- An open descriptor that is neither a connection nor a file nor a pipe's end for writing, or for reading, is not open for it.
-
-pub not_writable : (x : Descriptor) → ((p : ℕ) → x ≡ on.WriteEnd p → ⊥) → ((c : ℕ) → x ≡ on.Connection c → ⊥) → writing.is_file (Some x) ≡ false → writing.can_write (Some x) ≡ false
-not_writable (on.ReadEnd p) other none no_file = refl
-not_writable (on.WriteEnd p) other none no_file = absurd (other p refl)
-not_writable (on.File f at mode) other none no_file = absurd cc
-not_writable (on.Connection c) other none no_file = absurd (none c refl)
-
-pub not_readable : (x : Descriptor) → ((p : ℕ) → x ≡ on.ReadEnd p → ⊥) → ((c : ℕ) → x ≡ on.Connection c → ⊥) → writing.is_file (Some x) ≡ false → reading.can_read (Some x) ≡ false
-not_readable (on.ReadEnd p) other none no_file = absurd (other p refl)
-not_readable (on.WriteEnd p) other none no_file = refl
-not_readable (on.File f at mode) other none no_file = absurd cc
-not_readable (on.Connection c) other none no_file = absurd (none c refl)
-
 -- What the calls answer.
 
 pub taken_answers : (h : KernelState) (t : Stored) (ds : List (Domain (List Slice))) (qs : List (Option (Pipe (List Slice)))) (fd p d n a : ℕ) → IsOpenOn h d fd (on.ReadEnd p)
@@ -210,3 +197,19 @@ pushed_answers h t qs fd p n d a from sound to found short is places' pipes' sha
       sound = pushed-sound h t qs p n d a from sound writing' found short places' pipes' shares;
       stays = (shares_move shares).stays;
     }
+
+-- A front that was taken off, to be given to a domain.
+pub pipe_front : (h : KernelState) (t : Stored) (qs : List (Option (Pipe (List Slice)))) (p d n : ℕ) (slices : List Slice) → places slices ≡ take_while (may_see h.store.pools d) (take n (places (queue_at h.pipes p).queue)) → places (queue_at qs p).queue ≡ drop (byte_len slices) (places (queue_at h.pipes p).queue)
+    → qs ≡ with_queue_of h.pipes p qs → Shares h.store t (bufs_of (queue_at h.pipes p).queue) (bufs_of slices ++ bufs_of (queue_at qs p).queue) → GivesFront (on.ReadEnd p) d n h (record h { store = t; pipes = qs }) slices
+pipe_front h t qs p d n slices given' left pipes' shares = record {
+  answers = λ fd held few. taken_answers h t (with_agg_in h.domains d slices) qs fd p d n (domain_in h.domains d).next_agg held (record { slices = slices; given = given'; left = left; shares = shares; added = refl }) pipes' few refl;
+}
+
+-- It is given to the domain.
+pub front_added : (h old k : KernelState) (x : Descriptor) (d fd n a : ℕ) (slices : List Slice) (ds : List (Domain (List Slice))) → old ≡ h → k.domains ≡ h.domains → GivesFront x d n old k slices → IsOpenOn h d fd x → live_aggs_in h.domains < MAX_AGGREGATES → a ≡ (domain_in k.domains d).next_agg → ds ≡ with_agg_in k.domains d slices
+    → Answers (λ s. reading.iol_read s d fd n) h a (record k { domains = ds })
+front_added h old k x d fd n a slices ds is kept gives held few number added =
+    let g : GivesFront x d n h k slices = subst (λ (w : KernelState). GivesFront x d n w k slices) is gives in
+    let same : with_agg_in h.domains d slices ≡ ds = sym (added ∙ ap (λ (es : List (Domain (List Slice))). with_agg_in es d slices) kept) in
+    subst (λ (b : ℕ). Answers (λ s. reading.iol_read s d fd n) h b (record k { domains = ds })) (sym (number ∙ ap (λ (es : List (Domain (List Slice))). (domain_in es d).next_agg) kept))
+    (subst (λ (es : List (Domain (List Slice))). Answers (λ s. reading.iol_read s d fd n) h (domain_in h.domains d).next_agg (record k { domains = es })) same (g.answers fd held few))

@@ -1,6 +1,6 @@
 -- Bytes that are copied out of a queue, and taken off it.
 use Rattle.std.proofs.Common.{◌≡◌, ℕ, zero, suc, ◌+◌, ◌<◌, ◌≤◌, ◌||◌, Bool, cond, List, [], ◌∷◌, length, map, take, drop, ap, ◌∙◌, refl, sym, subst, arith, Option, Some, true, false, inl}
-use Rattle.std.specs.Prelude.{slice_set, min}
+use Rattle.std.specs.Prelude.{slice_set}
 use Rattle.std.specs.List.{take_while, prefix_len}
 use Rattle.std.proofs.lemmas.List.{length-drop, length-map, take-map}
 use Rattle.iol_core.specs.Text.{Text, bytes_of, admitted}
@@ -8,6 +8,7 @@ use Rattle.iol_core.specs.Numbered.{lookup, changed}
 use Rattle.iol_core.specs.State as machine
 use Rattle.iol_core.specs.State.{State, Domain, Connection}
 use Rattle.iol_core.specs.Calls.Reading as reading
+use Rattle.iol_core.specs.Calls.Writing as writing
 use Rattle.iol_core.specs.declared.descriptors.Descriptor.{Descriptor}
 use Rattle.iol_core.specs.declared.descriptors.Descriptor.TheVariants as on
 use Rattle.iol_pool.specs.Pools.{Pool, names_in}
@@ -18,7 +19,7 @@ use Rattle.iol_hold.specs.Places.{Place, places, byte_len}
 use Rattle.iol_hold.specs.Releases.{FreesOnly}
 use Rattle.iol_hold.specs.Texts.{text_of, bufs_of, AllReadable}
 use Rattle.iol_hold.specs.declared.slices.Slice.{Slice}
-use Rattle.iol_hold.proofs.AtPlaces.{keeps_bytes, length-read, read_rest}
+use Rattle.iol_hold.proofs.AtPlaces.{keeps_bytes, read_rest}
 use Rattle.iol_hold.proofs.Paging.{keeps_pages_frees}
 use Rattle.iol_hold.proofs.Reading.{readable_rest}
 use Rattle.iol_pipe.specs.Queue.{may_see}
@@ -28,18 +29,17 @@ use Rattle.iol_kernel.specs.Calls.{Leaves}
 use Rattle.iol_kernel.specs.Queues.{with_queue_of}
 use Rattle.iol_kernel.specs.Views.{Pipe, pipe_view}
 use Rattle.iol_kernel.specs.KernelState.{KernelState, objects_of, Each, AreReadable, IsConn, IsConnReadable, IsPipeReadable, IsOpenEnd, IsSound, read_of, machine_of, queue_at}
-use Rattle.iol_kernel.proofs.Connections.Connecting.{conn_limit, conn_readable, turned, turned_fds, turned_leaves}
-use Rattle.iol_kernel.proofs.Connections.ConnQueues.{open_held, found_held, conn_at-read_of, incoming-read_of, with_on}
+use Rattle.iol_kernel.proofs.Connections.Connecting.{IsOpenConn, conn_in-found, conn_limit, conn_readable, open_conn-there, turned, turned_fds, turned_leaves}
+use Rattle.iol_kernel.proofs.Connections.ConnQueues.{conn_at-read_of, with_on}
 use Rattle.iol_kernel.proofs.State.Effects.{leaves, moved-sound}
 use Rattle.iol_kernel.proofs.Queues.Ends.{ends_queued, there_if_open}
 use Rattle.iol_kernel.proofs.Queues.Flowing.{admitted-same}
 use Rattle.iol_kernel.proofs.State.Pooling.{same_pooled}
-use Rattle.iol_kernel.proofs.Queues.Queueing.{queue_readable, queue_short, queue_limits, reading_held}
-use Rattle.iol_kernel.proofs.State.ReadOf.{may_read-read_of, pipe_at-read_of, queue-read_of, length_queue-read_of}
+use Rattle.iol_kernel.proofs.Queues.Queueing.{queue_readable, queue_short, queue_limits}
+use Rattle.iol_kernel.proofs.State.ReadOf.{may_read-read_of, pipe_at-read_of}
 use Rattle.iol_kernel.proofs.State.Sound.{each-set, each-weaker}
 use Rattle.iol_kernel.proofs.State.Uses.{uses-set_pipe}
 use Rattle.iol_kernel.proofs.State.Views.{pools-view, with_pipe-view}
-use Rattle.iol_kernel.specs.Opened.{IsOpenOn}
 use Rattle.iol_kernel.specs.Readings.{Reading, read, KeepsPools, bytes_over}
 
 -- What a reader may see of the first n bytes of a queue.
@@ -93,157 +93,116 @@ leaves_kept m n h k same one = record {
   stays = one.stays;
 }
 
--- Of a connection.
+-- The front of a queue, whatever its descriptor is open on: the text that waits there is read of the slices q.
 
-module _ (h k : KernelState) (d fd c n count : ℕ) (held : IsOpenOn h d fd (on.Connection c)) (counted : count ≡ length (seen h.store.pools d n (conn_in h.conns c).incoming)) where
+text-queue : (s : State) (d n : ℕ) (x : Descriptor) → writing.is_file (Some x) ≡ false → reading.read_text s d (Some x) n ≡ admitted (machine.may_read s d) (take n (reading.unread s (Some x)))
+text-queue s d n (on.File g at mode) no_file = absurd (cc no_file)
+text-queue s d n (on.ReadEnd p) no_file = refl
+text-queue s d n (on.WriteEnd p) no_file = refl
+text-queue s d n (on.Connection c) no_file = refl
+
+module _ (h : KernelState) (d n count : ℕ) (x : Descriptor) (queue : List Slice) (no_file : writing.is_file (Some x) ≡ false) (told : (f : Reading) → reading.unread (read_of f h) (Some x) ≡ read f queue) (counted : count ≡ length (seen h.store.pools d n queue)) where
+  text_read : (f : Reading) → reading.read_text (read_of f h) d (Some x) n ≡ admitted (machine.may_read (read_of f h) d) (take n (read f queue))
+  text_read f = text-queue (read_of f h) d n x no_file ∙ ap (λ (t : Text). admitted (machine.may_read (read_of f h) d) (take n t)) (told f)
+
+  pub front_count : (f : Reading) → KeepsPools f → count ≡ length (reading.read_text (read_of f h) d (Some x) n)
+  front_count f keeps = counted ∙ sym (ap length (text_read f) ∙ seen-count f keeps h d n queue)
+
+  pub front_bytes : take count (bytes_of (text_of h.store queue)) ≡ bytes_of (reading.read_text (machine_of [] h) d (Some x) n)
+  front_bytes = sym (ap bytes_of (text_read (bytes_over [] h.store)) ∙ seen-bytes h d n count queue counted)
+
+-- They are taken off by a read by copying.
+module _ (h : KernelState) (d fd n count : ℕ) (x : Descriptor) (from : (f : Reading) → machine.descriptor (read_of f h) d fd ≡ Some x) (counted : (f : Reading) → KeepsPools f → count ≡ length (reading.read_text (read_of f h) d (Some x) n)) where
+  pub copied_left : (k : KernelState) → Leaves (λ s. reading.read_on s d fd (Some x) count) h k → Leaves (λ s. (reading.read s d fd n).after) h k
+  copied_left k skipped = leaves_kept (λ s. reading.read_on s d fd (Some x) count) (λ s. (reading.read s d fd n).after) h k
+      (λ f keeps. ap (reading.read_on (read_of f h) d fd (Some x)) (counted f keeps) ∙ ap (λ (o : Option Descriptor). reading.read_on (read_of f h) d fd o (length (reading.read_text (read_of f h) d o n))) (sym (from f))) skipped
+
+-- The first bytes of what came in on a connection are taken off.
+
+module _ (h k : KernelState) (c count : ℕ) (sound : IsSound h) (open' : IsOpenConn (conn_in h.conns c)) (rest : places (conn_in k.conns c).incoming ≡ drop count (places (conn_in h.conns c).incoming)) (same : k ≡ record h { store = k.store; conns = changed h.conns c (record (conn_in h.conns c) { incoming = (conn_in k.conns c).incoming }) })
+    (moves : Moves h.store k.store (bufs_of (conn_in h.conns c).incoming) (bufs_of (conn_in k.conns c).incoming)) (lists : SameLists h.store k.store) (frees : FreesOnly h.store k.store) (settles : AllReadable h.store (conn_in h.conns c).incoming → AllSettled h.store → AllSettled k.store) where
   abbrev x : Conn (List Slice)
   x = conn_in h.conns c
 
-  unread-count : (f : Reading) → KeepsPools f → count ≡ length (reading.read_text (read_of f h) d (machine.descriptor (read_of f h) d fd) n)
-  unread-count f keeps =
+  abbrev y : Conn (List Slice)
+  y = record x { incoming = (conn_in k.conns c).incoming }
+
+  found : lookup h.conns c ≡ Some x
+  found = conn_in-found h.conns c (open_conn-there h.conns c open')
+
+  was : IsConnReadable h.store (c, x)
+  was = conn_readable h c x sound found
+
+  limit : IsConn (c, y)
+  limit =
+      let l = conn_limit h c x sound found in
+      record { incoming = omega (arith, l.incoming, ap length rest, length-drop count (places x.incoming)); outgoing = l.outgoing; waits = l.waits }
+
+  abbrev skip : Connection → Connection
+  skip w = record w { incoming = drop count w.incoming }
+
+  skipped : Leaves (λ s. record s { conns = changed s.conns c (skip (machine.conn_at s c)) }) h (turned h k.store c x y sound found)
+  skipped = turned_leaves h k.store c x y sound found (λ b. omega (arith, moves.counts.each b)) moves.stays (moves.tidy sound.tidy) (moves.still sound.still) (settles was.0 sound.settled) lists (keeps_pages_frees frees).count
+      (readable_rest (conn_in k.conns c).incoming x.incoming count rest was.0, was.1) limit refl (turned_fds h k.store c x y sound found (λ open'. open')) skip
+      (λ f. ap (λ (u : Text). record (conn_view (read f) x) { incoming = u }) (sym (read_rest f.at (conn_in k.conns c).incoming x.incoming count rest))) (keeps_pages_frees frees)
+
+  as_read : (f : Reading) → KeepsPools f → (let s : State = read_of f h in record s { conns = changed s.conns c (skip (machine.conn_at s c)) } ≡ machine.with_conn s c (skip (machine.conn_at s c)))
+  as_read f keeps =
       let s : State = read_of f h in
-      counted
-      ∙ sym (seen-count f keeps h d n x.incoming)
-      ∙ ap (λ (t : Text). length (admitted (machine.may_read s d) (take n t))) (sym (incoming-read_of f h c))
-      ∙ ap (λ (o : Option Descriptor). length (reading.read_text s d o n)) (sym (held.from f))
+      let w : Connection = conn_view (read f) x in
+      ap (λ (z : Connection). record s { conns = changed s.conns c (skip z) }) (conn_at-read_of f h c)
+      ∙ sym (with_on s c (skip w) open'.0 open'.1)
+      ∙ ap (λ (z : Connection). machine.with_conn s c (skip z)) (sym (conn_at-read_of f h c))
 
-  pub unread_bytes : take count (bytes_of (text_of h.store x.incoming)) ≡ (reading.read (machine_of [] h) d fd n).answer
-  unread_bytes =
-      let s : State = machine_of [] h in
-      sym (seen-bytes h d n count x.incoming counted)
-      ∙ ap (λ (t : Text). bytes_of (admitted (machine.may_read s d) (take n t))) (sym (incoming-read_of (bytes_over [] h.store) h c))
-      ∙ ap (λ (o : Option Descriptor). bytes_of (reading.read_text s d o n)) (sym (held.from (bytes_over [] h.store)))
+  pub conn_skipped : Leaves (λ s. machine.with_conn s c (skip (machine.conn_at s c))) h k
+  conn_skipped = subst (λ (l : KernelState). Leaves (λ s. machine.with_conn s c (skip (machine.conn_at s c))) h l) (sym same)
+      (leaves_kept (λ s. record s { conns = changed s.conns c (skip (machine.conn_at s c)) }) (λ s. machine.with_conn s c (skip (machine.conn_at s c))) h (turned h k.store c x y sound found) as_read skipped)
 
-  pub unread_count : count ≡ length (reading.read (machine_of [] h) d fd n).answer
-  unread_count = unread-count (bytes_over [] h.store) (keeps_bytes h.store) ∙ sym (length-map (reading.read_text (machine_of [] h) d (machine.descriptor (machine_of [] h) d fd) n) (λ (b : ℕ × ℕ). b.0))
-
-  module _ (rest : places (conn_in k.conns c).incoming ≡ drop count (places x.incoming)) (same : k ≡ record h { store = k.store; conns = changed h.conns c (record x { incoming = (conn_in k.conns c).incoming }) })
-      (moves : Moves h.store k.store (bufs_of x.incoming) (bufs_of (conn_in k.conns c).incoming)) (lists : SameLists h.store k.store) (frees : FreesOnly h.store k.store) (settles : AllReadable h.store x.incoming → AllSettled h.store → AllSettled k.store) where
-    abbrev y : Conn (List Slice)
-    y = record x { incoming = (conn_in k.conns c).incoming }
-
-    found : lookup h.conns c ≡ Some x
-    found = found_held h d fd c held.sound held.from
-
-    was : IsConnReadable h.store (c, x)
-    was = conn_readable h c x held.sound found
-
-    limit : IsConn (c, y)
-    limit =
-        let l = conn_limit h c x held.sound found in
-        record { incoming = omega (arith, l.incoming, ap length rest, length-drop count (places x.incoming)); outgoing = l.outgoing; waits = l.waits }
-
-    abbrev skip : Connection → Connection
-    skip w = record w { incoming = drop count w.incoming }
-
-    skipped : Leaves (λ s. record s { conns = changed s.conns c (skip (machine.conn_at s c)) }) h (turned h k.store c x y held.sound found)
-    skipped = turned_leaves h k.store c x y held.sound found (λ b. omega (arith, moves.counts.each b)) moves.stays (moves.tidy held.sound.tidy) (moves.still held.sound.still) (settles was.0 held.sound.settled) lists (keeps_pages_frees frees).count
-        (readable_rest (conn_in k.conns c).incoming x.incoming count rest was.0, was.1) limit refl (turned_fds h k.store c x y held.sound found (λ open'. open')) skip
-        (λ f. ap (λ (u : Text). record (conn_view (read f) x) { incoming = u }) (sym (read_rest f.at (conn_in k.conns c).incoming x.incoming count rest))) (keeps_pages_frees frees)
-
-    as_read : (f : Reading) → KeepsPools f → (let s : State = read_of f h in record s { conns = changed s.conns c (skip (machine.conn_at s c)) }) ≡ (reading.read (read_of f h) d fd n).after
-    as_read f keeps =
-        let s : State = read_of f h in
-        let open' = open_held h d fd c held.sound held.from in
-        let w : Connection = conn_view (read f) x in
-        ap (λ (z : Connection). record s { conns = changed s.conns c (skip z) }) (conn_at-read_of f h c)
-        ∙ sym (with_on s c (skip w) open'.0 open'.1)
-        ∙ ap (λ (z : Connection). machine.with_conn s c (skip z)) (sym (conn_at-read_of f h c))
-        ∙ ap (λ m. machine.with_conn s c (record (machine.conn_at s c) { incoming = drop m (machine.conn_at s c).incoming })) (unread-count f keeps)
-        ∙ ap (λ (o : Option Descriptor). reading.read_on s d fd o (length (reading.read_text s d (machine.descriptor s d fd) n))) (sym (held.from f))
-
-    pub unread_left : Leaves (λ s. (reading.read s d fd n).after) h k
-    unread_left = subst (λ (l : KernelState). Leaves (λ s. (reading.read s d fd n).after) h l) (sym same)
-        (leaves_kept (λ s. record s { conns = changed s.conns c (skip (machine.conn_at s c)) }) (λ s. (reading.read s d fd n).after) h (turned h k.store c x y held.sound found) as_read skipped)
-
--- Of a pipe.
+-- The first bytes that wait in a pipe are taken off.
 
 left_true : (a b : Bool) → a ≡ true → (a || b) ≡ true
 left_true true b e = refl
 left_true false b e = absurd (cc e)
 
-module _ (h : KernelState) (t : Stored) (qs : List (Option (Pipe (List Slice)))) (d fd p n count : ℕ) (held : IsOpenOn h d fd (on.ReadEnd p)) (counted : count ≡ length (seen h.store.pools d n (queue_at h.pipes p).queue)) where
-  queued-count : (f : Reading) → KeepsPools f → count ≡ length (reading.read_text (read_of f h) d (machine.descriptor (read_of f h) d fd) n)
-  queued-count f keeps =
-      let s : State = read_of f h in
-      counted
-      ∙ sym (seen-count f keeps h d n (queue_at h.pipes p).queue)
-      ∙ ap (λ (u : Text). length (admitted (machine.may_read s d) (take n u))) (sym (queue-read_of f h p))
-      ∙ ap (λ (o : Option Descriptor). length (reading.read_text s d o n)) (sym (held.from f))
+module _ (h : KernelState) (t : Stored) (qs : List (Option (Pipe (List Slice)))) (p count : ℕ) (sound : IsSound h) (reading' : (queue_at h.pipes p).reading ≡ true) (rest : places (queue_at qs p).queue ≡ drop count (places (queue_at h.pipes p).queue)) (pipes' : qs ≡ with_queue_of h.pipes p qs)
+    (moves : Moves h.store t (bufs_of (queue_at h.pipes p).queue) (bufs_of (queue_at qs p).queue)) (lists : SameLists h.store t) (frees : FreesOnly h.store t) (settles : AllReadable h.store (queue_at h.pipes p).queue → AllSettled h.store → AllSettled t) where
+  abbrev q : Pipe (List Slice)
+  q = record (queue_at h.pipes p) { queue = (queue_at qs p).queue }
 
-  pub queued_bytes : take count (bytes_of (text_of h.store (queue_at h.pipes p).queue)) ≡ (reading.read (machine_of [] h) d fd n).answer
-  queued_bytes =
-      let s : State = machine_of [] h in
-      sym (seen-bytes h d n count (queue_at h.pipes p).queue counted)
-      ∙ ap (λ (u : Text). bytes_of (admitted (machine.may_read s d) (take n u))) (sym (queue-read_of (bytes_over [] h.store) h p))
-      ∙ ap (λ (o : Option Descriptor). bytes_of (reading.read_text s d o n)) (sym (held.from (bytes_over [] h.store)))
+  abbrev less : List (Option (Pipe (List Slice)))
+  less = slice_set h.pipes p (Some q)
 
-  pub queued_count : count ≡ length (reading.read (machine_of [] h) d fd n).answer
-  queued_count = queued-count (bytes_over [] h.store) (keeps_bytes h.store) ∙ sym (length-map (reading.read_text (machine_of [] h) d (machine.descriptor (machine_of [] h) d fd) n) (λ (b : ℕ × ℕ). b.0))
+  there : p < length h.pipes
+  there = there_if_open h.pipes p (inl reading')
 
-  module _ (rest : places (queue_at qs p).queue ≡ drop count (places (queue_at h.pipes p).queue)) (pipes' : qs ≡ with_queue_of h.pipes p qs)
-      (moves : Moves h.store t (bufs_of (queue_at h.pipes p).queue) (bufs_of (queue_at qs p).queue)) (lists : SameLists h.store t) (frees : FreesOnly h.store t) (settles : AllReadable h.store (queue_at h.pipes p).queue → AllSettled h.store → AllSettled t) where
-    abbrev q : Pipe (List Slice)
-    q = record (queue_at h.pipes p) { queue = (queue_at qs p).queue }
+  less_good : AreReadable h.store (record (objects_of h) { pipes = less })
+  less_good = record {
+    pipes = each-set (IsPipeReadable h.store) h.pipes p (Some q) sound.objects.pipes (readable_rest (queue_at qs p).queue (queue_at h.pipes p).queue count rest (queue_readable h p sound));
+    conns = sound.objects.conns;
+    files = sound.objects.files;
+  }
 
-    abbrev less : List (Option (Pipe (List Slice)))
-    less = slice_set h.pipes p (Some q)
+  short : byte_len (queue_at qs p).queue ≤ 65536
+  short = omega (arith, queue_short h p sound, ap length rest, length-drop count (places (queue_at h.pipes p).queue))
 
-    reading' : (queue_at h.pipes p).reading ≡ true
-    reading' = reading_held held
+  less_sound : IsSound (record h { store = t; pipes = less })
+  less_sound = moved-sound h.store (record h { store = t; pipes = less }) moves.stays (record { each = λ b. omega (arith, sound.counted.each b, moves.counts.each b, uses-set_pipe b h.pipes p q there) })
+      (moves.tidy sound.tidy) (moves.still sound.still) (settles (queue_readable h p sound) sound.settled) sound.domains less_good
+      (each-weaker (λ (z : Domain (List Slice)). Each (IsOpenEnd (objects_of h)) z.fds) (λ (z : Domain (List Slice)). Each (IsOpenEnd (record (objects_of h) { pipes = less })) z.fds) h.domains (λ z e. ends_queued (objects_of h) p (queue_at qs p).queue there z.fds e) sound.fds) sound.once
+      (queue_limits h p (queue_at qs p).queue sound short) (same_pooled h.store t h.conns h.cache.files lists sound.pooled) sound.sums sound.filed sound.cached (keeps_pages_frees frees).count
 
-    there : p < length h.pipes
-    there = there_if_open h.pipes p (inl reading')
+  abbrev drained : State → State
+  drained s = machine.with_pipe s p (record (machine.pipe_at s p) { queue = drop count (machine.pipe_at s p).queue })
 
-    less_good : AreReadable h.store (record (objects_of h) { pipes = less })
-    less_good = record {
-      pipes = each-set (IsPipeReadable h.store) h.pipes p (Some q) held.sound.objects.pipes (readable_rest (queue_at qs p).queue (queue_at h.pipes p).queue count rest (queue_readable h p held.sound));
-      conns = held.sound.objects.conns;
-      files = held.sound.objects.files;
-    }
+  less-read : (f : Reading) → read_of f (record h { store = t; pipes = less }) ≡ drained (read_of f h)
+  unfolding read_of
+  less-read f =
+      let m : State = read_of f h in
+      pools-view f h.domains h.store.pools t.pools (record (objects_of h) { pipes = less }) lists
+      ∙ with_pipe-view f h.domains h.store.pools (objects_of h) p q (left_true q.reading q.writing reading')
+      ∙ ap (λ (u : Text). machine.with_pipe m p (record (pipe_view (read f) (queue_at h.pipes p)) { queue = u })) (read_rest f.at (queue_at qs p).queue (queue_at h.pipes p).queue count rest)
+      ∙ ap (λ (w : machine.Pipe). machine.with_pipe m p (record w { queue = drop count w.queue })) (sym (pipe_at-read_of f h p))
 
-    short : byte_len (queue_at qs p).queue ≤ 65536
-    short = omega (arith, queue_short h p held.sound, ap length rest, length-drop count (places (queue_at h.pipes p).queue))
-
-    less_sound : IsSound (record h { store = t; pipes = less })
-    less_sound = moved-sound h.store (record h { store = t; pipes = less }) moves.stays (record { each = λ b. omega (arith, held.sound.counted.each b, moves.counts.each b, uses-set_pipe b h.pipes p q there) })
-        (moves.tidy held.sound.tidy) (moves.still held.sound.still) (settles (queue_readable h p held.sound) held.sound.settled) held.sound.domains less_good
-        (each-weaker (λ (z : Domain (List Slice)). Each (IsOpenEnd (objects_of h)) z.fds) (λ (z : Domain (List Slice)). Each (IsOpenEnd (record (objects_of h) { pipes = less })) z.fds) h.domains (λ z e. ends_queued (objects_of h) p (queue_at qs p).queue there z.fds e) held.sound.fds) held.sound.once
-        (queue_limits h p (queue_at qs p).queue held.sound short) (same_pooled h.store t h.conns h.cache.files lists held.sound.pooled) held.sound.sums held.sound.filed held.sound.cached (keeps_pages_frees frees).count
-
-    abbrev drained : State → State
-    drained s = machine.with_pipe s p (record (machine.pipe_at s p) { queue = drop count (machine.pipe_at s p).queue })
-
-    less-read : (f : Reading) → read_of f (record h { store = t; pipes = less }) ≡ drained (read_of f h)
-    unfolding read_of
-    less-read f =
-        let m : State = read_of f h in
-        pools-view f h.domains h.store.pools t.pools (record (objects_of h) { pipes = less }) lists
-        ∙ with_pipe-view f h.domains h.store.pools (objects_of h) p q (left_true q.reading q.writing reading')
-        ∙ ap (λ (u : Text). machine.with_pipe m p (record (pipe_view (read f) (queue_at h.pipes p)) { queue = u })) (read_rest f.at (queue_at qs p).queue (queue_at h.pipes p).queue count rest)
-        ∙ ap (λ (w : machine.Pipe). machine.with_pipe m p (record w { queue = drop count w.queue })) (sym (pipe_at-read_of f h p))
-
-    drained_leaves : Leaves drained h (record h { store = t; pipes = less })
-    drained_leaves = leaves drained h (record h { store = t; pipes = less }) less-read refl refl moves.stays (keeps_pages_frees frees) held.sound.domains less_good less_sound
-
-    drained_as : (f : Reading) → KeepsPools f → drained (read_of f h) ≡ (reading.read (read_of f h) d fd n).after
-    drained_as f keeps =
-        let s : State = read_of f h in
-        ap (λ m. machine.with_pipe s p (record (machine.pipe_at s p) { queue = drop m (machine.pipe_at s p).queue })) (queued-count f keeps)
-        ∙ ap (λ (o : Option Descriptor). reading.read_on s d fd o (length (reading.read_text s d (machine.descriptor s d fd) n))) (sym (held.from f))
-
-    pub queued_left : Leaves (λ s. (reading.read s d fd n).after) h (record h { store = t; pipes = qs })
-    queued_left = subst (λ (ys : List (Option (Pipe (List Slice)))). Leaves (λ s. (reading.read s d fd n).after) h (record h { store = t; pipes = ys })) (sym pipes')
-        (leaves_kept drained (λ s. (reading.read s d fd n).after) h (record h { store = t; pipes = less }) drained_as drained_leaves)
-
--- How many bytes wait.
-
-pub waiting-queued : (f : Reading) (h : KernelState) (d fd p n : ℕ) → machine.descriptor (read_of f h) d fd ≡ Some (on.ReadEnd p) → min n (byte_len (queue_at h.pipes p).queue) ≡ min n (length (reading.unread (read_of f h) (machine.descriptor (read_of f h) d fd)))
-waiting-queued f h d fd p n from = ap (min n) (sym (length_queue-read_of f h p) ∙ ap (λ (o : Option Descriptor). length (reading.unread (read_of f h) o)) (sym from))
-
-pub waiting-unread : (f : Reading) (h : KernelState) (d fd c n : ℕ) → machine.descriptor (read_of f h) d fd ≡ Some (on.Connection c) → min n (byte_len (conn_in h.conns c).incoming) ≡ min n (length (reading.unread (read_of f h) (machine.descriptor (read_of f h) d fd)))
-waiting-unread f h d fd c n from =
-    ap (min n)
-    (sym (length-read f.at (conn_in h.conns c).incoming)
-    ∙ ap length (sym (incoming-read_of f h c))
-    ∙ ap (λ (o : Option Descriptor). length (reading.unread (read_of f h) o)) (sym from))
+  pub pipe_skipped : Leaves drained h (record h { store = t; pipes = qs })
+  pipe_skipped = subst (λ (ys : List (Option (Pipe (List Slice)))). Leaves drained h (record h { store = t; pipes = ys })) (sym pipes')
+      (leaves drained h (record h { store = t; pipes = less }) less-read refl refl moves.stays (keeps_pages_frees frees) sound.domains less_good less_sound)

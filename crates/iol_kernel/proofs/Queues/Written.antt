@@ -20,7 +20,7 @@ use Rattle.iol_hold.specs.Places.{byte_len}
 use Rattle.iol_hold.specs.Room.{has_room}
 use Rattle.iol_hold.specs.Texts.{text_of, AllReadable}
 use Rattle.iol_hold.specs.declared.slices.Slice.{Slice}
-use Rattle.iol_hold.proofs.AtPlaces.{read-append, length-read}
+use Rattle.iol_hold.proofs.AtPlaces.{read-append}
 use Rattle.iol_hold.proofs.Reading.{readable_none}
 use Rattle.iol_pipe.specs.Adding.{AddsBytes}
 use Rattle.iol_pipe.specs.Queue.{fitting}
@@ -37,7 +37,7 @@ use Rattle.iol_kernel.specs.KernelState as held
 use Rattle.iol_kernel.specs.KernelState.{KernelState, objects_of, Each, AreReadable, IsPipeReadable, IsOpenEnd, IsSound, read_of, machine_of, queue_at}
 use Rattle.iol_kernel.specs.Readings.{Reading, read, bytes_over}
 use Rattle.iol_kernel.proofs.Connections.Connecting.{conn_found, turned, turned-read}
-use Rattle.iol_kernel.proofs.Connections.ConnQueues.{open_held, found_held, conn_at-read_of, with_on}
+use Rattle.iol_kernel.proofs.Connections.ConnQueues.{open_held, found_held, with_on}
 use Rattle.iol_kernel.proofs.Connections.Grown.{grown-sound}
 use Rattle.iol_kernel.proofs.State.Added.{added-read, added-sound, added_queue, added_readable, added_uses, fitted_short}
 use Rattle.iol_kernel.proofs.State.AfterRoom.{fills_none, fills_some, late_step}
@@ -74,9 +74,6 @@ lent_set rs qs n p x q same is there =
     ∙ ap (λ i. slice_set rs i (Some y)) is
     ∙ ap (λ (z : Pipe (List Slice)). slice_set rs p (Some (record z { queue = q }))) (sym (lent_was rs qs n p x same is there))
     ∙ ap (λ (z : Pipe (List Slice)). slice_set rs p (Some (record (queue_at rs p) { queue = z.queue }))) (sym (lent_is qs n p x y is there))
-
-pub outgoing-read_of : (f : Reading) (h : KernelState) (c : ℕ) → length (machine.conn_at (read_of f h) c).outgoing ≡ byte_len (conn_in h.conns c).outgoing
-outgoing-read_of f h c = ap (λ (y : Connection). length y.outgoing) (conn_at-read_of f h c) ∙ length-read f.at (conn_in h.conns c).outgoing
 
 -- Behind what is to be sent on a connection.
 

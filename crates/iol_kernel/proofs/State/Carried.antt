@@ -1,18 +1,20 @@
 -- A call that carries out takes the machine's step, and the layout's.
-use Rattle.std.proofs.Common.{◌≡◌, ℕ, List, [], ap, sym, subst}
-use Rattle.std.specs.Prelude.{Result}
+use Rattle.std.proofs.Common.{◌≡◌, ℕ, List, [], ap, refl, sym, subst, Option, None}
+use Rattle.std.specs.Prelude.{MatchOption, Result, Ok, Err}
 use Rattle.iol_arena.specs.State as arena
 use Rattle.iol_core.specs.State.{State}
-use Rattle.iol_core.specs.Meaning.{Meaning, Step}
+use Rattle.iol_core.specs.Meaning.{Meaning, Step, first}
 use Rattle.iol_core.specs.declared.refusals.Refusal.{Refusal}
+use Rattle.iol_core.specs.declared.refusals.Refusal.TheVariants.{NoRoom}
 use Rattle.iol_hold.specs.Stored.{Stored, with_arena}
 use Rattle.iol_hold.specs.Layout.{number_at}
 use Rattle.iol_hold.specs.Places.{Place}
 use Rattle.iol_hold.specs.Texts.{byte_at}
 use Rattle.iol_hold.proofs.AtPlaces.{keeps_bytes, keeps_numbers}
-use Rattle.iol_kernel.specs.Calls.{CarriesOut}
-use Rattle.iol_kernel.specs.KernelState.{KernelState, read_of, machine_of, layout_of}
-use Rattle.iol_kernel.specs.Readings.{bytes_over}
+use Rattle.iol_kernel.specs.Calls.{Answers, CarriesOut}
+use Rattle.iol_kernel.specs.KernelState.{KernelState, IsSound, read_of, machine_of, layout_of}
+use Rattle.iol_kernel.specs.Readings.{Reading, bytes_over}
+use Rattle.iol_kernel.proofs.State.Stay.{stays_here}
 
 -- what lies at a place depends on the pages alone
 pub byte_at-arena : (s t : Stored) → t.arena ≡ s.arena → byte_at t ≡ byte_at s
@@ -24,5 +26,37 @@ carried_machine m old new r stored c =
 
 pub carried_layout : {A : Type 0} (m : State → Meaning A) (old new : KernelState) (r : Result A Refusal) → CarriesOut m old r new → Step (m (layout_of old)) (layout_of old) r (layout_of new)
 carried_layout m old new r c = c.step (record { at = number_at; stored = [] }) keeps_numbers
+
+-- A call that has passed its tests: done, or refused for want of memory, which changes nothing.
+
+module _ {A : Type 0} (m : State → Meaning A) (h k : KernelState) (passed : (f : Reading) → first (m (read_of f h)).refusals ≡ None) where
+  pub carried_done : (a : A) → Answers m h a k → CarriesOut m h (Ok a) k
+  carried_done a done = record {
+    step = λ f keeps. (passed f, done.answer f keeps, done.after f keeps);
+    arena = done.arena;
+    pools = done.pools;
+    roomy = λ p e. cc e;
+    refused = tt;
+    sums = done.sums;
+    cache = done.cache;
+    sound = done.sound;
+    stays = done.stays;
+  }
+
+  pub carried_late : (x : Refusal) → IsSound h → k ≡ h → ((f : Reading) → (m (read_of f h)).Late x) → ((p : ℕ) → x ≡ NoRoom p → ⊥) → CarriesOut m h (Err x) k
+  carried_late x sound same late roomy = subst (λ (l : KernelState). CarriesOut m h (Err x) l) (sym same) (record {
+    step = λ f keeps. (subst (λ (o : Option Refusal). MatchOption o ((m (read_of f h)).Late x) (λ y. x ≡ y)) (sym (passed f)) (late f), refl);
+    arena = refl;
+    pools = refl;
+    roomy = λ p e. roomy p (error e);
+    refused = refl;
+    sums = refl;
+    cache = refl;
+    sound = sound;
+    stays = stays_here h.store;
+  })
+    where
+      error : {p : ℕ} → ◌≡◌ {A = Result A Refusal} (Err x) (Err (NoRoom p)) → x ≡ NoRoom p
+      error e = cc e
 
 pub ruleset carried_rules = (carried_machine, carried_layout)

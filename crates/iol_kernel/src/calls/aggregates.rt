@@ -136,29 +136,7 @@ impl Kernel {
         if self.is_too_many(by, 1, 0) {
             return Err(Refusal::TooMany);
         }
-        Ok(self.add_dup(by, agg, len)?)
-    }
-
-    /// Adds the same bytes once more.
-    #[tactic(auto, using(crate::proofs::State::Stay::stay_rules, crate::proofs::AggregateCalls::Slices::held_rules))]
-    fn add_dup(&mut self, by: DomainId, agg: AggId, len: u32) -> Result<AggId, AllocError>
-        requires sound { IsSound (state_of self.old) }
-        requires live { is_live (machine self.old) by ≡ true }
-        requires there { lacks_agg (machine self.old) by agg ≡ false }
-        requires whole { len ≡ length (text (machine self.old) by agg) }
-        requires few { too_many_aggs (machine self.old) by 1 0 ≡ false }
-        ensures done { IfOk result (λ n. Answers (λ s. calls.agg_dup s by agg) self.old
-            n self.new) }
-        ensures err { OnErr result (state_of self.new ≡ state_of self.old) }
-    {
-        Ok(add_part(
-            self.alloc,
-            &mut self.store,
-            &mut self.domains,
-            by,
-            agg,
-            Part { from: 0, to: len },
-        )?)
+        Ok(self.add_cut(by, agg, 0, len)?)
     }
 
     /// Makes an aggregate of the bytes `from..to` of another, which stays.

@@ -155,12 +155,7 @@ impl Kernel {
         ensures close { KeepsPlaces (λ s. calls.close s by fd) self.old result self.new }
         ensures roomy { (p : ℕ) → result ≡ Err (Refusal.NoRoom p) → ⊥ }
     {
-        if !self.is_live(by) {
-            return Err(Refusal::NoDomain);
-        }
-        let Some(end) = self.descriptor(by, fd) else {
-            return Err(Refusal::BadFd);
-        };
+        let end = self.opened(by, fd)?;
         self.close_fd(by, fd, end);
         Ok(())
     }

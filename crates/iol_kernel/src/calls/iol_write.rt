@@ -1,6 +1,7 @@
 //! Writing by reference: to pipes and connections here, to files in `iol_write/file`.
-ghost use Rattle.std.specs.Prelude.{◌≡◌, ◌-◌, length, true, false, Some, Err, IfOk, IfErr, OnOk, OnErr};
-ghost use Rattle.iol_core.specs.State.{is_live, descriptor, pipe_at, text};
+ghost use Rattle.std.specs.Prelude.{◌≡◌, true, false, None, Some, Err, IfOk, IfErr, OnOk};
+ghost use Rattle.iol_core.specs.Meaning.{first};
+ghost use Rattle.iol_core.specs.State.{is_live, descriptor};
 ghost use Rattle.iol_core.specs.Calls.Aggregates.{lacks_agg};
 ghost use Rattle.iol_core.specs.Calls.Writing as calls;
 ghost use Rattle.iol_back.specs.Disk.{Disk};
@@ -12,14 +13,13 @@ pub(crate) mod file;
 
 use crate::kernel::Kernel;
 use crate::open_file::OpenFile;
+use crate::queue_end::{can_write, is_too_long};
 use iol_core::descriptors::Descriptor;
-use iol_core::limits::MAX_QUEUE_BYTES;
-use iol_core::numbers::{AggId, ConnId, DomainId, Fd, PipeId};
+use iol_core::numbers::{AggId, DomainId, Fd};
 use iol_core::refusals::Refusal;
-use std::alloc::AllocError;
 
 impl Kernel {
-    ghost use Rattle.iol_kernel.specs.Kernel.{state_of, machine, as_read, CarriesOut, Serves, Answers};
+    ghost use Rattle.iol_kernel.specs.Kernel.{state_of, machine, as_read, CarriesOut, IsOpenOn, Serves};
 
     /// Writes an aggregate, which stays. Returns how many of its bytes were taken.
     ///
@@ -37,128 +37,60 @@ impl Kernel {
             Err(refusal) => return Err(refusal),
         };
         if let Descriptor::File { file, at, mode } = to {
-            return self.write_file(by, fd, agg, OpenFile { file, at, mode });
+            return self.write_over(by, fd, agg, OpenFile { file, at, mode });
         }
-        self.write_queue(by, fd, agg, to)
+        self.push(by, fd, agg, &to)
     }
 
-    /// What the caller's descriptor is open on.
+    /// What the caller's descriptor is open on, where the aggregate may be written to it.
     #[tactic(auto, using(crate::proofs::State::Stay::stay_rules))]
     fn end_to_write(&self, by: DomainId, fd: Fd, agg: AggId) -> Result<Descriptor, Refusal>
         requires { IsSound (state_of self.now) }
         ensures live { OnOk result ((f : Reading) → is_live (as_read f self.now) by ≡ true) }
         ensures open { IfOk result (λ x. (f : Reading) → descriptor (as_read f self.now) by fd ≡
             Some x) }
+        ensures there { OnOk result (lacks_agg (machine self.now) by agg ≡ false) }
+        ensures passed { OnOk result ((f : Reading) → first (calls.iol_write (as_read f self.now) by
+            fd agg).refusals ≡ None) }
         ensures refused { IfErr result (λ x. CarriesOut (λ s. calls.iol_write s by fd agg) self.now
             (Err x) self.now) }
     {
-        if !self.is_live(by) {
-            return Err(Refusal::NoDomain);
+        let to = self.opened(by, fd)?;
+        let len = self.find_len(by, agg)?;
+        if !can_write(&to) {
+            return Err(Refusal::WrongMode);
         }
-        let Some(to) = self.descriptor(by, fd) else {
-            return Err(Refusal::BadFd);
-        };
+        if is_too_long(&to, len) {
+            return Err(Refusal::TooLong);
+        }
+        if self.is_broken(&to) {
+            return Err(Refusal::BrokenPipe);
+        }
+        if self.takes_none(&to, len as usize) {
+            return Err(Refusal::WouldBlock);
+        }
         Ok(to)
     }
 
-    /// Writes an aggregate to what is no file.
-    #[tactic(auto, using(crate::proofs::State::Stay::stay_rules))]
-    fn write_queue(
-        &mut self,
-        by: DomainId,
-        fd: Fd,
-        agg: AggId,
-        to: Descriptor,
-    ) -> Result<u32, Refusal>
-        requires sound { IsSound (state_of self.old) }
-        requires live { (f : Reading) → is_live (as_read f self.old) by ≡ true }
-        requires to { (f : Reading) → descriptor (as_read f self.old) by fd ≡ Some to }
-        requires no_file { calls.is_file (Some to) ≡ false }
-        ensures { CarriesOut (λ s. calls.iol_write s by fd agg) self.old result self.new }
-    {
-        let len = self.find_len(by, agg)?;
-        match to {
-            Descriptor::WriteEnd { pipe } => self.write_pipe(by, fd, agg, pipe, len),
-            Descriptor::Connection { conn } => self.write_conn(by, fd, agg, conn),
-            Descriptor::ReadEnd { .. } | Descriptor::File { .. } => Err(Refusal::WrongMode),
-        }
-    }
-
-    /// Writes an aggregate of so many bytes to a pipe.
-    #[tactic(auto, using(crate::proofs::State::Stay::stay_rules))]
-    fn write_pipe(
-        &mut self,
-        by: DomainId,
-        fd: Fd,
-        agg: AggId,
-        pipe: PipeId,
-        len: u32,
-    ) -> Result<u32, Refusal>
-        requires sound { IsSound (state_of self.old) }
-        requires live { (f : Reading) → is_live (as_read f self.old) by ≡ true }
-        requires there { (f : Reading) → lacks_agg (as_read f self.old) by agg ≡ false }
-        requires len { (f : Reading) → len ≡ length (text (as_read f self.old) by agg) }
-        requires to { (f : Reading) → descriptor (as_read f self.old) by fd ≡ Some
-            (Descriptor.WriteEnd pipe) }
-        ensures { CarriesOut (λ s. calls.iol_write s by fd agg) self.old result self.new }
-    {
-        if !self.is_read(pipe) {
-            return Err(Refusal::BrokenPipe);
-        }
-        if len > 0 && self.room_in(pipe) == 0 {
-            return Err(Refusal::WouldBlock);
-        }
-        Ok(self.push(by, fd, agg, pipe)?)
-    }
-
-    /// Whether a pipe's read end is open.
-    #[tactic(auto, using(crate::proofs::State::ReadOf::pipe_rules))]
-    pub(crate) fn is_read(&self, p: PipeId) -> bool
-        ensures { (f : Reading) → result ≡ (pipe_at (as_read f self.now) p).reading }
-    {
-        self.pipes.is_reading(p)
-    }
-
-    /// How many bytes more fit into a pipe.
-    #[tactic(auto, using(crate::proofs::State::ReadOf::pipe_rules))]
-    pub(crate) fn room_in(&self, p: PipeId) -> u32
-        ensures { (f : Reading) → result ≡ MAX_QUEUE_BYTES - length (pipe_at (as_read f self.now)
-            p).queue }
-    {
-        MAX_QUEUE_BYTES as u32 - self.pipes.len(p)
-    }
-
-    /// Adds the longest prefix of an aggregate that fits to a pipe's queue.
-    #[tactic(auto, using(crate::proofs::State::Stay::stay_rules, crate::proofs::AggregateCalls::Slices::held_rules))]
-    fn push(&mut self, by: DomainId, fd: Fd, agg: AggId, p: PipeId) -> Result<u32, AllocError>
-        requires sound { IsSound (state_of self.old) }
-        requires live { is_live (machine self.old) by ≡ true }
+    /// Adds the longest prefix of an aggregate that fits to a queue.
+    #[tactic(auto, using(crate::proofs::AggregateCalls::Slices::held_rules))]
+    fn push(&mut self, by: DomainId, fd: Fd, agg: AggId, to: &Descriptor) -> Result<u32, Refusal>
+        requires open { IsOpenOn self.old by fd to.now }
+        requires no_file { calls.is_file (Some to.now) ≡ false }
         requires there { lacks_agg (machine self.old) by agg ≡ false }
-        requires to { (f : Reading) → descriptor (as_read f self.old) by fd ≡ Some
-            (Descriptor.WriteEnd p) }
-        ensures done { IfOk result (λ n. Answers (λ s. calls.iol_write s by fd agg) self.old n
-            self.new) }
-        ensures err { OnErr result (state_of self.new ≡ state_of self.old) }
-    {
-        let Some(found) = self.domains.agg(by, agg) else {
-            unreachable!()
-        };
-        Ok(self.pipes.push(&mut self.store, p, found)?)
-    }
-
-    /// Writes an aggregate to a connection.
-    #[tactic(auto, using(crate::proofs::State::Stay::stay_rules, crate::proofs::AggregateCalls::Slices::held_rules))]
-    fn write_conn(&mut self, by: DomainId, fd: Fd, agg: AggId, conn: ConnId) -> Result<u32, Refusal>
-        requires sound { IsSound (state_of self.old) }
-        requires live { (f : Reading) → is_live (as_read f self.old) by ≡ true }
-        requires there { (f : Reading) → lacks_agg (as_read f self.old) by agg ≡ false }
-        requires to { (f : Reading) → descriptor (as_read f self.old) by fd ≡ Some
-            (Descriptor.Connection conn) }
+        requires passed { (f : Reading) → first (calls.iol_write (as_read f self.old) by fd
+            agg).refusals ≡ None }
         ensures { CarriesOut (λ s. calls.iol_write s by fd agg) self.old result self.new }
     {
         let Some(found) = self.domains.agg(by, agg) else {
             unreachable!()
         };
-        Ok(self.conns.queue(&mut self.store, conn, found)?)
+        match to {
+            Descriptor::WriteEnd { pipe } => Ok(self.pipes.push(&mut self.store, *pipe, found)?),
+            Descriptor::Connection { conn } => {
+                Ok(self.conns.queue(&mut self.store, *conn, found)?)
+            }
+            Descriptor::ReadEnd { .. } | Descriptor::File { .. } => unreachable!(),
+        }
     }
 }

@@ -1,14 +1,19 @@
 //! Positions of descriptors on files, and lengths of files.
-ghost use Rattle.std.specs.Prelude.{◌≡◌, ◌≤◌, length, true, IfOk};
+ghost use Rattle.std.specs.Prelude.{◌≡◌, ◌≤◌, length, true, None, Some, IfErr, IfOk, OnErr};
 ghost use Rattle.iol_core.specs.Numbered.{is_numbered};
+ghost use Rattle.iol_core.specs.Meaning.{first};
 ghost use Rattle.iol_core.specs.State.{content};
 ghost use Rattle.iol_core.specs.Calls.Files as calls;
+ghost use Rattle.iol_core.specs.Calls.Files.{open_on};
 ghost use Rattle.iol_cache.specs.Serving.{IsEnd};
 ghost use Rattle.iol_kernel.specs.Backed.{IsBackedBy};
 ghost use Rattle.iol_kernel.specs.FileEnds.{EndsAt, SeeksAt};
+ghost use Rattle.iol_kernel.specs.FileReading.{held_by};
 ghost use Rattle.iol_kernel.specs.KernelState.{machine_of, IsSound};
+ghost use Rattle.iol_kernel.specs.Readings.{Reading};
 
 use crate::kernel::Kernel;
+use crate::open_file::OpenFile;
 use iol_back::backing::Backing;
 use iol_core::descriptors::Descriptor;
 use iol_core::limits::MAX_FILE_BYTES;
@@ -16,7 +21,7 @@ use iol_core::numbers::{DomainId, Fd, FileId};
 use iol_core::refusals::Refusal;
 
 impl Kernel {
-    ghost use Rattle.iol_kernel.specs.Kernel.{state_of, LooksUp};
+    ghost use Rattle.iol_kernel.specs.Kernel.{state_of, as_read, IsOpenOn, LooksUp};
 
     /// Puts a descriptor on a file at a position, at most at the file's end. Of a store that is not honest, that is where a
     /// read of the file would end now.
@@ -32,20 +37,19 @@ impl Kernel {
             self.new }
         ensures ends { SeeksAt by fd at (B.disk backing.now) (state_of self.old) result }
     {
-        if !self.is_live(by) {
-            return Err(Refusal::NoDomain);
-        }
-        let Some(on) = self.descriptor(by, fd) else {
-            return Err(Refusal::BadFd);
+        let found = match self.find_open(by, fd) {
+            Ok(found) => found,
+            Err(refusal) => return Err(refusal),
         };
-        let Descriptor::File { file, mode, .. } = on else {
-            return Err(Refusal::WrongMode);
-        };
-        if at > self.length_of(backing, file) {
+        if at > self.length_of(backing, found.file) {
             return Err(Refusal::BadRange);
         }
-        self.domains
-            .set_fd(by, fd, Descriptor::File { file, at, mode });
+        let moved = Descriptor::File {
+            file: found.file,
+            at,
+            mode: found.mode,
+        };
+        self.domains.set_fd(by, fd, moved);
         Ok(())
     }
 
@@ -59,16 +63,29 @@ impl Kernel {
         ensures ends { IfOk result
             (λ n. EndsAt by fd n (B.disk backing.now) (state_of self.now)) }
     {
-        if !self.is_live(by) {
-            return Err(Refusal::NoDomain);
-        }
-        let Some(on) = self.descriptor(by, fd) else {
-            return Err(Refusal::BadFd);
+        let found = match self.find_open(by, fd) {
+            Ok(found) => found,
+            Err(refusal) => return Err(refusal),
         };
-        let Descriptor::File { file, .. } = on else {
+        Ok(self.length_of(backing, found.file))
+    }
+
+    /// The file that a descriptor is open on. `NoDomain` where the domain is not live, `BadFd` where it has no such descriptor,
+    /// `WrongMode` where that is open on no file.
+    pub(crate) fn find_open(&self, by: DomainId, fd: Fd) -> Result<OpenFile, Refusal>
+        requires { IsSound (state_of self.now) }
+        ensures open { IfOk result (λ x. IsOpenOn self.now by fd (Descriptor.File x.file x.at x.mode)) }
+        ensures there { IfOk result (λ x. is_numbered (state_of self.now).files x.file ≡ true) }
+        ensures refused { IfErr result (λ x. (f : Reading) → first (calls.file_length (as_read f
+            self.now) by fd).refusals ≡ Some x) }
+        ensures none { OnErr result ((f : Reading) → open_on (held_by (as_read f self.now) by fd) ≡
+            None) }
+    {
+        let on = self.opened(by, fd)?;
+        let Descriptor::File { file, at, mode } = on else {
             return Err(Refusal::WrongMode);
         };
-        Ok(self.length_of(backing, file))
+        Ok(OpenFile { file, at, mode })
     }
 
     /// How many bytes a file has.

@@ -1,5 +1,5 @@
 //! Writing back of what is dirty, and the going of what is clean.
-ghost use Rattle.std.specs.Prelude.{◌≡◌, ℕ, true, None, Err, IfOk, IfErr, OnOk, Ok, [], length};
+ghost use Rattle.std.specs.Prelude.{◌≡◌, ℕ, true, None, Ok, [], length};
 ghost use Rattle.iol_core.specs.Meaning.{first};
 ghost use Rattle.iol_core.specs.Numbered.{is_numbered};
 ghost use Rattle.iol_core.specs.Calls.Files as calls;
@@ -17,12 +17,11 @@ ghost use Rattle.iol_kernel.specs.WritingBack.{FlushesOne, SyncsFile};
 
 use crate::kernel::Kernel;
 use iol_back::backing::Backing;
-use iol_core::descriptors::Descriptor;
 use iol_core::numbers::{DomainId, Fd, FileId};
 use iol_core::refusals::Refusal;
 
 impl Kernel {
-    ghost use Rattle.iol_kernel.specs.Kernel.{state_of, machine, as_read, CarriesOut, Serves};
+    ghost use Rattle.iol_kernel.specs.Kernel.{state_of, machine, as_read, Serves};
 
     /// Writes all that is dirty of the file back that a descriptor is open on, in the order of offsets, up to the first at which
     /// the store fails. It takes no memory.
@@ -38,11 +37,11 @@ impl Kernel {
         ensures syncs { SyncsFile (file_on (machine self.old) by fd) (B.disk backing.old)
             (state_of self.old) result (B.disk backing.new) (state_of self.new) }
     {
-        let file = match self.file_to_sync(by, fd) {
-            Ok(file) => file,
+        let found = match self.find_open(by, fd) {
+            Ok(found) => found,
             Err(refusal) => return Err(refusal),
         };
-        self.sync(backing, by, fd, file)
+        self.sync(backing, by, fd, found.file)
     }
 
     /// Writes all that is dirty of a file back.
@@ -64,32 +63,6 @@ impl Kernel {
             (B.disk backing.new) (state_of self.new) }
     {
         self.files.cache.sync(&self.store, backing, file)
-    }
-
-    /// The file that a descriptor is open on.
-    #[tactic(auto, using(crate::proofs::State::Stay::stay_rules))]
-    fn file_to_sync(&self, by: DomainId, fd: Fd) -> Result<FileId, Refusal>
-        requires { IsSound (state_of self.now) }
-        ensures passed { OnOk result ((f : Reading) → first (calls.fsync (as_read f self.now) by
-            fd).refusals ≡ None) }
-        ensures file { IfOk result (λ n. (f : Reading) → n ≡ file_on (as_read f self.now) by fd) }
-        ensures there { IfOk result (λ n. is_numbered (state_of self.now).files n ≡ true) }
-        ensures refused { IfErr result (λ x. CarriesOut (λ s. calls.fsync s by fd) self.now (Err x)
-            self.now) }
-        ensures no_fault { (n : ℕ) → result ≡ Err (Refusal.Fault n) → ⊥ }
-    {
-        if !self.is_live(by) {
-            return Err(Refusal::NoDomain);
-        }
-        let Some(on) = self.descriptor(by, fd) else {
-            return Err(Refusal::BadFd);
-        };
-        match on {
-            Descriptor::File { file, .. } => Ok(file),
-            Descriptor::ReadEnd { .. } => Err(Refusal::WrongMode),
-            Descriptor::WriteEnd { .. } => Err(Refusal::WrongMode),
-            Descriptor::Connection { .. } => Err(Refusal::WrongMode),
-        }
     }
 
     /// Writes the dirty extent of least file and offset back, if one is dirty. It takes no memory.

@@ -1,22 +1,23 @@
 //! Bytes are copied out of pipes and connections: no aggregate is made of them, and no memory is taken.
-ghost use Rattle.std.specs.Prelude.{◌≡◌, ◌++◌, length, min, drop, true, None, IfOk, OnOk, IfErr};
+ghost use Rattle.std.specs.Prelude.{◌≡◌, ◌++◌, ℕ, length, min, drop, true, None, Some, IfOk, OnOk, IfErr};
 ghost use Rattle.iol_core.specs.Meaning.{Never};
 ghost use Rattle.iol_core.specs.State.{is_live, descriptor};
+ghost use Rattle.iol_core.specs.Text.{bytes_of};
 ghost use Rattle.iol_core.specs.Calls.Files.{open_on};
 ghost use Rattle.iol_core.specs.Calls.Reading as calls;
 ghost use Rattle.iol_sock.specs.Refused.{IsPassed, IsRefused};
-ghost use Rattle.iol_kernel.specs.Copying.{TakesInto, TellsWaiting};
 ghost use Rattle.iol_kernel.specs.FileReading.{held_by};
 ghost use Rattle.iol_kernel.specs.KernelState.{IsSound};
-ghost use Rattle.iol_kernel.specs.Readings.{Reading};
+ghost use Rattle.iol_kernel.specs.Readings.{Reading, KeepsPools};
 
 use crate::kernel::Kernel;
+use crate::queue_end::can_read;
 use iol_core::descriptors::Descriptor;
-use iol_core::numbers::{ConnId, DomainId, Fd, PipeId};
+use iol_core::numbers::{DomainId, Fd};
 use iol_core::refusals::Refusal;
 
 impl Kernel {
-    ghost use Rattle.iol_kernel.specs.Kernel.{state_of, machine, as_read, IsOpenOn, Leaves};
+    ghost use Rattle.iol_kernel.specs.Kernel.{state_of, machine, as_read, IsSource, Leaves};
 
     /// How many bytes of those that a read of `count` asks for wait on a descriptor that is not open on a file. It is refused as
     /// that read is.
@@ -32,49 +33,17 @@ impl Kernel {
         ensures some { IfOk result (λ n. (f : Reading) → n ≡ min count (length (calls.unread
             (as_read f self.now) (descriptor (as_read f self.now) by fd)))) }
     {
-        if !self.is_live(by) {
-            return Err(Refusal::NoDomain);
+        let from = self.opened(by, fd)?;
+        if !can_read(&from) {
+            return Err(Refusal::WrongMode);
         }
-        let Some(from) = self.descriptor(by, fd) else {
-            return Err(Refusal::BadFd);
-        };
-        match from {
-            Descriptor::ReadEnd { pipe } => self.waiting_in(by, fd, pipe, count),
-            Descriptor::Connection { conn } => self.waiting_on(by, fd, conn, count),
-            Descriptor::WriteEnd { .. } => Err(Refusal::WrongMode),
-            Descriptor::File { .. } => unreachable!(),
-        }
-    }
-
-    /// How many bytes wait in a pipe.
-    fn waiting_in(&self, by: DomainId, fd: Fd, pipe: PipeId, count: usize) -> Result<usize, Refusal>
-        requires { IsOpenOn self.now by fd (Descriptor.ReadEnd pipe) }
-        ensures { TellsWaiting by fd count (state_of self.now) result }
-    {
-        if let Some(pool) = self.first_barred(by, pipe, count) {
+        if let Some(pool) = self.first_barred(by, &from, count) {
             return Err(Refusal::Denied { pool });
         }
-        if self.must_wait(pipe, count) {
+        if self.must_wait(&from, count) {
             return Err(Refusal::WouldBlock);
         }
-        Ok(count.min(self.pipes.len(pipe) as usize))
-    }
-
-    /// How many bytes came in on a connection.
-    fn waiting_on(&self, by: DomainId, fd: Fd, conn: ConnId, count: usize) -> Result<usize, Refusal>
-        requires { IsOpenOn self.now by fd (Descriptor.Connection conn) }
-        ensures { TellsWaiting by fd count (state_of self.now) result }
-    {
-        if let Some(pool) = self.first_unread_barred(by, conn, count) {
-            return Err(Refusal::Denied { pool });
-        }
-        if self.must_wait_for_peer(conn, count) {
-            return Err(Refusal::WouldBlock);
-        }
-        let Some(found) = self.conns.get(conn) else {
-            unreachable!()
-        };
-        Ok(count.min(found.unread() as usize))
+        Ok(count.min(self.unread(&from) as usize))
     }
 
     /// Reads from a queue by copying: moves the first bytes that wait on a descriptor and that the domain may read, at most
@@ -94,34 +63,41 @@ impl Kernel {
         let Some(from) = self.descriptor(by, fd) else {
             unreachable!()
         };
+        let count = self.copy_front(by, &from, into);
+        self.skip(&from, count);
+        count
+    }
+
+    /// Copies the first bytes that wait in a queue and that the domain may read, and tells how many these are. All still wait.
+    fn copy_front(&self, by: DomainId, from: &Descriptor, into: &mut [u8]) -> u32
+        requires { IsSource self.now from.now }
+        ensures copied { into.new ≡ bytes_of (calls.read_text (machine self.now) by (Some from.now)
+            (length into.old)) ++ drop result into.old }
+        ensures count { (f : Reading) → KeepsPools f → result ≡ length (calls.read_text (as_read f
+            self.now) by (Some from.now) (length into.old)) }
+    {
         match from {
-            Descriptor::ReadEnd { pipe } => self.take_from_pipe(by, fd, pipe, into),
-            Descriptor::Connection { conn } => self.take_from_conn(by, fd, conn, into),
-            Descriptor::WriteEnd { .. } => unreachable!(),
-            Descriptor::File { .. } => unreachable!(),
+            Descriptor::ReadEnd { pipe } => self.pipes.copy_front(&self.store, *pipe, by, into),
+            Descriptor::Connection { conn } => {
+                let Some(found) = self.conns.get(*conn) else {
+                    unreachable!()
+                };
+                found.copy_front(&self.store, by, into)
+            }
+            Descriptor::WriteEnd { .. } | Descriptor::File { .. } => unreachable!(),
         }
     }
 
-    /// Copies the first bytes that wait in a pipe, and takes them off.
-    fn take_from_pipe(&mut self, by: DomainId, fd: Fd, pipe: PipeId, into: &mut [u8]) -> u32
-        requires { IsOpenOn self.old by fd (Descriptor.ReadEnd pipe) }
-        ensures { TakesInto by fd into.old into.new result (state_of self.old) (state_of self.new) }
+    /// Takes the first bytes off a queue, so many, or all where fewer wait.
+    fn skip(&mut self, from: &Descriptor, count: u32)
+        requires { IsSource self.old from.now }
+        ensures { (d fd : ℕ) → Leaves (λ s. calls.read_on s d fd (Some from.now) count) self.old
+            self.new }
     {
-        let count = self.pipes.copy_front(&self.store, pipe, by, into);
-        self.pipes.skip(&mut self.store, pipe, count);
-        count
-    }
-
-    /// Copies the first bytes that came in on a connection, and takes them off.
-    fn take_from_conn(&mut self, by: DomainId, fd: Fd, conn: ConnId, into: &mut [u8]) -> u32
-        requires { IsOpenOn self.old by fd (Descriptor.Connection conn) }
-        ensures { TakesInto by fd into.old into.new result (state_of self.old) (state_of self.new) }
-    {
-        let Some(found) = self.conns.get(conn) else {
-            unreachable!()
-        };
-        let count = found.copy_front(&self.store, by, into);
-        self.conns.skip(&mut self.store, conn, count);
-        count
+        match from {
+            Descriptor::ReadEnd { pipe } => self.pipes.skip(&mut self.store, *pipe, count),
+            Descriptor::Connection { conn } => self.conns.skip(&mut self.store, *conn, count),
+            Descriptor::WriteEnd { .. } | Descriptor::File { .. } => unreachable!(),
+        }
     }
 }

@@ -1,9 +1,12 @@
-use Rattle.std.proofs.Common.{ap}
+use Rattle.std.proofs.Common.{ap, Some}
+use Rattle.iol_core.specs.Calls.Descriptors.{closed_on}
+use Rattle.iol_core.specs.declared.descriptors.Descriptor.TheVariants as on
 use Rattle.iol_sock.specs.Table.{ConnTable, conn_in}
 use Rattle.iol_kernel.specs.Kernel.{state_of}
-use Rattle.iol_kernel.proofs.Connections.Connecting.{conn_in-found, incoming_covered, open_conn-there}
-use Rattle.iol_kernel.proofs.Connections.Hanging.{hung_sound, hung_still, hung_left, hung_others}
+use Rattle.iol_kernel.proofs.Connections.Connecting.{IsChanged, conn_in-found, incoming_covered, open_conn-there}
+use Rattle.iol_kernel.proofs.Connections.Hanging.{hung_changed, hung_others}
 use Rattle.iol_kernel.proofs.kernel.Kernel.close_conn.Goals as goal
+use Rattle.iol_kernel.proofs.kernel.Kernel.close_conn.Goals.{After-close}
 
 pub close-requires-clause-there : goal.close-requires-clause-there
 close-requires-clause-there c = open_conn-there (state_of c.args.self.now).conns c.args.conn c.requires.open
@@ -13,30 +16,28 @@ close-requires-clause-covered c =
     let h = state_of c.args.self.now in
     incoming_covered h c.args.conn (conn_in h.conns c.args.conn) c.requires.sound (conn_in-found h.conns c.args.conn (open_conn-there h.conns c.args.conn c.requires.open))
 
-pub settle-requires-clause-sound : goal.settle-requires-clause-sound
-settle-requires-clause-sound c =
+-- it is closed, whether or not it is forgotten then
+hung : (c : After-close) → IsChanged c.args.conn (λ s. closed_on s (Some (on.Connection c.args.conn))) (state_of c.args.self.now) (record (state_of c.args.self.now) { store = c.close.new.store; conns = c.close.new.self.conns; next_conn = c.close.new.self.next })
+hung c =
     let h = state_of c.args.self.now in
+    let w = c.close.new in
     let e = c.close.ensures in
-    hung_sound h (record h { store = c.close.new.store; conns = c.close.new.self.conns; next_conn = c.close.new.self.next }) c.args.conn c.requires.sound c.requires.open c.requires.free
-    (ap (λ (w : ConnTable). record h { store = c.close.new.store; conns = w.conns; next_conn = w.next }) e.closed) e.moves e.lists e.frees e.settles
+    hung_changed h (record h { store = w.store; conns = w.self.conns; next_conn = w.self.next }) c.args.conn c.requires.sound c.requires.open c.requires.free
+    (ap (λ (t : ConnTable). record h { store = w.store; conns = t.conns; next_conn = t.next }) e.closed) e.moves e.lists e.frees e.settles
+
+pub settle-requires-clause-sound : goal.settle-requires-clause-sound
+settle-requires-clause-sound c = (hung (goal.at.settle-requires-clause-sound c).After-close).sound
 
 pub settle-requires-clause-there : goal.settle-requires-clause-there
-settle-requires-clause-there c =
-    let h = state_of c.args.self.now in
-    let e = c.close.ensures in
-    hung_still h (record h { store = c.close.new.store; conns = c.close.new.self.conns; next_conn = c.close.new.self.next }) c.args.conn c.requires.sound c.requires.open c.requires.free
-    (ap (λ (w : ConnTable). record h { store = c.close.new.store; conns = w.conns; next_conn = w.next }) e.closed) e.moves e.lists e.frees e.settles
+settle-requires-clause-there c = (hung (goal.at.settle-requires-clause-there c).After-close).there
 
 pub returns-clause-closed : goal.returns-clause-closed
-returns-clause-closed c =
-    let h = state_of c.args.self.now in
-    let e = c.close.ensures in
-    hung_left h (record h { store = c.close.new.store; conns = c.close.new.self.conns; next_conn = c.close.new.self.next }) c.args.conn c.requires.sound c.requires.open c.requires.free
-    (ap (λ (w : ConnTable). record h { store = c.close.new.store; conns = w.conns; next_conn = w.next }) e.closed) e.moves e.lists e.frees e.settles (state_of c.settle.new.self) c.settle.ensures.left
+returns-clause-closed c = (hung (goal.at.returns-clause-closed c).After-close).left (state_of c.settle.new.self) c.settle.ensures.left
 
 pub returns-clause-others : goal.returns-clause-others
 returns-clause-others c =
     let h = state_of c.args.self.now in
+    let w = c.close.new in
     let e = c.close.ensures in
-    hung_others h (record h { store = c.close.new.store; conns = c.close.new.self.conns; next_conn = c.close.new.self.next }) c.args.conn c.requires.sound c.requires.open c.requires.free
-    (ap (λ (w : ConnTable). record h { store = c.close.new.store; conns = w.conns; next_conn = w.next }) e.closed) e.moves e.lists e.frees e.settles (state_of c.settle.new.self) c.settle.ensures.others
+    hung_others h (record h { store = w.store; conns = w.self.conns; next_conn = w.self.next }) c.args.conn c.requires.sound c.requires.open c.requires.free
+    (ap (λ (t : ConnTable). record h { store = w.store; conns = t.conns; next_conn = t.next }) e.closed) e.moves e.lists e.frees e.settles (state_of c.settle.new.self) c.settle.ensures.others

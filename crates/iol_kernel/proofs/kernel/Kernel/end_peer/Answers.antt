@@ -1,10 +1,13 @@
 use Rattle.std.proofs.Common.{[], ap}
+use Rattle.iol_core.specs.State.{conn_at, with_conn}
+use Rattle.iol_core.specs.Calls.Outside.{closed_by}
 use Rattle.iol_sock.specs.Table.{ConnTable, conn_in}
 use Rattle.iol_kernel.specs.Kernel.{state_of}
 use Rattle.iol_kernel.specs.Readings.{bytes_over}
-use Rattle.iol_kernel.proofs.Connections.Connecting.{conn_held, conn_in-found, outgoing_covered}
-use Rattle.iol_kernel.proofs.Connections.PeerClosed.{peer_sound, peer_there, peer_left}
+use Rattle.iol_kernel.proofs.Connections.Connecting.{IsChanged, conn_held, conn_in-found, outgoing_covered}
+use Rattle.iol_kernel.proofs.Connections.PeerClosed.{peer_changed}
 use Rattle.iol_kernel.proofs.kernel.Kernel.end_peer.Goals as goal
+use Rattle.iol_kernel.proofs.kernel.Kernel.end_peer.Goals.{After-peer_closed}
 
 pub peer_closed-requires-clause-there : goal.peer_closed-requires-clause-there
 peer_closed-requires-clause-there c = let h = state_of c.args.self.now in conn_held (bytes_over [] h.store) h c.args.conn c.requires.there
@@ -14,23 +17,20 @@ peer_closed-requires-clause-covered c =
     let h = state_of c.args.self.now in
     outgoing_covered h c.args.conn (conn_in h.conns c.args.conn) c.requires.sound (conn_in-found h.conns c.args.conn (conn_held (bytes_over [] h.store) h c.args.conn c.requires.there))
 
-pub settle-requires-clause-sound : goal.settle-requires-clause-sound
-settle-requires-clause-sound c =
+-- its peer is as told, whether or not it is forgotten then
+told : (c : After-peer_closed) → IsChanged c.args.conn (λ s. with_conn s c.args.conn (closed_by (conn_at s c.args.conn) c.args.how)) (state_of c.args.self.now) (record (state_of c.args.self.now) { store = c.peer_closed.new.store; conns = c.peer_closed.new.self.conns; next_conn = c.peer_closed.new.self.next })
+told c =
     let h = state_of c.args.self.now in
+    let w = c.peer_closed.new in
     let e = c.peer_closed.ensures in
-    peer_sound h (record h { store = c.peer_closed.new.store; conns = c.peer_closed.new.self.conns; next_conn = c.peer_closed.new.self.next }) c.args.conn c.args.how c.requires.sound (conn_held (bytes_over [] h.store) h c.args.conn c.requires.there)
-    (ap (λ (w : ConnTable). record h { store = c.peer_closed.new.store; conns = w.conns; next_conn = w.next }) e.closed) e.moves e.lists e.frees e.settles
+    peer_changed h (record h { store = w.store; conns = w.self.conns; next_conn = w.self.next }) c.args.conn c.args.how c.requires.sound (conn_held (bytes_over [] h.store) h c.args.conn c.requires.there)
+    (ap (λ (t : ConnTable). record h { store = w.store; conns = t.conns; next_conn = t.next }) e.closed) e.moves e.lists e.frees e.settles
+
+pub settle-requires-clause-sound : goal.settle-requires-clause-sound
+settle-requires-clause-sound c = (told (goal.at.settle-requires-clause-sound c).After-peer_closed).sound
 
 pub settle-requires-clause-there : goal.settle-requires-clause-there
-settle-requires-clause-there c =
-    let h = state_of c.args.self.now in
-    let e = c.peer_closed.ensures in
-    peer_there h (record h { store = c.peer_closed.new.store; conns = c.peer_closed.new.self.conns; next_conn = c.peer_closed.new.self.next }) c.args.conn c.args.how c.requires.sound (conn_held (bytes_over [] h.store) h c.args.conn c.requires.there)
-    (ap (λ (w : ConnTable). record h { store = c.peer_closed.new.store; conns = w.conns; next_conn = w.next }) e.closed) e.moves e.lists e.frees e.settles
+settle-requires-clause-there c = (told (goal.at.settle-requires-clause-there c).After-peer_closed).there
 
 pub returns : goal.returns
-returns c =
-    let h = state_of c.args.self.now in
-    let e = c.peer_closed.ensures in
-    peer_left h (record h { store = c.peer_closed.new.store; conns = c.peer_closed.new.self.conns; next_conn = c.peer_closed.new.self.next }) c.args.conn c.args.how c.requires.sound (conn_held (bytes_over [] h.store) h c.args.conn c.requires.there)
-    (ap (λ (w : ConnTable). record h { store = c.peer_closed.new.store; conns = w.conns; next_conn = w.next }) e.closed) e.moves e.lists e.frees e.settles (state_of c.settle.new.self) c.settle.ensures.left
+returns c = (told (goal.at.returns c).After-peer_closed).left (state_of c.settle.new.self) c.settle.ensures.left

@@ -1,47 +1,88 @@
-use Rattle.std.proofs.Common.{[], ◌≡◌, ◌≤◌, ◌+◌, ◌-◌, sym, ap, length, length-append, take, arith, ℕ}
+use Rattle.std.proofs.Common.{[], ◌≡◌, ◌≤◌, ◌+◌, ◌-◌, ◌∙◌, Some, ap, length, length-append, take, arith, ℕ, rules}
 use Rattle.std.specs.Prelude.{min}
 use Rattle.std.proofs.lemmas.List.{length-take}
+use Rattle.iol_core.specs.Calls.Writing.{iol_write}
+use Rattle.iol_core.specs.declared.descriptors.Descriptor.{Descriptor}
 use Rattle.iol_core.specs.declared.limits.TheConstants.{MAX_QUEUE_BYTES}
+use Rattle.iol_hold.specs.Moves.{Covers, IsCountable}
 use Rattle.iol_hold.specs.Places.{places, byte_len}
+use Rattle.iol_hold.specs.Texts.{bufs_of}
+use Rattle.iol_sock.specs.Table.{ConnTable}
 use Rattle.iol_kernel.specs.Kernel.{state_of}
 use Rattle.iol_kernel.specs.Readings.{bytes_over}
-use Rattle.iol_kernel.specs.KernelState.{objects_of}
-use Rattle.iol_kernel.specs.KernelState.{queue_at}
+use Rattle.iol_kernel.specs.KernelState.{KernelState, objects_of, queue_at}
+use Rattle.iol_kernel.proofs.Connections.ConnQueues.{conn_there_held}
+use Rattle.iol_kernel.proofs.Connections.Outgoing.{queue_refused, queued_answers}
 use Rattle.iol_kernel.proofs.Queues.Queueing.{writing_held, queue_short, pushed_answers}
-use Rattle.iol_kernel.proofs.State.ReadOf.{live_held}
-use Rattle.iol_kernel.proofs.AggregateCalls.Slices.{there_held}
+use Rattle.iol_kernel.proofs.State.Carried.{carried_done}
+use Rattle.iol_kernel.proofs.State.ReadOf.{open_row}
 use Rattle.iol_kernel.proofs.State.Sound.{agg_small}
 use Rattle.iol_kernel.proofs.State.Uses.{agg_covered, countable}
 use Rattle.iol_kernel.proofs.kernel.Kernel.push.Goals as goal
-
-pub unreachable-requires : goal.unreachable-requires
-unreachable-requires c = there_held _ (state_of c.args.self.now) c.args.by c.args.agg c.requires.there (sym c.in_default.ensures)
+use Rattle.iol_kernel.proofs.kernel.Kernel.push.Goals.{In-Some}
 
 pub push-requires-clause-writing : goal.push-requires-clause-writing
-push-requires-clause-writing c = let h = state_of c.args.self.now in writing_held _ h c.args.by c.args.fd c.args.p c.requires.sound (c.requires.to (bytes_over [] h.store))
+push-requires-clause-writing c =
+    let h = state_of c.args.self.now in
+    writing_held (bytes_over [] h.store) h c.args.by c.args.fd c.in-WriteEnd.pipe c.requires.open.sound (c.requires.open.from (bytes_over [] h.store) ∙ ap (λ (x : Descriptor). Some x) c.in-WriteEnd.is)
+
+-- the aggregate's buffers are counted
+covered : (c : In-Some) → Covers c.args.self.now.store (bufs_of c.in-Some.found.now)
+covered c = let h = state_of c.args.self.now in agg_covered h.store h.domains (objects_of h) c.args.by c.args.agg c.in-Some.found.now c.requires.open.sound.counted (open_row c.requires.open) c.in-Some.ensures
+
+countable_there : (c : In-Some) → IsCountable c.args.self.now.store (bufs_of c.in-Some.found.now)
+countable_there c =
+    let h = state_of c.args.self.now in
+    let sound = c.requires.open.sound in
+    countable h.store h.domains (objects_of h) c.in-Some.found.now sound.counted sound.limits (agg_small h c.args.by c.args.agg c.in-Some.found.now sound c.in-Some.ensures)
 
 pub push-requires-clause-covered : goal.push-requires-clause-covered
-push-requires-clause-covered c =
-    let h = state_of c.args.self.now in
-    agg_covered h.store h.domains (objects_of h) c.args.by c.args.agg c.in-Some.found.now c.requires.sound.counted (live_held _ h c.args.by c.requires.live) c.in-Some.ensures
+push-requires-clause-covered c = covered (goal.at.push-requires-clause-covered c).In-Some
 
 pub push-requires-clause-countable : goal.push-requires-clause-countable
-push-requires-clause-countable c =
-    let h = state_of c.args.self.now in
-    countable h.store h.domains (objects_of h) c.in-Some.found.now c.requires.sound.counted c.requires.sound.limits (agg_small h c.args.by c.args.agg c.in-Some.found.now c.requires.sound c.in-Some.ensures)
+push-requires-clause-countable c = countable_there (goal.at.push-requires-clause-countable c).In-Some
+
+pub queue-requires-clause-covered : goal.queue-requires-clause-covered
+queue-requires-clause-covered c = covered (goal.at.queue-requires-clause-covered c).In-Some
+
+pub queue-requires-clause-countable : goal.queue-requires-clause-countable
+queue-requires-clause-countable c = countable_there (goal.at.queue-requires-clause-countable c).In-Some
+
+pub queue-requires-clause-there : goal.queue-requires-clause-there
+queue-requires-clause-there c = conn_there_held (state_of c.args.self.now) c.args.by c.args.fd c.in-Connection.conn c.requires.open.sound (λ f. c.requires.open.from f ∙ ap (λ (x : Descriptor). Some x) c.in-Connection.is)
 
 -- what fits keeps the queue within its bound
 short : (old new given n : ℕ) → old ≤ MAX_QUEUE_BYTES → n ≡ min given (MAX_QUEUE_BYTES - old) → new ≤ old + n → new ≤ MAX_QUEUE_BYTES
 short old new given n h is le = omega (arith, h, is, le)
 
-pub returns-clause-done : goal.returns-clause-done
-returns-clause-done c =
+pub returns-in_ok-push-in-WriteEnd : goal.returns-in_ok-push-in-WriteEnd
+returns-in_ok-push-in-WriteEnd c =
     let h = state_of c.args.self.now in
     let qs = c.push.new.self.places in
-    let p = c.args.p in
-    let n = c.in_ok-push.field-0 in
+    let p = c.in-WriteEnd.pipe in
+    let n = c.in_ok-push-in-WriteEnd.field-0 in
     let from = c.in-Some.found.now in
-    let e = c.in_ok-push.ensures in
-    let bound = short (byte_len (queue_at h.pipes p).queue) (byte_len (queue_at qs p).queue) (byte_len from) n (queue_short h p c.requires.sound) e.taken
+    let e = c.in_ok-push-in-WriteEnd.ensures in
+    let bound = short (byte_len (queue_at h.pipes p).queue) (byte_len (queue_at qs p).queue) (byte_len from) n (queue_short h p c.requires.open.sound) e.taken
     (omega (arith, ap length e.places, length-append (places (queue_at h.pipes p).queue) (take n (places from)), length-take n (places from))) in
-    pushed_answers h c.push.new.store qs c.args.fd p n c.args.by c.args.agg from c.requires.sound c.requires.to c.in-Some.ensures bound e.taken e.places e.pipes e.shares
+    carried_done (λ s. iol_write s c.args.by c.args.fd c.args.agg) h (record h { store = c.push.new.store; pipes = qs }) c.requires.passed n
+    (pushed_answers h c.push.new.store qs c.args.fd p n c.args.by c.args.agg from c.requires.open.sound (λ f. c.requires.open.from f ∙ ap (λ (x : Descriptor). Some x) c.in-WriteEnd.is) c.in-Some.ensures bound e.taken e.places e.pipes e.shares)
+
+pub returns-in_ok-queue-in-Connection : goal.returns-in_ok-queue-in-Connection
+returns-in_ok-queue-in-Connection c =
+    let h = state_of c.args.self.now in
+    let k : KernelState = record h { store = c.queue.new.store; conns = c.queue.new.self.conns; next_conn = c.queue.new.self.next } in
+    let n = c.in_ok-queue-in-Connection.field-0 in
+    let e = c.in_ok-queue-in-Connection.ensures in
+    carried_done (λ s. iol_write s c.args.by c.args.fd c.args.agg) h k c.requires.passed n
+    (queued_answers h c.args.by c.args.fd c.args.agg c.in-Connection.conn c.in-Some.found.now c.requires.open.sound (λ f. c.requires.open.from f ∙ ap (λ (x : Descriptor). Some x) c.in-Connection.is) c.in-Some.ensures k n e.count e.places
+    (ap (λ (w : ConnTable). record h { store = c.queue.new.store; conns = w.conns; next_conn = w.next }) e.others) e.shares)
+
+pub returns-in_err-queue-in-Connection : goal.returns-in_err-queue-in-Connection
+returns-in_err-queue-in-Connection c =
+    let h = state_of c.args.self.now in
+    let k : KernelState = record h { store = c.queue.new.store; conns = c.queue.new.self.conns; next_conn = c.queue.new.self.next } in
+    let e = c.in_err-queue-in-Connection.ensures in
+    let same : k ≡ h = λ i. record h { store = e.err_store i; conns = (e.err i).conns; next_conn = (e.err i).next } in
+    let kept = queue_refused h c.args.by c.args.fd c.args.agg c.in-Connection.conn c.in-Some.found.now c.requires.open.sound (λ f. c.requires.open.from f ∙ ap (λ (x : Descriptor). Some x) c.in-Connection.is) c.in-Some.ensures c.requires.passed k c.in_err-queue-in-Connection.field-0.0 (search (rules)) same in
+    search (rules, kept)

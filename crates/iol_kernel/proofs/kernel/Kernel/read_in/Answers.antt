@@ -1,9 +1,11 @@
 use Rattle.std.proofs.Common.{[], ap, rules, true, false}
 use Rattle.iol_sock.specs.Table.{ConnTable, conn_in}
 use Rattle.iol_kernel.specs.Kernel.{state_of}
-use Rattle.iol_kernel.proofs.Connections.Borrowing.{read_passed, read_refused, read_room, read_sound, read_made, read_takes, read_none, read_most}
+use Rattle.iol_kernel.proofs.Connections.Borrowing.{BroughtIn, brought_in, read_passed, read_refused, read_room}
 use Rattle.iol_kernel.proofs.Connections.Connecting.{conn_held, conn_in-found, conn_open}
+use Rattle.iol_kernel.proofs.kernel.Kernel.read_in.Given.{Over}
 use Rattle.iol_kernel.proofs.kernel.Kernel.read_in.Goals as goal
+use Rattle.iol_kernel.proofs.kernel.Kernel.read_in.Goals.{In_ok-arrive_from}
 use Rattle.iol_kernel.specs.Readings.{bytes_over}
 
 pub arrive_from-requires-clause-there : goal.arrive_from-requires-clause-there
@@ -28,43 +30,28 @@ returns-in_err-arrive_from-clause-refuses g c =
     let refused = read_refused h c.args.conn c.args.max there c.in_err-arrive_from.field-0.0 (search (rules)) in
     record { passed = search (rules); refused = search (rules, refused); room = search (rules); no_room = λ p is. read_room h c.args.conn c.args.max there false (c.arrive_from.ensures.no_room p (search (rules, is))) }
 
-pub returns-clause-read : goal.returns-clause-read
-returns-clause-read g c =
+-- what the read brought in
+brought : (g : Over) (c : In_ok-arrive_from g) → BroughtIn (state_of c.args.self.now) (record (state_of c.args.self.now) { store = c.arrive_from.new.store; conns = c.arrive_from.new.self.conns; next_conn = c.arrive_from.new.self.next }) c.args.conn c.args.max c.in_ok-arrive_from.field-0.taken (g.R.Read.remaining c.args.reader.now) (g.R.Read.remaining c.arrive_from.new.reader)
+brought g c =
     let h = state_of c.args.self.now in
+    let w = c.arrive_from.new in
     let e = c.in_ok-arrive_from.ensures in
-    read_takes h (record h { store = c.arrive_from.new.store; conns = c.arrive_from.new.self.conns; next_conn = c.arrive_from.new.self.next }) c.args.conn c.args.max c.in_ok-arrive_from.field-0.taken (g.R.Read.remaining c.args.reader.now) (g.R.Read.remaining c.arrive_from.new.reader) c.requires.sound (conn_held (bytes_over [] h.store) h c.args.conn c.requires.there) e.passed e.most e.read
-    (ap (λ (w : ConnTable). record h { store = c.arrive_from.new.store; conns = w.conns; next_conn = w.next }) c.arrive_from.ensures.others)
+    brought_in h (record h { store = w.store; conns = w.self.conns; next_conn = w.self.next }) c.args.conn c.args.max c.in_ok-arrive_from.field-0.taken (g.R.Read.remaining c.args.reader.now) (g.R.Read.remaining w.reader) c.requires.sound (conn_held (bytes_over [] h.store) h c.args.conn c.requires.there) e.passed e.most e.read
+    (ap (λ (t : ConnTable). record h { store = w.store; conns = t.conns; next_conn = t.next }) c.arrive_from.ensures.others)
+
+pub returns-clause-read : goal.returns-clause-read
+returns-clause-read g c = (brought g (goal.at.returns-clause-read g c).In_ok-arrive_from).takes
 
 pub returns-clause-made : goal.returns-clause-made
-returns-clause-made g c =
-    let h = state_of c.args.self.now in
-    let e = c.in_ok-arrive_from.ensures in
-    read_made h (record h { store = c.arrive_from.new.store; conns = c.arrive_from.new.self.conns; next_conn = c.arrive_from.new.self.next }) c.args.conn c.args.max c.in_ok-arrive_from.field-0.taken (g.R.Read.remaining c.args.reader.now) (g.R.Read.remaining c.arrive_from.new.reader) c.requires.sound (conn_held (bytes_over [] h.store) h c.args.conn c.requires.there) e.passed e.most e.read
-    (ap (λ (w : ConnTable). record h { store = c.arrive_from.new.store; conns = w.conns; next_conn = w.next }) c.arrive_from.ensures.others)
+returns-clause-made g c = (brought g (goal.at.returns-clause-made g c).In_ok-arrive_from).made
 
 pub returns-clause-told : goal.returns-clause-told
 returns-clause-told g c =
-    let h = state_of c.args.self.now in
     let e = c.in_ok-arrive_from.ensures in
-    record {
-      most = read_most h (record h { store = c.arrive_from.new.store; conns = c.arrive_from.new.self.conns; next_conn = c.arrive_from.new.self.next }) c.args.conn c.args.max c.in_ok-arrive_from.field-0.taken (g.R.Read.remaining c.args.reader.now) (g.R.Read.remaining c.arrive_from.new.reader) c.requires.sound (conn_held (bytes_over [] h.store) h c.args.conn c.requires.there) e.passed e.most e.read
-          (ap (λ (w : ConnTable). record h { store = c.arrive_from.new.store; conns = w.conns; next_conn = w.next }) c.arrive_from.ensures.others);
-      some = e.some;
-      either = e.either;
-      ended = e.ended;
-      failed = e.failed;
-    }
+    record { most = (brought g (goal.at.returns-clause-told g c).In_ok-arrive_from).most; some = e.some; either = e.either; ended = e.ended; failed = e.failed }
 
 pub returns-clause-none : goal.returns-clause-none
-returns-clause-none g c =
-    let h = state_of c.args.self.now in
-    let e = c.in_ok-arrive_from.ensures in
-    read_none h (record h { store = c.arrive_from.new.store; conns = c.arrive_from.new.self.conns; next_conn = c.arrive_from.new.self.next }) c.args.conn c.args.max c.in_ok-arrive_from.field-0.taken (g.R.Read.remaining c.args.reader.now) (g.R.Read.remaining c.arrive_from.new.reader) c.requires.sound (conn_held (bytes_over [] h.store) h c.args.conn c.requires.there) e.passed e.most e.read
-    (ap (λ (w : ConnTable). record h { store = c.arrive_from.new.store; conns = w.conns; next_conn = w.next }) c.arrive_from.ensures.others)
+returns-clause-none g c = (brought g (goal.at.returns-clause-none g c).In_ok-arrive_from).none
 
 pub returns-clause-sound : goal.returns-clause-sound
-returns-clause-sound g c =
-    let h = state_of c.args.self.now in
-    let e = c.in_ok-arrive_from.ensures in
-    read_sound h (record h { store = c.arrive_from.new.store; conns = c.arrive_from.new.self.conns; next_conn = c.arrive_from.new.self.next }) c.args.conn c.args.max c.in_ok-arrive_from.field-0.taken (g.R.Read.remaining c.args.reader.now) (g.R.Read.remaining c.arrive_from.new.reader) c.requires.sound (conn_held (bytes_over [] h.store) h c.args.conn c.requires.there) e.passed e.most e.read
-    (ap (λ (w : ConnTable). record h { store = c.arrive_from.new.store; conns = w.conns; next_conn = w.next }) c.arrive_from.ensures.others)
+returns-clause-sound g c = (brought g (goal.at.returns-clause-sound g c).In_ok-arrive_from).sound

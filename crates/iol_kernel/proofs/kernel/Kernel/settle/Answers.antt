@@ -6,6 +6,7 @@ use Rattle.iol_sock.specs.Connections.{Conn, is_over}
 use Rattle.iol_kernel.specs.Kernel.{state_of}
 use Rattle.iol_kernel.proofs.Connections.Connecting.{some_same, conn_covered, conn_readable, settled_stays, settled_as, gone_keeps}
 use Rattle.iol_kernel.proofs.kernel.Kernel.settle.Goals as goal
+use Rattle.iol_kernel.proofs.kernel.Kernel.settle.Goals.{After-forget-over}
 
 pub release-requires : goal.release-requires
 release-requires c = conn_covered (state_of c.args.self.now) c.args.conn c.forget-over.result c.requires.sound (sym c.forget-over.ensures.given)
@@ -13,15 +14,21 @@ release-requires c = conn_covered (state_of c.args.self.now) c.args.conn c.forge
 pub returns-then-not-is_over-clause-left : goal.returns-then-not-is_over-clause-left
 returns-then-not-is_over-clause-left c = settled_stays (state_of c.args.self.now) c.args.conn c.in-Some.found.now c.requires.sound (sym c.in-Some.ensures) (search (rules))
 
+-- what is forgotten was over
+over : (c : After-forget-over) → is_over c.forget-over.result ≡ true
+over c =
+    let same : c.forget-over.result ≡ c.in-Some.found.now = some_same (c.forget-over.ensures.given ∙ sym c.in-Some.ensures) in
+    let e : is_over c.in-Some.found.now ≡ true = search (rules) in
+    subst (λ (y : Conn (List Slice)). is_over y ≡ true) (sym same) e
+
 pub returns-clause-left : goal.returns-clause-left
 returns-clause-left c =
     let h = state_of c.args.self.now in
     let x : Conn (List Slice) = c.forget-over.result in
     let found = sym c.forget-over.ensures.given in
     let good = conn_readable h c.args.conn x c.requires.sound found in
-    let same : c.forget-over.result ≡ c.in-Some.found.now = some_same (c.forget-over.ensures.given ∙ sym c.in-Some.ensures) in
-    let over : is_over c.forget-over.result ≡ true = (let e : is_over c.in-Some.found.now ≡ true = search (rules) in subst (λ (y : Conn (List Slice)). is_over y ≡ true) (sym same) e) in
-    settled_as h c.args.conn x c.requires.sound found c.release.new.store over c.release.ensures.moves c.release.ensures.lists c.release.ensures.frees (c.release.ensures.settles (readable_joined good.0 good.1) c.requires.sound.settled)
+    let r = c.release.ensures in
+    settled_as h c.args.conn x c.requires.sound found c.release.new.store (over (goal.at.returns-clause-left c).After-forget-over) r.moves r.lists r.frees (r.settles (readable_joined good.0 good.1) c.requires.sound.settled)
     c.forget-over.new.self.conns c.forget-over.new.self.next c.forget-over.ensures.rest c.forget-over.ensures.next
 
 pub returns-then-not-is_over-clause-others : goal.returns-then-not-is_over-clause-others
@@ -33,7 +40,6 @@ returns-clause-others c =
     let x : Conn (List Slice) = c.forget-over.result in
     let found = sym c.forget-over.ensures.given in
     let good = conn_readable h c.args.conn x c.requires.sound found in
-    let same : c.forget-over.result ≡ c.in-Some.found.now = some_same (c.forget-over.ensures.given ∙ sym c.in-Some.ensures) in
-    let over : is_over c.forget-over.result ≡ true = (let e : is_over c.in-Some.found.now ≡ true = search (rules) in subst (λ (y : Conn (List Slice)). is_over y ≡ true) (sym same) e) in
-    gone_keeps h c.args.conn x c.requires.sound found c.release.new.store over c.release.ensures.moves c.release.ensures.lists c.release.ensures.frees (c.release.ensures.settles (readable_joined good.0 good.1) c.requires.sound.settled)
+    let r = c.release.ensures in
+    gone_keeps h c.args.conn x c.requires.sound found c.release.new.store (over (goal.at.returns-clause-others c).After-forget-over) r.moves r.lists r.frees (r.settles (readable_joined good.0 good.1) c.requires.sound.settled)
     (on.Connection c.args.conn) c.forget-over.new.self.conns c.forget-over.new.self.next c.forget-over.ensures.rest

@@ -1,25 +1,24 @@
-use Rattle.std.proofs.Common.{◌∙◌, [], Some, ap, sym}
-use Rattle.iol_core.specs.declared.descriptors.Descriptor.{Descriptor}
+use Rattle.std.proofs.Common.{◌∙◌, [], ap, length, sym}
+use Rattle.iol_core.specs.Calls.Reading.{can_read}
 use Rattle.iol_kernel.specs.Kernel.{state_of}
 use Rattle.iol_kernel.specs.Readings.{bytes_over}
-use Rattle.iol_kernel.proofs.FileCalls.FileTests.{no_queue}
-use Rattle.iol_kernel.proofs.State.ReadOf.{live_always}
+use Rattle.iol_kernel.proofs.Queues.LookUps.{source_held}
+use Rattle.iol_kernel.proofs.Queues.Skipped.{copied_left}
 use Rattle.iol_kernel.proofs.kernel.Kernel.take_into.Goals as goal
 
-pub unreachable-requires-in-File : goal.unreachable-requires-in-File
-unreachable-requires-in-File c =
-    no_queue (state_of c.args.self.now) c.args.by c.args.fd c.requires.live (sym (c.descriptor.ensures (bytes_over [] c.args.self.now.store)) ∙ c.in-Some.is ∙ ap (λ (x : Descriptor). Some x) c.in-File.is) c.requires.no_file
+pub copy_front-count-requires : goal.copy_front-count-requires
+copy_front-count-requires c =
+    let h = state_of c.args.self.now in
+    let from = sym (c.descriptor.ensures (bytes_over [] h.store)) ∙ c.in-Some.is in
+    source_held h c.args.by c.args.fd c.in-Some.from c.requires.sound c.requires.live from c.requires.no_file (sym (ap can_read from) ∙ c.requires.readable)
 
-pub take_from_pipe-requires : goal.take_from_pipe-requires
-take_from_pipe-requires c = record {
-  sound = c.requires.sound;
-  live = live_always (state_of c.args.self.now) c.args.by c.requires.live;
-  from = λ f. sym (c.descriptor.ensures f) ∙ c.in-Some.is ∙ ap (λ (x : Descriptor). Some x) c.in-ReadEnd.is;
-}
+pub skip-requires : goal.skip-requires
+skip-requires c =
+    let h = state_of c.args.self.now in
+    let from = sym (c.descriptor.ensures (bytes_over [] h.store)) ∙ c.in-Some.is in
+    source_held h c.args.by c.args.fd c.in-Some.from c.requires.sound c.requires.live from c.requires.no_file (sym (ap can_read from) ∙ c.requires.readable)
 
-pub take_from_conn-requires : goal.take_from_conn-requires
-take_from_conn-requires c = record {
-  sound = c.requires.sound;
-  live = live_always (state_of c.args.self.now) c.args.by c.requires.live;
-  from = λ f. sym (c.descriptor.ensures f) ∙ c.in-Some.is ∙ ap (λ (x : Descriptor). Some x) c.in-Connection.is;
-}
+pub returns-clause-left : goal.returns-clause-left
+returns-clause-left c =
+    let h = state_of c.args.self.now in
+    copied_left h c.args.by c.args.fd (length c.args.into.now) c.copy_front-count.result c.in-Some.from (λ f. sym (c.descriptor.ensures f) ∙ c.in-Some.is) c.copy_front-count.ensures.count (state_of c.skip.new.self) (c.skip.ensures c.args.by c.args.fd)

@@ -1,12 +1,11 @@
-use Rattle.std.proofs.Common.{rules, ◌∙◌, [], Some, ap, sym}
-use Rattle.iol_core.specs.declared.descriptors.Descriptor.{Descriptor}
+use Rattle.std.proofs.Common.{[]}
 use Rattle.iol_kernel.specs.Kernel.{state_of}
 use Rattle.iol_kernel.specs.Readings.{bytes_over}
-use Rattle.iol_kernel.proofs.FileCalls.FileTests.{no_queue}
+use Rattle.iol_kernel.proofs.Queues.LookUps.{is_queue}
 use Rattle.iol_kernel.proofs.kernel.Kernel.waiting.Goals as goal
 
-pub unreachable-requires : goal.unreachable-requires
-unreachable-requires c =
-    let f = bytes_over [] c.args.self.now.store in
-    let told = c.is_live.ensures f in
-    no_queue (state_of c.args.self.now) c.args.by c.args.fd (search (rules, told)) (sym (c.descriptor.ensures f) ∙ c.in-Some.is ∙ ap (λ (x : Descriptor). Some x) c.in-File.is) c.requires.no_file
+pub first_barred-requires : goal.first_barred-requires
+first_barred-requires c =
+    let h = state_of c.args.self.now in
+    let e = c.in_ok-from.ensures in
+    is_queue h c.args.by c.args.fd c.in_ok-from.from (e.live (bytes_over [] h.store)) (e.open (bytes_over [] h.store)) c.requires.no_file

@@ -1,0 +1,47 @@
+use Rattle.std.proofs.Common.{ap, arith, subst, sym}
+use Rattle.iol_core.specs.declared.descriptors.Descriptor.{Descriptor}
+use Rattle.iol_sock.specs.Table.{ConnTable, conn_in}
+use Rattle.iol_kernel.specs.Kernel.{state_of}
+use Rattle.iol_kernel.specs.KernelState.{KernelState, objects_of, queue_at}
+use Rattle.iol_kernel.specs.QueueEnds.{GivesFront}
+use Rattle.iol_kernel.proofs.Connections.Connecting.{conn_limit}
+use Rattle.iol_kernel.proofs.Connections.Incoming.{conn_front}
+use Rattle.iol_kernel.proofs.Queues.Sources.{source_covered, source_found, source_there}
+use Rattle.iol_kernel.proofs.Queues.Queueing.{pipe_front, queue_short}
+use Rattle.iol_kernel.proofs.State.Uses.{countable}
+use Rattle.iol_kernel.proofs.kernel.Kernel.front.Goals as goal
+
+pub front-requires-clause-countable : goal.front-requires-clause-countable
+front-requires-clause-countable c =
+    let h = state_of c.args.self.now in
+    countable h.store h.domains (objects_of h) (queue_at h.pipes c.in-ReadEnd.pipe).queue c.requires.sound.counted c.requires.sound.limits (omega (arith, queue_short h c.in-ReadEnd.pipe c.requires.sound))
+
+pub returns-in_ok-front-in-ReadEnd-clause-given : goal.returns-in_ok-front-in-ReadEnd-clause-given
+returns-in_ok-front-in-ReadEnd-clause-given c =
+    let h = state_of c.args.self.now in
+    let e = c.in_ok-front-in-ReadEnd.ensures in
+    subst (λ (x : Descriptor). GivesFront x c.args.by c.args.n h (record h { store = c.front.new.store; pipes = c.front.new.self.places }) c.in_ok-front-in-ReadEnd.field-0) (sym c.in-ReadEnd.is)
+    (pipe_front h c.front.new.store c.front.new.self.places c.in-ReadEnd.pipe c.args.by c.args.n c.in_ok-front-in-ReadEnd.field-0 e.given e.rest e.pipes e.shares)
+
+pub front-requires-in-Connection-clause-there : goal.front-requires-in-Connection-clause-there
+front-requires-in-Connection-clause-there c = source_there (state_of c.args.self.now) c.args.from.now c.in-Connection.conn c.requires c.in-Connection.is
+
+pub front-requires-in-Connection-clause-covered : goal.front-requires-in-Connection-clause-covered
+front-requires-in-Connection-clause-covered c = source_covered (state_of c.args.self.now) c.args.from.now c.in-Connection.conn c.requires c.in-Connection.is
+
+pub front-requires-in-Connection-clause-countable : goal.front-requires-in-Connection-clause-countable
+front-requires-in-Connection-clause-countable c =
+    let h = state_of c.args.self.now in
+    let n = c.in-Connection.conn in
+    let short = (conn_limit h n (conn_in h.conns n) c.requires.sound (source_found h c.args.from.now n c.requires c.in-Connection.is)).incoming in
+    countable h.store h.domains (objects_of h) (conn_in h.conns n).incoming c.requires.sound.counted c.requires.sound.limits (omega (arith, short))
+
+pub returns-in_ok-front-in-Connection-clause-given : goal.returns-in_ok-front-in-Connection-clause-given
+returns-in_ok-front-in-Connection-clause-given c =
+    let h = state_of c.args.self.now in
+    let w = c.front-in-Connection.new in
+    let k : KernelState = record h { store = w.store; conns = w.self.conns; next_conn = w.self.next } in
+    let e = c.in_ok-front-in-Connection.ensures in
+    subst (λ (x : Descriptor). GivesFront x c.args.by c.args.n h k c.in_ok-front-in-Connection.field-0) (sym c.in-Connection.is)
+    (conn_front h k c.in-Connection.conn c.args.by c.args.n c.in_ok-front-in-Connection.field-0 e.given e.rest
+    (ap (λ (t : ConnTable). record h { store = w.store; conns = t.conns; next_conn = t.next }) e.others) e.shares)

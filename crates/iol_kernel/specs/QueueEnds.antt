@@ -1,0 +1,31 @@
+-- What a descriptor is open on, to read from it.
+use Rattle.std.specs.Prelude.{◌≡◌, ℕ, ◌<◌, true, false, List, Option, Some, option_map}
+use Rattle.std.specs.List.{slice_get}
+use Rattle.iol_core.specs.Text.{Text}
+use Rattle.iol_core.specs.Calls.Reading.{can_read, iol_read}
+use Rattle.iol_core.specs.Calls.Writing.{is_file}
+use Rattle.iol_core.specs.declared.descriptors.Descriptor.{Descriptor}
+use Rattle.iol_core.specs.declared.limits.TheConstants.{MAX_AGGREGATES}
+use Rattle.iol_hold.specs.declared.slices.Slice.{Slice}
+use Rattle.iol_desc.specs.Tables.{domain_in, live_aggs_in, with_agg_in}
+use Rattle.iol_kernel.specs.Calls.{Answers}
+use Rattle.iol_kernel.specs.KernelState.{KernelState, objects_of, IsOpenEnd, IsSound}
+use Rattle.iol_kernel.specs.Opened.{IsOpenOn}
+
+-- the pool of a text's first byte
+abbrev pub pool_of_first : Text → Option ℕ
+pool_of_first t = option_map (λ b. b.1) (slice_get t 0)
+
+-- Between two events: it is open, and a queue is read by it.
+pub record IsSource (h : KernelState) (end : Descriptor) : Type 0 where
+  pub sound : IsSound h
+  pub opened : IsOpenEnd (objects_of h) (Some end)
+  pub readable : can_read (Some end) ≡ true
+  pub no_file : is_file (Some end) ≡ false
+
+-- Of the first n bytes of a queue those that the domain may see were taken off it: these slices. Added to the domain, they
+-- answer its read.
+pub record GivesFront (end : Descriptor) (d n : ℕ) (old new : KernelState) (slices : List Slice) : Type 0 where
+  pub answers : (fd : ℕ) → IsOpenOn old d fd end → live_aggs_in old.domains < MAX_AGGREGATES
+      → Answers (λ s. iol_read s d fd n) old (domain_in old.domains d).next_agg
+      (record new { domains = with_agg_in old.domains d slices })

@@ -1,0 +1,170 @@
+//! What a descriptor reads from and writes to. Here alone a pipe and a connection are told apart where bytes are read and
+//! written: each look-up is a word of the copying machine (`iol_core`, `specs/Calls/Reading` and `Writing`), of any descriptor.
+ghost use Rattle.std.specs.Prelude.{◌≡◌, ◌≤◌, false, length, Option, Some, None, option_map};
+ghost use Rattle.iol_core.specs.Calls.Reading as reading;
+ghost use Rattle.iol_core.specs.Calls.Writing as writing;
+ghost use Rattle.iol_kernel.specs.QueueEnds.{pool_of_first};
+ghost use Rattle.iol_kernel.specs.Readings.{Reading, KeepsPools};
+
+use crate::kernel::Kernel;
+use crate::open_file::{is_for_writing, may_be_read};
+use iol_core::descriptors::Descriptor;
+use iol_core::limits::{MAX_FILE_BYTES, MAX_QUEUE_BYTES};
+use iol_core::numbers::{DomainId, PoolId};
+use iol_core::refusals::Refusal;
+
+/// Whether a descriptor is open for reading.
+pub(crate) fn can_read(from: &Descriptor) -> bool
+    ensures { result ≡ reading.can_read (Some from.now) }
+{
+    match from {
+        Descriptor::File { mode, .. } => may_be_read(*mode),
+        Descriptor::ReadEnd { .. } | Descriptor::Connection { .. } => true,
+        Descriptor::WriteEnd { .. } => false,
+    }
+}
+
+/// Whether a descriptor is open for writing.
+pub(crate) fn can_write(to: &Descriptor) -> bool
+    ensures { result ≡ writing.can_write (Some to.now) }
+{
+    match to {
+        Descriptor::File { mode, .. } => is_for_writing(*mode),
+        Descriptor::WriteEnd { .. } | Descriptor::Connection { .. } => true,
+        Descriptor::ReadEnd { .. } => false,
+    }
+}
+
+/// Whether a file would pass its limit if so many bytes were written to it.
+pub(crate) fn is_too_long(to: &Descriptor, count: u32) -> bool
+    ensures { result ≡ writing.is_too_long (Some to.now) count }
+{
+    match to {
+        Descriptor::File { at, .. } => *at as usize + count as usize > MAX_FILE_BYTES,
+        Descriptor::ReadEnd { .. } | Descriptor::WriteEnd { .. } | Descriptor::Connection { .. } =>
+            false,
+    }
+}
+
+impl Kernel {
+    ghost use Rattle.iol_kernel.specs.Kernel.{as_read};
+
+    /// How many bytes wait to be read.
+    pub(crate) fn unread(&self, from: &Descriptor) -> u32
+        ensures { (f : Reading) → result ≡ length (reading.unread (as_read f self.now) (Some
+            from.now)) }
+    {
+        match from {
+            Descriptor::ReadEnd { pipe } => self.pipes.len(*pipe),
+            Descriptor::Connection { conn } => match self.conns.get(*conn) {
+                Some(found) => found.unread(),
+                None => 0,
+            },
+            Descriptor::WriteEnd { .. } | Descriptor::File { .. } => 0,
+        }
+    }
+
+    /// The pool of the first byte that waits to be read.
+    fn first_pool(&self, from: &Descriptor) -> Option<PoolId>
+        ensures { (f : Reading) → KeepsPools f → result ≡ pool_of_first (reading.unread (as_read f
+            self.now) (Some from.now)) }
+    {
+        match from {
+            Descriptor::ReadEnd { pipe } => self.pipes.first_pool(*pipe),
+            Descriptor::Connection { conn } => self.conns.get(*conn)?.first_pool(),
+            Descriptor::WriteEnd { .. } | Descriptor::File { .. } => None,
+        }
+    }
+
+    /// Whether more may come to be read.
+    fn may_grow(&self, from: &Descriptor) -> bool
+        ensures { (f : Reading) → result ≡ reading.may_grow (as_read f self.now) (Some from.now) }
+    {
+        match from {
+            Descriptor::ReadEnd { pipe } => self.pipes.is_writing(*pipe),
+            Descriptor::Connection { conn } => match self.conns.get(*conn) {
+                Some(found) => found.may_grow(),
+                None => false,
+            },
+            Descriptor::WriteEnd { .. } | Descriptor::File { .. } => false,
+        }
+    }
+
+    /// Whether bytes are asked for, none wait, and some may come.
+    pub(crate) fn must_wait(&self, from: &Descriptor, count: usize) -> bool
+        ensures { (f : Reading) → result ≡ reading.must_wait (as_read f self.now) (Some from.now)
+            count }
+    {
+        count > 0 && self.unread(from) == 0 && self.may_grow(from)
+    }
+
+    /// The pool of the first byte of a queue that is asked for, where the reader may not read it.
+    pub(crate) fn first_barred(
+        &self,
+        by: DomainId,
+        from: &Descriptor,
+        count: usize,
+    ) -> Option<PoolId>
+        requires { writing.is_file (Some from.now) ≡ false }
+        ensures { (f : Reading) → KeepsPools f → option_map (λ p. Refusal.Denied p) result ≡
+            reading.read_denied (as_read f self.now) by (Some from.now) count }
+    {
+        if count == 0 {
+            return None;
+        }
+        let pool = self.first_pool(from)?;
+        if self.may_read(by, pool) {
+            return None;
+        }
+        Some(pool)
+    }
+
+    /// How many bytes were written to a queue and are not yet taken.
+    fn unsent(&self, to: &Descriptor) -> u32
+        ensures len { (f : Reading) → result ≡ length (writing.unsent (as_read f self.now) (Some
+            to.now)) }
+        ensures most { result ≤ MAX_QUEUE_BYTES }
+    {
+        match to {
+            Descriptor::WriteEnd { pipe } => self.pipes.len(*pipe),
+            Descriptor::Connection { conn } => match self.conns.get(*conn) {
+                Some(found) => found.unsent(),
+                None => 0,
+            },
+            Descriptor::ReadEnd { .. } | Descriptor::File { .. } => 0,
+        }
+    }
+
+    /// Whether nobody will take what is written.
+    pub(crate) fn is_broken(&self, to: &Descriptor) -> bool
+        ensures { (f : Reading) → result ≡ writing.is_broken (as_read f self.now) (Some to.now) }
+    {
+        match to {
+            Descriptor::WriteEnd { pipe } => !self.pipes.is_reading(*pipe),
+            Descriptor::Connection { conn } => match self.conns.get(*conn) {
+                Some(found) => found.is_gone(),
+                None => true,
+            },
+            Descriptor::ReadEnd { .. } | Descriptor::File { .. } => false,
+        }
+    }
+
+    /// How many of so many bytes are taken: by a file all, by a queue what fits.
+    pub(crate) fn fitting(&self, to: &Descriptor, count: usize) -> usize
+        ensures { (f : Reading) → result ≡ writing.fitting (as_read f self.now) (Some to.now)
+            count }
+    {
+        if let Descriptor::File { .. } = to {
+            return count;
+        }
+        count.min(MAX_QUEUE_BYTES - self.unsent(to) as usize)
+    }
+
+    /// Whether bytes are offered and none fits.
+    pub(crate) fn takes_none(&self, to: &Descriptor, count: usize) -> bool
+        ensures { (f : Reading) → result ≡ writing.takes_none (as_read f self.now) (Some to.now)
+            count }
+    {
+        count > 0 && self.fitting(to, count) == 0
+    }
+}
