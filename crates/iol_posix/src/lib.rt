@@ -16,8 +16,8 @@
 //! ```
 #![tactic(auto)]
 
-mod reading;
-mod writing;
+mod read;
+mod write;
 
-pub use reading::{read, read_bytes};
-pub use writing::write;
+pub use read::{read, read_bytes};
+pub use write::write;
