@@ -1,4 +1,5 @@
 pub mod Tests
+pub mod Runs
 pub mod Places
 pub mod Domains
 pub mod Connections

@@ -24,6 +24,7 @@ use Rattle.iol_core.specs.declared.events.Event.TheVariants as event
 use Rattle.iol_core.specs.declared.events.Reply.{Reply}
 use Rattle.iol_core.specs.declared.events.Reply.TheVariants as reply
 use Rattle.iol_core.proofs.Passing.{list_all-both, list_all-drop, list_all-labelled, list_all-lookup, list_all-push, list_all-take, list_all-weaker, list_all-without}
+use Rattle.iol_laws.proofs.Runs.{run_keeps}
 use Rattle.iol_laws.specs.Labels.{AreAtHome, lies_in}
 use Rattle.iol_laws.proofs.Changing.{Change, Reads, Writes, Closes, Takes, all_turned, changed_by, changes, conns_turned, turned}
 use Rattle.iol_laws.proofs.Refusals.Left.{left, may}
@@ -87,14 +88,8 @@ pub home_step : (s t : State) (e : Event) (r : Reply) → AreAtHome s → StepsT
 home_step s t e (reply.Refused x) home step = subst (λ (u : State). AreAtHome u) (sym step.1) home
 home_step s t e r home step = subst (λ (u : State). AreAtHome u) (sym step.2) (home_meant s e home)
 
-home_run : (s t : State) (es : List Event) (rs : List Reply) → AreAtHome s → Run s es rs t → AreAtHome t
-home_run s t [] [] home run = subst (λ (u : State). AreAtHome u) (sym run) home
-home_run s t (e ∷ es) (r ∷ rs) home run = home_run run.0 t es rs (home_step s run.0 e r home run.1) run.2
-home_run s t [] (r ∷ rs) home run = absurd run
-home_run s t (e ∷ es) [] home run = absurd run
-
 pub home_reached : (slots : List (List ℕ)) (t : State) (es : List Event) (rs : List Reply) → Run (new_state slots) es rs t → AreAtHome t
-home_reached slots t es rs run = home_run (new_state slots) t es rs (home_new slots) run
+home_reached slots t es rs run = run_keeps (λ s. AreAtHome s) home_step (new_state slots) t es rs (home_new slots) run
 
 -- Who may read the pool is never denied.
 
