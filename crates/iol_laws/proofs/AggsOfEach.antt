@@ -1,6 +1,6 @@
 -- What holds of each domain's aggregates and of its next number, and stays so after each event.
-use Rattle.std.proofs.Common.{inl, inr, ◌≡◌, ℕ, ◌+◌, ◌==◌, List, [], ◌∷◌, ◌++◌, length, take, drop, ap, refl, sym, subst, arith, Option, Some, None, true, false, Bool, append_assoc}
-use Rattle.std.specs.Prelude.{unwrap_or, fold, slice_set, if◌then◌else◌}
+use Rattle.std.proofs.Common.{inl, inr, ◌≡◌, ℕ, ◌+◌, List, [], ◌∷◌, ◌++◌, length, take, drop, ap, refl, sym, subst, arith, Option, Some, None, append_assoc}
+use Rattle.std.specs.Prelude.{unwrap_or, fold, slice_set}
 use Rattle.std.specs.Option.{option_map_or}
 use Rattle.iol_core.specs.Text.{Text, labelled, part}
 use Rattle.iol_core.specs.Numbered.{without, lowest, placed}
@@ -18,6 +18,7 @@ use Rattle.iol_core.specs.declared.events.Call.TheVariants as call
 use Rattle.iol_core.specs.declared.events.Event.{Event}
 use Rattle.iol_core.specs.declared.events.Event.TheVariants as event
 use Rattle.iol_core.proofs.Lookups.{domain-with_domain, domain-same, domain-push}
+use Rattle.iol_laws.proofs.Gives.{agg_given, fd_given}
 use Rattle.iol_laws.proofs.Domains.{domains-all_closed, domains-closed_on, domains-with_conn, domains-with_pipe}
 use Rattle.iol_laws.proofs.Tests.{same-number}
 
@@ -101,19 +102,14 @@ module _ (P : (d : ℕ) → List (ℕ × Text) → (next : ℕ) → Type 0) (Q :
           subst (λ m. P by (kept ++ (n, front) ∷ (n + 1, back) ∷ []) m) next (subst (λ (l : List (ℕ × Text)). P by l (n + 1 + 1)) (append_assoc kept ((n, front) ∷ []) ((n + 1, back) ∷ [])) both)
 
   of_give : (s : State) (by a to : ℕ) → Brings Q s by (call.AggGive a to) → OfEach s → OfEach (aggs.agg_give s by a to).after
-  of_give s by a to brings all = cases (by == to) refl
-    where
-      cases : (b : Bool) → (by == to) ≡ b → OfEach (if b then aggs.with_new s by (without (domain s by).aggs a) (text s by a) else aggs.without_agg (aggs.with_agg s to (text s by a)) by a)
-      cases true same = of_new s by (without (domain s by).aggs a) (text s by a) (subst (λ k. Q k (aggs.next_agg s k) (text s by a)) (sym (same-number by to same)) brings) (of_left s by a all) all
-      cases false other = of_without (aggs.with_agg s to (text s by a)) by a (of_agg s to (text s by a) brings all)
+  of_give s by a to brings all =
+      agg_given OfEach s by a to
+      (λ same. of_new s by (without (domain s by).aggs a) (text s by a) (subst (λ k. Q k (aggs.next_agg s k) (text s by a)) (sym (same-number by to same)) brings) (of_left s by a all) all)
+      (λ other. of_without (aggs.with_agg s to (text s by a)) by a (of_agg s to (text s by a) brings all))
 
   of_handed : (s : State) (by fd to : ℕ) (o : Option Descriptor) → OfEach s → OfEach (option_map_or (fds.given_to s by fd to) o s)
   of_handed s by fd to None all = all
-  of_handed s by fd to (Some x) all = cases (by == to)
-    where
-      cases : (b : Bool) → OfEach (if b then fds.with_fds s by (placed (fds.freed s by fd) (lowest (fds.freed s by fd)) x) else fds.with_fds (fds.opened s to x) by (fds.freed s by fd))
-      cases true = of_fds s by _ all
-      cases false = of_fds (fds.opened s to x) by _ (of_fds s to _ all)
+  of_handed s by fd to (Some x) all = fd_given OfEach s by fd to x (λ same. of_fds s by _ all) (λ other. of_fds (fds.opened s to x) by _ (of_fds s to _ all))
 
   of_read_on : (s : State) (by fd : ℕ) (o : Option Descriptor) (n : ℕ) → OfEach s → OfEach (reading.read_on s by fd o n)
   of_read_on s by fd None n all = all

@@ -8,8 +8,8 @@ use Rattle.std.proofs.lemmas.Bool.{cases_eq}
 use Rattle.std.proofs.lemmas.Bool.Decides.{nat_tests}
 use Rattle.std.proofs.lemmas.Grind.{common_steps}
 use Rattle.iol_core.specs.Text.{Text, bytes_of}
-use Rattle.iol_core.specs.Numbered.{without, is_numbered, numbered_or, with_numbered, lowest, placed}
-use Rattle.iol_core.specs.State.{State, Domain, Pool, File, domain, pool, is_pool, no_pool, file, no_file, content, text, descriptor, no_domain, with_domain, with_pipe, with_conn, with_content}
+use Rattle.iol_core.specs.Numbered.{is_numbered, numbered_or, with_numbered}
+use Rattle.iol_core.specs.State.{State, Domain, Pool, File, domain, pool, is_pool, no_pool, file, no_file, content, descriptor, no_domain, with_domain, with_pipe, with_conn, with_content}
 use Rattle.iol_core.specs.Run.{called, meaning}
 use Rattle.iol_core.specs.Calls.Domains.{exit}
 use Rattle.iol_core.specs.Calls.Pools.{admitting, with_name}
@@ -26,6 +26,7 @@ use Rattle.iol_core.specs.declared.events.Call.TheVariants as call
 use Rattle.iol_core.specs.declared.events.Event.{Event}
 use Rattle.iol_core.specs.declared.events.Event.TheVariants as event
 use Rattle.iol_core.proofs.Lookups.{file-same, numbered_or-with}
+use Rattle.iol_laws.proofs.Gives.{agg_given, fd_given}
 use Rattle.iol_laws.specs.Frame.{Grows, admits_to, changes_files, closes_pool, is_on_file, writes_file}
 use Rattle.iol_laws.proofs.Tests.{apart}
 
@@ -101,19 +102,11 @@ store_then_domain s t d x same = record { files = same.files; slots = same.slots
 store_given : (s : State) (by fd to : ℕ) (o : Option Descriptor) → SameStore s (option_map_or (fds.given_to s by fd to) o s)
 unfolding with_domain
 store_given s by fd to None = record { files = refl; slots = refl; pools = refl }
-store_given s by fd to (Some x) = cases (by == to)
-  where
-    cases : (b : Bool) → SameStore s (if b then fds.with_fds s by (placed (fds.freed s by fd) (lowest (fds.freed s by fd)) x) else fds.with_fds (fds.opened s to x) by (fds.freed s by fd))
-    cases true = record { files = refl; slots = refl; pools = refl }
-    cases false = record { files = refl; slots = refl; pools = refl }
+store_given s by fd to (Some x) = fd_given (λ t. SameStore s t) s by fd to x (λ same. record { files = refl; slots = refl; pools = refl }) (λ other. record { files = refl; slots = refl; pools = refl })
 
 store_agg_give : (s : State) (by a to : ℕ) → SameStore s (aggs.agg_give s by a to).after
 unfolding with_domain
-store_agg_give s by a to = cases (by == to)
-  where
-    cases : (b : Bool) → SameStore s (if b then aggs.with_new s by (without (domain s by).aggs a) (text s by a) else aggs.without_agg (aggs.with_agg s to (text s by a)) by a)
-    cases true = record { files = refl; slots = refl; pools = refl }
-    cases false = record { files = refl; slots = refl; pools = refl }
+store_agg_give s by a to = agg_given (λ t. SameStore s t) s by a to (λ same. record { files = refl; slots = refl; pools = refl }) (λ other. record { files = refl; slots = refl; pools = refl })
 
 -- whether it makes or changes a pool
 abbrev pub changes_pools : Event → Bool

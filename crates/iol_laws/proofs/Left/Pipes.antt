@@ -1,11 +1,11 @@
 -- What each event leaves of pipes.
-use Rattle.std.proofs.Common.{◌≡◌, ◌≢◌, ℕ, ◌==◌, List, [], ◌∷◌, ◌++◌, length, take, drop, ap, ◌∙◌, refl, arith, Option, Some, None, true, false, Bool}
+use Rattle.std.proofs.Common.{◌≡◌, ◌≢◌, ℕ, List, [], ◌∷◌, ◌++◌, length, take, drop, ap, ◌∙◌, refl, arith, Option, Some, None, true, false, Bool}
 use Rattle.std.specs.Prelude.{unwrap_or, ◌||◌, if◌then◌else◌, fold}
 use Rattle.std.specs.List.{list_any}
 use Rattle.std.specs.Option.{option_map_or}
 use Rattle.std.proofs.lemmas.Grind.{common_steps}
 use Rattle.iol_core.specs.Text.{Text, labelled}
-use Rattle.iol_core.specs.Numbered.{without, in_place, lowest, placed}
+use Rattle.iol_core.specs.Numbered.{in_place, lowest}
 use Rattle.iol_core.specs.State.{State, Domain, Pipe, Connection, domain, text, descriptor, pipe_at, conn_at, no_pipe, new_pipe, no_domain, with_domain, with_pipe, with_conn, with_content}
 use Rattle.iol_core.specs.Run.{called, meaning}
 use Rattle.iol_core.specs.Calls.Aggregates as aggs
@@ -20,6 +20,7 @@ use Rattle.iol_core.specs.declared.events.Call.TheVariants as call
 use Rattle.iol_core.specs.declared.events.Event.{Event}
 use Rattle.iol_core.specs.declared.events.Event.TheVariants as event
 use Rattle.iol_core.proofs.Places.{place-set_other}
+use Rattle.iol_laws.proofs.Gives.{agg_given, fd_given}
 use Rattle.iol_laws.specs.Frame.{is_end, touches_pipe}
 use Rattle.iol_laws.proofs.Places.{place-placed_other}
 use Rattle.iol_laws.proofs.Tests.{apart, left-false, right-false}
@@ -78,19 +79,11 @@ pipes_then_domain s t d x touched before p un = pipes_same t (with_domain t d x)
 pipes_given : (s : State) (by fd to : ℕ) (o : Option Descriptor) (touched : ℕ → Bool) → KeepsPipes s (option_map_or (fds.given_to s by fd to) o s) touched
 unfolding with_domain
 pipes_given s by fd to None touched = λ p un. refl
-pipes_given s by fd to (Some x) touched = pipes_same s (fds.given_to s by fd to x) touched (cases (by == to))
-  where
-    cases : (b : Bool) → (if b then fds.with_fds s by (placed (fds.freed s by fd) (lowest (fds.freed s by fd)) x) else fds.with_fds (fds.opened s to x) by (fds.freed s by fd)).pipes ≡ s.pipes
-    cases true = refl
-    cases false = refl
+pipes_given s by fd to (Some x) touched = pipes_same s (fds.given_to s by fd to x) touched (fd_given (λ t. t.pipes ≡ s.pipes) s by fd to x (λ same. refl) (λ other. refl))
 
 pipes_agg_give : (s : State) (by a to : ℕ) (touched : ℕ → Bool) → KeepsPipes s (aggs.agg_give s by a to).after touched
 unfolding with_domain
-pipes_agg_give s by a to touched = pipes_same s (aggs.agg_give s by a to).after touched (cases (by == to))
-  where
-    cases : (b : Bool) → (if b then aggs.with_new s by (without (domain s by).aggs a) (text s by a) else aggs.without_agg (aggs.with_agg s to (text s by a)) by a).pipes ≡ s.pipes
-    cases true = refl
-    cases false = refl
+pipes_agg_give s by a to touched = pipes_same s (aggs.agg_give s by a to).after touched (agg_given (λ t. t.pipes ≡ s.pipes) s by a to (λ same. refl) (λ other. refl))
 
 pub pipe-new : (s : State) (by p : ℕ) → lowest s.pipes ≢ p → pipe_at (fds.pipe s by).after p ≡ pipe_at s p
 unfolding pipe_at

@@ -5,7 +5,7 @@ use Rattle.std.specs.Option.{option_map_or}
 use Rattle.std.proofs.lemmas.Bool.Decides.{nat_tests}
 use Rattle.std.proofs.lemmas.Grind.{common_steps}
 use Rattle.iol_core.specs.Text.{Text}
-use Rattle.iol_core.specs.Numbered.{in_place, lowest, placed, without}
+use Rattle.iol_core.specs.Numbered.{in_place, lowest, placed}
 use Rattle.iol_core.specs.State.{State, Domain, domain, descriptor, text, new_domain, no_domain, with_domain, with_conn, with_content}
 use Rattle.iol_core.specs.Run.{called, meaning, StepsTo}
 use Rattle.iol_core.specs.Calls.Domains.{domain_new}
@@ -24,6 +24,7 @@ use Rattle.iol_core.specs.declared.events.Reply.{Reply}
 use Rattle.iol_core.specs.declared.events.Reply.TheVariants as reply
 use Rattle.iol_core.proofs.Lookups.{domain-with_domain, domain-same, domain-push}
 use Rattle.iol_core.proofs.Places.{place-set_other}
+use Rattle.iol_laws.proofs.Gives.{agg_given}
 use Rattle.iol_laws.specs.Opening.{opens}
 use Rattle.iol_laws.proofs.Domains.{domains-all_closed, domains-closed_on, domains-with_conn, domains-with_pipe}
 use Rattle.iol_laws.proofs.Opening.Lowest.{free-freed}
@@ -125,11 +126,9 @@ shut_sought s by f at None d fd is none = shut_freed s by f d fd none
 shut_sought s by f at (Some x) d fd is none = shut_moved s by f x _ d fd is none
 
 shut_agg_given : (s : State) (by a to d fd : ℕ) → Shut s d fd → Shut (aggs.agg_give s by a to).after d fd
-shut_agg_given s by a to d fd none = cases (by == to)
-  where
-    cases : (b : Bool) → Shut (if b then aggs.with_new s by (without (domain s by).aggs a) (text s by a) else aggs.without_agg (aggs.with_agg s to (text s by a)) by a) d fd
-    cases true = shut_aggs s by _ d fd refl none
-    cases false = shut_aggs (aggs.with_agg s to (text s by a)) by _ d fd refl (shut_aggs s to _ d fd refl none)
+shut_agg_given s by a to d fd none =
+    agg_given (λ t. Shut t d fd) s by a to (λ same. shut_aggs s by _ d fd refl none)
+    (λ other. shut_aggs (aggs.with_agg s to (text s by a)) by _ d fd refl (shut_aggs s to _ d fd refl none))
 
 shut_domain_new : (s : State) (by d fd : ℕ) → Shut s d fd → Shut (domain_new s by).after d fd
 shut_domain_new s by d fd none = elim (domain-push s new_domain d) [

@@ -1,10 +1,10 @@
 -- Ends are open once after each event.
-use Rattle.std.proofs.Common.{inl, inr, ◌≡◌, ◌≢◌, ℕ, ◌+◌, ◌==◌, ◌++◌, length, take, drop, ap, ◌∙◌, refl, sym, subst, arith, Option, Some, None, true, false, Bool}
-use Rattle.std.specs.Prelude.{option_map, unwrap_or, not, is_none, ◌&&◌, if◌then◌else◌}
+use Rattle.std.proofs.Common.{inl, inr, ◌≡◌, ◌≢◌, ℕ, ◌+◌, ◌++◌, length, take, drop, ap, ◌∙◌, refl, sym, subst, arith, Option, Some, None, true, false}
+use Rattle.std.specs.Prelude.{option_map, unwrap_or, not, is_none, ◌&&◌}
 use Rattle.std.specs.Option.{option_map_or}
 use Rattle.std.proofs.lemmas.Bool.{cases_eq}
 use Rattle.iol_core.specs.Text.{Text, bytes_of}
-use Rattle.iol_core.specs.Numbered.{without, in_place, lowest, placed}
+use Rattle.iol_core.specs.Numbered.{in_place, lowest, placed}
 use Rattle.iol_core.specs.State.{State, Domain, Pipe, Connection, domain, text, descriptor, content, pipe_at, conn_at, no_pipe, new_pipe, new_domain, is_live, with_domain, with_conn, with_content}
 use Rattle.iol_core.specs.Meaning.{first}
 use Rattle.iol_core.specs.Run.{called, meaning}
@@ -26,6 +26,7 @@ use Rattle.iol_core.specs.declared.events.Event.{Event}
 use Rattle.iol_core.specs.declared.events.Event.TheVariants as event
 use Rattle.iol_core.proofs.Lookups.{domain-same, domain-push}
 use Rattle.iol_core.proofs.Passing.{passed, when-none}
+use Rattle.iol_laws.proofs.Gives.{agg_given}
 use Rattle.iol_laws.specs.Order.{stands, IsOrderly}
 use Rattle.iol_laws.proofs.Connections.{conn-push, conn-unmade, conn-with_same, conns_conn, conns_same, not-over}
 use Rattle.iol_laws.proofs.Domains.{domain-with_same, domains-with_conn, found-with, live-first, with_domain-twice}
@@ -110,11 +111,8 @@ sole_accept s by order some = sole_opened mid by (on.Connection c) sole_mid nobo
     nobody e f is = unheld e f (sym (ap (λ (z : Domain Text). in_place z.fds f) (domain-same s mid e (domains-with_conn s c x))) ∙ is)
 
 sole_agg_give : (s : State) (by a to : ℕ) → IsSole s → IsSole (aggs.agg_give s by a to).after
-sole_agg_give s by a to sole = cases (by == to)
-  where
-    cases : (b : Bool) → IsSole (if b then aggs.with_new s by (without (domain s by).aggs a) (text s by a) else aggs.without_agg (aggs.with_agg s to (text s by a)) by a)
-    cases true = sole_kept s by _ refl sole
-    cases false = sole_kept (aggs.with_agg s to (text s by a)) by _ refl (sole_kept s to _ refl sole)
+sole_agg_give s by a to sole =
+    agg_given (λ t. IsSole t) s by a to (λ same. sole_kept s by _ refl sole) (λ other. sole_kept (aggs.with_agg s to (text s by a)) by _ refl (sole_kept s to _ refl sole))
 
 sole_closes : (s : State) (by fd : ℕ) (o : Option Descriptor) → descriptor s by fd ≡ o → IsSole s → IsSole (fds.with_fds (fds.closed_on s o) by (fds.freed s by fd))
 sole_closes s by fd None is sole = sole_freed s by fd sole

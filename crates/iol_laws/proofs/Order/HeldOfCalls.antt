@@ -1,11 +1,11 @@
 -- What stands is open: after each event.
-use Rattle.std.proofs.Common.{inl, inr, ◌≡◌, ◌≢◌, ℕ, ◌+◌, ◌==◌, ◌⊎◌, ◌++◌, length, take, drop, ap, ◌∙◌, refl, sym, subst, arith, Option, Some, None, true, false, Bool}
-use Rattle.std.specs.Prelude.{option_map, unwrap_or, not, is_none, ◌&&◌, if◌then◌else◌}
+use Rattle.std.proofs.Common.{inl, inr, ◌≡◌, ◌≢◌, ℕ, ◌+◌, ◌⊎◌, ◌++◌, length, take, drop, ap, ◌∙◌, refl, sym, subst, arith, Option, Some, None, true, false, Bool}
+use Rattle.std.specs.Prelude.{option_map, unwrap_or, not, is_none, ◌&&◌}
 use Rattle.std.specs.Option.{option_map_or}
 use Rattle.std.proofs.lemmas.Bool.{cases_eq}
 use Rattle.iol_core.specs.Text.{Text, bytes_of}
-use Rattle.iol_core.specs.Numbered.{without, in_place, lowest, placed}
-use Rattle.iol_core.specs.State.{State, Domain, Pipe, Connection, domain, is_live, text, descriptor, content, conn_at, new_pipe, new_domain, with_domain, with_conn, with_content}
+use Rattle.iol_core.specs.Numbered.{in_place, lowest, placed}
+use Rattle.iol_core.specs.State.{State, Domain, Pipe, Connection, is_live, text, descriptor, content, conn_at, new_pipe, new_domain, with_domain, with_conn, with_content}
 use Rattle.iol_core.specs.Meaning.{first}
 use Rattle.iol_core.specs.Run.{called, meaning}
 use Rattle.iol_core.specs.Calls.Domains.{domain_new}
@@ -26,6 +26,7 @@ use Rattle.iol_core.specs.declared.events.Event.{Event}
 use Rattle.iol_core.specs.declared.events.Event.TheVariants as event
 use Rattle.iol_core.proofs.Lookups.{domain-same, domain-push}
 use Rattle.iol_core.proofs.Passing.{passed, when-none}
+use Rattle.iol_laws.proofs.Gives.{agg_given}
 use Rattle.iol_laws.specs.Order.{stands, IsOrderly, IsOpen}
 use Rattle.iol_laws.proofs.Connections.{conn-made, conn-push, conns_same}
 use Rattle.iol_laws.proofs.Domains.{domains-with_conn, live-first}
@@ -121,11 +122,9 @@ held_new_pipe s by live was = subst AllHeld (pipe-twice s by live) (held_opened 
     ]
 
 held_agg_give : (s : State) (by a to : ℕ) → is_live s by ≡ true → is_live s to ≡ true → AllHeld s → AllHeld (aggs.agg_give s by a to).after
-held_agg_give s by a to live to_live was = cases (by == to)
-  where
-    cases : (b : Bool) → AllHeld (if b then aggs.with_new s by (without (domain s by).aggs a) (text s by a) else aggs.without_agg (aggs.with_agg s to (text s by a)) by a)
-    cases true = held_kept s by _ live refl was
-    cases false = held_kept (aggs.with_agg s to (text s by a)) by _ (live-with s to by _ refl live) refl (held_kept s to _ to_live refl was)
+held_agg_give s by a to live to_live was =
+    agg_given (λ t. AllHeld t) s by a to (λ same. held_kept s by _ live refl was)
+    (λ other. held_kept (aggs.with_agg s to (text s by a)) by _ (live-with s to by _ refl live) refl (held_kept s to _ to_live refl was))
 
 held_gives : (s : State) (by fd to : ℕ) (o : Option Descriptor) → descriptor s by fd ≡ o → is_live s by ≡ true → is_live s to ≡ true → AllHeld s → AllHeld (option_map_or (fds.given_to s by fd to) o s)
 held_gives s by fd to None is live to_live was = was
