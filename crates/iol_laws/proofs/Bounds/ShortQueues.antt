@@ -152,19 +152,23 @@ conn-fits s c fit = both-true _ _ (list_all-lookup both_fit s.conns c _ refl fit
 both : (a b : Bool) → a ≡ true → b ≡ true → (a && b) ≡ true
 both a b one two = grind (arith, one, two)
 
-pub list_all-changed : {A : Type 0} (p : A → Bool) (es : List (ℕ × A)) (n : ℕ) (x : A) → p x ≡ true → list_all (λ e. p e.1) es ≡ true → list_all (λ e. p e.1) (changed es n x) ≡ true
+list_all-changed : {A : Type 0} (p : A → Bool) (es : List (ℕ × A)) (n : ℕ) (x : A) → p x ≡ true → list_all (λ e. p e.1) es ≡ true → list_all (λ e. p e.1) (changed es n x) ≡ true
 list_all-changed p [] n x new all = refl
 list_all-changed p (e ∷ es) n x new all =
     let r = list_all-changed p es n x new in
     elim (cases_eq e.0 n) [ inl k ↦ grind (arith, nat_tests, common_steps, r, new, all, k) | inr k ↦ grind (arith, nat_tests, common_steps, r, all, k) ]
 
-linked_conn : (s : State) (c : ℕ) (x : Connection) → both_fit x ≡ true → ConnsFit s → ConnsFit (with_conn s c x)
+-- what is so of all connections stays so where one changes that has it
+pub list_all-with_conn : (p : Connection → Bool) (s : State) (c : ℕ) (x : Connection) → p x ≡ true → list_all (λ e. p e.1) s.conns ≡ true → list_all (λ e. p e.1) (with_conn s c x).conns ≡ true
 unfolding with_conn
-linked_conn s c x new fit = by (is_over x)
+list_all-with_conn p s c x new all = by (is_over x)
   where
-    by : (b : Bool) → list_all (λ e. both_fit e.1) (if b then without s.conns c else changed s.conns c x) ≡ true
-    by true = list_all-without (λ e. both_fit e.1) s.conns c fit
-    by false = list_all-changed both_fit s.conns c x new fit
+    by : (b : Bool) → list_all (λ e. p e.1) (if b then without s.conns c else changed s.conns c x) ≡ true
+    by true = list_all-without (λ e. p e.1) s.conns c all
+    by false = list_all-changed p s.conns c x new all
+
+linked_conn : (s : State) (c : ℕ) (x : Connection) → both_fit x ≡ true → ConnsFit s → ConnsFit (with_conn s c x)
+linked_conn s c x new fit = list_all-with_conn both_fit s c x new fit
 
 -- a change that adds no more than there is room for
 abbrev Room : State → ℕ × Change → Type 0

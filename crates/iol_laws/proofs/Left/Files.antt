@@ -229,50 +229,41 @@ list-admitted s q d p = elim (numbered_or-with s.pools q p (admitting (pool s q)
   | inr same ↦ grows_same _ _ (ap (λ (x : Pool). x.domains) same)
 ]
 
-store_pooled : (s : State) (by chunks : ℕ) (list : List ℕ) → KeepsStore s (event.Call by (call.PoolCreate chunks list)) (called s by (call.PoolCreate chunks list)).after
-store_pooled s by chunks list =
-    let t : State = (called s by (call.PoolCreate chunks list)).after in
+-- a call that makes or changes pools, and leaves the files
+store_pools : (s : State) (e : Event) (ps : List Pool) → changes_pools e ≡ true → ((p : ℕ) → is_pool s p ≡ true → is_numbered ps p ≡ true) → ((p : ℕ) → is_pool s p ≡ true → Grows (pool s p).domains (numbered_or ps p no_pool).domains)
+    → ((p : ℕ) → is_pool s p ≡ true → closes_pool e p ≡ false → admits_to e p ≡ false → numbered_or ps p no_pool ≡ pool s p) → ((p : ℕ) → is_pool s p ≡ true → admits_to e p ≡ false → (numbered_or ps p no_pool).domains ≡ (pool s p).domains)
+    → KeepsStore s e (record s { pools = ps })
+unfolding pool
+store_pools s e ps changes numbered lists same listed =
+    let t : State = record s { pools = ps } in
     record {
       files = λ un. (refl, refl);
       contents = λ f un. content-same s t f refl;
       known = λ f is. file-same s t f refl;
       called = λ name f is. is;
-      numbered = λ p is. there-push s.pools _ p is;
-      lists = λ p is. grows_same _ _ (ap (λ (x : Pool). x.domains) (pool-push s _ p is));
-      pools = λ p is un none. pool-push s _ p is;
-      listed = λ p is none. ap (λ (x : Pool). x.domains) (pool-push s _ p is);
-      table = λ un. absurd (cc);
+      numbered = numbered;
+      lists = lists;
+      pools = same;
+      listed = listed;
+      table = λ un. absurd (cc (changes, un));
     }
+
+store_pooled : (s : State) (by chunks : ℕ) (list : List ℕ) → KeepsStore s (event.Call by (call.PoolCreate chunks list)) (called s by (call.PoolCreate chunks list)).after
+unfolding pool
+store_pooled s by chunks list =
+    store_pools s _ _ refl (λ p is. there-push s.pools _ p is) (λ p is. grows_same _ _ (ap (λ (x : Pool). x.domains) (pool-push s _ p is))) (λ p is un none. pool-push s _ p is)
+    (λ p is none. ap (λ (x : Pool). x.domains) (pool-push s _ p is))
 
 store_unpooled : (s : State) (by q : ℕ) → KeepsStore s (event.Call by (call.PoolClose q)) (called s by (call.PoolClose q)).after
+unfolding pool
 store_unpooled s by q =
-    let t : State = (called s by (call.PoolClose q)).after in
-    record {
-      files = λ un. (refl, refl);
-      contents = λ f un. content-same s t f refl;
-      known = λ f is. file-same s t f refl;
-      called = λ name f is. is;
-      numbered = λ p is. there-with s.pools q _ p is;
-      lists = λ p is. grows_same _ _ (list-closed s q p);
-      pools = λ p is un none. pool-other s q p _ (apart q p un);
-      listed = λ p is none. list-closed s q p;
-      table = λ un. absurd (cc);
-    }
+    store_pools s _ _ refl (λ p is. there-with s.pools q _ p is) (λ p is. grows_same _ _ (list-closed s q p)) (λ p is un none. pool-other s q p _ (apart q p un)) (λ p is none. list-closed s q p)
 
 store_listed : (s : State) (by q d : ℕ) → KeepsStore s (event.Call by (call.PoolAdmit q d)) (called s by (call.PoolAdmit q d)).after
+unfolding pool
 store_listed s by q d =
-    let t : State = (called s by (call.PoolAdmit q d)).after in
-    record {
-      files = λ un. (refl, refl);
-      contents = λ f un. content-same s t f refl;
-      known = λ f is. file-same s t f refl;
-      called = λ name f is. is;
-      numbered = λ p is. there-with s.pools q _ p is;
-      lists = λ p is. list-admitted s q d p;
-      pools = λ p is un none. pool-other s q p _ (apart q p none);
-      listed = λ p is none. ap (λ (x : Pool). x.domains) (pool-other s q p _ (apart q p none));
-      table = λ un. absurd (cc);
-    }
+    store_pools s _ _ refl (λ p is. there-with s.pools q _ p is) (λ p is. list-admitted s q d p) (λ p is un none. pool-other s q p _ (apart q p none))
+    (λ p is none. ap (λ (x : Pool). x.domains) (pool-other s q p _ (apart q p none)))
 
 store_filed : (s : State) (by : ℕ) (name : List ℕ) (p : ℕ) → KeepsStore s (event.Call by (call.FileNew name p)) (called s by (call.FileNew name p)).after
 store_filed s by name p =

@@ -308,18 +308,12 @@ write_end_ended s list fd p is =
 
 -- the tests of one that has not this end
 pub not-reading : (p : ℕ) (o : Option Descriptor) → (o ≡ Some (on.ReadEnd p) → ⊥) → is_read_end p o ≡ false
-not-reading p None never = refl
-not-reading p (Some (on.File f at mode)) never = refl
-not-reading p (Some (on.WriteEnd q)) never = refl
-not-reading p (Some (on.Connection c)) never = refl
 not-reading p (Some (on.ReadEnd q)) never = elim (cases_eq q p) [ inl same ↦ absurd (never (ap (λ k. Some (on.ReadEnd k)) same)) | inr differ ↦ grind (arith, nat_tests, differ) ]
+not-reading p o never = refl
 
 pub not-writing : (p : ℕ) (o : Option Descriptor) → (o ≡ Some (on.WriteEnd p) → ⊥) → is_write_end p o ≡ false
-not-writing p None never = refl
-not-writing p (Some (on.File f at mode)) never = refl
-not-writing p (Some (on.ReadEnd q)) never = refl
-not-writing p (Some (on.Connection c)) never = refl
 not-writing p (Some (on.WriteEnd q)) never = elim (cases_eq q p) [ inl same ↦ absurd (never (ap (λ k. Some (on.WriteEnd k)) same)) | inr differ ↦ grind (arith, nat_tests, differ) ]
+not-writing p o never = refl
 
 pub none-reading : (p : ℕ) (list : List (Option Descriptor)) → ((fd : ℕ) → in_place list fd ≡ Some (on.ReadEnd p) → ⊥) → list_any (is_read_end p) list ≡ false
 none-reading p list nobody = none-open (is_read_end p) list refl (λ n x is. sym (ap (is_read_end p) is) ∙ not-reading p (in_place list n) (nobody n))
