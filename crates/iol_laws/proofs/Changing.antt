@@ -76,11 +76,10 @@ conns_more s t e same = record { conns = ap with_change same.conns; next = same.
 
 closed_turned : (s t : State) (o : Option Descriptor) → SameConns s t → SameConns (all_turned s (on_conn o Closes)) (fds.closed_on t o)
 unfolding with_pipe
-closed_turned s t None same = same
-closed_turned s t (Some (on.File f at mode)) same = same
 closed_turned s t (Some (on.ReadEnd p)) same = record { conns = same.conns; next = same.next }
 closed_turned s t (Some (on.WriteEnd p)) same = record { conns = same.conns; next = same.next }
 closed_turned s t (Some (on.Connection c)) same = conns_more s t (c, Closes) same
+closed_turned s t o same = same
 
 turned-append : (s : State) (es fs : List (ℕ × Change)) → all_turned s (es ++ fs) ≡ all_turned (all_turned s es) fs
 turned-append s [] fs = refl
@@ -92,19 +91,13 @@ all_closed_turned s t (o ∷ list) same = rw (turned-append s (on_conn o Closes)
 
 read_turned : (s : State) (by fd : ℕ) (o : Option Descriptor) (n : ℕ) → SameConns (all_turned s (on_conn o (Reads n))) (reading.read_on s by fd o n)
 unfolding with_domain with_pipe
-read_turned s by fd None n = record { conns = refl; next = refl }
 read_turned s by fd (Some (on.File f at mode)) n = record { conns = refl; next = refl }
-read_turned s by fd (Some (on.ReadEnd p)) n = record { conns = refl; next = refl }
-read_turned s by fd (Some (on.WriteEnd p)) n = record { conns = refl; next = refl }
-read_turned s by fd (Some (on.Connection c)) n = record { conns = refl; next = refl }
+read_turned s by fd o n = record { conns = refl; next = refl }
 
 written_turned : (s : State) (by fd : ℕ) (o : Option Descriptor) (w : Text) → SameConns (all_turned s (on_conn o (Writes w))) (writing.written s by fd o w)
 unfolding with_domain with_pipe with_content
-written_turned s by fd None w = record { conns = refl; next = refl }
 written_turned s by fd (Some (on.File f at mode)) w = record { conns = refl; next = refl }
-written_turned s by fd (Some (on.ReadEnd p)) w = record { conns = refl; next = refl }
-written_turned s by fd (Some (on.WriteEnd p)) w = record { conns = refl; next = refl }
-written_turned s by fd (Some (on.Connection c)) w = record { conns = refl; next = refl }
+written_turned s by fd o w = record { conns = refl; next = refl }
 
 given_turned : (s : State) (by fd to : ℕ) (o : Option Descriptor) → SameConns s (option_map_or (fds.given_to s by fd to) o s)
 unfolding with_domain

@@ -77,18 +77,14 @@ short_written s by fd (Some (on.File f at mode)) w is fits placed short =
     let here = placed.each by fd f at mode is in
     let same = filled-files s by fd f at mode w in
     short_content s _ f _ same.0 same.1 (over (content s f) at w here.1 (short f here.0) fits) short
-short_written s by fd None w is fits placed short = short
-short_written s by fd (Some (on.ReadEnd p)) w is fits placed short = short
 short_written s by fd (Some (on.WriteEnd p)) w is fits placed short = short_same s _ (files_written s by fd (Some (on.WriteEnd p)) w refl) short
 short_written s by fd (Some (on.Connection c)) w is fits placed short = short_same s _ (files_written s by fd (Some (on.Connection c)) w refl) short
+short_written s by fd o w is fits placed short = short
 
 -- a part is no longer
 shorter : (o : Option Descriptor) (n m : ℕ) → n ≤ m → is_too_long o m ≡ false → is_too_long o n ≡ false
 shorter (Some (on.File f at mode)) n m less fits = grind (arith, nat_tests, less, fits)
-shorter None n m less fits = refl
-shorter (Some (on.ReadEnd p)) n m less fits = refl
-shorter (Some (on.WriteEnd p)) n m less fits = refl
-shorter (Some (on.Connection c)) n m less fits = refl
+shorter o n m less fits = refl
 
 -- a file more is one that was, or the new one
 pushed : (xs : List File) (x : File) (f : ℕ) → is_numbered (xs ++ x ∷ []) f ≡ true → (is_numbered xs f ≡ true) ⊎ (f ≡ length xs + 1)

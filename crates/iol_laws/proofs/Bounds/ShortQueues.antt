@@ -76,45 +76,36 @@ unfolding with_domain
 piped_then_domain s d x fit = piped_same s (with_domain s d x) refl fit
 
 piped_closed_on : (s : State) (o : Option Descriptor) → PipesFit s → PipesFit (fds.closed_on s o)
-piped_closed_on s None fit = fit
-piped_closed_on s (Some (on.File f at mode)) fit = fit
 piped_closed_on s (Some (on.ReadEnd p)) fit = piped_pipe s p _ refl fit
 piped_closed_on s (Some (on.WriteEnd p)) fit = piped_pipe s p _ (fit p) fit
 piped_closed_on s (Some (on.Connection c)) fit = piped_same s _ (pipes-with_conn s c _) fit
+piped_closed_on s o fit = fit
 
 piped_all_closed : (s : State) (list : List (Option Descriptor)) → PipesFit s → PipesFit (fold fds.closed_on s list)
 piped_all_closed s [] fit = fit
 piped_all_closed s (o ∷ list) fit = piped_all_closed (fds.closed_on s o) list (piped_closed_on s o fit)
 
 piped_read_on : (s : State) (by fd : ℕ) (o : Option Descriptor) (n : ℕ) → PipesFit s → PipesFit (reading.read_on s by fd o n)
-piped_read_on s by fd None n fit = fit
 piped_read_on s by fd (Some (on.File f at mode)) n fit = piped_then_domain s by _ fit
 piped_read_on s by fd (Some (on.ReadEnd p)) n fit = piped_pipe s p _ (fits-dropped n (pipe_at s p).queue (fit p)) fit
-piped_read_on s by fd (Some (on.WriteEnd p)) n fit = fit
 piped_read_on s by fd (Some (on.Connection c)) n fit = piped_same s _ (pipes-with_conn s c _) fit
+piped_read_on s by fd o n fit = fit
 
 -- no more is written to a queue than there is room for
 piped_written : (s : State) (by fd : ℕ) (o : Option Descriptor) (w : Text) → (writing.is_file o ≡ false → length w ≤ MAX_QUEUE_BYTES - length (writing.unsent s o)) → PipesFit s → PipesFit (writing.written s by fd o w)
 unfolding with_content
-piped_written s by fd None w room fit = fit
 piped_written s by fd (Some (on.File f at mode)) w room fit = piped_then_domain (with_content s f _) by _ (piped_same s (with_content s f _) refl fit)
-piped_written s by fd (Some (on.ReadEnd p)) w room fit = fit
 piped_written s by fd (Some (on.WriteEnd p)) w room fit = piped_pipe s p _ (fits-more (pipe_at s p).queue w (fit p) (room refl)) fit
 piped_written s by fd (Some (on.Connection c)) w room fit = piped_same s _ (pipes-with_conn s c _) fit
+piped_written s by fd o w room fit = fit
 
 room-shared : (s : State) (o : Option Descriptor) (w : Text) → writing.is_file o ≡ false → length (take (writing.fitting s o (length w)) w) ≤ MAX_QUEUE_BYTES - length (writing.unsent s o)
-room-shared s None w queue = least (length w) _ w
 room-shared s (Some (on.File f at mode)) w queue = absurd (cc)
-room-shared s (Some (on.ReadEnd p)) w queue = least (length w) _ w
-room-shared s (Some (on.WriteEnd p)) w queue = least (length w) _ w
-room-shared s (Some (on.Connection c)) w queue = least (length w) _ w
+room-shared s o w queue = least (length w) _ w
 
 room-copied : (s : State) (p : ℕ) (o : Option Descriptor) (bytes : List ℕ) → writing.is_file o ≡ false → length (labelled p (take (writing.fitting s o (length bytes)) bytes)) ≤ MAX_QUEUE_BYTES - length (writing.unsent s o)
-room-copied s p None bytes queue = least-labelled p (length bytes) _ bytes
 room-copied s p (Some (on.File f at mode)) bytes queue = absurd (cc)
-room-copied s p (Some (on.ReadEnd q)) bytes queue = least-labelled p (length bytes) _ bytes
-room-copied s p (Some (on.WriteEnd q)) bytes queue = least-labelled p (length bytes) _ bytes
-room-copied s p (Some (on.Connection c)) bytes queue = least-labelled p (length bytes) _ bytes
+room-copied s p o bytes queue = least-labelled p (length bytes) _ bytes
 
 pub pipe-made : (s : State) (by : ℕ) → pipe_at (fds.pipe s by).after (lowest s.pipes) ≡ new_pipe
 unfolding pipe_at
@@ -182,11 +173,8 @@ linked_turned s (c, Closes) room fit = (let k = conn-fits s c fit in linked_conn
 linked_turned s (c, Takes) room fit = (let k = conn-fits s c fit in linked_conn s c _ (both _ _ k.0 k.1) fit)
 
 linked_on : (s : State) (o : Option Descriptor) (x : Change) → ((c : ℕ) → Room s (c, x)) → ConnsFit s → ConnsFit (all_turned s (on_conn o x))
-linked_on s None x room fit = fit
-linked_on s (Some (on.File f at mode)) x room fit = fit
-linked_on s (Some (on.ReadEnd p)) x room fit = fit
-linked_on s (Some (on.WriteEnd p)) x room fit = fit
 linked_on s (Some (on.Connection c)) x room fit = linked_turned s (c, x) (room c) fit
+linked_on s o x room fit = fit
 
 linked_closings : (s : State) (list : List (Option Descriptor)) → ConnsFit s → ConnsFit (all_turned s (closings list))
 linked_closings s [] fit = fit
@@ -198,11 +186,8 @@ linked_closings s (Some (on.Connection c) ∷ list) fit = linked_closings (turne
 
 -- what is written to what is open on a connection
 linked_wrote : (s : State) (o : Option Descriptor) (w : Text) → (writing.is_file o ≡ false → length w ≤ MAX_QUEUE_BYTES - length (writing.unsent s o)) → ConnsFit s → ConnsFit (all_turned s (on_conn o (Writes w)))
-linked_wrote s None w room fit = fit
-linked_wrote s (Some (on.File f at mode)) w room fit = fit
-linked_wrote s (Some (on.ReadEnd p)) w room fit = fit
-linked_wrote s (Some (on.WriteEnd p)) w room fit = fit
 linked_wrote s (Some (on.Connection c)) w room fit = linked_turned s (c, Writes w) (room refl) fit
+linked_wrote s o w room fit = fit
 
 linked_changes : (s : State) (by : ℕ) (k : Call) → ConnsFit s → ConnsFit (all_turned s (changes s by k))
 linked_changes s by call.Exit fit = linked_closings s (domain s by).fds fit
@@ -230,8 +215,7 @@ linked_meant s (event.Arrive c bytes) fit =
     linked_conn s c _ (both _ _ (fits-more (conn_at s c).incoming _ k.0 (least-labelled (conn_at s c).pool (length bytes) room bytes)) k.1) fit
 linked_meant s (event.PeerClosed c how) fit = linked_ended s c how fit
 linked_meant s (event.Transmit c max) fit = (let k = conn-fits s c fit in linked_conn s c _ (both _ _ k.0 (fits-dropped max (conn_at s c).outgoing k.1)) fit)
-linked_meant s event.Flush fit = fit
-linked_meant s event.DropClean fit = fit
+linked_meant s e fit = fit
 
 pub piped_new_state : (slots : List (List ℕ)) → PipesFit (new_state slots)
 unfolding pipe_at

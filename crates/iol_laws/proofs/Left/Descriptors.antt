@@ -64,27 +64,25 @@ pub fds_set : (s : State) (d fd : ℕ) (o : Option Descriptor) → KeepsFds s (f
 fds_set s d fd o = fds_domain s d _ (fd_of d fd) (λ f y is un. place-set_other (domain s d).fds fd f o (differs_fd d fd f un) ∙ is)
 
 fds_read_on : (s : State) (by fd : ℕ) (from : Option Descriptor) (count : ℕ) → KeepsFds s (reading.read_on s by fd from count) (λ d f. (by == d) && (fd == f) && writing.is_file from)
-fds_read_on s by fd None count = λ d f x is un. is
 fds_read_on s by fd (Some (on.File g at mode)) count = λ d f x is un. fds_set s by fd _ d f x is (true-right ((by == d) && (fd == f)) un)
   where
     true-right : (b : Bool) → (b && true) ≡ false → b ≡ false
     true-right b un = grind (arith, un)
 fds_read_on s by fd (Some (on.ReadEnd q)) count = fds_same s _ _ (domains-with_pipe s q _)
-fds_read_on s by fd (Some (on.WriteEnd q)) count = λ d f x is un. is
 fds_read_on s by fd (Some (on.Connection e)) count = fds_same s _ _ (domains-with_conn s e _)
+fds_read_on s by fd o count = λ d f x is un. is
 
 fds_written : (s : State) (by fd : ℕ) (to : Option Descriptor) (w : Text) → KeepsFds s (writing.written s by fd to w) (λ d f. (by == d) && (fd == f) && writing.is_file to)
 unfolding with_content
-fds_written s by fd None w = λ d f x is un. is
 fds_written s by fd (Some (on.File g at mode)) w = λ d f x is un.
     let filled : State = with_content s g (take at (content s g) ++ bytes_of w ++ drop (at + length w) (content s g)) in
     fds_set filled by fd _ d f x (fds_same s filled no_fd refl d f x is refl) (true-right ((by == d) && (fd == f)) un)
   where
     true-right : (b : Bool) → (b && true) ≡ false → b ≡ false
     true-right b un = grind (arith, un)
-fds_written s by fd (Some (on.ReadEnd q)) w = λ d f x is un. is
 fds_written s by fd (Some (on.WriteEnd q)) w = fds_same s _ _ (domains-with_pipe s q _)
 fds_written s by fd (Some (on.Connection e)) w = fds_same s _ _ (domains-with_conn s e _)
+fds_written s by fd o w = λ d f x is un. is
 
 fds_given : (s : State) (by fd to : ℕ) (x : Descriptor) → KeepsFds s (fds.given_to s by fd to x) (fd_of by fd)
 fds_given s by fd to x =
@@ -146,14 +144,6 @@ fds_called s by call.Exit = fds_exit s by
 fds_called s by (call.PoolCreate chunks list) = fds_same s (pool_create s by chunks list).after no_fd refl
 fds_called s by (call.PoolClose p) = fds_same s (pool_close s by p).after no_fd refl
 fds_called s by (call.PoolAdmit p d) = fds_same s (pool_admit s by p d).after no_fd refl
-fds_called s by (call.SetPool p) = fds_kept s by _ no_fd refl
-fds_called s by (call.AggMake bytes) = fds_kept s by _ no_fd refl
-fds_called s by (call.AggDup a) = fds_kept s by _ no_fd refl
-fds_called s by (call.AggCut a from to) = fds_kept s by _ no_fd refl
-fds_called s by (call.AggSplit a at) = fds_kept s by _ no_fd refl
-fds_called s by (call.AggJoin a b) = fds_kept s by _ no_fd refl
-fds_called s by (call.AggReplace a from to b) = fds_kept s by _ no_fd refl
-fds_called s by (call.AggDrop a) = fds_kept s by _ no_fd refl
 fds_called s by (call.AggGive a to) = fds_agg_give s by a to
 fds_called s by (call.Show a) = λ d f x is un. is
 fds_called s by (call.FileNew name p) = fds_same s (called s by (call.FileNew name p)).after no_fd refl
@@ -176,6 +166,7 @@ fds_called s by call.Accept =
 fds_called s by (call.Fsync fd) = λ d f x is un. is
 fds_called s by (call.Read fd n) = fds_read_on s by fd (descriptor s by fd) _
 fds_called s by (call.Write fd bytes) = fds_written s by fd (descriptor s by fd) _
+fds_called s by k = fds_kept s by _ no_fd refl
 
 pub fds_meant : (s : State) (e : Event) → KeepsFds s (meaning s e).after (touches_fd s e)
 fds_meant s (event.Call by k) = fds_called s by k
@@ -183,5 +174,4 @@ fds_meant s (event.ConnNew p) = fds_same s (meaning s (event.ConnNew p)).after n
 fds_meant s (event.Arrive c bytes) = fds_same s _ no_fd (domains-with_conn s c _)
 fds_meant s (event.PeerClosed c how) = fds_same s _ no_fd (domains-with_conn s c _)
 fds_meant s (event.Transmit c max) = fds_same s _ no_fd (domains-with_conn s c _)
-fds_meant s event.Flush = λ d f x is un. is
-fds_meant s event.DropClean = λ d f x is un. is
+fds_meant s e = λ d f x is un. is

@@ -64,21 +64,19 @@ standing_given s by fd to (Some x) =
     (λ other. standing_then s (fds.opened s to x) _ (standing_fds s to _) (standing_fds (fds.opened s to x) by _))
 
 pub standing_read_on : (s : State) (by fd : ℕ) (o : Option Descriptor) (n : ℕ) → KeepsStanding s (reading.read_on s by fd o n)
-standing_read_on s by fd None n = standing_same s s refl
 standing_read_on s by fd (Some (on.File f at mode)) n = standing_fds s by _
 standing_read_on s by fd (Some (on.ReadEnd p)) n = standing_same s _ (domains-with_pipe s p _)
-standing_read_on s by fd (Some (on.WriteEnd p)) n = standing_same s s refl
 standing_read_on s by fd (Some (on.Connection c)) n = standing_same s _ (domains-with_conn s c _)
+standing_read_on s by fd o n = standing_same s s refl
 
 standing_written : (s : State) (by fd : ℕ) (o : Option Descriptor) (w : Text) → KeepsStanding s (writing.written s by fd o w)
 unfolding with_content
-standing_written s by fd None w = standing_same s s refl
 standing_written s by fd (Some (on.File f at mode)) w =
     let filled : State = with_content s f (take at (content s f) ++ bytes_of w ++ drop (at + length w) (content s f)) in
     standing_then s filled _ (standing_same s filled refl) (standing_fds filled by _)
-standing_written s by fd (Some (on.ReadEnd p)) w = standing_same s s refl
 standing_written s by fd (Some (on.WriteEnd p)) w = standing_same s _ (domains-with_pipe s p _)
 standing_written s by fd (Some (on.Connection c)) w = standing_same s _ (domains-with_conn s c _)
+standing_written s by fd o w = standing_same s s refl
 
 standing_pipe : (s : State) (by : ℕ) → KeepsStanding s (fds.pipe s by).after
 standing_pipe s by =

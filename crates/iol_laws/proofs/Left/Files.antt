@@ -38,11 +38,8 @@ pub record SameStore (s t : State) : Type 0 where
 
 store_closed_on : (s : State) (o : Option Descriptor) → SameStore s (fds.closed_on s o)
 unfolding with_pipe with_conn
-store_closed_on s None = record { files = refl; slots = refl; pools = refl }
 store_closed_on s (Some (on.File f at mode)) = record { files = refl; slots = refl; pools = refl }
-store_closed_on s (Some (on.ReadEnd q)) = record { files = refl; slots = refl; pools = refl }
-store_closed_on s (Some (on.WriteEnd q)) = record { files = refl; slots = refl; pools = refl }
-store_closed_on s (Some (on.Connection e)) = record { files = refl; slots = refl; pools = refl }
+store_closed_on s o = record { files = refl; slots = refl; pools = refl }
 
 store_all_closed : (s : State) (list : List (Option Descriptor)) → SameStore s (fold fds.closed_on s list)
 store_all_closed s [] = record { files = refl; slots = refl; pools = refl }
@@ -53,19 +50,13 @@ store_all_closed s (o ∷ list) =
 
 store_read_on : (s : State) (by fd : ℕ) (from : Option Descriptor) (count : ℕ) → SameStore s (reading.read_on s by fd from count)
 unfolding with_domain with_pipe with_conn
-store_read_on s by fd None count = record { files = refl; slots = refl; pools = refl }
 store_read_on s by fd (Some (on.File f at mode)) count = record { files = refl; slots = refl; pools = refl }
-store_read_on s by fd (Some (on.ReadEnd q)) count = record { files = refl; slots = refl; pools = refl }
-store_read_on s by fd (Some (on.WriteEnd q)) count = record { files = refl; slots = refl; pools = refl }
-store_read_on s by fd (Some (on.Connection e)) count = record { files = refl; slots = refl; pools = refl }
+store_read_on s by fd o count = record { files = refl; slots = refl; pools = refl }
 
 pub files_written : (s : State) (by fd : ℕ) (to : Option Descriptor) (w : Text) → writing.is_file to ≡ false → ((writing.written s by fd to w).files ≡ s.files) × ((writing.written s by fd to w).slots ≡ s.slots)
 unfolding with_pipe with_conn
-files_written s by fd None w un = (refl, refl)
 files_written s by fd (Some (on.File f at mode)) w un = absurd (cc)
-files_written s by fd (Some (on.ReadEnd q)) w un = (refl, refl)
-files_written s by fd (Some (on.WriteEnd q)) w un = (refl, refl)
-files_written s by fd (Some (on.Connection e)) w un = (refl, refl)
+files_written s by fd o w un = (refl, refl)
 
 -- the files and the pools are those that were, and so are the bytes of the other files
 record Wrote (s : State) (to : Option Descriptor) (t : State) : Type 0 where
@@ -83,7 +74,6 @@ content-other s g bytes f differ = elim (numbered_or-with s.slots g f bytes []) 
 
 store_written : (s : State) (by fd : ℕ) (to : Option Descriptor) (w : Text) → Wrote s to (writing.written s by fd to w)
 unfolding with_domain with_pipe with_conn with_content
-store_written s by fd None w = record { files = refl; pools = refl; contents = λ f un. refl }
 store_written s by fd (Some (on.File g at mode)) w = record {
   files = refl;
   pools = refl;
@@ -91,9 +81,9 @@ store_written s by fd (Some (on.File g at mode)) w = record {
       let filled : State = with_content s g (take at (content s g) ++ bytes_of w ++ drop (at + length w) (content s g)) in
       content-same filled (writing.written s by fd (Some (on.File g at mode)) w) f refl ∙ content-other s g (take at (content s g) ++ bytes_of w ++ drop (at + length w) (content s g)) f (apart g f un);
 }
-store_written s by fd (Some (on.ReadEnd q)) w = record { files = refl; pools = refl; contents = λ f un. refl }
 store_written s by fd (Some (on.WriteEnd q)) w = record { files = refl; pools = refl; contents = λ f un. content-same s (writing.written s by fd (Some (on.WriteEnd q)) w) f refl }
 store_written s by fd (Some (on.Connection e)) w = record { files = refl; pools = refl; contents = λ f un. content-same s (writing.written s by fd (Some (on.Connection e)) w) f refl }
+store_written s by fd o w = record { files = refl; pools = refl; contents = λ f un. refl }
 
 store_then_domain : (s t : State) (d : ℕ) (x : Domain Text) → SameStore s t → SameStore s (with_domain t d x)
 unfolding with_domain

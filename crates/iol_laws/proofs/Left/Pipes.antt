@@ -41,11 +41,10 @@ unfolding with_conn
 pipes-with_conn s c x = refl
 
 pub pipes_closed_on : (s : State) (o : Option Descriptor) → KeepsPipes s (fds.closed_on s o) (λ p. is_end p o)
-pipes_closed_on s None p un = refl
-pipes_closed_on s (Some (on.File f at mode)) p un = refl
 pipes_closed_on s (Some (on.ReadEnd q)) p un = pipes_pipe s q (record (pipe_at s q) { queue = []; reading = false }) p (apart q p un)
 pipes_closed_on s (Some (on.WriteEnd q)) p un = pipes_pipe s q (record (pipe_at s q) { writing = false }) p (apart q p un)
 pipes_closed_on s (Some (on.Connection e)) p un = pipes_same s (with_conn s e (record (conn_at s e) { incoming = []; closed = true })) (λ p. false) (pipes-with_conn s e (record (conn_at s e) { incoming = []; closed = true })) p refl
+pipes_closed_on s o p un = refl
 
 pub pipes_all_closed : (s : State) (list : List (Option Descriptor)) → KeepsPipes s (fold fds.closed_on s list) (λ p. list_any (is_end p) list)
 pipes_all_closed s [] p un = refl
@@ -55,19 +54,17 @@ pipes_all_closed s (o ∷ list) p un =
 
 pub pipes_read_on : (s : State) (by fd : ℕ) (from : Option Descriptor) (count : ℕ) → KeepsPipes s (reading.read_on s by fd from count) (λ p. is_end p from)
 unfolding with_domain with_conn
-pipes_read_on s by fd None count p un = refl
 pipes_read_on s by fd (Some (on.File f at mode)) count p un = pipes_same s (reading.read_on s by fd (Some (on.File f at mode)) count) (λ p. false) refl p refl
 pipes_read_on s by fd (Some (on.ReadEnd q)) count p un = pipes_pipe s q (record (pipe_at s q) { queue = drop count (pipe_at s q).queue }) p (apart q p un)
-pipes_read_on s by fd (Some (on.WriteEnd q)) count p un = refl
 pipes_read_on s by fd (Some (on.Connection e)) count p un = pipes_same s (reading.read_on s by fd (Some (on.Connection e)) count) (λ p. false) refl p refl
+pipes_read_on s by fd o count p un = refl
 
 pub pipes_written : (s : State) (by fd : ℕ) (to : Option Descriptor) (w : Text) → KeepsPipes s (writing.written s by fd to w) (λ p. is_end p to)
 unfolding with_domain with_conn with_content
-pipes_written s by fd None w p un = refl
 pipes_written s by fd (Some (on.File f at mode)) w p un = pipes_same s (writing.written s by fd (Some (on.File f at mode)) w) (λ p. false) refl p refl
-pipes_written s by fd (Some (on.ReadEnd q)) w p un = refl
 pipes_written s by fd (Some (on.WriteEnd q)) w p un = pipes_pipe s q (record (pipe_at s q) { queue = (pipe_at s q).queue ++ w }) p (apart q p un)
 pipes_written s by fd (Some (on.Connection e)) w p un = pipes_same s (writing.written s by fd (Some (on.Connection e)) w) (λ p. false) refl p refl
+pipes_written s by fd o w p un = refl
 
 end-operand : (p : ℕ) (o : Option Descriptor) (named : Bool) → (list_any (is_end p) (o ∷ []) || named) ≡ false → is_end p o ≡ false
 end-operand p o named un = grind (arith, common_steps, un)
@@ -119,5 +116,4 @@ pipes_meant s (event.ConnNew q) = λ p un. pipes_same s (conn_new s q).after (λ
 pipes_meant s (event.Arrive e bytes) = λ p un. pipes_same s (meaning s (event.Arrive e bytes)).after (λ p. false) refl p refl
 pipes_meant s (event.PeerClosed e how) = λ p un. pipes_same s (meaning s (event.PeerClosed e how)).after (λ p. false) refl p refl
 pipes_meant s (event.Transmit e max) = λ p un. pipes_same s (meaning s (event.Transmit e max)).after (λ p. false) refl p refl
-pipes_meant s event.Flush = λ p un. refl
-pipes_meant s event.DropClean = λ p un. refl
+pipes_meant s ee = λ p un. refl

@@ -87,11 +87,10 @@ unfolding with_conn
 gone_conn s c x was = gone_same s (with_conn s c x) refl refl was
 
 gone_closed_on : (s : State) (o : Option Descriptor) → AllGone s → AllGone (fds.closed_on s o)
-gone_closed_on s None was = was
-gone_closed_on s (Some (on.File f at mode)) was = was
 gone_closed_on s (Some (on.ReadEnd p)) was = gone_pipe s p _ was
 gone_closed_on s (Some (on.WriteEnd p)) was = gone_pipe s p _ was
 gone_closed_on s (Some (on.Connection c)) was = gone_conn s c _ was
+gone_closed_on s o was = was
 
 gone_all_closed : (s : State) (list : List (Option Descriptor)) → AllGone s → AllGone (fold fds.closed_on s list)
 gone_all_closed s [] was = was
@@ -139,21 +138,19 @@ gone_given s by fd to (Some x) live to_live was =
     (λ other. gone_live (fds.opened s to x) by _ (live-with s to by _ refl live) refl (gone_live s to _ to_live refl was))
 
 gone_read_on : (s : State) (by fd : ℕ) (o : Option Descriptor) (n : ℕ) → is_live s by ≡ true → AllGone s → AllGone (reading.read_on s by fd o n)
-gone_read_on s by fd None n live was = was
 gone_read_on s by fd (Some (on.File f at mode)) n live was = gone_live s by _ live refl was
 gone_read_on s by fd (Some (on.ReadEnd p)) n live was = gone_pipe s p _ was
-gone_read_on s by fd (Some (on.WriteEnd p)) n live was = was
 gone_read_on s by fd (Some (on.Connection c)) n live was = gone_conn s c _ was
+gone_read_on s by fd o n live was = was
 
 gone_written : (s : State) (by fd : ℕ) (o : Option Descriptor) (w : Text) → is_live s by ≡ true → AllGone s → AllGone (writing.written s by fd o w)
 unfolding with_content
-gone_written s by fd None w live was = was
 gone_written s by fd (Some (on.File f at mode)) w live was =
     let filled : State = with_content s f (take at (content s f) ++ bytes_of w ++ drop (at + length w) (content s f)) in
     gone_live filled by _ (ap (λ (x : Domain Text). x.live) (domain-same s filled by refl) ∙ live) refl (gone_same s filled refl refl was)
-gone_written s by fd (Some (on.ReadEnd p)) w live was = was
 gone_written s by fd (Some (on.WriteEnd p)) w live was = gone_pipe s p _ was
 gone_written s by fd (Some (on.Connection c)) w live was = gone_conn s c _ was
+gone_written s by fd o w live was = was
 
 gone_called : (s : State) (by : ℕ) (k : Call) → AllGone s → first (called s by k).refusals ≡ None → AllGone (called s by k).after
 gone_called s by call.DomainNew was unrefused = gone_domain_new s by was

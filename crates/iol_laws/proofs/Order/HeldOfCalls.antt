@@ -131,29 +131,24 @@ held_gives s by fd to None is live to_live was = was
 held_gives s by fd to (Some x) is live to_live was = held_given s by fd to x is live to_live was
 
 held_read_on : (s : State) (by fd : ℕ) (o : Option Descriptor) (n : ℕ) → descriptor s by fd ≡ o → IsOrderly s → is_live s by ≡ true → AllHeld (reading.read_on s by fd o n)
-held_read_on s by fd None n is order live = held_of s order
 held_read_on s by fd (Some (on.File f at mode)) n is order live = held_file s by fd (Some (on.File f (at + n) mode)) live (ap is_file is) (held_of s order)
 held_read_on s by fd (Some (on.ReadEnd p)) n is order live = held_pipe s p _ refl refl (held_of s order)
-held_read_on s by fd (Some (on.WriteEnd p)) n is order live = held_of s order
 held_read_on s by fd (Some (on.Connection c)) n is order live = held_conn s c _ order.once refl refl (held_of s order)
+held_read_on s by fd o n is order live = held_of s order
 
 held_written : (s : State) (by fd : ℕ) (o : Option Descriptor) (w : Text) → descriptor s by fd ≡ o → IsOrderly s → is_live s by ≡ true → AllHeld (writing.written s by fd o w)
 unfolding with_content
-held_written s by fd None w is order live = held_of s order
 held_written s by fd (Some (on.File f at mode)) w is order live =
     let filled : State = with_content s f (take at (content s f) ++ bytes_of w ++ drop (at + length w) (content s f)) in
     let same = domain-same s filled by refl in
     held_file filled by fd (Some (on.File f (at + length w) mode)) (ap (λ (z : Domain Text). z.live) same ∙ live) (ap (λ (z : Domain Text). is_file (in_place z.fds fd)) same ∙ ap is_file is) (held_rest s filled refl refl refl (held_of s order))
-held_written s by fd (Some (on.ReadEnd p)) w is order live = held_of s order
 held_written s by fd (Some (on.WriteEnd p)) w is order live = held_pipe s p _ refl refl (held_of s order)
 held_written s by fd (Some (on.Connection c)) w is order live = held_conn s c _ order.once refl refl (held_of s order)
+held_written s by fd o w is order live = held_of s order
 
 held_seek : (s : State) (by fd at : ℕ) (o : Option Descriptor) → descriptor s by fd ≡ o → is_none (open_on o) ≡ false → is_live s by ≡ true → AllHeld s → AllHeld (fds.with_descriptor s by fd (option_map (λ x. on.File x.0 at x.2) (open_on o)))
-held_seek s by fd at None is some live was = absurd (cc)
 held_seek s by fd at (Some (on.File f was_at mode)) is some live was = held_file s by fd (Some (on.File f at mode)) live (ap is_file is) was
-held_seek s by fd at (Some (on.ReadEnd p)) is some live was = absurd (cc)
-held_seek s by fd at (Some (on.WriteEnd p)) is some live was = absurd (cc)
-held_seek s by fd at (Some (on.Connection c)) is some live was = absurd (cc)
+held_seek s by fd at o is some live was = absurd (cc)
 
 held_called : (s : State) (by : ℕ) (k : Call) → IsOrderly s → first (called s by k).refusals ≡ None → AllHeld (called s by k).after
 held_called s by call.DomainNew order unrefused = held_domain_new s by (held_of s order)
@@ -202,5 +197,4 @@ held_meant s (event.Arrive c bytes) order unrefused = held_conn s c _ order.once
 held_meant s (event.PeerClosed c ways.Done) order unrefused = held_conn s c _ order.once refl refl (held_of s order)
 held_meant s (event.PeerClosed c ways.Gone) order unrefused = held_conn s c _ order.once refl refl (held_of s order)
 held_meant s (event.Transmit c max) order unrefused = held_conn s c _ order.once refl refl (held_of s order)
-held_meant s event.Flush order unrefused = held_of s order
-held_meant s event.DropClean order unrefused = held_of s order
+held_meant s e order unrefused = held_of s order

@@ -25,7 +25,7 @@ use Rattle.iol_core.specs.declared.events.Reply.TheVariants as reply
 use Rattle.iol_core.proofs.Passing.{list_all-both, list_all-drop, list_all-labelled, list_all-lookup, list_all-push, list_all-take, list_all-weaker}
 use Rattle.iol_laws.proofs.Runs.{run_keeps}
 use Rattle.iol_laws.specs.Labels.{AreAtHome, lies_in}
-use Rattle.iol_laws.proofs.Changing.{Change, Reads, Writes, Closes, Takes, all_turned, changed_by, changes, conns_turned, turned}
+use Rattle.iol_laws.proofs.Changing.{Change, Reads, Closes, all_turned, changed_by, changes, conns_turned, turned}
 use Rattle.iol_laws.proofs.Refusals.Left.{left, may}
 use Rattle.iol_laws.proofs.Bounds.ShortQueues.{list_all-with_conn}
 
@@ -42,9 +42,8 @@ home_conn s c x new home = list_all-with_conn is_home s c x new home
 -- however a call changes a connection
 home_changed : (x : Change) (k : Connection) → is_home k ≡ true → is_home (changed_by x k) ≡ true
 home_changed (Reads n) k home = list_all-drop (λ b. b.1 == k.pool) n k.incoming home
-home_changed (Writes w) k home = home
 home_changed Closes k home = refl
-home_changed Takes k home = home
+home_changed x k home = home
 
 home_all : (s : State) (es : List (ℕ × Change)) → AreAtHome s → AreAtHome (all_turned s es)
 home_all s [] home = home
@@ -72,8 +71,7 @@ home_meant s (event.Arrive c bytes) home =
     home_conn s c _ (home-more (conn_at s c).pool (conn_at s c).incoming (take count bytes) (home_each s c home)) home
 home_meant s (event.PeerClosed c how) home = home_ended s c how home
 home_meant s (event.Transmit c max) home = home_conn s c _ (home_each s c home) home
-home_meant s event.Flush home = home
-home_meant s event.DropClean home = home
+home_meant s e home = home
 
 pub home_new : (slots : List (List ℕ)) → AreAtHome (new_state slots)
 home_new slots = refl
