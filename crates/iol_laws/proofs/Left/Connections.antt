@@ -62,4 +62,4 @@ conns_meant s (event.ConnNew p) = λ c un. conn-push s p c (apart s.next_conn c 
 conns_meant s (event.Arrive e bytes) = λ c un. conns_conn s e _ c (apart e c un)
 conns_meant s (event.PeerClosed e how) = λ c un. conns_conn s e _ c (apart e c un)
 conns_meant s (event.Transmit e max) = λ c un. conns_conn s e _ c (apart e c un)
-conns_meant s ee = λ c un. refl
+conns_meant s other = λ c un. refl

@@ -116,4 +116,4 @@ pipes_meant s (event.ConnNew q) = λ p un. pipes_same s (conn_new s q).after (λ
 pipes_meant s (event.Arrive e bytes) = λ p un. pipes_same s (meaning s (event.Arrive e bytes)).after (λ p. false) refl p refl
 pipes_meant s (event.PeerClosed e how) = λ p un. pipes_same s (meaning s (event.PeerClosed e how)).after (λ p. false) refl p refl
 pipes_meant s (event.Transmit e max) = λ p un. pipes_same s (meaning s (event.Transmit e max)).after (λ p. false) refl p refl
-pipes_meant s ee = λ p un. refl
+pipes_meant s other = λ p un. refl

@@ -187,7 +187,7 @@ unstood s (Some (on.Connection e)) (on.Connection c) once end is = elim (cases_e
 
     number : Some (on.Connection e) ≡ Some (on.Connection c) → e ≡ c
     number same = ap number_of same
-unstood s oo (on.Connection c) once end is = (is, λ same. absurd (cc (same)))
+unstood s other (on.Connection c) once end is = (is, λ same. absurd (cc (same)))
 
 -- one is closed
 pub held_closes : (s : State) (d fd : ℕ) (o : Option Descriptor) → descriptor s d fd ≡ o → Once s.conns → is_live s d ≡ true → AllHeld s → AllHeld (fds.with_fds (fds.closed_on s o) d (fds.freed s d fd))

@@ -42,7 +42,7 @@ accepted_meant s (event.Arrive e bytes) c order made was = accepted-with_conn s 
 accepted_meant s (event.PeerClosed e ways.Done) c order made was = accepted-with_conn s e (closed_by (conn_at s e) ways.Done) c order.once (λ same. ap (λ n. (conn_at s n).accepted) same ∙ was) was
 accepted_meant s (event.PeerClosed e ways.Gone) c order made was = accepted-with_conn s e (closed_by (conn_at s e) ways.Gone) c order.once (λ same. ap (λ n. (conn_at s n).accepted) same ∙ was) was
 accepted_meant s (event.Transmit e max) c order made was = accepted-with_conn s e _ c order.once (λ same. ap (λ n. (conn_at s n).accepted) same ∙ was) was
-accepted_meant s ee c order made was = was
+accepted_meant s other c order made was = was
 
 accepted_step : (s t : State) (e : Event) (r : Reply) (c : ℕ) → IsOrderly s → StepsTo s e r t → c < s.next_conn → IsAccepted s c → IsAccepted t c
 accepted_step s t e r c order step made was = accepted_outcome (meaning s e) s t (outcome r) c (accepted_meant s e c order made was) was step
