@@ -58,28 +58,15 @@ module _ (come : AggregatesComeAndGo) (own : CallsServeTheirDomain) (m n : State
 
   handed : (fd p b : ℕ) (sent : List ℕ) (r : Reply) → descriptor m server fd ≡ Some (on.WriteEnd p)
       → lent_at m server b ≡ Some sent → StepsTo m (event.Call server (call.IolWrite fd b)) r n → ⊥
-  handed fd p b sent r open_on lends step = by r (own.write_pipe m n server fd p b sent r order open_on lends step) (named (event.Call server (call.IolWrite fd b)) r step)
-    where
-      by : (r : Reply) → caller.WritesPipe m p sent r n → brings (event.Call server (call.IolWrite fd b)) r server a ≡ true → ⊥
-      by (reply.Count k) did is = cc (is)
-      by (reply.Refused x) did is = cc (is)
-      by r did is = did
+  handed fd p b sent r open_on lends step =
+      keeping.unnamed come own m n order a bytes before after (call.IolWrite fd b) (λ x. caller.WritesPipe m p sent x n) r step (own.write_pipe m n server fd p b sent r order open_on lends step) (λ x bad. bad) (λ x y bad. bad)
 
   piped : (r : Reply) → StepsTo m (event.Call server call.Pipe) r n → ⊥
-  piped r step = by r (own.makes_pipe m n server r step) (named (event.Call server call.Pipe) r step)
-    where
-      by : (r : Reply) → caller.MakesPipe m server r n → brings (event.Call server call.Pipe) r server a ≡ true → ⊥
-      by (reply.Fds g h) did is = cc (is)
-      by (reply.Refused x) did is = cc (is)
-      by r did is = did
+  piped r step = keeping.unnamed come own m n order a bytes before after call.Pipe (λ x. caller.MakesPipe m server x n) r step (own.makes_pipe m n server r step) (λ x bad. bad) (λ x y bad. bad)
 
   given : (g to p : ℕ) (r : Reply) → descriptor m server g ≡ Some (on.WriteEnd p) → StepsTo m (event.Call server (call.GiveFd g to)) r n → ⊥
-  given g to p r open_on step = by r (own.gives_fd m n server g to (on.WriteEnd p) r open_on step) (named (event.Call server (call.GiveFd g to)) r step)
-    where
-      by : (r : Reply) → caller.GivesFd m server g to (on.WriteEnd p) r n → brings (event.Call server (call.GiveFd g to)) r server a ≡ true → ⊥
-      by (reply.Fd f) did is = cc (is)
-      by (reply.Refused x) did is = cc (is)
-      by r did is = did
+  given g to p r open_on step =
+      keeping.unnamed come own m n order a bytes before after (call.GiveFd g to) (λ x. caller.GivesFd m server g to (on.WriteEnd p) x n) r step (own.gives_fd m n server g to (on.WriteEnd p) r open_on step) (λ x bad. bad) (λ x y bad. bad)
 
   -- what is made is named by the reply
   made : (k : Call) (it : List ℕ) (y : Reply → Running) (r : Reply) → StepsTo m (event.Call server k) r n → caller.Makes m server it r n
