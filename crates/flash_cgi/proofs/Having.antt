@@ -206,14 +206,13 @@ module _ (own : CallsServeTheirDomain) (why : RefusalsTellWhy) (come : Aggregate
 
   begins : (begun : ℕ) (l : Option Line) (r : Reply) → Had doing.Runs → StepsTo m (event.Call d (next_call job l)) r n → HasTo (told_next l begun r)
   begins begun None r h step = closes doing.Runs doing.Waits job.fd r (λ f differ un. differ) (λ b un. refl) h step
-  begins begun (Some (line.Emit text)) r h step = made doing.Runs _ (begun + 1) r (λ f un. un) (λ b. refl) h step
-  begins begun (Some line.Query) r h step = made doing.Runs _ (begun + 1) r (λ f un. un) (λ b. refl) h step
   begins begun (Some (line.Cat name)) r h step = opens purpose.Cat name (begun + 1) r h step
   begins begun (Some (line.Wc name)) r h step = opens purpose.Wc name (begun + 1) r h step
   begins begun (Some line.Pause) r h step = record {
     no_fd = λ f given un. free_set_pool m n d f 3 r step (h.no_fd f given un);
     no_agg = λ b given un. after_set_pool 3 b r step (h.no_agg b given refl);
   }
+  begins begun o r h step = made doing.Runs _ (begun + 1) r (λ f un. un) (λ b. refl) h step
 
   by_doing : (begun : ℕ) (x : Doing) (r : Reply) → Had x → StepsTo m (event.Call d (call_at job (at_step x begun))) r n → HasTo (told job (at_step x begun) (lent_at n d) r)
   by_doing begun doing.Waits r h step = tt

@@ -70,12 +70,11 @@ module _ (m n : State) (d : ℕ) where
   job_again r step un = (let e = step.1 in absurd (cc (e)))
 
   begun_again : (job : Task) (begun : ℕ) (l : Option Line) (r : Reply) → StepsTo m (event.Call d (next_call job l)) r n → told_next l begun r ≡ None → n ≡ m
-  begun_again job begun None r step none = absurd (cc (none))
   begun_again job begun (Some (line.Emit text)) r step none = made_again _ (begun + 1) r step none
   begun_again job begun (Some line.Query) r step none = made_again _ (begun + 1) r step none
   begun_again job begun (Some (line.Cat name)) r step none = opened_again _ name (begun + 1) r step none
   begun_again job begun (Some (line.Wc name)) r step none = opened_again _ name (begun + 1) r step none
-  begun_again job begun (Some line.Pause) r step none = absurd (cc (none))
+  begun_again job begun o r step none = absurd (cc (none))
 
   same_again : (lent : ℕ → Option (List ℕ)) (job : Task) (begun : ℕ) (x : Doing) (r : Reply) → StepsTo m (event.Call d (doing_call job begun x)) r n
       → is_given x r ≡ false → told_doing lent job begun x r ≡ None → n ≡ m
