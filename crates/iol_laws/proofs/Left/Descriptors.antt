@@ -63,11 +63,11 @@ differs_fd by fd f un same = grind (arith, nat_tests, common_steps, un, same)
 pub fds_set : (s : State) (d fd : ℕ) (o : Option Descriptor) → KeepsFds s (fds.with_descriptor s d fd o) (fd_of d fd)
 fds_set s d fd o = fds_domain s d _ (fd_of d fd) (λ f y is un. place-set_other (domain s d).fds fd f o (differs_fd d fd f un) ∙ is)
 
+true-right : (b : Bool) → (b && true) ≡ false → b ≡ false
+true-right b un = grind (arith, un)
+
 fds_read_on : (s : State) (by fd : ℕ) (from : Option Descriptor) (count : ℕ) → KeepsFds s (reading.read_on s by fd from count) (λ d f. (by == d) && (fd == f) && writing.is_file from)
 fds_read_on s by fd (Some (on.File g at mode)) count = λ d f x is un. fds_set s by fd _ d f x is (true-right ((by == d) && (fd == f)) un)
-  where
-    true-right : (b : Bool) → (b && true) ≡ false → b ≡ false
-    true-right b un = grind (arith, un)
 fds_read_on s by fd (Some (on.ReadEnd q)) count = fds_same s _ _ (domains-with_pipe s q _)
 fds_read_on s by fd (Some (on.Connection e)) count = fds_same s _ _ (domains-with_conn s e _)
 fds_read_on s by fd o count = λ d f x is un. is
@@ -77,9 +77,6 @@ unfolding with_content
 fds_written s by fd (Some (on.File g at mode)) w = λ d f x is un.
     let filled : State = with_content s g (take at (content s g) ++ bytes_of w ++ drop (at + length w) (content s g)) in
     fds_set filled by fd _ d f x (fds_same s filled no_fd refl d f x is refl) (true-right ((by == d) && (fd == f)) un)
-  where
-    true-right : (b : Bool) → (b && true) ≡ false → b ≡ false
-    true-right b un = grind (arith, un)
 fds_written s by fd (Some (on.WriteEnd q)) w = fds_same s _ _ (domains-with_pipe s q _)
 fds_written s by fd (Some (on.Connection e)) w = fds_same s _ _ (domains-with_conn s e _)
 fds_written s by fd o w = λ d f x is un. is
