@@ -147,9 +147,9 @@ gone_give s by a to order live has =
     agg_given (λ t. Lacks t by a) s by a to
     (λ is. of-own s by a _ live (lookup-push_other (without (domain s by).aggs a) (aggs.next_agg s by) a (text s by a) (below s by a order has).0 ∙ forgotten (domain s by).aggs a (order.aggs_once by)))
     (λ is.
-        let given : State = aggs.with_agg s to (text s by a) in
-        let same : domain given by ≡ domain s by = domain-with_other s to by _ (λ equal. apart by to is (sym equal)) in
-        of-own given by a _ (ap (λ (y : Domain Text). y.live) same ∙ live) (forgotten (domain given by).aggs a (subst (λ (y : Domain Text). Once y.aggs) (sym same) (order.aggs_once by))))
+    let given : State = aggs.with_agg s to (text s by a) in
+    let same : domain given by ≡ domain s by = domain-with_other s to by _ (λ equal. apart by to is (sym equal)) in
+    of-own given by a _ (ap (λ (y : Domain Text). y.live) same ∙ live) (forgotten (domain given by).aggs a (subst (λ (y : Domain Text). Once y.aggs) (sym same) (order.aggs_once by))))
 
 -- what the domain gives up is its own
 mine : (by d : ℕ) (b : Bool) → ((by == d) && b) ≡ true → (by ≡ d) × (b ≡ true)

@@ -54,9 +54,8 @@ script-as client_has conn_has kept q (Reading f) script r heard true plain text 
 script-as client_has conn_has kept q (Spares a Script) script r heard true plain text dropped = by (is_head_only q) r
   where
     by : (h : Bool) (r : Reply) → client_has (record { conn = conn.told (at kept q (Spares a Script)) r heard; run = told_spares h r; script = script }) ≡ conn_has (conn.told (at kept q (Spares a Script)) r heard).doing
-    by true r = plain (conn.told (at kept q (Spares a Script)) r heard) script
     by false reply.Done = dropped a
-    by false r = plain (conn.told (at kept q (Spares a Script)) r heard) script
+    by b r = plain (conn.told (at kept q (Spares a Script)) r heard) script
 script-as client_has conn_has kept q d script r heard true plain text dropped = plain (conn.told (at kept q d) r heard) script
 
 pub script-uses : (kept : List ℕ) (q : Answer) (d : Doing) (script : List ℕ) (r : Reply) (heard : List ℕ) (a : ℕ) (b : Bool)
@@ -78,13 +77,12 @@ script-opens kept q d script r heard g b = script-as (λ x. has_fd x g) (λ e. c
 -- ---- what a run uses it uses until it is over, and its connection nothing then
 
 pub on-uses : (x : Client) (y z : Running) (a : ℕ) (was over : Bool) → is_over z ≡ over → uses_agg (goes_on was over x y z) a ≡ running.uses_agg z a
-on-uses x y Awaits a false true is = absurd (cc (is))
-on-uses x y (Runs run s) a false true is = absurd (cc (is))
 on-uses x y (Leaves d) a false true is = refl
 on-uses x y Ends a false true is = refl
 on-uses x y z a false false is = refl
 on-uses x y z a true true is = refl
 on-uses x y z a true false is = refl
+on-uses x y other a false true is = absurd (cc (is))
 
 on-ends : (x : Client) (y z : Running) (g : ℕ) (was over : Bool) → is_over z ≡ over → has_fd (goes_on was over x y z) g ≡ false → has_end z g ≡ false
 on-ends x y (Runs run s) g false true is unused = absurd (cc (is))

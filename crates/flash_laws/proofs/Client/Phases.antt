@@ -1,7 +1,7 @@
 -- The phases of a client, whatever the response that is due: what the machine has, what is offered, and what of a script's text is
 -- read.
 use Rattle.std.proofs.Common.{◌≡◌, ℕ, ◌+◌, ◌-◌, List, [], ◌∷◌, ◌++◌, drop, ap, ◌∙◌, refl, sym, subst, Some, None, true, false, Bool, append_assoc, if◌then◌else◌}
-use Rattle.std.specs.Prelude.{◌||◌, min, nat_lt, nat_le, slice_range}
+use Rattle.std.specs.Prelude.{◌||◌, nat_lt, nat_le, slice_range}
 use Rattle.std.proofs.lemmas.List.{take-append-drop}
 use Rattle.iol_core.specs.State.{State, descriptor}
 use Rattle.iol_core.specs.Run.{StepsTo}
@@ -18,16 +18,14 @@ use Rattle.iol_laws.specs.Order.{IsOrderly}
 use Rattle.iol_laws.specs.Caller as o
 use Rattle.iol_laws.specs.Caller.{CallsServeTheirDomain, lent_at}
 use Rattle.flash_http.specs.declared.ranges.Selection.{Selection}
-use Rattle.flash_http.specs.declared.ranges.Selection.TheVariants.{Whole, Bytes, Unsatisfiable}
+use Rattle.flash_http.specs.declared.ranges.Selection.TheVariants.{Bytes}
 use Rattle.flash_http.specs.Range.{selected}
 use Rattle.flash_http.specs.Request.{Answer, serve, refuse}
 use Rattle.flash_laws.specs.Answers.{keeps}
 use Rattle.flash_laws.specs.Client.{conn_wants}
-use Rattle.flash_laws.specs.Conn.{Following, Conn, is_head_only, most_read, piece_end, count_of, wants, sends_of, settled, following, headed, told_rests, told}
+use Rattle.flash_laws.specs.Conn.{Following, is_head_only, most_read, piece_end, count_of, wants, sends_of, settled, following, headed, told_rests, told}
 use Rattle.flash_laws.specs.declared.doing.Learnt.{Learnt}
-use Rattle.flash_laws.specs.declared.doing.Learnt.TheVariants.{File, Length, Text as TextOf}
-use Rattle.flash_laws.specs.declared.doing.Content.{Content}
-use Rattle.flash_laws.specs.declared.doing.Content.TheVariants.{Body}
+use Rattle.flash_laws.specs.declared.doing.Learnt.TheVariants.{File, Text as TextOf}
 use Rattle.flash_laws.specs.declared.doing.Doing.{Doing}
 use Rattle.flash_laws.specs.declared.doing.Doing.TheVariants.{Rests, Got, Opens, Reads as Reading, Shuts, Picks, Spares, Heads, Joins, Sends, Cuts, Offers, Swaps, Sent, Breaks, Drops, Closes, Over}
 use Rattle.flash_laws.specs.Conn.Fits.{Has, is_closing, Names}
@@ -59,8 +57,6 @@ module _ (steps : EachStepLeavesTheRest) (own : CallsServeTheirDomain) (m n : St
       → Names n r heard → Has n q due (told (at kept q d) r heard).doing
   phase fd c q Rests due r heard open_on read busy has step names = rests q due r heard names
   phase fd c q (Got a) due r heard open_on read busy has step names = got q due a r heard has step
-  phase fd c q Opens due r heard open_on read busy has step names = absurd (cc (read))
-  phase fd c q (Reading f) due r heard open_on read busy has step names = absurd (cc (read))
   phase fd c q (Shuts f k) due r heard open_on read busy has step names = having.shuts steps own m n order q f k due r has step
   phase fd c q (Picks a first last len) due r heard open_on read busy has step names = having.picks steps own m n order q a first last len due r has step
   phase fd c q (Spares a k) due r heard open_on read busy has step names = having.spares steps own m n order q a k due r has step
@@ -75,6 +71,7 @@ module _ (steps : EachStepLeavesTheRest) (own : CallsServeTheirDomain) (m n : St
   phase fd c q (Drops a more) due r heard open_on read busy has step names = having.drops steps own m n order q a more due r has step
   phase fd c q Closes due r heard open_on read busy has step names = absurd (cc (busy))
   phase fd c q Over due r heard open_on read busy has step names = absurd (cc (busy))
+  phase fd c q x due r heard open_on read busy has step names = absurd (cc (read))
 
 -- ---- what is offered
 
@@ -188,20 +185,17 @@ settled-unread : (f : ℕ) (q : Answer) (k : Learnt) → is_read (Shuts f k) ≡
 settled-unread f (serve w) (File a len) was = by (selected w.range len)
   where
     by : (sel : Selection) → is_read (sends_of sel a len) ≡ false
-    by Whole = refl
     by (Bytes first last) = refl
-    by Unsatisfiable = refl
-settled-unread f (serve w) (TextOf a true) was = absurd (cc (was))
-settled-unread f (refuse status head_only close) (TextOf a true) was = absurd (cc (was))
+    by x = refl
+settled-unread f x (TextOf a true) was = absurd (cc (was))
 settled-unread f q k was = refl
 
 settled-read : (q : Answer) (k : Learnt) → is_opening (settled q k) ≡ false
 settled-read (serve w) (File a len) = by (selected w.range len)
   where
     by : (sel : Selection) → is_opening (sends_of sel a len) ≡ false
-    by Whole = refl
     by (Bytes first last) = refl
-    by Unsatisfiable = refl
+    by x = refl
 settled-read (refuse status head_only close) (File a len) = refl
 settled-read q k = refl
 

@@ -23,7 +23,7 @@ use Rattle.iol_laws.specs.CallerFiles.{FileCallsServeTheirDomain}
 use Rattle.iol_laws.specs.CallerFiles as of
 use Rattle.iol_laws.specs.Order.{IsOrderly}
 use Rattle.flash_http.specs.declared.ranges.Selection.{Selection}
-use Rattle.flash_http.specs.declared.ranges.Selection.TheVariants.{Whole, Bytes, Unsatisfiable}
+use Rattle.flash_http.specs.declared.ranges.Selection.TheVariants.{Unsatisfiable}
 use Rattle.flash_http.specs.Range.{selected}
 use Rattle.flash_http.specs.Request.{Answer, serve, refuse}
 use Rattle.flash_laws.specs.Answers.{response}
@@ -53,14 +53,12 @@ settled-uses : (q : Answer) (k : Learnt) (a : ℕ) → learnt_agg k a ≡ true �
 settled-uses (serve w) (File b len) a u = by (selected w.range len)
   where
     by : (sel : Selection) → uses_agg (sends_of sel b len) a ≡ true
-    by Whole = u
-    by (Bytes first last) = u
     by Unsatisfiable = former_of (b == a) false u
+    by x = u
 settled-uses (refuse status head_only close) (File b len) a u = u
 settled-uses q (Length len) a u = absurd (cc (u))
 settled-uses q (Fails status) a u = absurd (cc (u))
-settled-uses (serve w) (TextOf b runs) a u = former_of (b == a) (content_agg (put_out runs) a) u
-settled-uses (refuse status head_only close) (TextOf b runs) a u = former_of (b == a) (content_agg (put_out runs) a) u
+settled-uses x (TextOf b runs) a u = former_of (b == a) (content_agg (put_out runs) a) u
 
 following-uses : (k : Content) (a : ℕ) → content_agg k a ≡ true → has_followed (following k) a ≡ true
 following-uses (Body b size len) a u = u

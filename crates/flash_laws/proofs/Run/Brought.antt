@@ -1,6 +1,6 @@
 -- What a call brings a run is used by it.
 use Rattle.std.proofs.Common.{◌≡◌, ℕ, ◌+◌, ◌-◌, ◌==◌, List, [], ◌∷◌, ◌++◌, Option, Some, None, true, false, take, drop}
-use Rattle.std.specs.Prelude.{◌||◌, not, slice_range}
+use Rattle.std.specs.Prelude.{◌||◌, slice_range}
 use Rattle.iol_core.specs.State.{State, descriptor}
 use Rattle.iol_core.specs.Run.{StepsTo}
 use Rattle.iol_core.specs.declared.descriptors.Descriptor.TheVariants as on
@@ -29,7 +29,7 @@ use Rattle.flash_laws.specs.declared.doing.Doing.TheVariants as doing
 use Rattle.flash_laws.specs.declared.running.TheConstants.{CHUNK_BYTES}
 use Rattle.flash_laws.specs.declared.running.Run.{Run}
 use Rattle.flash_laws.specs.declared.running.Step.{Step}
-use Rattle.flash_laws.specs.declared.running.Step.TheVariants.{Gives, Makes, Hands, Lets, Heads, Sending, Hears, Spills, Gathers, Frames, Wraps, Trims, Ended, Unholds, Stops, Unframes, Lasts, WrapsLast, TrimsLast, Unwraps, Returns, Lapses, Fails}
+use Rattle.flash_laws.specs.declared.running.Step.TheVariants.{Gives, Makes, Hands, Lets, Heads, Sending, Hears, Spills, Gathers, Frames, Wraps, Trims, Ended, Unholds, Unframes, Lasts, WrapsLast, TrimsLast, Unwraps, Returns, Lapses}
 use Rattle.flash_laws.specs.declared.running.Running.{Running}
 use Rattle.flash_laws.specs.declared.running.Running.TheVariants.{Awaits, Runs, Leaves, Closes}
 use Rattle.flash_laws.proofs.Conn.Keeping as keeping
@@ -126,7 +126,6 @@ module _ (come : AggregatesComeAndGo) (own : CallsServeTheirDomain) (m n : State
     step-brings run (Trims held chunk len frame) r heard has step = absurd (dropped held r step)
     step-brings run (Ended b held frame) r heard has step = absurd (dropped b r step)
     step-brings run (Unholds held frame) r heard has step = absurd (dropped held r step)
-    step-brings run (Stops held frame) r heard has step = absurd (shuts run.from r step)
     step-brings run (Unframes f held) r heard has step = absurd (dropped f r step)
     step-brings run (Lasts held) r heard has step = made (call.AggMake (end_around held)) (end_around held) (λ k. told_step w run (Lasts held) k heard) r step (own.make m n server (end_around held) r order step) (λ x is. is) (λ x is. cc (is))
         (λ x is. ending-new run held x (count_of heard) is)
@@ -137,7 +136,7 @@ module _ (come : AggregatesComeAndGo) (own : CallsServeTheirDomain) (m n : State
     step-brings run (Unwraps frame chunk len) r heard has step = absurd (dropped frame r step)
     step-brings run (Returns write) r heard has step = absurd (shuts write r step)
     step-brings run (Lapses j) r heard has step = absurd (dropped j r step)
-    step-brings run Fails r heard has step = absurd (shuts run.from r step)
+    step-brings run x r heard has step = absurd (shuts run.from r step)
 
     left-brings : (due : List ℕ) (d : Doing) (r : Reply) (heard : List ℕ) → is_left d ≡ true → Has m (serve w) due d
         → StepsTo m (event.Call server (conn.wants fd (in_phase w d))) r n → conn.uses_agg (conn.told (in_phase w d) r heard).doing a ≡ true

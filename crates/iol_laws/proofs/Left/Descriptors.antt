@@ -86,11 +86,11 @@ fds_given s by fd to x =
     fd_given (λ t. KeepsFds s t (fd_of by fd)) s by fd to x
     (λ same. fds_domain s by _ (fd_of by fd) (λ f y is un. place-placed (fds.freed s by fd) x f y (place-set_other (domain s by).fds fd f None (differs_fd by fd f un) ∙ is)))
     (λ other d f y is un.
-        elim (domain-with_domain (fds.opened s to x) by d (record (domain (fds.opened s to x) by) { fds = fds.freed s by fd })) [
-          | inl both ↦ (let un_by = subst (λ n. fd_of by fd n f ≡ false) (sym both.0) un in
-              ap (λ (z : Domain Text). in_place z.fds f) both.1 ∙ place-set_other (domain s by).fds fd f None (differs_fd by fd f un_by) ∙ subst (λ n. descriptor s n f ≡ Some y) (sym both.0) is)
-          | inr same ↦ ap (λ (z : Domain Text). in_place z.fds f) same ∙ fds_opened s to x no_fd d f y is refl
-        ])
+    elim (domain-with_domain (fds.opened s to x) by d (record (domain (fds.opened s to x) by) { fds = fds.freed s by fd })) [
+      | inl both ↦ (let un_by = subst (λ n. fd_of by fd n f ≡ false) (sym both.0) un in
+          ap (λ (z : Domain Text). in_place z.fds f) both.1 ∙ place-set_other (domain s by).fds fd f None (differs_fd by fd f un_by) ∙ subst (λ n. descriptor s n f ≡ Some y) (sym both.0) is)
+      | inr same ↦ ap (λ (z : Domain Text). in_place z.fds f) same ∙ fds_opened s to x no_fd d f y is refl
+    ])
 
 fds_give_fd : (s : State) (by fd to : ℕ) (o : Option Descriptor) → KeepsFds s (option_map_or (fds.given_to s by fd to) o s) (fd_of by fd)
 fds_give_fd s by fd to None = λ d f x is un. is

@@ -19,14 +19,13 @@ use Rattle.iol_core.specs.declared.events.Reply.{Reply}
 use Rattle.iol_core.specs.declared.events.Reply.TheVariants as reply
 use Rattle.iol_laws.specs.Frame.{is_conn, touches_conn, touches_fd}
 use Rattle.iol_laws.specs.Order.{IsOrderly}
-use Rattle.iol_laws.specs.Caller as o
 use Rattle.iol_laws.specs.Caller.{is_rough}
 use Rattle.iol_laws.specs.CallerFiles as of
 use Rattle.flash_http.specs.Range.{selected}
 use Rattle.flash_http.specs.Request.{Answer, serve, refuse, Wanted}
 use Rattle.flash_laws.specs.Answers.{Outcome, Found, Failed, body_unless, chosen, file_text, unsatisfiable, response}
-use Rattle.flash_laws.specs.Client.{Client, is_for_script, can_run, kept_if, script_told}
-use Rattle.flash_laws.specs.Client.Fits.{TieAlone, due_in, Finds, FitsAlone, Fits}
+use Rattle.flash_laws.specs.Client.{is_for_script, can_run, kept_if, script_told}
+use Rattle.flash_laws.specs.Client.Fits.{TieAlone, due_in, Finds, FitsAlone}
 use Rattle.flash_laws.specs.Conn as conn
 use Rattle.flash_laws.specs.Conn.{Conn, most_read, name_of, count_of, text_of}
 use Rattle.flash_laws.specs.Workers.Crew.{Crew}
@@ -47,7 +46,7 @@ use Rattle.flash_laws.proofs.Counts.{counted}
 use Rattle.flash_laws.proofs.Conn.Lent.{file-same, content-same}
 use Rattle.flash_laws.proofs.Lists.{not-equal, clash}
 use Rattle.flash_laws.proofs.World.AllLaws.{AllLaws}
-use Rattle.flash_laws.proofs.World.Alone.Ties.{alone, FitsAt, Stands, TiesOn, tie_on, ends}
+use Rattle.flash_laws.proofs.World.Alone.Ties.{alone, FitsAt, Stands, TiesOn, tie_on}
 
 -- of a phase that reads no script the response is due
 pub due-is : (shelf : Shelf) (q : Answer) (d : Doing) → is_read d ≡ false → due_in shelf q d ≡ due_to shelf q

@@ -3,12 +3,11 @@ use Rattle.std.proofs.Common.{inl, inr, ◌≡◌, ℕ, ◌+◌, ◌==◌, List,
 use Rattle.std.specs.Prelude.{nat_lt, nat_le, ◌||◌, is_some}
 use Rattle.std.specs.List.{list_any}
 use Rattle.iol_core.specs.Text.{bytes_of}
-use Rattle.iol_core.specs.State.{State, Connection, descriptor, conn_at, file}
+use Rattle.iol_core.specs.State.{State, Connection, descriptor, conn_at}
 use Rattle.iol_core.specs.Run.{StepsTo}
 use Rattle.iol_core.specs.declared.limits.TheConstants.{MAX_AGGREGATE_BYTES}
 use Rattle.iol_core.specs.declared.descriptors.Descriptor.TheVariants as on
 use Rattle.iol_core.specs.declared.descriptors.Mode.TheVariants as modes
-use Rattle.iol_core.specs.declared.refusals.Refusal.TheVariants as no
 use Rattle.iol_core.specs.declared.events.Call.{Call}
 use Rattle.iol_core.specs.declared.events.Call.TheVariants as call
 use Rattle.iol_core.specs.declared.events.Event.TheVariants as event
@@ -18,17 +17,16 @@ use Rattle.iol_laws.specs.Frame.{is_conn, touches_conn, touches_fd}
 use Rattle.iol_laws.specs.Order.{IsOrderly}
 use Rattle.iol_laws.specs.Caller as o
 use Rattle.iol_laws.specs.Caller.{is_rough}
-use Rattle.iol_laws.specs.CallerFiles as of
 use Rattle.iol_proc.specs.declared.seat.Seat.{Seat}
 use Rattle.flash_http.specs.declared.ranges.Selection.{Selection}
-use Rattle.flash_http.specs.declared.ranges.Selection.TheVariants.{Whole, Bytes, Unsatisfiable}
+use Rattle.flash_http.specs.declared.ranges.Selection.TheVariants.{Bytes}
 use Rattle.flash_http.specs.Range.{selected}
 use Rattle.flash_http.specs.Request.{Answer, serve, refuse}
 use Rattle.flash_cgi.specs.Script.{script_of}
 use Rattle.flash_cgi.specs.declared.line.Line.{Line}
 use Rattle.flash_laws.specs.Answers.{Failed, keeps}
 use Rattle.flash_laws.specs.Client as client
-use Rattle.flash_laws.specs.Client.{Client, is_for_script, conn_wants, conn_told, script_told, file_told}
+use Rattle.flash_laws.specs.Client.{is_for_script, conn_wants, conn_told, script_told, file_told}
 use Rattle.flash_laws.specs.Client.Fits.{TieAlone, due_in, HasText, Finds, FitsAlone, TieRun, FitsRun, Fits}
 use Rattle.flash_laws.specs.Conn as conn
 use Rattle.flash_laws.specs.Conn.{Following, Conn, piece_end, count_of, text_of, sends_of, settled, told_shuts, told_picks, told_spares, following, headed, told_heads, told_joins, told_cuts, told_swaps, goes_on, told_sent, told_breaks, drops_next, told_drops, told_got}
@@ -112,9 +110,8 @@ module _ (shelf : Shelf) (crew : Crew) (laws : AllLaws crew) (m n : State) (came
   settled-stands (serve w) (File a len) = by (selected w.range len)
     where
       by : (sel : Selection) → Stands shelf (serve w) [] (sends_of sel a len)
-      by Whole = (refl, refl, refl)
       by (Bytes first last) = (refl, refl, refl)
-      by Unsatisfiable = (refl, refl, refl)
+      by x = (refl, refl, refl)
   settled-stands (refuse status head_only close) (File a len) = (refl, refl, refl)
   settled-stands q k = (refl, refl, refl)
 
@@ -206,8 +203,7 @@ module _ (shelf : Shelf) (crew : Crew) (laws : AllLaws crew) (m n : State) (came
       by true reply.Done is did step =
           goes (serve w) [] (Spares a Script) (Heads Script) (call.AggDrop a) reply.Done f step refl refl (refl, refl, refl) (refl, refl, refl) (may_be true is) tt
       by false reply.Done is did step = begins is step
-      by true (reply.Refused y) is did step = same (serve w) (Spares a Script) f did
-      by false (reply.Refused y) is did step = same (serve w) (Spares a Script) f did
+      by other (reply.Refused y) is did step = same (serve w) (Spares a Script) f did
       by b r is did step = absurd did
 
   headed-stands : (q : Answer) (a size : ℕ) (more : Following) → Stands shelf q [] (headed a size more)
@@ -345,7 +341,6 @@ module _ (shelf : Shelf) (crew : Crew) (laws : AllLaws crew) (m n : State) (came
       → Fits shelf crew n came sent fd c (file_told b (alone kept script q d) r heard) seats
   alone_phase seats false q (Reading g) r heard is fixed f waits busy calm step names = files.reads shelf crew laws m n came sent fd c kept script order q g r heard is fixed f calm step names
   alone_phase seats false q (Spares a Script) r heard is fixed f waits busy calm step names = absurd (clash (is_for_script shelf.scripts q) f.finds.asks is)
-  alone_phase seats false q d r heard is fixed f waits busy calm step names = phase q d r heard refl fixed f waits busy calm step names
   alone_phase seats true q (Reading g) r heard is fixed f waits busy calm step names = files.reads_text shelf crew laws m n came sent fd c kept script order q g r heard is fixed f calm step names
   alone_phase seats true q (Spares a Script) r heard is fixed f waits busy calm step names = runs seats q a r heard f step
-  alone_phase seats true q d r heard is fixed f waits busy calm step names = phase q d r heard refl fixed f waits busy calm step names
+  alone_phase seats b q d r heard is fixed f waits busy calm step names = phase q d r heard refl fixed f waits busy calm step names

@@ -22,7 +22,7 @@ use Rattle.flash_http.specs.declared.windows.Window.TheVariants.{Wait}
 use Rattle.flash_http.specs.Window.{window_in, FitsIn}
 use Rattle.flash_http.specs.Request.{Answer}
 use Rattle.flash_laws.specs.Answers.{Reads}
-use Rattle.flash_laws.specs.Client.{Client, conn_told}
+use Rattle.flash_laws.specs.Client.{conn_told}
 use Rattle.flash_laws.specs.Client.Fits.{TieAlone, due_in, Finds, FitsAlone}
 use Rattle.flash_laws.specs.Conn as conn
 use Rattle.flash_laws.specs.Conn.{Following, Conn, most_kept, piece_end, moved_on}
