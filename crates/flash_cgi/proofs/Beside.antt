@@ -39,6 +39,7 @@ use Rattle.flash_cgi.specs.declared.doing.Standing.TheVariants as standing
 use Rattle.flash_cgi.specs.declared.doing.Step.{Step}
 use Rattle.flash_cgi.specs.declared.worker.Worker.{Worker}
 use Rattle.flash_cgi.proofs.Feeding.{bytes-append}
+use Rattle.flash_cgi.proofs.Taking.{awaits_still}
 use Rattle.flash_cgi.proofs.Truly.{content-same, same_outcome, same_outcomes}
 
 some-inj : {A : Type 0} (x y : A) → Some x ≡ Some y → x ≡ y
@@ -55,11 +56,6 @@ module _ (m n : State) (d : ℕ) (left : LeavesWorker m d n) where
   bytes_stay a h = (h.0, left.bytes a h.0 h.1)
 
   needs_stay : (x : Doing) → Needs m d x → Needs n d x
-  needs_stay doing.Waits h = h
-  needs_stay (doing.Skips a) h = h
-  needs_stay (doing.Breaks a) h = h
-  needs_stay doing.Runs h = h
-  needs_stay (doing.Says s) h = h
   needs_stay (doing.Drops a) h = bytes_stay a h
   needs_stay (doing.Reads file u) h = record { number = h.number; place = h.place; open_on = left.fds file (on.File h.number h.place Read) h.open_on; may = left.may file h.number h.place Read h.open_on h.may }
   needs_stay (doing.Counted file a s) h = (open_stays file h.0, bytes_stay a h.1)
@@ -68,21 +64,14 @@ module _ (m n : State) (d : ℕ) (left : LeavesWorker m d n) where
   needs_stay (doing.Writes a) h = bytes_stay a h
   needs_stay (doing.Cuts a from to) h = (h.0, left.bytes a h.0 h.1, h.2)
   needs_stay (doing.Swaps a b) h = (bytes_stay b h.0, h.1)
+  needs_stay x h = h
 
   still_stays : (job : Task) (begun : ℕ) (x : Doing) (os : List Outcome) → Needs m d x → still_doing job begun (lent_at n d) x os ≡ still_doing job begun (lent_at m d) x os
-  still_stays job begun doing.Waits os h = refl
-  still_stays job begun (doing.Skips a) os h = refl
-  still_stays job begun (doing.Breaks a) os h = refl
-  still_stays job begun doing.Runs os h = refl
-  still_stays job begun (doing.Drops a) os h = refl
-  still_stays job begun (doing.Says s) os h = refl
-  still_stays job begun (doing.Reads file u) os h = refl
-  still_stays job begun (doing.Counted file a s) os h = refl
-  still_stays job begun (doing.ShutsToSay file s) os h = refl
   still_stays job begun (doing.Shuts file a) os h = ap (λ (l : List ℕ). l ++ rest_of job begun os) (same_at a h.1.0 h.1.1)
   still_stays job begun (doing.Writes a) os h = ap (λ (l : List ℕ). l ++ rest_of job begun os) (same_at a h.0 h.1)
   still_stays job begun (doing.Cuts a from to) os h = ap (λ (l : List ℕ). drop from l ++ rest_of job begun os) (same_at a h.0 h.1)
   still_stays job begun (doing.Swaps a b) os h = ap (λ (l : List ℕ). l ++ rest_of job begun os) (same_at b h.0.0 h.0.1)
+  still_stays job begun x os h = refl
 
   -- the step that a reply leads to stays the same: it depends on bytes that the worker has
   has_written : (a k len : ℕ) (t : Bool) → Needs m d (if t then doing.Drops a else doing.Cuts a k len) → HasBytes m d a
@@ -99,17 +88,7 @@ module _ (m n : State) (d : ℕ) (left : LeavesWorker m d n) where
 
   pub filed_stays : (s : Standing) (w : Worker) (last : Reply) → Needs m d (filed_step s w (lent_at m d) last).doing → filed_step s w (lent_at n d) last ≡ filed_step s w (lent_at m d) last
   filed_stays standing.Asked w last h = ap (λ (o : Option Step). or_again o w.step) (told_stays w.job w.step w.step.doing last h)
-  filed_stays standing.Asks w last h = refl
-  filed_stays standing.Over w last h = refl
-
-  -- others leave the pipe, too
-  feeds_stay : (p : ℕ) (job : Task) (step : Step) (unseen : List Outcome → List ℕ) → Feeds m d p job step unseen → pipe_at n p ≡ pipe_at m p → Feeds n d p job step unseen
-  feeds_stay p job step unseen f pipe = record {
-    live = left.live f.live;
-    open_on = left.fds job.fd (on.WriteEnd p) f.open_on;
-    needs = needs_stay step.doing f.needs;
-    is = λ os. f.is os ∙ (ap (λ (l : List ℕ). bytes_of (pipe_at m p).queue ++ l) (sym (still_stays job step.begun step.doing os f.needs)) ∙ ap (λ (x : Pipe). bytes_of x.queue ++ still job (lent_at n d) step os) (sym pipe));
-  }
+  filed_stays x w last h = refl
 
   begins_stays : (p : ℕ) (job : Task) (a : ℕ) (unseen after : List Outcome → List ℕ) → (b : Begins m d p job a unseen) → Feeds n d p job (record { doing = doing.Drops a; begun = 0 }) after → Begins n d p job a after
   begins_stays p job a unseen after b f = record { bytes = b.bytes; lends = left.bytes a b.bytes b.lends; is_job = b.is_job; feeds = f }
@@ -167,8 +146,7 @@ free_still m n seat h = record { not_over = h.not_over; waits = by seat.process.
   where
     by : (s : Standing) → (filed_step s seat.process (lent_at m seat.by) seat.last).doing ≡ doing.Waits → (filed_step s seat.process (lent_at n seat.by) seat.last).doing ≡ doing.Waits
     by standing.Asked is = waits_still (lent_at m seat.by) (lent_at n seat.by) seat.process.job seat.process.step seat.process.step.doing seat.last is
-    by standing.Asks is = is
-    by standing.Over is = is
+    by x is = is
 
 -- ---- what went from the front of the pipe of its output stood in front of what is unseen
 
@@ -190,16 +168,7 @@ module _ (m n : State) (p : ℕ) (seat : Seat Worker) (left : LeavesWorker m sea
   gone unseen (inl h) = record {
     after = λ os. bytes_of (pipe_at n p).queue ++ output h.query h.lines os;
     splits = λ os. h.is os ∙ front (output h.query h.lines os);
-    runs = inl (record {
-      jobs = h.jobs;
-      fd = h.fd;
-      query = h.query;
-      script = h.script;
-      lines = h.lines;
-      free = free_still m n seat h.free;
-      has = job_stays m n seat.by left h.jobs p h.fd h.query h.script h.lines (jobs.same h.jobs h.free h.has.jobs) h.has;
-      is = λ os. refl;
-    });
+    runs = inl (awaits_still m n p seat seat unseen _ h (free_still m n seat h.free) (job_stays m n seat.by left h.jobs p h.fd h.query h.script h.lines (jobs.same h.jobs h.free h.has.jobs) h.has) (λ os. refl));
     outcomes = λ files. sym (same_outcomes m n seat.by files.outcomes h.lines);
     reads = λ files right. tt;
   }

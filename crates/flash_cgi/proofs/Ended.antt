@@ -85,8 +85,7 @@ stops w v last lent t over did = by w.standing over did
   where
     by : (s : Standing) → is_over s ≡ true → works_as s w last lent t v → (t ≡ turn.Yield) × (v ≡ w)
     by standing.Over over did = did
-    by standing.Asks over did = absurd (cc)
-    by standing.Asked over did = absurd (cc)
+    by x over did = absurd (cc)
 
 pub workers_stop : CallsServeTheirDomain → WorkersStop
 workers_stop own = record {

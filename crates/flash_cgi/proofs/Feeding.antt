@@ -319,9 +319,6 @@ module _ (steps : EachStepLeavesTheRest) (own : CallsServeTheirDomain) (files : 
 
   by_doing : (m n : State) (d p : ℕ) (job : Task) (begun : ℕ) (x : Doing) (r : Reply) (unseen : List Outcome → List ℕ) → IsOrderly m → Feeds m d p job (at_step x begun) unseen
       → StepsTo m (event.Call d (call_at job (at_step x begun))) r n → Comes m d p job (at_step x begun) unseen r n
-  by_doing m n d p job begun doing.Waits r unseen order f did = absurd f.needs
-  by_doing m n d p job begun (doing.Skips a) r unseen order f did = absurd f.needs
-  by_doing m n d p job begun (doing.Breaks a) r unseen order f did = absurd f.needs
   by_doing m n d p job begun doing.Runs r unseen order f did = begins m n d p job begun r unseen (slice_get job.lines begun) order f refl did
   by_doing m n d p job begun (doing.Reads file u) r unseen order f did = reads m n d p job begun file u r unseen order f did
   by_doing m n d p job begun (doing.Counted file a t) r unseen order f did = counted m n d p job begun file a t r unseen f did
@@ -332,6 +329,7 @@ module _ (steps : EachStepLeavesTheRest) (own : CallsServeTheirDomain) (files : 
   by_doing m n d p job begun (doing.Cuts a from to) r unseen order f did = cuts m n d p job begun a from to r unseen order f did
   by_doing m n d p job begun (doing.Swaps a b) r unseen order f did = swaps m n d p job begun a b r unseen f did
   by_doing m n d p job begun (doing.Drops a) r unseen order f did = drops m n d p job begun a r unseen f did
+  by_doing m n d p job begun x r unseen order f did = absurd f.needs
 
   pub feeds_on : FeedsOn
   feeds_on m n d p job step r unseen order f did = by_doing m n d p job step.begun step.doing r unseen order f did

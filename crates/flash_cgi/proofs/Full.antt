@@ -1,5 +1,5 @@
 -- A worker that has a job, and whose call would block, is writing to a full pipe.
-use Rattle.std.proofs.Common.{inl, inr, ◌≡◌, ◌≤◌, ℕ, List, [], length, ap, ◌∙◌, refl, sym, subst, Option, Some, None, true, false}
+use Rattle.std.proofs.Common.{inl, inr, ◌≡◌, ◌≤◌, ℕ, List, [], length, ap, ◌∙◌, refl, sym, subst, Option, Some, true, false}
 use Rattle.std.specs.Prelude.{slice_get}
 use Rattle.iol_core.specs.Access.{HasAccess}
 use Rattle.iol_core.specs.Text.{Text, bytes_of}
@@ -39,12 +39,8 @@ use Rattle.flash_cgi.proofs.Taking.{waits_as_job}
 
 -- no call that begins a line blocks
 line_goes : (job : Task) (l : Option Line) → may_wait (next_call job l) ≡ true → ⊥
-line_goes job None is = cc (is)
 line_goes job (Some (line.Emit text)) is = cc (is)
-line_goes job (Some line.Query) is = cc (is)
-line_goes job (Some (line.Cat name)) is = cc (is)
-line_goes job (Some (line.Wc name)) is = cc (is)
-line_goes job (Some line.Pause) is = cc (is)
+line_goes job o is = cc (is)
 
 module _ (why : RefusalsTellWhy) (left : RefusalsThatAreLeft) (files : FileCallsServeTheirDomain)
     (m : State) (d p : ℕ) (order : IsOrderly m) (access : HasAccess m) (live : is_live m d ≡ true) where

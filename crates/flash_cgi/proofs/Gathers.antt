@@ -1,5 +1,5 @@
 -- Lines with consecutive texts as one put out what the lines do.
-use Rattle.std.proofs.Common.{◌≡◌, ℕ, ◌+◌, ◌≤◌, ◌<◌, Bool, true, false, List, [], ◌∷◌, ◌++◌, length, map, Option, Some, None, refl, sym, ap, ◌∙◌, subst, arith, append_assoc, length-append}
+use Rattle.std.proofs.Common.{◌≡◌, ℕ, ◌≤◌, ◌<◌, Bool, true, false, List, [], ◌∷◌, ◌++◌, length, map, Option, Some, None, refl, sym, ap, ◌∙◌, subst, arith, append_assoc, length-append}
 use Rattle.std.specs.Prelude.{if◌then◌else◌, nat_le}
 use Rattle.std.proofs.lemmas.Bool.Decides.{nat_tests}
 use Rattle.iol_core.specs.State.{State}
@@ -125,10 +125,7 @@ behind (line.Emit one) (line.Query ∷ lines) are = are
 behind (line.Emit one) (line.Cat name ∷ lines) are = are
 behind (line.Emit one) (line.Wc name ∷ lines) are = are
 behind (line.Emit one) (line.Pause ∷ lines) are = are
-behind line.Query lines are = are
-behind (line.Cat name) lines are = are
-behind (line.Wc name) lines are = are
-behind line.Pause lines are = are
+behind x lines are = are
 
 long_at : (front rest : List Line) (one two : List ℕ) → AreLong (front ++ line.Emit one ∷ line.Emit two ∷ rest) → fits (joined one two) ≡ false
 long_at [] rest one two are = are.0
@@ -155,11 +152,10 @@ output_as_text query (line.Query ∷ lines) os = either_line (nat_le (length que
     either_line : (t : Bool) → output query ((if t then line.Emit query else line.Query) ∷ rest) os ≡ line_text query ++ output query rest os
     either_line true = refl
     either_line false = refl
-output_as_text query (line.Cat name ∷ lines) [] = refl
 output_as_text query (line.Cat name ∷ lines) (o ∷ os) = ap (λ (l : List ℕ). cat_of o ++ l) (output_as_text query lines os)
-output_as_text query (line.Wc name ∷ lines) [] = refl
 output_as_text query (line.Wc name ∷ lines) (o ∷ os) = ap (λ (l : List ℕ). wc_of o ++ l) (output_as_text query lines os)
 output_as_text query (line.Pause ∷ lines) os = output_as_text query lines os
+output_as_text query x [] = refl
 
 outcomes_as_text : (m : State) (d : ℕ) (query : List ℕ) (lines : List Line) → outcomes_in m d (map (as_text query) lines) ≡ outcomes_in m d lines
 outcomes_as_text m d query [] = refl

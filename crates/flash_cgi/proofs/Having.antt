@@ -4,7 +4,6 @@ use Rattle.std.specs.Prelude.{◌||◌, ◌&&◌, slice_get}
 use Rattle.std.proofs.lemmas.Bool.Decides.{nat_tests}
 use Rattle.iol_core.specs.State.{State, descriptor, is_live}
 use Rattle.iol_core.specs.Run.{StepsTo}
-use Rattle.iol_core.specs.declared.descriptors.Descriptor.{Descriptor}
 use Rattle.iol_core.specs.declared.descriptors.Mode.TheVariants.{Read}
 use Rattle.iol_core.specs.declared.refusals.Refusal.TheVariants as not_so
 use Rattle.iol_core.specs.declared.events.Call.{Call}
@@ -67,17 +66,21 @@ module _ (own : CallsServeTheirDomain) (why : RefusalsTellWhy) (come : Aggregate
   pub absent : (k : Call) (r : Reply) (a : ℕ) → StepsTo m (event.Call d k) r n → brings (event.Call d k) r d a ≡ false → lent_at m d a ≡ None → lent_at n d a ≡ None
   absent k r a step un is = come.none m n (event.Call d k) r d a step is un
 
+  -- of what a refusal leaves there is none where it would not have been refused
+  was_none : {A : Type 0} (found : State → Option A) → n ≡ m → ((x : A) → found m ≡ Some x → ⊥) → found n ≡ None
+  was_none {A = A} found same never = by (found m) refl
+    where
+      by : (t : Option A) → found m ≡ t → found n ≡ None
+      by None none = ap found same ∙ none
+      by (Some x) some = absurd (never x some)
+
   -- one that is dropped is gone
   dropped : (a : ℕ) (r : Reply) → StepsTo m (event.Call d (call.AggDrop a)) r n → lent_at n d a ≡ None
   dropped a r step = by r step (own.drops m n d a r order step)
     where
       by : (x : Reply) → StepsTo m (event.Call d (call.AggDrop a)) x n → o.Drops m d a x n → lent_at n d a ≡ None
       by reply.Done step did = did
-      by (reply.Refused y) step did = of_refusal (lent_at m d a) refl
-        where
-          of_refusal : (t : Option (List ℕ)) → lent_at m d a ≡ t → lent_at n d a ≡ None
-          of_refusal None none = ap (λ (s : State). lent_at s d a) did ∙ none
-          of_refusal (Some bytes) some = (let e = why.drop_is_done m n d a bytes (reply.Refused y) live some step in absurd (cc (e)))
+      by (reply.Refused y) step did = was_none (λ s. lent_at s d a) did (λ bytes some. (let e = why.drop_is_done m n d a bytes (reply.Refused y) live some step in cc (e)))
       by x step did = absurd did
 
   after_drop : (a b : ℕ) (r : Reply) → StepsTo m (event.Call d (call.AggDrop a)) r n → ((a == b) ≡ false → lent_at m d b ≡ None) → lent_at n d b ≡ None
@@ -113,11 +116,7 @@ module _ (own : CallsServeTheirDomain) (why : RefusalsTellWhy) (come : Aggregate
     where
       by : (x : Reply) → StepsTo m (event.Call d (call.Close fd)) x n → o.Closes m d fd x n → descriptor n d fd ≡ None
       by reply.Done step did = did
-      by (reply.Refused y) step did = of_refusal (descriptor m d fd) refl
-        where
-          of_refusal : (t : Option Descriptor) → descriptor m d fd ≡ t → descriptor n d fd ≡ None
-          of_refusal None none = ap (λ (s : State). descriptor s d fd) did ∙ none
-          of_refusal (Some x) some = (let e = why.close_is_done m n d fd x (reply.Refused y) live some step in absurd (cc (e)))
+      by (reply.Refused y) step did = was_none (λ s. descriptor s d fd) did (λ x some. (let e = why.close_is_done m n d fd x (reply.Refused y) live some step in cc (e)))
       by x step did = absurd did
 
   after_shut : (fd f : ℕ) (r : Reply) → StepsTo m (event.Call d (call.Close fd)) r n → ((fd == f) ≡ false → descriptor m d f ≡ None) → descriptor n d f ≡ None
@@ -207,14 +206,13 @@ module _ (own : CallsServeTheirDomain) (why : RefusalsTellWhy) (come : Aggregate
 
   begins : (begun : ℕ) (l : Option Line) (r : Reply) → Had doing.Runs → StepsTo m (event.Call d (next_call job l)) r n → HasTo (told_next l begun r)
   begins begun None r h step = closes doing.Runs doing.Waits job.fd r (λ f differ un. differ) (λ b un. refl) h step
-  begins begun (Some (line.Emit text)) r h step = made doing.Runs _ (begun + 1) r (λ f un. un) (λ b. refl) h step
-  begins begun (Some line.Query) r h step = made doing.Runs _ (begun + 1) r (λ f un. un) (λ b. refl) h step
   begins begun (Some (line.Cat name)) r h step = opens purpose.Cat name (begun + 1) r h step
   begins begun (Some (line.Wc name)) r h step = opens purpose.Wc name (begun + 1) r h step
   begins begun (Some line.Pause) r h step = record {
     no_fd = λ f given un. free_set_pool m n d f 3 r step (h.no_fd f given un);
     no_agg = λ b given un. after_set_pool 3 b r step (h.no_agg b given refl);
   }
+  begins begun o r h step = made doing.Runs _ (begun + 1) r (λ f un. un) (λ b. refl) h step
 
   by_doing : (begun : ℕ) (x : Doing) (r : Reply) → Had x → StepsTo m (event.Call d (call_at job (at_step x begun))) r n → HasTo (told job (at_step x begun) (lent_at n d) r)
   by_doing begun doing.Waits r h step = tt

@@ -3,7 +3,6 @@ use Rattle.std.proofs.Common.{inl, inr, ◌≡◌, ℕ, ◌+◌, ◌==◌, List,
 use Rattle.std.specs.Prelude.{◌&&◌, not, slice_get}
 use Rattle.iol_core.specs.State.{State, descriptor, is_live}
 use Rattle.iol_core.specs.Run.{StepsTo}
-use Rattle.iol_core.specs.declared.descriptors.Mode.TheVariants.{Read}
 use Rattle.iol_core.specs.declared.events.Call.TheVariants as call
 use Rattle.iol_core.specs.declared.events.Event.TheVariants as event
 use Rattle.iol_core.specs.declared.events.Reply.{Reply}
@@ -71,12 +70,11 @@ module _ (m n : State) (d : ℕ) where
   job_again r step un = (let e = step.1 in absurd (cc (e)))
 
   begun_again : (job : Task) (begun : ℕ) (l : Option Line) (r : Reply) → StepsTo m (event.Call d (next_call job l)) r n → told_next l begun r ≡ None → n ≡ m
-  begun_again job begun None r step none = absurd (cc (none))
   begun_again job begun (Some (line.Emit text)) r step none = made_again _ (begun + 1) r step none
   begun_again job begun (Some line.Query) r step none = made_again _ (begun + 1) r step none
   begun_again job begun (Some (line.Cat name)) r step none = opened_again _ name (begun + 1) r step none
   begun_again job begun (Some (line.Wc name)) r step none = opened_again _ name (begun + 1) r step none
-  begun_again job begun (Some line.Pause) r step none = absurd (cc (none))
+  begun_again job begun o r step none = absurd (cc (none))
 
   same_again : (lent : ℕ → Option (List ℕ)) (job : Task) (begun : ℕ) (x : Doing) (r : Reply) → StepsTo m (event.Call d (doing_call job begun x)) r n
       → is_given x r ≡ false → told_doing lent job begun x r ≡ None → n ≡ m

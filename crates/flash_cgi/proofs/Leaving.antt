@@ -45,11 +45,10 @@ use Rattle.flash_cgi.proofs.Turning.{lent-live}
 -- ---- calls that keep to a file, or to one pipe
 
 is_but : (p : ℕ) → Option Descriptor → Bool
-is_but p None = true
-is_but p (Some (on.File f at mode)) = true
 is_but p (Some (on.ReadEnd q)) = q == p
 is_but p (Some (on.WriteEnd q)) = q == p
 is_but p (Some (on.Connection c)) = false
+is_but p o = true
 
 abbrev keeps_to : State → (d p : ℕ) → Call → Bool
 keeps_to m d p (call.AggMake bytes) = true
@@ -73,22 +72,18 @@ second_of false b is = absurd (cc (is))
 
 no_conn : (p c : ℕ) (o : Option Descriptor) → is_but p o ≡ true → list_any (is_conn c) (o ∷ []) ≡ false
 unfolding is_but
-no_conn p c None is = refl
-no_conn p c (Some (on.File f at mode)) is = refl
-no_conn p c (Some (on.ReadEnd q)) is = refl
-no_conn p c (Some (on.WriteEnd q)) is = refl
 no_conn p c (Some (on.Connection e)) is = absurd (cc (is))
+no_conn p c o is = refl
 
 same_pipe : (q p r : ℕ) → (q == p) ≡ true → r ≢ p → ((q == r) || false) ≡ false
 same_pipe q p r is differ = grind (arith, nat_tests, is, differ)
 
 no_end : (p r : ℕ) (o : Option Descriptor) → r ≢ p → is_but p o ≡ true → list_any (is_end r) (o ∷ []) ≡ false
 unfolding is_but
-no_end p r None differ is = refl
-no_end p r (Some (on.File f at mode)) differ is = refl
 no_end p r (Some (on.ReadEnd q)) differ is = same_pipe q p r is differ
 no_end p r (Some (on.WriteEnd q)) differ is = same_pipe q p r is differ
 no_end p r (Some (on.Connection e)) differ is = absurd (cc (is))
+no_end p r o differ is = refl
 
 or_none : (b : Bool) → b ≡ false → (b || false) ≡ false
 or_none b is = ap (λ x. x || false) is
@@ -274,10 +269,7 @@ makes_call w v k l lent standing.Asked is goes un did = filed w.step.doing l (un
 line_keeps : (m : State) (d p : ℕ) (job : Task) (l : Option Line) → is_but p (descriptor m d job.fd) ≡ true → keeps_to m d p (next_call job l) ≡ true
 line_keeps m d p job None is = is
 line_keeps m d p job (Some (line.Emit text)) is = refl
-line_keeps m d p job (Some line.Query) is = refl
-line_keeps m d p job (Some (line.Cat name)) is = refl
-line_keeps m d p job (Some (line.Wc name)) is = refl
-line_keeps m d p job (Some line.Pause) is = refl
+line_keeps m d p job o is = refl
 
 output_is : (m : State) (d p fd : ℕ) → descriptor m d fd ≡ Some (on.WriteEnd p) → (is_but p (descriptor m d fd) ≡ true) × (is_file (descriptor m d fd) ≡ false)
 unfolding is_but
@@ -300,12 +292,9 @@ step_keeps m d p job begun doing.Runs opened h = line_keeps m d p job (slice_get
 step_keeps m d p job begun (doing.Reads file u) opened h = file_is m d p file h.number h.place h.open_on
 step_keeps m d p job begun (doing.Shuts file a) opened h = file_is m d p file h.0.0 h.0.1 h.0.2
 step_keeps m d p job begun (doing.ShutsToSay file s) opened h = file_is m d p file h.0 h.1 h.2
-step_keeps m d p job begun (doing.Says s) opened h = refl
 step_keeps m d p job begun (doing.Writes a) opened h = (let o = output_is m d p job.fd opened in both _ _ o.0 o.1)
 step_keeps m d p job begun (doing.Cuts a from to) opened h = refl
-step_keeps m d p job begun (doing.Counted file a s) opened h = refl
-step_keeps m d p job begun (doing.Swaps a b) opened h = refl
-step_keeps m d p job begun (doing.Drops a) opened h = refl
+step_keeps m d p job begun x opened h = refl
 
 -- one that runs was given no text, or it would wait
 given_waits : (m : State) (d : ℕ) (x : Doing) (y : Reply) (w : Worker) (lent : ℕ → Option (List ℕ)) → w.step.doing ≡ x → Needs m d (or_again (told_doing lent w.job w.step.begun x y) w.step).doing → is_given x y ≡ false

@@ -4,7 +4,7 @@ use Rattle.std.specs.Prelude.{option_map, slice_get, unwrap_or, ◌&&◌}
 use Rattle.std.proofs.lemmas.Bool.Decides.{nat_tests}
 use Rattle.iol_core.specs.Text.{Text, bytes_of}
 use Rattle.iol_core.specs.Numbered.{numbered_or}
-use Rattle.iol_core.specs.State.{State, Domain, File, aggregate, descriptor, domain, file, no_file, pipe_at, text, is_live}
+use Rattle.iol_core.specs.State.{State, File, aggregate, descriptor, file, no_file, pipe_at, text, is_live}
 use Rattle.iol_core.specs.Calls.Aggregates.{default_pool}
 use Rattle.iol_core.specs.Positions.{ArePlaced}
 use Rattle.iol_core.specs.Run.{StepsTo}
@@ -25,7 +25,7 @@ use Rattle.iol_laws.specs.CallerDomains as own_pools
 use Rattle.iol_laws.specs.CallerDomains.{DomainsAndPoolsComeAndGo}
 use Rattle.iol_laws.specs.CallerFiles as own_files
 use Rattle.iol_laws.specs.CallerFiles.{FileCallsServeTheirDomain}
-use Rattle.iol_laws.specs.Frame.{EachStepLeavesTheRest, Leaves, sets_default}
+use Rattle.iol_laws.specs.Frame.{EachStepLeavesTheRest, sets_default}
 use Rattle.iol_laws.specs.Order.{IsOrderly}
 use Rattle.iol_laws.specs.Sources.{LabelsFollow, is_write_end, lie_in, read_from, taken_from, writes_pipe}
 use Rattle.iol_proc.specs.Turns.{Comes as ComesOf, SeatTurn}
@@ -110,12 +110,11 @@ module _ (labels : LabelsFollow) (steps : EachStepLeavesTheRest) (files : FileCa
   after_opened u name begun r step = tt
 
   after_line : (job : Task) (begun : ℕ) (l : Option Line) (r : Reply) → StepsTo m (event.Call d (next_call job l)) r n → LiesAfter (told_next l begun r) doing.Runs
-  after_line job begun None r step = tt
   after_line job begun (Some (line.Emit bytes)) r step = after_made doing.Runs _ (begun + 1) r tt step
   after_line job begun (Some line.Query) r step = after_made doing.Runs _ (begun + 1) r tt step
   after_line job begun (Some (line.Cat name)) r step = after_opened purpose.Cat name (begun + 1) r step
   after_line job begun (Some (line.Wc name)) r step = after_opened purpose.Wc name (begun + 1) r step
-  after_line job begun (Some line.Pause) r step = tt
+  after_line job begun o r step = tt
 
   file_there : (fd f at : ℕ) (mode : Mode) → descriptor m d fd ≡ Some (on.File f at mode) → pools (file m f).pool ≡ true → FromThere (call.IolRead fd 16777216)
   file_there fd f at mode opened is = subst (λ (o : Option Descriptor). Lie (read_from m o)) (sym opened) (labels.fresh pools (file m f).pool _ is)
@@ -148,9 +147,6 @@ module _ (labels : LabelsFollow) (steps : EachStepLeavesTheRest) (files : FileCa
   -- what lies there of a step lies there after its call, the reply taken as filed
   after : (job : Task) (begun : ℕ) (x : Doing) (r : Reply) → FileOpen x → LiesIn pools m d x → StepsTo m (event.Call d (doing_call job begun x)) r n
       → LiesAfter (told_doing (lent_at n d) job begun x r) x
-  after job begun doing.Waits r h lies step = tt
-  after job begun (doing.Skips a) r h lies step = tt
-  after job begun (doing.Breaks a) r h lies step = tt
   after job begun doing.Runs r h lies step = after_line job begun (slice_get job.lines begun) r step
   after job begun (doing.Reads fd u) r h lies step = after_read fd u begun r (file_there fd h.0 h.1 Read h.2 (lies h.0 h.1 Read h.2)) step
   after job begun (doing.Says s) r h lies step = after_made (doing.Says s) _ begun r tt step
@@ -158,9 +154,7 @@ module _ (labels : LabelsFollow) (steps : EachStepLeavesTheRest) (files : FileCa
   after job begun (doing.Cuts a from to) r h lies step = after_cut a from to begun r lies step
   after job begun (doing.Swaps a rest) r h lies step = kept (call.AggDrop a) r rest refl step lies
   after job begun (doing.Shuts fd a) r h lies step = kept (call.Close fd) r a refl step lies
-  after job begun (doing.Counted fd a s) r h lies step = tt
-  after job begun (doing.ShutsToSay fd s) r h lies step = tt
-  after job begun (doing.Drops a) r h lies step = tt
+  after job begun x r h lies step = tt
 
   -- ---- its default pool
 
@@ -190,12 +184,8 @@ module _ (labels : LabelsFollow) (steps : EachStepLeavesTheRest) (files : FileCa
   -- ---- what it wrote
 
   line_written : (p : ℕ) (job : Task) (l : Option Line) → writes_pipe m (event.Call d (next_call job l)) p ≡ false
-  line_written p job None = refl
   line_written p job (Some (line.Emit bytes)) = refl
-  line_written p job (Some line.Query) = refl
-  line_written p job (Some (line.Cat name)) = refl
-  line_written p job (Some (line.Wc name)) = refl
-  line_written p job (Some line.Pause) = refl
+  line_written p job o = refl
 
   from_there : (p : ℕ) (job : Task) (begun : ℕ) (x : Doing) → LiesIn pools m d x → writes_pipe m (event.Call d (doing_call job begun x)) p ≡ true → FromThere (doing_call job begun x)
   from_there p job begun doing.Runs lies is = absurd (let e = line_written p job (slice_get job.lines begun) in cc (e, is))
@@ -373,10 +363,7 @@ end_of m d p fd by f order opened other is = at_end (descriptor m by f) refl is
         let same : q ≡ p = grind (arith, nat_tests, one) in
         let both : by ≡ d = (order.one by d f fd (on.WriteEnd p) refl (here ∙ ap (λ k. Some (on.WriteEnd k)) same) opened).0 in
         grind (arith, nat_tests, other, both)
-    at_end None here one = cc (one)
-    at_end (Some (on.File g at mode)) here one = cc (one)
-    at_end (Some (on.ReadEnd q)) here one = cc (one)
-    at_end (Some (on.Connection c)) here one = cc (one)
+    at_end o here one = cc (one)
 
 not_written : (m : State) (d p fd : ℕ) (e : Event) → IsOrderly m → descriptor m d fd ≡ Some (on.WriteEnd p) → is_call_of e d ≡ false → writes_pipe m e p ≡ true → ⊥
 not_written m d p fd (event.Call by (call.IolWrite f a)) order opened other is = end_of m d p fd by f order opened other is

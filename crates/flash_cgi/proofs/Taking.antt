@@ -12,13 +12,16 @@ use Rattle.iol_core.specs.declared.descriptors.Descriptor.TheVariants as on
 use Rattle.iol_core.specs.declared.events.Call.TheVariants as call
 use Rattle.iol_core.specs.declared.events.Event.TheVariants as event
 use Rattle.iol_core.specs.declared.events.Reply.TheVariants as reply
+use Rattle.iol_proc.specs.declared.seat.Seat.{Seat}
 use Rattle.iol_laws.specs.Caller.{TakesFromPipe}
 use Rattle.iol_laws.specs.Frame.{EachStepLeavesTheRest, Leaves, is_end}
 use Rattle.flash_cgi.specs.Gathered.{gathered}
 use Rattle.flash_cgi.specs.Job.{job_of, task_of}
 use Rattle.flash_cgi.specs.Laws.{GatheringKeeps}
-use Rattle.flash_cgi.specs.Output.{output}
+use Rattle.flash_cgi.specs.Output.{Outcome, output}
 use Rattle.flash_cgi.specs.Taking.{HasJob, JobsAreTaken}
+use Rattle.flash_cgi.specs.Turns.{Awaits, IsFree}
+use Rattle.flash_cgi.specs.declared.worker.Worker.{Worker}
 use Rattle.flash_cgi.specs.declared.line.Line.{Line}
 use Rattle.flash_cgi.proofs.Written.{job_is_read, job_is_short}
 
@@ -35,6 +38,11 @@ not-equal a b differ = grind (arith, nat_tests, differ)
 last_false : (b c : Bool) → c ≡ false → (b && c) ≡ false
 last_false true c e = e
 last_false false c e = refl
+
+-- it awaits the same job, whatever became of the machine
+abbrev pub awaits_still : (m n : State) (p : ℕ) (seat next : Seat Worker) (was is : List Outcome → List ℕ) → (h : Awaits m p seat was) → IsFree n next → HasJob n next.by h.jobs p h.fd h.query h.script h.lines
+    → ((os : List Outcome) → is os ≡ bytes_of (pipe_at n p).queue ++ output h.query h.lines os) → Awaits n p next is
+awaits_still m n p seat next was is h free has unseen = record { jobs = h.jobs; fd = h.fd; query = h.query; script = h.script; lines = h.lines; free = free; has = has; is = unseen }
 
 -- what waits for it is its job
 pub waits_as_job : (m : State) (d j p fd : ℕ) (query script : List ℕ) (lines : List Line) → HasJob m d j p fd query script lines

@@ -165,9 +165,6 @@ module _ (steps : EachStepLeavesTheRest) (files : FileCallsServeTheirDomain) whe
 
   by_doing : (m n : State) (d p : ℕ) (job : Task) (begun : ℕ) (x : Doing) (r : Reply) (unseen : List Outcome → List ℕ) → IsOrderly m → ArePlaced m → AreFiles m → Feeds m d p job (at_step x begun) unseen → ReadsNamed m d job begun x
       → StepsTo m (event.Call d (call_at job (at_step x begun))) r n → is_rough r ≡ false → TrulyTo m d job (at_step x begun) r n (told job (at_step x begun) (lent_at n d) r)
-  by_doing m n d p job begun doing.Waits r unseen order placed good f g did smooth = absurd f.needs
-  by_doing m n d p job begun (doing.Skips a) r unseen order placed good f g did smooth = absurd f.needs
-  by_doing m n d p job begun (doing.Breaks a) r unseen order placed good f g did smooth = absurd f.needs
   by_doing m n d p job begun doing.Runs r unseen order placed good f g did smooth = begins m n d p job begun r unseen (slice_get job.lines begun) good f refl did smooth
   by_doing m n d p job begun (doing.Reads fd u) r unseen order placed good f g did smooth =
       reads m n d job begun fd u r g (plain steps m n d job (call.IolRead fd 16777216) r did good refl (λ q. refl)) (good.lengths g.number (placed.each d fd g.number 0 Read g.open_on).0)
@@ -186,6 +183,7 @@ module _ (steps : EachStepLeavesTheRest) (files : FileCallsServeTheirDomain) whe
   by_doing m n d p job begun (doing.Cuts a from to) r unseen order placed good f g did smooth = cut m n d job begun a from to r (plain steps m n d job (call.AggCut a from to) r did good refl (λ q. refl) begun)
   by_doing m n d p job begun (doing.Swaps a b) r unseen order placed good f g did smooth = record { same = plain steps m n d job (call.AggDrop a) r did good refl (λ q. refl) begun; reads = tt }
   by_doing m n d p job begun (doing.Drops a) r unseen order placed good f g did smooth = record { same = plain steps m n d job (call.AggDrop a) r did good refl (λ q. refl) begun; reads = tt }
+  by_doing m n d p job begun x r unseen order placed good f g did smooth = absurd f.needs
 
   pub outcomes_are_true : OutcomesAreTrue
   outcomes_are_true m n d p job step next r unseen order placed good f g did smooth is = subst (λ (o : Option Step). TrulyTo m d job step r n o) is (by_doing m n d p job step.begun step.doing r unseen order placed good f g did smooth)

@@ -35,6 +35,7 @@ use Rattle.flash_cgi.specs.declared.doing.Standing.{Standing}
 use Rattle.flash_cgi.specs.declared.doing.Standing.TheVariants as standing
 use Rattle.flash_cgi.specs.declared.doing.Step.{Step}
 use Rattle.flash_cgi.specs.declared.worker.Worker.{Worker}
+use Rattle.flash_cgi.proofs.Taking.{awaits_still}
 use Rattle.flash_cgi.proofs.Truly.{plain}
 
 pub lent-live : (m : State) (d : ℕ) → is_live m d ≡ true → lent_to m d ≡ lent_at m d
@@ -167,16 +168,9 @@ module _ (feeds_on : FeedsOn) (taken : JobsAreTaken) (true_to : OutcomesAreTrue)
         still : (x : Worker) → v ≡ x → IsFree n (seat_at d x r) → n ≡ m → Went m n d p v r unseen (outcomes_in m d h.lines) (Unit {0})
         still x v_is free same = subst (λ (y : Worker). Went m n d p y r unseen (outcomes_in m d h.lines) (Unit {0})) (sym v_is) (inl (record {
           settled = [];
-          runs = inl (record {
-            jobs = h.jobs;
-            fd = h.fd;
-            query = h.query;
-            script = h.script;
-            lines = h.lines;
-            free = free;
-            has = subst (λ (s : State). HasJob s d h.jobs p h.fd h.query h.script h.lines) (sym same) h.has;
-            is = subst (λ (s : State). (os : List Outcome) → unseen os ≡ bytes_of (pipe_at s p).queue ++ output h.query h.lines os) (sym same) h.is;
-          });
+          runs = inl (awaits_still m n p (seat_at d w last) (seat_at d x r) unseen unseen h free
+              (subst (λ (s : State). HasJob s d h.jobs p h.fd h.query h.script h.lines) (sym same) h.has)
+              (subst (λ (s : State). (os : List Outcome) → unseen os ≡ bytes_of (pipe_at s p).queue ++ output h.query h.lines os) (sym same) h.is));
           truly = λ placed good smooth reads. (ap (λ (s : State). outcomes_in s d h.lines) (sym same), tt);
         }))
 

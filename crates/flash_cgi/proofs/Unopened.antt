@@ -64,11 +64,10 @@ pub free_set_pool : (m n : State) (d f p : ℕ) (r : Reply) → StepsTo m (event
 free_set_pool m n d f p r step is = either m n _ d f (after_of m n d (call.SetPool p) r step) is (changed m d f _ is is)
 
 free_read_on : (s : State) (d fd f count : ℕ) (o : Option Descriptor) → descriptor s d fd ≡ o → IsFree s d f → IsFree (reading.read_on s d fd o count) d f
-free_read_on s d fd f count None opened is = is
 free_read_on s d fd f count (Some (on.File g at mode)) opened is = set s d fd f (on.File g at mode) _ opened is
 free_read_on s d fd f count (Some (on.ReadEnd q)) opened is = same_domains s _ d f (domains-with_pipe s q _) is
-free_read_on s d fd f count (Some (on.WriteEnd q)) opened is = is
 free_read_on s d fd f count (Some (on.Connection c)) opened is = same_domains s _ d f (domains-with_conn s c _) is
+free_read_on s d fd f count o opened is = is
 
 pub free_read : (m n : State) (d fd f count : ℕ) (r : Reply) → StepsTo m (event.Call d (call.IolRead fd count)) r n → IsFree m d f → IsFree n d f
 free_read m n d fd f count r step is =
@@ -78,13 +77,12 @@ free_read m n d fd f count r step is =
 
 free_written : (s : State) (d fd f : ℕ) (o : Option Descriptor) (w : Text) → descriptor s d fd ≡ o → IsFree s d f → IsFree (writing.written s d fd o w) d f
 unfolding with_content
-free_written s d fd f None w opened is = is
 free_written s d fd f (Some (on.File g at mode)) w opened is =
     let filled : State = with_content s g (take at (content s g) ++ bytes_of w ++ drop (at + length w) (content s g)) in
     set filled d fd f (on.File g at mode) _ (ap (λ (z : Domain Text). in_place z.fds fd) (domain-same s filled d refl) ∙ opened) (same_domains s filled d f refl is)
-free_written s d fd f (Some (on.ReadEnd q)) w opened is = is
 free_written s d fd f (Some (on.WriteEnd q)) w opened is = same_domains s _ d f (domains-with_pipe s q _) is
 free_written s d fd f (Some (on.Connection c)) w opened is = same_domains s _ d f (domains-with_conn s c _) is
+free_written s d fd f o w opened is = is
 
 pub free_write : (m n : State) (d fd f a : ℕ) (r : Reply) → StepsTo m (event.Call d (call.IolWrite fd a)) r n → IsFree m d f → IsFree n d f
 free_write m n d fd f a r step is = either m n _ d f (after_of m n d (call.IolWrite fd a) r step) is (free_written m d fd f (descriptor m d fd) _ refl is)

@@ -35,8 +35,7 @@ call_is w v c l lent did = by w.standing did
   where
     any : (s : Standing) → c ≡ call_at v.job v.step → IsCallOf c v s
     any standing.Over is = tt
-    any standing.Asks is = is
-    any standing.Asked is = is
+    any x is = is
 
     made : (k : Call) (x : Worker) → turn.Make c ≡ turn.Make k → v ≡ x → k ≡ call_at x.job x.step → IsCallOf c v v.standing
     made k x e is at = let same : c ≡ k = cc in any v.standing (same ∙ (at ∙ sym (ap (λ (y : Worker). call_at y.job y.step) is)))
@@ -92,9 +91,8 @@ module _ (m : State) (by : ℕ) where
   stuck_called w c standing.Asked is step = (subst (λ (k : Call). StepsTo m (event.Call by k) (reply.Refused WouldBlock) m) is step, refl)
 
   refused_stuck : (w : Worker) (l : Reply) (s : Standing) → IsStuck m by w l s → IsRefused m by w l s
-  refused_stuck w l standing.Over h = tt
-  refused_stuck w l standing.Asks h = tt
   refused_stuck w l standing.Asked h = h
+  refused_stuck w l x h = tt
 
   -- a yield makes of what was refused what is stuck, and leaves what is stuck
   yields_once : (w v : Worker) (s : Standing) → w.standing ≡ s → Yields w v s → IsRefused m by v reply.Done v.standing

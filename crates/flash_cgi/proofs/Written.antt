@@ -1,14 +1,15 @@
 -- A job's text, as it is written, is read as that job.
 use Rattle.std.proofs.Common.{◌≡◌, ℕ, suc, ◌+◌, ◌^◌, ◌<◌, ◌≤◌, Bool, true, false, cond, List, [], ◌∷◌, ◌++◌, length, take, drop, Some, None, refl, ap, ◌∙◌, arith, append_assoc, length-append}
 use Rattle.std.specs.Prelude.{not, nat_lt, ◌==◌}
-use Rattle.std.specs.List.{position, position_or_len, list_all}
+use Rattle.std.specs.List.{position, position_or_len}
 use Rattle.std.specs.Char.{is_ascii_digit}
 use Rattle.std.specs.Fmt.{decimal}
 use Rattle.std.proofs.lemmas.Bool.Decides.{nat_tests}
+use Rattle.std.proofs.lemmas.Grind.{common_steps}
 use Rattle.std.proofs.lemmas.Fmt.{digits_decimal, digits_value-decimal, length-decimal-le, decimal_nonempty}
 use Rattle.flash_cgi.specs.Job.{job_text, number, numbered, cut_at, number_before, task_of, job_sized, job_asked, job_begun, job_of}
 use Rattle.flash_cgi.specs.Script.{script_of}
-use Rattle.flash_cgi.proofs.Digits.{AreDigits, own, both, number_of_digits}
+use Rattle.flash_cgi.proofs.Digits.{AreDigits, own, number_of_digits}
 
 number-decimal : (n : ℕ) → n < 10 ^ 9 → number (decimal n) ≡ Some n
 number-decimal n small =
@@ -19,8 +20,9 @@ number-decimal n small =
 runs_to : (p : ℕ → Bool) (ds rest : List ℕ) (y : ℕ) → AreDigits ds → ((d : ℕ) → is_ascii_digit d ≡ true → p d ≡ false) → p y ≡ true → position_or_len p (ds ++ y ∷ rest) ≡ length ds
 runs_to p [] rest y digits none yes_y = ap (λ t. cond (not t) (1 + position_or_len p rest) 0) yes_y
 runs_to p (d ∷ ds) rest y digits none yes_y =
-    let parts = both (is_ascii_digit d) (list_all is_ascii_digit ds) digits in
-    ap (λ t. cond (not t) (1 + position_or_len p (ds ++ y ∷ rest)) 0) (none d parts.0) ∙ (let e = runs_to p ds rest y parts.1 none yes_y in omega arith)
+    let here : is_ascii_digit d ≡ true = grind (arith, nat_tests, common_steps, digits) in
+    let later : AreDigits ds = grind (arith, nat_tests, common_steps, digits) in
+    ap (λ t. cond (not t) (1 + position_or_len p (ds ++ y ∷ rest)) 0) (none d here) ∙ (let e = runs_to p ds rest y later none yes_y in omega arith)
 
 place : (p : ℕ → Bool) (ds rest : List ℕ) (y : ℕ) → AreDigits ds → ((d : ℕ) → is_ascii_digit d ≡ true → p d ≡ false) → p y ≡ true → position p (ds ++ y ∷ rest) ≡ Some (length ds)
 place p ds rest y digits none yes_y =
@@ -54,7 +56,7 @@ no_space d h = grind (arith, nat_tests)
 no_feed : (d : ℕ) → is_ascii_digit d ≡ true → (d == 10) ≡ false
 no_feed d h = grind (arith, nat_tests)
 
-pub regroup : (a b c q s : List ℕ) → a ++ 32 ∷ b ++ 32 ∷ c ++ 10 ∷ q ++ s ≡ a ++ 32 ∷ (b ++ 32 ∷ (c ++ 10 ∷ (q ++ s)))
+regroup : (a b c q s : List ℕ) → a ++ 32 ∷ b ++ 32 ∷ c ++ 10 ∷ q ++ s ≡ a ++ 32 ∷ (b ++ 32 ∷ (c ++ 10 ∷ (q ++ s)))
 regroup a b c q s = simp append_assoc
 
 sized : (q s : List ℕ) → (length q + length s == length (q ++ s)) ≡ true
@@ -73,9 +75,9 @@ job_is_read fd q s f g h =
     ∙ (ap (λ l. task_of fd l (script_of (drop (length q) body))) (front q s)
     ∙ ap (λ l. task_of fd q (script_of l)) (back q s))))))
 
--- a job whose text is short has a short query and a short script
-pub job_is_short : (fd : ℕ) (q s : List ℕ) → length (job_text fd q s) ≤ 65536 → (length q < 10 ^ 9) × (length s < 10 ^ 9)
-job_is_short fd q s short =
+-- the numbers, what stands behind each, and the two texts
+pub length-job_text : (fd : ℕ) (q s : List ℕ) → length (job_text fd q s) ≡ length (decimal fd) + length (decimal (length q)) + length (decimal (length s)) + length q + length s + 3
+length-job_text fd q s =
     let body : List ℕ = q ++ s in
     let third : List ℕ = decimal (length s) ++ 10 ∷ body in
     let second : List ℕ = decimal (length q) ++ 32 ∷ third in
@@ -84,4 +86,8 @@ job_is_short fd q s short =
     let two = length-append (decimal (length q)) (32 ∷ third) in
     let three = length-append (decimal (length s)) (10 ∷ body) in
     let four = length-append q s in
-    (omega (arith, short, whole, one, two, three, four), omega (arith, short, whole, one, two, three, four))
+    omega (arith, whole, one, two, three, four)
+
+-- a job whose text is short has a short query and a short script
+pub job_is_short : (fd : ℕ) (q s : List ℕ) → length (job_text fd q s) ≤ 65536 → (length q < 10 ^ 9) × (length s < 10 ^ 9)
+job_is_short fd q s short = (let whole = length-job_text fd q s in (omega (arith, short, whole), omega (arith, short, whole)))

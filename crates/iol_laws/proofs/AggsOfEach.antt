@@ -1,6 +1,6 @@
 -- What holds of each domain's aggregates and of its next number, and stays so after each event.
-use Rattle.std.proofs.Common.{inl, inr, ◌≡◌, ℕ, ◌+◌, ◌==◌, List, [], ◌∷◌, ◌++◌, length, take, drop, ap, refl, sym, subst, arith, Option, Some, None, true, false, Bool, append_assoc}
-use Rattle.std.specs.Prelude.{unwrap_or, fold, slice_set, if◌then◌else◌}
+use Rattle.std.proofs.Common.{inl, inr, ◌≡◌, ℕ, ◌+◌, List, [], ◌∷◌, ◌++◌, length, take, drop, ap, refl, sym, subst, arith, Option, Some, None, append_assoc}
+use Rattle.std.specs.Prelude.{unwrap_or, fold, slice_set}
 use Rattle.std.specs.Option.{option_map_or}
 use Rattle.iol_core.specs.Text.{Text, labelled, part}
 use Rattle.iol_core.specs.Numbered.{without, lowest, placed}
@@ -18,6 +18,7 @@ use Rattle.iol_core.specs.declared.events.Call.TheVariants as call
 use Rattle.iol_core.specs.declared.events.Event.{Event}
 use Rattle.iol_core.specs.declared.events.Event.TheVariants as event
 use Rattle.iol_core.proofs.Lookups.{domain-with_domain, domain-same, domain-push}
+use Rattle.iol_laws.proofs.Gives.{agg_given, fd_given}
 use Rattle.iol_laws.proofs.Domains.{domains-all_closed, domains-closed_on, domains-with_conn, domains-with_pipe}
 use Rattle.iol_laws.proofs.Tests.{same-number}
 
@@ -45,11 +46,10 @@ BringsIn Q s e = Unit {0}
 
 -- reading gives no number
 next-read_on : (s : State) (by fd : ℕ) (o : Option Descriptor) (n : ℕ) → (domain (reading.read_on s by fd o n) by).next_agg ≡ (domain s by).next_agg
-next-read_on s by fd None n = refl
 next-read_on s by fd (Some (on.File f at mode)) n = elim (domain-with_domain s by by (record (domain s by) { fds = slice_set (domain s by).fds fd (Some (on.File f (at + n) mode)) })) [ inl both ↦ ap (λ (y : Domain Text). y.next_agg) both.1 | inr same ↦ ap (λ (y : Domain Text). y.next_agg) same ]
 next-read_on s by fd (Some (on.ReadEnd p)) n = ap (λ (y : Domain Text). y.next_agg) (domain-same s _ by (domains-with_pipe s p _))
-next-read_on s by fd (Some (on.WriteEnd p)) n = refl
 next-read_on s by fd (Some (on.Connection c)) n = ap (λ (y : Domain Text). y.next_agg) (domain-same s _ by (domains-with_conn s c _))
+next-read_on s by fd o n = refl
 
 module _ (P : (d : ℕ) → List (ℕ × Text) → (next : ℕ) → Type 0) (Q : (d n : ℕ) → Text → Type 0) (is : IsOfAggs P Q) where
   abbrev pub OfEach : State → Type 0
@@ -101,26 +101,20 @@ module _ (P : (d : ℕ) → List (ℕ × Text) → (next : ℕ) → Type 0) (Q :
           subst (λ m. P by (kept ++ (n, front) ∷ (n + 1, back) ∷ []) m) next (subst (λ (l : List (ℕ × Text)). P by l (n + 1 + 1)) (append_assoc kept ((n, front) ∷ []) ((n + 1, back) ∷ [])) both)
 
   of_give : (s : State) (by a to : ℕ) → Brings Q s by (call.AggGive a to) → OfEach s → OfEach (aggs.agg_give s by a to).after
-  of_give s by a to brings all = cases (by == to) refl
-    where
-      cases : (b : Bool) → (by == to) ≡ b → OfEach (if b then aggs.with_new s by (without (domain s by).aggs a) (text s by a) else aggs.without_agg (aggs.with_agg s to (text s by a)) by a)
-      cases true same = of_new s by (without (domain s by).aggs a) (text s by a) (subst (λ k. Q k (aggs.next_agg s k) (text s by a)) (sym (same-number by to same)) brings) (of_left s by a all) all
-      cases false other = of_without (aggs.with_agg s to (text s by a)) by a (of_agg s to (text s by a) brings all)
+  of_give s by a to brings all =
+      agg_given OfEach s by a to
+      (λ same. of_new s by (without (domain s by).aggs a) (text s by a) (subst (λ k. Q k (aggs.next_agg s k) (text s by a)) (sym (same-number by to same)) brings) (of_left s by a all) all)
+      (λ other. of_without (aggs.with_agg s to (text s by a)) by a (of_agg s to (text s by a) brings all))
 
   of_handed : (s : State) (by fd to : ℕ) (o : Option Descriptor) → OfEach s → OfEach (option_map_or (fds.given_to s by fd to) o s)
   of_handed s by fd to None all = all
-  of_handed s by fd to (Some x) all = cases (by == to)
-    where
-      cases : (b : Bool) → OfEach (if b then fds.with_fds s by (placed (fds.freed s by fd) (lowest (fds.freed s by fd)) x) else fds.with_fds (fds.opened s to x) by (fds.freed s by fd))
-      cases true = of_fds s by _ all
-      cases false = of_fds (fds.opened s to x) by _ (of_fds s to _ all)
+  of_handed s by fd to (Some x) all = fd_given OfEach s by fd to x (λ same. of_fds s by _ all) (λ other. of_fds (fds.opened s to x) by _ (of_fds s to _ all))
 
   of_read_on : (s : State) (by fd : ℕ) (o : Option Descriptor) (n : ℕ) → OfEach s → OfEach (reading.read_on s by fd o n)
-  of_read_on s by fd None n all = all
   of_read_on s by fd (Some (on.File f at mode)) n all = of_fds s by _ all
   of_read_on s by fd (Some (on.ReadEnd p)) n all = of_same s _ (domains-with_pipe s p _) all
-  of_read_on s by fd (Some (on.WriteEnd p)) n all = all
   of_read_on s by fd (Some (on.Connection c)) n all = of_same s _ (domains-with_conn s c _) all
+  of_read_on s by fd o n all = all
 
   of_iol_read : (s : State) (by fd n : ℕ) → Brings Q s by (call.IolRead fd n) → OfEach s → OfEach (reading.iol_read s by fd n).after
   of_iol_read s by fd n brings all =
@@ -130,11 +124,10 @@ module _ (P : (d : ℕ) → List (ℕ × Text) → (next : ℕ) → Type 0) (Q :
 
   of_written : (s : State) (by fd : ℕ) (o : Option Descriptor) (w : Text) → OfEach s → OfEach (writing.written s by fd o w)
   unfolding with_content
-  of_written s by fd None w all = all
   of_written s by fd (Some (on.File f at mode)) w all = of_fds (with_content s f _) by _ (of_same s (with_content s f _) refl all)
-  of_written s by fd (Some (on.ReadEnd p)) w all = all
   of_written s by fd (Some (on.WriteEnd p)) w all = of_same s _ (domains-with_pipe s p _) all
   of_written s by fd (Some (on.Connection c)) w all = of_same s _ (domains-with_conn s c _) all
+  of_written s by fd o w all = all
 
   of_domain_new : (s : State) (by : ℕ) → OfEach s → OfEach (domain_new s by).after
   of_domain_new s by all d = elim (domain-push s new_domain d) [
@@ -150,12 +143,8 @@ module _ (P : (d : ℕ) → List (ℕ × Text) → (next : ℕ) → Type 0) (Q :
   of_called s by (call.PoolClose p) brings all = of_same s (called s by (call.PoolClose p)).after refl all
   of_called s by (call.PoolAdmit p d) brings all = of_same s (called s by (call.PoolAdmit p d)).after refl all
   of_called s by (call.SetPool p) brings all = of_domain s by _ (all by) all
-  of_called s by (call.AggMake bytes) brings all = of_agg s by _ brings all
-  of_called s by (call.AggDup a) brings all = of_agg s by _ brings all
-  of_called s by (call.AggCut a from to) brings all = of_agg s by _ brings all
   of_called s by (call.AggSplit a at) brings all = of_split s by a at brings all
   of_called s by (call.AggJoin a b) brings all = of_new s by (without (without (domain s by).aggs a) b) _ brings (is.gone by (aggs.next_agg s by) (without (domain s by).aggs a) b (of_left s by a all)) all
-  of_called s by (call.AggReplace a from to b) brings all = of_agg s by _ brings all
   of_called s by (call.AggDrop a) brings all = of_without s by a all
   of_called s by (call.AggGive a to) brings all = of_give s by a to brings all
   of_called s by (call.Show a) brings all = all
@@ -172,6 +161,7 @@ module _ (P : (d : ℕ) → List (ℕ × Text) → (next : ℕ) → Type 0) (Q :
   of_called s by (call.Fsync fd) brings all = all
   of_called s by (call.Read fd n) brings all = of_read_on s by fd (descriptor s by fd) _ all
   of_called s by (call.Write fd bytes) brings all = of_written s by fd (descriptor s by fd) _ all
+  of_called s by k brings all = of_agg s by _ brings all
 
   pub of_meant : (s : State) (e : Event) → BringsIn Q s e → OfEach s → OfEach (meaning s e).after
   of_meant s (event.Call by k) brings all = of_called s by k brings all
@@ -179,5 +169,4 @@ module _ (P : (d : ℕ) → List (ℕ × Text) → (next : ℕ) → Type 0) (Q :
   of_meant s (event.Arrive c bytes) brings all = of_same s _ (domains-with_conn s c _) all
   of_meant s (event.PeerClosed c how) brings all = of_same s _ (domains-with_conn s c _) all
   of_meant s (event.Transmit c max) brings all = of_same s _ (domains-with_conn s c _) all
-  of_meant s event.Flush brings all = all
-  of_meant s event.DropClean brings all = all
+  of_meant s e brings all = all

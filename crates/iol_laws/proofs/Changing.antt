@@ -1,9 +1,9 @@
 -- What calls do to connections: they change some of them, one after another, each in one of four ways.
-use Rattle.std.proofs.Common.{◌≡◌, ℕ, ◌==◌, List, [], ◌∷◌, ◌++◌, length, take, drop, ap, refl, Option, Some, None, true, false, Bool}
+use Rattle.std.proofs.Common.{◌≡◌, ℕ, List, [], ◌∷◌, ◌++◌, length, take, drop, ap, refl, Option, Some, None, true, false}
 use Rattle.std.specs.Prelude.{unwrap_or, if◌then◌else◌, fold}
 use Rattle.std.specs.Option.{option_map_or}
 use Rattle.iol_core.specs.Text.{Text, labelled}
-use Rattle.iol_core.specs.Numbered.{lookup, without, changed, lowest, placed}
+use Rattle.iol_core.specs.Numbered.{lookup, without, changed}
 use Rattle.iol_core.specs.State.{State, Domain, Connection, domain, text, descriptor, conn_at, no_conn, is_over, no_domain, with_domain, with_pipe, with_conn, with_content}
 use Rattle.iol_core.specs.Run.{called}
 use Rattle.iol_core.specs.Calls.Aggregates as aggs
@@ -14,6 +14,7 @@ use Rattle.iol_core.specs.declared.descriptors.Descriptor.{Descriptor}
 use Rattle.iol_core.specs.declared.descriptors.Descriptor.TheVariants as on
 use Rattle.iol_core.specs.declared.events.Call.{Call}
 use Rattle.iol_core.specs.declared.events.Call.TheVariants as call
+use Rattle.iol_laws.proofs.Gives.{agg_given, fd_given}
 use Rattle.iol_laws.specs.Order.{Once}
 use Rattle.iol_laws.proofs.Connections.{once-with_conn}
 
@@ -75,11 +76,10 @@ conns_more s t e same = record { conns = ap with_change same.conns; next = same.
 
 closed_turned : (s t : State) (o : Option Descriptor) → SameConns s t → SameConns (all_turned s (on_conn o Closes)) (fds.closed_on t o)
 unfolding with_pipe
-closed_turned s t None same = same
-closed_turned s t (Some (on.File f at mode)) same = same
 closed_turned s t (Some (on.ReadEnd p)) same = record { conns = same.conns; next = same.next }
 closed_turned s t (Some (on.WriteEnd p)) same = record { conns = same.conns; next = same.next }
 closed_turned s t (Some (on.Connection c)) same = conns_more s t (c, Closes) same
+closed_turned s t o same = same
 
 turned-append : (s : State) (es fs : List (ℕ × Change)) → all_turned s (es ++ fs) ≡ all_turned (all_turned s es) fs
 turned-append s [] fs = refl
@@ -91,36 +91,22 @@ all_closed_turned s t (o ∷ list) same = rw (turned-append s (on_conn o Closes)
 
 read_turned : (s : State) (by fd : ℕ) (o : Option Descriptor) (n : ℕ) → SameConns (all_turned s (on_conn o (Reads n))) (reading.read_on s by fd o n)
 unfolding with_domain with_pipe
-read_turned s by fd None n = record { conns = refl; next = refl }
 read_turned s by fd (Some (on.File f at mode)) n = record { conns = refl; next = refl }
-read_turned s by fd (Some (on.ReadEnd p)) n = record { conns = refl; next = refl }
-read_turned s by fd (Some (on.WriteEnd p)) n = record { conns = refl; next = refl }
-read_turned s by fd (Some (on.Connection c)) n = record { conns = refl; next = refl }
+read_turned s by fd o n = record { conns = refl; next = refl }
 
 written_turned : (s : State) (by fd : ℕ) (o : Option Descriptor) (w : Text) → SameConns (all_turned s (on_conn o (Writes w))) (writing.written s by fd o w)
 unfolding with_domain with_pipe with_content
-written_turned s by fd None w = record { conns = refl; next = refl }
 written_turned s by fd (Some (on.File f at mode)) w = record { conns = refl; next = refl }
-written_turned s by fd (Some (on.ReadEnd p)) w = record { conns = refl; next = refl }
-written_turned s by fd (Some (on.WriteEnd p)) w = record { conns = refl; next = refl }
-written_turned s by fd (Some (on.Connection c)) w = record { conns = refl; next = refl }
+written_turned s by fd o w = record { conns = refl; next = refl }
 
 given_turned : (s : State) (by fd to : ℕ) (o : Option Descriptor) → SameConns s (option_map_or (fds.given_to s by fd to) o s)
 unfolding with_domain
 given_turned s by fd to None = record { conns = refl; next = refl }
-given_turned s by fd to (Some x) = cases (by == to)
-  where
-    cases : (b : Bool) → SameConns s (if b then fds.with_fds s by (placed (fds.freed s by fd) (lowest (fds.freed s by fd)) x) else fds.with_fds (fds.opened s to x) by (fds.freed s by fd))
-    cases true = record { conns = refl; next = refl }
-    cases false = record { conns = refl; next = refl }
+given_turned s by fd to (Some x) = fd_given (λ t. SameConns s t) s by fd to x (λ same. record { conns = refl; next = refl }) (λ other. record { conns = refl; next = refl })
 
 agg_given_turned : (s : State) (by a to : ℕ) → SameConns s (aggs.agg_give s by a to).after
 unfolding with_domain
-agg_given_turned s by a to = cases (by == to)
-  where
-    cases : (b : Bool) → SameConns s (if b then aggs.with_new s by (without (domain s by).aggs a) (text s by a) else aggs.without_agg (aggs.with_agg s to (text s by a)) by a)
-    cases true = record { conns = refl; next = refl }
-    cases false = record { conns = refl; next = refl }
+agg_given_turned s by a to = agg_given (λ t. SameConns s t) s by a to (λ same. record { conns = refl; next = refl }) (λ other. record { conns = refl; next = refl })
 
 pub conns_turned : (s : State) (d : ℕ) (k : Call) → SameConns (all_turned s (changes s d k)) (called s d k).after
 unfolding with_domain

@@ -1,6 +1,6 @@
 -- Aggregates come by the numbers that replies give, and what is given up is gone.
 use Rattle.std.proofs.Common.{inl, inr, ◌≡◌, ◌≢◌, ◌≤◌, ℕ, ◌+◌, ◌==◌, ◌⊎◌, List, [], ◌∷◌, ◌++◌, take, drop, ap, ◌∙◌, refl, sym, subst, arith, Option, Some, None, true, false, Bool, append_assoc}
-use Rattle.std.specs.Prelude.{option_map, not, is_none, fold, if◌then◌else◌, ◌&&◌, ◌||◌}
+use Rattle.std.specs.Prelude.{option_map, not, is_none, fold, ◌&&◌, ◌||◌}
 use Rattle.std.proofs.lemmas.Bool.Decides.{nat_tests}
 use Rattle.std.proofs.lemmas.Grind.{common_steps}
 use Rattle.iol_core.specs.Text.{Text, bytes_of}
@@ -20,6 +20,7 @@ use Rattle.iol_core.specs.declared.events.Reply.{Reply}
 use Rattle.iol_core.specs.declared.events.Reply.TheVariants as reply
 use Rattle.iol_core.proofs.Lookups.{domain-same}
 use Rattle.iol_core.proofs.Passing.{passed, when-none}
+use Rattle.iol_laws.proofs.Gives.{agg_given}
 use Rattle.iol_laws.specs.Order.{IsOrderly, Once}
 use Rattle.iol_laws.specs.Caller.{lent_at}
 use Rattle.iol_laws.specs.Aggregates.{brings, is_refusal}
@@ -142,14 +143,13 @@ gone_join s by x y a order live has_x has_y is = elim (either (x == a) (y == a) 
     either false q is = inr is
 
 gone_give : (s : State) (by a to : ℕ) → IsOrderly s → is_live s by ≡ true → aggs.lacks_agg s by a ≡ false → Lacks (aggs.agg_give s by a to).after by a
-gone_give s by a to order live has = cases (by == to) refl
-  where
-    cases : (c : Bool) → (by == to) ≡ c → Lacks (if c then aggs.with_new s by (without (domain s by).aggs a) (text s by a) else aggs.without_agg (aggs.with_agg s to (text s by a)) by a) by a
-    cases true is = of-own s by a _ live (lookup-push_other (without (domain s by).aggs a) (aggs.next_agg s by) a (text s by a) (below s by a order has).0 ∙ forgotten (domain s by).aggs a (order.aggs_once by))
-    cases false is =
-        let given : State = aggs.with_agg s to (text s by a) in
-        let same : domain given by ≡ domain s by = domain-with_other s to by _ (λ equal. apart by to is (sym equal)) in
-        of-own given by a _ (ap (λ (y : Domain Text). y.live) same ∙ live) (forgotten (domain given by).aggs a (subst (λ (y : Domain Text). Once y.aggs) (sym same) (order.aggs_once by)))
+gone_give s by a to order live has =
+    agg_given (λ t. Lacks t by a) s by a to
+    (λ is. of-own s by a _ live (lookup-push_other (without (domain s by).aggs a) (aggs.next_agg s by) a (text s by a) (below s by a order has).0 ∙ forgotten (domain s by).aggs a (order.aggs_once by)))
+    (λ is.
+    let given : State = aggs.with_agg s to (text s by a) in
+    let same : domain given by ≡ domain s by = domain-with_other s to by _ (λ equal. apart by to is (sym equal)) in
+    of-own given by a _ (ap (λ (y : Domain Text). y.live) same ∙ live) (forgotten (domain given by).aggs a (subst (λ (y : Domain Text). Once y.aggs) (sym same) (order.aggs_once by))))
 
 -- what the domain gives up is its own
 mine : (by d : ℕ) (b : Bool) → ((by == d) && b) ≡ true → (by ≡ d) × (b ≡ true)

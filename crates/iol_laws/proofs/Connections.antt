@@ -6,7 +6,7 @@ use Rattle.std.proofs.lemmas.Bool.Decides.{nat_tests}
 use Rattle.std.proofs.lemmas.Grind.{common_steps}
 use Rattle.iol_core.specs.Text.{Text}
 use Rattle.iol_core.specs.Numbered.{lookup, without, changed}
-use Rattle.iol_core.specs.State.{State, Domain, Pipe, Connection, conn_at, no_conn, new_conn, is_over, with_domain, with_pipe, with_conn}
+use Rattle.iol_core.specs.State.{State, Pipe, Connection, conn_at, no_conn, new_conn, is_over, with_domain, with_pipe, with_conn}
 use Rattle.iol_core.specs.Calls.Aggregates as aggs
 use Rattle.iol_core.specs.Calls.Descriptors as fds
 use Rattle.iol_core.specs.Calls.Outside.{conn_new}
@@ -43,10 +43,6 @@ conns-with_agg s d x c = conns_same s (aggs.with_agg s d x) (λ k. false) refl c
 pub conns-with_fds : (s : State) (d : ℕ) (xs : List (Option Descriptor)) (c : ℕ) → conn_at (fds.with_fds s d xs) c ≡ conn_at s c
 unfolding with_domain
 conns-with_fds s d xs c = conns_same s (fds.with_fds s d xs) (λ k. false) refl c refl
-
-pub conns_then_domain : (s t : State) (d : ℕ) (x : Domain Text) (touched : ℕ → Bool) → KeepsConns s t touched → KeepsConns s (with_domain t d x) touched
-unfolding with_domain
-conns_then_domain s t d x touched before c un = conns_same t (with_domain t d x) touched refl c un ∙ before c un
 
 pub conn-push : (s : State) (p c : ℕ) → s.next_conn ≢ c → conn_at (conn_new s p).after c ≡ conn_at s c
 unfolding conn_at

@@ -27,11 +27,8 @@ domains-with_conn s c x = refl
 
 pub domains-closed_on : (s : State) (o : Option Descriptor) → (fds.closed_on s o).domains ≡ s.domains
 unfolding with_pipe with_conn
-domains-closed_on s None = refl
 domains-closed_on s (Some (on.File f at mode)) = refl
-domains-closed_on s (Some (on.ReadEnd q)) = refl
-domains-closed_on s (Some (on.WriteEnd q)) = refl
-domains-closed_on s (Some (on.Connection e)) = refl
+domains-closed_on s o = refl
 
 pub domains-all_closed : (s : State) (list : List (Option Descriptor)) → (fold fds.closed_on s list).domains ≡ s.domains
 domains-all_closed s [] = refl

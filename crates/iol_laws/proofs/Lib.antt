@@ -1,4 +1,6 @@
 pub mod Tests
+pub mod Runs
+pub mod Gives
 pub mod Places
 pub mod Domains
 pub mod Connections

@@ -48,11 +48,10 @@ fresh_fd s t d k (reply.Fd b) g order step stays is = (let e = step.1 in absurd 
 fresh_fd s t d k r g order step stays is = absurd (cc)
 
 pub domain-read_on : (s : State) (d fd : ℕ) (o : Option Descriptor) (n : ℕ) → is_live s d ≡ true → ((domain (reading.read_on s d fd o n) d).live ≡ true) × ((domain (reading.read_on s d fd o n) d).aggs ≡ (domain s d).aggs) × ((domain (reading.read_on s d fd o n) d).next_agg ≡ (domain s d).next_agg)
-domain-read_on s d fd None n live = (live, refl, refl)
 domain-read_on s d fd (Some (on.File f at mode)) n live = (let e = domain-with_same s d (record (domain s d) { fds = slice_set (domain s d).fds fd (Some (on.File f (at + n) mode)) }) live in (ap (λ (x : Domain Text). x.live) e ∙ live, ap (λ (x : Domain Text). x.aggs) e, ap (λ (x : Domain Text). x.next_agg) e))
 domain-read_on s d fd (Some (on.ReadEnd p)) n live = (let e = domain-same s (with_pipe s p (record (pipe_at s p) { queue = drop n (pipe_at s p).queue })) d (domains-with_pipe s p _) in (ap (λ (x : Domain Text). x.live) e ∙ live, ap (λ (x : Domain Text). x.aggs) e, ap (λ (x : Domain Text). x.next_agg) e))
-domain-read_on s d fd (Some (on.WriteEnd p)) n live = (live, refl, refl)
 domain-read_on s d fd (Some (on.Connection c)) n live = (let e = domain-same s (with_conn s c (record (conn_at s c) { incoming = drop n (conn_at s c).incoming })) d (domains-with_conn s c _) in (ap (λ (x : Domain Text). x.live) e ∙ live, ap (λ (x : Domain Text). x.aggs) e, ap (λ (x : Domain Text). x.next_agg) e))
+domain-read_on s d fd o n live = (live, refl, refl)
 
 abbrev Named : State → (d b : ℕ) → Type 0
 Named t d b = (bytes : List ℕ) × (lent_at t d b ≡ Some bytes)

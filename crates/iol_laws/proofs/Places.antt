@@ -94,22 +94,17 @@ place-old {A = A} (Some z ∷ xs) x (suc m) y is = elim (place-old xs x m y (sub
   | inr h ↦ inr h
 ]
 
-pub place-set_none : {A : Type 0} (xs : List (Option A)) (n m : ℕ) (y : A) → in_place (slice_set xs n None) m ≡ Some y → (n ≢ m) × (in_place xs m ≡ Some y)
-place-set_none {A = A} xs n m y is = elim (cases_eq n m) [
-  | inr differ ↦ (differ, sym (place-set_other xs n m None differ) ∙ is)
-  | inl same ↦ absurd (none xs n (subst (λ k. in_place (slice_set xs n None) k ≡ Some y) (sym same) is))
-]
-  where
-    none : (xs : List (Option A)) (n : ℕ) → in_place (slice_set xs n None) n ≡ Some y → ⊥
-    none [] n is = cc
-    none (x ∷ xs) zero is = cc
-    none (x ∷ xs) (suc n) is = none xs n is
-
 -- a place that was freed is free
 pub place-set_free : {A : Type 0} (xs : List (Option A)) (n : ℕ) → in_place (slice_set xs n None) n ≡ None
 place-set_free [] n = refl
 place-set_free (z ∷ xs) zero = refl
 place-set_free (z ∷ xs) (suc n) = place-set_free xs n
+
+pub place-set_none : {A : Type 0} (xs : List (Option A)) (n m : ℕ) (y : A) → in_place (slice_set xs n None) m ≡ Some y → (n ≢ m) × (in_place xs m ≡ Some y)
+place-set_none {A = A} xs n m y is = elim (cases_eq n m) [
+  | inr differ ↦ (differ, sym (place-set_other xs n m None differ) ∙ is)
+  | inl same ↦ absurd (let free = place-set_free xs n in let here = subst (λ k. in_place (slice_set xs n None) k ≡ Some y) (sym same) is in cc (free, here))
+]
 
 pub place-set_there : {A : Type 0} (xs : List (Option A)) (n : ℕ) (x y : A) → in_place xs n ≡ Some x → in_place (slice_set xs n (Some y)) n ≡ Some y
 place-set_there [] n x y is = absurd (cc)

@@ -30,9 +30,6 @@ module _ {P : Type 0} (turns : Account P) where
       let more : suc n ≡ n + 1 = omega arith in
       subst (λ (k : ℕ). ServesEach turns pool k w after) more (mid, each, next)
 
-  pub serves_some : (pool n count : ℕ) (w after : Stage State P) → n ≤ count → ServesEach turns pool n w after → ServesSome turns pool count w after
-  serves_some pool n count w after few each = record { count = n; few = few; each = each }
-
   pub serves_all : (pool n count left : ℕ) (w after : Stage State P) → n ≤ count → (n ≡ count) ⊎ (left ≡ 0) → ServesEach turns pool n w after → ServesAll turns pool count left w after
   serves_all pool n count left w after few all each = record { some = record { count = n; few = few; each = each }; all = all }
 

@@ -1,14 +1,11 @@
 -- Connections that wait, as they come and go.
-use Rattle.std.proofs.Common.{◌≡◌, ◌≤◌, ◌<◌, ◌+◌, ◌-◌, ℕ, zero, suc, Bool, true, false, cond, filter, map, get_or, take, drop, List, [], ◌∷◌, ◌++◌, length, replicate, ap, ◌∙◌, refl, sym, arith, append_assoc, append-nil}
+use Rattle.std.proofs.Common.{◌≡◌, ◌≤◌, ◌<◌, ◌+◌, ◌-◌, ℕ, zero, suc, Bool, true, false, cond, filter, map, get_or, take, drop, List, [], ◌∷◌, ◌++◌, length, replicate, ap, ◌∙◌, refl, sym, arith, append_assoc}
 use Rattle.std.proofs.lemmas.List.{length-append, length-replicate, take-append-drop, take_more, take-map, drop-map, map-append}
 use Rattle.std.specs.Prelude.{nat_lt, Result, Ok, Err, OnOk, OnErr}
 use Rattle.std.specs.List.{remove}
 use Rattle.iol_listen.specs.Waiting.{Awaited, to_come, Joined, Gives, not_too_long}
 use Rattle.iol_listen.specs.declared.bounds.TheConstants.{MAX_LOOKS}
 use Rattle.iol_listen.specs.declared.waiting.Waiting.{Waiting}
-
-pub joined_none : (q : Awaited) → Joined q q
-joined_none q = record { came = 0; waiting = sym (append-nil q.waiting); looks = refl; left = omega arith }
 
 replicate-more : (n x : ℕ) → replicate n x ++ x ∷ [] ≡ replicate (n + 1) x
 replicate-more zero x = refl

@@ -1,5 +1,5 @@
 -- Choices are events of the machine, with the same histories of connections.
-use Rattle.std.proofs.Common.{◌≡◌, ◌∙◌, inl, inr, ℕ, List, [], ◌∷◌, ◌++◌, Bool, true, false, refl, sym, subst, ap, arith, append_assoc, append-nil, length}
+use Rattle.std.proofs.Common.{◌≡◌, ◌∙◌, inl, inr, ℕ, List, [], ◌∷◌, ◌++◌, Bool, true, false, refl, sym, subst, ap, arith, length}
 use Rattle.std.specs.Prelude.{◌||◌}
 use Rattle.std.specs.List.{list_any}
 use Rattle.iol_core.specs.Text.{bytes_of}
@@ -11,6 +11,7 @@ use Rattle.iol_core.specs.declared.events.Event.TheVariants as event
 use Rattle.iol_core.specs.declared.events.Reply.{Reply}
 use Rattle.iol_laws.specs.History.{stream_of, sent_of, drops_unsent, came_by, sent_by, IsEndOf, GoesFirst, IsAllUnread}
 use Rattle.iol_laws.specs.Order.{IsOrderly}
+use Rattle.iol_laws.proofs.Runs.{Tells, told-append, told-more}
 use Rattle.iol_laws.proofs.Streams.Histories.{stream-append, sent-append, unread_run, unsent_run}
 use Rattle.iol_laws.proofs.Streams.Pending.{waiting_run}
 use Rattle.iol_proc.specs.Histories.{came_with, sent_with, stream_over, sent_over, drops_with, may_be_no_call, RunsAs, GoesOn}
@@ -96,42 +97,34 @@ module _ {M P : Type 0} (machine : Machine M) (turns : Account P) where
   runs_follow w mid after [] future (r ∷ rs) qs first next = absurd first
   runs_follow w mid after (x ∷ past) future [] qs first next = absurd first
 
+  -- each choice has its reply
+  pub world-even : (w after : Stage M P) (xs : List Choice) (rs : List Reply) → WorldRun machine turns w xs rs after → length xs ≡ length rs
+  world-even w after [] [] ran = refl
+  world-even w after (x ∷ xs) (r ∷ rs) ran = (let rest = world-even ran.0 after xs rs ran.2 in omega (arith, rest))
+  world-even w after [] (r ∷ rs) ran = absurd ran
+  world-even w after (x ∷ xs) [] ran = absurd ran
+
+stream_tells : (c : ℕ) → Tells (λ (x : Choice) (r : Reply). came_with c x r) (λ xs rs. stream_over c xs rs)
+unfolding stream_over
+stream_tells c = record { none = refl; next = λ x r xs rs. refl }
+
+sent_tells : (c : ℕ) → Tells (λ (x : Choice) (r : Reply). sent_with c x r) (λ xs rs. sent_over c xs rs)
+unfolding sent_over
+sent_tells c = record { none = refl; next = λ x r xs rs. refl }
+
+module _ {M P : Type 0} (machine : Machine M) (turns : Account P) where
   pub stream_over-append : (w mid : Stage M P) (past future : List Choice) (rs qs : List Reply) (c : ℕ) → WorldRun machine turns w past rs mid → stream_over c (past ++ future) (rs ++ qs) ≡ stream_over c past rs ++ stream_over c future qs
-  unfolding stream_over
-  stream_over-append w mid [] future [] qs c ran = refl
-  stream_over-append w mid (x ∷ past) future (r ∷ rs) qs c ran =
-      ap (λ (l : List ℕ). came_with c x r ++ l) (stream_over-append ran.0 mid past future rs qs c ran.2)
-      ∙ sym (append_assoc (came_with c x r) (stream_over c past rs) (stream_over c future qs))
-  stream_over-append w mid [] future (r ∷ rs) qs c ran = absurd ran
-  stream_over-append w mid (x ∷ past) future [] qs c ran = absurd ran
+  stream_over-append w mid past future rs qs c ran = told-append _ _ (stream_tells c) past future rs qs (world-even machine turns w mid past rs ran)
 
   pub sent_over-append : (w mid : Stage M P) (past future : List Choice) (rs qs : List Reply) (c : ℕ) → WorldRun machine turns w past rs mid → sent_over c (past ++ future) (rs ++ qs) ≡ sent_over c past rs ++ sent_over c future qs
-  unfolding sent_over
-  sent_over-append w mid [] future [] qs c ran = refl
-  sent_over-append w mid (x ∷ past) future (r ∷ rs) qs c ran =
-      ap (λ (l : List ℕ). sent_with c x r ++ l) (sent_over-append ran.0 mid past future rs qs c ran.2)
-      ∙ sym (append_assoc (sent_with c x r) (sent_over c past rs) (sent_over c future qs))
-  sent_over-append w mid [] future (r ∷ rs) qs c ran = absurd ran
-  sent_over-append w mid (x ∷ past) future [] qs c ran = absurd ran
+  sent_over-append w mid past future rs qs c ran = told-append _ _ (sent_tells c) past future rs qs (world-even machine turns w mid past rs ran)
 
 -- One choice more.
 pub stream_over-more : (xs : List Choice) (rs : List Reply) (x : Choice) (r : Reply) (c : ℕ) → length xs ≡ length rs → stream_over c (xs ++ x ∷ []) (rs ++ r ∷ []) ≡ stream_over c xs rs ++ came_with c x r
-unfolding stream_over
-stream_over-more [] [] x r c even = append-nil (came_with c x r)
-stream_over-more (y ∷ xs) (s ∷ rs) x r c even =
-    ap (λ (l : List ℕ). came_with c y s ++ l) (stream_over-more xs rs x r c (omega (arith, even)))
-    ∙ sym (append_assoc (came_with c y s) (stream_over c xs rs) (came_with c x r))
-stream_over-more [] (s ∷ rs) x r c even = absurd (omega (arith, even))
-stream_over-more (y ∷ xs) [] x r c even = absurd (omega (arith, even))
+stream_over-more xs rs x r c even = told-more _ _ (stream_tells c) xs rs x r even
 
 pub sent_over-more : (xs : List Choice) (rs : List Reply) (x : Choice) (r : Reply) (c : ℕ) → length xs ≡ length rs → sent_over c (xs ++ x ∷ []) (rs ++ r ∷ []) ≡ sent_over c xs rs ++ sent_with c x r
-unfolding sent_over
-sent_over-more [] [] x r c even = append-nil (sent_with c x r)
-sent_over-more (y ∷ xs) (s ∷ rs) x r c even =
-    ap (λ (l : List ℕ). sent_with c y s ++ l) (sent_over-more xs rs x r c (omega (arith, even)))
-    ∙ sym (append_assoc (sent_with c y s) (sent_over c xs rs) (sent_with c x r))
-sent_over-more [] (s ∷ rs) x r c even = absurd (omega (arith, even))
-sent_over-more (y ∷ xs) [] x r c even = absurd (omega (arith, even))
+sent_over-more xs rs x r c even = told-more _ _ (sent_tells c) xs rs x r even
 
 -- Over the machine that copies.
 

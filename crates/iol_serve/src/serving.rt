@@ -259,10 +259,7 @@ fn send<B: Backing + Drop, P: Process, W: Write>(
         match send_piece(world, conn, writer) {
             Step::Moved => has_moved = true,
             Step::Quiet => return progress(has_moved),
-            Step::Failed => return Step::Failed,
-            Step::Silent => return Step::Silent,
-            Step::Stalled => return Step::Stalled,
-            Step::Over => return Step::Over,
+            other => return other,
         }
     }
     progress(has_moved)

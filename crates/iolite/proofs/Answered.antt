@@ -1,6 +1,6 @@
 -- The answers to a script's lines go on by one.
-use Rattle.std.proofs.Common.{◌≡◌, ◌∙◌, inl, inr, true, false, ℕ, List, [], ◌∷◌, ◌++◌, All, Result, Ok, Err, IfErr, OnOk, IfSome, refl, sym, ap, subst, append_assoc, arith}
-use Rattle.std.specs.Io.KnownBytes.{Appends, Keeps}
+use Rattle.std.proofs.Common.{◌≡◌, ◌∙◌, inl, inr, true, ℕ, List, [], ◌∷◌, ◌++◌, All, Result, Ok, Err, IfErr, OnOk, IfSome, refl, sym, ap, subst, append_assoc, arith}
+use Rattle.std.specs.Io.KnownBytes.{Appends}
 use Rattle.std.specs.declared.option.Option.{Option}
 use Rattle.std.proofs.lemmas.List.{append-nil}
 use Rattle.std.proofs.lemmas.List.Concat.{flat_map-append}
@@ -13,11 +13,11 @@ use Rattle.iolite.specs.declared.script.Line.{Line}
 use Rattle.iolite.specs.declared.replay.Answer.{Answer}
 use Rattle.iolite.specs.declared.setup.Setup.{Setup}
 use Rattle.iolite.specs.Answers.{Answering, AnswersLine, AreAnswers, Begun, BegunWhole, EndsWanting, EndsWithin, IsAnswer, IsNew, LosesFirst, Replayed, WritesTo}
-use Rattle.iolite.specs.Failure.{IsBadLine, IsOfAnswers, IsOfInput, IsOfLines, status_of}
+use Rattle.iolite.specs.Failure.{IsOfAnswers, IsOfInput, status_of}
 use Rattle.iolite.specs.Printed.{answer_text, lines_of, newline}
 use Rattle.iolite.specs.Script.{AskInOrder, AsksSomething, HasBadLine, IsBadScript, IsJudged, IsScriptText, asking, commands, is_asking, lines, without_blank}
-use Rattle.iolite.proofs.Appending.{Appends-kept, Appends-more, Appends-none}
-use Rattle.iolite.proofs.Said.{AskInOrder-push, commands-append, is_asking-no, is_asking-yes}
+use Rattle.iolite.proofs.Appending.{Appends-more, Appends-none}
+use Rattle.iolite.proofs.Said.{AskInOrder-push, commands-append, is_asking-yes}
 
 AreAnswers-push : (old mid new : SystemState) (ls : List Line) (rs : List Answer) (l : Line) (r : Answer) → AreAnswers old ls rs mid → IsAnswer mid l r new → AreAnswers old (ls ++ l ∷ []) (rs ++ r ∷ []) new
 AreAnswers-push old mid new [] [] l r answers next = (new, subst (λ (h : SystemState). IsAnswer h l r new) answers next, refl)
@@ -42,19 +42,6 @@ Answering-none s known pending none = record {
 }
 
 module _ (ls : List (List ℕ)) (start mid end : SystemState) (old known : Option (List ℕ)) (pending : List ℕ) (l : List ℕ) where
-  -- a line that asks for nothing
-  pub Answering-pass : Answering ls start mid old known pending → is_asking l ≡ false → Answering (ls ++ l ∷ []) start mid old known pending
-  Answering-pass so passed =
-      let e : asking (without_blank (ls ++ l ∷ [])) ≡ asking (without_blank ls) = commands-append ls (l ∷ []) ∙ (ap (λ ys. asking (without_blank ls) ++ ys) (is_asking-no l passed) ∙ append-nil (asking (without_blank ls))) in record {
-        asked = so.asked;
-        answers = so.answers;
-        asks = subst (λ ys. AskInOrder ys so.asked) (sym e) so.asks;
-        each = so.each;
-        printed = so.printed;
-        all = so.all;
-        appended = so.appended;
-      }
-
   -- a line that is answered
   pub Answering-line : (text : List ℕ) → Answering ls start mid old known pending → is_asking l ≡ true → AnswersLine l mid end text → Answering (ls ++ l ∷ []) start end old known (pending ++ text)
   Answering-line text so asks next =
@@ -80,18 +67,6 @@ module _ (ls : List (List ℕ)) (start end : SystemState) (old known new : Optio
     printed = so.printed ++ writes.front;
     all = so.all ∙ (ap (λ ys. so.printed ++ ys) writes.all ∙ sym (append_assoc so.printed writes.front left));
     appended = Appends-more old known new so.printed writes.front so.appended writes.written;
-  }
-
-  -- nothing more is written
-  pub Answering-kept : Answering ls start end old known pending → Keeps known new → Answering ls start end old new pending
-  Answering-kept so keeps = record {
-    asked = so.asked;
-    answers = so.answers;
-    asks = so.asks;
-    each = so.each;
-    printed = so.printed;
-    all = so.all;
-    appended = Appends-kept old known new so.printed so.appended keeps;
   }
 
 -- lines that came are a beginning
@@ -165,14 +140,6 @@ of_given P known text whole holds = IfSome_then known whole (λ given e. subst P
 pub on_given : {A E : Type 0} (r : Result A E) (P : List ℕ → Type 0) (known : Option (List ℕ)) (text : List ℕ) → IfSome known (λ given. text ≡ given) → OnOk r (P text) → OnOk r (IfSome known P)
 on_given (Ok u) P known text whole holds = of_given P known text whole holds
 on_given (Err x) P known text whole holds = holds
-
--- where judging ended with status 2, a line is no command
-pub bad_by : (H : Type 0) (failure : Failure) → IsOfLines failure → (IsBadLine failure → H) → status_of failure ≡ 2 → H
-bad_by H (BadLine number) of bad status = bad tt
-bad_by H BadScript of bad status = absurd of
-bad_by H Input of bad status = absurd of
-bad_by H Output of bad status = absurd of
-bad_by H Memory of bad status = absurd (omega (arith, status))
 
 -- the same of what was given
 abbrev pub bad_text : {A : Type 0} → Result A Failure → List ℕ → Type 0

@@ -1,5 +1,5 @@
 -- What is written goes on.
-use Rattle.std.proofs.Common.{◌≡◌, ◌∙◌, ◌≤◌, ◌+◌, ℕ, List, [], ◌++◌, Option, length, take, drop, refl, sym, ap, subst, append_assoc, arith, length-drop}
+use Rattle.std.proofs.Common.{◌∙◌, ◌≤◌, ◌+◌, ℕ, List, [], ◌++◌, Option, length, take, drop, sym, ap, subst, append_assoc, arith, length-drop}
 use Rattle.std.specs.declared.option.Option.TheVariants.{Some, None}
 use Rattle.std.proofs.lemmas.List.{append-nil, take-append-drop, take_all}
 use Rattle.std.specs.Io.KnownBytes.{Appends, Keeps}
@@ -24,10 +24,6 @@ Appends-kept (Some xs) None new front wrote keeps = absurd wrote
 Appends-kept (Some xs) (Some ys) None front wrote keeps = absurd keeps
 Appends-kept (Some xs) (Some ys) (Some zs) front wrote keeps = keeps ∙ wrote
 
--- of bytes to be written nothing is yet
-pub WritesTo-none : (known : Option (List ℕ)) (bytes : List ℕ) → WritesTo known known bytes bytes
-WritesTo-none known bytes = record { front = []; all = refl; written = Appends-none known }
-
 -- n of those left are written
 pub WritesTo-more : (old mid new : Option (List ℕ)) (bytes rest : List ℕ) (n : ℕ) → WritesTo old mid bytes rest → Appends mid new (take n rest) → WritesTo old new bytes (drop n rest)
 WritesTo-more old mid new bytes rest n so writes = record {
@@ -44,11 +40,6 @@ WritesTo-sliced old mid new bytes rest n k fits so writes =
 -- none of them is
 pub WritesTo-kept : (old mid new : Option (List ℕ)) (bytes rest : List ℕ) → WritesTo old mid bytes rest → Keeps mid new → WritesTo old new bytes rest
 WritesTo-kept old mid new bytes rest so keeps = record { front = so.front; all = so.all; written = Appends-kept old mid new so.front so.written keeps }
-
--- all are written where none is left
-pub Appends-all : (old new : Option (List ℕ)) (bytes rest : List ℕ) → WritesTo old new bytes rest → rest ≡ [] → Appends old new bytes
-Appends-all old new bytes rest so none =
-    subst (Appends old new) (sym (so.all ∙ (ap (λ ys. so.front ++ ys) none ∙ append-nil so.front))) so.written
 
 -- all bytes are written
 pub WritesTo-all : (old new : Option (List ℕ)) (bytes : List ℕ) → Appends old new bytes → WritesTo old new bytes []

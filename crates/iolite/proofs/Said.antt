@@ -135,14 +135,6 @@ module _ (ls : List (List ℕ)) (old new : Setup) (late more : Bool) (l : List �
       let none : asking ls ≡ [] = subst (λ b. Knows b ls) x.2 knows in
       (sets-more x.1 x.0 none j, subst (λ b. Knows b (ls ++ l ∷ [])) (sym x.3) (sets-knows x.0 none))
 
--- a line that is passed over
-pub Judging-pass : (ls : List (List ℕ)) (setup : Setup) (late : Bool) (l : List ℕ) → Judging ls setup late → is_blank l ≡ true → Judging (ls ++ l ∷ []) setup late
-Judging-pass ls setup late l j blank =
-    let e : without_blank (ls ++ l ∷ []) ≡ without_blank ls = without_blank-append ls (l ∷ []) ∙ (ap (λ ys. without_blank ls ++ ys) (without_blank-yes l blank) ∙ append-nil (without_blank ls)) in record {
-      judged = subst (λ ys. IsJudged ys setup) (sym e) j.judged;
-      knows = subst (Knows late) (sym e) j.knows;
-    }
-
 -- a line that is judged
 pub Judging-read : (ls : List (List ℕ)) (old new : Setup) (late more : Bool) (l : List ℕ) → Judging ls old late → is_blank l ≡ false → Judges old late l new more → Judging (ls ++ l ∷ []) new more
 Judging-read ls old new late more l j blank judges =

@@ -18,20 +18,10 @@ dot_segments = refl
 dots_in_a_name : list_any is_dot_segment (segments (codes "/a/..b/c.")) ≡ false
 dots_in_a_name = refl
 
-index : file_name (codes "/") ≡ codes "index.html"
+-- The name under the root; an escaped percent sign is not decoded a second time, and one slash is taken away, no more.
+names : (file_name (codes "/") ≡ codes "index.html")
+    × (file_name (codes "/a%20b/c.txt") ≡ codes "a b/c.txt")
+    × (file_name (codes "/%252e") ≡ codes "%2e")
+    × (file_name (codes "//a") ≡ codes "/a")
 unfolding percent_decode
-index = refl
-
-name_in_a_folder : file_name (codes "/a%20b/c.txt") ≡ codes "a b/c.txt"
-unfolding percent_decode
-name_in_a_folder = refl
-
--- an escaped percent sign is not decoded a second time
-decoded_once : file_name (codes "/%252e") ≡ codes "%2e"
-unfolding percent_decode
-decoded_once = refl
-
--- one slash is taken away, and no more
-two_slashes : file_name (codes "//a") ≡ codes "/a"
-unfolding percent_decode
-two_slashes = refl
+names = (refl, refl, refl, refl)

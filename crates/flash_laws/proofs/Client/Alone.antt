@@ -6,7 +6,6 @@ use Rattle.iol_core.specs.Run.{StepsTo}
 use Rattle.iol_core.specs.declared.descriptors.Descriptor.TheVariants as on
 use Rattle.iol_core.specs.declared.descriptors.Mode.TheVariants as modes
 use Rattle.iol_core.specs.declared.refusals.Refusal.TheVariants as no
-use Rattle.iol_core.specs.declared.events.Call.{Call}
 use Rattle.iol_core.specs.declared.events.Call.TheVariants as call
 use Rattle.iol_core.specs.declared.events.Event.TheVariants as event
 use Rattle.iol_core.specs.declared.events.Reply.{Reply}
@@ -19,15 +18,14 @@ use Rattle.iol_laws.specs.Frame.{EachStepLeavesTheRest}
 use Rattle.iol_laws.specs.Order.{IsOrderly}
 use Rattle.flash_http.specs.Request.{Answer, serve, refuse, Wanted}
 use Rattle.flash_laws.specs.Answers.{Outcome, Failed, script_text}
-use Rattle.flash_laws.specs.Client.{Client, is_for_script, conn_wants, wants, can_run, kept_if, told_spares, conn_told, file_told, told}
-use Rattle.flash_laws.specs.Client.Offering.{ConnLearns, Learns}
+use Rattle.flash_laws.specs.Client.{Client, is_for_script, conn_wants, can_run, kept_if, told_spares, conn_told, file_told}
+use Rattle.flash_laws.specs.Client.Offering.{ConnLearns}
 use Rattle.flash_laws.specs.Conn as conn
 use Rattle.flash_laws.specs.Conn.{Conn, most_read, status_of}
-use Rattle.flash_laws.specs.declared.doing.Learnt.TheVariants.{File, Text as TextOf}
+use Rattle.flash_laws.specs.declared.doing.Learnt.TheVariants.{Text as TextOf}
 use Rattle.flash_laws.specs.declared.doing.Content.TheVariants.{Script}
 use Rattle.flash_laws.specs.declared.doing.Doing.{Doing}
-use Rattle.flash_laws.specs.declared.doing.Doing.TheVariants.{Rests, Got, Opens, Reads as Reading, Shuts, Spares, Heads, Sends, Breaks, Drops, Closes}
-use Rattle.flash_laws.specs.declared.running.Running.TheVariants.{Leaves}
+use Rattle.flash_laws.specs.declared.doing.Doing.TheVariants.{Rests, Got, Opens, Reads as Reading, Shuts, Spares, Heads, Breaks, Drops, Closes}
 use Rattle.flash_laws.specs.Conn.Fits.{IsFile, Has, is_closing, Names}
 use Rattle.flash_laws.specs.Client.Known as known
 use Rattle.flash_laws.specs.Client.Known.{Known, OfFile, OfScript, is_read, is_silent, IsAfter, ReadsOn, HasNoRun, HasFile, HasKnown}

@@ -15,7 +15,7 @@ use Rattle.iol_laws.specs.CallerFiles.{FileCallsServeTheirDomain}
 use Rattle.iol_laws.specs.Order.{IsOrderly}
 use Rattle.flash_http.specs.Request.{Answer, serve, refuse, Wanted}
 use Rattle.flash_laws.specs.Answers.{response, script_text}
-use Rattle.flash_laws.specs.Client.{Client, uses_agg, is_for_script, conn_wants, job_of, wants, told_text, told_spares, file_told, goes_on, run_told, told}
+use Rattle.flash_laws.specs.Client.{Client, uses_agg, is_for_script, conn_wants, job_of, kept_text, wants, told_text, told_spares, file_told, goes_on, run_told, told}
 use Rattle.flash_laws.specs.Client.Keeping.{has_fd, ClientsLeaveNothing}
 use Rattle.flash_laws.specs.Client.Offering.{is_ending}
 use Rattle.flash_laws.specs.Conn as conn
@@ -43,52 +43,46 @@ use Rattle.flash_laws.proofs.Run.Ends.{wants-text}
 
 -- ---- what it uses is what its connection uses, where no run has begun
 
-text-uses : (kept : List ℕ) (q : Answer) (f : ℕ) (r : Reply) (heard : List ℕ) (a : ℕ)
-    → conn.uses_agg (told_text f r heard) a ≡ conn.uses_agg (conn.told (at kept q (Reading f)) r heard).doing a
-text-uses kept q f (reply.Agg n) heard a = refl
-text-uses kept q f r heard a = refl
-
-text-opens : (kept : List ℕ) (q : Answer) (f : ℕ) (r : Reply) (heard : List ℕ) (g : ℕ)
-    → conn.uses_fd (told_text f r heard) g ≡ conn.uses_fd (conn.told (at kept q (Reading f)) r heard).doing g
-text-opens kept q f (reply.Agg n) heard g = refl
-text-opens kept q f r heard g = refl
+-- told of a client is what is told of its connection, where it is so of the text of a script, and of one that is dropped
+script-as : {A : Type 0} (client_has : Client → A) (conn_has : Doing → A) (kept : List ℕ) (q : Answer) (d : Doing) (script : List ℕ) (r : Reply) (heard : List ℕ) (b : Bool)
+    → ((c : Conn) (text : List ℕ) → client_has (client c None text) ≡ conn_has c.doing)
+    → ((f : ℕ) (r : Reply) → conn_has (told_text f r heard) ≡ conn_has (conn.told (at kept q (Reading f)) r heard).doing)
+    → ((a : ℕ) → client_has (client (conn.told (at kept q (Spares a Script)) reply.Done heard) (Some Awaits) script) ≡ conn_has (conn.told (at kept q (Spares a Script)) reply.Done heard).doing)
+    → client_has (file_told b (client (at kept q d) None script) r heard) ≡ conn_has (conn.told (at kept q d) r heard).doing
+script-as client_has conn_has kept q d script r heard false plain text dropped = plain (conn.told (at kept q d) r heard) script
+script-as client_has conn_has kept q (Reading f) script r heard true plain text dropped = plain (record { kept = kept; q = q; doing = told_text f r heard }) (kept_text (is_head_only q) script r heard) ∙ text f r
+script-as client_has conn_has kept q (Spares a Script) script r heard true plain text dropped = by (is_head_only q) r
+  where
+    by : (h : Bool) (r : Reply) → client_has (record { conn = conn.told (at kept q (Spares a Script)) r heard; run = told_spares h r; script = script }) ≡ conn_has (conn.told (at kept q (Spares a Script)) r heard).doing
+    by false reply.Done = dropped a
+    by b r = plain (conn.told (at kept q (Spares a Script)) r heard) script
+script-as client_has conn_has kept q d script r heard true plain text dropped = plain (conn.told (at kept q d) r heard) script
 
 pub script-uses : (kept : List ℕ) (q : Answer) (d : Doing) (script : List ℕ) (r : Reply) (heard : List ℕ) (a : ℕ) (b : Bool)
     → uses_agg (file_told b (client (at kept q d) None script) r heard) a ≡ conn.uses_agg (conn.told (at kept q d) r heard).doing a
-script-uses kept q d script r heard a false = refl
-script-uses kept q (Reading f) script r heard a true = text-uses kept q f r heard a
-script-uses kept q (Spares b Script) script r heard a true = by (is_head_only q) r
+script-uses kept q d script r heard a b = script-as (λ x. uses_agg x a) (λ e. conn.uses_agg e a) kept q d script r heard b (λ c text. refl) text (λ x. refl)
   where
-    by : (h : Bool) (r : Reply) → uses_agg (record { conn = conn.told (at kept q (Spares b Script)) r heard; run = told_spares h r; script = script }) a
-        ≡ conn.uses_agg (conn.told (at kept q (Spares b Script)) r heard).doing a
-    by true r = refl
-    by false reply.Done = refl
-    by false r = refl
-script-uses kept q d script r heard a true = refl
+    text : (f : ℕ) (r : Reply) → conn.uses_agg (told_text f r heard) a ≡ conn.uses_agg (conn.told (at kept q (Reading f)) r heard).doing a
+    text f (reply.Agg n) = refl
+    text f r = refl
 
 script-opens : (kept : List ℕ) (q : Answer) (d : Doing) (script : List ℕ) (r : Reply) (heard : List ℕ) (g : ℕ) (b : Bool)
     → has_fd (file_told b (client (at kept q d) None script) r heard) g ≡ conn.uses_fd (conn.told (at kept q d) r heard).doing g
-script-opens kept q d script r heard g false = refl
-script-opens kept q (Reading f) script r heard g true = text-opens kept q f r heard g
-script-opens kept q (Spares b Script) script r heard g true = by (is_head_only q) r
+script-opens kept q d script r heard g b = script-as (λ x. has_fd x g) (λ e. conn.uses_fd e g) kept q d script r heard b (λ c text. refl) text (λ x. refl)
   where
-    by : (h : Bool) (r : Reply) → has_fd (record { conn = conn.told (at kept q (Spares b Script)) r heard; run = told_spares h r; script = script }) g
-        ≡ conn.uses_fd (conn.told (at kept q (Spares b Script)) r heard).doing g
-    by true r = refl
-    by false reply.Done = refl
-    by false r = refl
-script-opens kept q d script r heard g true = refl
+    text : (f : ℕ) (r : Reply) → conn.uses_fd (told_text f r heard) g ≡ conn.uses_fd (conn.told (at kept q (Reading f)) r heard).doing g
+    text f (reply.Agg n) = refl
+    text f r = refl
 
 -- ---- what a run uses it uses until it is over, and its connection nothing then
 
 pub on-uses : (x : Client) (y z : Running) (a : ℕ) (was over : Bool) → is_over z ≡ over → uses_agg (goes_on was over x y z) a ≡ running.uses_agg z a
-on-uses x y Awaits a false true is = absurd (cc (is))
-on-uses x y (Runs run s) a false true is = absurd (cc (is))
 on-uses x y (Leaves d) a false true is = refl
 on-uses x y Ends a false true is = refl
 on-uses x y z a false false is = refl
 on-uses x y z a true true is = refl
 on-uses x y z a true false is = refl
+on-uses x y other a false true is = absurd (cc (is))
 
 on-ends : (x : Client) (y z : Running) (g : ℕ) (was over : Bool) → is_over z ≡ over → has_fd (goes_on was over x y z) g ≡ false → has_end z g ≡ false
 on-ends x y (Runs run s) g false true is unused = absurd (cc (is))

@@ -33,10 +33,9 @@ use Rattle.flash_laws.proofs.Run.Moves as run_moves
 module _ (m n : State) (fd : ℕ) (kept : List ℕ) (q : Answer) (script : List ℕ) where
   moved : (b : Bool) (d : Doing) (r : Reply) (heard : List ℕ) → is_closing d ≡ false → StepsTo m (event.Call server (conn_wants b fd (at kept q d))) r n
       → (file_told b (client (at kept q d) None script) r heard).conn.doing ≡ d → may_repeat (conn_wants b fd (at kept q d)) r ≡ true
-  moved false d r heard going step same = moving.moved m n fd kept q d r heard going step same
   moved true (Reading f) r heard going step same = repeats.reads m n (Reading f) (λ z. told_text f z heard) f most_read r step (λ k e. cc (e)) same
   moved true (Spares b Script) r heard going step same = moving.moved m n fd kept q (Spares b Script) r heard going step same
-  moved true d r heard going step same = moving.moved m n fd kept q d r heard going step same
+  moved other d r heard going step same = moving.moved m n fd kept q d r heard going step same
 
   -- a descriptor comes by opening the file
   opened : (b : Bool) (d : Doing) (f : ℕ) (heard : List ℕ) → StepsTo m (event.Call server (conn_wants b fd (at kept q d))) (reply.Fd f) n

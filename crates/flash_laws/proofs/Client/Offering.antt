@@ -1,19 +1,17 @@
 -- What a client is offered is the next bytes of the response, for a file and for a script.
-use Rattle.std.proofs.Common.{inl, inr, ◌≡◌, ℕ, ◌+◌, ◌⊎◌, List, [], take, drop, ap, ◌∙◌, refl, sym, subst, Option, Some, None, true, false, Bool, zero-add, if◌then◌else◌}
+use Rattle.std.proofs.Common.{inl, inr, ◌≡◌, ℕ, ◌+◌, ◌⊎◌, List, [], drop, ap, ◌∙◌, refl, sym, subst, Option, Some, None, true, false, Bool, zero-add, if◌then◌else◌}
 use Rattle.iol_core.specs.Access.{HasAccess}
-use Rattle.iol_core.specs.State.{State, descriptor, file, is_live}
+use Rattle.iol_core.specs.State.{State, descriptor, is_live}
 use Rattle.iol_core.specs.Run.{StepsTo}
 use Rattle.iol_core.specs.Values.{gives_up}
 use Rattle.iol_core.specs.declared.descriptors.Descriptor.TheVariants as on
 use Rattle.iol_core.specs.declared.descriptors.Mode.TheVariants as modes
-use Rattle.iol_core.specs.declared.refusals.Refusal.TheVariants as no
 use Rattle.iol_core.specs.declared.events.Call.{Call}
 use Rattle.iol_core.specs.declared.events.Call.TheVariants as call
 use Rattle.iol_core.specs.declared.events.Event.{Event}
 use Rattle.iol_core.specs.declared.events.Event.TheVariants as event
 use Rattle.iol_core.specs.declared.events.Reply.{Reply}
 use Rattle.iol_laws.specs.Caller.{CallsServeTheirDomain}
-use Rattle.iol_laws.specs.CallerFiles as of
 use Rattle.iol_laws.specs.CallerFiles.{FileCallsServeTheirDomain}
 use Rattle.iol_laws.specs.Frame.{EachStepLeavesTheRest, touches_fd}
 use Rattle.iol_laws.specs.Order.{IsOrderly}
@@ -24,8 +22,6 @@ use Rattle.flash_laws.specs.Client.{Client, uses_agg, uses_fd, is_for_script, co
 use Rattle.flash_laws.specs.Client.Offering.{begun, is_ending, Learns, taken_by, HandsJob, IsAsItsConn, IsAsItsRun, ClientsAreOfferedTheResponse}
 use Rattle.flash_laws.specs.Conn as conn
 use Rattle.flash_laws.specs.Conn.{Conn, most_read}
-use Rattle.flash_laws.specs.declared.doing.Learnt.TheVariants.{File, Length}
-use Rattle.flash_laws.specs.declared.doing.Content.TheVariants.{Script}
 use Rattle.flash_laws.specs.declared.doing.Doing.{Doing}
 use Rattle.flash_laws.specs.declared.doing.Doing.TheVariants.{Rests, Opens, Reads as Reading, Sends, Offers, Closes}
 use Rattle.flash_laws.specs.declared.running.Step.TheVariants as act

@@ -1,7 +1,7 @@
 -- The phases of a client, whatever the response that is due: what the machine has, what is offered, and what of a script's text is
 -- read.
 use Rattle.std.proofs.Common.{◌≡◌, ℕ, ◌+◌, ◌-◌, List, [], ◌∷◌, ◌++◌, drop, ap, ◌∙◌, refl, sym, subst, Some, None, true, false, Bool, append_assoc, if◌then◌else◌}
-use Rattle.std.specs.Prelude.{min, nat_lt, nat_le, slice_range}
+use Rattle.std.specs.Prelude.{◌||◌, nat_lt, nat_le, slice_range}
 use Rattle.std.proofs.lemmas.List.{take-append-drop}
 use Rattle.iol_core.specs.State.{State, descriptor}
 use Rattle.iol_core.specs.Run.{StepsTo}
@@ -18,16 +18,14 @@ use Rattle.iol_laws.specs.Order.{IsOrderly}
 use Rattle.iol_laws.specs.Caller as o
 use Rattle.iol_laws.specs.Caller.{CallsServeTheirDomain, lent_at}
 use Rattle.flash_http.specs.declared.ranges.Selection.{Selection}
-use Rattle.flash_http.specs.declared.ranges.Selection.TheVariants.{Whole, Bytes, Unsatisfiable}
+use Rattle.flash_http.specs.declared.ranges.Selection.TheVariants.{Bytes}
 use Rattle.flash_http.specs.Range.{selected}
 use Rattle.flash_http.specs.Request.{Answer, serve, refuse}
 use Rattle.flash_laws.specs.Answers.{keeps}
 use Rattle.flash_laws.specs.Client.{conn_wants}
-use Rattle.flash_laws.specs.Conn.{Following, Conn, is_head_only, most_read, piece_end, count_of, wants, sends_of, settled, following, headed, told_rests, told}
+use Rattle.flash_laws.specs.Conn.{Following, is_head_only, most_read, piece_end, count_of, wants, sends_of, settled, following, headed, told_rests, told}
 use Rattle.flash_laws.specs.declared.doing.Learnt.{Learnt}
-use Rattle.flash_laws.specs.declared.doing.Learnt.TheVariants.{File, Length, Text as TextOf}
-use Rattle.flash_laws.specs.declared.doing.Content.{Content}
-use Rattle.flash_laws.specs.declared.doing.Content.TheVariants.{Body}
+use Rattle.flash_laws.specs.declared.doing.Learnt.TheVariants.{File, Text as TextOf}
 use Rattle.flash_laws.specs.declared.doing.Doing.{Doing}
 use Rattle.flash_laws.specs.declared.doing.Doing.TheVariants.{Rests, Got, Opens, Reads as Reading, Shuts, Picks, Spares, Heads, Joins, Sends, Cuts, Offers, Swaps, Sent, Breaks, Drops, Closes, Over}
 use Rattle.flash_laws.specs.Conn.Fits.{Has, is_closing, Names}
@@ -59,8 +57,6 @@ module _ (steps : EachStepLeavesTheRest) (own : CallsServeTheirDomain) (m n : St
       → Names n r heard → Has n q due (told (at kept q d) r heard).doing
   phase fd c q Rests due r heard open_on read busy has step names = rests q due r heard names
   phase fd c q (Got a) due r heard open_on read busy has step names = got q due a r heard has step
-  phase fd c q Opens due r heard open_on read busy has step names = absurd (cc (read))
-  phase fd c q (Reading f) due r heard open_on read busy has step names = absurd (cc (read))
   phase fd c q (Shuts f k) due r heard open_on read busy has step names = having.shuts steps own m n order q f k due r has step
   phase fd c q (Picks a first last len) due r heard open_on read busy has step names = having.picks steps own m n order q a first last len due r has step
   phase fd c q (Spares a k) due r heard open_on read busy has step names = having.spares steps own m n order q a k due r has step
@@ -75,6 +71,7 @@ module _ (steps : EachStepLeavesTheRest) (own : CallsServeTheirDomain) (m n : St
   phase fd c q (Drops a more) due r heard open_on read busy has step names = having.drops steps own m n order q a more due r has step
   phase fd c q Closes due r heard open_on read busy has step names = absurd (cc (busy))
   phase fd c q Over due r heard open_on read busy has step names = absurd (cc (busy))
+  phase fd c q x due r heard open_on read busy has step names = absurd (cc (read))
 
 -- ---- what is offered
 
@@ -133,91 +130,72 @@ is_apart (Shuts f k) = false
 is_apart (Spares a k) = false
 is_apart d = true
 
-abbrev Stays : (Doing → Bool) → Doing → Type 0
-Stays p d = p d ≡ false
+-- whether a file, or a script, is still to be opened or read, or its text is there
+abbrev is_reading : Doing → Bool
+is_reading d = is_read d || is_opening d
 
-module _ (p : Doing → Bool)
-    (rests : Stays p Rests) (got : (a : ℕ) → Stays p (Got a)) (picks : (a from to len : ℕ) → Stays p (Picks a from to len))
-    (spares : (a n size len : ℕ) → Stays p (Spares a (Body n size len))) (closes : Stays p Closes) (over : Stays p Over) (heads : (k : Content) → Stays p (Heads k))
-    (joins : (a size body len : ℕ) → Stays p (Joins a size body len)) (sends : (a len taken : ℕ) (more : Following) → Stays p (Sends a len taken more))
-    (cuts : (a from len taken : ℕ) (more : Following) → Stays p (Cuts a from len taken more))
-    (offers : (a from len piece taken : ℕ) (more : Following) → Stays p (Offers a from len piece taken more))
-    (swaps : (a from len piece taken : ℕ) (more : Following) → Stays p (Swaps a from len piece taken more))
-    (sent : (a taken : ℕ) (more : Following) → Stays p (Sent a taken more))
-    (breaks : (piece a : ℕ) (more : Following) → Stays p (Breaks piece a more)) (drops : (a : ℕ) (more : Following) → Stays p (Drops a more)) where
-  headed-stays : (n size : ℕ) (more : Following) → Stays p (headed n size more)
-  headed-stays n size None = sends n size 0 None
-  headed-stays n size (Some x) = by (nat_le (size + x.1) MAX_AGGREGATE_BYTES)
-    where
-      by : (t : Bool) → Stays p (if t then Joins n size x.0 x.1 else Sends n size 0 (Some x))
-      by true = joins n size x.0 x.1
-      by false = sends n size 0 (Some x)
+either-unread : (t : Bool) (x y : Doing) → is_reading x ≡ false → is_reading y ≡ false → is_reading (if t then x else y) ≡ false
+either-unread true x y one two = one
+either-unread false x y one two = two
 
-  apart-stays : (kept : List ℕ) (q : Answer) (d : Doing) (r : Reply) (heard : List ℕ) → is_apart d ≡ true → Stays p (told (at kept q d) r heard).doing
-  apart-stays kept q Rests (reply.Agg n) [] left = drops n None
-  apart-stays kept q Rests (reply.Agg n) (b ∷ heard) left = got n
-  apart-stays kept q Rests r heard left = rests
-  apart-stays kept q (Got a) reply.Done heard left = rests
-  apart-stays kept q (Got a) r heard left = got a
-  apart-stays kept q (Picks a from to len) (reply.Agg n) heard left = spares a n (to - from) len
-  apart-stays kept q (Picks a from to len) r heard left = picks a from to len
-  apart-stays kept q Closes reply.Done heard left = over
-  apart-stays kept q Closes r heard left = closes
-  apart-stays kept q Over r heard left = over
-  apart-stays kept q (Heads k) (reply.Agg n) heard left = headed-stays n (count_of heard) (following k)
-  apart-stays kept q (Heads k) r heard left = heads k
-  apart-stays kept q (Joins a size body len) (reply.Agg n) heard left = sends n (size + len) 0 None
-  apart-stays kept q (Joins a size body len) r heard left = joins a size body len
-  apart-stays kept q (Sends a len taken more) (reply.Count n) heard left = by (nat_lt n len)
-    where
-      by : (t : Bool) → Stays p (if t then Cuts a n len (taken + n) more else Sent a (taken + len) more)
-      by true = cuts a n len (taken + n) more
-      by false = sent a (taken + len) more
-  apart-stays kept q (Sends a len taken more) (reply.Refused no.BrokenPipe) heard left = drops a more
-  apart-stays kept q (Sends a len taken more) r heard left = sends a len taken more
-  apart-stays kept q (Cuts a from len taken more) (reply.Agg n) heard left = offers a from len n taken more
-  apart-stays kept q (Cuts a from len taken more) r heard left = cuts a from len taken more
-  apart-stays kept q (Offers a from len piece taken more) (reply.Count n) heard left = swaps a (from + min n (len - from)) len piece (taken + min n (len - from)) more
-  apart-stays kept q (Offers a from len piece taken more) (reply.Refused no.BrokenPipe) heard left = breaks piece a more
-  apart-stays kept q (Offers a from len piece taken more) r heard left = offers a from len piece taken more
-  apart-stays kept q (Swaps a from len piece taken more) reply.Done heard left = by (nat_lt from len)
-    where
-      by : (t : Bool) → Stays p (if t then Cuts a from len taken more else Sent a taken more)
-      by true = cuts a from len taken more
-      by false = sent a taken more
-  apart-stays kept q (Swaps a from len piece taken more) r heard left = swaps a from len piece taken more
-  apart-stays kept q (Sent a taken (Some x)) reply.Done heard left = sends x.0 x.1 taken None
-  apart-stays kept q (Sent a taken None) reply.Done heard left = by (keeps q)
-    where
-      by : (t : Bool) → Stays p (if t then Rests else Closes)
-      by true = rests
-      by false = closes
-  apart-stays kept q (Sent a taken more) r heard left = sent a taken more
-  apart-stays kept q (Breaks piece a more) reply.Done heard left = drops a more
-  apart-stays kept q (Breaks piece a more) r heard left = breaks piece a more
-  apart-stays kept q (Drops a (Some x)) reply.Done heard left = drops x.0 None
-  apart-stays kept q (Drops a None) reply.Done heard left = closes
-  apart-stays kept q (Drops a more) r heard left = drops a more
-  apart-stays kept q d r heard left = absurd (cc (left))
+headed-unread : (n size : ℕ) (more : Following) → is_reading (headed n size more) ≡ false
+headed-unread n size None = refl
+headed-unread n size (Some x) = either-unread (nat_le (size + x.1) MAX_AGGREGATE_BYTES) _ _ refl refl
+
+apart-unread : (kept : List ℕ) (q : Answer) (d : Doing) (r : Reply) (heard : List ℕ) → is_apart d ≡ true → is_reading (told (at kept q d) r heard).doing ≡ false
+apart-unread kept q Rests (reply.Agg n) [] left = refl
+apart-unread kept q Rests (reply.Agg n) (b ∷ heard) left = refl
+apart-unread kept q Rests r heard left = refl
+apart-unread kept q (Got a) reply.Done heard left = refl
+apart-unread kept q (Got a) r heard left = refl
+apart-unread kept q (Picks a from to len) (reply.Agg n) heard left = refl
+apart-unread kept q (Picks a from to len) r heard left = refl
+apart-unread kept q Closes reply.Done heard left = refl
+apart-unread kept q Closes r heard left = refl
+apart-unread kept q Over r heard left = refl
+apart-unread kept q (Heads k) (reply.Agg n) heard left = headed-unread n (count_of heard) (following k)
+apart-unread kept q (Heads k) r heard left = refl
+apart-unread kept q (Joins a size body len) (reply.Agg n) heard left = refl
+apart-unread kept q (Joins a size body len) r heard left = refl
+apart-unread kept q (Sends a len taken more) (reply.Count n) heard left = either-unread (nat_lt n len) _ _ refl refl
+apart-unread kept q (Sends a len taken more) (reply.Refused no.BrokenPipe) heard left = refl
+apart-unread kept q (Sends a len taken more) r heard left = refl
+apart-unread kept q (Cuts a from len taken more) (reply.Agg n) heard left = refl
+apart-unread kept q (Cuts a from len taken more) r heard left = refl
+apart-unread kept q (Offers a from len piece taken more) (reply.Count n) heard left = refl
+apart-unread kept q (Offers a from len piece taken more) (reply.Refused no.BrokenPipe) heard left = refl
+apart-unread kept q (Offers a from len piece taken more) r heard left = refl
+apart-unread kept q (Swaps a from len piece taken more) reply.Done heard left = either-unread (nat_lt from len) _ _ refl refl
+apart-unread kept q (Swaps a from len piece taken more) r heard left = refl
+apart-unread kept q (Sent a taken (Some x)) reply.Done heard left = refl
+apart-unread kept q (Sent a taken None) reply.Done heard left = either-unread (keeps q) _ _ refl refl
+apart-unread kept q (Sent a taken more) r heard left = refl
+apart-unread kept q (Breaks piece a more) reply.Done heard left = refl
+apart-unread kept q (Breaks piece a more) r heard left = refl
+apart-unread kept q (Drops a (Some x)) reply.Done heard left = refl
+apart-unread kept q (Drops a None) reply.Done heard left = refl
+apart-unread kept q (Drops a more) r heard left = refl
+apart-unread kept q d r heard left = absurd (cc (left))
+
+neither-true : (b c : Bool) → (b || c) ≡ false → (b ≡ false) × (c ≡ false)
+neither-true true c is = absurd (cc (is))
+neither-true false c is = (refl, is)
 
 settled-unread : (f : ℕ) (q : Answer) (k : Learnt) → is_read (Shuts f k) ≡ false → is_read (settled q k) ≡ false
 settled-unread f (serve w) (File a len) was = by (selected w.range len)
   where
     by : (sel : Selection) → is_read (sends_of sel a len) ≡ false
-    by Whole = refl
     by (Bytes first last) = refl
-    by Unsatisfiable = refl
-settled-unread f (serve w) (TextOf a true) was = absurd (cc (was))
-settled-unread f (refuse status head_only close) (TextOf a true) was = absurd (cc (was))
+    by x = refl
+settled-unread f x (TextOf a true) was = absurd (cc (was))
 settled-unread f q k was = refl
 
 settled-read : (q : Answer) (k : Learnt) → is_opening (settled q k) ≡ false
 settled-read (serve w) (File a len) = by (selected w.range len)
   where
     by : (sel : Selection) → is_opening (sends_of sel a len) ≡ false
-    by Whole = refl
     by (Bytes first last) = refl
-    by Unsatisfiable = refl
+    by x = refl
 settled-read (refuse status head_only close) (File a len) = refl
 settled-read q k = refl
 
@@ -236,10 +214,7 @@ unread-told kept q (Shuts f k) reply.Done heard was = settled-unread f q k was
 unread-told kept q (Shuts f k) r heard was = was
 unread-told kept q (Spares a k) reply.Done heard was = refl
 unread-told kept q (Spares a k) r heard was = was
-unread-told kept q d r heard was =
-    apart-stays (λ e. is_read e) refl (λ a. refl) (λ a from to len. refl) (λ a n size len. refl) refl refl (λ k. refl) (λ a size body len. refl) (λ a len taken more. refl)
-    (λ a from len taken more. refl) (λ a from len piece taken more. refl) (λ a from len piece taken more. refl) (λ a taken more. refl) (λ piece a more. refl) (λ a more. refl)
-    kept q d r heard refl
+unread-told kept q d r heard was = (neither-true (is_read (told (at kept q d) r heard).doing) (is_opening (told (at kept q d) r heard).doing) (apart-unread kept q d r heard refl)).0
 
 -- and what is read is not read again
 pub read-told : (kept : List ℕ) (q : Answer) (d : Doing) (r : Reply) (heard : List ℕ) → is_opening d ≡ false → is_opening (told (at kept q d) r heard).doing ≡ false
@@ -249,10 +224,7 @@ read-told kept q (Shuts f k) reply.Done heard was = settled-read q k
 read-told kept q (Shuts f k) r heard was = refl
 read-told kept q (Spares a k) reply.Done heard was = refl
 read-told kept q (Spares a k) r heard was = refl
-read-told kept q d r heard was =
-    apart-stays (λ e. is_opening e) refl (λ a. refl) (λ a from to len. refl) (λ a n size len. refl) refl refl (λ k. refl) (λ a size body len. refl) (λ a len taken more. refl)
-    (λ a from len taken more. refl) (λ a from len piece taken more. refl) (λ a from len piece taken more. refl) (λ a taken more. refl) (λ piece a more. refl) (λ a more. refl)
-    kept q d r heard refl
+read-told kept q d r heard was = (neither-true (is_read (told (at kept q d) r heard).doing) (is_opening (told (at kept q d) r heard).doing) (apart-unread kept q d r heard refl)).1
 
 -- the request stays the same
 pub asks-told : (kept : List ℕ) (q : Answer) (d : Doing) (r : Reply) (heard : List ℕ) → (told (at kept q d) r heard).q ≡ q

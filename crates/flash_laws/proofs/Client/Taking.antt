@@ -16,7 +16,7 @@ use Rattle.flash_http.specs.Request.{Answer, serve, refuse, Wanted}
 use Rattle.flash_laws.specs.Answers.{Outcome, Failed, response, script_text}
 use Rattle.flash_laws.specs.Client.{Client, is_for_script, conn_wants, job_of, wants, can_run, told_text, told_spares, file_told, after_run, goes_on, run_told, told}
 use Rattle.flash_laws.specs.Client.Offering.{is_ending, is_working, drops_rest, ConnLearns, Learns, taken_by}
-use Rattle.flash_laws.specs.Conn.{Conn, is_head_only, told_spares as told_spares_conn}
+use Rattle.flash_laws.specs.Conn.{is_head_only, told_spares as told_spares_conn}
 use Rattle.flash_laws.specs.Conn.Fits.{Has}
 use Rattle.flash_laws.specs.Client.Known.{Known, OfFile, OfScript, of_text, taken_before, is_opening, IsRun, HasKnown}
 use Rattle.flash_laws.specs.Conn.Offering.{taken_of, newly_taken, is_dropping}
@@ -29,7 +29,7 @@ use Rattle.flash_laws.specs.declared.doing.Content.TheVariants.{Script}
 use Rattle.flash_laws.specs.declared.doing.Doing.{Doing}
 use Rattle.flash_laws.specs.declared.doing.Doing.TheVariants.{Reads as Reading, Spares}
 use Rattle.flash_laws.specs.declared.running.Running.{Running}
-use Rattle.flash_laws.specs.declared.running.Running.TheVariants.{Awaits, Runs, Leaves, Closes as Ends}
+use Rattle.flash_laws.specs.declared.running.Running.TheVariants.{Leaves, Closes as Ends}
 use Rattle.flash_laws.proofs.Forms.{at, of as client}
 use Rattle.flash_laws.proofs.Client.Nearing.{is_scripts, wants-plain, told-plain}
 use Rattle.flash_laws.proofs.Run.Ends.{wants-text}
@@ -101,16 +101,14 @@ module _ (own : CallsServeTheirDomain) (m n : State) (order : IsOrderly m) (fd c
 -- ---- where one runs
 
 end-taken : (z : Running) → is_over z ≡ true → taken_of (after_run z) ≡ run_taken z
-end-taken Awaits over = absurd (cc (over))
-end-taken (Runs run s) over = absurd (cc (over))
 end-taken (Leaves d) over = refl
 end-taken Ends over = refl
+end-taken x over = absurd (cc (over))
 
 end-breaks : (z : Running) → is_over z ≡ true → breaks_off z ≡ is_dropping (after_run z)
-end-breaks Awaits over = absurd (cc (over))
-end-breaks (Runs run s) over = absurd (cc (over))
 end-breaks (Leaves d) over = refl
 end-breaks Ends over = refl
+end-breaks x over = absurd (cc (over))
 
 gone-taken : (x : Client) (y z : Running) (over : Bool) → is_over z ≡ over → taken_by (goes_on false over x y z) ≡ run_taken z
 gone-taken x y z true is = end-taken z is

@@ -26,11 +26,10 @@ pub all-more : (qs : List Answer) (q : Answer) → list_all (λ p. keeps p) qs �
 all-more qs q is k = list_all-append (λ p. keeps p) qs (q ∷ []) ∙ and_from (list_all (λ p. keeps p) qs) (keeps q && true) is (and_from (keeps q) true k refl)
 
 pub order-all : (qs : List Answer) → list_all (λ p. keeps p) qs ≡ true → last_may_close qs ≡ true
-order-all [] is = refl
-order-all (q ∷ []) is = refl
 order-all (q ∷ p ∷ qs) is =
     let both = and_parts (keeps q) (list_all (λ p. keeps p) (p ∷ qs)) is in
     and_from (keeps q) (last_may_close (p ∷ qs)) both.0 (order-all (p ∷ qs) both.1)
+order-all x is = refl
 
 pub order-more : (qs : List Answer) (q : Answer) → list_all (λ p. keeps p) qs ≡ true
     → last_may_close (qs ++ q ∷ []) ≡ true
@@ -70,6 +69,5 @@ module _ (laws : WindowLaws) where
   reads-append s t (q ∷ qs) rest is = (is.0 ++ t, next-append s t q is.0 is.1, reads-append is.0 t qs rest is.2)
 
 pub last-more : (qs : List Answer) (q : Answer) → keeps q ≡ false → last_closes (qs ++ q ∷ []) ≡ true
-last-more [] q is = ap not is
-last-more (p ∷ []) q is = ap not is
 last-more (p ∷ r ∷ qs) q is = last-more (r ∷ qs) q is
+last-more x q is = ap not is

@@ -69,8 +69,6 @@ module _ (steps : EachStepLeavesTheRest) (own : CallsServeTheirDomain) (m n : St
     where
       done : (q : Answer) (k : Learnt) → HasLearnt m q due k → ((a : ℕ) (l : List ℕ)
           → lent_at m server a ≡ Some l → lent_at n server a ≡ Some l) → Has n q due (settled q k)
-      done (serve w) (Length len) h lends = h
-      done (refuse status head_only close) (Length len) h lends = h
       done (serve w) (Fails status) h lends = h
       done (refuse status head_only close) (Fails was) h lends = h
       done (serve w) (TextOf a true) h lends = ((h.0.0, lends a h.0.0 h.0.1), refl, h.1)
@@ -87,6 +85,7 @@ module _ (steps : EachStepLeavesTheRest) (own : CallsServeTheirDomain) (m n : St
               let in_file : LiesWithin len (Bytes first last) = subst (λ (z : Selection). LiesWithin len z) is within in
               record { bytes = h.bytes; lends = lends a h.bytes h.lends; some = (let le = in_file.0 in omega (arith, le)); count = length-part h.bytes first last in_file.0 (subst (λ z. last < z) h.count in_file.1); due_is = sent-whole w a len due h (Bytes first last) is }
           cut Unsatisfiable is within = ((h.bytes, lends a h.bytes h.lends), refl, sent-whole w a len due h Unsatisfiable is ∙ ap (λ b. file_text w len ++ body_unless b unsatisfiable) (sym h.whole))
+      done x (Length len) h lends = h
 
       by : (r : Reply) → o.Closes m server g r n → StepsTo m (event.Call server (call.Close g)) r n
           → Has n q due (told_shuts q g k r)

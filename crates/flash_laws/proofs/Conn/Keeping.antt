@@ -23,7 +23,7 @@ use Rattle.iol_laws.specs.CallerFiles.{FileCallsServeTheirDomain}
 use Rattle.iol_laws.specs.CallerFiles as of
 use Rattle.iol_laws.specs.Order.{IsOrderly}
 use Rattle.flash_http.specs.declared.ranges.Selection.{Selection}
-use Rattle.flash_http.specs.declared.ranges.Selection.TheVariants.{Whole, Bytes, Unsatisfiable}
+use Rattle.flash_http.specs.declared.ranges.Selection.TheVariants.{Unsatisfiable}
 use Rattle.flash_http.specs.Range.{selected}
 use Rattle.flash_http.specs.Request.{Answer, serve, refuse}
 use Rattle.flash_laws.specs.Answers.{response}
@@ -53,14 +53,12 @@ settled-uses : (q : Answer) (k : Learnt) (a : ℕ) → learnt_agg k a ≡ true �
 settled-uses (serve w) (File b len) a u = by (selected w.range len)
   where
     by : (sel : Selection) → uses_agg (sends_of sel b len) a ≡ true
-    by Whole = u
-    by (Bytes first last) = u
     by Unsatisfiable = former_of (b == a) false u
+    by x = u
 settled-uses (refuse status head_only close) (File b len) a u = u
 settled-uses q (Length len) a u = absurd (cc (u))
 settled-uses q (Fails status) a u = absurd (cc (u))
-settled-uses (serve w) (TextOf b runs) a u = former_of (b == a) (content_agg (put_out runs) a) u
-settled-uses (refuse status head_only close) (TextOf b runs) a u = former_of (b == a) (content_agg (put_out runs) a) u
+settled-uses x (TextOf b runs) a u = former_of (b == a) (content_agg (put_out runs) a) u
 
 following-uses : (k : Content) (a : ℕ) → content_agg k a ≡ true → has_followed (following k) a ≡ true
 following-uses (Body b size len) a u = u
@@ -167,6 +165,12 @@ headed-first n size (Some x) a is = by (nat_le (size + x.1) MAX_AGGREGATE_BYTES)
     by true = former_of (n == a) (x.0 == a) is
     by false = former_of (n == a) (x.0 == a) is
 
+-- whether a reply names aggregates
+abbrev names_some : Reply → Bool
+names_some (reply.Agg x) = true
+names_some (reply.Aggs x y) = true
+names_some r = false
+
 module _ (come : AggregatesComeAndGo) (own : CallsServeTheirDomain) (m n : State) (order : IsOrderly m)
     (a : ℕ) (bytes : List ℕ) (before : lent_at m server a ≡ None) (after : lent_at n server a ≡ Some bytes) where
   -- the reply names what comes
@@ -177,33 +181,33 @@ module _ (come : AggregatesComeAndGo) (own : CallsServeTheirDomain) (m n : State
       by true is = is
       by false is = (let none = come.none m n e r server a step before is in absurd (cc (none, after)))
 
-  -- to drop an aggregate brings none
+  -- nothing comes by a reply that names no aggregate
+  pub unnamed : (k : Call) (Word : Reply → Type 0) (r : Reply) → StepsTo m (event.Call server k) r n → Word r
+      → ((x : ℕ) → Word (reply.Agg x) → ⊥) → ((x y : ℕ) → Word (reply.Aggs x y) → ⊥) → ⊥
+  unnamed k Word r step did no_agg no_aggs = by r did (named-so k r (named (event.Call server k) r step))
+    where
+      named-so : (k : Call) (r : Reply) → brings (event.Call server k) r server a ≡ true → names_some r ≡ true
+      named-so (call.AggGive b to) (reply.Agg x) is = refl
+      named-so k (reply.Agg x) is = refl
+      named-so k (reply.Aggs x y) is = refl
+      named-so k r is = absurd (cc (is))
+
+      by : (r : Reply) → Word r → names_some r ≡ true → ⊥
+      by (reply.Agg x) did is = no_agg x did
+      by (reply.Aggs x y) did is = no_aggs x y did
+      by r did is = cc (is)
+
+  -- so to drop an aggregate brings none, nor does it to close, or to write
   pub dropped : (b : ℕ) (r : Reply) → StepsTo m (event.Call server (call.AggDrop b)) r n → ⊥
-  dropped b r step = by r (own.drops m n server b r order step) (named (event.Call server (call.AggDrop b)) r step)
-    where
-      by : (r : Reply) → o.Drops m server b r n → brings (event.Call server (call.AggDrop b)) r server a ≡ true → ⊥
-      by reply.Done did is = cc (is)
-      by (reply.Refused x) did is = cc (is)
-      by r did is = did
+  dropped b r step = unnamed (call.AggDrop b) (λ x. o.Drops m server b x n) r step (own.drops m n server b r order step) (λ x bad. bad) (λ x y bad. bad)
 
-  -- nor does it to close
   pub closed : (g : ℕ) (r : Reply) → StepsTo m (event.Call server (call.Close g)) r n → ⊥
-  closed g r step = by r (own.closes m n server g r step) (named (event.Call server (call.Close g)) r step)
-    where
-      by : (r : Reply) → o.Closes m server g r n → brings (event.Call server (call.Close g)) r server a ≡ true → ⊥
-      by reply.Done did is = cc (is)
-      by (reply.Refused x) did is = cc (is)
-      by r did is = did
+  closed g r step = unnamed (call.Close g) (λ x. o.Closes m server g x n) r step (own.closes m n server g r step) (λ x bad. bad) (λ x y bad. bad)
 
-  -- nor to write
   pub written : (fd c b : ℕ) (sent : List ℕ) (r : Reply) → descriptor m server fd ≡ Some (on.Connection c)
       → lent_at m server b ≡ Some sent → StepsTo m (event.Call server (call.IolWrite fd b)) r n → ⊥
-  written fd c b sent r open_on lends step = by r (own.write_conn m n server fd c b sent r order open_on lends step) (named (event.Call server (call.IolWrite fd b)) r step)
-    where
-      by : (r : Reply) → o.WritesConn m c sent r n → brings (event.Call server (call.IolWrite fd b)) r server a ≡ true → ⊥
-      by (reply.Count k) did is = cc (is)
-      by (reply.Refused x) did is = cc (is)
-      by r did is = did
+  written fd c b sent r open_on lends step =
+      unnamed (call.IolWrite fd b) (λ x. o.WritesConn m c sent x n) r step (own.write_conn m n server fd c b sent r order open_on lends step) (λ x bad. bad) (λ x y bad. bad)
 
   -- what is made is named by the reply
   pub made : (k : Call) (it : List ℕ) (uses : Reply → Bool) (r : Reply) → StepsTo m (event.Call server k) r n → o.Makes m server it r n

@@ -17,11 +17,11 @@ use Rattle.iol_laws.specs.Frame.{EachStepLeavesTheRest}
 use Rattle.flash_http.specs.Request.{Answer, serve, refuse}
 use Rattle.flash_laws.specs.Conn.{Following, has_followed, learnt_agg, content_agg, uses_agg, uses_fd, piece_end, text_of}
 use Rattle.flash_laws.specs.declared.doing.Learnt.{Learnt}
-use Rattle.flash_laws.specs.declared.doing.Learnt.TheVariants.{File, Length, Fails, Text as TextOf}
+use Rattle.flash_laws.specs.declared.doing.Learnt.TheVariants.{File, Text as TextOf}
 use Rattle.flash_laws.specs.declared.doing.Content.{Content}
 use Rattle.flash_laws.specs.declared.doing.Content.TheVariants.{Body}
 use Rattle.flash_laws.specs.declared.doing.Doing.{Doing}
-use Rattle.flash_laws.specs.declared.doing.Doing.TheVariants.{Rests, Got, Opens, Reads as Reading, Shuts, Picks, Spares, Heads, Joins, Sends, Cuts, Offers, Swaps, Sent, Breaks, Drops, Closes, Over}
+use Rattle.flash_laws.specs.declared.doing.Doing.TheVariants.{Got, Opens, Reads as Reading, Shuts, Picks, Spares, Heads, Joins, Sends, Cuts, Offers, Swaps, Sent, Breaks, Drops, Over}
 use Rattle.flash_laws.specs.Conn.Fits.{IsLent, LendsMore, HoldsRest, HoldsRestFrom, HoldsUnsent, HasLearnt, HasContent, Has}
 use Rattle.flash_laws.specs.Site.{server}
 use Rattle.flash_laws.proofs.Lists.{not-equal, self, first_of, later_of}
@@ -83,9 +83,8 @@ learnt-on : (m n : State) (q : Answer) (due : List ℕ) (k : Learnt) → ((a : �
     → HasLearnt m q due k → HasLearnt n q due k
 learnt-on m n (serve w) due (File a len) lends h = record { bytes = h.bytes; lends = lends a h.bytes (self a) h.lends; count = h.count; whole = h.whole; due_is = h.due_is }
 learnt-on m n (refuse status head_only close) due (File a len) lends h = h
-learnt-on m n q due (Length len) lends h = h
-learnt-on m n q due (Fails status) lends h = h
 learnt-on m n q due (TextOf a runs) lends h = (lent-on m n a (λ l is. lends a l (self a) is) h.0, h.1)
+learnt-on m n q due x lends h = h
 
 pub content-on : (m n : State) (q : Answer) (due : List ℕ) (k : Content) → ((a : ℕ) (bytes : List ℕ)
     → content_agg k a ≡ true → lent_at m server a ≡ Some bytes → lent_at n server a ≡ Some bytes)
@@ -112,7 +111,6 @@ unsent-on m n a more lends follows h = record { after = h.after; lent = lent-on 
 
 pub has-stays : (m n : State) (q : Answer) (due : List ℕ) (d : Doing) → LendsOn m n d → OpensOn m n d
     → Has m q due d → Has n q due d
-has-stays m n q due Rests lends opens has = tt
 has-stays m n q due (Got a) lends opens has = lent-on m n a (λ l is. lends a l (self a) is) has
 has-stays m n q due Opens lends opens has = has
 has-stays m n q due (Reading f) lends opens has = (has.0, (has.1.0, has.1.1, opens f (on.File has.1.0 has.1.1 modes.Read) (self f) has.1.2))
@@ -141,5 +139,5 @@ has-stays m n q due (Breaks piece a more) lends opens has = (
   unsent-on m n a more (λ l is. lends a l (later_of (piece == a) ((a == a) || has_followed more a) (first_of a (has_followed more a))) is) (λ b l u is. lends b l (later_of (piece == b) ((a == b) || has_followed more b) (later_of (a == b) (has_followed more b) u)) is) has.2,
 )
 has-stays m n q due (Drops a more) lends opens has = unsent-on m n a more (λ l is. lends a l (first_of a (has_followed more a)) is) (λ b l u is. lends b l (later_of (a == b) (has_followed more b) u) is) has
-has-stays m n q due Closes lends opens has = tt
 has-stays m n q due Over lends opens has = has
+has-stays m n q due x lends opens has = tt

@@ -10,7 +10,7 @@ use Rattle.iol_core.specs.declared.events.Event.TheVariants as event
 use Rattle.iol_core.specs.declared.events.Reply.{Reply}
 use Rattle.iol_core.specs.declared.events.Reply.TheVariants as reply
 use Rattle.flash_http.specs.declared.ranges.Selection.{Selection}
-use Rattle.flash_http.specs.declared.ranges.Selection.TheVariants.{Whole, Bytes, Unsatisfiable}
+use Rattle.flash_http.specs.declared.ranges.Selection.TheVariants.{Bytes}
 use Rattle.flash_http.specs.Range.{selected}
 use Rattle.flash_http.specs.Request.{Answer, serve, refuse}
 use Rattle.flash_laws.specs.Answers.{keeps}
@@ -21,7 +21,7 @@ use Rattle.flash_laws.specs.Site.{server}
 use Rattle.flash_laws.specs.declared.doing.Learnt.{Learnt}
 use Rattle.flash_laws.specs.declared.doing.Learnt.TheVariants.{File}
 use Rattle.flash_laws.specs.declared.doing.Doing.{Doing}
-use Rattle.flash_laws.specs.declared.doing.Doing.TheVariants.{Rests, Got, Opens, Reads as Reading, Shuts, Picks, Spares, Heads, Joins, Sends, Cuts, Offers, Swaps, Sent, Breaks, Drops, Closes, Over}
+use Rattle.flash_laws.specs.declared.doing.Doing.TheVariants.{Rests, Got, Opens, Reads as Reading, Shuts, Picks, Spares, Heads, Joins, Sends, Cuts, Offers, Swaps, Sent, Breaks, Drops, Closes}
 use Rattle.flash_laws.proofs.Forms.{at}
 use Rattle.flash_laws.proofs.Lists.{self}
 use Rattle.flash_laws.proofs.Conn.Repeats.{either, drops, closes, makes, cuts, joins, reads, writes, opens, lengths}
@@ -34,12 +34,10 @@ settled-not : (q : Answer) (f : ℕ) (k : Learnt) → settled q k ≡ Shuts f k 
 settled-not (serve w) f (File a len) same = by (selected w.range len) same
   where
     by : (sel : Selection) → sends_of sel a len ≡ Shuts f (File a len) → ⊥
-    by Whole same = cc (same)
     by (Bytes first last) same = cc (same)
-    by Unsatisfiable same = cc (same)
-settled-not (serve w) f k same = cc (same)
+    by x same = cc (same)
 settled-not (refuse status head_only close) f (File a len) same = cc (same)
-settled-not (refuse status head_only close) f k same = cc (same)
+settled-not x f k same = cc (same)
 
 headed-not : (n size : ℕ) (more : Following) (d : Doing) → ((a b c e : ℕ) → Joins a b c e ≡ d → ⊥) → ((a b c : ℕ) (f : Following) → Sends a b c f ≡ d → ⊥) → headed n size more ≡ d → ⊥
 headed-not n size None d joins sends same = sends n size 0 None same
@@ -84,8 +82,7 @@ module _ (m n : State) (fd : ℕ) (kept : List ℕ) (q : Answer) where
   moved (Sent b taken more) r heard going step same = drops m n (Sent b taken more) (λ z. told_sent q b taken more z) b r step (goes_on-not q b taken more) same
   moved (Breaks piece b more) r heard going step same = drops m n (Breaks piece b more) (λ z. told_breaks piece b more z) piece r step (λ e. cc (e)) same
   moved (Drops b more) r heard going step same = drops m n (Drops b more) (λ z. told_drops b more z) b r step (drops_next-not b more) same
-  moved Closes r heard going step same = absurd (cc (going))
-  moved Over r heard going step same = absurd (cc (going))
+  moved x r heard going step same = absurd (cc (going))
 
   -- a descriptor comes by opening a file alone
   came : (f : ℕ) (b : Bool) (g : ℕ) → StepsTo m (event.Call server (if b then call.Length f else call.IolRead f most_read)) (reply.Fd g) n → ⊥

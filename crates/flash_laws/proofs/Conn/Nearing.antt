@@ -24,7 +24,7 @@ use Rattle.iol_laws.specs.Order.{IsOrderly}
 use Rattle.iol_laws.specs.Reasons.{IsHidden, RefusalsTellWhy}
 use Rattle.iol_laws.specs.RefusalsLeft.{RefusalsThatAreLeft, LacksNumbers, LacksNumbersOrRoom, LacksNumbersOrHasNothingToRead, CannotPut}
 use Rattle.flash_http.specs.declared.ranges.Selection.{Selection}
-use Rattle.flash_http.specs.declared.ranges.Selection.TheVariants.{Whole, Bytes, Unsatisfiable}
+use Rattle.flash_http.specs.declared.ranges.Selection.TheVariants.{Bytes}
 use Rattle.flash_http.specs.Range.{selected}
 use Rattle.flash_http.specs.Request.{Answer, serve, refuse}
 use Rattle.flash_laws.specs.Answers.{keeps}
@@ -34,7 +34,7 @@ use Rattle.flash_laws.specs.Conn.Nearing.{Rank, IsBelow, Nears, HasPlaceFor, Can
 use Rattle.flash_laws.specs.Conn.Policy.{is_later}
 use Rattle.flash_laws.specs.Site.{server}
 use Rattle.flash_laws.specs.declared.doing.Learnt.{Learnt}
-use Rattle.flash_laws.specs.declared.doing.Learnt.TheVariants.{File, Length}
+use Rattle.flash_laws.specs.declared.doing.Learnt.TheVariants.{File}
 use Rattle.flash_laws.specs.declared.doing.Content.{Content}
 use Rattle.flash_laws.specs.declared.doing.Content.TheVariants.{Body}
 use Rattle.flash_laws.specs.declared.doing.Doing.{Doing}
@@ -220,9 +220,8 @@ settled-near : (q : Answer) (f : ℕ) (k : Learnt) → IsBelow (rank q (settled 
 settled-near (serve w) f (File a len) = by (selected w.range len)
   where
     by : (sel : Selection) → IsBelow (rank (serve w) (sends_of sel a len)) (0, ready (serve w) (sends_of sel a len) + 1)
-    by Whole = inr (refl, omega arith)
     by (Bytes first last) = inr (refl, omega arith)
-    by Unsatisfiable = inr (refl, omega arith)
+    by x = inr (refl, omega arith)
 settled-near (refuse status head_only close) f (File a len) = inr (refl, omega arith)
 settled-near q f k = inr (refl, omega arith)
 

@@ -24,9 +24,9 @@ use Rattle.iol_laws.specs.RefusalsLeft.{RefusalsThatAreLeft}
 use Rattle.flash_http.specs.Range.{selected}
 use Rattle.flash_http.specs.Request.{Answer, serve, refuse, Wanted}
 use Rattle.flash_laws.specs.Answers.{Outcome, Found, Failed, body_unless, chosen, file_text, unsatisfiable, response}
-use Rattle.flash_laws.specs.Conn.{Conn, is_head_only, most_read, piece_end, name_of, wants, begins, status_of, told_rests, told}
+use Rattle.flash_laws.specs.Conn.{is_head_only, most_read, piece_end, name_of, wants, begins, status_of, told_rests, told}
 use Rattle.flash_laws.specs.declared.doing.Doing.{Doing}
-use Rattle.flash_laws.specs.declared.doing.Doing.TheVariants.{Rests, Got, Opens, Reads as Reading, Shuts, Picks, Spares, Heads, Joins, Sends, Cuts, Offers, Swaps, Sent, Breaks, Drops, Closes, Over}
+use Rattle.flash_laws.specs.declared.doing.Doing.TheVariants.{Rests, Got, Opens, Reads as Reading, Shuts, Picks, Spares, Heads, Joins, Sends, Cuts, Offers, Swaps, Sent, Breaks, Drops}
 use Rattle.flash_laws.specs.Conn.Fits.{IsFile, Has, is_closing, Names}
 use Rattle.flash_laws.specs.Site.{server}
 use Rattle.flash_laws.specs.Conn.Offering.{HasAnswer, FirstCall, Learns, taken_of, IsNextOf, OffersTheResponse}
@@ -167,8 +167,7 @@ module _ (steps : EachStepLeavesTheRest) (own : CallsServeTheirDomain) (files : 
   replied fd c q (Sent x taken more) r heard before access open_on open_yet has step names = (before, refl, having.sent_all steps own m n order q x taken more (response q before) r has step)
   replied fd c q (Breaks piece x more) r heard before access open_on open_yet has step names = (before, refl, having.breaks steps own m n order q piece x more (response q before) r has step)
   replied fd c q (Drops x more) r heard before access open_on open_yet has step names = (before, refl, having.drops steps own m n order q x more (response q before) r has step)
-  replied fd c q Closes r heard before access open_on open_yet has step names = absurd (cc (open_yet))
-  replied fd c q Over r heard before access open_on open_yet has step names = absurd (cc (open_yet))
+  replied fd c q other r heard before access open_on open_yet has step names = absurd (cc (open_yet))
 
 -- where the response is sent all of it is taken
 whole : (m : State) (q : Answer) (due : List ℕ) (d : Doing) (a taken : ℕ) → d ≡ Sent a taken None → Has m q due d → drop taken due ≡ []

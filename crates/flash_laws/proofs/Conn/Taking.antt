@@ -18,17 +18,17 @@ use Rattle.iol_laws.specs.Reasons.{RefusalsTellWhy}
 use Rattle.iol_laws.specs.RefusalsLeft.{RefusalsThatAreLeft}
 use Rattle.iol_laws.proofs.Streams.Remaining.{closed-then}
 use Rattle.flash_http.specs.declared.ranges.Selection.{Selection}
-use Rattle.flash_http.specs.declared.ranges.Selection.TheVariants.{Whole, Bytes, Unsatisfiable}
+use Rattle.flash_http.specs.declared.ranges.Selection.TheVariants.{Bytes}
 use Rattle.flash_http.specs.Range.{selected}
 use Rattle.flash_http.specs.Request.{Answer, serve, refuse}
 use Rattle.flash_laws.specs.Answers.{keeps}
-use Rattle.flash_laws.specs.Conn.{Following, Conn, is_head_only, most_kept, most_read, piece_end, count_of, wants, sends_of, settled, following, headed, told_rests, told_sends, told_cuts, told_offers, told_swaps, told_sent, told}
+use Rattle.flash_laws.specs.Conn.{Following, is_head_only, most_kept, most_read, piece_end, count_of, wants, sends_of, settled, following, headed, told_rests, told_sends, told_cuts, told_offers, told_swaps, told_sent, told}
 use Rattle.flash_laws.specs.Conn.Fits.{Has}
 use Rattle.flash_laws.specs.Conn.Nearing.{is_busy}
 use Rattle.flash_laws.specs.Conn.Offering.{taken_of, newly_taken, is_dropping}
 use Rattle.flash_laws.specs.Site.{server}
 use Rattle.flash_laws.specs.declared.doing.Learnt.{Learnt}
-use Rattle.flash_laws.specs.declared.doing.Learnt.TheVariants.{File, Length}
+use Rattle.flash_laws.specs.declared.doing.Learnt.TheVariants.{File}
 use Rattle.flash_laws.specs.declared.doing.Doing.{Doing}
 use Rattle.flash_laws.specs.declared.doing.Doing.TheVariants.{Rests, Got, Opens, Reads as Reading, Shuts, Picks, Spares, Heads, Joins, Sends, Cuts, Offers, Swaps, Sent, Breaks, Drops, Closes, Over}
 use Rattle.flash_laws.proofs.Forms.{at}
@@ -57,9 +57,8 @@ settled-begun : (q : Answer) (k : Learnt) → IsBegun (settled q k)
 settled-begun (serve w) (File a len) = by (selected w.range len)
   where
     by : (sel : Selection) → IsBegun (sends_of sel a len)
-    by Whole = (refl, refl)
     by (Bytes first last) = (refl, refl)
-    by Unsatisfiable = (refl, refl)
+    by x = (refl, refl)
 settled-begun (refuse status head_only close) (File a len) = (refl, refl)
 settled-begun q k = (refl, refl)
 

@@ -14,7 +14,7 @@ use Rattle.iol_core.specs.declared.events.Event.TheVariants as event
 use Rattle.iol_core.specs.declared.events.Reply.{Reply}
 use Rattle.iol_core.specs.declared.events.Reply.TheVariants as reply
 use Rattle.flash_http.specs.declared.ranges.Selection.{Selection}
-use Rattle.flash_http.specs.declared.ranges.Selection.TheVariants.{Whole, Bytes, Unsatisfiable}
+use Rattle.flash_http.specs.declared.ranges.Selection.TheVariants.{Bytes, Unsatisfiable}
 use Rattle.flash_http.specs.Range.{selected}
 use Rattle.flash_http.specs.Request.{Answer, serve, refuse}
 use Rattle.flash_laws.specs.Answers.{keeps}
@@ -79,9 +79,8 @@ uses-settled : (q : Answer) (g : ℕ) (k : Learnt) (a : ℕ) → uses_agg (settl
 uses-settled (serve w) g (File b len) a u = by (selected w.range len) u
   where
     by : (sel : Selection) → uses_agg (sends_of sel b len) a ≡ true → (b == a) ≡ true
-    by Whole u = u
-    by (Bytes first last) u = u
     by Unsatisfiable u = bare (b == a) u
+    by x u = u
 uses-settled (refuse status head_only close) g (File b len) a u = u
 uses-settled (serve w) g (Length len) a u = absurd (cc)
 uses-settled (refuse status head_only close) g (Length len) a u = absurd (cc)
@@ -173,9 +172,8 @@ no_fd-settled : (q : Answer) (k : Learnt) (g : ℕ) → uses_fd (settled q k) g 
 no_fd-settled (serve w) (File b len) g = by (selected w.range len)
   where
     by : (sel : Selection) → uses_fd (sends_of sel b len) g ≡ false
-    by Whole = refl
     by (Bytes first last) = refl
-    by Unsatisfiable = refl
+    by x = refl
 no_fd-settled (refuse status head_only close) (File b len) g = refl
 no_fd-settled q k g = refl
 
@@ -263,9 +261,8 @@ at-learnt : (m : State) (q : Answer) (due : List ℕ) (k : Learnt) (a : ℕ) →
     → HasLearnt m q due k → IsLent m a
 at-learnt m (serve w) due (File b len) a u h = at-number m b a u h.bytes h.lends
 at-learnt m (refuse status head_only close) due (File b len) a u h = absurd h
-at-learnt m q due (Length len) a u h = absurd (cc)
-at-learnt m q due (Fails status) a u h = absurd (cc)
 at-learnt m q due (TextOf b runs) a u h = at-number m b a u h.0.0 h.0.1
+at-learnt m q due x a u h = absurd (cc)
 
 two : (m : State) (b : ℕ) (rest : Bool) (a : ℕ) → ((b == a) || rest) ≡ true → (bytes : List ℕ)
     → lent_at m server b ≡ Some bytes → (rest ≡ true → IsLent m a) → IsLent m a

@@ -1,6 +1,6 @@
 -- What a call brings a run is used by it.
 use Rattle.std.proofs.Common.{◌≡◌, ℕ, ◌+◌, ◌-◌, ◌==◌, List, [], ◌∷◌, ◌++◌, Option, Some, None, true, false, take, drop}
-use Rattle.std.specs.Prelude.{◌||◌, not, slice_range}
+use Rattle.std.specs.Prelude.{◌||◌, slice_range}
 use Rattle.iol_core.specs.State.{State, descriptor}
 use Rattle.iol_core.specs.Run.{StepsTo}
 use Rattle.iol_core.specs.declared.descriptors.Descriptor.TheVariants as on
@@ -29,7 +29,7 @@ use Rattle.flash_laws.specs.declared.doing.Doing.TheVariants as doing
 use Rattle.flash_laws.specs.declared.running.TheConstants.{CHUNK_BYTES}
 use Rattle.flash_laws.specs.declared.running.Run.{Run}
 use Rattle.flash_laws.specs.declared.running.Step.{Step}
-use Rattle.flash_laws.specs.declared.running.Step.TheVariants.{Gives, Makes, Hands, Lets, Heads, Sending, Hears, Spills, Gathers, Frames, Wraps, Trims, Ended, Unholds, Stops, Unframes, Lasts, WrapsLast, TrimsLast, Unwraps, Returns, Lapses, Fails}
+use Rattle.flash_laws.specs.declared.running.Step.TheVariants.{Gives, Makes, Hands, Lets, Heads, Sending, Hears, Spills, Gathers, Frames, Wraps, Trims, Ended, Unholds, Unframes, Lasts, WrapsLast, TrimsLast, Unwraps, Returns, Lapses}
 use Rattle.flash_laws.specs.declared.running.Running.{Running}
 use Rattle.flash_laws.specs.declared.running.Running.TheVariants.{Awaits, Runs, Leaves, Closes}
 use Rattle.flash_laws.proofs.Conn.Keeping as keeping
@@ -58,28 +58,15 @@ module _ (come : AggregatesComeAndGo) (own : CallsServeTheirDomain) (m n : State
 
   handed : (fd p b : ℕ) (sent : List ℕ) (r : Reply) → descriptor m server fd ≡ Some (on.WriteEnd p)
       → lent_at m server b ≡ Some sent → StepsTo m (event.Call server (call.IolWrite fd b)) r n → ⊥
-  handed fd p b sent r open_on lends step = by r (own.write_pipe m n server fd p b sent r order open_on lends step) (named (event.Call server (call.IolWrite fd b)) r step)
-    where
-      by : (r : Reply) → caller.WritesPipe m p sent r n → brings (event.Call server (call.IolWrite fd b)) r server a ≡ true → ⊥
-      by (reply.Count k) did is = cc (is)
-      by (reply.Refused x) did is = cc (is)
-      by r did is = did
+  handed fd p b sent r open_on lends step =
+      keeping.unnamed come own m n order a bytes before after (call.IolWrite fd b) (λ x. caller.WritesPipe m p sent x n) r step (own.write_pipe m n server fd p b sent r order open_on lends step) (λ x bad. bad) (λ x y bad. bad)
 
   piped : (r : Reply) → StepsTo m (event.Call server call.Pipe) r n → ⊥
-  piped r step = by r (own.makes_pipe m n server r step) (named (event.Call server call.Pipe) r step)
-    where
-      by : (r : Reply) → caller.MakesPipe m server r n → brings (event.Call server call.Pipe) r server a ≡ true → ⊥
-      by (reply.Fds g h) did is = cc (is)
-      by (reply.Refused x) did is = cc (is)
-      by r did is = did
+  piped r step = keeping.unnamed come own m n order a bytes before after call.Pipe (λ x. caller.MakesPipe m server x n) r step (own.makes_pipe m n server r step) (λ x bad. bad) (λ x y bad. bad)
 
   given : (g to p : ℕ) (r : Reply) → descriptor m server g ≡ Some (on.WriteEnd p) → StepsTo m (event.Call server (call.GiveFd g to)) r n → ⊥
-  given g to p r open_on step = by r (own.gives_fd m n server g to (on.WriteEnd p) r open_on step) (named (event.Call server (call.GiveFd g to)) r step)
-    where
-      by : (r : Reply) → caller.GivesFd m server g to (on.WriteEnd p) r n → brings (event.Call server (call.GiveFd g to)) r server a ≡ true → ⊥
-      by (reply.Fd f) did is = cc (is)
-      by (reply.Refused x) did is = cc (is)
-      by r did is = did
+  given g to p r open_on step =
+      keeping.unnamed come own m n order a bytes before after (call.GiveFd g to) (λ x. caller.GivesFd m server g to (on.WriteEnd p) x n) r step (own.gives_fd m n server g to (on.WriteEnd p) r open_on step) (λ x bad. bad) (λ x y bad. bad)
 
   -- what is made is named by the reply
   made : (k : Call) (it : List ℕ) (y : Reply → Running) (r : Reply) → StepsTo m (event.Call server k) r n → caller.Makes m server it r n
@@ -139,7 +126,6 @@ module _ (come : AggregatesComeAndGo) (own : CallsServeTheirDomain) (m n : State
     step-brings run (Trims held chunk len frame) r heard has step = absurd (dropped held r step)
     step-brings run (Ended b held frame) r heard has step = absurd (dropped b r step)
     step-brings run (Unholds held frame) r heard has step = absurd (dropped held r step)
-    step-brings run (Stops held frame) r heard has step = absurd (shuts run.from r step)
     step-brings run (Unframes f held) r heard has step = absurd (dropped f r step)
     step-brings run (Lasts held) r heard has step = made (call.AggMake (end_around held)) (end_around held) (λ k. told_step w run (Lasts held) k heard) r step (own.make m n server (end_around held) r order step) (λ x is. is) (λ x is. cc (is))
         (λ x is. ending-new run held x (count_of heard) is)
@@ -150,7 +136,7 @@ module _ (come : AggregatesComeAndGo) (own : CallsServeTheirDomain) (m n : State
     step-brings run (Unwraps frame chunk len) r heard has step = absurd (dropped frame r step)
     step-brings run (Returns write) r heard has step = absurd (shuts write r step)
     step-brings run (Lapses j) r heard has step = absurd (dropped j r step)
-    step-brings run Fails r heard has step = absurd (shuts run.from r step)
+    step-brings run x r heard has step = absurd (shuts run.from r step)
 
     left-brings : (due : List ℕ) (d : Doing) (r : Reply) (heard : List ℕ) → is_left d ≡ true → Has m (serve w) due d
         → StepsTo m (event.Call server (conn.wants fd (in_phase w d))) r n → conn.uses_agg (conn.told (in_phase w d) r heard).doing a ≡ true

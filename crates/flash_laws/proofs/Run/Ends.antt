@@ -1,6 +1,6 @@
 -- How a run ends, and until when it keeps the text of its script.
 use Rattle.std.proofs.Common.{inl, inr, ◌≡◌, ℕ, ◌⊎◌, List, [], ◌∷◌, ap, refl, sym, subst, Option, Some, None, true, false, Bool, if◌then◌else◌}
-use Rattle.std.specs.Prelude.{nat_lt, not}
+use Rattle.std.specs.Prelude.{nat_lt}
 use Rattle.iol_core.specs.declared.refusals.Refusal.TheVariants as no
 use Rattle.iol_core.specs.declared.events.Reply.{Reply}
 use Rattle.iol_core.specs.declared.events.Reply.TheVariants as reply
@@ -9,7 +9,7 @@ use Rattle.flash_laws.specs.Client.{job_of, keeps_text, after_run}
 use Rattle.flash_laws.specs.Conn.{Following, count_of}
 use Rattle.iol_core.specs.State.{State}
 use Rattle.flash_laws.specs.Client.Known.{IsTaken, IsAfter}
-use Rattle.flash_laws.specs.Run.Fits.{Progress, Ran, Broken, NotRun, IsLeft, HasNone, HasLeft, HasRun}
+use Rattle.flash_laws.specs.Run.Fits.{Progress, Broken, IsLeft, HasNone, HasLeft, HasRun}
 use Rattle.flash_laws.specs.Run.{is_again, is_left, is_over, wants, told, told_step, holding, hearing, filled, finishing, both}
 use Rattle.flash_laws.specs.declared.doing.Doing.{Doing}
 use Rattle.flash_laws.specs.declared.doing.Doing.TheVariants as doing
@@ -41,22 +41,19 @@ left-ends m w o (doing.Drops a more) has over = absurd (cc (over))
 left-ends m w o d has over = absurd has.sends.0
 
 pub run-ends : (job : ℕ → List ℕ) (m : State) (w : Wanted) (o : Progress) (z : Running) → HasRun job m w o z → is_over z ≡ true → IsEnd (after_run z)
-run-ends job m w o Awaits has over = absurd (cc (over))
-run-ends job m w o (Runs run s) has over = absurd (cc (over))
 run-ends job m w o (Leaves d) has over = left-ends m w o d has (not-true (is_left d) over)
 run-ends job m w o Closes has over = inr refl
+run-ends job m w o x has over = absurd (cc (over))
 
 -- ---- and all of the response was taken, or it was broken off
 
 pub all-taken : (w : Wanted) (o : Progress) → IsLeft w o [] → IsTaken w o
-all-taken w (Ran heard ended past) left = left
 all-taken w Broken left = absurd left
-all-taken w (NotRun status past) left = left
+all-taken w x left = left
 
 none-taken : (w : Wanted) (o : Progress) → HasNone w o → IsTaken w o
-none-taken w (Ran heard ended past) none = none.0
 none-taken w Broken none = tt
-none-taken w (NotRun status past) none = none.0
+none-taken w x none = none.0
 
 left-after : (m : State) (w : Wanted) (o : Progress) (d : Doing) → HasLeft m w o d → IsEnd d → IsAfter w o d
 left-after m w o d has ends = elim ends [
@@ -65,10 +62,9 @@ left-after m w o d has ends = elim ends [
 ]
 
 pub run-after : (job : ℕ → List ℕ) (m : State) (w : Wanted) (o : Progress) (z : Running) → HasRun job m w o z → is_over z ≡ true → IsAfter w o (after_run z)
-run-after job m w o Awaits has over = absurd (cc (over))
-run-after job m w o (Runs run s) has over = absurd (cc (over))
 run-after job m w o (Leaves d) has over = left-after m w o d has (left-ends m w o d has (not-true (is_left d) over))
 run-after job m w o Closes has over = none-taken w o has
+run-after job m w o x has over = absurd (cc (over))
 
 -- ---- the text is kept until the job is made
 
@@ -139,8 +135,7 @@ keeps-back worker w (Runs run s) r heard kept = by (keeps_text (Runs run s)) ref
     by : (b : Bool) → keeps_text (Runs run s) ≡ b → keeps_text (Runs run s) ≡ true
     by true is = is
     by false is = absurd (clash (keeps_text (told_step w run s r heard)) kept (step-forgets w run s r heard is))
-keeps-back worker w (Leaves d) r heard kept = absurd (cc (kept))
-keeps-back worker w Closes r heard kept = absurd (cc (kept))
+keeps-back worker w x r heard kept = absurd (cc (kept))
 
 -- no call but that for the job tells its text
 pub wants-text : (fd : ℕ) (w : Wanted) (y : Running) (script text : List ℕ) → (keeps_text y ≡ true → script ≡ text)

@@ -64,9 +64,8 @@ left-none w Broken due left = absurd left
 left-none w (NotRun status past) due left = left ∙ sym (append-nil (past ++ due))
 
 none-left : (w : Wanted) (o : Progress) → w.keep ≡ false → IsLeft w o [] → HasNone w o
-none-left w (Ran heard ended past) closes left = (left, inl closes)
 none-left w Broken closes left = absurd left
-none-left w (NotRun status past) closes left = (left, inl closes)
+none-left w x closes left = (left, inl closes)
 
 -- a part is sent as what is left is
 pub part-sends : (m : State) (due : List ℕ) (d : Doing) → IsPart m (sent_agg d) due → taken_of d ≤ length due → IsSending m due d

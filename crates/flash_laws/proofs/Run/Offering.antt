@@ -175,8 +175,7 @@ next-in m w (Ran heard ended past) a taken part bytes after goes within next len
         ∙ ap (λ (l : List ℕ). drop (length past + taken) l) (sym (may.2 ∙ (goes may.0 ∙ append_assoc past part (script_body w.chunked may.0)))))))),
   );
 }
-next-in m w Broken a taken part bytes after goes within next lends = absurd goes
-next-in m w (NotRun status past) a taken part bytes after goes within next lends = absurd goes
+next-in m w x a taken part bytes after goes within next lends = absurd goes
 
 -- what a phase of any response offers comes next in what is due
 offered : (m : State) (fd a : ℕ) (w : Wanted) (due : List ℕ) (d : Doing) → Has m (serve w) due d

@@ -6,7 +6,7 @@ use Rattle.iol_core.specs.Text.{Text, bytes_of, admitted}
 use Rattle.flash_http.specs.Chunk.{chunk_head, chunk_end, chunk, last_chunk}
 use Rattle.flash_http.specs.Request.{Wanted}
 use Rattle.flash_laws.specs.declared.running.TheConstants.{CHUNK_BYTES}
-use Rattle.flash_laws.specs.Run.Fits.{Progress, Ran, Broken, NotRun, HoldsBack, Continues, IsLeft, Goes, Ends}
+use Rattle.flash_laws.specs.Run.Fits.{Progress, Ran, Broken, HoldsBack, Continues, IsLeft, Goes, Ends}
 use Rattle.flash_laws.specs.Run.Offering.{hears_on}
 use Rattle.flash_laws.specs.Answers.Scripts.{script_body, script_response}
 use Rattle.flash_laws.proofs.Run.Pieces.{chunk_more, last_body}
@@ -63,8 +63,7 @@ pub hears-more : (w : Wanted) (o : Progress) (held : List ℕ) (b : ℕ) (new : 
 hears-more w (Ran heard ended past) held b new back = λ more.
     (ap (λ (l : List ℕ). script_response w l) (append_assoc heard (b ∷ new) more) ∙ (back ((b ∷ new) ++ more)
     ∙ ap (λ (l : List ℕ). past ++ script_body w.chunked l) (sym (append_assoc held (b ∷ new) more))))
-hears-more w Broken held b new back = absurd back
-hears-more w (NotRun status past) held b new back = absurd back
+hears-more w x held b new back = absurd back
 
 -- the end was seen: only what is held is left
 pub hears-end : (b : Bool) (w : Wanted) (o : Progress) (held : List ℕ) → Goes b w o held → Ends b w (hears_on o []) held
@@ -73,15 +72,13 @@ hears-end false w (Ran heard ended past) held back = (
   refl,
   (ap (λ (l : List ℕ). script_response w l) (sym (append-nil heard)) ∙ (back [] ∙ ap (λ (l : List ℕ). past ++ script_body w.chunked l) (append-nil held))),
 )
-hears-end false w Broken held back = absurd back
-hears-end false w (NotRun status past) held back = absurd back
+hears-end false w x held back = absurd back
 
 -- what is held makes a part of the response
 part-of : (w : Wanted) (o : Progress) (part held : List ℕ) → ((more : List ℕ) → script_body w.chunked (held ++ more) ≡ part ++ script_body w.chunked more)
     → HoldsBack w o held → Continues w o part []
 part-of w (Ran heard ended past) part held makes back = λ more. (back more ∙ (ap (λ (l : List ℕ). past ++ l) (makes more) ∙ sym (append_assoc past part (script_body w.chunked more))))
-part-of w Broken part held makes back = absurd back
-part-of w (NotRun status past) part held makes back = absurd back
+part-of w x part held makes back = absurd back
 
 -- without chunks its own bytes
 pub plain-part : (w : Wanted) (o : Progress) (held : List ℕ) → w.chunked ≡ false → HoldsBack w o held → Continues w o held []

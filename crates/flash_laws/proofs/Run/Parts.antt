@@ -22,7 +22,7 @@ use Rattle.iol_laws.specs.Caller.{CallsServeTheirDomain, lent_at}
 use Rattle.flash_http.specs.Request.{Wanted}
 use Rattle.flash_laws.specs.Conn as conn
 use Rattle.flash_laws.specs.Conn.{piece_end}
-use Rattle.flash_laws.specs.Run.Fits.{Progress, Ran, Broken, NotRun, HoldsBack, Continues, Goes, HasFrame, HasHeard, sends_frame, HasPart}
+use Rattle.flash_laws.specs.Run.Fits.{Progress, Ran, HoldsBack, Continues, Goes, HasFrame, HasHeard, sends_frame, HasPart}
 use Rattle.flash_laws.specs.Run.Offering.{takes_on}
 use Rattle.flash_laws.specs.Run.{has_frame}
 use Rattle.flash_laws.specs.Answers.Scripts.{frame_of}
@@ -68,8 +68,7 @@ with-piece m piece d e (Some f) both new apart = both f (turned f piece new) apa
 
 pub continued : (w : Wanted) (o : Progress) (part held : List ℕ) → Continues w o part held → HoldsBack w (takes_on o part) held
 continued w (Ran heard ended past) part held is = is
-continued w Broken part held is = absurd is
-continued w (NotRun status past) part held is = absurd is
+continued w x part held is = absurd is
 
 pub goes-on : (b : Bool) (w : Wanted) (o : Progress) (held : List ℕ) → b ≡ false → HoldsBack w o held → Goes b w o held
 goes-on true w o held is back = absurd (cc (is))

@@ -24,9 +24,9 @@ use Rattle.flash_laws.specs.declared.doing.Doing.TheVariants as doing
 use Rattle.flash_laws.specs.declared.running.TheConstants.{CHUNK_BYTES}
 use Rattle.flash_laws.specs.declared.running.Run.{Run}
 use Rattle.flash_laws.specs.declared.running.Step.{Step}
-use Rattle.flash_laws.specs.declared.running.Step.TheVariants.{Gives, Hands, Lets, Heads, Sending, Hears, Spills, Gathers, Frames, Wraps, Trims, Ended, Unholds, Stops, Unframes, Lasts, WrapsLast, TrimsLast, Unwraps, Returns, Lapses}
+use Rattle.flash_laws.specs.declared.running.Step.TheVariants.{Gives, Hands, Lets, Sending, Hears, Spills, Gathers, Frames, Wraps, Trims, Ended, Unholds, Stops, Unframes, Lasts, WrapsLast, TrimsLast, Unwraps, Returns, Lapses}
 use Rattle.flash_laws.specs.declared.running.Running.{Running}
-use Rattle.flash_laws.specs.declared.running.Running.TheVariants.{Awaits, Runs, Leaves, Closes}
+use Rattle.flash_laws.specs.declared.running.Running.TheVariants.{Runs, Leaves}
 use Rattle.flash_laws.proofs.Conn.Answering.{some-inj}
 use Rattle.flash_laws.proofs.Conn.Lent.{lent-stays, lent-on, has-stays}
 use Rattle.flash_laws.proofs.Lists.{not-equal, turned, self, first_of, later_of, amid, bare, former_of, swapped}
@@ -246,7 +246,6 @@ module _ (m n : State) where
 pub run_stays : (steps : EachStepLeavesTheRest) (job : ℕ → List ℕ) (m n : State) (w : Wanted) (x : Running) (e : Event) (r : Reply) (o : Progress) → StepsTo m e r n
     → ((a : ℕ) → uses_agg x a ≡ true → gives_up e server a ≡ false)
     → ((g : ℕ) → uses_fd x g ≡ true → touches_fd m e server g ≡ false) → HasRun job m w o x → HasRun job n w o x
-run_stays steps job m n w Awaits e r o step un still has = has
 run_stays steps job m n w (Runs run doing) e r o step un still has =
     let opens : (g : ℕ) (x : Descriptor) → uses_fd (Runs run doing) g ≡ true → descriptor m server g ≡ Some x → descriptor n server g ≡ Some x
     = λ g x u is. (steps.leaves m n e r step).fds server g x is (still g u) in (
@@ -254,4 +253,4 @@ run_stays steps job m n w (Runs run doing) e r o step un still has =
       step-on m n job w o run doing (λ a bytes u is. lent-stays steps m n e r step a bytes is (un a u)) opens has.1,
     )
 run_stays steps job m n w (Leaves d) e r o step un still has = left-on m n w o d (λ a bytes u is. lent-stays steps m n e r step a bytes is (un a u)) (λ g x u is. (steps.leaves m n e r step).fds server g x is (still g u)) has
-run_stays steps job m n w Closes e r o step un still has = has
+run_stays steps job m n w x e r o step un still has = has

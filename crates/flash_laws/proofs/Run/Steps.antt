@@ -1,6 +1,6 @@
 -- After the reply to its own call a run has what it needs: until its output ends.
 use Rattle.std.proofs.Common.{◌≡◌, ℕ, ◌+◌, ◌-◌, ◌==◌, ◌<◌, ◌≤◌, List, [], ◌∷◌, ◌++◌, length, take, drop, ap, ◌∙◌, refl, sym, subst, arith, Option, Some, None, true, false, Bool, append-nil, length-append, if◌then◌else◌}
-use Rattle.std.specs.Prelude.{◌||◌, not, nat_lt}
+use Rattle.std.specs.Prelude.{◌||◌, nat_lt}
 use Rattle.std.proofs.lemmas.Bool.{or_from}
 use Rattle.std.proofs.lemmas.Bool.Decides.{nat_tests}
 use Rattle.iol_core.specs.Text.{bytes_of}
@@ -34,7 +34,7 @@ use Rattle.flash_laws.specs.declared.running.Run.{Run}
 use Rattle.flash_laws.specs.declared.running.Step.{Step}
 use Rattle.flash_laws.specs.declared.running.Step.TheVariants.{Gives, Makes, Hands, Heads, Hears, Gathers, Frames, Wraps, Returns, Lapses}
 use Rattle.flash_laws.specs.declared.running.Running.{Running}
-use Rattle.flash_laws.specs.declared.running.Running.TheVariants.{Awaits, Runs, Leaves}
+use Rattle.flash_laws.specs.declared.running.Running.TheVariants.{Awaits, Runs}
 use Rattle.flash_laws.proofs.Conn.Answering.{some-inj}
 use Rattle.flash_laws.proofs.Counts.{counted, made-short}
 use Rattle.flash_laws.proofs.Conn.Lent.{lent-stays, new-other}

@@ -1,13 +1,11 @@
 -- After the reply to its own call a run has what it needs: at the end of its output, and where its script cannot be run.
-use Rattle.std.proofs.Common.{inr, ◌≡◌, ℕ, ◌+◌, ◌-◌, ◌==◌, ◌≤◌, List, [], ◌++◌, length, take, drop, ap, ◌∙◌, refl, sym, subst, arith, Option, Some, None, true, false, Bool}
+use Rattle.std.proofs.Common.{inr, ◌≡◌, ℕ, ◌==◌, ◌≤◌, List, [], ◌++◌, length, take, drop, ap, ◌∙◌, refl, sym, subst, arith, Option, Some, None, true, false, Bool}
 use Rattle.std.specs.Prelude.{not}
 use Rattle.std.proofs.lemmas.Bool.{or_from}
 use Rattle.std.proofs.lemmas.Bool.Decides.{nat_tests}
 use Rattle.iol_core.specs.State.{State}
 use Rattle.iol_core.specs.Run.{StepsTo}
 use Rattle.iol_core.specs.Values.{gives_up}
-use Rattle.iol_core.specs.declared.descriptors.Descriptor.TheVariants as on
-use Rattle.iol_core.specs.declared.refusals.Refusal.TheVariants as no
 use Rattle.iol_core.specs.declared.events.Call.{Call}
 use Rattle.iol_core.specs.declared.events.Call.TheVariants as call
 use Rattle.iol_core.specs.declared.events.Event.TheVariants as event
@@ -17,21 +15,21 @@ use Rattle.iol_laws.specs.Frame.{EachStepLeavesTheRest, touches_fd}
 use Rattle.iol_laws.specs.Order.{IsOrderly}
 use Rattle.iol_laws.specs.Caller as caller
 use Rattle.iol_laws.specs.Caller.{CallsServeTheirDomain, lent_at}
-use Rattle.flash_http.specs.Chunk.{chunk_head, chunk_end, chunk, last_chunk}
+use Rattle.flash_http.specs.Chunk.{chunk_head, chunk_end, last_chunk}
 use Rattle.flash_http.specs.Request.{Wanted}
 use Rattle.flash_laws.specs.Answers.{error_text}
 use Rattle.flash_laws.specs.Conn.{Following, has_followed, count_of}
 use Rattle.flash_laws.specs.Conn.Fits.{Names}
 use Rattle.flash_laws.specs.Run.Fits.{Progress, Ran, Broken, NotRun, IsLeft, Ends, HasJobPipe, IsReading, IsHeld, meets, HasAll, HasStep, HasNone, HasRun}
 use Rattle.flash_laws.specs.Run.Offering.{Learns}
-use Rattle.flash_laws.specs.Run.{job_pipe, step_agg, uses_fd, broken, told_wraps, finishing, stopped, told_stops, told_unframes, ending, told_lasts, told_wraps_last, told_unwraps, told_returns, told_fails}
+use Rattle.flash_laws.specs.Run.{job_pipe, step_agg, uses_fd, finishing, stopped, told_stops, told_unframes, ending, told_lasts, told_wraps_last, told_unwraps, told_returns, told_fails}
 use Rattle.flash_laws.specs.Answers.Scripts.{script_body, place_in_frame, end_around}
 use Rattle.flash_laws.specs.Site.{server}
 use Rattle.flash_laws.specs.declared.doing.Doing.TheVariants as doing
 use Rattle.flash_laws.specs.declared.running.TheConstants.{CHUNK_BYTES}
 use Rattle.flash_laws.specs.declared.running.Run.{Run}
 use Rattle.flash_laws.specs.declared.running.Step.{Step}
-use Rattle.flash_laws.specs.declared.running.Step.TheVariants.{Makes, Wraps, Stops, Unframes, Lasts, WrapsLast, Unwraps, Returns, Fails}
+use Rattle.flash_laws.specs.declared.running.Step.TheVariants.{Stops, Unframes, Lasts, WrapsLast, Unwraps, Returns, Fails}
 use Rattle.flash_laws.specs.declared.running.Running.{Running}
 use Rattle.flash_laws.specs.declared.running.Running.TheVariants.{Runs, Leaves, Closes}
 use Rattle.flash_laws.proofs.Conn.Answering.{some-inj}
@@ -40,7 +38,6 @@ use Rattle.flash_laws.proofs.Conn.Lent.{new-other}
 use Rattle.flash_laws.proofs.Lists.{turned}
 use Rattle.flash_laws.proofs.Run.Outputs.{short-chunk, last-left}
 use Rattle.flash_laws.proofs.Run.Pieces.{set_between}
-use Rattle.flash_laws.proofs.Run.Parts.{other}
 use Rattle.flash_laws.proofs.Run.Stays.{held-on, has-all-on, ends-differ, write-elsewhere}
 use Rattle.flash_laws.proofs.Run.Steps as acts
 use Rattle.flash_laws.proofs.Run.Steps.{begun}

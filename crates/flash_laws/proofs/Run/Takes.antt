@@ -47,8 +47,7 @@ use Rattle.flash_laws.proofs.Run.Quiet.{is_part, Bars, quiet}
 past-hears : (o : Progress) (heard : List ℕ) → past_of (hears_on o heard) ≡ past_of o
 past-hears (Ran was ended past) [] = refl
 past-hears (Ran was ended past) (b ∷ heard) = refl
-past-hears Broken heard = refl
-past-hears (NotRun status past) heard = refl
+past-hears x heard = refl
 
 past-grows : (o : Progress) (part : List ℕ) → (o ≡ Broken → ⊥) → past_of (takes_on o part) ≡ past_of o + length part
 past-grows (Ran was ended past) part whole = length-append past part
@@ -66,13 +65,11 @@ broken-plain run s plain = refl
 -- a response that goes on is not broken
 goes-whole : (w : Wanted) (o : Progress) (part : List ℕ) → Continues w o part [] → o ≡ Broken → ⊥
 goes-whole w (Ran was ended past) part goes is = cc (is)
-goes-whole w Broken part goes is = goes
-goes-whole w (NotRun status past) part goes is = goes
+goes-whole w x part goes is = goes
 
 left-whole : (w : Wanted) (o : Progress) (due : List ℕ) → IsLeft w o due → o ≡ Broken → ⊥
-left-whole w (Ran was ended past) due left is = cc (is)
 left-whole w Broken due left is = left
-left-whole w (NotRun status past) due left is = cc (is)
+left-whole w x due left is = cc (is)
 
 -- the output may not be read: it is broken off
 bars-breaks : (w : Wanted) (run : Run) (s : Step) (r : Reply) (heard : List ℕ) → Bars s r → breaks_off (told_step w run s r heard) ≡ true
@@ -86,9 +83,7 @@ module _ (job : ℕ → List ℕ) (m : State) (w : Wanted) (run : Run) where
   past-step (Sending d frame) r heard before after plain has open_yet learns = absurd (cc (plain))
   past-step (Hears held frame) (reply.Agg n) heard before after plain has open_yet learns = ap (λ (o : Progress). past_of o) learns ∙ past-hears before heard
   past-step (Hears held frame) (reply.Refused (no.Denied p)) heard before after plain has open_yet learns = absurd (open_yet tt)
-  past-step (Hears held frame) r heard before after plain has open_yet learns = ap (λ (o : Progress). past_of o) learns
   past-step Fails reply.Done heard before after plain has open_yet learns = ap (λ (o : Progress). past_of o) learns ∙ sym (ap (λ (o : Progress). past_of o) has.1.1)
-  past-step Fails r heard before after plain has open_yet learns = ap (λ (o : Progress). past_of o) learns
   past-step s r heard before after plain has open_yet learns = ap (λ (o : Progress). past_of o) learns
 
 -- the descriptor of the job pipe is not the connection's
@@ -402,9 +397,7 @@ fails may why job m n fd worker w x r heard o lives has step at off = absurd (cc
 pub in_turn : (worker : ℕ) (w : Wanted) (x : Running) (r : Reply) (heard : List ℕ)
     → (told worker w x r heard ≡ x) ⊎ ComesAfter x r (told worker w x r heard)
 in_turn worker w Awaits (reply.Fds from write) heard = inr tt
-in_turn worker w Awaits r heard = inl refl
 in_turn worker w (Leaves d) r heard = inr tt
-in_turn worker w Closes r heard = inl refl
 in_turn worker w (Runs run (Sending d frame)) r heard = inr (by d r)
   where
     by : (d : Doing) (r : Reply) → ComesAfter (Runs run (Sending d frame)) r (told_sending run d frame r)
@@ -412,3 +405,4 @@ in_turn worker w (Runs run (Sending d frame)) r heard = inr (by d r)
     by (doing.Drops a None) reply.Done = tt
     by d r = refl
 in_turn worker w (Runs run s) r heard = (quiet w run s r heard refl).3
+in_turn worker w x r heard = inl refl

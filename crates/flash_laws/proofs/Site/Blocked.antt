@@ -30,7 +30,7 @@ use Rattle.flash_laws.specs.declared.running.Run.{Run}
 use Rattle.flash_laws.specs.declared.running.Step.{Step}
 use Rattle.flash_laws.specs.declared.running.Step.TheVariants as act
 use Rattle.flash_laws.specs.declared.running.Running.{Running}
-use Rattle.flash_laws.specs.declared.running.Running.TheVariants.{Awaits, Runs, Leaves, Closes as Ends}
+use Rattle.flash_laws.specs.declared.running.Running.TheVariants.{Runs, Leaves}
 use Rattle.flash_laws.proofs.Forms.{at, of}
 use Rattle.flash_laws.proofs.Lists.{never_passed}
 
@@ -79,10 +79,9 @@ step-blocked w run (act.Sending d frame) heard = part-blocked run d frame
 step-blocked w run s heard = refl
 
 run-blocked : (worker : ℕ) (w : Wanted) (y : Running) (heard : List ℕ) → running.told worker w y (reply.Refused no.WouldBlock) heard ≡ y
-run-blocked worker w Awaits heard = refl
 run-blocked worker w (Runs run s) heard = step-blocked w run s heard
 run-blocked worker w (Leaves d) heard = ap (λ (x : Conn). Leaves x.doing) (conn-blocked [] (serve w) d heard)
-run-blocked worker w Ends heard = refl
+run-blocked worker w x heard = refl
 
 -- one that stands still is neither over now, nor is its text kept no more
 same-text : (k : Bool) (text : List ℕ) → text_on k k text ≡ text

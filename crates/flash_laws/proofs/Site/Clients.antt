@@ -77,9 +77,8 @@ runs-filed workers clients (At fd) r heard none runs = by (in_place clients fd) 
 
 pub runs-picked : (workers : ℕ) (clients : List (Option Client)) (w : Flight) (made : Turn) (after : List (Option Client)) → NoneRuns clients
     → Picks workers clients w made after → NoneRuns after
-runs-picked workers clients Nothing made after runs p = subst (λ (l : List (Option Client)). NoneRuns l) (sym p.0) runs
-runs-picked workers clients Accepting made after runs p = subst (λ (l : List (Option Client)). NoneRuns l) (sym p.0) runs
 runs-picked workers clients (At fd) made after runs p =
     let got = readies-alone p.was.conn p.was.run p.was.script p.ready (runs fd p.was p.there) p.readies in
     subst (λ (l : List (Option Client)). NoneRuns l) (sym p.after_is)
     (runs-set clients fd (Some p.ready) runs (λ x is. ap (λ (z : Client). z.run) (sym (some-inj p.ready x is)) ∙ ap (λ (z : Client). z.run) got.2))
+runs-picked workers clients x made after runs p = subst (λ (l : List (Option Client)). NoneRuns l) (sym p.0) runs

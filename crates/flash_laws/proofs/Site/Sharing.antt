@@ -26,7 +26,7 @@ use Rattle.flash_laws.specs.declared.doing.Doing.TheVariants.{Spares}
 use Rattle.flash_laws.specs.declared.doing.Flight.{Flight}
 use Rattle.flash_laws.specs.declared.doing.Flight.TheVariants.{Nothing, Accepting, At}
 use Rattle.flash_laws.specs.declared.running.Running.{Running}
-use Rattle.flash_laws.specs.declared.running.Running.TheVariants.{Awaits, Runs, Leaves, Closes as Ends}
+use Rattle.flash_laws.specs.declared.running.Running.TheVariants.{Awaits, Runs}
 use Rattle.flash_laws.proofs.Forms.{of}
 use Rattle.flash_laws.proofs.Conn.Answering.{some-inj}
 use Rattle.flash_laws.proofs.Site.Clients.{runs-filed, runs-picked}
@@ -76,15 +76,13 @@ awaits-on worker r k u = absurd (cc (u))
 run-on : (z : Running) (worker k : ℕ) → HasWorker worker z → has_worker z k ≡ true → (worker == k) ≡ true
 run-on Awaits worker k has u = absurd has
 run-on (Runs run s) worker k has u = ap (λ j. j == k) (sym has) ∙ u
-run-on (Leaves d) worker k has u = absurd (cc (u))
-run-on Ends worker k has u = absurd (cc (u))
+run-on x worker k has u = absurd (cc (u))
 
 on-run : (worker : ℕ) (w : Wanted) (c : Conn) (script : List ℕ) (y : Running) (r : Reply) (heard : List ℕ) (k : ℕ)
     → has_worker (running.told worker w y r heard) k ≡ true → Had worker (of c (Some y) script) k
 on-run worker w c script Awaits r heard k u = inr (refl, awaits-on worker r k u)
 on-run worker w c script (Runs run s) r heard k u = inl (run-on (running.told worker w (Runs run s) r heard) run.worker k (keeps worker w run s r heard) u)
-on-run worker w c script (Leaves d) r heard k u = absurd (cc (u))
-on-run worker w c script Ends r heard k u = absurd (cc (u))
+on-run worker w c script x r heard k u = absurd (cc (u))
 
 -- one for which no script runs has none then
 on-script : (kept : List ℕ) (q : Answer) (d : Doing) (script : List ℕ) (r : Reply) (heard : List ℕ) (k : ℕ)
@@ -92,9 +90,8 @@ on-script : (kept : List ℕ) (q : Answer) (d : Doing) (script : List ℕ) (r : 
 on-script kept q (Spares a Script) script r heard k u = by (is_head_only q) r u
   where
     by : (h : Bool) (r : Reply) → is_run_by (of (record { kept = kept; q = q; doing = Spares a Script }) (told_spares h r) script) k ≡ true → ⊥
-    by true r u = cc (u)
     by false reply.Done u = cc (u)
-    by false r u = cc (u)
+    by b r u = cc (u)
 on-script kept q d script r heard k u = cc (u)
 
 pub on-told : (scripts : Bool) (worker : ℕ) (c : Conn) (run : Option Running) (script : List ℕ) (r : Reply) (heard : List ℕ) (k : ℕ)
@@ -193,19 +190,17 @@ run_of run k = is_run_by (record new_client { run = run }) k
 
 module _ (workers : ℕ) (clients : List (Option Client)) (own : EachHasItsOwn workers clients) (made : Turn) (after : List (Option Client)) where
   pub own-picked : (w : Flight) → Picks workers clients w made after → EachHasItsOwn workers after
-  own-picked Nothing p = subst (λ (l : List (Option Client)). EachHasItsOwn workers l) (sym p.0) own
-  own-picked Accepting p = subst (λ (l : List (Option Client)). EachHasItsOwn workers l) (sym p.0) own
   own-picked (At fd) p = subst (λ (l : List (Option Client)). EachHasItsOwn workers l) (sym p.after_is)
       (own-set workers clients fd (Some p.ready) own
       (λ k y is u. still-own workers clients fd k p.was own p.there
       (ap (λ (o : Option Running). run_of o k) (sym (ready-runs p.was.conn p.was.run p.was.script p.ready p.readies)) ∙ (ap (λ (z : Client). run_of z.run k) (some-inj p.ready y is) ∙ u))))
+  own-picked x p = subst (λ (l : List (Option Client)). EachHasItsOwn workers l) (sym p.0) own
 
   pub goes-picked : (w : Flight) → Picks workers clients w made after → FlightGoes workers after w
-  goes-picked Nothing p = tt
-  goes-picked Accepting p = tt
   goes-picked (At fd) p = λ x is.
       let same : p.ready ≡ x = some-inj p.ready x (sym (at-same clients fd (Some p.ready)) ∙ (ap (λ (l : List (Option Client)). in_place l fd) (sym p.after_is) ∙ is)) in
       ap (λ (z : Client). may_go (has_free workers after) z) (sym same) ∙ p.goes
+  goes-picked x p = tt
 
 -- ---- who waits
 

@@ -113,9 +113,8 @@ module _ (m : State) (fd c : ℕ) (script : List ℕ) (kept : List ℕ) (q : Ans
   }
 
   scripted : (b : Bool) (d : Doing) → Has m q due d → CallsAlone m fd c (of (at kept q d) None script) (conn_wants b fd (at kept q d))
-  scripted false d has = plain d has
   scripted true (doing.Reads f) has = reads f has
-  scripted true d has = plain d has
+  scripted b d has = plain d has
 
 -- ---- with a run
 

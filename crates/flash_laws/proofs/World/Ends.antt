@@ -27,7 +27,7 @@ use Rattle.flash_laws.specs.declared.running.Run.{Run}
 use Rattle.flash_laws.specs.declared.running.Step.{Step}
 use Rattle.flash_laws.specs.declared.running.Step.TheVariants.{Gives, Sending, Hears, Spills, Gathers, Frames, Wraps, Trims, Ended, Unholds, Unframes, Lasts, WrapsLast, TrimsLast, Unwraps, Returns}
 use Rattle.flash_laws.specs.declared.running.Running.{Running}
-use Rattle.flash_laws.specs.declared.running.Running.TheVariants.{Awaits, Runs, Leaves, Closes}
+use Rattle.flash_laws.specs.declared.running.Running.TheVariants.{Runs, Leaves}
 use Rattle.flash_laws.proofs.Forms.{of}
 use Rattle.flash_laws.proofs.Conn.Answering.{some-inj}
 use Rattle.flash_laws.proofs.Lists.{self}
@@ -148,10 +148,9 @@ module _ (shelf : Shelf) (crew : Crew) (m : State) (came sent : List ℕ) (fd c 
       → uses_fd (of conn run script) g ≡ true
       → (has_fd (of conn run script) g ≡ true) ⊎ ((v : Run) × (s : Step) × (run ≡ Some (Runs v s)) × (job_pipe v.worker ≡ g))
   uses-or-desk conn None script g f u = inl u
-  uses-or-desk conn (Some Awaits) script g f u = absurd (cc (u))
-  uses-or-desk conn (Some Closes) script g f u = absurd (cc (u))
   uses-or-desk conn (Some (Leaves d)) script g f u = absurd (left-none f.wanted f.so_far d g f.has u)
   uses-or-desk conn (Some (Runs v s)) script g f u = elim (one-of (job_pipe v.worker == g) (ends_of v s g) u) [
     | inl desk ↦ inr (v, s, refl, same-number (job_pipe v.worker) g desk)
     | inr ends ↦ inl ends
   ]
+  uses-or-desk conn o script g f u = absurd (cc (u))

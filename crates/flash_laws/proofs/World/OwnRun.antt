@@ -29,7 +29,7 @@ use Rattle.flash_laws.specs.Site.{server}
 use Rattle.flash_laws.specs.declared.doing.Doing.{Doing}
 use Rattle.flash_laws.specs.declared.doing.Doing.TheVariants as doing
 use Rattle.flash_laws.specs.declared.running.Running.{Running}
-use Rattle.flash_laws.specs.declared.running.Running.TheVariants.{Awaits, Runs, Leaves, Closes}
+use Rattle.flash_laws.specs.declared.running.Running.TheVariants.{Awaits, Leaves, Closes}
 use Rattle.flash_laws.proofs.Forms.{of}
 use Rattle.flash_laws.proofs.Conn.Answering.{some-inj}
 use Rattle.flash_laws.proofs.Run.Ends.{keeps-back, wants-text}
@@ -77,9 +77,8 @@ runs-run c run script y k has u = ap (λ (o : Option Running). is_run_by (of c o
 -- the text stays kept as long as it is wanted
 text-kept : (was now : Bool) (script text : List ℕ) → (now ≡ true → was ≡ true) → (was ≡ true → script ≡ text) → now ≡ true → text_on was now script ≡ text
 text-kept true true script text back kept is = kept refl
-text-kept true false script text back kept is = absurd (cc (is))
 text-kept false true script text back kept is = absurd (let e = back refl in cc (e))
-text-kept false false script text back kept is = absurd (cc (is))
+text-kept b false script text back kept is = absurd (cc (is))
 
 rests-has : (shelf : Shelf) (n : State) (q : Answer) (script : List ℕ) (d : Doing) → (d ≡ doing.Rests) ⊎ (d ≡ doing.Closes)
     → Has n q (due_in shelf q d) d × Finds shelf n q script d
@@ -88,10 +87,9 @@ rests-has shelf n q script d (inr is) = subst (λ (e : Doing). Has n q (due_in s
 
 -- a run that is over has no worker
 over-none : (z : Running) (k : ℕ) → is_over z ≡ true → has_worker z k ≡ false
-over-none Awaits k is = absurd (cc (is))
-over-none (Runs run step) k is = absurd (cc (is))
 over-none (Leaves d) k is = refl
 over-none Closes k is = refl
+over-none x k is = absurd (cc (is))
 
 module _ (shelf : Shelf) (crew : Crew) (laws : AllLaws crew) where
   run_goes : (m n : State) (came sent : List ℕ) (fd c worker : ℕ) (conn : Conn) (run : Option Running) (script : List ℕ) (y : Running) (r : Reply) (heard : List ℕ)

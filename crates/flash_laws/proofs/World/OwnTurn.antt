@@ -1,6 +1,5 @@
 -- The server's own call for a client leaves all other clients, and all workers, tied.
 use Rattle.std.proofs.Common.{inl, inr, ◌≡◌, ◌≢◌, ◌<◌, ℕ, ◌==◌, ◌⊎◌, List, [], ap, ◌∙◌, refl, sym, subst, Option, Some, None, true, false, Bool, append-nil, slice_get}
-use Rattle.std.specs.Prelude.{not}
 use Rattle.std.proofs.lemmas.Bool.{cases_eq}
 use Rattle.iol_core.specs.Text.{bytes_of}
 use Rattle.iol_core.specs.Numbered.{in_place}
@@ -40,7 +39,7 @@ use Rattle.flash_laws.specs.declared.running.Run.{Run}
 use Rattle.flash_laws.specs.declared.running.Step.{Step}
 use Rattle.flash_laws.specs.declared.running.Step.TheVariants.{Hands, Returns}
 use Rattle.flash_laws.specs.declared.running.Running.{Running}
-use Rattle.flash_laws.specs.declared.running.Running.TheVariants.{Awaits, Runs, Leaves as Left, Closes as Ends}
+use Rattle.flash_laws.specs.declared.running.Running.TheVariants.{Awaits, Runs}
 use Rattle.flash_laws.proofs.Forms.{of}
 use Rattle.flash_laws.proofs.Conn.Answering.{some-inj}
 use Rattle.flash_laws.proofs.Site.InPlaces.{at-same, at-other}
@@ -147,8 +146,6 @@ module _ (shelf : Shelf) (crew : Crew) (laws : AllLaws crew) (m n : State) (p : 
       by : (o : Option Running) → run ≡ o → MayTouchPipe m o q → touches_pipe m (event.Call server (wants shelf.scripts fd (of conn run script))) q ≡ true → ⊥
       by None none may u = may
       by (Some Awaits) is_run may u = no-reader-there m (ap (λ j. (pipe_at m j).reading) may ∙ t.order.all_stand server v.from (on.ReadEnd q) reads)
-      by (Some (Left d)) is_run may u = may
-      by (Some Ends) is_run may u = may
       by (Some (Runs z (Hands j g))) is_run may u =
           let here = t.fit.desks.desks z.worker (among Awaits (Hands j g) z is_run) in
           apart z.worker (among Awaits (Hands j g) z is_run) (write-inj (crew.desk z.worker) q (sym here ∙ may))
@@ -161,6 +158,7 @@ module _ (shelf : Shelf) (crew : Crew) (laws : AllLaws crew) (m n : State) (p : 
           let same = (t.order.one server server z.from v.from (on.ReadEnd q) refl may reads).1 in
           let mine_has : has_fd (of conn run script) v.from ≡ true = subst (λ g. has_fd (of conn run script) g ≡ true) same (ap (λ (o : Option Running). has_fd (of conn o script) z.from) is_run ∙ has-from z st reading) in
           differ (t.fit.fds_apart fd gd v.from x y t.there is mine_has has)
+      by o is_run may u = may
 
   -- so another client goes on as it was
   module _ (gd : ℕ) (y : Client) (differ : fd ≢ gd) (is : in_place clients gd ≡ Some y) where

@@ -5,7 +5,6 @@ use Rattle.std.proofs.lemmas.Bool.{cases_eq}
 use Rattle.iol_core.specs.Numbered.{in_place}
 use Rattle.iol_core.specs.State.{State, descriptor, conn_at}
 use Rattle.iol_core.specs.Run.{StepsTo}
-use Rattle.iol_core.specs.declared.descriptors.Descriptor.TheVariants as on
 use Rattle.iol_core.specs.declared.events.Call.{Call}
 use Rattle.iol_core.specs.declared.events.Call.TheVariants as call
 use Rattle.iol_core.specs.declared.events.Event.{Event}

@@ -30,7 +30,7 @@ use Rattle.flash_laws.specs.Site.{server}
 use Rattle.flash_laws.specs.declared.doing.Doing.{Doing}
 use Rattle.flash_laws.specs.declared.doing.Doing.TheVariants as doing
 use Rattle.flash_laws.specs.declared.running.Running.{Running}
-use Rattle.flash_laws.specs.declared.running.Running.TheVariants.{Awaits, Runs, Leaves, Closes}
+use Rattle.flash_laws.specs.declared.running.Running.TheVariants.{Leaves, Closes}
 use Rattle.flash_laws.proofs.Conn.Answering.{all-more, order-more, last-more}
 use Rattle.flash_laws.proofs.Lists.{bytes-append, clash, next-front, self, take-plus}
 use Rattle.flash_laws.proofs.World.AllLaws.{AllLaws}
@@ -174,10 +174,9 @@ leaving m w o (doing.Drops a more) over has = absurd (cc (over))
 leaving m w o d over has = absurd has.sends.0
 
 ending : (job : ℕ → List ℕ) (m : State) (w : Wanted) (o : Progress) (z : Running) → is_over z ≡ true → HasRun job m w o z → Ending w o z
-ending job m w o Awaits over has = absurd (cc (over))
-ending job m w o (Runs run step) over has = absurd (cc (over))
 ending job m w o (Leaves d) over has = leaving m w o d over has
 ending job m w o Closes over has = (refl, inr (refl, has))
+ending job m w o x over has = absurd (cc (over))
 
 -- once the end of the output was seen nothing follows
 none_follows : (ended : Bool) (more : List ℕ) → ended ≡ true → Follows ended more → more ≡ []
@@ -198,9 +197,8 @@ all_taken w (NotRun status past) due may none = all_of past due (may ∙ (none �
 
 -- where it is known, and ends with the connection, nothing of it is left, and the request does not keep the connection open
 closed_whole : (w : Wanted) (o : Progress) (due : List ℕ) → IsProper (serve w) → MayAnswer w o due → HasNone w o → IsLeft w o [] × (w.keep ≡ false)
-closed_whole w (Ran heard ended past) due proper may none = (none.0, (elim none.1 [ inl last ↦ last | inr plain ↦ proper.1 plain ]))
 closed_whole w Broken due proper may none = absurd may
-closed_whole w (NotRun status past) due proper may none = (none.0, (elim none.1 [ inl last ↦ last | inr plain ↦ proper.1 plain ]))
+closed_whole w x due proper may none = (none.0, (elim none.1 [ inl last ↦ last | inr plain ↦ proper.1 plain ]))
 
 -- ---- the tie after it
 

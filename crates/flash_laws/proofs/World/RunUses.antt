@@ -22,7 +22,7 @@ use Rattle.flash_laws.specs.declared.running.Run.{Run}
 use Rattle.flash_laws.specs.declared.running.Step.{Step}
 use Rattle.flash_laws.specs.declared.running.Step.TheVariants.{Gives, Makes, Hands, Lets, Heads, Sending, Hears, Spills, Gathers, Frames, Wraps, Trims, Ended, Unholds, Stops, Unframes, Lasts, WrapsLast, TrimsLast, Unwraps, Returns, Lapses, Fails}
 use Rattle.flash_laws.specs.declared.running.Running.{Running}
-use Rattle.flash_laws.specs.declared.running.Running.TheVariants.{Awaits, Runs, Leaves, Closes}
+use Rattle.flash_laws.specs.declared.running.Running.TheVariants.{Awaits, Runs, Leaves}
 use Rattle.flash_laws.proofs.Lists.{later_of, bare, former_of, swapped}
 use Rattle.flash_laws.proofs.Conn.Uses.{same-number, uses-told, has-agg, one-of}
 
@@ -146,10 +146,9 @@ module _ (worker : ℕ) (w : Wanted) (run : Run) (a : ℕ) where
 pub run-uses : (worker : ℕ) (w : Wanted) (y : Running) (r : Reply) (heard : List ℕ) (a : ℕ) → uses_agg (told worker w y r heard) a ≡ true
     → New r a (uses_agg y a)
 run-uses worker w Awaits (reply.Fds from write) heard a u = absurd (cc (u))
-run-uses worker w Awaits r heard a u = absurd (cc (u))
 run-uses worker w (Runs run s) r heard a u = step-new worker w run a s r heard u
 run-uses worker w (Leaves d) r heard a u = uses-told [] (serve w) d r heard a u
-run-uses worker w Closes r heard a u = absurd (cc (u))
+run-uses worker w x r heard a u = absurd (cc (u))
 
 -- ---- the ends of its pipe
 
@@ -221,28 +220,22 @@ module _ (w : Wanted) (run : Run) (g : ℕ) where
       by : (b : Bool) → ends_of run (if b then Hands j f else Lapses j) g ≡ true → ends_of run (Hands j f) g ≡ true
       by true u = u
       by false u = u
-  step-has (Lets j) reply.Done heard u = u
   step-has Heads (reply.Agg n) heard u = u
   step-has (Sending d frame) r heard u = sending-has d frame r u
   step-has (Hears held frame) r heard u = hears-has held frame r heard u
-  step-has (Spills b frame) reply.Done heard u = u
   step-has (Gathers held size piece len frame) (reply.Agg n) heard u = on-reading (Gathers held size piece len frame) refl (only-from (holding n (both size len) frame) (holding-fd n (both size len) frame) u)
   step-has (Frames held) (reply.Agg n) heard u = u
   step-has (Wraps held frame) (reply.Agg n) heard u = u
-  step-has (Trims held chunk len frame) reply.Done heard u = u
-  step-has (Ended b held frame) reply.Done heard u = u
-  step-has (Unholds held frame) reply.Done heard u = u
   step-has (Stops held None) reply.Done heard u = absurd (finishing-has run.broken w.chunked held u)
   step-has (Stops held (Some f)) reply.Done heard u = absurd (cc (u))
   step-has (Unframes f held) reply.Done heard u = absurd (finishing-has run.broken w.chunked held u)
   step-has (Lasts None) (reply.Agg n) heard u = absurd (cc (u))
   step-has (Lasts (Some x)) (reply.Agg n) heard u = absurd (cc (u))
   step-has (WrapsLast held size frame) (reply.Agg n) heard u = u
-  step-has (TrimsLast held chunk len frame) reply.Done heard u = u
   step-has (Unwraps frame chunk len) reply.Done heard u = absurd (cc (u))
   step-has (Returns write) reply.Done heard u = on-reading (Returns write) refl (only-from Fails (λ h. refl) u)
-  step-has (Lapses j) reply.Done heard u = u
   step-has Fails reply.Done heard u = absurd (cc (u))
+  step-has other reply.Done heard u = u
   step-has s r heard u = u
 
 pub run-ends : (worker : ℕ) (w : Wanted) (y : Running) (r : Reply) (heard : List ℕ) (g : ℕ) → has_end (told worker w y r heard) g ≡ true
@@ -310,10 +303,9 @@ module _ (m : State) (a : ℕ) where
   left-there w o d u has = has-agg m (serve w) has.due d a u has.has
 
   pub run-there : (job : ℕ → List ℕ) (w : Wanted) (o : Progress) (y : Running) → uses_agg y a ≡ true → HasRun job m w o y → IsLent m a
-  run-there job w o Awaits u has = absurd (cc (u))
   run-there job w o (Runs run s) u has = step-there job w o run s u has.1
   run-there job w o (Leaves d) u has = left-there w o d u has
-  run-there job w o Closes u has = absurd (cc (u))
+  run-there job w o x u has = absurd (cc (u))
 
 -- an end of a pipe
 abbrev pub IsEnd : State → (g : ℕ) → Type 0

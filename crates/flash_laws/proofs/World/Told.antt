@@ -47,16 +47,14 @@ script-uses kept q (Reading f) script r heard a u = uses-told kept q (Reading f)
 script-uses kept q (Spares b Script) script r heard a u = by (is_head_only q) r u
   where
     by : (h : Bool) (r : Reply) → uses_agg (of (conn.told (at kept q (Spares b Script)) r heard) (told_spares h r) script) a ≡ true → NewAgg r a ((b == a) || false)
-    by true r u = uses-told kept q (Spares b Script) r heard a u
     by false reply.Done u = absurd (cc (u))
-    by false r u = uses-told kept q (Spares b Script) r heard a u
+    by other r u = uses-told kept q (Spares b Script) r heard a u
 script-uses kept q d script r heard a u = uses-told kept q d r heard a u
 
 over-uses : (z : Running) (a : ℕ) → is_over z ≡ true → conn.uses_agg (after_run z) a ≡ true → running.uses_agg z a ≡ true
-over-uses Awaits a over u = absurd (cc (over))
-over-uses (Runs run s) a over u = absurd (cc (over))
 over-uses (Leaves d) a over u = u
 over-uses Ends a over u = absurd (cc (u))
+over-uses x a over u = absurd (cc (over))
 
 pub client-uses : (scripts : Bool) (worker : ℕ) (c : Conn) (run : Option Running) (script : List ℕ) (r : Reply) (heard : List ℕ) (a : ℕ)
     → uses_agg (told scripts worker (of c run script) r heard) a ≡ true → NewAgg r a (uses_agg (of c run script) a)
@@ -102,9 +100,8 @@ script-fds kept q (Reading f) script r heard g u = plain-fds kept q (Reading f) 
 script-fds kept q (Spares b Script) script r heard g u = by (is_head_only q) r u
   where
     by : (h : Bool) (r : Reply) → has_fd (of (conn.told (at kept q (Spares b Script)) r heard) (told_spares h r) script) g ≡ true → NewFd None r g false
-    by true r u = plain-fds kept q (Spares b Script) r heard g u
     by false reply.Done u = absurd (cc (u))
-    by false r u = plain-fds kept q (Spares b Script) r heard g u
+    by other r u = plain-fds kept q (Spares b Script) r heard g u
 script-fds kept q d script r heard g u = plain-fds kept q d r heard g u
 
 -- what is left of a response uses no descriptor
@@ -157,16 +154,11 @@ module _ (w : Wanted) (run : Run) (g : ℕ) where
   step-fd (step.Hears held frame) r heard over u = hears-fd held frame r heard over u
   step-fd (step.Stops held (Some f)) reply.Done heard over u = cc (over)
   step-fd (step.Stops held None) reply.Done heard over u = finishing-fd run.broken w.chunked held over u
-  step-fd (step.Stops held frame) r heard over u = cc (over)
   step-fd (step.Unframes f held) reply.Done heard over u = finishing-fd run.broken w.chunked held over u
-  step-fd (step.Unframes f held) r heard over u = cc (over)
   step-fd (step.Lasts None) (reply.Agg n) heard over u = cc (over)
   step-fd (step.Lasts (Some x)) (reply.Agg n) heard over u = cc (over)
-  step-fd (step.Lasts held) r heard over u = cc (over)
   step-fd (step.Unwraps frame chunk len) reply.Done heard over u = cc (over)
-  step-fd (step.Unwraps frame chunk len) r heard over u = cc (over)
   step-fd step.Fails reply.Done heard over u = cc (over)
-  step-fd step.Fails r heard over u = cc (over)
   step-fd s r heard over u = cc (over)
 
 over-fds : (worker : ℕ) (w : Wanted) (y : Running) (r : Reply) (heard : List ℕ) (g : ℕ) → is_over y ≡ false → is_over (running.told worker w y r heard) ≡ true

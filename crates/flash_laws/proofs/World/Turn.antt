@@ -1,6 +1,5 @@
 -- A turn of the server keeps all its clients, and all workers, tied.
 use Rattle.std.proofs.Common.{inl, inr, ◌≡◌, ◌≢◌, ◌<◌, ℕ, ◌==◌, ◌≤◌, ◌⊎◌, List, ap, ◌∙◌, refl, sym, subst, arith, Option, Some, true, false, Bool, slice_get}
-use Rattle.std.specs.Prelude.{not}
 use Rattle.std.proofs.lemmas.Bool.{cases_eq}
 use Rattle.std.proofs.lemmas.Bool.Decides.{nat_tests}
 use Rattle.iol_core.specs.Numbered.{in_place, lowest}
@@ -13,9 +12,7 @@ use Rattle.iol_laws.proofs.Places.{lowest-free}
 use Rattle.iol_proc.specs.declared.seat.Seat.{Seat}
 use Rattle.flash_cgi.specs.Beside.{is_call_of}
 use Rattle.flash_laws.specs.Client.{Client, uses_agg}
-use Rattle.flash_laws.specs.Client.Fits.{Fits}
 use Rattle.flash_laws.specs.Client.Keeping.{has_fd}
-use Rattle.flash_laws.specs.Conn.{Conn}
 use Rattle.flash_laws.specs.Workers.Crew.{Crew}
 use Rattle.flash_laws.specs.Site.Past.{Past}
 use Rattle.flash_laws.specs.Site.Places.{EachHasItsOwn, is_run_by, is_free}
@@ -23,14 +20,12 @@ use Rattle.flash_laws.specs.Run.{worker_domain, job_pipe}
 use Rattle.flash_laws.specs.Site.Served.{Held, Aside, AreAtDesks, FitsAt, AllFit}
 use Rattle.flash_laws.specs.Shelf.{Shelf}
 use Rattle.flash_laws.specs.Site.{server}
-use Rattle.flash_laws.specs.Run.Stages.{AtDesk}
 use Rattle.flash_laws.specs.Site.Tied.{with_at}
 use Rattle.flash_laws.specs.declared.running.Run.{Run}
 use Rattle.flash_laws.specs.declared.running.Step.{Step}
 use Rattle.flash_laws.specs.declared.running.Step.TheVariants.{Gives, Hands, Returns}
 use Rattle.flash_laws.specs.declared.running.Running.{Running}
 use Rattle.flash_laws.specs.declared.running.Running.TheVariants.{Awaits, Runs}
-use Rattle.flash_laws.proofs.Forms.{of}
 use Rattle.flash_laws.proofs.Site.InPlaces.{at-same, at-other}
 use Rattle.flash_laws.proofs.Site.Peers.{IsTold}
 use Rattle.flash_laws.proofs.World.AllLaws.{AllLaws}

@@ -35,7 +35,7 @@ use Rattle.flash_laws.specs.Run.Stages.{HasWorkerAt}
 use Rattle.flash_laws.specs.declared.running.Run.{Run}
 use Rattle.flash_laws.specs.declared.running.Step.{Step}
 use Rattle.flash_laws.specs.declared.running.Running.{Running}
-use Rattle.flash_laws.specs.declared.running.Running.TheVariants.{Runs, Leaves}
+use Rattle.flash_laws.specs.declared.running.Running.TheVariants.{Runs}
 use Rattle.flash_laws.proofs.Forms.{of}
 use Rattle.flash_laws.proofs.Lists.{clash, not-equal, differ}
 use Rattle.flash_laws.proofs.World.AllLaws.{AllLaws}

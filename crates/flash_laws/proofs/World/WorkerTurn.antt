@@ -1,6 +1,5 @@
 -- A worker's turn leaves all clients tied.
 use Rattle.std.proofs.Common.{inl, inr, ◌≡◌, ◌≢◌, ◌<◌, ◌⊎◌, ◌≤◌, ℕ, List, ap, ◌∙◌, refl, sym, subst, arith, Option, Some, true, false, Bool, slice_get, slice_set}
-use Rattle.std.specs.Prelude.{not}
 use Rattle.std.proofs.lemmas.Bool.{cases_eq}
 use Rattle.iol_core.specs.Numbered.{in_place}
 use Rattle.iol_core.specs.State.{State, Connection, descriptor, conn_at, is_gone}

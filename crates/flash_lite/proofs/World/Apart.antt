@@ -1,24 +1,15 @@
 -- The processes of a site: their domains are different, and rise.
-use Rattle.std.proofs.Common.{◌≡◌, ◌∙◌, ℕ, zero, suc, ◌+◌, ◌<◌, ◌≤◌, List, [], ◌∷◌, ◌++◌, length, map, nat_eq, refl, sym, ap, subst, arith, append_assoc, append-nil, zero-add, Bool, Some, true, false}
-use Rattle.std.specs.Prelude.{if◌then◌else◌}
+use Rattle.std.proofs.Common.{◌≡◌, ◌∙◌, ℕ, zero, suc, ◌+◌, ◌<◌, List, [], ◌∷◌, ◌++◌, length, map, nat_eq, refl, sym, ap, subst, arith, append_assoc, append-nil, zero-add, Some, false}
 use Rattle.std.specs.List.{AllByRecursion, IsDistinct, range_with_len, slice_get}
 use Rattle.std.proofs.lemmas.Bool.Decides.{nat_tests}
-use Rattle.std.proofs.lemmas.Grind.{common_steps}
 use Rattle.std.proofs.lemmas.List.{length-append}
 use Rattle.iol_proc.specs.World.{IsRising}
 use Rattle.flash_cgi.specs.declared.worker.Worker.{Worker}
 use Rattle.flash_laws.specs.World.Tie.{Actor, Serving, Working}
-use Rattle.flash_lite.specs.Setup.{AreActors, HasWorkers, IsWorkerAt, has_script, is_in_range, workers_used}
+use Rattle.flash_lite.specs.Setup.{AreActors, HasWorkers, IsWorkerAt, workers_used}
 use Rattle.flash_lite.specs.declared.site.Site.{Site}
 
 -- ---- how many run scripts
-
-pub used_few : (s : Site) → is_in_range s ≡ true → workers_used s ≤ 8
-used_few s fits = by (has_script s)
-  where
-    by : (b : Bool) → (if b then s.workers else 0) ≤ 8
-    by true = grind (arith, nat_tests, common_steps, fits)
-    by false = omega arith
 
 -- ---- one more
 

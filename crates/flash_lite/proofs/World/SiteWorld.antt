@@ -1,19 +1,16 @@
 -- A site that was set up in a new machine: its world is new for the law over whole worlds.
-use Rattle.std.proofs.Common.{◌≡◌, ◌<◌, ℕ, List, [], ◌∷◌, refl, sym, subst, ap, arith, None, true, Bool, IsPermutation, map}
+use Rattle.std.proofs.Common.{◌≡◌, ◌<◌, ℕ, List, refl, sym, subst, ap, arith, None, true, Bool}
 use Rattle.std.specs.Prelude.{unwrap_or}
 use Rattle.iol_core.specs.Access.{HasAccess}
 use Rattle.iol_core.specs.Positions.{ArePlaced}
-use Rattle.iol_core.specs.Run.{Run, StepsTo}
+use Rattle.iol_core.specs.Run.{Run}
 use Rattle.iol_core.specs.State.{Domain, Pipe, State, conn_at, domain, new_state}
 use Rattle.iol_core.specs.Text.{Text}
-use Rattle.iol_core.specs.declared.events.Event.{Event}
-use Rattle.iol_core.specs.declared.events.Reply.{Reply}
 use Rattle.iol_laws.specs.Caller.{lent_at}
 use Rattle.iol_laws.specs.Opening.{AreLow, DescriptorsComeByReplies}
 use Rattle.iol_laws.specs.Order.{IsOrderly, EachStepKeepsOrder}
-use Rattle.iol_proc.specs.World.{IsRising, Stage, copied, domains_of, seat_of}
+use Rattle.iol_laws.proofs.Runs.{run_keeps}
 use Rattle.iol_proc.specs.declared.seat.Seat.{Seat}
-use Rattle.iol_system.specs.Machine.{SystemState, machine_of}
 use Rattle.flash_cgi.specs.Free.{HasNoJob, WorkersStayFree}
 use Rattle.flash_cgi.specs.declared.worker.Worker.{Worker}
 use Rattle.flash_laws.specs.Run.{worker_domain}
@@ -23,23 +20,15 @@ use Rattle.flash_laws.specs.World.{DesksAreApart, IsNew}
 use Rattle.flash_laws.specs.Workers.{IsFreeFor}
 use Rattle.flash_lite.specs.Crew.{crew_of, is_shown}
 use Rattle.flash_lite.specs.Library.{library_of}
-use Rattle.flash_lite.specs.Setup.{AreActors, SetsUp, calls, is_in_range, workers_used}
+use Rattle.flash_lite.specs.Setup.{calls, is_in_range, workers_used}
 use Rattle.flash_lite.specs.SiteState.{state_of}
 use Rattle.flash_lite.specs.SiteWorld.{SetUpIsANewWorld}
 use Rattle.flash_lite.specs.declared.site.Site.{Site}
 use Rattle.flash_lite.proofs.World.Desks.{has_desk, worker_there}
 use Rattle.flash_lite.proofs.Calls.Leading.{Led}
 use Rattle.flash_lite.proofs.World.NewSite.{Just, led_by, shorts}
-use Rattle.flash_lite.proofs.World.Seated.{seated_by}
 use Rattle.flash_lite.proofs.World.SiteFixed.{fixed_for, used_within}
 use Rattle.flash_lite.proofs.World.SiteSeats.{HasCrew, SitsNew, has_crew}
-
--- what each step keeps a run keeps
-kept : (P : State → Type 0) → ((s t : State) (e : Event) (r : Reply) → P s → StepsTo s e r t → P t) → (es : List Event) (rs : List Reply) (s t : State) → P s → Run s es rs t → P t
-kept P step [] [] s t has run = subst (λ (m : State). P m) (sym run) has
-kept P step [] (r ∷ rs) s t has run = absurd run
-kept P step (e ∷ es) [] s t has run = absurd run
-kept P step (e ∷ es) (r ∷ rs) s t has run = kept P step es rs run.0 t (step s run.0 e r has run.1) run.2
 
 module _ (orders : EachStepKeepsOrder) (descriptors : DescriptorsComeByReplies) (stay_free : WorkersStayFree) where
   module _ (s : Site) (slots : List (List ℕ)) where
@@ -92,9 +81,9 @@ module _ (orders : EachStepKeepsOrder) (descriptors : DescriptorsComeByReplies) 
   set_up_a_new_world s old w fits set seated slots is enough =
       let run : Run (new_state slots) (calls s) set.replies w.machine = subst (λ (m : State). Run m (calls s) set.replies w.machine) is set.run in
       let l = led_by s slots old w.machine fits set is in
-      let order = kept IsOrderly orders.step (calls s) set.replies (new_state slots) w.machine (orders.new slots) run in
-      let access = kept HasAccess orders.access (calls s) set.replies (new_state slots) w.machine (orders.new_access slots) run in
-      let placed = kept ArePlaced orders.places (calls s) set.replies (new_state slots) w.machine (orders.new_places slots enough) run in
+      let order = run_keeps IsOrderly orders.step (new_state slots) w.machine (calls s) set.replies (orders.new slots) run in
+      let access = run_keeps HasAccess orders.access (new_state slots) w.machine (calls s) set.replies (orders.new_access slots) run in
+      let placed = run_keeps ArePlaced orders.places (new_state slots) w.machine (calls s) set.replies (orders.new_places slots enough) run in
       let low = descriptors.reached slots w.machine (calls s) set.replies run in
       subst (λ (m : State). Led (Just slots) s slots m → IsOrderly m → HasAccess m → ArePlaced m → AreLow m → IsNew (library_of s slots) (crew_of s) (record { machine = m; seats = w.seats; rough = w.rough })) (sym l.state)
       (λ led o a p d. new_by s slots w.seats w.rough fits led (has_crew s w.seats seated) o a p d) l order access placed low
@@ -104,11 +93,3 @@ module _ (orders : EachStepKeepsOrder) (descriptors : DescriptorsComeByReplies) 
 -- each worker has a desk of its own
 pub desks_apart : (s : Site) → DesksAreApart (crew_of s)
 desks_apart s k l in_k in_l same = same
-
--- the world of a site on a system, as the machine sees it
-pub hosted_new : SetUpIsANewWorld → (s : Site) (slots : List (List ℕ)) (old sys : SystemState) (w : Stage SystemState (Actor Worker)) (ps : List (ℕ × Actor Worker)) → is_in_range s ≡ true
-    → machine_of old ≡ new_state slots → ArePlaced (machine_of old) → SetsUp s (machine_of old) (machine_of sys) → AreActors s ps → w.machine ≡ sys → IsPermutation (map seat_of ps) w.seats
-    → IsRising (domains_of w.seats) → IsNew (library_of s slots) (crew_of s) (copied w)
-hosted_new law s slots old sys w ps fits begins placed set procs machine seats rises =
-    law s (machine_of old) (copied w) fits (subst (λ (x : SystemState). SetsUp s (machine_of old) (machine_of x)) (sym machine) set) (seated_by s ps w.seats procs seats rises)
-    slots begins (subst (λ (m : State). ArePlaced m) begins placed).slots

@@ -27,6 +27,7 @@ use Rattle.iol_core.specs.declared.events.Reply.TheVariants as reply
 use Rattle.iol_core.proofs.Lookups.{numbered_or-with}
 use Rattle.iol_core.proofs.Passing.{passed, when-none}
 use Rattle.iol_core.proofs.Positions.{placed_new, placed_step}
+use Rattle.iol_laws.proofs.Runs.{run_keeps}
 use Rattle.iol_laws.specs.Caller.{lent_at}
 use Rattle.iol_laws.specs.Lengths.{AreShort}
 use Rattle.iol_laws.proofs.Left.Files.{files_written, store_meant}
@@ -76,18 +77,14 @@ short_written s by fd (Some (on.File f at mode)) w is fits placed short =
     let here = placed.each by fd f at mode is in
     let same = filled-files s by fd f at mode w in
     short_content s _ f _ same.0 same.1 (over (content s f) at w here.1 (short f here.0) fits) short
-short_written s by fd None w is fits placed short = short
-short_written s by fd (Some (on.ReadEnd p)) w is fits placed short = short
 short_written s by fd (Some (on.WriteEnd p)) w is fits placed short = short_same s _ (files_written s by fd (Some (on.WriteEnd p)) w refl) short
 short_written s by fd (Some (on.Connection c)) w is fits placed short = short_same s _ (files_written s by fd (Some (on.Connection c)) w refl) short
+short_written s by fd o w is fits placed short = short
 
 -- a part is no longer
 shorter : (o : Option Descriptor) (n m : ℕ) → n ≤ m → is_too_long o m ≡ false → is_too_long o n ≡ false
 shorter (Some (on.File f at mode)) n m less fits = grind (arith, nat_tests, less, fits)
-shorter None n m less fits = refl
-shorter (Some (on.ReadEnd p)) n m less fits = refl
-shorter (Some (on.WriteEnd p)) n m less fits = refl
-shorter (Some (on.Connection c)) n m less fits = refl
+shorter o n m less fits = refl
 
 -- a file more is one that was, or the new one
 pushed : (xs : List File) (x : File) (f : ℕ) → is_numbered (xs ++ x ∷ []) f ≡ true → (is_numbered xs f ≡ true) ⊎ (f ≡ length xs + 1)
@@ -157,14 +154,8 @@ short_new slots = record {
   conns = refl;
 }
 
-short_run : (s t : State) (es : List Event) (rs : List Reply) → ArePlaced s → AreShort s → Run s es rs t → AreShort t
-short_run s t [] [] placed short run = subst (λ (u : State). AreShort u) (sym run) short
-short_run s t (e ∷ es) (r ∷ rs) placed short run = short_run run.0 t es rs (placed_step s run.0 e r placed run.1) (short_step s run.0 e r placed short run.1) run.2
-short_run s t [] (r ∷ rs) placed short run = absurd run
-short_run s t (e ∷ es) [] placed short run = absurd run
-
 pub short_reached : (slots : List (List ℕ)) (t : State) (es : List Event) (rs : List Reply) → MAX_FILES ≤ length slots → Run (new_state slots) es rs t → AreShort t
-short_reached slots t es rs all run = short_run (new_state slots) t es rs (placed_new slots all) (short_new slots) run
+short_reached slots t es rs all run = (run_keeps (λ s. ArePlaced s × AreShort s) (λ s t e r has step. (placed_step s t e r has.0 step, short_step s t e r has.0 has.1 step)) (new_state slots) t es rs (placed_new slots all, short_new slots) run).1
 
 pub short_lent : (s : State) (d a : ℕ) (bytes : List ℕ) → AreShort s → lent_at s d a ≡ Some bytes → length bytes ≤ MAX_AGGREGATE_BYTES
 short_lent s d a bytes short has =

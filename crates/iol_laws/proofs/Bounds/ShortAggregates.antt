@@ -74,7 +74,6 @@ unfolding conn_at
 incoming-fits s c short = (both-true _ _ (list_all-lookup both_fit s.conns c _ refl short.conns)).0
 
 read-short : (s : State) (by fd : ℕ) (o : Option Descriptor) (n : ℕ) → descriptor s by fd ≡ o → ArePlaced s → AreShort s → length (reading.read_text s by o n) ≤ MAX_AGGREGATE_BYTES
-read-short s by fd None n is placed short = (let e = admitted-less (may_read s by) n [] in omega (arith, e))
 read-short s by fd (Some (on.File f at mode)) n is placed short =
     let here = placed.each by fd f at mode is in
     let all = short.files f here.0 in
@@ -83,8 +82,8 @@ read-short s by fd (Some (on.File f at mode)) n is placed short =
     let k = dropped-less at (content s f) in
     omega (arith, e, l, k, all)
 read-short s by fd (Some (on.ReadEnd p)) n is placed short = (let e = admitted-less (may_read s by) n (pipe_at s p).queue in let q = queue-short (pipe_at s p).queue (short.pipes p) in omega (arith, e, q))
-read-short s by fd (Some (on.WriteEnd p)) n is placed short = (let e = admitted-less (may_read s by) n [] in omega (arith, e))
 read-short s by fd (Some (on.Connection c)) n is placed short = (let e = admitted-less (may_read s by) n (conn_at s c).incoming in let q = queue-short (conn_at s c).incoming (incoming-fits s c short) in omega (arith, e, q))
+read-short s by fd o n is placed short = (let e = admitted-less (may_read s by) n [] in omega (arith, e))
 
 -- What each call brings.
 

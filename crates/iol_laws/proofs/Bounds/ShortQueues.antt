@@ -76,45 +76,36 @@ unfolding with_domain
 piped_then_domain s d x fit = piped_same s (with_domain s d x) refl fit
 
 piped_closed_on : (s : State) (o : Option Descriptor) → PipesFit s → PipesFit (fds.closed_on s o)
-piped_closed_on s None fit = fit
-piped_closed_on s (Some (on.File f at mode)) fit = fit
 piped_closed_on s (Some (on.ReadEnd p)) fit = piped_pipe s p _ refl fit
 piped_closed_on s (Some (on.WriteEnd p)) fit = piped_pipe s p _ (fit p) fit
 piped_closed_on s (Some (on.Connection c)) fit = piped_same s _ (pipes-with_conn s c _) fit
+piped_closed_on s o fit = fit
 
 piped_all_closed : (s : State) (list : List (Option Descriptor)) → PipesFit s → PipesFit (fold fds.closed_on s list)
 piped_all_closed s [] fit = fit
 piped_all_closed s (o ∷ list) fit = piped_all_closed (fds.closed_on s o) list (piped_closed_on s o fit)
 
 piped_read_on : (s : State) (by fd : ℕ) (o : Option Descriptor) (n : ℕ) → PipesFit s → PipesFit (reading.read_on s by fd o n)
-piped_read_on s by fd None n fit = fit
 piped_read_on s by fd (Some (on.File f at mode)) n fit = piped_then_domain s by _ fit
 piped_read_on s by fd (Some (on.ReadEnd p)) n fit = piped_pipe s p _ (fits-dropped n (pipe_at s p).queue (fit p)) fit
-piped_read_on s by fd (Some (on.WriteEnd p)) n fit = fit
 piped_read_on s by fd (Some (on.Connection c)) n fit = piped_same s _ (pipes-with_conn s c _) fit
+piped_read_on s by fd o n fit = fit
 
 -- no more is written to a queue than there is room for
 piped_written : (s : State) (by fd : ℕ) (o : Option Descriptor) (w : Text) → (writing.is_file o ≡ false → length w ≤ MAX_QUEUE_BYTES - length (writing.unsent s o)) → PipesFit s → PipesFit (writing.written s by fd o w)
 unfolding with_content
-piped_written s by fd None w room fit = fit
 piped_written s by fd (Some (on.File f at mode)) w room fit = piped_then_domain (with_content s f _) by _ (piped_same s (with_content s f _) refl fit)
-piped_written s by fd (Some (on.ReadEnd p)) w room fit = fit
 piped_written s by fd (Some (on.WriteEnd p)) w room fit = piped_pipe s p _ (fits-more (pipe_at s p).queue w (fit p) (room refl)) fit
 piped_written s by fd (Some (on.Connection c)) w room fit = piped_same s _ (pipes-with_conn s c _) fit
+piped_written s by fd o w room fit = fit
 
 room-shared : (s : State) (o : Option Descriptor) (w : Text) → writing.is_file o ≡ false → length (take (writing.fitting s o (length w)) w) ≤ MAX_QUEUE_BYTES - length (writing.unsent s o)
-room-shared s None w queue = least (length w) _ w
 room-shared s (Some (on.File f at mode)) w queue = absurd (cc)
-room-shared s (Some (on.ReadEnd p)) w queue = least (length w) _ w
-room-shared s (Some (on.WriteEnd p)) w queue = least (length w) _ w
-room-shared s (Some (on.Connection c)) w queue = least (length w) _ w
+room-shared s o w queue = least (length w) _ w
 
 room-copied : (s : State) (p : ℕ) (o : Option Descriptor) (bytes : List ℕ) → writing.is_file o ≡ false → length (labelled p (take (writing.fitting s o (length bytes)) bytes)) ≤ MAX_QUEUE_BYTES - length (writing.unsent s o)
-room-copied s p None bytes queue = least-labelled p (length bytes) _ bytes
 room-copied s p (Some (on.File f at mode)) bytes queue = absurd (cc)
-room-copied s p (Some (on.ReadEnd q)) bytes queue = least-labelled p (length bytes) _ bytes
-room-copied s p (Some (on.WriteEnd q)) bytes queue = least-labelled p (length bytes) _ bytes
-room-copied s p (Some (on.Connection c)) bytes queue = least-labelled p (length bytes) _ bytes
+room-copied s p o bytes queue = least-labelled p (length bytes) _ bytes
 
 pub pipe-made : (s : State) (by : ℕ) → pipe_at (fds.pipe s by).after (lowest s.pipes) ≡ new_pipe
 unfolding pipe_at
@@ -152,19 +143,23 @@ conn-fits s c fit = both-true _ _ (list_all-lookup both_fit s.conns c _ refl fit
 both : (a b : Bool) → a ≡ true → b ≡ true → (a && b) ≡ true
 both a b one two = grind (arith, one, two)
 
-pub list_all-changed : {A : Type 0} (p : A → Bool) (es : List (ℕ × A)) (n : ℕ) (x : A) → p x ≡ true → list_all (λ e. p e.1) es ≡ true → list_all (λ e. p e.1) (changed es n x) ≡ true
+list_all-changed : {A : Type 0} (p : A → Bool) (es : List (ℕ × A)) (n : ℕ) (x : A) → p x ≡ true → list_all (λ e. p e.1) es ≡ true → list_all (λ e. p e.1) (changed es n x) ≡ true
 list_all-changed p [] n x new all = refl
 list_all-changed p (e ∷ es) n x new all =
     let r = list_all-changed p es n x new in
     elim (cases_eq e.0 n) [ inl k ↦ grind (arith, nat_tests, common_steps, r, new, all, k) | inr k ↦ grind (arith, nat_tests, common_steps, r, all, k) ]
 
-linked_conn : (s : State) (c : ℕ) (x : Connection) → both_fit x ≡ true → ConnsFit s → ConnsFit (with_conn s c x)
+-- what is so of all connections stays so where one changes that has it
+pub list_all-with_conn : (p : Connection → Bool) (s : State) (c : ℕ) (x : Connection) → p x ≡ true → list_all (λ e. p e.1) s.conns ≡ true → list_all (λ e. p e.1) (with_conn s c x).conns ≡ true
 unfolding with_conn
-linked_conn s c x new fit = by (is_over x)
+list_all-with_conn p s c x new all = by (is_over x)
   where
-    by : (b : Bool) → list_all (λ e. both_fit e.1) (if b then without s.conns c else changed s.conns c x) ≡ true
-    by true = list_all-without (λ e. both_fit e.1) s.conns c fit
-    by false = list_all-changed both_fit s.conns c x new fit
+    by : (b : Bool) → list_all (λ e. p e.1) (if b then without s.conns c else changed s.conns c x) ≡ true
+    by true = list_all-without (λ e. p e.1) s.conns c all
+    by false = list_all-changed p s.conns c x new all
+
+linked_conn : (s : State) (c : ℕ) (x : Connection) → both_fit x ≡ true → ConnsFit s → ConnsFit (with_conn s c x)
+linked_conn s c x new fit = list_all-with_conn both_fit s c x new fit
 
 -- a change that adds no more than there is room for
 abbrev Room : State → ℕ × Change → Type 0
@@ -178,11 +173,8 @@ linked_turned s (c, Closes) room fit = (let k = conn-fits s c fit in linked_conn
 linked_turned s (c, Takes) room fit = (let k = conn-fits s c fit in linked_conn s c _ (both _ _ k.0 k.1) fit)
 
 linked_on : (s : State) (o : Option Descriptor) (x : Change) → ((c : ℕ) → Room s (c, x)) → ConnsFit s → ConnsFit (all_turned s (on_conn o x))
-linked_on s None x room fit = fit
-linked_on s (Some (on.File f at mode)) x room fit = fit
-linked_on s (Some (on.ReadEnd p)) x room fit = fit
-linked_on s (Some (on.WriteEnd p)) x room fit = fit
 linked_on s (Some (on.Connection c)) x room fit = linked_turned s (c, x) (room c) fit
+linked_on s o x room fit = fit
 
 linked_closings : (s : State) (list : List (Option Descriptor)) → ConnsFit s → ConnsFit (all_turned s (closings list))
 linked_closings s [] fit = fit
@@ -194,11 +186,8 @@ linked_closings s (Some (on.Connection c) ∷ list) fit = linked_closings (turne
 
 -- what is written to what is open on a connection
 linked_wrote : (s : State) (o : Option Descriptor) (w : Text) → (writing.is_file o ≡ false → length w ≤ MAX_QUEUE_BYTES - length (writing.unsent s o)) → ConnsFit s → ConnsFit (all_turned s (on_conn o (Writes w)))
-linked_wrote s None w room fit = fit
-linked_wrote s (Some (on.File f at mode)) w room fit = fit
-linked_wrote s (Some (on.ReadEnd p)) w room fit = fit
-linked_wrote s (Some (on.WriteEnd p)) w room fit = fit
 linked_wrote s (Some (on.Connection c)) w room fit = linked_turned s (c, Writes w) (room refl) fit
+linked_wrote s o w room fit = fit
 
 linked_changes : (s : State) (by : ℕ) (k : Call) → ConnsFit s → ConnsFit (all_turned s (changes s by k))
 linked_changes s by call.Exit fit = linked_closings s (domain s by).fds fit
@@ -226,8 +215,7 @@ linked_meant s (event.Arrive c bytes) fit =
     linked_conn s c _ (both _ _ (fits-more (conn_at s c).incoming _ k.0 (least-labelled (conn_at s c).pool (length bytes) room bytes)) k.1) fit
 linked_meant s (event.PeerClosed c how) fit = linked_ended s c how fit
 linked_meant s (event.Transmit c max) fit = (let k = conn-fits s c fit in linked_conn s c _ (both _ _ k.0 (fits-dropped max (conn_at s c).outgoing k.1)) fit)
-linked_meant s event.Flush fit = fit
-linked_meant s event.DropClean fit = fit
+linked_meant s e fit = fit
 
 pub piped_new_state : (slots : List (List ℕ)) → PipesFit (new_state slots)
 unfolding pipe_at

@@ -1,5 +1,5 @@
 -- What each event leaves of connections.
-use Rattle.std.proofs.Common.{◌≡◌, ℕ, ◌==◌, List, [], ◌∷◌, ◌∙◌, refl, arith, Option, Some, None, false, Bool}
+use Rattle.std.proofs.Common.{◌≡◌, ℕ, ◌==◌, List, [], ◌∷◌, ◌∙◌, refl, arith, Option, Some, false, Bool}
 use Rattle.std.specs.Prelude.{◌||◌}
 use Rattle.std.specs.List.{list_any}
 use Rattle.std.proofs.lemmas.Grind.{common_steps}
@@ -27,11 +27,8 @@ conns_all s (e ∷ es) c un =
     first-none un = grind (arith, common_steps, un)
 
 none_on : (c : ℕ) (o : Option Descriptor) (x : Change) → is_conn c o ≡ false → list_any (λ e. e.0 == c) (on_conn o x) ≡ false
-none_on c None x un = refl
-none_on c (Some (on.File f at mode)) x un = refl
-none_on c (Some (on.ReadEnd p)) x un = refl
-none_on c (Some (on.WriteEnd p)) x un = refl
 none_on c (Some (on.Connection e)) x un = grind (arith, common_steps, un)
+none_on c o x un = refl
 
 none_closed : (c : ℕ) (list : List (Option Descriptor)) → list_any (is_conn c) list ≡ false → list_any (λ e. e.0 == c) (closings list) ≡ false
 none_closed c [] un = refl
@@ -65,5 +62,4 @@ conns_meant s (event.ConnNew p) = λ c un. conn-push s p c (apart s.next_conn c 
 conns_meant s (event.Arrive e bytes) = λ c un. conns_conn s e _ c (apart e c un)
 conns_meant s (event.PeerClosed e how) = λ c un. conns_conn s e _ c (apart e c un)
 conns_meant s (event.Transmit e max) = λ c un. conns_conn s e _ c (apart e c un)
-conns_meant s event.Flush = λ c un. refl
-conns_meant s event.DropClean = λ c un. refl
+conns_meant s other = λ c un. refl

@@ -1,11 +1,11 @@
 -- What each event leaves of descriptors.
 use Rattle.std.proofs.Common.{inl, inr, ◌≡◌, ◌≢◌, ℕ, ◌+◌, ◌==◌, List, [], ◌∷◌, ◌++◌, length, take, drop, ap, ◌∙◌, refl, sym, subst, arith, Option, Some, None, true, false, Bool}
-use Rattle.std.specs.Prelude.{unwrap_or, ◌&&◌, if◌then◌else◌, fold}
+use Rattle.std.specs.Prelude.{unwrap_or, ◌&&◌, fold}
 use Rattle.std.specs.Option.{option_map_or}
 use Rattle.std.proofs.lemmas.Bool.Decides.{nat_tests}
 use Rattle.std.proofs.lemmas.Grind.{common_steps}
 use Rattle.iol_core.specs.Text.{Text, bytes_of}
-use Rattle.iol_core.specs.Numbered.{without, in_place, lowest, placed}
+use Rattle.iol_core.specs.Numbered.{in_place, lowest, placed}
 use Rattle.iol_core.specs.State.{State, Domain, domain, text, descriptor, content, conn_at, new_domain, no_domain, with_domain, with_conn, with_content}
 use Rattle.iol_core.specs.Run.{called, meaning}
 use Rattle.iol_core.specs.Calls.Domains.{domain_new, exit}
@@ -23,6 +23,7 @@ use Rattle.iol_core.specs.declared.events.Event.{Event}
 use Rattle.iol_core.specs.declared.events.Event.TheVariants as event
 use Rattle.iol_core.proofs.Lookups.{domain-with_domain, domain-same, domain-push}
 use Rattle.iol_core.proofs.Places.{place-set_other}
+use Rattle.iol_laws.proofs.Gives.{agg_given, fd_given}
 use Rattle.iol_laws.specs.Frame.{touches_fd}
 use Rattle.iol_laws.proofs.Domains.{domains-all_closed, domains-closed_on, domains-with_conn, domains-with_pipe}
 use Rattle.iol_laws.proofs.Places.{place-placed}
@@ -62,51 +63,43 @@ differs_fd by fd f un same = grind (arith, nat_tests, common_steps, un, same)
 pub fds_set : (s : State) (d fd : ℕ) (o : Option Descriptor) → KeepsFds s (fds.with_descriptor s d fd o) (fd_of d fd)
 fds_set s d fd o = fds_domain s d _ (fd_of d fd) (λ f y is un. place-set_other (domain s d).fds fd f o (differs_fd d fd f un) ∙ is)
 
+true-right : (b : Bool) → (b && true) ≡ false → b ≡ false
+true-right b un = grind (arith, un)
+
 fds_read_on : (s : State) (by fd : ℕ) (from : Option Descriptor) (count : ℕ) → KeepsFds s (reading.read_on s by fd from count) (λ d f. (by == d) && (fd == f) && writing.is_file from)
-fds_read_on s by fd None count = λ d f x is un. is
 fds_read_on s by fd (Some (on.File g at mode)) count = λ d f x is un. fds_set s by fd _ d f x is (true-right ((by == d) && (fd == f)) un)
-  where
-    true-right : (b : Bool) → (b && true) ≡ false → b ≡ false
-    true-right b un = grind (arith, un)
 fds_read_on s by fd (Some (on.ReadEnd q)) count = fds_same s _ _ (domains-with_pipe s q _)
-fds_read_on s by fd (Some (on.WriteEnd q)) count = λ d f x is un. is
 fds_read_on s by fd (Some (on.Connection e)) count = fds_same s _ _ (domains-with_conn s e _)
+fds_read_on s by fd o count = λ d f x is un. is
 
 fds_written : (s : State) (by fd : ℕ) (to : Option Descriptor) (w : Text) → KeepsFds s (writing.written s by fd to w) (λ d f. (by == d) && (fd == f) && writing.is_file to)
 unfolding with_content
-fds_written s by fd None w = λ d f x is un. is
 fds_written s by fd (Some (on.File g at mode)) w = λ d f x is un.
     let filled : State = with_content s g (take at (content s g) ++ bytes_of w ++ drop (at + length w) (content s g)) in
     fds_set filled by fd _ d f x (fds_same s filled no_fd refl d f x is refl) (true-right ((by == d) && (fd == f)) un)
-  where
-    true-right : (b : Bool) → (b && true) ≡ false → b ≡ false
-    true-right b un = grind (arith, un)
-fds_written s by fd (Some (on.ReadEnd q)) w = λ d f x is un. is
 fds_written s by fd (Some (on.WriteEnd q)) w = fds_same s _ _ (domains-with_pipe s q _)
 fds_written s by fd (Some (on.Connection e)) w = fds_same s _ _ (domains-with_conn s e _)
+fds_written s by fd o w = λ d f x is un. is
 
 fds_given : (s : State) (by fd to : ℕ) (x : Descriptor) → KeepsFds s (fds.given_to s by fd to x) (fd_of by fd)
-fds_given s by fd to x = cases (by == to)
-  where
-    cases : (b : Bool) → KeepsFds s (if b then fds.with_fds s by (placed (fds.freed s by fd) (lowest (fds.freed s by fd)) x) else fds.with_fds (fds.opened s to x) by (fds.freed s by fd)) (fd_of by fd)
-    cases true = fds_domain s by _ (fd_of by fd) (λ f y is un. place-placed (fds.freed s by fd) x f y (place-set_other (domain s by).fds fd f None (differs_fd by fd f un) ∙ is))
-    cases false = λ d f y is un.
-        elim (domain-with_domain (fds.opened s to x) by d (record (domain (fds.opened s to x) by) { fds = fds.freed s by fd })) [
-          | inl both ↦ (let un_by = subst (λ n. fd_of by fd n f ≡ false) (sym both.0) un in
-              ap (λ (z : Domain Text). in_place z.fds f) both.1 ∙ place-set_other (domain s by).fds fd f None (differs_fd by fd f un_by) ∙ subst (λ n. descriptor s n f ≡ Some y) (sym both.0) is)
-          | inr same ↦ ap (λ (z : Domain Text). in_place z.fds f) same ∙ fds_opened s to x no_fd d f y is refl
-        ]
+fds_given s by fd to x =
+    fd_given (λ t. KeepsFds s t (fd_of by fd)) s by fd to x
+    (λ same. fds_domain s by _ (fd_of by fd) (λ f y is un. place-placed (fds.freed s by fd) x f y (place-set_other (domain s by).fds fd f None (differs_fd by fd f un) ∙ is)))
+    (λ other d f y is un.
+    elim (domain-with_domain (fds.opened s to x) by d (record (domain (fds.opened s to x) by) { fds = fds.freed s by fd })) [
+      | inl both ↦ (let un_by = subst (λ n. fd_of by fd n f ≡ false) (sym both.0) un in
+          ap (λ (z : Domain Text). in_place z.fds f) both.1 ∙ place-set_other (domain s by).fds fd f None (differs_fd by fd f un_by) ∙ subst (λ n. descriptor s n f ≡ Some y) (sym both.0) is)
+      | inr same ↦ ap (λ (z : Domain Text). in_place z.fds f) same ∙ fds_opened s to x no_fd d f y is refl
+    ])
 
 fds_give_fd : (s : State) (by fd to : ℕ) (o : Option Descriptor) → KeepsFds s (option_map_or (fds.given_to s by fd to) o s) (fd_of by fd)
 fds_give_fd s by fd to None = λ d f x is un. is
 fds_give_fd s by fd to (Some x) = fds_given s by fd to x
 
 fds_agg_give : (s : State) (by a to : ℕ) → KeepsFds s (aggs.agg_give s by a to).after no_fd
-fds_agg_give s by a to = cases (by == to)
-  where
-    cases : (b : Bool) → KeepsFds s (if b then aggs.with_new s by (without (domain s by).aggs a) (text s by a) else aggs.without_agg (aggs.with_agg s to (text s by a)) by a) no_fd
-    cases true = fds_kept s by _ no_fd refl
-    cases false = fds_then s (aggs.with_agg s to (text s by a)) _ no_fd (fds_kept s to _ no_fd refl) (fds_kept (aggs.with_agg s to (text s by a)) by _ no_fd refl)
+fds_agg_give s by a to =
+    agg_given (λ t. KeepsFds s t no_fd) s by a to (λ same. fds_kept s by _ no_fd refl)
+    (λ other. fds_then s (aggs.with_agg s to (text s by a)) _ no_fd (fds_kept s to _ no_fd refl) (fds_kept (aggs.with_agg s to (text s by a)) by _ no_fd refl))
 
 fds_domain_new : (s : State) (by : ℕ) → KeepsFds s (domain_new s by).after no_fd
 fds_domain_new s by d f x is un = elim (domain-push s new_domain d) [
@@ -148,14 +141,6 @@ fds_called s by call.Exit = fds_exit s by
 fds_called s by (call.PoolCreate chunks list) = fds_same s (pool_create s by chunks list).after no_fd refl
 fds_called s by (call.PoolClose p) = fds_same s (pool_close s by p).after no_fd refl
 fds_called s by (call.PoolAdmit p d) = fds_same s (pool_admit s by p d).after no_fd refl
-fds_called s by (call.SetPool p) = fds_kept s by _ no_fd refl
-fds_called s by (call.AggMake bytes) = fds_kept s by _ no_fd refl
-fds_called s by (call.AggDup a) = fds_kept s by _ no_fd refl
-fds_called s by (call.AggCut a from to) = fds_kept s by _ no_fd refl
-fds_called s by (call.AggSplit a at) = fds_kept s by _ no_fd refl
-fds_called s by (call.AggJoin a b) = fds_kept s by _ no_fd refl
-fds_called s by (call.AggReplace a from to b) = fds_kept s by _ no_fd refl
-fds_called s by (call.AggDrop a) = fds_kept s by _ no_fd refl
 fds_called s by (call.AggGive a to) = fds_agg_give s by a to
 fds_called s by (call.Show a) = λ d f x is un. is
 fds_called s by (call.FileNew name p) = fds_same s (called s by (call.FileNew name p)).after no_fd refl
@@ -178,6 +163,7 @@ fds_called s by call.Accept =
 fds_called s by (call.Fsync fd) = λ d f x is un. is
 fds_called s by (call.Read fd n) = fds_read_on s by fd (descriptor s by fd) _
 fds_called s by (call.Write fd bytes) = fds_written s by fd (descriptor s by fd) _
+fds_called s by k = fds_kept s by _ no_fd refl
 
 pub fds_meant : (s : State) (e : Event) → KeepsFds s (meaning s e).after (touches_fd s e)
 fds_meant s (event.Call by k) = fds_called s by k
@@ -185,5 +171,4 @@ fds_meant s (event.ConnNew p) = fds_same s (meaning s (event.ConnNew p)).after n
 fds_meant s (event.Arrive c bytes) = fds_same s _ no_fd (domains-with_conn s c _)
 fds_meant s (event.PeerClosed c how) = fds_same s _ no_fd (domains-with_conn s c _)
 fds_meant s (event.Transmit c max) = fds_same s _ no_fd (domains-with_conn s c _)
-fds_meant s event.Flush = λ d f x is un. is
-fds_meant s event.DropClean = λ d f x is un. is
+fds_meant s e = λ d f x is un. is

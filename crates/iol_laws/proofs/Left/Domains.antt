@@ -1,6 +1,6 @@
 -- What each event leaves of domains: which of them live, and where what they make lies.
-use Rattle.std.proofs.Common.{inl, inr, ◌≡◌, ◌≢◌, ℕ, ◌+◌, ◌==◌, List, ◌++◌, length, take, drop, ap, ◌∙◌, refl, Option, Some, None, true, false, Bool}
-use Rattle.std.specs.Prelude.{if◌then◌else◌, fold}
+use Rattle.std.proofs.Common.{inl, inr, ◌≡◌, ◌≢◌, ℕ, ◌+◌, List, ◌++◌, length, take, drop, ap, ◌∙◌, refl, Option, Some, None, true, false}
+use Rattle.std.specs.Prelude.{fold}
 use Rattle.std.specs.Option.{option_map_or}
 use Rattle.iol_core.specs.Text.{Text, bytes_of}
 use Rattle.iol_core.specs.Numbered.{without, lowest, placed}
@@ -18,6 +18,7 @@ use Rattle.iol_core.specs.declared.events.Call.TheVariants as call
 use Rattle.iol_core.specs.declared.events.Event.{Event}
 use Rattle.iol_core.specs.declared.events.Event.TheVariants as event
 use Rattle.iol_core.proofs.Lookups.{domain-with_domain, domain-same, domain-push}
+use Rattle.iol_laws.proofs.Gives.{agg_given, fd_given}
 use Rattle.iol_laws.specs.Frame.{ends, sets_default}
 use Rattle.iol_laws.proofs.Domains.{domains-all_closed, domains-closed_on, domains-with_conn, domains-with_pipe}
 use Rattle.iol_laws.proofs.Tests.{apart}
@@ -52,36 +53,30 @@ pub standing_agg : (s : State) (d : ℕ) (kept : List (ℕ × Text)) (x : Text) 
 standing_agg s d kept x = standing_domain s d _ (record { live = refl; default = refl })
 
 standing_agg_give : (s : State) (by a to : ℕ) → KeepsStanding s (aggs.agg_give s by a to).after
-standing_agg_give s by a to = cases (by == to)
-  where
-    cases : (b : Bool) → KeepsStanding s (if b then aggs.with_new s by (without (domain s by).aggs a) (text s by a) else aggs.without_agg (aggs.with_agg s to (text s by a)) by a)
-    cases true = standing_agg s by (without (domain s by).aggs a) (text s by a)
-    cases false = standing_then s (aggs.with_agg s to (text s by a)) _ (standing_agg s to (domain s to).aggs (text s by a)) (standing_domain (aggs.with_agg s to (text s by a)) by _ (record { live = refl; default = refl }))
+standing_agg_give s by a to =
+    agg_given (λ t. KeepsStanding s t) s by a to (λ same. standing_agg s by (without (domain s by).aggs a) (text s by a))
+    (λ other. standing_then s (aggs.with_agg s to (text s by a)) _ (standing_agg s to (domain s to).aggs (text s by a)) (standing_domain (aggs.with_agg s to (text s by a)) by _ (record { live = refl; default = refl })))
 
 standing_given : (s : State) (by fd to : ℕ) (o : Option Descriptor) → KeepsStanding s (option_map_or (fds.given_to s by fd to) o s)
 standing_given s by fd to None = standing_same s s refl
-standing_given s by fd to (Some x) = cases (by == to)
-  where
-    cases : (b : Bool) → KeepsStanding s (if b then fds.with_fds s by (placed (fds.freed s by fd) (lowest (fds.freed s by fd)) x) else fds.with_fds (fds.opened s to x) by (fds.freed s by fd))
-    cases true = standing_fds s by _
-    cases false = standing_then s (fds.opened s to x) _ (standing_fds s to _) (standing_fds (fds.opened s to x) by _)
+standing_given s by fd to (Some x) =
+    fd_given (λ t. KeepsStanding s t) s by fd to x (λ same. standing_fds s by _)
+    (λ other. standing_then s (fds.opened s to x) _ (standing_fds s to _) (standing_fds (fds.opened s to x) by _))
 
 pub standing_read_on : (s : State) (by fd : ℕ) (o : Option Descriptor) (n : ℕ) → KeepsStanding s (reading.read_on s by fd o n)
-standing_read_on s by fd None n = standing_same s s refl
 standing_read_on s by fd (Some (on.File f at mode)) n = standing_fds s by _
 standing_read_on s by fd (Some (on.ReadEnd p)) n = standing_same s _ (domains-with_pipe s p _)
-standing_read_on s by fd (Some (on.WriteEnd p)) n = standing_same s s refl
 standing_read_on s by fd (Some (on.Connection c)) n = standing_same s _ (domains-with_conn s c _)
+standing_read_on s by fd o n = standing_same s s refl
 
 standing_written : (s : State) (by fd : ℕ) (o : Option Descriptor) (w : Text) → KeepsStanding s (writing.written s by fd o w)
 unfolding with_content
-standing_written s by fd None w = standing_same s s refl
 standing_written s by fd (Some (on.File f at mode)) w =
     let filled : State = with_content s f (take at (content s f) ++ bytes_of w ++ drop (at + length w) (content s f)) in
     standing_then s filled _ (standing_same s filled refl) (standing_fds filled by _)
-standing_written s by fd (Some (on.ReadEnd p)) w = standing_same s s refl
 standing_written s by fd (Some (on.WriteEnd p)) w = standing_same s _ (domains-with_pipe s p _)
 standing_written s by fd (Some (on.Connection c)) w = standing_same s _ (domains-with_conn s c _)
+standing_written s by fd o w = standing_same s s refl
 
 standing_pipe : (s : State) (by : ℕ) → KeepsStanding s (fds.pipe s by).after
 standing_pipe s by =

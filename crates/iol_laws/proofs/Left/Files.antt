@@ -8,8 +8,8 @@ use Rattle.std.proofs.lemmas.Bool.{cases_eq}
 use Rattle.std.proofs.lemmas.Bool.Decides.{nat_tests}
 use Rattle.std.proofs.lemmas.Grind.{common_steps}
 use Rattle.iol_core.specs.Text.{Text, bytes_of}
-use Rattle.iol_core.specs.Numbered.{without, is_numbered, numbered_or, with_numbered, lowest, placed}
-use Rattle.iol_core.specs.State.{State, Domain, Pool, File, domain, pool, is_pool, no_pool, file, no_file, content, text, descriptor, no_domain, with_domain, with_pipe, with_conn, with_content}
+use Rattle.iol_core.specs.Numbered.{is_numbered, numbered_or, with_numbered}
+use Rattle.iol_core.specs.State.{State, Domain, Pool, File, domain, pool, is_pool, no_pool, file, no_file, content, descriptor, no_domain, with_domain, with_pipe, with_conn, with_content}
 use Rattle.iol_core.specs.Run.{called, meaning}
 use Rattle.iol_core.specs.Calls.Domains.{exit}
 use Rattle.iol_core.specs.Calls.Pools.{admitting, with_name}
@@ -26,6 +26,7 @@ use Rattle.iol_core.specs.declared.events.Call.TheVariants as call
 use Rattle.iol_core.specs.declared.events.Event.{Event}
 use Rattle.iol_core.specs.declared.events.Event.TheVariants as event
 use Rattle.iol_core.proofs.Lookups.{file-same, numbered_or-with}
+use Rattle.iol_laws.proofs.Gives.{agg_given, fd_given}
 use Rattle.iol_laws.specs.Frame.{Grows, admits_to, changes_files, closes_pool, is_on_file, writes_file}
 use Rattle.iol_laws.proofs.Tests.{apart}
 
@@ -37,11 +38,8 @@ pub record SameStore (s t : State) : Type 0 where
 
 store_closed_on : (s : State) (o : Option Descriptor) → SameStore s (fds.closed_on s o)
 unfolding with_pipe with_conn
-store_closed_on s None = record { files = refl; slots = refl; pools = refl }
 store_closed_on s (Some (on.File f at mode)) = record { files = refl; slots = refl; pools = refl }
-store_closed_on s (Some (on.ReadEnd q)) = record { files = refl; slots = refl; pools = refl }
-store_closed_on s (Some (on.WriteEnd q)) = record { files = refl; slots = refl; pools = refl }
-store_closed_on s (Some (on.Connection e)) = record { files = refl; slots = refl; pools = refl }
+store_closed_on s o = record { files = refl; slots = refl; pools = refl }
 
 store_all_closed : (s : State) (list : List (Option Descriptor)) → SameStore s (fold fds.closed_on s list)
 store_all_closed s [] = record { files = refl; slots = refl; pools = refl }
@@ -52,19 +50,13 @@ store_all_closed s (o ∷ list) =
 
 store_read_on : (s : State) (by fd : ℕ) (from : Option Descriptor) (count : ℕ) → SameStore s (reading.read_on s by fd from count)
 unfolding with_domain with_pipe with_conn
-store_read_on s by fd None count = record { files = refl; slots = refl; pools = refl }
 store_read_on s by fd (Some (on.File f at mode)) count = record { files = refl; slots = refl; pools = refl }
-store_read_on s by fd (Some (on.ReadEnd q)) count = record { files = refl; slots = refl; pools = refl }
-store_read_on s by fd (Some (on.WriteEnd q)) count = record { files = refl; slots = refl; pools = refl }
-store_read_on s by fd (Some (on.Connection e)) count = record { files = refl; slots = refl; pools = refl }
+store_read_on s by fd o count = record { files = refl; slots = refl; pools = refl }
 
 pub files_written : (s : State) (by fd : ℕ) (to : Option Descriptor) (w : Text) → writing.is_file to ≡ false → ((writing.written s by fd to w).files ≡ s.files) × ((writing.written s by fd to w).slots ≡ s.slots)
 unfolding with_pipe with_conn
-files_written s by fd None w un = (refl, refl)
 files_written s by fd (Some (on.File f at mode)) w un = absurd (cc)
-files_written s by fd (Some (on.ReadEnd q)) w un = (refl, refl)
-files_written s by fd (Some (on.WriteEnd q)) w un = (refl, refl)
-files_written s by fd (Some (on.Connection e)) w un = (refl, refl)
+files_written s by fd o w un = (refl, refl)
 
 -- the files and the pools are those that were, and so are the bytes of the other files
 record Wrote (s : State) (to : Option Descriptor) (t : State) : Type 0 where
@@ -82,7 +74,6 @@ content-other s g bytes f differ = elim (numbered_or-with s.slots g f bytes []) 
 
 store_written : (s : State) (by fd : ℕ) (to : Option Descriptor) (w : Text) → Wrote s to (writing.written s by fd to w)
 unfolding with_domain with_pipe with_conn with_content
-store_written s by fd None w = record { files = refl; pools = refl; contents = λ f un. refl }
 store_written s by fd (Some (on.File g at mode)) w = record {
   files = refl;
   pools = refl;
@@ -90,9 +81,9 @@ store_written s by fd (Some (on.File g at mode)) w = record {
       let filled : State = with_content s g (take at (content s g) ++ bytes_of w ++ drop (at + length w) (content s g)) in
       content-same filled (writing.written s by fd (Some (on.File g at mode)) w) f refl ∙ content-other s g (take at (content s g) ++ bytes_of w ++ drop (at + length w) (content s g)) f (apart g f un);
 }
-store_written s by fd (Some (on.ReadEnd q)) w = record { files = refl; pools = refl; contents = λ f un. refl }
 store_written s by fd (Some (on.WriteEnd q)) w = record { files = refl; pools = refl; contents = λ f un. content-same s (writing.written s by fd (Some (on.WriteEnd q)) w) f refl }
 store_written s by fd (Some (on.Connection e)) w = record { files = refl; pools = refl; contents = λ f un. content-same s (writing.written s by fd (Some (on.Connection e)) w) f refl }
+store_written s by fd o w = record { files = refl; pools = refl; contents = λ f un. refl }
 
 store_then_domain : (s t : State) (d : ℕ) (x : Domain Text) → SameStore s t → SameStore s (with_domain t d x)
 unfolding with_domain
@@ -101,19 +92,11 @@ store_then_domain s t d x same = record { files = same.files; slots = same.slots
 store_given : (s : State) (by fd to : ℕ) (o : Option Descriptor) → SameStore s (option_map_or (fds.given_to s by fd to) o s)
 unfolding with_domain
 store_given s by fd to None = record { files = refl; slots = refl; pools = refl }
-store_given s by fd to (Some x) = cases (by == to)
-  where
-    cases : (b : Bool) → SameStore s (if b then fds.with_fds s by (placed (fds.freed s by fd) (lowest (fds.freed s by fd)) x) else fds.with_fds (fds.opened s to x) by (fds.freed s by fd))
-    cases true = record { files = refl; slots = refl; pools = refl }
-    cases false = record { files = refl; slots = refl; pools = refl }
+store_given s by fd to (Some x) = fd_given (λ t. SameStore s t) s by fd to x (λ same. record { files = refl; slots = refl; pools = refl }) (λ other. record { files = refl; slots = refl; pools = refl })
 
 store_agg_give : (s : State) (by a to : ℕ) → SameStore s (aggs.agg_give s by a to).after
 unfolding with_domain
-store_agg_give s by a to = cases (by == to)
-  where
-    cases : (b : Bool) → SameStore s (if b then aggs.with_new s by (without (domain s by).aggs a) (text s by a) else aggs.without_agg (aggs.with_agg s to (text s by a)) by a)
-    cases true = record { files = refl; slots = refl; pools = refl }
-    cases false = record { files = refl; slots = refl; pools = refl }
+store_agg_give s by a to = agg_given (λ t. SameStore s t) s by a to (λ same. record { files = refl; slots = refl; pools = refl }) (λ other. record { files = refl; slots = refl; pools = refl })
 
 -- whether it makes or changes a pool
 abbrev pub changes_pools : Event → Bool
@@ -236,50 +219,41 @@ list-admitted s q d p = elim (numbered_or-with s.pools q p (admitting (pool s q)
   | inr same ↦ grows_same _ _ (ap (λ (x : Pool). x.domains) same)
 ]
 
-store_pooled : (s : State) (by chunks : ℕ) (list : List ℕ) → KeepsStore s (event.Call by (call.PoolCreate chunks list)) (called s by (call.PoolCreate chunks list)).after
-store_pooled s by chunks list =
-    let t : State = (called s by (call.PoolCreate chunks list)).after in
+-- a call that makes or changes pools, and leaves the files
+store_pools : (s : State) (e : Event) (ps : List Pool) → changes_pools e ≡ true → ((p : ℕ) → is_pool s p ≡ true → is_numbered ps p ≡ true) → ((p : ℕ) → is_pool s p ≡ true → Grows (pool s p).domains (numbered_or ps p no_pool).domains)
+    → ((p : ℕ) → is_pool s p ≡ true → closes_pool e p ≡ false → admits_to e p ≡ false → numbered_or ps p no_pool ≡ pool s p) → ((p : ℕ) → is_pool s p ≡ true → admits_to e p ≡ false → (numbered_or ps p no_pool).domains ≡ (pool s p).domains)
+    → KeepsStore s e (record s { pools = ps })
+unfolding pool
+store_pools s e ps changes numbered lists same listed =
+    let t : State = record s { pools = ps } in
     record {
       files = λ un. (refl, refl);
       contents = λ f un. content-same s t f refl;
       known = λ f is. file-same s t f refl;
       called = λ name f is. is;
-      numbered = λ p is. there-push s.pools _ p is;
-      lists = λ p is. grows_same _ _ (ap (λ (x : Pool). x.domains) (pool-push s _ p is));
-      pools = λ p is un none. pool-push s _ p is;
-      listed = λ p is none. ap (λ (x : Pool). x.domains) (pool-push s _ p is);
-      table = λ un. absurd (cc);
+      numbered = numbered;
+      lists = lists;
+      pools = same;
+      listed = listed;
+      table = λ un. absurd (cc (changes, un));
     }
+
+store_pooled : (s : State) (by chunks : ℕ) (list : List ℕ) → KeepsStore s (event.Call by (call.PoolCreate chunks list)) (called s by (call.PoolCreate chunks list)).after
+unfolding pool
+store_pooled s by chunks list =
+    store_pools s _ _ refl (λ p is. there-push s.pools _ p is) (λ p is. grows_same _ _ (ap (λ (x : Pool). x.domains) (pool-push s _ p is))) (λ p is un none. pool-push s _ p is)
+    (λ p is none. ap (λ (x : Pool). x.domains) (pool-push s _ p is))
 
 store_unpooled : (s : State) (by q : ℕ) → KeepsStore s (event.Call by (call.PoolClose q)) (called s by (call.PoolClose q)).after
+unfolding pool
 store_unpooled s by q =
-    let t : State = (called s by (call.PoolClose q)).after in
-    record {
-      files = λ un. (refl, refl);
-      contents = λ f un. content-same s t f refl;
-      known = λ f is. file-same s t f refl;
-      called = λ name f is. is;
-      numbered = λ p is. there-with s.pools q _ p is;
-      lists = λ p is. grows_same _ _ (list-closed s q p);
-      pools = λ p is un none. pool-other s q p _ (apart q p un);
-      listed = λ p is none. list-closed s q p;
-      table = λ un. absurd (cc);
-    }
+    store_pools s _ _ refl (λ p is. there-with s.pools q _ p is) (λ p is. grows_same _ _ (list-closed s q p)) (λ p is un none. pool-other s q p _ (apart q p un)) (λ p is none. list-closed s q p)
 
 store_listed : (s : State) (by q d : ℕ) → KeepsStore s (event.Call by (call.PoolAdmit q d)) (called s by (call.PoolAdmit q d)).after
+unfolding pool
 store_listed s by q d =
-    let t : State = (called s by (call.PoolAdmit q d)).after in
-    record {
-      files = λ un. (refl, refl);
-      contents = λ f un. content-same s t f refl;
-      known = λ f is. file-same s t f refl;
-      called = λ name f is. is;
-      numbered = λ p is. there-with s.pools q _ p is;
-      lists = λ p is. list-admitted s q d p;
-      pools = λ p is un none. pool-other s q p _ (apart q p none);
-      listed = λ p is none. ap (λ (x : Pool). x.domains) (pool-other s q p _ (apart q p none));
-      table = λ un. absurd (cc);
-    }
+    store_pools s _ _ refl (λ p is. there-with s.pools q _ p is) (λ p is. list-admitted s q d p) (λ p is un none. pool-other s q p _ (apart q p none))
+    (λ p is none. ap (λ (x : Pool). x.domains) (pool-other s q p _ (apart q p none)))
 
 store_filed : (s : State) (by : ℕ) (name : List ℕ) (p : ℕ) → KeepsStore s (event.Call by (call.FileNew name p)) (called s by (call.FileNew name p)).after
 store_filed s by name p =

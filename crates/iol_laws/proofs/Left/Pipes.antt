@@ -1,11 +1,11 @@
 -- What each event leaves of pipes.
-use Rattle.std.proofs.Common.{◌≡◌, ◌≢◌, ℕ, ◌==◌, List, [], ◌∷◌, ◌++◌, length, take, drop, ap, ◌∙◌, refl, arith, Option, Some, None, true, false, Bool}
+use Rattle.std.proofs.Common.{◌≡◌, ◌≢◌, ℕ, List, [], ◌∷◌, ◌++◌, length, take, drop, ap, ◌∙◌, refl, arith, Option, Some, None, true, false, Bool}
 use Rattle.std.specs.Prelude.{unwrap_or, ◌||◌, if◌then◌else◌, fold}
 use Rattle.std.specs.List.{list_any}
 use Rattle.std.specs.Option.{option_map_or}
 use Rattle.std.proofs.lemmas.Grind.{common_steps}
 use Rattle.iol_core.specs.Text.{Text, labelled}
-use Rattle.iol_core.specs.Numbered.{without, in_place, lowest, placed}
+use Rattle.iol_core.specs.Numbered.{in_place, lowest}
 use Rattle.iol_core.specs.State.{State, Domain, Pipe, Connection, domain, text, descriptor, pipe_at, conn_at, no_pipe, new_pipe, no_domain, with_domain, with_pipe, with_conn, with_content}
 use Rattle.iol_core.specs.Run.{called, meaning}
 use Rattle.iol_core.specs.Calls.Aggregates as aggs
@@ -20,6 +20,7 @@ use Rattle.iol_core.specs.declared.events.Call.TheVariants as call
 use Rattle.iol_core.specs.declared.events.Event.{Event}
 use Rattle.iol_core.specs.declared.events.Event.TheVariants as event
 use Rattle.iol_core.proofs.Places.{place-set_other}
+use Rattle.iol_laws.proofs.Gives.{agg_given, fd_given}
 use Rattle.iol_laws.specs.Frame.{is_end, touches_pipe}
 use Rattle.iol_laws.proofs.Places.{place-placed_other}
 use Rattle.iol_laws.proofs.Tests.{apart, left-false, right-false}
@@ -40,11 +41,10 @@ unfolding with_conn
 pipes-with_conn s c x = refl
 
 pub pipes_closed_on : (s : State) (o : Option Descriptor) → KeepsPipes s (fds.closed_on s o) (λ p. is_end p o)
-pipes_closed_on s None p un = refl
-pipes_closed_on s (Some (on.File f at mode)) p un = refl
 pipes_closed_on s (Some (on.ReadEnd q)) p un = pipes_pipe s q (record (pipe_at s q) { queue = []; reading = false }) p (apart q p un)
 pipes_closed_on s (Some (on.WriteEnd q)) p un = pipes_pipe s q (record (pipe_at s q) { writing = false }) p (apart q p un)
 pipes_closed_on s (Some (on.Connection e)) p un = pipes_same s (with_conn s e (record (conn_at s e) { incoming = []; closed = true })) (λ p. false) (pipes-with_conn s e (record (conn_at s e) { incoming = []; closed = true })) p refl
+pipes_closed_on s o p un = refl
 
 pub pipes_all_closed : (s : State) (list : List (Option Descriptor)) → KeepsPipes s (fold fds.closed_on s list) (λ p. list_any (is_end p) list)
 pipes_all_closed s [] p un = refl
@@ -54,19 +54,17 @@ pipes_all_closed s (o ∷ list) p un =
 
 pub pipes_read_on : (s : State) (by fd : ℕ) (from : Option Descriptor) (count : ℕ) → KeepsPipes s (reading.read_on s by fd from count) (λ p. is_end p from)
 unfolding with_domain with_conn
-pipes_read_on s by fd None count p un = refl
 pipes_read_on s by fd (Some (on.File f at mode)) count p un = pipes_same s (reading.read_on s by fd (Some (on.File f at mode)) count) (λ p. false) refl p refl
 pipes_read_on s by fd (Some (on.ReadEnd q)) count p un = pipes_pipe s q (record (pipe_at s q) { queue = drop count (pipe_at s q).queue }) p (apart q p un)
-pipes_read_on s by fd (Some (on.WriteEnd q)) count p un = refl
 pipes_read_on s by fd (Some (on.Connection e)) count p un = pipes_same s (reading.read_on s by fd (Some (on.Connection e)) count) (λ p. false) refl p refl
+pipes_read_on s by fd o count p un = refl
 
 pub pipes_written : (s : State) (by fd : ℕ) (to : Option Descriptor) (w : Text) → KeepsPipes s (writing.written s by fd to w) (λ p. is_end p to)
 unfolding with_domain with_conn with_content
-pipes_written s by fd None w p un = refl
 pipes_written s by fd (Some (on.File f at mode)) w p un = pipes_same s (writing.written s by fd (Some (on.File f at mode)) w) (λ p. false) refl p refl
-pipes_written s by fd (Some (on.ReadEnd q)) w p un = refl
 pipes_written s by fd (Some (on.WriteEnd q)) w p un = pipes_pipe s q (record (pipe_at s q) { queue = (pipe_at s q).queue ++ w }) p (apart q p un)
 pipes_written s by fd (Some (on.Connection e)) w p un = pipes_same s (writing.written s by fd (Some (on.Connection e)) w) (λ p. false) refl p refl
+pipes_written s by fd o w p un = refl
 
 end-operand : (p : ℕ) (o : Option Descriptor) (named : Bool) → (list_any (is_end p) (o ∷ []) || named) ≡ false → is_end p o ≡ false
 end-operand p o named un = grind (arith, common_steps, un)
@@ -78,19 +76,11 @@ pipes_then_domain s t d x touched before p un = pipes_same t (with_domain t d x)
 pipes_given : (s : State) (by fd to : ℕ) (o : Option Descriptor) (touched : ℕ → Bool) → KeepsPipes s (option_map_or (fds.given_to s by fd to) o s) touched
 unfolding with_domain
 pipes_given s by fd to None touched = λ p un. refl
-pipes_given s by fd to (Some x) touched = pipes_same s (fds.given_to s by fd to x) touched (cases (by == to))
-  where
-    cases : (b : Bool) → (if b then fds.with_fds s by (placed (fds.freed s by fd) (lowest (fds.freed s by fd)) x) else fds.with_fds (fds.opened s to x) by (fds.freed s by fd)).pipes ≡ s.pipes
-    cases true = refl
-    cases false = refl
+pipes_given s by fd to (Some x) touched = pipes_same s (fds.given_to s by fd to x) touched (fd_given (λ t. t.pipes ≡ s.pipes) s by fd to x (λ same. refl) (λ other. refl))
 
 pipes_agg_give : (s : State) (by a to : ℕ) (touched : ℕ → Bool) → KeepsPipes s (aggs.agg_give s by a to).after touched
 unfolding with_domain
-pipes_agg_give s by a to touched = pipes_same s (aggs.agg_give s by a to).after touched (cases (by == to))
-  where
-    cases : (b : Bool) → (if b then aggs.with_new s by (without (domain s by).aggs a) (text s by a) else aggs.without_agg (aggs.with_agg s to (text s by a)) by a).pipes ≡ s.pipes
-    cases true = refl
-    cases false = refl
+pipes_agg_give s by a to touched = pipes_same s (aggs.agg_give s by a to).after touched (agg_given (λ t. t.pipes ≡ s.pipes) s by a to (λ same. refl) (λ other. refl))
 
 pub pipe-new : (s : State) (by p : ℕ) → lowest s.pipes ≢ p → pipe_at (fds.pipe s by).after p ≡ pipe_at s p
 unfolding pipe_at
@@ -126,5 +116,4 @@ pipes_meant s (event.ConnNew q) = λ p un. pipes_same s (conn_new s q).after (λ
 pipes_meant s (event.Arrive e bytes) = λ p un. pipes_same s (meaning s (event.Arrive e bytes)).after (λ p. false) refl p refl
 pipes_meant s (event.PeerClosed e how) = λ p un. pipes_same s (meaning s (event.PeerClosed e how)).after (λ p. false) refl p refl
 pipes_meant s (event.Transmit e max) = λ p un. pipes_same s (meaning s (event.Transmit e max)).after (λ p. false) refl p refl
-pipes_meant s event.Flush = λ p un. refl
-pipes_meant s event.DropClean = λ p un. refl
+pipes_meant s other = λ p un. refl

@@ -5,7 +5,7 @@ use Rattle.std.specs.Option.{option_map_or}
 use Rattle.std.proofs.lemmas.Bool.Decides.{nat_tests}
 use Rattle.std.proofs.lemmas.Grind.{common_steps}
 use Rattle.iol_core.specs.Text.{Text}
-use Rattle.iol_core.specs.Numbered.{in_place, lowest, placed, without}
+use Rattle.iol_core.specs.Numbered.{in_place, lowest, placed}
 use Rattle.iol_core.specs.State.{State, Domain, domain, descriptor, text, new_domain, no_domain, with_domain, with_conn, with_content}
 use Rattle.iol_core.specs.Run.{called, meaning, StepsTo}
 use Rattle.iol_core.specs.Calls.Domains.{domain_new}
@@ -24,6 +24,7 @@ use Rattle.iol_core.specs.declared.events.Reply.{Reply}
 use Rattle.iol_core.specs.declared.events.Reply.TheVariants as reply
 use Rattle.iol_core.proofs.Lookups.{domain-with_domain, domain-same, domain-push}
 use Rattle.iol_core.proofs.Places.{place-set_other}
+use Rattle.iol_laws.proofs.Gives.{agg_given}
 use Rattle.iol_laws.specs.Opening.{opens}
 use Rattle.iol_laws.proofs.Domains.{domains-all_closed, domains-closed_on, domains-with_conn, domains-with_pipe}
 use Rattle.iol_laws.proofs.Opening.Lowest.{free-freed}
@@ -104,32 +105,28 @@ shut_closed s by f d fd none =
     shut_fds closed by (fds.freed s by f) d fd (λ same. free-freed (domain s by).fds f fd (own s by d fd none same)) (shut_same s closed d fd (domains-closed_on s (descriptor s by f)) none)
 
 shut_read : (s : State) (by f : ℕ) (o : Option Descriptor) (n d fd : ℕ) → descriptor s by f ≡ o → Shut s d fd → Shut (reading.read_on s by f o n) d fd
-shut_read s by f None n d fd is none = none
 shut_read s by f (Some (on.File g at mode)) n d fd is none = shut_moved s by f _ _ d fd is none
 shut_read s by f (Some (on.ReadEnd p)) n d fd is none = shut_same s _ d fd (domains-with_pipe s p _) none
-shut_read s by f (Some (on.WriteEnd p)) n d fd is none = none
 shut_read s by f (Some (on.Connection c)) n d fd is none = shut_same s _ d fd (domains-with_conn s c _) none
+shut_read s by f o n d fd is none = none
 
 shut_written : (s : State) (by f : ℕ) (o : Option Descriptor) (w : Text) (d fd : ℕ) → descriptor s by f ≡ o → Shut s d fd → Shut (writing.written s by f o w) d fd
 unfolding with_content
-shut_written s by f None w d fd is none = none
 shut_written s by f (Some (on.File g at mode)) w d fd is none =
     let filled : State = with_content s g _ in
     shut_moved filled by f _ _ d fd (ap (λ (y : Domain Text). in_place y.fds f) (domain-same s filled by refl) ∙ is) (shut_same s filled d fd refl none)
-shut_written s by f (Some (on.ReadEnd p)) w d fd is none = none
 shut_written s by f (Some (on.WriteEnd p)) w d fd is none = shut_same s _ d fd (domains-with_pipe s p _) none
 shut_written s by f (Some (on.Connection c)) w d fd is none = shut_same s _ d fd (domains-with_conn s c _) none
+shut_written s by f o w d fd is none = none
 
 shut_sought : (s : State) (by f at : ℕ) (o : Option Descriptor) (d fd : ℕ) → descriptor s by f ≡ o → Shut s d fd → Shut (fds.with_descriptor s by f (option_map (λ x. on.File x.0 at x.2) (files.open_on o))) d fd
 shut_sought s by f at None d fd is none = shut_freed s by f d fd none
 shut_sought s by f at (Some x) d fd is none = shut_moved s by f x _ d fd is none
 
 shut_agg_given : (s : State) (by a to d fd : ℕ) → Shut s d fd → Shut (aggs.agg_give s by a to).after d fd
-shut_agg_given s by a to d fd none = cases (by == to)
-  where
-    cases : (b : Bool) → Shut (if b then aggs.with_new s by (without (domain s by).aggs a) (text s by a) else aggs.without_agg (aggs.with_agg s to (text s by a)) by a) d fd
-    cases true = shut_aggs s by _ d fd refl none
-    cases false = shut_aggs (aggs.with_agg s to (text s by a)) by _ d fd refl (shut_aggs s to _ d fd refl none)
+shut_agg_given s by a to d fd none =
+    agg_given (λ t. Shut t d fd) s by a to (λ same. shut_aggs s by _ d fd refl none)
+    (λ other. shut_aggs (aggs.with_agg s to (text s by a)) by _ d fd refl (shut_aggs s to _ d fd refl none))
 
 shut_domain_new : (s : State) (by d fd : ℕ) → Shut s d fd → Shut (domain_new s by).after d fd
 shut_domain_new s by d fd none = elim (domain-push s new_domain d) [
@@ -144,14 +141,6 @@ shut_called s by call.Exit d fd un none = shut_domain (fold fds.closed_on s (dom
 shut_called s by (call.PoolCreate chunks list) d fd un none = shut_same s (called s by (call.PoolCreate chunks list)).after d fd refl none
 shut_called s by (call.PoolClose p) d fd un none = shut_same s (called s by (call.PoolClose p)).after d fd refl none
 shut_called s by (call.PoolAdmit p e) d fd un none = shut_same s (called s by (call.PoolAdmit p e)).after d fd refl none
-shut_called s by (call.SetPool p) d fd un none = shut_aggs s by _ d fd refl none
-shut_called s by (call.AggMake bytes) d fd un none = shut_aggs s by _ d fd refl none
-shut_called s by (call.AggDup x) d fd un none = shut_aggs s by _ d fd refl none
-shut_called s by (call.AggCut x from to) d fd un none = shut_aggs s by _ d fd refl none
-shut_called s by (call.AggSplit x at) d fd un none = shut_aggs s by _ d fd refl none
-shut_called s by (call.AggJoin x y) d fd un none = shut_aggs s by _ d fd refl none
-shut_called s by (call.AggReplace x from to y) d fd un none = shut_aggs s by _ d fd refl none
-shut_called s by (call.AggDrop x) d fd un none = shut_aggs s by _ d fd refl none
 shut_called s by (call.AggGive x to) d fd un none = shut_agg_given s by x to d fd none
 shut_called s by (call.Show x) d fd un none = none
 shut_called s by (call.FileNew name p) d fd un none = shut_same s (called s by (call.FileNew name p)).after d fd refl none
@@ -167,6 +156,7 @@ shut_called s by call.Accept d fd un none = shut_opened (with_conn s (unwrap_or 
 shut_called s by (call.Fsync f) d fd un none = none
 shut_called s by (call.Read f n) d fd un none = shut_read s by f (descriptor s by f) _ d fd refl none
 shut_called s by (call.Write f bytes) d fd un none = shut_written s by f (descriptor s by f) _ d fd refl none
+shut_called s by k d fd un none = shut_aggs s by _ d fd refl none
 
 shut_meant : (s : State) (e : Event) (d fd : ℕ) → opens e (meaning s e).answer d fd ≡ false → Shut s d fd → Shut (meaning s e).after d fd
 shut_meant s (event.Call by k) d fd un none = shut_called s by k d fd un none
@@ -174,8 +164,7 @@ shut_meant s (event.ConnNew p) d fd un none = shut_same s (meaning s (event.Conn
 shut_meant s (event.Arrive c bytes) d fd un none = shut_same s _ d fd (domains-with_conn s c _) none
 shut_meant s (event.PeerClosed c how) d fd un none = shut_same s _ d fd (domains-with_conn s c _) none
 shut_meant s (event.Transmit c max) d fd un none = shut_same s _ d fd (domains-with_conn s c _) none
-shut_meant s event.Flush d fd un none = none
-shut_meant s event.DropClean d fd un none = none
+shut_meant s e d fd un none = none
 
 pub shut_step : (s t : State) (e : Event) (r : Reply) (d fd : ℕ) → StepsTo s e r t → descriptor s d fd ≡ None → opens e r d fd ≡ false → descriptor t d fd ≡ None
 shut_step s t e (reply.Refused x) d fd step none un = ap (λ u. descriptor u d fd) step.1 ∙ none

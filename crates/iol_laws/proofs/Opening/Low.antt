@@ -1,5 +1,5 @@
 -- Numbers of descriptors are below the limit.
-use Rattle.std.proofs.Common.{inl, inr, ◌≡◌, ◌<◌, ◌≤◌, ℕ, ◌+◌, ◌==◌, List, [], ◌∷◌, ap, refl, sym, subst, arith, Option, Some, None, true, false, Bool}
+use Rattle.std.proofs.Common.{inl, inr, ◌≡◌, ◌<◌, ◌≤◌, ℕ, ◌+◌, ◌==◌, List, ap, refl, sym, subst, arith, Option, Some, None, true, false, Bool}
 use Rattle.std.specs.Prelude.{not, nat_le, if◌then◌else◌, ◌&&◌, ◌||◌}
 use Rattle.std.proofs.lemmas.Bool.Decides.{nat_tests}
 use Rattle.std.proofs.lemmas.Grind.{common_steps}
@@ -21,6 +21,7 @@ use Rattle.iol_core.specs.declared.events.Reply.{Reply}
 use Rattle.iol_core.specs.declared.events.Reply.TheVariants as reply
 use Rattle.iol_core.proofs.Lookups.{domain-new_state}
 use Rattle.iol_core.proofs.Passing.{passed, when-none}
+use Rattle.iol_laws.proofs.Runs.{run_keeps}
 use Rattle.iol_laws.specs.Opening.{AreLow, opens, gives_number}
 use Rattle.iol_laws.proofs.Numbers.{number}
 use Rattle.iol_laws.proofs.Opening.ByReplies.{shut_step}
@@ -108,11 +109,5 @@ low_new slots d fd x is = elim (domain-new_state slots d) [
   | inr none ↦ absurd (let e = ap (λ (y : Domain Text). in_place y.fds fd) none in cc (e, is))
 ]
 
-low_run : (s t : State) (es : List Event) (rs : List Reply) → AreLow s → Run s es rs t → AreLow t
-low_run s t [] [] low run = subst (λ (u : State). AreLow u) (sym run) low
-low_run s t (e ∷ es) (r ∷ rs) low run = low_run run.0 t es rs (low_step s run.0 e r low run.1) run.2
-low_run s t [] (r ∷ rs) low run = absurd run
-low_run s t (e ∷ es) [] low run = absurd run
-
 pub low_reached : (slots : List (List ℕ)) (t : State) (es : List Event) (rs : List Reply) → Run (new_state slots) es rs t → AreLow t
-low_reached slots t es rs run = low_run (new_state slots) t es rs (low_new slots) run
+low_reached slots t es rs run = run_keeps AreLow low_step (new_state slots) t es rs (low_new slots) run

@@ -61,22 +61,18 @@ stays : (k u : Connection) → u ≡ k → MayClose k u false
 stays k u same = record { outgoing = ap (λ (z : Connection). z.outgoing) same; closed = λ is. ap (λ (z : Connection). z.closed) same ∙ is; shuts = λ is. absurd (cc) }
 
 may_close : (s : State) (o : Option Descriptor) (c : ℕ) → Once s.conns → MayClose (conn_at s c) (conn_at (fds.closed_on s o) c) (is_conn c o)
-may_close s None c once = stays (conn_at s c) (conn_at s c) refl
-may_close s (Some (on.File f at mode)) c once = stays (conn_at s c) (conn_at s c) refl
 may_close s (Some (on.ReadEnd p)) c once = stays (conn_at s c) _ (conns_same s (fds.closed_on s (Some (on.ReadEnd p))) (λ k. false) (conns-with_pipe s p _) c refl)
 may_close s (Some (on.WriteEnd p)) c once = stays (conn_at s c) _ (conns_same s (fds.closed_on s (Some (on.WriteEnd p))) (λ k. false) (conns-with_pipe s p _) c refl)
 may_close s (Some (on.Connection e)) c once = elim (cases_eq e c) [
   | inl same ↦ subst (λ n. MayClose (conn_at s n) (conn_at (fds.closed_on s (Some (on.Connection e))) n) (e == n)) same (let both = shut s e once in record { outgoing = both.0; closed = λ is. both.1; shuts = λ is. both.1 })
   | inr differ ↦ (let un : (e == c) ≡ false = grind (arith, nat_tests, differ) in subst (λ b. MayClose (conn_at s c) (conn_at (fds.closed_on s (Some (on.Connection e))) c) b) (sym un) (stays (conn_at s c) _ (conns_conn s e _ c differ)))
 ]
+may_close s o c once = stays (conn_at s c) (conn_at s c) refl
 
 pub once-closed_on : (s : State) (o : Option Descriptor) → Once s.conns → Once (fds.closed_on s o).conns
 unfolding with_pipe
-once-closed_on s None once = once
-once-closed_on s (Some (on.File f at mode)) once = once
-once-closed_on s (Some (on.ReadEnd p)) once = once
-once-closed_on s (Some (on.WriteEnd p)) once = once
 once-closed_on s (Some (on.Connection c)) once = once-with_conn s c _ once
+once-closed_on s o once = once
 
 all_close : (s : State) (list : List (Option Descriptor)) (c : ℕ) → Once s.conns → MayClose (conn_at s c) (conn_at (fold fds.closed_on s list) c) (list_any (is_conn c) list)
 all_close s [] c once = stays (conn_at s c) (conn_at s c) refl
@@ -121,14 +117,13 @@ shut-twice k = by (is_over x) refl
     by false over = ap (λ b. if b then no_conn else x) over
 
 one_remains : (s : State) (o : Option Descriptor) (c : ℕ) → Once s.conns → conn_at (fds.closed_on s o) c ≡ (if is_conn c o then shut_as (conn_at s c) else conn_at s c)
-one_remains s None c once = refl
-one_remains s (Some (on.File f at mode)) c once = refl
 one_remains s (Some (on.ReadEnd p)) c once = conns_same s (fds.closed_on s (Some (on.ReadEnd p))) (λ k. false) (conns-with_pipe s p _) c refl
 one_remains s (Some (on.WriteEnd p)) c once = conns_same s (fds.closed_on s (Some (on.WriteEnd p))) (λ k. false) (conns-with_pipe s p _) c refl
 one_remains s (Some (on.Connection e)) c once = elim (cases_eq e c) [
   | inl same ↦ (let is : (e == c) ≡ true = grind (arith, nat_tests, same) in ap (λ n. conn_at (fds.closed_on s (Some (on.Connection n))) c) same ∙ (shut-remains s c once ∙ sym (ap (λ b. if b then shut_as (conn_at s c) else conn_at s c) is)))
   | inr differ ↦ (let un : (e == c) ≡ false = grind (arith, nat_tests, differ) in conns_conn s e _ c differ ∙ sym (ap (λ b. if b then shut_as (conn_at s c) else conn_at s c) un))
 ]
+one_remains s o c once = refl
 
 all_remain : (s : State) (list : List (Option Descriptor)) (c : ℕ) → Once s.conns → conn_at (fold fds.closed_on s list) c ≡ (if list_any (is_conn c) list then shut_as (conn_at s c) else conn_at s c)
 all_remain s [] c once = refl
@@ -142,9 +137,8 @@ all_remain s (o ∷ list) c once =
   where
     both : (a b : Bool) (k : Connection) → (if a then shut_as (if b then shut_as k else k) else (if b then shut_as k else k)) ≡ (if b || a then shut_as k else k)
     both true true k = shut-twice k
-    both true false k = refl
     both false true k = refl
-    both false false k = refl
+    both b false k = refl
 
     any-cons : (test : Option Descriptor → Bool) (o : Option Descriptor) (list : List (Option Descriptor)) → list_any test (o ∷ list) ≡ (test o || list_any test list)
     any-cons test o list = grind (arith, common_steps)
@@ -245,8 +239,6 @@ shut_writes s p = by (pipe_at s p).reading refl
         }
 
 pub may_shut : (s : State) (o : Option Descriptor) (p : ℕ) → MayShut (pipe_at s p) (pipe_at (fds.closed_on s o) p) (is_read_end p o) (is_write_end p o)
-may_shut s None p = unshut (pipe_at s p) (pipe_at s p) refl
-may_shut s (Some (on.File f at mode)) p = unshut (pipe_at s p) (pipe_at s p) refl
 may_shut s (Some (on.Connection c)) p = unshut (pipe_at s p) _ (pipes_closed_on s (Some (on.Connection c)) p refl)
 may_shut s (Some (on.ReadEnd q)) p = elim (cases_eq q p) [
   | inl same ↦ (let e : (q == p) ≡ true = grind (arith, nat_tests, same) in subst (λ b. MayShut (pipe_at s p) (pipe_at (fds.closed_on s (Some (on.ReadEnd q))) p) b false) (sym e) (subst (λ n. MayShut (pipe_at s n) (pipe_at (fds.closed_on s (Some (on.ReadEnd q))) n) true false) same (shut_reads s q)))
@@ -256,6 +248,7 @@ may_shut s (Some (on.WriteEnd q)) p = elim (cases_eq q p) [
   | inl same ↦ (let e : (q == p) ≡ true = grind (arith, nat_tests, same) in subst (λ b. MayShut (pipe_at s p) (pipe_at (fds.closed_on s (Some (on.WriteEnd q))) p) false b) (sym e) (subst (λ n. MayShut (pipe_at s n) (pipe_at (fds.closed_on s (Some (on.WriteEnd q))) n) false true) same (shut_writes s q)))
   | inr differ ↦ (let e : (q == p) ≡ false = grind (arith, nat_tests, differ) in subst (λ b. MayShut (pipe_at s p) (pipe_at (fds.closed_on s (Some (on.WriteEnd q))) p) false b) (sym e) (unshut (pipe_at s p) _ (pipes_pipe s q _ p differ)))
 ]
+may_shut s o p = unshut (pipe_at s p) (pipe_at s p) refl
 
 -- one after another
 shut_then : (k u v : Pipe) (r w x y : Bool) → MayShut k u r w → MayShut u v x y → MayShut k v (r || x) (w || y)
@@ -308,18 +301,12 @@ write_end_ended s list fd p is =
 
 -- the tests of one that has not this end
 pub not-reading : (p : ℕ) (o : Option Descriptor) → (o ≡ Some (on.ReadEnd p) → ⊥) → is_read_end p o ≡ false
-not-reading p None never = refl
-not-reading p (Some (on.File f at mode)) never = refl
-not-reading p (Some (on.WriteEnd q)) never = refl
-not-reading p (Some (on.Connection c)) never = refl
 not-reading p (Some (on.ReadEnd q)) never = elim (cases_eq q p) [ inl same ↦ absurd (never (ap (λ k. Some (on.ReadEnd k)) same)) | inr differ ↦ grind (arith, nat_tests, differ) ]
+not-reading p o never = refl
 
 pub not-writing : (p : ℕ) (o : Option Descriptor) → (o ≡ Some (on.WriteEnd p) → ⊥) → is_write_end p o ≡ false
-not-writing p None never = refl
-not-writing p (Some (on.File f at mode)) never = refl
-not-writing p (Some (on.ReadEnd q)) never = refl
-not-writing p (Some (on.Connection c)) never = refl
 not-writing p (Some (on.WriteEnd q)) never = elim (cases_eq q p) [ inl same ↦ absurd (never (ap (λ k. Some (on.WriteEnd k)) same)) | inr differ ↦ grind (arith, nat_tests, differ) ]
+not-writing p o never = refl
 
 pub none-reading : (p : ℕ) (list : List (Option Descriptor)) → ((fd : ℕ) → in_place list fd ≡ Some (on.ReadEnd p) → ⊥) → list_any (is_read_end p) list ≡ false
 none-reading p list nobody = none-open (is_read_end p) list refl (λ n x is. sym (ap (is_read_end p) is) ∙ not-reading p (in_place list n) (nobody n))

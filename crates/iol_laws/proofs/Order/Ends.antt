@@ -28,9 +28,7 @@ WasOr s d0 f0 x d f y = ((descriptor s d f ≡ Some y) × (y ≢ x)) ⊎ ((d ≡
 
 stands-file : (t : State) (y : Descriptor) → (is_file (Some y) ≡ false → stands t y ≡ true) → stands t y ≡ true
 stands-file t (on.File f at mode) end = refl
-stands-file t (on.ReadEnd p) end = end refl
-stands-file t (on.WriteEnd p) end = end refl
-stands-file t (on.Connection c) end = end refl
+stands-file t y end = end refl
 
 -- one end more
 pub sole_more : (s t : State) (d0 f0 : ℕ) (x : Descriptor) → IsSole s → ((d f : ℕ) (y : Descriptor) → is_file (Some y) ≡ false → descriptor t d f ≡ Some y → WasOr s d0 f0 x d f y × (stands t y ≡ true)) → IsSole t

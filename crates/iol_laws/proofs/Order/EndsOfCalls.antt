@@ -1,10 +1,10 @@
 -- Ends are open once after each event.
-use Rattle.std.proofs.Common.{inl, inr, ◌≡◌, ◌≢◌, ℕ, ◌+◌, ◌==◌, ◌++◌, length, take, drop, ap, ◌∙◌, refl, sym, subst, arith, Option, Some, None, true, false, Bool}
-use Rattle.std.specs.Prelude.{option_map, unwrap_or, not, is_none, ◌&&◌, if◌then◌else◌}
+use Rattle.std.proofs.Common.{inl, inr, ◌≡◌, ◌≢◌, ℕ, ◌+◌, ◌++◌, length, take, drop, ap, ◌∙◌, refl, sym, subst, arith, Option, Some, None, true, false}
+use Rattle.std.specs.Prelude.{option_map, unwrap_or, not, is_none, ◌&&◌}
 use Rattle.std.specs.Option.{option_map_or}
 use Rattle.std.proofs.lemmas.Bool.{cases_eq}
 use Rattle.iol_core.specs.Text.{Text, bytes_of}
-use Rattle.iol_core.specs.Numbered.{without, in_place, lowest, placed}
+use Rattle.iol_core.specs.Numbered.{in_place, lowest, placed}
 use Rattle.iol_core.specs.State.{State, Domain, Pipe, Connection, domain, text, descriptor, content, pipe_at, conn_at, no_pipe, new_pipe, new_domain, is_live, with_domain, with_conn, with_content}
 use Rattle.iol_core.specs.Meaning.{first}
 use Rattle.iol_core.specs.Run.{called, meaning}
@@ -26,6 +26,7 @@ use Rattle.iol_core.specs.declared.events.Event.{Event}
 use Rattle.iol_core.specs.declared.events.Event.TheVariants as event
 use Rattle.iol_core.proofs.Lookups.{domain-same, domain-push}
 use Rattle.iol_core.proofs.Passing.{passed, when-none}
+use Rattle.iol_laws.proofs.Gives.{agg_given}
 use Rattle.iol_laws.specs.Order.{stands, IsOrderly}
 use Rattle.iol_laws.proofs.Connections.{conn-push, conn-unmade, conn-with_same, conns_conn, conns_same, not-over}
 use Rattle.iol_laws.proofs.Domains.{domain-with_same, domains-with_conn, found-with, live-first, with_domain-twice}
@@ -110,46 +111,37 @@ sole_accept s by order some = sole_opened mid by (on.Connection c) sole_mid nobo
     nobody e f is = unheld e f (sym (ap (λ (z : Domain Text). in_place z.fds f) (domain-same s mid e (domains-with_conn s c x))) ∙ is)
 
 sole_agg_give : (s : State) (by a to : ℕ) → IsSole s → IsSole (aggs.agg_give s by a to).after
-sole_agg_give s by a to sole = cases (by == to)
-  where
-    cases : (b : Bool) → IsSole (if b then aggs.with_new s by (without (domain s by).aggs a) (text s by a) else aggs.without_agg (aggs.with_agg s to (text s by a)) by a)
-    cases true = sole_kept s by _ refl sole
-    cases false = sole_kept (aggs.with_agg s to (text s by a)) by _ refl (sole_kept s to _ refl sole)
+sole_agg_give s by a to sole =
+    agg_given (λ t. IsSole t) s by a to (λ same. sole_kept s by _ refl sole) (λ other. sole_kept (aggs.with_agg s to (text s by a)) by _ refl (sole_kept s to _ refl sole))
 
 sole_closes : (s : State) (by fd : ℕ) (o : Option Descriptor) → descriptor s by fd ≡ o → IsSole s → IsSole (fds.with_fds (fds.closed_on s o) by (fds.freed s by fd))
-sole_closes s by fd None is sole = sole_freed s by fd sole
-sole_closes s by fd (Some (on.File f at mode)) is sole = sole_freed s by fd sole
 sole_closes s by fd (Some (on.ReadEnd p)) is sole = sole_closed s by fd (on.ReadEnd p) sole is refl
 sole_closes s by fd (Some (on.WriteEnd p)) is sole = sole_closed s by fd (on.WriteEnd p) sole is refl
 sole_closes s by fd (Some (on.Connection c)) is sole = sole_closed s by fd (on.Connection c) sole is refl
+sole_closes s by fd o is sole = sole_freed s by fd sole
 
 sole_gives : (s : State) (by fd to : ℕ) (o : Option Descriptor) → descriptor s by fd ≡ o → IsSole s → IsSole (option_map_or (fds.given_to s by fd to) o s)
 sole_gives s by fd to None is sole = sole
 sole_gives s by fd to (Some x) is sole = sole_given s by fd to x sole is
 
 sole_read_on : (s : State) (by fd : ℕ) (o : Option Descriptor) (n : ℕ) → IsSole s → IsSole (reading.read_on s by fd o n)
-sole_read_on s by fd None n sole = sole
 sole_read_on s by fd (Some (on.File f at mode)) n sole = sole_file s by fd (Some (on.File f (at + n) mode)) refl sole
 sole_read_on s by fd (Some (on.ReadEnd p)) n sole = sole_pipe s p _ refl refl sole
-sole_read_on s by fd (Some (on.WriteEnd p)) n sole = sole
 sole_read_on s by fd (Some (on.Connection c)) n sole = sole_conn s c _ refl refl sole
+sole_read_on s by fd o n sole = sole
 
 sole_written : (s : State) (by fd : ℕ) (o : Option Descriptor) (w : Text) → IsSole s → IsSole (writing.written s by fd o w)
 unfolding with_content
-sole_written s by fd None w sole = sole
 sole_written s by fd (Some (on.File f at mode)) w sole =
     let filled : State = with_content s f (take at (content s f) ++ bytes_of w ++ drop (at + length w) (content s f)) in
     sole_file filled by fd (Some (on.File f (at + length w) mode)) refl (sole_rest s filled sole refl refl refl)
-sole_written s by fd (Some (on.ReadEnd p)) w sole = sole
 sole_written s by fd (Some (on.WriteEnd p)) w sole = sole_pipe s p _ refl refl sole
 sole_written s by fd (Some (on.Connection c)) w sole = sole_conn s c _ refl refl sole
+sole_written s by fd o w sole = sole
 
 pub sole_seek : (s : State) (by fd at : ℕ) (o : Option Descriptor) → is_none (open_on o) ≡ false → IsSole s → IsSole (fds.with_descriptor s by fd (option_map (λ x. on.File x.0 at x.2) (open_on o)))
-sole_seek s by fd at None some sole = absurd (cc)
 sole_seek s by fd at (Some (on.File f was mode)) some sole = sole_file s by fd (Some (on.File f at mode)) refl sole
-sole_seek s by fd at (Some (on.ReadEnd p)) some sole = absurd (cc)
-sole_seek s by fd at (Some (on.WriteEnd p)) some sole = absurd (cc)
-sole_seek s by fd at (Some (on.Connection c)) some sole = absurd (cc)
+sole_seek s by fd at o some sole = absurd (cc)
 
 pub pipe-there : (s : State) → pipe_at (record s { pipes = placed s.pipes (lowest s.pipes) new_pipe }) (lowest s.pipes) ≡ new_pipe
 unfolding pipe_at
@@ -290,5 +282,4 @@ sole_meant s (event.Arrive c bytes) order unrefused = sole_conn s c _ refl refl 
 sole_meant s (event.PeerClosed c ways.Done) order unrefused = sole_conn s c _ refl refl (sole_of s order)
 sole_meant s (event.PeerClosed c ways.Gone) order unrefused = sole_conn s c _ refl refl (sole_of s order)
 sole_meant s (event.Transmit c max) order unrefused = sole_conn s c _ refl refl (sole_of s order)
-sole_meant s event.Flush order unrefused = sole_of s order
-sole_meant s event.DropClean order unrefused = sole_of s order
+sole_meant s e order unrefused = sole_of s order

@@ -1,10 +1,10 @@
 -- Nothing is left of a domain that ended, and a pipe that is there has an open end: after each event.
-use Rattle.std.proofs.Common.{inl, inr, zero, suc, ◌≡◌, ℕ, ◌+◌, ◌==◌, List, [], ◌∷◌, ◌++◌, length, take, drop, ap, ◌∙◌, refl, sym, subst, Option, Some, None, true, false, Bool}
+use Rattle.std.proofs.Common.{inl, inr, zero, suc, ◌≡◌, ℕ, ◌+◌, List, [], ◌∷◌, ◌++◌, length, take, drop, ap, ◌∙◌, refl, sym, subst, Option, Some, None, true, false, Bool}
 use Rattle.std.specs.Prelude.{slice_set, unwrap_or, not, ◌||◌, if◌then◌else◌, fold}
 use Rattle.std.specs.Option.{option_map_or}
 use Rattle.std.proofs.lemmas.Bool.{cases_eq}
 use Rattle.iol_core.specs.Text.{Text, bytes_of}
-use Rattle.iol_core.specs.Numbered.{without, in_place, lowest, placed}
+use Rattle.iol_core.specs.Numbered.{in_place, lowest, placed}
 use Rattle.iol_core.specs.State.{State, Domain, Pipe, Connection, domain, is_live, text, descriptor, content, new_domain, no_domain, new_pipe, with_domain, with_pipe, with_conn, with_content}
 use Rattle.iol_core.specs.Meaning.{first, ◌when◌}
 use Rattle.iol_core.specs.Run.{called, meaning}
@@ -24,6 +24,7 @@ use Rattle.iol_core.specs.declared.events.Event.TheVariants as event
 use Rattle.iol_core.proofs.Lookups.{domain-with_domain, domain-same, domain-push}
 use Rattle.iol_core.proofs.Passing.{passed, when-none}
 use Rattle.iol_core.proofs.Places.{place-set_other}
+use Rattle.iol_laws.proofs.Gives.{agg_given, fd_given}
 use Rattle.iol_laws.specs.Order.{IsOrderly}
 use Rattle.iol_laws.proofs.Domains.{domains-closed_on, domains-with_conn, live-first}
 use Rattle.iol_laws.proofs.Left.Domains.{standing_read_on}
@@ -86,11 +87,10 @@ unfolding with_conn
 gone_conn s c x was = gone_same s (with_conn s c x) refl refl was
 
 gone_closed_on : (s : State) (o : Option Descriptor) → AllGone s → AllGone (fds.closed_on s o)
-gone_closed_on s None was = was
-gone_closed_on s (Some (on.File f at mode)) was = was
 gone_closed_on s (Some (on.ReadEnd p)) was = gone_pipe s p _ was
 gone_closed_on s (Some (on.WriteEnd p)) was = gone_pipe s p _ was
 gone_closed_on s (Some (on.Connection c)) was = gone_conn s c _ was
+gone_closed_on s o was = was
 
 gone_all_closed : (s : State) (list : List (Option Descriptor)) → AllGone s → AllGone (fold fds.closed_on s list)
 gone_all_closed s [] was = was
@@ -127,36 +127,30 @@ both-live s by to rest none = both (is_live s by) (is_live s to) (when-none refu
     both false b is = absurd (cc)
 
 gone_agg_give : (s : State) (by a to : ℕ) → is_live s by ≡ true → is_live s to ≡ true → AllGone s → AllGone (aggs.agg_give s by a to).after
-gone_agg_give s by a to live to_live was = cases (by == to)
-  where
-    cases : (b : Bool) → AllGone (if b then aggs.with_new s by (without (domain s by).aggs a) (text s by a) else aggs.without_agg (aggs.with_agg s to (text s by a)) by a)
-    cases true = gone_live s by _ live refl was
-    cases false = gone_live (aggs.with_agg s to (text s by a)) by _ (live-with s to by _ refl live) refl (gone_live s to _ to_live refl was)
+gone_agg_give s by a to live to_live was =
+    agg_given (λ t. AllGone t) s by a to (λ same. gone_live s by _ live refl was)
+    (λ other. gone_live (aggs.with_agg s to (text s by a)) by _ (live-with s to by _ refl live) refl (gone_live s to _ to_live refl was))
 
 gone_given : (s : State) (by fd to : ℕ) (o : Option Descriptor) → is_live s by ≡ true → is_live s to ≡ true → AllGone s → AllGone (option_map_or (fds.given_to s by fd to) o s)
 gone_given s by fd to None live to_live was = was
-gone_given s by fd to (Some x) live to_live was = cases (by == to)
-  where
-    cases : (b : Bool) → AllGone (if b then fds.with_fds s by (placed (fds.freed s by fd) (lowest (fds.freed s by fd)) x) else fds.with_fds (fds.opened s to x) by (fds.freed s by fd))
-    cases true = gone_live s by _ live refl was
-    cases false = gone_live (fds.opened s to x) by _ (live-with s to by _ refl live) refl (gone_live s to _ to_live refl was)
+gone_given s by fd to (Some x) live to_live was =
+    fd_given (λ t. AllGone t) s by fd to x (λ same. gone_live s by _ live refl was)
+    (λ other. gone_live (fds.opened s to x) by _ (live-with s to by _ refl live) refl (gone_live s to _ to_live refl was))
 
 gone_read_on : (s : State) (by fd : ℕ) (o : Option Descriptor) (n : ℕ) → is_live s by ≡ true → AllGone s → AllGone (reading.read_on s by fd o n)
-gone_read_on s by fd None n live was = was
 gone_read_on s by fd (Some (on.File f at mode)) n live was = gone_live s by _ live refl was
 gone_read_on s by fd (Some (on.ReadEnd p)) n live was = gone_pipe s p _ was
-gone_read_on s by fd (Some (on.WriteEnd p)) n live was = was
 gone_read_on s by fd (Some (on.Connection c)) n live was = gone_conn s c _ was
+gone_read_on s by fd o n live was = was
 
 gone_written : (s : State) (by fd : ℕ) (o : Option Descriptor) (w : Text) → is_live s by ≡ true → AllGone s → AllGone (writing.written s by fd o w)
 unfolding with_content
-gone_written s by fd None w live was = was
 gone_written s by fd (Some (on.File f at mode)) w live was =
     let filled : State = with_content s f (take at (content s f) ++ bytes_of w ++ drop (at + length w) (content s f)) in
     gone_live filled by _ (ap (λ (x : Domain Text). x.live) (domain-same s filled by refl) ∙ live) refl (gone_same s filled refl refl was)
-gone_written s by fd (Some (on.ReadEnd p)) w live was = was
 gone_written s by fd (Some (on.WriteEnd p)) w live was = gone_pipe s p _ was
 gone_written s by fd (Some (on.Connection c)) w live was = gone_conn s c _ was
+gone_written s by fd o w live was = was
 
 gone_called : (s : State) (by : ℕ) (k : Call) → AllGone s → first (called s by k).refusals ≡ None → AllGone (called s by k).after
 gone_called s by call.DomainNew was unrefused = gone_domain_new s by was

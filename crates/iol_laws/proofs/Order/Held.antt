@@ -172,8 +172,6 @@ unstood s o (on.ReadEnd p) once end is =
 unstood s o (on.WriteEnd p) once end is =
     let both = both-true (pipe_at s p).writing (not (is_write_end p o)) (sym (may_shut s o p).writing ∙ is) in
     (both.0, λ same. (let off = not-true (is_write_end p o) both.1 in let e : is_write_end p (Some (on.WriteEnd p)) ≡ true = grind (arith, nat_tests) in let a = ap (is_write_end p) same in cc (off, e, a)))
-unstood s None (on.Connection c) once end is = (is, λ same. absurd (cc (same)))
-unstood s (Some (on.File f at mode)) (on.Connection c) once end is = (is, λ same. absurd (cc (same)))
 unstood s (Some (on.ReadEnd p)) (on.Connection c) once end is = (sym (ap (λ (k : Connection). k.accepted && not k.closed) (conns_same s (fds.closed_on s (Some (on.ReadEnd p))) (λ k. false) (conns-with_pipe s p _) c refl)) ∙ is, λ same. absurd (cc (same)))
 unstood s (Some (on.WriteEnd p)) (on.Connection c) once end is = (sym (ap (λ (k : Connection). k.accepted && not k.closed) (conns_same s (fds.closed_on s (Some (on.WriteEnd p))) (λ k. false) (conns-with_pipe s p _) c refl)) ∙ is, λ same. absurd (cc (same)))
 unstood s (Some (on.Connection e)) (on.Connection c) once end is = elim (cases_eq e c) [
@@ -189,6 +187,7 @@ unstood s (Some (on.Connection e)) (on.Connection c) once end is = elim (cases_e
 
     number : Some (on.Connection e) ≡ Some (on.Connection c) → e ≡ c
     number same = ap number_of same
+unstood s other (on.Connection c) once end is = (is, λ same. absurd (cc (same)))
 
 -- one is closed
 pub held_closes : (s : State) (d fd : ℕ) (o : Option Descriptor) → descriptor s d fd ≡ o → Once s.conns → is_live s d ≡ true → AllHeld s → AllHeld (fds.with_fds (fds.closed_on s o) d (fds.freed s d fd))

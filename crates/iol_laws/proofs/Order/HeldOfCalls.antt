@@ -1,11 +1,11 @@
 -- What stands is open: after each event.
-use Rattle.std.proofs.Common.{inl, inr, ◌≡◌, ◌≢◌, ℕ, ◌+◌, ◌==◌, ◌⊎◌, ◌++◌, length, take, drop, ap, ◌∙◌, refl, sym, subst, arith, Option, Some, None, true, false, Bool}
-use Rattle.std.specs.Prelude.{option_map, unwrap_or, not, is_none, ◌&&◌, if◌then◌else◌}
+use Rattle.std.proofs.Common.{inl, inr, ◌≡◌, ◌≢◌, ℕ, ◌+◌, ◌⊎◌, ◌++◌, length, take, drop, ap, ◌∙◌, refl, sym, subst, arith, Option, Some, None, true, false, Bool}
+use Rattle.std.specs.Prelude.{option_map, unwrap_or, not, is_none, ◌&&◌}
 use Rattle.std.specs.Option.{option_map_or}
 use Rattle.std.proofs.lemmas.Bool.{cases_eq}
 use Rattle.iol_core.specs.Text.{Text, bytes_of}
-use Rattle.iol_core.specs.Numbered.{without, in_place, lowest, placed}
-use Rattle.iol_core.specs.State.{State, Domain, Pipe, Connection, domain, is_live, text, descriptor, content, conn_at, new_pipe, new_domain, with_domain, with_conn, with_content}
+use Rattle.iol_core.specs.Numbered.{in_place, lowest, placed}
+use Rattle.iol_core.specs.State.{State, Domain, Pipe, Connection, is_live, text, descriptor, content, conn_at, new_pipe, new_domain, with_domain, with_conn, with_content}
 use Rattle.iol_core.specs.Meaning.{first}
 use Rattle.iol_core.specs.Run.{called, meaning}
 use Rattle.iol_core.specs.Calls.Domains.{domain_new}
@@ -26,6 +26,7 @@ use Rattle.iol_core.specs.declared.events.Event.{Event}
 use Rattle.iol_core.specs.declared.events.Event.TheVariants as event
 use Rattle.iol_core.proofs.Lookups.{domain-same, domain-push}
 use Rattle.iol_core.proofs.Passing.{passed, when-none}
+use Rattle.iol_laws.proofs.Gives.{agg_given}
 use Rattle.iol_laws.specs.Order.{stands, IsOrderly, IsOpen}
 use Rattle.iol_laws.proofs.Connections.{conn-made, conn-push, conns_same}
 use Rattle.iol_laws.proofs.Domains.{domains-with_conn, live-first}
@@ -121,40 +122,33 @@ held_new_pipe s by live was = subst AllHeld (pipe-twice s by live) (held_opened 
     ]
 
 held_agg_give : (s : State) (by a to : ℕ) → is_live s by ≡ true → is_live s to ≡ true → AllHeld s → AllHeld (aggs.agg_give s by a to).after
-held_agg_give s by a to live to_live was = cases (by == to)
-  where
-    cases : (b : Bool) → AllHeld (if b then aggs.with_new s by (without (domain s by).aggs a) (text s by a) else aggs.without_agg (aggs.with_agg s to (text s by a)) by a)
-    cases true = held_kept s by _ live refl was
-    cases false = held_kept (aggs.with_agg s to (text s by a)) by _ (live-with s to by _ refl live) refl (held_kept s to _ to_live refl was)
+held_agg_give s by a to live to_live was =
+    agg_given (λ t. AllHeld t) s by a to (λ same. held_kept s by _ live refl was)
+    (λ other. held_kept (aggs.with_agg s to (text s by a)) by _ (live-with s to by _ refl live) refl (held_kept s to _ to_live refl was))
 
 held_gives : (s : State) (by fd to : ℕ) (o : Option Descriptor) → descriptor s by fd ≡ o → is_live s by ≡ true → is_live s to ≡ true → AllHeld s → AllHeld (option_map_or (fds.given_to s by fd to) o s)
 held_gives s by fd to None is live to_live was = was
 held_gives s by fd to (Some x) is live to_live was = held_given s by fd to x is live to_live was
 
 held_read_on : (s : State) (by fd : ℕ) (o : Option Descriptor) (n : ℕ) → descriptor s by fd ≡ o → IsOrderly s → is_live s by ≡ true → AllHeld (reading.read_on s by fd o n)
-held_read_on s by fd None n is order live = held_of s order
 held_read_on s by fd (Some (on.File f at mode)) n is order live = held_file s by fd (Some (on.File f (at + n) mode)) live (ap is_file is) (held_of s order)
 held_read_on s by fd (Some (on.ReadEnd p)) n is order live = held_pipe s p _ refl refl (held_of s order)
-held_read_on s by fd (Some (on.WriteEnd p)) n is order live = held_of s order
 held_read_on s by fd (Some (on.Connection c)) n is order live = held_conn s c _ order.once refl refl (held_of s order)
+held_read_on s by fd o n is order live = held_of s order
 
 held_written : (s : State) (by fd : ℕ) (o : Option Descriptor) (w : Text) → descriptor s by fd ≡ o → IsOrderly s → is_live s by ≡ true → AllHeld (writing.written s by fd o w)
 unfolding with_content
-held_written s by fd None w is order live = held_of s order
 held_written s by fd (Some (on.File f at mode)) w is order live =
     let filled : State = with_content s f (take at (content s f) ++ bytes_of w ++ drop (at + length w) (content s f)) in
     let same = domain-same s filled by refl in
     held_file filled by fd (Some (on.File f (at + length w) mode)) (ap (λ (z : Domain Text). z.live) same ∙ live) (ap (λ (z : Domain Text). is_file (in_place z.fds fd)) same ∙ ap is_file is) (held_rest s filled refl refl refl (held_of s order))
-held_written s by fd (Some (on.ReadEnd p)) w is order live = held_of s order
 held_written s by fd (Some (on.WriteEnd p)) w is order live = held_pipe s p _ refl refl (held_of s order)
 held_written s by fd (Some (on.Connection c)) w is order live = held_conn s c _ order.once refl refl (held_of s order)
+held_written s by fd o w is order live = held_of s order
 
 held_seek : (s : State) (by fd at : ℕ) (o : Option Descriptor) → descriptor s by fd ≡ o → is_none (open_on o) ≡ false → is_live s by ≡ true → AllHeld s → AllHeld (fds.with_descriptor s by fd (option_map (λ x. on.File x.0 at x.2) (open_on o)))
-held_seek s by fd at None is some live was = absurd (cc)
 held_seek s by fd at (Some (on.File f was_at mode)) is some live was = held_file s by fd (Some (on.File f at mode)) live (ap is_file is) was
-held_seek s by fd at (Some (on.ReadEnd p)) is some live was = absurd (cc)
-held_seek s by fd at (Some (on.WriteEnd p)) is some live was = absurd (cc)
-held_seek s by fd at (Some (on.Connection c)) is some live was = absurd (cc)
+held_seek s by fd at o is some live was = absurd (cc)
 
 held_called : (s : State) (by : ℕ) (k : Call) → IsOrderly s → first (called s by k).refusals ≡ None → AllHeld (called s by k).after
 held_called s by call.DomainNew order unrefused = held_domain_new s by (held_of s order)
@@ -203,5 +197,4 @@ held_meant s (event.Arrive c bytes) order unrefused = held_conn s c _ order.once
 held_meant s (event.PeerClosed c ways.Done) order unrefused = held_conn s c _ order.once refl refl (held_of s order)
 held_meant s (event.PeerClosed c ways.Gone) order unrefused = held_conn s c _ order.once refl refl (held_of s order)
 held_meant s (event.Transmit c max) order unrefused = held_conn s c _ order.once refl refl (held_of s order)
-held_meant s event.Flush order unrefused = held_of s order
-held_meant s event.DropClean order unrefused = held_of s order
+held_meant s e order unrefused = held_of s order

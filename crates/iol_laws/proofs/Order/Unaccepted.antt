@@ -101,10 +101,9 @@ quiet_meant s (event.ConnNew p) order = quiet_conn_new s p (quiet_of s order)
 quiet_meant s (event.Arrive c bytes) order = quiet_conn s c _ (order.waits c, order.silent c) (quiet_of s order)
 quiet_meant s (event.PeerClosed c ways.Done) order = quiet_conn s c _ (order.waits c, order.silent c) (quiet_of s order)
 quiet_meant s (event.PeerClosed c ways.Gone) order = quiet_conn s c _ (order.waits c, λ is. refl) (quiet_of s order)
-quiet_meant s event.Flush order = quiet_of s order
-quiet_meant s event.DropClean order = quiet_of s order
 quiet_meant s (event.Transmit c max) order = quiet_conn s c _ (order.waits c, λ is. ap (λ (t : Text). drop max t) (order.silent c is) ∙ none max) (quiet_of s order)
   where
     none : (n : ℕ) → drop {A = ℕ × ℕ} n [] ≡ []
     none zero = refl
     none (suc n) = refl
+quiet_meant s e order = quiet_of s order

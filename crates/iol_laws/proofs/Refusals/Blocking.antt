@@ -46,11 +46,10 @@ segment_is_empty s t c max step = none-left (conn_at s c).outgoing (last refuse.
 waits : (s t : State) (e : Event) → StepsTo s e (reply.Refused refuse.WouldBlock) t → event_may_wait e ≡ true
 waits s t (event.Call d k) step = who_waits s t d k step
 waits s t (event.ConnNew p) step = absurd (others (meaning s (event.ConnNew p)).refusals (meaning s (event.ConnNew p)).Late (may IsNoWait refuse.NoPool _ refl, (may IsNoWait refuse.TooMany _ refl, (may IsNoWait (refuse.PoolClosed p) _ refl, tt))) (λ late. absurd late) step.0)
-waits s t (event.Arrive c bytes) step = refl
 waits s t (event.PeerClosed c how) step = absurd (others (meaning s (event.PeerClosed c how)).refusals (meaning s (event.PeerClosed c how)).Late (may IsNoWait refuse.BadFd _ refl, tt) (λ late. absurd late) step.0)
-waits s t (event.Transmit c max) step = refl
 waits s t event.Flush step = absurd (others (meaning s event.Flush).refusals (meaning s event.Flush).Late tt (λ late. absurd late) step.0)
 waits s t event.DropClean step = absurd (others (meaning s event.DropClean).refusals (meaning s event.DropClean).Late tt (λ late. absurd late) step.0)
+waits s t e step = refl
 
 pub which_waits : (s t : State) (e : Event) → StepsTo s e (reply.Refused refuse.WouldBlock) t → (event_may_wait e ≡ true) × (t ≡ s)
 which_waits s t e step = (waits s t e step, step.1)

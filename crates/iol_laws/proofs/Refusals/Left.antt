@@ -162,6 +162,13 @@ left_accept s t d x live step =
     let Is = LacksNumbersOrWaits in
     left Is WantOfMemory (called s d call.Accept).refusals x (not-so Is refuse.NoDomain _ (alive s d live), (may Is refuse.TooMany _ tt, (may Is refuse.WouldBlock _ tt, tt))) (of-memory Is x tt) step.0
 
+-- what holds of the ends of queues holds of what is no file
+of_queue : (P : Descriptor → Type 0) → ((q : ℕ) → P (on.ReadEnd q)) → ((q : ℕ) → P (on.WriteEnd q)) → ((c : ℕ) → P (on.Connection c)) → (y : Descriptor) → is_file (Some y) ≡ false → P y
+of_queue P reads writes conns (on.File f at mode) queue = absurd (cc)
+of_queue P reads writes conns (on.ReadEnd q) queue = reads q
+of_queue P reads writes conns (on.WriteEnd q) queue = writes q
+of_queue P reads writes conns (on.Connection c) queue = conns c
+
 -- reading a queue
 
 read-denied : (Is : Refusal → Type 0) (s : State) (d n : ℕ) (o : Option Descriptor) → ((p : ℕ) → Is (refuse.Denied p)) → MatchOption (reading.read_denied s d o n) ⊤ Is
@@ -169,11 +176,8 @@ read-denied Is s d n (Some (on.File f at mode)) is = denied_by Is s d (Some (fil
 read-denied Is s d n o is = denied Is (barred (may_read s d) (take (min n 1) (reading.unread s o))) is
 
 read-late : (s : State) (d fd : ℕ) (y : Descriptor) (x : Refusal) → descriptor s d fd ≡ Some y → is_file (Some y) ≡ false → reading.read_late s (descriptor s d fd) x → WantOfMemory x
-read-late s d fd y x is queue late = by y queue (subst (λ (o : Option Descriptor). reading.read_late s o x) is late)
-  where
-    by : (y : Descriptor) → is_file (Some y) ≡ false → reading.read_late s (Some y) x → WantOfMemory x
-    by (on.File f at mode) queue late = absurd (cc)
-    by y queue late = late
+read-late s d fd y x is queue late =
+    of_queue (λ z. reading.read_late s (Some z) x → WantOfMemory x) (λ q l. l) (λ q l. l) (λ q l. l) y queue (subst (λ (o : Option Descriptor). reading.read_late s o x) is late)
 
 can-read : (s : State) (d fd : ℕ) (y : Descriptor) → descriptor s d fd ≡ Some y → reading.can_read (Some y) ≡ true → not (reading.can_read (descriptor s d fd)) ≡ false
 can-read s d fd y is can = ap (λ (o : Option Descriptor). not (reading.can_read o)) is ∙ ap (λ b. not b) can
@@ -198,25 +202,14 @@ can-write : (s : State) (d fd : ℕ) (y : Descriptor) → descriptor s d fd ≡ 
 can-write s d fd y is can = ap (λ (o : Option Descriptor). not (writing.can_write o)) is ∙ ap (λ b. not b) can
 
 never-long : (s : State) (d fd n : ℕ) (y : Descriptor) → descriptor s d fd ≡ Some y → is_file (Some y) ≡ false → writing.is_too_long (descriptor s d fd) n ≡ false
-never-long s d fd n y is queue = ap (λ (o : Option Descriptor). writing.is_too_long o n) is ∙ by y queue
-  where
-    by : (y : Descriptor) → is_file (Some y) ≡ false → writing.is_too_long (Some y) n ≡ false
-    by (on.File f at mode) queue = absurd (cc)
-    by y queue = refl
+never-long s d fd n y is queue = ap (λ (o : Option Descriptor). writing.is_too_long o n) is ∙ of_queue (λ z. writing.is_too_long (Some z) n ≡ false) (λ q. refl) (λ q. refl) (λ q. refl) y queue
 
 write-late : (s : State) (d fd : ℕ) (y : Descriptor) (x : Refusal) → descriptor s d fd ≡ Some y → is_file (Some y) ≡ false → writing.write_late s (descriptor s d fd) x → WantOfMemory x
-write-late s d fd y x is queue late = by y queue (subst (λ (o : Option Descriptor). writing.write_late s o x) is late)
-  where
-    by : (y : Descriptor) → is_file (Some y) ≡ false → writing.write_late s (Some y) x → WantOfMemory x
-    by (on.File f at mode) queue late = absurd (cc)
-    by y queue late = late
+write-late s d fd y x is queue late =
+    of_queue (λ z. writing.write_late s (Some z) x → WantOfMemory x) (λ q l. l) (λ q l. l) (λ q l. l) y queue (subst (λ (o : Option Descriptor). writing.write_late s o x) is late)
 
 pool-for : (s : State) (d fd : ℕ) (y : Descriptor) → descriptor s d fd ≡ Some y → is_file (Some y) ≡ false → writing.pool_for s d (descriptor s d fd) ≡ aggs.default_pool s d
-pool-for s d fd y is queue = ap (λ (o : Option Descriptor). writing.pool_for s d o) is ∙ by y queue
-  where
-    by : (y : Descriptor) → is_file (Some y) ≡ false → writing.pool_for s d (Some y) ≡ aggs.default_pool s d
-    by (on.File f at mode) queue = absurd (cc)
-    by y queue = refl
+pool-for s d fd y is queue = ap (λ (o : Option Descriptor). writing.pool_for s d o) is ∙ of_queue (λ z. writing.pool_for s d (Some z) ≡ aggs.default_pool s d) (λ q. refl) (λ q. refl) (λ q. refl) y queue
 
 pub and-false : (a b : Bool) → b ≡ false → (a && b) ≡ false
 and-false true b is = is

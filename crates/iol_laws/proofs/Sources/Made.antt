@@ -91,11 +91,10 @@ module _ (pools : ℕ → Bool) where
 
   -- what is read
   lie-read : (s : State) (by : ℕ) (o : Option Descriptor) (n : ℕ) → Lie (read_from s o) → Lie (reading.read_text s by o n)
-  lie-read s by None n lies = lie-admitted (may_read s by) n [] refl
   lie-read s by (Some (on.File f at mode)) n lies = lie-labelled (file s f).pool n at (content s f) lies
   lie-read s by (Some (on.ReadEnd p)) n lies = lie-admitted (may_read s by) n (pipe_at s p).queue lies
-  lie-read s by (Some (on.WriteEnd p)) n lies = lie-admitted (may_read s by) n [] refl
   lie-read s by (Some (on.Connection c)) n lies = lie-admitted (may_read s by) n (conn_at s c).incoming lies
+  lie-read s by o n lies = lie-admitted (may_read s by) n [] refl
 
   lie-split : (s t : State) (d a at : ℕ) (n m b : ℕ) → IsOrderly s → StepsTo s (event.Call d (call.AggSplit a at)) (reply.Aggs n m) t → ((n == b) || (m == b)) ≡ true → Lie (text s d a) → Lie (text t d b)
   lie-split s t d a at n m b order step is lies = by (n == b) refl

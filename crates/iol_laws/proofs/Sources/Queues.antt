@@ -1,5 +1,5 @@
 -- What waits in a pipe lies where it did, and where what is written does.
-use Rattle.std.proofs.Common.{inl, inr, ◌≡◌, ℕ, List, [], ◌∷◌, take, refl, sym, subst, arith, Option, Some, None, true, false, Bool}
+use Rattle.std.proofs.Common.{inl, inr, ◌≡◌, ℕ, List, [], ◌∷◌, take, refl, sym, subst, arith, Option, Some, true, false, Bool}
 use Rattle.std.specs.Prelude.{fold}
 use Rattle.std.proofs.lemmas.Bool.{cases_eq}
 use Rattle.std.proofs.lemmas.Bool.Decides.{nat_tests}
@@ -50,30 +50,27 @@ module _ (pools : ℕ → Bool) (p : ℕ) where
   queued-domain s d x lies = queued-same s (with_domain s d x) refl lies
 
   queued-closed : (s : State) (o : Option Descriptor) → LieIn s → LieIn (fds.closed_on s o)
-  queued-closed s None lies = lies
-  queued-closed s (Some (on.File f at mode)) lies = lies
   queued-closed s (Some (on.ReadEnd q)) lies = queued-pipe s q _ (λ same. refl) lies
   queued-closed s (Some (on.WriteEnd q)) lies = queued-pipe s q _ (own s q lies) lies
   queued-closed s (Some (on.Connection c)) lies = queued-same s _ (pipes-with_conn s c _) lies
+  queued-closed s o lies = lies
 
   queued-all_closed : (s : State) (list : List (Option Descriptor)) → LieIn s → LieIn (fold fds.closed_on s list)
   queued-all_closed s [] lies = lies
   queued-all_closed s (o ∷ list) lies = queued-all_closed (fds.closed_on s o) list (queued-closed s o lies)
 
   queued-read : (s : State) (by fd : ℕ) (o : Option Descriptor) (n : ℕ) → LieIn s → LieIn (reading.read_on s by fd o n)
-  queued-read s by fd None n lies = lies
   queued-read s by fd (Some (on.File f at mode)) n lies = queued-domain s by _ lies
   queued-read s by fd (Some (on.ReadEnd q)) n lies = queued-pipe s q _ (λ same. lie-dropped pools n (pipe_at s q).queue (own s q lies same)) lies
-  queued-read s by fd (Some (on.WriteEnd q)) n lies = lies
   queued-read s by fd (Some (on.Connection c)) n lies = queued-same s _ (pipes-with_conn s c _) lies
+  queued-read s by fd o n lies = lies
 
   queued-written : (s : State) (by fd : ℕ) (o : Option Descriptor) (w : Text) → (is_write_end p o ≡ true → Lie pools w) → LieIn s → LieIn (writing.written s by fd o w)
   unfolding with_content
-  queued-written s by fd None w new lies = lies
   queued-written s by fd (Some (on.File f at mode)) w new lies = queued-domain (with_content s f _) by _ (queued-same s (with_content s f _) refl lies)
-  queued-written s by fd (Some (on.ReadEnd q)) w new lies = lies
   queued-written s by fd (Some (on.WriteEnd q)) w new lies = queued-pipe s q _ (λ same. lie-both pools (pipe_at s q).queue w (own s q lies same) (new (grind (arith, nat_tests, same)))) lies
   queued-written s by fd (Some (on.Connection c)) w new lies = queued-same s _ (pipes-with_conn s c _) lies
+  queued-written s by fd o w new lies = lies
 
   queued-new : (s : State) (by : ℕ) → LieIn s → LieIn (fds.pipe s by).after
   queued-new s by lies = elim (cases_eq (lowest s.pipes) p) [

@@ -13,7 +13,7 @@ use Rattle.iol_core.specs.declared.events.Call.{Call}
 use Rattle.iol_core.specs.declared.events.Call.TheVariants as call
 use Rattle.iol_core.specs.declared.events.Reply.{Reply}
 use Rattle.iol_laws.specs.Order.{Once, IsOrderly}
-use Rattle.iol_laws.proofs.Changing.{Change, Reads, Writes, Closes, Takes, changed_by, turned, all_turned, on_conn, closings, changes, conns_turned, once_turned, IsAllowed, AllAllowed}
+use Rattle.iol_laws.proofs.Changing.{Change, Closes, Takes, changed_by, turned, all_turned, on_conn, closings, changes, conns_turned, once_turned, IsAllowed, AllAllowed}
 use Rattle.iol_laws.proofs.Streams.Waiting.{opened-conn}
 use Rattle.iol_laws.proofs.Connections.{conn-missing, conn-over, conn-there, conns_conn, conns_same}
 
@@ -35,10 +35,8 @@ pub accepted_turned : (s : State) (e : ℕ × Change) (c : ℕ) → Once s.conns
 accepted_turned s e c once was = accepted-with_conn s e.0 _ c once (λ same. still e.1 (conn_at s e.0) (ap (λ n. (conn_at s n).accepted) same ∙ was)) was
   where
     still : (x : Change) (k : Connection) → k.accepted ≡ true → (changed_by x k).accepted ≡ true
-    still (Reads n) k is = is
-    still (Writes w) k is = is
-    still Closes k is = is
     still Takes k is = refl
+    still x k is = is
 
 accepted_all : (s : State) (es : List (ℕ × Change)) (c : ℕ) → Once s.conns → IsAccepted s c → IsAccepted (all_turned s es) c
 accepted_all s [] c once was = was
@@ -56,11 +54,8 @@ allowed_one : (s : State) (d f : ℕ) (x : Change) → IsOrderly s → ((c : ℕ
 allowed_one s d f x order may = by (descriptor s d f) refl
   where
     by : (o : Option Descriptor) → descriptor s d f ≡ o → AllAllowed s (on_conn o x)
-    by None is = tt
-    by (Some (on.File g at mode)) is = tt
-    by (Some (on.ReadEnd p)) is = tt
-    by (Some (on.WriteEnd p)) is = tt
     by (Some (on.Connection c)) is = (may c (opened-conn s d f c order is), tt)
+    by o is = tt
 
 allowed_closings : (s : State) (list : List (Option Descriptor)) → Once s.conns → ((k c : ℕ) → in_place list k ≡ Some (on.Connection c) → IsAccepted s c) → AllAllowed s (closings list)
 allowed_closings s [] once taken = tt

@@ -8,23 +8,21 @@ use Rattle.std.proofs.lemmas.List.{append-nil}
 use Rattle.iol_core.specs.Text.{Text, bytes_of}
 use Rattle.iol_core.specs.State.{State, Connection, conn_at}
 use Rattle.iol_core.specs.Meaning.{Meaning, Step, first}
-use Rattle.iol_core.specs.Run.{called, meaning, StepsTo, Run, outcome}
+use Rattle.iol_core.specs.Run.{meaning, StepsTo, Run, outcome}
 use Rattle.iol_core.specs.declared.refusals.Refusal.{Refusal}
 use Rattle.iol_core.specs.declared.events.Event.{Event}
 use Rattle.iol_core.specs.declared.events.Event.TheVariants as event
 use Rattle.iol_core.specs.declared.events.Reply.{Reply}
 use Rattle.iol_core.specs.declared.events.Reply.TheVariants as reply
 use Rattle.iol_laws.specs.Order.{IsOrderly}
+use Rattle.iol_laws.proofs.Runs.{told-append, run-even}
 use Rattle.iol_laws.specs.Others.{ComesIn}
-use Rattle.iol_laws.specs.History.{came_by, sent_by, stream_of, sent_of, IsEndOf, GoesFirst}
+use Rattle.iol_laws.specs.History.{came_by, sent_by, stream_of, sent_of, drops_unsent, IsEndOf, GoesFirst}
 use Rattle.iol_laws.proofs.Left.Leaving.{leaves_step}
 use Rattle.iol_laws.proofs.Streams.Outside.{does_arrive, does_transmit}
 use Rattle.iol_laws.proofs.Streams.Remaining.{Went, went-out}
 use Rattle.iol_laws.proofs.Order.Ordered.{orderly_step}
 use Rattle.iol_laws.proofs.Texts.{bytes-append}
-use Rattle.iol_laws.specs.History.{drops_unsent}
-use Rattle.std.specs.List.{list_any}
-use Rattle.std.proofs.lemmas.Grind.{common_steps}
 use Rattle.iol_laws.proofs.Streams.Unsent.{IsLonger, longer_same, longer_meant}
 use Rattle.iol_laws.proofs.Streams.Unread.{IsRest, rest_same, rest_meant}
 
@@ -32,21 +30,11 @@ use Rattle.iol_laws.proofs.Streams.Unread.{IsRest, rest_same, rest_meant}
 
 pub stream-append : (old now : State) (past future : List Event) (rs qs : List Reply) (c : ℕ) → Run old past rs now → stream_of c (past ++ future) (rs ++ qs) ≡ stream_of c past rs ++ stream_of c future qs
 unfolding stream_of
-stream-append old now [] future [] qs c run = refl
-stream-append old now (e ∷ past) future (r ∷ rs) qs c run =
-    ap (λ (l : List ℕ). came_by c e r ++ l) (stream-append run.0 now past future rs qs c run.2)
-    ∙ sym (append_assoc (came_by c e r) (stream_of c past rs) (stream_of c future qs))
-stream-append old now [] future (r ∷ rs) qs c run = absurd run
-stream-append old now (e ∷ past) future [] qs c run = absurd run
+stream-append old now past future rs qs c run = told-append (λ e r. came_by c e r) (λ es qs. stream_of c es qs) (record { none = refl; next = λ e r es rs. refl }) past future rs qs (run-even old now past rs run)
 
 pub sent-append : (old now : State) (past future : List Event) (rs qs : List Reply) (c : ℕ) → Run old past rs now → sent_of c (past ++ future) (rs ++ qs) ≡ sent_of c past rs ++ sent_of c future qs
 unfolding sent_of
-sent-append old now [] future [] qs c run = refl
-sent-append old now (e ∷ past) future (r ∷ rs) qs c run =
-    ap (λ (l : List ℕ). sent_by c e r ++ l) (sent-append run.0 now past future rs qs c run.2)
-    ∙ sym (append_assoc (sent_by c e r) (sent_of c past rs) (sent_of c future qs))
-sent-append old now [] future (r ∷ rs) qs c run = absurd run
-sent-append old now (e ∷ past) future [] qs c run = absurd run
+sent-append old now past future rs qs c run = told-append (λ e r. sent_by c e r) (λ es qs. sent_of c es qs) (record { none = refl; next = λ e r es rs. refl }) past future rs qs (run-even old now past rs run)
 
 -- What is unread.
 
@@ -77,13 +65,8 @@ end_arrive s t e bytes (reply.Refused x) c order step = end_of_rest s t c (rest_
 end_arrive s t e bytes r c order step = (let e = step.1 in absurd (cc))
 
 end_step : (s t : State) (e : Event) (r : Reply) (c : ℕ) → IsOrderly s → StepsTo s e r t → IsEndOf (bytes_of (conn_at s c).incoming) (came_by c e r) (bytes_of (conn_at t c).incoming)
-end_step s t (event.Call d k) r c order step = end_of_rest s t c (end_outcome (called s d k) s t (outcome r) c (rest_meant s (event.Call d k) c order refl) step)
-end_step s t (event.ConnNew p) r c order step = end_of_rest s t c (end_outcome (meaning s (event.ConnNew p)) s t (outcome r) c (rest_meant s (event.ConnNew p) c order refl) step)
 end_step s t (event.Arrive e bytes) r c order step = end_arrive s t e bytes r c order step
-end_step s t (event.PeerClosed e how) r c order step = end_of_rest s t c (end_outcome (meaning s (event.PeerClosed e how)) s t (outcome r) c (rest_meant s (event.PeerClosed e how) c order refl) step)
-end_step s t (event.Transmit e max) r c order step = end_of_rest s t c (end_outcome (meaning s (event.Transmit e max)) s t (outcome r) c (rest_meant s (event.Transmit e max) c order refl) step)
-end_step s t event.Flush r c order step = end_of_rest s t c (end_outcome (meaning s event.Flush) s t (outcome r) c (rest_meant s event.Flush c order refl) step)
-end_step s t event.DropClean r c order step = end_of_rest s t c (end_outcome (meaning s event.DropClean) s t (outcome r) c (rest_meant s event.DropClean c order refl) step)
+end_step s t e r c order step = end_of_rest s t c (end_outcome (meaning s e) s t (outcome r) c (rest_meant s e c order refl) step)
 
 end_then : (a b one two u : List ℕ) (first : List ℕ) → IsEndOf a one b → IsEndOf b two u → IsEndOf a (one ++ two) u
 end_then a b one two u first x y = record {
@@ -129,13 +112,8 @@ first_transmit s t e max (reply.Refused x) c order step = first_of_longer s t c 
 first_transmit s t e max r c order step = (let e = step.1 in absurd (cc))
 
 first_step : (s t : State) (e : Event) (r : Reply) (c : ℕ) → IsOrderly s → StepsTo s e r t → drops_unsent e c ≡ false → GoesFirst (bytes_of (conn_at s c).outgoing) (sent_by c e r) (bytes_of (conn_at t c).outgoing)
-first_step s t (event.Call d k) r c order step kept = first_of_longer s t c (longer_outcome (called s d k) s t (outcome r) c (longer_meant s (event.Call d k) c order refl kept) step)
-first_step s t (event.ConnNew p) r c order step kept = first_of_longer s t c (longer_outcome (meaning s (event.ConnNew p)) s t (outcome r) c (longer_meant s (event.ConnNew p) c order refl kept) step)
-first_step s t (event.Arrive e bytes) r c order step kept = first_of_longer s t c (longer_outcome (meaning s (event.Arrive e bytes)) s t (outcome r) c (longer_meant s (event.Arrive e bytes) c order refl kept) step)
-first_step s t (event.PeerClosed e how) r c order step kept = first_of_longer s t c (longer_outcome (meaning s (event.PeerClosed e how)) s t (outcome r) c (longer_meant s (event.PeerClosed e how) c order refl kept) step)
 first_step s t (event.Transmit e max) r c order step kept = first_transmit s t e max r c order step
-first_step s t event.Flush r c order step kept = first_of_longer s t c (longer_outcome (meaning s event.Flush) s t (outcome r) c (longer_meant s event.Flush c order refl kept) step)
-first_step s t event.DropClean r c order step kept = first_of_longer s t c (longer_outcome (meaning s event.DropClean) s t (outcome r) c (longer_meant s event.DropClean c order refl kept) step)
+first_step s t e r c order step kept = first_of_longer s t c (longer_outcome (meaning s e) s t (outcome r) c (longer_meant s e c order refl kept) step)
 
 first_then : (a b c one two : List ℕ) → GoesFirst a one b → GoesFirst b two c → GoesFirst a (one ++ two) c
 first_then a b c one two x y = record {

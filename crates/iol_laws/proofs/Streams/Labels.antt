@@ -1,12 +1,11 @@
 -- What came in on a connection lies in its pool.
 use Rattle.std.proofs.Common.{◌≡◌, ℕ, ◌==◌, List, [], ◌∷◌, ◌++◌, length, take, refl, sym, subst, arith, Option, Some, None, true, false, Bool}
-use Rattle.std.specs.Prelude.{⊤, option_map, min, ◌-◌, if◌then◌else◌, MatchOption}
+use Rattle.std.specs.Prelude.{⊤, option_map, min, ◌-◌, MatchOption}
 use Rattle.std.specs.List.{list_all}
 use Rattle.std.proofs.lemmas.Bool.Decides.{nat_tests}
 use Rattle.std.proofs.lemmas.Grind.{common_steps}
 use Rattle.iol_core.specs.Text.{Text, barred, labelled}
-use Rattle.iol_core.specs.Numbered.{without, changed}
-use Rattle.iol_core.specs.State.{State, Connection, descriptor, may_read, conn_at, new_conn, is_over, new_state, with_conn}
+use Rattle.iol_core.specs.State.{State, Connection, descriptor, may_read, conn_at, new_conn, new_state, with_conn}
 use Rattle.iol_core.specs.Run.{called, meaning, Run, StepsTo}
 use Rattle.iol_core.specs.Calls.Outside.{closed_by}
 use Rattle.iol_core.specs.Calls.Reading as reading
@@ -23,11 +22,12 @@ use Rattle.iol_core.specs.declared.events.Event.{Event}
 use Rattle.iol_core.specs.declared.events.Event.TheVariants as event
 use Rattle.iol_core.specs.declared.events.Reply.{Reply}
 use Rattle.iol_core.specs.declared.events.Reply.TheVariants as reply
-use Rattle.iol_core.proofs.Passing.{list_all-both, list_all-drop, list_all-labelled, list_all-lookup, list_all-push, list_all-take, list_all-weaker, list_all-without}
+use Rattle.iol_core.proofs.Passing.{list_all-both, list_all-drop, list_all-labelled, list_all-lookup, list_all-push, list_all-take, list_all-weaker}
+use Rattle.iol_laws.proofs.Runs.{run_keeps}
 use Rattle.iol_laws.specs.Labels.{AreAtHome, lies_in}
-use Rattle.iol_laws.proofs.Changing.{Change, Reads, Writes, Closes, Takes, all_turned, changed_by, changes, conns_turned, turned}
+use Rattle.iol_laws.proofs.Changing.{Change, Reads, Closes, all_turned, changed_by, changes, conns_turned, turned}
 use Rattle.iol_laws.proofs.Refusals.Left.{left, may}
-use Rattle.iol_laws.proofs.Bounds.ShortQueues.{list_all-changed}
+use Rattle.iol_laws.proofs.Bounds.ShortQueues.{list_all-with_conn}
 
 abbrev is_home : Connection → Bool
 is_home k = lies_in k.pool k.incoming
@@ -37,19 +37,13 @@ unfolding conn_at
 home_each s c home = list_all-lookup is_home s.conns c _ refl home
 
 home_conn : (s : State) (c : ℕ) (x : Connection) → is_home x ≡ true → AreAtHome s → AreAtHome (with_conn s c x)
-unfolding with_conn
-home_conn s c x new home = by (is_over x)
-  where
-    by : (b : Bool) → list_all (λ e. is_home e.1) (if b then without s.conns c else changed s.conns c x) ≡ true
-    by true = list_all-without (λ e. is_home e.1) s.conns c home
-    by false = list_all-changed is_home s.conns c x new home
+home_conn s c x new home = list_all-with_conn is_home s c x new home
 
 -- however a call changes a connection
 home_changed : (x : Change) (k : Connection) → is_home k ≡ true → is_home (changed_by x k) ≡ true
 home_changed (Reads n) k home = list_all-drop (λ b. b.1 == k.pool) n k.incoming home
-home_changed (Writes w) k home = home
 home_changed Closes k home = refl
-home_changed Takes k home = home
+home_changed x k home = home
 
 home_all : (s : State) (es : List (ℕ × Change)) → AreAtHome s → AreAtHome (all_turned s es)
 home_all s [] home = home
@@ -77,8 +71,7 @@ home_meant s (event.Arrive c bytes) home =
     home_conn s c _ (home-more (conn_at s c).pool (conn_at s c).incoming (take count bytes) (home_each s c home)) home
 home_meant s (event.PeerClosed c how) home = home_ended s c how home
 home_meant s (event.Transmit c max) home = home_conn s c _ (home_each s c home) home
-home_meant s event.Flush home = home
-home_meant s event.DropClean home = home
+home_meant s e home = home
 
 pub home_new : (slots : List (List ℕ)) → AreAtHome (new_state slots)
 home_new slots = refl
@@ -87,14 +80,8 @@ pub home_step : (s t : State) (e : Event) (r : Reply) → AreAtHome s → StepsT
 home_step s t e (reply.Refused x) home step = subst (λ (u : State). AreAtHome u) (sym step.1) home
 home_step s t e r home step = subst (λ (u : State). AreAtHome u) (sym step.2) (home_meant s e home)
 
-home_run : (s t : State) (es : List Event) (rs : List Reply) → AreAtHome s → Run s es rs t → AreAtHome t
-home_run s t [] [] home run = subst (λ (u : State). AreAtHome u) (sym run) home
-home_run s t (e ∷ es) (r ∷ rs) home run = home_run run.0 t es rs (home_step s run.0 e r home run.1) run.2
-home_run s t [] (r ∷ rs) home run = absurd run
-home_run s t (e ∷ es) [] home run = absurd run
-
 pub home_reached : (slots : List (List ℕ)) (t : State) (es : List Event) (rs : List Reply) → Run (new_state slots) es rs t → AreAtHome t
-home_reached slots t es rs run = home_run (new_state slots) t es rs (home_new slots) run
+home_reached slots t es rs run = run_keeps (λ s. AreAtHome s) home_step (new_state slots) t es rs (home_new slots) run
 
 -- Who may read the pool is never denied.
 

@@ -23,12 +23,7 @@ next_called s d k = (conns_turned s d k).next ∙ next_turned s (changes s d k)
 next_meant : (s : State) (e : Event) → s.next_conn ≤ (meaning s e).after.next_conn
 unfolding with_conn
 next_meant s (event.Call d k) = let same = next_called s d k in omega (arith, same)
-next_meant s (event.ConnNew p) = omega arith
-next_meant s (event.Arrive c bytes) = omega arith
-next_meant s (event.PeerClosed c how) = omega arith
-next_meant s (event.Transmit c max) = omega arith
-next_meant s event.Flush = omega arith
-next_meant s event.DropClean = omega arith
+next_meant s e = omega arith
 
 next_outcome : (m : Meaning Reply) (old new : State) (r : Result Reply Refusal) → old.next_conn ≤ m.after.next_conn → Step m old r new → old.next_conn ≤ new.next_conn
 next_outcome m old new (Ok a) more step = subst (λ (s : State). old.next_conn ≤ s.next_conn) (sym step.2) more

@@ -1,5 +1,5 @@
 -- What the calls of another domain leave of a connection.
-use Rattle.std.proofs.Common.{inl, inr, suc, ◌≡◌, ℕ, ◌==◌, ◌⊎◌, List, [], ◌∷◌, ap, ◌∙◌, refl, sym, arith, Option, Some, None, true, false}
+use Rattle.std.proofs.Common.{inl, inr, suc, ◌≡◌, ℕ, ◌==◌, ◌⊎◌, List, [], ◌∷◌, ap, ◌∙◌, refl, sym, arith, Option, Some, true, false}
 use Rattle.std.specs.Prelude.{unwrap_or, not, is_none, ◌&&◌}
 use Rattle.std.specs.List.{list_any}
 use Rattle.std.proofs.lemmas.Bool.{cases_eq}
@@ -28,11 +28,8 @@ use Rattle.iol_laws.proofs.Tests.{both-false, is_some-or}
 use Rattle.iol_laws.proofs.Streams.Waiting.{waiting-is}
 
 not-on : (c : ℕ) (o : Option Descriptor) → (o ≡ Some (on.Connection c) → ⊥) → is_conn c o ≡ false
-not-on c None never = refl
-not-on c (Some (on.File f at mode)) never = refl
-not-on c (Some (on.ReadEnd p)) never = refl
-not-on c (Some (on.WriteEnd p)) never = refl
 not-on c (Some (on.Connection e)) never = elim (cases_eq e c) [ inl same ↦ absurd (never (ap (λ n. Some (on.Connection n)) same)) | inr differ ↦ grind (arith, nat_tests, differ) ]
+not-on c o never = refl
 
 one-of : (c : ℕ) (o : Option Descriptor) → (o ≡ Some (on.Connection c) → ⊥) → list_any (is_conn c) (o ∷ []) ≡ false
 one-of c o never = (let e = not-on c o never in grind (arith, common_steps, e))

@@ -1,5 +1,5 @@
 -- What the calls of another domain leave of a pipe.
-use Rattle.std.proofs.Common.{inl, inr, ◌≡◌, ◌≢◌, ℕ, ◌==◌, List, [], ◌∷◌, ◌++◌, take, drop, ap, ◌∙◌, refl, sym, subst, arith, Option, Some, None, true, false, Bool}
+use Rattle.std.proofs.Common.{inl, inr, ◌≡◌, ◌≢◌, ℕ, ◌==◌, List, [], ◌∷◌, ◌++◌, take, drop, ap, ◌∙◌, refl, sym, subst, arith, Option, Some, true, false, Bool}
 use Rattle.std.specs.Prelude.{fold, unwrap_or, ◌||◌, Result, Ok, Err}
 use Rattle.std.specs.List.{list_any}
 use Rattle.std.proofs.lemmas.Bool.{cases_eq}
@@ -165,11 +165,9 @@ others_written s t d k r p step never writes = holds_after s p (GoesFromFront s 
 -- A pipe of which the domain has no end.
 
 neither : (p : ℕ) (o : Option Descriptor) → (o ≡ Some (on.ReadEnd p) → ⊥) → (o ≡ Some (on.WriteEnd p) → ⊥) → is_end p o ≡ false
-neither p None no_read no_write = refl
-neither p (Some (on.File f at mode)) no_read no_write = refl
-neither p (Some (on.Connection c)) no_read no_write = refl
 neither p (Some (on.ReadEnd q)) no_read no_write = not-reading p (Some (on.ReadEnd q)) no_read
 neither p (Some (on.WriteEnd q)) no_read no_write = not-writing p (Some (on.WriteEnd q)) no_write
+neither p o no_read no_write = refl
 
 one-end : (p : ℕ) (o : Option Descriptor) → is_end p o ≡ false → (list_any (is_end p) (o ∷ []) || false) ≡ false
 one-end p o un = grind (arith, common_steps, un)

@@ -17,6 +17,7 @@ use Rattle.iol_core.specs.declared.events.Event.{Event}
 use Rattle.iol_core.specs.declared.events.Event.TheVariants as event
 use Rattle.iol_core.specs.declared.events.Reply.{Reply}
 use Rattle.iol_core.specs.declared.events.Reply.TheVariants as reply
+use Rattle.iol_laws.proofs.Runs.{run_keeps}
 use Rattle.iol_laws.specs.Order.{Once, IsOrderly}
 use Rattle.iol_laws.specs.Others.{ComesIn}
 use Rattle.iol_laws.specs.History.{came_by, sent_by, stream_of, sent_of, IsAllUnread}
@@ -41,19 +42,16 @@ accepted_meant s (event.Arrive e bytes) c order made was = accepted-with_conn s 
 accepted_meant s (event.PeerClosed e ways.Done) c order made was = accepted-with_conn s e (closed_by (conn_at s e) ways.Done) c order.once (λ same. ap (λ n. (conn_at s n).accepted) same ∙ was) was
 accepted_meant s (event.PeerClosed e ways.Gone) c order made was = accepted-with_conn s e (closed_by (conn_at s e) ways.Gone) c order.once (λ same. ap (λ n. (conn_at s n).accepted) same ∙ was) was
 accepted_meant s (event.Transmit e max) c order made was = accepted-with_conn s e _ c order.once (λ same. ap (λ n. (conn_at s n).accepted) same ∙ was) was
-accepted_meant s event.Flush c order made was = was
-accepted_meant s event.DropClean c order made was = was
+accepted_meant s other c order made was = was
 
 accepted_step : (s t : State) (e : Event) (r : Reply) (c : ℕ) → IsOrderly s → StepsTo s e r t → c < s.next_conn → IsAccepted s c → IsAccepted t c
 accepted_step s t e r c order step made was = accepted_outcome (meaning s e) s t (outcome r) c (accepted_meant s e c order made was) was step
 
 accepted_run : (old new : State) (es : List Event) (rs : List Reply) (c : ℕ) → IsOrderly old → Run old es rs new → c < old.next_conn → IsAccepted old c → IsAccepted new c
-accepted_run old new [] [] c order run made was = subst (λ (s : State). IsAccepted s c) (sym run) was
-accepted_run old new (e ∷ es) (r ∷ rs) c order run made was =
-    let more = next_step old run.0 e r run.1 in
-    accepted_run run.0 new es rs c (orderly_step old run.0 e r order run.1) run.2 (omega (arith, made, more)) (accepted_step old run.0 e r c order run.1 made was)
-accepted_run old new [] (r ∷ rs) c order run made was = absurd run
-accepted_run old new (e ∷ es) [] c order run made was = absurd run
+accepted_run old new es rs c order run made was =
+    (run_keeps (λ s. IsOrderly s × (c < s.next_conn) × IsAccepted s c)
+    (λ s t e r has step. (let more = next_step s t e r step in let made = has.1 in (orderly_step s t e r has.0 step, omega (arith, made, more), accepted_step s t e r c has.0 step made has.2)))
+    old new es rs (order, made, was) run).2
 
 -- A step at which it goes on waiting.
 

@@ -79,5 +79,4 @@ rest_meant s (event.Arrive e bytes) c order none = absurd (cc)
 rest_meant s (event.PeerClosed e ways.Done) c order none = rest_with_conn s e (closed_by (conn_at s e) ways.Done) c [] order.once refl
 rest_meant s (event.PeerClosed e ways.Gone) c order none = rest_with_conn s e (closed_by (conn_at s e) ways.Gone) c [] order.once refl
 rest_meant s (event.Transmit e max) c order none = rest_with_conn s e (record (conn_at s e) { outgoing = drop max (conn_at s e).outgoing }) c [] order.once refl
-rest_meant s event.Flush c order none = rest_same s s c refl
-rest_meant s event.DropClean c order none = rest_same s s c refl
+rest_meant s other c order none = rest_same s s c refl

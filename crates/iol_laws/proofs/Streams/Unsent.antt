@@ -90,5 +90,4 @@ longer_meant s (event.Arrive e bytes) c order none kept = longer_same s _ c (out
 longer_meant s (event.PeerClosed e ways.Done) c order none kept = longer_same s _ c (out_with_conn s e (closed_by (conn_at s e) ways.Done) c order.once refl)
 longer_meant s (event.PeerClosed e ways.Gone) c order none kept = longer_same s _ c (ap (λ (x : Connection). x.outgoing) (conns_conn s e (closed_by (conn_at s e) ways.Gone) c (apart e c kept)))
 longer_meant s (event.Transmit e max) c order none kept = absurd (cc)
-longer_meant s event.Flush c order none kept = longer_same s s c refl
-longer_meant s event.DropClean c order none kept = longer_same s s c refl
+longer_meant s other c order none kept = longer_same s s c refl

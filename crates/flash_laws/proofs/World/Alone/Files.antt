@@ -19,14 +19,13 @@ use Rattle.iol_core.specs.declared.events.Reply.{Reply}
 use Rattle.iol_core.specs.declared.events.Reply.TheVariants as reply
 use Rattle.iol_laws.specs.Frame.{is_conn, touches_conn, touches_fd}
 use Rattle.iol_laws.specs.Order.{IsOrderly}
-use Rattle.iol_laws.specs.Caller as o
 use Rattle.iol_laws.specs.Caller.{is_rough}
 use Rattle.iol_laws.specs.CallerFiles as of
 use Rattle.flash_http.specs.Range.{selected}
 use Rattle.flash_http.specs.Request.{Answer, serve, refuse, Wanted}
 use Rattle.flash_laws.specs.Answers.{Outcome, Found, Failed, body_unless, chosen, file_text, unsatisfiable, response}
-use Rattle.flash_laws.specs.Client.{Client, is_for_script, can_run, kept_if, script_told}
-use Rattle.flash_laws.specs.Client.Fits.{TieAlone, due_in, Finds, FitsAlone, Fits}
+use Rattle.flash_laws.specs.Client.{is_for_script, can_run, kept_if, script_told}
+use Rattle.flash_laws.specs.Client.Fits.{TieAlone, due_in, Finds, FitsAlone}
 use Rattle.flash_laws.specs.Conn as conn
 use Rattle.flash_laws.specs.Conn.{Conn, most_read, name_of, count_of, text_of}
 use Rattle.flash_laws.specs.Workers.Crew.{Crew}
@@ -41,12 +40,13 @@ use Rattle.flash_laws.specs.declared.doing.Content.TheVariants.{Error, Script}
 use Rattle.flash_laws.specs.declared.doing.Doing.{Doing}
 use Rattle.flash_laws.specs.declared.doing.Doing.TheVariants.{Opens, Reads as Reading, Shuts, Spares, Heads}
 use Rattle.flash_laws.proofs.Conn.Answering.{some-inj}
+use Rattle.flash_laws.proofs.Forms.{at}
 use Rattle.flash_laws.proofs.Client.Phases as phases
 use Rattle.flash_laws.proofs.Counts.{counted}
 use Rattle.flash_laws.proofs.Conn.Lent.{file-same, content-same}
 use Rattle.flash_laws.proofs.Lists.{not-equal, clash}
 use Rattle.flash_laws.proofs.World.AllLaws.{AllLaws}
-use Rattle.flash_laws.proofs.World.Alone.Ties.{alone, Stands, TiesOn, tie_on, ends}
+use Rattle.flash_laws.proofs.World.Alone.Ties.{alone, FitsAt, Stands, TiesOn, tie_on}
 
 -- of a phase that reads no script the response is due
 pub due-is : (shelf : Shelf) (q : Answer) (d : Doing) → is_read d ≡ false → due_in shelf q d ≡ due_to shelf q
@@ -62,29 +62,14 @@ finds-none shelf s q script d un unread = tt
 
 module _ (shelf : Shelf) (crew : Crew) (laws : AllLaws crew) (m n : State) (came sent : List ℕ) (fd c : ℕ) (kept script : List ℕ)
     (order : IsOrderly m) where
-  abbrev at : Answer → Doing → Client
-  at q d = alone kept script q d
-
-  abbrev conn_of : Answer → Doing → Conn
-  conn_of q d = record { kept = kept; q = q; doing = d }
-
-  abbrev Fitting : State → Client → Type 0
-  Fitting s x = FitsAlone shelf s came sent fd c x
-
-  abbrev Was : Answer → Doing → Type 0
-  Was q d = Fitting m (at q d)
-
-  abbrev Is : Answer → Doing → Type 0
-  Is q d = Fitting n (at q d)
-
-  abbrev Ties : Answer → (d e : Doing) → Type 0
-  Ties q d e = TiesOn shelf kept script q d e
+  abbrev Fitting : State → Answer → Doing → Type 0
+  Fitting = FitsAt shelf came sent fd c kept script
 
   -- a call that leaves the connection itself; the text that is kept may be another
-  pub moves_to : (text : List ℕ) (q : Answer) (d e : Doing) (k : Call) (r : Reply) → Was q d
+  pub moves_to : (text : List ℕ) (q : Answer) (d e : Doing) (k : Call) (r : Reply) → Fitting m q d
       → StepsTo m (event.Call server k) r n → touches_conn m (event.Call server k) c ≡ false
-      → touches_fd m (event.Call server k) server fd ≡ false → Ties q d e
-      → Has n q (due_in shelf q e) e → Finds shelf n q text e → Fitting n (alone kept text q e)
+      → touches_fd m (event.Call server k) server fd ≡ false → TiesOn shelf kept script q d e
+      → Has n q (due_in shelf q e) e → Finds shelf n q text e → FitsAlone shelf n came sent fd c (alone kept text q e)
   moves_to text q d e k r f step un un_fd ties has finds =
       let leaves = laws.the.steps.leaves m n (event.Call server k) r step in
       let conn = leaves.conns c un in
@@ -92,35 +77,35 @@ module _ (shelf : Shelf) (crew : Crew) (laws : AllLaws crew) (m n : State) (came
         open_on = leaves.fds server fd (on.Connection c) f.open_on un_fd;
         took = f.took;
         came_is = f.came_is ∙ ap (λ (x : Connection). f.took ++ bytes_of x.incoming) (sym conn);
-        tie = subst (λ (x : Connection). TieAlone shelf x f.took sent (at q e)) (sym conn) (ties (conn_at m c) f.took sent f.tie);
+        tie = subst (λ (x : Connection). TieAlone shelf x f.took sent (alone kept script q e)) (sym conn) (ties (conn_at m c) f.took sent f.tie);
         has = has;
         finds = finds;
         proper = f.proper;
       }
 
-  pub same : (q : Answer) (d : Doing) → Was q d → n ≡ m → Is q d
-  same q d f is = subst (λ (s : State). Fitting s (at q d)) (sym is) f
+  pub same : (q : Answer) (d : Doing) → Fitting m q d → n ≡ m → Fitting n q d
+  same q d f is = subst (λ (s : State). Fitting s q d) (sym is) f
 
   -- one that goes on with the request
-  pub goes : (q : Answer) (part : List ℕ) (d e : Doing) (k : Call) (r : Reply) → Was q d
+  pub goes : (q : Answer) (part : List ℕ) (d e : Doing) (k : Call) (r : Reply) → Fitting m q d
       → StepsTo m (event.Call server k) r n → touches_conn m (event.Call server k) c ≡ false
       → touches_fd m (event.Call server k) server fd ≡ false
-      → Stands shelf q part d → Stands shelf q part e → Has n q (due_in shelf q e) e → Finds shelf n q script e → Is q e
+      → Stands shelf q part d → Stands shelf q part e → Has n q (due_in shelf q e) e → Finds shelf n q script e → Fitting n q e
   goes q part d e k r f step un un_fd was stands has finds =
       moves_to script q d e k r f step un un_fd (tie_on shelf kept script q d e (stands.0 ∙ sym was.0) (stands.1 ∙ sym was.1) was.2 stands.2) has finds
 
   -- what the machine has, and what is found, after a call that opens and reads nothing
-  pub has_told : (q : Answer) (d : Doing) (r : Reply) (heard : List ℕ) → Was q d → is_opening d ≡ false → is_closing d ≡ false → is_read d ≡ false
-      → StepsTo m (event.Call server (conn.wants fd (conn_of q d))) r n → Names n r heard
-      → Has n q (due_in shelf q (conn.told (conn_of q d) r heard).doing) (conn.told (conn_of q d) r heard).doing
+  pub has_told : (q : Answer) (d : Doing) (r : Reply) (heard : List ℕ) → Fitting m q d → is_opening d ≡ false → is_closing d ≡ false → is_read d ≡ false
+      → StepsTo m (event.Call server (conn.wants fd (at kept q d))) r n → Names n r heard
+      → Has n q (due_in shelf q (conn.told (at kept q d) r heard).doing) (conn.told (at kept q d) r heard).doing
   has_told q d r heard f un busy unread step names =
-      subst (λ (l : List ℕ). Has n q l (conn.told (conn_of q d) r heard).doing) (sym (due-is shelf q (conn.told (conn_of q d) r heard).doing (phases.unread-told kept q d r heard unread)))
+      subst (λ (l : List ℕ). Has n q l (conn.told (at kept q d) r heard).doing) (sym (due-is shelf q (conn.told (at kept q d) r heard).doing (phases.unread-told kept q d r heard unread)))
       (phases.phase laws.the.steps laws.the.own m n order kept fd c q d (due_to shelf q) r heard f.open_on un busy (subst (λ (l : List ℕ). Has m q l d) (due-is shelf q d unread) f.has) step names)
 
   pub finds_told : (q : Answer) (d : Doing) (r : Reply) (heard : List ℕ) → is_opening d ≡ false → is_read d ≡ false
-      → Finds shelf n q script (conn.told (conn_of q d) r heard).doing
+      → Finds shelf n q script (conn.told (at kept q d) r heard).doing
   finds_told q d r heard un unread =
-      finds-none shelf n q script (conn.told (conn_of q d) r heard).doing (phases.read-told kept q d r heard un) (phases.unread-told kept q d r heard unread)
+      finds-none shelf n q script (conn.told (at kept q d) r heard).doing (phases.read-told kept q d r heard un) (phases.unread-told kept q d r heard unread)
 
   -- the file's descriptor is not the connection's
   pub differ-fds : (g f pos : ℕ) → descriptor m server g ≡ Some (on.File f pos modes.Read)
@@ -144,9 +129,9 @@ module _ (shelf : Shelf) (crew : Crew) (laws : AllLaws crew) (m n : State) (came
       by true for_script = laws.due.unread shelf.scripts shelf.finds shelf.shows w status for_script is
       by false none = due_of_file w (Failed status) none is
 
-  pub opens : (q : Answer) (r : Reply) (heard : List ℕ) → IsFixed shelf.finds m → Was q Opens → is_rough r ≡ false
+  pub opens : (q : Answer) (r : Reply) (heard : List ℕ) → IsFixed shelf.finds m → Fitting m q Opens → is_rough r ≡ false
       → StepsTo m (event.Call server (call.OpenFile (name_of q) modes.Read)) r n
-      → Is q (conn.told_opens r)
+      → Fitting n q (conn.told_opens r)
   opens (refuse status head_only close) r heard fixed f calm step = absurd f.has
   opens (serve w) r heard fixed f calm step = by r (laws.the.files.opens m n server w.name modes.Read r fixed.lives step) step calm
     where
@@ -159,7 +144,7 @@ module _ (shelf : Shelf) (crew : Crew) (laws : AllLaws crew) (m n : State) (came
 
       by : (r : Reply) → of.Opening m server w.name modes.Read r n
           → StepsTo m (event.Call server (call.OpenFile w.name modes.Read)) r n → is_rough r ≡ false
-          → Is (serve w) (conn.told_opens r)
+          → Fitting n (serve w) (conn.told_opens r)
       by (reply.Fd g) did step calm =
           let leaves = laws.the.steps.leaves m n (event.Call server (call.OpenFile w.name modes.Read)) (reply.Fd g) step in
           let here = file-same m n did.file_is (leaves.files refl).0 in
@@ -188,15 +173,15 @@ module _ (shelf : Shelf) (crew : Crew) (laws : AllLaws crew) (m n : State) (came
     ap (λ b. true && b && is_file (descriptor m server g)) (differ-fds g i 0 is open_on) ∙ grind (arith),
   )
 
-  pub reads : (q : Answer) (g : ℕ) (r : Reply) (heard : List ℕ) → is_for_script shelf.scripts q ≡ false → IsFixed shelf.finds m → Was q (Reading g)
-      → is_rough r ≡ false → StepsTo m (event.Call server (conn.wants fd (conn_of q (Reading g)))) r n
-      → Names n r heard → Is q (conn.told_reads g r heard)
+  pub reads : (q : Answer) (g : ℕ) (r : Reply) (heard : List ℕ) → is_for_script shelf.scripts q ≡ false → IsFixed shelf.finds m → Fitting m q (Reading g)
+      → is_rough r ≡ false → StepsTo m (event.Call server (conn.wants fd (at kept q (Reading g)))) r n
+      → Names n r heard → Fitting n q (conn.told_reads g r heard)
   reads (refuse status head_only close) g r heard none fixed f calm step names = absurd f.has.0
   reads (serve w) g r heard none fixed f calm step names = which w.head_only refl step
     where
       measured : (r : Reply) → w.head_only ≡ true → of.Tells m (length (content m f.finds.number)) r n
           → StepsTo m (event.Call server (call.Length g)) r n
-          → Is (serve w) (conn.told_reads g r heard)
+          → Fitting n (serve w) (conn.told_reads g r heard)
       measured (reply.Count k) is did step =
           goes (serve w) [] (Reading g) (Shuts g (Length k)) (call.Length g) (reply.Count k) f step refl refl (refl, refl, refl) (refl, refl, refl) (
             (f.has.1.0, f.has.1.1, subst (λ (s : State). descriptor s server g ≡ Some (on.File f.has.1.0 f.has.1.1 modes.Read)) (sym did.1) f.has.1.2),
@@ -208,7 +193,7 @@ module _ (shelf : Shelf) (crew : Crew) (laws : AllLaws crew) (m n : State) (came
       whole : (r : Reply) → w.head_only ≡ false
           → of.ReadsFile m server g f.finds.number 0 modes.Read (take most_read (content m f.finds.number)) r n
           → StepsTo m (event.Call server (call.IolRead g most_read)) r n → is_rough r ≡ false
-          → Names n r heard → Is (serve w) (conn.told_reads g r heard)
+          → Names n r heard → Fitting n (serve w) (conn.told_reads g r heard)
       whole (reply.Agg a) is did step calm names =
           let bytes : heard ≡ content m f.finds.number = some-inj _ _ (sym names ∙ did.lends) ∙ take_all most_read (content m f.finds.number) f.finds.short in
           let apart = reads_apart g f.finds.number most_read f.finds.open_on f.open_on in
@@ -227,21 +212,21 @@ module _ (shelf : Shelf) (crew : Crew) (laws : AllLaws crew) (m n : State) (came
 
       which : (b : Bool) → w.head_only ≡ b
           → StepsTo m (event.Call server (if b then call.Length g else call.IolRead g most_read)) r n
-          → Is (serve w) (conn.told_reads g r heard)
+          → Fitting n (serve w) (conn.told_reads g r heard)
       which true is step = measured r is (laws.the.files.measures m n server g f.finds.number 0 modes.Read r fixed.lives f.finds.open_on step) step
       which false is step = whole r is (laws.the.files.reads_file m n server g f.finds.number 0 most_read modes.Read r order fixed.lives f.finds.may refl f.finds.open_on step) step calm names
 
   -- the text of a script is read whole
-  pub reads_text : (q : Answer) (g : ℕ) (r : Reply) (heard : List ℕ) → is_for_script shelf.scripts q ≡ true → IsFixed shelf.finds m → Was q (Reading g)
+  pub reads_text : (q : Answer) (g : ℕ) (r : Reply) (heard : List ℕ) → is_for_script shelf.scripts q ≡ true → IsFixed shelf.finds m → Fitting m q (Reading g)
       → is_rough r ≡ false → StepsTo m (event.Call server (call.IolRead g most_read)) r n
-      → Names n r heard → Fitting n (script_told (at q (Reading g)) r heard)
+      → Names n r heard → FitsAlone shelf n came sent fd c (script_told (alone kept script q (Reading g)) r heard)
   reads_text (refuse status head_only close) g r heard asks fixed f calm step names = absurd f.has.0
   reads_text (serve w) g r heard asks fixed f calm step names =
       by r (laws.the.files.reads_file m n server g f.finds.number 0 most_read modes.Read r order fixed.lives f.finds.may refl f.finds.open_on step) step calm names
     where
       by : (r : Reply) → of.ReadsFile m server g f.finds.number 0 modes.Read (take most_read (content m f.finds.number)) r n
           → StepsTo m (event.Call server (call.IolRead g most_read)) r n → is_rough r ≡ false
-          → Names n r heard → Fitting n (script_told (at (serve w) (Reading g)) r heard)
+          → Names n r heard → FitsAlone shelf n came sent fd c (script_told (alone kept script (serve w) (Reading g)) r heard)
       by (reply.Agg a) did step calm names = runs (can_run heard) refl
         where
           found : shelf.finds w.name ≡ Found heard
@@ -260,7 +245,7 @@ module _ (shelf : Shelf) (crew : Crew) (laws : AllLaws crew) (m n : State) (came
           kept_whole true true runs get = absurd (cc (get))
           kept_whole false h runs get = absurd (cc (runs))
 
-          runs : (b : Bool) → can_run heard ≡ b → Fitting n (alone kept (kept_if w.head_only b heard) (serve w) (Shuts g (TextOf a b)))
+          runs : (b : Bool) → can_run heard ≡ b → FitsAlone shelf n came sent fd c (alone kept (kept_if w.head_only b heard) (serve w) (Shuts g (TextOf a b)))
           runs true is =
               moves_to (kept_if w.head_only true heard) (serve w) (Reading g) (Shuts g (TextOf a true)) (call.IolRead g most_read) (reply.Agg a) f step apart.0 apart.1
               (tie_on shelf kept script (serve w) (Reading g) (Shuts g (TextOf a true)) refl refl refl refl)

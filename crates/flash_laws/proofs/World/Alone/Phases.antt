@@ -3,12 +3,11 @@ use Rattle.std.proofs.Common.{inl, inr, ◌≡◌, ℕ, ◌+◌, ◌==◌, List,
 use Rattle.std.specs.Prelude.{nat_lt, nat_le, ◌||◌, is_some}
 use Rattle.std.specs.List.{list_any}
 use Rattle.iol_core.specs.Text.{bytes_of}
-use Rattle.iol_core.specs.State.{State, Connection, descriptor, conn_at, file}
+use Rattle.iol_core.specs.State.{State, Connection, descriptor, conn_at}
 use Rattle.iol_core.specs.Run.{StepsTo}
 use Rattle.iol_core.specs.declared.limits.TheConstants.{MAX_AGGREGATE_BYTES}
 use Rattle.iol_core.specs.declared.descriptors.Descriptor.TheVariants as on
 use Rattle.iol_core.specs.declared.descriptors.Mode.TheVariants as modes
-use Rattle.iol_core.specs.declared.refusals.Refusal.TheVariants as no
 use Rattle.iol_core.specs.declared.events.Call.{Call}
 use Rattle.iol_core.specs.declared.events.Call.TheVariants as call
 use Rattle.iol_core.specs.declared.events.Event.TheVariants as event
@@ -18,17 +17,16 @@ use Rattle.iol_laws.specs.Frame.{is_conn, touches_conn, touches_fd}
 use Rattle.iol_laws.specs.Order.{IsOrderly}
 use Rattle.iol_laws.specs.Caller as o
 use Rattle.iol_laws.specs.Caller.{is_rough}
-use Rattle.iol_laws.specs.CallerFiles as of
 use Rattle.iol_proc.specs.declared.seat.Seat.{Seat}
 use Rattle.flash_http.specs.declared.ranges.Selection.{Selection}
-use Rattle.flash_http.specs.declared.ranges.Selection.TheVariants.{Whole, Bytes, Unsatisfiable}
+use Rattle.flash_http.specs.declared.ranges.Selection.TheVariants.{Bytes}
 use Rattle.flash_http.specs.Range.{selected}
 use Rattle.flash_http.specs.Request.{Answer, serve, refuse}
 use Rattle.flash_cgi.specs.Script.{script_of}
 use Rattle.flash_cgi.specs.declared.line.Line.{Line}
 use Rattle.flash_laws.specs.Answers.{Failed, keeps}
 use Rattle.flash_laws.specs.Client as client
-use Rattle.flash_laws.specs.Client.{Client, is_for_script, conn_wants, conn_told, script_told, file_told}
+use Rattle.flash_laws.specs.Client.{is_for_script, conn_wants, conn_told, script_told, file_told}
 use Rattle.flash_laws.specs.Client.Fits.{TieAlone, due_in, HasText, Finds, FitsAlone, TieRun, FitsRun, Fits}
 use Rattle.flash_laws.specs.Conn as conn
 use Rattle.flash_laws.specs.Conn.{Following, Conn, piece_end, count_of, text_of, sends_of, settled, told_shuts, told_picks, told_spares, following, headed, told_heads, told_joins, told_cuts, told_swaps, goes_on, told_sent, told_breaks, drops_next, told_drops, told_got}
@@ -46,12 +44,13 @@ use Rattle.flash_laws.specs.declared.doing.Content.TheVariants.{Script}
 use Rattle.flash_laws.specs.declared.doing.Doing.{Doing}
 use Rattle.flash_laws.specs.declared.doing.Doing.TheVariants.{Rests, Got, Opens, Reads as Reading, Shuts, Picks, Spares, Heads, Joins, Sends, Cuts, Offers, Swaps, Sent, Breaks, Drops, Closes, Over}
 use Rattle.flash_laws.specs.declared.running.Running.TheVariants.{Awaits}
+use Rattle.flash_laws.proofs.Forms.{at}
 use Rattle.flash_laws.proofs.Conn.Having as having
 use Rattle.flash_laws.proofs.Lists.{clash}
 use Rattle.flash_laws.proofs.World.AllLaws.{AllLaws}
 use Rattle.flash_laws.proofs.World.Alone.Files as files
 use Rattle.flash_laws.proofs.World.Alone.Sends.{sends, offers, rests}
-use Rattle.flash_laws.proofs.World.Alone.Ties.{alone, Stands, TiesOn, tie_on, hush, ends, ends-last}
+use Rattle.flash_laws.proofs.World.Alone.Ties.{alone, FitsAt, Stands, TiesOn, tie_on, hush, ends, ends-last}
 
 some-lines : (o : Option (List Line)) → is_some o ≡ true → (lines : List Line) × (o ≡ Some lines)
 some-lines None is = absurd (cc (is))
@@ -59,48 +58,33 @@ some-lines (Some lines) is = (lines, refl)
 
 module _ (shelf : Shelf) (crew : Crew) (laws : AllLaws crew) (m n : State) (came sent : List ℕ) (fd c : ℕ) (kept script : List ℕ)
     (order : IsOrderly m) where
-  abbrev at : Answer → Doing → Client
-  at q d = alone kept script q d
-
-  abbrev conn_of : Answer → Doing → Conn
-  conn_of q d = record { kept = kept; q = q; doing = d }
-
-  abbrev Fitting : State → Client → Type 0
-  Fitting s x = FitsAlone shelf s came sent fd c x
-
-  abbrev Was : Answer → Doing → Type 0
-  Was q d = Fitting m (at q d)
-
-  abbrev Is : Answer → Doing → Type 0
-  Is q d = Fitting n (at q d)
-
-  abbrev Ties : Answer → (d e : Doing) → Type 0
-  Ties q d e = TiesOn shelf kept script q d e
+  abbrev Fitting : State → Answer → Doing → Type 0
+  Fitting = FitsAt shelf came sent fd c kept script
 
   -- ---- what the phases rest on, of these states
 
-  moves_to : (text : List ℕ) (q : Answer) (d e : Doing) (k : Call) (r : Reply) → Was q d
+  moves_to : (text : List ℕ) (q : Answer) (d e : Doing) (k : Call) (r : Reply) → Fitting m q d
       → StepsTo m (event.Call server k) r n → touches_conn m (event.Call server k) c ≡ false
-      → touches_fd m (event.Call server k) server fd ≡ false → Ties q d e
-      → Has n q (due_in shelf q e) e → Finds shelf n q text e → Fitting n (alone kept text q e)
+      → touches_fd m (event.Call server k) server fd ≡ false → TiesOn shelf kept script q d e
+      → Has n q (due_in shelf q e) e → Finds shelf n q text e → FitsAlone shelf n came sent fd c (alone kept text q e)
   moves_to = files.moves_to shelf crew laws m n came sent fd c kept script order
 
-  same : (q : Answer) (d : Doing) → Was q d → n ≡ m → Is q d
+  same : (q : Answer) (d : Doing) → Fitting m q d → n ≡ m → Fitting n q d
   same = files.same shelf crew laws m n came sent fd c kept script order
 
-  goes : (q : Answer) (part : List ℕ) (d e : Doing) (k : Call) (r : Reply) → Was q d
+  goes : (q : Answer) (part : List ℕ) (d e : Doing) (k : Call) (r : Reply) → Fitting m q d
       → StepsTo m (event.Call server k) r n → touches_conn m (event.Call server k) c ≡ false
       → touches_fd m (event.Call server k) server fd ≡ false
-      → Stands shelf q part d → Stands shelf q part e → Has n q (due_in shelf q e) e → Finds shelf n q script e → Is q e
+      → Stands shelf q part d → Stands shelf q part e → Has n q (due_in shelf q e) e → Finds shelf n q script e → Fitting n q e
   goes = files.goes shelf crew laws m n came sent fd c kept script order
 
-  has_told : (q : Answer) (d : Doing) (r : Reply) (heard : List ℕ) → Was q d → is_opening d ≡ false → is_closing d ≡ false → is_read d ≡ false
-      → StepsTo m (event.Call server (conn.wants fd (conn_of q d))) r n → Names n r heard
-      → Has n q (due_in shelf q (conn.told (conn_of q d) r heard).doing) (conn.told (conn_of q d) r heard).doing
+  has_told : (q : Answer) (d : Doing) (r : Reply) (heard : List ℕ) → Fitting m q d → is_opening d ≡ false → is_closing d ≡ false → is_read d ≡ false
+      → StepsTo m (event.Call server (conn.wants fd (at kept q d))) r n → Names n r heard
+      → Has n q (due_in shelf q (conn.told (at kept q d) r heard).doing) (conn.told (at kept q d) r heard).doing
   has_told = files.has_told shelf crew laws m n came sent fd c kept script order
 
   finds_told : (q : Answer) (d : Doing) (r : Reply) (heard : List ℕ) → is_opening d ≡ false → is_read d ≡ false
-      → Finds shelf n q script (conn.told (conn_of q d) r heard).doing
+      → Finds shelf n q script (conn.told (at kept q d) r heard).doing
   finds_told = files.finds_told shelf crew laws m n came sent fd c kept script order
 
   differ-fds : (g f pos : ℕ) → descriptor m server g ≡ Some (on.File f pos modes.Read)
@@ -113,12 +97,12 @@ module _ (shelf : Shelf) (crew : Crew) (laws : AllLaws crew) (m n : State) (came
 
   -- ---- each phase that opens and reads no file
 
-  got : (q : Answer) (a : ℕ) (r : Reply) (heard : List ℕ) → Was q (Got a) → StepsTo m (event.Call server (call.AggDrop a)) r n → Names n r heard
-      → Is q (told_got a r)
+  got : (q : Answer) (a : ℕ) (r : Reply) (heard : List ℕ) → Fitting m q (Got a) → StepsTo m (event.Call server (call.AggDrop a)) r n → Names n r heard
+      → Fitting n q (told_got a r)
   got q a r heard f step names =
       moves_to script q (Got a) (told_got a r) (call.AggDrop a) r f step refl refl (ties r) (has_told q (Got a) r heard f refl refl refl step names) (finds_told q (Got a) r heard refl refl)
     where
-      ties : (r : Reply) → Ties q (Got a) (told_got a r)
+      ties : (r : Reply) → TiesOn shelf kept script q (Got a) (told_got a r)
       ties reply.Done = tie_on shelf kept script q (Got a) Rests refl refl refl refl
       ties r = tie_on shelf kept script q (Got a) (Got a) refl refl refl refl
 
@@ -126,9 +110,8 @@ module _ (shelf : Shelf) (crew : Crew) (laws : AllLaws crew) (m n : State) (came
   settled-stands (serve w) (File a len) = by (selected w.range len)
     where
       by : (sel : Selection) → Stands shelf (serve w) [] (sends_of sel a len)
-      by Whole = (refl, refl, refl)
       by (Bytes first last) = (refl, refl, refl)
-      by Unsatisfiable = (refl, refl, refl)
+      by x = (refl, refl, refl)
   settled-stands (refuse status head_only close) (File a len) = (refl, refl, refl)
   settled-stands q k = (refl, refl, refl)
 
@@ -136,15 +119,15 @@ module _ (shelf : Shelf) (crew : Crew) (laws : AllLaws crew) (m n : State) (came
   shuts-stands q g k reply.Done = settled-stands q k
   shuts-stands q g k r = (refl, refl, refl)
 
-  shuts : (q : Answer) (g : ℕ) (k : Learnt) (r : Reply) (heard : List ℕ) → is_read (Shuts g k) ≡ false → Was q (Shuts g k)
-      → StepsTo m (event.Call server (call.Close g)) r n → Names n r heard → Is q (told_shuts q g k r)
+  shuts : (q : Answer) (g : ℕ) (k : Learnt) (r : Reply) (heard : List ℕ) → is_read (Shuts g k) ≡ false → Fitting m q (Shuts g k)
+      → StepsTo m (event.Call server (call.Close g)) r n → Names n r heard → Fitting n q (told_shuts q g k r)
   shuts q g k r heard unread f step names =
       goes q [] (Shuts g k) (told_shuts q g k r) (call.Close g) r f step (unused g f.has.0.0 f.has.0.1 f.has.0.2) (differ-fds g f.has.0.0 f.has.0.1 f.has.0.2 f.open_on) (refl, refl, refl) (shuts-stands q g k r)
       (has_told q (Shuts g k) r heard f refl refl unread step names) (finds_told q (Shuts g k) r heard refl unread)
 
   -- the text of a script was read
-  shuts_text : (q : Answer) (g a : ℕ) (r : Reply) → Was q (Shuts g (TextOf a true)) → StepsTo m (event.Call server (call.Close g)) r n
-      → Is q (told_shuts q g (TextOf a true) r)
+  shuts_text : (q : Answer) (g a : ℕ) (r : Reply) → Fitting m q (Shuts g (TextOf a true)) → StepsTo m (event.Call server (call.Close g)) r n
+      → Fitting n q (told_shuts q g (TextOf a true) r)
   shuts_text q g a r f step =
       let on = still q r (having.shuts laws.the.steps laws.the.own m n order q g (TextOf a true) (text_of q Script) r f.has step) f.finds in
       goes q [] (Shuts g (TextOf a true)) (told_shuts q g (TextOf a true) r) (call.Close g) r f step (unused g f.has.0.0 f.has.0.1 f.has.0.2) (differ-fds g f.has.0.0 f.has.0.1 f.has.0.2 f.open_on) (refl, refl, refl) (shuts-stands q g (TextOf a true) r)
@@ -156,8 +139,8 @@ module _ (shelf : Shelf) (crew : Crew) (laws : AllLaws crew) (m n : State) (came
       still (refuse status head_only close) reply.Done has text = (has, text)
       still q r has text = (has, text)
 
-  picks : (q : Answer) (a first to len : ℕ) (r : Reply) (heard : List ℕ) → Was q (Picks a first to len)
-      → StepsTo m (event.Call server (call.AggCut a first to)) r n → Names n r heard → Is q (told_picks a first to len r)
+  picks : (q : Answer) (a first to len : ℕ) (r : Reply) (heard : List ℕ) → Fitting m q (Picks a first to len)
+      → StepsTo m (event.Call server (call.AggCut a first to)) r n → Names n r heard → Fitting n q (told_picks a first to len r)
   picks q a first to len r heard f step names =
       goes q [] (Picks a first to len) (told_picks a first to len r) (call.AggCut a first to) r f step refl refl (refl, refl, refl) (stands r)
       (has_told q (Picks a first to len) r heard f refl refl refl step names) (finds_told q (Picks a first to len) r heard refl refl)
@@ -166,8 +149,8 @@ module _ (shelf : Shelf) (crew : Crew) (laws : AllLaws crew) (m n : State) (came
       stands (reply.Agg x) = (refl, refl, refl)
       stands r = (refl, refl, refl)
 
-  spares : (q : Answer) (a : ℕ) (k : Content) (r : Reply) (heard : List ℕ) → is_read (Spares a k) ≡ false → Was q (Spares a k)
-      → StepsTo m (event.Call server (call.AggDrop a)) r n → Names n r heard → Is q (told_spares a k r)
+  spares : (q : Answer) (a : ℕ) (k : Content) (r : Reply) (heard : List ℕ) → is_read (Spares a k) ≡ false → Fitting m q (Spares a k)
+      → StepsTo m (event.Call server (call.AggDrop a)) r n → Names n r heard → Fitting n q (told_spares a k r)
   spares q a k r heard unread f step names =
       goes q [] (Spares a k) (told_spares a k r) (call.AggDrop a) r f step refl refl (refl, refl, refl) (stands r)
       (has_told q (Spares a k) r heard f refl refl unread step names) (finds_told q (Spares a k) r heard refl unread)
@@ -177,8 +160,8 @@ module _ (shelf : Shelf) (crew : Crew) (laws : AllLaws crew) (m n : State) (came
       stands r = (refl, refl, refl)
 
   -- the text that was read is dropped: but for HEAD the script begins to run
-  runs : (seats : List (Seat crew.Worker)) (q : Answer) (a : ℕ) (r : Reply) (heard : List ℕ) → Was q (Spares a Script)
-      → StepsTo m (event.Call server (call.AggDrop a)) r n → Fits shelf crew n came sent fd c (script_told (at q (Spares a Script)) r heard) seats
+  runs : (seats : List (Seat crew.Worker)) (q : Answer) (a : ℕ) (r : Reply) (heard : List ℕ) → Fitting m q (Spares a Script)
+      → StepsTo m (event.Call server (call.AggDrop a)) r n → Fits shelf crew n came sent fd c (script_told (alone kept script q (Spares a Script)) r heard) seats
   runs seats (refuse status head_only close) a r heard f step = absurd (let bad = f.finds.asks in cc (bad))
   runs seats (serve w) a r heard f step = by w.head_only r refl (laws.the.own.drops m n server a r order step) step
     where
@@ -189,14 +172,14 @@ module _ (shelf : Shelf) (crew : Crew) (laws : AllLaws crew) (m n : State) (came
       may_be : (b : Bool) → w.head_only ≡ b → MayPutOut b w nothing_yet (due_to shelf (serve w))
       may_be b is = subst (λ (t : Bool). MayPutOut t w nothing_yet (due_to shelf (serve w))) is may
 
-      ties : (k : Connection) (took sent : List ℕ) → w.head_only ≡ false → TieAlone shelf k took sent (at (serve w) (Spares a Script))
+      ties : (k : Connection) (took sent : List ℕ) → w.head_only ≡ false → TieAlone shelf k took sent (alone kept script (serve w) (Spares a Script))
           → TieRun shelf k took sent kept w nothing_yet Awaits
       ties k took sent get (inl owes) = inl (record { answers = owes.1; may = may_be false get; whole = refl })
       ties k took sent get (inr (inl finished)) = absurd (let bad = finished.quits in cc (bad))
       ties k took sent get (inr (inr gone)) = inr gone
 
       begins : w.head_only ≡ false → StepsTo m (event.Call server (call.AggDrop a)) reply.Done n
-          → FitsRun shelf crew n came sent fd c (record { conn = conn_of (serve w) (Heads Script); run = Some Awaits; script = script }) Awaits seats
+          → FitsRun shelf crew n came sent fd c (record { conn = at kept (serve w) (Heads Script); run = Some Awaits; script = script }) Awaits seats
       begins get step =
           let leaves = laws.the.steps.leaves m n (event.Call server (call.AggDrop a)) reply.Done step in
           let conn = leaves.conns c refl in
@@ -216,12 +199,11 @@ module _ (shelf : Shelf) (crew : Crew) (laws : AllLaws crew) (m n : State) (came
           }
 
       by : (b : Bool) (r : Reply) → w.head_only ≡ b → o.Drops m server a r n → StepsTo m (event.Call server (call.AggDrop a)) r n
-          → Fits shelf crew n came sent fd c (record { conn = conn_of (serve w) (told_spares a Script r); run = client.told_spares b r; script = script }) seats
+          → Fits shelf crew n came sent fd c (record { conn = at kept (serve w) (told_spares a Script r); run = client.told_spares b r; script = script }) seats
       by true reply.Done is did step =
           goes (serve w) [] (Spares a Script) (Heads Script) (call.AggDrop a) reply.Done f step refl refl (refl, refl, refl) (refl, refl, refl) (may_be true is) tt
       by false reply.Done is did step = begins is step
-      by true (reply.Refused y) is did step = same (serve w) (Spares a Script) f did
-      by false (reply.Refused y) is did step = same (serve w) (Spares a Script) f did
+      by other (reply.Refused y) is did step = same (serve w) (Spares a Script) f did
       by b r is did step = absurd did
 
   headed-stands : (q : Answer) (a size : ℕ) (more : Following) → Stands shelf q [] (headed a size more)
@@ -232,8 +214,8 @@ module _ (shelf : Shelf) (crew : Crew) (laws : AllLaws crew) (m n : State) (came
       by true = (refl, refl, refl)
       by false = (refl, refl, refl)
 
-  heads : (q : Answer) (k : Content) (r : Reply) (heard : List ℕ) → Was q (Heads k)
-      → StepsTo m (event.Call server (call.AggMake (text_of q k))) r n → Names n r heard → Is q (told_heads k r heard)
+  heads : (q : Answer) (k : Content) (r : Reply) (heard : List ℕ) → Fitting m q (Heads k)
+      → StepsTo m (event.Call server (call.AggMake (text_of q k))) r n → Names n r heard → Fitting n q (told_heads k r heard)
   heads q k r heard f step names =
       goes q [] (Heads k) (told_heads k r heard) (call.AggMake (text_of q k)) r f step refl refl (refl, refl, refl) (stands r)
       (has_told q (Heads k) r heard f refl refl refl step names) (finds_told q (Heads k) r heard refl refl)
@@ -242,8 +224,8 @@ module _ (shelf : Shelf) (crew : Crew) (laws : AllLaws crew) (m n : State) (came
       stands (reply.Agg x) = headed-stands q x (count_of heard) (following k)
       stands r = (refl, refl, refl)
 
-  joins : (q : Answer) (a size b len : ℕ) (r : Reply) (heard : List ℕ) → Was q (Joins a size b len)
-      → StepsTo m (event.Call server (call.AggJoin a b)) r n → Names n r heard → Is q (told_joins a size b len r)
+  joins : (q : Answer) (a size b len : ℕ) (r : Reply) (heard : List ℕ) → Fitting m q (Joins a size b len)
+      → StepsTo m (event.Call server (call.AggJoin a b)) r n → Names n r heard → Fitting n q (told_joins a size b len r)
   joins q a size b len r heard f step names =
       goes q [] (Joins a size b len) (told_joins a size b len r) (call.AggJoin a b) r f step refl refl (refl, refl, refl) (stands r)
       (has_told q (Joins a size b len) r heard f refl refl refl step names) (finds_told q (Joins a size b len) r heard refl refl)
@@ -252,8 +234,8 @@ module _ (shelf : Shelf) (crew : Crew) (laws : AllLaws crew) (m n : State) (came
       stands (reply.Agg x) = (refl, refl, refl)
       stands r = (refl, refl, refl)
 
-  cuts : (q : Answer) (a from len taken : ℕ) (more : Following) (r : Reply) (heard : List ℕ) → Was q (Cuts a from len taken more)
-      → StepsTo m (event.Call server (call.AggCut a from (piece_end from len))) r n → Names n r heard → Is q (told_cuts a from len taken more r)
+  cuts : (q : Answer) (a from len taken : ℕ) (more : Following) (r : Reply) (heard : List ℕ) → Fitting m q (Cuts a from len taken more)
+      → StepsTo m (event.Call server (call.AggCut a from (piece_end from len))) r n → Names n r heard → Fitting n q (told_cuts a from len taken more r)
   cuts q a from len taken more r heard f step names =
       goes q (take taken (due_to shelf q)) (Cuts a from len taken more) (told_cuts a from len taken more r) (call.AggCut a from (piece_end from len)) r f step refl refl (refl, refl, refl) (stands r)
       (has_told q (Cuts a from len taken more) r heard f refl refl refl step names) (finds_told q (Cuts a from len taken more) r heard refl refl)
@@ -262,8 +244,8 @@ module _ (shelf : Shelf) (crew : Crew) (laws : AllLaws crew) (m n : State) (came
       stands (reply.Agg x) = (refl, refl, refl)
       stands r = (refl, refl, refl)
 
-  swaps : (q : Answer) (a from len piece taken : ℕ) (more : Following) (r : Reply) (heard : List ℕ) → Was q (Swaps a from len piece taken more)
-      → StepsTo m (event.Call server (call.AggDrop piece)) r n → Names n r heard → Is q (told_swaps a from len piece taken more r)
+  swaps : (q : Answer) (a from len piece taken : ℕ) (more : Following) (r : Reply) (heard : List ℕ) → Fitting m q (Swaps a from len piece taken more)
+      → StepsTo m (event.Call server (call.AggDrop piece)) r n → Names n r heard → Fitting n q (told_swaps a from len piece taken more r)
   swaps q a from len piece taken more r heard f step names =
       goes q (take taken (due_to shelf q)) (Swaps a from len piece taken more) (told_swaps a from len piece taken more r) (call.AggDrop piece) r f step refl refl (refl, refl, refl) (stands r)
       (has_told q (Swaps a from len piece taken more) r heard f refl refl refl step names) (finds_told q (Swaps a from len piece taken more) r heard refl refl)
@@ -276,8 +258,8 @@ module _ (shelf : Shelf) (crew : Crew) (laws : AllLaws crew) (m n : State) (came
           by false = (refl, refl, refl)
       stands r = (refl, refl, refl)
 
-  breaks : (q : Answer) (piece a : ℕ) (more : Following) (r : Reply) (heard : List ℕ) → Was q (Breaks piece a more)
-      → StepsTo m (event.Call server (call.AggDrop piece)) r n → Names n r heard → Is q (told_breaks piece a more r)
+  breaks : (q : Answer) (piece a : ℕ) (more : Following) (r : Reply) (heard : List ℕ) → Fitting m q (Breaks piece a more)
+      → StepsTo m (event.Call server (call.AggDrop piece)) r n → Names n r heard → Fitting n q (told_breaks piece a more r)
   breaks q piece a more r heard f step names =
       moves_to script q (Breaks piece a more) (told_breaks piece a more r) (call.AggDrop piece) r f step refl refl (hush shelf kept script q (Breaks piece a more) (told_breaks piece a more r) refl (ending r))
       (has_told q (Breaks piece a more) r heard f refl refl refl step names) (finds_told q (Breaks piece a more) r heard refl refl)
@@ -286,8 +268,8 @@ module _ (shelf : Shelf) (crew : Crew) (laws : AllLaws crew) (m n : State) (came
       ending reply.Done = refl
       ending r = refl
 
-  drops : (q : Answer) (a : ℕ) (more : Following) (r : Reply) (heard : List ℕ) → Was q (Drops a more)
-      → StepsTo m (event.Call server (call.AggDrop a)) r n → Names n r heard → Is q (told_drops a more r)
+  drops : (q : Answer) (a : ℕ) (more : Following) (r : Reply) (heard : List ℕ) → Fitting m q (Drops a more)
+      → StepsTo m (event.Call server (call.AggDrop a)) r n → Names n r heard → Fitting n q (told_drops a more r)
   drops q a more r heard f step names =
       moves_to script q (Drops a more) (told_drops a more r) (call.AggDrop a) r f step refl refl (hush shelf kept script q (Drops a more) (told_drops a more r) refl (ending r))
       (has_told q (Drops a more) r heard f refl refl refl step names) (finds_told q (Drops a more) r heard refl refl)
@@ -300,21 +282,21 @@ module _ (shelf : Shelf) (crew : Crew) (laws : AllLaws crew) (m n : State) (came
       ending reply.Done = next more
       ending r = refl
 
-  sent_all : (q : Answer) (a taken : ℕ) (more : Following) (r : Reply) (heard : List ℕ) → Was q (Sent a taken more)
-      → StepsTo m (event.Call server (call.AggDrop a)) r n → Names n r heard → Is q (told_sent q a taken more r)
+  sent_all : (q : Answer) (a taken : ℕ) (more : Following) (r : Reply) (heard : List ℕ) → Fitting m q (Sent a taken more)
+      → StepsTo m (event.Call server (call.AggDrop a)) r n → Names n r heard → Fitting n q (told_sent q a taken more r)
   sent_all q a taken more r heard f step names =
       moves_to script q (Sent a taken more) (told_sent q a taken more r) (call.AggDrop a) r f step refl refl (ties r)
       (has_told q (Sent a taken more) r heard f refl refl refl step names) (finds_told q (Sent a taken more) r heard refl refl)
     where
-      ended : (b : Bool) → keeps q ≡ b → drop taken (due_to shelf q) ≡ [] → Ties q (Sent a taken None) (if b then Rests else Closes)
+      ended : (b : Bool) → keeps q ≡ b → drop taken (due_to shelf q) ≡ [] → TiesOn shelf kept script q (Sent a taken None) (if b then Rests else Closes)
       ended true keep none = ends shelf kept script q a taken keep none
       ended false keep none = ends-last shelf kept script q a taken keep none
 
-      after : (more : Following) → HoldsMore m (due_to shelf q) a taken more → Ties q (Sent a taken more) (goes_on q taken more)
+      after : (more : Following) → HoldsMore m (due_to shelf q) a taken more → TiesOn shelf kept script q (Sent a taken more) (goes_on q taken more)
       after (Some x) h = tie_on shelf kept script q (Sent a taken (Some x)) (Sends x.0 x.1 taken None) refl refl refl refl
       after None h = ended (keeps q) refl (sym h.next ∙ h.follows)
 
-      ties : (r : Reply) → Ties q (Sent a taken more) (told_sent q a taken more r)
+      ties : (r : Reply) → TiesOn shelf kept script q (Sent a taken more) (told_sent q a taken more r)
       ties reply.Done = after more f.has
       ties r = tie_on shelf kept script q (Sent a taken more) (Sent a taken more) refl refl refl refl
 
@@ -326,9 +308,9 @@ module _ (shelf : Shelf) (crew : Crew) (laws : AllLaws crew) (m n : State) (came
   is_of_text (Spares a Script) = true
   is_of_text d = false
 
-  phase : (q : Answer) (d : Doing) (r : Reply) (heard : List ℕ) → is_of_text d ≡ false → IsFixed shelf.finds m → Was q d
-      → conn.IsAwaiting (conn_of q d) → is_closing d ≡ false → is_rough r ≡ false
-      → StepsTo m (event.Call server (conn.wants fd (conn_of q d))) r n → Names n r heard → Fitting n (conn_told (at q d) r heard)
+  phase : (q : Answer) (d : Doing) (r : Reply) (heard : List ℕ) → is_of_text d ≡ false → IsFixed shelf.finds m → Fitting m q d
+      → conn.IsAwaiting (at kept q d) → is_closing d ≡ false → is_rough r ≡ false
+      → StepsTo m (event.Call server (conn.wants fd (at kept q d))) r n → Names n r heard → FitsAlone shelf n came sent fd c (conn_told (alone kept script q d) r heard)
   phase q Rests r heard plain fixed f waits busy calm step names = rests shelf laws.the m n came sent fd c kept script order q r heard f waits step names
   phase q (Got a) r heard plain fixed f waits busy calm step names = got q a r heard f step names
   phase q Opens r heard plain fixed f waits busy calm step names = files.opens shelf crew laws m n came sent fd c kept script order q r heard fixed f calm step
@@ -353,13 +335,12 @@ module _ (shelf : Shelf) (crew : Crew) (laws : AllLaws crew) (m n : State) (came
   phase q Over r heard plain fixed f waits busy calm step names = absurd (cc (busy))
 
   pub alone_phase : (seats : List (Seat crew.Worker)) (b : Bool) (q : Answer) (d : Doing) (r : Reply) (heard : List ℕ)
-      → is_for_script shelf.scripts q ≡ b → IsFixed shelf.finds m → Was q d
-      → conn.IsAwaiting (conn_of q d) → is_closing d ≡ false → is_rough r ≡ false
-      → StepsTo m (event.Call server (conn_wants b fd (conn_of q d))) r n → Names n r heard
-      → Fits shelf crew n came sent fd c (file_told b (at q d) r heard) seats
+      → is_for_script shelf.scripts q ≡ b → IsFixed shelf.finds m → Fitting m q d
+      → conn.IsAwaiting (at kept q d) → is_closing d ≡ false → is_rough r ≡ false
+      → StepsTo m (event.Call server (conn_wants b fd (at kept q d))) r n → Names n r heard
+      → Fits shelf crew n came sent fd c (file_told b (alone kept script q d) r heard) seats
   alone_phase seats false q (Reading g) r heard is fixed f waits busy calm step names = files.reads shelf crew laws m n came sent fd c kept script order q g r heard is fixed f calm step names
   alone_phase seats false q (Spares a Script) r heard is fixed f waits busy calm step names = absurd (clash (is_for_script shelf.scripts q) f.finds.asks is)
-  alone_phase seats false q d r heard is fixed f waits busy calm step names = phase q d r heard refl fixed f waits busy calm step names
   alone_phase seats true q (Reading g) r heard is fixed f waits busy calm step names = files.reads_text shelf crew laws m n came sent fd c kept script order q g r heard is fixed f calm step names
   alone_phase seats true q (Spares a Script) r heard is fixed f waits busy calm step names = runs seats q a r heard f step
-  alone_phase seats true q d r heard is fixed f waits busy calm step names = phase q d r heard refl fixed f waits busy calm step names
+  alone_phase seats b q d r heard is fixed f waits busy calm step names = phase q d r heard refl fixed f waits busy calm step names

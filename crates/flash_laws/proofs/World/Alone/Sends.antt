@@ -22,7 +22,7 @@ use Rattle.flash_http.specs.declared.windows.Window.TheVariants.{Wait}
 use Rattle.flash_http.specs.Window.{window_in, FitsIn}
 use Rattle.flash_http.specs.Request.{Answer}
 use Rattle.flash_laws.specs.Answers.{Reads}
-use Rattle.flash_laws.specs.Client.{Client, conn_told}
+use Rattle.flash_laws.specs.Client.{conn_told}
 use Rattle.flash_laws.specs.Client.Fits.{TieAlone, due_in, Finds, FitsAlone}
 use Rattle.flash_laws.specs.Conn as conn
 use Rattle.flash_laws.specs.Conn.{Following, Conn, most_kept, piece_end, moved_on}
@@ -34,24 +34,15 @@ use Rattle.flash_laws.specs.declared.doing.Doing.TheVariants.{Rests, Got, Sends,
 use Rattle.flash_laws.proofs.Conn.Answering.{some-inj, order-all, reads-append}
 use Rattle.flash_laws.proofs.Lists.{clash, bytes-append, none-bytes, take-plus, next-front, take-slice, few-taken}
 use Rattle.flash_laws.proofs.TheLaws.{TheLaws}
-use Rattle.flash_laws.proofs.World.Alone.Ties.{alone, part_of, Stands}
+use Rattle.flash_laws.proofs.World.Alone.Ties.{alone, FitsAt, part_of, Stands}
 use Rattle.flash_laws.proofs.World.Answering.{begins-append, begins-tie}
 
 module _ (shelf : Shelf) (the : TheLaws) (m n : State) (came sent : List ℕ) (fd c : ℕ) (kept script : List ℕ) (order : IsOrderly m) where
-  abbrev at : Answer → Doing → Client
-  at q d = alone kept script q d
+  abbrev Fitting : State → Answer → Doing → Type 0
+  Fitting = FitsAt shelf came sent fd c kept script
 
-  abbrev Fitting : State → Client → Type 0
-  Fitting s x = FitsAlone shelf s came sent fd c x
-
-  abbrev Was : Answer → Doing → Type 0
-  Was q d = Fitting m (at q d)
-
-  abbrev Is : Answer → Doing → Type 0
-  Is q d = Fitting n (at q d)
-
-  same : (q : Answer) (d : Doing) → Was q d → n ≡ m → Is q d
-  same q d f is = subst (λ (s : State). Fitting s (at q d)) (sym is) f
+  same : (q : Answer) (d : Doing) → Fitting m q d → n ≡ m → Fitting n q d
+  same q d f is = subst (λ (s : State). Fitting s q d) (sym is) f
 
   -- what it reads or writes is its own connection, which stays open
   open_still : (k : Call) (r : Reply) → StepsTo m (event.Call server k) r n
@@ -64,16 +55,16 @@ module _ (shelf : Shelf) (the : TheLaws) (m n : State) (came sent : List ℕ) (f
   itself a b = grind (arith, nat_tests)
 
   -- of an aggregate that is offered the first k bytes are taken, which are what of the response is next
-  took_on : (q : Answer) (d e : Doing) (a taken k : ℕ) (bytes : List ℕ) → Was q d
+  took_on : (q : Answer) (d e : Doing) (a taken k : ℕ) (bytes : List ℕ) → Fitting m q d
       → StepsTo m (event.Call server (call.IolWrite fd a)) (reply.Count k) n → o.Puts m c bytes k n
       → take k (drop taken (due_to shelf q)) ≡ take k bytes
       → Stands shelf q (take taken (due_to shelf q)) d → Stands shelf q (take (taken + k) (due_to shelf q)) e
-      → Has n q (due_in shelf q e) e → Finds shelf n q script e → Is q e
+      → Has n q (due_in shelf q e) e → Finds shelf n q script e → Fitting n q e
   took_on q d e a taken k bytes f step puts front was stands has finds = record {
     open_on = open_still (call.IolWrite fd a) (reply.Count k) step f.open_on (itself fd (is_file (descriptor m server fd)));
     took = f.took;
     came_is = f.came_is ∙ ap (λ (x : Connection). f.took ++ bytes_of x.incoming) (sym puts.conn);
-    tie = subst (λ (x : Connection). TieAlone shelf x f.took sent (at q e)) (sym puts.conn) (tied f.tie);
+    tie = subst (λ (x : Connection). TieAlone shelf x f.took sent (alone kept script q e)) (sym puts.conn) (tied f.tie);
     has = has;
     finds = finds;
     proper = f.proper;
@@ -93,7 +84,7 @@ module _ (shelf : Shelf) (the : TheLaws) (m n : State) (came sent : List ℕ) (f
           ∙ (append_assoc (responses shelf done) (take taken (due_to shelf q)) (take k bytes)
           ∙ ap (λ (l : List ℕ). responses shelf done ++ l) (sym more_given ∙ sym stands.1))))
 
-      tied : TieAlone shelf (conn_at m c) f.took sent (at q d) → TieAlone shelf (record (conn_at m c) { outgoing = (conn_at m c).outgoing ++ puts.text }) f.took sent (at q e)
+      tied : TieAlone shelf (conn_at m c) f.took sent (alone kept script q d) → TieAlone shelf (record (conn_at m c) { outgoing = (conn_at m c).outgoing ++ puts.text }) f.took sent (alone kept script q e)
       tied (inl owes) = inl (
         stands.2,
         record {
@@ -107,41 +98,41 @@ module _ (shelf : Shelf) (the : TheLaws) (m n : State) (came sent : List ℕ) (f
       tied (inr (inr gone)) = absurd (clash (is_gone (conn_at m c).peer) gone.gone puts.takes)
 
   -- the peer is gone: what was sent begins the answer, and nothing more is sent
-  broken_off : (q : Answer) (d e : Doing) (a : ℕ) → Was q d
+  broken_off : (q : Answer) (d e : Doing) (a : ℕ) → Fitting m q d
       → StepsTo m (event.Call server (call.IolWrite fd a)) (reply.Refused no.BrokenPipe) n → n ≡ m
-      → Has n q (due_in shelf q e) e → Finds shelf n q script e → Is q e
+      → Has n q (due_in shelf q e) e → Finds shelf n q script e → Fitting n q e
   broken_off q d e a f step same has finds = record {
     open_on = subst (λ (s : State). descriptor s server fd ≡ Some (on.Connection c)) (sym same) f.open_on;
     took = f.took;
     came_is = f.came_is ∙ ap (λ (s : State). f.took ++ bytes_of (conn_at s c).incoming) (sym same);
-    tie = subst (λ (s : State). TieAlone shelf (conn_at s c) f.took sent (at q e)) (sym same)
-        (inr (inr (record { gone = the.reasons.peer_is_gone m n server fd c a f.open_on step; begins = begins-tie shelf (conn_at m c) f.took sent (at q d) f.tie })));
+    tie = subst (λ (s : State). TieAlone shelf (conn_at s c) f.took sent (alone kept script q e)) (sym same)
+        (inr (inr (record { gone = the.reasons.peer_is_gone m n server fd c a f.open_on step; begins = begins-tie shelf (conn_at m c) f.took sent (alone kept script q d) f.tie })));
     has = has;
     finds = finds;
     proper = f.proper;
   }
 
   pub sends : (q : Answer) (a len taken : ℕ) (more : Following) (r : Reply)
-      → Was q (Sends a len taken more) → StepsTo m (event.Call server (call.IolWrite fd a)) r n
+      → Fitting m q (Sends a len taken more) → StepsTo m (event.Call server (call.IolWrite fd a)) r n
       → Has n q (due_in shelf q (conn.told_sends a len taken more r)) (conn.told_sends a len taken more r)
-      → Finds shelf n q script (conn.told_sends a len taken more r) → Is q (conn.told_sends a len taken more r)
+      → Finds shelf n q script (conn.told_sends a len taken more r) → Fitting n q (conn.told_sends a len taken more r)
   sends q a len taken more r f step has finds = by r (the.own.write_conn m n server fd c a f.has.bytes r order f.open_on f.has.lends step) step has finds
     where
       by : (r : Reply) → o.WritesConn m c f.has.bytes r n
           → StepsTo m (event.Call server (call.IolWrite fd a)) r n
           → Has n q (due_in shelf q (conn.told_sends a len taken more r)) (conn.told_sends a len taken more r)
           → Finds shelf n q script (conn.told_sends a len taken more r)
-          → Is q (conn.told_sends a len taken more r)
+          → Fitting n q (conn.told_sends a len taken more r)
       by (reply.Count k) puts step has finds = cases (nat_lt k len) refl has finds
         where
-          took : (e : Doing) → Stands shelf q (take (taken + k) (due_to shelf q)) e → Has n q (due_in shelf q e) e → Finds shelf n q script e → Is q e
+          took : (e : Doing) → Stands shelf q (take (taken + k) (due_to shelf q)) e → Has n q (due_in shelf q e) e → Finds shelf n q script e → Fitting n q e
           took e stands has finds =
               took_on q (Sends a len taken more) e a taken k f.has.bytes f step puts (next-front k f.has.bytes f.has.after (drop taken (due_to shelf q)) f.has.next puts.within) (refl, refl, refl) stands has finds
 
           cases : (b : Bool) → nat_lt k len ≡ b
               → Has n q (due_in shelf q (if b then Cuts a k len (taken + k) more else Sent a (taken + len) more)) (if b then Cuts a k len (taken + k) more else Sent a (taken + len) more)
               → Finds shelf n q script (if b then Cuts a k len (taken + k) more else Sent a (taken + len) more)
-              → Is q (if b then Cuts a k len (taken + k) more else Sent a (taken + len) more)
+              → Fitting n q (if b then Cuts a k len (taken + k) more else Sent a (taken + len) more)
           cases true is has finds = took (Cuts a k len (taken + k) more) (refl, refl, refl) has finds
           cases false is has finds =
               let size = f.has.size in
@@ -154,9 +145,9 @@ module _ (shelf : Shelf) (the : TheLaws) (m n : State) (came sent : List ℕ) (f
       by r did step has finds = absurd did
 
   pub offers : (q : Answer) (a from len piece taken : ℕ) (more : Following) (r : Reply)
-      → Was q (Offers a from len piece taken more) → StepsTo m (event.Call server (call.IolWrite fd piece)) r n
+      → Fitting m q (Offers a from len piece taken more) → StepsTo m (event.Call server (call.IolWrite fd piece)) r n
       → Has n q (due_in shelf q (conn.told_offers a from len piece taken more r)) (conn.told_offers a from len piece taken more r)
-      → Finds shelf n q script (conn.told_offers a from len piece taken more r) → Is q (conn.told_offers a from len piece taken more r)
+      → Finds shelf n q script (conn.told_offers a from len piece taken more r) → Fitting n q (conn.told_offers a from len piece taken more r)
   offers q a from len piece taken more r f step has finds =
       by r (the.own.write_conn m n server fd c piece (slice_range f.has.whole.bytes from (piece_end from len)) r order f.open_on f.has.lends step) step has finds
     where
@@ -164,7 +155,7 @@ module _ (shelf : Shelf) (the : TheLaws) (m n : State) (came sent : List ℕ) (f
           → StepsTo m (event.Call server (call.IolWrite fd piece)) r n
           → Has n q (due_in shelf q (conn.told_offers a from len piece taken more r)) (conn.told_offers a from len piece taken more r)
           → Finds shelf n q script (conn.told_offers a from len piece taken more r)
-          → Is q (conn.told_offers a from len piece taken more r)
+          → Fitting n q (conn.told_offers a from len piece taken more r)
       by (reply.Count k) puts step has finds =
           took_on q (Offers a from len piece taken more) (moved_on a from len piece taken more (min k (len - from))) piece taken k (slice_range f.has.whole.bytes from (piece_end from len)) f step puts
           (next-front k (drop from f.has.whole.bytes) f.has.whole.after (drop taken (due_to shelf q)) f.has.whole.next few.0 ∙ take-slice k from (piece_end from len) f.has.whole.bytes puts.within)
@@ -177,9 +168,9 @@ module _ (shelf : Shelf) (the : TheLaws) (m n : State) (came sent : List ℕ) (f
       by r did step has finds = absurd did
 
   -- what came on the stream is kept, or its end was seen
-  pub rests : (q : Answer) (r : Reply) (heard : List ℕ) → Was q Rests → window_in kept ≡ Wait
+  pub rests : (q : Answer) (r : Reply) (heard : List ℕ) → Fitting m q Rests → window_in kept ≡ Wait
       → StepsTo m (event.Call server (call.IolRead fd (most_kept - length kept))) r n → Names n r heard
-      → Fitting n (conn_told (at q Rests) r heard)
+      → FitsAlone shelf n came sent fd c (conn_told (alone kept script q Rests) r heard)
   rests q r heard f waits step names = by r (the.own.read_conn m n server fd c count r order f.open_on step) step names
     where
       count : ℕ
@@ -191,9 +182,9 @@ module _ (shelf : Shelf) (the : TheLaws) (m n : State) (came sent : List ℕ) (f
       got_some : (a : ℕ) (takes : o.Takes m server c (most_kept - length kept) a n)
           → StepsTo m (event.Call server (call.IolRead fd (most_kept - length kept))) (reply.Agg a) n
           → (bytes : List ℕ) → lent_at n server a ≡ Some bytes → (after : List ℕ) (d : Doing)
-          → (TieAlone shelf (conn_at m c) f.took sent (at q Rests)
+          → (TieAlone shelf (conn_at m c) f.took sent (alone kept script q Rests)
           → TieAlone shelf (record (conn_at m c) { incoming = takes.incoming }) (f.took ++ bytes) sent (alone after script q d))
-          → Has n q (due_in shelf q d) d → Finds shelf n q script d → Fitting n (alone after script q d)
+          → Has n q (due_in shelf q d) d → Finds shelf n q script d → FitsAlone shelf n came sent fd c (alone after script q d)
       got_some a takes step bytes named after d ties has finds = record {
         open_on = open_still (call.IolRead fd (most_kept - length kept)) (reply.Agg a) step f.open_on (itself fd (is_file (descriptor m server fd)));
         took = f.took ++ bytes;
@@ -210,10 +201,10 @@ module _ (shelf : Shelf) (the : TheLaws) (m n : State) (came sent : List ℕ) (f
 
       by : (r : Reply) → o.ReadsConn m server c (most_kept - length kept) r n
           → StepsTo m (event.Call server (call.IolRead fd (most_kept - length kept))) r n
-          → Names n r heard → Fitting n (conn_told (at q Rests) r heard)
+          → Names n r heard → FitsAlone shelf n came sent fd c (conn_told (alone kept script q Rests) r heard)
       by (reply.Agg a) takes step names = ended heard names
         where
-          ended : (l : List ℕ) → lent_at n server a ≡ Some l → Fitting n (conn_told (at q Rests) (reply.Agg a) l)
+          ended : (l : List ℕ) → lent_at n server a ≡ Some l → FitsAlone shelf n came sent fd c (conn_told (alone kept script q Rests) (reply.Agg a) l)
           ended [] names = got_some a takes step [] names kept (Drops a None) ties (record { after = []; lent = ([], names); follows = refl; apart = refl }) tt
             where
               text_none : takes.text ≡ []
@@ -222,7 +213,7 @@ module _ (shelf : Shelf) (the : TheLaws) (m n : State) (came sent : List ℕ) (f
               rest_none : takes.incoming ≡ []
               rest_none = ap (λ (t : Text). t ++ takes.incoming) (sym text_none) ∙ (sym takes.was ∙ (takes.ended some text_none).0)
 
-              ties : TieAlone shelf (conn_at m c) f.took sent (at q Rests)
+              ties : TieAlone shelf (conn_at m c) f.took sent (alone kept script q Rests)
                   → TieAlone shelf (record (conn_at m c) { incoming = takes.incoming }) (f.took ++ []) sent (alone kept script q (Drops a None))
               ties (inl owes) = inr (inl (record {
                 quits = refl;
@@ -234,13 +225,13 @@ module _ (shelf : Shelf) (the : TheLaws) (m n : State) (came sent : List ℕ) (f
                   all = owes.1.out_is ∙ append-nil (responses shelf owes.1.done);
                   no_more = inr (waits, rest_none, (takes.ended some text_none).1);
                 };
-                begins = begins-append the.windows shelf f.took [] (sent ++ bytes_of (conn_at m c).outgoing) (begins-tie shelf (conn_at m c) f.took sent (at q Rests) f.tie);
+                begins = begins-append the.windows shelf f.took [] (sent ++ bytes_of (conn_at m c).outgoing) (begins-tie shelf (conn_at m c) f.took sent (alone kept script q Rests) f.tie);
               }))
               ties (inr (inl finished)) = absurd (let bad = finished.quits in cc (bad))
               ties (inr (inr gone)) = inr (inr (record { gone = gone.gone; begins = begins-append the.windows shelf f.took [] (sent ++ bytes_of (conn_at m c).outgoing) gone.begins }))
           ended (b ∷ l) names = got_some a takes step (b ∷ l) names (kept ++ (b ∷ l)) (Got a) ties (b ∷ l, names) tt
             where
-              ties : TieAlone shelf (conn_at m c) f.took sent (at q Rests)
+              ties : TieAlone shelf (conn_at m c) f.took sent (alone kept script q Rests)
                   → TieAlone shelf (record (conn_at m c) { incoming = takes.incoming }) (f.took ++ (b ∷ l)) sent (alone (kept ++ (b ∷ l)) script q (Got a))
               ties (inl owes) = inl (refl, record { done = owes.1.done; open_yet = owes.1.open_yet; reads = reads-append the.windows f.took (b ∷ l) (owes.1.done ++ []) kept owes.1.reads; out_is = owes.1.out_is })
               ties (inr (inl finished)) = absurd (let bad = finished.quits in cc (bad))

@@ -2,11 +2,11 @@
 use Rattle.std.proofs.Common.{inl, inr, ◌≡◌, ℕ, List, [], ◌∷◌, ◌++◌, take, drop, ap, ◌∙◌, refl, sym, subst, None, true, false, append-nil}
 use Rattle.std.proofs.lemmas.List.{take-append-drop}
 use Rattle.iol_core.specs.Text.{bytes_of}
-use Rattle.iol_core.specs.State.{Connection}
+use Rattle.iol_core.specs.State.{State, Connection}
 use Rattle.flash_http.specs.Request.{Answer}
 use Rattle.flash_laws.specs.Answers.{keeps, Reads}
 use Rattle.flash_laws.specs.Client.{Client}
-use Rattle.flash_laws.specs.Client.Fits.{TieAlone, is_at_rest, given_of}
+use Rattle.flash_laws.specs.Client.Fits.{FitsAlone, TieAlone, is_at_rest, given_of}
 use Rattle.flash_laws.specs.Conn.Fits.{asked, quits}
 use Rattle.flash_laws.specs.Conn.Offering.{taken_of}
 use Rattle.flash_laws.specs.Shelf.{Shelf, due_to, responses}
@@ -18,6 +18,10 @@ use Rattle.flash_laws.proofs.World.Answering.{responses-more, begins-tie}
 
 abbrev pub alone : (kept script : List ℕ) → Answer → Doing → Client
 alone kept script q d = record { conn = record { kept = kept; q = q; doing = d }; run = None; script = script }
+
+-- it fits in a state of the machine
+abbrev pub FitsAt : Shelf → (came sent : List ℕ) (fd c : ℕ) (kept script : List ℕ) → State → Answer → Doing → Type 0
+FitsAt shelf came sent fd c kept script s q d = FitsAlone shelf s came sent fd c (alone kept script q d)
 
 -- what is given of the response to the request in progress
 abbrev pub part_of : Shelf → Answer → Doing → List ℕ

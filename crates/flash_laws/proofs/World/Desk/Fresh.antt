@@ -1,7 +1,6 @@
 -- The worker of a run until it has its job: it is hired, is given the pipe, and its job is made and written.
-use Rattle.std.proofs.Common.{inl, inr, ◌≡◌, ◌≢◌, ◌<◌, ◌≤◌, ℕ, List, [], ◌∷◌, ◌++◌, length, ap, ◌∙◌, refl, sym, subst, arith, Option, Some, None, true, false, Bool, slice_get, length-append, if◌then◌else◌}
+use Rattle.std.proofs.Common.{inl, inr, ◌≡◌, ◌≢◌, ◌<◌, ◌≤◌, ℕ, List, [], ◌∷◌, ◌++◌, length, ap, ◌∙◌, refl, sym, subst, arith, Option, Some, None, true, false, Bool, slice_get, if◌then◌else◌}
 use Rattle.std.specs.Prelude.{◌==◌, ◌&&◌, nat_le, unwrap_or}
-use Rattle.std.specs.Fmt.{decimal}
 use Rattle.std.specs.List.{AllByRecursion}
 use Rattle.std.specs.Str.{is_utf8}
 use Rattle.std.specs.List.{slice_split}
@@ -32,7 +31,7 @@ use Rattle.flash_cgi.specs.Script.{script_of, lines_in, is_line_feed}
 use Rattle.flash_cgi.specs.Taking.{HasJob}
 use Rattle.flash_cgi.specs.declared.line.Line.{Line}
 use Rattle.flash_cgi.specs.declared.script.TheConstants.{MAX_SCRIPT_BYTES}
-use Rattle.flash_cgi.proofs.Written.{regroup}
+use Rattle.flash_cgi.proofs.Written.{length-job_text}
 use Rattle.flash_laws.specs.Client.{Client, job_of}
 use Rattle.flash_laws.specs.Client.Fits.{IsScript, output_of}
 use Rattle.flash_laws.specs.Workers.Crew.{Crew}
@@ -80,18 +79,11 @@ script_short script lines is = by (nat_le (length script) MAX_SCRIPT_BYTES) (is_
 
 short_job : (f : ℕ) (query script : List ℕ) → f < MAX_OPEN → length query ≤ 8192 → length script ≤ MAX_SCRIPT_BYTES → length (job_text f query script) ≤ 65536
 short_job f query script few short_query short_script =
-    let body : List ℕ = query ++ script in
-    let third : List ℕ = decimal (length script) ++ 10 ∷ body in
-    let second : List ℕ = decimal (length query) ++ 32 ∷ third in
-    let whole = ap (λ (l : List ℕ). length l) (regroup (decimal f) (decimal (length query)) (decimal (length script)) query script) in
-    let one = length-append (decimal f) (32 ∷ second) in
-    let two = length-append (decimal (length query)) (32 ∷ third) in
-    let three = length-append (decimal (length script)) (10 ∷ body) in
-    let four = length-append query script in
+    let whole = length-job_text f query script in
     let a = length-decimal-le 9 f (omega arith) (omega (arith, few)) (omega (arith, few)) in
     let b = length-decimal-le 9 (length query) (omega arith) (omega (arith, short_query)) (omega (arith, short_query)) in
     let d = length-decimal-le 9 (length script) (omega arith) (omega (arith, short_script)) (omega (arith, short_script)) in
-    omega (arith, whole, one, two, three, four, a, b, d, short_query, short_script)
+    omega (arith, whole, a, b, d, short_query, short_script)
 
 -- ---- what is written to an empty pipe is all that it has
 

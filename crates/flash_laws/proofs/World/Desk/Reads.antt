@@ -48,8 +48,7 @@ use Rattle.flash_laws.proofs.World.Desk.Calls.{Quiet, OwnCall, own_files, other}
 
 taken_may : (w : Wanted) (o : Progress) (part due : List ℕ) → MayAnswer w o due → MayAnswer w (takes_on o part) due
 taken_may w (Ran heard ended past) part due may = may
-taken_may w Broken part due may = may
-taken_may w (NotRun status past) part due may = may
+taken_may w x part due may = may
 
 pub part_may : (m : State) (w : Wanted) (d : Doing) (r : Reply) (o after : Progress) (due : List ℕ) → PartLearns m d r o after → is_dropping d ≡ false → MayAnswer w o due → MayAnswer w after due
 part_may m w (doing.Sent a taken None) reply.Done o after due learns whole may = subst (λ (p : Progress). MayAnswer w p due) (sym learns.2) (taken_may w o learns.0 due may)
@@ -58,8 +57,7 @@ part_may m w d r o after due learns whole may = subst (λ (p : Progress). MayAns
 
 taken_to_come : (o : Progress) (part output more : List ℕ) → IsToCome o output more → IsToCome (takes_on o part) output more
 taken_to_come (Ran heard ended past) part output more come = come
-taken_to_come Broken part output more come = come
-taken_to_come (NotRun status past) part output more come = come
+taken_to_come x part output more come = come
 
 pub part_to_come : (m : State) (d : Doing) (r : Reply) (o after : Progress) (output more : List ℕ) → PartLearns m d r o after → IsToCome o output more → IsToCome after output more
 part_to_come m (doing.Sent a taken None) reply.Done o after output more learns come = subst (λ (p : Progress). IsToCome p output more) (sym learns.2) (taken_to_come o learns.0 output more come)

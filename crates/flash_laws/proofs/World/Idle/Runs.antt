@@ -26,7 +26,7 @@ use Rattle.flash_laws.specs.declared.doing.Doing.TheVariants as doing
 use Rattle.flash_laws.specs.declared.running.TheConstants.{CHUNK_BYTES}
 use Rattle.flash_laws.specs.declared.running.Run.{Run}
 use Rattle.flash_laws.specs.declared.running.Step.{Step}
-use Rattle.flash_laws.specs.declared.running.Step.TheVariants.{Gives, Makes, Hands, Lets, Heads, Sending, Hears, Spills, Gathers, Frames, Wraps, Trims, Ended, Unholds, Stops, Unframes, Lasts, WrapsLast, TrimsLast, Unwraps, Returns, Lapses, Fails}
+use Rattle.flash_laws.specs.declared.running.Step.TheVariants.{Gives, Makes, Hands, Lets, Heads, Sending, Hears, Spills, Gathers, Frames, Wraps, Trims, Ended, Unholds, Unframes, Lasts, WrapsLast, TrimsLast, Unwraps, Returns, Lapses}
 use Rattle.flash_laws.specs.declared.running.Running.{Running}
 use Rattle.flash_laws.specs.declared.running.Running.TheVariants.{Awaits, Runs, Leaves, Closes}
 use Rattle.flash_laws.proofs.Lists.{clash}
@@ -61,8 +61,6 @@ module _ (shelf : Shelf) (crew : Crew) (laws : AllLaws crew) (m : State) (order 
   -- a part of the response is offered
   sending : (fd c : ℕ) (w : Wanted) (d : Doing) → descriptor m server fd ≡ Some (on.Connection c) → OnlySends d
       → WouldWait m server (conn.wants fd (in_phase w d)) → IsHeldUp m c
-  sending fd c w doing.Rests open_on may step = absurd may
-  sending fd c w (doing.Reads f) open_on may step = absurd may
   sending fd c w (doing.Sends a len taken more) open_on may step = laws.the.reasons.conn_is_full m m server fd c a open_on step
   sending fd c w (doing.Offers a from len piece taken more) open_on may step = laws.the.reasons.conn_is_full m m server fd c piece open_on step
   sending fd c w (doing.Got a) open_on may step = absurd (goes crew laws m (call.AggDrop a) refl step)
@@ -79,6 +77,7 @@ module _ (shelf : Shelf) (crew : Crew) (laws : AllLaws crew) (m : State) (order 
   sending fd c w (doing.Drops a more) open_on may step = absurd (goes crew laws m (call.AggDrop a) refl step)
   sending fd c w doing.Closes open_on may step = absurd (goes crew laws m (call.Close fd) refl step)
   sending fd c w doing.Over open_on may step = absurd (goes crew laws m (call.Close fd) refl step)
+  sending fd c w x open_on may step = absurd may
 
   module _ (seats : List (Seat crew.Worker)) (desks : AreAtDesks crew m seats) (settled : WorkersAreSettled crew m seats) (output : List ℕ) (o : Progress) (run : Run) where
     -- the pipe of a job is empty while its worker is free
@@ -116,7 +115,6 @@ module _ (shelf : Shelf) (crew : Crew) (laws : AllLaws crew) (m : State) (order 
     by-step job fd c w (Trims held chunk len frame) open_on has desk step = absurd (goes crew laws m (call.AggDrop held) refl step)
     by-step job fd c w (Ended a held frame) open_on has desk step = absurd (goes crew laws m (call.AggDrop a) refl step)
     by-step job fd c w (Unholds held frame) open_on has desk step = absurd (goes crew laws m (call.AggDrop held) refl step)
-    by-step job fd c w (Stops held frame) open_on has desk step = absurd (goes crew laws m (call.Close run.from) refl step)
     by-step job fd c w (Unframes frame held) open_on has desk step = absurd (goes crew laws m (call.AggDrop frame) refl step)
     by-step job fd c w (Lasts held) open_on has desk step = absurd (goes crew laws m (call.AggMake (end_around held)) refl step)
     by-step job fd c w (WrapsLast held size frame) open_on has desk step = absurd (goes crew laws m (call.AggReplace frame (place_in_frame size) (place_in_frame size) held) refl step)
@@ -124,7 +122,7 @@ module _ (shelf : Shelf) (crew : Crew) (laws : AllLaws crew) (m : State) (order 
     by-step job fd c w (Unwraps frame chunk len) open_on has desk step = absurd (goes crew laws m (call.AggDrop frame) refl step)
     by-step job fd c w (Returns write) open_on has desk step = absurd (goes crew laws m (call.Close write) refl step)
     by-step job fd c w (Lapses j) open_on has desk step = absurd (goes crew laws m (call.AggDrop j) refl step)
-    by-step job fd c w Fails open_on has desk step = absurd (goes crew laws m (call.Close run.from) refl step)
+    by-step job fd c w x open_on has desk step = absurd (goes crew laws m (call.Close run.from) refl step)
 
   -- so is each client for which a script runs, or that waits for a worker
   pub run-left : (fd c : ℕ) (w : Wanted) (job : ℕ → List ℕ) (y : Running) (seats : List (Seat crew.Worker)) (output : List ℕ) (o : Progress)

@@ -1,6 +1,6 @@
 -- Where everything that the server and its workers poll would block, nothing is left to do.
 use Rattle.std.proofs.Common.{inl, inr, ◌≡◌, ◌<◌, ℕ, suc, ◌+◌, ◌⊎◌, List, [], ◌∷◌, ◌++◌, take, drop, map, ap, ◌∙◌, refl, sym, subst, arith, Option, Some, None, true, false, Bool, slice_get}
-use Rattle.std.specs.Prelude.{option_map, not, ◌&&◌}
+use Rattle.std.specs.Prelude.{option_map, ◌&&◌}
 use Rattle.std.proofs.lemmas.Bool.Decides.{nat_tests}
 use Rattle.std.proofs.lemmas.List.{take-append-drop}
 use Rattle.std.proofs.lemmas.Option.{slice_get-map}
@@ -135,10 +135,9 @@ module _ (shelf : Shelf) (crew : Crew) (laws : AllLaws crew) (m : State) (order 
   -- nothing is of one that waits for a worker
   waiter-asks : (fd c : ℕ) (conn : Conn) (run : Option Running) (script : List ℕ) → Fits shelf crew m (p.came c) (p.sent c) fd c (of conn run script) seats
       → awaits (of conn run script) ≡ true → AsksForScript shelf m p c []
-  waiter-asks fd c conn None script f waits = absurd (cc (waits))
   waiter-asks fd c conn (Some Awaits) script f waits =
       subst (λ (l : List ℕ). AsksForScript shelf m p c l) (ap (λ (o : Progress). take (past_taken o + 0) (due_to shelf (serve f.wanted))) f.has) (run-asks fd c (of conn (Some Awaits) script) Awaits f)
-  waiter-asks fd c conn (Some y) script f waits = absurd (cc (waits))
+  waiter-asks fd c conn o script f waits = absurd (cc (waits))
 
   -- one that is passed over waits for a worker, while each runs the script of one that is held up
   awaits-left : (fd : ℕ) (x : Client) (is : in_place clients fd ≡ Some x) → IsPassedOver x → AwaitsWorker shelf crew.count m p clients (all.each fd x is).conn

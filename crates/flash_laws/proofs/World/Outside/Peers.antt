@@ -11,7 +11,6 @@ use Rattle.iol_core.specs.declared.events.Event.TheVariants as event
 use Rattle.iol_core.specs.declared.events.Reply.TheVariants as reply
 use Rattle.iol_laws.specs.Frame.{Leaves as Leaving}
 use Rattle.iol_laws.specs.Order.{IsOrderly}
-use Rattle.iol_laws.specs.Others as o
 use Rattle.iol_laws.proofs.Streams.Remaining.{LeavesPeer, peer-left}
 use Rattle.iol_proc.specs.declared.seat.Seat.{Seat}
 use Rattle.flash_laws.specs.Client.{Client}
@@ -32,21 +31,9 @@ use Rattle.flash_laws.proofs.World.Outside.Conns.{Goes, outside}
 
 -- ---- what stays of a connection
 
-incoming-same : (k : Connection) (w : How) → (closed_by k w).incoming ≡ k.incoming
-incoming-same k how.Done = refl
-incoming-same k how.Gone = refl
-
-accepted-same : (k : Connection) (w : How) → (closed_by k w).accepted ≡ k.accepted
-accepted-same k how.Done = refl
-accepted-same k how.Gone = refl
-
-closed-same : (k : Connection) (w : How) → (closed_by k w).closed ≡ k.closed
-closed-same k how.Done = refl
-closed-same k how.Gone = refl
-
-pool-same : (k : Connection) (w : How) → (closed_by k w).pool ≡ k.pool
-pool-same k how.Done = refl
-pool-same k how.Gone = refl
+same-beside : (k : Connection) (w : How) → ((closed_by k w).incoming ≡ k.incoming) × ((closed_by k w).accepted ≡ k.accepted) × ((closed_by k w).closed ≡ k.closed) × ((closed_by k w).pool ≡ k.pool)
+same-beside k how.Done = (refl, refl, refl, refl)
+same-beside k how.Gone = (refl, refl, refl, refl)
 
 -- a peer that was gone is, and no other
 gone-same : (b : Bool) → is_gone (if b then Some how.Gone else Some how.Done) ≡ b
@@ -94,7 +81,7 @@ module _ (shelf : Shelf) (crew : Crew) (laws : AllLaws crew) where
       goes taken open_yet (inl conn) = record {
         more = [];
         came = sym (append-nil (p.came c));
-        grows = ap (λ (z : Connection). bytes_of z.incoming) conn ∙ (ap (λ (t : Text). bytes_of t) (incoming-same (conn_at m c) w) ∙ sym (append-nil (bytes_of (conn_at m c).incoming)));
+        grows = ap (λ (z : Connection). bytes_of z.incoming) conn ∙ (ap (λ (t : Text). bytes_of t) ((same-beside (conn_at m c) w).0) ∙ sym (append-nil (bytes_of (conn_at m c).incoming)));
         changes = subst (λ (z : Connection). Changes (conn_at m c) z (p.sent c) (p.sent c)) (sym conn) (changes-closed (conn_at m c) w (p.sent c));
       }
       goes taken open_yet (inr (inl a)) = (let waits = a.0 in absurd (cc (taken, waits)))
@@ -145,13 +132,13 @@ module _ (shelf : Shelf) (crew : Crew) (laws : AllLaws crew) where
 
       aside : LeavesPeer m c w n → Aside shelf p c (conn_at m c) → Aside shelf (peer_told p c w) c (conn_at n c)
       aside (inl conn) (inl v) = inl (subst (λ (z : Connection). Waits (peer_told p c w) c z) (sym conn) (record {
-        waits = accepted-same (conn_at m c) w ∙ v.waits;
-        pool_is = λ net. pool-same (conn_at m c) w ∙ v.pool_is net;
-        came_is = v.came_is ∙ ap (λ (t : Text). bytes_of t) (sym (incoming-same (conn_at m c) w));
+        waits = (same-beside (conn_at m c) w).1 ∙ v.waits;
+        pool_is = λ net. (same-beside (conn_at m c) w).3 ∙ v.pool_is net;
+        came_is = v.came_is ∙ ap (λ (t : Text). bytes_of t) (sym ((same-beside (conn_at m c) w).0));
         none_sent = ap (λ (t : Text). p.sent c ++ bytes_of t) (silent w v.waits) ∙ v.none_sent;
       }))
-      aside (inl conn) (inr (inl v)) = inr (inl (subst (λ (z : Connection). Ended shelf (peer_told p c w) c z) (sym conn) (record { closed = closed-same (conn_at m c) w ∙ v.closed; begins = outgoing-less shelf (conn_at m c) w (p.came c) (p.sent c) v.begins; whole = whole-closed shelf (conn_at m c) c w (p.came c) (p.sent c) (p.gone c) v.whole })))
-      aside (inl conn) (inr (inr v)) = inr (inr (subst (λ (z : Connection). Foreign (peer_told p c w) c z) (sym conn) (record { other_pool = v.other_pool; taken = accepted-same (conn_at m c) w ∙ v.taken })))
+      aside (inl conn) (inr (inl v)) = inr (inl (subst (λ (z : Connection). Ended shelf (peer_told p c w) c z) (sym conn) (record { closed = (same-beside (conn_at m c) w).2 ∙ v.closed; begins = outgoing-less shelf (conn_at m c) w (p.came c) (p.sent c) v.begins; whole = whole-closed shelf (conn_at m c) c w (p.came c) (p.sent c) (p.gone c) v.whole })))
+      aside (inl conn) (inr (inr v)) = inr (inr (subst (λ (z : Connection). Foreign (peer_told p c w) c z) (sym conn) (record { other_pool = v.other_pool; taken = (same-beside (conn_at m c) w).1 ∙ v.taken })))
       aside (inr (inl g)) (inl v) = inr (inl (record {
         closed = g.2.closed;
         begins = subst (λ (l : List ℕ). Begins shelf (p.came c) l) (sym (ap (λ (t : Text). p.sent c ++ bytes_of t) (g.2.none ∙ sym g.1) ∙ v.none_sent)) (begins-none shelf (p.came c));

@@ -17,14 +17,5 @@ loop-preserved g c = record {
 pub returns-in-Quiet-clause-sends : goal.returns-in-Quiet-clause-sends
 returns-in-Quiet-clause-sends g c = sends_then g.P.Process.turns c.args.conn _ _ _ _ _ _ c.loop.invariant.sends c.send_piece.ensures.sends
 
-pub returns-in-Failed-clause-sends : goal.returns-in-Failed-clause-sends
-returns-in-Failed-clause-sends g c = sends_then g.P.Process.turns c.args.conn _ _ _ _ _ _ c.loop.invariant.sends c.send_piece.ensures.sends
-
-pub returns-in-Silent-clause-sends : goal.returns-in-Silent-clause-sends
-returns-in-Silent-clause-sends g c = sends_then g.P.Process.turns c.args.conn _ _ _ _ _ _ c.loop.invariant.sends c.send_piece.ensures.sends
-
-pub returns-in-Stalled-clause-sends : goal.returns-in-Stalled-clause-sends
-returns-in-Stalled-clause-sends g c = sends_then g.P.Process.turns c.args.conn _ _ _ _ _ _ c.loop.invariant.sends c.send_piece.ensures.sends
-
-pub returns-in-Over-clause-sends : goal.returns-in-Over-clause-sends
-returns-in-Over-clause-sends g c = sends_then g.P.Process.turns c.args.conn _ _ _ _ _ _ c.loop.invariant.sends c.send_piece.ensures.sends
+pub returns-in_default-clause-sends : goal.returns-in_default-clause-sends
+returns-in_default-clause-sends g c = sends_then g.P.Process.turns c.args.conn _ _ _ _ _ _ c.loop.invariant.sends c.send_piece.ensures.sends
