@@ -8,10 +8,17 @@ use std::test::Fail;
 /// Passes where all was as it should be.
 pub fn pass<E: Debug + Drop>(found: Result<bool, E>) -> Result<(), Fail> {
     match found {
-        Ok(true) => Ok(()),
-        Ok(false) => Err(Fail::new("something was not as it should be")),
+        Ok(holds) => pass_if(holds),
         Err(error) => Err(Fail::from(error)),
     }
+}
+
+/// Passes where this holds.
+pub fn pass_if(holds: bool) -> Result<(), Fail> {
+    if holds {
+        return Ok(());
+    }
+    Err(Fail::new("something was not as it should be"))
 }
 
 /// Passes where all of so many rows held, and else tells how many did before one did not.
@@ -23,25 +30,13 @@ pub fn pass_all<E: Debug + Drop>(held: Result<usize, E>, rows: usize) -> Result<
     }
 }
 
-/// Passes where no row was wrong, and else tells which.
-pub fn pass_rows<E: Debug + Drop>(wrong: Result<Option<&'static str>, E>) -> Result<(), Fail> {
-    match wrong {
-        Ok(None) => Ok(()),
-        Ok(Some(row)) => Err(Fail::new(row)),
-        Err(error) => Err(Fail::from(error)),
-    }
-}
-
 // How many rows hold, up to the first that does not.
-fn count_held<T: Copy, E, F: FnMut(T) -> Result<bool, E>>(
-    rows: &[T],
-    mut holds: F,
-) -> Result<usize, E>
+fn count_held<T, E, F: FnMut(&T) -> Result<bool, E>>(rows: &[T], mut holds: F) -> Result<usize, E>
     requires { F.IsAlwaysCallable holds }
 {
     let mut count = 0usize;
     for row in rows {
-        if !holds(*row)? {
+        if !holds(row)? {
             return Ok(count);
         }
         count = count.saturating_add(1);
@@ -50,7 +45,7 @@ fn count_held<T: Copy, E, F: FnMut(T) -> Result<bool, E>>(
 }
 
 /// Passes where each row holds, one after another.
-pub fn pass_each<T: Copy, E: Debug + Drop, F: FnMut(T) -> Result<bool, E>>(
+pub fn pass_each<T, E: Debug + Drop, F: FnMut(&T) -> Result<bool, E>>(
     rows: &[T],
     holds: F,
 ) -> Result<(), Fail>
