@@ -1,5 +1,4 @@
 //! With memory enough no call is refused for want of it; and which texts are scripts.
-use crate::checks::{pass, pass_all};
 use flash_cgi::jobs::{Job, job_text};
 use flash_cgi::saying::{Counts, Said};
 use flash_cgi::script::Script;
@@ -7,6 +6,7 @@ use iol_core::numbers::Fd;
 use iol_core::refusals::Refusal;
 use std::alloc::{AllocError, Global};
 use std::test::Fail;
+use test_parts::checks::{pass, pass_each};
 
 // Texts, and whether they are scripts.
 const TEXTS: [(&[u8], bool); 12] = [
@@ -29,71 +29,41 @@ const LINES: [(usize, bool); 2] = [(32_768, true), (32_769, false)];
 
 const NAMES: [(usize, bool); 2] = [(255, true), (256, false)];
 
-fn is_script(alloc: Global, text: &[u8]) -> Result<bool, AllocError> {
+// Whether a text is a script, or is none, as wanted.
+fn is_read(alloc: Global, text: &[u8], wanted: bool) -> Result<bool, AllocError> {
     let script = Script::read(alloc, text)?;
-    Ok(script.is_some())
-}
-
-// How many texts are scripts, or are none, as the rows say, up to the first that is not.
-fn texts_held(alloc: Global) -> Result<usize, Refusal> {
-    let mut held = 0usize;
-    for (text, wanted) in TEXTS {
-        if is_script(alloc, text)? != wanted {
-            return Ok(held);
-        }
-        held = held.saturating_add(1);
-    }
-    Ok(held)
+    Ok(script.is_some() == wanted)
 }
 
 #[test]
 fn which_texts_are_scripts(rt: HostRuntime) -> Result<(), Fail> {
-    pass_all(texts_held(rt.alloc()), TEXTS.len())
+    let alloc = rt.alloc();
+    pass_each(&TEXTS, |(text, wanted)| is_read(alloc, text, *wanted))
 }
 
-fn lines(alloc: Global, count: usize) -> Result<Vec<u8>, AllocError> {
+fn are_read(alloc: Global, count: usize, wanted: bool) -> Result<bool, AllocError> {
     let lines = vec![in alloc; b'\n'; count]?;
-    Ok(lines)
-}
-
-fn lines_held(alloc: Global) -> Result<usize, Refusal> {
-    let mut held = 0usize;
-    for (count, wanted) in LINES {
-        if is_script(alloc, &lines(alloc, count)?)? != wanted {
-            return Ok(held);
-        }
-        held = held.saturating_add(1);
-    }
-    Ok(held)
+    is_read(alloc, &lines, wanted)
 }
 
 #[test]
 fn as_many_lines_as_may_be(rt: HostRuntime) -> Result<(), Fail> {
-    pass_all(lines_held(rt.alloc()), LINES.len())
+    let alloc = rt.alloc();
+    pass_each(&LINES, |(count, wanted)| are_read(alloc, *count, *wanted))
 }
 
-fn cat(alloc: Global, count: usize) -> Result<Vec<u8>, AllocError> {
+fn is_named(alloc: Global, count: usize, wanted: bool) -> Result<bool, AllocError> {
     let mut line = Vec::from_slice(alloc, b"cat ")?;
     for _ in 0..count {
         line.push(b'x')?;
     }
-    Ok(line)
-}
-
-fn names_held(alloc: Global) -> Result<usize, Refusal> {
-    let mut held = 0usize;
-    for (count, wanted) in NAMES {
-        if is_script(alloc, &cat(alloc, count)?)? != wanted {
-            return Ok(held);
-        }
-        held = held.saturating_add(1);
-    }
-    Ok(held)
+    is_read(alloc, &line, wanted)
 }
 
 #[test]
 fn names_as_long_as_may_be(rt: HostRuntime) -> Result<(), Fail> {
-    pass_all(names_held(rt.alloc()), NAMES.len())
+    let alloc = rt.alloc();
+    pass_each(&NAMES, |(count, wanted)| is_named(alloc, *count, *wanted))
 }
 
 fn writes_job(alloc: Global) -> Result<bool, AllocError> {

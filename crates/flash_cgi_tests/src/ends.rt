@@ -1,5 +1,4 @@
 //! Scripts that nobody reads, jobs that are none, and the end of the job pipe.
-use crate::checks::pass;
 use crate::rows::{OUTPUT, close, give, is_put_out, job_of};
 use crate::stage::{Stage, stage_of};
 use iol_core::events::{Call, Reply};
@@ -7,6 +6,7 @@ use iol_core::lists::Bytes;
 use iol_core::refusals::Refusal;
 use std::alloc::Global;
 use std::test::Fail;
+use test_parts::checks::pass;
 
 // Whether the worker has this number, and the next, free.
 fn has_free(stage: &mut Stage, fd: u32) -> bool {

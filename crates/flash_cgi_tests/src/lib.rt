@@ -7,8 +7,6 @@
 #[cfg(test)]
 mod ample;
 #[cfg(test)]
-mod checks;
-#[cfg(test)]
 mod ends;
 #[cfg(test)]
 mod outputs;

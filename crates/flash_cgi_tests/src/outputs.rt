@@ -1,26 +1,17 @@
 //! What scripts put out.
-use crate::checks::{pass, pass_all};
 use crate::rows::{OUTPUT, Row, give, held, is_put_out};
-use crate::stage::{Kept, stage_of};
+use crate::stage::stage_of;
 use flash_cgi::jobs::job_text;
 use iol_core::numbers::Fd;
 use iol_core::refusals::Refusal;
-use std::alloc::{AllocError, Global};
+use std::alloc::Global;
 use std::test::Fail;
+use test_parts::checks::{pass, pass_all};
+use test_parts::texts::repeated;
+use test_worlds::files::Kept;
 
 // A file for all, and one of the guest's.
-const FILES: [Kept<'static>; 2] = [
-    Kept {
-        name: "f",
-        bytes: b"a\nb",
-        private: false,
-    },
-    Kept {
-        name: "p",
-        bytes: b"secret",
-        private: true,
-    },
-];
+const FILES: [Kept<'static>; 2] = [("f", b"a\nb", false), ("p", b"secret", true)];
 
 // One byte more than a query has that is joined to texts.
 const LONG_QUERY: &str = "xxxxxxxxxxxxxxxxxxxxxxxxxxxxxxxxxxxxxxxxxxxxxxxxxxxxxxxxxxxxxxxxx";
@@ -56,22 +47,10 @@ fn outcomes_of_a_script(rt: HostRuntime) -> Result<(), Fail> {
 
 // Files of no bytes, of as many as a pipe holds, and of more, which go in pieces.
 fn sizes_held<'a>(alloc: Global, full: &'a [u8], more: &'a [u8]) -> Result<usize, Refusal> {
-    let files = [
-        Kept {
-            name: "none",
-            bytes: b"",
-            private: false,
-        },
-        Kept {
-            name: "full",
-            bytes: full,
-            private: false,
-        },
-        Kept {
-            name: "more",
-            bytes: more,
-            private: false,
-        },
+    let files: [Kept<'a>; 3] = [
+        ("none", b"", false),
+        ("full", full, false),
+        ("more", more, false),
     ];
     let counts = b"0 0\n0 65536\n100000 100000\n".as_slice();
     let rows = [
@@ -90,19 +69,11 @@ fn files_of_several_sizes(rt: HostRuntime) -> Result<(), Fail> {
     pass_all(sizes_held(rt.alloc(), &full, &more), 4)
 }
 
-fn repeated(alloc: Global, line: &[u8], count: usize) -> Result<Vec<u8>, AllocError> {
-    let mut lines = Vec::new(alloc);
-    for _ in 0..count {
-        lines.extend_from_slice(line)?;
-    }
-    Ok(lines)
-}
-
 // Many more texts than the worker's pool has pages: nothing is read before all of them are put out, and no
 // call is refused for want of room.
 fn many_texts(alloc: Global) -> Result<bool, Refusal> {
-    let script = repeated(alloc, b"emit abc\n".as_slice(), 1500)?;
-    let wanted = repeated(alloc, b"abc\n".as_slice(), 1500)?;
+    let script = repeated(alloc, b"emit abc\n", 1500)?;
+    let wanted = repeated(alloc, b"abc\n", 1500)?;
     let job = job_text(alloc, Fd::new(OUTPUT), b"", &script)?;
     let mut stage = stage_of(alloc, &[])?;
     let is_well = give(&mut stage, job) && is_put_out(&mut stage, &wanted) && !stage.is_rough();

@@ -1,11 +1,12 @@
 //! Rows: a script, the query of its request, and all that it puts out.
-use crate::stage::{Kept, Stage, stage_of};
+use crate::stage::{Stage, stage_of};
 use flash_cgi::jobs::job_text;
 use iol_core::events::{Call, Reply};
 use iol_core::lists::Bytes;
 use iol_core::numbers::{DomainId, Fd};
 use iol_core::refusals::Refusal;
 use std::alloc::{AllocError, Global};
+use test_worlds::files::Kept;
 
 /// A script, the query, and what is put out.
 pub type Row<'a> = (&'a str, &'a str, &'a [u8]);

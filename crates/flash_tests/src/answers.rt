@@ -1,9 +1,9 @@
 //! Whole answers to requests of a file: their heads, and the bodies of refusals.
-use crate::checks::pass_rows;
 use flash_http::{Asked, MediaType, ResponseHead, error_body, read_head, select};
 use http::StatusCode;
 use std::alloc::{AllocError, Global};
 use std::test::Fail;
+use test_parts::checks::pass_each;
 
 // The head of the answer to a request of a file of `len` bytes, and its body where that is a refusal's.
 fn answer_to(alloc: Global, head: &str, len: u64) -> Result<String, AllocError> {
@@ -106,23 +106,17 @@ fn is_answered(alloc: Global, head: &str, len: u64, expected: &str) -> Result<bo
     Ok(answer.as_str() == expected)
 }
 
-/// The first head of these that has another answer, for a file of `len` bytes.
-pub fn wrong_answer(
-    alloc: Global,
-    rows: &[(&'static str, &'static str)],
-    len: u64,
-) -> Result<Option<&'static str>, AllocError> {
-    for (head, expected) in rows {
-        if !is_answered(alloc, head, len, expected)? {
-            return Ok(Some(head));
-        }
-    }
-    Ok(None)
+/// Passes where these heads have these answers, for a file of `len` bytes.
+pub fn pass_answers(alloc: Global, rows: &[(&str, &str)], len: u64) -> Result<(), Fail> {
+    pass_each(
+        rows,
+        |(head, expected)| is_answered(alloc, head, len, expected),
+    )
 }
 
 #[test]
 fn answers(rt: HostRuntime) -> Result<(), Fail> {
-    pass_rows(wrong_answer(rt.alloc(), &ANSWERS, 3))
+    pass_answers(rt.alloc(), &ANSWERS, 3)
 }
 
 // Whether this is the answer where a request is refused, and the connection ends.
@@ -131,19 +125,11 @@ fn is_refusal(alloc: Global, status: StatusCode, expected: &str) -> Result<bool,
     Ok(answer.as_str() == expected)
 }
 
-fn wrong_refusal(
-    alloc: Global,
-    rows: &[(StatusCode, &'static str)],
-) -> Result<Option<&'static str>, AllocError> {
-    for (status, expected) in rows {
-        if !is_refusal(alloc, *status, expected)? {
-            return Ok(Some(expected));
-        }
-    }
-    Ok(None)
-}
-
 #[test]
 fn refusals(rt: HostRuntime) -> Result<(), Fail> {
-    pass_rows(wrong_refusal(rt.alloc(), &REFUSALS))
+    let alloc = rt.alloc();
+    pass_each(
+        &REFUSALS,
+        |(status, expected)| is_refusal(alloc, *status, expected),
+    )
 }

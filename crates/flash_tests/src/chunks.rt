@@ -1,10 +1,10 @@
 //! Chunks, and the heads of scripts' answers.
 ghost use Rattle.std.specs.Prelude.{◌<◌};
 
-use crate::checks::pass;
 use flash_http::{CHUNK_END, LAST_CHUNK, ResponseHead, chunk_head};
 use std::alloc::{AllocError, Global};
 use std::test::Fail;
+use test_parts::checks::pass;
 
 // Whether this is the line before a chunk of so many bytes.
 fn is_size(alloc: Global, len: u64, expected: &str) -> Result<bool, AllocError>

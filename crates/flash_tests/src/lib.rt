@@ -4,8 +4,6 @@
 #[cfg(test)]
 mod answers;
 #[cfg(test)]
-mod checks;
-#[cfg(test)]
 mod chunks;
 #[cfg(test)]
 mod malformed_heads;

@@ -1,9 +1,9 @@
 //! Fifty heads that are malformed, or not served, in one place each.
-use crate::checks::pass_rows;
-use crate::outcomes::{Row, comes_to, wrong_outcome};
+use crate::outcomes::{Row, comes_to, pass_outcomes};
 use crate::texts::repeated;
 use std::alloc::{AllocError, Global};
 use std::test::Fail;
+use test_parts::checks::pass_each;
 
 // The head of no request that can be read: 400, whatever its method.
 const NO_HEADS: [Row; 24] = [
@@ -138,34 +138,33 @@ const REFUSED_HEADS: [Row; 26] = [
 
 #[test]
 fn no_heads(rt: HostRuntime) -> Result<(), Fail> {
-    pass_rows(wrong_outcome(rt.alloc(), &NO_HEADS))
+    pass_outcomes(rt.alloc(), &NO_HEADS)
 }
 
 #[test]
 fn refused_heads(rt: HostRuntime) -> Result<(), Fail> {
-    pass_rows(wrong_outcome(rt.alloc(), &REFUSED_HEADS))
+    pass_outcomes(rt.alloc(), &REFUSED_HEADS)
 }
 
 // How many fields a head has beside its host, and what it comes to: 64 fields are read, and no more.
 const LIMITS: [(usize, &str); 2] = [(63, "index.html"), (64, "400 close")];
 
-fn wrong_limit(alloc: Global) -> Result<Option<&'static str>, AllocError> {
-    for (others, outcome) in &LIMITS {
-        let head = repeated(
-            alloc,
-            "GET / HTTP/1.1\r\nHost: a\r\n",
-            "X: y\r\n",
-            *others,
-            "\r\n",
-        )?;
-        if !comes_to(alloc, &head, outcome)? {
-            return Ok(Some(outcome));
-        }
-    }
-    Ok(None)
+fn is_at_limit(alloc: Global, others: usize, outcome: &str) -> Result<bool, AllocError> {
+    let head = repeated(
+        alloc,
+        "GET / HTTP/1.1\r\nHost: a\r\n",
+        "X: y\r\n",
+        others,
+        "\r\n",
+    )?;
+    comes_to(alloc, &head, outcome)
 }
 
 #[test]
 fn fields_at_the_limit(rt: HostRuntime) -> Result<(), Fail> {
-    pass_rows(wrong_limit(rt.alloc()))
+    let alloc = rt.alloc();
+    pass_each(
+        &LIMITS,
+        |(others, outcome)| is_at_limit(alloc, *others, outcome),
+    )
 }

@@ -2,6 +2,8 @@
 //! HTTP/1.1 GET of all of it that keeps its connection. Tables have a line beside each head.
 use flash_http::{Asked, Part, Request, Window, read_head, window_of};
 use std::alloc::{AllocError, Global};
+use std::test::Fail;
+use test_parts::checks::pass_each;
 
 /// A head, and what it comes to.
 pub type Row = (&'static str, &'static str);
@@ -67,22 +69,17 @@ fn is_whole(head: &str) -> bool {
     window_of(head.as_bytes()) == Window::Head { skip: 0, len }
 }
 
-/// The first head of these that does not come to what its row says.
-pub fn wrong_outcome(alloc: Global, rows: &[Row]) -> Result<Option<&'static str>, AllocError> {
-    for (head, outcome) in rows {
-        if !comes_to(alloc, head, outcome)? {
-            return Ok(Some(head));
-        }
-    }
-    Ok(None)
+/// Passes where each head comes to what its row says.
+pub fn pass_outcomes(alloc: Global, rows: &[Row]) -> Result<(), Fail> {
+    pass_each(rows, |(head, outcome)| comes_to(alloc, head, outcome))
 }
 
-/// The first that is not found whole in its stream, or does not come to what its row says.
-pub fn wrong_head(alloc: Global, rows: &[Row]) -> Result<Option<&'static str>, AllocError> {
-    for (head, _) in rows {
-        if !is_whole(head) {
-            return Ok(Some(head));
-        }
-    }
-    wrong_outcome(alloc, rows)
+// Whether a head is found whole in its stream, and comes to this.
+fn is_read(alloc: Global, head: &str, outcome: &str) -> Result<bool, AllocError> {
+    Ok(is_whole(head) && comes_to(alloc, head, outcome)?)
+}
+
+/// Passes where each is found whole in its stream, too.
+pub fn pass_heads(alloc: Global, rows: &[Row]) -> Result<(), Fail> {
+    pass_each(rows, |(head, outcome)| is_read(alloc, head, outcome))
 }

@@ -1,6 +1,5 @@
 //! Ranges of a file: what a Range field brings about.
-use crate::answers::wrong_answer;
-use crate::checks::pass_rows;
+use crate::answers::pass_answers;
 use std::test::Fail;
 
 // The answer with all six bytes of a file.
@@ -62,8 +61,8 @@ const OF_NONE: [(&str, &str); 1] = [(
 
 #[test]
 fn table_of_ranges(rt: HostRuntime) -> Result<(), Fail> {
-    pass_rows(wrong_answer(rt.alloc(), &RANGES, 6))?;
-    pass_rows(wrong_answer(rt.alloc(), &OF_NONE, 0))
+    pass_answers(rt.alloc(), &RANGES, 6)?;
+    pass_answers(rt.alloc(), &OF_NONE, 0)
 }
 
 // The same of other versions and methods.
@@ -82,5 +81,5 @@ const WHOLE: [(&str, &str); 3] = [
 
 #[test]
 fn whole_answers(rt: HostRuntime) -> Result<(), Fail> {
-    pass_rows(wrong_answer(rt.alloc(), &WHOLE, 6))
+    pass_answers(rt.alloc(), &WHOLE, 6)
 }

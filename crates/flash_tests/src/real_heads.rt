@@ -1,6 +1,5 @@
 //! Fifty heads that real clients send.
-use crate::checks::pass_rows;
-use crate::outcomes::{Row, wrong_head};
+use crate::outcomes::{Row, pass_heads};
 use std::test::Fail;
 
 const CLIENTS: [Row; 25] = [
@@ -272,10 +271,10 @@ const BROWSERS_AND_OTHERS: [Row; 25] = [
 
 #[test]
 fn heads_of_clients(rt: HostRuntime) -> Result<(), Fail> {
-    pass_rows(wrong_head(rt.alloc(), &CLIENTS))
+    pass_heads(rt.alloc(), &CLIENTS)
 }
 
 #[test]
 fn heads_of_browsers_and_others(rt: HostRuntime) -> Result<(), Fail> {
-    pass_rows(wrong_head(rt.alloc(), &BROWSERS_AND_OTHERS))
+    pass_heads(rt.alloc(), &BROWSERS_AND_OTHERS)
 }

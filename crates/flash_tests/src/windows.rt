@@ -3,7 +3,6 @@ ghost use Rattle.std.specs.Prelude.{[]};
 ghost use Rattle.iol_hold.specs.Moves.{Moves};
 ghost use Rattle.iol_hold.specs.Texts.{bufs_of, AllReadable};
 
-use crate::checks::{pass, pass_rows};
 use crate::texts::repeated;
 use flash_http::{Window, window, window_of};
 use iol_agg::Agg;
@@ -15,6 +14,7 @@ use iol_pool::names::Names;
 use std::alloc::{AllocError, Global};
 use std::process::Abort;
 use std::test::Fail;
+use test_parts::checks::{pass, pass_each};
 
 const HEAD: &str = "GET / HTTP/1.1\r\nHost: a\r\nX: ";
 
@@ -40,17 +40,13 @@ fn is_window(alloc: Global, begin: &str, len: usize, expected: Window) -> Result
     Ok(text.len() == len && window_of(text.as_bytes()) == expected)
 }
 
-fn windows_hold(alloc: Global, rows: &[(&str, usize, Window)]) -> Result<bool, AllocError> {
-    let mut all = true;
-    for (begin, len, expected) in rows {
-        all &= is_window(alloc, begin, *len, *expected)?;
-    }
-    Ok(all)
-}
-
 #[test]
 fn heads_at_the_limit(rt: HostRuntime) -> Result<(), Fail> {
-    pass(windows_hold(rt.alloc(), &SIZES))
+    let alloc = rt.alloc();
+    pass_each(
+        &SIZES,
+        |(begin, len, expected)| is_window(alloc, begin, *len, *expected),
+    )
 }
 
 // A line that never ends.
@@ -76,18 +72,13 @@ const STREAMS: [(&str, Window); 8] = [
     ("a\r\r\n\r\n", Window::Head { skip: 0, len: 6 }),
 ];
 
-fn wrong_stream(rows: &[(&'static str, Window)]) -> Option<&'static str> {
-    for (stream, expected) in rows {
-        if window_of(stream.as_bytes()) != *expected {
-            return Some(stream);
-        }
-    }
-    None
+fn begins_so(stream: &str, expected: Window) -> Result<bool, AllocError> {
+    Ok(window_of(stream.as_bytes()) == expected)
 }
 
 #[test]
 fn streams(_rt: HostRuntime) -> Result<(), Fail> {
-    pass_rows(Ok(wrong_stream(&STREAMS)))
+    pass_each(&STREAMS, |(stream, expected)| begins_so(stream, *expected))
 }
 
 // A store of a chunk.

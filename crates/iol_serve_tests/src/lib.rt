@@ -2,12 +2,6 @@
 #![tactic(auto)]
 
 #[cfg(test)]
-mod checks;
-#[cfg(test)]
-mod echo;
-#[cfg(test)]
 mod echoing;
 #[cfg(test)]
 mod serving;
-#[cfg(test)]
-mod streams;

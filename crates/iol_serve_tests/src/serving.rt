@@ -1,11 +1,12 @@
 //! What readers and writers see of a connection that is served, to the last read and write; and that it ends.
-use crate::checks::{pass, pass_all};
-use crate::echoing::Echoing;
-use crate::streams::{Source, Target};
+use crate::echoing::{Echoing, echoing};
 use iol_core::refusals::Refusal;
 use iol_serve::ending::Ending;
+use iol_serve::serving::serve_connection;
 use std::alloc::Global;
 use std::test::Fail;
+use test_parts::checks::{pass, pass_each};
+use test_parts::streams::{Sink, Source};
 
 // How serving ended, how often the reader was called, and whether the connection is still there.
 #[derive(Drop)]
@@ -18,10 +19,10 @@ struct Served {
 const ASKED: &[u8] = b"hello, world: some bytes more";
 
 // A connection is served from reads of 7 bytes, of which number `fails` fails, if it is not 0.
-fn serve_in(world: &mut Echoing, fails: u32, writer: &mut Target) -> Option<Served> {
-    let conn = world.connect()?;
-    let mut reader = Source::new(ASKED, fails);
-    let ending = world.serve(conn, &mut reader, writer);
+fn serve_in(world: &mut Echoing, fails: u32, writer: &mut Sink) -> Option<Served> {
+    let conn = world.connect(1)?;
+    let mut reader = Source::new(ASKED, 7, fails);
+    let ending = serve_connection(world.world(), conn, &mut reader, writer);
     let is_there = world.has(conn);
     let reads = reader.reads;
     Some(Served {
@@ -31,15 +32,15 @@ fn serve_in(world: &mut Echoing, fails: u32, writer: &mut Target) -> Option<Serv
     })
 }
 
-fn serve(alloc: Global, fails: u32, writer: &mut Target) -> Result<Option<Served>, Refusal> {
-    let mut world = Echoing::new(alloc)?;
+fn serve(alloc: Global, fails: u32, writer: &mut Sink) -> Result<Option<Served>, Refusal> {
+    let mut world = echoing(alloc)?;
     let served = serve_in(&mut world, fails, writer);
     drop(world);
     Ok(served)
 }
 
 // Whether all is sent back, flushed before each read and at the end.
-fn is_ample(served: &Option<Served>, writer: &Target) -> bool {
+fn is_ample(served: &Option<Served>, writer: &Sink) -> bool {
     let is_sent = writer.bytes() == ASKED && writer.writes == 9 && writer.flushes == 7;
     match served {
         Some(it) => is_sent && it.reads == 6 && !it.is_there && it.ending == Ending::Over,
@@ -47,8 +48,13 @@ fn is_ample(served: &Option<Served>, writer: &Target) -> bool {
     }
 }
 
+// Into a writer that takes 5 bytes at once, of whose writes number `fails` fails, if it is not 0.
+fn writer_of(alloc: Global, fails: u32) -> Sink {
+    Sink::new(alloc, 5, fails)
+}
+
 fn serves_all(alloc: Global) -> Result<bool, Refusal> {
-    let mut writer = Target::new(alloc, 0);
+    let mut writer = writer_of(alloc, 0);
     let served = serve(alloc, 0, &mut writer)?;
     Ok(is_ample(&served, &writer))
 }
@@ -67,7 +73,7 @@ fn has_failed(served: &Option<Served>) -> bool {
 
 // Whether read number k fails, and so many bytes that came before it are answered.
 fn read_fails(alloc: Global, k: u32, came: usize) -> Result<bool, Refusal> {
-    let mut writer = Target::new(alloc, 0);
+    let mut writer = writer_of(alloc, 0);
     let served = serve(alloc, k, &mut writer)?;
     let is_answered = writer.bytes().len() == came && ASKED.starts_with(writer.bytes());
     Ok(is_answered && has_failed(&served))
@@ -76,45 +82,26 @@ fn read_fails(alloc: Global, k: u32, came: usize) -> Result<bool, Refusal> {
 // Which read fails, and how many bytes came before it.
 const READS: [(u32, usize); 6] = [(1, 0), (2, 7), (3, 14), (4, 21), (5, 28), (6, 29)];
 
-// How many reads fail as they should, up to the first that does not.
-fn reads_failed(alloc: Global) -> Result<usize, Refusal> {
-    let mut count = 0usize;
-    for (k, came) in READS {
-        if !read_fails(alloc, k, came)? {
-            return Ok(count);
-        }
-        count = count.saturating_add(1);
-    }
-    Ok(count)
-}
-
 // Either way the connection is gone, and its peer was told to be.
 #[test]
 fn each_read_fails(rt: HostRuntime) -> Result<(), Fail> {
-    pass_all(reads_failed(rt.alloc()), READS.len())
+    let alloc = rt.alloc();
+    pass_each(&READS, |(k, came)| read_fails(alloc, *k, *came))
 }
 
 // Whether write number k fails, and what was written before it was taken.
 fn write_fails(alloc: Global, k: u32) -> Result<bool, Refusal> {
-    let mut writer = Target::new(alloc, k);
+    let mut writer = writer_of(alloc, k);
     let served = serve(alloc, 0, &mut writer)?;
     let is_taken = writer.writes == k && ASKED.starts_with(writer.bytes());
     Ok(is_taken && has_failed(&served))
 }
 
-// How many of nine writes fail as they should, up to the first that does not.
-fn writes_failed(alloc: Global) -> Result<usize, Refusal> {
-    let mut count = 0usize;
-    for k in 1..=9 {
-        if !write_fails(alloc, k)? {
-            return Ok(count);
-        }
-        count = count.saturating_add(1);
-    }
-    Ok(count)
-}
+// The writes that fail.
+const WRITES: [u32; 9] = [1, 2, 3, 4, 5, 6, 7, 8, 9];
 
 #[test]
 fn each_write_fails(rt: HostRuntime) -> Result<(), Fail> {
-    pass_all(writes_failed(rt.alloc()), 9)
+    let alloc = rt.alloc();
+    pass_each(&WRITES, |k| write_fails(alloc, *k))
 }

@@ -15,10 +15,3 @@ none_are_apart = tt
 
 pub none_apart : (ns : List ℕ) → ns ≡ [] → IsDistinct nat_eq ns
 none_apart ns is = subst (λ l. IsDistinct nat_eq l) (sym is) none_are_apart
-
-pub one_is_apart : IsDistinct nat_eq (2 ∷ [])
-unfolding IsDistinct
-one_is_apart = (tt, tt)
-
-pub one_apart : (ns : List ℕ) → ns ≡ 2 ∷ [] → IsDistinct nat_eq ns
-one_apart ns is = subst (λ l. IsDistinct nat_eq l) (sym is) one_is_apart

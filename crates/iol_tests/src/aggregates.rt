@@ -3,7 +3,6 @@ ghost use Rattle.std.specs.Prelude.{[], ◌≡◌};
 ghost use Rattle.iol_hold.specs.Texts.{bufs_of, AllReadable};
 ghost use Rattle.iol_agg.specs.Held.{IsHeldBy};
 
-use crate::checks::pass;
 use crate::stores::{add_pool, filled, new_store};
 use iol_agg::Agg;
 use iol_core::configuration::Config;
@@ -14,6 +13,7 @@ use iol_hold::Store;
 use std::alloc::Global;
 use std::process::Abort;
 use std::test::Fail;
+use test_parts::checks::pass_if;
 
 const TWO_CHUNKS: Config = Config {
     chunks: 2,
@@ -148,12 +148,8 @@ fn all_hold<R: Abort>(rt: &R, alloc: Global, text: &[u8]) -> bool {
     seen && refusal == Refusal::NoRoom { pool }
 }
 
-fn found<R: Abort>(rt: &R, alloc: Global) -> Result<bool, Refusal> {
-    let text = vec![in alloc; 7u8; 70_000]?;
-    Ok(all_hold(rt, alloc, &text))
-}
-
 #[test]
 fn ample(rt: HostRuntime) -> Result<(), Fail> {
-    pass(found(&rt, rt.alloc()))
+    let text = vec![in rt.alloc(); 7u8; 70_000]?;
+    pass_if(all_hold(&rt, rt.alloc(), &text))
 }

@@ -4,7 +4,6 @@ ghost use Rattle.std.specs.List.{All};
 ghost use Rattle.iol_arena.specs.State.{chunk_count};
 ghost use Rattle.iol_arena.specs.Buffers.{IsLive};
 
-use crate::checks::pass;
 use iol_arena::arena::Arena;
 use iol_arena::chunks::ChunkSet;
 use iol_core::configuration::Config;
@@ -12,6 +11,7 @@ use iol_core::numbers::BufId;
 use std::alloc::Global;
 use std::process::Abort;
 use std::test::Fail;
+use test_parts::checks::pass_if;
 
 /// A buffer of five bytes, 7 and zeros.
 pub fn make_one<R: Abort>(rt: &R, alloc: Global, arena: &mut Arena, set: &ChunkSet) -> BufId
@@ -88,5 +88,5 @@ fn all_hold<R: Abort>(rt: &R, alloc: Global) -> bool {
 
 #[test]
 fn ample(rt: HostRuntime) -> Result<(), Fail> {
-    pass(Ok(all_hold(&rt, rt.alloc())))
+    pass_if(all_hold(&rt, rt.alloc()))
 }

@@ -1,13 +1,13 @@
 //! What comes in from a reader.
-use crate::checks::pass;
 use crate::line::{Line, NONE, text};
-use crate::streams::{Sink, Source};
 use iol_core::lists::Bytes;
 use iol_core::numbers::PoolId;
 use iol_core::refusals::Refusal;
 use iol_sock::Arrived;
 use std::alloc::Global;
 use std::test::Fail;
+use test_parts::checks::{pass, pass_each};
+use test_parts::streams::{Sink, Source};
 
 const END: Arrived = Arrived {
     taken: 0,
@@ -130,25 +130,21 @@ fn asks_for(alloc: Global, before: usize, max: u32, taken: u32) -> Result<bool, 
     Ok(all)
 }
 
-fn all_ask(alloc: Global) -> Result<bool, Refusal> {
-    let mut all = true;
-    for (before, max, taken) in ASKED {
-        all &= asks_for(alloc, before, max, taken)?;
-    }
-    Ok(all)
-}
-
 #[test]
 fn asks_for_what_fits(rt: HostRuntime) -> Result<(), Fail> {
-    pass(all_ask(rt.alloc()))
+    let alloc = rt.alloc();
+    pass_each(
+        &ASKED,
+        |(before, max, taken)| asks_for(alloc, *before, *max, *taken),
+    )
 }
 
 // An arrival: what it answers, how many reads there were then, and how many buffers are live.
-type Arrival = (Arrived, usize, u32);
+type Arrival = (Arrived, u32, u32);
 
 // A reader of six bytes gives four at once, and fails at that read. Each arrival is one read, and makes a buffer where it
 // gives bytes.
-const FAILING: [(usize, &[Arrival]); 4] = [
+const FAILING: [(u32, &[Arrival]); 4] = [
     (0, &[(SOME, 1, 1), (MORE, 2, 2), (END, 3, 2)]),
     (1, &[(FAILURE, 1, 0), (SOME, 2, 1), (MORE, 3, 2)]),
     (2, &[(SOME, 1, 1), (FAILURE, 2, 1), (MORE, 3, 2)]),
@@ -172,7 +168,7 @@ fn all_arrive(line: &mut Line, reader: &mut Source<'_>, arrivals: &[Arrival]) ->
     all && line.reads(b"abcdef") && line.holds(0)
 }
 
-fn fails_at(alloc: Global, fails: usize, arrivals: &[Arrival]) -> Result<bool, Refusal> {
+fn fails_at(alloc: Global, fails: u32, arrivals: &[Arrival]) -> Result<bool, Refusal> {
     let mut reader = Source::new(b"abcdef", 4, fails);
     let mut line = Line::new(alloc)?;
     let all = all_arrive(&mut line, &mut reader, arrivals);
@@ -180,15 +176,11 @@ fn fails_at(alloc: Global, fails: usize, arrivals: &[Arrival]) -> Result<bool, R
     Ok(all)
 }
 
-fn all_fail(alloc: Global) -> Result<bool, Refusal> {
-    let mut all = true;
-    for (fails, arrivals) in FAILING {
-        all &= fails_at(alloc, fails, arrivals)?;
-    }
-    Ok(all)
-}
-
 #[test]
 fn fails_at_each_read(rt: HostRuntime) -> Result<(), Fail> {
-    pass(all_fail(rt.alloc()))
+    let alloc = rt.alloc();
+    pass_each(
+        &FAILING,
+        |(fails, arrivals)| fails_at(alloc, *fails, arrivals),
+    )
 }

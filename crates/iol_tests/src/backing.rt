@@ -1,6 +1,5 @@
 //! Stores: what they hold after some calls, and which call fails.
 
-use crate::checks::pass;
 use iol_back::backing::Backing;
 use iol_back::faulty::FaultyBacking;
 use iol_back::memory::MemoryBacking;
@@ -9,6 +8,7 @@ use iol_core::numbers::FileId;
 use std::alloc::Global;
 use std::process::Abort;
 use std::test::Fail;
+use test_parts::checks::pass_if;
 
 // Puts bytes at the end of the first file.
 fn append<R: Abort>(rt: &R, slots: &mut Slots, text: &[u8]) {
@@ -64,7 +64,7 @@ fn all_hold<R: Abort>(rt: &R, alloc: Global) -> bool {
 
 #[test]
 fn ample(rt: HostRuntime) -> Result<(), Fail> {
-    pass(Ok(all_hold(&rt, rt.alloc())))
+    pass_if(all_hold(&rt, rt.alloc()))
 }
 
 // Whether there is no file of that number.
@@ -95,7 +95,7 @@ fn all_fail_outside<R: Abort>(rt: &R, alloc: Global) -> bool {
 
 #[test]
 fn outside_of_files(rt: HostRuntime) -> Result<(), Fail> {
-    pass(Ok(all_fail_outside(&rt, rt.alloc())))
+    pass_if(all_fail_outside(&rt, rt.alloc()))
 }
 
 // Whether of three calls the k-th fails, once, and what the first file has then.
@@ -127,5 +127,5 @@ fn all_fail<R: Abort>(rt: &R, alloc: Global) -> bool {
 
 #[test]
 fn fault_at_each_call(rt: HostRuntime) -> Result<(), Fail> {
-    pass(Ok(all_fail(&rt, rt.alloc())))
+    pass_if(all_fail(&rt, rt.alloc()))
 }

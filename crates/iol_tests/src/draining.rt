@@ -1,11 +1,11 @@
 //! What goes out to a writer.
-use crate::checks::pass;
 use crate::line::{Line, NONE};
-use crate::streams::{Sink, Source};
 use iol_core::refusals::Refusal;
 use iol_sock::Arrived;
 use std::alloc::Global;
 use std::test::Fail;
+use test_parts::checks::{pass, pass_each};
+use test_parts::streams::{Sink, Source};
 
 fn given(taken: u32) -> Arrived {
     Arrived {
@@ -42,10 +42,10 @@ fn refused_before_it_writes(rt: HostRuntime) -> Result<(), Fail> {
 }
 
 // Which write fails, how many bytes are sent then, and how many the next time.
-const FAILING: [(usize, u32, u32); 3] = [(1, 0, 5), (2, 2, 3), (3, 3, 2)];
+const FAILING: [(u32, u32, u32); 3] = [(1, 0, 5), (2, 2, 3), (3, 3, 2)];
 
 // A write fails: so many bytes are sent.
-fn first_fails(line: &mut Line, writer: &mut Sink, fails: usize, taken: u32) -> bool {
+fn first_fails(line: &mut Line, writer: &mut Sink, fails: u32, taken: u32) -> bool {
     line.drains(writer, 9, (taken, true))
         && writer.writes == fails
         && writer.bytes().len() == taken as usize
@@ -57,7 +57,7 @@ fn rest_follows(line: &mut Line, writer: &mut Sink, rest: u32) -> bool {
 }
 
 // A writer that takes at most two bytes at once fails at that write.
-fn fails_at(alloc: Global, fails: usize, taken: u32, rest: u32) -> Result<bool, Refusal> {
+fn fails_at(alloc: Global, fails: u32, taken: u32, rest: u32) -> Result<bool, Refusal> {
     let mut reader = Source::new(b"abcde", 3, 0);
     let mut writer = Sink::new(alloc, 2, fails);
     let mut line = Line::new(alloc)?;
@@ -68,23 +68,19 @@ fn fails_at(alloc: Global, fails: usize, taken: u32, rest: u32) -> Result<bool, 
     Ok(all)
 }
 
-fn all_fail(alloc: Global) -> Result<bool, Refusal> {
-    let mut all = true;
-    for (fails, taken, rest) in FAILING {
-        all &= fails_at(alloc, fails, taken, rest)?;
-    }
-    Ok(all)
-}
-
 #[test]
 fn fails_at_each_write(rt: HostRuntime) -> Result<(), Fail> {
-    pass(all_fail(rt.alloc()))
+    let alloc = rt.alloc();
+    pass_each(
+        &FAILING,
+        |(fails, taken, rest)| fails_at(alloc, *fails, *taken, *rest),
+    )
 }
 
 // How many bytes a writer takes at most at once, how many of the five that wait it is lent, how many it takes, and in how many
 // writes. One that takes none has failed. There is a write for each buffer and each part that is not taken whole, and none for
 // nothing: no more writes than bytes, but for the writer that takes none.
-const WRITES: [(usize, u32, u32, usize); 8] = [
+const WRITES: [(u32, u32, u32, u32); 8] = [
     (9, 9, 5, 2),
     (9, 4, 4, 2),
     (9, 3, 3, 1),
@@ -95,14 +91,14 @@ const WRITES: [(usize, u32, u32, usize); 8] = [
     (0, 9, 0, 1),
 ];
 
-fn takes(line: &mut Line, writer: &mut Sink, max: u32, want: (u32, bool), writes: usize) -> bool {
+fn takes(line: &mut Line, writer: &mut Sink, max: u32, want: (u32, bool), writes: u32) -> bool {
     line.drains(writer, max, want)
         && writer.writes == writes
         && b"abcde".as_slice().starts_with(writer.bytes())
 }
 
-fn writes(alloc: Global, row: (usize, u32, u32, usize)) -> Result<bool, Refusal> {
-    let (most, max, taken, writes) = row;
+fn writes(alloc: Global, row: &(u32, u32, u32, u32)) -> Result<bool, Refusal> {
+    let (most, max, taken, writes) = *row;
     let mut reader = Source::new(b"abcde", 3, 0);
     let mut writer = Sink::new(alloc, most, 0);
     let mut line = Line::new(alloc)?;
@@ -112,15 +108,8 @@ fn writes(alloc: Global, row: (usize, u32, u32, usize)) -> Result<bool, Refusal>
     Ok(all)
 }
 
-fn all_write(alloc: Global) -> Result<bool, Refusal> {
-    let mut all = true;
-    for row in WRITES {
-        all &= writes(alloc, row)?;
-    }
-    Ok(all)
-}
-
 #[test]
 fn a_write_a_part(rt: HostRuntime) -> Result<(), Fail> {
-    pass(all_write(rt.alloc()))
+    let alloc = rt.alloc();
+    pass_each(&WRITES, |row| writes(alloc, row))
 }

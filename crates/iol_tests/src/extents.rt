@@ -2,7 +2,6 @@
 ghost use Rattle.std.specs.Prelude.{◌≡◌, ◌<◌, []};
 ghost use Rattle.iol_hold.specs.Places.{byte_len};
 
-use crate::checks::pass;
 use crate::stores::{add_pool, filled, new_store};
 use iol_agg::Agg;
 use iol_core::configuration::Config;
@@ -13,6 +12,7 @@ use iol_hold::Store;
 use std::alloc::Global;
 use std::process::Abort;
 use std::test::Fail;
+use test_parts::checks::pass_if;
 
 const ONE_CHUNK: Config = Config {
     chunks: 1,
@@ -88,5 +88,5 @@ fn all_hold<R: Abort>(rt: &R, alloc: Global) -> bool {
 
 #[test]
 fn ample(rt: HostRuntime) -> Result<(), Fail> {
-    pass(Ok(all_hold(&rt, rt.alloc())))
+    pass_if(all_hold(&rt, rt.alloc()))
 }

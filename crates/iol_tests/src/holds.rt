@@ -4,16 +4,15 @@ ghost use Rattle.iol_hold.specs.Stored.{count_of};
 ghost use Rattle.iol_hold.specs.Moves.{Covers};
 ghost use Rattle.iol_hold.specs.Texts.{IsFilled};
 
-use crate::checks::pass;
 use crate::stores::{add_pool, new_store};
 use iol_core::configuration::Config;
 use iol_core::limits::MAX_AGGREGATE_BYTES;
 use iol_core::numbers::{DomainId, PoolId};
-use iol_core::refusals::Refusal;
 use iol_hold::{Hold, Holds, Slice, Store};
 use std::alloc::Global;
 use std::process::Abort;
 use std::test::Fail;
+use test_parts::checks::pass_if;
 
 const THREE_CHUNKS: Config = Config {
     chunks: 3,
@@ -149,12 +148,8 @@ fn all_hold<R: Abort>(rt: &R, alloc: Global, text: &[u8]) -> bool {
     all
 }
 
-fn found<R: Abort>(rt: &R, alloc: Global) -> Result<bool, Refusal> {
-    let text = vec![in alloc; 7u8; 70_000]?;
-    Ok(all_hold(rt, alloc, &text))
-}
-
 #[test]
 fn ample(rt: HostRuntime) -> Result<(), Fail> {
-    pass(found(&rt, rt.alloc()))
+    let text = vec![in rt.alloc(); 7u8; 70_000]?;
+    pass_if(all_hold(&rt, rt.alloc(), &text))
 }

@@ -14,21 +14,15 @@ mod arriving;
 #[cfg(test)]
 mod backing;
 #[cfg(test)]
-mod checks;
-#[cfg(test)]
 mod consumer;
 #[cfg(test)]
 mod draining;
-#[cfg(test)]
-mod echo;
 #[cfg(test)]
 mod extents;
 #[cfg(test)]
 mod holds;
 #[cfg(test)]
 mod line;
-#[cfg(test)]
-mod machine;
 #[cfg(test)]
 mod order;
 #[cfg(test)]
@@ -49,8 +43,6 @@ mod served;
 mod start;
 #[cfg(test)]
 mod stores;
-#[cfg(test)]
-mod streams;
 #[cfg(test)]
 mod sums;
 #[cfg(test)]

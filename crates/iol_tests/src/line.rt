@@ -1,6 +1,5 @@
 //! A system with connection 1, which is served from outside.
-use crate::machine::Machine;
-use crate::streams::{Sink, Source};
+use iol_back::memory::MemoryBacking;
 use iol_core::configuration::Config;
 use iol_core::descriptors::How;
 use iol_core::events::{Call, Event, Reply};
@@ -9,6 +8,9 @@ use iol_core::numbers::{AggId, ConnId, DomainId, Fd, PoolId};
 use iol_core::refusals::Refusal;
 use iol_sock::{Arrived, Drained};
 use std::alloc::{AllocError, Global};
+use test_parts::streams::{Sink, Source};
+use test_worlds::files::empty_store;
+use test_worlds::systems::{TestSystem, call_of};
 
 // The connection that is there.
 const CONN: u32 = 1;
@@ -24,20 +26,14 @@ const CONFIG: Config = Config {
     sums: 8,
 };
 
-// A call of domain 1.
-fn call_of(call: Call) -> Event {
-    let by = DomainId::new(1);
-    Event::Call { by, call }
-}
-
 // What makes the pool, for these domains, and the connection.
 fn beginnings(domains: Domains) -> [Event; 4] {
     let (pool, chunks) = (PoolId::new(1), CONFIG.chunks);
     [
-        call_of(Call::PoolCreate { chunks, domains }),
-        call_of(Call::SetPool { pool }),
+        call_of(1, Call::PoolCreate { chunks, domains }),
+        call_of(1, Call::SetPool { pool }),
         Event::ConnNew { pool },
-        call_of(Call::Accept),
+        call_of(1, Call::Accept),
     ]
 }
 
@@ -45,9 +41,9 @@ fn beginnings(domains: Domains) -> [Event; 4] {
 fn echoing() -> [Event; 3] {
     let (fd, agg) = (Fd::new(FD), AggId::new(1));
     [
-        call_of(Call::IolRead { fd, count: 65_536 }),
-        call_of(Call::IolWrite { fd, agg }),
-        call_of(Call::AggDrop { agg }),
+        call_of(1, Call::IolRead { fd, count: 65_536 }),
+        call_of(1, Call::IolWrite { fd, agg }),
+        call_of(1, Call::AggDrop { agg }),
     ]
 }
 
@@ -61,14 +57,30 @@ pub fn text(alloc: Global, count: usize) -> Result<Bytes, AllocError> {
 /// domain 1 accepted as descriptor 0.
 #[derive(Drop)]
 pub struct Line {
-    machine: Machine,
+    system: TestSystem<MemoryBacking>,
 }
 
 impl Line {
     pub fn new(alloc: Global) -> Result<Line, Refusal> {
         let domains = Domains::from_vec([DomainId::new(1)].to_vec(alloc)?);
-        let machine = Machine::begun(alloc, CONFIG, &beginnings(domains))?;
-        Ok(Line { machine })
+        let events = beginnings(domains);
+        let system = TestSystem::begun(alloc, CONFIG, empty_store(alloc), &[&events])?;
+        Ok(Line { system })
+    }
+
+    // Whether an event is answered by an aggregate.
+    fn makes(&mut self, event: &Event) -> bool {
+        matches!(self.system.step(event), Reply::Agg(_))
+    }
+
+    // Whether it is answered by a count.
+    fn counts(&mut self, event: &Event) -> bool {
+        matches!(self.system.step(event), Reply::Count(_))
+    }
+
+    // Whether it is done, with nothing to tell.
+    fn completes(&mut self, event: &Event) -> bool {
+        matches!(self.system.step(event), Reply::Done)
     }
 
     /// Bytes come in from a reader.
@@ -78,7 +90,7 @@ impl Line {
         reader: &mut Source<'_>,
         max: u32,
     ) -> Result<Arrived, Refusal> {
-        self.machine.arrive_from(ConnId::new(conn), reader, max)
+        self.system.arrive_from(ConnId::new(conn), reader, max)
     }
 
     /// Whether bytes come in from a reader, or are refused, as told.
@@ -93,7 +105,7 @@ impl Line {
 
     /// Bytes go out to a writer.
     pub fn drain_to(&mut self, conn: u32, writer: &mut Sink, max: u32) -> Result<Drained, Refusal> {
-        self.machine.drain_to(ConnId::new(conn), writer, max)
+        self.system.drain_to(ConnId::new(conn), writer, max)
     }
 
     /// Whether so many bytes go out to a writer, and whether it fails.
@@ -104,30 +116,30 @@ impl Line {
     /// Bytes arrive that come from no reader.
     pub fn arrive(&mut self, bytes: Bytes) -> bool {
         let conn = ConnId::new(CONN);
-        self.machine.counts(&Event::Arrive { conn, bytes })
+        self.counts(&Event::Arrive { conn, bytes })
     }
 
     /// Domain 1 makes an aggregate.
     pub fn fill(&mut self, bytes: Bytes) -> bool {
-        self.machine.makes(&call_of(Call::AggMake { bytes }))
+        self.makes(&call_of(1, Call::AggMake { bytes }))
     }
 
     /// The peer sends no more.
     pub fn end(&mut self) -> bool {
         let (conn, how) = (ConnId::new(CONN), How::Done);
-        self.machine.completes(&Event::PeerClosed { conn, how })
+        self.completes(&Event::PeerClosed { conn, how })
     }
 
     /// Domain 1 reads what came in, as its first aggregate, and writes it back.
     pub fn echo(&mut self) -> bool {
         let [read, write, end] = &echoing();
-        self.machine.makes(read) && self.machine.counts(write) && self.machine.completes(end)
+        self.makes(read) && self.counts(write) && self.completes(end)
     }
 
     /// Whether this is sent as a segment: these bytes, with their checksum.
     pub fn transmits(&mut self, max: u32, (want, sum): (&[u8], u16)) -> bool {
         let conn = ConnId::new(CONN);
-        match self.machine.step(&Event::Transmit { conn, max }) {
+        match self.system.step(&Event::Transmit { conn, max }) {
             Reply::Segment { bytes, checksum } => bytes.as_slice() == want && checksum == sum,
             _ => false,
         }
@@ -136,7 +148,7 @@ impl Line {
     /// Whether domain 1 reads these bytes, which came in.
     pub fn reads(&mut self, want: &[u8]) -> bool {
         let (fd, count) = (Fd::new(FD), 65_536);
-        match self.machine.step(&call_of(Call::Read { fd, count })) {
+        match self.system.step(&call_of(1, Call::Read { fd, count })) {
             Reply::Bytes(bytes) => bytes.as_slice() == want,
             _ => false,
         }
@@ -144,6 +156,6 @@ impl Line {
 
     /// Whether so many buffers are live.
     pub fn holds(&self, want: u32) -> bool {
-        self.machine.buffers() == Ok(want)
+        self.system.buffers() == Ok(want)
     }
 }

@@ -1,7 +1,6 @@
 //! The order in which parts of files are evicted.
 ghost use Rattle.std.specs.Prelude.{◌≡◌, ◌<◌, ◌≤◌, ◌==◌, []};
 
-use crate::checks::pass;
 use iol_core::numbers::FileId;
 use iol_evict::entry::Rank;
 use iol_evict::order::Order;
@@ -9,6 +8,7 @@ use iol_evict::users::InUse;
 use std::alloc::Global;
 use std::process::Abort;
 use std::test::Fail;
+use test_parts::checks::pass_if;
 
 // One file is in use.
 #[derive(Drop)]
@@ -75,7 +75,7 @@ fn three_hold<R: Abort>(rt: &R, alloc: Global) -> bool {
 
 #[test]
 fn order_of_three(rt: HostRuntime) -> Result<(), Fail> {
-    pass(Ok(three_hold(&rt, rt.alloc())))
+    pass_if(three_hold(&rt, rt.alloc()))
 }
 
 // Rounds of a small and costly part: it enters, and is evicted.
@@ -103,5 +103,5 @@ fn limit_holds<R: Abort>(rt: &R, alloc: Global) -> bool {
 
 #[test]
 fn heights_past_the_limit(rt: HostRuntime) -> Result<(), Fail> {
-    pass(Ok(limit_holds(&rt, rt.alloc())))
+    pass_if(limit_holds(&rt, rt.alloc()))
 }

@@ -3,16 +3,15 @@ ghost use Rattle.std.specs.Prelude.{[]};
 ghost use Rattle.iol_hold.specs.Texts.{bufs_of};
 ghost use Rattle.iol_agg.specs.Held.{IsHeldBy};
 
-use crate::checks::pass;
 use crate::stores::{add_pool, filled, new_store};
 use iol_core::configuration::Config;
 use iol_core::numbers::{DomainId, PoolId};
-use iol_core::refusals::Refusal;
 use iol_hold::Store;
 use iol_pipe::Pipe;
 use std::alloc::Global;
 use std::process::Abort;
 use std::test::Fail;
+use test_parts::checks::pass_if;
 
 // Each page is used once.
 const FOUR_CHUNKS: Config = Config {
@@ -99,12 +98,8 @@ fn all_hold<R: Abort>(rt: &R, alloc: Global, text: &[u8]) -> bool {
     taken && all_come && pipe.first_pool() == Some(second)
 }
 
-fn found<R: Abort>(rt: &R, alloc: Global) -> Result<bool, Refusal> {
-    let text = vec![in alloc; 7u8; 70_000]?;
-    Ok(all_hold(rt, alloc, &text))
-}
-
 #[test]
 fn ample(rt: HostRuntime) -> Result<(), Fail> {
-    pass(found(&rt, rt.alloc()))
+    let text = vec![in rt.alloc(); 7u8; 70_000]?;
+    pass_if(all_hold(&rt, rt.alloc(), &text))
 }

@@ -4,7 +4,6 @@ ghost use Rattle.iol_core.specs.Numbered.{is_numbered};
 ghost use Rattle.iol_pool.specs.Owned.{AreOwned};
 
 use crate::arenas::make_one;
-use crate::checks::pass;
 use iol_arena::arena::Arena;
 use iol_core::configuration::Config;
 use iol_core::numbers::{DomainId, PoolId};
@@ -14,6 +13,7 @@ use iol_pool::report::PoolReport;
 use std::alloc::Global;
 use std::process::Abort;
 use std::test::Fail;
+use test_parts::checks::pass_if;
 
 // Closes a pool while a buffer stands on its pages, and then frees that.
 fn close_in_use<R: Abort>(
@@ -83,5 +83,5 @@ fn two_hold<R: Abort>(rt: &R, alloc: Global) -> bool {
 
 #[test]
 fn ample(rt: HostRuntime) -> Result<(), Fail> {
-    pass(Ok(two_hold(&rt, rt.alloc())))
+    pass_if(two_hold(&rt, rt.alloc()))
 }

@@ -7,6 +7,7 @@ use iol_core::lists::Bytes;
 use iol_core::numbers::{AggId, Fd};
 use iol_proc::process::Turn;
 use std::alloc::{AllocError, Global};
+use test_worlds::echo::let_go;
 
 /// How many bytes are written at a time. Eight times as many fill a pipe.
 pub const PIECE: usize = 8192;
@@ -42,7 +43,7 @@ impl Producer {
                 self.held = Some(*agg);
                 Ok(self.write(*agg))
             }
-            Reply::Count(_) => Ok(self.written()),
+            Reply::Count(_) => Ok(let_go(&mut self.held)),
             Reply::Refused(_) => Ok(Turn::Yield),
             _ => match self.held {
                 Some(agg) => Ok(self.write(agg)),
@@ -56,19 +57,6 @@ impl Producer {
         ensures { IsQuiet result }
     {
         Turn::Make(Call::IolWrite { fd: self.fd, agg })
-    }
-
-    // The piece was taken.
-    fn written(&mut self) -> Turn
-        ensures { IsQuiet result }
-    {
-        match self.held {
-            Some(agg) => {
-                self.held = None;
-                Turn::Make(Call::AggDrop { agg })
-            }
-            None => Turn::Yield,
-        }
     }
 
     // The next piece, or the end.

@@ -1,9 +1,9 @@
 //! Printed text.
-use crate::checks::pass;
 use iol_core::numbers::{FileId, PoolId};
 use iol_core::refusals::Refusal;
 use std::alloc::Global;
 use std::test::Fail;
+use test_parts::checks::pass;
 
 const PLAIN: [(Refusal, &str); 12] = [
     (Refusal::NoDomain, "NoDomain"),

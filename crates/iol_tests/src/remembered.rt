@@ -3,7 +3,6 @@ ghost use Rattle.std.specs.Prelude.{◌<◌};
 ghost use Rattle.iol_hold.specs.Texts.{AllReadable};
 ghost use Rattle.iol_sum.specs.Sums.{IsRight};
 
-use crate::checks::pass;
 use crate::stores::{add_pool, filled, new_store};
 use iol_agg::Agg;
 use iol_core::configuration::Config;
@@ -13,6 +12,7 @@ use iol_sum::{SumCache, sum_of};
 use std::alloc::Global;
 use std::process::Abort;
 use std::test::Fail;
+use test_parts::checks::pass_if;
 
 const ABC: u16 = 0xc462;
 
@@ -115,7 +115,7 @@ fn remembers_one<R: Abort>(rt: &R, alloc: Global) -> bool {
 
 #[test]
 fn one_sum_remembered(rt: HostRuntime) -> Result<(), Fail> {
-    pass(Ok(remembers_one(&rt, rt.alloc())))
+    pass_if(remembers_one(&rt, rt.alloc()))
 }
 
 // Room for both sums. The second slice begins at an odd place.
@@ -143,7 +143,7 @@ fn remembers_both<R: Abort>(rt: &R, alloc: Global) -> bool {
 
 #[test]
 fn ample(rt: HostRuntime) -> Result<(), Fail> {
-    pass(Ok(remembers_both(&rt, rt.alloc())))
+    pass_if(remembers_both(&rt, rt.alloc()))
 }
 
 // Other bytes, on the same page again where it serves more than once: nothing is known of them.
@@ -162,5 +162,5 @@ fn both_recycle<R: Abort>(rt: &R, alloc: Global) -> bool {
 
 #[test]
 fn segments_of_recycled_pages(rt: HostRuntime) -> Result<(), Fail> {
-    pass(Ok(both_recycle(&rt, rt.alloc())))
+    pass_if(both_recycle(&rt, rt.alloc()))
 }

@@ -1,18 +1,13 @@
 //! A system with a pipe, over which worlds are made.
-use crate::machine::Machine;
+use iol_back::memory::MemoryBacking;
 use iol_core::configuration::Config;
-use iol_core::events::{Call, Event, Reply};
+use iol_core::events::{Call, Event};
 use iol_core::lists::Domains;
 use iol_core::numbers::{DomainId, Fd, PoolId};
 use iol_core::refusals::Refusal;
 use std::alloc::Global;
-
-pub fn call_of(by: u32, call: Call) -> Event {
-    Event::Call {
-        by: DomainId::new(by),
-        call,
-    }
-}
+use test_worlds::files::empty_store;
+use test_worlds::systems::{TestSystem, call_of};
 
 // Domain 1 makes domain 2, a pool of both, which these are, and a pipe whose read end it gives to domain 2.
 fn beginnings(domains: Domains) -> [Event; 5] {
@@ -28,7 +23,8 @@ fn beginnings(domains: Domains) -> [Event; 5] {
 }
 
 /// A system with a pipe from domain 1 to domain 2, and a pool of both.
-pub fn system_with_pipe(alloc: Global) -> Result<Machine, Refusal> {
+pub fn system_with_pipe(alloc: Global) -> Result<TestSystem<MemoryBacking>, Refusal> {
     let domains = Domains::from_vec([DomainId::new(1), DomainId::new(2)].to_vec(alloc)?);
-    Machine::begun(alloc, Config::DEFAULT, &beginnings(domains))
+    let events = beginnings(domains);
+    TestSystem::begun(alloc, Config::DEFAULT, empty_store(alloc), &[&events])
 }

@@ -1,13 +1,13 @@
 //! Each call that wants memory answers when there is enough, and so it does after many rounds.
 ghost use Rattle.std.specs.Prelude.{true};
 
-use crate::checks::pass;
 use iol_core::descriptors::Descriptor;
 use iol_core::numbers::{AggId, DomainId, Fd, PipeId};
 use iol_desc::table::Table;
 use std::alloc::Global;
 use std::process::Abort;
 use std::test::Fail;
+use test_parts::checks::pass_if;
 
 // Adds an aggregate.
 fn add(table: &mut Table<u32>, d: DomainId, agg: u32) -> Option<AggId> {
@@ -120,7 +120,7 @@ fn all_taken<R: Abort>(rt: &R, alloc: Global) -> bool {
 
 #[test]
 fn ample(rt: HostRuntime) -> Result<(), Fail> {
-    pass(Ok(all_taken(&rt, rt.alloc())))
+    pass_if(all_taken(&rt, rt.alloc()))
 }
 
 // Opens descriptors to the last, which have the numbers in their order.
@@ -178,5 +178,5 @@ fn all_open<R: Abort>(rt: &R, alloc: Global) -> bool {
 
 #[test]
 fn descriptors(rt: HostRuntime) -> Result<(), Fail> {
-    pass(Ok(all_open(&rt, rt.alloc())))
+    pass_if(all_open(&rt, rt.alloc()))
 }

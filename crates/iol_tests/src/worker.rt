@@ -2,12 +2,12 @@
 ghost use Rattle.std.specs.Prelude.{⊤};
 
 use crate::consumer::Consumer;
-use crate::echo::Echo;
 use crate::producer::Producer;
 use iol_core::events::{Call, Reply};
 use iol_proc::look::Look;
 use iol_proc::process::{Process, Turn};
 use std::alloc::AllocError;
+use test_worlds::echo::Echo;
 
 /// A process of one kind or another.
 #[derive(Clone, Copy)]
@@ -31,7 +31,7 @@ impl Process for Worker {
         match self {
             Worker::Producer(producer) => producer.turn(last),
             Worker::Consumer(consumer) => Ok(consumer.turn(last, look)),
-            Worker::Echo(echo) => Ok(echo.turn(last)),
+            Worker::Echo(echo) => Ok(echo.turn(last, look)),
             Worker::Eager => Ok(Turn::Make(Call::Accept)),
             Worker::Idle => Ok(Turn::Yield),
         }

@@ -1,29 +1,29 @@
 //! Worlds of a few processes.
-use crate::checks::pass;
 use crate::consumer::{Consumer, summed};
 use crate::producer::{PIECE, Producer};
-use crate::start::{call_of, system_with_pipe};
+use crate::start::system_with_pipe;
 use crate::worker::Worker;
-use crate::workers::Workers;
+use crate::workers::{Workers, no_workers, two_workers};
 use iol_core::events::{Call, Reply};
 use iol_core::numbers::{DomainId, Fd};
 use iol_core::refusals::Refusal;
 use iol_proc::choice::Choice;
 use std::alloc::{AllocError, Global};
 use std::test::Fail;
+use test_parts::checks::pass;
 
 /// How many pieces are a mebibyte.
 const PIECES: u8 = 128;
 
 // A world of two workers over a pipe from one to the other.
 fn world_of(alloc: Global, first: Worker, second: Worker) -> Result<Workers, Refusal> {
-    let machine = system_with_pipe(alloc)?;
-    Ok(Workers::two(alloc, machine, first, second)?)
+    let system = system_with_pipe(alloc)?;
+    Ok(two_workers(alloc, system, first, second)?)
 }
 
 // How many bytes the consumer of domain 2 got, and their sum.
 fn came(world: &Workers) -> Option<(u32, u32)> {
-    match world.worker_of(DomainId::new(2))? {
+    match world.process(2)? {
         Worker::Consumer(consumer) => Some(consumer.came()),
         _ => None,
     }
@@ -98,8 +98,8 @@ fn waiting_without_a_pause_is_not_idle(rt: HostRuntime) -> Result<(), Fail> {
 
 // A world without processes.
 fn empty_world(alloc: Global) -> Result<Workers, Refusal> {
-    let machine = system_with_pipe(alloc)?;
-    Ok(Workers::none(alloc, machine)?)
+    let system = system_with_pipe(alloc)?;
+    Ok(no_workers(alloc, system)?)
 }
 
 fn is_idle_without(alloc: Global) -> Result<bool, Refusal> {
@@ -134,7 +134,7 @@ fn is_refused(world: &mut Workers, by: u32, refusal: Refusal) -> bool {
 
 // Ends a domain.
 fn ends(world: &mut Workers, by: u32) -> bool {
-    matches!(world.step_outside(call_of(by, Call::Exit)), Reply::Done)
+    matches!(world.call(by, Call::Exit), Reply::Done)
 }
 
 // A domain that never was, one whose call would wait, and one that has ended.

@@ -9,8 +9,18 @@ use iol_proc::look::Look;
 use iol_proc::process::{Process, Turn};
 use std::alloc::AllocError;
 
+/// Drops what is held, if anything is.
+pub fn let_go(held: &mut Option<AggId>) -> Turn
+    ensures { IsQuiet result }
+{
+    match held.take() {
+        Some(agg) => Turn::Make(Call::AggDrop { agg }),
+        None => Turn::Yield,
+    }
+}
+
 /// Accepts one connection at a time, sends back what comes, and closes it at its end.
-#[derive(Drop)]
+#[derive(Clone, Copy)]
 pub struct Echo {
     fd: Option<Fd>,
     held: Option<AggId>,
@@ -33,7 +43,8 @@ impl Echo {
         }
     }
 
-    fn turn(&mut self, last: &Reply, look: &Look<'_>) -> Turn
+    /// Reads, writes what came, and drops it. Where nothing came it yields, and tries again.
+    pub fn turn(&mut self, last: &Reply, look: &Look<'_>) -> Turn
         ensures { IsQuiet result }
     {
         match last {
@@ -42,7 +53,7 @@ impl Echo {
                 self.ask()
             }
             Reply::Agg(agg) => self.heard(*agg, look),
-            Reply::Count(_) => self.written(),
+            Reply::Count(_) => let_go(&mut self.held),
             Reply::Refused(Refusal::WouldBlock) => Turn::Yield,
             Reply::Refused(_) => self.close(),
             _ => self.ask(),
@@ -73,27 +84,11 @@ impl Echo {
         }
     }
 
-    // What was sent back was taken.
-    fn written(&mut self) -> Turn
-        ensures { IsQuiet result }
-    {
-        match self.held {
-            Some(agg) => {
-                self.held = None;
-                Turn::Make(Call::AggDrop { agg })
-            }
-            None => Turn::Yield,
-        }
-    }
-
     fn close(&mut self) -> Turn
         ensures { IsQuiet result }
     {
-        match self.fd {
-            Some(fd) => {
-                self.fd = None;
-                Turn::Make(Call::Close { fd })
-            }
+        match self.fd.take() {
+            Some(fd) => Turn::Make(Call::Close { fd }),
             None => Turn::Yield,
         }
     }
