@@ -25,9 +25,9 @@ use Rattle.flash_cgi.specs.Taking.{HasJob}
 use Rattle.flash_cgi.specs.Turns.{IsFree, is_given, step_of, Awaits, RunsJob, outcomes_to_come, ReadsItsFile, GoesOn, IsOver, TurnsFeed}
 use Rattle.flash_cgi.specs.Works.{worker_turns}
 use Rattle.flash_cgi.specs.declared.line.Line.{Line}
-use Rattle.flash_cgi.specs.declared.doing.Doing.{Doing}
-use Rattle.flash_cgi.specs.declared.doing.Doing.TheVariants as doing
-use Rattle.flash_cgi.specs.declared.doing.Standing.TheVariants as standing
+use Rattle.flash_cgi.specs.declared.phase.Doing.{Doing}
+use Rattle.flash_cgi.specs.declared.phase.Doing.TheVariants as doing
+use Rattle.flash_cgi.specs.declared.phase.Standing.TheVariants as standing
 use Rattle.flash_cgi.specs.declared.worker.Worker.{Worker}
 use Rattle.flash_cgi.proofs.Beside.{free_still}
 use Rattle.flash_cgi.proofs.Free.{FreeTurn, free_turn}

@@ -34,13 +34,13 @@ use Rattle.flash_cgi.specs.Working.{said_text, line_text, counts_of, bytes_at, c
 use Rattle.flash_cgi.specs.Feeds.{put_out, rest_of, still, IsFileOpen, Needs, Feeds, settled, settled_open, failed, Ends, ComesTo, Comes, FeedsOn}
 use Rattle.flash_cgi.specs.declared.line.Line.{Line}
 use Rattle.flash_cgi.specs.declared.line.Line.TheVariants as line
-use Rattle.flash_cgi.specs.declared.saying.Said.{Said}
-use Rattle.flash_cgi.specs.declared.saying.Said.TheVariants as said
-use Rattle.flash_cgi.specs.declared.doing.Purpose.{Purpose}
-use Rattle.flash_cgi.specs.declared.doing.Purpose.TheVariants as purpose
-use Rattle.flash_cgi.specs.declared.doing.Doing.{Doing}
-use Rattle.flash_cgi.specs.declared.doing.Doing.TheVariants as doing
-use Rattle.flash_cgi.specs.declared.doing.Step.{Step}
+use Rattle.flash_cgi.specs.declared.counts.Said.{Said}
+use Rattle.flash_cgi.specs.declared.counts.Said.TheVariants as said
+use Rattle.flash_cgi.specs.declared.phase.Purpose.{Purpose}
+use Rattle.flash_cgi.specs.declared.phase.Purpose.TheVariants as purpose
+use Rattle.flash_cgi.specs.declared.phase.Doing.{Doing}
+use Rattle.flash_cgi.specs.declared.phase.Doing.TheVariants as doing
+use Rattle.flash_cgi.specs.declared.phase.Step.{Step}
 
 -- ---- plain facts
 

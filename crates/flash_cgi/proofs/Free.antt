@@ -21,11 +21,11 @@ use Rattle.flash_cgi.specs.Turns.{IsFree, is_given, or_again, filed_step}
 use Rattle.flash_cgi.specs.Waiting.{is_over}
 use Rattle.flash_cgi.specs.Working.{call_at, doing_call, told, told_doing, bytes_at}
 use Rattle.flash_cgi.specs.Works.{IsNew, works, works_as, files, goes_on, takes, with_job, with_text, worker_turns}
-use Rattle.flash_cgi.specs.declared.doing.Doing.{Doing}
-use Rattle.flash_cgi.specs.declared.doing.Doing.TheVariants as doing
-use Rattle.flash_cgi.specs.declared.doing.Standing.{Standing}
-use Rattle.flash_cgi.specs.declared.doing.Standing.TheVariants as standing
-use Rattle.flash_cgi.specs.declared.doing.Step.{Step}
+use Rattle.flash_cgi.specs.declared.phase.Doing.{Doing}
+use Rattle.flash_cgi.specs.declared.phase.Doing.TheVariants as doing
+use Rattle.flash_cgi.specs.declared.phase.Standing.{Standing}
+use Rattle.flash_cgi.specs.declared.phase.Standing.TheVariants as standing
+use Rattle.flash_cgi.specs.declared.phase.Step.{Step}
 use Rattle.flash_cgi.specs.declared.worker.Worker.{Worker}
 use Rattle.flash_cgi.proofs.Beside.{free_still}
 use Rattle.flash_cgi.proofs.Turning.{seat_at, lent-live}

@@ -8,7 +8,7 @@ use Rattle.flash_cgi.specs.Laws.{GatheringKeeps}
 use Rattle.flash_cgi.specs.Outcomes.{outcome_in, outcomes_in}
 use Rattle.flash_cgi.specs.Output.{Outcome, output, cat_of, wc_of}
 use Rattle.flash_cgi.specs.Working.{line_text}
-use Rattle.flash_cgi.specs.declared.gathering.TheConstants.{MAX_QUERY_BYTES, MAX_TEXT_BYTES}
+use Rattle.flash_cgi.specs.declared.gather.TheConstants.{MAX_QUERY_BYTES, MAX_TEXT_BYTES}
 use Rattle.flash_cgi.specs.declared.line.Line.{Line}
 use Rattle.flash_cgi.specs.declared.line.Line.TheVariants as line
 

@@ -21,11 +21,11 @@ use Rattle.flash_cgi.specs.Working.{call_at, told, told_next, told_made, told_op
 use Rattle.flash_cgi.specs.Having.{uses_fd, uses_agg, HasJust}
 use Rattle.flash_cgi.specs.declared.line.Line.{Line}
 use Rattle.flash_cgi.specs.declared.line.Line.TheVariants as line
-use Rattle.flash_cgi.specs.declared.doing.Purpose.{Purpose}
-use Rattle.flash_cgi.specs.declared.doing.Purpose.TheVariants as purpose
-use Rattle.flash_cgi.specs.declared.doing.Doing.{Doing}
-use Rattle.flash_cgi.specs.declared.doing.Doing.TheVariants as doing
-use Rattle.flash_cgi.specs.declared.doing.Step.{Step}
+use Rattle.flash_cgi.specs.declared.phase.Purpose.{Purpose}
+use Rattle.flash_cgi.specs.declared.phase.Purpose.TheVariants as purpose
+use Rattle.flash_cgi.specs.declared.phase.Doing.{Doing}
+use Rattle.flash_cgi.specs.declared.phase.Doing.TheVariants as doing
+use Rattle.flash_cgi.specs.declared.phase.Step.{Step}
 use Rattle.flash_cgi.proofs.Feeding.{at_step}
 use Rattle.flash_cgi.proofs.Unopened.{free_make, free_cut, free_drop, free_set_pool, free_read, free_write, free_close, free_open}
 

@@ -23,12 +23,12 @@ use Rattle.flash_cgi.specs.Turns.{is_given, or_again, filed_step}
 use Rattle.flash_cgi.specs.Having.{uses_fd, HasJust, held_doing, KeepsJust, WorkersKeepNothing}
 use Rattle.flash_cgi.specs.declared.line.Line.{Line}
 use Rattle.flash_cgi.specs.declared.line.Line.TheVariants as line
-use Rattle.flash_cgi.specs.declared.doing.Purpose.{Purpose}
-use Rattle.flash_cgi.specs.declared.doing.Doing.{Doing}
-use Rattle.flash_cgi.specs.declared.doing.Doing.TheVariants as doing
-use Rattle.flash_cgi.specs.declared.doing.Standing.{Standing}
-use Rattle.flash_cgi.specs.declared.doing.Standing.TheVariants as standing
-use Rattle.flash_cgi.specs.declared.doing.Step.{Step}
+use Rattle.flash_cgi.specs.declared.phase.Purpose.{Purpose}
+use Rattle.flash_cgi.specs.declared.phase.Doing.{Doing}
+use Rattle.flash_cgi.specs.declared.phase.Doing.TheVariants as doing
+use Rattle.flash_cgi.specs.declared.phase.Standing.{Standing}
+use Rattle.flash_cgi.specs.declared.phase.Standing.TheVariants as standing
+use Rattle.flash_cgi.specs.declared.phase.Step.{Step}
 use Rattle.flash_cgi.specs.declared.worker.Worker.{Worker}
 use Rattle.flash_cgi.proofs.Feeding.{at_step}
 use Rattle.flash_cgi.proofs.Having.{both_false, same_number, call_keeps, absent, drops}

@@ -45,13 +45,13 @@ use Rattle.flash_cgi.specs.Works.{files as files_reply}
 use Rattle.flash_cgi.specs.Working.{bytes_at, call_at, doing_call, next_call, told, told_cut, told_doing, told_made, told_next, told_opened, told_read, told_written}
 use Rattle.flash_cgi.specs.declared.line.Line.{Line}
 use Rattle.flash_cgi.specs.declared.line.Line.TheVariants as line
-use Rattle.flash_cgi.specs.declared.doing.Purpose.{Purpose}
-use Rattle.flash_cgi.specs.declared.doing.Purpose.TheVariants as purpose
-use Rattle.flash_cgi.specs.declared.doing.Doing.{Doing}
-use Rattle.flash_cgi.specs.declared.doing.Doing.TheVariants as doing
-use Rattle.flash_cgi.specs.declared.doing.Standing.{Standing}
-use Rattle.flash_cgi.specs.declared.doing.Standing.TheVariants as standing
-use Rattle.flash_cgi.specs.declared.doing.Step.{Step}
+use Rattle.flash_cgi.specs.declared.phase.Purpose.{Purpose}
+use Rattle.flash_cgi.specs.declared.phase.Purpose.TheVariants as purpose
+use Rattle.flash_cgi.specs.declared.phase.Doing.{Doing}
+use Rattle.flash_cgi.specs.declared.phase.Doing.TheVariants as doing
+use Rattle.flash_cgi.specs.declared.phase.Standing.{Standing}
+use Rattle.flash_cgi.specs.declared.phase.Standing.TheVariants as standing
+use Rattle.flash_cgi.specs.declared.phase.Step.{Step}
 use Rattle.flash_cgi.specs.declared.worker.Worker.{Worker}
 use Rattle.flash_cgi.proofs.Beside.{filed_stays, free_still, no_gift, others_leave}
 use Rattle.flash_cgi.proofs.Leaving.{makes_call, run_is_not_given}

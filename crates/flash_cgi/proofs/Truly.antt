@@ -30,11 +30,11 @@ use Rattle.flash_cgi.specs.Feeds.{Feeds, settled, settled_open, failed}
 use Rattle.flash_cgi.specs.Outcomes.{outcome_of, outcome_in, outcomes_in, to_come, IsReading, ReadsNamed, SettlesTruly, AreFiles, OutcomesAreTrue}
 use Rattle.flash_cgi.specs.declared.line.Line.{Line}
 use Rattle.flash_cgi.specs.declared.line.Line.TheVariants as line
-use Rattle.flash_cgi.specs.declared.doing.Purpose.{Purpose}
-use Rattle.flash_cgi.specs.declared.doing.Purpose.TheVariants as purpose
-use Rattle.flash_cgi.specs.declared.doing.Doing.{Doing}
-use Rattle.flash_cgi.specs.declared.doing.Doing.TheVariants as doing
-use Rattle.flash_cgi.specs.declared.doing.Step.{Step}
+use Rattle.flash_cgi.specs.declared.phase.Purpose.{Purpose}
+use Rattle.flash_cgi.specs.declared.phase.Purpose.TheVariants as purpose
+use Rattle.flash_cgi.specs.declared.phase.Doing.{Doing}
+use Rattle.flash_cgi.specs.declared.phase.Doing.TheVariants as doing
+use Rattle.flash_cgi.specs.declared.phase.Step.{Step}
 use Rattle.flash_cgi.proofs.Feeding.{rest-cons, rest-nil, at_step, file-same}
 
 pub content-same : (m n : State) (k : ℕ) → n.slots ≡ m.slots → content n k ≡ content m k

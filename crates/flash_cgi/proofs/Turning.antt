@@ -29,11 +29,11 @@ use Rattle.flash_cgi.specs.Feeds.{Feeds, ComesTo, FeedsOn, settled, Needs}
 use Rattle.flash_cgi.specs.Outcomes.{AreFiles, OutcomesAreTrue, SettlesTruly, outcomes_in, to_come, ReadsNamed}
 use Rattle.flash_cgi.specs.Taking.{HasJob, Begins, JobsAreTaken}
 use Rattle.flash_cgi.specs.Turns.{IsFree, is_given, Awaits, or_again, filed_step, RunsJob, outcomes_to_come, ReadsItsFile, GoesOn, IsOver, TurnsFeed}
-use Rattle.flash_cgi.specs.declared.doing.Doing.{Doing}
-use Rattle.flash_cgi.specs.declared.doing.Doing.TheVariants as doing
-use Rattle.flash_cgi.specs.declared.doing.Standing.{Standing}
-use Rattle.flash_cgi.specs.declared.doing.Standing.TheVariants as standing
-use Rattle.flash_cgi.specs.declared.doing.Step.{Step}
+use Rattle.flash_cgi.specs.declared.phase.Doing.{Doing}
+use Rattle.flash_cgi.specs.declared.phase.Doing.TheVariants as doing
+use Rattle.flash_cgi.specs.declared.phase.Standing.{Standing}
+use Rattle.flash_cgi.specs.declared.phase.Standing.TheVariants as standing
+use Rattle.flash_cgi.specs.declared.phase.Step.{Step}
 use Rattle.flash_cgi.specs.declared.worker.Worker.{Worker}
 use Rattle.flash_cgi.proofs.Taking.{awaits_still}
 use Rattle.flash_cgi.proofs.Truly.{plain}

@@ -18,11 +18,11 @@ use Rattle.flash_cgi.specs.Job.{Task, job_of}
 use Rattle.flash_cgi.specs.Working.{call_at, doing_call, told, bytes_at}
 use Rattle.flash_cgi.specs.Works.{works, works_as, files, goes_on, takes, with_job, worker_turns}
 use Rattle.flash_cgi.specs.Waiting.{IsStuck, IsRefused, HasWaited, WaitingIsEmpty, is_over}
-use Rattle.flash_cgi.specs.declared.doing.Doing.{Doing}
-use Rattle.flash_cgi.specs.declared.doing.Doing.TheVariants as doing
-use Rattle.flash_cgi.specs.declared.doing.Standing.{Standing}
-use Rattle.flash_cgi.specs.declared.doing.Standing.TheVariants as standing
-use Rattle.flash_cgi.specs.declared.doing.Step.{Step}
+use Rattle.flash_cgi.specs.declared.phase.Doing.{Doing}
+use Rattle.flash_cgi.specs.declared.phase.Doing.TheVariants as doing
+use Rattle.flash_cgi.specs.declared.phase.Standing.{Standing}
+use Rattle.flash_cgi.specs.declared.phase.Standing.TheVariants as standing
+use Rattle.flash_cgi.specs.declared.phase.Step.{Step}
 use Rattle.flash_cgi.specs.declared.worker.Worker.{Worker}
 
 -- a call that it makes is the one that it is at, unless its job pipe has ended

@@ -14,8 +14,8 @@ use Rattle.iol_proc.specs.declared.process.Turn.TheVariants as turn
 use Rattle.flash_cgi.specs.Working.{bytes_at}
 use Rattle.flash_cgi.specs.Works.{works}
 use Rattle.flash_cgi.specs.Waiting.{is_over}
-use Rattle.flash_cgi.specs.declared.doing.Doing.TheVariants as doing
-use Rattle.flash_cgi.specs.declared.doing.Standing.TheVariants as standing
+use Rattle.flash_cgi.specs.declared.phase.Doing.TheVariants as doing
+use Rattle.flash_cgi.specs.declared.phase.Standing.TheVariants as standing
 use Rattle.flash_cgi.specs.declared.worker.Worker.{Worker}
 
 -- it waited for a job, and read no bytes

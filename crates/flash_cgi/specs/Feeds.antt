@@ -15,11 +15,11 @@ use Rattle.flash_cgi.specs.Output.{Outcome, Found, Failed, output, by_first, cat
 use Rattle.flash_cgi.specs.Working.{said_text, bytes_at, call_at, told}
 use Rattle.flash_cgi.specs.declared.line.Line.{Line}
 use Rattle.flash_cgi.specs.declared.line.Line.TheVariants as line
-use Rattle.flash_cgi.specs.declared.doing.Purpose.{Purpose}
-use Rattle.flash_cgi.specs.declared.doing.Purpose.TheVariants as purpose
-use Rattle.flash_cgi.specs.declared.doing.Doing.{Doing}
-use Rattle.flash_cgi.specs.declared.doing.Doing.TheVariants as doing
-use Rattle.flash_cgi.specs.declared.doing.Step.{Step}
+use Rattle.flash_cgi.specs.declared.phase.Purpose.{Purpose}
+use Rattle.flash_cgi.specs.declared.phase.Purpose.TheVariants as purpose
+use Rattle.flash_cgi.specs.declared.phase.Doing.{Doing}
+use Rattle.flash_cgi.specs.declared.phase.Doing.TheVariants as doing
+use Rattle.flash_cgi.specs.declared.phase.Step.{Step}
 
 -- ---- what it is still to write
 

@@ -2,7 +2,7 @@
 use Rattle.std.specs.Prelude.{◌≡◌, ℕ, Bool, List, [], ◌∷◌, ◌++◌, length, map, nat_le, nat_lt, Option, Some, None, if◌then◌else◌}
 use Rattle.flash_cgi.specs.declared.line.Line.{Line}
 use Rattle.flash_cgi.specs.declared.line.Line.TheVariants.{Emit, Query}
-use Rattle.flash_cgi.specs.declared.gathering.TheConstants.{MAX_QUERY_BYTES, MAX_TEXT_BYTES}
+use Rattle.flash_cgi.specs.declared.gather.TheConstants.{MAX_QUERY_BYTES, MAX_TEXT_BYTES}
 
 -- a line that puts out a short query is a text like any other
 abbrev pub as_text : (query : List ℕ) → Line → Line

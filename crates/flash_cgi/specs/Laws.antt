@@ -7,7 +7,7 @@ use Rattle.flash_cgi.specs.Job.{job_text, job_of, task_of}
 use Rattle.flash_cgi.specs.Outcomes.{outcomes_in}
 use Rattle.flash_cgi.specs.Output.{Outcome, output}
 use Rattle.flash_cgi.specs.Working.{line_text}
-use Rattle.flash_cgi.specs.declared.gathering.TheConstants.{MAX_TEXT_BYTES}
+use Rattle.flash_cgi.specs.declared.gather.TheConstants.{MAX_TEXT_BYTES}
 use Rattle.flash_cgi.specs.declared.line.Line.{Line}
 use Rattle.flash_cgi.specs.declared.line.Line.TheVariants.{Emit}
 

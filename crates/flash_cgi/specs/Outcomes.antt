@@ -19,9 +19,9 @@ use Rattle.flash_cgi.specs.Working.{call_at, told}
 use Rattle.flash_cgi.specs.Feeds.{Feeds, settled}
 use Rattle.flash_cgi.specs.declared.line.Line.{Line}
 use Rattle.flash_cgi.specs.declared.line.Line.TheVariants as line
-use Rattle.flash_cgi.specs.declared.doing.Doing.{Doing}
-use Rattle.flash_cgi.specs.declared.doing.Doing.TheVariants as doing
-use Rattle.flash_cgi.specs.declared.doing.Step.{Step}
+use Rattle.flash_cgi.specs.declared.phase.Doing.{Doing}
+use Rattle.flash_cgi.specs.declared.phase.Doing.TheVariants as doing
+use Rattle.flash_cgi.specs.declared.phase.Step.{Step}
 
 -- the outcome of a file for a domain
 abbrev pub outcome_of : State → (d : ℕ) → Option ℕ → Outcome

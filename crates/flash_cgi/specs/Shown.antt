@@ -20,8 +20,8 @@ use Rattle.flash_cgi.specs.Beside.{is_call_of}
 use Rattle.flash_cgi.specs.Output.{Outcome}
 use Rattle.flash_cgi.specs.Turns.{IsFree, RunsJob, step_of}
 use Rattle.flash_cgi.specs.Works.{worker_turns}
-use Rattle.flash_cgi.specs.declared.doing.Doing.{Doing}
-use Rattle.flash_cgi.specs.declared.doing.Doing.TheVariants as doing
+use Rattle.flash_cgi.specs.declared.phase.Doing.{Doing}
+use Rattle.flash_cgi.specs.declared.phase.Doing.TheVariants as doing
 use Rattle.flash_cgi.specs.declared.worker.Worker.{Worker}
 
 -- the pools are those of all files that the domain may read, and the one that a pause sets

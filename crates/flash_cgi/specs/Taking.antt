@@ -15,7 +15,7 @@ use Rattle.flash_cgi.specs.Gathered.{gathered}
 use Rattle.flash_cgi.specs.Output.{Outcome, output}
 use Rattle.flash_cgi.specs.Feeds.{Feeds}
 use Rattle.flash_cgi.specs.declared.line.Line.{Line}
-use Rattle.flash_cgi.specs.declared.doing.Doing.TheVariants as doing
+use Rattle.flash_cgi.specs.declared.phase.Doing.TheVariants as doing
 
 -- A job waits for the worker in domain d, in pipe j: the text of this script with this query, whose output goes to pipe p.
 pub record HasJob (m : State) (d j p fd : ℕ) (query script : List ℕ) (lines : List Line) : Type 0 where

@@ -4,11 +4,11 @@ use Rattle.iol_core.specs.declared.events.Reply.{Reply}
 use Rattle.iol_core.specs.declared.events.Reply.TheVariants as reply
 use Rattle.flash_cgi.specs.Job.{Task}
 use Rattle.flash_cgi.specs.Working.{bytes_at, told}
-use Rattle.flash_cgi.specs.declared.doing.Doing.{Doing}
-use Rattle.flash_cgi.specs.declared.doing.Doing.TheVariants as doing
-use Rattle.flash_cgi.specs.declared.doing.Standing.{Standing}
-use Rattle.flash_cgi.specs.declared.doing.Standing.TheVariants as standing
-use Rattle.flash_cgi.specs.declared.doing.Step.{Step}
+use Rattle.flash_cgi.specs.declared.phase.Doing.{Doing}
+use Rattle.flash_cgi.specs.declared.phase.Doing.TheVariants as doing
+use Rattle.flash_cgi.specs.declared.phase.Standing.{Standing}
+use Rattle.flash_cgi.specs.declared.phase.Standing.TheVariants as standing
+use Rattle.flash_cgi.specs.declared.phase.Step.{Step}
 use Rattle.flash_cgi.specs.declared.line.Line.{Line}
 use Rattle.flash_cgi.specs.declared.line.Line.TheVariants as line
 use Rattle.flash_cgi.specs.declared.worker.Worker.{Worker}

@@ -15,7 +15,7 @@ use std::str;
 pub const MAX_DIGITS: usize = 9;
 
 /// A script that is to be run for a request: where its output goes, the query, and its lines, consecutive
-/// texts as one ([`gathering`](crate::gathering)).
+/// texts as one ([`gathering`](crate::gather)).
 #[derive(Debug, Drop)]
 pub struct Job {
     pub(crate) fd: Fd,

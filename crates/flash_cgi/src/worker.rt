@@ -6,11 +6,11 @@ ghost use Rattle.flash_cgi.specs.Wants as memory;
 ghost use Rattle.flash_cgi.specs.Working as spec;
 ghost use Rattle.flash_cgi.specs.Works as account;
 
-use crate::asking::call_at;
-use crate::counting::text_of;
-use crate::doing::{Doing, Standing, Step};
-use crate::filing::told;
+use crate::calls::call_at;
+use crate::feeds::text_of;
 use crate::jobs::Job;
+use crate::phase::{Doing, Standing, Step};
+use crate::replies::told;
 use iol_core::events::{Call, Reply};
 use iol_core::numbers::AggId;
 use iol_proc::idle::Settling;

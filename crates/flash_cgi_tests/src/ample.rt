@@ -1,6 +1,6 @@
 //! With memory enough no call is refused for want of it; and which texts are scripts.
+use flash_cgi::counts::{Counts, Said};
 use flash_cgi::jobs::{Job, job_text};
-use flash_cgi::saying::{Counts, Said};
 use flash_cgi::script::Script;
 use iol_core::numbers::Fd;
 use iol_core::refusals::Refusal;

@@ -1,7 +1,7 @@
 //! What is served of a folder that is made for the test, and how that ends: what no clause says,
 //! since none speaks of sockets.
-use flash_folder::looping::loop_on;
-use flash_folder::serving::{listen, serve, serve_on};
+use flash_folder::loopback::loop_on;
+use flash_folder::serve::{listen, serve, serve_on};
 use std::io::{Read, Write};
 use std::net::TcpStream;
 use std::test::Fail;

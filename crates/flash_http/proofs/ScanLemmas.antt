@@ -3,9 +3,9 @@ use Rattle.std.proofs.Common.{◌≡◌, ℕ, ◌+◌, ◌<◌, ◌≤◌, ◌==
 use Rattle.std.proofs.lemmas.Bool.Decides.{nat_tests}
 use Rattle.flash_http.specs.declared.windows.Window.{Window}
 use Rattle.flash_http.specs.declared.windows.Window.TheVariants.{Wait, TooLarge}
-use Rattle.flash_http.specs.declared.scanning.Line.{Line}
-use Rattle.flash_http.specs.declared.scanning.Line.TheVariants.{Fresh, Return, Text}
-use Rattle.flash_http.specs.declared.scanning.Scan.{Scan}
+use Rattle.flash_http.specs.declared.scan.Line.{Line}
+use Rattle.flash_http.specs.declared.scan.Line.TheVariants.{Fresh, Return, Text}
+use Rattle.flash_http.specs.declared.scan.Scan.{Scan}
 use Rattle.flash_http.specs.Window.{lines_from, lines, is_empty_line, skip_len, after_skip, head_len, head_in, window_at, window_in}
 use Rattle.flash_http.specs.Scan.{next_line, is_text, found_from, window_from}
 

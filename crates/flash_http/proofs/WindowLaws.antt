@@ -4,8 +4,8 @@ use Rattle.std.specs.Prelude.{◌⊎◌, ◌≢◌, nat_lt, nat_le}
 use Rattle.std.proofs.lemmas.Bool.Decides.{nat_tests}
 use Rattle.flash_http.specs.declared.windows.Window.{Window}
 use Rattle.flash_http.specs.declared.windows.Window.TheVariants.{Wait, Head, TooLarge}
-use Rattle.flash_http.specs.declared.scanning.Line.{Line}
-use Rattle.flash_http.specs.declared.scanning.Line.TheVariants.{Fresh}
+use Rattle.flash_http.specs.declared.scan.Line.{Line}
+use Rattle.flash_http.specs.declared.scan.Line.TheVariants.{Fresh}
 use Rattle.flash_http.specs.Window.{window_at, no_head, window_in, FitsIn, WindowsStay}
 use Rattle.flash_http.specs.Scan.{next_line, is_text, found_from}
 use Rattle.flash_http.proofs.ScanLemmas.{window_start, found_beyond}

@@ -1,9 +1,9 @@
 -- The search for a head byte by byte, as the code goes: not needed to understand what a window is.
 use Rattle.std.specs.Prelude.{◌≡◌, ℕ, ◌+◌, ◌==◌, Bool, true, false, List, [], ◌∷◌, ◌++◌, length, Option, Some, None, if◌then◌else◌}
 use Rattle.flash_http.specs.declared.windows.Window.{Window}
-use Rattle.flash_http.specs.declared.scanning.Line.{Line}
-use Rattle.flash_http.specs.declared.scanning.Line.TheVariants.{Fresh, Return, Text}
-use Rattle.flash_http.specs.declared.scanning.Scan.{Scan}
+use Rattle.flash_http.specs.declared.scan.Line.{Line}
+use Rattle.flash_http.specs.declared.scan.Line.TheVariants.{Fresh, Return, Text}
+use Rattle.flash_http.specs.declared.scan.Scan.{Scan}
 use Rattle.flash_http.specs.Window.{window_at}
 
 abbrev pub next_line : Line → ℕ → Line

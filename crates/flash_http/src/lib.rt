@@ -18,7 +18,7 @@ mod names;
 mod ranges;
 mod requests;
 mod responses;
-mod scanning;
+mod scan;
 mod targets;
 mod windows;
 
@@ -28,5 +28,5 @@ pub use names::MediaType;
 pub use ranges::{Selection, select, selections_lie_within};
 pub use requests::{Asked, Part, Request};
 pub use responses::{ContentRange, Framing, ResponseHead, error_body};
-pub use scanning::{window, window_fits, window_of, window_stays};
+pub use scan::{window, window_fits, window_of, window_stays};
 pub use windows::{MAX_HEAD_BYTES, Window};

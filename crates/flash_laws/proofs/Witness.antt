@@ -29,7 +29,7 @@ use Rattle.flash_cgi.specs.Outcomes.{AreFiles}
 use Rattle.flash_cgi.specs.Output as script
 use Rattle.flash_laws.specs.Answers.{Found, Failed}
 use Rattle.flash_laws.specs.Conn.{most_read}
-use Rattle.flash_laws.specs.declared.doing.Flight.TheVariants.{Accepting}
+use Rattle.flash_laws.specs.declared.phase.Flight.TheVariants.{Accepting}
 use Rattle.flash_laws.specs.Workers.Crew.{Crew, IsFixedFor}
 use Rattle.flash_laws.specs.Workers.Crews.{crew_with, OfSome}
 use Rattle.flash_laws.specs.Serves.{new_server}

@@ -22,13 +22,13 @@ use Rattle.flash_laws.specs.Conn.Policy as policy
 use Rattle.flash_laws.specs.Run as running
 use Rattle.flash_laws.specs.Run.{is_over}
 use Rattle.flash_laws.specs.Site.Tied.{left_by}
-use Rattle.flash_laws.specs.declared.doing.Learnt.TheVariants.{Text}
-use Rattle.flash_laws.specs.declared.doing.Content.TheVariants.{Script}
-use Rattle.flash_laws.specs.declared.doing.Doing.{Doing}
-use Rattle.flash_laws.specs.declared.doing.Doing.TheVariants as doing
-use Rattle.flash_laws.specs.declared.running.Step.TheVariants.{Gives, Makes}
-use Rattle.flash_laws.specs.declared.running.Running.{Running}
-use Rattle.flash_laws.specs.declared.running.Running.TheVariants.{Awaits, Runs, Leaves}
+use Rattle.flash_laws.specs.declared.phase.Learnt.TheVariants.{Text}
+use Rattle.flash_laws.specs.declared.phase.Content.TheVariants.{Script}
+use Rattle.flash_laws.specs.declared.phase.Doing.{Doing}
+use Rattle.flash_laws.specs.declared.phase.Doing.TheVariants as doing
+use Rattle.flash_laws.specs.declared.run.Step.TheVariants.{Gives, Makes}
+use Rattle.flash_laws.specs.declared.run.Running.{Running}
+use Rattle.flash_laws.specs.declared.run.Running.TheVariants.{Awaits, Runs, Leaves}
 
 pub record Client : Type 0 where
   -- its connection; while a script runs, its phase stands still

@@ -16,8 +16,8 @@ use Rattle.flash_laws.specs.Client.{Client, wants, Readies}
 use Rattle.flash_laws.specs.Site.Places.{has_free, may_go, runs_scripts, filed}
 use Rattle.flash_laws.specs.Site.{server}
 use Rattle.flash_laws.specs.Site.Tied.{with_at}
-use Rattle.flash_laws.specs.declared.doing.Flight.{Flight}
-use Rattle.flash_laws.specs.declared.doing.Flight.TheVariants.{Nothing, Accepting, At}
+use Rattle.flash_laws.specs.declared.phase.Flight.{Flight}
+use Rattle.flash_laws.specs.declared.phase.Flight.TheVariants.{Nothing, Accepting, At}
 
 -- what the server keeps: the client at each of its descriptors, which call is out, and how many workers run scripts for it
 pub record Server : Type 0 where

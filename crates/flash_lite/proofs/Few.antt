@@ -12,8 +12,8 @@ use Rattle.flash_laws.specs.Conn.Policy.{door, flight_to, most_conns}
 use Rattle.flash_laws.specs.Serves.Rounds.{next_flight, next_place, place_after}
 use Rattle.flash_laws.specs.Serves.{Picks}
 use Rattle.flash_laws.specs.Site.Tied.{with_at}
-use Rattle.flash_laws.specs.declared.doing.Flight.{Flight}
-use Rattle.flash_laws.specs.declared.doing.Flight.TheVariants.{Nothing, Accepting, At}
+use Rattle.flash_laws.specs.declared.phase.Flight.{Flight}
+use Rattle.flash_laws.specs.declared.phase.Flight.TheVariants.{Nothing, Accepting, At}
 use Rattle.flash_lite.specs.Few.{most_in, IsFew}
 use Rattle.flash_lite.proofs.Places.{at_within, taken_kept, within}
 

@@ -17,10 +17,10 @@ use Rattle.flash_laws.specs.Serves.Rounds.{goes_in, leaves_off, flight_from, pla
 use Rattle.flash_laws.specs.Serves.Rounds.{next_in}
 use Rattle.flash_laws.specs.Serves.{Picks}
 use Rattle.flash_laws.specs.Site.Tied.{with_at, left_by}
-use Rattle.flash_laws.specs.declared.doing.Doing.{Doing}
-use Rattle.flash_laws.specs.declared.doing.Doing.TheVariants.{Rests, Got, Opens, Reads, Shuts, Picks as Picking, Spares, Heads, Joins, Sends, Cuts, Offers, Swaps, Sent, Breaks, Drops, Closes, Over}
-use Rattle.flash_laws.specs.declared.doing.Flight.{Flight}
-use Rattle.flash_laws.specs.declared.doing.Flight.TheVariants.{Nothing, Accepting, At}
+use Rattle.flash_laws.specs.declared.phase.Doing.{Doing}
+use Rattle.flash_laws.specs.declared.phase.Doing.TheVariants.{Rests, Got, Opens, Reads, Shuts, Picks as Picking, Spares, Heads, Joins, Sends, Cuts, Offers, Swaps, Sent, Breaks, Drops, Closes, Over}
+use Rattle.flash_laws.specs.declared.phase.Flight.{Flight}
+use Rattle.flash_laws.specs.declared.phase.Flight.TheVariants.{Nothing, Accepting, At}
 use Rattle.flash_lite.specs.Course.{left_with, remains}
 use Rattle.flash_lite.specs.Turning.{AtDoor, Makes, PicksFrom, door_to, ends, flight_by, left_as, left_at, most_with}
 use Rattle.flash_lite.specs.declared.client.Left.{Left}

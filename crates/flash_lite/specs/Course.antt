@@ -11,13 +11,13 @@ use Rattle.flash_laws.specs.Conn.{most_read, is_head_only}
 use Rattle.flash_laws.specs.Serves.Rounds.{leaves_off}
 use Rattle.flash_laws.specs.Run as running
 use Rattle.flash_laws.specs.Run.{is_over}
-use Rattle.flash_laws.specs.declared.doing.Content.{Content}
-use Rattle.flash_laws.specs.declared.doing.Content.TheVariants.{Script}
-use Rattle.flash_laws.specs.declared.doing.Learnt.TheVariants.{Text}
-use Rattle.flash_laws.specs.declared.doing.Doing.{Doing}
-use Rattle.flash_laws.specs.declared.doing.Doing.TheVariants.{Reads, Shuts, Spares, Heads}
-use Rattle.flash_laws.specs.declared.running.Running.{Running}
-use Rattle.flash_laws.specs.declared.running.Running.TheVariants.{Awaits}
+use Rattle.flash_laws.specs.declared.phase.Content.{Content}
+use Rattle.flash_laws.specs.declared.phase.Content.TheVariants.{Script}
+use Rattle.flash_laws.specs.declared.phase.Learnt.TheVariants.{Text}
+use Rattle.flash_laws.specs.declared.phase.Doing.{Doing}
+use Rattle.flash_laws.specs.declared.phase.Doing.TheVariants.{Reads, Shuts, Spares, Heads}
+use Rattle.flash_laws.specs.declared.run.Running.{Running}
+use Rattle.flash_laws.specs.declared.run.Running.TheVariants.{Awaits}
 use Rattle.flash_lite.specs.Onward as conn
 use Rattle.flash_lite.specs.Runs.{IsSmallRunning, run_worker}
 use Rattle.flash_lite.specs.declared.client.Course.{Course}

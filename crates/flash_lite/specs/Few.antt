@@ -1,8 +1,8 @@
 -- How many connections the server holds.
 use Rattle.std.specs.Prelude.{ℕ, ◌≤◌, List, Option}
 use Rattle.iol_core.specs.Numbered.{taken}
-use Rattle.flash_laws.specs.declared.doing.Flight.{Flight}
-use Rattle.flash_laws.specs.declared.doing.Flight.TheVariants.{Nothing, Accepting, At}
+use Rattle.flash_laws.specs.declared.phase.Flight.{Flight}
+use Rattle.flash_laws.specs.declared.phase.Flight.TheVariants.{Nothing, Accepting, At}
 
 -- at most 256, and one fewer while another is being accepted
 abbrev pub most_in : Flight → ℕ

@@ -10,7 +10,7 @@ use Rattle.flash_laws.specs.Client.Offering.{taken_by, HandsJob}
 use Rattle.flash_laws.specs.Client.Known.{Known, HasKnown, IsNextOf}
 use Rattle.flash_laws.specs.Site.Places.{runs_scripts}
 use Rattle.flash_laws.specs.Serves.{Server}
-use Rattle.flash_laws.specs.declared.doing.Flight.TheVariants.{At}
+use Rattle.flash_laws.specs.declared.phase.Flight.TheVariants.{At}
 
 -- What it writes it writes to the connection of the client that it picked, and that is the next bytes of the response to the
 -- request in progress, with what is known of it; or it writes the job of that client's script to a worker. So it is over any

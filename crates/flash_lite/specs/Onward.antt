@@ -4,8 +4,8 @@ use Rattle.iol_core.specs.declared.events.Reply.{Reply}
 use Rattle.flash_laws.specs.Conn.{Conn, told, wants, Starts, Readies, IsAwaiting}
 use Rattle.flash_laws.specs.Conn.Policy.{is_later, is_bare, leaves_off}
 use Rattle.flash_laws.specs.Site.Tied.{left_over}
-use Rattle.flash_laws.specs.declared.doing.Doing.{Doing}
-use Rattle.flash_laws.specs.declared.doing.Doing.TheVariants.{Rests, Over}
+use Rattle.flash_laws.specs.declared.phase.Doing.{Doing}
+use Rattle.flash_laws.specs.declared.phase.Doing.TheVariants.{Rests, Over}
 use Rattle.flash_lite.specs.Small.{IsSmall}
 use Rattle.flash_lite.specs.declared.conn.Onward.{Onward}
 use Rattle.flash_lite.specs.declared.conn.Onward.TheVariants.{Asks, Leaves}

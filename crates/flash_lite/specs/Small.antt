@@ -6,9 +6,9 @@ use Rattle.iol_core.specs.declared.events.Call.TheVariants as call
 use Rattle.iol_core.specs.declared.limits.TheConstants.{MAX_AGGREGATE_BYTES}
 use Rattle.flash_http.specs.Request.{Answer, serve, refuse}
 use Rattle.flash_laws.specs.Conn.{Following, text_of}
-use Rattle.flash_laws.specs.declared.doing.Content.TheVariants.{Error}
-use Rattle.flash_laws.specs.declared.doing.Doing.{Doing}
-use Rattle.flash_laws.specs.declared.doing.Doing.TheVariants.{Joins, Sends, Cuts, Offers, Swaps, Sent}
+use Rattle.flash_laws.specs.declared.phase.Content.TheVariants.{Error}
+use Rattle.flash_laws.specs.declared.phase.Doing.{Doing}
+use Rattle.flash_laws.specs.declared.phase.Doing.TheVariants.{Joins, Sends, Cuts, Offers, Swaps, Sent}
 
 abbrev pub size_of : Following → ℕ
 size_of None = 0

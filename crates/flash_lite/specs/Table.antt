@@ -4,7 +4,7 @@ use Rattle.flash_laws.specs.Client.{Client}
 use Rattle.flash_laws.specs.Site.Places.{NoneRuns, is_free}
 use Rattle.flash_laws.specs.Serves.{Server}
 use Rattle.flash_laws.specs.Workers.Sharing.{IsShared}
-use Rattle.flash_laws.specs.declared.doing.Flight.{Flight}
+use Rattle.flash_laws.specs.declared.phase.Flight.{Flight}
 use Rattle.flash_lite.specs.Few.{IsFew}
 use Rattle.flash_lite.specs.declared.site.TheConstants.{MAX_WORKERS}
 

@@ -11,9 +11,9 @@ use Rattle.flash_laws.specs.Client.{Client, told, wants, Readies}
 use Rattle.flash_laws.specs.Site.Places.{filed}
 use Rattle.flash_laws.specs.Serves.Rounds.{in_rounds, next_in}
 use Rattle.flash_laws.specs.Serves.{Picks}
-use Rattle.flash_laws.specs.declared.doing.Doing.TheVariants.{Over}
-use Rattle.flash_laws.specs.declared.doing.Flight.{Flight}
-use Rattle.flash_laws.specs.declared.doing.Flight.TheVariants.{Nothing, Accepting, At}
+use Rattle.flash_laws.specs.declared.phase.Doing.TheVariants.{Over}
+use Rattle.flash_laws.specs.declared.phase.Flight.{Flight}
+use Rattle.flash_laws.specs.declared.phase.Flight.TheVariants.{Nothing, Accepting, At}
 use Rattle.flash_lite.specs.Course.{CanRest, IsCourse, left_with, remains, worker_of}
 use Rattle.flash_lite.specs.Table.{Table, TellsFree}
 use Rattle.flash_lite.specs.declared.client.Course.{Course}

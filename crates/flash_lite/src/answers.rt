@@ -6,9 +6,9 @@ ghost use Rattle.flash_lite.specs.Texts as texts;
 ghost use Rattle.flash_laws.specs.Answers as spec;
 ghost use Rattle.flash_laws.specs.Conn as conn;
 
-use crate::running::texts::script_text;
+use crate::run::texts::script_text;
 use flash_http::{Asked, MediaType, Request, ResponseHead, error_body, select};
-use flash_laws::doing::Content;
+use flash_laws::phase::Content;
 use http::StatusCode;
 use std::alloc::{AllocError, Global};
 

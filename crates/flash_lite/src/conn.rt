@@ -7,19 +7,17 @@ ghost use Rattle.flash_http.specs.Window.{window_in};
 ghost use Rattle.flash_laws.specs.Conn as spec;
 ghost use Rattle.flash_laws.specs.Conn.Policy.{is_later, is_bare};
 ghost use Rattle.flash_laws.specs.Conn.Wanting.{WantsOn, can_begin, has_bytes};
-ghost use Rattle.flash_laws.specs.declared.doing.Doing.TheVariants.{Rests, Over};
+ghost use Rattle.flash_laws.specs.declared.phase.Doing.TheVariants.{Rests, Over};
 ghost use Rattle.flash_lite.specs.Heard.{heard};
 ghost use Rattle.flash_lite.specs.Onward.{IsOnward, Frees, GoesWith, CanRest, is_over};
 ghost use Rattle.flash_lite.specs.Small.{IsSmall};
 
-use crate::asking::{cut_call, first_call, join_call, make_call, open_call, read_call};
-use crate::finding::{
-    begins, told_got, told_opens, told_picks, told_reads, told_shuts, told_spares,
-};
+use crate::calls::{cut_call, first_call, join_call, make_call, open_call, read_call};
+use crate::find::{begins, told_got, told_opens, told_picks, told_reads, told_shuts, told_spares};
 use crate::heard::append;
-use crate::sending::{told_closes, told_drops, told_heads, told_joins, told_part, told_sent};
+use crate::send::{told_closes, told_drops, told_heads, told_joins, told_part, told_sent};
 use flash_http::{Asked, MAX_HEAD_BYTES, Window, read_head, window_of};
-use flash_laws::doing::Doing;
+use flash_laws::phase::Doing;
 use http::StatusCode;
 use iol_agg::Parts;
 use iol_core::events::{Call, Reply};

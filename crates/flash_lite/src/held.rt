@@ -13,9 +13,9 @@ ghost use Rattle.flash_lite.specs.Order.{CanNote, goers};
 ghost use Rattle.flash_lite.specs.Turning.{CallAt, CourseIn, MayRest, left_at, worker_at};
 ghost use Rattle.flash_lite.specs.declared.site.TheConstants.{MAX_WORKERS};
 
-use crate::ascending::{first_from, mark};
 use crate::client::{Client, Course, Left};
-use crate::picking::ends;
+use crate::pick::ends;
+use crate::place_list::{first_from, mark};
 use iol_agg::Parts;
 use iol_core::events::{Call, Reply};
 use iol_core::numbers::Fd;

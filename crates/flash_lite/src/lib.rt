@@ -13,21 +13,21 @@
 
 pub mod actor;
 mod answers;
-mod ascending;
-mod asking;
+mod calls;
 pub mod client;
 pub mod conn;
-mod finding;
+mod find;
 mod heard;
 mod held;
-mod hired;
 pub mod host;
 pub mod laws;
-mod picking;
-mod running;
+mod pick;
+mod place_list;
+mod run;
 mod scripts;
-mod sending;
+mod send;
 pub mod server;
 pub mod setup;
 pub mod site;
 mod table;
+mod workers;

@@ -8,10 +8,10 @@ ghost use Rattle.flash_laws.specs.Client as spec;
 ghost use Rattle.flash_lite.specs.Course as course;
 ghost use Rattle.flash_lite.specs.Heard.{heard};
 
-use crate::asking::MAX_READ_BYTES;
+use crate::calls::MAX_READ_BYTES;
 use flash_cgi::script::{MAX_SCRIPT_BYTES, Script};
 use flash_http::Asked;
-use flash_laws::doing::{Content, Doing};
+use flash_laws::phase::{Content, Doing};
 use iol_agg::Parts;
 use iol_core::events::{Call, Reply};
 use iol_core::numbers::{AggId, Fd};

@@ -5,7 +5,7 @@ use Rattle.std.specs.Prelude.{nat_lt, Result, Ok, Err, OnOk, OnErr}
 use Rattle.std.specs.List.{remove}
 use Rattle.iol_listen.specs.Waiting.{Awaited, to_come, Joined, Gives, not_too_long}
 use Rattle.iol_listen.specs.declared.bounds.TheConstants.{MAX_LOOKS}
-use Rattle.iol_listen.specs.declared.waiting.Waiting.{Waiting}
+use Rattle.iol_listen.specs.declared.queue.Waiting.{Waiting}
 
 replicate-more : (n x : ℕ) → replicate n x ++ x ∷ [] ≡ replicate (n + 1) x
 replicate-more zero x = refl

@@ -5,7 +5,7 @@ ghost use Rattle.std.specs.Io.KnownBytes.{Keeps, ReadConsumes};
 
 use crate::bounds::{BEGUN_LOOKS, LOOK_MILLIS, MAX_ANSWERS, MAX_LOOKS, SEND_MILLIS};
 use crate::outbox::Talk;
-use crate::waiting::Queue;
+use crate::queue::Queue;
 use std::io;
 use std::io::{ErrorKind, Read};
 use std::net::TcpStream;

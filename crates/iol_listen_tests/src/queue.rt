@@ -1,6 +1,6 @@
 //! Which connection a queue gives next, and how many it keeps.
 use iol_listen::bounds::MAX_WAITING;
-use iol_listen::waiting::Queue;
+use iol_listen::queue::Queue;
 use std::alloc::{AllocError, Global};
 use std::io;
 use std::io::Write;

@@ -11,14 +11,14 @@
 //!     let idle = world.until_idle(65536);
 #![tactic(auto)]
 
-mod borrowed;
 pub mod choice;
 pub mod idle;
+mod in_place;
 pub mod laws;
 pub mod look;
 pub mod process;
 mod replies;
 mod rounds;
 pub mod seat;
-mod turning;
+mod turn;
 pub mod world;

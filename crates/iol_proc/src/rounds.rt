@@ -6,7 +6,7 @@ ghost use Rattle.iol_proc.specs.World.{sharing, domains_of};
 use crate::process::Process;
 use crate::replies::is_would_block;
 use crate::seat::Seat;
-use crate::turning::{Outcome, place_turn};
+use crate::turn::{Outcome, place_turn};
 use iol_back::backing::Backing;
 use iol_system::system::System;
 

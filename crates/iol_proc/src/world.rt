@@ -16,7 +16,7 @@ use crate::look::Look;
 use crate::process::Process;
 use crate::rounds::until_idle;
 use crate::seat::Seat;
-use crate::turning::place_turn;
+use crate::turn::place_turn;
 use iol_back::backing::Backing;
 use iol_core::events::{Event, Reply};
 use iol_core::numbers::DomainId;

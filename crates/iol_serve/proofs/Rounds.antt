@@ -6,8 +6,8 @@ use Rattle.iol_serve.specs.Rounds.{after, is_gone, is_last}
 use Rattle.iol_serve.specs.Serving.{HasEnded, hung_up}
 use Rattle.iol_serve.specs.declared.ending.Ending.{Ending}
 use Rattle.iol_serve.specs.declared.ending.Ending.TheVariants as ending
-use Rattle.iol_serve.specs.declared.serving.Step.{Step}
-use Rattle.iol_serve.specs.declared.serving.Step.TheVariants.{Moved, Quiet, Failed, Silent, Stalled, Over}
+use Rattle.iol_serve.specs.declared.serve.Step.{Step}
+use Rattle.iol_serve.specs.declared.serve.Step.TheVariants.{Moved, Quiet, Failed, Silent, Stalled, Over}
 
 pub hung_up-after : (before : Ending) (step : Step) → (hung_up before || is_gone step) ≡ hung_up (after before step)
 hung_up-after ending.Over Moved = refl

@@ -2,8 +2,8 @@
 use Rattle.std.specs.Prelude.{Bool, true, false}
 use Rattle.iol_serve.specs.declared.ending.Ending.{Ending}
 use Rattle.iol_serve.specs.declared.ending.Ending.TheVariants as ending
-use Rattle.iol_serve.specs.declared.serving.Step.{Step}
-use Rattle.iol_serve.specs.declared.serving.Step.TheVariants.{Moved, Quiet, Failed, Silent, Stalled, Over}
+use Rattle.iol_serve.specs.declared.serve.Step.{Step}
+use Rattle.iol_serve.specs.declared.serve.Step.TheVariants.{Moved, Quiet, Failed, Silent, Stalled, Over}
 
 -- whether the peer is told to be gone
 abbrev pub is_gone : Step → Bool

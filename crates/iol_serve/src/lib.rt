@@ -1,6 +1,6 @@
 //! Connections of a world, each served from a reader and to a writer.
 //!
-//! [`serve_connection`](serving::serve_connection) gives the world's processes their turns, sends what they write on the
+//! [`serve_connection`](serve::serve_connection) gives the world's processes their turns, sends what they write on the
 //! connection and hands in what its peer says, until the connection is gone or its peer is. Where the store is honest, all of
 //! it is a run of the world over the copying machine, in which nothing happens to any other connection, what comes in is
 //! what the reader gave, and what is sent is what the writer took (`Serves`).
@@ -11,4 +11,4 @@
 
 pub mod ending;
 pub mod laws;
-pub mod serving;
+pub mod serve;

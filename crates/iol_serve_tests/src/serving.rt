@@ -2,7 +2,7 @@
 use crate::echoing::{Echoing, echoing};
 use iol_core::refusals::Refusal;
 use iol_serve::ending::Ending;
-use iol_serve::serving::serve_connection;
+use iol_serve::serve::serve_connection;
 use std::alloc::Global;
 use std::test::Fail;
 use test_parts::checks::{pass, pass_each};

@@ -21,7 +21,7 @@
 #![tactic(auto)]
 
 pub mod aggregates;
-mod borrowed;
+mod in_place;
 pub mod laws;
 mod replies;
 mod step;

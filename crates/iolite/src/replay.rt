@@ -8,10 +8,10 @@ ghost use Rattle.iolite.specs.Printed.{answer_text, newline};
 ghost use Rattle.iolite.specs.Script.{AsksSomething, HasBadLine, IsBadScript, IsScriptText, IsWholeOrTooLong, asking, commands, lines};
 
 use crate::failure::Failure;
-use crate::printed::{Printed, PrintedReport};
+use crate::lines::{Printed, PrintedReport};
+use crate::output::{BUFFER_BYTES, finish, gather};
 use crate::script::{Line, is_asking, judge, read_line};
 use crate::setup::Setup;
-use crate::writing::{BUFFER_BYTES, finish, gather};
 use iol_back::faulty::FaultyBacking;
 use iol_back::memory::MemoryBacking;
 use iol_core::configuration::Config;

@@ -15,7 +15,7 @@ use iol_core::refusals::Refusal;
 use iol_proc::choice::Choice;
 use iol_proc::world::World;
 use iol_serve::ending::Ending;
-use iol_serve::serving::serve_connection;
+use iol_serve::serve::serve_connection;
 use iol_sock::{Arrived, Drained};
 use std::alloc::{AllocError, Global};
 use std::io::{Read, Write};

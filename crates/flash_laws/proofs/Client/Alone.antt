@@ -22,10 +22,10 @@ use Rattle.flash_laws.specs.Client.{Client, is_for_script, conn_wants, can_run, 
 use Rattle.flash_laws.specs.Client.Offering.{ConnLearns}
 use Rattle.flash_laws.specs.Conn as conn
 use Rattle.flash_laws.specs.Conn.{Conn, most_read, status_of}
-use Rattle.flash_laws.specs.declared.doing.Learnt.TheVariants.{Text as TextOf}
-use Rattle.flash_laws.specs.declared.doing.Content.TheVariants.{Script}
-use Rattle.flash_laws.specs.declared.doing.Doing.{Doing}
-use Rattle.flash_laws.specs.declared.doing.Doing.TheVariants.{Rests, Got, Opens, Reads as Reading, Shuts, Spares, Heads, Breaks, Drops, Closes}
+use Rattle.flash_laws.specs.declared.phase.Learnt.TheVariants.{Text as TextOf}
+use Rattle.flash_laws.specs.declared.phase.Content.TheVariants.{Script}
+use Rattle.flash_laws.specs.declared.phase.Doing.{Doing}
+use Rattle.flash_laws.specs.declared.phase.Doing.TheVariants.{Rests, Got, Opens, Reads as Reading, Shuts, Spares, Heads, Breaks, Drops, Closes}
 use Rattle.flash_laws.specs.Conn.Fits.{IsFile, Has, is_closing, Names}
 use Rattle.flash_laws.specs.Client.Known as known
 use Rattle.flash_laws.specs.Client.Known.{Known, OfFile, OfScript, is_read, is_silent, IsAfter, ReadsOn, HasNoRun, HasFile, HasKnown}

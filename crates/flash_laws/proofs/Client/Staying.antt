@@ -10,11 +10,11 @@ use Rattle.flash_laws.specs.Client.Keeping.{HoldsNoOther}
 use Rattle.flash_laws.specs.Client.Offering.{kept_by}
 use Rattle.flash_laws.specs.Conn as conn
 use Rattle.flash_laws.specs.Conn.{Conn, most_read, is_head_only}
-use Rattle.flash_laws.specs.declared.doing.Learnt.TheVariants.{Text as TextOf}
-use Rattle.flash_laws.specs.declared.doing.Content.TheVariants.{Body, Script}
-use Rattle.flash_laws.specs.declared.doing.Doing.{Doing}
-use Rattle.flash_laws.specs.declared.doing.Doing.TheVariants.{Rests, Reads as Reading, Shuts, Spares}
-use Rattle.flash_laws.specs.declared.running.Running.{Running}
+use Rattle.flash_laws.specs.declared.phase.Learnt.TheVariants.{Text as TextOf}
+use Rattle.flash_laws.specs.declared.phase.Content.TheVariants.{Body, Script}
+use Rattle.flash_laws.specs.declared.phase.Doing.{Doing}
+use Rattle.flash_laws.specs.declared.phase.Doing.TheVariants.{Rests, Reads as Reading, Shuts, Spares}
+use Rattle.flash_laws.specs.declared.run.Running.{Running}
 use Rattle.flash_laws.specs.Client.Known.{is_read}
 use Rattle.flash_laws.specs.Run as running
 use Rattle.flash_laws.specs.Run.{is_over}

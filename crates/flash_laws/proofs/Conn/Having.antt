@@ -25,12 +25,12 @@ use Rattle.flash_http.specs.Range.{selected, LiesWithin}
 use Rattle.flash_http.specs.Request.{Answer, serve, refuse, Wanted}
 use Rattle.flash_laws.specs.Answers.{keeps, body_unless, chosen, file_text, unsatisfiable}
 use Rattle.flash_laws.specs.Conn.{Following, has_followed, content_agg, piece_end, count_of, text_of, sends_of, settled, told_shuts, told_picks, told_spares, following, headed, told_heads, told_joins, told_sends, told_cuts, moved_on, told_offers, told_swaps, goes_on, told_sent, told_breaks, drops_next, told_drops}
-use Rattle.flash_laws.specs.declared.doing.Learnt.{Learnt}
-use Rattle.flash_laws.specs.declared.doing.Learnt.TheVariants.{File, Length, Fails, Text as TextOf}
-use Rattle.flash_laws.specs.declared.doing.Content.{Content}
-use Rattle.flash_laws.specs.declared.doing.Content.TheVariants.{Body}
-use Rattle.flash_laws.specs.declared.doing.Doing.{Doing}
-use Rattle.flash_laws.specs.declared.doing.Doing.TheVariants.{Rests, Shuts, Picks, Spares, Heads, Joins, Sends, Cuts, Offers, Swaps, Sent, Breaks, Drops, Closes}
+use Rattle.flash_laws.specs.declared.phase.Learnt.{Learnt}
+use Rattle.flash_laws.specs.declared.phase.Learnt.TheVariants.{File, Length, Fails, Text as TextOf}
+use Rattle.flash_laws.specs.declared.phase.Content.{Content}
+use Rattle.flash_laws.specs.declared.phase.Content.TheVariants.{Body}
+use Rattle.flash_laws.specs.declared.phase.Doing.{Doing}
+use Rattle.flash_laws.specs.declared.phase.Doing.TheVariants.{Rests, Shuts, Picks, Spares, Heads, Joins, Sends, Cuts, Offers, Swaps, Sent, Breaks, Drops, Closes}
 use Rattle.flash_laws.specs.Conn.Fits.{LendsMore, HoldsRest, HoldsUnsent, HasFile, HasLearnt, HasContent, Has, Names}
 use Rattle.flash_laws.specs.Site.{server}
 use Rattle.flash_laws.proofs.Conn.Answering.{some-inj}

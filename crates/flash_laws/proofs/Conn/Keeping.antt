@@ -28,12 +28,12 @@ use Rattle.flash_http.specs.Range.{selected}
 use Rattle.flash_http.specs.Request.{Answer, serve, refuse}
 use Rattle.flash_laws.specs.Answers.{response}
 use Rattle.flash_laws.specs.Conn.{Following, Conn, has_followed, learnt_agg, content_agg, uses_agg, uses_fd, name_of, text_of, is_head_only, most_kept, most_read, piece_end, count_of, wants, sends_of, put_out, settled, following, headed, goes_on, drops_next, told_rests, told}
-use Rattle.flash_laws.specs.declared.doing.Learnt.{Learnt}
-use Rattle.flash_laws.specs.declared.doing.Learnt.TheVariants.{File, Length, Fails, Text as TextOf}
-use Rattle.flash_laws.specs.declared.doing.Content.{Content}
-use Rattle.flash_laws.specs.declared.doing.Content.TheVariants.{Body}
-use Rattle.flash_laws.specs.declared.doing.Doing.{Doing}
-use Rattle.flash_laws.specs.declared.doing.Doing.TheVariants.{Rests, Got, Opens, Reads as Reading, Shuts, Picks, Spares, Heads, Joins, Sends, Cuts, Offers, Swaps, Sent, Breaks, Drops, Closes, Over}
+use Rattle.flash_laws.specs.declared.phase.Learnt.{Learnt}
+use Rattle.flash_laws.specs.declared.phase.Learnt.TheVariants.{File, Length, Fails, Text as TextOf}
+use Rattle.flash_laws.specs.declared.phase.Content.{Content}
+use Rattle.flash_laws.specs.declared.phase.Content.TheVariants.{Body}
+use Rattle.flash_laws.specs.declared.phase.Doing.{Doing}
+use Rattle.flash_laws.specs.declared.phase.Doing.TheVariants.{Rests, Got, Opens, Reads as Reading, Shuts, Picks, Spares, Heads, Joins, Sends, Cuts, Offers, Swaps, Sent, Breaks, Drops, Closes, Over}
 use Rattle.flash_laws.specs.Conn.Fits.{Has}
 use Rattle.flash_laws.specs.Conn.Keeping.{KeepsNothing}
 use Rattle.flash_laws.specs.Site.{server}

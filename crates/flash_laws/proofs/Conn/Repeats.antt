@@ -10,7 +10,7 @@ use Rattle.iol_core.specs.declared.events.Reply.{Reply}
 use Rattle.iol_core.specs.declared.events.Reply.TheVariants as reply
 use Rattle.flash_laws.specs.Conn.Offering.{may_repeat}
 use Rattle.flash_laws.specs.Site.{server}
-use Rattle.flash_laws.specs.declared.doing.Doing.{Doing}
+use Rattle.flash_laws.specs.declared.phase.Doing.{Doing}
 
 -- one of two, and neither is this
 pub either : (b : Bool) (d e f : Doing) → (d ≡ f → ⊥) → (e ≡ f → ⊥) → (if b then d else e) ≡ f → ⊥

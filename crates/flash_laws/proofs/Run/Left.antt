@@ -27,9 +27,9 @@ use Rattle.flash_laws.specs.Conn.Offering.{taken_of, newly_taken, is_dropping}
 use Rattle.flash_laws.specs.Run.Offering.{takes_on, PartLearns}
 use Rattle.flash_laws.specs.Run.{in_phase, is_left}
 use Rattle.flash_laws.specs.Site.{server}
-use Rattle.flash_laws.specs.declared.doing.Content.TheVariants.{Error}
-use Rattle.flash_laws.specs.declared.doing.Doing.{Doing}
-use Rattle.flash_laws.specs.declared.doing.Doing.TheVariants as doing
+use Rattle.flash_laws.specs.declared.phase.Content.TheVariants.{Error}
+use Rattle.flash_laws.specs.declared.phase.Doing.{Doing}
+use Rattle.flash_laws.specs.declared.phase.Doing.TheVariants as doing
 use Rattle.flash_laws.proofs.Conn.Having as having
 use Rattle.flash_laws.proofs.Conn.Lent.{lent-stays}
 use Rattle.flash_laws.proofs.Lists.{self, turned, few-taken}

@@ -27,14 +27,14 @@ use Rattle.flash_laws.specs.Run.Offering.{takes_on, Learns, taken_by, past_of, I
 use Rattle.flash_laws.specs.Run.{worker_domain, job_pipe, held_size, in_phase, wants, broken, told_lets, told_sending, told_spills, told_trims, told_ended, told_unholds, told_trims_last, told_lapses, told_hears, told_stops, told_unframes, told_lasts, told_unwraps, told_fails, finishing, told, is_left, is_over}
 use Rattle.flash_laws.specs.Answers.Scripts.{script_body, script_response}
 use Rattle.flash_laws.specs.Site.{server}
-use Rattle.flash_laws.specs.declared.doing.Doing.{Doing}
-use Rattle.flash_laws.specs.declared.doing.Doing.TheVariants as doing
-use Rattle.flash_laws.specs.declared.running.TheConstants.{CHUNK_BYTES}
-use Rattle.flash_laws.specs.declared.running.Run.{Run}
-use Rattle.flash_laws.specs.declared.running.Step.{Step}
-use Rattle.flash_laws.specs.declared.running.Step.TheVariants.{Gives, Makes, Hands, Lets, Heads, Sending, Hears, Spills, Gathers, Frames, Wraps, Trims, Ended, Unholds, Stops, Unframes, Lasts, WrapsLast, TrimsLast, Unwraps, Returns, Lapses, Fails}
-use Rattle.flash_laws.specs.declared.running.Running.{Running}
-use Rattle.flash_laws.specs.declared.running.Running.TheVariants.{Awaits, Runs, Leaves, Closes}
+use Rattle.flash_laws.specs.declared.phase.Doing.{Doing}
+use Rattle.flash_laws.specs.declared.phase.Doing.TheVariants as doing
+use Rattle.flash_laws.specs.declared.run.TheConstants.{CHUNK_BYTES}
+use Rattle.flash_laws.specs.declared.run.Run.{Run}
+use Rattle.flash_laws.specs.declared.run.Step.{Step}
+use Rattle.flash_laws.specs.declared.run.Step.TheVariants.{Gives, Makes, Hands, Lets, Heads, Sending, Hears, Spills, Gathers, Frames, Wraps, Trims, Ended, Unholds, Stops, Unframes, Lasts, WrapsLast, TrimsLast, Unwraps, Returns, Lapses, Fails}
+use Rattle.flash_laws.specs.declared.run.Running.{Running}
+use Rattle.flash_laws.specs.declared.run.Running.TheVariants.{Awaits, Runs, Leaves, Closes}
 use Rattle.flash_laws.proofs.Client.Phases.{Next, written_fd, next-due}
 use Rattle.flash_laws.proofs.Run.Left as left
 use Rattle.flash_laws.proofs.Run.Left.{is-rest}

@@ -27,15 +27,15 @@ use Rattle.flash_laws.specs.Conn.Offering.{taken_of, newly_taken, is_dropping}
 use Rattle.flash_laws.specs.Run.Offering.{hears_on, takes_on, PartLearns, StepLearns, Learns, taken_by, past_of, breaks_off, IsCutOff, is_failing, IsLost, ComesAfter}
 use Rattle.flash_laws.specs.Run.{worker_domain, job_pipe, held_size, in_phase, step_wants, wants, is_again, told_gives, told_hands, told_sending, told_step, told, is_left, is_over}
 use Rattle.flash_laws.specs.Site.{server}
-use Rattle.flash_laws.specs.declared.doing.Content.TheVariants.{Error}
-use Rattle.flash_laws.specs.declared.doing.Doing.{Doing}
-use Rattle.flash_laws.specs.declared.doing.Doing.TheVariants as doing
-use Rattle.flash_laws.specs.declared.running.TheConstants.{CHUNK_BYTES}
-use Rattle.flash_laws.specs.declared.running.Run.{Run}
-use Rattle.flash_laws.specs.declared.running.Step.{Step}
-use Rattle.flash_laws.specs.declared.running.Step.TheVariants.{Gives, Hands, Sending, Hears, Returns, Lapses, Fails}
-use Rattle.flash_laws.specs.declared.running.Running.{Running}
-use Rattle.flash_laws.specs.declared.running.Running.TheVariants.{Awaits, Runs, Leaves, Closes}
+use Rattle.flash_laws.specs.declared.phase.Content.TheVariants.{Error}
+use Rattle.flash_laws.specs.declared.phase.Doing.{Doing}
+use Rattle.flash_laws.specs.declared.phase.Doing.TheVariants as doing
+use Rattle.flash_laws.specs.declared.run.TheConstants.{CHUNK_BYTES}
+use Rattle.flash_laws.specs.declared.run.Run.{Run}
+use Rattle.flash_laws.specs.declared.run.Step.{Step}
+use Rattle.flash_laws.specs.declared.run.Step.TheVariants.{Gives, Hands, Sending, Hears, Returns, Lapses, Fails}
+use Rattle.flash_laws.specs.declared.run.Running.{Running}
+use Rattle.flash_laws.specs.declared.run.Running.TheVariants.{Awaits, Runs, Leaves, Closes}
 use Rattle.flash_laws.proofs.Conn.Answering.{some-inj}
 use Rattle.flash_laws.proofs.Lists.{clash, not-equal, not-false}
 use Rattle.flash_laws.proofs.Run.Left as left

@@ -5,8 +5,8 @@ use Rattle.std.proofs.lemmas.Bool.Decides.{nat_tests}
 use Rattle.std.proofs.lemmas.Grind.{common_steps}
 use Rattle.iol_core.specs.Numbered.{in_place}
 use Rattle.flash_laws.specs.Site.Tied.{with_at, left_by}
-use Rattle.flash_laws.specs.declared.doing.Doing.{Doing}
-use Rattle.flash_laws.specs.declared.doing.Doing.TheVariants.{Over}
+use Rattle.flash_laws.specs.declared.phase.Doing.{Doing}
+use Rattle.flash_laws.specs.declared.phase.Doing.TheVariants.{Over}
 use Rattle.flash_laws.proofs.Conn.Answering.{some-inj}
 
 -- ---- with one place changed

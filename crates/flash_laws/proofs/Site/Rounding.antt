@@ -9,8 +9,8 @@ use Rattle.flash_laws.specs.Serves.GoesRound.{IsAfter, IsBefore, TurnsGoRound}
 use Rattle.flash_laws.specs.Site.Places.{has_free, may_go}
 use Rattle.flash_laws.specs.Conn.Policy.{most_conns, is_later, door, flight_to}
 use Rattle.flash_laws.specs.Serves.Rounds.{leaves_off, place_after, goes_in, next_place, flight_from, in_rounds}
-use Rattle.flash_laws.specs.declared.doing.Flight.{Flight}
-use Rattle.flash_laws.specs.declared.doing.Flight.TheVariants.{Nothing, Accepting, At}
+use Rattle.flash_laws.specs.declared.phase.Flight.{Flight}
+use Rattle.flash_laws.specs.declared.phase.Flight.TheVariants.{Nothing, Accepting, At}
 use Rattle.flash_laws.proofs.Conn.Answering.{some-inj}
 use Rattle.flash_laws.proofs.Site.Settling.{found}
 use Rattle.flash_laws.proofs.Lists.{neither}

@@ -28,9 +28,9 @@ use Rattle.flash_laws.specs.Serves.Rounds.{leaves_off, goes_in, next_place, flig
 use Rattle.flash_laws.specs.Serves.{Server, heard_of, PicksAt, Picks, filed_in, server_turns}
 use Rattle.flash_laws.specs.World.Tie.{Actor, Serving, Working, actor_goes, actor_turns}
 use Rattle.flash_laws.specs.Site.Tied.{with_at}
-use Rattle.flash_laws.specs.declared.doing.Flight.{Flight}
-use Rattle.flash_laws.specs.declared.doing.Flight.TheVariants.{Nothing, Accepting, At}
-use Rattle.flash_laws.specs.declared.running.Running.{Running}
+use Rattle.flash_laws.specs.declared.phase.Flight.{Flight}
+use Rattle.flash_laws.specs.declared.phase.Flight.TheVariants.{Nothing, Accepting, At}
+use Rattle.flash_laws.specs.declared.run.Running.{Running}
 use Rattle.flash_laws.proofs.Conn.Answering.{some-inj}
 use Rattle.flash_laws.proofs.Site.Blocked.{WaitLaw, none-in, same-there, filed-at, ready-blocked}
 

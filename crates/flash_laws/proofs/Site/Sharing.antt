@@ -20,13 +20,13 @@ use Rattle.flash_laws.specs.Run.{is_over, told_awaits}
 use Rattle.flash_laws.specs.Serves.{heard_of, filed_in, Picks}
 use Rattle.flash_laws.specs.Workers.Sharing.{FlightGoes, RunsForAnother, WorkersAreShared}
 use Rattle.flash_laws.specs.Site.Tied.{with_at}
-use Rattle.flash_laws.specs.declared.doing.Content.TheVariants.{Script}
-use Rattle.flash_laws.specs.declared.doing.Doing.{Doing}
-use Rattle.flash_laws.specs.declared.doing.Doing.TheVariants.{Spares}
-use Rattle.flash_laws.specs.declared.doing.Flight.{Flight}
-use Rattle.flash_laws.specs.declared.doing.Flight.TheVariants.{Nothing, Accepting, At}
-use Rattle.flash_laws.specs.declared.running.Running.{Running}
-use Rattle.flash_laws.specs.declared.running.Running.TheVariants.{Awaits, Runs}
+use Rattle.flash_laws.specs.declared.phase.Content.TheVariants.{Script}
+use Rattle.flash_laws.specs.declared.phase.Doing.{Doing}
+use Rattle.flash_laws.specs.declared.phase.Doing.TheVariants.{Spares}
+use Rattle.flash_laws.specs.declared.phase.Flight.{Flight}
+use Rattle.flash_laws.specs.declared.phase.Flight.TheVariants.{Nothing, Accepting, At}
+use Rattle.flash_laws.specs.declared.run.Running.{Running}
+use Rattle.flash_laws.specs.declared.run.Running.TheVariants.{Awaits, Runs}
 use Rattle.flash_laws.proofs.Forms.{of}
 use Rattle.flash_laws.proofs.Conn.Answering.{some-inj}
 use Rattle.flash_laws.proofs.Site.Clients.{runs-filed, runs-picked}

@@ -11,8 +11,8 @@ use Rattle.flash_laws.specs.Conn.Offering.{taken_of}
 use Rattle.flash_laws.specs.Run.Fits.{Progress}
 use Rattle.flash_laws.specs.Run.Offering.{past_of, taken_by}
 use Rattle.flash_laws.specs.Shelf.{Shelf, due_to, Begins}
-use Rattle.flash_laws.specs.declared.doing.Doing.{Doing}
-use Rattle.flash_laws.specs.declared.running.Running.{Running}
+use Rattle.flash_laws.specs.declared.phase.Doing.{Doing}
+use Rattle.flash_laws.specs.declared.run.Running.{Running}
 use Rattle.flash_laws.proofs.World.Answering.{begins-less, begins-tie, begins-run}
 
 -- ---- what was sent and is to be sent stays, and so does the peer, unless it closes

@@ -20,14 +20,14 @@ use Rattle.flash_laws.specs.Run.Keeping.{has_end}
 use Rattle.flash_laws.specs.Run as running
 use Rattle.flash_laws.specs.Run.{is_left, is_over, in_phase}
 use Rattle.flash_laws.specs.Site.{server}
-use Rattle.flash_laws.specs.declared.doing.Content.TheVariants.{Script}
-use Rattle.flash_laws.specs.declared.doing.Doing.{Doing}
-use Rattle.flash_laws.specs.declared.doing.Doing.TheVariants.{Reads as Reading, Shuts, Spares, Heads, Sends, Cuts, Offers, Swaps, Sent, Breaks, Drops}
-use Rattle.flash_laws.specs.declared.running.Run.{Run}
-use Rattle.flash_laws.specs.declared.running.Step.{Step}
-use Rattle.flash_laws.specs.declared.running.Step.TheVariants as step
-use Rattle.flash_laws.specs.declared.running.Running.{Running}
-use Rattle.flash_laws.specs.declared.running.Running.TheVariants.{Awaits, Runs, Leaves, Closes as Ends}
+use Rattle.flash_laws.specs.declared.phase.Content.TheVariants.{Script}
+use Rattle.flash_laws.specs.declared.phase.Doing.{Doing}
+use Rattle.flash_laws.specs.declared.phase.Doing.TheVariants.{Reads as Reading, Shuts, Spares, Heads, Sends, Cuts, Offers, Swaps, Sent, Breaks, Drops}
+use Rattle.flash_laws.specs.declared.run.Run.{Run}
+use Rattle.flash_laws.specs.declared.run.Step.{Step}
+use Rattle.flash_laws.specs.declared.run.Step.TheVariants as step
+use Rattle.flash_laws.specs.declared.run.Running.{Running}
+use Rattle.flash_laws.specs.declared.run.Running.TheVariants.{Awaits, Runs, Leaves, Closes as Ends}
 use Rattle.flash_laws.proofs.Forms.{at, of}
 use Rattle.flash_laws.proofs.TheLaws.{TheLaws}
 use Rattle.flash_laws.proofs.Conn.Uses.{same-number, no-more, uses-told, uses_fd-told, one-of}

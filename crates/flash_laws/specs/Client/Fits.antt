@@ -27,11 +27,11 @@ use Rattle.flash_laws.specs.Run.{is_over}
 use Rattle.flash_laws.specs.Shelf.{Shelf, due_to, responses, Begins}
 use Rattle.flash_laws.specs.Site.{server}
 use Rattle.flash_laws.specs.Run.Stages.{HasWorkerAt}
-use Rattle.flash_laws.specs.declared.doing.Learnt.TheVariants.{Text}
-use Rattle.flash_laws.specs.declared.doing.Content.TheVariants.{Script}
-use Rattle.flash_laws.specs.declared.doing.Doing.{Doing}
-use Rattle.flash_laws.specs.declared.doing.Doing.TheVariants as doing
-use Rattle.flash_laws.specs.declared.running.Running.{Running}
+use Rattle.flash_laws.specs.declared.phase.Learnt.TheVariants.{Text}
+use Rattle.flash_laws.specs.declared.phase.Content.TheVariants.{Script}
+use Rattle.flash_laws.specs.declared.phase.Doing.{Doing}
+use Rattle.flash_laws.specs.declared.phase.Doing.TheVariants as doing
+use Rattle.flash_laws.specs.declared.run.Running.{Running}
 
 -- a request whose query is no longer than a head, and that closes the connection where its response is in no chunks: such are all
 -- that are read from a stream

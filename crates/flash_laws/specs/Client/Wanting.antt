@@ -6,9 +6,9 @@ use Rattle.flash_laws.specs.Client.{Client, is_for_script, left_over}
 use Rattle.flash_laws.specs.Serves.Rounds.{leaves_off}
 use Rattle.flash_laws.specs.Run.Wanting.{makes_any}
 use Rattle.flash_laws.specs.Conn.Wanting as wanting
-use Rattle.flash_laws.specs.declared.doing.Doing.{Doing}
-use Rattle.flash_laws.specs.declared.doing.Doing.TheVariants.{Reads}
-use Rattle.flash_laws.specs.declared.running.Running.{Running}
+use Rattle.flash_laws.specs.declared.phase.Doing.{Doing}
+use Rattle.flash_laws.specs.declared.phase.Doing.TheVariants.{Reads}
+use Rattle.flash_laws.specs.declared.run.Running.{Running}
 
 -- it was reading, and a byte came: of its stream, or of the text of a script
 abbrev pub Hears : (script : Bool) → Doing → Reply → (heard : List ℕ) → Type 0

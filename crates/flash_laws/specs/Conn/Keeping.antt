@@ -17,7 +17,7 @@ use Rattle.iol_laws.specs.Frame.{touches_fd, touches_conn, touches_pipe, changes
 use Rattle.iol_laws.specs.Order.{IsOrderly}
 use Rattle.flash_laws.specs.Answers.{Outcome}
 use Rattle.flash_laws.specs.Conn.{Conn, uses_agg, uses_fd, wants, told}
-use Rattle.flash_laws.specs.declared.doing.Doing.{Doing}
+use Rattle.flash_laws.specs.declared.phase.Doing.{Doing}
 use Rattle.flash_laws.specs.Conn.Offering.{HasAnswer}
 use Rattle.flash_laws.specs.Site.{server}
 

@@ -24,8 +24,8 @@ use Rattle.iol_laws.specs.Reasons.{IsHidden}
 use Rattle.flash_http.specs.Request.{Answer, serve, refuse}
 use Rattle.flash_laws.specs.Answers.{Outcome, Found, Failed, error_text, response}
 use Rattle.flash_laws.specs.Conn.{Conn, uses_agg, uses_fd, wants, begins, status_of, told}
-use Rattle.flash_laws.specs.declared.doing.Doing.{Doing}
-use Rattle.flash_laws.specs.declared.doing.Doing.TheVariants.{Rests, Opens, Reads, Sends, Cuts, Offers, Swaps, Sent, Breaks, Drops, Closes, Over}
+use Rattle.flash_laws.specs.declared.phase.Doing.{Doing}
+use Rattle.flash_laws.specs.declared.phase.Doing.TheVariants.{Rests, Opens, Reads, Sends, Cuts, Offers, Swaps, Sent, Breaks, Drops, Closes, Over}
 use Rattle.flash_laws.specs.Conn.Fits.{Has, Names, is_closing}
 use Rattle.flash_laws.specs.Conn.Nearing.{Rank, Nears, CanMake, is_busy}
 use Rattle.flash_laws.specs.Conn.Policy.{is_later}

@@ -8,10 +8,10 @@ use Rattle.iol_core.specs.declared.refusals.Refusal.TheVariants.{WouldBlock, Too
 use Rattle.iol_core.specs.declared.events.Reply.{Reply}
 use Rattle.iol_core.specs.declared.events.Reply.TheVariants as reply
 use Rattle.flash_laws.specs.Conn.{Conn}
-use Rattle.flash_laws.specs.declared.doing.Doing.{Doing}
-use Rattle.flash_laws.specs.declared.doing.Doing.TheVariants.{Rests}
-use Rattle.flash_laws.specs.declared.doing.Flight.{Flight}
-use Rattle.flash_laws.specs.declared.doing.Flight.TheVariants.{Nothing, Accepting, At}
+use Rattle.flash_laws.specs.declared.phase.Doing.{Doing}
+use Rattle.flash_laws.specs.declared.phase.Doing.TheVariants.{Rests}
+use Rattle.flash_laws.specs.declared.phase.Flight.{Flight}
+use Rattle.flash_laws.specs.declared.phase.Flight.TheVariants.{Nothing, Accepting, At}
 
 -- the connections that the server holds at most
 abbrev pub most_conns : ℕ

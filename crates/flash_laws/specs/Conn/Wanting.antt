@@ -8,8 +8,8 @@ use Rattle.flash_http.specs.declared.windows.Window.TheVariants.{Wait}
 use Rattle.flash_laws.specs.Conn.{Conn, told}
 use Rattle.flash_laws.specs.Conn.Policy.{leaves_off}
 use Rattle.flash_laws.specs.Site.Tied.{left_over}
-use Rattle.flash_laws.specs.declared.doing.Doing.{Doing}
-use Rattle.flash_laws.specs.declared.doing.Doing.TheVariants.{Rests, Opens, Heads}
+use Rattle.flash_laws.specs.declared.phase.Doing.{Doing}
+use Rattle.flash_laws.specs.declared.phase.Doing.TheVariants.{Rests, Opens, Heads}
 
 -- whether the call of a phase has bytes of its own: a name, or a head
 abbrev pub has_bytes : Doing → Bool

@@ -13,15 +13,15 @@ use Rattle.flash_laws.specs.Conn.Offering.{taken_of}
 use Rattle.flash_laws.specs.Run.{has_frame, job_pipe, step_agg}
 use Rattle.flash_laws.specs.Answers.Scripts.{script_body, script_response, frame_of, end_around}
 use Rattle.flash_laws.specs.Site.{server}
-use Rattle.flash_laws.specs.declared.doing.Content.TheVariants.{Error}
-use Rattle.flash_laws.specs.declared.doing.Doing.{Doing}
-use Rattle.flash_laws.specs.declared.doing.Doing.TheVariants as doing
-use Rattle.flash_laws.specs.declared.running.TheConstants.{CHUNK_BYTES}
-use Rattle.flash_laws.specs.declared.running.Run.{Run}
-use Rattle.flash_laws.specs.declared.running.Step.{Step}
-use Rattle.flash_laws.specs.declared.running.Step.TheVariants.{Gives, Makes, Hands, Lets, Heads, Sending, Hears, Spills, Gathers, Frames, Wraps, Trims, Ended, Unholds, Stops, Unframes, Lasts, WrapsLast, TrimsLast, Unwraps, Returns, Lapses, Fails}
-use Rattle.flash_laws.specs.declared.running.Running.{Running}
-use Rattle.flash_laws.specs.declared.running.Running.TheVariants.{Awaits, Runs, Leaves, Closes}
+use Rattle.flash_laws.specs.declared.phase.Content.TheVariants.{Error}
+use Rattle.flash_laws.specs.declared.phase.Doing.{Doing}
+use Rattle.flash_laws.specs.declared.phase.Doing.TheVariants as doing
+use Rattle.flash_laws.specs.declared.run.TheConstants.{CHUNK_BYTES}
+use Rattle.flash_laws.specs.declared.run.Run.{Run}
+use Rattle.flash_laws.specs.declared.run.Step.{Step}
+use Rattle.flash_laws.specs.declared.run.Step.TheVariants.{Gives, Makes, Hands, Lets, Heads, Sending, Hears, Spills, Gathers, Frames, Wraps, Trims, Ended, Unholds, Stops, Unframes, Lasts, WrapsLast, TrimsLast, Unwraps, Returns, Lapses, Fails}
+use Rattle.flash_laws.specs.declared.run.Running.{Running}
+use Rattle.flash_laws.specs.declared.run.Running.TheVariants.{Awaits, Runs, Leaves, Closes}
 
 -- ---- what the calls of a run gave so far
 

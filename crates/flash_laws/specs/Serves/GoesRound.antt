@@ -7,8 +7,8 @@ use Rattle.flash_laws.specs.Client.{Client, is_bare, awaits}
 use Rattle.flash_laws.specs.Site.Places.{has_free, may_go}
 use Rattle.flash_laws.specs.Conn.Policy.{is_later}
 use Rattle.flash_laws.specs.Serves.Rounds.{in_rounds}
-use Rattle.flash_laws.specs.declared.doing.Flight.{Flight}
-use Rattle.flash_laws.specs.declared.doing.Flight.TheVariants.{Nothing, Accepting, At}
+use Rattle.flash_laws.specs.declared.phase.Flight.{Flight}
+use Rattle.flash_laws.specs.declared.phase.Flight.TheVariants.{Nothing, Accepting, At}
 
 -- a place that comes after whoever had the last turn: after a yield each does
 abbrev pub IsAfter : (was : Flight) → (fd : ℕ) → Type 0

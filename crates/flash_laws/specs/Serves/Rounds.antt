@@ -10,8 +10,8 @@ use Rattle.flash_laws.specs.Client.{Client, is_bare, awaits}
 use Rattle.flash_laws.specs.Site.Places.{has_free, may_go}
 use Rattle.flash_laws.specs.Conn.Policy.{is_later, flight_to, flight_past}
 use Rattle.flash_laws.specs.Serves.{Policy}
-use Rattle.flash_laws.specs.declared.doing.Flight.{Flight}
-use Rattle.flash_laws.specs.declared.doing.Flight.TheVariants.{Nothing, Accepting, At}
+use Rattle.flash_laws.specs.declared.phase.Flight.{Flight}
+use Rattle.flash_laws.specs.declared.phase.Flight.TheVariants.{Nothing, Accepting, At}
 
 -- whether its turn passes to the next: its call is to be made again later, or it waits for a worker, or nothing is left to do
 -- but to read more

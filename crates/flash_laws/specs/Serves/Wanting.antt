@@ -9,8 +9,8 @@ use Rattle.flash_laws.specs.Client.Wanting.{WantsOn, makes_bytes}
 use Rattle.flash_laws.specs.Site.Places.{first_free, has_free, runs_scripts, filed}
 use Rattle.flash_laws.specs.Serves.Rounds.{leaves_off, next_in}
 use Rattle.flash_laws.specs.Serves.{Server, heard_of}
-use Rattle.flash_laws.specs.declared.doing.Flight.{Flight}
-use Rattle.flash_laws.specs.declared.doing.Flight.TheVariants.{Nothing, Accepting, At}
+use Rattle.flash_laws.specs.declared.phase.Flight.{Flight}
+use Rattle.flash_laws.specs.declared.phase.Flight.TheVariants.{Nothing, Accepting, At}
 
 -- the client in a place wants it after a reply, where `worker` is free
 abbrev pub WantsHere : (scripts : Bool) → (worker : ℕ) → Option Client → Reply → (heard : List ℕ) → Type 0

@@ -6,8 +6,8 @@ use Rattle.iol_proc.specs.declared.process.Turn.{Turn}
 use Rattle.flash_laws.specs.Client.{Client, uses_agg, uses_fd, awaits}
 use Rattle.flash_laws.specs.Site.Places.{NoneRuns, is_run_by, EachHasItsOwn, has_free, may_go, filed}
 use Rattle.flash_laws.specs.Serves.{Server, new_server, any, server_turns}
-use Rattle.flash_laws.specs.declared.doing.Flight.{Flight}
-use Rattle.flash_laws.specs.declared.doing.Flight.TheVariants.{At}
+use Rattle.flash_laws.specs.declared.phase.Flight.{Flight}
+use Rattle.flash_laws.specs.declared.phase.Flight.TheVariants.{At}
 
 -- the client whose call is out does not wait for a worker, or one is free
 abbrev pub FlightGoes : (workers : ℕ) → List (Option Client) → Flight → Type 0

@@ -12,8 +12,8 @@ use Rattle.iol_core.specs.declared.events.Reply.TheVariants as reply
 use Rattle.iol_proc.specs.Settled.{Claim}
 use Rattle.flash_laws.specs.Client.{Client, wants, IsAwaiting}
 use Rattle.flash_laws.specs.Site.Places.{has_free, may_go, runs_scripts}
-use Rattle.flash_laws.specs.declared.doing.Flight.{Flight}
-use Rattle.flash_laws.specs.declared.doing.Flight.TheVariants.{Nothing, Accepting, At}
+use Rattle.flash_laws.specs.declared.phase.Flight.{Flight}
+use Rattle.flash_laws.specs.declared.phase.Flight.TheVariants.{Nothing, Accepting, At}
 use Rattle.flash_laws.specs.Serves.{Server}
 use Rattle.flash_laws.specs.Conn.Policy.{most_conns}
 use Rattle.flash_laws.specs.World.Tie.{Actor, Serving, Working}

@@ -8,8 +8,8 @@ use Rattle.flash_laws.specs.Client.{Client, wants}
 use Rattle.flash_laws.specs.Client.Offering.{ClientsAreOfferedTheResponse}
 use Rattle.flash_laws.specs.Site.Places.{runs_scripts}
 use Rattle.flash_laws.specs.Serves.{Server, Picks, PicksAt}
-use Rattle.flash_laws.specs.declared.doing.Flight.{Flight}
-use Rattle.flash_laws.specs.declared.doing.Flight.TheVariants.{At}
+use Rattle.flash_laws.specs.declared.phase.Flight.{Flight}
+use Rattle.flash_laws.specs.declared.phase.Flight.TheVariants.{At}
 use Rattle.flash_laws.proofs.Site.InPlaces.{at-same}
 use Rattle.flash_lite.specs.Offering.{OffersNext}
 

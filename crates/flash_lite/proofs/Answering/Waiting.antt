@@ -2,8 +2,8 @@
 use Rattle.std.proofs.Common.{◌≢◌, ℕ, List, refl, inl}
 use Rattle.flash_http.specs.Request.{Answer}
 use Rattle.flash_laws.specs.Conn.{IsAwaiting, Readies}
-use Rattle.flash_laws.specs.declared.doing.Doing.{Doing}
-use Rattle.flash_laws.specs.declared.doing.Doing.TheVariants.{Rests}
+use Rattle.flash_laws.specs.declared.phase.Doing.{Doing}
+use Rattle.flash_laws.specs.declared.phase.Doing.TheVariants.{Rests}
 
 pub busy_awaits : (kept : List ℕ) (q : Answer) (d : Doing) → d ≢ Rests → IsAwaiting (record { kept = kept; q = q; doing = d })
 busy_awaits kept q Rests busy = absurd (busy refl)

@@ -15,10 +15,10 @@ use Rattle.flash_laws.specs.Conn.{Conn}
 use Rattle.flash_laws.specs.Site.Places.{is_run_by, runs_at, is_free, first_free, has_free, may_go, EachHasItsOwn}
 use Rattle.flash_laws.specs.Workers.Sharing.{FlightGoes}
 use Rattle.flash_laws.specs.Site.Tied.{left_by, with_at}
-use Rattle.flash_laws.specs.declared.doing.Doing.{Doing}
-use Rattle.flash_laws.specs.declared.doing.Flight.TheVariants.{At}
-use Rattle.flash_laws.specs.declared.running.Running.{Running}
-use Rattle.flash_laws.specs.declared.running.Running.TheVariants.{Awaits, Runs, Leaves, Closes as Finished}
+use Rattle.flash_laws.specs.declared.phase.Doing.{Doing}
+use Rattle.flash_laws.specs.declared.phase.Flight.TheVariants.{At}
+use Rattle.flash_laws.specs.declared.run.Running.{Running}
+use Rattle.flash_laws.specs.declared.run.Running.TheVariants.{Awaits, Runs, Leaves, Closes as Finished}
 use Rattle.flash_laws.proofs.Site.InPlaces.{at-same, at-other, left-map}
 use Rattle.flash_laws.proofs.Lists.{clash}
 use Rattle.flash_lite.specs.Course.{left_with, worker_of}

@@ -13,15 +13,15 @@ use Rattle.flash_laws.specs.Site.Places.{runs_scripts}
 use Rattle.flash_laws.specs.Run as running
 use Rattle.flash_laws.specs.Run.{in_phase, step_wants}
 use Rattle.flash_laws.specs.Serves.{Picks}
-use Rattle.flash_laws.specs.declared.doing.Doing.{Doing}
-use Rattle.flash_laws.specs.declared.doing.Doing.TheVariants.{Reads}
-use Rattle.flash_laws.specs.declared.doing.Flight.{Flight}
-use Rattle.flash_laws.specs.declared.doing.Flight.TheVariants.{Nothing, Accepting, At}
-use Rattle.flash_laws.specs.declared.running.Run.{Run}
-use Rattle.flash_laws.specs.declared.running.Step.{Step}
-use Rattle.flash_laws.specs.declared.running.Step.TheVariants as act
-use Rattle.flash_laws.specs.declared.running.Running.{Running}
-use Rattle.flash_laws.specs.declared.running.Running.TheVariants.{Awaits, Runs, Leaves, Closes as Finished}
+use Rattle.flash_laws.specs.declared.phase.Doing.{Doing}
+use Rattle.flash_laws.specs.declared.phase.Doing.TheVariants.{Reads}
+use Rattle.flash_laws.specs.declared.phase.Flight.{Flight}
+use Rattle.flash_laws.specs.declared.phase.Flight.TheVariants.{Nothing, Accepting, At}
+use Rattle.flash_laws.specs.declared.run.Run.{Run}
+use Rattle.flash_laws.specs.declared.run.Step.{Step}
+use Rattle.flash_laws.specs.declared.run.Step.TheVariants as act
+use Rattle.flash_laws.specs.declared.run.Running.{Running}
+use Rattle.flash_laws.specs.declared.run.Running.TheVariants.{Awaits, Runs, Leaves, Closes as Finished}
 use Rattle.flash_lite.specs.Turning.{Turns, filed_by}
 use Rattle.flash_lite.specs.Table.{Table}
 

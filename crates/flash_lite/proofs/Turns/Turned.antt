@@ -15,8 +15,8 @@ use Rattle.flash_laws.specs.Serves.Rounds.{leaves_off, flight_from, next_flight,
 use Rattle.flash_laws.specs.Serves.{Picks, PicksAt}
 use Rattle.flash_laws.specs.Workers.Sharing.{FlightGoes}
 use Rattle.flash_laws.specs.Site.Tied.{with_at}
-use Rattle.flash_laws.specs.declared.doing.Flight.{Flight}
-use Rattle.flash_laws.specs.declared.doing.Flight.TheVariants.{Nothing, Accepting, At}
+use Rattle.flash_laws.specs.declared.phase.Flight.{Flight}
+use Rattle.flash_laws.specs.declared.phase.Flight.TheVariants.{Nothing, Accepting, At}
 use Rattle.flash_lite.specs.Course.{GoesOn, IsLeft, worker_of}
 use Rattle.flash_lite.specs.Table.{Table, TellsFree, IsKept}
 use Rattle.flash_lite.specs.Turning.{AtDoor, CourseAt, PicksFrom, Turns, TurnsFree, door_to, filed_by, has_in, first_in, is_worker, left_at, left_as, most_with, worker_at, worker_in, worker_left}

@@ -8,7 +8,7 @@ use Rattle.flash_laws.specs.Site.Places.{first_free, has_free, runs_scripts, fil
 use Rattle.flash_laws.specs.Serves.Rounds.{leaves_off}
 use Rattle.flash_laws.specs.Serves.Rounds.{next_in}
 use Rattle.flash_laws.specs.Serves.Wanting.{MayWant, WantsFrom, WantsHere, WantsPast, wants_in, wants_there}
-use Rattle.flash_laws.specs.declared.doing.Flight.TheVariants.{Nothing, At}
+use Rattle.flash_laws.specs.declared.phase.Flight.TheVariants.{Nothing, At}
 use Rattle.flash_laws.specs.Client.Wanting.{WantsOn}
 use Rattle.flash_lite.specs.Table.{Table, IsKept, TellsFree}
 use Rattle.flash_lite.specs.Turning.{CourseAt, TurnsFree, first_in, has_in, left_as, left_at, worker_at, worker_left}

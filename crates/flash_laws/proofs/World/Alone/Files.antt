@@ -35,10 +35,10 @@ use Rattle.flash_laws.specs.Client.Known.{OfFile, OfScript, is_read, is_opening}
 use Rattle.flash_laws.specs.Run.Fits.{nothing_yet}
 use Rattle.flash_laws.specs.Shelf.{Shelf, due_to}
 use Rattle.flash_laws.specs.Site.{server, found_in, IsFixed}
-use Rattle.flash_laws.specs.declared.doing.Learnt.TheVariants.{File, Length, Text as TextOf}
-use Rattle.flash_laws.specs.declared.doing.Content.TheVariants.{Error, Script}
-use Rattle.flash_laws.specs.declared.doing.Doing.{Doing}
-use Rattle.flash_laws.specs.declared.doing.Doing.TheVariants.{Opens, Reads as Reading, Shuts, Spares, Heads}
+use Rattle.flash_laws.specs.declared.phase.Learnt.TheVariants.{File, Length, Text as TextOf}
+use Rattle.flash_laws.specs.declared.phase.Content.TheVariants.{Error, Script}
+use Rattle.flash_laws.specs.declared.phase.Doing.{Doing}
+use Rattle.flash_laws.specs.declared.phase.Doing.TheVariants.{Opens, Reads as Reading, Shuts, Spares, Heads}
 use Rattle.flash_laws.proofs.Conn.Answering.{some-inj}
 use Rattle.flash_laws.proofs.Forms.{at}
 use Rattle.flash_laws.proofs.Client.Phases as phases

@@ -29,8 +29,8 @@ use Rattle.flash_laws.specs.Conn.{Following, Conn, most_kept, piece_end, moved_o
 use Rattle.flash_laws.specs.Conn.Fits.{Has, quits, Names}
 use Rattle.flash_laws.specs.Shelf.{Shelf, due_to, responses}
 use Rattle.flash_laws.specs.Site.{server}
-use Rattle.flash_laws.specs.declared.doing.Doing.{Doing}
-use Rattle.flash_laws.specs.declared.doing.Doing.TheVariants.{Rests, Got, Sends, Cuts, Offers, Sent, Breaks, Drops}
+use Rattle.flash_laws.specs.declared.phase.Doing.{Doing}
+use Rattle.flash_laws.specs.declared.phase.Doing.TheVariants.{Rests, Got, Sends, Cuts, Offers, Sent, Breaks, Drops}
 use Rattle.flash_laws.proofs.Conn.Answering.{some-inj, order-all, reads-append}
 use Rattle.flash_laws.proofs.Lists.{clash, bytes-append, none-bytes, take-plus, next-front, take-slice, few-taken}
 use Rattle.flash_laws.proofs.TheLaws.{TheLaws}

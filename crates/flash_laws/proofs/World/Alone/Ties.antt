@@ -10,8 +10,8 @@ use Rattle.flash_laws.specs.Client.Fits.{FitsAlone, TieAlone, is_at_rest, given_
 use Rattle.flash_laws.specs.Conn.Fits.{asked, quits}
 use Rattle.flash_laws.specs.Conn.Offering.{taken_of}
 use Rattle.flash_laws.specs.Shelf.{Shelf, due_to, responses}
-use Rattle.flash_laws.specs.declared.doing.Doing.{Doing}
-use Rattle.flash_laws.specs.declared.doing.Doing.TheVariants.{Rests, Sent, Closes}
+use Rattle.flash_laws.specs.declared.phase.Doing.{Doing}
+use Rattle.flash_laws.specs.declared.phase.Doing.TheVariants.{Rests, Sent, Closes}
 use Rattle.flash_laws.proofs.Conn.Answering.{all-more, order-more, last-more}
 use Rattle.flash_laws.proofs.Lists.{clash}
 use Rattle.flash_laws.proofs.World.Answering.{responses-more, begins-tie}

@@ -30,15 +30,15 @@ use Rattle.flash_laws.specs.Run.{in_phase, held_size, broken, both, told_part, t
 use Rattle.flash_laws.specs.Shelf.{Shelf, due_to}
 use Rattle.flash_laws.specs.Site.{server}
 use Rattle.flash_laws.specs.Run.Stages.{IsPuttingOut, IsToCome, IsHeardWhole, Stage}
-use Rattle.flash_laws.specs.declared.doing.Content.TheVariants.{Error}
-use Rattle.flash_laws.specs.declared.doing.Doing.{Doing}
-use Rattle.flash_laws.specs.declared.doing.Doing.TheVariants as doing
-use Rattle.flash_laws.specs.declared.running.TheConstants.{CHUNK_BYTES}
-use Rattle.flash_laws.specs.declared.running.Run.{Run}
-use Rattle.flash_laws.specs.declared.running.Step.{Step}
-use Rattle.flash_laws.specs.declared.running.Step.TheVariants.{Lets, Heads, Sending, Hears, Spills, Gathers, Frames, Wraps, Trims, Ended}
-use Rattle.flash_laws.specs.declared.running.Running.{Running}
-use Rattle.flash_laws.specs.declared.running.Running.TheVariants.{Runs}
+use Rattle.flash_laws.specs.declared.phase.Content.TheVariants.{Error}
+use Rattle.flash_laws.specs.declared.phase.Doing.{Doing}
+use Rattle.flash_laws.specs.declared.phase.Doing.TheVariants as doing
+use Rattle.flash_laws.specs.declared.run.TheConstants.{CHUNK_BYTES}
+use Rattle.flash_laws.specs.declared.run.Run.{Run}
+use Rattle.flash_laws.specs.declared.run.Step.{Step}
+use Rattle.flash_laws.specs.declared.run.Step.TheVariants.{Lets, Heads, Sending, Hears, Spills, Gathers, Frames, Wraps, Trims, Ended}
+use Rattle.flash_laws.specs.declared.run.Running.{Running}
+use Rattle.flash_laws.specs.declared.run.Running.TheVariants.{Runs}
 use Rattle.flash_laws.proofs.Lists.{clash}
 use Rattle.flash_laws.proofs.World.AllLaws.{AllLaws}
 use Rattle.flash_laws.proofs.World.Desk.After.{DeskAfter, MayOn, CutBy, may_same, cut_same, goes_on, same_on}

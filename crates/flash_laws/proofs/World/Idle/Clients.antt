@@ -21,8 +21,8 @@ use Rattle.flash_laws.specs.World.Idle.{WouldWait}
 use Rattle.flash_laws.specs.Shelf.{Shelf, responses, IsAnswer}
 use Rattle.flash_laws.specs.Site.{server}
 use Rattle.flash_laws.specs.World.Done.{IsHeldUp}
-use Rattle.flash_laws.specs.declared.doing.Doing.{Doing}
-use Rattle.flash_laws.specs.declared.doing.Doing.TheVariants.{Rests, Got, Opens, Reads as Reading, Shuts, Picks, Spares, Heads, Joins, Sends, Cuts, Offers, Swaps, Sent, Breaks, Drops, Closes, Over}
+use Rattle.flash_laws.specs.declared.phase.Doing.{Doing}
+use Rattle.flash_laws.specs.declared.phase.Doing.TheVariants.{Rests, Got, Opens, Reads as Reading, Shuts, Picks, Spares, Heads, Joins, Sends, Cuts, Offers, Swaps, Sent, Breaks, Drops, Closes, Over}
 use Rattle.flash_laws.proofs.Forms.{at}
 use Rattle.flash_laws.proofs.Conn.Answering.{order-all}
 use Rattle.flash_laws.proofs.Lists.{clash}

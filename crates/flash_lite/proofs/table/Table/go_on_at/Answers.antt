@@ -2,7 +2,7 @@ use Rattle.std.proofs.Common.{◌≡◌, ◌∙◌, ap, subst, sym, rules, min}
 use Rattle.iol_proc.specs.declared.process.Turn.TheVariants as turn
 use Rattle.flash_laws.specs.Site.Places.{runs_scripts}
 use Rattle.flash_laws.specs.Serves.Wanting.{MayWant}
-use Rattle.flash_laws.specs.declared.doing.Flight.TheVariants.{At}
+use Rattle.flash_laws.specs.declared.phase.Flight.TheVariants.{At}
 use Rattle.flash_lite.specs.Heard.{heard}
 use Rattle.flash_lite.specs.Table.{Table, IsKept}
 use Rattle.flash_lite.specs.Turning.{CourseAt, Turns, first_in, worker_at}

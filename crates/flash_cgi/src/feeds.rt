@@ -1,0 +1,73 @@
+//! What a worker sees of its aggregates, where they lie.
+ghost use Rattle.std.specs.Prelude.{◌≡◌, ◌<◌, count_by, length, IfOk, OnErr};
+ghost use Rattle.std.specs.List.{concat};
+ghost use Rattle.iol_proc.specs.Looks.{lent};
+ghost use Rattle.flash_cgi.specs.Working as spec;
+
+use crate::counts::Counts;
+use iol_agg::Parts;
+use iol_core::numbers::AggId;
+use iol_proc::look::Look;
+use std::alloc::{AllocError, Global};
+
+fn line_feeds(text: &[u8]) -> usize
+    ensures { result ≡ count_by spec.is_line_feed text.now }
+{
+    text.iter().filter(|b| **b == b'\n').count()
+}
+
+// How many line feeds lie in these pieces, which have so many bytes.
+fn line_feeds_in(parts: Parts<'_>, len: u32) -> u32
+    requires { length (concat parts) ≡ len }
+    ensures { result ≡ count_by spec.is_line_feed (concat parts.entry) }
+{
+    let mut count = 0u32;
+    for part in parts {
+        count += line_feeds(part) as u32;
+    }
+    count
+}
+
+/// How many bytes an aggregate has: none where there is no such aggregate.
+pub(crate) fn len_of(look: &Look<'_>, agg: AggId) -> u32
+    ensures { result ≡ length (spec.bytes_at (lent look.now) agg) }
+{
+    look.len(agg).unwrap_or(0)
+}
+
+/// How many line feeds and bytes it has.
+pub(crate) fn counts(look: &Look<'_>, agg: AggId) -> Counts
+    ensures { result ≡ spec.counts_of (spec.bytes_at (lent look.now) agg) }
+{
+    let bytes = len_of(look, agg);
+    match look.bytes(agg) {
+        Some(parts) => Counts {
+            lines: line_feeds_in(parts, bytes),
+            bytes,
+        },
+        None => Counts { lines: 0, bytes },
+    }
+}
+
+// A text that lies in these pieces, as one.
+fn joined(alloc: Global, parts: Parts<'_>) -> Result<Vec<u8>, AllocError>
+    ensures text { IfOk result (λ text. text.items ≡ concat parts.entry) }
+    ensures wants { OnErr result (0 < length (concat parts.entry)) }
+{
+    let mut text = Vec::new(alloc);
+    for part in parts {
+        text.extend_from_slice(part)?;
+    }
+    Ok(text)
+}
+
+/// A copy of its bytes. No bytes take no memory.
+pub(crate) fn text_of(alloc: Global, look: &Look<'_>, agg: AggId) -> Result<Vec<u8>, AllocError>
+    ensures text { IfOk result (λ text. text.items ≡ spec.bytes_at (lent look.now) agg) }
+    ensures wants { OnErr result (0 < length (spec.bytes_at (lent look.now) agg)) }
+{
+    match look.bytes(agg) {
+        Some(parts) => joined(alloc, parts),
+        None => Ok(Vec::new(alloc)),
+    }
+}

@@ -1,0 +1,226 @@
+//! What follows each call after the end of the output was seen, or where no more of it is read.
+ghost use Rattle.std.specs.Prelude.{◌≡◌, Some};
+ghost use Rattle.flash_http.specs.Request.{wanted};
+ghost use Rattle.flash_laws.specs.Run as spec;
+ghost use Rattle.flash_lite.specs.Heard.{heard};
+ghost use Rattle.flash_lite.specs.Runs.{IsPiece, IsSmallRun, IsSmallStep, IsSmallRunning};
+
+use crate::heard::count;
+use crate::send::Following;
+use flash_http::Request;
+use flash_laws::phase::Doing;
+use flash_laws::run::{Run, Running, Step};
+use iol_agg::Parts;
+use iol_core::events::Reply;
+use iol_core::numbers::AggId;
+
+/// After the reply to the dropping of what told the end of the output.
+pub(crate) fn told_ended(agg: AggId, held: Following, frame: Option<AggId>, last: &Reply) -> Step
+    requires { IsPiece held }
+    ensures told { result ≡ spec.told_ended agg held frame last.now }
+    ensures small { IsSmallStep result }
+{
+    match last {
+        Reply::Done => Step::Stops { held, frame },
+        _ => Step::Ended { agg, held, frame },
+    }
+}
+
+/// After the reply to the dropping of what is held and not sent.
+pub(crate) fn told_unholds(held: AggId, frame: Option<AggId>, last: &Reply) -> Step
+    ensures told { result ≡ spec.told_unholds held frame last.now }
+    ensures small { IsSmallStep result }
+{
+    match last {
+        Reply::Done => Step::Stops { held: None, frame },
+        _ => Step::Unholds { held, frame },
+    }
+}
+
+// The end of the body is made, where its chunks tell it, and somebody takes it.
+fn finishing(chunked: bool, run: Run, held: Following) -> Running
+    requires { IsSmallRun run × IsPiece held }
+    ensures finishing { result ≡ spec.finishing run.broken chunked run held }
+    ensures small { IsSmallRunning result }
+{
+    if run.broken {
+        Running::Closes
+    } else if chunked {
+        Running::Runs {
+            run,
+            step: Step::Lasts { held },
+        }
+    } else {
+        Running::Closes
+    }
+}
+
+// No more is read.
+fn stopped(request: &Request, run: Run, held: Following, frame: Option<AggId>) -> Running
+    requires { IsSmallRun run × IsPiece held }
+    ensures stopped { result ≡ spec.stopped (wanted request.now) run held frame }
+    ensures small { IsSmallRunning result }
+{
+    match frame {
+        Some(frame) => Running::Runs {
+            run,
+            step: Step::Unframes { frame, held },
+        },
+        None => finishing(request.chunked, run, held),
+    }
+}
+
+/// After the reply to the closing of the read end.
+pub(crate) fn told_stops(
+    request: &Request,
+    run: Run,
+    held: Following,
+    frame: Option<AggId>,
+    last: &Reply,
+) -> Running
+    requires { IsSmallRun run × IsPiece held }
+    ensures told { result ≡ spec.told_stops (wanted request.now) run held frame last.now }
+    ensures small { IsSmallRunning result }
+{
+    match last {
+        Reply::Done => stopped(request, run, held, frame),
+        _ => Running::Runs {
+            run,
+            step: Step::Stops { held, frame },
+        },
+    }
+}
+
+/// After the reply to the dropping of the frame.
+pub(crate) fn told_unframes(
+    request: &Request,
+    run: Run,
+    frame: AggId,
+    held: Following,
+    last: &Reply,
+) -> Running
+    requires { IsSmallRun run × IsPiece held }
+    ensures told { result ≡ spec.told_unframes (wanted request.now) run frame held last.now }
+    ensures small { IsSmallRunning result }
+{
+    match last {
+        Reply::Done => finishing(request.chunked, run, held),
+        _ => Running::Runs {
+            run,
+            step: Step::Unframes { frame, held },
+        },
+    }
+}
+
+// The end of the body is made: it alone is sent, or what is held is set into it.
+fn ending(run: Run, held: Following, agg: AggId, len: u32) -> Running
+    requires { IsSmallRun run × IsPiece held }
+    ensures ending { result ≡ spec.ending run held agg len }
+    ensures small { IsSmallRunning result }
+{
+    match held {
+        Some((held, size)) => Running::Runs {
+            run,
+            step: Step::WrapsLast {
+                held,
+                size,
+                frame: agg,
+            },
+        },
+        None => Running::Leaves {
+            doing: Doing::Sends {
+                agg,
+                len,
+                taken: 0,
+                more: None,
+            },
+        },
+    }
+}
+
+/// After the reply to the making of the end of the body.
+pub(crate) fn told_lasts(
+    run: Run,
+    held: Following,
+    last: &Reply,
+    parts: Option<Parts<'_>>,
+) -> Running
+    requires { IsSmallRun run × IsPiece held }
+    ensures told { result ≡ spec.told_lasts run held last.now (heard parts.entry) }
+    ensures small { IsSmallRunning result }
+{
+    match last {
+        Reply::Agg(agg) => ending(run, held, *agg, count(parts)),
+        _ => Running::Runs {
+            run,
+            step: Step::Lasts { held },
+        },
+    }
+}
+
+/// After the reply to the setting of what is held into that end.
+pub(crate) fn told_wraps_last(
+    held: AggId,
+    size: u32,
+    frame: AggId,
+    last: &Reply,
+    parts: Option<Parts<'_>>,
+) -> Step
+    requires { IsPiece (Some (held, size)) }
+    ensures told { result ≡ spec.told_wraps_last held size frame last.now (heard parts.entry) }
+    ensures small { IsSmallStep result }
+{
+    match last {
+        Reply::Agg(chunk) => Step::TrimsLast {
+            held,
+            chunk: *chunk,
+            len: count(parts),
+            frame,
+        },
+        _ => Step::WrapsLast { held, size, frame },
+    }
+}
+
+/// After the reply to the dropping of what was held.
+pub(crate) fn told_trims_last(
+    held: AggId,
+    chunk: AggId,
+    len: u32,
+    frame: AggId,
+    last: &Reply,
+) -> Step
+    ensures told { result ≡ spec.told_trims_last held chunk len frame last.now }
+    ensures small { IsSmallStep result }
+{
+    match last {
+        Reply::Done => Step::Unwraps { frame, chunk, len },
+        _ => Step::TrimsLast {
+            held,
+            chunk,
+            len,
+            frame,
+        },
+    }
+}
+
+/// After the reply to the dropping of the end alone.
+pub(crate) fn told_unwraps(run: Run, frame: AggId, chunk: AggId, len: u32, last: &Reply) -> Running
+    requires { IsSmallRun run }
+    ensures told { result ≡ spec.told_unwraps run frame chunk len last.now }
+    ensures small { IsSmallRunning result }
+{
+    match last {
+        Reply::Done => Running::Leaves {
+            doing: Doing::Sends {
+                agg: chunk,
+                len,
+                taken: 0,
+                more: None,
+            },
+        },
+        _ => Running::Runs {
+            run,
+            step: Step::Unwraps { frame, chunk, len },
+        },
+    }
+}

@@ -1,0 +1,172 @@
+//! What follows each call that reads output: what is read is held until it is a chunk, or dropped.
+ghost use Rattle.std.specs.Prelude.{◌≡◌, ◌<◌, Some, false, true};
+ghost use Rattle.flash_http.specs.Request.{wanted};
+ghost use Rattle.flash_laws.specs.Run as spec;
+ghost use Rattle.flash_lite.specs.Heard.{heard};
+ghost use Rattle.flash_lite.specs.Runs.{IsPiece, IsSmallRun, IsSmallStep, IsSmallRunning, reading};
+
+use crate::heard::count;
+use crate::run::parts::broken;
+use crate::send::Following;
+use flash_http::Request;
+use flash_laws::phase::Doing;
+use flash_laws::run::{CHUNK_BYTES, Run, Running, Step};
+use iol_agg::Parts;
+use iol_core::events::Reply;
+use iol_core::numbers::AggId;
+use iol_core::refusals::Refusal;
+
+// The bytes of a whole chunk are held.
+fn filled(held: AggId, frame: Option<AggId>) -> Step
+    ensures filled { result ≡ spec.filled held frame }
+    ensures small { IsSmallStep result }
+{
+    match frame {
+        Some(frame) => Step::Wraps { held, frame },
+        None => Step::Frames { held },
+    }
+}
+
+// So many bytes are held.
+fn holding(held: AggId, size: u32, frame: Option<AggId>) -> Step
+    requires { 0 < size }
+    ensures holding { result ≡ spec.holding held size frame }
+    ensures small { IsSmallStep result }
+{
+    if size < CHUNK_BYTES {
+        Step::Hears {
+            held: Some((held, size)),
+            frame,
+        }
+    } else {
+        filled(held, frame)
+    }
+}
+
+// Some output was read of a body in chunks, which somebody takes.
+fn gathering(held: Following, frame: Option<AggId>, agg: AggId, len: u32) -> Step
+    requires { IsPiece held × (0 < len) }
+    ensures hearing { result ≡ spec.hearing false true held frame agg len }
+    ensures small { IsSmallStep result }
+{
+    match held {
+        Some((held, size)) => Step::Gathers {
+            held,
+            size,
+            piece: agg,
+            len,
+            frame,
+        },
+        None => holding(agg, len, frame),
+    }
+}
+
+// Output was read, or its end was seen.
+fn reading(
+    broken: bool,
+    chunked: bool,
+    held: Following,
+    frame: Option<AggId>,
+    agg: AggId,
+    len: u32,
+) -> Step
+    requires { IsPiece held }
+    ensures reading { result ≡ reading broken chunked held frame agg len }
+    ensures small { IsSmallStep result }
+{
+    if len == 0 {
+        Step::Ended { agg, held, frame }
+    } else if broken {
+        Step::Spills { agg, frame }
+    } else if chunked {
+        gathering(held, frame, agg, len)
+    } else {
+        Step::Sending {
+            doing: Doing::Sends {
+                agg,
+                len,
+                taken: 0,
+                more: None,
+            },
+            frame,
+        }
+    }
+}
+
+// It may not be read.
+fn unread(held: Following, frame: Option<AggId>) -> Step
+    ensures unread { result ≡ spec.unread held frame }
+    ensures small { IsSmallStep result }
+{
+    match held {
+        Some((held, _)) => Step::Unholds { held, frame },
+        None => Step::Stops { held: None, frame },
+    }
+}
+
+/// After the reply to the reading of output.
+#[tactic(auto, using(crate::proofs::Answering::Output::hears_read))]
+pub(crate) fn told_hears(
+    request: &Request,
+    run: Run,
+    held: Following,
+    frame: Option<AggId>,
+    last: &Reply,
+    parts: Option<Parts<'_>>,
+) -> Running
+    requires { IsSmallRun run × IsPiece held }
+    ensures told { result
+        ≡ spec.told_hears (wanted request.now) run held frame last.now (heard parts.entry) }
+    ensures small { IsSmallRunning result }
+{
+    match last {
+        Reply::Agg(agg) => {
+            let step = reading(run.broken, request.chunked, held, frame, *agg, count(parts));
+            Running::Runs { run, step }
+        }
+        Reply::Refused(Refusal::Denied { pool: _ }) => Running::Runs {
+            run: broken(run),
+            step: unread(held, frame),
+        },
+        _ => Running::Runs {
+            run,
+            step: Step::Hears { held, frame },
+        },
+    }
+}
+
+/// After the reply to the dropping of output that nobody takes.
+pub(crate) fn told_spills(agg: AggId, frame: Option<AggId>, last: &Reply) -> Step
+    ensures told { result ≡ spec.told_spills agg frame last.now }
+    ensures small { IsSmallStep result }
+{
+    match last {
+        Reply::Done => Step::Hears { held: None, frame },
+        _ => Step::Spills { agg, frame },
+    }
+}
+
+/// After the reply to the joining of output to what is held.
+pub(crate) fn told_gathers(
+    held: AggId,
+    size: u32,
+    piece: AggId,
+    len: u32,
+    frame: Option<AggId>,
+    last: &Reply,
+) -> Step
+    requires { IsPiece (Some (held, size)) }
+    ensures told { result ≡ spec.told_gathers held size piece len frame last.now }
+    ensures small { IsSmallStep result }
+{
+    match last {
+        Reply::Agg(agg) => holding(*agg, size.saturating_add(len), frame),
+        _ => Step::Gathers {
+            held,
+            size,
+            piece,
+            len,
+            frame,
+        },
+    }
+}

@@ -1,0 +1,165 @@
+//! What follows each call that starts a script: a pipe is made for its output, and a worker is
+//! given the write end, and the job.
+ghost use Rattle.std.specs.Prelude.{◌≡◌, ◌<◌};
+ghost use Rattle.flash_laws.specs.Run as spec;
+ghost use Rattle.flash_lite.specs.Heard.{heard};
+ghost use Rattle.flash_lite.specs.Runs.{IsSmallRun, IsSmallStep, IsSmallRunning};
+ghost use Rattle.flash_lite.specs.declared.site.TheConstants.{MAX_WORKERS};
+
+use crate::heard::count;
+use flash_laws::phase::{Content, Doing};
+use flash_laws::run::{Run, Running, Step};
+use http::StatusCode;
+use iol_agg::Parts;
+use iol_core::events::Reply;
+use iol_core::numbers::{AggId, Fd};
+use iol_core::refusals::Refusal;
+
+// Whether a call that is refused so is made again.
+fn is_again(refusal: Refusal) -> bool
+    ensures { result ≡ spec.is_again refusal }
+{
+    matches!(
+        refusal,
+        Refusal::WouldBlock | Refusal::TooMany | Refusal::NoRoom { pool: _ } | Refusal::Memory
+    )
+}
+
+/// After the reply to the making of a pipe, with a worker that is free.
+pub(crate) fn told_awaits(worker: u32, last: &Reply) -> Running
+    requires { worker < MAX_WORKERS }
+    ensures told { result ≡ spec.told_awaits worker last.now }
+    ensures small { IsSmallRunning result }
+{
+    match last {
+        Reply::Fds(from, write) => Running::Runs {
+            run: Run {
+                worker,
+                from: *from,
+                broken: false,
+            },
+            step: Step::Gives { write: *write },
+        },
+        _ => Running::Awaits,
+    }
+}
+
+/// After the reply to the giving of the write end.
+pub(crate) fn told_gives(write: Fd, last: &Reply) -> Step
+    ensures told { result ≡ spec.told_gives write last.now }
+    ensures small { IsSmallStep result }
+{
+    match last {
+        Reply::Fd(fd) => Step::Makes { fd: *fd },
+        Reply::Refused(refusal) => {
+            if is_again(*refusal) {
+                Step::Gives { write }
+            } else {
+                Step::Returns { write }
+            }
+        }
+        _ => Step::Gives { write },
+    }
+}
+
+/// After the reply to the making of the job.
+pub(crate) fn told_makes(fd: Fd, last: &Reply) -> Step
+    ensures told { result ≡ spec.told_makes fd last.now }
+    ensures small { IsSmallStep result }
+{
+    match last {
+        Reply::Agg(job) => Step::Hands { job: *job, fd },
+        _ => Step::Makes { fd },
+    }
+}
+
+/// After the reply to the writing of the job.
+pub(crate) fn told_hands(job: AggId, fd: Fd, last: &Reply) -> Step
+    ensures told { result ≡ spec.told_hands job fd last.now }
+    ensures small { IsSmallStep result }
+{
+    match last {
+        Reply::Count(_) => Step::Lets { job },
+        Reply::Refused(refusal) => {
+            if is_again(*refusal) {
+                Step::Hands { job, fd }
+            } else {
+                Step::Lapses { job }
+            }
+        }
+        _ => Step::Hands { job, fd },
+    }
+}
+
+/// After the reply to the dropping of the job.
+pub(crate) fn told_lets(job: AggId, last: &Reply) -> Step
+    ensures told { result ≡ spec.told_lets job last.now }
+    ensures small { IsSmallStep result }
+{
+    match last {
+        Reply::Done => Step::Heads,
+        _ => Step::Lets { job },
+    }
+}
+
+/// After the reply to the making of the head.
+pub(crate) fn told_heads(last: &Reply, parts: Option<Parts<'_>>) -> Step
+    ensures told { result ≡ spec.told_heads last.now (heard parts.entry) }
+    ensures small { IsSmallStep result }
+{
+    match last {
+        Reply::Agg(agg) => Step::Sending {
+            doing: Doing::Sends {
+                agg: *agg,
+                len: count(parts),
+                taken: 0,
+                more: None,
+            },
+            frame: None,
+        },
+        _ => Step::Heads,
+    }
+}
+
+/// After the reply to the closing of a write end that the worker could not be given.
+pub(crate) fn told_returns(write: Fd, last: &Reply) -> Step
+    ensures told { result ≡ spec.told_returns write last.now }
+    ensures small { IsSmallStep result }
+{
+    match last {
+        Reply::Done => Step::Fails,
+        _ => Step::Returns { write },
+    }
+}
+
+/// After the reply to the dropping of a job that could not be written.
+pub(crate) fn told_lapses(job: AggId, last: &Reply) -> Step
+    ensures told { result ≡ spec.told_lapses job last.now }
+    ensures small { IsSmallStep result }
+{
+    match last {
+        Reply::Done => Step::Fails,
+        _ => Step::Lapses { job },
+    }
+}
+
+/// After the reply to the closing of the pipe of a script that cannot run.
+pub(crate) fn told_fails(run: Run, last: &Reply) -> Running
+    requires { IsSmallRun run }
+    ensures told { result ≡ spec.told_fails run last.now }
+    ensures small { IsSmallRunning result }
+{
+    match last {
+        Reply::Done => Running::Leaves {
+            doing: Doing::Heads {
+                content: Content::Error {
+                    status: StatusCode::SERVICE_UNAVAILABLE,
+                },
+            },
+        },
+        _ => Running::Runs {
+            run,
+            step: Step::Fails,
+        },
+    }
+}

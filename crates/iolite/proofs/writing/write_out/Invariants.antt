@@ -1,5 +1,0 @@
-use Rattle.iolite.specs.Answers.{WritesTo}
-use Rattle.iolite.proofs.writing.write_out.Given as goal
-
-abbrev pub invariant-loop-turn : goal.invariant-loop-turn
-invariant-loop-turn g l = WritesTo (g.W.Write.contents l.fn.output) (g.W.Write.contents l.output) l.bytes l.rest
