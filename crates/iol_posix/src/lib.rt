@@ -3,10 +3,10 @@
 //! All mean what they mean to the copying machine (`iol_core`, `specs/Calls`). No aggregate is made of what is read or
 //! written. What of a file is not in memory is asked of the store under the files.
 //!
-//! The contract. [`read`] (`serves`: with an honest store the machine's step, its bytes at the front of the caller's memory;
+//! The contract. [`copy_out`] (`serves`: with an honest store the machine's step, its bytes at the front of the caller's memory;
 //! `copies`: when there is room, when a fault is answered, and what becomes of pages and of what memory has of files; `count`: no
 //! more than there is room for; `rest`: the others stay), [`read_bytes`] (`serves`, `copies`: the same, as a list of their own).
-//! [`write`] (`serves`; `queue`: the bytes that a queue takes, on the lowest free pages of the caller's default pool, once clean
+//! [`copy_in`] (`serves`; `queue`: the bytes that a queue takes, on the lowest free pages of the caller's default pool, once clean
 //! extents gave way; `lays`: what becomes of a file; `room`, `no_room`; `refused`: where it is refused and neither room nor memory
 //! was wanting, nothing has changed). The words are in `specs/Copying` and iol_kernel's.
 //!
@@ -16,8 +16,8 @@
 //! ```
 #![tactic(auto)]
 
-mod read;
-mod write;
+mod copy_in;
+mod copy_out;
 
-pub use read::{read, read_bytes};
-pub use write::write;
+pub use copy_in::write;
+pub use copy_out::{read, read_bytes};

@@ -10,9 +10,10 @@
 //! `faults`, `asked`, `slots`), refusals (`room`, `no_room`, `without_room`, `early`, `refused`, `late`), events that only
 //! look (`looks`), sharing (`shares`, `pages`, `still`, `places`, `store`, `in_place`, `shares_file`), generations
 //! (`publishes`, `creates`), where files end (`ends`), sums (`sums`), writing back (`synced`, `kept`, `flushed`, `dropped`,
-//! `stores_back`), and what always holds (`safe`, `stays`, `honest`). `arrive_from` and `drain_to` serve a reader and a writer in place; `parts` and `aggregates` lend
-//! bytes; `report` counts. `laws` carries each of these over whole runs, and says that NoRoom leaves extents and pools, that
-//! any refusal evicts nothing where there is no room, and that all pages come free once nobody is left.
+//! `stores_back`), and what always holds (`safe`, `stays`, `honest`). `arrive_from` and `drain_to` serve a reader and a
+//! writer in place; `parts` and `aggregates` lend bytes; `report` counts. `laws` carries each of these over whole runs, and
+//! says that NoRoom leaves extents and pools, that any refusal evicts nothing where there is no room, and that all pages
+//! come free once nobody is left.
 //!
 //! ```text
 //! let mut system = System::new(alloc, config, MemoryBacking::new(Slots::new(alloc)))?;

@@ -3,7 +3,7 @@ use Rattle.iol_core.specs.Calls.Reading.{read}
 use Rattle.iol_kernel.specs.Kernel.{state_of}
 use Rattle.iol_kernel.specs.KernelState.{machine_of}
 use Rattle.iol_kernel.proofs.Queues.Listing.{front_is, on_no_file, read_refused, taken_out}
-use Rattle.iol_posix.proofs.read.read_queue.Goals as goal
+use Rattle.iol_posix.proofs.copy_out.read_queue.Goals as goal
 
 pub returns-in_err-waiting-clause-reads : goal.returns-in_err-waiting-clause-reads
 returns-in_err-waiting-clause-reads c =

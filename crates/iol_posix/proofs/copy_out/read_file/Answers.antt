@@ -5,7 +5,7 @@ use Rattle.iol_kernel.specs.Backed.{Serves}
 use Rattle.iol_kernel.specs.FileReading.{CopiesFileAs, file_read}
 use Rattle.iol_kernel.specs.Kernel.{state_of}
 use Rattle.iol_kernel.proofs.Queues.Listing.{front_is}
-use Rattle.iol_posix.proofs.read.read_file.Goals as goal
+use Rattle.iol_posix.proofs.copy_out.read_file.Goals as goal
 
 pub returns-clause-serves : goal.returns-clause-serves
 returns-clause-serves g c =
