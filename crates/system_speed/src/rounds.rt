@@ -121,9 +121,10 @@ fn drop_agg(machine: &mut Machine, agg: AggId) -> Result<(), Refusal> {
 
 // Carries out an event. An aggregate that it makes is dropped at once.
 fn pass(machine: &mut Machine, event: &Event) -> Result<(), Refusal> {
-    match machine.step(event) {
-        Reply::Agg(agg) => drop_agg(machine, agg),
-        Reply::Refused(refusal) => Err(refusal),
+    let reply = machine.step(event);
+    match &reply {
+        Reply::Agg(agg) => drop_agg(machine, *agg),
+        Reply::Refused(refusal) => Err(*refusal),
         _ => Ok(()),
     }
 }
