@@ -26,7 +26,7 @@ use borrowed::{Deed, Step, Streams, carry_out_all};
 use host::{Beginning, File, Host, Plan, connect};
 use iol_core::refusals::Refusal;
 use iol_serve::ending::Ending;
-use iol_serve::serving::serve_connection;
+use iol_serve::serve::serve_connection;
 use std::alloc::{AllocError, Global};
 use std::io::{Read, Write};
 use std::{env, io};
