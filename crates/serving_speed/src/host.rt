@@ -27,17 +27,13 @@ fn site_of(alloc: Global, kept: &[Kept<'_>]) -> Result<Site, AllocError> {
     })
 }
 
-fn host_with(alloc: Global, kept: &[Kept<'_>]) -> Result<Host, Refusal> {
-    let store = store_of(alloc, kept)?;
-    let site = site_of(alloc, kept)?;
-    sites::host_over(alloc, Config::DEFAULT, store, &site)
-}
-
-/// A site with a file `f` of these bytes, and where it is asked for a script that puts it out.
+/// A site with a file `f` of these bytes, and where it is asked for a script that puts it out. The store has both.
 pub fn host_of(alloc: Global, bytes: &[u8], with_script: bool) -> Result<Host, Refusal> {
     let kept: [Kept<'_>; 2] = [("f", bytes, false), ("s.cgi", b"cat f", false)];
     let count = if with_script { 2 } else { 1 };
-    host_with(alloc, &kept[..count])
+    let store = store_of(alloc, &kept)?;
+    let site = site_of(alloc, &kept[..count])?;
+    sites::host_over(alloc, Config::DEFAULT, store, &site)
 }
 
 /// A new connection.
