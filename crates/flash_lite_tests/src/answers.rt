@@ -1,24 +1,14 @@
 //! Answers, whole, and how a site is refused.
-use crate::checks::pass_all;
-use crate::host::{Kept, Plan, refusal_of};
+use crate::host::{Plan, refusal_of};
 use crate::rows::{Row, held};
 use iol_core::refusals::Refusal;
 use std::alloc::Global;
 use std::test::Fail;
+use test_parts::checks::{pass_all, pass_each};
+use test_worlds::files::Kept;
 
 /// An index, and a file of the guest alone.
-pub const FILES: [Kept<'static>; 2] = [
-    Kept {
-        name: "index.html",
-        bytes: b"hi\n",
-        private: false,
-    },
-    Kept {
-        name: "p",
-        bytes: b"secret",
-        private: true,
-    },
-];
+pub const FILES: [Kept<'static>; 2] = [("index.html", b"hi\n", false), ("p", b"secret", true)];
 
 /// The answer to a GET of the index.
 pub const FIRST: &str =
@@ -115,20 +105,19 @@ const SITES: [(u32, u32, Option<Refusal>); 5] = [
     (8, 7, None),
 ];
 
-// How many of the sites are refused as they should be, up to the first that is not.
-fn count_refused(alloc: Global, plan: &Plan<'_>) -> Result<usize, Refusal> {
-    let mut count = 0usize;
-    for (workers, guests, refusal) in SITES {
-        if refusal_of(alloc, plan, workers, guests)? != refusal {
-            return Ok(count);
-        }
-        count = count.saturating_add(1);
-    }
-    Ok(count)
+// Whether a site is refused so, or is not.
+fn is_refused(
+    alloc: Global,
+    plan: &Plan<'_>,
+    site: &(u32, u32, Option<Refusal>),
+) -> Result<bool, Refusal> {
+    let (workers, guests, refusal) = *site;
+    Ok(refusal_of(alloc, plan, workers, guests)? == refusal)
 }
 
 #[test]
 fn sites_out_of_range(rt: HostRuntime) -> Result<(), Fail> {
     let plan = Plan::of(&FILES);
-    pass_all(count_refused(rt.alloc(), &plan), SITES.len())
+    let alloc = rt.alloc();
+    pass_each(&SITES, |site| is_refused(alloc, &plan, site))
 }

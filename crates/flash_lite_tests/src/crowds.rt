@@ -1,6 +1,5 @@
 //! As many connections as the server holds, and one more.
 use crate::answers::{FILES, FIRST};
-use crate::checks::pass;
 use crate::host::{Host, Plan, connect, host_of};
 use crate::rows::{arrivals, end, is_sent, let_arrive};
 use iol_core::descriptors::How;
@@ -8,6 +7,7 @@ use iol_core::events::Event;
 use iol_core::refusals::Refusal;
 use std::alloc::Global;
 use std::test::Fail;
+use test_parts::checks::pass;
 
 const GET: &[u8] = b"GET / HTTP/1.1\r\nHost: a\r\n\r\n";
 

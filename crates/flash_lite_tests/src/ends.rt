@@ -1,7 +1,6 @@
 //! Streams that end, peers that leave, pages that tire, and a device call that fails.
 use crate::answers::{BOTH, FILES, FIRST};
-use crate::checks::{pass, pass_all};
-use crate::host::{Host, Kept, Plan, connect, host_of};
+use crate::host::{Host, Plan, connect, host_of};
 use crate::rows::{arrivals, end, holds, is_gone, is_sent, let_arrive};
 use iol_core::descriptors::How;
 use iol_core::events::{Event, Reply};
@@ -9,6 +8,8 @@ use iol_core::numbers::{ConnId, PoolId};
 use iol_core::refusals::Refusal;
 use std::alloc::{AllocError, Global};
 use std::test::Fail;
+use test_parts::checks::{pass, pass_all};
+use test_worlds::files::Kept;
 
 // A GET of 27 bytes, and a HEAD.
 const STREAM: &[u8] = b"GET / HTTP/1.1\r\nHost: a\r\n\r\nHEAD / HTTP/1.1\r\nHost: a\r\n\r\n";
@@ -158,11 +159,7 @@ fn is_forgotten(host: &mut Host, events: Vec<Event>) -> bool {
 fn forgets(alloc: Global) -> Result<bool, Refusal> {
     let events = arrivals(alloc, 1, b"GET /f HTTP/1.1\r\nHost: a\r\n\r\n", 8192)?;
     let bytes = vec![in alloc; 122u8; 131_072]?;
-    let files = [Kept {
-        name: "f",
-        bytes: &bytes,
-        private: false,
-    }];
+    let files: [Kept<'_>; 1] = [("f", &bytes, false)];
     let plan = Plan {
         chunks: 4,
         ..Plan::of(&files)

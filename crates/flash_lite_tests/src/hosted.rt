@@ -1,6 +1,5 @@
 //! A site that is hosted, where all that comes from outside is among the choices.
-use crate::checks::pass;
-use crate::host::{Kept, Plan, hosted};
+use crate::host::{Plan, hosted};
 use crate::rows::{arrivals, is_sent};
 use iol_core::events::{Call, Event, Reply};
 use iol_core::numbers::{DomainId, PoolId};
@@ -8,6 +7,8 @@ use iol_core::refusals::Refusal;
 use iol_proc::choice::Choice;
 use std::alloc::{AllocError, Global};
 use std::test::Fail;
+use test_parts::checks::pass;
+use test_worlds::files::Kept;
 
 const CURL: &[u8] =
     b"GET /index.html HTTP/1.1\r\nHost: 127.0.0.1:8080\r\nUser-Agent: curl/8.5.0\r\nAccept: */*\r\n\r\n";
@@ -15,11 +16,7 @@ const CURL: &[u8] =
 const ANSWER: &[u8] =
     b"HTTP/1.1 200 OK\r\nContent-Type: text/html\r\nContent-Length: 3\r\n\r\nhi\n";
 
-const FILES: [Kept<'static>; 1] = [Kept {
-    name: "index.html",
-    bytes: b"hi\n",
-    private: false,
-}];
+const FILES: [Kept<'static>; 1] = [("index.html", b"hi\n", false)];
 
 // A connection of the pool `net` comes, and a request on it.
 fn choices_of(alloc: Global) -> Result<Vec<Choice>, AllocError> {
@@ -61,16 +58,8 @@ fn head_of_curl_is_hosted(rt: HostRuntime) -> Result<(), Fail> {
 // ---- scripts, and a guest's calls among the choices
 
 const SCRIPTED: [Kept<'static>; 2] = [
-    Kept {
-        name: "hello.cgi",
-        bytes: b"emit hello\nquery\nwc index.html\n",
-        private: false,
-    },
-    Kept {
-        name: "index.html",
-        bytes: b"hi\n",
-        private: false,
-    },
+    ("hello.cgi", b"emit hello\nquery\nwc index.html\n", false),
+    ("index.html", b"hi\n", false),
 ];
 
 const GET_SCRIPT: &[u8] = b"GET /hello.cgi?q=1 HTTP/1.1\r\nHost: a\r\n\r\n";

@@ -7,8 +7,6 @@
 #[cfg(test)]
 mod answers;
 #[cfg(test)]
-mod checks;
-#[cfg(test)]
 mod crowds;
 #[cfg(test)]
 mod ends;

@@ -1,11 +1,13 @@
 //! Outputs of scripts, by their length: about as long as a chunk, and longer than a pipe and two queues hold.
-use crate::checks::{pass, pass_all};
-use crate::host::{Kept, Plan, host_of};
+use crate::host::{Plan, host_of};
 use crate::rows::{arrivals, is_answered};
 use iol_core::events::Event;
 use iol_core::refusals::Refusal;
 use std::alloc::{AllocError, Global};
 use std::test::Fail;
+use test_parts::checks::{pass, pass_each};
+use test_parts::texts::bytes_of;
+use test_worlds::files::Kept;
 
 const GET: &[u8] = b"GET /s.cgi HTTP/1.1\r\nHost: a\r\n\r\n";
 
@@ -41,15 +43,6 @@ fn as_it_is(alloc: Global, output: &[u8]) -> Result<Vec<u8>, AllocError> {
     Ok(answer)
 }
 
-/// So many bytes, none of which is that of the place 251 before.
-pub fn bytes_of(alloc: Global, len: u32) -> Result<Vec<u8>, AllocError> {
-    let mut bytes = Vec::with_capacity(alloc, len as usize)?;
-    for n in 0..len {
-        bytes.push((n % 251) as u8)?;
-    }
-    Ok(bytes)
-}
-
 // Whether a script over a file of these bytes is answered so, in chunks and then to HTTP/1.0.
 fn are_answered(
     alloc: Global,
@@ -60,18 +53,7 @@ fn are_answered(
 ) -> Result<bool, Refusal> {
     let first = arrivals(alloc, 1, GET, 8192)?;
     let second = arrivals(alloc, 2, OLD, 8192)?;
-    let files = [
-        Kept {
-            name: "big",
-            bytes: file,
-            private: false,
-        },
-        Kept {
-            name: "s.cgi",
-            bytes: script,
-            private: false,
-        },
-    ];
+    let files: [Kept<'_>; 2] = [("big", file, false), ("s.cgi", script, false)];
     let plan = Plan {
         chunks: 17,
         ..Plan::of(&files)
@@ -119,7 +101,7 @@ fn output_of(alloc: Global, file: &[u8], more: bool) -> Result<Vec<u8>, AllocErr
 
 // Whether a script that puts a file of so many bytes out is answered whole.
 fn is_whole(alloc: Global, len: u32, more: bool) -> Result<bool, Refusal> {
-    let file = bytes_of(alloc, len)?;
+    let file = bytes_of(alloc, len as usize)?;
     let script = if more {
         b"cat big\nemit".as_slice()
     } else {
@@ -131,21 +113,10 @@ fn is_whole(alloc: Global, len: u32, more: bool) -> Result<bool, Refusal> {
     are_answered(alloc, script, &file, &chunked, &plain)
 }
 
-// How many of the outputs are answered whole, up to the first that is not.
-fn count_whole(alloc: Global) -> Result<usize, Refusal> {
-    let mut count = 0usize;
-    for (len, more) in OUTPUTS {
-        if !is_whole(alloc, len, more)? {
-            return Ok(count);
-        }
-        count = count.saturating_add(1);
-    }
-    Ok(count)
-}
-
 #[test]
 fn outputs_of_about_a_chunk(rt: HostRuntime) -> Result<(), Fail> {
-    pass_all(count_whole(rt.alloc()), OUTPUTS.len())
+    let alloc = rt.alloc();
+    pass_each(&OUTPUTS, |(len, more)| is_whole(alloc, *len, *more))
 }
 
 // Of 256 whole chunks.

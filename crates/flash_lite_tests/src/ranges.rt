@@ -1,21 +1,11 @@
 //! Ranges of a file of six bytes.
-use crate::checks::pass_all;
-use crate::host::{Kept, Plan};
+use crate::host::Plan;
 use crate::rows::{Row, held};
 use std::test::Fail;
+use test_parts::checks::pass_all;
+use test_worlds::files::Kept;
 
-const FILES: [Kept<'static>; 2] = [
-    Kept {
-        name: "f",
-        bytes: b"mnopqr",
-        private: false,
-    },
-    Kept {
-        name: "empty",
-        bytes: b"",
-        private: false,
-    },
-];
+const FILES: [Kept<'static>; 2] = [("f", b"mnopqr", false), ("empty", b"", false)];
 
 const WHOLE: &str =
     "HTTP/1.1 200 OK\r\nContent-Type: application/octet-stream\r\nContent-Length: 6\r\n\r\nmnopqr";

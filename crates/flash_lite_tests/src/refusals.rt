@@ -1,23 +1,21 @@
 //! What refuses the calls for a script, each in its turn: where it is tried again, and where the
 //! script is answered 503.
-use crate::checks::pass;
-use crate::host::{Host, Kept, Plan, connect, host_of};
+use crate::host::{Host, Plan, connect, host_of, take_turns};
 use crate::rows::{arrivals, is_sent, let_arrive, let_wait};
 use crate::sizes::REFUSED;
-use crate::turns::{FROM_SHORT, SHORT, by};
+use crate::turns::{FROM_SHORT, SHORT};
 use iol_core::events::{Call, Event, Reply};
 use iol_core::lists::Bytes;
 use iol_core::numbers::{AggId, ConnId, DomainId, Fd, PoolId};
 use iol_core::refusals::Refusal;
 use std::alloc::{AllocError, Global};
 use std::test::Fail;
+use test_parts::checks::pass;
+use test_worlds::files::Kept;
+use test_worlds::systems::call_of;
 
 // The server is domain 1, its worker 2, and the guest 3.
-const FILES: [Kept<'static>; 1] = [Kept {
-    name: "t.cgi",
-    bytes: b"emit t",
-    private: false,
-}];
+const FILES: [Kept<'static>; 1] = [("t.cgi", b"emit t", false)];
 
 fn is_done(host: &mut Host, event: Event) -> bool {
     matches!(host.step(event), Reply::Done)
@@ -25,13 +23,13 @@ fn is_done(host: &mut Host, event: Event) -> bool {
 
 fn close(number: u32, fd: u32) -> Event {
     let fd = Fd::new(fd);
-    by(number, Call::Close { fd })
+    call_of(number, Call::Close { fd })
 }
 
 // Pipes of a domain up to the first that is refused for want of descriptors.
 fn take_pairs(host: &mut Host, number: u32) -> bool {
     for _ in 0..600 {
-        match host.step(by(number, Call::Pipe)) {
+        match host.step(call_of(number, Call::Pipe)) {
             Reply::Fds(_, _) => {}
             reply => return matches!(reply, Reply::Refused(Refusal::TooMany)),
         }
@@ -42,7 +40,7 @@ fn take_pairs(host: &mut Host, number: u32) -> bool {
 // The server has turns for a request, and nothing comes of it.
 fn waits(host: &mut Host, request: Vec<Event>) -> bool {
     let_wait(host, request);
-    host.turns(1, 500) && is_sent(host, 1, b"")
+    take_turns(host, 1, 500) && is_sent(host, 1, b"")
 }
 
 // Then it is answered.
@@ -54,7 +52,7 @@ fn goes_on(host: &mut Host) -> bool {
 fn is_refused(host: &mut Host, request: Vec<Event>) -> bool {
     let (conn, max) = (ConnId::new(1), 4096);
     let_wait(host, request);
-    host.turns(1, 500)
+    take_turns(host, 1, 500)
         && match host.step(Event::Transmit { conn, max }) {
             Reply::Segment { bytes, .. } => bytes.as_slice() == REFUSED,
             _ => false,
@@ -87,8 +85,8 @@ fn waits_for_another_pipe(host: &mut Host, request: Vec<Event>) -> bool {
 fn waits_to_give(host: &mut Host, request: Vec<Event>) -> bool {
     let (fd, to) = (Fd::new(0), DomainId::new(2));
     take_pairs(host, 2)
-        && matches!(host.step(by(3, Call::Pipe)), Reply::Fds(_, _))
-        && matches!(host.step(by(3, Call::GiveFd { fd, to })), Reply::Fd(_))
+        && matches!(host.step(call_of(3, Call::Pipe)), Reply::Fds(_, _))
+        && matches!(host.step(call_of(3, Call::GiveFd { fd, to })), Reply::Fd(_))
         && connect(host).is_some()
         && waits(host, request)
         && is_done(host, close(2, 1023))
@@ -97,7 +95,7 @@ fn waits_to_give(host: &mut Host, request: Vec<Event>) -> bool {
 
 // The worker's domain is no more.
 fn gives_nobody(host: &mut Host, request: Vec<Event>) -> bool {
-    is_done(host, by(2, Call::Exit)) && connect(host).is_some() && is_refused(host, request)
+    is_done(host, call_of(2, Call::Exit)) && connect(host).is_some() && is_refused(host, request)
 }
 
 // Nobody reads the job.
@@ -111,11 +109,11 @@ fn is_filled(host: &mut Host, fill: Event) -> bool {
     let mut all = matches!(host.step(fill), Reply::Agg(_));
     for _ in 0..16 {
         all &= matches!(
-            host.step(by(1, Call::IolWrite { fd, agg })),
+            host.step(call_of(1, Call::IolWrite { fd, agg })),
             Reply::Count(4096)
         );
     }
-    all && is_done(host, by(1, Call::AggDrop { agg }))
+    all && is_done(host, call_of(1, Call::AggDrop { agg }))
 }
 
 // The worker has not read what is in its job pipe.
@@ -129,14 +127,14 @@ fn waits_to_make(host: &mut Host, fill: Event, request: Vec<Event>) -> bool {
     matches!(host.step(fill), Reply::Agg(_))
         && connect(host).is_some()
         && waits(host, request)
-        && is_done(host, by(3, Call::AggDrop { agg }))
+        && is_done(host, call_of(3, Call::AggDrop { agg }))
         && goes_on(host)
 }
 
 // They fill that of the script's file.
 fn reads_without_room(host: &mut Host, fill: Event, request: Vec<Event>) -> bool {
     let pool = PoolId::new(1);
-    is_done(host, by(3, Call::SetPool { pool }))
+    is_done(host, call_of(3, Call::SetPool { pool }))
         && matches!(host.step(fill), Reply::Agg(_))
         && connect(host).is_some()
         && let_arrive(host, request)
@@ -187,7 +185,7 @@ fn fill_of(alloc: Global, full: Full) -> Result<Event, AllocError> {
         Full::JobPipe => (1, vec![in alloc; b'x'; 4_096]?),
     };
     let bytes = Bytes::from_vec(bytes);
-    Ok(by(number, Call::AggMake { bytes }))
+    Ok(call_of(number, Call::AggMake { bytes }))
 }
 
 fn goes_filled(host: &mut Host, full: Full, fill: Event, request: Vec<Event>) -> bool {

@@ -65,11 +65,7 @@ pub fn is_sent(host: &mut Host, number: u32, wanted: &[u8]) -> bool {
 
 /// Whether a connection is gone.
 pub fn is_gone(host: &mut Host, number: u32) -> bool {
-    let conn = ConnId::new(number);
-    matches!(
-        host.step(Event::Transmit { conn, max: 1 }),
-        Reply::Refused(Refusal::BadFd)
-    )
+    !host.has(ConnId::new(number))
 }
 
 /// The peer of a connection ends, with turns after it.
@@ -124,6 +120,19 @@ fn count_held(host: &mut Host, streams: Vec<Vec<Event>>, rows: &[Row<'_>]) -> u3
     held
 }
 
+/// How many rows hold on one site, each with its stream, up to the first that does not.
+pub fn held_with(
+    alloc: Global,
+    plan: &Plan<'_>,
+    streams: Vec<Vec<Event>>,
+    rows: &[Row<'_>],
+) -> Result<usize, Refusal> {
+    let mut host = host_of(alloc, plan)?;
+    let count = count_held(&mut host, streams, rows);
+    drop(host);
+    Ok(count as usize)
+}
+
 /// How many rows hold on one site, up to the first that does not; streams come in pieces of so many bytes.
 pub fn held(
     alloc: Global,
@@ -132,8 +141,5 @@ pub fn held(
     size: usize,
 ) -> Result<usize, Refusal> {
     let streams = streams(alloc, rows, size)?;
-    let mut host = host_of(alloc, plan)?;
-    let count = count_held(&mut host, streams, rows);
-    drop(host);
-    Ok(count as usize)
+    held_with(alloc, plan, streams, rows)
 }

@@ -1,56 +1,21 @@
 //! Scripts: requests and whole replies.
-use crate::checks::pass_all;
-use crate::host::{Kept, Plan};
+use crate::host::Plan;
 use crate::rows::{Row, held};
 use std::test::Fail;
+use test_parts::checks::pass_all;
+use test_worlds::files::Kept;
 
 // A file for all, one of the guest's, and scripts, one of which is the guest's, too.
 const FILES: [Kept<'static>; 9] = [
-    Kept {
-        name: "f",
-        bytes: b"a\nb",
-        private: false,
-    },
-    Kept {
-        name: "p",
-        bytes: b"secret",
-        private: true,
-    },
-    Kept {
-        name: "two.cgi",
-        bytes: b"emit a\nquery",
-        private: false,
-    },
-    Kept {
-        name: "none.cgi",
-        bytes: b"",
-        private: false,
-    },
-    Kept {
-        name: "junk.cgi",
-        bytes: b"jump",
-        private: false,
-    },
-    Kept {
-        name: "own.cgi",
-        bytes: b"emit a",
-        private: true,
-    },
-    Kept {
-        name: "outcomes.cgi",
-        bytes: b"wc f\ncat none\nemit",
-        private: false,
-    },
-    Kept {
-        name: "cat-p.cgi",
-        bytes: b"cat p",
-        private: false,
-    },
-    Kept {
-        name: "pauses.cgi",
-        bytes: b"pause\npause\npause\nemit a",
-        private: false,
-    },
+    ("f", b"a\nb", false),
+    ("p", b"secret", true),
+    ("two.cgi", b"emit a\nquery", false),
+    ("none.cgi", b"", false),
+    ("junk.cgi", b"jump", false),
+    ("own.cgi", b"emit a", true),
+    ("outcomes.cgi", b"wc f\ncat none\nemit", false),
+    ("cat-p.cgi", b"cat p", false),
+    ("pauses.cgi", b"pause\npause\npause\nemit a", false),
 ];
 
 const NOT_FOUND: &str =

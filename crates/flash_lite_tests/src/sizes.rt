@@ -1,11 +1,13 @@
 //! Files about as long as a queue takes, and as long as a file may be.
-use crate::checks::{pass, pass_all};
-use crate::host::{Host, Kept, Plan, connect, host_of};
+use crate::host::{Host, Plan, connect, host_of};
 use crate::rows::{arrivals, is_sent, let_arrive};
 use iol_core::events::Event;
 use iol_core::refusals::Refusal;
 use std::alloc::{AllocError, Global};
 use std::test::Fail;
+use test_parts::checks::{pass, pass_each};
+use test_parts::texts::bytes_of;
+use test_worlds::files::Kept;
 
 const GET: &[u8] = b"GET /f HTTP/1.1\r\nHost: a\r\n\r\n";
 
@@ -15,15 +17,6 @@ const HEAD: &[u8] = b"HEAD /f HTTP/1.1\r\nHost: a\r\n\r\n";
 pub const REFUSED: &[u8] =
     b"HTTP/1.1 503 Service Unavailable\r\nContent-Type: text/plain\r\nContent-Length: 24\r\n\r\n\
         503 Service Unavailable\n";
-
-// So many bytes, none of which is that of the place 251 before.
-fn bytes_of(alloc: Global, len: u32) -> Result<Vec<u8>, AllocError> {
-    let mut bytes = Vec::with_capacity(alloc, len as usize)?;
-    for n in 0..len {
-        bytes.push((n % 251) as u8)?;
-    }
-    Ok(bytes)
-}
 
 // The head for a file of so many bytes, and these after it.
 fn answer_of(alloc: Global, len: u32, bytes: &[u8]) -> Result<Vec<u8>, AllocError> {
@@ -50,11 +43,7 @@ fn are_answered(
 ) -> Result<bool, Refusal> {
     let first = arrivals(alloc, 1, GET, 8192)?;
     let second = arrivals(alloc, 2, HEAD, 8192)?;
-    let files = [Kept {
-        name: "f",
-        bytes,
-        private: false,
-    }];
+    let files: [Kept<'_>; 1] = [("f", bytes, false)];
     let plan = Plan {
         chunks,
         ..Plan::of(&files)
@@ -67,7 +56,7 @@ fn are_answered(
 
 // Whether a file of so many bytes is answered whole.
 fn is_whole(alloc: Global, len: u32, chunks: u32) -> Result<bool, Refusal> {
-    let bytes = bytes_of(alloc, len)?;
+    let bytes = bytes_of(alloc, len as usize)?;
     let get = answer_of(alloc, len, &bytes)?;
     let head = answer_of(alloc, len, b"")?;
     are_answered(alloc, &bytes, chunks, &get, &head)
@@ -76,26 +65,15 @@ fn is_whole(alloc: Global, len: u32, chunks: u32) -> Result<bool, Refusal> {
 // Files of so many bytes, over so many chunks.
 const SIZES: [(u32, u32); 4] = [(0, 1), (65_535, 1), (65_536, 1), (65_537, 2)];
 
-// How many of the files are answered whole, up to the first that is not.
-fn count_whole(alloc: Global) -> Result<usize, Refusal> {
-    let mut count = 0usize;
-    for (len, chunks) in SIZES {
-        if !is_whole(alloc, len, chunks)? {
-            return Ok(count);
-        }
-        count = count.saturating_add(1);
-    }
-    Ok(count)
-}
-
 #[test]
 fn files_of_about_a_queue(rt: HostRuntime) -> Result<(), Fail> {
-    pass_all(count_whole(rt.alloc()), SIZES.len())
+    let alloc = rt.alloc();
+    pass_each(&SIZES, |(len, chunks)| is_whole(alloc, *len, *chunks))
 }
 
 // Whether a file of so many bytes is too large to be answered, and its head is not.
 fn is_refused(alloc: Global, len: u32) -> Result<bool, Refusal> {
-    let bytes = bytes_of(alloc, len)?;
+    let bytes = bytes_of(alloc, len as usize)?;
     let head = answer_of(alloc, len, b"")?;
     are_answered(alloc, &bytes, 254, REFUSED, &head)
 }

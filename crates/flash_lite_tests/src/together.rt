@@ -1,7 +1,6 @@
 //! Scripts at once whose outputs are longer than all queues, and clients that go while one runs, or while they wait.
-use crate::checks::pass;
-use crate::host::{Host, Kept, Plan, connect, host_of};
-use crate::outputs::{bytes_of, in_chunks};
+use crate::host::{Host, Plan, connect, host_of};
+use crate::outputs::in_chunks;
 use crate::rows::{arrivals, end, is_gone, is_sent, let_arrive};
 use crate::turns::{FROM_SHORT, SHORT};
 use iol_core::descriptors::How;
@@ -10,10 +9,13 @@ use iol_core::numbers::ConnId;
 use iol_core::refusals::Refusal;
 use std::alloc::{AllocError, Global};
 use std::test::Fail;
+use test_parts::checks::pass;
+use test_parts::texts::bytes_of;
+use test_worlds::files::Kept;
 
 const LONG: &[u8] = b"GET /s.cgi HTTP/1.1\r\nHost: a\r\n\r\n";
 
-const BYTES: u32 = 200_000;
+const BYTES: usize = 200_000;
 
 // Takes one segment, with turns after it: what is left of what is wanted, if that begins so.
 fn take<'a>(host: &mut Host, number: u32, wanted: &'a [u8]) -> Option<&'a [u8]> {
@@ -139,22 +141,10 @@ fn holds(alloc: Global, case: Case, workers: u32, others: &[&[u8]]) -> Result<bo
     let requests = requests_of(alloc, others)?;
     let big = bytes_of(alloc, BYTES)?;
     let answer = in_chunks(alloc, &big)?;
-    let files = [
-        Kept {
-            name: "big",
-            bytes: &big,
-            private: false,
-        },
-        Kept {
-            name: "s.cgi",
-            bytes: b"cat big",
-            private: false,
-        },
-        Kept {
-            name: "t.cgi",
-            bytes: b"emit t",
-            private: false,
-        },
+    let files: [Kept<'_>; 3] = [
+        ("big", &big, false),
+        ("s.cgi", b"cat big", false),
+        ("t.cgi", b"emit t", false),
     ];
     let plan = Plan {
         workers,

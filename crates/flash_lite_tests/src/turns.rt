@@ -1,6 +1,5 @@
 //! Scripts beside one another, and what others do meanwhile.
-use crate::checks::pass;
-use crate::host::{Host, Kept, Plan, connect, host_of};
+use crate::host::{Host, Plan, connect, host_of, take_turns};
 use crate::rows::{arrivals, end, is_gone, is_sent, let_arrive, let_wait};
 use iol_core::descriptors::{How, Mode};
 use iol_core::events::{Call, Event, Reply};
@@ -9,18 +8,13 @@ use iol_core::numbers::{ConnId, DomainId, Fd, PoolId};
 use iol_core::refusals::Refusal;
 use std::alloc::{AllocError, Global};
 use std::test::Fail;
+use test_parts::checks::pass;
+use test_worlds::files::Kept;
+use test_worlds::systems::call_of;
 
 const FILES: [Kept<'static>; 2] = [
-    Kept {
-        name: "f",
-        bytes: b"one",
-        private: false,
-    },
-    Kept {
-        name: "s.cgi",
-        bytes: b"emit a\nquery\ncat f",
-        private: false,
-    },
+    ("f", b"one", false),
+    ("s.cgi", b"emit a\nquery\ncat f", false),
 ];
 
 const SCRIPT: &[u8] = b"GET /s.cgi?q=1 HTTP/1.1\r\nHost: a\r\n\r\n";
@@ -36,25 +30,17 @@ const WITH_ONE: &[u8] =
 const WITH_TWO: &[u8] =
     b"HTTP/1.1 200 OK\r\nContent-Type: text/plain\r\nTransfer-Encoding: chunked\r\n\r\n9\r\na\nq=1\ntwo\r\n0\r\n\r\n";
 
-/// A call by a domain.
-pub fn by(number: u32, call: Call) -> Event {
-    Event::Call {
-        by: DomainId::new(number),
-        call,
-    }
-}
-
 // A file is opened to be written, by the guest of a site with one worker.
 fn opens(alloc: Global, name: &[u8]) -> Result<Event, AllocError> {
     let name = Bytes::from_vec(Vec::from_slice(alloc, name)?);
     let mode = Mode::Write;
-    Ok(by(3, Call::OpenFile { name, mode }))
+    Ok(call_of(3, Call::OpenFile { name, mode }))
 }
 
 fn writes(alloc: Global, bytes: &[u8]) -> Result<Event, AllocError> {
     let bytes = Bytes::from_vec(Vec::from_slice(alloc, bytes)?);
     let fd = Fd::new(0);
-    Ok(by(3, Call::Write { fd, bytes }))
+    Ok(call_of(3, Call::Write { fd, bytes }))
 }
 
 // Two new connections, on which a script and a file are asked for.
@@ -75,7 +61,7 @@ fn reads_later(
     open: Event,
     write: Event,
 ) -> bool {
-    let asked = ask_both(host, script, file) && host.turns(1, 1000);
+    let asked = ask_both(host, script, file) && take_turns(host, 1, 1000);
     let opened = host.step(open);
     let written = host.step(write);
     asked
@@ -162,22 +148,10 @@ fn first_goes(alloc: Global, workers: u32) -> Result<bool, Refusal> {
     let long = arrivals(alloc, 1, LONG, 8192)?;
     let short = arrivals(alloc, 2, SHORT, 8192)?;
     let bytes = vec![in alloc; b'z'; 300_000]?;
-    let files = [
-        Kept {
-            name: "big",
-            bytes: &bytes,
-            private: false,
-        },
-        Kept {
-            name: "s.cgi",
-            bytes: b"cat big\nemit",
-            private: false,
-        },
-        Kept {
-            name: "t.cgi",
-            bytes: b"emit t",
-            private: false,
-        },
+    let files: [Kept<'_>; 3] = [
+        ("big", &bytes, false),
+        ("s.cgi", b"cat big\nemit", false),
+        ("t.cgi", b"emit t", false),
     ];
     let plan = Plan {
         workers,
@@ -201,16 +175,8 @@ fn client_goes_and_another_has_its_own_worker(rt: HostRuntime) -> Result<(), Fai
 }
 
 const DENIED_FILES: [Kept<'static>; 2] = [
-    Kept {
-        name: "s.cgi",
-        bytes: b"emit a\ncat x",
-        private: false,
-    },
-    Kept {
-        name: "t.cgi",
-        bytes: b"emit t",
-        private: false,
-    },
+    ("s.cgi", b"emit a\ncat x", false),
+    ("t.cgi", b"emit t", false),
 ];
 
 const BROKEN_OFF: &[u8] =
@@ -223,8 +189,8 @@ fn file_for_the_worker(alloc: Global) -> Result<Vec<Event>, AllocError> {
     let name = Bytes::from_vec(Vec::from_slice(alloc, b"x")?);
     let pool = PoolId::new(4);
     let mut events = Vec::new(alloc);
-    events.push(by(3, Call::PoolCreate { chunks: 1, domains }))?;
-    events.push(by(3, Call::FileNew { name, pool }))?;
+    events.push(call_of(3, Call::PoolCreate { chunks: 1, domains }))?;
+    events.push(call_of(3, Call::FileNew { name, pool }))?;
     events.push(opens(alloc, b"x")?)?;
     events.push(writes(alloc, b"secret")?)?;
     Ok(events)

@@ -13,17 +13,9 @@ use std::rt::Files;
 use std::test::Fail;
 use std::time::SystemTime;
 use std::{fs, io};
+use test_parts::checks::pass;
 
 type Store = FolderBacking<HostRuntime>;
-
-// Passes where all was as it should be.
-fn pass(found: io::Result<bool>) -> Result<(), Fail> {
-    match found {
-        Ok(true) => Ok(()),
-        Ok(false) => Err(Fail::new("something was not as it should be")),
-        Err(error) => Err(Fail::from(error)),
-    }
-}
 
 // A folder with these files, each of these bytes. One that an earlier run left goes first.
 fn make(rt: &HostRuntime, alloc: Global, root: &str, files: &[(&str, &str)]) -> io::Result<()> {

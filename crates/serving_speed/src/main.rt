@@ -14,36 +14,17 @@ mod host;
 mod requests;
 
 use anyhow::Context;
-use host::Host;
+use host::host_of;
 use iol_core::refusals::Refusal;
 use requests::{Plan, Request, What, measure};
-use std::alloc::{AllocError, Global};
+use std::alloc::Global;
 use std::env;
-
-// The next word.
-fn word(words: &mut env::Args) -> anyhow::Result<String> {
-    let word = words.next().context("a word is missing")?;
-    Ok(word)
-}
-
-// The next number.
-fn number(words: &mut env::Args) -> anyhow::Result<u32> {
-    let number: u32 = word(words)?.parse()?;
-    Ok(number)
-}
-
-// So many bytes.
-fn text(alloc: Global, len: u32) -> Result<Vec<u8>, AllocError> {
-    let mut text = Vec::with_capacity(alloc, len as usize)?;
-    for place in 0..len {
-        text.push((place % 251) as u8)?;
-    }
-    Ok(text)
-}
+use test_parts::texts::bytes_of;
+use test_parts::words::{number, word};
 
 // What is measured on a new site, with a file of these bytes.
 fn measured(alloc: Global, bytes: &[u8], plan: &Plan) -> Result<Option<u64>, Refusal> {
-    let mut host = Host::new(alloc, bytes, plan.request.is_for_script())?;
+    let mut host = host_of(alloc, bytes, plan.request.is_for_script())?;
     let count = measure(&mut host, plan);
     drop(host);
     Ok(count)
@@ -56,7 +37,7 @@ fn carry_out(alloc: Global, what: &str, words: &mut env::Args) -> anyhow::Result
     let len = number(words)?;
     let others = number(words)?;
     let rounds = number(words)?;
-    let bytes = text(alloc, len)?;
+    let bytes = bytes_of(alloc, len as usize)?;
     let plan = Plan {
         what,
         request,

@@ -1,5 +1,5 @@
 //! Requests, and how much is done for them.
-use crate::host::Host;
+use crate::host::{Host, arrive, connect, send, waits};
 use iol_core::numbers::ConnId;
 
 /// What comes at once on a connection.
@@ -88,13 +88,13 @@ pub struct Plan {
 
 // Gives turns until all is idle, and takes what is to be sent; how many bytes these are.
 fn settle_and_send(host: &mut Host, conn: ConnId) -> u32 {
-    if host.settle() { host.send(conn) } else { 0 }
+    if host.settle() { send(host, conn) } else { 0 }
 }
 
 // A request with all that is sent for it: how often turns were given, and the bytes.
 fn answer(host: &mut Host, conn: ConnId, request: Request) -> (u32, u64) {
     let mut sent = 0u64;
-    if !host.arrive(conn, request.bytes()) {
+    if !arrive(host, conn, request.bytes()) {
         return (0, 0);
     }
     for times in 1..1000u32 {
@@ -130,11 +130,11 @@ fn rests(host: &mut Host, conn: ConnId, plan: &Plan) -> u64 {
 
 // How many calls the server makes for a request, before it has to wait for more.
 fn calls(host: &mut Host, conn: ConnId, request: Request) -> u64 {
-    if !host.arrive(conn, request.bytes()) {
+    if !arrive(host, conn, request.bytes()) {
         return 0;
     }
     for count in 0..1000u64 {
-        if host.waits() {
+        if waits(host) {
             return count;
         }
     }
@@ -142,18 +142,18 @@ fn calls(host: &mut Host, conn: ConnId, request: Request) -> u64 {
 }
 
 // So many connections on which nothing comes, and then the one on which something does.
-fn connect(host: &mut Host, others: u32) -> Option<ConnId> {
+fn connect_beside(host: &mut Host, others: u32) -> Option<ConnId> {
     for _ in 0..others {
-        let _other = host.connect()?;
+        let _other = connect(host)?;
     }
-    let conn = host.connect()?;
+    let conn = connect(host)?;
     if host.settle() { Some(conn) } else { None }
 }
 
 /// What is measured: the calls of a request, or all bytes that are sent. None where no connection
 /// is made.
 pub fn measure(host: &mut Host, plan: &Plan) -> Option<u64> {
-    let conn = connect(host, plan.others)?;
+    let conn = connect_beside(host, plan.others)?;
     Some(match plan.what {
         What::Calls => calls(host, conn, plan.request),
         What::Answers => answers(host, conn, plan),

@@ -15,15 +15,7 @@ use iol_sum::SumCache;
 use rounds::{sum_often, sum_remembered_often};
 use std::alloc::Global;
 use std::env;
-
-// Bytes of all values.
-fn text(alloc: Global, len: usize) -> anyhow::Result<Vec<u8>> {
-    let mut text = Vec::with_capacity(alloc, len)?;
-    for place in 0..len {
-        text.push((place % 251) as u8)?;
-    }
-    Ok(text)
-}
+use test_parts::texts::bytes_of;
 
 // The sum of an aggregate of these bytes, asked for again and again.
 fn remembered(alloc: Global, text: &[u8], rounds: u64) -> anyhow::Result<u16> {
@@ -50,7 +42,7 @@ fn main(rt: HostRuntime) -> anyhow::Result<()> {
     let what = words.next().context("bytes or remembered?")?;
     let len: usize = words.next().context("how many bytes?")?.parse()?;
     let rounds: u64 = words.next().context("how often?")?.parse()?;
-    let text = text(alloc, len)?;
+    let text = bytes_of(alloc, len)?;
     let sum = match what.as_str() {
         "bytes" => sum_often(&text, rounds),
         "remembered" => remembered(alloc, &text, rounds)?,

@@ -8,7 +8,6 @@
 //! connection (`accept`), or reads an empty pipe (`read`). It prints whether all were idle each time. `bench/turns` measures it.
 #![tactic(auto)]
 
-mod machine;
 mod rounds;
 mod setup;
 mod turns;
@@ -18,21 +17,9 @@ use anyhow::Context;
 use rounds::{Passing, Round, Way};
 use std::alloc::Global;
 use std::env;
-use turns::Waiters;
+use test_parts::words::{number, word};
+use turns::{give_rounds, waiting_world};
 use waiter::Waiter;
-
-// The next word.
-fn word(words: &mut env::Args) -> anyhow::Result<String> {
-    let word = words.next().context("a word is missing")?;
-    Ok(word)
-}
-
-// The number of bytes that the next word is.
-fn len_of(words: &mut env::Args) -> anyhow::Result<u32> {
-    let word = word(words)?;
-    let len: u32 = word.parse()?;
-    Ok(len)
-}
 
 // How often: the next word.
 fn count_of(words: &mut env::Args) -> anyhow::Result<u64> {
@@ -59,7 +46,7 @@ fn waiter_of(words: &mut env::Args) -> anyhow::Result<Waiter> {
 fn round(alloc: Global, way: &str, words: &mut env::Args) -> anyhow::Result<(Round, u32, u64)> {
     let way = Way::of_word(way).context("which way?")?;
     let passing = passing_of(words)?;
-    let len = len_of(words)?;
+    let len = number(words)?;
     let rounds = count_of(words)?;
     let round = Round::new(alloc, way, passing, len)?;
     Ok((round, len, rounds))
@@ -68,9 +55,9 @@ fn round(alloc: Global, way: &str, words: &mut env::Args) -> anyhow::Result<(Rou
 // Passes bytes on.
 fn pass(alloc: Global, way: &str, words: &mut env::Args) -> anyhow::Result<()> {
     let (round, len, rounds) = round(alloc, way, words)?;
-    let mut machine = setup::machine(alloc, len)?;
-    let passed = round.repeat(&mut machine, rounds);
-    drop(machine);
+    let mut system = setup::system(alloc, len)?;
+    let passed = round.repeat(&mut system, rounds);
+    drop(system);
     Ok(passed?)
 }
 
@@ -78,10 +65,10 @@ fn pass(alloc: Global, way: &str, words: &mut env::Args) -> anyhow::Result<()> {
 fn give_turns(alloc: Global, words: &mut env::Args) -> anyhow::Result<bool> {
     let waiter = waiter_of(words)?;
     let rounds = count_of(words)?;
-    let machine = setup::five_domains(alloc)?;
-    let mut waiters = Waiters::new(alloc, machine, waiter)?;
-    let idle = waiters.give_rounds(rounds);
-    drop(waiters);
+    let system = setup::five_domains(alloc)?;
+    let mut world = waiting_world(alloc, system, waiter)?;
+    let idle = give_rounds(&mut world, rounds);
+    drop(world);
     Ok(idle)
 }
 

@@ -1,10 +1,10 @@
 //! The rounds that are measured.
-use crate::machine::Machine;
-use crate::setup::{FILE, READ_END, SOCKET, WRITE_END, call, text};
-use iol_core::events::{Call, Event};
+use crate::setup::{FILE, Machine, READ_END, SOCKET, WRITE_END, call, text};
+use iol_core::events::{Call, Event, Reply};
 use iol_core::numbers::{AggId, ConnId, Fd};
 use iol_core::refusals::Refusal;
 use std::alloc::{AllocError, Global};
+use std::io;
 
 /// The way that bytes go.
 #[derive(Clone, Copy, Drop)]
@@ -111,12 +111,30 @@ fn second(way: Way, passing: Passing, count: u32) -> Option<Event> {
     }
 }
 
+// Drops an aggregate.
+fn drop_agg(machine: &mut Machine, agg: AggId) -> Result<(), Refusal> {
+    match machine.step(&call(Call::AggDrop { agg })) {
+        Reply::Refused(refusal) => Err(refusal),
+        _ => Ok(()),
+    }
+}
+
 // Carries out an event. An aggregate that it makes is dropped at once.
 fn pass(machine: &mut Machine, event: &Event) -> Result<(), Refusal> {
-    if let Some(agg) = machine.step(event)? {
-        machine.step(&call(Call::AggDrop { agg }))?;
+    let reply = machine.step(event);
+    match &reply {
+        Reply::Agg(agg) => drop_agg(machine, *agg),
+        Reply::Refused(refusal) => Err(*refusal),
+        _ => Ok(()),
     }
-    Ok(())
+}
+
+// The peer of a connection takes all that is to be sent.
+fn send(machine: &mut Machine, conn: ConnId) -> Result<(), Refusal> {
+    match machine.drain_to(conn, &mut io::sink(), u32::MAX) {
+        Ok(_) => Ok(()),
+        Err(refusal) => Err(refusal),
+    }
 }
 
 /// An event or two, after which a peer takes what is to be sent or nothing is.
@@ -147,7 +165,7 @@ impl Round {
             pass(machine, event)?;
         }
         if self.sends {
-            machine.send(ConnId::new(1))?;
+            send(machine, ConnId::new(1))?;
         }
         Ok(())
     }

@@ -1,5 +1,5 @@
 //! What is there before the rounds.
-use crate::machine::Machine;
+use iol_back::memory::MemoryBacking;
 use iol_core::configuration::Config;
 use iol_core::descriptors::Mode;
 use iol_core::events::{Call, Event};
@@ -7,6 +7,12 @@ use iol_core::lists::{Bytes, Domains};
 use iol_core::numbers::{AggId, DomainId, Fd, PoolId};
 use iol_core::refusals::Refusal;
 use std::alloc::{AllocError, Global};
+use test_parts::texts::bytes_of;
+use test_worlds::files::empty_store;
+use test_worlds::systems::{TestSystem, call_of};
+
+/// The system that is measured.
+pub type Machine = TestSystem<MemoryBacking>;
 
 /// The descriptors of domain 1.
 pub const FILE: u32 = 0;
@@ -22,17 +28,13 @@ const DOMAINS: u32 = 5;
 
 /// A call of domain 1.
 pub fn call(call: Call) -> Event {
-    let by = DomainId::new(1);
-    Event::Call { by, call }
+    call_of(1, call)
 }
 
 /// So many bytes.
 pub fn text(alloc: Global, len: u32) -> Result<Bytes, AllocError> {
-    let mut text = Vec::with_capacity(alloc, len as usize)?;
-    for place in 0..len {
-        text.push((place % 251) as u8)?;
-    }
-    Ok(Bytes::from_vec(text))
+    let bytes = bytes_of(alloc, len as usize)?;
+    Ok(Bytes::from_vec(bytes))
 }
 
 // A pool of all chunks for these domains, and an aggregate of these bytes in it.
@@ -74,38 +76,14 @@ fn pipes(alloc: Global) -> Result<Vec<Event>, AllocError> {
         events.push(call(Call::DomainNew))?;
     }
     for number in 1..=DOMAINS {
-        let by = DomainId::new(number);
-        let call = Call::Pipe;
-        events.push(Event::Call { by, call })?;
+        events.push(call_of(number, Call::Pipe))?;
     }
     Ok(events)
 }
 
-// Carries out events in order, to the first that is refused.
-fn carry_out(machine: &mut Machine, events: &[Event]) -> Result<(), Refusal> {
-    for event in events {
-        machine.step(event)?;
-    }
-    Ok(())
-}
-
-fn carry_out_all(machine: &mut Machine, lists: &[&[Event]]) -> Result<(), Refusal> {
-    for events in lists {
-        carry_out(machine, events)?;
-    }
-    Ok(())
-}
-
 // A system that has carried out lists of events, one after another.
 fn begun(alloc: Global, lists: &[&[Event]]) -> Result<Machine, Refusal> {
-    let mut machine = Machine::new(alloc)?;
-    match carry_out_all(&mut machine, lists) {
-        Ok(()) => Ok(machine),
-        Err(refusal) => {
-            drop(machine);
-            Err(refusal)
-        }
-    }
+    TestSystem::begun(alloc, Config::DEFAULT, empty_store(alloc), lists)
 }
 
 // What makes the aggregate.
@@ -123,7 +101,7 @@ fn filing(alloc: Global) -> Result<[Event; 5], AllocError> {
 }
 
 /// A system in which domain 1 has an aggregate of so many bytes, a file of the same bytes, a pipe and a connection.
-pub fn machine(alloc: Global, len: u32) -> Result<Machine, Refusal> {
+pub fn system(alloc: Global, len: u32) -> Result<Machine, Refusal> {
     let made = making(alloc, len)?;
     let filed = filing(alloc)?;
     begun(alloc, &[&made, &filed, &queues()])

@@ -1,16 +1,15 @@
 //! Turns of five processes.
 ghost use Rattle.std.specs.Prelude.{◌≡◌, [], ◌∷◌, map, IfOk};
 
-use crate::machine::Machine;
+use crate::setup::Machine;
 use crate::waiter::Waiter;
 use iol_back::memory::MemoryBacking;
 use iol_core::numbers::DomainId;
-use iol_proc::world::World;
-use iol_system::system::System;
 use std::alloc::{AllocError, Global};
-use std::marker::Model;
+use test_worlds::worlds::TestWorld;
 
-type Measured = World<MemoryBacking, Waiter>;
+/// A world of processes that wait.
+pub type Waiters = TestWorld<MemoryBacking, Waiter>;
 
 // The same process for each of five domains.
 fn processes_of(alloc: Global, waiter: Waiter) -> Result<Vec<(DomainId, Waiter)>, AllocError>
@@ -26,46 +25,22 @@ fn processes_of(alloc: Global, waiter: Waiter) -> Result<Vec<(DomainId, Waiter)>
     Vec::from_slice(alloc, &processes)
 }
 
+/// Five of these processes, each in a domain of the system.
 #[tactic(auto, using(crate::proofs::Apart::five_apart))]
-fn world_of(
+pub fn waiting_world(
     alloc: Global,
-    system: System<MemoryBacking>,
+    system: Machine,
     waiter: Waiter,
-) -> Result<Measured, AllocError> {
+) -> Result<Waiters, AllocError> {
     let processes = processes_of(alloc, waiter)?;
-    World::new(alloc, system, processes)
+    TestWorld::new(alloc, system, processes)
 }
 
-/// A world of five processes, of which the rest of the program sees no more than what it answers.
-#[derive(Drop)]
-pub struct Waiters {
-    world: Measured,
-}
-
-impl Model for Waiters {
-    ghost Value = { Unit {0} };
-
-    ghost view = { λ _. tt };
-}
-
-impl Waiters {
-    /// Five of these processes, each in a domain of the system.
-    pub fn new(alloc: Global, machine: Machine, waiter: Waiter) -> Result<Waiters, AllocError> {
-        let world = world_of(alloc, machine.into_system(), waiter)?;
-        Ok(Waiters { world })
+/// Ten turns at a time, and whether all were idle after each ten.
+pub fn give_rounds(world: &mut Waiters, rounds: u64) -> bool {
+    let mut idle = true;
+    for _ in 0..rounds {
+        idle &= world.until_idle(10);
     }
-
-    // Whether all are idle after two turns each.
-    fn is_idle(&mut self) -> bool {
-        self.world.until_idle(10)
-    }
-
-    /// Ten turns at a time, and whether all were idle after each ten.
-    pub fn give_rounds(&mut self, rounds: u64) -> bool {
-        let mut idle = true;
-        for _ in 0..rounds {
-            idle &= self.is_idle();
-        }
-        idle
-    }
+    idle
 }

@@ -1,14 +1,15 @@
 //! A connection that is served in place, a step after another: what each answers is written.
-use crate::host::Host;
-use crate::streams::{Sink, Source};
+use crate::host::{Host, arrive_from, choose, connect};
 use iol_core::descriptors::How;
 use iol_core::events::{Call, Event, Reply};
-use iol_core::numbers::{AggId, ConnId, DomainId, Fd};
+use iol_core::numbers::{AggId, ConnId, Fd};
 use iol_core::refusals::Refusal;
 use iol_proc::choice::Choice;
 use iol_sock::{Arrived, Drained};
 use std::io;
 use std::io::Write;
+use test_parts::streams::{Sink, Source};
+use test_worlds::systems::call_of;
 
 /// What is done, with a number.
 #[derive(Clone, Copy, Drop)]
@@ -104,17 +105,16 @@ fn write_reply<W: Write>(output: &mut W, reply: &Reply) -> io::Result<()> {
 
 // A call of the server's domain.
 fn call(call: Call) -> [Choice; 1] {
-    let by = DomainId::new(1);
-    [Choice::Outside(Event::Call { by, call })]
+    [Choice::Outside(call_of(1, call))]
 }
 
 // The connection is accepted as the first descriptor, and what came in is its first aggregate.
 fn echo<W: Write>(host: &mut Host, count: u32, output: &mut W) -> io::Result<()> {
     let (fd, agg) = (Fd::new(0), AggId::new(1));
-    write_reply(output, &host.choose(&call(Call::Accept)))?;
-    write_reply(output, &host.choose(&call(Call::IolRead { fd, count })))?;
-    write_reply(output, &host.choose(&call(Call::IolWrite { fd, agg })))?;
-    write_reply(output, &host.choose(&call(Call::AggDrop { agg })))
+    write_reply(output, &choose(host, &call(Call::Accept)))?;
+    write_reply(output, &choose(host, &call(Call::IolRead { fd, count })))?;
+    write_reply(output, &choose(host, &call(Call::IolWrite { fd, agg })))?;
+    write_reply(output, &choose(host, &call(Call::AggDrop { agg })))
 }
 
 fn carry_out<W: Write>(
@@ -127,7 +127,7 @@ fn carry_out<W: Write>(
     let max = step.number;
     match step.deed {
         Deed::In => {
-            let arrived = host.arrive_from(conn, &mut streams.source, max);
+            let arrived = arrive_from(host, conn, &mut streams.source, max);
             write_arrived(output, arrived, streams.source.reads)
         }
         Deed::Echo => echo(host, max, output),
@@ -136,12 +136,12 @@ fn carry_out<W: Write>(
             write_drained(output, drained, &streams.sink)
         }
         Deed::Segment => {
-            let reply = host.choose(&[Choice::Outside(Event::Transmit { conn, max })]);
+            let reply = choose(host, &[Choice::Outside(Event::Transmit { conn, max })]);
             write_reply(output, &reply)
         }
         Deed::End => {
             let how = How::Done;
-            let reply = host.choose(&[Choice::Outside(Event::PeerClosed { conn, how })]);
+            let reply = choose(host, &[Choice::Outside(Event::PeerClosed { conn, how })]);
             write_reply(output, &reply)
         }
     }
@@ -154,7 +154,7 @@ pub fn carry_out_all<W: Write>(
     streams: &mut Streams<'_>,
     output: &mut W,
 ) -> io::Result<()> {
-    let Some(conn) = host.connect() else {
+    let Some(conn) = connect(host) else {
         return writeln!(output, "no connection");
     };
     for step in steps {

@@ -19,18 +19,20 @@
 
 mod borrowed;
 mod host;
-mod streams;
 mod turns;
 
 use anyhow::Context;
 use borrowed::{Deed, Step, Streams, carry_out_all};
-use host::{Beginning, Host, Kept, Plan};
+use host::{Beginning, File, Host, Plan, connect};
 use iol_core::refusals::Refusal;
 use iol_serve::ending::Ending;
+use iol_serve::serve::serve_connection;
 use std::alloc::{AllocError, Global};
 use std::io::{Read, Write};
 use std::{env, io};
-use streams::{Limits, Sink, Source};
+use test_parts::streams::{Sink, Source};
+use test_parts::texts::repeated;
+use test_parts::words::{number, word};
 use turns::Course;
 
 /// What is carried out.
@@ -53,38 +55,32 @@ impl Mode {
     }
 }
 
-// The next word.
-fn word(words: &mut env::Args) -> anyhow::Result<String> {
-    let word = words.next().context("a word is missing")?;
-    Ok(word)
-}
-
-// The next number.
-fn number(words: &mut env::Args) -> anyhow::Result<u32> {
-    let number: u32 = word(words)?.parse()?;
-    Ok(number)
-}
-
-fn file_of(first: &str, words: &mut env::Args) -> anyhow::Result<Kept> {
-    let private = first == "guest";
-    let name = word(words)?;
+// A text so many times.
+fn given(alloc: Global, words: &mut env::Args) -> anyhow::Result<Vec<u8>> {
     let count = number(words)?;
     let text = word(words)?;
-    Ok(Kept {
+    let bytes = repeated(alloc, text.as_bytes(), count as usize)?;
+    Ok(bytes)
+}
+
+fn file_of(alloc: Global, first: &str, words: &mut env::Args) -> anyhow::Result<File> {
+    let private = first == "guest";
+    let name = word(words)?;
+    let bytes = given(alloc, words)?;
+    Ok(File {
         private,
         name,
-        count,
-        text,
+        bytes,
     })
 }
 
-fn files_of(alloc: Global, words: &mut env::Args) -> anyhow::Result<Vec<Kept>> {
+fn files_of(alloc: Global, words: &mut env::Args) -> anyhow::Result<Vec<File>> {
     let mut files = Vec::new(alloc);
     for _ in 0..1000 {
         let Some(first) = words.next() else {
             break;
         };
-        files.push(file_of(first.as_str(), words)?)?;
+        files.push(file_of(alloc, first.as_str(), words)?)?;
     }
     Ok(files)
 }
@@ -98,12 +94,6 @@ fn plan_of(alloc: Global, words: &mut env::Args) -> anyhow::Result<Plan> {
         fault,
         files,
     })
-}
-
-fn limits_of(words: &mut env::Args) -> anyhow::Result<Limits> {
-    let most = number(words)?;
-    let fails = number(words)?;
-    Ok(Limits { most, fails })
 }
 
 fn steps_of(alloc: Global, words: &mut env::Args) -> anyhow::Result<Vec<Step>> {
@@ -136,8 +126,8 @@ fn tell<W: Write>(host: &Host, how: &str, output: &mut W) -> io::Result<()> {
 }
 
 fn serve<R: Read, W: Write>(host: &mut Host, input: &mut R, output: &mut W) -> io::Result<()> {
-    let ending = match host.connect() {
-        Some(conn) => Some(host.serve(conn, input, output)),
+    let ending = match connect(host) {
+        Some(conn) => Some(serve_connection(host.world(), conn, input, output)),
         None => None,
     };
     tell(host, word_of(ending), output)
@@ -146,7 +136,7 @@ fn serve<R: Read, W: Write>(host: &mut Host, input: &mut R, output: &mut W) -> i
 // The host of a site, with an empty line before it is made and one behind.
 fn begun<W: Write>(alloc: Global, beginning: Beginning, output: &mut W) -> Result<Host, Refusal> {
     let _before = output.write_all(b"\n");
-    let host = Host::begun(alloc, beginning);
+    let host = host::begun(alloc, beginning);
     let _behind = output.write_all(b"\n");
     host
 }
@@ -229,22 +219,12 @@ fn empty(alloc: Global) -> Plan {
     }
 }
 
-// What a reader gives: a text so many times.
-fn given(alloc: Global, words: &mut env::Args) -> anyhow::Result<Vec<u8>> {
-    let count = number(words)?;
-    let text = word(words)?;
-    let mut bytes = Vec::new(alloc);
-    for _ in 0..count {
-        bytes.extend_from_slice(text.as_bytes())?;
-    }
-    Ok(bytes)
-}
-
 fn run_borrowed(rt: &HostRuntime, words: &mut env::Args) -> anyhow::Result<()> {
     let alloc = rt.alloc();
     let bytes = given(alloc, words)?;
-    let source = Source::new(&bytes, limits_of(words)?);
-    let sink = Sink::new(alloc, bytes.len(), limits_of(words)?)?;
+    let source = Source::new(&bytes, number(words)?, number(words)?);
+    let (most, fails) = (number(words)?, number(words)?);
+    let sink = Sink::with_room(alloc, bytes.len(), most, fails)?;
     let steps = steps_of(alloc, words)?;
     let beginning = Beginning::of(alloc, &empty(alloc))?;
     let mut streams = Streams { source, sink };

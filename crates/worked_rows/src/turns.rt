@@ -1,5 +1,5 @@
 //! A script and a file that are asked for at once, and a file that is written before the script reads it.
-use crate::host::Host;
+use crate::host::{Host, choose};
 use iol_core::descriptors::Mode;
 use iol_core::events::{Call, Event};
 use iol_core::lists::Bytes;
@@ -8,6 +8,7 @@ use iol_proc::choice::Choice;
 use std::alloc::{AllocError, Global};
 use std::io;
 use std::io::Write;
+use test_worlds::systems::call_of;
 
 const SCRIPT: &[u8] = b"GET /s.cgi?q=1 HTTP/1.1\r\nHost: a\r\n\r\n";
 
@@ -28,8 +29,7 @@ fn arrives(alloc: Global, number: u32, text: &[u8]) -> Result<Choice, AllocError
 
 // A call of the guest, which stands behind one worker.
 fn of_guest(call: Call) -> Choice {
-    let by = DomainId::new(3);
-    Choice::Outside(Event::Call { by, call })
+    Choice::Outside(call_of(3, call))
 }
 
 fn opens(alloc: Global) -> Result<Choice, AllocError> {
@@ -115,14 +115,14 @@ fn send_all<W: Write>(host: &mut Host, number: u32, output: &mut W) -> bool {
 // One choice after another comes true.
 fn choose_all(host: &mut Host, choices: &[Choice]) {
     for choice in choices.chunks(1) {
-        let _reply = host.choose(choice);
+        let _reply = choose(host, choice);
     }
 }
 
 /// Lets all happen, and writes what is sent on both connections.
 pub fn carry_out<W: Write>(host: &mut Host, course: &Course, output: &mut W) -> io::Result<()> {
     choose_all(host, &course.asked);
-    let _last = host.choose(&course.turns);
+    let _last = choose(host, &course.turns);
     choose_all(host, &course.written);
     for number in 1..=2 {
         let is_idle = send_all(host, number, output);
