@@ -4,7 +4,7 @@ use Rattle.flash_http.specs.Request.{Answer}
 use Rattle.flash_laws.specs.Client.{Client}
 use Rattle.flash_laws.specs.Conn.{Conn}
 use Rattle.flash_laws.specs.declared.phase.Doing.{Doing}
-use Rattle.flash_laws.specs.declared.run.Running.{Running}
+use Rattle.flash_laws.specs.declared.script_run.Running.{Running}
 
 abbrev pub at : List ℕ → Answer → Doing → Conn
 at kept q d = record { kept = kept; q = q; doing = d }

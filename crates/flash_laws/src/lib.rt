@@ -1,7 +1,7 @@
 //! The file server Flash-Lite: its words, and the law that connections do not meet.
 //!
 //! There is no code here but the phases of a connection ([`phase`]), and the steps of a script's
-//! run ([`run`]). What the server does in a turn is a relation (`specs/Serves`,
+//! run ([`script_run`]). What the server does in a turn is a relation (`specs/Serves`,
 //! `server_turns`): the last reply is filed, a client is picked, and its next call is made; when it
 //! may want memory is said beside it (`specs/Serves/Wanting`). A client is a connection, and the run of
 //! a script while that has it (`specs/Client`). What is said of each call for a client stands in
@@ -22,7 +22,7 @@
 
 pub mod laws;
 pub mod phase;
-pub mod run;
 pub mod run_laws;
+pub mod script_run;
 pub mod worker_laws;
 pub mod world_law;

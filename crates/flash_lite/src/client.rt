@@ -17,13 +17,13 @@ ghost use Rattle.flash_lite.specs.Runs.{IsSmallRunning};
 ghost use Rattle.flash_lite.specs.Small.{IsSmall};
 ghost use Rattle.flash_lite.specs.declared.site.TheConstants.{MAX_WORKERS};
 
-use crate::calls::is_head_only;
 use crate::conn::{Conn, Onward, is_later};
+use crate::request_calls::is_head_only;
 use crate::run::{after_run, keeps_text, next_call, run_worker, told, waits};
 use crate::scripts::{Found, heard_text, is_for_script, tells, whole};
 use flash_http::Asked;
 use flash_laws::phase::{Content, Doing, Learnt};
-use flash_laws::run::Running;
+use flash_laws::script_run::Running;
 use iol_agg::Parts;
 use iol_core::events::{Call, Reply};
 use iol_core::numbers::{AggId, Fd};

@@ -12,9 +12,9 @@ ghost use Rattle.flash_lite.specs.Heard.{heard};
 ghost use Rattle.flash_lite.specs.Onward.{IsOnward, Frees, GoesWith, CanRest, is_over};
 ghost use Rattle.flash_lite.specs.Small.{IsSmall};
 
-use crate::calls::{cut_call, first_call, join_call, make_call, open_call, read_call};
 use crate::find::{begins, told_got, told_opens, told_picks, told_reads, told_shuts, told_spares};
 use crate::heard::append;
+use crate::request_calls::{cut_call, first_call, join_call, make_call, open_call, read_call};
 use crate::send::{told_closes, told_drops, told_heads, told_joins, told_part, told_sent};
 use flash_http::{Asked, MAX_HEAD_BYTES, Window, read_head, window_of};
 use flash_laws::phase::Doing;

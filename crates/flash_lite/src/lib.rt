@@ -13,7 +13,6 @@
 
 pub mod actor;
 mod answers;
-mod calls;
 pub mod client;
 pub mod conn;
 mod find;
@@ -23,6 +22,7 @@ pub mod host;
 pub mod laws;
 mod pick;
 mod place_list;
+mod request_calls;
 mod run;
 mod scripts;
 mod send;

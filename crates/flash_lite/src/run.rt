@@ -26,7 +26,7 @@ use crate::run::start::{
 };
 use flash_http::Request;
 use flash_laws::phase::Doing;
-use flash_laws::run::{Run, Running, Step};
+use flash_laws::script_run::{Run, Running, Step};
 use iol_agg::Parts;
 use iol_core::events::{Call, Reply};
 use iol_core::numbers::Fd;

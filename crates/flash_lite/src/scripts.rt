@@ -8,7 +8,7 @@ ghost use Rattle.flash_laws.specs.Client as spec;
 ghost use Rattle.flash_lite.specs.Course as course;
 ghost use Rattle.flash_lite.specs.Heard.{heard};
 
-use crate::calls::MAX_READ_BYTES;
+use crate::request_calls::MAX_READ_BYTES;
 use flash_cgi::script::{MAX_SCRIPT_BYTES, Script};
 use flash_http::Asked;
 use flash_laws::phase::{Content, Doing};

@@ -23,8 +23,8 @@ use Rattle.flash_laws.specs.Conn.{Conn, is_head_only}
 use Rattle.flash_laws.specs.declared.phase.Content.TheVariants.{Script}
 use Rattle.flash_laws.specs.declared.phase.Doing.{Doing}
 use Rattle.flash_laws.specs.declared.phase.Doing.TheVariants.{Reads as Reading, Spares}
-use Rattle.flash_laws.specs.declared.run.Running.{Running}
-use Rattle.flash_laws.specs.declared.run.Running.TheVariants.{Awaits, Runs, Leaves, Closes as Ends}
+use Rattle.flash_laws.specs.declared.script_run.Running.{Running}
+use Rattle.flash_laws.specs.declared.script_run.Running.TheVariants.{Awaits, Runs, Leaves, Closes as Ends}
 use Rattle.flash_laws.specs.Conn.Fits.{Has}
 use Rattle.flash_laws.specs.Client.Known.{Known, OfFile, OfScript, IsRun, HasKnown}
 use Rattle.flash_laws.specs.Run.Fits.{Progress}

@@ -15,8 +15,8 @@ use Rattle.flash_laws.specs.Conn.{most_read}
 use Rattle.flash_laws.specs.declared.phase.Content.TheVariants.{Script}
 use Rattle.flash_laws.specs.declared.phase.Doing.{Doing}
 use Rattle.flash_laws.specs.declared.phase.Doing.TheVariants.{Opens, Reads as Reading, Spares}
-use Rattle.flash_laws.specs.declared.run.Running.{Running}
-use Rattle.flash_laws.specs.declared.run.Running.TheVariants.{Awaits}
+use Rattle.flash_laws.specs.declared.script_run.Running.{Running}
+use Rattle.flash_laws.specs.declared.script_run.Running.TheVariants.{Awaits}
 use Rattle.flash_laws.specs.Conn.Fits.{is_closing}
 use Rattle.flash_laws.specs.Client.Known.{Known, OfFile, OfScript, HasKnown}
 use Rattle.flash_laws.specs.Conn.Offering.{may_repeat}

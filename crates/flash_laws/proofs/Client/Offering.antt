@@ -24,9 +24,9 @@ use Rattle.flash_laws.specs.Conn as conn
 use Rattle.flash_laws.specs.Conn.{Conn, most_read}
 use Rattle.flash_laws.specs.declared.phase.Doing.{Doing}
 use Rattle.flash_laws.specs.declared.phase.Doing.TheVariants.{Rests, Opens, Reads as Reading, Sends, Offers, Closes}
-use Rattle.flash_laws.specs.declared.run.Step.TheVariants as act
-use Rattle.flash_laws.specs.declared.run.Running.{Running}
-use Rattle.flash_laws.specs.declared.run.Running.TheVariants.{Runs, Leaves}
+use Rattle.flash_laws.specs.declared.script_run.Step.TheVariants as act
+use Rattle.flash_laws.specs.declared.script_run.Running.{Running}
+use Rattle.flash_laws.specs.declared.script_run.Running.TheVariants.{Runs, Leaves}
 use Rattle.flash_laws.specs.Conn.Fits.{Has, Names}
 use Rattle.flash_laws.specs.Client.Known as known
 use Rattle.flash_laws.specs.Client.Known.{Known, OfFile, OfScript, MayPutOut, IsNextOf, is_read, is_silent, IsAfter, HasNoRun, IsRun, HasKnown}

@@ -14,7 +14,7 @@ use Rattle.flash_laws.specs.declared.phase.Learnt.TheVariants.{Text as TextOf}
 use Rattle.flash_laws.specs.declared.phase.Content.TheVariants.{Body, Script}
 use Rattle.flash_laws.specs.declared.phase.Doing.{Doing}
 use Rattle.flash_laws.specs.declared.phase.Doing.TheVariants.{Rests, Reads as Reading, Shuts, Spares}
-use Rattle.flash_laws.specs.declared.run.Running.{Running}
+use Rattle.flash_laws.specs.declared.script_run.Running.{Running}
 use Rattle.flash_laws.specs.Client.Known.{is_read}
 use Rattle.flash_laws.specs.Run as running
 use Rattle.flash_laws.specs.Run.{is_over}

@@ -28,8 +28,8 @@ use Rattle.flash_laws.specs.Site.{server}
 use Rattle.flash_laws.specs.declared.phase.Content.TheVariants.{Script}
 use Rattle.flash_laws.specs.declared.phase.Doing.{Doing}
 use Rattle.flash_laws.specs.declared.phase.Doing.TheVariants.{Reads as Reading, Spares}
-use Rattle.flash_laws.specs.declared.run.Running.{Running}
-use Rattle.flash_laws.specs.declared.run.Running.TheVariants.{Leaves, Closes as Ends}
+use Rattle.flash_laws.specs.declared.script_run.Running.{Running}
+use Rattle.flash_laws.specs.declared.script_run.Running.TheVariants.{Leaves, Closes as Ends}
 use Rattle.flash_laws.proofs.Forms.{at, of as client}
 use Rattle.flash_laws.proofs.Client.Nearing.{is_scripts, wants-plain, told-plain}
 use Rattle.flash_laws.proofs.Run.Ends.{wants-text}

@@ -29,12 +29,12 @@ use Rattle.flash_laws.specs.Answers.Scripts.{script_body, script_response}
 use Rattle.flash_laws.specs.Site.{server}
 use Rattle.flash_laws.specs.declared.phase.Doing.{Doing}
 use Rattle.flash_laws.specs.declared.phase.Doing.TheVariants as doing
-use Rattle.flash_laws.specs.declared.run.TheConstants.{CHUNK_BYTES}
-use Rattle.flash_laws.specs.declared.run.Run.{Run}
-use Rattle.flash_laws.specs.declared.run.Step.{Step}
-use Rattle.flash_laws.specs.declared.run.Step.TheVariants.{Gives, Makes, Hands, Lets, Heads, Sending, Hears, Spills, Gathers, Frames, Wraps, Trims, Ended, Unholds, Stops, Unframes, Lasts, WrapsLast, TrimsLast, Unwraps, Returns, Lapses, Fails}
-use Rattle.flash_laws.specs.declared.run.Running.{Running}
-use Rattle.flash_laws.specs.declared.run.Running.TheVariants.{Awaits, Runs, Leaves, Closes}
+use Rattle.flash_laws.specs.declared.script_run.TheConstants.{CHUNK_BYTES}
+use Rattle.flash_laws.specs.declared.script_run.Run.{Run}
+use Rattle.flash_laws.specs.declared.script_run.Step.{Step}
+use Rattle.flash_laws.specs.declared.script_run.Step.TheVariants.{Gives, Makes, Hands, Lets, Heads, Sending, Hears, Spills, Gathers, Frames, Wraps, Trims, Ended, Unholds, Stops, Unframes, Lasts, WrapsLast, TrimsLast, Unwraps, Returns, Lapses, Fails}
+use Rattle.flash_laws.specs.declared.script_run.Running.{Running}
+use Rattle.flash_laws.specs.declared.script_run.Running.TheVariants.{Awaits, Runs, Leaves, Closes}
 use Rattle.flash_laws.proofs.Client.Phases.{Next, written_fd, next-due}
 use Rattle.flash_laws.proofs.Run.Left as left
 use Rattle.flash_laws.proofs.Run.Left.{is-rest}

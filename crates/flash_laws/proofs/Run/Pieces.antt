@@ -4,7 +4,7 @@ use Rattle.std.proofs.lemmas.List.{length-drop, length-append, drop_all, take_al
 use Rattle.std.proofs.Math.Seq.{take-append_seam, drop-append_seam}
 use Rattle.std.specs.List.{flat_map}
 use Rattle.flash_http.specs.Chunk.{chunk_head, chunk_end, chunk, last_chunk}
-use Rattle.flash_laws.specs.declared.run.TheConstants.{CHUNK_BYTES}
+use Rattle.flash_laws.specs.declared.script_run.TheConstants.{CHUNK_BYTES}
 use Rattle.flash_laws.specs.Answers.Scripts.{pieces_by, pieces, script_body}
 
 fewer : (n : ℕ) (x : ℕ) (xs : List ℕ) → length (x ∷ xs) ≤ suc n → length (drop CHUNK_BYTES (x ∷ xs)) ≤ n

@@ -10,12 +10,12 @@ use Rattle.flash_laws.specs.Run.Offering.{is_stopping, StopsBy}
 use Rattle.flash_laws.specs.Run.{both, is_again, told_gives, told_makes, told_hands, told_lets, told_heads, told_sending, told_spills, told_gathers, told_frames, told_wraps, told_trims, told_returns, told_lapses, told_hears, told_fails, filled, holding, hearing, told}
 use Rattle.flash_laws.specs.declared.phase.Doing.{Doing}
 use Rattle.flash_laws.specs.declared.phase.Doing.TheVariants as doing
-use Rattle.flash_laws.specs.declared.run.TheConstants.{CHUNK_BYTES}
-use Rattle.flash_laws.specs.declared.run.Run.{Run}
-use Rattle.flash_laws.specs.declared.run.Step.{Step}
-use Rattle.flash_laws.specs.declared.run.Step.TheVariants.{Gives, Makes, Hands, Lets, Heads, Sending, Hears, Spills, Gathers, Frames, Wraps, Trims, Returns, Lapses, Fails}
-use Rattle.flash_laws.specs.declared.run.Running.{Running}
-use Rattle.flash_laws.specs.declared.run.Running.TheVariants.{Awaits, Runs}
+use Rattle.flash_laws.specs.declared.script_run.TheConstants.{CHUNK_BYTES}
+use Rattle.flash_laws.specs.declared.script_run.Run.{Run}
+use Rattle.flash_laws.specs.declared.script_run.Step.{Step}
+use Rattle.flash_laws.specs.declared.script_run.Step.TheVariants.{Gives, Makes, Hands, Lets, Heads, Sending, Hears, Spills, Gathers, Frames, Wraps, Trims, Returns, Lapses, Fails}
+use Rattle.flash_laws.specs.declared.script_run.Running.{Running}
+use Rattle.flash_laws.specs.declared.script_run.Running.TheVariants.{Awaits, Runs}
 
 module _ (run : Run) where
   gives : (write : ℕ) (r : Reply) → is_stopping (Runs run (told_gives write r)) ≡ true → ⊥

@@ -29,12 +29,12 @@ use Rattle.flash_laws.specs.Run.{both, worker_domain, job_pipe, has_frame, step_
 use Rattle.flash_laws.specs.Answers.Scripts.{script_text, frame_of, place_in_frame}
 use Rattle.flash_laws.specs.Site.{server}
 use Rattle.flash_laws.specs.declared.phase.Doing.TheVariants as doing
-use Rattle.flash_laws.specs.declared.run.TheConstants.{CHUNK_BYTES}
-use Rattle.flash_laws.specs.declared.run.Run.{Run}
-use Rattle.flash_laws.specs.declared.run.Step.{Step}
-use Rattle.flash_laws.specs.declared.run.Step.TheVariants.{Gives, Makes, Hands, Heads, Hears, Gathers, Frames, Wraps, Returns, Lapses}
-use Rattle.flash_laws.specs.declared.run.Running.{Running}
-use Rattle.flash_laws.specs.declared.run.Running.TheVariants.{Awaits, Runs}
+use Rattle.flash_laws.specs.declared.script_run.TheConstants.{CHUNK_BYTES}
+use Rattle.flash_laws.specs.declared.script_run.Run.{Run}
+use Rattle.flash_laws.specs.declared.script_run.Step.{Step}
+use Rattle.flash_laws.specs.declared.script_run.Step.TheVariants.{Gives, Makes, Hands, Heads, Hears, Gathers, Frames, Wraps, Returns, Lapses}
+use Rattle.flash_laws.specs.declared.script_run.Running.{Running}
+use Rattle.flash_laws.specs.declared.script_run.Running.TheVariants.{Awaits, Runs}
 use Rattle.flash_laws.proofs.Conn.Answering.{some-inj}
 use Rattle.flash_laws.proofs.Counts.{counted, made-short}
 use Rattle.flash_laws.proofs.Conn.Lent.{lent-stays, new-other}

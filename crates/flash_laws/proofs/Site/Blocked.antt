@@ -26,11 +26,11 @@ use Rattle.flash_laws.specs.Site.Tied.{with_at, left_by}
 use Rattle.flash_laws.specs.declared.phase.Content.TheVariants.{Error, Script}
 use Rattle.flash_laws.specs.declared.phase.Doing.{Doing}
 use Rattle.flash_laws.specs.declared.phase.Doing.TheVariants.{Rests, Reads as Reading, Spares, Sent, Drops, Over}
-use Rattle.flash_laws.specs.declared.run.Run.{Run}
-use Rattle.flash_laws.specs.declared.run.Step.{Step}
-use Rattle.flash_laws.specs.declared.run.Step.TheVariants as act
-use Rattle.flash_laws.specs.declared.run.Running.{Running}
-use Rattle.flash_laws.specs.declared.run.Running.TheVariants.{Runs, Leaves}
+use Rattle.flash_laws.specs.declared.script_run.Run.{Run}
+use Rattle.flash_laws.specs.declared.script_run.Step.{Step}
+use Rattle.flash_laws.specs.declared.script_run.Step.TheVariants as act
+use Rattle.flash_laws.specs.declared.script_run.Running.{Running}
+use Rattle.flash_laws.specs.declared.script_run.Running.TheVariants.{Runs, Leaves}
 use Rattle.flash_laws.proofs.Forms.{at, of}
 use Rattle.flash_laws.proofs.Lists.{never_passed}
 

@@ -30,7 +30,7 @@ use Rattle.flash_laws.specs.World.Tie.{Actor, Serving, Working, actor_goes, acto
 use Rattle.flash_laws.specs.Site.Tied.{with_at}
 use Rattle.flash_laws.specs.declared.phase.Flight.{Flight}
 use Rattle.flash_laws.specs.declared.phase.Flight.TheVariants.{Nothing, Accepting, At}
-use Rattle.flash_laws.specs.declared.run.Running.{Running}
+use Rattle.flash_laws.specs.declared.script_run.Running.{Running}
 use Rattle.flash_laws.proofs.Conn.Answering.{some-inj}
 use Rattle.flash_laws.proofs.Site.Blocked.{WaitLaw, none-in, same-there, filed-at, ready-blocked}
 

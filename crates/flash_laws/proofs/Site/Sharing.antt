@@ -25,8 +25,8 @@ use Rattle.flash_laws.specs.declared.phase.Doing.{Doing}
 use Rattle.flash_laws.specs.declared.phase.Doing.TheVariants.{Spares}
 use Rattle.flash_laws.specs.declared.phase.Flight.{Flight}
 use Rattle.flash_laws.specs.declared.phase.Flight.TheVariants.{Nothing, Accepting, At}
-use Rattle.flash_laws.specs.declared.run.Running.{Running}
-use Rattle.flash_laws.specs.declared.run.Running.TheVariants.{Awaits, Runs}
+use Rattle.flash_laws.specs.declared.script_run.Running.{Running}
+use Rattle.flash_laws.specs.declared.script_run.Running.TheVariants.{Awaits, Runs}
 use Rattle.flash_laws.proofs.Forms.{of}
 use Rattle.flash_laws.proofs.Conn.Answering.{some-inj}
 use Rattle.flash_laws.proofs.Site.Clients.{runs-filed, runs-picked}

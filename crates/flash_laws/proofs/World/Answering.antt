@@ -16,7 +16,7 @@ use Rattle.flash_laws.specs.Run.Offering.{past_of, taken_by}
 use Rattle.flash_laws.specs.Shelf.{Shelf, due_to, responses, Begins, IsAnswer}
 use Rattle.flash_laws.specs.declared.phase.Doing.{Doing}
 use Rattle.flash_laws.specs.declared.phase.Doing.TheVariants.{Rests, Got}
-use Rattle.flash_laws.specs.declared.run.Running.{Running}
+use Rattle.flash_laws.specs.declared.script_run.Running.{Running}
 use Rattle.flash_laws.proofs.Conn.Answering.{WindowLaws, order-all, order-more, reads-append}
 
 pub responses-more : (shelf : Shelf) (qs : List Answer) (q : Answer) → responses shelf (qs ++ q ∷ []) ≡ responses shelf qs ++ due_to shelf q

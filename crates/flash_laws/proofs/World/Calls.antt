@@ -26,7 +26,7 @@ use Rattle.flash_laws.specs.Shelf.{Shelf}
 use Rattle.flash_laws.specs.Site.{server}
 use Rattle.flash_laws.specs.declared.phase.Doing.{Doing}
 use Rattle.flash_laws.specs.declared.phase.Doing.TheVariants as doing
-use Rattle.flash_laws.specs.declared.run.Running.{Running}
+use Rattle.flash_laws.specs.declared.script_run.Running.{Running}
 use Rattle.iol_proc.specs.declared.seat.Seat.{Seat}
 use Rattle.flash_laws.proofs.Forms.{at, of}
 use Rattle.flash_laws.proofs.Lists.{clash}

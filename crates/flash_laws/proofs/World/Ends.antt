@@ -23,11 +23,11 @@ use Rattle.flash_laws.specs.Site.{server}
 use Rattle.flash_laws.specs.Run.Stages.{AtDesk, HasWorkerAt}
 use Rattle.flash_laws.specs.declared.phase.Doing.{Doing}
 use Rattle.flash_laws.specs.declared.phase.Doing.TheVariants as doing
-use Rattle.flash_laws.specs.declared.run.Run.{Run}
-use Rattle.flash_laws.specs.declared.run.Step.{Step}
-use Rattle.flash_laws.specs.declared.run.Step.TheVariants.{Gives, Sending, Hears, Spills, Gathers, Frames, Wraps, Trims, Ended, Unholds, Unframes, Lasts, WrapsLast, TrimsLast, Unwraps, Returns}
-use Rattle.flash_laws.specs.declared.run.Running.{Running}
-use Rattle.flash_laws.specs.declared.run.Running.TheVariants.{Runs, Leaves}
+use Rattle.flash_laws.specs.declared.script_run.Run.{Run}
+use Rattle.flash_laws.specs.declared.script_run.Step.{Step}
+use Rattle.flash_laws.specs.declared.script_run.Step.TheVariants.{Gives, Sending, Hears, Spills, Gathers, Frames, Wraps, Trims, Ended, Unholds, Unframes, Lasts, WrapsLast, TrimsLast, Unwraps, Returns}
+use Rattle.flash_laws.specs.declared.script_run.Running.{Running}
+use Rattle.flash_laws.specs.declared.script_run.Running.TheVariants.{Runs, Leaves}
 use Rattle.flash_laws.proofs.Forms.{of}
 use Rattle.flash_laws.proofs.Conn.Answering.{some-inj}
 use Rattle.flash_laws.proofs.Lists.{self}

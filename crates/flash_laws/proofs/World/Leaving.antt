@@ -28,8 +28,8 @@ use Rattle.flash_laws.specs.Site.{server, KeepsSite}
 use Rattle.flash_laws.specs.Run.Stages.{HasWorkerAt}
 use Rattle.flash_laws.specs.declared.phase.Doing.{Doing}
 use Rattle.flash_laws.specs.declared.phase.Doing.TheVariants.{Reads as Reading, Shuts, Spares}
-use Rattle.flash_laws.specs.declared.run.Running.{Running}
-use Rattle.flash_laws.specs.declared.run.Running.TheVariants.{Runs}
+use Rattle.flash_laws.specs.declared.script_run.Running.{Running}
+use Rattle.flash_laws.specs.declared.script_run.Running.TheVariants.{Runs}
 use Rattle.flash_laws.proofs.Forms.{of}
 use Rattle.flash_laws.proofs.Conn.Lent.{lent-stays, has-stays, file-same, content-same}
 use Rattle.flash_laws.proofs.Lists.{self, later_of, both-or}

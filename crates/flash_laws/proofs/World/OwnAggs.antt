@@ -24,7 +24,7 @@ use Rattle.flash_laws.specs.Site.{server}
 use Rattle.flash_laws.specs.Site.Tied.{with_at, left_by}
 use Rattle.flash_laws.specs.declared.phase.Doing.{Doing}
 use Rattle.flash_laws.specs.declared.phase.Doing.TheVariants as doing
-use Rattle.flash_laws.specs.declared.run.Running.{Running}
+use Rattle.flash_laws.specs.declared.script_run.Running.{Running}
 use Rattle.flash_laws.proofs.Forms.{of}
 use Rattle.flash_laws.proofs.Client.Keeping.{script-uses, on-uses, conn-brought, conn-left}
 use Rattle.flash_laws.proofs.Site.Sharing.{left-over-is}

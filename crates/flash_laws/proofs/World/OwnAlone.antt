@@ -27,7 +27,7 @@ use Rattle.flash_laws.specs.Shelf.{Shelf, responses, Begins, IsAnswer}
 use Rattle.flash_laws.specs.Site.{server}
 use Rattle.flash_laws.specs.declared.phase.Doing.{Doing}
 use Rattle.flash_laws.specs.declared.phase.Doing.TheVariants as doing
-use Rattle.flash_laws.specs.declared.run.Running.{Running}
+use Rattle.flash_laws.specs.declared.script_run.Running.{Running}
 use Rattle.flash_laws.proofs.Conn.Answering.{reads-more}
 use Rattle.flash_laws.proofs.World.AllLaws.{AllLaws}
 use Rattle.flash_laws.proofs.World.Alone.Phases.{alone_phase}

@@ -29,8 +29,8 @@ use Rattle.flash_laws.specs.Shelf.{Shelf, due_to, responses}
 use Rattle.flash_laws.specs.Site.{server}
 use Rattle.flash_laws.specs.declared.phase.Doing.{Doing}
 use Rattle.flash_laws.specs.declared.phase.Doing.TheVariants as doing
-use Rattle.flash_laws.specs.declared.run.Running.{Running}
-use Rattle.flash_laws.specs.declared.run.Running.TheVariants.{Leaves, Closes}
+use Rattle.flash_laws.specs.declared.script_run.Running.{Running}
+use Rattle.flash_laws.specs.declared.script_run.Running.TheVariants.{Leaves, Closes}
 use Rattle.flash_laws.proofs.Conn.Answering.{all-more, order-more, last-more}
 use Rattle.flash_laws.proofs.Lists.{bytes-append, clash, next-front, self, take-plus}
 use Rattle.flash_laws.proofs.World.AllLaws.{AllLaws}

@@ -29,7 +29,7 @@ use Rattle.flash_laws.specs.Site.Tied.{with_at}
 use Rattle.flash_laws.specs.World.{IsServing}
 use Rattle.flash_laws.specs.declared.phase.Flight.{Flight}
 use Rattle.flash_laws.specs.declared.phase.Flight.TheVariants.{Nothing, Accepting, At}
-use Rattle.flash_laws.specs.declared.run.Running.{Running}
+use Rattle.flash_laws.specs.declared.script_run.Running.{Running}
 use Rattle.flash_laws.proofs.Forms.{of}
 use Rattle.flash_laws.proofs.Site.InPlaces.{at-same}
 use Rattle.flash_laws.proofs.Lists.{self}

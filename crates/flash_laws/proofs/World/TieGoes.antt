@@ -12,7 +12,7 @@ use Rattle.flash_laws.specs.Run.Fits.{Progress}
 use Rattle.flash_laws.specs.Run.Offering.{past_of, taken_by}
 use Rattle.flash_laws.specs.Shelf.{Shelf, due_to, Begins}
 use Rattle.flash_laws.specs.declared.phase.Doing.{Doing}
-use Rattle.flash_laws.specs.declared.run.Running.{Running}
+use Rattle.flash_laws.specs.declared.script_run.Running.{Running}
 use Rattle.flash_laws.proofs.World.Answering.{begins-less, begins-tie, begins-run}
 
 -- ---- what was sent and is to be sent stays, and so does the peer, unless it closes

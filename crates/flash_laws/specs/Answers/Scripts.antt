@@ -5,7 +5,7 @@ use Rattle.flash_http.specs.Chunk.{chunk_head, chunk_end, last_chunk, chunked_bo
 use Rattle.flash_http.specs.Request.{Wanted}
 unfoldable pub use Rattle.flash_laws.specs.Answers.{script_text}
 use Rattle.flash_laws.specs.Conn.{Following}
-use Rattle.flash_laws.specs.declared.run.TheConstants.{CHUNK_BYTES}
+use Rattle.flash_laws.specs.declared.script_run.TheConstants.{CHUNK_BYTES}
 
 -- cut after each 4,096 bytes, into at most so many pieces
 abbrev pub pieces_by : (most : ℕ) → List ℕ → List (List ℕ)

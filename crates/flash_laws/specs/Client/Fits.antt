@@ -31,7 +31,7 @@ use Rattle.flash_laws.specs.declared.phase.Learnt.TheVariants.{Text}
 use Rattle.flash_laws.specs.declared.phase.Content.TheVariants.{Script}
 use Rattle.flash_laws.specs.declared.phase.Doing.{Doing}
 use Rattle.flash_laws.specs.declared.phase.Doing.TheVariants as doing
-use Rattle.flash_laws.specs.declared.run.Running.{Running}
+use Rattle.flash_laws.specs.declared.script_run.Running.{Running}
 
 -- a request whose query is no longer than a head, and that closes the connection where its response is in no chunks: such are all
 -- that are read from a stream

@@ -19,7 +19,7 @@ use Rattle.flash_laws.specs.Conn.{is_head_only}
 use Rattle.flash_laws.specs.Client.Known.{Known, is_read, HasKnown}
 use Rattle.flash_laws.specs.Run.Keeping.{has_end}
 use Rattle.flash_laws.specs.Site.{server}
-use Rattle.flash_laws.specs.declared.run.Running.{Running}
+use Rattle.flash_laws.specs.declared.script_run.Running.{Running}
 
 -- whether it has this descriptor, of a file or of an end of the pipe that a script puts out into
 abbrev pub has_fd : Client → (g : ℕ) → Bool

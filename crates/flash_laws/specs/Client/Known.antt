@@ -14,7 +14,7 @@ use Rattle.flash_laws.specs.declared.phase.Learnt.TheVariants.{Text}
 use Rattle.flash_laws.specs.declared.phase.Content.TheVariants.{Script}
 use Rattle.flash_laws.specs.declared.phase.Doing.{Doing}
 use Rattle.flash_laws.specs.declared.phase.Doing.TheVariants as doing
-use Rattle.flash_laws.specs.declared.run.Running.{Running}
+use Rattle.flash_laws.specs.declared.script_run.Running.{Running}
 
 -- What the calls for a request gave so far.
 pub data Known : Type 0 where

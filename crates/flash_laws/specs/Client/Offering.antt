@@ -32,9 +32,9 @@ use Rattle.flash_laws.specs.Run.{job_pipe, is_over}
 use Rattle.flash_laws.specs.Site.{server}
 use Rattle.flash_laws.specs.declared.phase.Doing.{Doing}
 use Rattle.flash_laws.specs.declared.phase.Doing.TheVariants as doing
-use Rattle.flash_laws.specs.declared.run.Step.TheVariants.{Hands}
-use Rattle.flash_laws.specs.declared.run.Running.{Running}
-use Rattle.flash_laws.specs.declared.run.Running.TheVariants.{Runs}
+use Rattle.flash_laws.specs.declared.script_run.Step.TheVariants.{Hands}
+use Rattle.flash_laws.specs.declared.script_run.Running.{Running}
+use Rattle.flash_laws.specs.declared.script_run.Running.TheVariants.{Runs}
 
 -- one for which this request begins
 abbrev pub begun : (kept : List ℕ) → Answer → Client

@@ -8,7 +8,7 @@ use Rattle.flash_laws.specs.Run.Wanting.{makes_any}
 use Rattle.flash_laws.specs.Conn.Wanting as wanting
 use Rattle.flash_laws.specs.declared.phase.Doing.{Doing}
 use Rattle.flash_laws.specs.declared.phase.Doing.TheVariants.{Reads}
-use Rattle.flash_laws.specs.declared.run.Running.{Running}
+use Rattle.flash_laws.specs.declared.script_run.Running.{Running}
 
 -- it was reading, and a byte came: of its stream, or of the text of a script
 abbrev pub Hears : (script : Bool) → Doing → Reply → (heard : List ℕ) → Type 0

@@ -20,9 +20,9 @@ use Rattle.flash_http.specs.Request.{Wanted}
 use Rattle.flash_laws.specs.Run.Fits.{Progress, HasRun}
 use Rattle.flash_laws.specs.Run.{job_pipe, uses_agg, ends_of, wants, told, is_over}
 use Rattle.flash_laws.specs.Site.{server}
-use Rattle.flash_laws.specs.declared.run.Step.TheVariants.{Hands, Returns}
-use Rattle.flash_laws.specs.declared.run.Running.{Running}
-use Rattle.flash_laws.specs.declared.run.Running.TheVariants.{Awaits, Runs}
+use Rattle.flash_laws.specs.declared.script_run.Step.TheVariants.{Hands, Returns}
+use Rattle.flash_laws.specs.declared.script_run.Running.{Running}
+use Rattle.flash_laws.specs.declared.script_run.Running.TheVariants.{Awaits, Runs}
 
 -- whether it has this end of its pipe
 abbrev pub has_end : Running → (g : ℕ) → Bool

@@ -9,11 +9,11 @@ use Rattle.flash_laws.specs.Workers.PutsOut as puts
 use Rattle.flash_laws.specs.Run.Fits.{Progress, Ran, Broken, NotRun}
 use Rattle.flash_laws.specs.Run.Offering.{is_stopping}
 use Rattle.flash_laws.specs.Site.{server}
-use Rattle.flash_laws.specs.declared.run.Run.{Run}
-use Rattle.flash_laws.specs.declared.run.Step.{Step}
-use Rattle.flash_laws.specs.declared.run.Step.TheVariants.{Gives, Makes, Hands, Returns, Lapses, Fails}
-use Rattle.flash_laws.specs.declared.run.Running.{Running}
-use Rattle.flash_laws.specs.declared.run.Running.TheVariants.{Runs}
+use Rattle.flash_laws.specs.declared.script_run.Run.{Run}
+use Rattle.flash_laws.specs.declared.script_run.Step.{Step}
+use Rattle.flash_laws.specs.declared.script_run.Step.TheVariants.{Gives, Makes, Hands, Returns, Lapses, Fails}
+use Rattle.flash_laws.specs.declared.script_run.Running.{Running}
+use Rattle.flash_laws.specs.declared.script_run.Running.TheVariants.{Runs}
 
 -- of this output this is still to come, behind what was heard; once nobody takes the response any more it counts for nothing
 abbrev pub IsToCome : Progress → (output more : List ℕ) → Type 0

@@ -1,10 +1,10 @@
 -- What the run of a script wants memory for: the bytes of a call.
 use Rattle.std.specs.Prelude.{Bool, true, false}
 use Rattle.flash_laws.specs.Conn.Wanting.{has_bytes}
-use Rattle.flash_laws.specs.declared.run.Step.{Step}
-use Rattle.flash_laws.specs.declared.run.Step.TheVariants.{Makes, Heads, Sending, Frames, Lasts}
-use Rattle.flash_laws.specs.declared.run.Running.{Running}
-use Rattle.flash_laws.specs.declared.run.Running.TheVariants.{Runs, Leaves}
+use Rattle.flash_laws.specs.declared.script_run.Step.{Step}
+use Rattle.flash_laws.specs.declared.script_run.Step.TheVariants.{Makes, Heads, Sending, Frames, Lasts}
+use Rattle.flash_laws.specs.declared.script_run.Running.{Running}
+use Rattle.flash_laws.specs.declared.script_run.Running.TheVariants.{Runs, Leaves}
 
 -- whether its next call has bytes of its own
 abbrev pub makes_bytes : Step → Bool

@@ -19,11 +19,11 @@ use Rattle.flash_laws.specs.Run as running
 use Rattle.flash_laws.specs.Run.{is_over, is_left, in_phase, told_awaits, told_sending, told_step}
 use Rattle.flash_laws.specs.declared.phase.Doing.{Doing}
 use Rattle.flash_laws.specs.declared.phase.Doing.TheVariants.{Heads, Sends, Cuts, Offers, Swaps, Sent, Breaks, Drops}
-use Rattle.flash_laws.specs.declared.run.Run.{Run}
-use Rattle.flash_laws.specs.declared.run.Step.{Step}
-use Rattle.flash_laws.specs.declared.run.Step.TheVariants as act
-use Rattle.flash_laws.specs.declared.run.Running.{Running}
-use Rattle.flash_laws.specs.declared.run.Running.TheVariants.{Awaits, Runs, Leaves, Closes as Finished}
+use Rattle.flash_laws.specs.declared.script_run.Run.{Run}
+use Rattle.flash_laws.specs.declared.script_run.Step.{Step}
+use Rattle.flash_laws.specs.declared.script_run.Step.TheVariants as act
+use Rattle.flash_laws.specs.declared.script_run.Running.{Running}
+use Rattle.flash_laws.specs.declared.script_run.Running.TheVariants.{Awaits, Runs, Leaves, Closes as Finished}
 use Rattle.flash_lite.specs.Course.{run_after, ended, GoesOn, IsLeft, IsCourse}
 use Rattle.flash_lite.specs.Runs.{waits}
 use Rattle.flash_lite.specs.declared.client.Course.{Course}

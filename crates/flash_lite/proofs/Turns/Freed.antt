@@ -17,8 +17,8 @@ use Rattle.flash_laws.specs.Workers.Sharing.{FlightGoes}
 use Rattle.flash_laws.specs.Site.Tied.{left_by, with_at}
 use Rattle.flash_laws.specs.declared.phase.Doing.{Doing}
 use Rattle.flash_laws.specs.declared.phase.Flight.TheVariants.{At}
-use Rattle.flash_laws.specs.declared.run.Running.{Running}
-use Rattle.flash_laws.specs.declared.run.Running.TheVariants.{Awaits, Runs, Leaves, Closes as Finished}
+use Rattle.flash_laws.specs.declared.script_run.Running.{Running}
+use Rattle.flash_laws.specs.declared.script_run.Running.TheVariants.{Awaits, Runs, Leaves, Closes as Finished}
 use Rattle.flash_laws.proofs.Site.InPlaces.{at-same, at-other, left-map}
 use Rattle.flash_laws.proofs.Lists.{clash}
 use Rattle.flash_lite.specs.Course.{left_with, worker_of}

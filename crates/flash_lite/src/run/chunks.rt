@@ -7,7 +7,7 @@ ghost use Rattle.flash_lite.specs.Runs.{IsSmallStep};
 
 use crate::heard::count;
 use flash_laws::phase::Doing;
-use flash_laws::run::Step;
+use flash_laws::script_run::Step;
 use iol_agg::Parts;
 use iol_core::events::Reply;
 use iol_core::numbers::AggId;

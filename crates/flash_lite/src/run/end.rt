@@ -9,7 +9,7 @@ use crate::heard::count;
 use crate::send::Following;
 use flash_http::Request;
 use flash_laws::phase::Doing;
-use flash_laws::run::{Run, Running, Step};
+use flash_laws::script_run::{Run, Running, Step};
 use iol_agg::Parts;
 use iol_core::events::Reply;
 use iol_core::numbers::AggId;

@@ -10,7 +10,7 @@ use crate::run::parts::broken;
 use crate::send::Following;
 use flash_http::Request;
 use flash_laws::phase::Doing;
-use flash_laws::run::{CHUNK_BYTES, Run, Running, Step};
+use flash_laws::script_run::{CHUNK_BYTES, Run, Running, Step};
 use iol_agg::Parts;
 use iol_core::events::Reply;
 use iol_core::numbers::AggId;

@@ -12,12 +12,12 @@ ghost use Rattle.flash_lite.specs.Runs.{IsGoing, IsSmallRun, IsSmallRunning};
 ghost use Rattle.flash_lite.specs.Small.{IsSmall};
 
 use crate::answers::served_text;
-use crate::calls::{cut_call, join_call};
 use crate::conn::piece_end;
+use crate::request_calls::{cut_call, join_call};
 use crate::send::{Following, goes_on, told_drops, told_heads, told_part};
 use flash_http::Request;
 use flash_laws::phase::{Content, Doing};
-use flash_laws::run::{Run, Running, Step};
+use flash_laws::script_run::{Run, Running, Step};
 use iol_agg::Parts;
 use iol_core::events::{Call, Reply};
 use iol_core::lists::Bytes;

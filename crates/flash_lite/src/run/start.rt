@@ -8,7 +8,7 @@ ghost use Rattle.flash_lite.specs.declared.site.TheConstants.{MAX_WORKERS};
 
 use crate::heard::count;
 use flash_laws::phase::{Content, Doing};
-use flash_laws::run::{Run, Running, Step};
+use flash_laws::script_run::{Run, Running, Step};
 use http::StatusCode;
 use iol_agg::Parts;
 use iol_core::events::Reply;

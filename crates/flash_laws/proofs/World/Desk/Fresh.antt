@@ -42,11 +42,11 @@ use Rattle.flash_laws.specs.Site.Served.{AreAtDesks}
 use Rattle.flash_laws.specs.Shelf.{Shelf}
 use Rattle.flash_laws.specs.Site.{server}
 use Rattle.flash_laws.specs.Run.Stages.{IsReadyFor, IsGiven, IsPuttingOut}
-use Rattle.flash_laws.specs.declared.run.Run.{Run}
-use Rattle.flash_laws.specs.declared.run.Step.{Step}
-use Rattle.flash_laws.specs.declared.run.Step.TheVariants.{Gives, Makes, Hands, Lets, Returns, Lapses}
-use Rattle.flash_laws.specs.declared.run.Running.{Running}
-use Rattle.flash_laws.specs.declared.run.Running.TheVariants.{Awaits, Runs}
+use Rattle.flash_laws.specs.declared.script_run.Run.{Run}
+use Rattle.flash_laws.specs.declared.script_run.Step.{Step}
+use Rattle.flash_laws.specs.declared.script_run.Step.TheVariants.{Gives, Makes, Hands, Lets, Returns, Lapses}
+use Rattle.flash_laws.specs.declared.script_run.Running.{Running}
+use Rattle.flash_laws.specs.declared.script_run.Running.TheVariants.{Awaits, Runs}
 use Rattle.flash_laws.proofs.Lists.{not-equal, clash, self}
 use Rattle.flash_laws.proofs.Run.Stays.{write-elsewhere}
 use Rattle.flash_laws.proofs.World.AllLaws.{AllLaws}

@@ -32,10 +32,10 @@ use Rattle.flash_laws.specs.Run.Offering.{is_stopping}
 use Rattle.flash_laws.specs.Run.{worker_domain, is_reading, step_agg}
 use Rattle.flash_laws.specs.Site.{server, KeepsSite}
 use Rattle.flash_laws.specs.Run.Stages.{HasPipeOf, IsReadyFor, IsGiven, IsPuttingOut, HasPutOut, Stage}
-use Rattle.flash_laws.specs.declared.run.Run.{Run}
-use Rattle.flash_laws.specs.declared.run.Step.{Step}
-use Rattle.flash_laws.specs.declared.run.Step.TheVariants.{Gives, Makes, Hands, Ended, Unholds, Stops, Unframes, Lasts, WrapsLast, TrimsLast, Unwraps, Returns, Lapses, Fails}
-use Rattle.flash_laws.specs.declared.run.Running.TheVariants.{Runs}
+use Rattle.flash_laws.specs.declared.script_run.Run.{Run}
+use Rattle.flash_laws.specs.declared.script_run.Step.{Step}
+use Rattle.flash_laws.specs.declared.script_run.Step.TheVariants.{Gives, Makes, Hands, Ended, Unholds, Stops, Unframes, Lasts, WrapsLast, TrimsLast, Unwraps, Returns, Lapses, Fails}
+use Rattle.flash_laws.specs.declared.script_run.Running.TheVariants.{Runs}
 use Rattle.flash_laws.proofs.Conn.Lent.{file-same, content-same}
 use Rattle.flash_laws.proofs.Lists.{self}
 use Rattle.flash_laws.proofs.World.AllLaws.{AllLaws}

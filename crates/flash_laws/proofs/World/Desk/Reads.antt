@@ -33,12 +33,12 @@ use Rattle.flash_laws.specs.Run.Stages.{IsPuttingOut, IsToCome, IsHeardWhole, St
 use Rattle.flash_laws.specs.declared.phase.Content.TheVariants.{Error}
 use Rattle.flash_laws.specs.declared.phase.Doing.{Doing}
 use Rattle.flash_laws.specs.declared.phase.Doing.TheVariants as doing
-use Rattle.flash_laws.specs.declared.run.TheConstants.{CHUNK_BYTES}
-use Rattle.flash_laws.specs.declared.run.Run.{Run}
-use Rattle.flash_laws.specs.declared.run.Step.{Step}
-use Rattle.flash_laws.specs.declared.run.Step.TheVariants.{Lets, Heads, Sending, Hears, Spills, Gathers, Frames, Wraps, Trims, Ended}
-use Rattle.flash_laws.specs.declared.run.Running.{Running}
-use Rattle.flash_laws.specs.declared.run.Running.TheVariants.{Runs}
+use Rattle.flash_laws.specs.declared.script_run.TheConstants.{CHUNK_BYTES}
+use Rattle.flash_laws.specs.declared.script_run.Run.{Run}
+use Rattle.flash_laws.specs.declared.script_run.Step.{Step}
+use Rattle.flash_laws.specs.declared.script_run.Step.TheVariants.{Lets, Heads, Sending, Hears, Spills, Gathers, Frames, Wraps, Trims, Ended}
+use Rattle.flash_laws.specs.declared.script_run.Running.{Running}
+use Rattle.flash_laws.specs.declared.script_run.Running.TheVariants.{Runs}
 use Rattle.flash_laws.proofs.Lists.{clash}
 use Rattle.flash_laws.proofs.World.AllLaws.{AllLaws}
 use Rattle.flash_laws.proofs.World.Desk.After.{DeskAfter, MayOn, CutBy, may_same, cut_same, goes_on, same_on}

@@ -32,8 +32,8 @@ use Rattle.flash_laws.specs.Site.{server}
 use Rattle.flash_laws.specs.World.Tie.{past_of, Actor, Serving}
 use Rattle.flash_laws.specs.World.{as_actor}
 use Rattle.flash_laws.specs.World.Done.{IsHeldUp, IsHeldUpAt, AsksForScript, RunsForHeldUp, AwaitsWorker, IsDone, IdleIsDone}
-use Rattle.flash_laws.specs.declared.run.Running.{Running}
-use Rattle.flash_laws.specs.declared.run.Running.TheVariants.{Awaits}
+use Rattle.flash_laws.specs.declared.script_run.Running.{Running}
+use Rattle.flash_laws.specs.declared.script_run.Running.TheVariants.{Awaits}
 use Rattle.flash_laws.proofs.Forms.{of}
 use Rattle.flash_laws.proofs.Conn.Answering.{reads-append}
 use Rattle.flash_laws.proofs.Lists.{clash, never_passed}
