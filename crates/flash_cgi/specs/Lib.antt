@@ -19,4 +19,3 @@ pub mod Waiting
 pub mod Wants
 pub mod Working
 pub mod Works
-pub mod Prelude

@@ -8,4 +8,3 @@ pub mod Request
 pub mod Views
 pub mod Response
 pub mod Chunk
-pub mod Prelude

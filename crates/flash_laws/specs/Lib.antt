@@ -7,4 +7,3 @@ pub mod Site
 pub mod Serves
 pub mod Workers
 pub mod World
-pub mod Prelude

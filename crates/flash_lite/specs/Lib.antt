@@ -21,4 +21,3 @@ pub mod Harmless
 pub mod Offering
 pub mod Runs
 pub mod Course
-pub mod Prelude

@@ -2,4 +2,3 @@ pub mod Disk
 pub mod Faulty
 pub mod Folder
 pub mod Lists
-pub mod Prelude

@@ -14,4 +14,3 @@ pub mod Met
 pub mod Hits
 pub mod Texts
 pub mod Served
-pub mod Whole

@@ -24,4 +24,3 @@ pub mod Overwriting
 pub mod Syncing
 pub mod Keeping
 pub mod Laws
-pub mod Prelude

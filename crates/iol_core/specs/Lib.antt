@@ -11,4 +11,3 @@ pub mod Access
 pub mod Positions
 pub mod Values
 pub mod Sharing
-pub mod Prelude

@@ -2,4 +2,3 @@ pub mod Extents
 pub mod Spans
 pub mod Laws
 pub mod Keys
-pub mod Prelude

@@ -11,4 +11,3 @@ pub mod Layout
 pub mod Releases
 pub mod Pages
 pub mod Loose
-pub mod Prelude

@@ -15,7 +15,6 @@ pub mod Effects
 pub mod Reports
 pub mod Beginning
 pub mod Stay
-pub mod Answered
 pub mod Carried
 pub mod ReadOf
 pub mod Numbering

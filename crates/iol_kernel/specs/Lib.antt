@@ -23,4 +23,3 @@ pub mod Queues
 pub mod QueueEnds
 pub mod Borrowed
 pub mod Keeping
-pub mod Prelude

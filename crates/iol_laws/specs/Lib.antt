@@ -14,4 +14,3 @@ pub mod Lengths
 pub mod Labels
 pub mod Sources
 pub mod Opening
-pub mod Prelude

@@ -1,3 +1,2 @@
 pub mod Pools
 pub mod Owned
-pub mod Prelude

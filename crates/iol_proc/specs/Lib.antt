@@ -9,4 +9,3 @@ pub mod Settled
 pub mod Smooth
 pub mod Turns
 pub mod World
-pub mod Prelude

@@ -1,4 +1,3 @@
 pub mod Laws
 pub mod Rounds
 pub mod Serving
-pub mod Prelude

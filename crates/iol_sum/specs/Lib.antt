@@ -1,4 +1,3 @@
 pub mod Pieces
 pub mod Sums
 pub mod Laws
-pub mod Prelude

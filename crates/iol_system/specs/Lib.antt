@@ -18,4 +18,3 @@ pub mod WrittenBack
 pub mod InPlace
 pub mod Late
 pub mod Freed
-pub mod Prelude

@@ -22,10 +22,10 @@
 #![tactic(auto)]
 
 pub mod aggregates;
-mod calls;
 mod in_place;
 pub mod laws;
 mod replies;
+mod step;
 pub mod system;
 
 pub use iol_core::events::{Call, Event, Reply};

@@ -1,0 +1,82 @@
+use Rattle.std.proofs.Common.{rules, ◌∙◌, ℕ, List, [], arith}
+use Rattle.iol_hold.specs.declared.slices.Slice.{Slice}
+use Rattle.iol_desc.specs.Tables.{domains_of}
+use Rattle.iol_cache.specs.Cache.{cached_of}
+use Rattle.iol_kernel.specs.Kernel.{state_of}
+use Rattle.iol_kernel.specs.Readings.{bytes_over}
+use Rattle.iol_kernel.proofs.State.Effects.{few_aggs, few_numbers}
+use Rattle.iol_kernel.proofs.FileCalls.FileReads.{agg_added, given_as, live_moved, live_there, next_moved, numbered_here, open_there, refused_iol_read, row_live}
+use Rattle.iol_kernel.proofs.FileCalls.FileServed.{counts_few, read_fits, reads_done, reads_refused, takes_unmade}
+use Rattle.iol_kernel.proofs.FileCalls.Named.{cache_sound}
+use Rattle.iol_kernel.proofs.kernel.Kernel.take_from_file.Goals as goal
+
+pub reserve_aggs-requires : goal.reserve_aggs-requires
+reserve_aggs-requires g c = row_live c.requires.held
+
+pub returns-in_err-reserve_aggs : goal.returns-in_err-reserve_aggs
+returns-in_err-reserve_aggs g c =
+    let done = takes_unmade c.requires.held (g.B.Backing.disk c.args.backing.now) c.in_err-reserve_aggs.ensures.same c.requires.passed in
+    search (rules, done)
+
+pub read-outcome-requires-clause-sound : goal.read-outcome-requires-clause-sound
+read-outcome-requires-clause-sound g c = cache_sound (state_of c.args.self.now) c.requires.held.is.sound
+
+pub read-outcome-requires-clause-file : goal.read-outcome-requires-clause-file
+read-outcome-requires-clause-file g c = numbered_here c.requires.held
+
+pub read-outcome-requires-clause-few : goal.read-outcome-requires-clause-few
+read-outcome-requires-clause-few g c = counts_few (state_of c.args.self.now) c.requires.held.is.sound
+
+pub returns-in-Err : goal.returns-in-Err
+returns-in-Err g c =
+    let held = c.requires.held in
+    let disk = g.B.Backing.disk c.args.backing.now in
+    let after = g.B.Backing.disk c.read-outcome.new.backing in
+    let t = c.read-outcome.new.store in
+    let k = cached_of c.read-outcome.new.self in
+    let ds = domains_of c.reserve_aggs.new.self in
+    let same = c.in_ok-reserve_aggs.ensures.same in
+    let e = c.in-Err.ensures in
+    record {
+      serves = refused_iol_read disk after t k held e.sound e.fault.honest e.fault.slots e.backed e.gone ds c.in-Err.refusal same c.requires.passed e.late;
+      reads = reads_refused disk after t k held e.pages e.gone.lists (List Slice) ℕ c.in-Err.refusal ds same e.refused e.room e.fault e.late;
+      gives = tt;
+    }
+
+pub overflow_add-moved : goal.overflow_add-moved
+overflow_add-moved g c = omega (arith, read_fits c.requires.held c.in-Ok.ensures.reads, c.len.ensures)
+
+pub set_fd-requires-clause-live : goal.set_fd-requires-clause-live
+set_fd-requires-clause-live g c = live_there c.requires.held c.in_ok-reserve_aggs.ensures.same
+
+pub set_fd-requires-clause-there : goal.set_fd-requires-clause-there
+set_fd-requires-clause-there g c = open_there c.requires.held c.in_ok-reserve_aggs.ensures.same
+
+pub add_agg-requires-clause-live : goal.add_agg-requires-clause-live
+add_agg-requires-clause-live g c = live_moved c.requires.held c.len.result c.in_ok-reserve_aggs.ensures.same c.set_fd.ensures.set
+
+pub add_agg-requires-clause-few : goal.add_agg-requires-clause-few
+add_agg-requires-clause-few g c =
+    let h = state_of c.args.self.now in
+    omega (arith, few_numbers (bytes_over [] h.store) h c.args.by 1 0 c.requires.few, next_moved c.requires.held c.len.result c.in_ok-reserve_aggs.ensures.same c.set_fd.ensures.set)
+
+pub returns : goal.returns
+returns g c =
+    let h = state_of c.args.self.now in
+    let held = c.requires.held in
+    let disk = g.B.Backing.disk c.args.backing.now in
+    let after = g.B.Backing.disk c.read-outcome.new.backing in
+    let t = c.read-outcome.new.store in
+    let k = cached_of c.read-outcome.new.self in
+    let ds = domains_of c.add_agg.new.self in
+    let agg : List Slice = c.in-Ok.agg in
+    let e = c.in-Ok.ensures in
+    let same = c.in_ok-reserve_aggs.ensures.same in
+    let set = c.set_fd.ensures.set in
+    let added = agg_added held c.len.result same set agg c.add_agg.ensures.added c.len.ensures in
+    record {
+      serves = given_as disk after t k held e.sound e.fault.honest e.fault.slots e.backed agg e.goes e.short (read_fits held e.reads) e.pool ds c.add_agg.result added
+          (c.add_agg.ensures.number ∙ next_moved held c.len.result same set) c.requires.passed (omega (arith, few_aggs (bytes_over [] h.store) h c.args.by 1 0 c.requires.few)) e.readable e.text;
+      reads = reads_done disk after t k held e.pages e.goes.lists {B = ℕ} c.add_agg.result agg t ds e.reads e.room e.fault.counts e.fault.honest e.fault.slots;
+      gives = record { slices = agg; read = e.reads; domains = added };
+    }
