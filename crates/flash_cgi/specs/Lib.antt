@@ -19,3 +19,4 @@ pub mod Waiting
 pub mod Wants
 pub mod Working
 pub mod Works
+pub mod Prelude

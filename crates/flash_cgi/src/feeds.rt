@@ -1,7 +1,7 @@
 //! What a worker sees of its aggregates, where they lie.
 ghost use Rattle.std.specs.Prelude.{◌≡◌, ◌<◌, count_by, length, IfOk, OnErr};
 ghost use Rattle.std.specs.List.{concat};
-ghost use Rattle.iol_proc.specs.Looks.{lent};
+ghost use Rattle.iol_proc.specs.Prelude.{lent};
 ghost use Rattle.flash_cgi.specs.Working as spec;
 
 use crate::counts::Counts;

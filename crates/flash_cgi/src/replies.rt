@@ -1,6 +1,6 @@
 //! What a worker is at after the reply to its call.
 ghost use Rattle.std.specs.Prelude.{◌≡◌};
-ghost use Rattle.iol_proc.specs.Looks.{lent};
+ghost use Rattle.iol_proc.specs.Prelude.{lent};
 ghost use Rattle.flash_cgi.specs.Working as spec;
 
 use crate::counts::Said;

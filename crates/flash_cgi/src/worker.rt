@@ -1,7 +1,6 @@
 //! A process that runs scripts.
 ghost use Rattle.std.specs.Prelude.{◌≡◌, ◌<◌, true, Some, IfOk, OnErr, length};
-ghost use Rattle.iol_proc.specs.Looks.{lent};
-ghost use Rattle.iol_proc.specs.Quiet.{IsQuiet};
+ghost use Rattle.iol_proc.specs.Prelude.{lent, IsQuiet};
 ghost use Rattle.flash_cgi.specs.Wants as memory;
 ghost use Rattle.flash_cgi.specs.Working as spec;
 ghost use Rattle.flash_cgi.specs.Works as account;

@@ -3,7 +3,7 @@ ghost use Rattle.std.specs.Prelude.{◌≡◌, ◌<◌, IfErr, IfOk, Some, true,
 ghost use Rattle.iol_core.specs.declared.limits.TheConstants.{MAX_FILES};
 ghost use Rattle.flash_folder.specs.Fault.{StopsServing, StopsStart};
 ghost use Rattle.flash_folder.specs.Folder.{AreFilesOf};
-ghost use Rattle.flash_lite.specs.Setup.{is_in_range};
+ghost use Rattle.flash_lite.specs.Prelude.{is_in_range};
 
 use crate::fault::Fault;
 use flash_lite::actor::Actor;

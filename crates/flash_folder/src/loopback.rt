@@ -1,6 +1,6 @@
 //! A server and its client in one program, over a connection to itself.
 ghost use Rattle.std.specs.Prelude.{◌≡◌, ◌⊎◌, ◌≤◌, ◌↔◌, false, length, IfOk, IsOk};
-ghost use Rattle.iol_serve.specs.Serving.{hung_up};
+ghost use Rattle.iol_serve.specs.Prelude.{hung_up};
 
 use crate::fault::{Fault, ended};
 use crate::folder::Host;

@@ -8,3 +8,4 @@ pub mod Request
 pub mod Views
 pub mod Response
 pub mod Chunk
+pub mod Prelude

@@ -7,3 +7,4 @@ pub mod Site
 pub mod Serves
 pub mod Workers
 pub mod World
+pub mod Prelude

@@ -1,8 +1,7 @@
 //! What the law over a world with workers needs of them, and of the response that is due. The
 //! functions do nothing; their contracts are the laws.
 ghost use Rattle.std.specs.Prelude.{ℕ, Bool};
-ghost use Rattle.flash_cgi.specs.Waiting.{HasWaited};
-ghost use Rattle.flash_cgi.specs.Works.{worker_turns};
+ghost use Rattle.flash_cgi.specs.Prelude.{HasWaited, worker_turns};
 ghost use Rattle.flash_laws.specs.Shelf.Due.{DueMayCome};
 ghost use Rattle.flash_laws.specs.Workers.PutsOut.{TextsArePutOut};
 ghost use Rattle.flash_laws.specs.Workers.{IsDueOf, IsFreeFor, WorkersRun};

@@ -1,10 +1,9 @@
 //! The law over a world in which scripts run: connections do not meet, be it for files or for what scripts put out. The function does
 //! nothing; its contract is the law.
 ghost use Rattle.std.specs.Prelude.{ℕ, Bool, List};
-ghost use Rattle.iol_core.specs.State.{State};
+ghost use Rattle.iol_core.specs.Prelude.{State};
 ghost use Rattle.iol_core.specs.declared.events.Reply.{Reply};
-ghost use Rattle.iol_proc.specs.Settled.{Settles};
-ghost use Rattle.iol_proc.specs.Turns.{Account};
+ghost use Rattle.iol_proc.specs.Prelude.{Settles, Account};
 ghost use Rattle.iol_proc.specs.declared.seat.Seat.{Seat};
 ghost use Rattle.flash_laws.specs.Workers.Crews.{OfEach, OfSome};
 ghost use Rattle.flash_laws.specs.World.Settles.{ActorsSettle};

@@ -21,3 +21,4 @@ pub mod Harmless
 pub mod Offering
 pub mod Runs
 pub mod Course
+pub mod Prelude

@@ -1,10 +1,8 @@
 //! The processes of a site.
 ghost use Rattle.std.specs.Prelude.{◌≡◌, IfOk, OnErr};
-ghost use Rattle.iol_proc.specs.Looks.{lent};
-ghost use Rattle.iol_proc.specs.Quiet.{IsQuiet};
-ghost use Rattle.flash_cgi.specs.Works.{IsNew};
-ghost use Rattle.flash_laws.specs.Serves.Rounds.{in_rounds};
-ghost use Rattle.flash_laws.specs.World.Tie.{actor_goes, actor_turns, actor_wants};
+ghost use Rattle.iol_proc.specs.Prelude.{lent, IsQuiet};
+ghost use Rattle.flash_cgi.specs.Prelude.{IsNew};
+ghost use Rattle.flash_laws.specs.Prelude.{in_rounds, actor_goes, actor_turns, actor_wants};
 ghost use Rattle.flash_lite.specs.Workers.{worker_turns};
 
 use crate::laws::connections_do_not_meet;
@@ -61,7 +59,7 @@ impl Process for Worker {
 }
 
 impl RunsScripts for Worker {
-    ghost use Rattle.flash_laws.specs.Workers.{IsDueOf, IsFreeFor};
+    ghost use Rattle.flash_laws.specs.Prelude.{IsDueOf, IsFreeFor};
     ghost use Rattle.flash_lite.specs.Workers.{worker_settled};
 
     ghost turns = { worker_turns };
@@ -96,7 +94,7 @@ pub struct Actor {
 
 impl Model for Actor {
     ghost use Rattle.flash_cgi.specs.declared.worker.Worker.{Worker as Running};
-    ghost use Rattle.flash_laws.specs.World.Tie.{Actor as Playing};
+    ghost use Rattle.flash_laws.specs.Prelude.{Actor as Playing};
     ghost use Rattle.flash_lite.specs.Actors.{playing};
 
     ghost Value = { Playing Running };
@@ -125,7 +123,7 @@ impl Process for Actor {
 }
 
 impl Settling for Actor {
-    ghost use Rattle.flash_laws.specs.World.Idle.{actor_settled};
+    ghost use Rattle.flash_laws.specs.Prelude.{actor_settled};
     ghost use Rattle.flash_lite.specs.Workers.{worker_settled};
 
     ghost settled = { actor_settled worker_settled };

@@ -1,7 +1,6 @@
 //! The bytes of answers that the server makes itself.
 ghost use Rattle.std.specs.Prelude.{◌≡◌, ◌++◌, IfOk};
-ghost use Rattle.flash_http.specs.Request.{wanted, answer, serve};
-ghost use Rattle.flash_http.specs.Response.{error_body, head_text};
+ghost use Rattle.flash_http.specs.Prelude.{wanted, answer, serve, error_body, head_text};
 ghost use Rattle.flash_lite.specs.Texts as texts;
 ghost use Rattle.flash_laws.specs.Answers as spec;
 ghost use Rattle.flash_laws.specs.Conn as conn;

@@ -4,11 +4,8 @@
 ghost use Rattle.std.specs.Prelude.{◌≡◌, ◌≢◌, ◌<◌, [], IfOk, IfSome, OnErr, None, Some, false, length, true};
 ghost use Rattle.iol_core.specs.declared.events.Reply.TheVariants as reply;
 ghost use Rattle.flash_laws.specs.Client as spec;
-ghost use Rattle.flash_laws.specs.Client.Wanting.{WantsOn, makes_bytes, needs_memory};
+ghost use Rattle.flash_laws.specs.Prelude.{WantsOn, makes_bytes, needs_memory, leaves_off, makes_any, is_over};
 ghost use Rattle.flash_laws.specs.Conn as conn;
-ghost use Rattle.flash_laws.specs.Serves.Rounds.{leaves_off};
-ghost use Rattle.flash_laws.specs.Run.Wanting.{makes_any};
-ghost use Rattle.flash_laws.specs.Run.{is_over};
 ghost use Rattle.flash_laws.specs.Conn.Wanting as wanting;
 ghost use Rattle.flash_laws.specs.declared.phase.Doing.TheVariants.{Rests, Over};
 ghost use Rattle.flash_lite.specs.Course.{CanRest, IsCourse, ended, left_with, run_after, text_heard, worker_of};
@@ -68,7 +65,7 @@ pub struct Client {
 }
 
 impl Model for Client {
-    ghost use Rattle.flash_laws.specs.Client.{Client as Kept};
+    ghost use Rattle.flash_laws.specs.Prelude.{Client as Kept};
     ghost use Rattle.flash_lite.specs.Course.{GoesAsRun};
 
     ghost Value = { Kept };

@@ -2,11 +2,10 @@
 ghost use Rattle.std.specs.Prelude.{◌≡◌, ◌≢◌, ◌<◌, ◌-◌, IfOk, OnErr, drop, length, true, false};
 ghost use Rattle.iol_core.specs.declared.events.Reply.TheVariants.{Agg};
 ghost use Rattle.iol_core.specs.declared.events.Call.TheVariants.{IolRead};
-ghost use Rattle.flash_http.specs.Request.{answer, refuse};
-ghost use Rattle.flash_http.specs.Window.{window_in};
+ghost use Rattle.flash_http.specs.Prelude.{answer, refuse, window_in};
 ghost use Rattle.flash_laws.specs.Conn as spec;
-ghost use Rattle.flash_laws.specs.Conn.Policy.{is_later, is_bare};
-ghost use Rattle.flash_laws.specs.Conn.Wanting.{WantsOn, can_begin, has_bytes};
+ghost use Rattle.flash_laws.specs.Prelude.{is_later, is_bare, can_begin, has_bytes};
+ghost use Rattle.flash_laws.specs.Conn.Wanting.{WantsOn};
 ghost use Rattle.flash_laws.specs.declared.phase.Doing.TheVariants.{Rests, Over};
 ghost use Rattle.flash_lite.specs.Heard.{heard};
 ghost use Rattle.flash_lite.specs.Onward.{IsOnward, Frees, GoesWith, CanRest, is_over};
@@ -48,8 +47,8 @@ pub struct Conn {
 }
 
 impl Model for Conn {
-    ghost use Rattle.flash_http.specs.Request.{answer};
-    ghost use Rattle.flash_laws.specs.Conn.{Conn as Kept, IsAwaiting};
+    ghost use Rattle.flash_http.specs.Prelude.{answer};
+    ghost use Rattle.flash_laws.specs.Prelude.{Conn as Kept, IsAwaiting};
     ghost use Rattle.flash_lite.specs.Small.{IsSmall};
 
     ghost Value = { Kept };

@@ -1,8 +1,7 @@
 //! What follows each call that finds what a request asks for: its stream is read, its file opened,
 //! read and closed.
 ghost use Rattle.std.specs.Prelude.{◌≡◌};
-ghost use Rattle.flash_http.specs.Request.{wanted, answer};
-ghost use Rattle.flash_http.specs.Range.{selected};
+ghost use Rattle.flash_http.specs.Prelude.{wanted, answer, selected};
 ghost use Rattle.flash_laws.specs.Conn as spec;
 ghost use Rattle.flash_lite.specs.Heard.{heard};
 ghost use Rattle.flash_lite.specs.Small.{IsSmall};

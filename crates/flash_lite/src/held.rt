@@ -3,11 +3,8 @@
 ghost use Rattle.std.specs.Prelude.{◌≡◌, ◌<◌, ◌≤◌, ◌+◌, ◌^◌, [], IfOk, IfSome, MatchOption};
 ghost use Rattle.std.specs.Prelude.{None, OnErr, Some, length, true, false};
 ghost use Rattle.std.specs.Vec.{vec_capacity};
-ghost use Rattle.iol_core.specs.Numbered.{in_place, taken};
-ghost use Rattle.flash_laws.specs.Client.{new_client};
-ghost use Rattle.flash_laws.specs.Serves.Rounds.{goes_in, next_in};
-ghost use Rattle.flash_laws.specs.Site.Tied.{grown, with_at};
-ghost use Rattle.flash_laws.specs.Serves.Wanting.{WantsHere, wants_there};
+ghost use Rattle.iol_core.specs.Prelude.{in_place, taken};
+ghost use Rattle.flash_laws.specs.Prelude.{new_client, goes_in, next_in, grown, with_at, WantsHere, wants_there};
 ghost use Rattle.flash_lite.specs.Heard.{heard};
 ghost use Rattle.flash_lite.specs.Order.{CanNote, goers};
 ghost use Rattle.flash_lite.specs.Turning.{CallAt, CourseIn, MayRest, left_at, worker_at};
@@ -35,7 +32,7 @@ pub(crate) struct Clients {
 impl Model for Clients {
     ghost use Rattle.std.specs.Prelude.{◌≤◌, ◌^◌, List, Option, length};
     ghost use Rattle.std.specs.Vec.{vec_capacity};
-    ghost use Rattle.flash_laws.specs.Client.{Client as Kept};
+    ghost use Rattle.flash_laws.specs.Prelude.{Client as Kept};
     ghost use Rattle.flash_lite.specs.Order.{TellsWhoGoes};
 
     ghost Value = { List (Option Kept) };

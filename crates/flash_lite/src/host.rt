@@ -1,9 +1,9 @@
 //! Hosting a site: a system of its own, and its processes in turns.
 ghost use Rattle.std.specs.Prelude.{◌≡◌, true, false, Err, IfErr, IfOk, OnOk};
-ghost use Rattle.iol_back.specs.Disk.{IfHonest};
-ghost use Rattle.iol_core.specs.Configuration.{IsInRange};
-ghost use Rattle.iol_kernel.specs.Readings.{slots_of};
-ghost use Rattle.iol_proc.specs.World.{copied};
+ghost use Rattle.iol_back.specs.Prelude.{IfHonest};
+ghost use Rattle.iol_core.specs.Prelude.{IsInRange};
+ghost use Rattle.iol_kernel.specs.Prelude.{slots_of};
+ghost use Rattle.iol_proc.specs.Prelude.{copied};
 ghost use Rattle.flash_lite.specs.Hosting.{Hosts, HostsOver, IsNewWorld};
 ghost use Rattle.flash_lite.specs.Setup as spec;
 ghost use Rattle.flash_lite.specs.Starting.{Starts, WhyNone};

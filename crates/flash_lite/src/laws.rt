@@ -1,9 +1,5 @@
 //! The law of the server's own processes. The functions do nothing; their contracts are the law.
-ghost use Rattle.flash_laws.specs.World.Settles.{ActorsSettle};
-ghost use Rattle.flash_laws.specs.Serves.Rounds.{in_rounds};
-ghost use Rattle.flash_laws.specs.World.{RunKeepsTie, StepKeepsTie, TiedAtFirst, TiedIsAnswered, TiedIsWhole};
-ghost use Rattle.flash_laws.specs.World.Done.{IdleIsDone};
-ghost use Rattle.flash_laws.specs.World.Host.{HostIsRight};
+ghost use Rattle.flash_laws.specs.Prelude.{ActorsSettle, in_rounds, RunKeepsTie, StepKeepsTie, TiedAtFirst, TiedIsAnswered, TiedIsWhole, IdleIsDone, HostIsRight};
 ghost use Rattle.flash_lite.specs.Crew.{crew_of};
 ghost use Rattle.flash_lite.specs.Harmless.{HarmlessIsMild, HarmlessIsRight};
 ghost use Rattle.flash_lite.specs.Hosting.{HostedIsRight};

@@ -1,7 +1,7 @@
 //! Which client has its turn: the first from a place on that has one that may go, and past all
 //! places one is accepted.
 ghost use Rattle.std.specs.Prelude.{◌≡◌, ◌<◌, ◌+◌, IfOk, None, OnErr};
-ghost use Rattle.flash_laws.specs.Serves.Wanting.{WantsFrom};
+ghost use Rattle.flash_laws.specs.Prelude.{WantsFrom};
 ghost use Rattle.flash_lite.specs.Turning.{AtDoor, PicksFrom, door_to, ends, most_with};
 
 use crate::client::Left;

@@ -2,7 +2,7 @@
 ghost use Rattle.std.specs.Prelude.{◌≡◌, IfOk, if◌then◌else◌};
 ghost use Rattle.iol_core.specs.declared.descriptors.Mode.TheVariants as modes;
 ghost use Rattle.iol_core.specs.declared.events.Call.TheVariants.{Length, IolRead, OpenFile, AggMake, AggCut, AggJoin};
-ghost use Rattle.flash_http.specs.Request.{answer};
+ghost use Rattle.flash_http.specs.Prelude.{answer};
 ghost use Rattle.flash_laws.specs.Conn as spec;
 ghost use Rattle.flash_lite.specs.Small.{first_call};
 

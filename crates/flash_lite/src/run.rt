@@ -3,9 +3,9 @@
 //! Each phase has a function, in the file of its subject: a run is started, output is heard, chunks
 //! are made of it and sent, and it ends.
 ghost use Rattle.std.specs.Prelude.{◌≡◌, ◌<◌, IfOk, IfSome, MatchOption, OnErr, false, true};
-ghost use Rattle.flash_http.specs.Request.{wanted};
+ghost use Rattle.flash_http.specs.Prelude.{wanted};
 ghost use Rattle.flash_laws.specs.Client as client;
-ghost use Rattle.flash_laws.specs.Run.Wanting.{makes_any};
+ghost use Rattle.flash_laws.specs.Prelude.{makes_any};
 ghost use Rattle.flash_laws.specs.Run as spec;
 ghost use Rattle.flash_lite.specs.Heard.{heard};
 ghost use Rattle.flash_lite.specs.Runs.{IsSmallRun, IsSmallStep, IsSmallRunning, job_for, run_worker, waits};

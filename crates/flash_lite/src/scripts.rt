@@ -3,7 +3,7 @@
 ghost use Rattle.std.specs.Prelude.{◌≡◌, ◌<◌, IfOk, MatchOption, OnErr, length};
 ghost use Rattle.std.specs.List.{concat};
 ghost use Rattle.flash_http.specs.MediaType as names;
-ghost use Rattle.flash_http.specs.Request.{answer};
+ghost use Rattle.flash_http.specs.Prelude.{answer};
 ghost use Rattle.flash_laws.specs.Client as spec;
 ghost use Rattle.flash_lite.specs.Course as course;
 ghost use Rattle.flash_lite.specs.Heard.{heard};

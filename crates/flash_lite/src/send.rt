@@ -3,10 +3,9 @@
 ghost use Rattle.std.specs.Prelude.{◌≡◌, ◌≤◌, ◌+◌, ◌^◌, Some};
 ghost use Rattle.iol_core.specs.declared.events.Reply.TheVariants.{Agg, Count, Done, Refused};
 ghost use Rattle.iol_core.specs.declared.refusals.Refusal.TheVariants.{BrokenPipe};
-ghost use Rattle.flash_http.specs.Request.{Answer, answer};
-ghost use Rattle.flash_laws.specs.Answers.{keeps};
+ghost use Rattle.flash_http.specs.Prelude.{Answer, answer};
+ghost use Rattle.flash_laws.specs.Prelude.{keeps, told_part};
 ghost use Rattle.flash_laws.specs.Conn as spec;
-ghost use Rattle.flash_laws.specs.Run.{told_part};
 ghost use Rattle.flash_laws.specs.declared.phase.Doing.TheVariants.{Joins, Sends, Sent};
 ghost use Rattle.flash_lite.specs.Heard.{heard};
 ghost use Rattle.flash_lite.specs.Runs.{IsGoing};

@@ -1,13 +1,7 @@
 //! The server: all clients, by one call a turn.
 ghost use Rattle.std.specs.Prelude.{◌≡◌, IfOk, OnErr, OnOk, min};
-ghost use Rattle.iol_proc.specs.Looks.{lent};
-ghost use Rattle.iol_proc.specs.Quiet.{IsQuiet};
-ghost use Rattle.flash_laws.specs.Site.Places.{NoneRuns};
-ghost use Rattle.flash_laws.specs.Serves.Rounds.{in_rounds};
-ghost use Rattle.flash_laws.specs.Serves.{new_server, heard_of, server_turns};
-ghost use Rattle.flash_laws.specs.Workers.Sharing.{IsShared};
-ghost use Rattle.flash_laws.specs.World.Tie.{server_account};
-ghost use Rattle.flash_laws.specs.Serves.Wanting.{server_wants};
+ghost use Rattle.iol_proc.specs.Prelude.{lent, IsQuiet};
+ghost use Rattle.flash_laws.specs.Prelude.{NoneRuns, in_rounds, new_server, heard_of, server_turns, IsShared, server_account, server_wants};
 ghost use Rattle.flash_lite.specs.Few.{IsFew};
 ghost use Rattle.flash_lite.specs.Heard.{heard};
 ghost use Rattle.flash_lite.specs.Offering.{OffersNext};
@@ -44,7 +38,7 @@ pub struct Server {
 }
 
 impl Model for Server {
-    ghost use Rattle.flash_laws.specs.Serves.{Server as Serving};
+    ghost use Rattle.flash_laws.specs.Prelude.{Server as Serving};
     ghost use Rattle.flash_lite.specs.Table.{IsKept, serving};
 
     ghost Value = { Serving };

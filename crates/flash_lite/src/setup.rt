@@ -1,9 +1,9 @@
 //! Setting a site up.
 ghost use Rattle.std.specs.Prelude.{◌≡◌, ◌<◌, ◌≤◌, ◌+◌, ◌++◌, true, false, Err, IfErr, IfOk, OnOk, map, nat_eq};
 ghost use Rattle.std.specs.List.{IsDistinct, range_with_len};
-ghost use Rattle.iol_back.specs.Disk.{IfHonest};
-ghost use Rattle.iol_system.specs.Machine.{machine_of};
-ghost use Rattle.flash_laws.specs.World.Tie.{Serving};
+ghost use Rattle.iol_back.specs.Prelude.{IfHonest};
+ghost use Rattle.iol_system.specs.Prelude.{machine_of};
+ghost use Rattle.flash_laws.specs.Prelude.{Serving};
 ghost use Rattle.flash_lite.specs.SiteWorld.{IsNewAt};
 ghost use Rattle.flash_lite.specs.Setup as spec;
 ghost use Rattle.flash_lite.specs.SiteState.{LeavesSite};

@@ -1,9 +1,8 @@
 //! What the server keeps: its clients, which call is out, and which of its workers are free.
 ghost use Rattle.std.specs.Prelude.{◌≡◌, ◌<◌, ◌≤◌, ◌+◌, [], IfOk};
 ghost use Rattle.std.specs.Prelude.{OnErr, Some, length, min, replicate, true};
-ghost use Rattle.iol_core.specs.Numbered.{in_place};
-ghost use Rattle.flash_laws.specs.Site.Places.{runs_scripts};
-ghost use Rattle.flash_laws.specs.Serves.Wanting.{MayWant, WantsFrom, WantsPlace};
+ghost use Rattle.iol_core.specs.Prelude.{in_place};
+ghost use Rattle.flash_laws.specs.Prelude.{runs_scripts, MayWant, WantsFrom, WantsPlace};
 ghost use Rattle.flash_laws.specs.declared.phase.Flight.TheVariants.{Nothing, Accepting, At};
 ghost use Rattle.flash_lite.specs.Heard.{heard};
 ghost use Rattle.flash_lite.specs.Table.{IsKept};

@@ -1,7 +1,6 @@
 //! Heads at the limit, and a stream in a store.
 ghost use Rattle.std.specs.Prelude.{[]};
-ghost use Rattle.iol_hold.specs.Moves.{Moves};
-ghost use Rattle.iol_hold.specs.Texts.{bufs_of, AllReadable};
+ghost use Rattle.iol_hold.specs.Prelude.{Moves, bufs_of, AllReadable};
 
 use crate::texts::repeated;
 use flash_http::{Window, window, window_of};

@@ -1,6 +1,5 @@
 -- The slices that meet a range.
 use Rattle.std.proofs.Common.{◌≡◌, ℕ, zero, suc, ◌+◌, ◌-◌, ◌<◌, ◌≤◌, min, cond, List, [], ◌∷◌, ◌++◌, length, take, drop, get_or, refl, sym, ap, ◌∙◌, arith, append_assoc, append-nil}
-use Rattle.std.proofs.Math.Dec.{ltb}
 use Rattle.std.proofs.lemmas.Bool.{lt-ltb, le-ltb}
 use Rattle.std.proofs.lemmas.List.{at_drop_more}
 use Rattle.iol_core.specs.declared.numbers.BufId.{BufId}
@@ -8,23 +7,13 @@ use Rattle.iol_hold.specs.declared.slices.Slice.{Slice}
 use Rattle.iol_hold.specs.Places.{byte_len}
 use Rattle.iol_hold.specs.Texts.{bufs_of}
 use Rattle.iol_hold.proofs.Slicing.{byte_len-cons}
-use Rattle.iol_hold.proofs.Counting.{bufs-append}
+use Rattle.iol_hold.proofs.Counting.{bufs-push}
 use Rattle.iol_agg.specs.Pours.{meeting}
 
-pub meeting-cons : (from to : ℕ) (x : Slice) (xs : List Slice) → meeting from to (x ∷ xs) ≡ meeting from to (x ∷ []) ++ meeting (from - x.len) (to - x.len) xs
+-- the first of them meets it
+meeting-first : (from to : ℕ) (x : Slice) (xs : List Slice) → from < to → from < x.len → meeting from to (x ∷ xs) ≡ x ∷ meeting (from - x.len) (to - x.len) xs
 unfolding meeting
-meeting-cons from to x xs =
-    ap (λ t. t ++ meeting (from - x.len) (to - x.len) xs) (sym (append-nil (cond (ltb from (min to x.len)) (x ∷ []) [])))
-
--- one that meets it
-pub meeting-one : (from to : ℕ) (x : Slice) → from < to → from < x.len → meeting from to (x ∷ []) ≡ x ∷ []
-unfolding meeting
-meeting-one from to x h k = ap (λ b. cond b (x ∷ []) [] ++ []) (lt-ltb from (min to x.len) (omega arith))
-
--- one that ends before
-pub meeting-past : (from to : ℕ) (x : Slice) → x.len ≤ from → meeting from to (x ∷ []) ≡ []
-unfolding meeting
-meeting-past from to x h = ap (λ b. cond b (x ∷ []) [] ++ []) (le-ltb from (min to x.len) (omega arith))
+meeting-first from to x xs h k = ap (λ b. cond b (x ∷ []) [] ++ meeting (from - x.len) (to - x.len) xs) (lt-ltb from (min to x.len) (omega arith))
 
 pub meeting-nil : (from to : ℕ) → meeting from to [] ≡ []
 unfolding meeting
@@ -57,20 +46,21 @@ meeting-drop (x ∷ xs) (suc k) r n from to e f =
     meeting-drop xs k r n (from - x.len) (to - x.len) (omega (arith, len)) (omega (arith, len))
     ∙ ap (λ b. cond b (x ∷ []) [] ++ meeting (from - x.len) (to - x.len) xs) (sym (le-ltb from (min to x.len) (omega (arith, len))))
 
--- the step of a cut: what the slice gives is done, and what is left is of the slices after it
-pub meeting_more : (done after xs : List Slice) (i skip left : ℕ) (x : Slice) (all : List BufId) → i < length xs → x ≡ get_or xs i x
-    → bufs_of after ≡ bufs_of done ++ bufs_of (meeting skip (skip + left) (x ∷ []))
-    → bufs_of done ++ bufs_of (meeting skip (skip + left) (drop i xs)) ≡ all
-    → bufs_of after ++ bufs_of (meeting (skip - x.len) (skip - x.len + (left - (x.len - skip))) (drop (i + 1) xs)) ≡ all
-meeting_more done after xs i skip left x all h e grown before =
-    let end : skip - x.len + (left - (x.len - skip)) ≡ skip + left - x.len = omega arith in
-    let here : List Slice = meeting skip (skip + left) (x ∷ []) in
-    let later : List Slice = meeting (skip - x.len) (skip + left - x.len) (drop (i + 1) xs) in
-    let step : meeting skip (skip + left) (drop i xs) ≡ here ++ later =
-    at_drop_more (meeting skip (skip + left)) xs i x h ∙ ap (λ y. meeting skip (skip + left) (y ∷ drop (i + 1) xs)) (sym e) ∙ meeting-cons skip (skip + left) x (drop (i + 1) xs) in
-    ap (λ t. bufs_of after ++ bufs_of (meeting (skip - x.len) t (drop (i + 1) xs))) end
-    ∙ ap (λ t. t ++ bufs_of later) grown ∙ append_assoc (bufs_of done) (bufs_of here) (bufs_of later)
-    ∙ ap (λ t. bufs_of done ++ t) (sym (ap bufs_of step ∙ bufs-append here later)) ∙ before
+-- the step of a cut: a part of the slice is done, and what is left is of the slices after it, from the first byte on
+pub meeting_more : (out xs : List Slice) (i skip left taken : ℕ) (x part : Slice) (all : List BufId) → i < length xs → x ≡ get_or xs i x
+    → 0 < left → skip < x.len → taken ≡ min left (x.len - skip) → part.hold.buf ≡ x.hold.buf
+    → bufs_of out ++ bufs_of (meeting skip (skip + left) (drop i xs)) ≡ all
+    → bufs_of (out ++ part ∷ []) ++ bufs_of (meeting 0 (0 + (left - taken)) (drop (i + 1) xs)) ≡ all
+meeting_more out xs i skip left taken x part all h e some ends is same before =
+    let rest : List Slice = drop (i + 1) xs in
+    let later : List Slice = meeting 0 (0 + (left - taken)) rest in
+    let done : skip - x.len ≡ 0 = omega arith in
+    let less : skip + left - x.len ≡ 0 + (left - taken) = omega (arith, is) in
+    let step : meeting skip (skip + left) (drop i xs) ≡ x ∷ later =
+    at_drop_more (meeting skip (skip + left)) xs i x h ∙ ap (λ y. meeting skip (skip + left) (y ∷ rest)) (sym e) ∙ meeting-first skip (skip + left) x rest (omega arith) ends
+    ∙ ap (λ n. x ∷ meeting n (skip + left - x.len) rest) done ∙ ap (λ n. x ∷ meeting 0 n rest) less in
+    ap (λ t. t ++ bufs_of later) (bufs-push out part ∙ ap (λ b. bufs_of out ++ b ∷ []) same)
+    ∙ append_assoc (bufs_of out) (x.hold.buf ∷ []) (bufs_of later) ∙ ap (λ l. bufs_of out ++ bufs_of l) (sym step) ∙ before
 
 -- nothing is left
 pub meeting_done : (done xs : List Slice) (skip left : ℕ) (all : List BufId) → meeting skip (skip + left) xs ≡ []

@@ -2,18 +2,11 @@
 ghost use Rattle.std.specs.Prelude.{◌≡◌, ℕ, ◌+◌, ◌<◌, ◌≤◌, ◌^◌, ◌↔◌, [], length, take, true, false, Err, IsTrue, IfOk, IfErr, OnOk, OnErr};
 ghost use Rattle.std.specs.List.{All};
 ghost use Rattle.std.specs.Vec.{vec_capacity};
-ghost use Rattle.iol_core.specs.Meaning.{WantOfRoom};
+ghost use Rattle.iol_core.specs.Prelude.{WantOfRoom};
 ghost use Rattle.iol_core.specs.Text as text;
-ghost use Rattle.iol_arena.specs.Buffers.{Grows};
-ghost use Rattle.iol_arena.specs.Chunks.{free_pages};
-ghost use Rattle.iol_arena.specs.Pages.{IsSameBut, MadeOn};
-ghost use Rattle.iol_pool.specs.Pools.{pool_in};
-ghost use Rattle.iol_hold.specs.Moves.{Moves, Covers, SameLists};
-ghost use Rattle.iol_hold.specs.Places.{byte_len};
-ghost use Rattle.iol_hold.specs.Releases.{FreesOnly};
-ghost use Rattle.iol_hold.specs.Room.{has_room, lowest_of, others_of};
-ghost use Rattle.iol_hold.specs.Stored.{AllSettled, held_bufs};
-ghost use Rattle.iol_hold.specs.Texts.{text_of, bufs_of, AllReadable, IsFilled};
+ghost use Rattle.iol_arena.specs.Prelude.{Grows, free_pages, IsSameBut, MadeOn};
+ghost use Rattle.iol_pool.specs.Prelude.{pool_in};
+ghost use Rattle.iol_hold.specs.Prelude.{Moves, Covers, SameLists, byte_len, FreesOnly, has_room, lowest_of, others_of, AllSettled, held_bufs, text_of, bufs_of, AllReadable, IsFilled};
 ghost use Rattle.iol_agg.specs.Parts.{parts_of, whole_texts};
 
 use crate::parts::Parts;
@@ -37,7 +30,7 @@ pub struct Agg {
 
 impl Model for Agg {
     ghost use Rattle.std.specs.Prelude.{List, ◌≡◌};
-    ghost use Rattle.iol_hold.specs.Places.{byte_len};
+    ghost use Rattle.iol_hold.specs.Prelude.{byte_len};
     ghost use Rattle.iol_hold.specs.declared.slices.Slice.{Slice};
 
     ghost Value = { List Slice };

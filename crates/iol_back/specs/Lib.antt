@@ -2,3 +2,4 @@ pub mod Disk
 pub mod Faulty
 pub mod Folder
 pub mod Lists
+pub mod Prelude

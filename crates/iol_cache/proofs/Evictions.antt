@@ -7,6 +7,7 @@ pub mod Evicted
 pub mod GivenUp
 pub mod NoneLeft
 pub mod Choosing
+pub mod OneByOne
 pub mod Entering
 pub mod Ready
 pub mod Roomy

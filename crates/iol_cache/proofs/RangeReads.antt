@@ -14,3 +14,4 @@ pub mod Met
 pub mod Hits
 pub mod Texts
 pub mod Served
+pub mod Whole

@@ -24,3 +24,4 @@ pub mod Overwriting
 pub mod Syncing
 pub mod Keeping
 pub mod Laws
+pub mod Prelude

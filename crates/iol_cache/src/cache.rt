@@ -1,9 +1,9 @@
 //! The cache of files.
 ghost use Rattle.std.specs.Prelude.{◌≡◌, ℕ, ◌+◌, ◌<◌, ◌≤◌, max, [], ◌∷◌, ◌++◌, length, false, OnOk, OnErr, IfOk};
-ghost use Rattle.iol_arena.specs.State.{page_count};
-ghost use Rattle.iol_pool.specs.Pools.{pool_in};
-ghost use Rattle.iol_hold.specs.Stored.{Stored, IsTidy, IsStill};
-ghost use Rattle.iol_extent.specs.Extents.{last_end};
+ghost use Rattle.iol_arena.specs.Prelude.{page_count};
+ghost use Rattle.iol_pool.specs.Prelude.{pool_in};
+ghost use Rattle.iol_hold.specs.Prelude.{Stored, IsTidy, IsStill};
+ghost use Rattle.iol_extent.specs.Prelude.{last_end};
 ghost use Rattle.iol_cache.specs.Cached.{dirty_in_all, extents_in, extents_in_all, new_file, order_in};
 ghost use Rattle.iol_cache.specs.Sound.{IsSound};
 

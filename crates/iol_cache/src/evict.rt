@@ -1,8 +1,8 @@
 //! Eviction of clean extents.
 ghost use Rattle.std.specs.Prelude.{◌≡◌, ◌≢◌, ◌↔◌, ℕ, ◌+◌, ◌≤◌, [], length, false, Some, None, MatchOption, IsTrue};
-ghost use Rattle.iol_pool.specs.Pools.{pool_in};
-ghost use Rattle.iol_hold.specs.Room.{pages_of, free_of};
-ghost use Rattle.iol_evict.specs.Victims.{IsVictim};
+ghost use Rattle.iol_pool.specs.Prelude.{pool_in};
+ghost use Rattle.iol_hold.specs.Prelude.{pages_of, free_of};
+ghost use Rattle.iol_evict.specs.Prelude.{IsVictim};
 ghost use Rattle.iol_cache.specs.Cached.{extents_in, file_in, order_in, clean_held};
 ghost use Rattle.iol_cache.specs.Cache.{cached_of, holding};
 ghost use Rattle.iol_cache.specs.Evicting.{in_use, ArePassed, IsCleanAt, AllDirty, Evicts, EvictsAll, EvictsPools, GivesUp, MakesFree};

@@ -1,8 +1,6 @@
 //! How often clean extents hold each buffer.
 ghost use Rattle.std.specs.Prelude.{◌≡◌, ◌<◌, ◌^◌, length, slice_index, slice_set, replicate, true, false, IfOk};
-ghost use Rattle.iol_hold.specs.Stored.{count_of};
-ghost use Rattle.iol_hold.specs.Moves.{Covers};
-ghost use Rattle.iol_hold.specs.Texts.{bufs_of};
+ghost use Rattle.iol_hold.specs.Prelude.{count_of, Covers, bufs_of};
 ghost use Rattle.iol_cache.specs.Marks.{AreWithin, CanTurn, Turns, is_held_more, is_in_use, turned};
 
 use iol_hold::{Slice, Store};

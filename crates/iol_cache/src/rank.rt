@@ -1,10 +1,9 @@
 //! Extents of a file in the order of its pool: hits that count, and extents that come in.
 ghost use Rattle.std.specs.Prelude.{◌≡◌, ◌<◌, ◌≤◌, length, IsSome};
-ghost use Rattle.iol_extent.specs.Extents.{IsApart, begins_at};
-ghost use Rattle.iol_evict.specs.Ranking.{entered};
-ghost use Rattle.iol_hold.specs.Places.{byte_len};
+ghost use Rattle.iol_extent.specs.Prelude.{IsApart, begins_at, AreInOrder};
+ghost use Rattle.iol_evict.specs.Prelude.{entered};
+ghost use Rattle.iol_hold.specs.Prelude.{byte_len};
 ghost use Rattle.iol_cache.specs.Cached.{entries_at, parts_in};
-ghost use Rattle.iol_extent.specs.Spans.{AreInOrder};
 ghost use Rattle.iol_cache.specs.Marks.{Marks, AreWithin, HasMarksLeft};
 ghost use Rattle.iol_cache.specs.Reading.{RanksFile, hits_counted, parts_of_spans, all_entered, AllBeginAt, AllWithin, AreAbsent};
 

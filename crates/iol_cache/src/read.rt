@@ -1,25 +1,20 @@
 //! Reads of files: what is in memory is shared, room is made for the gaps, and these are read.
 ghost use Rattle.std.specs.Prelude.{◌≡◌, ◌+◌, ◌<◌, ◌≤◌, ◌^◌, ◌++◌, [], length, true, OnErr, IfOk, IfErr};
-ghost use Rattle.iol_core.specs.Meaning.{WantOfRoomOrFault};
-ghost use Rattle.iol_core.specs.Numbered.{is_numbered};
+ghost use Rattle.iol_core.specs.Prelude.{WantOfRoomOrFault, is_numbered};
 ghost use Rattle.iol_core.specs.Text as text;
-ghost use Rattle.iol_hold.specs.Moves.{Covers};
-ghost use Rattle.iol_hold.specs.Places.{byte_len};
-ghost use Rattle.iol_hold.specs.Room.{pages_of};
-ghost use Rattle.iol_hold.specs.Stored.{Stored};
-ghost use Rattle.iol_hold.specs.Texts.{bufs_of, text_of, AllReadable};
-ghost use Rattle.iol_extent.specs.Extents.{last_end};
+ghost use Rattle.iol_hold.specs.Prelude.{Covers, byte_len, pages_of, Stored, bufs_of, text_of, AllReadable};
+ghost use Rattle.iol_extent.specs.Prelude.{last_end};
 ghost use Rattle.iol_cache.specs.Cached.{clean_held, extents_in, file_in, held};
 ghost use Rattle.iol_cache.specs.Cache.{cached_of, holding};
 ghost use Rattle.iol_cache.specs.Contents.{bytes_in_slot};
 ghost use Rattle.iol_cache.specs.Gaps.{AreOf, gap_pages};
-ghost use Rattle.iol_cache.specs.Going.{Goes, HasRoom, LacksRoom};
+ghost use Rattle.iol_cache.specs.Going.{Goes};
 ghost use Rattle.iol_cache.specs.Loading.{Asks};
 ghost use Rattle.iol_cache.specs.Paging.{FillsLowest};
 ghost use Rattle.iol_cache.specs.Pinned.{pinned_beside};
 ghost use Rattle.iol_cache.specs.Ranges.{FillsAfter, UndoesAfter};
 ghost use Rattle.iol_cache.specs.Reading.{CanFill};
-ghost use Rattle.iol_cache.specs.Serving.{IsBacked, IsEnd, LeavesRange, NoRoomToRead, ReadsFile, ReadsRange, RefusesRead, RoomToRead, TellsFault, TellsRoom, bytes_read};
+ghost use Rattle.iol_cache.specs.Serving.{IsBacked, IsEnd, NoRoomToRead, ReadsFile, RefusesRead, RoomToRead, TellsFault, TellsRoom, bytes_read};
 ghost use Rattle.iol_cache.specs.Sharing.{CountsBelow};
 ghost use Rattle.iol_cache.specs.Sound.{IsSound};
 ghost use Rattle.iol_cache.specs.Weaving.{len_beside};
@@ -87,43 +82,6 @@ impl Cache {
         let filled = self.fill(alloc, store, backing, part, &pins, gaps);
         pins.release(store);
         filled
-    }
-
-    // Reads a range that lies within a file. Without gaps it is what was shared.
-    fn read_range<B: Backing>(
-        &mut self,
-        alloc: Global,
-        store: &mut Store,
-        backing: &mut B,
-        part: &FilePart,
-    ) -> Result<Agg, Refusal>
-        requires sound { IsSound store.old (cached_of self.old) }
-        requires file { is_numbered self.old.files.items part.now.file ≡ true }
-        requires ordered { part.now.from ≤ part.now.to }
-        requires end { part.now.to ≤ MAX_FILE_BYTES }
-        requires few { CountsBelow store.old (2 ^ 59) }
-        ensures reads { IfOk result (ReadsRange part.now.file part.now.from part.now.to
-            (B.disk backing.old) (holding store.old self.old) (holding store.new self.new)) }
-        ensures refused { IfErr result (LeavesRange part.now.file part.now.from part.now.to
-            (holding store.old self.old) (holding store.new self.new)) }
-        ensures readable { IfOk result (AllReadable store.new) }
-        ensures goes { IfOk result (λ a. Goes (B.disk backing.old) [] (bufs_of a)
-            (holding store.old self.old) (holding store.new self.new)) }
-        ensures gone { OnErr result (Goes (B.disk backing.old) [] []
-            (holding store.old self.old) (holding store.new self.new)) }
-        ensures sound { IsSound store.new (cached_of self.new) }
-        ensures room { let old = cached_of self.old in TellsRoom
-            (HasRoom store.old old part.now.file part.now.from part.now.to)
-            (LacksRoom store.old old part.now.file part.now.from part.now.to) result }
-        ensures fault { TellsFault (B.disk backing.old) (B.disk backing.new) result }
-        ensures late { IfErr result
-            (WantOfRoomOrFault (file_in self.old.files.items part.now.file).pool part.now.file) }
-    {
-        let (pins, gaps) = self.pin(alloc, store, part)?;
-        if gaps.as_slice().is_empty() {
-            return Ok(pins);
-        }
-        self.fill_pinned(alloc, store, backing, part, pins, &gaps)
     }
 
     // The end of a file: that of what the store tells of it, or of the last extent.
@@ -204,6 +162,10 @@ impl Cache {
         let from = at.min(end);
         let to = from + count.min(end - from);
         let part = FilePart { file, from, to };
-        self.read_range(alloc, store, backing, &part)
+        let (pins, gaps) = self.pin(alloc, store, &part)?;
+        if gaps.as_slice().is_empty() {
+            return Ok(pins);
+        }
+        self.fill_pinned(alloc, store, backing, &part, pins, &gaps)
     }
 }

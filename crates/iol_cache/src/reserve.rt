@@ -1,6 +1,6 @@
 //! Room for extents, and for the entries that they have in their pool's order once they are clean.
 ghost use Rattle.std.specs.Prelude.{◌≡◌, ◌≤◌, true, OnOk};
-ghost use Rattle.iol_core.specs.Numbered.{is_numbered};
+ghost use Rattle.iol_core.specs.Prelude.{is_numbered};
 ghost use Rattle.iol_cache.specs.Cache.{cached_of};
 ghost use Rattle.iol_cache.specs.Cached.{file_in, order_in};
 ghost use Rattle.iol_cache.specs.Reading.{SameButRoom};

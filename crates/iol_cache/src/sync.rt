@@ -1,7 +1,7 @@
 //! Writing back of dirty extents.
 ghost use Rattle.std.specs.Prelude.{◌≡◌, ◌+◌, ◌<◌, ◌^◌, length, true, None, IfErr, IfSome, OnErr, OnOk};
 ghost use Rattle.iol_core.specs.Text as text;
-ghost use Rattle.iol_core.specs.Numbered.{is_numbered};
+ghost use Rattle.iol_core.specs.Prelude.{is_numbered, FaultOf};
 ghost use Rattle.iol_cache.specs.Cache.{cached_of};
 ghost use Rattle.iol_cache.specs.Cached.{extents_in, parts_in};
 ghost use Rattle.iol_cache.specs.Sharing.{CountsBelow};
@@ -10,13 +10,10 @@ ghost use Rattle.iol_cache.specs.Marks.{AreWithin, HasMarksLeft};
 ghost use Rattle.iol_cache.specs.Reading.{RanksFile};
 ghost use Rattle.iol_cache.specs.Replacing.{Reindexes, IsReady};
 ghost use Rattle.iol_cache.specs.Syncing.{Flushes, KeepsBytes, KeepsContents, KeepsStored, StoresFirst, Syncs, WritesBack, WritesDirty};
-ghost use Rattle.iol_extent.specs.Extents.{IsFirstDirty, cleaned_at};
-ghost use Rattle.iol_back.specs.Disk.{raised};
-ghost use Rattle.iol_core.specs.Meaning.{FaultOf};
-ghost use Rattle.iol_extent.specs.Extents.{IsApart, begins_at, dirty_in};
-ghost use Rattle.iol_evict.specs.Ranking.{entered, with_one_given_back};
-ghost use Rattle.iol_hold.specs.Places.{byte_len};
-ghost use Rattle.iol_hold.specs.Texts.{AllReadable, text_of};
+ghost use Rattle.iol_extent.specs.Prelude.{IsFirstDirty, cleaned_at, IsApart, begins_at, dirty_in};
+ghost use Rattle.iol_back.specs.Prelude.{raised};
+ghost use Rattle.iol_evict.specs.Prelude.{entered, with_one_given_back};
+ghost use Rattle.iol_hold.specs.Prelude.{byte_len, AllReadable, text_of};
 
 use crate::cache::Cache;
 use crate::marks::CleanHolds;

@@ -1,13 +1,8 @@
 //! Writing of files.
 ghost use Rattle.std.specs.Prelude.{◌≡◌, ℕ, ◌+◌, ◌<◌, ◌≤◌, ◌^◌, ◌++◌, length, true, Err, IfErr, OnErr, OnOk};
-ghost use Rattle.iol_core.specs.Meaning.{WantOfRoom};
-ghost use Rattle.iol_core.specs.Numbered.{is_numbered};
-ghost use Rattle.iol_extent.specs.Extents.{end_of};
-ghost use Rattle.iol_hold.specs.Moves.{Covers, Moves, SameLists};
-ghost use Rattle.iol_hold.specs.Places.{byte_len};
-ghost use Rattle.iol_hold.specs.Room.{free_of, pages_of};
-ghost use Rattle.iol_hold.specs.Stored.{AllSettled};
-ghost use Rattle.iol_hold.specs.Texts.{AllReadable, bufs_of};
+ghost use Rattle.iol_core.specs.Prelude.{WantOfRoom, is_numbered};
+ghost use Rattle.iol_extent.specs.Prelude.{end_of};
+ghost use Rattle.iol_hold.specs.Prelude.{Covers, Moves, SameLists, byte_len, free_of, pages_of, AllSettled, AllReadable, bufs_of};
 ghost use Rattle.iol_cache.specs.Cache.{cached_of, holding};
 ghost use Rattle.iol_cache.specs.Cached.{clean_held, extents_in, file_in, held, order_in};
 ghost use Rattle.iol_cache.specs.Composing.{copied_pages};

@@ -11,3 +11,4 @@ pub mod Access
 pub mod Positions
 pub mod Values
 pub mod Sharing
+pub mod Prelude

@@ -2,7 +2,7 @@
 ghost use Rattle.std.specs.Prelude.{◌≡◌, ◌≢◌, ◌+◌, ◌-◌, ◌<◌, ◌≤◌, ◌^◌, length, [], ◌∷◌, ◌++◌, Some, None, OnOk, OnErr, filter, is_some, slice_set, vec_len, vec_capacity};
 ghost use Rattle.std.specs.Option.{option_copied, option_to_list};
 ghost use Rattle.std.specs.Borrow.{sem};
-ghost use Rattle.iol_core.specs.Numbered.{lookup, without};
+ghost use Rattle.iol_core.specs.Prelude.{lookup, without};
 ghost use Rattle.iol_desc.specs.Tables.{place_in, exchanged};
 ghost use Rattle.iol_desc.specs.Lending.{LendsEntry};
 ghost use Rattle.iol_desc.specs.Listed.{there, DropsHole, IsRising, Rises};

@@ -3,7 +3,7 @@ ghost use Rattle.std.specs.Prelude.{◌≡◌, ◌≢◌, ◌+◌, ◌-◌, ◌<
 ghost use Rattle.std.specs.Option.{option_copied};
 ghost use Rattle.std.specs.Borrow.{sem};
 ghost use Rattle.iol_desc.specs.Lending.{LendsPlace, LendsValue};
-ghost use Rattle.iol_core.specs.Numbered.{in_place, lowest, placed, taken};
+ghost use Rattle.iol_core.specs.Prelude.{in_place, lowest, placed, taken};
 
 use std::alloc::{AllocError, Global};
 use std::marker::Model;
@@ -116,7 +116,7 @@ pub struct Places<T> {
 
 impl<T> Model for Places<T> {
     ghost use Rattle.std.specs.Prelude.{◌≡◌, ◌-◌, ◌≤◌, vec_len, vec_capacity};
-    ghost use Rattle.iol_core.specs.Numbered.{lowest, taken};
+    ghost use Rattle.iol_core.specs.Prelude.{lowest, taken};
     ghost use Rattle.iol_desc.specs.Tables as tables;
 
     ghost Value = { tables.Slots T };

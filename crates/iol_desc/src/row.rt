@@ -1,8 +1,7 @@
 //! One domain.
 ghost use Rattle.std.specs.Prelude.{◌≡◌, ◌≢◌, ◌+◌, ◌-◌, ◌<◌, ◌≤◌, ◌^◌, length, true, Option, Some, None, [], IfOk, OnOk, OnErr, slice_set, nat_lt};
 ghost use Rattle.std.specs.Option.{option_copied};
-ghost use Rattle.iol_core.specs.State.{new_domain, no_domain};
-ghost use Rattle.iol_core.specs.Numbered.{in_place, lookup, without, lowest, taken};
+ghost use Rattle.iol_core.specs.Prelude.{new_domain, no_domain, in_place, lookup, without, lowest, taken};
 ghost use Rattle.iol_desc.specs.Tables.{KeepsAggs, with_next, exchanged, with_next_fd, next_ends, with_ends};
 
 use crate::entries::{Entries, Taken};

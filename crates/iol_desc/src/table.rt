@@ -3,8 +3,7 @@
 
 ghost use Rattle.std.specs.Prelude.{◌≡◌, ◌≢◌, ℕ, ◌+◌, ◌-◌, ◌<◌, ◌≤◌, length, true, false, Option, Some, None, List, [], ◌∷◌, ◌++◌, IfOk, OnOk, OnErr, slice_set, nat_lt};
 ghost use Rattle.std.specs.Option.{option_copied};
-ghost use Rattle.iol_core.specs.State.{new_domain, no_domain};
-ghost use Rattle.iol_core.specs.Numbered.{in_place, without, lowest, taken};
+ghost use Rattle.iol_core.specs.Prelude.{new_domain, no_domain, in_place, without, lowest, taken};
 ghost use Rattle.iol_desc.specs.Tables.{domains_of, row_in, room_in, domain_in, with_domain_in, with_default_in, agg_in, aggs_in, with_aggs_in, with_agg_in, without_agg_in, exchanged, too_many_in, fds_in, with_fds_in, with_next_fd, next_ends, with_ends};
 
 use crate::entries::Taken;

@@ -2,3 +2,4 @@ pub mod Ranks
 pub mod Ranking
 pub mod Victims
 pub mod Indexes
+pub mod Prelude

@@ -2,3 +2,4 @@ pub mod Extents
 pub mod Spans
 pub mod Laws
 pub mod Keys
+pub mod Prelude

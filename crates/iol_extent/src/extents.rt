@@ -1,6 +1,6 @@
 //! The extents of a file.
 ghost use Rattle.std.specs.Prelude.{◌≡◌, ◌+◌, ◌-◌, ◌<◌, ◌≤◌, ◌^◌, [], length, All, IfOk, IfSome, OnOk, OnErr, MatchOption, Some, None, insert, remove, max, cond, IsSome, IsTrue, true, false};
-ghost use Rattle.iol_hold.specs.Places.{byte_len};
+ghost use Rattle.iol_hold.specs.Prelude.{byte_len};
 ghost use Rattle.iol_extent.specs.Extents.{Extent, IsFirstMet, met_in, extent_of, extent_over, extent_in, dirty_in, cover, cell_in, dirty_count, end_of, IsApart, IsGap, Adds, Lacks, last_end, begins_at, put_in, without_at, cleaned_at, IsFirstDirty};
 ghost use Rattle.iol_extent.specs.Spans.{IsHit, IsWhole, Tile};
 

@@ -16,7 +16,7 @@ pub(crate) struct Piece {
 
 impl Model for Piece {
     ghost use Rattle.std.specs.Prelude.{◌+◌, ◌<◌, ◌^◌};
-    ghost use Rattle.iol_hold.specs.Places.{byte_len};
+    ghost use Rattle.iol_hold.specs.Prelude.{byte_len};
     ghost use Rattle.iol_extent.specs.Extents.{Extent};
 
     ghost Value = { Extent };

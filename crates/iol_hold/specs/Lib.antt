@@ -11,3 +11,4 @@ pub mod Layout
 pub mod Releases
 pub mod Pages
 pub mod Loose
+pub mod Prelude

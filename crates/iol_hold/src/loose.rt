@@ -1,9 +1,8 @@
 //! Which pages of a pool can be had.
 ghost use Rattle.std.specs.Prelude.{◌≡◌, ◌↔◌, ◌<◌, ◌≤◌, [], ◌∷◌, length, flat_map, slice_index, true, IsTrue};
 ghost use Rattle.std.specs.List.{filter};
-ghost use Rattle.iol_core.specs.Numbered.{is_numbered};
-ghost use Rattle.iol_arena.specs.State.{chunk_count, page_count};
-ghost use Rattle.iol_arena.specs.Chunks.{chunk_pages};
+ghost use Rattle.iol_core.specs.Prelude.{is_numbered};
+ghost use Rattle.iol_arena.specs.Prelude.{chunk_count, page_count, chunk_pages};
 ghost use Rattle.iol_hold.specs.Loose.{is_loose, is_spared, loose_pages};
 
 use crate::store::Store;

@@ -19,7 +19,7 @@ pub struct Slice {
 }
 
 impl Slice {
-    ghost use Rattle.iol_arena.specs.Buffers.{bytes_of};
+    ghost use Rattle.iol_arena.specs.Prelude.{bytes_of};
     ghost use Rattle.iol_hold.specs.Stored.{count_of, IsHome, AllSettled};
     ghost use Rattle.iol_hold.specs.Moves.{Shares, Moves, SameLists};
     ghost use Rattle.iol_hold.specs.Releases.{FreesOnly};

@@ -1,8 +1,7 @@
 //! The store: pages, pools, and how often each buffer is held.
 ghost use Rattle.std.specs.Prelude.{◌≡◌, ◌⊎◌, ◌↔◌, ℕ, ◌+◌, ◌*◌, ◌<◌, ◌≤◌, ◌^◌, [], ◌∷◌, length, replicate, false, slice_range, IfOk, IfErr, Err};
-ghost use Rattle.iol_core.specs.Configuration.{IsInRange};
-ghost use Rattle.iol_arena.specs.State.{no_entry};
-ghost use Rattle.iol_arena.specs.Buffers.{IsLive, SharesNoPage, bytes_of, live_pages};
+ghost use Rattle.iol_core.specs.Prelude.{IsInRange};
+ghost use Rattle.iol_arena.specs.Prelude.{no_entry, IsLive, SharesNoPage, bytes_of, live_pages};
 ghost use Rattle.iol_hold.specs.Stored.{count_of, with_count, IsHome, IsTidy, IsSettled, AllSettled, AllSettledBut};
 ghost use Rattle.iol_hold.specs.Moves.{Shares, Moves, SameLists};
 ghost use Rattle.iol_hold.specs.Releases.{FreesOnly};

@@ -15,6 +15,7 @@ pub mod Effects
 pub mod Reports
 pub mod Beginning
 pub mod Stay
+pub mod Answered
 pub mod Carried
 pub mod ReadOf
 pub mod Numbering

@@ -1,14 +1,17 @@
 -- What a read of a file does, beside the machine's step: where its bytes lie, and what becomes of pages and of the cache.
-use Rattle.std.specs.Prelude.{◌≡◌, ◌⊎◌, ℕ, ◌+◌, ◌-◌, ◌≤◌, min, List, [], length, slice_set, Option, Some, None, Result, IfOk, IfErr, OnErr, OnOk, if◌then◌else◌}
+use Rattle.std.specs.Prelude.{◌≡◌, ◌⊎◌, ℕ, ◌+◌, ◌-◌, ◌≤◌, ◌&&◌, Bool, not, min, List, [], ◌∷◌, length, slice_set, Option, Some, None, Result, IfOk, IfErr, OnErr, OnOk, if◌then◌else◌}
+use Rattle.iol_core.specs.State as machine
 use Rattle.iol_core.specs.State.{State, Domain, is_live, descriptor}
-use Rattle.iol_core.specs.Meaning.{WantOfRoomOrFault}
+use Rattle.iol_core.specs.Meaning.{◌when◌, WantOfRoomOrFault}
 use Rattle.iol_core.specs.Text.{bytes_of}
+use Rattle.iol_core.specs.Calls.Aggregates.{too_many_aggs}
+use Rattle.iol_core.specs.Calls.Descriptors.{denied_by}
 use Rattle.iol_core.specs.Calls.Reading as calls
 use Rattle.iol_core.specs.declared.descriptors.Mode.{Mode}
 use Rattle.iol_core.specs.declared.descriptors.Descriptor.{Descriptor}
 use Rattle.iol_core.specs.declared.descriptors.Descriptor.TheVariants as on
 use Rattle.iol_core.specs.declared.refusals.Refusal.{Refusal}
-use Rattle.iol_core.specs.declared.refusals.Refusal.TheVariants.{NoRoom, Fault}
+use Rattle.iol_core.specs.declared.refusals.Refusal.TheVariants.{NoRoom, Fault, TooMany, WrongMode}
 use Rattle.iol_back.specs.Disk.{Disk}
 use Rattle.iol_hold.specs.Moves.{Moves, SameLists}
 use Rattle.iol_hold.specs.Places.{byte_len}
@@ -55,6 +58,13 @@ read_at d fd found n = file_read d fd found.file found.at found.mode n
 -- the descriptor is open on the file, at the position
 pub record IsOpenAt (h : KernelState) (x : FileRead) : Type 0 where
   pub is : IsOpenOn h x.domain x.fd (on.File x.file x.at x.mode)
+
+-- what may refuse a read of a file before the store is asked: only one by reference makes an aggregate
+abbrev pub read_tests : State → (by f : ℕ) → Mode → (makes_agg : Bool) → List (Option Refusal)
+read_tests s by f mode makes_agg =
+    (WrongMode when not (calls.reads mode)) ∷
+    (TooMany when (makes_agg && too_many_aggs s by 1 0)) ∷
+    denied_by s by (Some (machine.file s f).pool) ∷ []
 
 -- the pool of the file's bytes
 abbrev pub pool_read : KernelState → FileRead → ℕ

@@ -23,3 +23,4 @@ pub mod Queues
 pub mod QueueEnds
 pub mod Borrowed
 pub mod Keeping
+pub mod Prelude

@@ -1,7 +1,7 @@
 //! The files' names and the pools of their bytes: found by name, by slot, and by pool.
 ghost use Rattle.std.specs.Prelude.{◌≡◌, ◌==◌, ◌+◌, ◌<◌, ◌≤◌, ◌++◌, ◌∷◌, [], length, true, false, bytes_eq, option_map, position, OnOk};
 ghost use Rattle.std.specs.List.{list_any};
-ghost use Rattle.iol_core.specs.Numbered.{is_numbered, numbered_or};
+ghost use Rattle.iol_core.specs.Prelude.{is_numbered, numbered_or};
 ghost use Rattle.iol_core.specs.State as machine;
 
 use indexmap::{IndexMap, IndexSet};

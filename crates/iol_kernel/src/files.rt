@@ -2,11 +2,10 @@
 ghost use Rattle.std.specs.Prelude.{◌≡◌, ℕ, ◌+◌, ◌<◌, ◌++◌, ◌∷◌, [], length, false, bytes_eq, IfOk, OnOk, OnErr};
 ghost use Rattle.std.specs.List.{list_any};
 ghost use Rattle.iol_core.specs.State as machine;
-ghost use Rattle.iol_pool.specs.Pools.{pool_in};
-ghost use Rattle.iol_cache.specs.Cached.{new_file, order_in};
-ghost use Rattle.iol_arena.specs.State.{page_count};
-ghost use Rattle.iol_hold.specs.Stored.{Stored, IsTidy, IsStill};
-ghost use Rattle.iol_cache.specs.Cache.{cached_of};
+ghost use Rattle.iol_pool.specs.Prelude.{pool_in};
+ghost use Rattle.iol_cache.specs.Prelude.{new_file, order_in, cached_of};
+ghost use Rattle.iol_arena.specs.Prelude.{page_count};
+ghost use Rattle.iol_hold.specs.Prelude.{Stored, IsTidy, IsStill};
 ghost use Rattle.iol_cache.specs.Sound as cache;
 
 use crate::file_table::FileTable;

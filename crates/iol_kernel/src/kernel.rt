@@ -1,10 +1,7 @@
 //! What a system holds, and the tests that its calls make.
 ghost use Rattle.std.specs.Prelude.{replicate, ◌*◌, ◌⊎◌, ◌↔◌, Err, IfOk, IfErr, OnOk, ◌≡◌, ◌≤◌, ℕ, length, true, false, Option, Some, List, []};
-ghost use Rattle.iol_core.specs.Configuration.{IsInRange};
-ghost use Rattle.iol_core.specs.State.{new_state, is_live, may_read, text, descriptor};
-ghost use Rattle.iol_core.specs.Calls.Aggregates.{lacks_agg, too_many_aggs};
-ghost use Rattle.iol_core.specs.Calls.Descriptors.{too_many_open};
-ghost use Rattle.iol_arena.specs.State.{no_entry};
+ghost use Rattle.iol_core.specs.Prelude.{IsInRange, new_state, is_live, may_read, text, descriptor, lacks_agg, too_many_aggs, too_many_open};
+ghost use Rattle.iol_arena.specs.Prelude.{no_entry};
 ghost use Rattle.iol_kernel.specs.Report.{Reports};
 ghost use Rattle.iol_kernel.specs.KernelState.{machine_of, IsSound};
 ghost use Rattle.iol_kernel.specs.Readings.{Reading, slots_of};

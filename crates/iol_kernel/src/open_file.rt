@@ -1,9 +1,10 @@
 //! What a descriptor on a file says: which file, where it reads and writes on, and how it was opened.
-ghost use Rattle.std.specs.Prelude.{◌≡◌};
+ghost use Rattle.std.specs.Prelude.{◌≡◌, ◌+◌, ◌≤◌};
 ghost use Rattle.iol_core.specs.Calls.Reading as reading;
 ghost use Rattle.iol_core.specs.Calls.Writing as writing;
 
-use iol_core::descriptors::Mode;
+use iol_core::descriptors::{Descriptor, Mode};
+use iol_core::limits::MAX_FILE_BYTES;
 use iol_core::numbers::FileId;
 
 /// The file that a descriptor is open on, with its position and mode.
@@ -12,6 +13,20 @@ pub struct OpenFile {
     pub file: FileId,
     pub at: u32,
     pub mode: Mode,
+}
+
+impl OpenFile {
+    /// What the descriptor is open on once its position moved over so many bytes.
+    pub(crate) fn moved_by(self, len: u32) -> Descriptor
+        requires { self.at + len ≤ MAX_FILE_BYTES }
+        ensures { result ≡ Descriptor.File self.file (self.at + len) self.mode }
+    {
+        Descriptor::File {
+            file: self.file,
+            at: self.at + len,
+            mode: self.mode,
+        }
+    }
 }
 
 /// Whether a file that is open so may be read.

@@ -1,17 +1,9 @@
 //! Pipes: bounded queues, each in a place of its own, with a read end and a write end.
 ghost use Rattle.std.specs.Prelude.{◌≡◌, ℕ, ◌+◌, ◌-◌, ◌<◌, ◌≤◌, ◌^◌, length, min, take, take_while, drop, true, [], ◌++◌, Some, Err, IfOk, IfErr, OnOk, OnErr, false};
-ghost use Rattle.iol_core.specs.Numbered.{lowest, placed, taken};
-ghost use Rattle.iol_core.specs.Meaning.{WantOfRoom};
-ghost use Rattle.iol_core.specs.Text.{bytes_of};
-ghost use Rattle.iol_hold.specs.Moves.{Covers, IsCountable, Moves, SameLists, Shares};
-ghost use Rattle.iol_hold.specs.Places.{byte_len, places};
-ghost use Rattle.iol_hold.specs.Releases.{FreesOnly};
-ghost use Rattle.iol_hold.specs.Stored.{AllSettled};
-ghost use Rattle.iol_hold.specs.Texts.{text_of, bufs_of, AllReadable};
-ghost use Rattle.iol_hold.specs.Room.{has_room};
-ghost use Rattle.iol_pipe.specs.Adding.{AddsBytes};
-ghost use Rattle.iol_pipe.specs.Queue.{first_pool, fitting, may_see};
-ghost use Rattle.iol_pool.specs.Pools.{pool_in};
+ghost use Rattle.iol_core.specs.Prelude.{lowest, placed, taken, WantOfRoom, bytes_of};
+ghost use Rattle.iol_hold.specs.Prelude.{Covers, IsCountable, Moves, SameLists, Shares, byte_len, places, FreesOnly, AllSettled, text_of, bufs_of, AllReadable, has_room};
+ghost use Rattle.iol_pipe.specs.Prelude.{AddsBytes, first_pool, fitting, may_see};
+ghost use Rattle.iol_pool.specs.Prelude.{pool_in};
 ghost use Rattle.iol_kernel.specs.ClosedEnds.{without_reader, without_writer, ClosesEnd};
 ghost use Rattle.iol_kernel.specs.KernelState.{queue_at};
 ghost use Rattle.iol_kernel.specs.Queues.{with_queue_of};

@@ -1,10 +1,9 @@
 //! Clean extents of files give way to new bytes.
 ghost use Rattle.std.specs.Prelude.{◌≡◌, ◌↔◌, ◌+◌, ◌≤◌, length, true, false, IsTrue};
-ghost use Rattle.iol_pool.specs.Pools.{pool_in};
-ghost use Rattle.iol_arena.specs.State.{pages_for};
-ghost use Rattle.iol_hold.specs.Room.{free_of, has_room, pages_of};
-ghost use Rattle.iol_cache.specs.Cached.{clean_held};
-ghost use Rattle.iol_cache.specs.Pinned.{pinned_beside};
+ghost use Rattle.iol_pool.specs.Prelude.{pool_in};
+ghost use Rattle.iol_arena.specs.Prelude.{pages_for};
+ghost use Rattle.iol_hold.specs.Prelude.{free_of, has_room, pages_of};
+ghost use Rattle.iol_cache.specs.Prelude.{clean_held, pinned_beside};
 ghost use Rattle.iol_kernel.specs.KernelState.{IsSound};
 ghost use Rattle.iol_kernel.specs.MakingRoom.{MakesRoom, can_fit};
 

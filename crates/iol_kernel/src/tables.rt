@@ -1,26 +1,17 @@
 //! Effects on the table of domains, whose aggregates are slices of a store. Room is reserved
 //! first, so that a refusal has changed nothing.
-ghost use Rattle.std.specs.Prelude.{◌≡◌, ◌≢◌, ℕ, ◌+◌, ◌<◌, ◌≤◌, ◌^◌, length, slice_range, true, false, not, None, [], ◌++◌, IfOk, IfErr, OnOk, OnErr, Err, option_map, find};
+ghost use Rattle.std.specs.Prelude.{◌≡◌, ◌≢◌, ◌+◌, ◌<◌, ◌≤◌, ◌^◌, true, not, None, [], IfOk, OnOk, OnErr, option_map, find};
 ghost use Rattle.std.specs.List.{list_all};
-ghost use Rattle.iol_core.specs.Text.{labelled};
-ghost use Rattle.iol_core.specs.Meaning.{WantOfRoom};
-ghost use Rattle.iol_pool.specs.Pools.{names_in, pool_in};
-ghost use Rattle.iol_hold.specs.Moves.{Covers, IsCountable, Moves, SameLists};
-ghost use Rattle.iol_hold.specs.Places.{places, byte_len};
-ghost use Rattle.iol_hold.specs.Releases.{FreesOnly};
-ghost use Rattle.iol_hold.specs.Room.{has_room, lowest_of};
-ghost use Rattle.iol_hold.specs.Stored.{AllSettled};
-ghost use Rattle.iol_hold.specs.Texts.{bufs_of, AllReadable};
-ghost use Rattle.iol_desc.specs.Tables.{domains_of, domain_in, agg_in, with_agg_in, without_agg_in};
-ghost use Rattle.iol_kernel.specs.Adding.{replaced, AddsShared, AddsText};
+ghost use Rattle.iol_pool.specs.Prelude.{names_in};
+ghost use Rattle.iol_hold.specs.Prelude.{Covers, IsCountable, Moves, SameLists, byte_len, FreesOnly, AllSettled, bufs_of, AllReadable};
+ghost use Rattle.iol_desc.specs.Prelude.{domains_of, domain_in, agg_in, with_agg_in, without_agg_in};
 ghost use Rattle.iol_kernel.specs.Counted.{bufs_in};
 ghost use Rattle.iol_kernel.specs.KernelState.{slices_in, Each};
 ghost use Rattle.iol_kernel.specs.Regrouped.{joined_in, SplitsAgg};
 
 use iol_agg::Agg;
-use iol_core::limits::{LAST_AGGREGATE, MAX_AGGREGATE_BYTES};
+use iol_core::limits::LAST_AGGREGATE;
 use iol_core::numbers::{AggId, DomainId, PoolId};
-use iol_core::refusals::Refusal;
 use iol_desc::entries::Taken;
 use iol_desc::table::Table;
 use iol_hold::{Slice, Store};
@@ -32,116 +23,6 @@ pub(crate) fn are_live(domains: &Table<Agg>, list: &[DomainId]) -> bool
     ensures { result ≡ list_all (λ d. (domain_in (domains_of domains.now) d).live) list.now }
 {
     list.iter().all(|d| domains.live(*d))
-}
-
-/// Places bytes, and adds them to a domain as its next aggregate.
-pub(crate) fn add_bytes(
-    alloc: Global,
-    store: &mut Store,
-    domains: &mut Table<Agg>,
-    d: DomainId,
-    pool: PoolId,
-    bytes: &[u8],
-) -> Result<AggId, Refusal>
-    requires live { (domain_in (domains_of domains.old) d).live ≡ true }
-    requires few { (domain_in (domains_of domains.old) d).next_agg ≤ LAST_AGGREGATE }
-    requires small { length bytes.now ≤ MAX_AGGREGATE_BYTES }
-    requires open { (pool_in store.old.pools pool).closed ≡ false }
-    ensures number { IfOk result (λ n. n ≡ (domain_in (domains_of domains.old) d).next_agg) }
-    ensures added { OnOk result (AddsText store.old store.new (domains_of domains.old) (domains_of
-        domains.new) d (labelled pool bytes.now) (lowest_of store.old pool (length bytes.now))) }
-    ensures room { OnOk result (has_room store.old pool (length bytes.now) ≡ true) }
-    ensures no_room { (p : ℕ) → result ≡ Err (Refusal.NoRoom p) → has_room store.old pool (length
-        bytes.now) ≡ false }
-    ensures late { IfErr result (WantOfRoom pool) }
-    ensures err { OnErr result ((domains_of domains.new) ≡ (domains_of domains.old)) }
-    ensures err_store { OnErr result (store.new ≡ store.old) }
-{
-    domains.reserve_aggs(d, 1)?;
-    let agg = Agg::fill(alloc, store, pool, bytes)?;
-    Ok(domains.add_agg(d, agg))
-}
-
-/// A range of an aggregate's bytes.
-#[derive(Clone, Copy)]
-pub(crate) struct Part {
-    pub(crate) from: u32,
-    pub(crate) to: u32,
-}
-
-/// Adds the bytes of a range of a domain's aggregate to it, as its next.
-pub(crate) fn add_part(
-    alloc: Global,
-    store: &mut Store,
-    domains: &mut Table<Agg>,
-    d: DomainId,
-    agg: AggId,
-    part: Part,
-) -> Result<AggId, AllocError>
-    requires live { (domain_in (domains_of domains.old) d).live ≡ true }
-    requires few { (domain_in (domains_of domains.old) d).next_agg ≤ LAST_AGGREGATE }
-    requires there { agg_in (domains_of domains.old) d agg ≢ None }
-    requires ordered { part.from ≤ part.to }
-    requires within { part.to ≤ byte_len (slices_in (domains_of domains.old) d agg) }
-    requires covered { Covers store.old (bufs_of (slices_in (domains_of domains.old) d agg)) }
-    requires countable { IsCountable store.old (bufs_of (slices_in (domains_of
-        domains.old) d agg)) }
-    ensures number { IfOk result (λ n. n ≡ (domain_in (domains_of domains.old) d).next_agg) }
-    ensures added { OnOk result (AddsShared store.old store.new (domains_of domains.old) (domains_of
-        domains.new) d (slice_range (places (slices_in (domains_of domains.old) d agg)) part.from part.to)) }
-    ensures err { OnErr result (domains_of domains.new ≡ domains_of domains.old) }
-    ensures err_store { OnErr result (store.new ≡ store.old) }
-{
-    let Part { from, to } = part;
-    domains.reserve_aggs(d, 1)?;
-    let Some(whole) = domains.agg(d, agg) else {
-        unreachable!()
-    };
-    let cut = whole.cut(alloc, store, from, to)?;
-    Ok(domains.add_agg(d, cut))
-}
-
-/// Adds a domain's aggregate to it, as its next, with the bytes of another in place of a range.
-pub(crate) fn add_replaced(
-    alloc: Global,
-    store: &mut Store,
-    domains: &mut Table<Agg>,
-    d: DomainId,
-    agg: AggId,
-    part: Part,
-    other: AggId,
-) -> Result<AggId, AllocError>
-    requires live { (domain_in (domains_of domains.old) d).live ≡ true }
-    requires few { (domain_in (domains_of domains.old) d).next_agg ≤ LAST_AGGREGATE }
-    requires there { agg_in (domains_of domains.old) d agg ≢ None }
-    requires other_there { agg_in (domains_of domains.old) d other ≢ None }
-    requires ordered { part.from ≤ part.to }
-    requires within { part.to ≤ byte_len (slices_in (domains_of domains.old) d agg) }
-    requires small { byte_len (slices_in (domains_of domains.old) d agg) + byte_len (slices_in
-        (domains_of domains.old) d other) < 2 ^ 32 }
-    requires covered { Covers store.old (bufs_of (slices_in (domains_of domains.old) d agg)) }
-    requires other_covered { Covers store.old (bufs_of (slices_in (domains_of
-        domains.old) d other)) }
-    requires countable { IsCountable store.old (bufs_of (slices_in (domains_of domains.old) d agg)
-        ++ bufs_of (slices_in (domains_of domains.old) d agg) ++ bufs_of (slices_in (domains_of
-        domains.old) d other)) }
-    ensures number { IfOk result (λ n. n ≡ (domain_in (domains_of domains.old) d).next_agg) }
-    ensures added { OnOk result (AddsShared store.old store.new (domains_of domains.old) (domains_of
-        domains.new) d (replaced (places (slices_in (domains_of domains.old) d agg)) part.from part.to (places
-        (slices_in (domains_of domains.old) d other)))) }
-    ensures err { OnErr result (domains_of domains.new ≡ domains_of domains.old) }
-    ensures err_store { OnErr result (store.new ≡ store.old) }
-{
-    let Part { from, to } = part;
-    domains.reserve_aggs(d, 1)?;
-    let Some(whole) = domains.agg(d, agg) else {
-        unreachable!()
-    };
-    let Some(inner) = domains.agg(d, other) else {
-        unreachable!()
-    };
-    let replaced = whole.replace(alloc, store, from, to, inner)?;
-    Ok(domains.add_agg(d, replaced))
 }
 
 /// Splits a domain's aggregate into its next two.

@@ -14,3 +14,4 @@ pub mod Lengths
 pub mod Labels
 pub mod Sources
 pub mod Opening
+pub mod Prelude

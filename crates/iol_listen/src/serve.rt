@@ -1,12 +1,11 @@
 //! The connections of a listener, one after another.
 ghost use Rattle.std.specs.Prelude.{OnOk};
-ghost use Rattle.iol_back.specs.Disk.{IfHonest};
+ghost use Rattle.iol_back.specs.Prelude.{IfHonest};
 ghost use Rattle.iol_listen.specs.Listening.{GoesAlone, ServesAll, ServesNext, ServesSome};
 ghost use Rattle.iol_listen.specs.Waiting.{to_come};
-ghost use Rattle.iol_proc.specs.Laws.{KeepsHonesty};
-ghost use Rattle.iol_proc.specs.World.{copied};
-ghost use Rattle.iol_serve.specs.Serving.{HasEnded};
-ghost use Rattle.iol_system.specs.Machine.{tables_of};
+ghost use Rattle.iol_proc.specs.Prelude.{KeepsHonesty, copied};
+ghost use Rattle.iol_serve.specs.Prelude.{HasEnded};
+ghost use Rattle.iol_system.specs.Prelude.{tables_of};
 
 use crate::end::end;
 use crate::outbox::{Outbox, Talk};

@@ -23,9 +23,8 @@ use Rattle.iol_hold.specs.Room.{has_room, free_of, lowest_of, pages_of, pinned}
 use Rattle.iol_hold.specs.Texts.{IsFilled}
 use Rattle.iol_hold.specs.Waiting.{Fills, Publishes}
 use Rattle.iol_hold.proofs.Emptied.{all_settled_placed}
-use Rattle.iol_hold.proofs.Moving.{counts_trans}
 use Rattle.iol_hold.proofs.Paging.{keeps_pages_made}
-use Rattle.iol_hold.proofs.Reserving.{fill_publish, same_fills}
+use Rattle.iol_hold.proofs.Reserving.{fill_publish, fills_trans, same_fills}
 use Rattle.iol_hold.proofs.Rooms.{no_pages}
 use Rattle.iol_hold.specs.Places.{byte_len}
 use Rattle.iol_hold.specs.declared.slices.Slice.{Slice}
@@ -72,15 +71,6 @@ written_there a p w some long room =
     let rest = length-drop i a.memory in
     over_from-there i w a.memory (part_room p) (omega (arith, long)) (omega (arith, some, long, room, inside, rest))
     ∙ take_all (part_room p) w (omega (arith, long))
-
-fills_trans : {a b c : Stored} {ps : List Part} → Fills a b ps → Fills b c ps → Fills a c ps
-fills_trans m n = record {
-  counts = counts_trans m.counts n.counts;
-  grows = grows_trans m.grows n.grows;
-  unraised = λ q. n.unraised q ∙ m.unraised q;
-  pools = n.pools ∙ m.pools;
-  waits = λ h. n.waits (m.waits h);
-}
 
 and_left : (a b : Bool) → (a && b) ≡ true → a ≡ true
 and_left true b e = refl

@@ -1,10 +1,9 @@
 //! The bytes of one read, straight into a new buffer.
 ghost use Rattle.std.specs.Prelude.{◌≡◌, ℕ, ◌+◌, ◌<◌, ◌≤◌, length, take, true, false, Err, IfOk, IfErr, OnOk, OnErr};
 ghost use Rattle.std.specs.Io.KnownBytes.{Consumes, IsAtEnd, Keeps};
-ghost use Rattle.iol_core.specs.Meaning.{WantOfRoom};
-ghost use Rattle.iol_pool.specs.Pools.{pool_in};
-ghost use Rattle.iol_hold.specs.Places.{byte_len};
-ghost use Rattle.iol_hold.specs.Room.{has_room};
+ghost use Rattle.iol_core.specs.Prelude.{WantOfRoom};
+ghost use Rattle.iol_pool.specs.Prelude.{pool_in};
+ghost use Rattle.iol_hold.specs.Prelude.{byte_len, has_room};
 ghost use Rattle.iol_pipe.specs.Arriving.{listed, MakesRead, ReadsIn};
 
 use crate::Pipe;

@@ -1,9 +1,8 @@
 //! Copies of the first bytes of a queue.
 ghost use Rattle.std.specs.Prelude.{◌≡◌, ◌+◌, ◌≤◌, ◌++◌, length, take, drop};
 ghost use Rattle.std.specs.List.{take_while};
-ghost use Rattle.iol_core.specs.Text.{bytes_of};
-ghost use Rattle.iol_hold.specs.Places.{places};
-ghost use Rattle.iol_hold.specs.Texts.{text_of, AllReadable};
+ghost use Rattle.iol_core.specs.Prelude.{bytes_of};
+ghost use Rattle.iol_hold.specs.Prelude.{places, text_of, AllReadable};
 ghost use Rattle.iol_pipe.specs.Queue.{may_see};
 
 use crate::Pipe;

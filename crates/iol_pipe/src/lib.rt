@@ -20,11 +20,7 @@ ghost use Rattle.std.specs.Prelude.{◌≡◌, ◌+◌, ◌-◌, ◌<◌, ◌≤
 ghost use Rattle.std.specs.VecDeque.{deque_len, deque_capacity};
 ghost use Rattle.std.specs.Vec.{vec_capacity};
 ghost use Rattle.iol_core.specs.declared.numbers.BufId.{BufId};
-ghost use Rattle.iol_hold.specs.Moves.{same, tally, Shares, Moves, SameLists, Covers, IsCountable};
-ghost use Rattle.iol_hold.specs.Places.{slice_places, places, byte_len};
-ghost use Rattle.iol_hold.specs.Releases.{FreesOnly};
-ghost use Rattle.iol_hold.specs.Stored.{AllSettled};
-ghost use Rattle.iol_hold.specs.Texts.{bufs_of, AllReadable};
+ghost use Rattle.iol_hold.specs.Prelude.{same, tally, Shares, Moves, SameLists, Covers, IsCountable, slice_places, places, byte_len, FreesOnly, AllSettled, bufs_of, AllReadable};
 ghost use Rattle.iol_pipe.specs.Queue.{TakesFirst, first_parts, first_pool, may_see, names_given};
 
 mod arrive;

@@ -1,10 +1,6 @@
 //! The first bytes of a queue, whoever may read them.
 ghost use Rattle.std.specs.Prelude.{◌≡◌, ◌++◌, length, map, take, drop, min, slice_index_or, ◌↔◌, ◌<◌, IsSome, IfSome, IfOk, OnOk, OnErr};
-ghost use Rattle.iol_hold.specs.Moves.{Covers, IsCountable, Moves, SameLists, Shares};
-ghost use Rattle.iol_hold.specs.Places.{slice_places, places};
-ghost use Rattle.iol_hold.specs.Releases.{FreesOnly};
-ghost use Rattle.iol_hold.specs.Stored.{AllSettled};
-ghost use Rattle.iol_hold.specs.Texts.{bufs_of, AllReadable};
+ghost use Rattle.iol_hold.specs.Prelude.{Covers, IsCountable, Moves, SameLists, Shares, slice_places, places, FreesOnly, AllSettled, bufs_of, AllReadable};
 ghost use Rattle.iol_pipe.specs.Queue.{first_parts};
 
 use crate::Pipe;

@@ -1,7 +1,7 @@
 //! The domains that a pool's list names.
 ghost use Rattle.std.specs.Prelude.{◌≡◌, ℕ, ◌+◌, ◌<◌, ◌≤◌, ◌==◌, true, List, length, take, min, MatchOption};
 ghost use Rattle.std.specs.List.{list_any};
-ghost use Rattle.iol_core.specs.Calls.Pools.{distinct, has_place, with_name};
+ghost use Rattle.iol_core.specs.Prelude.{distinct, has_place, with_name};
 
 use iol_core::limits::MAX_LISTED;
 use iol_core::numbers::DomainId;

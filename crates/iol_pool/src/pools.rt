@@ -2,10 +2,8 @@
 ghost use Rattle.std.specs.Prelude.{◌≡◌, ◌+◌, ◌*◌, ◌<◌, ◌≤◌, ◌==◌, length, true, false, not, find, Option, Some, None, Err, is_some, IfSome, IfOk, IfErr, OnOk, OnErr, List, [], ◌∷◌, flat_map, ◌↔◌, IsTrue};
 ghost use Rattle.std.specs.Option.{option_copied};
 ghost use Rattle.std.specs.List.{All, filter, list_all};
-ghost use Rattle.iol_core.specs.Numbered.{is_numbered};
-ghost use Rattle.iol_core.specs.Calls.Pools.{has_place};
-ghost use Rattle.iol_arena.specs.State.{chunk_count};
-ghost use Rattle.iol_arena.specs.Chunks.{chunk_pages, free_chunks, free_pages, is_unused, retired_pages};
+ghost use Rattle.iol_core.specs.Prelude.{is_numbered, has_place};
+ghost use Rattle.iol_arena.specs.Prelude.{chunk_count, chunk_pages, free_chunks, free_pages, is_unused, retired_pages};
 ghost use Rattle.iol_pool.specs.Pools.{AddsPool, goes_back, is_counted, names_in, no_pool, pool_in, settled, settled_arena, with_admitted, with_closed, with_emptied, with_returned};
 ghost use Rattle.iol_pool.specs.Owned.{AreOwned};
 

@@ -1,13 +1,9 @@
 //! Writing by copying.
 ghost use Rattle.std.specs.Prelude.{◌≡◌, ◌⊎◌, ℕ, length, true, false, Err, IfErr, OnOk};
-ghost use Rattle.iol_core.specs.Meaning.{WantOfRoom};
-ghost use Rattle.iol_core.specs.State.{descriptor};
+ghost use Rattle.iol_core.specs.Prelude.{WantOfRoom, descriptor};
 ghost use Rattle.iol_core.specs.Calls.Writing as calls;
-ghost use Rattle.iol_back.specs.Disk.{Disk};
-ghost use Rattle.iol_kernel.specs.Kernel.{state_of, machine, Places, Serves};
-ghost use Rattle.iol_kernel.specs.KernelState.{IsSound};
-ghost use Rattle.iol_kernel.specs.MakingRoom.{can_fit};
-ghost use Rattle.iol_kernel.specs.WritingFiles.{LaysOn, PutsOn};
+ghost use Rattle.iol_back.specs.Prelude.{Disk};
+ghost use Rattle.iol_kernel.specs.Prelude.{state_of, machine, Places, Serves, IsSound, can_fit, LaysOn, PutsOn};
 
 use iol_core::numbers::{DomainId, Fd};
 use iol_core::refusals::Refusal;

@@ -1,22 +1,15 @@
 //! Reading by copying.
-ghost use Rattle.std.specs.Prelude.{◌≡◌, ◌<◌, ◌≤◌, ◌^◌, ◌++◌, length, drop, true, Some, None, IfOk, OnErr};
-ghost use Rattle.iol_core.specs.State.{is_live, descriptor};
-ghost use Rattle.iol_core.specs.Calls.Files.{open_on};
+ghost use Rattle.std.specs.Prelude.{◌≡◌, ◌<◌, ◌≤◌, ◌^◌, ◌++◌, length, drop, None, IfOk, OnErr};
+ghost use Rattle.iol_core.specs.Prelude.{open_on};
 ghost use Rattle.iol_core.specs.Calls.Reading as calls;
-ghost use Rattle.iol_kernel.specs.Copying.{Copies, ReadsOut};
-ghost use Rattle.iol_kernel.specs.FileReading.{file_read, held_by};
-ghost use Rattle.iol_kernel.specs.Kernel.{state_of, as_read, CopiesFileAs, Serves};
-ghost use Rattle.iol_kernel.specs.KernelState.{IsSound};
-ghost use Rattle.iol_kernel.specs.Readings.{Reading};
+ghost use Rattle.iol_kernel.specs.Prelude.{Copies, ReadsOut, held_by, state_of, as_read, Serves, IsSound, Reading};
 ghost use Rattle.iol_posix.specs.Copying.{first_of};
 
 use iol_back::backing::Backing;
-use iol_core::descriptors::Descriptor;
 use iol_core::lists::Bytes;
 use iol_core::numbers::{DomainId, Fd};
 use iol_core::refusals::Refusal;
 use iol_kernel::kernel::Kernel;
-use iol_kernel::open_file::OpenFile;
 
 // Puts bytes over the first ones of a memory.
 fn put_front(into: &mut [u8], bytes: &[u8])
@@ -46,40 +39,10 @@ pub fn read<B: Backing>(
     ensures rest { IfOk result (λ n. drop n into.new ≡ drop n into.old) }
     ensures err { OnErr result (into.new ≡ into.old) }
 {
-    match kernel.file_open(by, fd) {
-        Some(found) => read_file(kernel, backing, by, fd, found, into),
-        None => read_queue(kernel, by, fd, into),
-    }
-}
-
-// Reads from a file.
-fn read_file<B: Backing>(
-    kernel: &mut Kernel,
-    backing: &mut B,
-    by: DomainId,
-    fd: Fd,
-    found: OpenFile,
-    into: &mut [u8],
-) -> Result<u32, Refusal>
-    requires sound { IsSound (state_of kernel.old) }
-    requires short { length into.old < 2 ^ 32 }
-    requires live { (f : Reading) → is_live (as_read f kernel.old) by ≡ true }
-    requires from { (f : Reading) → descriptor (as_read f kernel.old) by fd ≡ Some
-        (Descriptor.File found.file found.at found.mode) }
-    ensures serves { Serves (λ s. calls.read s by fd (length into.old)) (B.disk backing.old) kernel.old
-        (first_of into.new result) (B.disk backing.new) kernel.new }
-    ensures copies { CopiesFileAs (file_read by fd found.file found.at found.mode (length into.old))
-        (B.disk backing.old) kernel.old (first_of into.new result) (B.disk backing.new) kernel.new }
-    ensures count { IfOk result (λ n. n ≤ length into.old) }
-    ensures len { length into.new ≡ length into.old }
-    ensures rest { IfOk result (λ n. drop n into.new ≡ drop n into.old) }
-    ensures err { OnErr result (into.new ≡ into.old) }
-{
-    let outcome = kernel.copy_file(backing, by, fd, found, into.len() as u32);
-    let bytes = match outcome {
-        Ok(bytes) => bytes,
-        Err(refusal) => return Err(refusal),
+    let Some(found) = kernel.file_open(by, fd) else {
+        return read_queue(kernel, by, fd, into);
     };
+    let bytes = kernel.copy_file(backing, by, fd, found, into.len() as u32)?;
     put_front(into, bytes.as_slice());
     Ok(bytes.as_slice().len() as u32)
 }

@@ -1,6 +1,5 @@
 -- What happens in a world is a chain of steps of its system.
 use Rattle.std.proofs.Common.{◌≡◌, inl, inr, ℕ, List, [], ◌∷◌, ◌++◌, Bool, refl, subst, ap}
-use Rattle.std.specs.Prelude.{Result, Ok, Err, IfOk, OnErr}
 use Rattle.iol_core.specs.declared.events.Event.{Event}
 use Rattle.iol_core.specs.declared.events.Event.TheVariants as event
 use Rattle.iol_core.specs.declared.events.Reply.{Reply}
@@ -57,11 +56,6 @@ module _ {P : Type 0} (turns : Account P) where
   run_chained w (c ∷ cs) (r ∷ rs) after ran = both w.machine ran.0.machine after.machine (step_chained w c r ran.0 ran.1) (run_chained ran.0 cs rs after ran.2)
   run_chained w [] (r ∷ rs) after ran = absurd ran
   run_chained w (c ∷ cs) [] after ran = absurd ran
-
-  -- a run that was made, or was not
-  pub chained_of : {A E : Type 0} (items : A → List Reply) (old new : Stage SystemState P) (cs : List Choice) (r : Result A E) → IfOk r (λ v. WorldRun sharing turns old cs (items v) new) → OnErr r (new ≡ old) → HasEvents old.machine new.machine
-  chained_of items old new cs (Ok v) ran same = run_chained old cs (items v) new ran
-  chained_of items old new cs (Err e) ran same = nothing old.machine new.machine (ap (λ (v : Stage SystemState P). v.machine) same)
 
 -- a store is as honest after events as before
 pub honesty_kept : (old new : SystemState) → HasEvents old new → KeepsHonesty old new

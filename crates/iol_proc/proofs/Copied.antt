@@ -1,5 +1,4 @@
 -- A run on a system over an honest store is one on the copying machine.
-use Rattle.std.specs.Prelude.{Result, Ok, Err, IfOk}
 use Rattle.std.proofs.Common.{◌≡◌, inl, inr, ℕ, List, [], ◌∷◌, Bool, true, sym, subst, ap, ◌∙◌}
 use Rattle.iol_core.specs.declared.events.Event.{Event}
 use Rattle.iol_core.specs.declared.events.Reply.{Reply}
@@ -83,8 +82,3 @@ module _ {P : Type 0} (turns : Account P) where
     first = i.first;
     all_taken = i.all_taken;
   }
-
-  -- a run that was made, told by its result
-  pub run_of : {A E : Type 0} (items : A → List Reply) (old new : Stage SystemState P) (cs : List Choice) (r : Result A E) → IfOk r (λ v. WorldRun sharing turns old cs (items v) new) → IsHonest old.machine → IfOk r (λ v. WorldRun copying turns (copied old) cs (items v) (copied new))
-  run_of items old new cs (Ok v) ran honest = run_copied old cs (items v) new honest ran
-  run_of items old new cs (Err e) ran honest = ran

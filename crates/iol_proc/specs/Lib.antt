@@ -9,3 +9,4 @@ pub mod Settled
 pub mod Smooth
 pub mod Turns
 pub mod World
+pub mod Prelude

@@ -1,13 +1,11 @@
 //! Connections of a world that are served from outside in place, from readers and to writers.
 ghost use Rattle.std.specs.Prelude.{◌≡◌, IfOk, OnErr};
-ghost use Rattle.iol_back.specs.Disk.{IfHonest};
-ghost use Rattle.iol_hold.specs.Moves.{Stays};
-ghost use Rattle.iol_kernel.specs.Borrowed.{BringsIn, DrainsTo, RefusesDrain, RefusesArrival, TakesIn};
+ghost use Rattle.iol_back.specs.Prelude.{IfHonest};
+ghost use Rattle.iol_hold.specs.Prelude.{Stays};
+ghost use Rattle.iol_kernel.specs.Prelude.{BringsIn, DrainsTo, RefusesDrain, RefusesArrival, TakesIn};
 ghost use Rattle.iol_proc.specs.Borrowed.{ArrivesAs, SendsAs};
 ghost use Rattle.iol_proc.specs.World.{copied};
-ghost use Rattle.iol_system.specs.Machine.{tables_of};
-ghost use Rattle.iol_system.specs.Safe.{IsSafe};
-ghost use Rattle.iol_system.specs.Served.{Comes};
+ghost use Rattle.iol_system.specs.Prelude.{tables_of, IsSafe, Comes};
 
 use crate::process::Process;
 use crate::world::World;

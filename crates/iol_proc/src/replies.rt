@@ -1,6 +1,6 @@
 //! Replies: one again, and what turns look for in them.
 ghost use Rattle.std.specs.Prelude.{◌≡◌};
-ghost use Rattle.iol_laws.specs.Caller.{is_rough};
+ghost use Rattle.iol_laws.specs.Prelude.{is_rough};
 ghost use Rattle.iol_proc.specs.Quiet.{IsPlain};
 ghost use Rattle.iol_proc.specs.Turns.{is_would_block};
 

@@ -2,13 +2,13 @@
 ghost use Rattle.std.specs.Prelude.{◌≡◌, ◌≢◌, ◌<◌, length, map, IfOk, OnErr, IfSome, MatchOption, All, slice_get, false, nat_eq};
 ghost use Rattle.std.specs.List.{IsDistinct};
 ghost use Rattle.std.specs.List.Sorted.{IsPermutation};
-ghost use Rattle.iol_back.specs.Disk.{IfHonest};
-ghost use Rattle.iol_kernel.specs.Report.{Reports};
+ghost use Rattle.iol_back.specs.Prelude.{IfHonest};
+ghost use Rattle.iol_kernel.specs.Prelude.{Reports};
 ghost use Rattle.iol_proc.specs.Idle.{Idles};
 ghost use Rattle.iol_proc.specs.Laws.{HasEvents, KeepsHonesty};
 ghost use Rattle.iol_proc.specs.Looks.{lent};
 ghost use Rattle.iol_proc.specs.Lent.{lent_to};
-ghost use Rattle.iol_system.specs.Machine.{machine_of};
+ghost use Rattle.iol_system.specs.Prelude.{machine_of};
 ghost use Rattle.iol_proc.specs.World.{Stage, copying, sharing, copied, seat_of, domains_of, IsRising, IsSeated, WorldStep, WorldRun, DomainTurn, OutsideStep};
 
 use crate::choice::Choice;
@@ -40,7 +40,7 @@ pub struct World<B: Backing, P: Process> {
 
 impl<B: Backing, P: Process> Model for World<B, P> {
     ghost use Rattle.std.specs.Prelude.{◌≡◌, length};
-    ghost use Rattle.iol_system.specs.Machine.{SystemState};
+    ghost use Rattle.iol_system.specs.Prelude.{SystemState};
     ghost use Rattle.iol_proc.specs.World.{Stage, IsRising, domains_of};
 
     ghost Value = { Stage SystemState P };
@@ -139,7 +139,7 @@ impl<B: Backing + Drop, P: Process> World<B, P> {
         }
     }
 
-    /// Makes choices come true, in their order. For want of memory for the replies, none.
+    /// Makes choices come true, in their order. For want of memory for the replies, none: the room for them comes first.
     ///
     /// A turn is one question to the process and its call. A yield is answered Done; the turn of a process that found no
     /// memory is answered Memory, and that of a domain without process NoDomain.
@@ -150,15 +150,6 @@ impl<B: Backing + Drop, P: Process> World<B, P> {
             P.turns (copied self.old) choices.now replies.items (copied self.new))) }
         ensures events { HasEvents self.old.machine self.new.machine }
         ensures honest { KeepsHonesty self.old.machine self.new.machine }
-        ensures err { OnErr result (self.new ≡ self.old) }
-    {
-        self.step_all(choices)
-    }
-
-    /// Makes choices come true, in their order. The room for the replies comes first.
-    fn step_all(&mut self, choices: &[Choice]) -> Result<Vec<Reply>, AllocError>
-        ensures shared { IfOk result
-            (λ replies. WorldRun sharing P.turns self.old choices.now replies.items self.new) }
         ensures err { OnErr result (self.new ≡ self.old) }
     {
         let mut replies = Vec::with_capacity(self.alloc, choices.len())?;
@@ -178,13 +169,6 @@ impl<B: Backing + Drop, P: Process> World<B, P> {
             (Idles copying P.turns (copied self.old) turns result (copied self.new)) }
         ensures events { HasEvents self.old.machine self.new.machine }
         ensures honest { KeepsHonesty self.old.machine self.new.machine }
-    {
-        self.go_round(turns)
-    }
-
-    /// Gives turns in rounds, by fields.
-    fn go_round(&mut self, turns: usize) -> bool
-        ensures { Idles sharing P.turns self.old turns result self.new }
     {
         until_idle(
             &mut self.system,

@@ -1,14 +1,12 @@
 //! A connection of a world, served from a reader and to a writer.
 ghost use Rattle.std.specs.Prelude.{◌≡◌, ◌≢◌, ◌||◌, [], true, false};
 ghost use Rattle.std.specs.Io.KnownBytes.{Appends};
-ghost use Rattle.iol_back.specs.Disk.{IfHonest};
-ghost use Rattle.iol_core.specs.Calls.Outside.{lacks_conn};
-ghost use Rattle.iol_proc.specs.Laws.{KeepsHonesty};
-ghost use Rattle.iol_proc.specs.World.{copied};
+ghost use Rattle.iol_back.specs.Prelude.{IfHonest};
+ghost use Rattle.iol_core.specs.Prelude.{lacks_conn};
+ghost use Rattle.iol_proc.specs.Prelude.{KeepsHonesty, copied};
 ghost use Rattle.iol_serve.specs.Serving.{HasEnded, GoesOn, Sends, Serves, hung_up};
 ghost use Rattle.iol_serve.specs.Rounds as spec;
-ghost use Rattle.iol_system.specs.Machine.{tables_of};
-ghost use Rattle.iol_system.specs.Safe.{IsSafe};
+ghost use Rattle.iol_system.specs.Prelude.{tables_of, IsSafe};
 
 use crate::ending::Ending;
 use iol_back::backing::Backing;

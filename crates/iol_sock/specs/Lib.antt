@@ -3,3 +3,4 @@ pub mod Meant
 pub mod Refused
 pub mod Sent
 pub mod Table
+pub mod Prelude

@@ -1,11 +1,10 @@
 //! What arrives from a reader, straight into a page.
 ghost use Rattle.std.specs.Prelude.{◌≡◌, ℕ, ◌<◌, ◌≤◌, ◌-◌, min, true, false, Err, IfOk, IfErr, OnOk, OnErr};
 ghost use Rattle.std.specs.Io.KnownBytes.{IsAtEnd};
-ghost use Rattle.iol_core.specs.Meaning.{WantOfRoom};
-ghost use Rattle.iol_pool.specs.Pools.{pool_in};
-ghost use Rattle.iol_hold.specs.Places.{byte_len};
-ghost use Rattle.iol_hold.specs.Room.{has_room};
-ghost use Rattle.iol_pipe.specs.Arriving.{ReadsIn};
+ghost use Rattle.iol_core.specs.Prelude.{WantOfRoom};
+ghost use Rattle.iol_pool.specs.Prelude.{pool_in};
+ghost use Rattle.iol_hold.specs.Prelude.{byte_len, has_room};
+ghost use Rattle.iol_pipe.specs.Prelude.{ReadsIn};
 ghost use Rattle.iol_sock.specs.Refused.{read_refusals, IsPassed, IsRefused};
 
 use crate::connections::Connection;

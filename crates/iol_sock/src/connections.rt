@@ -1,12 +1,8 @@
 //! Connections, and how they end.
 ghost use Rattle.std.specs.Prelude.{◌≡◌, ◌++◌, [], true, false, is_none, is_some, ◌||◌, ◌≤◌};
-ghost use Rattle.iol_core.specs.State.{is_gone};
-ghost use Rattle.iol_hold.specs.Moves.{Covers, Moves, SameLists};
-ghost use Rattle.iol_hold.specs.Places.{byte_len};
-ghost use Rattle.iol_hold.specs.Releases.{FreesOnly};
-ghost use Rattle.iol_hold.specs.Stored.{AllSettled};
-ghost use Rattle.iol_hold.specs.Texts.{bufs_of, AllReadable};
-ghost use Rattle.iol_pipe.specs.Queue.{first_pool};
+ghost use Rattle.iol_core.specs.Prelude.{is_gone};
+ghost use Rattle.iol_hold.specs.Prelude.{Covers, Moves, SameLists, byte_len, FreesOnly, AllSettled, bufs_of, AllReadable};
+ghost use Rattle.iol_pipe.specs.Prelude.{first_pool};
 ghost use Rattle.iol_sock.specs.Connections.{closed_by, held_by, is_over, new_conn};
 
 use iol_core::descriptors::How;

@@ -1,14 +1,9 @@
 //! What came in is copied out, and then skipped.
 ghost use Rattle.std.specs.Prelude.{◌≡◌, ◌≢◌, ◌++◌, None, length, take, drop};
 ghost use Rattle.std.specs.List.{take_while};
-ghost use Rattle.iol_core.specs.Numbered.{lookup};
-ghost use Rattle.iol_core.specs.Text.{bytes_of};
-ghost use Rattle.iol_hold.specs.Moves.{Covers, Moves, SameLists};
-ghost use Rattle.iol_hold.specs.Places.{places};
-ghost use Rattle.iol_hold.specs.Releases.{FreesOnly};
-ghost use Rattle.iol_hold.specs.Stored.{AllSettled};
-ghost use Rattle.iol_hold.specs.Texts.{text_of, bufs_of, AllReadable};
-ghost use Rattle.iol_pipe.specs.Queue.{may_see};
+ghost use Rattle.iol_core.specs.Prelude.{lookup, bytes_of};
+ghost use Rattle.iol_hold.specs.Prelude.{Covers, Moves, SameLists, places, FreesOnly, AllSettled, text_of, bufs_of, AllReadable};
+ghost use Rattle.iol_pipe.specs.Prelude.{may_see};
 ghost use Rattle.iol_sock.specs.Table.{conn_in, with_incoming};
 
 use crate::connections::Connection;

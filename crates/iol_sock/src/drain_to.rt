@@ -1,12 +1,8 @@
 //! What a writer takes of what is to be sent, straight from where it lies.
 ghost use Rattle.std.specs.Prelude.{◌≡◌, ◌<◌, ◌≤◌, length, min, take, drop, false, true};
 ghost use Rattle.std.specs.Io.KnownBytes.{Appends};
-ghost use Rattle.iol_core.specs.Text.{bytes_of};
-ghost use Rattle.iol_hold.specs.Moves.{Covers, Moves, SameLists};
-ghost use Rattle.iol_hold.specs.Places.{byte_len, places};
-ghost use Rattle.iol_hold.specs.Releases.{FreesOnly};
-ghost use Rattle.iol_hold.specs.Stored.{AllSettled};
-ghost use Rattle.iol_hold.specs.Texts.{text_of, bufs_of, AllReadable};
+ghost use Rattle.iol_core.specs.Prelude.{bytes_of};
+ghost use Rattle.iol_hold.specs.Prelude.{Covers, Moves, SameLists, byte_len, places, FreesOnly, AllSettled, text_of, bufs_of, AllReadable};
 ghost use Rattle.iol_sock.specs.Sent.{Writes};
 
 use crate::connections::Connection;

@@ -1,13 +1,9 @@
 //! What arrives, and what is read of it.
 ghost use Rattle.std.specs.Prelude.{◌≡◌, ℕ, ◌++◌, length, take, drop, take_while, true, false, Some, Err, IfOk, IfErr, OnOk, OnErr};
-ghost use Rattle.iol_core.specs.Meaning.{first};
-ghost use Rattle.iol_pool.specs.Pools.{pool_in};
-ghost use Rattle.iol_hold.specs.Moves.{Covers, IsCountable, Shares};
-ghost use Rattle.iol_hold.specs.Places.{byte_len, places};
-ghost use Rattle.iol_hold.specs.Room.{has_room};
-ghost use Rattle.iol_hold.specs.Texts.{bufs_of};
-ghost use Rattle.iol_pipe.specs.Adding.{AddsBytes};
-ghost use Rattle.iol_pipe.specs.Queue.{fitting, may_see};
+ghost use Rattle.iol_core.specs.Prelude.{first};
+ghost use Rattle.iol_pool.specs.Prelude.{pool_in};
+ghost use Rattle.iol_hold.specs.Prelude.{Covers, IsCountable, Shares, byte_len, places, has_room, bufs_of};
+ghost use Rattle.iol_pipe.specs.Prelude.{AddsBytes, fitting, may_see};
 ghost use Rattle.iol_sock.specs.Refused.{arrive_late, arrive_refusals, IsPassed, IsRefused};
 
 use crate::connections::Connection;

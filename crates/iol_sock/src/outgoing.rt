@@ -1,19 +1,11 @@
 //! What is to be sent, and what is sent of it.
 ghost use Rattle.std.specs.Prelude.{◌≡◌, ◌≢◌, ℕ, ◌+◌, ◌≤◌, ◌++◌, length, take, drop, true, false, Some, Err, IfOk, IfErr, OnOk, OnErr};
 ghost use Rattle.std.specs.Vec.{vec_len, vec_capacity};
-ghost use Rattle.iol_core.specs.Checksum.{checksum as checksum_of};
-ghost use Rattle.iol_core.specs.Meaning.{first, WantOfMemory, WantOfRoom};
-ghost use Rattle.iol_core.specs.Text.{bytes_of};
-ghost use Rattle.iol_hold.specs.Moves.{Covers, IsCountable, Moves, SameLists, Shares};
-ghost use Rattle.iol_hold.specs.Places.{byte_len, places};
-ghost use Rattle.iol_pool.specs.Pools.{pool_in};
-ghost use Rattle.iol_hold.specs.Releases.{FreesOnly};
-ghost use Rattle.iol_hold.specs.Room.{has_room};
-ghost use Rattle.iol_hold.specs.Stored.{AllSettled};
-ghost use Rattle.iol_hold.specs.Texts.{text_of, bufs_of, AllReadable};
-ghost use Rattle.iol_pipe.specs.Adding.{AddsBytes};
-ghost use Rattle.iol_pipe.specs.Queue.{fitting};
-ghost use Rattle.iol_sum.specs.Sums.{IsRight};
+ghost use Rattle.iol_core.specs.Prelude.{checksum as checksum_of, first, WantOfMemory, WantOfRoom, bytes_of};
+ghost use Rattle.iol_hold.specs.Prelude.{Covers, IsCountable, Moves, SameLists, Shares, byte_len, places, FreesOnly, has_room, AllSettled, text_of, bufs_of, AllReadable};
+ghost use Rattle.iol_pool.specs.Prelude.{pool_in};
+ghost use Rattle.iol_pipe.specs.Prelude.{AddsBytes, fitting};
+ghost use Rattle.iol_sum.specs.Prelude.{IsRight};
 ghost use Rattle.iol_sock.specs.Refused.{queue_refusals, segment_refusals, IsPassed, IsRefused};
 ghost use Rattle.iol_sock.specs.Sent.{IsSent, UsesSent};
 

@@ -1,16 +1,8 @@
 //! What comes in on a connection of the table, by its number.
-ghost use Rattle.iol_core.specs.Meaning.{WantOfRoom};
-ghost use Rattle.iol_core.specs.Numbered.{lookup};
-ghost use Rattle.iol_hold.specs.Moves.{Covers, IsCountable, Moves, SameLists, Shares};
-ghost use Rattle.iol_hold.specs.Places.{byte_len, places};
-ghost use Rattle.iol_hold.specs.Releases.{FreesOnly};
-ghost use Rattle.iol_hold.specs.Room.{has_room};
-ghost use Rattle.iol_hold.specs.Stored.{AllSettled};
-ghost use Rattle.iol_hold.specs.Texts.{AllReadable, bufs_of};
-ghost use Rattle.iol_pipe.specs.Adding.{AddsBytes};
-ghost use Rattle.iol_pipe.specs.Arriving.{ReadsIn};
-ghost use Rattle.iol_pipe.specs.Queue.{fitting, may_see};
-ghost use Rattle.iol_pool.specs.Pools.{pool_in};
+ghost use Rattle.iol_core.specs.Prelude.{WantOfRoom, lookup};
+ghost use Rattle.iol_hold.specs.Prelude.{Covers, IsCountable, Moves, SameLists, Shares, byte_len, places, FreesOnly, has_room, AllSettled, AllReadable, bufs_of};
+ghost use Rattle.iol_pipe.specs.Prelude.{AddsBytes, ReadsIn, fitting, may_see};
+ghost use Rattle.iol_pool.specs.Prelude.{pool_in};
 ghost use Rattle.iol_sock.specs.Refused.{IsPassed, IsRefused, arrive_late, arrive_refusals, read_refusals};
 ghost use Rattle.iol_sock.specs.Table.{conn_in, with_conn, with_incoming};
 ghost use Rattle.std.specs.Io.KnownBytes.{IsAtEnd};

@@ -1,22 +1,13 @@
 //! What is sent on a connection of the table, by its number, and its peer.
-ghost use Rattle.iol_core.specs.Checksum.{checksum as checksum_of};
-ghost use Rattle.iol_core.specs.Meaning.{WantOfMemory, WantOfRoom};
-ghost use Rattle.iol_core.specs.Numbered.{lookup};
-ghost use Rattle.iol_core.specs.Text.{bytes_of};
-ghost use Rattle.iol_hold.specs.Moves.{Covers, IsCountable, Moves, SameLists, Shares};
-ghost use Rattle.iol_hold.specs.Places.{byte_len, places};
-ghost use Rattle.iol_hold.specs.Releases.{FreesOnly};
-ghost use Rattle.iol_hold.specs.Room.{has_room};
-ghost use Rattle.iol_hold.specs.Stored.{AllSettled};
-ghost use Rattle.iol_hold.specs.Texts.{AllReadable, bufs_of, text_of};
-ghost use Rattle.iol_pipe.specs.Adding.{AddsBytes};
-ghost use Rattle.iol_pipe.specs.Queue.{fitting};
-ghost use Rattle.iol_pool.specs.Pools.{pool_in};
+ghost use Rattle.iol_core.specs.Prelude.{checksum as checksum_of, WantOfMemory, WantOfRoom, lookup, bytes_of};
+ghost use Rattle.iol_hold.specs.Prelude.{Covers, IsCountable, Moves, SameLists, Shares, byte_len, places, FreesOnly, has_room, AllSettled, AllReadable, bufs_of, text_of};
+ghost use Rattle.iol_pipe.specs.Prelude.{AddsBytes, fitting};
+ghost use Rattle.iol_pool.specs.Prelude.{pool_in};
 ghost use Rattle.iol_sock.specs.Connections.{closed_by};
 ghost use Rattle.iol_sock.specs.Refused.{IsPassed, IsRefused, queue_refusals, segment_refusals};
 ghost use Rattle.iol_sock.specs.Sent.{UsesSent};
 ghost use Rattle.iol_sock.specs.Table.{conn_in, with_conn, with_outgoing};
-ghost use Rattle.iol_sum.specs.Sums.{IsRight};
+ghost use Rattle.iol_sum.specs.Prelude.{IsRight};
 ghost use Rattle.std.specs.Io.KnownBytes.{Appends};
 ghost use Rattle.std.specs.Prelude.{Err, IfErr, IfOk, None, OnErr, OnOk, drop, false, length, min, take, true, ℕ, ◌++◌, ◌<◌, ◌≡◌, ◌≢◌, ◌≤◌};
 

@@ -2,11 +2,10 @@
 ghost use Rattle.std.specs.Prelude.{◌≡◌, ◌≢◌, ◌+◌, ◌-◌, ◌<◌, ◌≤◌, ◌&&◌, [], ◌∷◌, ◌++◌, length, find, not, false, true, None, Some, option_map, OnOk, OnErr};
 ghost use Rattle.std.specs.Option.{option_copied};
 ghost use Rattle.std.specs.VecDeque.{deque_len, deque_capacity};
-ghost use Rattle.iol_core.specs.Numbered.{lookup, without, changed};
+ghost use Rattle.iol_core.specs.Prelude.{lookup, without, changed};
 ghost use Rattle.std.specs.Borrow.{sem};
-ghost use Rattle.iol_desc.specs.Lending.{LendsEntry};
-ghost use Rattle.iol_desc.specs.Listed.{IsRising, Rises};
-ghost use Rattle.iol_pool.specs.Pools.{names_in};
+ghost use Rattle.iol_desc.specs.Prelude.{LendsEntry, IsRising, Rises};
+ghost use Rattle.iol_pool.specs.Prelude.{names_in};
 ghost use Rattle.iol_sock.specs.Connections.{new_conn};
 ghost use Rattle.iol_sock.specs.Table.{conn_in};
 ghost use Rattle.iol_sock.specs.contracts.connections.Connection.{the_row};

@@ -1,3 +1,4 @@
 pub mod Pieces
 pub mod Sums
 pub mod Laws
+pub mod Prelude

@@ -1,6 +1,6 @@
 //! The sum of bytes that lie in one piece.
 ghost use Rattle.std.specs.Prelude.{◌≡◌};
-ghost use Rattle.iol_core.specs.Checksum.{folded};
+ghost use Rattle.iol_core.specs.Prelude.{folded};
 ghost use Rattle.iol_sum.specs.Pieces.{IsSumOf};
 
 // Folds a total into 16 bits: carries are added at the low end (RFC 1071, section 1), which is the remainder by 65535,

@@ -1,8 +1,8 @@
 //! Sums of slices, remembered.
 ghost use Rattle.std.specs.Prelude.{◌≡◌, ◌<◌, [], IfOk, IfSome};
 ghost use Rattle.iol_core.specs.Text as text;
-ghost use Rattle.iol_arena.specs.State.{State};
-ghost use Rattle.iol_hold.specs.Texts.{slice_bytes, text_of, IsReadable, AllReadable};
+ghost use Rattle.iol_arena.specs.Prelude.{State};
+ghost use Rattle.iol_hold.specs.Prelude.{slice_bytes, text_of, IsReadable, AllReadable};
 ghost use Rattle.iol_sum.specs.Pieces.{IsSumOf};
 ghost use Rattle.iol_sum.specs.Sums.{key_of, sum_kept, IsRight, Uses, UsesEach};
 

@@ -1,6 +1,6 @@
 //! Sums of pieces put together, and the checksum of a sum.
 ghost use Rattle.std.specs.Prelude.{◌≡◌, ◌+◌, ◌-◌, List, ℕ};
-ghost use Rattle.iol_core.specs.Checksum.{folded, checksum as checksum_of};
+ghost use Rattle.iol_core.specs.Prelude.{folded, checksum as checksum_of};
 ghost use Rattle.iol_sum.specs.Pieces.{joined, IsSumOf, JoinsPieces};
 
 // The sum of two, the carry added at the low end.

@@ -1,13 +1,12 @@
 -- A system keeps its promises: by what its kernel does, and by laws of the copying machine.
 use Rattle.std.proofs.Common.{◌≡◌, ◌∙◌, ◌≤◌, true, false, ℕ, List, [], length, refl, ap, sym, subst}
 use Rattle.std.proofs.lemmas.Bool.{true≢false}
-use Rattle.std.specs.Prelude.{Result, Ok, Err, IfOk, OnErr, OnOk}
 use Rattle.iol_back.specs.Disk.{Disk, IfHonest}
 use Rattle.iol_core.specs.State.{State, new_state}
 use Rattle.iol_core.specs.Access.{HasAccess}
 use Rattle.iol_core.specs.Positions.{ArePlaced}
 use Rattle.iol_core.proofs.Positions.{placed_step, placed_new}
-use Rattle.iol_core.specs.Run.{StepsTo, Run}
+use Rattle.iol_core.specs.Run.{StepsTo}
 use Rattle.iol_core.specs.declared.events.Call.{Call}
 use Rattle.iol_core.specs.declared.events.Call.TheVariants as call
 use Rattle.iol_core.specs.declared.events.Event.{Event}
@@ -15,23 +14,19 @@ use Rattle.iol_core.specs.declared.events.Event.TheVariants as event
 use Rattle.iol_core.specs.declared.limits.TheConstants.{MAX_FILES}
 use Rattle.iol_core.specs.declared.events.Reply.{Reply}
 use Rattle.iol_core.proofs.Access.{access_new}
-use Rattle.iol_hold.specs.Moves.{Stays}
 use Rattle.iol_kernel.specs.Backed.{IsBackedBy}
 use Rattle.iol_kernel.specs.KernelState.{KernelState, IsSound}
-use Rattle.iol_kernel.proofs.State.Stay.{stays_here}
 use Rattle.iol_system.specs.Machine.{SystemState, machine_of, tables_of, system_of}
 use Rattle.iol_system.specs.Asking.{asks_store, uses_cache}
 use Rattle.iol_system.specs.Doing.{Does}
-use Rattle.iol_system.specs.Promises.{Promises, Chain}
+use Rattle.iol_system.specs.Promises.{Promises}
 use Rattle.iol_system.specs.Room.{IsRefused}
 use Rattle.iol_system.specs.Safe.{IsSafe}
-use Rattle.iol_system.specs.Values.{ValuesStayOver}
 use Rattle.iol_kernel.specs.Readings.{slots_of}
 use Rattle.iol_kernel.specs.KernelState as held
 use Rattle.iol_system.proofs.Beside.{access_beside, values_beside, files-slots}
 use Rattle.iol_system.proofs.Empty.{slots-enough, new_backed}
 use Rattle.iol_system.proofs.Hopeless.{extents_met}
-use Rattle.iol_system.proofs.Chains.{chain_run, chain_stays, chain_values, chain_honest}
 
 pub new_safe : (s : SystemState) (slots : List (List ℕ)) → IsSound s.kernel → machine_of s ≡ new_state slots → MAX_FILES ≤ length slots → IfHonest s.disk (IsBackedBy s.disk s.kernel) → IsSafe s
 new_safe s slots sound new enough backed = record {
@@ -109,21 +104,3 @@ module _ (old new : SystemState) (e : Event) (r : Reply) (safe : IsSafe old) (do
     where
       untouched : uses_cache (tables_of old.kernel) e ≡ false → IsRefused r → new.disk ≡ old.disk
       untouched unused was = does.unasked (asks_uses (tables_of old.kernel) e unused)
-
--- a run that was carried out is a chain; one that was not changed nothing
-module _ {A E : Type 0} (items : A → List Reply) (now old new : SystemState) (es : List Event) where
-  pub honest_over_chain : {X : Type 0} (r : Result A E) → now ≡ old → IfOk r (λ v. Chain now es (items v) new) → OnErr r X → (X → new ≡ now) → new.disk.honest ≡ old.disk.honest
-  honest_over_chain (Ok v) is chain err same = chain_honest old new es (items v) (subst (λ (s : SystemState). Chain s es (items v) new) is chain)
-  honest_over_chain (Err e) is chain err same = ap (λ (s : SystemState). s.disk.honest) (same err ∙ is)
-
-  pub run_of_chain : (r : Result A E) → now ≡ old → IfOk r (λ v. Chain now es (items v) new) → IfOk r (λ v. IfHonest old.disk (Run (machine_of old) es (items v) (machine_of new)))
-  run_of_chain (Ok v) is chain = chain_run old new es (items v) (subst (λ (s : SystemState). Chain s es (items v) new) is chain)
-  run_of_chain (Err e) is chain = chain
-
-  pub stays_over_chain : {X : Type 0} (r : Result A E) → now ≡ old → IfOk r (λ v. Chain now es (items v) new) → OnErr r X → (X → new ≡ now) → Stays old.kernel.store new.kernel.store
-  stays_over_chain (Ok v) is chain err same = chain_stays old new es (items v) (subst (λ (s : SystemState). Chain s es (items v) new) is chain)
-  stays_over_chain (Err e) is chain err same = subst (λ (s : SystemState). Stays old.kernel.store s.kernel.store) (sym (same err ∙ is)) (stays_here old.kernel.store)
-
-  pub values_over_chain : (r : Result A E) → now ≡ old → IfOk r (λ v. Chain now es (items v) new) → OnOk r (ValuesStayOver (machine_of old) es (machine_of new))
-  values_over_chain (Ok v) is chain = chain_values old new es (items v) (subst (λ (s : SystemState). Chain s es (items v) new) is chain)
-  values_over_chain (Err e) is chain = tt

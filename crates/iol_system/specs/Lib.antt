@@ -18,3 +18,4 @@ pub mod WrittenBack
 pub mod InPlace
 pub mod Late
 pub mod Freed
+pub mod Prelude

@@ -1,9 +1,7 @@
 //! The aggregates of all domains, lent.
 ghost use Rattle.std.specs.Prelude.{◌≡◌, [], length, Some, None, IfOk, IfErr};
-ghost use Rattle.iol_core.specs.Meaning.{first};
-ghost use Rattle.iol_core.specs.Calls.Aggregates.{show};
-ghost use Rattle.iol_kernel.specs.Kernel.{state_of};
-ghost use Rattle.iol_kernel.specs.KernelState.{IsSound, joined, machine_of};
+ghost use Rattle.iol_core.specs.Prelude.{first, show};
+ghost use Rattle.iol_kernel.specs.Prelude.{state_of, IsSound, joined, machine_of};
 
 use iol_agg::Parts;
 use iol_core::numbers::{AggId, DomainId};
@@ -19,7 +17,7 @@ pub struct Aggregates<'a> {
 
 impl<'a> Model for Aggregates<'a> {
     ghost use Rattle.iol_kernel.specs.KernelState as held;
-    ghost use Rattle.iol_kernel.specs.Kernel.{state_of};
+    ghost use Rattle.iol_kernel.specs.Prelude.{state_of};
 
     ghost Value = { held.KernelState };
 

@@ -1,8 +1,9 @@
 //! The system: the calls of domains over shared buffers, one event at a time.
 //!
 //! [`System::run`](system::System::run) carries the headline: whatever the list of events, the replies and the state
-//! after them are those of a machine that copies at every call (`iol_core`, `specs/Run`). What a system holds, and
-//! the machine's state that it stands for, is `iol_kernel`'s `specs/KernelState`; when there is room, `specs/Room`.
+//! after them are those of a machine that copies at every call (`iol_core`, `specs/Run`). The machine's
+//! state that a system stands for is `machine_of` (`specs/Machine`), of what `iol_kernel`'s `specs/KernelState` has; when there
+//! is room, `specs/Room`.
 //!
 //! The contract. `System::run`: the machine's replies and state (`chain`, `run`), what aggregates once read stay (`values`),
 //! and a list that finds no memory for its replies has done nothing (`err`). `step`, and `step_ref` of an event that is lent,
@@ -22,10 +23,10 @@
 #![tactic(auto)]
 
 pub mod aggregates;
+mod calls;
 mod in_place;
 pub mod laws;
 mod replies;
-mod step;
 pub mod system;
 
 pub use iol_core::events::{Call, Event, Reply};

@@ -1,24 +1,19 @@
 //! A system: events, one step, and a run.
 ghost use Rattle.std.specs.Prelude.{[], replicate, ◌*◌, ◌≡◌, ◌⊎◌, ◌↔◌, false, Some, None, Err, IfOk, IfErr, OnOk, OnErr};
-ghost use Rattle.iol_arena.specs.State.{no_entry};
-ghost use Rattle.iol_back.specs.Disk.{IfHonest};
-ghost use Rattle.iol_core.specs.Calls.Aggregates.{show};
-ghost use Rattle.iol_core.specs.Configuration.{IsInRange};
-ghost use Rattle.iol_core.specs.Meaning.{first};
-ghost use Rattle.iol_core.specs.Run.{Run};
-ghost use Rattle.iol_core.specs.State.{new_state};
+ghost use Rattle.iol_arena.specs.Prelude.{no_entry};
+ghost use Rattle.iol_back.specs.Prelude.{IfHonest};
+ghost use Rattle.iol_core.specs.Prelude.{show, IsInRange, first, Run, new_state};
 ghost use Rattle.iol_core.specs.declared.limits.TheConstants.{CHUNK_PAGES};
-ghost use Rattle.iol_hold.specs.Moves.{Stays};
-ghost use Rattle.iol_kernel.specs.KernelState.{joined};
-ghost use Rattle.iol_kernel.specs.Readings.{slots_of};
-ghost use Rattle.iol_kernel.specs.Report.{Reports};
+ghost use Rattle.iol_hold.specs.Prelude.{Stays};
+ghost use Rattle.iol_kernel.specs.Prelude.{joined, slots_of, Reports};
 ghost use Rattle.iol_system.specs.Machine.{machine_of, tables_of};
 ghost use Rattle.iol_system.specs.Promises.{Promises, Chain};
 ghost use Rattle.iol_system.specs.Safe.{IsSafe};
 ghost use Rattle.iol_system.specs.Values.{ValuesStayOver};
 
 use crate::aggregates::Aggregates;
-use crate::step::{carry_out, run_all};
+use crate::calls::answer_call;
+use crate::replies;
 use iol_agg::Parts;
 use iol_back::backing::Backing;
 use iol_core::configuration::Config;
@@ -45,7 +40,7 @@ impl<B: Backing> Model for System<B> {
 
     ghost Value = { SystemState };
 
-    ghost use Rattle.iol_kernel.specs.Kernel.{state_of};
+    ghost use Rattle.iol_kernel.specs.Prelude.{state_of};
 
     ghost view = { λ s. system_of (state_of s.kernel) (B.disk s.backing) };
 
@@ -117,17 +112,28 @@ impl<B: Backing> System<B> {
     pub fn step(&mut self, event: Event) -> Reply
         ensures { Promises self.old event result self.new }
     {
-        carry_out(&mut self.kernel, &mut self.backing, &event)
+        self.step_ref(&event)
     }
 
     /// Carries out one event that stays with the caller, whole, as [`System::step`] does.
     pub fn step_ref(&mut self, event: &Event) -> Reply
         ensures { Promises self.old event.now result self.new }
     {
-        carry_out(&mut self.kernel, &mut self.backing, event)
+        match event {
+            Event::Call { by, call } => answer_call(&mut self.kernel, &mut self.backing, *by, call),
+            Event::ConnNew { pool } => replies::conn(self.kernel.conn_new(*pool)),
+            Event::Arrive { conn, bytes } => replies::count(self.kernel.arrive(*conn, bytes)),
+            Event::PeerClosed { conn, how } => replies::done(self.kernel.peer_closed(*conn, *how)),
+            Event::Transmit { conn, max } => replies::segment(self.kernel.transmit(*conn, *max)),
+            Event::Flush => replies::done(self.kernel.flush(&mut self.backing)),
+            Event::DropClean => {
+                self.kernel.drop_clean();
+                Reply::Done
+            }
+        }
     }
 
-    /// Carries out events in order. For want of memory for the replies, none.
+    /// Carries out events in order. For want of memory for the replies, none: the room for them comes first.
     ///
     /// A run is a chain of steps, each of which keeps all that [`System::step`] promises. What follows from that for
     /// whole runs is stated in [`laws`](crate::laws).
@@ -142,6 +148,11 @@ impl<B: Backing> System<B> {
             (ValuesStayOver (machine_of self.old) events.now (machine_of self.new)) }
         ensures err { OnErr result (self.new ≡ self.old) }
     {
-        run_all(self.alloc, &mut self.kernel, &mut self.backing, events)
+        let mut replies = Vec::with_capacity(self.alloc, events.len())?;
+        for event in events {
+            let reply = self.step_ref(event);
+            replies.push_reserved(reply);
+        }
+        Ok(replies)
     }
 }

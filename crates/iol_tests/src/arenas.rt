@@ -1,8 +1,7 @@
 //! Each call that wants memory answers when there is enough.
 ghost use Rattle.std.specs.Prelude.{◌≡◌, ◌<◌};
 ghost use Rattle.std.specs.List.{All};
-ghost use Rattle.iol_arena.specs.State.{chunk_count};
-ghost use Rattle.iol_arena.specs.Buffers.{IsLive};
+ghost use Rattle.iol_arena.specs.Prelude.{chunk_count, IsLive};
 
 use iol_arena::arena::Arena;
 use iol_arena::chunks::ChunkSet;

@@ -1,5 +1,5 @@
 //! A process that empties a pipe.
-ghost use Rattle.iol_proc.specs.Quiet.{IsQuiet};
+ghost use Rattle.iol_proc.specs.Prelude.{IsQuiet};
 
 use crate::producer::PIECE;
 use iol_agg::Parts;

@@ -1,6 +1,6 @@
 //! Extents: what a range has, once one is put in, and what it has when that is taken away.
 ghost use Rattle.std.specs.Prelude.{◌≡◌, ◌<◌, []};
-ghost use Rattle.iol_hold.specs.Places.{byte_len};
+ghost use Rattle.iol_hold.specs.Prelude.{byte_len};
 
 use crate::stores::{add_pool, filled, new_store};
 use iol_agg::Agg;

@@ -1,8 +1,6 @@
 //! Each call that wants memory answers when there is enough.
 ghost use Rattle.std.specs.Prelude.{◌<◌, map};
-ghost use Rattle.iol_hold.specs.Stored.{count_of};
-ghost use Rattle.iol_hold.specs.Moves.{Covers};
-ghost use Rattle.iol_hold.specs.Texts.{IsFilled};
+ghost use Rattle.iol_hold.specs.Prelude.{count_of, Covers, IsFilled};
 
 use crate::stores::{add_pool, new_store};
 use iol_core::configuration::Config;

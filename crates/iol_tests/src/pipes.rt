@@ -1,7 +1,7 @@
 //! Each call that wants memory answers when there is enough.
 ghost use Rattle.std.specs.Prelude.{[]};
-ghost use Rattle.iol_hold.specs.Texts.{bufs_of};
-ghost use Rattle.iol_agg.specs.Held.{IsHeldBy};
+ghost use Rattle.iol_hold.specs.Prelude.{bufs_of};
+ghost use Rattle.iol_agg.specs.Prelude.{IsHeldBy};
 
 use crate::stores::{add_pool, filled, new_store};
 use iol_core::configuration::Config;

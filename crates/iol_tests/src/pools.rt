@@ -1,7 +1,7 @@
 //! Each call that wants memory answers when there is enough.
 ghost use Rattle.std.specs.Prelude.{◌≡◌, true};
-ghost use Rattle.iol_core.specs.Numbered.{is_numbered};
-ghost use Rattle.iol_pool.specs.Owned.{AreOwned};
+ghost use Rattle.iol_core.specs.Prelude.{is_numbered};
+ghost use Rattle.iol_pool.specs.Prelude.{AreOwned};
 
 use crate::arenas::make_one;
 use iol_arena::arena::Arena;

@@ -1,6 +1,6 @@
 //! A process that fills a pipe.
 ghost use Rattle.std.specs.Prelude.{◌≡◌, IfOk, OnErr};
-ghost use Rattle.iol_proc.specs.Quiet.{IsQuiet};
+ghost use Rattle.iol_proc.specs.Prelude.{IsQuiet};
 
 use iol_core::events::{Call, Reply};
 use iol_core::lists::Bytes;

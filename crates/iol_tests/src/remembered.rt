@@ -1,7 +1,7 @@
 //! Sums of slices: which are remembered, and of which bytes.
 ghost use Rattle.std.specs.Prelude.{◌<◌};
-ghost use Rattle.iol_hold.specs.Texts.{AllReadable};
-ghost use Rattle.iol_sum.specs.Sums.{IsRight};
+ghost use Rattle.iol_hold.specs.Prelude.{AllReadable};
+ghost use Rattle.iol_sum.specs.Prelude.{IsRight};
 
 use crate::stores::{add_pool, filled, new_store};
 use iol_agg::Agg;

@@ -1,8 +1,7 @@
 //! Stores, pools and new bytes for the tests: each call of the store in a function of its own, with its inputs made before it.
 ghost use Rattle.std.specs.Prelude.{[]};
-ghost use Rattle.iol_hold.specs.Moves.{Moves};
-ghost use Rattle.iol_hold.specs.Texts.{bufs_of, AllReadable};
-ghost use Rattle.iol_agg.specs.Held.{IsHeldBy};
+ghost use Rattle.iol_hold.specs.Prelude.{Moves, bufs_of, AllReadable};
+ghost use Rattle.iol_agg.specs.Prelude.{IsHeldBy};
 
 use iol_agg::Agg;
 use iol_core::configuration::Config;

@@ -1,9 +1,9 @@
 //! A world of watchers, up to the moment at which no connection waits.
 ghost use Rattle.std.specs.Prelude.{◌≡◌, true};
-ghost use Rattle.iol_back.specs.Disk.{IfHonest};
-ghost use Rattle.iol_proc.specs.Settled.{AllSettled};
+ghost use Rattle.iol_back.specs.Prelude.{IfHonest};
+ghost use Rattle.iol_proc.specs.Prelude.{AllSettled};
 ghost use Rattle.iol_tests.specs.Watching.{HasWatched};
-ghost use Rattle.iol_system.specs.Machine.{machine_of};
+ghost use Rattle.iol_system.specs.Prelude.{machine_of};
 
 use crate::start::system_with_pipe;
 use crate::watcher::Watcher;

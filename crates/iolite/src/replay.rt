@@ -209,7 +209,7 @@ fn answer_to(system: &mut ScriptSystem, line: Line) -> Result<Answer, Failure>
 {
     match line {
         Line::Event(event) => {
-            let reply = system.step(event);
+            let reply = system.step_ref(&event);
             Ok(Answer::Reply(reply))
         }
         Line::Report => match system.report() {

@@ -1,7 +1,7 @@
 //! The system that a script runs on.
 ghost use Rattle.std.specs.Option.{ForSome};
 ghost use Rattle.std.specs.Prelude.{◌≡◌, [], None};
-ghost use Rattle.iol_core.specs.Configuration.{IsInRange};
+ghost use Rattle.iol_core.specs.Prelude.{IsInRange};
 
 use iol_back::slots::Slots;
 use iol_core::configuration::Config;

@@ -1,6 +1,6 @@
 //! The rounds that are measured.
-ghost use Rattle.iol_hold.specs.Texts.{AllReadable};
-ghost use Rattle.iol_sum.specs.Sums.{IsRight};
+ghost use Rattle.iol_hold.specs.Prelude.{AllReadable};
+ghost use Rattle.iol_sum.specs.Prelude.{IsRight};
 
 use iol_agg::Agg;
 use iol_hold::Store;

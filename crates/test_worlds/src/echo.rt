@@ -1,6 +1,6 @@
 //! A process that sends back what comes on a connection, and closes it at the end.
 ghost use Rattle.std.specs.Prelude.{⊤};
-ghost use Rattle.iol_proc.specs.Quiet.{IsQuiet};
+ghost use Rattle.iol_proc.specs.Prelude.{IsQuiet};
 
 use iol_core::events::{Call, Reply};
 use iol_core::numbers::{AggId, Fd};

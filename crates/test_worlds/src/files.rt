@@ -1,5 +1,5 @@
 //! Stores in memory.
-ghost use Rattle.iol_back.specs.Disk.{IsSlot};
+ghost use Rattle.iol_back.specs.Prelude.{IsSlot};
 
 use iol_back::memory::MemoryBacking;
 use iol_back::slots::Slots;

@@ -1,10 +1,10 @@
 //! The call of each step of a run.
 ghost use Rattle.std.specs.Prelude.{◌≡◌, ◌-◌, ◌<◌, IfOk, OnErr, true};
 ghost use Rattle.iol_core.specs.declared.events.Call.TheVariants.{AggMake, AggReplace, GiveFd, IolWrite};
-ghost use Rattle.flash_http.specs.Request.{wanted};
+ghost use Rattle.flash_http.specs.Prelude.{wanted};
 ghost use Rattle.flash_laws.specs.Run.Wanting.{makes_bytes};
 ghost use Rattle.flash_laws.specs.Run as spec;
-ghost use Rattle.flash_laws.specs.Answers.Scripts.{script_text, frame_of, end_around, place_in_frame};
+ghost use Rattle.flash_laws.specs.Prelude.{script_text, frame_of, end_around, place_in_frame};
 ghost use Rattle.flash_laws.specs.declared.script_run.TheConstants.{CHUNK_BYTES};
 ghost use Rattle.flash_lite.specs.Runs.{IsPiece, IsSmallRun, IsSmallStep, job_for};
 

@@ -1,6 +1,6 @@
 //! What follows each call that reads output: what is read is held until it is a chunk, or dropped.
 ghost use Rattle.std.specs.Prelude.{◌≡◌, ◌<◌, Some, false, true};
-ghost use Rattle.flash_http.specs.Request.{wanted};
+ghost use Rattle.flash_http.specs.Prelude.{wanted};
 ghost use Rattle.flash_laws.specs.Run as spec;
 ghost use Rattle.flash_lite.specs.Heard.{heard};
 ghost use Rattle.flash_lite.specs.Runs.{IsPiece, IsSmallRun, IsSmallStep, IsSmallRunning, reading};

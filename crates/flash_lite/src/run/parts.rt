@@ -2,10 +2,10 @@
 //! worker is free.
 ghost use Rattle.std.specs.Prelude.{◌≡◌, IfOk, OnErr, true};
 ghost use Rattle.iol_core.specs.declared.events.Call.TheVariants.{AggMake};
-ghost use Rattle.flash_http.specs.Request.{serve, wanted};
+ghost use Rattle.flash_http.specs.Prelude.{serve, wanted};
 ghost use Rattle.flash_laws.specs.Conn as conn;
 ghost use Rattle.flash_laws.specs.Run as spec;
-ghost use Rattle.flash_laws.specs.Conn.Wanting.{has_bytes};
+ghost use Rattle.flash_laws.specs.Prelude.{has_bytes};
 ghost use Rattle.flash_laws.specs.declared.phase.Doing.TheVariants.{Sent};
 ghost use Rattle.flash_lite.specs.Heard.{heard};
 ghost use Rattle.flash_lite.specs.Runs.{IsGoing, IsSmallRun, IsSmallRunning};

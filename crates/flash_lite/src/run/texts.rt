@@ -1,6 +1,6 @@
 //! The texts that the server makes for a script.
 ghost use Rattle.std.specs.Prelude.{◌≡◌, ◌<◌, IfOk};
-ghost use Rattle.flash_http.specs.Request.{wanted};
+ghost use Rattle.flash_http.specs.Prelude.{wanted};
 ghost use Rattle.flash_laws.specs.Answers.Scripts as spec;
 ghost use Rattle.flash_lite.specs.Runs.{IsPiece};
 

@@ -1,37 +1,11 @@
 //! Slices of a range of bytes, added to a list.
-ghost use Rattle.std.specs.Prelude.{◌≡◌, ◌+◌, ◌-◌, ◌<◌, ◌≤◌, ◌^◌, ◌++◌, [], ◌∷◌, length, min, take, drop, slice_range};
+ghost use Rattle.std.specs.Prelude.{◌≡◌, ◌+◌, ◌-◌, ◌≤◌, ◌++◌, length, min, slice_range};
 ghost use Rattle.std.specs.Vec.{vec_len, vec_capacity};
-ghost use Rattle.iol_hold.specs.Stored.{count_of};
-ghost use Rattle.iol_hold.specs.Moves.{Covers, IsCountable};
-ghost use Rattle.iol_hold.specs.Places.{slice_places, places, byte_len};
-ghost use Rattle.iol_hold.specs.Texts.{bufs_of};
+ghost use Rattle.iol_hold.specs.Prelude.{Covers, IsCountable, places, byte_len, bufs_of};
 ghost use Rattle.iol_agg.specs.Pours.{Pours, meeting};
 
 use super::join::place_of;
 use iol_hold::{Slice, Store};
-
-// Adds the bytes of a slice from place `skip` on, at most `left`. A slice that ends before adds nothing.
-fn pour_slice(slice: &Slice, out: &mut Vec<Slice>, store: &mut Store, skip: u32, left: u32)
-    requires some { 0 < left }
-    requires live { 0 < count_of store.old slice.now.hold.buf }
-    requires few { count_of store.old slice.now.hold.buf < 2 ^ 63 }
-    requires room { vec_len out.old < vec_capacity out.old }
-    ensures places { places out.new.items ≡ places out.old.items ++
-        take left (drop skip (slice_places slice.now)) }
-    ensures pours { Pours store.old store.new out.old.items out.new.items
-        (slice.now.hold.buf ∷ []) }
-    ensures bufs { bufs_of out.new.items ≡ bufs_of out.old.items ++
-        bufs_of (meeting skip (skip + left) (slice.now ∷ [])) }
-    ensures capacity { vec_capacity out.new ≡ vec_capacity out.old }
-    ensures len { vec_len out.new ≤ vec_len out.old + min 1 (slice.now.len - skip) }
-{
-    if skip >= slice.len {
-        return;
-    }
-    let taken = left.min(slice.len - skip);
-    let part = slice.share(store).cut(skip, skip + taken);
-    out.push_reserved(part);
-}
 
 // Adds the bytes of a range, each slice held once more. What stands before the range is passed over by its lengths alone.
 pub(super) fn pour(slices: &[Slice], out: &mut Vec<Slice>, store: &mut Store, from: u32, to: u32)
@@ -56,8 +30,9 @@ pub(super) fn pour(slices: &[Slice], out: &mut Vec<Slice>, store: &mut Store, fr
         if left == 0 {
             return;
         }
-        pour_slice(slice, out, store, skip, left);
-        left = left.saturating_sub(slice.len.saturating_sub(skip));
-        skip = skip.saturating_sub(slice.len);
+        let taken = left.min(slice.len - skip);
+        out.push_reserved(slice.share(store).cut(skip, skip + taken));
+        left -= taken;
+        skip = 0;
     }
 }

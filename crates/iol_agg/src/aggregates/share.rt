@@ -1,8 +1,6 @@
 //! Aggregates made of the bytes of others, by reference.
 ghost use Rattle.std.specs.Prelude.{◌≡◌, ◌+◌, ◌-◌, ◌<◌, ◌≤◌, ◌^◌, ◌++◌, [], take, drop, slice_range, IfOk, OnErr, OnOk};
-ghost use Rattle.iol_hold.specs.Moves.{Shares, Covers, IsCountable};
-ghost use Rattle.iol_hold.specs.Places.{places, byte_len};
-ghost use Rattle.iol_hold.specs.Texts.{bufs_of};
+ghost use Rattle.iol_hold.specs.Prelude.{Shares, Covers, IsCountable, places, byte_len, bufs_of};
 ghost use Rattle.iol_agg.specs.Pours.{meeting};
 
 use super::pour::pour;

@@ -1,11 +1,14 @@
--- A range whose hits were shared: what the rest of its read needs.
-use Rattle.std.proofs.Common.{◌≡◌, ℕ, ◌+◌, ◌<◌, ◌≤◌, ◌^◌, true, List, [], ◌∷◌, ◌++◌, length, map, Result, sym, ap, ◌∙◌, arith, subst, inl, inr}
+-- A read of a file whose hits were shared: what its rest needs, and what the whole did.
+use Rattle.std.proofs.Common.{◌≡◌, ℕ, ◌+◌, ◌<◌, ◌≤◌, ◌^◌, true, List, [], ◌∷◌, ◌++◌, length, map, Result, IfOk, IfErr, OnErr, refl, sym, ap, ◌∙◌, arith, subst, inl, inr}
 use Rattle.std.specs.List.{All}
 use Rattle.std.proofs.lemmas.List.Elements.{All-append}
+use Rattle.std.proofs.lemmas.Result.{IfOk-weaker, on_err_weaker}
+use Rattle.iol_core.specs.Meaning.{WantOfRoomOrFault}
 use Rattle.iol_core.specs.Numbered.{is_numbered}
+use Rattle.iol_core.specs.declared.limits.TheConstants.{MAX_FILE_BYTES}
 use Rattle.iol_core.specs.declared.refusals.Refusal.{Refusal}
 use Rattle.iol_arena.specs.State.{page_count}
-use Rattle.iol_back.specs.Disk.{Disk}
+use Rattle.iol_back.specs.Disk.{Disk, last_failure}
 use Rattle.iol_extent.specs.Extents.{Extent}
 use Rattle.iol_extent.specs.Spans.{IsGapSpan}
 use Rattle.iol_extent.specs.declared.spans.Span.{Span}
@@ -21,17 +24,20 @@ use Rattle.iol_cache.specs.declared.files.CachedFile.{CachedFile}
 use Rattle.iol_cache.specs.Cached.{Cached, clean_held, extents_in, file_in, held, all_parts}
 use Rattle.iol_cache.specs.Evicting.{Holding}
 use Rattle.iol_cache.specs.Gaps.{gap_pages}
-use Rattle.iol_cache.specs.Going.{Goes, HasRoom, LacksRoom}
+use Rattle.iol_cache.specs.Going.{Goes}
+use Rattle.iol_cache.specs.Loading.{Asks}
 use Rattle.iol_cache.specs.Pinned.{pinned_beside}
-use Rattle.iol_cache.specs.Ranges.{CompletesRange, PinsRange}
-use Rattle.iol_cache.specs.Serving.{TellsRoom}
+use Rattle.iol_cache.specs.Ranges.{CompletesRange, FillsAfter, PinsRange, UndoesAfter}
+use Rattle.iol_cache.specs.Reading.{CanFill}
+use Rattle.iol_cache.specs.Serving.{NoRoomToRead, Range, ReadsFile, RefusesRead, RoomToRead, TellsRoom}
 use Rattle.iol_cache.specs.Sharing.{CountsBelow, places_over}
 use Rattle.iol_cache.specs.Sound.{IsSound}
 use Rattle.iol_cache.specs.Weaving.{IsCoveredBeside, len_beside, places_beside, places_read, woven}
 use Rattle.iol_cache.proofs.Extents.Filing.{numbered_bounds, numbered_yes}
+use Rattle.iol_cache.proofs.Evictions.Rooming.{at_most}
 use Rattle.iol_cache.proofs.RangeReads.Met.{has_hit, lacks_hit}
 use Rattle.iol_cache.proofs.RangeReads.Ranged.{laid_readable, tally_len}
-use Rattle.iol_cache.proofs.RangeReads.Served.{extents_filled, tells_more}
+use Rattle.iol_cache.proofs.RangeReads.Served.{asks_ok, extents_filled, ok_both, some_lacked, tells_more, told_late}
 use Rattle.iol_cache.proofs.RangeReads.Shared.{over_there, readable_of, readable_same, settles_shares}
 use Rattle.iol_cache.proofs.Extents.Steps.{goes_cache, goes_store, goes_trans, numbered_same}
 use Rattle.iol_cache.proofs.RangeReads.Tiled.{tile_beside}
@@ -42,57 +48,136 @@ beside_there {s = s} es at to [] covered all = over_there {s = s} es at to cover
 beside_there {s = s} es at to (g ∷ gs) covered all =
     All-append (IsThere s) (places_over es at g.from) (places_beside es g.to to gs) (over_there {s = s} es at g.from covered.0 all) (beside_there {s = s} es g.to to gs covered.1 all)
 
-module _ (f from to : ℕ) (a b : Holding) (pins : List Slice) (gs : List Span) (sound : IsSound a.store a.cache) (there : is_numbered a.cache.files f ≡ true) (x : PinsRange f from to a b pins gs) where
+-- A read of a file whose hits were shared. These gaps are left.
+pub record HitsShared (f at n : ℕ) (d : Disk) (a b : Holding) (pins : List Slice) (gs : List Span) : Type 0 where
+  pub range : Range d a.cache f at n
+  pub sound : IsSound a.store a.cache
+  pub there : is_numbered a.cache.files f ≡ true
+  pub pinned : PinsRange f range.from range.to a b pins gs
+
+module _ {f at n : ℕ} {d : Disk} {a b : Holding} {pins : List Slice} {gs : List Span} (h : HitsShared f at n d a b pins gs) where
   abbrev es : List Extent
   es = extents_in a.cache.files f
 
+  abbrev from : ℕ
+  from = h.range.from
+
+  abbrev to : ℕ
+  to = h.range.to
+
+  -- the pages that are wanted while the hits are held, and those that the pool has
+  abbrev wanted : ℕ
+  wanted = pinned_beside b.store (clean_held b.cache.files) (file_in b.cache.files f).pool + gap_pages gs
+
+  abbrev pages : ℕ
+  pages = length (pages_of b.store (file_in b.cache.files f).pool)
+
+  short : to ≤ MAX_FILE_BYTES
+  short = omega (arith, h.range.stops, h.range.ends.short)
+
   extents_same : (g : ℕ) → extents_in b.cache.files g ≡ extents_in a.cache.files g
-  extents_same g = ap (λ (fs : List CachedFile). extents_in fs g) x.counted.files ∙ x.rooms.extents g
+  extents_same g = ap (λ (fs : List CachedFile). extents_in fs g) h.pinned.counted.files ∙ h.pinned.rooms.extents g
 
   pub pool_same : (g : ℕ) → (file_in b.cache.files g).pool ≡ (file_in a.cache.files g).pool
-  pool_same g = ap (λ (fs : List CachedFile). (file_in fs g).pool) x.counted.files ∙ x.rooms.pools g
+  pool_same g = ap (λ (fs : List CachedFile). (file_in fs g).pool) h.pinned.counted.files ∙ h.pinned.rooms.pools g
 
   held_same : held b.cache.files ≡ held a.cache.files
-  held_same = ap held x.counted.files ∙ x.rooms.held
+  held_same = ap held h.pinned.counted.files ∙ h.pinned.rooms.held
 
-  pub numbered_hit : is_numbered b.cache.files f ≡ true
-  numbered_hit = ap (λ (fs : List CachedFile). is_numbered fs f) x.counted.files ∙ numbered_same a.cache x.reserved f x.rooms there
+  numbered_hit : is_numbered b.cache.files f ≡ true
+  numbered_hit = ap (λ (fs : List CachedFile). is_numbered fs f) h.pinned.counted.files ∙ numbered_same a.cache h.pinned.reserved f h.pinned.rooms h.there
 
-  pub gaps_hit : All (IsGapSpan (extents_in b.cache.files f)) gs
-  gaps_hit = subst (λ (l : List Extent). All (IsGapSpan l) gs) (sym (extents_same f)) x.tile.empty
+  -- What the gaps need to be filled.
+
+  pub can_fill : CanFill b.cache f from to gs
+  can_fill = record {
+    file = numbered_hit;
+    ordered = omega (arith, h.range.begins, h.range.stops);
+    end = short;
+    in_order = h.pinned.tile.gaps;
+    gaps = subst (λ (l : List Extent). All (IsGapSpan l) gs) (sym (extents_same f)) h.pinned.tile.empty;
+    room = h.pinned.space;
+    entries = h.pinned.entries;
+  }
 
   pub len_hit : byte_len pins ≡ len_beside from to gs
-  len_hit = ap length x.lies ∙ length-places_beside es from to gs
+  len_hit = ap length h.pinned.lies ∙ length-places_beside es from to gs
 
   pub covers_hit : Covers b.store (held b.cache.files ++ bufs_of pins)
-  covers_hit = record { each = λ y. omega (arith, sound.covered.each y, x.shares.counts.each y, tally_none y, tally-append y (held b.cache.files) (bufs_of pins), ap (tally y) held_same) }
+  covers_hit = record { each = λ y. omega (arith, h.sound.covered.each y, h.pinned.shares.counts.each y, tally_none y, tally-append y (held b.cache.files) (bufs_of pins), ap (tally y) held_same) }
 
   pub readable_hit : AllReadable b.store pins
   readable_hit =
-      let covered = tile_beside es from to x.hits gs x.tile in
-      let all = laid_readable (file_in a.cache.files f).pool es (sound.files f).laid in
-      readable_same a.store b.store pins x.shares.arena x.shares.pools (readable_of pins (places_beside es from to gs) x.lies (beside_there es from to gs covered all))
+      let covered = tile_beside es from to h.pinned.hits gs h.pinned.tile in
+      let all = laid_readable (file_in a.cache.files f).pool es (h.sound.files f).laid in
+      readable_same a.store b.store pins h.pinned.shares.arena h.pinned.shares.pools (readable_of pins (places_beside es from to gs) h.pinned.lies (beside_there es from to gs covered all))
 
-  pub few_hit : to < 2 ^ 32 → CountsBelow a.store (2 ^ 59) → CountsBelow b.store (2 ^ 60)
-  few_hit small few = record { each = λ y. omega (arith, few.each y, x.shares.counts.each y, tally_none y, tally_len y pins, len_hit, beside_few from to gs x.tile.gaps, small) }
+  pub few_hit : CountsBelow a.store (2 ^ 59) → CountsBelow b.store (2 ^ 60)
+  few_hit few = record { each = λ y. omega (arith, few.each y, h.pinned.shares.counts.each y, tally_none y, tally_len y pins, len_hit, beside_few from to gs h.pinned.tile.gaps, short) }
 
-  pub goes_hit : (d : Disk) → Goes d [] (bufs_of pins) a b
-  goes_hit d =
+  pub goes_hit : Goes d [] (bufs_of pins) a b
+  goes_hit =
+      let m = h.pinned.shares in
       let mid : Holding = record { store = b.store; cache = a.cache } in
-      let shared = goes_store d [] (bufs_of pins) a.store b.store a.cache sound (shares_move x.shares) (still_covers sound.covered x.shares) (ap (map pool_meant) x.shares.pools) (settles_shares x.shares) (ap page_count x.shares.arena) in
-      goes_trans d [] (bufs_of pins) (bufs_of pins) a mid b shared (goes_cache d (bufs_of pins) b.store a.cache b.cache (ap length x.counted.files ∙ x.rooms.files) pool_same extents_same held_same)
+      let shared = goes_store d [] (bufs_of pins) a.store b.store a.cache h.sound (shares_move m) (still_covers h.sound.covered m) (ap (map pool_meant) m.pools) (settles_shares m) (ap page_count m.arena) in
+      goes_trans d [] (bufs_of pins) (bufs_of pins) a mid b shared (goes_cache d (bufs_of pins) b.store a.cache b.cache (ap length h.pinned.counted.files ∙ h.pinned.rooms.files) pool_same extents_same held_same)
 
-  -- The room that there is while these are held.
-
-  pub room_hit : {A : Type 0} (r : Result A Refusal) → (let p = (file_in b.cache.files f).pool in let wanted = pinned_beside b.store (clean_held b.cache.files) p + gap_pages gs in let all = length (pages_of b.store p) in TellsRoom (wanted ≤ all) (all < wanted) r) → TellsRoom (HasRoom a.store a.cache f from to) (LacksRoom a.store a.cache f from to) r
-  room_hit r h = tells_more _ _ (HasRoom a.store a.cache f from to) (LacksRoom a.store a.cache f from to) r (has_hit f from to a b pins gs x) (lacks_hit f from to a b pins gs x) h
-
-  -- Where the bytes of the range lie in the end.
-  pub lies_read : (d : Disk) (c : Holding) (xs : List Slice) → CompletesRange f from to pins gs d b c xs → places xs ≡ places_read es (extents_in c.cache.files f) from to gs
-  lies_read d c xs (inl e) = ap places e.all ∙ x.lies ∙ ap (places_beside es from to) e.none ∙ sym (ap (places_read es (extents_in c.cache.files f) from to) e.none)
-  lies_read d c xs (inr filled) =
-      let n = numbered_bounds b.cache.files f numbered_hit in
-      let there_mid = numbered_yes filled.mid.cache.files f n.0 (omega (arith, n.1, filled.less.keeps.count)) in
+  -- where the bytes of the range lie in the end
+  lies_read : (c : Holding) (xs : List Slice) → CompletesRange f from to pins gs d b c xs → places xs ≡ places_read es (extents_in c.cache.files f) from to gs
+  lies_read c xs (inl e) = ap places e.all ∙ h.pinned.lies ∙ ap (places_beside es from to) e.none ∙ sym (ap (places_read es (extents_in c.cache.files f) from to) e.none)
+  lies_read c xs (inr filled) =
+      let k = numbered_bounds b.cache.files f numbered_hit in
+      let there_mid = numbered_yes filled.mid.cache.files f k.0 (omega (arith, k.1, filled.less.keeps.count)) in
       let new = filled.fills.extents.extents in
       let is : extents_in c.cache.files f ≡ new = ap (λ (e : Cached). extents_in e.files f) filled.cache ∙ extents_filled f from to filled.mid filled.full (places pins) gs d xs there_mid filled.fills in
-      filled.fills.range.lies ∙ ap (λ ps. woven ps new from to gs) x.lies ∙ woven-beside es new from to gs ∙ ap (λ (l : List Extent). places_read es l from to gs) (sym is)
+      filled.fills.range.lies ∙ ap (λ ps. woven ps new from to gs) h.pinned.lies ∙ woven-beside es new from to gs ∙ ap (λ (l : List Extent). places_read es l from to gs) (sym is)
+
+  -- The room that there is while these are held.
+  pub room_hit : (r : Result (List Slice) Refusal) → TellsRoom (wanted ≤ pages) (pages < wanted) r → TellsRoom (RoomToRead f at n d a) (NoRoomToRead f at n d a) r
+  room_hit r told =
+      tells_more _ _ (RoomToRead f at n d a) (NoRoomToRead f at n d a) r
+      (λ k. record { range = h.range; room = has_hit f from to a b pins gs h.pinned k }) (λ k. record { range = h.range; lacks = lacks_hit f from to a b pins gs h.pinned k }) told
+
+  -- Without gaps.
+
+  pub reads_hit : gs ≡ [] → ReadsFile f at n d a b pins
+  reads_hit none =
+      let whole : CompletesRange f from to pins gs d b b pins = inl (record { none = none; all = refl; same = refl }) in
+      record { range = h.range; reads = record { pins = pins; gaps = gs; hit = b; pinned = h.pinned; completed = whole; lies = lies_read b pins whole; answers = λ some. absurd (omega (arith, some, ap length none)) } }
+
+  pub fits_hit : gs ≡ [] → wanted ≤ pages
+  fits_hit none = omega (arith, ap gap_pages none, at_most b.store (clean_held b.cache.files) (pages_of b.store (file_in b.cache.files f).pool))
+
+  -- With gaps, which were filled then, or were not.
+  module _ (e : Disk) (c : Holding) (r : Result (List Slice) Refusal) where
+    pub reads_filled : IfOk r (FillsAfter f from to pins gs d b c) → Asks (length gs) d e r → IfOk r (ReadsFile f at n d a c)
+    reads_filled filled asks =
+        let fills = FillsAfter f from to pins gs d b c in
+        let answers = λ (xs : List Slice). 0 < length gs → d.failures < last_failure in
+        IfOk-weaker r (λ xs. fills xs × answers xs) (ReadsFile f at n d a c) (λ xs k. record {
+          range = h.range;
+          reads = record { pins = pins; gaps = gs; hit = b; pinned = h.pinned; completed = inr k.0; lies = lies_read c xs (inr k.0); answers = k.1 };
+        }) (ok_both fills answers r filled (asks_ok (length gs) d e r asks.counts))
+
+    pub refused_filled : IfErr r (UndoesAfter f pins gs b c) → Asks (length gs) d e r → TellsRoom (wanted ≤ pages) (pages < wanted) r → IfErr r (RefusesRead f at n d a c)
+    refused_filled undone asks told = told_late (length gs) d e (wanted ≤ pages) (pages < wanted) r (RefusesRead f at n d a c) asks.counts told (λ y faults roomy u. record {
+      range = h.range;
+      leaves = inr (record {
+        pins = pins;
+        gaps = gs;
+        faults = faults;
+        roomy = λ q is. some_lacked b.store (clean_held b.cache.files) (file_in b.cache.files f).pool gs (roomy q is);
+        hit = b;
+        pinned = h.pinned;
+        undone = u;
+      });
+    }) undone
+
+  pub goes_filled : (c : Holding) (r : Result (List Slice) Refusal) → IfOk r (λ xs. Goes d (bufs_of pins) (bufs_of xs) b c) → IfOk r (λ xs. Goes d [] (bufs_of xs) a c)
+  goes_filled c r went = IfOk-weaker r (λ xs. Goes d (bufs_of pins) (bufs_of xs) b c) (λ xs. Goes d [] (bufs_of xs) a c) (λ xs k. goes_trans d [] (bufs_of pins) (bufs_of xs) a b c goes_hit k) went
+
+  pub gone_filled : (c : Holding) (r : Result (List Slice) Refusal) → OnErr r (Goes d (bufs_of pins) [] b c) → OnErr r (Goes d [] [] a c)
+  gone_filled c r went = on_err_weaker r (λ k. goes_trans d [] (bufs_of pins) [] a b c goes_hit k) went
+
+  pub late_filled : (r : Result (List Slice) Refusal) → IfErr r (WantOfRoomOrFault (file_in b.cache.files f).pool f) → IfErr r (WantOfRoomOrFault (file_in a.cache.files f).pool f)
+  late_filled r late = subst (λ p. IfErr r (WantOfRoomOrFault p f)) (pool_same f) late

@@ -25,10 +25,9 @@ use Rattle.iol_hold.specs.Moves.{Moves}
 use Rattle.iol_hold.specs.Room.{free_of, has_room, lowest_of, others_of}
 use Rattle.iol_hold.specs.Waiting.{Fills, Publishes, FreesNone}
 use Rattle.iol_hold.proofs.Paging.{keeps_pages_made}
-use Rattle.iol_hold.proofs.Reserving.{fill_publish}
+use Rattle.iol_hold.proofs.Reserving.{fill_publish, fills_trans}
 use Rattle.iol_hold.proofs.Rooms.{room_there}
 use Rattle.iol_cache.specs.Loading.{PlacesPages}
-use Rattle.iol_cache.proofs.RangeReads.Loaded.{fills_trans}
 
 no_member : (q : ℕ) → Contains (let l : List ℕ = [] in l) q → ⊥
 no_member q h = in_contains [] q h

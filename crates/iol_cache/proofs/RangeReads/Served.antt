@@ -2,6 +2,7 @@
 use Rattle.std.proofs.Common.{◌≡◌, ℕ, ◌+◌, ◌-◌, ◌<◌, ◌≤◌, true, List, [], ◌∷◌, ◌++◌, length, IsSome, None, Some, Result, Ok, Err, IfOk, IfErr, OnErr, refl, sym, ap, ◌∙◌, arith, subst}
 use Rattle.std.specs.Prelude.{take, drop}
 use Rattle.std.specs.List.{All, AllZip}
+use Rattle.std.specs.Result.{IsErrAnd}
 use Rattle.std.proofs.lemmas.List.Elements.{All-append, All-cons, All-drop, All-head, All-nil, All-tail, All-take, All-weaker}
 use Rattle.iol_core.specs.Numbered.{is_numbered}
 use Rattle.iol_core.specs.declared.numbers.BufId.{BufId}
@@ -60,6 +61,11 @@ either_told F Q (Err y) f e g h = h y e
 pub if_err : {A E P : Type 0} (r : Result A E) (Q : E → Type 0) → ((y : E) → P → Q y) → OnErr r P → IfErr r Q
 if_err (Ok x) Q f e = tt
 if_err (Err y) Q f e = f y e
+
+-- what an error leaves that is want of memory
+pub on_memory : {A : Type 0} (r : Result A Refusal) (P : Refusal → Type 0) → IsErrAnd r (λ y. y ≡ refusal.Memory) → P refusal.Memory → IfErr r P
+on_memory (Ok x) P is p = tt
+on_memory (Err y) P is p = subst P (sym is) p
 
 pub on_errs : {A E P Q R S : Type 0} (r : Result A E) → OnErr r P → OnErr r Q → OnErr r R → (P → Q → R → S) → OnErr r S
 on_errs (Ok x) p q s f = tt

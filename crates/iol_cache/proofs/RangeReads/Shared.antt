@@ -9,8 +9,9 @@ use Rattle.std.proofs.Math.Seq.{drop-cons}
 use Rattle.iol_core.specs.declared.numbers.BufId.{BufId}
 use Rattle.iol_extent.specs.Extents.{Cell, Extent, IsApart, cell_at, cover, end_of, extent_over, is_over, no_place}
 use Rattle.iol_extent.proofs.Cover.{cover_no, cover_yes}
-use Rattle.iol_hold.specs.Moves.{Covers, Moves, Shares, pool_meant, tally}
+use Rattle.iol_hold.specs.Moves.{Covers, Moves, SameLists, Shares, pool_meant, tally}
 use Rattle.iol_hold.specs.Places.{Place, places}
+use Rattle.iol_hold.specs.Releases.{FreesOnly}
 use Rattle.iol_hold.specs.Stored.{Stored, AllSettled}
 use Rattle.iol_hold.specs.Texts.{AllReadable, IsThere, bufs_of}
 use Rattle.iol_hold.specs.declared.slices.Slice.{Slice}
@@ -186,9 +187,13 @@ shared_gone m n = record {
 pub all_shared : {A E : Type 0} {s t : Stored} {xs : List Slice} {given : A → List Slice} (a : A) → Shares s t (bufs_of xs) (bufs_of (given a)) → SharesOrReleases {A = A} {E = E} xs given s t (Ok a)
 all_shared a m = record { shares = m; gone = tt; frees = frees_shares m; lists = ap (map pool_meant) m.pools; settles = settles_shares m }
 
+-- some was, and then all of it was released
+pub released_then : {B E : Type 0} {s t u : Stored} {xs : List Slice} {ys : List BufId} {more : B → List Slice} {e : E} → Shares s t (bufs_of xs) ys → Moves t u ys [] → SameLists t u → FreesOnly t u → (AllSettled t → AllSettled u) → SharesOrReleases {A = B} xs more s u (Err e)
+released_then m gone lists frees settles = record { shares = tt; gone = shared_gone m gone; frees = frees_trans (frees_shares m) frees gone.counts; lists = lists ∙ ap (map pool_meant) m.pools; settles = λ all. settles (settles_shares m all) }
+
 -- some was, and then no more
 pub refused_then : {A B E : Type 0} {s t u : Stored} {xs ys : List Slice} {given : A → List Slice} {more : B → List Slice} {e : E} → Shares s t (bufs_of xs) (bufs_of ys) → SharesOrReleases {A = A} ys given t u (Err e) → SharesOrReleases {A = B} xs more s u (Err e)
-refused_then m h = record { shares = tt; gone = shared_gone m h.gone; frees = frees_trans (frees_shares m) h.frees h.gone.counts; lists = h.lists ∙ ap (map pool_meant) m.pools; settles = λ all. h.settles (settles_shares m all) }
+refused_then m h = released_then m h.gone h.lists h.frees h.settles
 
 -- what is shared already is held beside what was held
 pub held_beside : {a b : Stored} {xs ys : List BufId} → Covers a ys → Shares a b [] xs → Covers b (xs ++ ys)

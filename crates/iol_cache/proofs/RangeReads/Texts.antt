@@ -9,6 +9,7 @@ use Rattle.std.proofs.lemmas.List.FromFn.{get_or-map-range_with_len, length-map-
 use Rattle.iol_core.specs.Numbered.{is_numbered}
 use Rattle.iol_core.specs.Text as text
 use Rattle.iol_back.specs.Disk.{Disk, content}
+use Rattle.iol_extent.proofs.Alone.{ends_high}
 use Rattle.iol_extent.specs.Extents.{Cell, Extent, cell_at, cover, is_over, no_place}
 use Rattle.iol_extent.specs.Spans.{AreInOrder}
 use Rattle.iol_extent.specs.declared.spans.Span.{Span}
@@ -122,16 +123,12 @@ module _ (s t : Stored) (p : ℕ) (old new : List Extent) (stored : List ℕ) (s
       let B = places_over new g.from g.to in
       let C = places_read old new g.to to gs in
       let before = first_of (IsThere t) (A ++ B) C there in
-      let end = ends g.to gs order.2 in
+      let end = ends_high g.to to gs order.2 in
       let one = hit_run at g.from order.0 c.0 (first_of (IsThere t) A B before) in
       let two = gap_run g (omega (arith, order.1)) (omega (arith, short, end)) (All-head (IsCleanSpan new) g gs stand) in
       let three = read_run g.to to gs order.2 short c.1 (All-tail (IsCleanSpan new) g gs stand) (rest_of (IsThere t) (A ++ B) C there) in
       map-append F (A ++ B) C ∙ ap (λ l. l ++ map F C) (map-append F A B ∙ ap (λ l. l ++ map F B) one ∙ ap (λ l. map W (range_with_len at (g.from - at)) ++ l) two ∙ runs_join W at g.from g.to order.0 (omega (arith, order.1)))
       ∙ ap (λ l. map W (range_with_len at (g.to - at)) ++ l) three ∙ runs_join W at g.to to (omega (arith, order.0, order.1)) end
-    where
-      ends : (low : ℕ) (ss : List Span) → AreInOrder low to ss → low ≤ to
-      ends low [] h = h
-      ends low (x ∷ ss) h = omega (arith, ends x.to ss h.2, h.0, h.1)
 
 -- Pools and lengths, over every store.
 

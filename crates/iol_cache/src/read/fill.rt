@@ -1,12 +1,9 @@
 //! Gaps of a range that are read, and the range that is shared then.
 ghost use Rattle.std.specs.Prelude.{◌≡◌, ◌≤◌, ◌^◌, OnErr, IfOk, IfErr, All, length, false};
-ghost use Rattle.iol_core.specs.Meaning.{WantOfRoomOrFault};
-ghost use Rattle.iol_pool.specs.Pools.{pool_in};
-ghost use Rattle.iol_hold.specs.Moves.{Covers};
-ghost use Rattle.iol_hold.specs.Places.{places, byte_len};
-ghost use Rattle.iol_hold.specs.Texts.{bufs_of, AllReadable};
-ghost use Rattle.iol_extent.specs.Extents.{IsApart};
-ghost use Rattle.iol_extent.specs.Spans.{AreInOrder, IsGapSpan};
+ghost use Rattle.iol_core.specs.Prelude.{WantOfRoomOrFault};
+ghost use Rattle.iol_pool.specs.Prelude.{pool_in};
+ghost use Rattle.iol_hold.specs.Prelude.{Covers, places, byte_len, bufs_of, AllReadable};
+ghost use Rattle.iol_extent.specs.Prelude.{IsApart, AreInOrder, IsGapSpan};
 ghost use Rattle.iol_cache.specs.Gaps.{gap_pages};
 ghost use Rattle.iol_cache.specs.Loading.{Asks, PlacesOrReleases};
 ghost use Rattle.iol_cache.specs.Reading.{FillsRange};

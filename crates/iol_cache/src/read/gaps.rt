@@ -1,17 +1,13 @@
 //! Gaps that become clean extents.
 ghost use Rattle.std.specs.Prelude.{◌≡◌, ◌+◌, ◌-◌, ◌<◌, ◌≤◌, [], false, length, take, drop, OnOk, OnErr, IfOk, IfErr, All};
-ghost use Rattle.iol_core.specs.Meaning.{WantOfRoomOrFault};
+ghost use Rattle.iol_core.specs.Prelude.{WantOfRoomOrFault};
 ghost use Rattle.iol_core.specs.Text as text;
-ghost use Rattle.iol_back.specs.Disk.{IfHonest, content};
-ghost use Rattle.iol_cache.specs.Gaps.{AllBegin, FillsGap, FillsGaps, LoadsSlices, gap_pages, parts_back, without_spans};
+ghost use Rattle.iol_back.specs.Prelude.{IfHonest, content};
+ghost use Rattle.iol_cache.specs.Gaps.{AllBegin, FillsGaps, LoadsSlices, gap_pages, parts_back, without_spans};
 ghost use Rattle.iol_cache.specs.Loading.{Asks, LoadsOrKeeps, PlacesOrReleases, PlacesPages};
-ghost use Rattle.iol_extent.specs.Extents.{IsApart, IsGap};
-ghost use Rattle.iol_extent.specs.Spans.{AreInOrder, IsGapSpan};
-ghost use Rattle.iol_hold.specs.Moves.{Covers, Moves, SameLists};
-ghost use Rattle.iol_hold.specs.Releases.{FreesOnly};
-ghost use Rattle.iol_hold.specs.Stored.{AllSettled};
-ghost use Rattle.iol_hold.specs.Texts.{text_of, bufs_of, AllReadable};
-ghost use Rattle.iol_pool.specs.Pools.{pool_in};
+ghost use Rattle.iol_extent.specs.Prelude.{IsApart, AreInOrder, IsGapSpan};
+ghost use Rattle.iol_hold.specs.Prelude.{Covers, Moves, SameLists, FreesOnly, AllSettled, text_of, bufs_of, AllReadable};
+ghost use Rattle.iol_pool.specs.Prelude.{pool_in};
 
 use crate::read::load::load;
 use iol_agg::Agg;
@@ -54,35 +50,6 @@ fn gap_agg<B: Backing>(
         Err(refusal) => return Err(refusal),
     };
     Ok(Agg::of_holds(slices, store, holds))
-}
-
-// Reads a gap of a file, which becomes a clean extent.
-fn fill_gap<B: Backing>(
-    alloc: Global,
-    store: &mut Store,
-    backing: &mut B,
-    extents: &mut Extents,
-    file: FileId,
-    pool: PoolId,
-    gap: Span,
-) -> Result<(), Refusal>
-    requires some { gap.from < gap.to }
-    requires gap { IsGap extents.old.extents gap.from gap.to }
-    requires room { 0 < extents.old.room }
-    requires open { (pool_in store.old.pools pool).closed ≡ false }
-    ensures fills { OnOk result (FillsGap store.old store.new extents.old extents.new pool gap
-        (B.disk backing.old) file) }
-    ensures same { OnErr result (extents.new ≡ extents.old) }
-    ensures leaves { LoadsOrKeeps pool (gap.to - gap.from) store.old store.new result }
-    ensures disk { Asks 1 (B.disk backing.old) (B.disk backing.new) result }
-    ensures late { IfErr result (WantOfRoomOrFault pool file) }
-{
-    let agg = match gap_agg(alloc, store, backing, file, pool, gap) {
-        Ok(agg) => agg,
-        Err(refusal) => return Err(refusal),
-    };
-    extents.put(gap.from, agg, false);
-    Ok(())
 }
 
 /// Takes the extents away that begin where these spans do, the last first, and releases them.
@@ -132,10 +99,14 @@ pub(crate) fn fill_gaps<B: Backing>(
 {
     for i in 0..gaps.len() {
         let gap = gaps[i];
-        if let Err(refusal) = fill_gap(alloc, store, backing, extents, file, pool, gap) {
-            take_back(extents, store, &gaps[..i]);
-            return Err(refusal);
-        }
+        let agg = match gap_agg(alloc, store, backing, file, pool, gap) {
+            Ok(agg) => agg,
+            Err(refusal) => {
+                take_back(extents, store, &gaps[..i]);
+                return Err(refusal);
+            }
+        };
+        extents.put(gap.from, agg, false);
     }
     Ok(())
 }

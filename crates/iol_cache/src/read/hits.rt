@@ -1,23 +1,18 @@
 //! Reading of files.
-ghost use Rattle.std.specs.Prelude.{◌≡◌, ◌≤◌, ◌^◌, [], length, true, OnOk, OnErr, IfOk, IfErr};
-ghost use Rattle.iol_core.specs.Meaning.{WantOfRoomOrFault};
-ghost use Rattle.iol_core.specs.Numbered.{is_numbered};
-ghost use Rattle.iol_hold.specs.Moves.{Moves, Covers, SameLists};
-ghost use Rattle.iol_hold.specs.Places.{places, byte_len};
-ghost use Rattle.iol_hold.specs.Releases.{FreesOnly};
-ghost use Rattle.iol_hold.specs.Stored.{AllSettled};
-ghost use Rattle.iol_hold.specs.Texts.{bufs_of, AllReadable};
-ghost use Rattle.iol_extent.specs.Spans.{AreInOrder};
-ghost use Rattle.iol_cache.specs.Cached.{file_in, extents_in};
+ghost use Rattle.std.specs.Prelude.{◌≡◌, ◌≤◌, ◌^◌, [], length, true, OnErr, IfOk, IfErr};
+ghost use Rattle.iol_core.specs.Prelude.{WantOfRoomOrFault, is_numbered};
+ghost use Rattle.iol_hold.specs.Prelude.{Moves, Covers, SameLists, places, byte_len, FreesOnly, AllSettled, bufs_of, AllReadable};
+ghost use Rattle.iol_extent.specs.Prelude.{AreInOrder};
+ghost use Rattle.iol_cache.specs.Cached.{file_in};
 ghost use Rattle.iol_cache.specs.Cache.{cached_of, holding};
 ghost use Rattle.iol_cache.specs.Gaps.{gap_pages};
-ghost use Rattle.iol_cache.specs.Going.{CountsHits, FillsFile};
+ghost use Rattle.iol_cache.specs.Going.{FillsFile};
 ghost use Rattle.iol_cache.specs.Loading.{Asks, PlacesOrReleases};
 ghost use Rattle.iol_cache.specs.Ranges.{PinsRange};
 ghost use Rattle.iol_cache.specs.Reading.{CanFill, SameButRoom};
-ghost use Rattle.iol_cache.specs.Sharing.{CountsBelow, SharesOrReleases};
+ghost use Rattle.iol_cache.specs.Sharing.{CountsBelow};
 ghost use Rattle.iol_cache.specs.Sound.{IsSound};
-ghost use Rattle.iol_cache.specs.Weaving.{IsCoveredBeside, len_beside, places_beside};
+ghost use Rattle.iol_cache.specs.Weaving.{len_beside};
 
 use crate::cache::Cache;
 use crate::files::FilePart;
@@ -45,47 +40,6 @@ pub(crate) fn count_pages(gaps: &[Span]) -> u32
 }
 
 impl Cache {
-    // Shares the bytes of a range that lie beside its gaps, and counts the hits.
-    fn share_hits(
-        &mut self,
-        alloc: Global,
-        store: &mut Store,
-        part: &FilePart,
-        hits: &[Span],
-        gaps: &[Span],
-    ) -> Result<Agg, AllocError>
-        requires sound { IsSound store.old (cached_of self.old) }
-        requires file { is_numbered self.old.files.items part.now.file ≡ true }
-        requires few { CountsBelow store.old (2 ^ 59) }
-        requires in_order { AreInOrder part.now.from part.now.to gaps.now }
-        requires covered { let es = extents_in self.old.files.items part.now.file in
-            IsCoveredBeside es part.now.from part.now.to gaps.now }
-        ensures places { let es = extents_in self.old.files.items part.now.file in
-            IfOk result (λ a. places a ≡ places_beside es part.now.from part.now.to gaps.now) }
-        ensures shared { SharesOrReleases [] (λ a. a) store.old store.new result }
-        ensures counted { OnOk result
-            (CountsHits part.now.file hits.now (cached_of self.old) (cached_of self.new)) }
-        ensures err { OnErr result (self.new ≡ self.old) }
-    {
-        let place = part.file.number() as usize - 1;
-        let pool = self.files[place].pool;
-        let pins = share_beside(
-            alloc,
-            &self.files[place].extents,
-            store,
-            gaps,
-            part.from,
-            part.to,
-        )?;
-        count_hits(
-            &mut self.orders[pool.number() as usize - 1],
-            &self.files[place].extents,
-            part.file,
-            hits,
-        );
-        Ok(pins)
-    }
-
     // Reads the gaps of a range, and puts the range together: all or nothing.
     pub(crate) fn fill<B: Backing>(
         &mut self,
@@ -161,7 +115,21 @@ impl Cache {
         let place = part.file.number() as usize - 1;
         let found = self.files[place].extents.find(alloc, part.from, part.to)?;
         self.reserve_places(part.file, found.gaps.len())?;
-        let pins = self.share_hits(alloc, store, part, &found.hits, &found.gaps)?;
+        let cached = &self.files[place];
+        let pins = share_beside(
+            alloc,
+            &cached.extents,
+            store,
+            &found.gaps,
+            part.from,
+            part.to,
+        )?;
+        count_hits(
+            &mut self.orders[cached.pool.number() as usize - 1],
+            &cached.extents,
+            part.file,
+            &found.hits,
+        );
         Ok((pins, found.gaps))
     }
 }

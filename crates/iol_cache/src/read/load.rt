@@ -1,21 +1,12 @@
 //! Bytes of the store, read into new buffers.
 ghost use Rattle.std.specs.Prelude.{◌≡◌, ◌+◌, ◌<◌, ◌≤◌, ◌^◌, [], false, length, take, drop, min, OnOk, IfOk, IfErr};
 ghost use Rattle.std.specs.List.{All};
-ghost use Rattle.iol_core.specs.Meaning.{WantOfRoomOrFault};
-ghost use Rattle.iol_arena.specs.Adds.{IsNew};
-ghost use Rattle.iol_arena.specs.Buffers.{Grows, bytes_in};
-ghost use Rattle.iol_arena.specs.Pages.{MadeOn};
-ghost use Rattle.iol_arena.specs.Parts.{part_pages, part_room};
-ghost use Rattle.iol_arena.specs.State.{pages_for};
-ghost use Rattle.iol_back.specs.Disk.{IfHonest, content};
+ghost use Rattle.iol_core.specs.Prelude.{WantOfRoomOrFault};
+ghost use Rattle.iol_arena.specs.Prelude.{IsNew, Grows, bytes_in, MadeOn, part_pages, part_room, pages_for};
+ghost use Rattle.iol_back.specs.Prelude.{IfHonest, content};
 ghost use Rattle.iol_cache.specs.Loading.{Asks, IsRead, LoadsOrKeeps, PlacesPages, ReadsPart};
-ghost use Rattle.iol_hold.specs.Filling.{filling_store, filling_parts, filling_part, filling_lender, filling_bytes, IsFilling};
-ghost use Rattle.iol_hold.specs.Moves.{Moves};
-ghost use Rattle.iol_hold.specs.Room.{lowest_of};
-ghost use Rattle.iol_hold.specs.Stored.{held_bufs};
-ghost use Rattle.iol_hold.specs.Texts.{IsFilled};
-ghost use Rattle.iol_hold.specs.Waiting.{Fills};
-ghost use Rattle.iol_pool.specs.Pools.{pool_in};
+ghost use Rattle.iol_hold.specs.Prelude.{filling_store, filling_parts, filling_part, filling_lender, filling_bytes, IsFilling, Moves, lowest_of, held_bufs, IsFilled, Fills};
+ghost use Rattle.iol_pool.specs.Prelude.{pool_in};
 
 use iol_back::backing::{Backing, StoreFault};
 use iol_core::numbers::{FileId, PoolId};

@@ -1,9 +1,7 @@
 //! A range of a file, put together from what was shared before its gaps were read and from the gaps.
 ghost use Rattle.std.specs.Prelude.{◌≡◌, ◌+◌, ◌-◌, ◌<◌, ◌≤◌, ◌^◌, ◌++◌, [], All, IfOk, slice_range};
-ghost use Rattle.iol_hold.specs.Moves.{Covers};
-ghost use Rattle.iol_hold.specs.Places.{places, byte_len};
-ghost use Rattle.iol_hold.specs.Texts.{bufs_of, AllReadable};
-ghost use Rattle.iol_extent.specs.Spans.{AreInOrder};
+ghost use Rattle.iol_hold.specs.Prelude.{Covers, places, byte_len, bufs_of, AllReadable};
+ghost use Rattle.iol_extent.specs.Prelude.{AreInOrder};
 ghost use Rattle.iol_cache.specs.Sharing.{AreHeld, CountsBelow, IsCoveredSpan, SharesOrReleases};
 ghost use Rattle.iol_cache.specs.Weaving.{IsCoveredBeside, len_beside, places_beside, woven};
 

@@ -1,17 +1,13 @@
 //! The bytes of a write, as an aggregate of the file's pool: its own are shared, and each run of others is copied.
 ghost use Rattle.std.specs.Prelude.{◌≡◌, ℕ, ◌==◌, ◌<◌, ◌≤◌, ◌^◌, All, not, false, length, take, drop, slice_index_or, Err, IfOk, IfErr, OnErr};
-ghost use Rattle.iol_arena.specs.State.{pages_for};
+ghost use Rattle.iol_arena.specs.Prelude.{pages_for};
 ghost use Rattle.iol_cache.specs.Composing.{Composes, ComposesRun, copied_pages};
 ghost use Rattle.iol_cache.specs.Sharing.{CountsBelow};
-ghost use Rattle.iol_core.specs.Meaning.{WantOfRoom};
+ghost use Rattle.iol_core.specs.Prelude.{WantOfRoom};
 ghost use Rattle.iol_core.specs.Text as text;
-ghost use Rattle.iol_hold.specs.Moves.{Covers, IsCountable};
-ghost use Rattle.iol_hold.specs.Places.{byte_len};
-ghost use Rattle.iol_hold.specs.Room.{free_of};
-ghost use Rattle.iol_hold.specs.Stored.{IsTidy};
-ghost use Rattle.iol_hold.specs.Texts.{AllReadable, bufs_of, text_of};
+ghost use Rattle.iol_hold.specs.Prelude.{Covers, IsCountable, byte_len, free_of, IsTidy, AllReadable, bufs_of, text_of};
 ghost use Rattle.iol_hold.specs.declared.slices.Slice.{Slice};
-ghost use Rattle.iol_pool.specs.Pools.{pool_in};
+ghost use Rattle.iol_pool.specs.Prelude.{pool_in};
 ghost use Rattle.iol_cache.specs.Loading.{PlacesOrReleases};
 
 use iol_agg::Agg;

@@ -3,8 +3,7 @@ ghost use Rattle.std.specs.Prelude.{◌≡◌, ◌<◌, ◌^◌, [], IfOk, OnErr
 ghost use Rattle.iol_cache.specs.Cutting.{CutsLeft, CutsRight};
 ghost use Rattle.iol_cache.specs.Cached.{all_parts};
 ghost use Rattle.iol_cache.specs.Sharing.{CountsBelow};
-ghost use Rattle.iol_hold.specs.Moves.{Covers, Shares};
-ghost use Rattle.iol_hold.specs.Texts.{bufs_of};
+ghost use Rattle.iol_hold.specs.Prelude.{Covers, Shares, bufs_of};
 
 use iol_agg::Agg;
 use iol_extent::extents::Extents;
@@ -21,7 +20,7 @@ pub(crate) struct Edge {
 }
 
 impl Model for Edge {
-    ghost use Rattle.iol_extent.specs.Extents.{Extent};
+    ghost use Rattle.iol_extent.specs.Prelude.{Extent};
 
     ghost Value = { Extent };
 

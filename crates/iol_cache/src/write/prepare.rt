@@ -4,12 +4,9 @@ ghost use Rattle.iol_cache.specs.Composing.{copied_pages};
 ghost use Rattle.iol_cache.specs.Cached.{all_parts};
 ghost use Rattle.iol_cache.specs.Preparing.{Prepares};
 ghost use Rattle.iol_cache.specs.Sharing.{CountsBelow};
-ghost use Rattle.iol_core.specs.Meaning.{WantOfRoom};
-ghost use Rattle.iol_hold.specs.Moves.{Covers};
-ghost use Rattle.iol_hold.specs.Places.{byte_len};
-ghost use Rattle.iol_hold.specs.Stored.{IsTidy};
-ghost use Rattle.iol_hold.specs.Texts.{AllReadable, bufs_of};
-ghost use Rattle.iol_pool.specs.Pools.{pool_in};
+ghost use Rattle.iol_core.specs.Prelude.{WantOfRoom};
+ghost use Rattle.iol_hold.specs.Prelude.{Covers, byte_len, IsTidy, AllReadable, bufs_of};
+ghost use Rattle.iol_pool.specs.Prelude.{pool_in};
 ghost use Rattle.iol_cache.specs.Loading.{PlacesOrReleases};
 
 use crate::write::copies::compose;

@@ -1,19 +1,15 @@
 //! A range of a file that is replaced: what it meets goes, and its parts and the new bytes come in. No memory is taken.
 ghost use Rattle.std.specs.Prelude.{◌≡◌, ◌+◌, ◌<◌, ◌≤◌, ◌^◌, ◌++◌, length, max, IfSome, IsSome};
 ghost use Rattle.std.specs.List.{filter};
-ghost use Rattle.iol_arena.specs.State.{page_count};
+ghost use Rattle.iol_arena.specs.Prelude.{page_count};
 ghost use Rattle.iol_cache.specs.Cached.{parts_in, all_parts};
 ghost use Rattle.iol_cache.specs.Cutting.{CutsLeft, CutsRight};
 ghost use Rattle.iol_cache.specs.Marks.{AreWithin, HasMarksLeft};
 ghost use Rattle.iol_cache.specs.Reading.{RanksFile};
 ghost use Rattle.iol_cache.specs.Replacing.{IsIndexed, Reindexes, all_forgotten, forgotten, put_some, remembered, reordered};
 ghost use Rattle.iol_cache.specs.Writing.{parts_put};
-ghost use Rattle.iol_extent.specs.Extents.{Adds, IsApart, IsGap, begins_at, end_of, last_end, meets, unmet, without_at};
-ghost use Rattle.iol_hold.specs.Moves.{Covers, Moves, SameLists};
-ghost use Rattle.iol_hold.specs.Places.{byte_len};
-ghost use Rattle.iol_hold.specs.Releases.{FreesOnly};
-ghost use Rattle.iol_hold.specs.Stored.{AllSettled};
-ghost use Rattle.iol_hold.specs.Texts.{AllReadable, bufs_of};
+ghost use Rattle.iol_extent.specs.Prelude.{Adds, IsApart, IsGap, begins_at, end_of, last_end, meets, unmet, without_at};
+ghost use Rattle.iol_hold.specs.Prelude.{Covers, Moves, SameLists, byte_len, FreesOnly, AllSettled, AllReadable, bufs_of};
 
 use crate::marks::CleanHolds;
 use crate::write::cut::{Edge, Replacement};

@@ -22,6 +22,7 @@ use Rattle.iol_desc.specs.Tables.{domain_in, live_aggs_in}
 use Rattle.iol_kernel.specs.Views.{state_view}
 use Rattle.iol_kernel.specs.Adding.{replaced, AddsShared}
 use Rattle.iol_kernel.specs.KernelState.{KernelState, objects_of, machine_of, IsSound, slices_in, read_of}
+use Rattle.iol_kernel.proofs.State.Answered.{answers_as, answers_shared}
 use Rattle.iol_kernel.proofs.State.Views.{with_agg-view}
 use Rattle.iol_kernel.proofs.State.Effects.{gained-sound}
 use Rattle.iol_kernel.proofs.State.ReadOf.{text-read_of, length_text-read_of, next_agg-read_of}
@@ -44,16 +45,7 @@ module _ (h : KernelState) (t : Stored) (ds : List (Domain (List Slice))) (d : �
 
   -- a call that adds these bytes and does nothing else is answered
   added_answers : (m : State → Meaning ℕ) (n : ℕ) → ((f : Reading) → n ≡ (m (read_of f h)).answer) → ((f : Reading) → aggs.with_agg (read_of f h) d (read f adds.slices) ≡ (m (read_of f h)).after) → IsSound (record h { store = t; domains = ds }) → Answers m h n (record h { store = t; domains = ds })
-  added_answers m n number after sound = record {
-    answer = λ f keeps. number f;
-    after = λ f keeps. added-read f ∙ after f;
-    arena = adds.shares.arena;
-    pools = adds.shares.pools;
-    sums = refl;
-    cache = refl;
-    sound = sound;
-    stays = (shares_move adds.shares).stays;
-  }
+  added_answers m n number after sound = answers_shared m h (record h { store = t; domains = ds }) n sound refl refl number adds.shares (λ f keeps. added-read f ∙ after f)
 
 -- Part of an aggregate.
 
@@ -72,16 +64,7 @@ module _ (h : KernelState) (t : Stored) (ds : List (Domain (List Slice))) (d a f
 
 -- all of it, once more
 pub dup_answers : (h k : KernelState) (d a len n : ℕ) → ((f : Reading) → len ≡ length (machine.text (read_of f h) d a)) → Answers (λ s. aggs.agg_cut s d a 0 len) h n k → Answers (λ s. aggs.agg_dup s d a) h n k
-dup_answers h k d a len n all cut = record {
-  answer = cut.answer;
-  after = λ f keeps. cut.after f keeps ∙ ap (aggs.with_agg (read_of f h) d) (whole (machine.text (read_of f h) d a) len (all f));
-  arena = cut.arena;
-  pools = cut.pools;
-  sums = cut.sums;
-  cache = cut.cache;
-  sound = cut.sound;
-  stays = cut.stays;
-}
+dup_answers h k d a len n all cut = answers_as (λ s. aggs.agg_cut s d a 0 len) (λ s. aggs.agg_dup s d a) h k n (λ f. refl) (λ f. ap (aggs.with_agg (read_of f h) d) (whole (machine.text (read_of f h) d a) len (all f))) cut
   where
     whole : (u : Text) (n : ℕ) → n ≡ length u → slice_range u 0 n ≡ u
     whole u n is = rw is (take_all (length u - 0) u (omega arith))

@@ -14,6 +14,7 @@ use Rattle.iol_desc.specs.Tables.{domain_in, with_domain_in, agg_in, with_agg_in
 use Rattle.iol_kernel.specs.Views.{state_view}
 use Rattle.iol_kernel.specs.KernelState.{KernelState, objects_of, IsSound, slices_in, read_of}
 use Rattle.iol_kernel.specs.Readings.{Reading, read}
+use Rattle.iol_kernel.proofs.State.Answered.{answers_here}
 use Rattle.iol_kernel.proofs.State.Views.{with_agg-view, without_agg-view}
 use Rattle.iol_kernel.proofs.State.Uses.{uses-with_agg, uses-without_agg, sum-with_domain, length-without}
 use Rattle.iol_kernel.proofs.State.Sound.{agg_readable, agg_small, drop_readable, add_readable, fds_stay, limits_agg, limits_drop}
@@ -97,13 +98,4 @@ module _ (h : KernelState) (ds : List (Domain (List Slice))) (d a e : ℕ) (live
       (limits_agg rest (objects_of h) e xs (limits_drop h.domains (objects_of h) d a xs sound.limits live found) live' (agg_small h d a xs sound found) few) sound.pooled sound.sums sound.filed sound.cached refl)
 
   pub given_answers : (n : ℕ) → IsSound h → (domain_in h.domains e).live ≡ true → agg_in h.domains d a ≢ None → n ≡ (domain_in h.domains e).next_agg → Answers (λ s. aggs.agg_give s d a e) h n (record h { domains = ds })
-  given_answers n sound to_live there number = record {
-    answer = λ f keeps. number ∙ sym (next_agg-read_of f h e);
-    after = λ f keeps. given-each f;
-    arena = refl;
-    pools = refl;
-    sums = refl;
-    cache = refl;
-    sound = given-sound sound to_live there;
-    stays = stays_here h.store;
-  }
+  given_answers n sound to_live there number = answers_here (λ s. aggs.agg_give s d a e) h (record h { domains = ds }) n (given-sound sound to_live there) refl refl (λ f. number ∙ sym (next_agg-read_of f h e)) refl given-each

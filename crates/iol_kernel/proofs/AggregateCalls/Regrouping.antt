@@ -28,6 +28,7 @@ use Rattle.iol_kernel.specs.Counted.{uses, domain_uses}
 use Rattle.iol_kernel.specs.KernelState.{KernelState, objects_of, Each, IsDomainReadable, IsSound, slices_in, read_of}
 use Rattle.iol_kernel.specs.Readings.{Reading, read}
 use Rattle.iol_kernel.specs.Regrouped.{with_two, with_one, joined_in, SplitsAgg}
+use Rattle.iol_kernel.proofs.State.Answered.{answers_here, answers_shared}
 use Rattle.iol_kernel.proofs.State.Pooling.{pools_pooled}
 use Rattle.iol_kernel.proofs.State.Effects.{moved-sound}
 use Rattle.iol_kernel.proofs.State.Views.{domain-view, with_domain-view, without-map}
@@ -37,7 +38,6 @@ use Rattle.iol_kernel.proofs.State.Uses.{sum-with_domain, uses-without, length-w
 use Rattle.iol_kernel.proofs.State.ReadOf.{next_agg-read_of, text-view}
 use Rattle.iol_kernel.proofs.AggregateCalls.Slices.{found_slices}
 use Rattle.iol_core.specs.declared.limits.TheConstants.{MAX_AGGREGATES, MAX_AGGREGATE_BYTES}
-use Rattle.iol_kernel.proofs.State.Stay.{stays_here}
 use Rattle.iol_kernel.specs.Calls.{Answers}
 
 -- One domain's aggregates change, and the store goes on.
@@ -109,16 +109,7 @@ module _ (h : KernelState) (t : Stored) (ds : List (Domain (List Slice))) (d a a
       each-two P (g ∷ es) e f h p q = (h.0, each-two P es e f h.1 p q)
 
   pub split_answers : (r : ℕ × ℕ) → IsSound h → (domain_in h.domains d).live ≡ true → agg_in h.domains d a ≢ None → live_aggs_in h.domains < MAX_AGGREGATES → r ≡ ((domain_in h.domains d).next_agg, (domain_in h.domains d).next_agg + 1) → Answers (λ s. aggs.agg_split s d a at) h r (record h { store = t; domains = ds })
-  split_answers r sound live there few numbers = record {
-    answer = λ f keeps. numbers ∙ ap {B = ℕ × ℕ} (λ n. (n, n + 1)) (sym (next_agg-read_of f h d));
-    after = λ f keeps. split-each f;
-    arena = splits.shares.arena;
-    pools = splits.shares.pools;
-    sums = refl;
-    cache = refl;
-    sound = split-sound sound live there few;
-    stays = (shares_move splits.shares).stays;
-  }
+  split_answers r sound live there few numbers = answers_shared (λ s. aggs.agg_split s d a at) h (record h { store = t; domains = ds }) r (split-sound sound live there few) refl refl (λ f. numbers ∙ ap {B = ℕ × ℕ} (λ n. (n, n + 1)) (sym (next_agg-read_of f h d))) splits.shares (λ f keeps. split-each f)
 
 -- Two aggregates are joined; the store stays as it was.
 
@@ -168,13 +159,4 @@ module _ (h : KernelState) (ds : List (Domain (List Slice))) (d a b : ℕ) (join
       (omega (arith, sound.limits.few, length-without x.aggs a xs found, length-without (without x.aggs a) b ys also, length-append rest ((x.next_agg, xs ++ ys) ∷ []))))
 
   pub join_answers : (n : ℕ) → IsSound h → (domain_in h.domains d).live ≡ true → agg_in h.domains d a ≢ None → agg_in h.domains d b ≢ None → a ≢ b → byte_len (slices_in h.domains d a) + byte_len (slices_in h.domains d b) ≤ MAX_AGGREGATE_BYTES → n ≡ (domain_in h.domains d).next_agg → Answers (λ s. aggs.agg_join s d a b) h n (record h { domains = ds })
-  join_answers n sound live first second differ short number = record {
-    answer = λ f keeps. number ∙ sym (next_agg-read_of f h d);
-    after = λ f keeps. join-each f;
-    arena = refl;
-    pools = refl;
-    sums = refl;
-    cache = refl;
-    sound = join-sound sound live first second differ short;
-    stays = stays_here h.store;
-  }
+  join_answers n sound live first second differ short number = answers_here (λ s. aggs.agg_join s d a b) h (record h { domains = ds }) n (join-sound sound live first second differ short) refl refl (λ f. number ∙ sym (next_agg-read_of f h d)) refl join-each

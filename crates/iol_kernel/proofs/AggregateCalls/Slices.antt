@@ -34,6 +34,10 @@ found_slices ds d a there = of (agg_in ds d a) there
     of None none = absurd (none refl)
     of (Some xs) some = refl
 
+-- found in a table that is as it was
+pub slices_kept : {ds es : List (Domain (List Slice))} (d a : ℕ) {xs : List Slice} → es ≡ ds → Some xs ≡ agg_in es d a → slices_in ds d a ≡ xs
+slices_kept {ds} {es} d a {xs} same found = sym (slices_found ds d a xs (found ∙ ap (λ (ys : List (Domain (List Slice))). agg_in ys d a) same))
+
 pub none_held : (f : Reading) (h : KernelState) (d a : ℕ) → None ≡ agg_in h.domains d a → aggs.lacks_agg (read_of f h) d a ≡ true
 unfolding read_of
 none_held f h d a none = ap (λ (o : Option Text). is_none o) (aggregate-view f h.domains h.store.pools (objects_of h) d a ∙ ap (option_map (read f)) (sym none))

@@ -23,6 +23,7 @@ use Rattle.iol_kernel.specs.Readings.{Reading, read, bytes_over}
 use Rattle.iol_kernel.specs.Calls.{Answers}
 use Rattle.iol_kernel.proofs.Connections.Arriving.{changed_on}
 use Rattle.iol_kernel.proofs.Connections.Connecting.{Conns, seen, conns-read_of, conn_found, conn_in-changed, conn_in-is, IsOpenConn, conn_readable, conn_limit, turned, turned_fds, turned-sound, turned-read}
+use Rattle.iol_kernel.proofs.State.Answered.{answers_here}
 use Rattle.iol_kernel.proofs.State.Effects.{fds-changed, fds-sound}
 use Rattle.iol_kernel.proofs.State.Numbering.{lookup_here, lookup_later}
 use Rattle.iol_kernel.proofs.State.Once.{all_ends_closed, ends-with_domain, ends-placed, one_once}
@@ -167,13 +168,5 @@ module _ (h : KernelState) (d c : ℕ) (sound : IsSound h) (first' : fds.waiting
     accepted_answers n m cs number conns' next' =
         let same : cs ≡ changed h.conns c accepted = conns' ∙ ap (λ (x : Conn (List Slice)). changed h.conns c (record x { accepted = true })) waiter_is in
         subst (λ (l : Conns). Answers (λ s. fds.accept s d) h n (record h { domains = ds; conns = l; next_conn = m })) (sym same)
-        (subst (λ i. Answers (λ s. fds.accept s d) h n (record h { domains = ds; conns = changed h.conns c accepted; next_conn = i })) (sym next') (record {
-          answer = λ f keeps. number ∙ sym (ap lowest (fds-read_of f h d));
-          after = λ f keeps. accepted-read f;
-          arena = refl;
-          pools = refl;
-          sums = refl;
-          cache = refl;
-          sound = accepted-sound;
-          stays = stays_here h.store;
-        }))
+        (subst (λ i. Answers (λ s. fds.accept s d) h n (record h { domains = ds; conns = changed h.conns c accepted; next_conn = i })) (sym next')
+        (answers_here (λ s. fds.accept s d) h (record now { domains = ds }) n accepted-sound refl refl (λ f. number ∙ sym (ap lowest (fds-read_of f h d))) refl accepted-read))

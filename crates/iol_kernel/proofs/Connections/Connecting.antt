@@ -34,13 +34,14 @@ use Rattle.iol_sock.specs.Table as table
 use Rattle.iol_sock.specs.Table.{ConnTable, conn_in, no_conn}
 use Rattle.iol_sock.specs.Meant.{IsConn}
 use Rattle.iol_sock.proofs.Meaning.{conn_at-is, over_meant}
-use Rattle.iol_kernel.specs.Views.{state_view}
+use Rattle.iol_kernel.specs.Views.{Objects, state_view}
 use Rattle.iol_kernel.specs.Counted.{conn_uses, IsCounted}
 use Rattle.iol_kernel.specs.KernelState as held
-use Rattle.iol_kernel.specs.KernelState.{KernelState, objects_of, Each, IsConnReadable, AreReadable, IsOpenEnd, IsLimited, ArePooled, IsSound, read_of}
-use Rattle.iol_kernel.specs.Readings.{Reading, read}
+use Rattle.iol_kernel.specs.KernelState.{KernelState, objects_of, Each, IsConnReadable, AreReadable, IsOpenEnd, IsLimited, ArePooled, IsSound, machine_of, read_of}
+use Rattle.iol_kernel.specs.Readings.{Reading, bytes_over, read}
 use Rattle.iol_kernel.specs.ClosedEnds.{KeepsEnds}
 use Rattle.iol_kernel.specs.Calls.{Leaves, Answers}
+use Rattle.iol_kernel.proofs.State.Answered.{answers_here}
 use Rattle.iol_kernel.proofs.State.Views.{pools-view, lookup-map, without-map, length-map'}
 use Rattle.iol_kernel.proofs.State.Numbering.{lookup-changed, lookup-changed_other, lookup-push, changed_same, without_changed, changed-map, rises-map, rises-changed, rises-without, rises-push, each-changed, each-without_any, each_found, sum-changed, sum-without, length-without_any}
 use Rattle.iol_kernel.proofs.State.Sound.{each-weaker, each-push}
@@ -90,6 +91,13 @@ conn_in-found cs c there = of (lookup cs c) there
     of : (o : Option (Conn (List Slice))) → o ≢ None → o ≡ Some (unwrap_or o no_conn)
     of None some = absurd (some refl)
     of (Some x) some = refl
+
+-- one that the machine has
+pub conn_is : (h : KernelState) (c : ℕ) → outside.lacks_conn (machine_of [] h) c ≡ false → lookup h.conns c ≢ None
+conn_is h c there = conn_held (bytes_over [] h.store) h c there
+
+pub found_conn : (h : KernelState) (c : ℕ) → outside.lacks_conn (machine_of [] h) c ≡ false → lookup h.conns c ≡ Some (conn_in h.conns c)
+found_conn h c there = conn_in-found h.conns c (conn_is h c there)
 
 pub conn_in-changed : (cs : Conns) (c : ℕ) (x y : Conn (List Slice)) → lookup cs c ≡ Some x → conn_in (changed cs c y) c ≡ y
 unfolding conn_in
@@ -161,6 +169,33 @@ open-without cs c n x found over open' = elim (cases_eq c n) [
 pub open-push : (cs : Conns) (c n : ℕ) (x : Conn (List Slice)) → IsOpenConn (conn_in cs n) → IsOpenConn (conn_in (cs ++ (c, x) ∷ []) n)
 open-push cs c n x open' = open_as cs (cs ++ (c, x) ∷ []) n (lookup-push cs c n x (open_conn-there cs n open')) open'
 
+-- Other connections, and all else as it was.
+
+module _ (h : KernelState) (cs : Conns) (next : ℕ) where
+  abbrev others : Objects (List Slice)
+  others = record (objects_of h) { conns = cs; next_conn = next }
+
+  -- what is open stays so, where connections do
+  others_end : ((n : ℕ) → IsOpenConn (conn_in h.conns n) → IsOpenConn (conn_in cs n)) → (e : Option Descriptor) → IsOpenEnd (objects_of h) e → IsOpenEnd others e
+  others_end keeps None open' = tt
+  others_end keeps (Some (on.ReadEnd p)) open' = open'
+  others_end keeps (Some (on.WriteEnd p)) open' = open'
+  others_end keeps (Some (on.File f at mode)) open' = open'
+  others_end keeps (Some (on.Connection n)) open' = keeps n open'
+
+  others_fds : ((n : ℕ) → IsOpenConn (conn_in h.conns n) → IsOpenConn (conn_in cs n)) → IsSound h → Each (λ (d : Domain (List Slice)). Each (IsOpenEnd others) d.fds) h.domains
+  others_fds keeps sound = each-weaker (λ (d : Domain (List Slice)). Each (IsOpenEnd (objects_of h)) d.fds) (λ (d : Domain (List Slice)). Each (IsOpenEnd others) d.fds) h.domains
+      (λ d e. each-weaker (IsOpenEnd (objects_of h)) (IsOpenEnd others) d.fds (others_end keeps) e) sound.fds
+
+  others_limits : IsSound h → Each held.IsConn cs → length cs ≤ MAX_CONNECTIONS → Rises 0 cs next → next ≤ LAST_CONNECTION + 1 → IsLimited h.domains others
+  others_limits sound each few rising last =
+      let l = sound.limits.objects in
+      record {
+        aggs = sound.limits.aggs;
+        few = sound.limits.few;
+        objects = record { queues = l.queues; few_pipes = l.few_pipes; conns = each; few_conns = few; rising = rising; last = last; cached = l.cached; few_files = l.few_files };
+      }
+
 -- The connection c, which was x, is y, and the store went on from h's to t.
 
 module _ (h : KernelState) (t : Stored) (c : ℕ) (x y : Conn (List Slice)) (sound : IsSound h) (found : lookup h.conns c ≡ Some x) where
@@ -173,20 +208,8 @@ module _ (h : KernelState) (t : Stored) (c : ℕ) (x y : Conn (List Slice)) (sou
   pub turned_limits : held.IsConn (c, y) → IsLimited h.domains (objects_of turned)
   turned_limits limit =
       let l = sound.limits.objects in
-      record {
-        aggs = sound.limits.aggs;
-        few = sound.limits.few;
-        objects = record {
-          queues = l.queues;
-          few_pipes = l.few_pipes;
-          conns = each-changed held.IsConn h.conns c y l.conns limit;
-          few_conns = omega (arith, l.few_conns, length-map' {B = ℕ × Conn (List Slice)} (λ (e : ℕ × Conn (List Slice)). if e.0 == c then (c, y) else e) h.conns);
-          rising = rises-changed h.conns 0 h.next_conn c y l.rising;
-          last = l.last;
-          cached = l.cached;
-          few_files = l.few_files;
-        };
-      }
+      others_limits h (changed h.conns c y) h.next_conn sound (each-changed held.IsConn h.conns c y l.conns limit)
+      (omega (arith, l.few_conns, length-map' {B = ℕ × Conn (List Slice)} (λ (e : ℕ × Conn (List Slice)). if e.0 == c then (c, y) else e) h.conns)) (rises-changed h.conns 0 h.next_conn c y l.rising) l.last
 
   pub turned_pooled : y.pool ≡ x.pool → ArePooled t.pools h.conns h.cache.files → ArePooled t.pools (changed h.conns c y) h.cache.files
   turned_pooled same pooled = record {
@@ -196,17 +219,9 @@ module _ (h : KernelState) (t : Stored) (c : ℕ) (x y : Conn (List Slice)) (sou
     files_open = pooled.files_open;
   }
 
-  turned_end : (IsOpenConn x → IsOpenConn y) → (e : Option Descriptor) → IsOpenEnd (objects_of h) e → IsOpenEnd (objects_of turned) e
-  turned_end keeps None open' = tt
-  turned_end keeps (Some (on.ReadEnd p)) open' = open'
-  turned_end keeps (Some (on.WriteEnd p)) open' = open'
-  turned_end keeps (Some (on.File f at mode)) open' = open'
-  turned_end keeps (Some (on.Connection n)) open' = open-changed h.conns c n x y found keeps open'
-
   -- where it is open still, if it was
   pub turned_fds : (IsOpenConn x → IsOpenConn y) → Each (λ (d : Domain (List Slice)). Each (IsOpenEnd (objects_of turned)) d.fds) h.domains
-  turned_fds keeps = each-weaker (λ (d : Domain (List Slice)). Each (IsOpenEnd (objects_of h)) d.fds) (λ (d : Domain (List Slice)). Each (IsOpenEnd (objects_of turned)) d.fds) h.domains
-      (λ d e. each-weaker (IsOpenEnd (objects_of h)) (IsOpenEnd (objects_of turned)) d.fds (turned_end keeps) e) sound.fds
+  turned_fds keeps = others_fds h (changed h.conns c y) h.next_conn (λ n open'. open-changed h.conns c n x y found keeps open') sound
 
   turned_good : IsConnReadable h.store (c, y) → AreReadable h.store (objects_of turned)
   turned_good readable = record { pipes = sound.objects.pipes; conns = each-changed (IsConnReadable h.store) h.conns c y sound.objects.conns readable; files = sound.objects.files }
@@ -295,6 +310,10 @@ module _ (h : KernelState) (c : ℕ) (x : Conn (List Slice)) (sound : IsSound h)
       (λ f. sym (not_over (read_of f h) c h.next_conn (conn_view (read f) x) (rising-read_of f h sound) (conn_found f h c x found) (over_meant f.at x ∙ on')))
       refl refl (stays_here h.store) (pages_here h.store) sound.domains sound.objects sound
 
+  -- it goes, and what is open on others stays so
+  pub gone_keeps : is_over x ≡ true → (end : Descriptor) (cs : Conns) (n : ℕ) → cs ≡ without h.conns c → KeepsEnds end (objects_of h) (record (objects_of h) { conns = cs; next_conn = n })
+  gone_keeps over end cs n rest = record { each = λ e differ open'. others_end h cs n (λ m open''. subst (λ (l : Conns). IsOpenConn (conn_in l m)) (sym rest) (open-without h.conns c m x found over open'')) (Some e) open' }
+
   module _ (t : Stored) (over : is_over x ≡ true) (moves : Moves h.store t (held_by x) []) (lists : SameLists h.store t) (frees : FreesOnly h.store t) (settled : AllSettled t) where
     abbrev gone : KernelState
     gone = record h { store = t; conns = without h.conns c }
@@ -308,42 +327,11 @@ module _ (h : KernelState) (c : ℕ) (x : Conn (List Slice)) (sound : IsSound h)
     gone_limits : IsLimited h.domains (objects_of gone)
     gone_limits =
         let l = sound.limits.objects in
-        record {
-          aggs = sound.limits.aggs;
-          few = sound.limits.few;
-          objects = record {
-            queues = l.queues;
-            few_pipes = l.few_pipes;
-            conns = each-without_any held.IsConn h.conns c l.conns;
-            few_conns = omega (arith, l.few_conns, length-without_any h.conns c);
-            rising = rises-without h.conns 0 h.next_conn c l.rising;
-            last = l.last;
-            cached = l.cached;
-            few_files = l.few_files;
-          };
-        }
-
-    gone_end : (e : Option Descriptor) → IsOpenEnd (objects_of h) e → IsOpenEnd (objects_of gone) e
-    gone_end None open' = tt
-    gone_end (Some (on.ReadEnd p)) open' = open'
-    gone_end (Some (on.WriteEnd p)) open' = open'
-    gone_end (Some (on.File f at mode)) open' = open'
-    gone_end (Some (on.Connection n)) open' = open-without h.conns c n x found over open'
-
-    -- what is open stays so
-    pub gone_keeps : (end : Descriptor) (cs : Conns) (n : ℕ) → cs ≡ without h.conns c → KeepsEnds end (objects_of h) (record (objects_of h) { conns = cs; next_conn = n })
-    gone_keeps end cs n rest = record { each = λ e differ open'. kept e (gone_end (Some e) open') }
-      where
-        kept : (e : Descriptor) → IsOpenEnd (objects_of gone) (Some e) → IsOpenEnd (record (objects_of h) { conns = cs; next_conn = n }) (Some e)
-        kept (on.ReadEnd p) open' = open'
-        kept (on.WriteEnd p) open' = open'
-        kept (on.File f at mode) open' = open'
-        kept (on.Connection m) open' = subst (λ (l : Conns). IsOpenConn (conn_in l m)) (sym rest) open'
+        others_limits h (without h.conns c) h.next_conn sound (each-without_any held.IsConn h.conns c l.conns) (omega (arith, l.few_conns, length-without_any h.conns c)) (rises-without h.conns 0 h.next_conn c l.rising) l.last
 
     gone-sound : IsSound gone
     gone-sound = moved-sound h.store gone moves.stays gone_counted (moves.tidy sound.tidy) (moves.still sound.still) settled sound.domains gone_good
-        (each-weaker (λ (d : Domain (List Slice)). Each (IsOpenEnd (objects_of h)) d.fds) (λ (d : Domain (List Slice)). Each (IsOpenEnd (objects_of gone)) d.fds) h.domains
-        (λ d e. each-weaker (IsOpenEnd (objects_of h)) (IsOpenEnd (objects_of gone)) d.fds gone_end e) sound.fds)
+        (others_fds h (without h.conns c) h.next_conn (λ n open'. open-without h.conns c n x found over open') sound)
         sound.once gone_limits (rest_pooled (same_pooled h.store t h.conns h.cache.files lists sound.pooled)) sound.sums sound.filed sound.cached (keeps_pages_frees frees).count
       where
         rest_pooled : ArePooled t.pools h.conns h.cache.files → ArePooled t.pools (without h.conns c) h.cache.files
@@ -390,40 +378,20 @@ module _ (h : KernelState) (p : ℕ) (sound : IsSound h) (open' : (pool_in h.sto
   abbrev pub joined : KernelState
   joined = record h { conns = h.conns ++ (h.next_conn, new_conn p) ∷ []; next_conn = h.next_conn + 1 }
 
-  joined_end : (e : Option Descriptor) → IsOpenEnd (objects_of h) e → IsOpenEnd (objects_of joined) e
-  joined_end None is = tt
-  joined_end (Some (on.ReadEnd q)) is = is
-  joined_end (Some (on.WriteEnd q)) is = is
-  joined_end (Some (on.File f at mode)) is = is
-  joined_end (Some (on.Connection n)) is = open-push h.conns h.next_conn n (new_conn p) is
-
   joined-sound : IsSound joined
   joined-sound =
       let l = sound.limits.objects in
       record {
         domains = sound.domains;
         objects = record { pipes = sound.objects.pipes; conns = each-push (IsConnReadable h.store) h.conns (h.next_conn, new_conn p) sound.objects.conns (readable_none h.store, readable_none h.store); files = sound.objects.files };
-        fds = each-weaker (λ (d : Domain (List Slice)). Each (IsOpenEnd (objects_of h)) d.fds) (λ (d : Domain (List Slice)). Each (IsOpenEnd (objects_of joined)) d.fds) h.domains
-            (λ d e. each-weaker (IsOpenEnd (objects_of h)) (IsOpenEnd (objects_of joined)) d.fds joined_end e) sound.fds;
+        fds = others_fds h joined.conns joined.next_conn (λ n is. open-push h.conns h.next_conn n (new_conn p) is) sound;
         once = sound.once;
         counted = record { each = λ b. omega (arith, sound.counted.each b, sum_by_push (conn_uses b) h.conns (h.next_conn, new_conn p), tally_none b) };
         tidy = sound.tidy;
         still = sound.still;
         settled = sound.settled;
-        limits = record {
-          aggs = sound.limits.aggs;
-          few = sound.limits.few;
-          objects = record {
-            queues = l.queues;
-            few_pipes = l.few_pipes;
-            conns = each-push held.IsConn h.conns (h.next_conn, new_conn p) l.conns (record { incoming = omega arith; outgoing = omega arith; waits = λ i. refl });
-            few_conns = omega (arith, few, length-append h.conns ((h.next_conn, new_conn p) ∷ []));
-            rising = rises-push h.conns 0 h.next_conn (new_conn p) l.rising;
-            last = omega (arith, some);
-            cached = l.cached;
-            few_files = l.few_files;
-          };
-        };
+        limits = others_limits h joined.conns joined.next_conn sound (each-push held.IsConn h.conns (h.next_conn, new_conn p) l.conns (record { incoming = omega arith; outgoing = omega arith; waits = λ i. refl }))
+            (omega (arith, few, length-append h.conns ((h.next_conn, new_conn p) ∷ []))) (rises-push h.conns 0 h.next_conn (new_conn p) l.rising) (omega (arith, some));
         pooled = record { few = sound.pooled.few; opened = each-push (λ (e : ℕ × Conn (List Slice)). (pool_in h.store.pools e.1.pool).closed ≡ false) h.conns (h.next_conn, new_conn p) sound.pooled.opened open'; files_open = sound.pooled.files_open };
         sums = sound.sums;
         filed = sound.filed;
@@ -435,16 +403,7 @@ module _ (h : KernelState) (p : ℕ) (sound : IsSound h) (open' : (pool_in h.sto
   joined-read f = ap (λ (cs : List (ℕ × Connection)). record (read_of f h) { conns = cs; next_conn = h.next_conn + 1 }) (map-append (λ (e : ℕ × Conn (List Slice)). (e.0, conn_view (read f) e.1)) h.conns ((h.next_conn, new_conn p) ∷ []))
 
   pub joined_answers : (n : ℕ) → n ≡ h.next_conn → Answers (λ s. outside.conn_new s p) h n joined
-  joined_answers n number = record {
-    answer = λ f keeps. number ∙ sym (next_conn-read_of f h);
-    after = λ f keeps. joined-read f;
-    arena = refl;
-    pools = refl;
-    sums = refl;
-    cache = refl;
-    sound = joined-sound;
-    stays = stays_here h.store;
-  }
+  joined_answers n number = answers_here (λ s. outside.conn_new s p) h joined n joined-sound refl refl (λ f. number ∙ sym (next_conn-read_of f h)) refl joined-read
 
   pub joined_as : (n m : ℕ) (cs : Conns) → n ≡ h.next_conn → cs ≡ h.conns ++ (h.next_conn, new_conn p) ∷ [] → m ≡ h.next_conn + 1 → Answers (λ s. outside.conn_new s p) h n (record h { conns = cs; next_conn = m })
   joined_as n m cs number conns' next' =

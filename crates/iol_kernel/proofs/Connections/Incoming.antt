@@ -36,6 +36,7 @@ use Rattle.iol_kernel.specs.Opened.{IsOpenOn}
 use Rattle.iol_kernel.specs.Readings.{Reading, read, KeepsPools}
 use Rattle.iol_kernel.proofs.Connections.Connecting.{conn_readable, conn_limit, turned, turned_fds, turned_limits, turned_pooled, turned-read}
 use Rattle.iol_kernel.proofs.Connections.ConnQueues.{open_held, found_held, conn_at-read_of, incoming-read_of, with_on}
+use Rattle.iol_kernel.proofs.State.Answered.{answers_shared}
 use Rattle.iol_kernel.proofs.State.Effects.{moved-sound}
 use Rattle.iol_kernel.proofs.Queues.Flowing.{admitted-same}
 use Rattle.iol_kernel.proofs.State.Numbering.{each-changed, sum-changed}
@@ -148,16 +149,7 @@ module _ (h k : KernelState) (d fd c n : ℕ) (held : IsOpenOn h d fd (on.Connec
         (turned_pooled h k.store c (conn_in h.conns c) rest held.sound there refl (pools_pooled h.store k.store h.conns h.cache.files takes.shares.pools held.sound.pooled)) held.sound.sums held.sound.filed held.sound.cached (ap page_count takes.shares.arena)
 
     pub unread_taken : (a : ℕ) → a ≡ (domain_in h.domains d).next_agg → Answers (λ s. reading.iol_read s d fd n) h a k
-    unread_taken a number = record {
-      answer = λ f keeps. number ∙ sym (next_agg-read_of f h d);
-      after = after;
-      arena = takes.shares.arena;
-      pools = takes.shares.pools;
-      sums = ap (λ (l : KernelState). l.sums) same;
-      cache = ap (λ (l : KernelState). l.cache) same;
-      sound = subst IsSound (sym is_taken) taken-sound;
-      stays = (shares_move takes.shares).stays;
-    }
+    unread_taken a number = answers_shared (λ s. reading.iol_read s d fd n) h k a (subst IsSound (sym is_taken) taken-sound) (ap (λ (l : KernelState). l.sums) same) (ap (λ (l : KernelState). l.cache) same) (λ f. number ∙ sym (next_agg-read_of f h d)) takes.shares after
 
 -- A front that was taken off, to be given to a domain.
 pub conn_front : (h k : KernelState) (c d n : ℕ) (slices : List Slice) → places slices ≡ take_while (may_see h.store.pools d) (take n (places (conn_in h.conns c).incoming)) → places (conn_in k.conns c).incoming ≡ drop (byte_len slices) (places (conn_in h.conns c).incoming)

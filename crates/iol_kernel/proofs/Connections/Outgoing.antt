@@ -35,6 +35,7 @@ use Rattle.iol_kernel.specs.KernelState.{KernelState, IsConnReadable, IsSound, m
 use Rattle.iol_kernel.specs.Readings.{Reading, bytes_over, read}
 use Rattle.iol_kernel.proofs.Connections.Connecting.{conn_found, conn_readable, conn_limit, turned, turned_fds, turned-read, turned-sound}
 use Rattle.iol_kernel.proofs.Connections.ConnQueues.{open_held, found_held, conn_at-read_of, with_on}
+use Rattle.iol_kernel.proofs.State.Answered.{answers_shared}
 use Rattle.iol_kernel.proofs.State.ReadOf.{text-read_of, length_text-read_of}
 use Rattle.iol_kernel.proofs.AggregateCalls.Slices.{slices_found}
 use Rattle.iol_kernel.proofs.State.Sound.{agg_readable}
@@ -119,13 +120,4 @@ module _ (h : KernelState) (d fd a c : ℕ) (from : List Slice) (sound : IsSound
         ∙ ap (λ (o : Option Descriptor). writing.written s d fd o (take (writing.iol_write s d fd a).answer (machine.text s d a))) (sym (to f))
 
     pub queued_answers : Answers (λ s. writing.iol_write s d fd a) h n k
-    queued_answers = record {
-      answer = λ f keeps. fits f;
-      after = λ f keeps. after f;
-      arena = shares.arena;
-      pools = shares.pools;
-      sums = ap (λ (l : KernelState). l.sums) same;
-      cache = ap (λ (l : KernelState). l.cache) same;
-      sound = subst IsSound (sym same) fuller-sound;
-      stays = (shares_move shares).stays;
-    }
+    queued_answers = answers_shared (λ s. writing.iol_write s d fd a) h k n (subst IsSound (sym same) fuller-sound) (ap (λ (l : KernelState). l.sums) same) (ap (λ (l : KernelState). l.cache) same) fits shares (λ f keeps. after f)

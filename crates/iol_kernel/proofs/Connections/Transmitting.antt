@@ -5,6 +5,7 @@ use Rattle.iol_core.specs.Meaning.{◌when◌}
 use Rattle.iol_core.specs.declared.refusals.Refusal.TheVariants.{NoRoom, BadRange, WouldBlock}
 use Rattle.iol_sock.specs.Table.{conn_in}
 use Rattle.iol_sock.specs.Sent.{UsesSent}
+use Rattle.iol_kernel.proofs.State.Answered.{refusal_of}
 use Rattle.iol_kernel.proofs.State.Stay.{stays_here, pages_here}
 use Rattle.std.proofs.lemmas.List.{length-drop}
 use Rattle.iol_core.specs.Text.{Text, bytes_of}
@@ -174,7 +175,7 @@ pub send_kept : (h k : KernelState) (c max : ℕ) (r : Refusal) → IsSound h �
 send_kept h k c max r sound there refused same = subst (λ (l : KernelState). Transmits c max h (Err r) l) (sym same) (record {
   step = λ stored. send_refused stored h c max (conn_in h.conns c) r (conn_in-found h.conns c there) refused;
   places = tt;
-  roomy = λ p e. no_room (first (segment_refusals (conn_in h.conns c) max)) r p (two_tests (max == 0) (byte_len (conn_in h.conns c).outgoing == 0)) refused (error e);
+  roomy = λ p e. no_room (first (segment_refusals (conn_in h.conns c) max)) r p (two_tests (max == 0) (byte_len (conn_in h.conns c).outgoing == 0)) refused (refusal_of r (NoRoom p) e);
   pages = pages_here h.store;
   uses = tt;
   cache = refl;
@@ -182,9 +183,6 @@ send_kept h k c max r sound there refused same = subst (λ (l : KernelState). Tr
   sound = sound;
   stays = stays_here h.store;
 })
-  where
-    error : {p : ℕ} → ◌≡◌ {A = Result (List ℕ × ℕ) Refusal} (Err r) (Err (NoRoom p)) → r ≡ NoRoom p
-    error e = cc e
 
 -- settling leaves the sums
 pub uses_kept : {s : Stored} {queue : List Slice} {n : ℕ} {old new after : Sums} → after ≡ new → UsesSent s queue n old new → UsesSent s queue n old after

@@ -18,12 +18,12 @@ use Rattle.iol_kernel.specs.Ends.{same_end, IsOpenOnce}
 use Rattle.iol_kernel.specs.Files.{opens}
 use Rattle.iol_kernel.specs.KernelState.{KernelState, objects_of, IsOpenEnd, IsSound, read_of}
 use Rattle.iol_kernel.specs.Readings.{Reading}
+use Rattle.iol_kernel.proofs.State.Answered.{answers_as, answers_here}
 use Rattle.iol_kernel.proofs.State.Effects.{fds-changed, fds-sound}
 use Rattle.iol_kernel.proofs.FileCalls.Named.{as_many, files-read_of}
 use Rattle.iol_kernel.proofs.State.Once.{ends-placed, once_fewer}
 use Rattle.iol_kernel.proofs.State.ReadOf.{fds-read_of}
 use Rattle.iol_kernel.proofs.State.Sound.{each-placed, ends_open}
-use Rattle.iol_kernel.proofs.State.Stay.{stays_here}
 use Rattle.iol_kernel.proofs.State.Uses.{Domains}
 
 pub file_called-read_of : (f : Reading) (h : KernelState) (name : List ℕ) → option_map (λ i. i + 1) (position (λ x. bytes_eq x.name name) h.files) ≡ calls.file_called (read_of f h) name
@@ -68,26 +68,9 @@ module _ (h : KernelState) (ds : Domains) (d f : ℕ) (mode : Mode) (sound : IsS
       (once_opened h.domains d f 0 mode live sound.once)
 
   pub opened_answers : (n : ℕ) → n ≡ lowest xs → Answers (λ s. opens s d (on.File f 0 mode)) h n (record h { domains = ds })
-  opened_answers n number = record {
-    answer = λ g keeps. number ∙ sym (ap lowest (fds-read_of g h d));
-    after = λ g keeps. fds-changed g h ds d (placed xs (lowest xs) (on.File f 0 mode)) opened' ∙ ap (λ (ys : List (Option Descriptor)). fds.with_fds (read_of g h) d (placed ys (lowest ys) (on.File f 0 mode))) (sym (fds-read_of g h d));
-    arena = refl;
-    pools = refl;
-    sums = refl;
-    cache = refl;
-    sound = opened-sound;
-    stays = stays_here h.store;
-  }
+  opened_answers n number = answers_here (λ s. opens s d (on.File f 0 mode)) h (record h { domains = ds }) n opened-sound refl refl (λ g. number ∙ sym (ap lowest (fds-read_of g h d))) refl
+      (λ g. fds-changed g h ds d (placed xs (lowest xs) (on.File f 0 mode)) opened' ∙ ap (λ (ys : List (Option Descriptor)). fds.with_fds (read_of g h) d (placed ys (lowest ys) (on.File f 0 mode))) (sym (fds-read_of g h d)))
 
 -- a file of that name
 pub opened_called : (h k : KernelState) (d n f : ℕ) (mode : Mode) (name : List ℕ) → ((g : Reading) → calls.file_called (read_of g h) name ≡ Some f) → Answers (λ s. opens s d (on.File f 0 mode)) h n k → Answers (λ s. calls.open_file s d name mode) h n k
-opened_called h k d n f mode name called one = record {
-  answer = one.answer;
-  after = λ g keeps. one.after g keeps ∙ ap (λ (o : Option ℕ). fds.opened (read_of g h) d (on.File (unwrap_or o 0) 0 mode)) (sym (called g));
-  arena = one.arena;
-  pools = one.pools;
-  sums = one.sums;
-  cache = one.cache;
-  sound = one.sound;
-  stays = one.stays;
-}
+opened_called h k d n f mode name called one = answers_as (λ s. opens s d (on.File f 0 mode)) (λ s. calls.open_file s d name mode) h k n (λ g. refl) (λ g. ap (λ (o : Option ℕ). fds.opened (read_of g h) d (on.File (unwrap_or o 0) 0 mode)) (sym (called g))) one

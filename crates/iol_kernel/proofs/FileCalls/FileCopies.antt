@@ -1,5 +1,5 @@
 -- The bytes of a file are copied out, and what was read is released.
-use Rattle.std.proofs.Common.{◌≡◌, ◌∙◌, ℕ, ◌+◌, ◌≤◌, List, [], ◌++◌, length, refl, sym, ap, subst, arith, None, true}
+use Rattle.std.proofs.Common.{◌≡◌, ◌∙◌, ℕ, ◌+◌, ◌≤◌, List, [], ◌++◌, length, refl, sym, ap, subst, arith, Some, None, true, false}
 use Rattle.std.specs.Prelude.{Ok, Err}
 use Rattle.std.proofs.lemmas.List.{length-map}
 use Rattle.iol_core.specs.Text.{bytes_of, labelled}
@@ -7,6 +7,7 @@ use Rattle.iol_core.specs.State.{Domain}
 use Rattle.iol_core.specs.Meaning.{first}
 use Rattle.iol_core.specs.Calls.Reading as reading
 use Rattle.iol_core.specs.declared.limits.TheConstants.{MAX_FILE_BYTES}
+use Rattle.iol_core.specs.declared.refusals.Refusal.{Refusal}
 use Rattle.iol_core.specs.declared.refusals.Refusal.TheVariants.{Memory}
 use Rattle.iol_back.specs.Disk.{Disk}
 use Rattle.iol_hold.specs.Moves.{Covers, Moves, SameLists}
@@ -26,10 +27,11 @@ use Rattle.iol_cache.specs.Sound as cache
 use Rattle.iol_cache.proofs.Extents.Staying.{mirrors_stay, sound_beside}
 use Rattle.iol_cache.proofs.Extents.Steps.{covers_right, goes_covers, goes_store, goes_trans}
 use Rattle.iol_kernel.specs.Backed.{IsBackedBy, Serves, holding_of}
-use Rattle.iol_kernel.specs.FileReading.{CopiesFromFile, FileRead, IsOpenAt, moved_on, pool_read}
+use Rattle.iol_kernel.specs.FileReading.{CopiesFromFile, FileRead, IsBeforeRoom, IsOpenAt, moved_on, pool_read, read_tests}
 use Rattle.iol_kernel.specs.KernelState.{KernelState, machine_of}
 use Rattle.iol_kernel.proofs.FileCalls.FileReads.{copied_serves, untouched_read}
 use Rattle.iol_kernel.proofs.FileCalls.FileServed.{copies_nothing}
+use Rattle.iol_kernel.proofs.FileCalls.FileTests.{read-first, refuses_read}
 use Rattle.iol_kernel.proofs.FileCalls.Named.{cache_sound}
 use Rattle.iol_kernel.proofs.FileCalls.Refilled.{over}
 
@@ -71,10 +73,18 @@ module _ {x : FileRead} {h : KernelState} (disk : Disk) (m : Stored) (c : Cached
         (λ b. is ∙ ap bytes_of (text b) ∙ bytes_of-labelled (pool_read h x) (bytes_read h.store disk.slots h.cache x.file x.at x.count)) in
         subst (λ (ys : Domains). Serves (λ s. reading.read s x.domain x.fd x.count) disk h (Ok bytes) after (record h { store = t; domains = ys; cache = c })) (sym (moved ∙ ap (moved_on h.domains x) (sym long))) done
 
--- A read that found no memory has changed nothing.
+-- A read that was refused at once, or found no memory, has changed nothing.
+
+pub copies_refused : {x : FileRead} {h : KernelState} → IsOpenAt h x → (disk : Disk) (y : Refusal) → first (read_tests (machine_of [] h) x.domain x.file x.mode false) ≡ Some y → IsBeforeRoom y → CopiesFromFile x disk h (Err y) disk h
+copies_refused {x} {h} held disk y is before = record {
+  serves = refuses_read h h x.domain x.fd x.count y held.is.sound (read-first held ∙ is) refl disk;
+  copies = copies_nothing x disk h y before;
+  short = tt;
+}
+
 pub copies_unmade : {x : FileRead} {h : KernelState} → IsOpenAt h x → (disk : Disk) → first (reading.read (machine_of [] h) x.domain x.fd x.count).refusals ≡ None → CopiesFromFile x disk h (Err Memory) disk h
 copies_unmade {x} {h} held disk passed = record {
   serves = untouched_read held h Memory passed tt refl disk;
-  copies = copies_nothing x disk h Memory tt refl tt;
+  copies = copies_nothing x disk h Memory tt;
   short = tt;
 }

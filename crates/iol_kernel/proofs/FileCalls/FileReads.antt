@@ -28,7 +28,7 @@ use Rattle.iol_hold.specs.Texts.{AllReadable, bufs_of, text_of}
 use Rattle.iol_hold.specs.declared.slices.Slice.{Slice}
 use Rattle.iol_hold.specs.Moves.{Stays}
 use Rattle.iol_hold.proofs.Reading.{bytes_of-labelled, length-text_of}
-use Rattle.iol_desc.specs.Tables.{domain_in, fds_in, live_aggs_in, with_agg_in}
+use Rattle.iol_desc.specs.Tables.{domain_in, fds_in, live_aggs_in, with_agg_in, with_fds_in}
 use Rattle.iol_cache.specs.Cached as cached
 use Rattle.iol_cache.specs.Cached.{Cached, file_in}
 use Rattle.iol_cache.specs.Contents.{bytes_in_slot}
@@ -41,10 +41,11 @@ use Rattle.iol_cache.proofs.RangeWrites.Composed.{own_places, own_text}
 use Rattle.iol_cache.proofs.Extents.Filing.{numbered_bounds, numbered_yes}
 use Rattle.iol_kernel.specs.Backed.{IsBackedBy, Serves, holding_of, with_slots}
 use Rattle.iol_kernel.specs.Ends.{ends_on, on_end, same_end}
-use Rattle.iol_kernel.specs.FileReading.{FileRead, IsOpenAt, moved_on, pool_read}
+use Rattle.iol_kernel.specs.FileReading.{FileRead, IsOpenAt, moved_on, pool_read, read_at}
 use Rattle.iol_kernel.specs.KernelState.{KernelState, objects_of, AreFiled, IsOpenEnd, IsSound, machine_of, read_of}
-use Rattle.iol_kernel.specs.Readings.{bytes_over, slot_read, slots_read}
+use Rattle.iol_kernel.specs.Readings.{Reading, bytes_over, slot_read, slots_read}
 use Rattle.iol_kernel.specs.Views.{state_view}
+use Rattle.iol_kernel.specs.declared.open_file.OpenFile.{OpenFile}
 use Rattle.iol_kernel.proofs.State.Effects.{fds-sound}
 use Rattle.iol_kernel.proofs.FileCalls.Named.{as_many, cache_sound}
 use Rattle.iol_kernel.proofs.State.Once.{once_fewer}
@@ -84,6 +85,10 @@ module _ (s : State) (d fd f at n : ℕ) (mode : Mode) (from : machine.descripto
 
   late_read : (x : Refusal) → WantOfRoomOrFault (machine.file s f).pool f x → reading.read_late s (machine.descriptor s d fd) x
   late_read x late = subst (λ (o : Option Descriptor). reading.read_late s o x) (sym from) late
+
+-- a descriptor is set to what it is
+pub set_to : (ds : Domains) (d fd : ℕ) {es : Domains} {o p : Descriptor} → es ≡ with_fds_in ds d (slice_set (fds_in ds d) fd (Some o)) → o ≡ p → es ≡ with_fds_in ds d (slice_set (fds_in ds d) fd (Some p))
+set_to ds d fd set is = set ∙ ap (λ (x : Descriptor). with_fds_in ds d (slice_set (fds_in ds d) fd (Some x))) is
 
 -- What the machine has, whatever bytes files have.
 
@@ -171,6 +176,9 @@ refused_late : {A : Type 0} (m : Meaning A) (y : Refusal) → first m.refusals �
 refused_late m y passed late = subst (λ (o : Option Refusal). MatchOption o (m.Late y) (λ z. y ≡ z)) (sym passed) late
 
 -- A domain's row, where its descriptor is open on a file.
+
+pub open_at : (h : KernelState) (d fd : ℕ) (found : OpenFile) (n : ℕ) → IsSound h → ((f : Reading) → machine.is_live (read_of f h) d ≡ true) → ((f : Reading) → machine.descriptor (read_of f h) d fd ≡ Some (on.File found.file found.at found.mode)) → IsOpenAt h (read_at d fd found n)
+open_at h d fd found n sound live from = record { is = record { sound = sound; live = live; from = from } }
 
 pub row_live : {x : FileRead} {h : KernelState} → IsOpenAt h x → (domain_in h.domains x.domain).live ≡ true
 row_live held = open_row held.is

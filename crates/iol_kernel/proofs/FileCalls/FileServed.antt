@@ -1,9 +1,8 @@
 -- What a read of a file leaves of a kernel, from what the cache of files promises of it.
-use Rattle.std.proofs.Common.{◌≡◌, ◌⊎◌, ℕ, ◌+◌, ◌≤◌, List, [], ◌∷◌, ◌++◌, length, ap, refl, sym, subst, arith, Some, None, true, inl, inr, length-append}
+use Rattle.std.proofs.Common.{◌≡◌, ◌∙◌, ◌⊎◌, ℕ, ◌+◌, ◌≤◌, List, [], ◌∷◌, ◌++◌, length, ap, refl, sym, subst, arith, Some, None, true, inl, inr, length-append}
 use Rattle.std.specs.Prelude.{Ok, Err}
 use Rattle.iol_core.specs.State.{Domain}
 use Rattle.iol_core.specs.Meaning.{first, WantOfRoomOrFault}
-use Rattle.iol_core.specs.Calls.Reading as reading
 use Rattle.iol_core.specs.declared.limits.TheConstants.{MAX_FILE_BYTES}
 use Rattle.iol_core.specs.declared.refusals.Refusal.{Refusal}
 use Rattle.iol_core.specs.declared.refusals.Refusal.TheVariants as refusal
@@ -29,10 +28,10 @@ use Rattle.iol_cache.proofs.RangeReads.Met.{refused_met}
 use Rattle.iol_cache.proofs.RangeReads.Paging.{fills_none}
 use Rattle.iol_cache.proofs.RangeReads.Shared.{length-places_over}
 use Rattle.iol_kernel.specs.Backed.{holding_of}
-use Rattle.iol_kernel.specs.FileReading.{CopiesFileAs, FileRead, IsBeforeRoom, IsOpenAt, LeavesAtRefusal, ReadsFileAs, TakesFromFile, pool_read}
+use Rattle.iol_kernel.specs.FileReading.{CopiesFileAs, FileRead, IsBeforeRoom, IsOpenAt, LeavesAtRefusal, ReadsFileAs, TakesFromFile, pool_read, read_tests}
 use Rattle.iol_kernel.specs.KernelState.{KernelState, objects_of, IsSound, machine_of}
 use Rattle.iol_kernel.proofs.FileCalls.FileReads.{numbered_here, position_short, untouched_iol_read}
-use Rattle.iol_kernel.proofs.FileCalls.FileTests.{refuses_iol_read}
+use Rattle.iol_kernel.proofs.FileCalls.FileTests.{iol_read-first, refuses_iol_read}
 use Rattle.iol_kernel.specs.Keeping.{LacksPagesToRead}
 use Rattle.iol_kernel.proofs.FileCalls.Kept.{keeps_same, read_unless, refused_unless}
 use Rattle.iol_kernel.proofs.FileCalls.Named.{cache_sound}
@@ -60,18 +59,26 @@ fault_told A B old new y told = record { honest = told.honest; slots = told.slot
 pub counts_few : (h : KernelState) → IsSound h → CountsBelow h.store 576460752303423488
 counts_few h sound = record { each = λ b. omega (arith, sound.counted.each b, all_few b h.domains (objects_of h) sound.limits) }
 
+-- a refusal before that tells nothing of room, and of no fault
+early_told : (A : Type 0) (has lacks : Type 0) (disk : Disk) (y : Refusal) → IsBeforeRoom y → TellsRoom {A = A} has lacks (Err y) × FaultCounts {A = A} disk disk (Err y)
+early_told A has lacks disk (refusal.NoRoom p) none = absurd none
+early_told A has lacks disk (refusal.Fault f) none = absurd none
+early_told A has lacks disk y before = (tt, refl)
+
 -- a refusal that has changed nothing
-pub reads_nothing : {A : Type 0} (x : FileRead) (disk : Disk) (h k : KernelState) (y : Refusal) → k ≡ h → TellsRoom {A = A} (RoomToRead x.file x.at x.count disk (holding_of h)) (NoRoomToRead x.file x.at x.count disk (holding_of h)) (Err y) → FaultCounts {A = A} disk disk (Err y) → IsBeforeRoom y → ReadsFileAs {A = A} x disk h (Err y) disk k
-reads_nothing {A} x disk h k y same room counts before = subst (λ (l : KernelState). ReadsFileAs {A = A} x disk h (Err y) disk l) (sym same) (record {
-  keeps = keeps_same (pool_read h x) (LacksPagesToRead x.file x.at x.count disk (holding_of h)) h.cache h.cache refl;
-  pages = fills_none (pool_read h x) (frees_none h.store h.store refl refl refl);
-  lists = refl;
-  room = room;
-  fault = record { honest = refl; slots = λ i. refl; counts = counts };
-  same = refl;
-  refused = refl;
-  leaves = inl (before, refl, refl);
-})
+pub reads_nothing : {A : Type 0} (x : FileRead) (disk : Disk) (h k : KernelState) (y : Refusal) → k ≡ h → IsBeforeRoom y → ReadsFileAs {A = A} x disk h (Err y) disk k
+reads_nothing {A} x disk h k y same before =
+    let told = early_told A (RoomToRead x.file x.at x.count disk (holding_of h)) (NoRoomToRead x.file x.at x.count disk (holding_of h)) disk y before in
+    subst (λ (l : KernelState). ReadsFileAs {A = A} x disk h (Err y) disk l) (sym same) (record {
+      keeps = keeps_same (pool_read h x) (LacksPagesToRead x.file x.at x.count disk (holding_of h)) h.cache h.cache refl;
+      pages = fills_none (pool_read h x) (frees_none h.store h.store refl refl refl);
+      lists = refl;
+      room = told.0;
+      fault = record { honest = refl; slots = λ i. refl; counts = told.1 };
+      same = refl;
+      refused = refl;
+      leaves = inl (before, refl, refl);
+    })
 
 -- a refused read: the pages that it wanted could be had, or no extent went
 pub read_met : (x : FileRead) (disk after : Disk) (old new : KernelState) (y : Refusal) → LeavesAtRefusal x disk old after new y → RoomToRead x.file x.at x.count disk (holding_of old) ⊎ SameExtents old.cache new.cache
@@ -79,10 +86,10 @@ read_met x disk after old new y (inl (before, same, asked)) = inr (record { each
 read_met x disk after old new y (inr (late, refused)) = refused_met x.file x.at x.count disk (holding_of old) (holding_of new) y refused
 
 -- a copying read that has changed nothing
-pub copies_nothing : (x : FileRead) (disk : Disk) (h : KernelState) (y : Refusal) → TellsRoom {A = List ℕ} (RoomToRead x.file x.at x.count disk (holding_of h)) (NoRoomToRead x.file x.at x.count disk (holding_of h)) (Err y) → FaultCounts {A = List ℕ} disk disk (Err y) → IsBeforeRoom y → CopiesFileAs x disk h (Err y) disk h
-copies_nothing x disk h y room counts before = record {
+pub copies_nothing : (x : FileRead) (disk : Disk) (h : KernelState) (y : Refusal) → IsBeforeRoom y → CopiesFileAs x disk h (Err y) disk h
+copies_nothing x disk h y before = record {
   mid = h.store;
-  reads = reads_nothing {A = List ℕ} x disk h h y refl room counts before;
+  reads = reads_nothing {A = List ℕ} x disk h h y refl before;
   gives = tt;
   early = inl (refl, refl);
   frees = frees_none h.store h.store refl refl refl;
@@ -104,19 +111,19 @@ read_fits {x} {h} {n} {disk} {a} {c} {xs} held reads =
 
 -- A read by reference that has changed nothing: it was refused at once, or found no memory.
 
-pub takes_nothing : {x : FileRead} {h : KernelState} → IsOpenAt h x → (disk : Disk) (y : Refusal) → first (reading.iol_read (machine_of [] h) x.domain x.fd x.count).refusals ≡ Some y → TellsRoom {A = ℕ} (RoomToRead x.file x.at x.count disk (holding_of h)) (NoRoomToRead x.file x.at x.count disk (holding_of h)) (Err y) → FaultCounts {A = ℕ} disk disk (Err y) → IsBeforeRoom y → TakesFromFile x disk h (Err y) disk h
-takes_nothing {x} {h} held disk y is room counts before = record {
-  serves = refuses_iol_read h h x.domain x.fd x.count y held.is.sound is refl disk;
-  reads = reads_nothing {A = ℕ} x disk h h y refl room counts before;
+pub takes_nothing : {x : FileRead} {h : KernelState} → IsOpenAt h x → (disk : Disk) (y : Refusal) → first (read_tests (machine_of [] h) x.domain x.file x.mode true) ≡ Some y → IsBeforeRoom y → TakesFromFile x disk h (Err y) disk h
+takes_nothing {x} {h} held disk y is before = record {
+  serves = refuses_iol_read h h x.domain x.fd x.count y held.is.sound (iol_read-first held ∙ is) refl disk;
+  reads = reads_nothing {A = ℕ} x disk h h y refl before;
   gives = tt;
 }
 
-pub takes_unmade : {x : FileRead} {h : KernelState} {ds : Domains} → IsOpenAt h x → (disk : Disk) → ds ≡ h.domains → first (reading.iol_read (machine_of [] h) x.domain x.fd x.count).refusals ≡ None → TakesFromFile x disk h (Err Memory) disk (record h { domains = ds })
+pub takes_unmade : {x : FileRead} {h : KernelState} {ds : Domains} → IsOpenAt h x → (disk : Disk) → ds ≡ h.domains → first (read_tests (machine_of [] h) x.domain x.file x.mode true) ≡ None → TakesFromFile x disk h (Err Memory) disk (record h { domains = ds })
 takes_unmade {x} {h} {ds} held disk kept passed =
     let same : ◌≡◌ {A = KernelState} (record h { domains = ds }) h = ap (λ (ys : Domains). record h { domains = ys }) kept in
     record {
-      serves = untouched_iol_read held (record h { domains = ds }) Memory passed tt same disk;
-      reads = reads_nothing {A = ℕ} x disk h (record h { domains = ds }) Memory same tt refl tt;
+      serves = untouched_iol_read held (record h { domains = ds }) Memory (iol_read-first held ∙ passed) tt same disk;
+      reads = reads_nothing {A = ℕ} x disk h (record h { domains = ds }) Memory same tt;
       gives = tt;
     }
 

@@ -15,7 +15,7 @@ use Rattle.iol_core.specs.declared.refusals.Refusal.{Refusal}
 use Rattle.iol_core.specs.declared.refusals.Refusal.TheVariants.{BadFd, NoDomain, TooMany, WouldBlock, WrongMode}
 use Rattle.iol_back.specs.Disk.{Disk}
 use Rattle.iol_kernel.specs.Backed.{Serves, with_slots}
-use Rattle.iol_kernel.specs.FileReading.{FileRead, IsOpenAt, held_by}
+use Rattle.iol_kernel.specs.FileReading.{FileRead, IsOpenAt, held_by, read_tests}
 use Rattle.iol_kernel.specs.KernelState.{KernelState, IsSound, machine_of, read_of}
 use Rattle.iol_kernel.specs.Readings.{Reading, bytes_over}
 use Rattle.iol_kernel.proofs.FileCalls.FileReads.{iol_read-tests, read-tests, refuses}
@@ -31,10 +31,10 @@ without_last None (Some x) c = refl
 without_last None None (Some x) = refl
 without_last None None None = refl
 
-without_last' : (a c : Option Refusal) → first (a ∷ c ∷ None ∷ []) ≡ first (a ∷ c ∷ [])
-without_last' (Some x) c = refl
-without_last' None (Some x) = refl
-without_last' None None = refl
+without_none : (a c : Option Refusal) → first (a ∷ c ∷ None ∷ []) ≡ first (a ∷ None ∷ c ∷ [])
+without_none (Some x) c = refl
+without_none None (Some x) = refl
+without_none None None = refl
 
 module _ {x : FileRead} {h : KernelState} (held : IsOpenAt h x) where
   abbrev s : State
@@ -52,35 +52,28 @@ module _ {x : FileRead} {h : KernelState} (held : IsOpenAt h x) where
   abbrev many : Option Refusal
   many = TooMany when aggs.too_many_aggs s x.domain 1 0
 
-  iol_read-first : first (reading.iol_read s x.domain x.fd x.count).refusals ≡ first ((WrongMode when not (reading.reads x.mode)) ∷ many ∷ denied ∷ [])
+  pub iol_read-first : first (reading.iol_read s x.domain x.fd x.count).refusals ≡ first (read_tests s x.domain x.file x.mode true)
   iol_read-first =
       ap (λ b. first ((NoDomain when not b) ∷ (BadFd when is_none (machine.descriptor s x.domain x.fd)) ∷ (WrongMode when not (reading.can_read (machine.descriptor s x.domain x.fd))) ∷ many ∷ reading.read_denied s x.domain (machine.descriptor s x.domain x.fd) x.count ∷ (WouldBlock when reading.must_wait s (machine.descriptor s x.domain x.fd) x.count) ∷ [])) live
       ∙ ap (λ (o : Option Descriptor). first ((BadFd when is_none o) ∷ (WrongMode when not (reading.can_read o)) ∷ many ∷ reading.read_denied s x.domain o x.count ∷ (WouldBlock when reading.must_wait s o x.count) ∷ [])) from
       ∙ ap (λ b. first ((WrongMode when not (reading.reads x.mode)) ∷ many ∷ denied ∷ (WouldBlock when b) ∷ [])) (never (nat_lt 0 x.count))
       ∙ without_last (WrongMode when not (reading.reads x.mode)) many denied
 
-  read-first : first (reading.read s x.domain x.fd x.count).refusals ≡ first ((WrongMode when not (reading.reads x.mode)) ∷ denied ∷ [])
+  pub read-first : first (reading.read s x.domain x.fd x.count).refusals ≡ first (read_tests s x.domain x.file x.mode false)
   read-first =
       ap (λ b. first ((NoDomain when not b) ∷ (BadFd when is_none (machine.descriptor s x.domain x.fd)) ∷ (WrongMode when not (reading.can_read (machine.descriptor s x.domain x.fd))) ∷ reading.read_denied s x.domain (machine.descriptor s x.domain x.fd) x.count ∷ (WouldBlock when reading.must_wait s (machine.descriptor s x.domain x.fd) x.count) ∷ [])) live
       ∙ ap (λ (o : Option Descriptor). first ((BadFd when is_none o) ∷ (WrongMode when not (reading.can_read o)) ∷ reading.read_denied s x.domain o x.count ∷ (WouldBlock when reading.must_wait s o x.count) ∷ [])) from
       ∙ ap (λ b. first ((WrongMode when not (reading.reads x.mode)) ∷ denied ∷ (WouldBlock when b) ∷ [])) (never (nat_lt 0 x.count))
-      ∙ without_last' (WrongMode when not (reading.reads x.mode)) denied
+      ∙ without_none (WrongMode when not (reading.reads x.mode)) denied
 
-  -- the tests one after another
-  pub iol_read-wrong : reading.reads x.mode ≡ false → first (reading.iol_read s x.domain x.fd x.count).refusals ≡ Some WrongMode
-  iol_read-wrong none = iol_read-first ∙ ap (λ b. first ((WrongMode when not b) ∷ many ∷ denied ∷ [])) none
-
-  pub iol_read-many : reading.reads x.mode ≡ true → aggs.too_many_aggs s x.domain 1 0 ≡ true → first (reading.iol_read s x.domain x.fd x.count).refusals ≡ Some TooMany
-  iol_read-many may too = iol_read-first ∙ ap (λ b. first ((WrongMode when not b) ∷ many ∷ denied ∷ [])) may ∙ ap (λ b. first ((TooMany when b) ∷ denied ∷ [])) too
-
-  pub iol_read-left : reading.reads x.mode ≡ true → aggs.too_many_aggs s x.domain 1 0 ≡ false → (o : Option Refusal) → o ≡ denied → first (reading.iol_read s x.domain x.fd x.count).refusals ≡ first (o ∷ [])
-  iol_read-left may few o is = iol_read-first ∙ ap (λ b. first ((WrongMode when not b) ∷ many ∷ denied ∷ [])) may ∙ ap (λ b. first ((TooMany when b) ∷ denied ∷ [])) few ∙ ap (λ p. first (p ∷ [])) (sym is)
-
-  pub read-wrong : reading.reads x.mode ≡ false → first (reading.read s x.domain x.fd x.count).refusals ≡ Some WrongMode
-  read-wrong none = read-first ∙ ap (λ b. first ((WrongMode when not b) ∷ denied ∷ [])) none
-
-  pub read-left : reading.reads x.mode ≡ true → (o : Option Refusal) → o ≡ denied → first (reading.read s x.domain x.fd x.count).refusals ≡ first (o ∷ [])
-  read-left may o is = read-first ∙ ap (λ b. first ((WrongMode when not b) ∷ denied ∷ [])) may ∙ ap (λ p. first (p ∷ [])) (sym is)
+-- a read by reference that passes makes no aggregate too many
+pub read_few : (s : State) (d f : ℕ) (mode : Mode) → first (read_tests s d f mode true) ≡ None → aggs.too_many_aggs s d 1 0 ≡ false
+read_few s d f mode = of (not (reading.reads mode)) (aggs.too_many_aggs s d 1 0) (fds.denied_by s d (Some (machine.file s f).pool))
+  where
+    of : (wrong many : Bool) (denied : Option Refusal) → first ((WrongMode when wrong) ∷ (TooMany when many) ∷ denied ∷ []) ≡ None → many ≡ false
+    of wrong false denied none = refl
+    of true true denied none = absurd (cc none)
+    of false true denied none = absurd (cc none)
 
 -- A read that is refused so, and changes nothing.
 

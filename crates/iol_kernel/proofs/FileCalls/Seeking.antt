@@ -1,6 +1,6 @@
 -- Positions and lengths of files.
 use Rattle.std.proofs.Common.{◌≡◌, ℕ, ◌<◌, ◌≤◌, ◌∙◌, Bool, true, false, List, [], ◌∷◌, length, Option, Some, None, refl, sym, ap, subst, arith}
-use Rattle.std.specs.Prelude.{MatchOption, Result, Ok, Err, option_map, unwrap_or, is_none, not, nat_lt, slice_set}
+use Rattle.std.specs.Prelude.{MatchOption, Ok, Err, option_map, unwrap_or, is_none, not, nat_lt, slice_set}
 use Rattle.std.proofs.lemmas.Bool.Decides.{nat_tests}
 use Rattle.iol_core.specs.Numbered.{is_numbered}
 use Rattle.iol_core.specs.State as machine
@@ -26,6 +26,7 @@ use Rattle.iol_kernel.specs.Ends.{IsOpenOnce}
 use Rattle.iol_kernel.specs.KernelState.{KernelState, objects_of, IsOpenEnd, IsSound, machine_of, read_of}
 use Rattle.iol_kernel.specs.Opened.{IsOpenOn}
 use Rattle.iol_kernel.specs.Readings.{Reading, KeepsPools, bytes_over}
+use Rattle.iol_kernel.proofs.State.Answered.{refusal_of}
 use Rattle.iol_kernel.proofs.State.Beside.{content-machine_of, descriptor-with_slots, even, fds-with_slots, length_content-even, live-with_slots, open-with_slots, serves_refused, serves_where, with_slots-own}
 use Rattle.iol_kernel.proofs.FileCalls.Called.{file_within, same_end-file}
 use Rattle.iol_kernel.proofs.State.Effects.{fds-changed, fds-sound}
@@ -105,10 +106,7 @@ module _ (disk : Disk) (h : KernelState) (d fd : ℕ) (x : Refusal) (sound : IsS
   refused_over slots = length-first (with_slots slots h) d fd (machine.is_live (machine_of [] h) d) (machine.descriptor (machine_of [] h) d fd) (live-with_slots slots h d) (descriptor-with_slots slots h d fd) ∙ refused
 
   looks : {A : Type 0} (m : State → Meaning A) → Serves m disk h (Err x) disk h → LooksUp m disk h (Err x) h
-  looks {A} m served = record { serves = served; places = tt; store = refl; cache = refl; roomy = λ p e. no_room p (error e); refused = refl }
-    where
-      error : {p : ℕ} → ◌≡◌ {A = Result A Refusal} (Err x) (Err (NoRoom p)) → x ≡ NoRoom p
-      error e = cc e
+  looks {A} m served = record { serves = served; places = tt; store = refl; cache = refl; roomy = λ p e. no_room p (refusal_of x (NoRoom p) e); refused = refl }
 
   pub seek_refused : (at : ℕ) → LooksUp (λ s. calls.seek s d fd at) disk h (Err x) h
   seek_refused at = looks (λ s. calls.seek s d fd at) (serves_refused (λ s. calls.seek s d fd at) disk h x

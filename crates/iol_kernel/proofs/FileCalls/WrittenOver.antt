@@ -48,6 +48,7 @@ use Rattle.iol_kernel.proofs.FileCalls.Kept.{beside_same, unwritten_unless, writ
 use Rattle.iol_kernel.proofs.FileCalls.FileWrites.{SamePools, late_serves, unwritten_pools, write_serves, written_pools}
 use Rattle.iol_kernel.proofs.FileCalls.Moved.{repositioned}
 use Rattle.iol_kernel.proofs.FileCalls.Named.{as_many, cache_sound}
+use Rattle.iol_kernel.proofs.State.Answered.{refusal_of}
 use Rattle.iol_kernel.proofs.State.ReadOf.{descriptor-read_of, live_held, text-read_of}
 use Rattle.iol_kernel.proofs.FileCalls.Recached.{Recaches}
 use Rattle.iol_kernel.proofs.Queues.Opening.{end_held}
@@ -208,7 +209,7 @@ module _ (h : KernelState) (t : Stored) (d : Cached) (by fd a f at : ℕ) (mode 
       moves = tt;
       beside = unwritten_unless h f at xs new (apart_of {h = holding_of h} (cache_sound h open'.sound)) room;
       room = tt;
-      no_room = λ p e. lacks p (the_refusal e);
+      no_room = λ p e. lacks p (refusal_of x (NoRoom p) e);
       pages = pages;
       lists = lists;
       same = refl;
@@ -216,6 +217,3 @@ module _ (h : KernelState) (t : Stored) (d : Cached) (by fd a f at : ℕ) (mode 
       leaves = inr (late, room, kept);
     });
   }
-    where
-      the_refusal : {p : ℕ} → ◌≡◌ {A = Result ℕ Refusal} (Err x) (Err (NoRoom p)) → x ≡ NoRoom p
-      the_refusal e = cc

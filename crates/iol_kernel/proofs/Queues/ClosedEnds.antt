@@ -116,35 +116,28 @@ reader_stays : (q : List Slice) (r : Bool) → r ≡ true → (unwrap_or (if r |
 reader_stays q true e = refl
 reader_stays q false e = e
 
+-- a pipe where one end closes stays open for the other, and other pipes as they were
+stays_open : (is_open : Pipe (List Slice) → Bool) (qs : Pipes) (p n : ℕ) (o : Option (Pipe (List Slice))) → p < length qs → (is_open (queue_at qs p) ≡ true → is_open (unwrap_or o closed_pipe) ≡ true) → is_open (queue_at qs n) ≡ true → is_open (queue_at (slice_set qs p o) n) ≡ true
+stays_open is_open qs p n o there here h = elim (cases_eq n p) [
+  | inl k ↦ subst (λ i. is_open (queue_at (slice_set qs p o) i) ≡ true) (sym k) (ap is_open (queue-here qs p o there) ∙ here (subst (λ i. is_open (queue_at qs i) ≡ true) k h))
+  | inr k ↦ ap is_open (queue-elsewhere qs p n o k) ∙ h
+]
+
 pub reader_keeps : (o : Objects (List Slice)) (p : ℕ) → p < length o.pipes → KeepsEnds (on.ReadEnd p) o (record o { pipes = with_pipe_in o.pipes p (without_reader (queue_at o.pipes p)) })
 reader_keeps o p there = record { each = each }
   where
-    qs : Pipes
-    qs = o.pipes
-
     each : (e : Descriptor) → same_end (on.ReadEnd p) e ≡ 0 → IsOpenEnd o (Some e) → IsOpenEnd (record o { pipes = with_pipe_in o.pipes p (without_reader (queue_at o.pipes p)) }) (Some e)
-    each (on.ReadEnd n) differ h = ap (λ (y : Pipe (List Slice)). y.reading) (queue-elsewhere qs p n _ (not_same p n differ)) ∙ h
-    each (on.WriteEnd n) differ h = elim (cases_eq n p) [
-      | inl k ↦ subst (λ i. (queue_at (with_pipe_in qs p (without_reader (queue_at qs p))) i).writing ≡ true) (sym k)
-          (ap (λ (y : Pipe (List Slice)). y.writing) (queue-here qs p _ there) ∙ writer_stays (queue_at qs p).writing (subst (λ i. (queue_at qs i).writing ≡ true) k h))
-      | inr k ↦ ap (λ (y : Pipe (List Slice)). y.writing) (queue-elsewhere qs p n _ k) ∙ h
-    ]
+    each (on.ReadEnd n) differ h = ap (λ (y : Pipe (List Slice)). y.reading) (queue-elsewhere o.pipes p n _ (not_same p n differ)) ∙ h
+    each (on.WriteEnd n) differ h = stays_open (λ y. y.writing) o.pipes p n _ there (writer_stays (queue_at o.pipes p).writing) h
     each (on.File f at mode) differ h = h
     each (on.Connection c) differ h = h
 
 pub writer_keeps : (o : Objects (List Slice)) (p : ℕ) → p < length o.pipes → KeepsEnds (on.WriteEnd p) o (record o { pipes = with_pipe_in o.pipes p (without_writer (queue_at o.pipes p)) })
 writer_keeps o p there = record { each = each }
   where
-    qs : Pipes
-    qs = o.pipes
-
     each : (e : Descriptor) → same_end (on.WriteEnd p) e ≡ 0 → IsOpenEnd o (Some e) → IsOpenEnd (record o { pipes = with_pipe_in o.pipes p (without_writer (queue_at o.pipes p)) }) (Some e)
-    each (on.WriteEnd n) differ h = ap (λ (y : Pipe (List Slice)). y.writing) (queue-elsewhere qs p n _ (not_same p n differ)) ∙ h
-    each (on.ReadEnd n) differ h = elim (cases_eq n p) [
-      | inl k ↦ subst (λ i. (queue_at (with_pipe_in qs p (without_writer (queue_at qs p))) i).reading ≡ true) (sym k)
-          (ap (λ (y : Pipe (List Slice)). y.reading) (queue-here qs p _ there) ∙ reader_stays (queue_at qs p).queue (queue_at qs p).reading (subst (λ i. (queue_at qs i).reading ≡ true) k h))
-      | inr k ↦ ap (λ (y : Pipe (List Slice)). y.reading) (queue-elsewhere qs p n _ k) ∙ h
-    ]
+    each (on.WriteEnd n) differ h = ap (λ (y : Pipe (List Slice)). y.writing) (queue-elsewhere o.pipes p n _ (not_same p n differ)) ∙ h
+    each (on.ReadEnd n) differ h = stays_open (λ y. y.reading) o.pipes p n _ there (reader_stays (queue_at o.pipes p).queue (queue_at o.pipes p).reading) h
     each (on.File f at mode) differ h = h
     each (on.Connection c) differ h = h
 

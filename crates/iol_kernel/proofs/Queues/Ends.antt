@@ -1,5 +1,5 @@
 -- Ends of pipes stay open where a pipe is added or its queue changes.
-use Rattle.std.proofs.Common.{◌≡◌, ◌≢◌, ℕ, zero, suc, ◌<◌, ◌≤◌, List, [], ◌∷◌, length, ap, ◌∙◌, sym, arith, Option, Some, None, true, false, inl, inr, ◌⊎◌}
+use Rattle.std.proofs.Common.{◌≡◌, ◌≢◌, ℕ, zero, suc, ◌<◌, ◌≤◌, List, [], ◌∷◌, length, ap, ◌∙◌, refl, sym, arith, Bool, Option, Some, None, true, false, inl, inr, ◌⊎◌}
 use Rattle.std.specs.Prelude.{slice_set, unwrap_or}
 use Rattle.std.proofs.lemmas.Bool.{cases_lt, cases_eq}
 use Rattle.std.proofs.lemmas.Bool.Decides.{nat_tests}
@@ -30,19 +30,10 @@ in_place-placed_other xs n p x le other = grind (arith, nat_tests, common_steps,
 
 -- a new pipe takes no other's place
 
-reading_placed : (qs : Pipes) (p : ℕ) (x : Pipe (List Slice)) → (queue_at qs p).reading ≡ true → (queue_at (placed qs (lowest qs) x) p).reading ≡ true
-reading_placed qs p x h = elim (cases_eq p (lowest qs)) [
-  | inl k ↦ absurd (no (sym (ap (λ (o : Option (Pipe (List Slice))). (unwrap_or o closed_pipe).reading) (ap (in_place qs) k ∙ in_place-lowest qs)) ∙ h))
-  | inr k ↦ ap (λ (o : Option (Pipe (List Slice))). (unwrap_or o closed_pipe).reading) (in_place-placed_other qs (lowest qs) p x (lowest_within qs) k) ∙ h
-]
-  where
-    no : false ≡ true → ⊥
-    no e = cc
-
-writing_placed : (qs : Pipes) (p : ℕ) (x : Pipe (List Slice)) → (queue_at qs p).writing ≡ true → (queue_at (placed qs (lowest qs) x) p).writing ≡ true
-writing_placed qs p x h = elim (cases_eq p (lowest qs)) [
-  | inl k ↦ absurd (no (sym (ap (λ (o : Option (Pipe (List Slice))). (unwrap_or o closed_pipe).writing) (ap (in_place qs) k ∙ in_place-lowest qs)) ∙ h))
-  | inr k ↦ ap (λ (o : Option (Pipe (List Slice))). (unwrap_or o closed_pipe).writing) (in_place-placed_other qs (lowest qs) p x (lowest_within qs) k) ∙ h
+open_placed : (is_open : Pipe (List Slice) → Bool) → is_open closed_pipe ≡ false → (qs : Pipes) (p : ℕ) (x : Pipe (List Slice)) → is_open (queue_at qs p) ≡ true → is_open (queue_at (placed qs (lowest qs) x) p) ≡ true
+open_placed is_open closed qs p x h = elim (cases_eq p (lowest qs)) [
+  | inl k ↦ absurd (no (sym (ap (λ (o : Option (Pipe (List Slice))). is_open (unwrap_or o closed_pipe)) (ap (in_place qs) k ∙ in_place-lowest qs) ∙ closed) ∙ h))
+  | inr k ↦ ap (λ (o : Option (Pipe (List Slice))). is_open (unwrap_or o closed_pipe)) (in_place-placed_other qs (lowest qs) p x (lowest_within qs) k) ∙ h
 ]
   where
     no : false ≡ true → ⊥
@@ -50,8 +41,8 @@ writing_placed qs p x h = elim (cases_eq p (lowest qs)) [
 
 end_placed : (o : Objects (List Slice)) (x : Pipe (List Slice)) (e : Option Descriptor) → IsOpenEnd o e → IsOpenEnd (record o { pipes = placed o.pipes (lowest o.pipes) x }) e
 end_placed o x None h = tt
-end_placed o x (Some (on.ReadEnd p)) h = reading_placed o.pipes p x h
-end_placed o x (Some (on.WriteEnd p)) h = writing_placed o.pipes p x h
+end_placed o x (Some (on.ReadEnd p)) h = open_placed (λ y. y.reading) refl o.pipes p x h
+end_placed o x (Some (on.WriteEnd p)) h = open_placed (λ y. y.writing) refl o.pipes p x h
 end_placed o x (Some (on.File f at mode)) h = h
 end_placed o x (Some (on.Connection c)) h = h
 

@@ -17,6 +17,7 @@ use Rattle.iol_kernel.specs.Copying.{ReadsOut}
 use Rattle.iol_kernel.specs.FileReading.{held_by}
 use Rattle.iol_kernel.specs.KernelState.{KernelState, IsSound, read_of, machine_of}
 use Rattle.iol_kernel.specs.Readings.{Reading, bytes_over}
+use Rattle.iol_kernel.proofs.State.Answered.{refusal_of}
 use Rattle.iol_kernel.proofs.State.Effects.{leaves_as}
 use Rattle.iol_kernel.proofs.State.ReadOf.{is_live-read_of}
 use Rattle.iol_kernel.proofs.State.Stay.{pages_equal}
@@ -106,15 +107,12 @@ pub read_refused : (h k : KernelState) (d fd n : ℕ) (y : Refusal) → IsSound 
 read_refused h k d fd n y sound refused same = record {
   serves = refused_serves h d fd n k y sound refused same;
   places = tt;
-  roomy = λ p e. roomy p (error e);
+  roomy = λ p e. roomy p (refusal_of y (NoRoom p) e);
   pages = pages_equal h.store k.store (ap (λ (l : KernelState). l.store) same);
   cache = ap (λ (l : KernelState). l.cache) same;
   refused = same;
 }
   where
-    error : {p : ℕ} → ◌≡◌ {A = Result (List ℕ) Refusal} (Err y) (Err (NoRoom p)) → y ≡ NoRoom p
-    error e = cc e
-
     roomy : (p : ℕ) → y ≡ NoRoom p → ⊥
     roomy p is =
         let s = machine_of [] h in

@@ -5,6 +5,7 @@ use Rattle.std.proofs.lemmas.Bool.Decides.{nat_tests}
 use Rattle.std.proofs.lemmas.Bool.{cases_lt}
 use Rattle.iol_core.specs.declared.limits.TheConstants.{MAX_PIPES, MAX_OPEN}
 use Rattle.iol_hold.proofs.Counting.{tally_none}
+use Rattle.iol_kernel.proofs.State.Answered.{answers_here}
 use Rattle.iol_kernel.proofs.State.Uses.{uses-placed}
 use Rattle.iol_core.specs.Numbered.{in_place, placed, lowest, taken}
 use Rattle.iol_core.specs.State as machine
@@ -27,7 +28,6 @@ use Rattle.iol_kernel.proofs.Queues.Ends.{ends_placed, lowest_closed, new_readin
 use Rattle.iol_kernel.proofs.State.Effects.{fds-sound, fds-changed}
 use Rattle.iol_kernel.proofs.State.Rows.{domain_in-with_other, with_domain_in-comm}
 use Rattle.iol_kernel.proofs.State.ReadOf.{descriptor-read_of, fds-read_of, lowest-read_of}
-use Rattle.iol_kernel.proofs.State.Stay.{stays_here}
 use Rattle.iol_kernel.specs.Calls.{Answers}
 use Rattle.std.specs.Option.{option_map_or}
 
@@ -111,16 +111,7 @@ piped-sound h ds qs d sound live few domains' pipes' =
     subst (λ (ys : List (Option (Pipe (List Slice)))). IsSound (record h { domains = ds; pipes = ys })) (sym pipes') (fds-sound k ds d (with_ends xs (lowest h.pipes)) sound' live domains' second (once_piped h d sound live))
 
 pub piped_answers : (h : KernelState) (ds : List (Domain (List Slice))) (qs : List (Option (Pipe (List Slice)))) (d : ℕ) (r : ℕ × ℕ) → IsSound h → (domain_in h.domains d).live ≡ true → taken h.pipes < MAX_PIPES → r ≡ ends_of (domain_in h.domains d).fds (lowest h.pipes) → ds ≡ with_fds_in h.domains d (with_ends (domain_in h.domains d).fds (lowest h.pipes)) → qs ≡ placed h.pipes (lowest h.pipes) empty → Answers (λ s. fds.pipe s d) h r (record h { domains = ds; pipes = qs })
-piped_answers h ds qs d r sound live few numbers domains' pipes' = record {
-  answer = λ f keeps. numbers ∙ sym (ends-read f h d);
-  after = λ f keeps. piped-read f h ds qs d domains' pipes';
-  arena = refl;
-  pools = refl;
-  sums = refl;
-  cache = refl;
-  sound = piped-sound h ds qs d sound live few domains' pipes';
-  stays = stays_here h.store;
-}
+piped_answers h ds qs d r sound live few numbers domains' pipes' = answers_here (λ s. fds.pipe s d) h (record h { domains = ds; pipes = qs }) r (piped-sound h ds qs d sound live few domains' pipes') refl refl (λ f. numbers ∙ sym (ends-read f h d)) refl (λ f. piped-read f h ds qs d domains' pipes')
 
 few_open : (n k : ℕ) → nat_lt MAX_OPEN (n + k) ≡ false → n + k ≤ MAX_OPEN
 few_open n k few = grind (arith, nat_tests, few)
@@ -181,16 +172,7 @@ within-sound h ds d fd x sound live there open' is =
 
 pub moved_within : (h : KernelState) (ds : List (Domain (List Slice))) (d fd to n : ℕ) (x : Descriptor) → IsSound h → (domain_in h.domains d).live ≡ true → d ≡ to → in_place (domain_in h.domains d).fds fd ≡ Some x → IsOpenEnd (objects_of h) (Some x) → n ≡ lowest (slice_set (domain_in h.domains d).fds fd None)
     → ds ≡ with_fds_in h.domains d (placed (slice_set (domain_in h.domains d).fds fd None) (lowest (slice_set (domain_in h.domains d).fds fd None)) x) → Answers (λ s. fds.give_fd s d fd to) h n (record h { domains = ds })
-moved_within h ds d fd to n x sound live same there open' number is = record {
-  answer = λ f keeps. within-number f h d fd to n same number;
-  after = λ f keeps. within-read f h ds d fd to x same is ∙ sym (gift f h d fd to x there);
-  arena = refl;
-  pools = refl;
-  sums = refl;
-  cache = refl;
-  sound = within-sound h ds d fd x sound live there open' is;
-  stays = stays_here h.store;
-}
+moved_within h ds d fd to n x sound live same there open' number is = answers_here (λ s. fds.give_fd s d fd to) h (record h { domains = ds }) n (within-sound h ds d fd x sound live there open' is) refl refl (λ f. within-number f h d fd to n same number) refl (λ f. within-read f h ds d fd to x same is ∙ sym (gift f h d fd to x there))
 
 -- across domains
 
@@ -254,16 +236,8 @@ across-sound h ms ds d fd to x sound differ to_live live there open' opened' clo
 
 pub moved_across : (h : KernelState) (ms ds : List (Domain (List Slice))) (d fd to n : ℕ) (x : Descriptor) → IsSound h → d ≢ to → (domain_in h.domains to).live ≡ true → (domain_in h.domains d).live ≡ true → in_place (domain_in h.domains d).fds fd ≡ Some x → IsOpenEnd (objects_of h) (Some x) → n ≡ lowest (domain_in h.domains to).fds → ms ≡ opened_in h.domains to x
     → ds ≡ with_fds_in ms d (slice_set (domain_in ms d).fds fd None) → Answers (λ s. fds.give_fd s d fd to) h n (record h { domains = ds })
-moved_across h ms ds d fd to n x sound differ to_live live there open' number opened' closed' = record {
-  answer = λ f keeps. across-number f h d fd to n differ number;
-  after = λ f keeps. across-read f h ms ds d fd to x differ opened' closed' ∙ sym (gift f h d fd to x there);
-  arena = refl;
-  pools = refl;
-  sums = refl;
-  cache = refl;
-  sound = across-sound h ms ds d fd to x sound differ to_live live there open' opened' closed';
-  stays = stays_here h.store;
-}
+moved_across h ms ds d fd to n x sound differ to_live live there open' number opened' closed' = answers_here (λ s. fds.give_fd s d fd to) h (record h { domains = ds }) n (across-sound h ms ds d fd to x sound differ to_live live there open' opened' closed') refl refl (λ f. across-number f h d fd to n differ number) refl
+    (λ f. across-read f h ms ds d fd to x differ opened' closed' ∙ sym (gift f h d fd to x there))
 
 pub not_none : {A : Type 0} (o p : Option A) (x : A) → p ≡ Some x → o ≡ p → o ≡ None → ⊥
 not_none o p x is same none = cc

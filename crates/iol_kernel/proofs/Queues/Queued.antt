@@ -33,29 +33,14 @@ tests s d to n =
     (BrokenPipe when writing.is_broken s to) ∷
     (WouldBlock when writing.takes_none s to n) ∷ []
 
-tests_same : (d n : ℕ) (s : State) (x : List (List ℕ)) (o : Option Descriptor) → first (tests (record s { slots = x }) d o n) ≡ first (tests s d o n)
-unfolding machine.domain machine.pool machine.pipe_at machine.conn_at
-tests_same d n s x None = refl
-tests_same d n s x (Some (on.File f at mode)) = refl
-tests_same d n s x (Some (on.ReadEnd p)) = refl
-tests_same d n s x (Some (on.WriteEnd p)) = refl
-tests_same d n s x (Some (on.Connection c)) = refl
-
-fits_same : (n : ℕ) (s : State) (x : List (List ℕ)) (o : Option Descriptor) → writing.fitting (record s { slots = x }) o n ≡ writing.fitting s o n
-unfolding machine.pipe_at machine.conn_at
-fits_same n s x None = refl
-fits_same n s x (Some (on.File f at mode)) = refl
-fits_same n s x (Some (on.ReadEnd p)) = refl
-fits_same n s x (Some (on.WriteEnd p)) = refl
-fits_same n s x (Some (on.Connection c)) = refl
-
-pools_same : (d : ℕ) (s : State) (x : List (List ℕ)) (o : Option Descriptor) → writing.pool_for (record s { slots = x }) d o ≡ writing.pool_for s d o
-unfolding machine.domain machine.file
-pools_same d s x None = refl
-pools_same d s x (Some (on.File f at mode)) = refl
-pools_same d s x (Some (on.ReadEnd p)) = refl
-pools_same d s x (Some (on.WriteEnd p)) = refl
-pools_same d s x (Some (on.Connection c)) = refl
+-- what is asked of a descriptor does not look at the bytes of files
+blind : (d n : ℕ) (s : State) (x : List (List ℕ)) (o : Option Descriptor) → (first (tests (record s { slots = x }) d o n) ≡ first (tests s d o n)) × (writing.fitting (record s { slots = x }) o n ≡ writing.fitting s o n) × (writing.pool_for (record s { slots = x }) d o ≡ writing.pool_for s d o)
+unfolding machine.domain machine.file machine.pool machine.pipe_at machine.conn_at
+blind d n s x None = (refl, refl, refl)
+blind d n s x (Some (on.File f at mode)) = (refl, refl, refl)
+blind d n s x (Some (on.ReadEnd p)) = (refl, refl, refl)
+blind d n s x (Some (on.WriteEnd p)) = (refl, refl, refl)
+blind d n s x (Some (on.Connection c)) = (refl, refl, refl)
 
 to_same : (d fd : ℕ) (s : State) (x : List (List ℕ)) → descriptor (record s { slots = x }) d fd ≡ descriptor s d fd
 unfolding machine.domain
@@ -64,17 +49,17 @@ to_same d fd s x = refl
 write_first : (d fd : ℕ) (bytes : List ℕ) (s : State) (x : List (List ℕ)) → first (writing.write (record s { slots = x }) d fd bytes).refusals ≡ first (writing.write s d fd bytes).refusals
 write_first d fd bytes s x =
     let t : State = record s { slots = x } in
-    ap (λ (o : Option Descriptor). first (tests t d o (length bytes))) (to_same d fd s x) ∙ tests_same d (length bytes) s x (descriptor s d fd)
+    ap (λ (o : Option Descriptor). first (tests t d o (length bytes))) (to_same d fd s x) ∙ (blind d (length bytes) s x (descriptor s d fd)).0
 
 write_answer : (d fd : ℕ) (bytes : List ℕ) (s : State) (x : List (List ℕ)) → (writing.write (record s { slots = x }) d fd bytes).answer ≡ (writing.write s d fd bytes).answer
 write_answer d fd bytes s x =
     let t : State = record s { slots = x } in
-    ap (λ (o : Option Descriptor). writing.fitting t o (length bytes)) (to_same d fd s x) ∙ fits_same (length bytes) s x (descriptor s d fd)
+    ap (λ (o : Option Descriptor). writing.fitting t o (length bytes)) (to_same d fd s x) ∙ (blind d (length bytes) s x (descriptor s d fd)).1
 
 write_pool : (d fd : ℕ) (s : State) (x : List (List ℕ)) → lands_in d fd (record s { slots = x }) ≡ lands_in d fd s
 write_pool d fd s x =
     let t : State = record s { slots = x } in
-    ap (λ (o : Option Descriptor). writing.pool_for t d o) (to_same d fd s x) ∙ pools_same d s x (descriptor s d fd)
+    ap (λ (o : Option Descriptor). writing.pool_for t d o) (to_same d fd s x) ∙ (blind d 0 s x (descriptor s d fd)).2
 
 module _ (d fd : ℕ) (target : Descriptor) (pool count : ℕ) (bytes : List ℕ) (h k : KernelState) (may : MayPut d fd target pool bytes h) (room : MakesRoom pool (pages_for count) h k) where
   pub may_still : MayPut d fd target pool bytes k

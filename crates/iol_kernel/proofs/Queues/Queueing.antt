@@ -29,6 +29,7 @@ use Rattle.iol_kernel.specs.Counted.{IsCounted}
 use Rattle.iol_kernel.specs.KernelState.{KernelState, objects_of, Each, IsOpenEnd, IsPipeReadable, AreReadable, IsDomainReadable, IsShort, IsLimited, IsSound, queue_at, read_of}
 use Rattle.iol_kernel.specs.Opened.{IsOpenOn}
 use Rattle.iol_kernel.specs.Readings.{Reading, bytes_over}
+use Rattle.iol_kernel.proofs.State.Answered.{answers_shared}
 use Rattle.iol_kernel.proofs.State.Uses.{queue_covered, uses-set_pipe, uses-with_agg}
 use Rattle.iol_kernel.proofs.State.Once.{once_same}
 use Rattle.iol_kernel.proofs.State.Sound.{with_pipes, each-get, each-set, each-weaker, agg_readable, add_readable, fds_stay, limits_agg}
@@ -169,34 +170,19 @@ pub taken_answers : (h : KernelState) (t : Stored) (ds : List (Domain (List Slic
     → Answers (λ s. reading.iol_read s d fd n) h a (record h { store = t; domains = ds; pipes = qs })
 taken_answers h t ds qs fd p d n a held takes pipes' few number =
     let reading' = reading_held held in
-    record {
-      answer = λ f keeps. number ∙ sym (next_agg-read_of f h d);
-      after = λ f keeps. taken-read h t ds qs p d n reading' takes pipes' f keeps ∙ ap (λ (o : Option Descriptor). aggs.with_agg (reading.read_on (read_of f h) d fd o (length (reading.read_text (read_of f h) d o n))) d (reading.read_text (read_of f h) d o n)) (sym (held.from f));
-      arena = takes.shares.arena;
-      pools = takes.shares.pools;
-      sums = refl;
-      cache = refl;
-      sound = taken-sound h t ds qs p d n held.sound reading' takes pipes' (open_row held) few;
-      stays = (shares_move takes.shares).stays;
-    }
+    answers_shared (λ s. reading.iol_read s d fd n) h (record h { store = t; domains = ds; pipes = qs }) a (taken-sound h t ds qs p d n held.sound reading' takes pipes' (open_row held) few) refl refl (λ f. number ∙ sym (next_agg-read_of f h d)) takes.shares
+    (λ f keeps. taken-read h t ds qs p d n reading' takes pipes' f keeps ∙ ap (λ (o : Option Descriptor). aggs.with_agg (reading.read_on (read_of f h) d fd o (length (reading.read_text (read_of f h) d o n))) d (reading.read_text (read_of f h) d o n)) (sym (held.from f)))
 
 pub pushed_answers : (h : KernelState) (t : Stored) (qs : List (Option (Pipe (List Slice)))) (fd p n d a : ℕ) (from : List Slice) → IsSound h → ((f : Reading) → machine.descriptor (read_of f h) d fd ≡ Some (on.WriteEnd p)) → Some from ≡ agg_in h.domains d a → byte_len (queue_at qs p).queue ≤ MAX_QUEUE_BYTES
     → n ≡ min (byte_len from) (MAX_QUEUE_BYTES - byte_len (queue_at h.pipes p).queue) → places (queue_at qs p).queue ≡ places (queue_at h.pipes p).queue ++ take n (places from) → qs ≡ with_queue_of h.pipes p qs → Shares h.store t (bufs_of (queue_at h.pipes p).queue) (bufs_of (queue_at qs p).queue)
     → Answers (λ s. writing.iol_write s d fd a) h n (record h { store = t; pipes = qs })
 pushed_answers h t qs fd p n d a from sound to found short is places' pipes' shares =
     let writing' = writing_held (bytes_over [] h.store) h d fd p sound (to (bytes_over [] h.store)) in
-    record {
-      answer = λ f keeps. fits f h p d a from n found is ∙ ap (λ (o : Option Descriptor). writing.fitting (read_of f h) o (length (machine.text (read_of f h) d a))) (sym (to f));
-      after = λ f keeps. pushed-read h t qs p n d a from writing' found places' pipes' shares f
-          ∙ ap (λ k. machine.with_pipe (read_of f h) p (record (machine.pipe_at (read_of f h) p) { queue = (machine.pipe_at (read_of f h) p).queue ++ take k (machine.text (read_of f h) d a) })) (fits f h p d a from n found is)
-          ∙ ap (λ (o : Option Descriptor). writing.written (read_of f h) d fd o (take (writing.fitting (read_of f h) o (length (machine.text (read_of f h) d a))) (machine.text (read_of f h) d a))) (sym (to f));
-      arena = shares.arena;
-      pools = shares.pools;
-      sums = refl;
-      cache = refl;
-      sound = pushed-sound h t qs p n d a from sound writing' found short places' pipes' shares;
-      stays = (shares_move shares).stays;
-    }
+    answers_shared (λ s. writing.iol_write s d fd a) h (record h { store = t; pipes = qs }) n (pushed-sound h t qs p n d a from sound writing' found short places' pipes' shares) refl refl
+    (λ f. fits f h p d a from n found is ∙ ap (λ (o : Option Descriptor). writing.fitting (read_of f h) o (length (machine.text (read_of f h) d a))) (sym (to f))) shares
+    (λ f keeps. pushed-read h t qs p n d a from writing' found places' pipes' shares f
+    ∙ ap (λ k. machine.with_pipe (read_of f h) p (record (machine.pipe_at (read_of f h) p) { queue = (machine.pipe_at (read_of f h) p).queue ++ take k (machine.text (read_of f h) d a) })) (fits f h p d a from n found is)
+    ∙ ap (λ (o : Option Descriptor). writing.written (read_of f h) d fd o (take (writing.fitting (read_of f h) o (length (machine.text (read_of f h) d a))) (machine.text (read_of f h) d a))) (sym (to f)))
 
 -- A front that was taken off, to be given to a domain.
 pub pipe_front : (h : KernelState) (t : Stored) (qs : List (Option (Pipe (List Slice)))) (p d n : ℕ) (slices : List Slice) → places slices ≡ take_while (may_see h.store.pools d) (take n (places (queue_at h.pipes p).queue)) → places (queue_at qs p).queue ≡ drop (byte_len slices) (places (queue_at h.pipes p).queue)

@@ -1,5 +1,5 @@
 -- A call that carries out takes the machine's step, and the layout's.
-use Rattle.std.proofs.Common.{◌≡◌, ℕ, List, [], ap, refl, sym, subst, Option, None}
+use Rattle.std.proofs.Common.{◌≡◌, ℕ, List, [], ap, refl, sym, subst, Option, Some, None}
 use Rattle.std.specs.Prelude.{MatchOption, Result, Ok, Err}
 use Rattle.iol_arena.specs.State as arena
 use Rattle.iol_core.specs.State.{State}
@@ -11,10 +11,11 @@ use Rattle.iol_hold.specs.Layout.{number_at}
 use Rattle.iol_hold.specs.Places.{Place}
 use Rattle.iol_hold.specs.Texts.{byte_at}
 use Rattle.iol_hold.proofs.AtPlaces.{keeps_bytes, keeps_numbers}
-use Rattle.iol_kernel.specs.Calls.{Answers, CarriesOut}
+use Rattle.iol_kernel.specs.Calls.{Answers, CarriesOut, KeepsPlaces}
 use Rattle.iol_kernel.specs.KernelState.{KernelState, IsSound, read_of, machine_of, layout_of}
 use Rattle.iol_kernel.specs.Readings.{Reading, bytes_over}
-use Rattle.iol_kernel.proofs.State.Stay.{stays_here}
+use Rattle.iol_kernel.proofs.State.Answered.{refusal_of}
+use Rattle.iol_kernel.proofs.State.Stay.{pages_here, stays_here}
 
 -- what lies at a place depends on the pages alone
 pub byte_at-arena : (s t : Stored) → t.arena ≡ s.arena → byte_at t ≡ byte_at s
@@ -26,6 +27,37 @@ carried_machine m old new r stored c =
 
 pub carried_layout : {A : Type 0} (m : State → Meaning A) (old new : KernelState) (r : Result A Refusal) → CarriesOut m old r new → Step (m (layout_of old)) (layout_of old) r (layout_of new)
 carried_layout m old new r c = c.step (record { at = number_at; stored = [] }) keeps_numbers
+
+-- A call that a test refused.
+
+refused_step : {A : Type 0} (m : Meaning A) (s : State) (x : Refusal) → first m.refusals ≡ Some x → Step m s (Err x) s
+refused_step m s x is = (subst (λ (o : Option Refusal). MatchOption o (m.Late x) (λ y. x ≡ y)) (sym is) refl, refl)
+
+module _ {A : Type 0} (m : State → Meaning A) (h : KernelState) (x : Refusal) (sound : IsSound h) (refused : (f : Reading) → first (m (read_of f h)).refusals ≡ Some x) where
+  pub carried_refused : ((p : ℕ) → x ≡ NoRoom p → ⊥) → CarriesOut m h (Err x) h
+  carried_refused roomy = record {
+    step = λ f keeps. refused_step (m (read_of f h)) (read_of f h) x (refused f);
+    arena = refl;
+    pools = refl;
+    roomy = λ p e. roomy p (refusal_of x (NoRoom p) e);
+    refused = refl;
+    sums = refl;
+    cache = refl;
+    sound = sound;
+    stays = stays_here h.store;
+  }
+
+  pub kept_refused : KeepsPlaces m h (Err x) h
+  kept_refused = record {
+    step = λ stored. refused_step (m (machine_of stored h)) (machine_of stored h) x (refused (bytes_over stored h.store));
+    places = λ f keeps. refused_step (m (read_of f h)) (read_of f h) x (refused f);
+    pages = pages_here h.store;
+    refused = refl;
+    sums = refl;
+    cache = refl;
+    sound = sound;
+    stays = stays_here h.store;
+  }
 
 -- A call that has passed its tests: done, or refused for want of memory, which changes nothing.
 
@@ -48,15 +80,12 @@ module _ {A : Type 0} (m : State → Meaning A) (h k : KernelState) (passed : (f
     step = λ f keeps. (subst (λ (o : Option Refusal). MatchOption o ((m (read_of f h)).Late x) (λ y. x ≡ y)) (sym (passed f)) (late f), refl);
     arena = refl;
     pools = refl;
-    roomy = λ p e. roomy p (error e);
+    roomy = λ p e. roomy p (refusal_of x (NoRoom p) e);
     refused = refl;
     sums = refl;
     cache = refl;
     sound = sound;
     stays = stays_here h.store;
   })
-    where
-      error : {p : ℕ} → ◌≡◌ {A = Result A Refusal} (Err x) (Err (NoRoom p)) → x ≡ NoRoom p
-      error e = cc e
 
 pub ruleset carried_rules = (carried_machine, carried_layout)

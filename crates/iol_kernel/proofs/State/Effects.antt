@@ -30,6 +30,7 @@ use Rattle.iol_kernel.specs.Counted.{IsCounted, domain_uses}
 use Rattle.iol_kernel.specs.Ends.{IsOpenOnce, ends_on}
 use Rattle.iol_kernel.specs.KernelState.{KernelState, objects_of, machine_of, Each, IsDomainReadable, AreReadable, IsOpenEnd, ArePooled, AreFiled, IsCached, IsSound, IsLimited, read_of}
 use Rattle.iol_kernel.specs.Readings.{Reading, read, bytes_over}
+use Rattle.iol_kernel.proofs.State.Answered.{answers_here}
 use Rattle.iol_kernel.proofs.State.Views.{pools-view, closed-view, added_pool-view, add_domain-view, with_agg-view, without_agg-view, with_fds-view, with_domain-view, domain-view, live_aggs-view}
 use Rattle.iol_kernel.proofs.State.Uses.{uses-with_agg, uses-without_agg}
 use Rattle.iol_kernel.proofs.State.Once.{once_same}
@@ -302,13 +303,4 @@ default-sound h ds d p sound live is = subst (λ (ys : List (Domain (List Slice)
     (sound_with h d (record (domain_in h.domains d) { default = Some p }) sound live refl (ends_open h d sound) (once_same h.domains d _ live refl sound.once))
 
 pub default_set : (h : KernelState) (ds : List (Domain (List Slice))) (d p : ℕ) → IsSound h → (domain_in h.domains d).live ≡ true → ds ≡ with_domain_in h.domains d (record (domain_in h.domains d) { default = Some p }) → Answers (λ s. pools.set_pool s d p) h tt (record h { domains = ds })
-default_set h ds d p sound live is = record {
-  answer = λ f keeps. refl;
-  after = λ f keeps. default-read f h ds d p is;
-  arena = refl;
-  pools = refl;
-  sums = refl;
-  cache = refl;
-  sound = default-sound h ds d p sound live is;
-  stays = stays_here h.store;
-}
+default_set h ds d p sound live is = answers_here (λ s. pools.set_pool s d p) h (record h { domains = ds }) tt (default-sound h ds d p sound live is) refl refl (λ f. refl) refl (λ f. default-read f h ds d p is)

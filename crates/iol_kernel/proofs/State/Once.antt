@@ -118,37 +118,26 @@ one_at_most : (b : Bool) → cond b 1 0 ≤ 1
 one_at_most true = omega arith
 one_at_most false = omega arith
 
+-- an end of one number more, which is not open yet
+one_more : (end : ℕ → Descriptor) (p n k : ℕ) → (end p ≡ end n → p ≡ n) → same_end (end p) (end n) ≤ 1 → k ≤ 1 → (end p ≡ end n → k ≡ 0) → k + same_end (end p) (end n) ≤ 1
+one_more end p n k number most le none = elim (cases_eq p n) [
+  | inl i ↦ (let z = none (ap end i) in omega (arith, z, most))
+  | inr i ↦ (let z = same_end-differs (end p) (end n) (λ same. i (number same)) in omega (arith, le, z))
+]
+
 -- a new pipe's ends, of which neither is open yet
 pub both_once : (e : Descriptor) (n k : ℕ) → k ≤ 1 → (e ≡ on.ReadEnd n → k ≡ 0) → (e ≡ on.WriteEnd n → k ≡ 0) → k + same_end e (on.ReadEnd n) + same_end e (on.WriteEnd n) ≤ 1
-both_once (on.ReadEnd p) n k le reading writing = elim (cases_eq p n) [
-  | inl i ↦ (let z = reading (ap on.ReadEnd i) in omega (arith, z, one_at_most (p == n)))
-  | inr i ↦ (let z = same_end-differs (on.ReadEnd p) (on.ReadEnd n) (λ same. i (number same)) in omega (arith, le, z))
-]
-  where
-    number : on.ReadEnd p ≡ on.ReadEnd n → p ≡ n
-    number same = cc
-both_once (on.WriteEnd p) n k le reading writing = elim (cases_eq p n) [
-  | inl i ↦ (let z = writing (ap on.WriteEnd i) in omega (arith, z, one_at_most (p == n)))
-  | inr i ↦ (let z = same_end-differs (on.WriteEnd p) (on.WriteEnd n) (λ same. i (number same)) in omega (arith, le, z))
-]
-  where
-    number : on.WriteEnd p ≡ on.WriteEnd n → p ≡ n
-    number same = cc
+both_once (on.ReadEnd p) n k le reading writing = omega (arith, one_more on.ReadEnd p n k (λ same. cc) (one_at_most (p == n)) le reading)
+both_once (on.WriteEnd p) n k le reading writing = omega (arith, one_more on.WriteEnd p n k (λ same. cc) (one_at_most (p == n)) le writing)
 both_once (on.File f at mode) n k le reading writing = omega (arith, le)
 both_once (on.Connection c) n k le reading writing = omega (arith, le)
 
--- one connection more, which is not open yet
+-- one connection more
 pub one_once : (e : Descriptor) (c k : ℕ) → k ≤ 1 → (e ≡ on.Connection c → k ≡ 0) → k + same_end e (on.Connection c) ≤ 1
 one_once (on.ReadEnd p) c k le none = omega (arith, le)
 one_once (on.WriteEnd p) c k le none = omega (arith, le)
 one_once (on.File f at mode) c k le none = omega (arith, le)
-one_once (on.Connection d) c k le none = elim (cases_eq d c) [
-  | inl i ↦ (let z = none (ap on.Connection i) in omega (arith, z, one_at_most (d == c)))
-  | inr i ↦ (let z = same_end-differs (on.Connection d) (on.Connection c) (λ same. i (number same)) in omega (arith, le, z))
-]
-  where
-    number : on.Connection d ≡ on.Connection c → d ≡ c
-    number same = cc
+one_once (on.Connection d) c k le none = one_more on.Connection d c k (λ same. cc) (one_at_most (d == c)) le none
 
 ends_closed : (qs : Objects (List Slice)) (x : Descriptor) → (IsOpenEnd qs (Some x) → ⊥) → (fds : List (Option Descriptor)) → Each (IsOpenEnd qs) fds → ends_on x fds ≡ 0
 ends_closed qs x closed [] e = refl

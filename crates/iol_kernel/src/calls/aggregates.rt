@@ -1,21 +1,15 @@
 //! Aggregates: made of new bytes or of those that lie there already, shown, and dropped.
 ghost use Rattle.std.specs.Prelude.{◌≡◌, ◌≢◌, ℕ, ◌+◌, ◌<◌, ◌≤◌, length, true, false, Option, Some, None, IfOk, IfErr, OnOk, OnErr, Err};
 ghost use Rattle.iol_core.specs.State as state;
-ghost use Rattle.iol_core.specs.State.{is_live, domain, text, may_read};
-ghost use Rattle.iol_core.specs.Meaning.{Step, WantOfRoom, first};
-ghost use Rattle.iol_core.specs.Text.{barred};
+ghost use Rattle.iol_core.specs.Prelude.{is_live, domain, text, may_read, Step, WantOfRoom, first, barred, default_pool, lacks_agg, too_many_aggs};
 ghost use Rattle.iol_core.specs.Calls.Aggregates as calls;
-ghost use Rattle.iol_core.specs.Calls.Aggregates.{default_pool, lacks_agg, too_many_aggs};
-ghost use Rattle.iol_hold.specs.Moves.{Stays};
-ghost use Rattle.iol_hold.specs.Room.{has_room};
+ghost use Rattle.iol_hold.specs.Prelude.{Stays, has_room};
 ghost use Rattle.iol_kernel.specs.Adding.{replaced};
 ghost use Rattle.iol_kernel.specs.KernelState.{joined, IsSound};
 ghost use Rattle.iol_kernel.specs.Readings.{Reading, read, KeepsPools};
 
 use crate::kernel::Kernel;
-use crate::tables::{
-    Part, add_bytes, add_part, add_replaced, first_hidden, join_aggs, move_agg, split_agg,
-};
+use crate::tables::{first_hidden, join_aggs, move_agg, split_agg};
 use iol_agg::{Agg, Parts};
 use iol_core::limits::MAX_AGGREGATE_BYTES;
 use iol_core::lists::Bytes;
@@ -32,8 +26,12 @@ impl Kernel {
         ensures { Places (λ s. calls.agg_make s by bytes.now) (λ s t. calls.with_agg s by t)
             (default_pool (machine self.old) by) (length bytes.now) self.old result self.new }
     {
-        let pool = self.pool_to_make(by, bytes.as_slice())?;
-        self.place(by, pool, bytes.as_slice())
+        let list = bytes.as_slice();
+        let pool = self.pool_to_make(by, list)?;
+        if !self.make_room_for(pool, list.len() as u32) {
+            return Err(Refusal::NoRoom { pool });
+        }
+        self.fill_agg(by, pool, list)
     }
 
     /// The pool in which the caller's bytes lie once they are an aggregate. It is refused as `agg_make` is, but for want
@@ -77,25 +75,6 @@ impl Kernel {
         self.domains.default_of(d)
     }
 
-    /// Places bytes in a pool, as the domain's next aggregate, once room for them is made.
-    fn place(&mut self, by: DomainId, pool: PoolId, bytes: &[u8]) -> Result<AggId, Refusal>
-        requires sound { IsSound (state_of self.old) }
-        requires passed { (f : Reading) →
-            first (calls.agg_make (as_read f self.old) by bytes.now).refusals ≡ None }
-        requires pool { (f : Reading) → default_pool (as_read f self.old) by ≡ pool }
-        requires live { is_live (machine self.old) by ≡ true }
-        requires few { too_many_aggs (machine self.old) by 1 0 ≡ false }
-        requires small { length bytes.now ≤ MAX_AGGREGATE_BYTES }
-        requires open { (state.pool (machine self.old) pool).closed ≡ false }
-        ensures { Places (λ s. calls.agg_make s by bytes.now) (λ s t. calls.with_agg s by t)
-            (default_pool (machine self.old) by) (length bytes.now) self.old result self.new }
-    {
-        if !self.make_room_for(pool, bytes.len() as u32) {
-            return Err(Refusal::NoRoom { pool });
-        }
-        self.fill_agg(by, pool, bytes)
-    }
-
     /// Places bytes in a pool that has room, as the domain's next aggregate.
     #[tactic(auto, using(crate::proofs::State::Stay::stay_rules, crate::proofs::AggregateCalls::Slices::held_rules))]
     fn fill_agg(&mut self, by: DomainId, pool: PoolId, bytes: &[u8]) -> Result<AggId, Refusal>
@@ -116,14 +95,9 @@ impl Kernel {
         ensures late { IfErr result (WantOfRoom pool) }
         ensures err { OnErr result (state_of self.new ≡ state_of self.old) }
     {
-        Ok(add_bytes(
-            self.alloc,
-            &mut self.store,
-            &mut self.domains,
-            by,
-            pool,
-            bytes,
-        )?)
+        self.domains.reserve_aggs(by, 1)?;
+        let agg = Agg::fill(self.alloc, &mut self.store, pool, bytes)?;
+        Ok(self.domains.add_agg(by, agg))
     }
 
     /// Makes an aggregate of the same bytes once more.
@@ -174,14 +148,12 @@ impl Kernel {
             self.new) }
         ensures err { OnErr result (state_of self.new ≡ state_of self.old) }
     {
-        Ok(add_part(
-            self.alloc,
-            &mut self.store,
-            &mut self.domains,
-            by,
-            agg,
-            Part { from, to },
-        )?)
+        self.domains.reserve_aggs(by, 1)?;
+        let Some(whole) = self.domains.agg(by, agg) else {
+            unreachable!()
+        };
+        let cut = whole.cut(self.alloc, &mut self.store, from, to)?;
+        Ok(self.domains.add_agg(by, cut))
     }
 
     /// Splits an aggregate into the bytes before a place and those from it on.
@@ -310,15 +282,15 @@ impl Kernel {
             self.old n self.new) }
         ensures err { OnErr result (state_of self.new ≡ state_of self.old) }
     {
-        Ok(add_replaced(
-            self.alloc,
-            &mut self.store,
-            &mut self.domains,
-            by,
-            agg,
-            Part { from, to },
-            other,
-        )?)
+        self.domains.reserve_aggs(by, 1)?;
+        let Some(whole) = self.domains.agg(by, agg) else {
+            unreachable!()
+        };
+        let Some(inner) = self.domains.agg(by, other) else {
+            unreachable!()
+        };
+        let replaced = whole.replace(self.alloc, &mut self.store, from, to, inner)?;
+        Ok(self.domains.add_agg(by, replaced))
     }
 
     /// Drops an aggregate.

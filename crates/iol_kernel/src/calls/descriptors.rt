@@ -1,10 +1,8 @@
 //! Pipes are made and connections accepted, and descriptors on them are given and closed.
 ghost use Rattle.std.specs.Prelude.{◌≡◌, ◌≢◌, ℕ, ◌<◌, true, false, not, ◌&&◌, ◌==◌, Option, Some, None, option_map, IfOk, OnErr, Err};
 ghost use Rattle.iol_core.specs.State as state;
-ghost use Rattle.iol_core.specs.State.{is_live, descriptor, conn_at};
-ghost use Rattle.iol_core.specs.Numbered.{is_numbered, lookup, taken};
+ghost use Rattle.iol_core.specs.Prelude.{is_live, descriptor, conn_at, is_numbered, lookup, taken, closed_on, freed, too_many_open, with_fds};
 ghost use Rattle.iol_core.specs.Calls.Descriptors as calls;
-ghost use Rattle.iol_core.specs.Calls.Descriptors.{closed_on, freed, too_many_open, with_fds};
 ghost use Rattle.iol_kernel.specs.Ends.{all_ends_on};
 ghost use Rattle.iol_kernel.specs.ClosedEnds.{KeepsEnds};
 ghost use Rattle.iol_kernel.specs.KernelState.{objects_of, IsOpenEnd, IsSound};

@@ -1,9 +1,8 @@
 //! Domains come and go.
 ghost use Rattle.std.specs.Prelude.{◌≡◌, ℕ, [], length, true, fold, Option, Err};
-ghost use Rattle.iol_core.specs.State.{is_live, domain, with_domain};
+ghost use Rattle.iol_core.specs.Prelude.{is_live, domain, with_domain, closed_on, with_fds};
 ghost use Rattle.iol_core.specs.Calls.Domains as calls;
-ghost use Rattle.iol_core.specs.Calls.Descriptors.{closed_on, with_fds};
-ghost use Rattle.iol_desc.specs.Tables.{with_aggs_in, with_fds_in};
+ghost use Rattle.iol_desc.specs.Prelude.{with_aggs_in, with_fds_in};
 ghost use Rattle.iol_kernel.specs.ClosedEnds.{AreTaken};
 ghost use Rattle.iol_kernel.specs.KernelState.{objects_of, IsSound};
 ghost use Rattle.iol_kernel.specs.Readings.{Reading};

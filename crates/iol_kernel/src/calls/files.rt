@@ -1,12 +1,9 @@
 //! Files by name.
 ghost use Rattle.std.specs.Prelude.{◌≡◌, ◌+◌, ◌<◌, length, true, false, is_some, nat_lt, IfOk, IfSome, OnErr, Err};
 ghost use Rattle.iol_core.specs.State as state;
-ghost use Rattle.iol_core.specs.State.{content};
-ghost use Rattle.iol_core.specs.Numbered.{is_numbered};
-ghost use Rattle.iol_core.specs.Calls.Descriptors.{too_many_open};
+ghost use Rattle.iol_core.specs.Prelude.{content, is_numbered, too_many_open, file_called};
 ghost use Rattle.iol_core.specs.Calls.Files as calls;
-ghost use Rattle.iol_core.specs.Calls.Files.{file_called};
-ghost use Rattle.iol_back.specs.Disk.{IfHonest};
+ghost use Rattle.iol_back.specs.Prelude.{IfHonest};
 ghost use Rattle.iol_kernel.specs.Calls.{TellsNext};
 ghost use Rattle.iol_kernel.specs.FileEnds.{FitsNext, is_next_long};
 ghost use Rattle.iol_kernel.specs.Files.{opens};

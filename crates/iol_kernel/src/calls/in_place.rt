@@ -1,15 +1,12 @@
 //! Connections that are served from outside in place: what a reader gives comes straight into a page, and a writer takes
 //! bytes from where they lie.
 ghost use Rattle.std.specs.Prelude.{◌≡◌, ℕ, false, List, Some, Ok, Err, IfOk, IfErr, OnOk, OnErr};
-ghost use Rattle.iol_core.specs.Meaning.{first};
-ghost use Rattle.iol_core.specs.State.{conn_at};
+ghost use Rattle.iol_core.specs.Prelude.{first, conn_at, lacks_conn};
 ghost use Rattle.iol_core.specs.Calls.Outside as outside;
-ghost use Rattle.iol_core.specs.Calls.Outside.{lacks_conn};
-ghost use Rattle.iol_back.specs.Disk.{Disk};
-ghost use Rattle.iol_pool.specs.Pools.{pool_in};
-ghost use Rattle.iol_hold.specs.Moves.{Stays};
-ghost use Rattle.iol_hold.specs.Room.{has_room};
-ghost use Rattle.iol_sock.specs.Refused.{IsPassed};
+ghost use Rattle.iol_back.specs.Prelude.{Disk};
+ghost use Rattle.iol_pool.specs.Prelude.{pool_in};
+ghost use Rattle.iol_hold.specs.Prelude.{Stays, has_room};
+ghost use Rattle.iol_sock.specs.Prelude.{IsPassed};
 ghost use Rattle.iol_kernel.specs.Borrowed.{arrive_from_refusals, most_asked, BringsIn, DrainsTo, IsOneRead, TakesIn};
 ghost use Rattle.iol_kernel.specs.Borrowed.{RefusesArrival, RefusesByte, RefusesDrain};
 ghost use Rattle.iol_kernel.specs.Backed.{Serves};

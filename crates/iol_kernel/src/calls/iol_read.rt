@@ -1,7 +1,6 @@
 //! Reading by reference.
 ghost use Rattle.std.specs.Prelude.{◌≡◌, false, None, IfOk, OnErr};
-ghost use Rattle.iol_core.specs.Calls.Aggregates.{too_many_aggs};
-ghost use Rattle.iol_core.specs.Calls.Files.{open_on};
+ghost use Rattle.iol_core.specs.Prelude.{too_many_aggs, open_on};
 ghost use Rattle.iol_core.specs.Calls.Reading as calls;
 ghost use Rattle.iol_kernel.specs.FileReading.{held_by};
 ghost use Rattle.iol_kernel.specs.KernelState.{IsSound};

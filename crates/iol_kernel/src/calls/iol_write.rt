@@ -1,10 +1,8 @@
 //! Writing by reference: to pipes and connections here, to files in `iol_write/file`.
 ghost use Rattle.std.specs.Prelude.{◌≡◌, true, false, None, Some, Err, IfOk, IfErr, OnOk};
-ghost use Rattle.iol_core.specs.Meaning.{first};
-ghost use Rattle.iol_core.specs.State.{is_live, descriptor};
-ghost use Rattle.iol_core.specs.Calls.Aggregates.{lacks_agg};
+ghost use Rattle.iol_core.specs.Prelude.{first, is_live, descriptor, lacks_agg};
 ghost use Rattle.iol_core.specs.Calls.Writing as calls;
-ghost use Rattle.iol_back.specs.Disk.{Disk};
+ghost use Rattle.iol_back.specs.Prelude.{Disk};
 ghost use Rattle.iol_kernel.specs.KernelState.{IsSound};
 ghost use Rattle.iol_kernel.specs.Readings.{Reading};
 ghost use Rattle.iol_kernel.specs.WritingFiles.{WritesOn};

@@ -1,12 +1,9 @@
 //! Acts from outside: connections are made, bytes arrive on them and are sent, and their peers close.
 ghost use Rattle.std.specs.Prelude.{◌≡◌, ◌≢◌, ℕ, ◌<◌, ◌≤◌, length, true, false, Some, None, IfOk, IfErr, OnOk, OnErr, Err};
 ghost use Rattle.iol_core.specs.State as state;
-ghost use Rattle.iol_core.specs.State.{conn_at, with_conn};
-ghost use Rattle.iol_core.specs.Meaning.{first};
-ghost use Rattle.iol_core.specs.Numbered.{lookup};
+ghost use Rattle.iol_core.specs.Prelude.{conn_at, with_conn, first, lookup, lacks_conn};
 ghost use Rattle.iol_core.specs.Calls.Outside as calls;
-ghost use Rattle.iol_core.specs.Calls.Outside.{lacks_conn};
-ghost use Rattle.iol_pool.specs.Pools.{pool_in};
+ghost use Rattle.iol_pool.specs.Prelude.{pool_in};
 ghost use Rattle.iol_kernel.specs.Calls.{told, with_incoming};
 ghost use Rattle.iol_kernel.specs.ClosedEnds.{KeepsEnds};
 ghost use Rattle.iol_kernel.specs.KernelState.{objects_of, IsSound};

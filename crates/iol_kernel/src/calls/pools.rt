@@ -2,12 +2,10 @@
 ghost use Rattle.std.specs.Prelude.{◌≡◌, ◌&&◌, ℕ, ◌+◌, ◌<◌, ◌≤◌, length, true, false, ◌∷◌, ◌++◌, [], Some, None, IfOk, IfErr, OnOk, OnErr, Err};
 ghost use Rattle.std.specs.List.{list_all};
 ghost use Rattle.iol_core.specs.State as state;
-ghost use Rattle.iol_core.specs.State.{is_live, is_pool, domain};
-ghost use Rattle.iol_core.specs.Numbered.{with_numbered};
-ghost use Rattle.iol_core.specs.Meaning.{WantOfRoom, first};
+ghost use Rattle.iol_core.specs.Prelude.{is_live, is_pool, domain, with_numbered, WantOfRoom, first};
 ghost use Rattle.iol_core.specs.Calls.Pools as calls;
-ghost use Rattle.iol_arena.specs.Chunks.{free_chunks};
-ghost use Rattle.iol_pool.specs.Pools.{AddsPool};
+ghost use Rattle.iol_arena.specs.Prelude.{free_chunks};
+ghost use Rattle.iol_pool.specs.Prelude.{AddsPool};
 ghost use Rattle.iol_kernel.specs.Calls.{with_reader};
 ghost use Rattle.iol_kernel.specs.KernelState.{IsSound};
 ghost use Rattle.iol_kernel.specs.Readings.{Reading};
@@ -29,6 +27,21 @@ impl Kernel {
         requires { IsSound (state_of self.old) }
         ensures { CarriesOut (λ s. calls.set_pool s by pool) self.old result self.new }
     {
+        self.test_pool(by, pool)?;
+        self.set_default(by, pool);
+        Ok(())
+    }
+
+    /// Whether a domain may place in a pool, or close it: it is open, and names the domain.
+    fn test_pool(&self, by: DomainId, pool: PoolId) -> Result<(), Refusal>
+        ensures passed { OnOk result ((f : Reading) →
+            first (calls.set_pool (as_read f self.now) by pool).refusals ≡ None) }
+        ensures live { OnOk result (is_live (machine self.now) by ≡ true) }
+        ensures there { OnOk result (is_pool (machine self.now) pool ≡ true) }
+        ensures refused { IfErr result (λ x. (f : Reading) →
+            first (calls.set_pool (as_read f self.now) by pool).refusals ≡ Some x) }
+        ensures roomy { (p : ℕ) → result ≡ Err (Refusal.NoRoom p) → ⊥ }
+    {
         if !self.is_live(by) {
             return Err(Refusal::NoDomain);
         }
@@ -41,7 +54,6 @@ impl Kernel {
         if self.is_closed(pool) {
             return Err(Refusal::PoolClosed { pool });
         }
-        self.set_default(by, pool);
         Ok(())
     }
 
@@ -223,18 +235,7 @@ impl Kernel {
         ensures pool_close { KeepsPlaces (λ s. calls.pool_close s by pool) self.old result self.new }
         ensures roomy { (p : ℕ) → result ≡ Err (Refusal.NoRoom p) → ⊥ }
     {
-        if !self.is_live(by) {
-            return Err(Refusal::NoDomain);
-        }
-        if !self.is_pool(pool) {
-            return Err(Refusal::NoPool);
-        }
-        if !self.may_read(by, pool) {
-            return Err(Refusal::Denied { pool });
-        }
-        if self.is_closed(pool) {
-            return Err(Refusal::PoolClosed { pool });
-        }
+        self.test_pool(by, pool)?;
         if self.is_busy(pool) {
             return Err(Refusal::PoolBusy { pool });
         }

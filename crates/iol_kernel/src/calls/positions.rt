@@ -1,11 +1,8 @@
 //! Positions of descriptors on files, and lengths of files.
 ghost use Rattle.std.specs.Prelude.{◌≡◌, ◌≤◌, length, true, None, Some, IfErr, IfOk, OnErr};
-ghost use Rattle.iol_core.specs.Numbered.{is_numbered};
-ghost use Rattle.iol_core.specs.Meaning.{first};
-ghost use Rattle.iol_core.specs.State.{content};
+ghost use Rattle.iol_core.specs.Prelude.{is_numbered, first, content, open_on};
 ghost use Rattle.iol_core.specs.Calls.Files as calls;
-ghost use Rattle.iol_core.specs.Calls.Files.{open_on};
-ghost use Rattle.iol_cache.specs.Serving.{IsEnd};
+ghost use Rattle.iol_cache.specs.Prelude.{IsEnd};
 ghost use Rattle.iol_kernel.specs.Backed.{IsBackedBy};
 ghost use Rattle.iol_kernel.specs.FileEnds.{EndsAt, SeeksAt};
 ghost use Rattle.iol_kernel.specs.FileReading.{held_by};

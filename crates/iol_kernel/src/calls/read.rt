@@ -1,6 +1,6 @@
 //! Reading by copying: no aggregate is made of what is read.
 ghost use Rattle.std.specs.Prelude.{◌≡◌, None};
-ghost use Rattle.iol_core.specs.Calls.Files.{open_on};
+ghost use Rattle.iol_core.specs.Prelude.{open_on};
 ghost use Rattle.iol_core.specs.Calls.Reading as calls;
 ghost use Rattle.iol_kernel.specs.Copying.{Copies, ReadsOut};
 ghost use Rattle.iol_kernel.specs.FileReading.{held_by};

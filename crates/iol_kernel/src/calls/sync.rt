@@ -1,15 +1,11 @@
 //! Writing back of what is dirty, and the going of what is clean.
 ghost use Rattle.std.specs.Prelude.{◌≡◌, ℕ, true, None, Ok, [], length};
-ghost use Rattle.iol_core.specs.Meaning.{first};
-ghost use Rattle.iol_core.specs.Numbered.{is_numbered};
+ghost use Rattle.iol_core.specs.Prelude.{first, is_numbered, file_on};
 ghost use Rattle.iol_core.specs.Calls.Files as calls;
-ghost use Rattle.iol_core.specs.Calls.Files.{file_on};
 ghost use Rattle.iol_core.specs.Calls.Outside as outside;
-ghost use Rattle.iol_back.specs.Disk.{Disk};
-ghost use Rattle.iol_hold.specs.Pages.{KeepsPages};
-ghost use Rattle.iol_cache.specs.Cached.{extents_in};
-ghost use Rattle.iol_cache.specs.Evicting.{AllDirty, EvictsPools};
-ghost use Rattle.iol_cache.specs.Keeping.{KeepsDirty};
+ghost use Rattle.iol_back.specs.Prelude.{Disk};
+ghost use Rattle.iol_hold.specs.Prelude.{KeepsPages};
+ghost use Rattle.iol_cache.specs.Prelude.{extents_in, AllDirty, EvictsPools, KeepsDirty};
 ghost use Rattle.iol_kernel.specs.Backed.{holding_of};
 ghost use Rattle.iol_kernel.specs.KernelState.{IsSound};
 ghost use Rattle.iol_kernel.specs.Readings.{Reading};

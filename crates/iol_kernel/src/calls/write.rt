@@ -1,9 +1,8 @@
 //! Writing by copying: no aggregate is made of what is written.
 ghost use Rattle.std.specs.Prelude.{◌≡◌, ◌⊎◌, ℕ, length, true, false, Err, IfErr, OnOk};
-ghost use Rattle.iol_core.specs.Meaning.{WantOfRoom};
-ghost use Rattle.iol_core.specs.State.{descriptor};
+ghost use Rattle.iol_core.specs.Prelude.{WantOfRoom, descriptor};
 ghost use Rattle.iol_core.specs.Calls.Writing as calls;
-ghost use Rattle.iol_back.specs.Disk.{Disk};
+ghost use Rattle.iol_back.specs.Prelude.{Disk};
 ghost use Rattle.iol_kernel.specs.KernelState.{IsSound};
 ghost use Rattle.iol_kernel.specs.MakingRoom.{can_fit};
 ghost use Rattle.iol_kernel.specs.Putting.{PlacesInQueue, lands_in};

@@ -1,11 +1,7 @@
 //! Reading files by reference: what is in memory is shared, and what is not is read into clean extents.
-ghost use Rattle.std.specs.Prelude.{◌≡◌, true, false, Some, None, IfSome};
-ghost use Rattle.iol_core.specs.Meaning.{first};
-ghost use Rattle.iol_core.specs.State.{is_live, descriptor};
-ghost use Rattle.iol_core.specs.Calls.Aggregates.{too_many_aggs};
-ghost use Rattle.iol_core.specs.Calls.Files.{open_on};
-ghost use Rattle.iol_core.specs.Calls.Reading as calls;
-ghost use Rattle.iol_kernel.specs.FileReading.{held_by, read_at};
+ghost use Rattle.std.specs.Prelude.{◌≡◌, true, Some, None, IfSome, IfErr, OnOk};
+ghost use Rattle.iol_core.specs.Prelude.{first, is_numbered, is_live, descriptor, open_on};
+ghost use Rattle.iol_kernel.specs.FileReading.{IsBeforeRoom, held_by, read_at, read_tests};
 ghost use Rattle.iol_kernel.specs.Readings.{Reading};
 
 use crate::kernel::Kernel;
@@ -16,7 +12,7 @@ use iol_core::numbers::{AggId, DomainId, Fd, FileId};
 use iol_core::refusals::Refusal;
 
 impl Kernel {
-    ghost use Rattle.iol_kernel.specs.Kernel.{machine, as_read, IsOpenAt, TakesFromFile};
+    ghost use Rattle.iol_kernel.specs.Kernel.{state_of, machine, as_read, IsOpenAt, TakesFromFile};
 
     /// The file that a live domain's descriptor is open on, with its position and mode.
     pub fn file_open(&self, by: DomainId, fd: Fd) -> Option<OpenFile>
@@ -48,49 +44,49 @@ impl Kernel {
         ensures { TakesFromFile (read_at by fd found count) (B.disk backing.old) self.old result
             (B.disk backing.new) self.new }
     {
-        if !may_be_read(found.mode) {
-            return Err(Refusal::WrongMode);
-        }
-        if self.is_too_many(by, 1, 0) {
-            return Err(Refusal::TooMany);
-        }
-        if let Some(pool) = self.hidden_file(by, found.file) {
-            return Err(Refusal::Denied { pool });
-        }
-        self.take_from_file(backing, by, fd, found, count)
-    }
-
-    /// Reads from a file that the caller may read, as its next aggregate.
-    fn take_from_file<B: Backing>(
-        &mut self,
-        backing: &mut B,
-        by: DomainId,
-        fd: Fd,
-        found: OpenFile,
-        count: u32,
-    ) -> Result<AggId, Refusal>
-        requires held { IsOpenAt self.old (read_at by fd found count) }
-        requires few { too_many_aggs (machine self.old) by 1 0 ≡ false }
-        requires passed { first (calls.iol_read (machine self.old) by fd count).refusals ≡ None }
-        ensures { TakesFromFile (read_at by fd found count) (B.disk backing.old) self.old result
-            (B.disk backing.new) self.new }
-    {
-        let OpenFile { file, at, mode } = found;
+        self.test_read(by, found.file, found.mode, true)?;
         self.domains.reserve_aggs(by, 1)?;
-        let outcome = self
-            .files
-            .cache
-            .read(self.alloc, &mut self.store, backing, file, at, count);
+        let outcome = self.files.cache.read(
+            self.alloc,
+            &mut self.store,
+            backing,
+            found.file,
+            found.at,
+            count,
+        );
         let agg = match outcome {
             Ok(agg) => agg,
             Err(refusal) => return Err(refusal),
         };
-        let moved = Descriptor::File {
-            file,
-            at: at + agg.len(),
-            mode,
-        };
-        self.domains.set_fd(by, fd, moved);
+        self.domains.set_fd(by, fd, found.moved_by(agg.len()));
         Ok(self.domains.add_agg(by, agg))
+    }
+
+    /// Whether a file may be read. Only a read by reference makes an aggregate.
+    pub(crate) fn test_read(
+        &self,
+        by: DomainId,
+        file: FileId,
+        mode: Mode,
+        makes_agg: bool,
+    ) -> Result<(), Refusal>
+        requires live { is_live (machine self.now) by ≡ true }
+        requires there { is_numbered (state_of self.now).files file ≡ true }
+        ensures passed { OnOk result ((f : Reading) →
+            first (read_tests (as_read f self.now) by file mode makes_agg) ≡ None) }
+        ensures refused { IfErr result (λ x. (f : Reading) →
+            first (read_tests (as_read f self.now) by file mode makes_agg) ≡ Some x) }
+        ensures early { IfErr result (λ x. IsBeforeRoom x) }
+    {
+        if !may_be_read(mode) {
+            return Err(Refusal::WrongMode);
+        }
+        if makes_agg && self.is_too_many(by, 1, 0) {
+            return Err(Refusal::TooMany);
+        }
+        if let Some(pool) = self.hidden_file(by, file) {
+            return Err(Refusal::Denied { pool });
+        }
+        Ok(())
     }
 }

@@ -1,9 +1,8 @@
 //! Writing by reference to files.
 ghost use Rattle.std.specs.Prelude.{◌≡◌, ◌+◌, ◌≤◌, false, None};
-ghost use Rattle.iol_core.specs.Meaning.{first};
-ghost use Rattle.iol_core.specs.Calls.Aggregates.{lacks_agg};
+ghost use Rattle.iol_core.specs.Prelude.{first, lacks_agg};
 ghost use Rattle.iol_core.specs.Calls.Writing as calls;
-ghost use Rattle.iol_hold.specs.Places.{byte_len};
+ghost use Rattle.iol_hold.specs.Prelude.{byte_len};
 ghost use Rattle.iol_kernel.specs.KernelState.{slices_in};
 ghost use Rattle.iol_kernel.specs.Readings.{Reading};
 ghost use Rattle.iol_kernel.specs.WritingFiles.{WritesAgg};
@@ -37,7 +36,6 @@ impl Kernel {
         ensures { WritesAgg by fd agg found.file found.at (state_of self.old) result (state_of
             self.new) }
     {
-        let OpenFile { file, at, mode } = found;
         let Some(source) = self.domains.agg(by, agg) else {
             unreachable!()
         };
@@ -45,13 +43,11 @@ impl Kernel {
         if let Err(refusal) = self
             .files
             .cache
-            .write(self.alloc, &mut self.store, file, at, source)
+            .write(self.alloc, &mut self.store, found.file, found.at, source)
         {
             return Err(refusal);
         }
-        let to = at + len;
-        self.domains
-            .set_fd(by, fd, Descriptor::File { file, at: to, mode });
+        self.domains.set_fd(by, fd, found.moved_by(len));
         Ok(len)
     }
 }

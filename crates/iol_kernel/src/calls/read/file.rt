@@ -1,19 +1,15 @@
 //! Reading files by copying: no aggregate is made of what is read.
-ghost use Rattle.std.specs.Prelude.{◌≡◌, ◌+◌, ◌≤◌, ◌++◌, length, true, Some, None, IfOk};
+ghost use Rattle.std.specs.Prelude.{◌≡◌, ◌+◌, ◌≤◌, ◌++◌, length, true, Some, IfOk};
 ghost use Rattle.std.specs.Vec.{vec_len, vec_capacity};
-ghost use Rattle.iol_core.specs.Meaning.{first};
-ghost use Rattle.iol_core.specs.Numbered.{is_numbered};
-ghost use Rattle.iol_core.specs.State.{is_live, descriptor};
-ghost use Rattle.iol_core.specs.Text.{bytes_of};
+ghost use Rattle.iol_core.specs.Prelude.{is_numbered, is_live, descriptor, bytes_of};
 ghost use Rattle.iol_core.specs.Calls.Reading as calls;
-ghost use Rattle.iol_hold.specs.Places.{byte_len};
-ghost use Rattle.iol_hold.specs.Texts.{AllReadable, text_of};
-ghost use Rattle.iol_kernel.specs.FileReading.{IsReadable, file_read, read_at};
+ghost use Rattle.iol_hold.specs.Prelude.{byte_len, AllReadable, text_of};
+ghost use Rattle.iol_kernel.specs.FileReading.{IsReadable, file_read};
 ghost use Rattle.iol_kernel.specs.KernelState.{IsSound};
 ghost use Rattle.iol_kernel.specs.Readings.{Reading};
 
 use crate::kernel::Kernel;
-use crate::open_file::{OpenFile, may_be_read};
+use crate::open_file::OpenFile;
 use iol_agg::Agg;
 use iol_back::backing::Backing;
 use iol_core::descriptors::Descriptor;
@@ -23,9 +19,10 @@ use iol_core::refusals::Refusal;
 use iol_hold::Store;
 
 impl Kernel {
-    ghost use Rattle.iol_kernel.specs.Kernel.{state_of, machine, as_read, CopiesFileAs, CopiesFromFile, IsOpenAt, Serves};
+    ghost use Rattle.iol_kernel.specs.Kernel.{state_of, as_read, CopiesFileAs, Serves};
 
-    /// Copies up to `count` bytes of a file from a descriptor's position on. The position moves past them.
+    /// Copies up to `count` bytes of a file from a descriptor's position on. The position moves past them. The memory of the list
+    /// is taken first, so that a read which finds none leaves the cache as it was.
     pub fn copy_file<B: Backing>(
         &mut self,
         backing: &mut B,
@@ -44,46 +41,21 @@ impl Kernel {
             (B.disk backing.old) self.old result (B.disk backing.new) self.new }
         ensures short { IfOk result (λ bytes. length bytes ≤ count) }
     {
-        if !may_be_read(found.mode) {
-            return Err(Refusal::WrongMode);
-        }
-        if let Some(pool) = self.hidden_file(by, found.file) {
-            return Err(Refusal::Denied { pool });
-        }
-        self.copy_from_file(backing, by, fd, found, count)
-    }
-
-    /// Copies bytes of a file that the caller may read. The memory of the list is taken first, so that a read which finds none
-    /// leaves the cache as it was.
-    fn copy_from_file<B: Backing>(
-        &mut self,
-        backing: &mut B,
-        by: DomainId,
-        fd: Fd,
-        found: OpenFile,
-        count: u32,
-    ) -> Result<Bytes, Refusal>
-        requires held { IsOpenAt self.old (read_at by fd found count) }
-        requires passed { first (calls.read (machine self.old) by fd count).refusals ≡ None }
-        ensures { CopiesFromFile (read_at by fd found count) (B.disk backing.old) self.old result
-            (B.disk backing.new) self.new }
-    {
-        let OpenFile { file, at, mode } = found;
-        let most = self.readable(backing, file, at, count);
+        self.test_read(by, found.file, found.mode, false)?;
+        let most = self.readable(backing, found.file, found.at, count);
         let mut bytes = Vec::with_capacity(self.alloc, most as usize)?;
-        let agg = self
-            .files
-            .cache
-            .read(self.alloc, &mut self.store, backing, file, at, most)?;
+        let agg = self.files.cache.read(
+            self.alloc,
+            &mut self.store,
+            backing,
+            found.file,
+            found.at,
+            most,
+        )?;
         let len = agg.len();
         copy_out(&agg, &self.store, &mut bytes);
         agg.release(&mut self.store);
-        let moved = Descriptor::File {
-            file,
-            at: at + len,
-            mode,
-        };
-        self.domains.set_fd(by, fd, moved);
+        self.domains.set_fd(by, fd, found.moved_by(len));
         Ok(Bytes::from_vec(bytes))
     }
 

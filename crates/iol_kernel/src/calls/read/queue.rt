@@ -1,11 +1,8 @@
 //! Bytes are copied out of pipes and connections: no aggregate is made of them, and no memory is taken.
 ghost use Rattle.std.specs.Prelude.{◌≡◌, ◌++◌, ℕ, length, min, drop, true, None, Some, IfOk, OnOk, IfErr};
-ghost use Rattle.iol_core.specs.Meaning.{Never};
-ghost use Rattle.iol_core.specs.State.{is_live, descriptor};
-ghost use Rattle.iol_core.specs.Text.{bytes_of};
-ghost use Rattle.iol_core.specs.Calls.Files.{open_on};
+ghost use Rattle.iol_core.specs.Prelude.{Never, is_live, descriptor, bytes_of, open_on};
 ghost use Rattle.iol_core.specs.Calls.Reading as calls;
-ghost use Rattle.iol_sock.specs.Refused.{IsPassed, IsRefused};
+ghost use Rattle.iol_sock.specs.Prelude.{IsPassed, IsRefused};
 ghost use Rattle.iol_kernel.specs.FileReading.{held_by};
 ghost use Rattle.iol_kernel.specs.KernelState.{IsSound};
 ghost use Rattle.iol_kernel.specs.Readings.{Reading, KeepsPools};

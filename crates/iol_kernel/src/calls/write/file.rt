@@ -1,10 +1,9 @@
 //! Bytes are written to files by copying: they are placed in the file's pool, and lie there.
 ghost use Rattle.std.specs.Prelude.{◌≡◌, ◌⊎◌, ℕ, length, true, false, Err, IfErr, OnOk};
-ghost use Rattle.iol_core.specs.Meaning.{WantOfRoom};
+ghost use Rattle.iol_core.specs.Prelude.{WantOfRoom};
 ghost use Rattle.iol_core.specs.Calls.Writing as calls;
-ghost use Rattle.iol_back.specs.Disk.{Disk};
-ghost use Rattle.iol_hold.specs.Pages.{KeepsPages};
-ghost use Rattle.iol_hold.specs.Room.{lowest_of};
+ghost use Rattle.iol_back.specs.Prelude.{Disk};
+ghost use Rattle.iol_hold.specs.Prelude.{KeepsPages, lowest_of};
 ghost use Rattle.iol_kernel.specs.Keeping.{KeepsBeside};
 ghost use Rattle.iol_kernel.specs.MakingRoom.{can_fit};
 ghost use Rattle.iol_kernel.specs.Putting.{MayPut};
@@ -75,7 +74,6 @@ impl Kernel {
         ensures leaves { IfErr result (λ x. (state_of self.new ≡ state_of self.old) ⊎
             GivesUpNew pool bytes.now (state_of self.old) (state_of self.new)) }
     {
-        let OpenFile { file, at, mode } = found;
         let Ok(agg) = Agg::fill(self.alloc, &mut self.store, pool, bytes) else {
             return Err(Refusal::Memory);
         };
@@ -83,15 +81,13 @@ impl Kernel {
         if let Err(_refused) = self
             .files
             .cache
-            .write(self.alloc, &mut self.store, file, at, &agg)
+            .write(self.alloc, &mut self.store, found.file, found.at, &agg)
         {
             agg.release(&mut self.store);
             return Err(Refusal::Memory);
         }
         agg.release(&mut self.store);
-        let to = at + len;
-        self.domains
-            .set_fd(by, fd, Descriptor::File { file, at: to, mode });
+        self.domains.set_fd(by, fd, found.moved_by(len));
         Ok(len)
     }
 }

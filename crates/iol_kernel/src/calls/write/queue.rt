@@ -1,10 +1,9 @@
 //! Bytes are written to pipes and connections by copying: they lie in new buffers.
 ghost use Rattle.std.specs.Prelude.{◌≡◌, ◌≤◌, true, false, Some, IfOk, IfErr};
-ghost use Rattle.iol_core.specs.Numbered.{is_numbered};
-ghost use Rattle.iol_core.specs.State.{is_live, descriptor};
+ghost use Rattle.iol_core.specs.Prelude.{is_numbered, is_live, descriptor};
 ghost use Rattle.iol_core.specs.Calls.Writing as calls;
 ghost use Rattle.iol_kernel.specs.KernelState.{IsSound};
-ghost use Rattle.iol_kernel.specs.Putting.{FailsTests, FillsQueue, MayPut, PassesTests, PlacesInQueue};
+ghost use Rattle.iol_kernel.specs.Putting.{FailsTests, MayPut, PassesTests, PlacesInQueue};
 ghost use Rattle.iol_kernel.specs.Readings.{Reading};
 
 use crate::kernel::Kernel;
@@ -114,22 +113,6 @@ impl Kernel {
         if !self.make_room_for(pool, count) {
             return Err(Refusal::NoRoom { pool });
         }
-        self.fill(by, fd, to, pool, bytes)
-    }
-
-    /// Adds new bytes to a pipe or a connection, as many as fit, where the pool has room.
-    fn fill(
-        &mut self,
-        by: DomainId,
-        fd: Fd,
-        to: Descriptor,
-        pool: PoolId,
-        bytes: &[u8],
-    ) -> Result<u32, Refusal>
-        requires may { MayPut by fd to pool bytes.now (state_of self.old) }
-        requires no_file { calls.is_file (Some to) ≡ false }
-        ensures { FillsQueue by fd pool bytes.now (state_of self.old) result (state_of self.new) }
-    {
         match to {
             Descriptor::WriteEnd { pipe } => {
                 self.pipes

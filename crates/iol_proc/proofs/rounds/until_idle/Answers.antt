@@ -1,8 +1,10 @@
-use Rattle.std.proofs.Common.{◌≡◌, ◌∙◌, ◌++◌, ◌∷◌, [], length, arith, ap, sym, length-append, rules}
-use Rattle.iol_proc.specs.Idle.{Went, is_idle}
+use Rattle.std.proofs.Common.{◌≡◌, ◌∙◌, ◌<◌, ◌≤◌, ◌++◌, ◌∷◌, [], Bool, false, ℕ, List, length, take, arith, ap, sym, length-append, rules}
+use Rattle.iol_system.specs.Machine.{SystemState}
+use Rattle.iol_proc.specs.Idle.{Idles, RoundRun, Went, is_idle, yields_of}
+use Rattle.iol_proc.specs.Turns.{Account}
 use Rattle.iol_proc.proofs.Runs.{same_length}
 use Rattle.iol_proc.proofs.InRounds.{round_next, counted_next, first_next, rounds_run}
-use Rattle.iol_proc.specs.World.{sharing}
+use Rattle.iol_proc.specs.World.{Stage, sharing}
 use Rattle.iol_proc.proofs.rounds.until_idle.Goals as goal
 
 -- one more turn
@@ -23,29 +25,22 @@ loop-i-preserved g c =
       );
     }
 
--- the turns that were taken
+-- the turns that were taken, where no moment before the last was idle
+module _ {P : Type 0} (turns : Account P) (w after : Stage SystemState P) (most i : ℕ) (idle : Bool) (yields : List ℕ) where
+  idles : (went : List Went) × RoundRun sharing turns w 0 went after × (length went ≡ i) × (yields ≡ yields_of (length w.seats) went) × ((j : ℕ) → j < length went → is_idle (yields_of (length w.seats) (take j went)) ≡ false) → i ≤ most → idle ≡ is_idle yields → (idle ≡ false → most ≤ i)
+      → Idles sharing turns w most idle after
+  idles old within told all = record {
+    went = old.0;
+    ran = old.1;
+    run = rounds_run sharing turns _ 0 old.0 _ old.1;
+    within = omega (arith, old.2);
+    told = told ∙ ap is_idle old.3;
+    first = old.4;
+    all_taken = λ e. omega (arith, old.2, all e);
+  }
+
 pub returns-then-all_twice-clause-idles : goal.returns-then-all_twice-clause-idles
-returns-then-all_twice-clause-idles g c =
-    let old = c.loop-i.invariant.ran in
-    record {
-      went = old.0;
-      ran = old.1;
-      run = rounds_run sharing g.P.Process.turns _ 0 old.0 _ old.1;
-      within = omega (arith, old.2);
-      told = rw (← old.3, ← c.deref.ensures.value) c.if-all_twice.ensures.all;
-      first = old.4;
-      all_taken = λ e. absurd (cc);
-    }
+returns-then-all_twice-clause-idles g c = idles g.P.Process.turns _ _ _ _ _ _ c.loop-i.invariant.ran (omega arith) (c.if-all_twice.ensures.all ∙ ap is_idle c.deref.ensures.value) (λ e. absurd (cc e))
 
 pub returns-clause-idles : goal.returns-clause-idles
-returns-clause-idles g c =
-    let old = c.loop-i.invariant.ran in
-    record {
-      went = old.0;
-      ran = old.1;
-      run = rounds_run sharing g.P.Process.turns _ 0 old.0 _ old.1;
-      within = omega (arith, old.2);
-      told = rw (← old.3, ← c.deref-2.ensures.value) c.all_twice-2.ensures.all;
-      first = old.4;
-      all_taken = λ e. omega (arith, old.2);
-    }
+returns-clause-idles g c = idles g.P.Process.turns _ _ _ _ _ _ c.loop-i.invariant.ran (omega arith) (c.all_twice-2.ensures.all ∙ ap is_idle c.deref-2.ensures.value) (λ e. omega arith)

@@ -1,18 +1,14 @@
 use Rattle.std.proofs.Common.{◌≡◌, ◌≢◌, ℕ, None, length}
 use Rattle.iol_cache.specs.Cached.{order_in}
-use Rattle.iol_cache.specs.Cache.{cached_of, holding}
-use Rattle.iol_cache.specs.Evicting.{ArePassed, EvictsAll, GivesUp}
-use Rattle.iol_cache.specs.Sound.{IsSound}
+use Rattle.iol_cache.specs.Cache.{holding}
+use Rattle.iol_cache.proofs.Evictions.OneByOne.{EvictsOn}
 use Rattle.iol_cache.proofs.cache.Cache.drop_clean_of.Given as goal
 
 abbrev pub invariant-loop-place : goal.invariant-loop-place
 invariant-loop-place l = record {
-  sound : IsSound l.store (cached_of l.self);
-  below : ArePassed l.passed l.pool (holding l.store l.self);
+  on : EvictsOn l.pool None (holding l.fn.store l.fn.self) (holding l.store l.self) l.passed;
   others : (q : ℕ) → q ≢ l.pool → order_in l.self.orders.items q ≡ order_in l.fn.self.orders.items q;
   len : length l.self.orders.items ≡ length l.fn.self.orders.items;
-  victims : EvictsAll l.pool None (holding l.fn.store l.fn.self) (holding l.store l.self);
-  gives_up : GivesUp (holding l.fn.store l.fn.self) (holding l.store l.self);
 }
 
 abbrev pub decreases-loop-place : goal.decreases-loop-place

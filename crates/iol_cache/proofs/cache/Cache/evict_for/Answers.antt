@@ -4,46 +4,28 @@ use Rattle.iol_hold.specs.Room.{free_of}
 use Rattle.iol_hold.proofs.Rooms.{open_numbered}
 use Rattle.iol_cache.specs.Cached.{clean_held}
 use Rattle.iol_cache.specs.Cache.{cached_of, holding}
-use Rattle.iol_cache.specs.Evicting.{in_use}
 use Rattle.iol_cache.proofs.Evictions.Rooming.{room_at_most, no_room_left, same_pages}
 use Rattle.iol_cache.proofs.Evictions.NoneLeft.{none_beside}
-use Rattle.iol_cache.proofs.Evictions.GivenUp.{gives_up_none, gives_up_more}
-use Rattle.iol_cache.proofs.Evictions.Passed.{passed_pool, passed_least}
-use Rattle.iol_cache.proofs.Evictions.Choosing.{victim_clean, evicts_fewer, none_evicted, one_more}
+use Rattle.iol_cache.proofs.Evictions.OneByOne.{next_clean, next_fewer, on_more, on_none}
 use Rattle.iol_cache.proofs.cache.Cache.evict_for.Goals as goal
 
 pub free_count-requires : goal.free_count-requires
 free_count-requires c = open_numbered c.loop-pool.store.pools c.args.pool (ap (λ (x : Pool). x.closed) (c.loop-pool.invariant.gives_up.frees.pools c.args.pool c.requires.open) ∙ c.requires.open)
 
 pub loop-pool-init : goal.loop-pool-init
-loop-pool-init c = record {
-  sound = c.requires.sound;
-  below = passed_least c.args.pool c.least-passed.result (holding c.args.store.now c.args.self.now) c.least-passed.ensures;
-  victims = none_evicted c.args.pool (Some c.args.pages) (holding c.args.store.now c.args.self.now);
-  gives_up = gives_up_none (holding c.args.store.now c.args.self.now);
-}
+loop-pool-init c = on_none c.args.pool (Some c.args.pages) (holding c.args.store.now c.args.self.now) c.least-passed.result c.requires.sound c.least-passed.ensures
 
 pub evict-requires-clause-clean : goal.evict-requires-clause-clean
-evict-requires-clause-clean c = (victim_clean (in_use c.loop-pool.store c.loop-pool.self.files.items) c.loop-pool.store (cached_of c.loop-pool.self) c.args.pool c.in-Some.place c.loop-pool.invariant.sound c.in-Some.ensures.first).1
+evict-requires-clause-clean c = (next_clean c.loop-pool.invariant c.in-Some.place c.in-Some.ensures.first).1
 
 pub loop-pool-smaller : goal.loop-pool-smaller
-loop-pool-smaller c =
-    let first = victim_clean (in_use c.loop-pool.store c.loop-pool.self.files.items) c.loop-pool.store (cached_of c.loop-pool.self) c.args.pool c.in-Some.place c.loop-pool.invariant.sound c.in-Some.ensures.first in
-    evicts_fewer (holding c.loop-pool.store c.loop-pool.self) (holding c.evict.new.store c.evict.new.self) c.in-Some.place.0 c.in-Some.place.1 c.args.pool c.loop-pool.invariant.sound c.evict.ensures.evicts first.0
+loop-pool-smaller c = next_fewer c.loop-pool.invariant c.in-Some.place c.in-Some.ensures.first (holding c.evict.new.store c.evict.new.self) c.evict.ensures.evicts
 
 pub loop-pool-preserved : goal.loop-pool-preserved
 loop-pool-preserved c =
-    let now = holding c.loop-pool.store c.loop-pool.self in
-    let next = holding c.evict.new.store c.evict.new.self in
-    let old = holding c.args.store.now c.args.self.now in
     let few : length (free_of c.loop-pool.store c.args.pool) < c.args.pages = omega (arith, c.free_count.ensures, c.loop-pool-test.true) in
-    let first = victim_clean (in_use c.loop-pool.store c.loop-pool.self.files.items) c.loop-pool.store (cached_of c.loop-pool.self) c.args.pool c.in-Some.place c.loop-pool.invariant.sound c.in-Some.ensures.first in
-    record {
-      sound = c.evict.ensures.sound;
-      below = passed_pool _ c.args.pool c.victim.new.passed c.evict.new.passed now next first.0 c.evict.ensures.below c.victim.ensures.below;
-      victims = one_more c.args.pool (Some c.args.pages) c.in-Some.place old now next c.loop-pool.invariant.victims c.loop-pool.invariant.sound few c.in-Some.ensures.first c.evict.ensures.evicts;
-      gives_up = gives_up_more old now next c.in-Some.place.0 c.in-Some.place.1 c.loop-pool.invariant.gives_up c.loop-pool.invariant.sound c.evict.ensures.evicts;
-    }
+    let e = c.evict.ensures in
+    on_more c.loop-pool.invariant c.in-Some.place c.in-Some.ensures.first (holding c.evict.new.store c.evict.new.self) c.victim.new.passed c.evict.new.passed e.evicts e.sound few e.below c.victim.ensures.below
 
 pub returns-clause-makes : goal.returns-clause-makes
 returns-clause-makes c =

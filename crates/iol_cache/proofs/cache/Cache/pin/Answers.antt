@@ -1,76 +1,148 @@
-use Rattle.std.proofs.Common.{◌∙◌, List, length, sym, ap, arith, subst}
+use Rattle.std.proofs.Common.{◌≡◌, ◌∙◌, ◌-◌, List, true, length, set, refl, sym, ap, arith, subst}
+use Rattle.iol_core.specs.Numbered.{is_numbered}
 use Rattle.iol_hold.proofs.Moving.{shares_move}
-use Rattle.iol_extent.specs.Extents.{Extent}
+use Rattle.iol_evict.specs.Ranking.{Ranking}
+use Rattle.iol_extent.specs.Extents.{Extent, IsApart}
 use Rattle.iol_extent.specs.Spans.{Tile}
-use Rattle.iol_extent.specs.declared.spans.Span.{Span}
-use Rattle.iol_cache.specs.declared.cache.Cache.{Cache}
 use Rattle.iol_cache.specs.declared.files.CachedFile.{CachedFile}
-use Rattle.iol_cache.specs.Cached.{file_in, extents_in, order_in}
+use Rattle.iol_cache.specs.Cached.{Cached, extents_in, file_in, order_in, with_order}
 use Rattle.iol_cache.specs.Cache.{cached_of}
 use Rattle.iol_cache.specs.Going.{CountsHits}
+use Rattle.iol_cache.specs.Reading.{RanksFile, hits_counted}
+use Rattle.iol_cache.specs.Sharing.{AreHeld}
 use Rattle.iol_cache.specs.Sound.{IsSound}
 use Rattle.iol_cache.specs.Weaving.{IsCoveredBeside, places_beside}
-use Rattle.iol_cache.proofs.Extents.Finding.{file_here}
-use Rattle.iol_cache.proofs.Evictions.Roomy.{sound_same, sound_hits}
+use Rattle.iol_cache.proofs.Extents.Finding.{file_here, order_here, order_put, pool_bounds}
 use Rattle.iol_cache.proofs.Extents.Stepping.{sound_on, sound_to}
 use Rattle.iol_cache.proofs.Extents.Steps.{hits_entries_left, numbered_same}
+use Rattle.iol_cache.proofs.Evictions.Roomy.{ranks_file, sound_hits, sound_same}
+use Rattle.iol_cache.proofs.RangeReads.Ranged.{file_held}
 use Rattle.iol_cache.proofs.RangeReads.Tiled.{tile_beside}
 use Rattle.iol_cache.proofs.RangeReads.Woven.{still_covers}
+use Rattle.iol_cache.proofs.cache.Cache.pin.Goals.{After-count_hits, After-index-cached}
 use Rattle.iol_cache.proofs.cache.Cache.pin.Goals as goal
 
-pub share_hits-requires-clause-covered : goal.share_hits-requires-clause-covered
-share_hits-requires-clause-covered c =
-    let fs = c.args.self.now.files.items in
-    let x = file_here _ c.number.ensures c.index.ensures c.requires.file in
-    let tile = subst (λ (y : CachedFile). Tile y.extents.extents c.args.part.now.from c.args.part.now.to c.in_ok-found.found.hits.items c.in_ok-found.found.gaps.items) x c.in_ok-found.ensures in
-    let beside = tile_beside (extents_in fs c.args.part.now.file) c.args.part.now.from c.args.part.now.to c.in_ok-found.found.hits.items c.in_ok-found.found.gaps.items tile in
-    let here = subst (λ (es : List Extent). IsCoveredBeside es c.args.part.now.from c.args.part.now.to c.in_ok-found.found.gaps.items) (sym (c.reserve_places.ensures.same.extents c.args.part.now.file)) beside in
-    subst (λ (gs : List Span). IsCoveredBeside (extents_in c.reserve_places.new.self.files.items c.args.part.now.file) c.args.part.now.from c.args.part.now.to gs) (sym c.deref-2.ensures.value) here
+-- room was reserved, and the file is indexed
+module _ (c : After-index-cached) where
+  abbrev now : Cached
+  now = cached_of c.reserve_places.new.self
+
+  sound : IsSound c.args.store.now now
+  sound = sound_same c.args.store.now (cached_of c.args.self.now) now c.requires.sound c.reserve_places.ensures.same
+
+  there : is_numbered now.files c.args.part.now.file ≡ true
+  there = numbered_same (cached_of c.args.self.now) now c.args.part.now.file c.reserve_places.ensures.same c.requires.file
+
+  tile : Tile (extents_in c.args.self.now.files.items c.args.part.now.file) c.args.part.now.from c.args.part.now.to c.in_ok-found.found.hits.items c.in_ok-found.found.gaps.items
+  tile =
+      let x = file_here _ c.number.ensures c.index.ensures c.requires.file in
+      subst (λ (y : CachedFile). Tile y.extents.extents c.args.part.now.from c.args.part.now.to c.in_ok-found.found.hits.items c.in_ok-found.found.gaps.items) x c.in_ok-found.ensures
+
+  here : c.index-cached.result.now ≡ file_in now.files c.args.part.now.file
+  here = file_here _ c.number.ensures c.index-cached.ensures there
 
 pub returns-in_err-reserve_places-clause-sound : goal.returns-in_err-reserve_places-clause-sound
 returns-in_err-reserve_places-clause-sound c = sound_same c.args.store.now (cached_of c.args.self.now) (cached_of c.reserve_places.new.self) c.requires.sound c.reserve_places.ensures.same
 
-pub share_hits-requires-clause-sound : goal.share_hits-requires-clause-sound
-share_hits-requires-clause-sound c = sound_same c.args.store.now (cached_of c.args.self.now) (cached_of c.reserve_places.new.self) c.requires.sound c.reserve_places.ensures.same
+pub share_beside-requires-clause-there : goal.share_beside-requires-clause-there
+share_beside-requires-clause-there c =
+    let at = (goal.at.share_beside-requires-clause-there c).After-index-cached in
+    subst (λ (y : CachedFile). AreHeld c.args.store.now y.extents.extents) (sym (here at)) (file_held c.args.part.now.file (sound at))
+
+pub share_beside-requires-clause-covered : goal.share_beside-requires-clause-covered
+share_beside-requires-clause-covered c =
+    let at = (goal.at.share_beside-requires-clause-covered c).After-index-cached in
+    let from = c.args.part.now.from in
+    let to = c.args.part.now.to in
+    let gaps = c.in_ok-found.found.gaps.items in
+    let es = extents_in c.args.self.now.files.items c.args.part.now.file in
+    let same = ap (λ (y : CachedFile). y.extents.extents) (here at) ∙ c.reserve_places.ensures.same.extents c.args.part.now.file in
+    let beside = tile_beside es from to c.in_ok-found.found.hits.items gaps (tile at) in
+    subst (λ (l : List Extent). IsCoveredBeside l from to c.deref.result.now) (sym same) (subst (IsCoveredBeside es from to) (sym c.deref.ensures.value) beside)
 
 pub returns-in_err-pins-clause-sound : goal.returns-in_err-pins-clause-sound
 returns-in_err-pins-clause-sound c =
-    let s = c.args.store.now in
-    let t = c.share_hits.new.store in
-    let now = cached_of c.reserve_places.new.self in
-    let sound = sound_same s (cached_of c.args.self.now) now c.requires.sound c.reserve_places.ensures.same in
-    subst (λ (x : Cache). IsSound t (cached_of x)) (sym c.in_err-pins.ensures.err) (sound_to s t now sound c.in_err-pins.ensures.shared.gone c.share_hits.ensures.shared.lists c.share_hits.ensures.shared.frees.count)
+    let at = (goal.at.returns-in_err-pins-clause-sound c).After-index-cached in
+    sound_to c.args.store.now c.share_beside.new.store (now at) (sound at) c.in_err-pins.ensures.shared.gone c.share_beside.ensures.shared.lists c.share_beside.ensures.shared.frees.count
+
+pub overflow_sub-number : goal.overflow_sub-number
+overflow_sub-number c =
+    let at = (goal.at.overflow_sub-number c).After-index-cached in
+    let b = pool_bounds c.args.part.now.file (sound at) (there at) in
+    omega (arith, b.0, c.number-2.ensures, ap (λ (y : CachedFile). y.pool) (here at))
+
+pub index_mut-requires : goal.index_mut-requires
+index_mut-requires c =
+    let at = (goal.at.index_mut-requires c).After-index-cached in
+    let b = pool_bounds c.args.part.now.file (sound at) (there at) in
+    omega (arith, b.0, b.1, c.number-2.ensures, ap (λ (y : CachedFile). y.pool) (here at), c.reserve_places.new.self.orders.ok.0)
+
+pub count_hits-requires-clause-apart : goal.count_hits-requires-clause-apart
+count_hits-requires-clause-apart c =
+    let at = (goal.at.count_hits-requires-clause-apart c).After-index-cached in
+    subst (λ (y : CachedFile). IsApart 0 y.extents.extents) (sym (here at)) ((sound at).files c.args.part.now.file).apart
+
+pub count_hits-requires-clause-ranked : goal.count_hits-requires-clause-ranked
+count_hits-requires-clause-ranked c =
+    let at = (goal.at.count_hits-requires-clause-ranked c).After-index-cached in
+    let f = c.args.part.now.file in
+    let n = now at in
+    let x = here at in
+    let sound-n = sound at in
+    let o = order_here f sound-n (there at) x c.number-2.ensures c.index_mut.ensures.value in
+    subst (λ (r : Ranking). RanksFile r f c.index-cached.result.now.extents.extents) (sym o) (subst (λ (y : CachedFile). RanksFile (order_in n.orders (file_in n.files f).pool) f y.extents.extents) (sym x) (ranks_file c.args.store.now n f sound-n))
+
+-- the hits were counted
+module _ (c : After-count_hits) where
+  abbrev indexed : After-index-cached
+  indexed = (goal.at.After-count_hits c).After-index-cached
+
+  abbrev next : Cached
+  next = let n = now indexed in record { files = n.files; orders = set n.orders (c.number-2.result - 1) c.count_hits.new.order; marks = n.marks }
+
+  counted : CountsHits c.args.part.now.file c.in_ok-found.found.hits.items (now indexed) next
+  counted =
+      let f = c.args.part.now.file in
+      let n = now indexed in
+      let sound-n = sound indexed in
+      let there-n = there indexed in
+      let x = here indexed in
+      let p = (file_in n.files f).pool in
+      let o = order_here f sound-n there-n x c.number-2.ensures c.index_mut.ensures.value in
+      let is = c.count_hits.ensures ∙ ap (λ (r : Ranking). hits_counted r f c.index-cached.result.now.extents.extents c.deref-2.result.now) o
+      ∙ ap (λ (y : CachedFile). hits_counted (order_in n.orders p) f y.extents.extents c.deref-2.result.now) x
+      ∙ ap (hits_counted (order_in n.orders p) f (extents_in n.files f)) c.deref-2.ensures.value in
+      record { files = refl; marks = refl; orders = order_put f sound-n there-n c.count_hits.new.order x c.number-2.ensures ∙ ap (with_order n.orders p) is }
 
 pub returns-clause-pinned : goal.returns-clause-pinned
 returns-clause-pinned c =
-    let s = c.args.store.now in
-    let now = cached_of c.reserve_places.new.self in
-    let next = cached_of c.share_hits.new.self in
+    let at = goal.at.returns-clause-pinned c in
+    let f = c.args.part.now.file in
     let found = c.in_ok-found.found in
-    let x = file_here _ c.number.ensures c.index.ensures c.requires.file in
+    let n = now at.After-index-cached in
     let same = c.reserve_places.ensures.same in
-    let sound = sound_same s (cached_of c.args.self.now) now c.requires.sound same in
-    let counted = subst (λ (hs : List Span). CountsHits c.args.part.now.file hs now next) c.deref.ensures.value c.in_ok-pins.ensures.counted in
+    let hits = counted at.After-count_hits in
+    let lies = c.in_ok-pins.ensures.places ∙ ap (places_beside c.index-cached.result.now.extents.extents c.args.part.now.from c.args.part.now.to) c.deref.ensures.value
+    ∙ ap (λ (es : List Extent). places_beside es c.args.part.now.from c.args.part.now.to found.gaps.items) (ap (λ (y : CachedFile). y.extents.extents) (here at.After-index-cached) ∙ same.extents f) in
     record {
       hits = found.hits.items;
-      tile = subst (λ (y : CachedFile). Tile y.extents.extents c.args.part.now.from c.args.part.now.to found.hits.items found.gaps.items) x c.in_ok-found.ensures;
-      lies = c.in_ok-pins.ensures.places ∙ ap (places_beside (extents_in now.files c.args.part.now.file) c.args.part.now.from c.args.part.now.to) c.deref-2.ensures.value ∙ ap (λ (es : List Extent). places_beside es c.args.part.now.from c.args.part.now.to found.gaps.items) (same.extents c.args.part.now.file);
+      tile = tile at.After-index-cached;
+      lies = lies;
       shares = c.in_ok-pins.ensures.shared.shares;
-      reserved = now;
+      reserved = n;
       rooms = same;
-      counted = counted;
-      space = omega (arith, c.len.ensures, c.in_ok-reserve_places.ensures.extents, ap (λ gs. (file_in gs c.args.part.now.file).extents.room) counted.files);
-      entries = hits_entries_left s now next c.args.part.now.file (length found.gaps.items) found.hits.items sound (numbered_same (cached_of c.args.self.now) now c.args.part.now.file same c.requires.file) counted (omega (arith, c.len.ensures, c.in_ok-reserve_places.ensures.entries, ap (λ p. (order_in now.orders p).room) (same.pools c.args.part.now.file)));
+      counted = hits;
+      space = omega (arith, c.len.ensures, c.in_ok-reserve_places.ensures.extents);
+      entries = hits_entries_left c.args.store.now n (next at.After-count_hits) f (length found.gaps.items) found.hits.items (sound at.After-index-cached) (there at.After-index-cached) hits (omega (arith, c.len.ensures, c.in_ok-reserve_places.ensures.entries, ap (λ p. (order_in n.orders p).room) (same.pools f)));
     }
 
 pub returns-clause-sound : goal.returns-clause-sound
 returns-clause-sound c =
+    let at = goal.at.returns-clause-sound c in
+    let n = now at.After-index-cached in
     let s = c.args.store.now in
-    let t = c.share_hits.new.store in
-    let now = cached_of c.reserve_places.new.self in
-    let next = cached_of c.share_hits.new.self in
-    let same = c.reserve_places.ensures.same in
-    let sound = sound_same s (cached_of c.args.self.now) now c.requires.sound same in
+    let t = c.share_beside.new.store in
     let shares = c.in_ok-pins.ensures.shared.shares in
-    let sound-t = sound_on s t now sound (shares_move shares) (still_covers sound.covered shares) c.share_hits.ensures.shared.lists c.share_hits.ensures.shared.frees.count in
-    sound_hits t now next c.args.part.now.file c.deref.result.now sound-t (numbered_same (cached_of c.args.self.now) now c.args.part.now.file same c.requires.file) c.in_ok-pins.ensures.counted
+    let sound-n = sound at.After-index-cached in
+    let sound-t = sound_on s t n sound-n (shares_move shares) (still_covers sound-n.covered shares) c.share_beside.ensures.shared.lists c.share_beside.ensures.shared.frees.count in
+    sound_hits t n (next at.After-count_hits) c.args.part.now.file c.in_ok-found.found.hits.items sound-t (there at.After-index-cached) (counted at.After-count_hits)

@@ -1,82 +1,186 @@
-use Rattle.std.proofs.Common.{◌≡◌, ℕ, ◌+◌, ◌-◌, ◌≤◌, min, List, [], Result, IfOk, arith}
-use Rattle.std.proofs.lemmas.Result.{IfErr-weaker, IfOk-weaker}
-use Rattle.iol_core.specs.Text as text
+use Rattle.std.proofs.Common.{◌≡◌, ◌==◌, Bool, true, List, [], ◌∷◌, length, Ok, inl, refl, sym, arith, subst}
+use Rattle.std.proofs.lemmas.Bool.Decides.{nat_tests}
+use Rattle.std.proofs.lemmas.Result.{IfOk-from_err}
 use Rattle.iol_back.specs.Disk.{Disk}
-use Rattle.iol_hold.specs.Places.{byte_len}
-use Rattle.iol_hold.specs.Texts.{AllReadable, bufs_of, text_of}
-use Rattle.iol_hold.specs.declared.slices.Slice.{Slice}
-use Rattle.iol_cache.specs.Cached.{Cached, file_in}
-use Rattle.iol_cache.specs.Cache.{cached_of, holding}
+use Rattle.iol_extent.specs.declared.spans.Span.{Span}
+use Rattle.iol_hold.specs.Texts.{bufs_of}
+use Rattle.iol_cache.specs.Cached.{file_in}
+use Rattle.iol_cache.specs.Cache.{holding}
 use Rattle.iol_cache.specs.Evicting.{Holding}
-use Rattle.iol_cache.specs.Gaps.{AreOf}
-use Rattle.iol_cache.specs.Going.{Goes, HasRoom, LacksRoom}
-use Rattle.iol_cache.specs.Serving.{IsEnd, LeavesRange, NoRoomToRead, Range, ReadsFile, ReadsRange, RefusesRead, RoomToRead, bytes_read}
-use Rattle.iol_cache.proofs.RangeReads.Paging.{read_pages, refused_pages}
-use Rattle.iol_cache.proofs.RangeReads.Served.{either_told, ok_both, tells_more}
-use Rattle.iol_cache.proofs.RangeReads.Texts.{long_read, pooled_read, text_read}
+use Rattle.iol_cache.specs.Going.{Goes}
+use Rattle.iol_cache.specs.Ranges.{PinsRange}
+use Rattle.iol_cache.specs.Serving.{Range, RefusesRead}
+use Rattle.iol_cache.proofs.RangeReads.Hits.{HitsShared, can_fill, covers_hit, few_hit, fits_hit, goes_filled, goes_hit, gone_filled, late_filled, len_hit, readable_hit, reads_filled, reads_hit, refused_filled, room_hit}
+use Rattle.iol_cache.proofs.RangeReads.Paging.{fills_none}
+use Rattle.iol_cache.proofs.RangeReads.Served.{always_err, goes_reserved, on_memory, tells_fault}
+use Rattle.iol_cache.proofs.RangeReads.Whole.{file_backed, file_pages, file_pool, file_short, file_text, range_of}
 use Rattle.iol_cache.proofs.cache.Cache.read.Given.{Over}
-use Rattle.iol_cache.proofs.cache.Cache.read.Goals.{After-read_range}
+use Rattle.iol_cache.proofs.cache.Cache.read.Goals.{After-pin, In_ok-pins}
 use Rattle.iol_cache.proofs.cache.Cache.read.Goals as goal
 
--- the range that the code computes
-abbrev range_of : (disk : Disk) (c : Cached) (f at n end from count : ℕ) → IsEnd disk c f end → from ≡ min at end → count ≡ min n (end - from) → Range disk c f at n
-range_of disk c f at n end from count ends begins counts = record { end = end; ends = ends; from = from; begins = begins; to = from + count; stops = omega (arith, begins, counts) }
+-- the range, and what it is read from
+module _ (g : Over) (c : After-pin g) where
+  abbrev disk : Disk
+  disk = g.B.Backing.disk c.args.backing.now
 
--- all that is known of what was read
-abbrev Told : (old new : Holding) (disk : Disk) (f at n : ℕ) → List Slice → Type 0
-Told old new disk f at n xs = (ReadsFile f at n disk old new xs × AllReadable new.store xs) × Goes disk [] (bufs_of xs) old new
+  abbrev old : Holding
+  old = holding c.args.store.now c.args.self.now
 
-told : {A : Type 0} (old new : Holding) (disk : Disk) (f at n : ℕ) (r : Result (List Slice) A) → IfOk r (ReadsFile f at n disk old new) → IfOk r (AllReadable new.store) → IfOk r (λ xs. Goes disk [] (bufs_of xs) old new) → IfOk r (Told old new disk f at n)
-told old new disk f at n r reads readable goes =
-    ok_both (λ xs. ReadsFile f at n disk old new xs × AllReadable new.store xs) (λ xs. Goes disk [] (bufs_of xs) old new) r (ok_both (ReadsFile f at n disk old new) (AllReadable new.store) r reads readable) goes
+  abbrev hit : Holding
+  hit = holding c.pin.new.store c.pin.new.self
 
-reads : (g : Over) (c : After-read_range g) → IfOk c.read_range.result (ReadsFile c.args.file c.args.at c.args.count (g.B.Backing.disk c.args.backing.now) (holding c.args.store.now c.args.self.now) (holding c.read_range.new.store c.read_range.new.self))
-reads g c =
-    let d = g.B.Backing.disk c.args.backing.now in
-    let old = holding c.args.store.now c.args.self.now in
-    let new = holding c.read_range.new.store c.read_range.new.self in
-    let range = range_of d old.cache c.args.file c.args.at c.args.count c.file_end-end.result c.min-from.result c.min.result c.file_end-end.ensures c.min-from.ensures c.min.ensures in
-    IfOk-weaker c.read_range.result (ReadsRange c.args.file range.from range.to d old new) (ReadsFile c.args.file c.args.at c.args.count d old new) (λ xs h. record { range = range; reads = h }) c.read_range.ensures.reads
+  abbrev range : Range disk old.cache c.args.file c.args.at c.args.count
+  range = range_of disk old.cache c.args.file c.args.at c.args.count c.file_end-end.result c.min-from.result c.min.result c.file_end-end.ensures c.min-from.ensures c.min.ensures
 
-all : (g : Over) (c : After-read_range g) → IfOk c.read_range.result (Told (holding c.args.store.now c.args.self.now) (holding c.read_range.new.store c.read_range.new.self) (g.B.Backing.disk c.args.backing.now) c.args.file c.args.at c.args.count)
-all g c = told _ _ _ c.args.file c.args.at c.args.count c.read_range.result (reads g c) c.read_range.ensures.readable c.read_range.ensures.goes
+-- Refused for want of memory, before anything was shared.
+
+pub returns-in_err-pins-clause-refused : goal.returns-in_err-pins-clause-refused
+returns-in_err-pins-clause-refused g c =
+    let at = (goal.at.returns-in_err-pins-clause-refused g c).After-pin in
+    let e = c.in_err-pins.ensures in
+    on_memory c.from_residual.result (RefusesRead c.args.file c.args.at c.args.count (disk g at) (old g at) (hit g at)) c.from_residual.ensures.1
+    (record { range = range g at; leaves = inl (refl, record { same = e.same; moves = e.none; frees = e.frees }) })
+
+pub returns-in_err-pins-clause-gone : goal.returns-in_err-pins-clause-gone
+returns-in_err-pins-clause-gone g c =
+    let at = (goal.at.returns-in_err-pins-clause-gone g c).After-pin in
+    let e = c.in_err-pins.ensures in
+    always_err c.from_residual.result (goes_reserved (disk g at) (old g at) (hit g at) c.requires.sound e.same e.none e.lists e.settles e.frees.count)
+
+pub returns-in_err-pins-clause-backed : goal.returns-in_err-pins-clause-backed
+returns-in_err-pins-clause-backed g c =
+    let at = (goal.at.returns-in_err-pins-clause-backed g c).After-pin in
+    let none = IfOk-from_err c.from_residual.result (λ xs. Goes (disk g at) [] (bufs_of xs) (old g at) (hit g at)) c.from_residual.ensures.0 in
+    file_backed (disk g at) (disk g at) (old g at) (hit g at) c.from_residual.result none (returns-in_err-pins-clause-gone g c) refl (λ h. refl)
+
+pub returns-in_err-pins-clause-pages : goal.returns-in_err-pins-clause-pages
+returns-in_err-pins-clause-pages g c = fills_none (file_in c.args.self.now.files.items c.args.file).pool c.pin.ensures.frees
+
+-- What was in memory was shared.
+abbrev shared : (g : Over) (c : In_ok-pins g) (gs : List Span) → gs ≡ c.in_ok-pins.gaps.items → HitsShared c.args.file c.args.at c.args.count (g.B.Backing.disk c.args.backing.now) (holding c.args.store.now c.args.self.now) (holding c.pin.new.store c.pin.new.self) c.in_ok-pins.pins gs
+shared g c gs is =
+    let at = (goal.at.In_ok-pins g c).After-pin in
+    let r = range g at in
+    record { range = r; sound = c.requires.sound; there = c.requires.file; pinned = subst (PinsRange c.args.file r.from r.to (old g at) (hit g at) c.in_ok-pins.pins) (sym is) c.in_ok-pins.ensures.pinned }
+
+-- Without gaps.
+
+none_of : (gs : List Span) (b : Bool) → b ≡ (length gs == 0) → b ≡ true → gs ≡ []
+none_of [] b is empty = refl
+none_of (x ∷ xs) b is empty = absurd (let long : length (x ∷ xs) ≡ 0 = grind (arith, nat_tests, is, empty) in omega (arith, long))
+
+pub returns-then-is_empty-clause-reads : goal.returns-then-is_empty-clause-reads
+returns-then-is_empty-clause-reads g c =
+    let h = shared g (goal.at.returns-then-is_empty-clause-reads g c).In_ok-pins c.as_slice.result.now c.as_slice.ensures.value in
+    reads_hit h (none_of c.as_slice.result.now c.is_empty.result c.is_empty.ensures c.if-is_empty.true)
+
+pub returns-then-is_empty-clause-readable : goal.returns-then-is_empty-clause-readable
+returns-then-is_empty-clause-readable g c = readable_hit (shared g (goal.at.returns-then-is_empty-clause-readable g c).In_ok-pins c.as_slice.result.now c.as_slice.ensures.value)
+
+pub returns-then-is_empty-clause-goes : goal.returns-then-is_empty-clause-goes
+returns-then-is_empty-clause-goes g c = goes_hit (shared g (goal.at.returns-then-is_empty-clause-goes g c).In_ok-pins c.as_slice.result.now c.as_slice.ensures.value)
+
+pub returns-then-is_empty-clause-text : goal.returns-then-is_empty-clause-text
+returns-then-is_empty-clause-text g c =
+    let at = (goal.at.returns-then-is_empty-clause-text g c).After-pin in
+    file_text c.args.file c.args.at c.args.count (disk g at) (old g at) (hit g at) (Ok c.in_ok-pins.pins) (returns-then-is_empty-clause-reads g c) c.requires.sound c.pin.ensures.sound c.requires.file
+    (returns-then-is_empty-clause-goes g c) (returns-then-is_empty-clause-readable g c)
+
+pub returns-then-is_empty-clause-pool : goal.returns-then-is_empty-clause-pool
+returns-then-is_empty-clause-pool g c =
+    let at = (goal.at.returns-then-is_empty-clause-pool g c).After-pin in
+    file_pool c.args.file c.args.at c.args.count (disk g at) (old g at) (hit g at) (Ok c.in_ok-pins.pins) (returns-then-is_empty-clause-reads g c) c.requires.sound c.pin.ensures.sound (returns-then-is_empty-clause-goes g c)
+
+pub returns-then-is_empty-clause-short : goal.returns-then-is_empty-clause-short
+returns-then-is_empty-clause-short g c =
+    let at = (goal.at.returns-then-is_empty-clause-short g c).After-pin in
+    file_short c.args.file c.args.at c.args.count (disk g at) (old g at) (hit g at) (Ok c.in_ok-pins.pins) (returns-then-is_empty-clause-reads g c)
+
+pub returns-then-is_empty-clause-pages : goal.returns-then-is_empty-clause-pages
+returns-then-is_empty-clause-pages g c =
+    let at = (goal.at.returns-then-is_empty-clause-pages g c).After-pin in
+    file_pages c.args.file c.args.at c.args.count (disk g at) (old g at) (hit g at) (Ok c.in_ok-pins.pins) (returns-then-is_empty-clause-reads g c) tt
+
+pub returns-then-is_empty-clause-backed : goal.returns-then-is_empty-clause-backed
+returns-then-is_empty-clause-backed g c =
+    let at = (goal.at.returns-then-is_empty-clause-backed g c).After-pin in
+    file_backed (disk g at) (disk g at) (old g at) (hit g at) (Ok c.in_ok-pins.pins) (returns-then-is_empty-clause-goes g c) tt refl (λ h. refl)
+
+pub returns-then-is_empty-clause-room : goal.returns-then-is_empty-clause-room
+returns-then-is_empty-clause-room g c =
+    let h = shared g (goal.at.returns-then-is_empty-clause-room g c).In_ok-pins c.as_slice.result.now c.as_slice.ensures.value in
+    room_hit h (Ok c.in_ok-pins.pins) (fits_hit h (none_of c.as_slice.result.now c.is_empty.result c.is_empty.ensures c.if-is_empty.true))
+
+-- With gaps.
+
+pub fill_pinned-requires-clause-range : goal.fill_pinned-requires-clause-range
+fill_pinned-requires-clause-range g c = can_fill (shared g (goal.at.fill_pinned-requires-clause-range g c).In_ok-pins c.deref.result.now c.deref.ensures.value)
+
+pub fill_pinned-requires-clause-pins_len : goal.fill_pinned-requires-clause-pins_len
+fill_pinned-requires-clause-pins_len g c = len_hit (shared g (goal.at.fill_pinned-requires-clause-pins_len g c).In_ok-pins c.deref.result.now c.deref.ensures.value)
+
+pub fill_pinned-requires-clause-held : goal.fill_pinned-requires-clause-held
+fill_pinned-requires-clause-held g c = covers_hit (shared g (goal.at.fill_pinned-requires-clause-held g c).In_ok-pins c.deref.result.now c.deref.ensures.value)
+
+pub fill_pinned-requires-clause-readable : goal.fill_pinned-requires-clause-readable
+fill_pinned-requires-clause-readable g c = readable_hit (shared g (goal.at.fill_pinned-requires-clause-readable g c).In_ok-pins c.deref.result.now c.deref.ensures.value)
+
+pub fill_pinned-requires-clause-few : goal.fill_pinned-requires-clause-few
+fill_pinned-requires-clause-few g c = few_hit (shared g (goal.at.fill_pinned-requires-clause-few g c).In_ok-pins c.deref.result.now c.deref.ensures.value) c.requires.few
 
 pub returns-clause-reads : goal.returns-clause-reads
-returns-clause-reads g c = reads g (goal.at.returns-clause-reads g c).After-read_range
-
-pub returns-clause-text : goal.returns-clause-text
-returns-clause-text g c = λ backed.
-    IfOk-weaker c.read_range.result _ (λ xs. text_of c.read_range.new.store xs ≡ text.labelled (file_in c.args.self.now.files.items c.args.file).pool (bytes_read c.args.store.now (g.B.Backing.disk c.args.backing.now).slots (cached_of c.args.self.now) c.args.file c.args.at c.args.count))
-    (λ xs h. text_read c.args.file c.args.at c.args.count _ _ _ xs c.requires.sound c.read_range.ensures.sound c.requires.file h.1 h.0.1 h.0.0 backed) (all g (goal.at.returns-clause-text g c).After-read_range)
-
-pub returns-clause-pool : goal.returns-clause-pool
-returns-clause-pool g c =
-    IfOk-weaker c.read_range.result _ (AreOf (file_in c.args.self.now.files.items c.args.file).pool)
-    (λ xs h. pooled_read c.args.file c.args.at c.args.count _ _ _ xs c.requires.sound c.read_range.ensures.sound h.1 h.0.0) (all g (goal.at.returns-clause-pool g c).After-read_range)
-
-pub returns-clause-short : goal.returns-clause-short
-returns-clause-short g c = IfOk-weaker c.read_range.result _ (λ xs. byte_len xs ≤ c.args.count) (λ xs h. long_read c.args.file c.args.at c.args.count _ _ _ xs h.0.0) (all g (goal.at.returns-clause-short g c).After-read_range)
+returns-clause-reads g c =
+    let h = shared g (goal.at.returns-clause-reads g c).In_ok-pins c.deref.result.now c.deref.ensures.value in
+    reads_filled h (g.B.Backing.disk c.fill_pinned.new.backing) (holding c.fill_pinned.new.store c.fill_pinned.new.self) c.fill_pinned.result c.fill_pinned.ensures.filled c.fill_pinned.ensures.disk
 
 pub returns-clause-refused : goal.returns-clause-refused
 returns-clause-refused g c =
-    let d = g.B.Backing.disk c.args.backing.now in
-    let old = holding c.args.store.now c.args.self.now in
-    let range = range_of d old.cache c.args.file c.args.at c.args.count c.file_end-end.result c.min-from.result c.min.result c.file_end-end.ensures c.min-from.ensures c.min.ensures in
-    IfErr-weaker c.read_range.result (LeavesRange c.args.file range.from range.to old (holding c.read_range.new.store c.read_range.new.self)) (RefusesRead c.args.file c.args.at c.args.count d old (holding c.read_range.new.store c.read_range.new.self)) (λ x h. record { range = range; leaves = h }) c.read_range.ensures.refused
+    let h = shared g (goal.at.returns-clause-refused g c).In_ok-pins c.deref.result.now c.deref.ensures.value in
+    let e = c.fill_pinned.ensures in
+    refused_filled h (g.B.Backing.disk c.fill_pinned.new.backing) (holding c.fill_pinned.new.store c.fill_pinned.new.self) c.fill_pinned.result e.undone e.disk e.room
 
-pub returns-clause-room : goal.returns-clause-room
-returns-clause-room g c =
-    let d = g.B.Backing.disk c.args.backing.now in
-    let old = holding c.args.store.now c.args.self.now in
-    let range = range_of d old.cache c.args.file c.args.at c.args.count c.file_end-end.result c.min-from.result c.min.result c.file_end-end.ensures c.min-from.ensures c.min.ensures in
-    tells_more (HasRoom old.store old.cache c.args.file range.from range.to) (LacksRoom old.store old.cache c.args.file range.from range.to) (RoomToRead c.args.file c.args.at c.args.count d old) (NoRoomToRead c.args.file c.args.at c.args.count d old) c.read_range.result
-    (λ h. record { range = range; room = h }) (λ h. record { range = range; lacks = h }) c.read_range.ensures.room
+pub returns-clause-goes : goal.returns-clause-goes
+returns-clause-goes g c =
+    let h = shared g (goal.at.returns-clause-goes g c).In_ok-pins c.deref.result.now c.deref.ensures.value in
+    goes_filled h (holding c.fill_pinned.new.store c.fill_pinned.new.self) c.fill_pinned.result c.fill_pinned.ensures.goes
+
+pub returns-clause-gone : goal.returns-clause-gone
+returns-clause-gone g c =
+    let h = shared g (goal.at.returns-clause-gone g c).In_ok-pins c.deref.result.now c.deref.ensures.value in
+    gone_filled h (holding c.fill_pinned.new.store c.fill_pinned.new.self) c.fill_pinned.result c.fill_pinned.ensures.gone
+
+pub returns-clause-text : goal.returns-clause-text
+returns-clause-text g c =
+    let at = (goal.at.returns-clause-text g c).After-pin in
+    let e = c.fill_pinned.ensures in
+    file_text c.args.file c.args.at c.args.count (disk g at) (old g at) (holding c.fill_pinned.new.store c.fill_pinned.new.self) c.fill_pinned.result (returns-clause-reads g c) c.requires.sound e.sound c.requires.file (returns-clause-goes g c) e.readable
+
+pub returns-clause-pool : goal.returns-clause-pool
+returns-clause-pool g c =
+    let at = (goal.at.returns-clause-pool g c).After-pin in
+    file_pool c.args.file c.args.at c.args.count (disk g at) (old g at) (holding c.fill_pinned.new.store c.fill_pinned.new.self) c.fill_pinned.result (returns-clause-reads g c) c.requires.sound c.fill_pinned.ensures.sound (returns-clause-goes g c)
+
+pub returns-clause-short : goal.returns-clause-short
+returns-clause-short g c =
+    let at = (goal.at.returns-clause-short g c).After-pin in
+    file_short c.args.file c.args.at c.args.count (disk g at) (old g at) (holding c.fill_pinned.new.store c.fill_pinned.new.self) c.fill_pinned.result (returns-clause-reads g c)
 
 pub returns-clause-pages : goal.returns-clause-pages
 returns-clause-pages g c =
-    let d = g.B.Backing.disk c.args.backing.now in
-    let old = holding c.args.store.now c.args.self.now in
-    let new = holding c.read_range.new.store c.read_range.new.self in
-    let p = (file_in old.cache.files c.args.file).pool in
-    either_told (ReadsFile c.args.file c.args.at c.args.count d old new) (RefusesRead c.args.file c.args.at c.args.count d old new) c.read_range.result (returns-clause-reads g c) (returns-clause-refused g c)
-    (λ xs h. read_pages c.args.file c.args.at c.args.count d old new xs h) (λ y h. refused_pages c.args.file c.args.at c.args.count d old new y h)
+    let at = (goal.at.returns-clause-pages g c).After-pin in
+    file_pages c.args.file c.args.at c.args.count (disk g at) (old g at) (holding c.fill_pinned.new.store c.fill_pinned.new.self) c.fill_pinned.result (returns-clause-reads g c) (returns-clause-refused g c)
+
+pub returns-clause-backed : goal.returns-clause-backed
+returns-clause-backed g c =
+    let at = (goal.at.returns-clause-backed g c).After-pin in
+    let e = c.fill_pinned.ensures.disk in
+    file_backed (disk g at) (g.B.Backing.disk c.fill_pinned.new.backing) (old g at) (holding c.fill_pinned.new.store c.fill_pinned.new.self) c.fill_pinned.result (returns-clause-goes g c) (returns-clause-gone g c) e.honest e.slots
+
+pub returns-clause-room : goal.returns-clause-room
+returns-clause-room g c = room_hit (shared g (goal.at.returns-clause-room g c).In_ok-pins c.deref.result.now c.deref.ensures.value) c.fill_pinned.result c.fill_pinned.ensures.room
+
+pub returns-clause-fault : goal.returns-clause-fault
+returns-clause-fault g c = tells_fault (length c.deref.result.now) (g.B.Backing.disk c.args.backing.now) (g.B.Backing.disk c.fill_pinned.new.backing) c.fill_pinned.result c.fill_pinned.ensures.disk
+
+pub returns-clause-late : goal.returns-clause-late
+returns-clause-late g c = late_filled (shared g (goal.at.returns-clause-late g c).In_ok-pins c.deref.result.now c.deref.ensures.value) c.fill_pinned.result c.fill_pinned.ensures.late

@@ -10,7 +10,8 @@ use Rattle.iol_hold.specs.declared.parts.Reserved.{Reserved}
 use Rattle.iol_arena.proofs.Steps.{some_at}
 use Rattle.iol_arena.proofs.Marks.{pages_hold}
 use Rattle.iol_back.specs.Disk.{content}
-use Rattle.iol_cache.proofs.RangeReads.Loaded.{one_more, read_more, fills_trans, some_parts}
+use Rattle.iol_hold.proofs.Reserving.{fills_trans}
+use Rattle.iol_cache.proofs.RangeReads.Loaded.{one_more, read_more, some_parts}
 use Rattle.iol_cache.proofs.read.load.fill_parts.Given.{Over}
 use Rattle.iol_cache.proofs.read.load.fill_parts.Goals.{After-loop-i}
 use Rattle.iol_cache.proofs.read.load.fill_parts.Goals as goal

@@ -1,11 +1,12 @@
-use Rattle.std.proofs.Common.{◌≡◌, ◌∙◌, ◌+◌, ◌-◌, ◌<◌, ◌≤◌, ◌++◌, ◌∷◌, [], All, ap, sym, subst, get_or, length, take, drop, List, ℕ, arith, append_assoc, length-append, slice_range}
+use Rattle.std.proofs.Common.{◌≡◌, ◌∙◌, ◌+◌, ◌-◌, ◌++◌, [], All, ap, sym, subst, get_or, length, take, drop, List, arith, append_assoc, length-append, slice_range}
 use Rattle.std.proofs.lemmas.List.{drop_more, drop-drop, length-take}
 use Rattle.std.proofs.Math.Seq.{drop-length}
 use Rattle.std.proofs.lemmas.List.Elements.{All-head, All-tail}
 use Rattle.iol_agg.proofs.Poured.{shares_then}
+use Rattle.iol_extent.proofs.Alone.{ends_high}
 use Rattle.iol_extent.specs.Spans.{AreInOrder}
 use Rattle.iol_extent.specs.declared.spans.Span.{Span}
-use Rattle.iol_hold.specs.Places.{Place, byte_len, places}
+use Rattle.iol_hold.specs.Places.{Place, places}
 use Rattle.iol_cache.specs.Cached.{all_parts}
 use Rattle.iol_cache.specs.Sharing.{IsCoveredSpan, places_over}
 use Rattle.iol_cache.specs.Weaving.{len_beside, woven}
@@ -36,12 +37,8 @@ add_part-requires-clause-own c = shared_covers c.loop-gap.invariant.shares
 pub add_part-requires-clause-own_readable : goal.add_part-requires-clause-own_readable
 add_part-requires-clause-own_readable c = readable_on c.loop-gap.shared c.loop-gap.invariant.shares c.loop-gap.invariant.readable
 
-at_few : (low at to : ℕ) (gs : List Span) → AreInOrder at to gs → to < 4294967296 → low ≤ at → low < 4294967296
-at_few low at to [] order small le = omega (arith, order, small, le)
-at_few low at to (g ∷ gs) order small le = at_few low g.to to gs order.2 small (omega (arith, le, order.0, order.1))
-
 pub add_part-requires-clause-few : goal.add_part-requires-clause-few
-add_part-requires-clause-few c = (let t = c.ranges.to.fits in shared_few c.loop-gap.shared c.loop-gap.invariant.shares (at_few (byte_len c.loop-gap.shared) c.loop-gap.at c.args.to _ c.loop-gap.invariant.in_order t c.loop-gap.invariant.few) c.requires.few)
+add_part-requires-clause-few c = (let t = c.ranges.to.fits in shared_few c.loop-gap.shared c.loop-gap.invariant.shares (omega (arith, ends_high c.loop-gap.at c.args.to (drop c.loop-gap.gap-index c.args.gaps.now) c.loop-gap.invariant.in_order, t, c.loop-gap.invariant.few)) c.requires.few)
 
 pub returns-in-Err-clause-shared : goal.returns-in-Err-clause-shared
 returns-in-Err-clause-shared c = refused_then c.loop-gap.invariant.shares c.in-Err.ensures.shared
@@ -122,7 +119,7 @@ pub add_part-requires-2-clause-own_readable : goal.add_part-requires-2-clause-ow
 add_part-requires-2-clause-own_readable c = readable_on c.loop-gap.shared c.loop-gap.invariant.shares c.loop-gap.invariant.readable
 
 pub add_part-requires-2-clause-few : goal.add_part-requires-2-clause-few
-add_part-requires-2-clause-few c = (let t = c.ranges.to.fits in shared_few c.loop-gap.shared c.loop-gap.invariant.shares (at_few (byte_len c.loop-gap.shared) c.loop-gap.at c.args.to _ c.loop-gap.invariant.in_order t c.loop-gap.invariant.few) c.requires.few)
+add_part-requires-2-clause-few c = (let t = c.ranges.to.fits in shared_few c.loop-gap.shared c.loop-gap.invariant.shares (omega (arith, ends_high c.loop-gap.at c.args.to (drop c.loop-gap.gap-index c.args.gaps.now) c.loop-gap.invariant.in_order, t, c.loop-gap.invariant.few)) c.requires.few)
 
 pub returns-in-Err-add_part-clause-shared : goal.returns-in-Err-add_part-clause-shared
 returns-in-Err-add_part-clause-shared c = refused_then c.loop-gap.invariant.shares c.in-Err-add_part.ensures.shared

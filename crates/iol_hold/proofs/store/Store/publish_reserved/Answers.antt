@@ -1,6 +1,5 @@
-use Rattle.std.proofs.Common.{◌≡◌, ◌∙◌, ap, sym, subst, refl, length, get_or, map, take, drop, inl, inr, List, flat_map, arith}
+use Rattle.std.proofs.Common.{◌≡◌, ◌∙◌, ap, sym, subst, refl, length, get_or, take, drop, inl, inr, List, flat_map, arith}
 use Rattle.std.specs.List.{All}
-use Rattle.std.proofs.lemmas.List.Elements.{All-map}
 use Rattle.iol_core.specs.declared.numbers.BufId.{BufId}
 use Rattle.iol_arena.specs.Adds.{IsNew}
 use Rattle.iol_arena.specs.Buffers.{bytes_in}
@@ -13,13 +12,11 @@ use Rattle.iol_arena.proofs.Made.{new_places}
 use Rattle.iol_arena.proofs.Members.{In, in_either, in_contains, contains_in}
 use Rattle.iol_hold.specs.Filling.{IsHeld}
 use Rattle.iol_hold.specs.Stored.{Stored, Buffer, held_bufs}
-use Rattle.iol_hold.specs.Texts.{IsFilled}
 use Rattle.iol_hold.specs.View.{stored}
 use Rattle.iol_hold.specs.Waiting.{Publishes, FreesNone, all_held}
-use Rattle.iol_hold.proofs.Counting.{bufs-held_in}
 use Rattle.iol_pool.proofs.Owning.{owned_stays}
 use Rattle.iol_hold.proofs.Placing.{holds_all, tidy_of}
-use Rattle.iol_hold.proofs.Publishing.{Makes, made_holds, made_publishes, made_usable, length-all_held}
+use Rattle.iol_hold.proofs.Publishing.{Makes, held_filled, held_named, held_pool, made_holds, made_publishes, made_usable, length-all_held}
 use Rattle.std.proofs.lemmas.List.{length-map, take-append-drop, take_all}
 use Rattle.iol_hold.proofs.store.Store.publish_reserved.Goals as goal
 
@@ -50,7 +47,7 @@ makes c =
 
 -- the names of the holds are those of the new buffers
 named : (c : goal.After-new) → held_bufs c.new.result ≡ c.publish_reserved-bufs.result.items
-named c = ap (map (λ (h : Buffer). h.buf)) c.new.ensures ∙ bufs-held_in c.args.reserved.pool c.publish_reserved-bufs.result.items
+named c = held_named c.args.reserved.pool c.publish_reserved-bufs.result.items c.new.result c.new.ensures
 
 pub returns-clause-tidy : goal.returns-clause-tidy
 returns-clause-tidy c =
@@ -85,17 +82,10 @@ returns-clause-filled c =
     let held = subst (λ (x : Stored). IsHeld x c.args.reserved) (sym c.self.view_is) c.requires in
     let e = c.publish_reserved-bufs.ensures in
     let places = new_places (part_pages ps) bufs (λ q out. e.others.each q (λ h. out (in_contains (part_pages ps) q h))) e.adds.made in
-    let one : BufId → Buffer = λ b. record { pool = c.args.reserved.pool; buf = b } in
-    subst (All (IsFilled (after c))) (sym c.new.ensures) (All-map (IsFilled (after c)) one bufs (λ k d h.
-    let b = get_or bufs k d in
-    let new = e.adds.made k d h in
-    record { live = new.live; home = held.inside b.page (contains_in (part_pages ps) b.page (places k d h)); some = new.some }))
+    held_filled s (after c) c.args.reserved.pool bufs c.new.result c.new.ensures e.adds.made (λ k d h. held.inside (get_or bufs k d).page (contains_in (part_pages ps) (get_or bufs k d).page (places k d h)))
 
 pub returns-clause-pool : goal.returns-clause-pool
-returns-clause-pool c =
-    let P : Buffer → Type 0 = λ h. h.pool ≡ c.args.reserved.pool in
-    let one : BufId → Buffer = λ b. record { pool = c.args.reserved.pool; buf = b } in
-    subst (All P) (sym c.new.ensures) (All-map P one c.publish_reserved-bufs.result.items (λ k d h. refl))
+returns-clause-pool c = held_pool c.args.reserved.pool c.publish_reserved-bufs.result.items c.new.result c.new.ensures
 
 pub invariant_of-self : goal.invariant_of-self
 invariant_of-self c =

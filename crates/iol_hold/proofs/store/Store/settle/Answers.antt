@@ -6,17 +6,13 @@ use Rattle.iol_hold.proofs.Emptied.{settled_then}
 use Rattle.iol_pool.proofs.Owning.{map-settled}
 use Rattle.iol_hold.specs.Moves.{Moves, pool_meant}
 use Rattle.iol_hold.specs.View.{stored}
-use Rattle.iol_hold.proofs.Settling.{settled_moves, settled_settled, length-settled_arena}
+use Rattle.iol_hold.proofs.Settling.{moves_both, with_both, settled_moves, settled_settled, length-settled_arena}
 use Rattle.iol_hold.specs.Releases.{FreesOnly, HasAllOrNone}
 use Rattle.iol_hold.proofs.Releasing.{chunks_settled, frees_chunks, settled_entries, settled_limit, open_settled}
 use Rattle.iol_hold.proofs.store.Store.settle.Goals as goal
 
-abbrev with_both : Stored → State → List Pool → Stored
-with_both s a ps = record { arena = a; pools = ps; counts = s.counts }
-
 moves : (s : Stored) (p : ℕ) (a : State) (ps : List Pool) → a ≡ settled_arena s.arena s.pools p → ps ≡ settled s.arena s.pools p → Moves s (with_both s a ps) [] []
-moves s p a ps e f =
-    subst (λ a. Moves s (with_both s a ps) [] []) (sym e) (subst (λ ps. Moves s (with_both s (settled_arena s.arena s.pools p) ps) [] []) (sym f) (settled_moves s p))
+moves s p a ps e f = moves_both s a (settled_arena s.arena s.pools p) ps (settled s.arena s.pools p) e f (settled_moves s p)
 
 pub returns-clause-moves : goal.returns-clause-moves
 returns-clause-moves c =

@@ -1,35 +1,149 @@
-use Rattle.std.proofs.Common.{rules, [], Some, refl}
-use Rattle.iol_core.specs.declared.refusals.Refusal.TheVariants.{Denied, WrongMode}
-use Rattle.iol_kernel.specs.FileReading.{IsOpenAt, read_at}
+use Rattle.std.proofs.Common.{rules, ◌≡◌, ◌∙◌, ℕ, List, [], ◌++◌, ◌≤◌, ap, refl, subst, arith, inr}
+use Rattle.std.specs.Prelude.{length, Result, Err}
+use Rattle.std.proofs.lemmas.List.{length-map}
+use Rattle.iol_core.specs.Text.{Text, bytes_of, labelled}
+use Rattle.iol_core.specs.declared.refusals.Refusal.{Refusal}
+use Rattle.iol_core.specs.declared.refusals.Refusal.TheVariants.{Memory}
+use Rattle.iol_hold.specs.Texts.{text_of}
+use Rattle.iol_hold.specs.Places.{byte_len}
+use Rattle.iol_hold.specs.declared.slices.Slice.{Slice}
+use Rattle.iol_hold.proofs.Reading.{length-text_of}
+use Rattle.iol_desc.specs.Tables.{domains_of}
+use Rattle.iol_cache.specs.Cache.{cached_of}
+use Rattle.iol_kernel.specs.Backed.{holding_of}
+use Rattle.iol_kernel.specs.FileReading.{CopiesFromFile, IsOpenAt, moved_on, pool_read, read_at}
 use Rattle.iol_kernel.specs.Kernel.{state_of}
+use Rattle.iol_kernel.specs.KernelState.{KernelState}
 use Rattle.iol_kernel.specs.Readings.{bytes_over}
-use Rattle.iol_kernel.proofs.FileCalls.FileReads.{file_there}
-use Rattle.iol_kernel.proofs.FileCalls.FileServed.{copies_nothing}
-use Rattle.iol_kernel.proofs.FileCalls.FileTests.{read-left, read-wrong, refuses_read}
+use Rattle.iol_kernel.proofs.FileCalls.FileCopies.{copied_as, copies_refused, copies_unmade, covers_read, frees_here}
+use Rattle.iol_kernel.proofs.FileCalls.FileReads.{file_there, numbered_here, open_at, open_there, refused_read, row_live, set_to}
+use Rattle.iol_kernel.proofs.FileCalls.FileServed.{counts_few, read_fits, reads_done, reads_refused}
+use Rattle.iol_kernel.proofs.FileCalls.FileTests.{read-first}
+use Rattle.iol_kernel.proofs.FileCalls.Named.{cache_sound}
+use Rattle.iol_kernel.proofs.FileCalls.Shortened.{bytes_more, reads_more, refuses_more, room_more, tells_room}
+use Rattle.iol_kernel.proofs.kernel.Kernel.copy_file.Given.{Over}
 use Rattle.iol_kernel.proofs.kernel.Kernel.copy_file.Goals as goal
+use Rattle.iol_kernel.proofs.kernel.Kernel.copy_file.Goals.{In_ok-test_read}
 
-pub returns-then-not-may_be_read-clause-serves : goal.returns-then-not-may_be_read-clause-serves
-returns-then-not-may_be_read-clause-serves g c =
+pub test_read-requires-clause-live : goal.test_read-requires-clause-live
+test_read-requires-clause-live g c = c.requires.live (bytes_over [] c.args.self.now.store)
+
+pub test_read-requires-clause-there : goal.test_read-requires-clause-there
+test_read-requires-clause-there g c = file_there (open_at (state_of c.args.self.now) c.args.by c.args.fd c.args.found c.args.count c.requires.sound c.requires.live c.requires.from)
+
+pub returns-in_err-test_read : goal.returns-in_err-test_read
+returns-in_err-test_read g c =
     let h = state_of c.args.self.now in
-    let held : IsOpenAt h (read_at c.args.by c.args.fd c.args.found c.args.count) = record { is = record { sound = c.requires.sound; live = c.requires.live; from = c.requires.from } } in
-    refuses_read h h c.args.by c.args.fd c.args.count WrongMode c.requires.sound (read-wrong held (search (rules))) refl (g.B.Backing.disk c.args.backing.now)
+    let disk = g.B.Backing.disk c.args.backing.now in
+    let x = read_at c.args.by c.args.fd c.args.found c.args.count in
+    let held = open_at h c.args.by c.args.fd c.args.found c.args.count c.requires.sound c.requires.live c.requires.from in
+    let e = c.in_err-test_read.ensures in
+    let y = c.in_err-test_read.field-0.0 in
+    let is : ◌≡◌ {A = Result (List ℕ) Refusal} (Err y) c.from_residual.result = search (rules) in
+    let done = subst (λ (r : Result (List ℕ) Refusal). CopiesFromFile x disk h r disk h) is (copies_refused held disk y (e.refused (bytes_over [] h.store)) e.early) in
+    record { serves = done.serves; copies = done.copies; short = done.short }
 
-pub returns-then-not-may_be_read-clause-copies : goal.returns-then-not-may_be_read-clause-copies
-returns-then-not-may_be_read-clause-copies g c =
-    copies_nothing (read_at c.args.by c.args.fd c.args.found c.args.count) (g.B.Backing.disk c.args.backing.now) (state_of c.args.self.now) WrongMode tt refl tt
+-- what is known once the read passes its tests
+held : (g : Over) (c : In_ok-test_read g) → IsOpenAt (state_of c.args.self.now) (read_at c.args.by c.args.fd c.args.found c.args.count)
+held g c = open_at (state_of c.args.self.now) c.args.by c.args.fd c.args.found c.args.count c.requires.sound c.requires.live c.requires.from
 
-pub hidden_file-requires : goal.hidden_file-requires
-hidden_file-requires g c =
-    let held : IsOpenAt (state_of c.args.self.now) (read_at c.args.by c.args.fd c.args.found c.args.count) = record { is = record { sound = c.requires.sound; live = c.requires.live; from = c.requires.from } } in
-    file_there held
+pub readable-most-requires-clause-there : goal.readable-most-requires-clause-there
+readable-most-requires-clause-there g c = numbered_here (held g (goal.at.readable-most-requires-clause-there g c).In_ok-test_read)
 
-pub returns-in-Some-clause-serves : goal.returns-in-Some-clause-serves
-returns-in-Some-clause-serves g c =
+pub returns-in_err-bytes : goal.returns-in_err-bytes
+returns-in_err-bytes g c =
     let h = state_of c.args.self.now in
-    let held : IsOpenAt h (read_at c.args.by c.args.fd c.args.found c.args.count) = record { is = record { sound = c.requires.sound; live = c.requires.live; from = c.requires.from } } in
-    let told = c.hidden_file.ensures (bytes_over [] h.store) in
-    refuses_read h h c.args.by c.args.fd c.args.count (Denied c.in-Some.pool) c.requires.sound (read-left held (search (rules)) (Some (Denied c.in-Some.pool)) (search (rules, told))) refl (g.B.Backing.disk c.args.backing.now)
+    let disk = g.B.Backing.disk c.args.backing.now in
+    let x = read_at c.args.by c.args.fd c.args.found c.args.count in
+    let at = held g (goal.at.returns-in_err-bytes g c).In_ok-test_read in
+    let is : ◌≡◌ {A = Result (List ℕ) Refusal} (Err Memory) c.from_residual-in_err-bytes.result = search (rules) in
+    let done = subst (λ (r : Result (List ℕ) Refusal). CopiesFromFile x disk h r disk h) is (copies_unmade at disk (read-first at ∙ c.in_ok-test_read.ensures.passed (bytes_over [] h.store))) in
+    record { serves = done.serves; copies = done.copies; short = done.short }
 
-pub returns-in-Some-clause-copies : goal.returns-in-Some-clause-copies
-returns-in-Some-clause-copies g c =
-    copies_nothing (read_at c.args.by c.args.fd c.args.found c.args.count) (g.B.Backing.disk c.args.backing.now) (state_of c.args.self.now) (Denied c.in-Some.pool) tt refl tt
+pub read-requires-clause-sound : goal.read-requires-clause-sound
+read-requires-clause-sound g c = cache_sound (state_of c.args.self.now) c.requires.sound
+
+pub read-requires-clause-file : goal.read-requires-clause-file
+read-requires-clause-file g c = numbered_here (held g (goal.at.read-requires-clause-file g c).In_ok-test_read)
+
+pub read-requires-clause-few : goal.read-requires-clause-few
+read-requires-clause-few g c = counts_few (state_of c.args.self.now) c.requires.sound
+
+pub returns-in_err-agg : goal.returns-in_err-agg
+returns-in_err-agg g c =
+    let h = state_of c.args.self.now in
+    let x = read_at c.args.by c.args.fd c.args.found c.args.count in
+    let at = held g (goal.at.returns-in_err-agg g c).In_ok-test_read in
+    let disk = g.B.Backing.disk c.args.backing.now in
+    let after = g.B.Backing.disk c.read.new.backing in
+    let m = c.read.new.store in
+    let k = cached_of c.read.new.self in
+    let told = c.readable-most.ensures in
+    let e = c.in_err-agg.ensures in
+    let y = c.in_err-agg.field-0.0 in
+    let new : KernelState = record h { store = m; cache = k } in
+    let is : ◌≡◌ {A = Result (List ℕ) Refusal} (Err y) c.from_residual-in_err-agg.result = search (rules) in
+    let refused : CopiesFromFile x disk h (Err y) after new = record {
+      serves = refused_read disk after m k at e.sound e.fault.honest e.fault.slots e.backed e.gone y (read-first at ∙ c.in_ok-test_read.ensures.passed (bytes_over [] h.store)) e.late;
+      copies = record {
+        mid = m;
+        reads = reads_refused disk after m k at e.pages e.gone.lists (List Slice) (List ℕ) y h.domains refl (refuses_more (holding_of h) told e.refused) (tells_room (holding_of h) told {A = List Slice} (Err y) e.room) e.fault e.late;
+        gives = tt;
+        early = inr e.late;
+        frees = frees_here m;
+        lists = refl;
+      };
+      short = tt;
+    } in
+    let done = subst (λ (r : Result (List ℕ) Refusal). CopiesFromFile x disk h r after new) is refused in
+    record { serves = done.serves; copies = done.copies; short = done.short }
+
+pub copy_out-requires-clause-room : goal.copy_out-requires-clause-room
+copy_out-requires-clause-room g c = omega (arith, c.in_ok-agg.ensures.short, c.in_ok-bytes.ensures.len, c.in_ok-bytes.ensures.capacity)
+
+pub release-requires : goal.release-requires
+release-requires g c =
+    let e = c.in_ok-agg.ensures in
+    covers_read (g.B.Backing.disk c.args.backing.now) c.read.new.store (cached_of c.read.new.self) c.in_ok-agg.agg (held g (goal.at.release-requires g c).In_ok-test_read) e.sound e.goes
+
+pub moved_by-requires : goal.moved_by-requires
+moved_by-requires g c = omega (arith, read_fits (held g (goal.at.moved_by-requires g c).In_ok-test_read) c.in_ok-agg.ensures.reads, c.len-len.ensures)
+
+pub set_fd-requires-clause-live : goal.set_fd-requires-clause-live
+set_fd-requires-clause-live g c = row_live (held g (goal.at.set_fd-requires-clause-live g c).In_ok-test_read)
+
+pub set_fd-requires-clause-there : goal.set_fd-requires-clause-there
+set_fd-requires-clause-there g c = open_there (held g (goal.at.set_fd-requires-clause-there g c).In_ok-test_read) refl
+
+pub returns : goal.returns
+returns g c =
+    let h = state_of c.args.self.now in
+    let x = read_at c.args.by c.args.fd c.args.found c.args.count in
+    let at = held g (goal.at.returns g c).In_ok-test_read in
+    let disk = g.B.Backing.disk c.args.backing.now in
+    let after = g.B.Backing.disk c.read.new.backing in
+    let m = c.read.new.store in
+    let k = cached_of c.read.new.self in
+    let told = c.readable-most.ensures in
+    let e = c.in_ok-agg.ensures in
+    let agg : List Slice = c.in_ok-agg.agg in
+    let text : Text = text_of m agg in
+    let r = c.release.ensures in
+    let ds = domains_of c.set_fd.new.self in
+    let bytes = c.from_vec.result in
+    let fewer : byte_len agg ≤ x.count = omega (arith, e.short, told.fewer) in
+    let moved : ds ≡ moved_on h.domains x (byte_len agg) = set_to h.domains c.args.by c.args.fd c.set_fd.ensures.set c.moved_by.ensures ∙ ap (moved_on h.domains x) c.len-len.ensures in
+    let is : bytes ≡ bytes_of text = c.from_vec.ensures ∙ c.copy_out.ensures ∙ ap (λ (w : List ℕ). w ++ bytes_of text) c.in_ok-bytes.ensures.items in
+    record {
+      serves = copied_as disk m k agg at e.sound e.goes after c.release.new.store r.moves r.lists r.frees (r.settles e.readable) (read-first at ∙ c.in_ok-test_read.ensures.passed (bytes_over [] h.store)) e.fault.honest e.fault.slots e.backed
+          bytes ds is fewer (read_fits at e.reads) (λ b. e.text b ∙ ap (labelled (pool_read h x)) (bytes_more (holding_of h) told b)) moved;
+      copies = record {
+        mid = m;
+        reads = reads_done disk after m k at e.pages e.goes.lists {B = List ℕ} bytes agg m ds (reads_more (holding_of h) told e.reads) (room_more (holding_of h) told e.room) e.fault.counts e.fault.honest e.fault.slots;
+        gives = record { slices = agg; copied = is; read = reads_more (holding_of h) told e.reads; released = r.moves; domains = moved };
+        early = tt;
+        frees = r.frees;
+        lists = r.lists;
+      };
+      short = omega (arith, ap length is, length-map text (λ (b : ℕ × ℕ). b.0), length-text_of m agg, fewer);
+    }

@@ -1,21 +1,20 @@
-use Rattle.std.proofs.Common.{[], ap}
+use Rattle.std.proofs.Common.{ap}
 use Rattle.iol_core.specs.State.{conn_at, with_conn}
 use Rattle.iol_core.specs.Calls.Outside.{closed_by}
 use Rattle.iol_sock.specs.Table.{ConnTable, conn_in}
 use Rattle.iol_kernel.specs.Kernel.{state_of}
-use Rattle.iol_kernel.specs.Readings.{bytes_over}
-use Rattle.iol_kernel.proofs.Connections.Connecting.{IsChanged, conn_held, conn_in-found, outgoing_covered}
+use Rattle.iol_kernel.proofs.Connections.Connecting.{IsChanged, conn_is, found_conn, outgoing_covered}
 use Rattle.iol_kernel.proofs.Connections.PeerClosed.{peer_changed}
 use Rattle.iol_kernel.proofs.kernel.Kernel.end_peer.Goals as goal
 use Rattle.iol_kernel.proofs.kernel.Kernel.end_peer.Goals.{After-peer_closed}
 
 pub peer_closed-requires-clause-there : goal.peer_closed-requires-clause-there
-peer_closed-requires-clause-there c = let h = state_of c.args.self.now in conn_held (bytes_over [] h.store) h c.args.conn c.requires.there
+peer_closed-requires-clause-there c = conn_is (state_of c.args.self.now) c.args.conn c.requires.there
 
 pub peer_closed-requires-clause-covered : goal.peer_closed-requires-clause-covered
 peer_closed-requires-clause-covered c =
     let h = state_of c.args.self.now in
-    outgoing_covered h c.args.conn (conn_in h.conns c.args.conn) c.requires.sound (conn_in-found h.conns c.args.conn (conn_held (bytes_over [] h.store) h c.args.conn c.requires.there))
+    outgoing_covered h c.args.conn (conn_in h.conns c.args.conn) c.requires.sound (found_conn h c.args.conn c.requires.there)
 
 -- its peer is as told, whether or not it is forgotten then
 told : (c : After-peer_closed) → IsChanged c.args.conn (λ s. with_conn s c.args.conn (closed_by (conn_at s c.args.conn) c.args.how)) (state_of c.args.self.now) (record (state_of c.args.self.now) { store = c.peer_closed.new.store; conns = c.peer_closed.new.self.conns; next_conn = c.peer_closed.new.self.next })
@@ -23,7 +22,7 @@ told c =
     let h = state_of c.args.self.now in
     let w = c.peer_closed.new in
     let e = c.peer_closed.ensures in
-    peer_changed h (record h { store = w.store; conns = w.self.conns; next_conn = w.self.next }) c.args.conn c.args.how c.requires.sound (conn_held (bytes_over [] h.store) h c.args.conn c.requires.there)
+    peer_changed h (record h { store = w.store; conns = w.self.conns; next_conn = w.self.next }) c.args.conn c.args.how c.requires.sound (conn_is h c.args.conn c.requires.there)
     (ap (λ (t : ConnTable). record h { store = w.store; conns = t.conns; next_conn = t.next }) e.closed) e.moves e.lists e.frees e.settles
 
 pub settle-requires-clause-sound : goal.settle-requires-clause-sound

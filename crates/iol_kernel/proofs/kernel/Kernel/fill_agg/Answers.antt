@@ -1,29 +1,52 @@
-use Rattle.std.proofs.Common.{[], ◌∙◌, sym, arith, length, ℕ}
+use Rattle.std.proofs.Common.{[], ◌∙◌, ap, sym, arith, length, List, ℕ}
 use Rattle.std.proofs.lemmas.List.{length-map}
-use Rattle.iol_desc.specs.Tables.{domains_of}
+use Rattle.iol_core.specs.State.{Domain}
+use Rattle.iol_core.specs.Text.{labelled}
+use Rattle.iol_hold.specs.Room.{lowest_of}
+use Rattle.iol_hold.specs.declared.slices.Slice.{Slice}
+use Rattle.iol_hold.proofs.Paging.{keeps_pages_made}
+use Rattle.iol_desc.specs.Tables.{domains_of, domain_in, with_agg_in}
+use Rattle.iol_kernel.specs.Adding.{AddsText}
 use Rattle.iol_kernel.specs.Kernel.{state_of}
 use Rattle.iol_kernel.specs.Readings.{bytes_over}
-use Rattle.iol_kernel.proofs.State.Effects.{few_aggs, few_numbers, placed-machine, placed_alone, placed-sound}
+use Rattle.iol_kernel.proofs.State.Effects.{few_aggs, few_kept, placed-machine, placed_alone, placed-sound}
 use Rattle.iol_kernel.proofs.State.ReadOf.{live_held, next_agg-read_of, closed-read_of}
 use Rattle.iol_kernel.proofs.kernel.Kernel.fill_agg.Goals as goal
+use Rattle.iol_kernel.proofs.kernel.Kernel.fill_agg.Goals.{After-add_agg}
 
-pub add_bytes-requires-clause-few : goal.add_bytes-requires-clause-few
-add_bytes-requires-clause-few c = omega (arith, few_numbers (bytes_over [] c.args.self.now.store) (state_of c.args.self.now) c.args.by 1 0 c.requires.few)
+pub fill-requires-clause-open : goal.fill-requires-clause-open
+fill-requires-clause-open c = sym (closed-read_of _ (state_of c.args.self.now) c.args.pool) ∙ c.requires.open
 
-pub add_bytes-requires-clause-open : goal.add_bytes-requires-clause-open
-add_bytes-requires-clause-open c = sym (closed-read_of _ (state_of c.args.self.now) c.args.pool) ∙ c.requires.open
+pub add_agg-requires-clause-few : goal.add_agg-requires-clause-few
+add_agg-requires-clause-few c = (let few = few_kept (state_of c.args.self.now) c.args.by c.requires.few c.in_ok-reserve_aggs.ensures.same in omega (arith, few))
+
+-- the domain got the bytes
+added : (c : After-add_agg) → AddsText c.args.self.now.store c.fill.new.store (domains_of c.args.self.now.domains) (domains_of c.add_agg.new.self) c.args.by (labelled c.args.pool c.args.bytes.now) (lowest_of c.args.self.now.store c.args.pool (length c.args.bytes.now))
+added c =
+    let e = c.in_ok-agg.ensures in
+    record {
+      slices = c.in_ok-agg.agg;
+      is_text = e.text;
+      readable = e.readable;
+      moves = e.moves;
+      made_on = e.made_on;
+      pages = keeps_pages_made e.made_on e.others e.grows e.pools;
+      settles = e.settles;
+      pools = e.pools;
+      added = c.add_agg.ensures.added ∙ ap (λ (ds : List (Domain (List Slice))). with_agg_in ds c.args.by c.in_ok-agg.agg) c.in_ok-reserve_aggs.ensures.same;
+    }
 
 pub returns-clause-number : goal.returns-clause-number
-returns-clause-number c = λ f. c.in_ok-add_bytes.ensures.number ∙ sym (next_agg-read_of f (state_of c.args.self.now) c.args.by)
+returns-clause-number c = λ f. c.add_agg.ensures.number ∙ ap (λ (ds : List (Domain (List Slice))). (domain_in ds c.args.by).next_agg) c.in_ok-reserve_aggs.ensures.same ∙ sym (next_agg-read_of f (state_of c.args.self.now) c.args.by)
 
 pub returns-clause-placed : goal.returns-clause-placed
-returns-clause-placed c = placed-machine (state_of c.args.self.now) c.add_bytes.new.store (domains_of c.add_bytes.new.domains) c.args.by _ _ c.requires.sound c.in_ok-add_bytes.ensures.added
+returns-clause-placed c = placed-machine (state_of c.args.self.now) c.fill.new.store (domains_of c.add_agg.new.self) c.args.by _ _ c.requires.sound (added (goal.at.returns-clause-placed c).After-add_agg)
 
 pub returns-clause-made : goal.returns-clause-made
-returns-clause-made c = placed_alone (state_of c.args.self.now) c.add_bytes.new.store (domains_of c.add_bytes.new.domains) c.args.by c.args.pool (length c.args.bytes.now) _ c.requires.sound c.in_ok-add_bytes.ensures.added
+returns-clause-made c = placed_alone (state_of c.args.self.now) c.fill.new.store (domains_of c.add_agg.new.self) c.args.by c.args.pool (length c.args.bytes.now) _ c.requires.sound (added (goal.at.returns-clause-made c).After-add_agg)
 
 pub returns-clause-sound : goal.returns-clause-sound
 returns-clause-sound c =
     let h = state_of c.args.self.now in
-    placed-sound h c.add_bytes.new.store (domains_of c.add_bytes.new.domains) c.args.by _ _ c.requires.sound (live_held _ h c.args.by c.requires.live) (omega (arith, few_aggs (bytes_over [] h.store) h c.args.by 1 0 c.requires.few))
-    (omega (arith, length-map {B = ℕ × ℕ} c.args.bytes.now (λ b. (b, c.args.pool)), c.requires.small)) c.in_ok-add_bytes.ensures.added
+    placed-sound h c.fill.new.store (domains_of c.add_agg.new.self) c.args.by _ _ c.requires.sound (live_held _ h c.args.by c.requires.live) (omega (arith, few_aggs (bytes_over [] h.store) h c.args.by 1 0 c.requires.few))
+    (omega (arith, length-map {B = ℕ × ℕ} c.args.bytes.now (λ b. (b, c.args.pool)), c.requires.small)) (added (goal.at.returns-clause-sound c).After-add_agg)

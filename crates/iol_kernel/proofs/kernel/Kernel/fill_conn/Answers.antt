@@ -1,25 +1,24 @@
-use Rattle.std.proofs.Common.{[], ap}
+use Rattle.std.proofs.Common.{ap}
 use Rattle.iol_sock.specs.Table.{ConnTable, conn_in}
 use Rattle.iol_kernel.specs.Kernel.{state_of}
 use Rattle.iol_kernel.specs.KernelState.{KernelState}
-use Rattle.iol_kernel.specs.Readings.{bytes_over}
 use Rattle.iol_kernel.proofs.Connections.Arriving.{arrives}
-use Rattle.iol_kernel.proofs.Connections.Connecting.{conn_held, conn_in-found, conn_open}
+use Rattle.iol_kernel.proofs.Connections.Connecting.{conn_is, conn_open, found_conn}
 use Rattle.iol_kernel.proofs.Connections.Grown.{kept_table}
 use Rattle.iol_kernel.proofs.kernel.Kernel.fill_conn.Goals as goal
 
 pub arrive-requires-clause-there : goal.arrive-requires-clause-there
-arrive-requires-clause-there c = let h = state_of c.args.self.now in conn_held (bytes_over [] h.store) h c.args.conn c.requires.there
+arrive-requires-clause-there c = conn_is (state_of c.args.self.now) c.args.conn c.requires.there
 
 pub arrive-requires-clause-pool : goal.arrive-requires-clause-pool
 arrive-requires-clause-pool c =
     let h = state_of c.args.self.now in
-    conn_open h c.args.conn (conn_in h.conns c.args.conn) c.requires.sound (conn_in-found h.conns c.args.conn (conn_held (bytes_over [] h.store) h c.args.conn c.requires.there))
+    conn_open h c.args.conn (conn_in h.conns c.args.conn) c.requires.sound (found_conn h c.args.conn c.requires.there)
 
 pub returns : goal.returns
 returns c =
     let h = state_of c.args.self.now in
     let k : KernelState = record h { store = c.arrive.new.store; conns = c.arrive.new.self.conns; next_conn = c.arrive.new.self.next } in
     let e = c.arrive.ensures in
-    arrives h k c.args.conn c.args.bytes.now c.arrive.result c.requires.sound (conn_held (bytes_over [] h.store) h c.args.conn c.requires.there) e.passed e.refused e.count e.added
+    arrives h k c.args.conn c.args.bytes.now c.arrive.result c.requires.sound (conn_is h c.args.conn c.requires.there) e.passed e.refused e.count e.added
     (ap (λ (w : ConnTable). record h { store = c.arrive.new.store; conns = w.conns; next_conn = w.next }) e.others) e.no_room (kept_table h c.arrive.new.store c.args.self.now.conns c.arrive.new.self c.arrive.result e.err e.err_store)

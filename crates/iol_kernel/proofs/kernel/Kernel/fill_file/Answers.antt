@@ -1,17 +1,16 @@
-use Rattle.std.proofs.Common.{inl, inr, [], ◌∙◌, ◌+◌, ap, sym, refl, arith, length, map, Some}
-use Rattle.std.specs.Prelude.{slice_set}
+use Rattle.std.proofs.Common.{inl, inr, [], ◌∙◌, ◌+◌, ap, sym, refl, arith, length, map}
 use Rattle.iol_core.specs.declared.descriptors.Descriptor.TheVariants as on
 use Rattle.iol_hold.specs.Stored.{Stored}
 use Rattle.iol_hold.specs.Texts.{bufs_of}
 use Rattle.iol_hold.specs.Moves.{pool_meant}
 use Rattle.iol_hold.proofs.Counting.{tally-append}
 use Rattle.iol_hold.proofs.Paging.{keeps_pages_frees, keeps_pages_made}
-use Rattle.iol_desc.specs.Tables.{domain_in, with_fds_in}
 use Rattle.iol_cache.specs.Cache.{cached_of}
 use Rattle.iol_cache.specs.Cached.{held}
 use Rattle.iol_kernel.specs.Kernel.{state_of}
 use Rattle.iol_kernel.specs.KernelState.{KernelState}
 use Rattle.iol_kernel.specs.Readings.{bytes_over}
+use Rattle.iol_kernel.proofs.FileCalls.FileReads.{set_to}
 use Rattle.iol_kernel.proofs.FileCalls.FilledOver.{filled_covers, filled_few, filled_sound, put_pools, through, through_files, through_mirrors, through_puts, unput_pools}
 use Rattle.iol_kernel.proofs.FileCalls.FilledServes.{filled_len, filled_serves, held_file, held_live, held_short, unfilled_serves, unplaced_serves}
 use Rattle.iol_kernel.proofs.Queues.Opening.{end_held}
@@ -88,13 +87,13 @@ returns-in-Err-clause-serves c =
     let same = unput_pools h s xs c.requires.sound e.moves e.pools e.grows.count c.write.new.store c.release.new.store (cached_of c.write.new.self) c.args.found.file e.readable w.moves w.lists w.settles w.pages w.sound w.mirrors r.moves r.lists r.frees r.settles w.evicts in
     unfilled_serves h c.args.by c.args.fd c.args.found.file c.args.found.at c.args.pool c.args.found.mode c.args.bytes.now c.requires _ c.release.new.store (cached_of c.write.new.self) (through h s xs c.requires.sound e.moves e.pools e.grows.count c.write.new.store c.release.new.store (cached_of c.write.new.self) c.args.found.file e.readable w.moves w.lists w.settles w.pages w.sound w.mirrors r.moves r.lists r.frees r.settles same e.settles) (through_files h s xs c.requires.sound e.moves e.pools e.grows.count c.write.new.store c.release.new.store (cached_of c.write.new.self) c.args.found.file e.readable w.moves w.lists w.settles w.pages w.sound w.mirrors r.moves r.lists r.frees r.settles w.refused) (through_mirrors h s xs c.requires.sound e.moves e.pools e.grows.count c.write.new.store c.release.new.store (cached_of c.write.new.self) c.args.found.file e.readable w.moves w.lists w.settles w.pages w.sound w.mirrors r.moves r.lists r.frees r.settles) refl
 
-pub overflow_add-to : goal.overflow_add-to
-overflow_add-to c =
+pub moved_by-requires : goal.moved_by-requires
+moved_by-requires c =
     let h = state_of c.args.self.now in
     let e = c.in-Ok.ensures in
     let s = c.fill.new.store in
     let xs = c.in-Ok.agg in
-    record { fits = omega (arith, held_short h c.args.by c.args.fd c.args.found.file c.args.found.at c.args.pool c.args.found.mode c.args.bytes.now c.requires, c.len-len.ensures, (filled_len s xs c.args.pool c.args.bytes.now e.text)) }
+    omega (arith, held_short h c.args.by c.args.fd c.args.found.file c.args.found.at c.args.pool c.args.found.mode c.args.bytes.now c.requires, c.len-len.ensures, filled_len s xs c.args.pool c.args.bytes.now e.text)
 
 pub set_fd-requires-clause-live : goal.set_fd-requires-clause-live
 set_fd-requires-clause-live c =
@@ -119,7 +118,7 @@ returns-clause-serves c =
     let at = bytes_over [] h.store in
     let there = in_cache h c.args.found.file c.requires.sound (end_held at h c.args.by c.args.fd (on.File c.args.found.file c.args.found.at c.args.found.mode) c.requires.sound (c.requires.to at)).0 in
     let same = put_pools h s xs c.requires.sound e.moves e.pools e.grows.count c.write.new.store c.release-2.new.store (cached_of c.write.new.self) c.args.found.file e.readable w.moves w.lists w.settles w.pages w.sound w.mirrors r.moves r.lists r.frees r.settles c.args.found.at there w.writes w.nothing in
-    let moved = c.set_fd.ensures.set ∙ ap (λ z. with_fds_in h.domains c.args.by (slice_set (domain_in h.domains c.args.by).fds c.args.fd (Some (on.File c.args.found.file (c.args.found.at + z) c.args.found.mode)))) len in
+    let moved = set_to h.domains c.args.by c.args.fd c.set_fd.ensures.set (c.moved_by.ensures ∙ ap (λ z. on.File c.args.found.file (c.args.found.at + z) c.args.found.mode) len) in
     filled_serves h c.args.by c.args.fd c.args.found.file c.args.found.at c.args.pool c.args.found.mode c.args.bytes.now c.requires _ c.release-2.new.store (cached_of c.write.new.self) c.len-len.result (through h s xs c.requires.sound e.moves e.pools e.grows.count c.write.new.store c.release-2.new.store (cached_of c.write.new.self) c.args.found.file e.readable w.moves w.lists w.settles w.pages w.sound w.mirrors r.moves r.lists r.frees r.settles same e.settles) (through_puts h s xs c.requires.sound e.moves e.pools e.grows.count c.write.new.store c.release-2.new.store (cached_of c.write.new.self) c.args.found.file e.readable w.moves w.lists w.settles w.pages w.sound w.mirrors r.moves r.lists r.frees r.settles c.args.found.at _ w.written w.others e.text) len
     (ap (λ ds. let k : KernelState = record h { store = c.release-2.new.store; cache = cached_of c.write.new.self; domains = ds } in k) moved)
 
@@ -206,7 +205,7 @@ returns-clause-lays c =
         domain = c.args.by;
         fd = c.args.fd;
         mode = c.args.found.mode;
-        is = c.set_fd.ensures.set ∙ ap (λ z. with_fds_in h.domains c.args.by (slice_set (domain_in h.domains c.args.by).fds c.args.fd (Some (on.File c.args.found.file (c.args.found.at + z) c.args.found.mode)))) len;
+        is = set_to h.domains c.args.by c.args.fd c.set_fd.ensures.set (c.moved_by.ensures ∙ ap (λ z. on.File c.args.found.file (c.args.found.at + z) c.args.found.mode) len);
       };
       rest = refl;
     }

@@ -1,32 +1,31 @@
-use Rattle.std.proofs.Common.{[], ap, rules, true, false}
+use Rattle.std.proofs.Common.{ap, rules, true, false}
 use Rattle.iol_sock.specs.Table.{ConnTable, conn_in}
 use Rattle.iol_kernel.specs.Kernel.{state_of}
 use Rattle.iol_kernel.proofs.Connections.Borrowing.{BroughtIn, brought_in, read_passed, read_refused, read_room}
-use Rattle.iol_kernel.proofs.Connections.Connecting.{conn_held, conn_in-found, conn_open}
+use Rattle.iol_kernel.proofs.Connections.Connecting.{conn_is, conn_open, found_conn}
 use Rattle.iol_kernel.proofs.kernel.Kernel.read_in.Given.{Over}
 use Rattle.iol_kernel.proofs.kernel.Kernel.read_in.Goals as goal
 use Rattle.iol_kernel.proofs.kernel.Kernel.read_in.Goals.{In_ok-arrive_from}
-use Rattle.iol_kernel.specs.Readings.{bytes_over}
 
 pub arrive_from-requires-clause-there : goal.arrive_from-requires-clause-there
-arrive_from-requires-clause-there g c = let h = state_of c.args.self.now in conn_held (bytes_over [] h.store) h c.args.conn c.requires.there
+arrive_from-requires-clause-there g c = conn_is (state_of c.args.self.now) c.args.conn c.requires.there
 
 pub arrive_from-requires-clause-pool : goal.arrive_from-requires-clause-pool
 arrive_from-requires-clause-pool g c =
     let h = state_of c.args.self.now in
-    conn_open h c.args.conn (conn_in h.conns c.args.conn) c.requires.sound (conn_in-found h.conns c.args.conn (conn_held (bytes_over [] h.store) h c.args.conn c.requires.there))
+    conn_open h c.args.conn (conn_in h.conns c.args.conn) c.requires.sound (found_conn h c.args.conn c.requires.there)
 
 pub returns-clause-refuses : goal.returns-clause-refuses
 returns-clause-refuses g c =
     let h = state_of c.args.self.now in
-    let there = conn_held (bytes_over [] h.store) h c.args.conn c.requires.there in
+    let there = conn_is h c.args.conn c.requires.there in
     let e = c.in_ok-arrive_from.ensures in
     record { passed = read_passed h c.args.conn c.args.max there e.passed; refused = tt; room = read_room h c.args.conn c.args.max there true e.room; no_room = λ p is. absurd (cc is) }
 
 pub returns-in_err-arrive_from-clause-refuses : goal.returns-in_err-arrive_from-clause-refuses
 returns-in_err-arrive_from-clause-refuses g c =
     let h = state_of c.args.self.now in
-    let there = conn_held (bytes_over [] h.store) h c.args.conn c.requires.there in
+    let there = conn_is h c.args.conn c.requires.there in
     let refused = read_refused h c.args.conn c.args.max there c.in_err-arrive_from.field-0.0 (search (rules)) in
     record { passed = search (rules); refused = search (rules, refused); room = search (rules); no_room = λ p is. read_room h c.args.conn c.args.max there false (c.arrive_from.ensures.no_room p (search (rules, is))) }
 
@@ -36,7 +35,7 @@ brought g c =
     let h = state_of c.args.self.now in
     let w = c.arrive_from.new in
     let e = c.in_ok-arrive_from.ensures in
-    brought_in h (record h { store = w.store; conns = w.self.conns; next_conn = w.self.next }) c.args.conn c.args.max c.in_ok-arrive_from.field-0.taken (g.R.Read.remaining c.args.reader.now) (g.R.Read.remaining w.reader) c.requires.sound (conn_held (bytes_over [] h.store) h c.args.conn c.requires.there) e.passed e.most e.read
+    brought_in h (record h { store = w.store; conns = w.self.conns; next_conn = w.self.next }) c.args.conn c.args.max c.in_ok-arrive_from.field-0.taken (g.R.Read.remaining c.args.reader.now) (g.R.Read.remaining w.reader) c.requires.sound (conn_is h c.args.conn c.requires.there) e.passed e.most e.read
     (ap (λ (t : ConnTable). record h { store = w.store; conns = t.conns; next_conn = t.next }) c.arrive_from.ensures.others)
 
 pub returns-clause-read : goal.returns-clause-read

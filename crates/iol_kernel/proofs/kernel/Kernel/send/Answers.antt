@@ -1,49 +1,48 @@
-use Rattle.std.proofs.Common.{[], ◌≡◌, ap, rules, arith}
+use Rattle.std.proofs.Common.{◌≡◌, ap, rules, arith}
 use Rattle.iol_sock.specs.Table.{ConnTable, conn_in}
 use Rattle.iol_kernel.specs.Kernel.{state_of}
-use Rattle.iol_kernel.specs.Readings.{bytes_over}
 use Rattle.iol_kernel.specs.KernelState.{KernelState, objects_of}
-use Rattle.iol_kernel.proofs.Connections.Connecting.{conn_held, conn_in-found, conn_limit, conn_readable, outgoing_covered}
+use Rattle.iol_kernel.proofs.Connections.Connecting.{conn_is, conn_limit, conn_readable, found_conn, outgoing_covered}
 use Rattle.iol_kernel.proofs.Connections.Transmitting.{mid_sound, mid_there, transmitted, send_kept, uses_kept}
 use Rattle.iol_kernel.proofs.State.Uses.{countable}
 use Rattle.iol_kernel.proofs.kernel.Kernel.send.Goals as goal
 
 pub segment-requires-clause-there : goal.segment-requires-clause-there
-segment-requires-clause-there c = let h = state_of c.args.self.now in conn_held (bytes_over [] h.store) h c.args.conn c.requires.there
+segment-requires-clause-there c = conn_is (state_of c.args.self.now) c.args.conn c.requires.there
 
 pub segment-requires-clause-covered : goal.segment-requires-clause-covered
 segment-requires-clause-covered c =
     let h = state_of c.args.self.now in
-    outgoing_covered h c.args.conn (conn_in h.conns c.args.conn) c.requires.sound (conn_in-found h.conns c.args.conn (conn_held (bytes_over [] h.store) h c.args.conn c.requires.there))
+    outgoing_covered h c.args.conn (conn_in h.conns c.args.conn) c.requires.sound (found_conn h c.args.conn c.requires.there)
 
 pub segment-requires-clause-countable : goal.segment-requires-clause-countable
 segment-requires-clause-countable c =
     let h = state_of c.args.self.now in
-    let short = (conn_limit h c.args.conn (conn_in h.conns c.args.conn) c.requires.sound (conn_in-found h.conns c.args.conn (conn_held (bytes_over [] h.store) h c.args.conn c.requires.there))).outgoing in
+    let short = (conn_limit h c.args.conn (conn_in h.conns c.args.conn) c.requires.sound (found_conn h c.args.conn c.requires.there)).outgoing in
     countable h.store h.domains (objects_of h) (conn_in h.conns c.args.conn).outgoing c.requires.sound.counted c.requires.sound.limits (omega (arith, short))
 
 pub segment-requires-clause-readable : goal.segment-requires-clause-readable
-segment-requires-clause-readable c = let h = state_of c.args.self.now in (conn_readable h c.args.conn (conn_in h.conns c.args.conn) c.requires.sound (conn_in-found h.conns c.args.conn (conn_held (bytes_over [] h.store) h c.args.conn c.requires.there))).1
+segment-requires-clause-readable c = let h = state_of c.args.self.now in (conn_readable h c.args.conn (conn_in h.conns c.args.conn) c.requires.sound (found_conn h c.args.conn c.requires.there)).1
 
 pub settle-requires-clause-sound : goal.settle-requires-clause-sound
 settle-requires-clause-sound c =
     let h = state_of c.args.self.now in
     let e = c.in_ok-segment.ensures in
-    mid_sound h (record h { store = c.segment.new.store; conns = c.segment.new.self.conns; next_conn = c.segment.new.self.next; sums = c.segment.new.sums }) (state_of c.args.self.now) c.args.conn c.args.max c.in_ok-segment.segment.bytes c.in_ok-segment.segment.checksum c.requires.sound (conn_held (bytes_over [] h.store) h c.args.conn c.requires.there) e.passed e.bytes e.checksum
+    mid_sound h (record h { store = c.segment.new.store; conns = c.segment.new.self.conns; next_conn = c.segment.new.self.next; sums = c.segment.new.sums }) (state_of c.args.self.now) c.args.conn c.args.max c.in_ok-segment.segment.bytes c.in_ok-segment.segment.checksum c.requires.sound (conn_is h c.args.conn c.requires.there) e.passed e.bytes e.checksum
     e.rest (ap (λ (w : ConnTable). record h { store = c.segment.new.store; conns = w.conns; next_conn = w.next; sums = c.segment.new.sums }) c.segment.ensures.others) e.moves c.segment.ensures.lists e.frees c.segment.ensures.settles c.segment.ensures.right
 
 pub settle-requires-clause-there : goal.settle-requires-clause-there
 settle-requires-clause-there c =
     let h = state_of c.args.self.now in
     let e = c.in_ok-segment.ensures in
-    mid_there h (record h { store = c.segment.new.store; conns = c.segment.new.self.conns; next_conn = c.segment.new.self.next; sums = c.segment.new.sums }) (state_of c.args.self.now) c.args.conn c.args.max c.in_ok-segment.segment.bytes c.in_ok-segment.segment.checksum c.requires.sound (conn_held (bytes_over [] h.store) h c.args.conn c.requires.there) e.passed e.bytes e.checksum
+    mid_there h (record h { store = c.segment.new.store; conns = c.segment.new.self.conns; next_conn = c.segment.new.self.next; sums = c.segment.new.sums }) (state_of c.args.self.now) c.args.conn c.args.max c.in_ok-segment.segment.bytes c.in_ok-segment.segment.checksum c.requires.sound (conn_is h c.args.conn c.requires.there) e.passed e.bytes e.checksum
     e.rest (ap (λ (w : ConnTable). record h { store = c.segment.new.store; conns = w.conns; next_conn = w.next; sums = c.segment.new.sums }) c.segment.ensures.others) e.moves c.segment.ensures.lists e.frees c.segment.ensures.settles c.segment.ensures.right
 
 pub returns : goal.returns
 returns c =
     let h = state_of c.args.self.now in
     let e = c.in_ok-segment.ensures in
-    transmitted h (record h { store = c.segment.new.store; conns = c.segment.new.self.conns; next_conn = c.segment.new.self.next; sums = c.segment.new.sums }) (state_of c.settle.new.self) c.args.conn c.args.max c.in_ok-segment.segment.bytes c.in_ok-segment.segment.checksum c.requires.sound (conn_held (bytes_over [] h.store) h c.args.conn c.requires.there) e.passed e.bytes e.checksum
+    transmitted h (record h { store = c.segment.new.store; conns = c.segment.new.self.conns; next_conn = c.segment.new.self.next; sums = c.segment.new.sums }) (state_of c.settle.new.self) c.args.conn c.args.max c.in_ok-segment.segment.bytes c.in_ok-segment.segment.checksum c.requires.sound (conn_is h c.args.conn c.requires.there) e.passed e.bytes e.checksum
     e.rest (ap (λ (w : ConnTable). record h { store = c.segment.new.store; conns = w.conns; next_conn = w.next; sums = c.segment.new.sums }) c.segment.ensures.others) e.moves c.segment.ensures.lists e.frees c.segment.ensures.settles c.segment.ensures.right c.settle.ensures.left (uses_kept c.settle.ensures.left.sums e.uses)
 
 pub returns-in_err-segment : goal.returns-in_err-segment
@@ -52,5 +51,5 @@ returns-in_err-segment c =
     let e = c.in_err-segment.ensures in
     let k : KernelState = record h { store = c.segment.new.store; conns = c.segment.new.self.conns; next_conn = c.segment.new.self.next; sums = c.segment.new.sums } in
     let same : k ≡ h = λ i. record h { store = e.err_store i; conns = (e.err i).conns; next_conn = (e.err i).next; sums = e.err_sums i } in
-    let kept = send_kept h k c.args.conn c.args.max c.in_err-segment.field-0.0 c.requires.sound (conn_held (bytes_over [] h.store) h c.args.conn c.requires.there) (search (rules)) same in
+    let kept = send_kept h k c.args.conn c.args.max c.in_err-segment.field-0.0 c.requires.sound (conn_is h c.args.conn c.requires.there) (search (rules)) same in
     search (rules, kept)

@@ -35,11 +35,5 @@ pub returns-then-not-is_over-clause-others : goal.returns-then-not-is_over-claus
 returns-then-not-is_over-clause-others c = record { each = λ e differ open'. open' }
 
 pub returns-clause-others : goal.returns-clause-others
-returns-clause-others c =
-    let h = state_of c.args.self.now in
-    let x : Conn (List Slice) = c.forget-over.result in
-    let found = sym c.forget-over.ensures.given in
-    let good = conn_readable h c.args.conn x c.requires.sound found in
-    let r = c.release.ensures in
-    gone_keeps h c.args.conn x c.requires.sound found c.release.new.store (over (goal.at.returns-clause-others c).After-forget-over) r.moves r.lists r.frees (r.settles (readable_joined good.0 good.1) c.requires.sound.settled)
+returns-clause-others c = gone_keeps (state_of c.args.self.now) c.args.conn c.forget-over.result c.requires.sound (sym c.forget-over.ensures.given) (over (goal.at.returns-clause-others c).After-forget-over)
     (on.Connection c.args.conn) c.forget-over.new.self.conns c.forget-over.new.self.next c.forget-over.ensures.rest

@@ -5,6 +5,7 @@ use Rattle.iol_desc.specs.Tables.{domains_of}
 use Rattle.iol_cache.specs.Cache.{cached_of}
 use Rattle.iol_kernel.specs.Kernel.{state_of}
 use Rattle.iol_kernel.specs.Readings.{bytes_over}
+use Rattle.iol_kernel.proofs.FileCalls.FileReads.{set_to}
 use Rattle.iol_kernel.proofs.FileCalls.Named.{cache_sound}
 use Rattle.iol_kernel.proofs.Queues.Opening.{end_held}
 use Rattle.iol_kernel.proofs.State.ReadOf.{descriptor-read_of, live_held}
@@ -44,7 +45,7 @@ pub returns : goal.returns
 returns c =
     let w = c.in_default-write.ensures in
     overwritten (state_of c.args.self.now) c.write.new.store (cached_of c.write.new.self) c.args.by c.args.fd c.args.agg c.args.found.file c.args.found.at c.args.found.mode c.in-Some.source.now c.requires.open (sym (ap option_copied c.in-Some.is) ∙ c.agg.ensures)
-    w.moves w.lists w.settles w.pages w.sound w.mirrors c.requires.passed w.lies w.writes w.nothing (domains_of c.set_fd.new.self) c.len-len.result w.written w.others c.requires.short c.len-len.ensures w.room c.set_fd.ensures.set
+    w.moves w.lists w.settles w.pages w.sound w.mirrors c.requires.passed w.lies w.writes w.nothing (domains_of c.set_fd.new.self) c.len-len.result w.written w.others c.requires.short c.len-len.ensures w.room (set_to (domains_of c.args.self.now.domains) c.args.by c.args.fd c.set_fd.ensures.set c.moved_by.ensures)
 
 pub set_fd-requires-clause-there : goal.set_fd-requires-clause-there
 set_fd-requires-clause-there c none =

@@ -1,0 +1,2 @@
+-- The words that contracts of other crates cite, passed on from one place. Declares nothing.
+pub use Rattle.iol_agg.specs.Held.{IsHeldBy}

@@ -1,0 +1,13 @@
+-- The words that contracts of other crates cite, passed on from one place. Declares nothing.
+pub use Rattle.iol_core.specs.Calls.Aggregates.{default_pool, lacks_agg, show, too_many_aggs}
+pub use Rattle.iol_core.specs.Calls.Descriptors.{closed_on, freed, too_many_open, with_fds}
+pub use Rattle.iol_core.specs.Calls.Files.{file_called, file_on, open_on}
+pub use Rattle.iol_core.specs.Calls.Outside.{lacks_conn}
+pub use Rattle.iol_core.specs.Calls.Pools.{distinct, has_place, with_name}
+pub use Rattle.iol_core.specs.Checksum.{checksum, folded}
+pub use Rattle.iol_core.specs.Configuration.{IsInRange}
+pub use Rattle.iol_core.specs.Meaning.{FaultOf, Never, Step, WantOfMemory, WantOfRoom, WantOfRoomOrFault, first}
+pub use Rattle.iol_core.specs.Numbered.{changed, in_place, is_numbered, lookup, lowest, numbered_or, placed, taken, with_numbered, without}
+pub use Rattle.iol_core.specs.Run.{Run}
+pub use Rattle.iol_core.specs.State.{State, conn_at, content, descriptor, domain, is_gone, is_live, is_pool, may_read, new_domain, new_state, no_domain, text, with_conn, with_domain}
+pub use Rattle.iol_core.specs.Text.{barred, bytes_of}

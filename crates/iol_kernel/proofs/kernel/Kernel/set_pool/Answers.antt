@@ -1,0 +1,15 @@
+use Rattle.std.proofs.Common.{rules, ap}
+use Rattle.std.specs.Prelude.{Err}
+use Rattle.iol_core.specs.Calls.Pools as calls
+use Rattle.iol_kernel.specs.Kernel.{state_of}
+use Rattle.iol_kernel.proofs.State.Carried.{carried_done, carried_refused}
+use Rattle.iol_kernel.proofs.kernel.Kernel.set_pool.Goals as goal
+
+pub returns-in_err-test_pool : goal.returns-in_err-test_pool
+returns-in_err-test_pool c =
+    let e = c.in_err-test_pool.ensures in
+    let done = carried_refused (λ s. calls.set_pool s c.args.by c.args.pool) (state_of c.args.self.now) c.in_err-test_pool.field-0.0 c.requires e.refused (λ p is. e.roomy p (ap Err is)) in
+    search (rules, done)
+
+pub returns : goal.returns
+returns c = carried_done (λ s. calls.set_pool s c.args.by c.args.pool) (state_of c.args.self.now) (state_of c.set_default.new.self) c.in_ok-test_pool.ensures.passed tt c.set_default.ensures

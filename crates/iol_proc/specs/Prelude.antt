@@ -1,0 +1,7 @@
+-- The words that contracts of other crates cite, passed on from one place. Declares nothing.
+pub use Rattle.iol_proc.specs.Laws.{KeepsHonesty}
+pub use Rattle.iol_proc.specs.Looks.{lent}
+pub use Rattle.iol_proc.specs.Quiet.{IsQuiet}
+pub use Rattle.iol_proc.specs.Settled.{AllSettled, Settles}
+pub use Rattle.iol_proc.specs.Turns.{Account}
+pub use Rattle.iol_proc.specs.World.{copied}

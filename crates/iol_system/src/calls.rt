@@ -1,0 +1,61 @@
+//! The calls of domains: to each the kernel's function that carries it out.
+ghost use Rattle.iol_core.specs.declared.events.Event.TheVariants as event;
+ghost use Rattle.iol_kernel.specs.Prelude.{state_of, IsSound};
+ghost use Rattle.iol_system.specs.Doing.{Does};
+
+use crate::replies;
+use iol_back::backing::Backing;
+use iol_core::events::{Call, Reply};
+use iol_core::numbers::DomainId;
+use iol_kernel::kernel::Kernel;
+use iol_posix::{read_bytes, write};
+
+/// Carries out one call of a domain, and replies.
+pub(crate) fn answer_call<B: Backing>(
+    kernel: &mut Kernel,
+    backing: &mut B,
+    by: DomainId,
+    call: &Call,
+) -> Reply
+    requires { IsSound (state_of kernel.old) }
+    ensures { Does (B.disk backing.old) (state_of kernel.old) (event.Call by call.now) result
+        (B.disk backing.new) (state_of kernel.new) }
+{
+    match call {
+        Call::DomainNew => replies::domain(kernel.domain_new(by)),
+        Call::Exit => replies::done(kernel.exit(by)),
+        Call::PoolCreate { chunks, domains } => {
+            replies::pool(kernel.pool_create(by, *chunks, domains))
+        }
+        Call::PoolClose { pool } => replies::done(kernel.pool_close(by, *pool)),
+        Call::PoolAdmit { pool, domain } => replies::done(kernel.pool_admit(by, *pool, *domain)),
+        Call::SetPool { pool } => replies::done(kernel.set_pool(by, *pool)),
+        Call::AggMake { bytes } => replies::agg(kernel.agg_make(by, bytes)),
+        Call::AggDup { agg } => replies::agg(kernel.agg_dup(by, *agg)),
+        Call::AggCut { agg, from, to } => replies::agg(kernel.agg_cut(by, *agg, *from, *to)),
+        Call::AggSplit { agg, at } => replies::aggs(kernel.agg_split(by, *agg, *at)),
+        Call::AggJoin { first, second } => replies::agg(kernel.agg_join(by, *first, *second)),
+        Call::AggReplace {
+            agg,
+            from,
+            to,
+            with,
+        } => replies::agg(kernel.agg_replace(by, *agg, *from, *to, *with)),
+        Call::AggDrop { agg } => replies::done(kernel.agg_drop(by, *agg)),
+        Call::AggGive { agg, to } => replies::agg(kernel.agg_give(by, *agg, *to)),
+        Call::Show { agg } => replies::bytes(kernel.show(by, *agg)),
+        Call::FileNew { name, pool } => replies::file(kernel.file_new(backing, by, name, *pool)),
+        Call::OpenFile { name, mode } => replies::fd(kernel.open_file(by, name, *mode)),
+        Call::Pipe => replies::fds(kernel.pipe(by)),
+        Call::GiveFd { fd, to } => replies::fd(kernel.give_fd(by, *fd, *to)),
+        Call::Close { fd } => replies::done(kernel.close(by, *fd)),
+        Call::Seek { fd, at } => replies::done(kernel.seek(backing, by, *fd, *at)),
+        Call::Length { fd } => replies::count(kernel.file_length(backing, by, *fd)),
+        Call::IolRead { fd, count } => replies::agg(kernel.iol_read(backing, by, *fd, *count)),
+        Call::IolWrite { fd, agg } => replies::count(kernel.iol_write(by, *fd, *agg)),
+        Call::Fsync { fd } => replies::done(kernel.fsync(backing, by, *fd)),
+        Call::Read { fd, count } => replies::bytes(read_bytes(kernel, backing, by, *fd, *count)),
+        Call::Write { fd, bytes } => replies::count(write(kernel, by, *fd, bytes.as_slice())),
+        Call::Accept => replies::fd(kernel.accept(by)),
+    }
+}
