@@ -5,12 +5,4 @@
 #![tactic(auto)]
 
 #[cfg(test)]
-mod ample;
-#[cfg(test)]
-mod ends;
-#[cfg(test)]
-mod outputs;
-#[cfg(test)]
-mod rows;
-#[cfg(test)]
-mod stage;
+mod tests;

@@ -5,30 +5,4 @@
 #![tactic(auto)]
 
 #[cfg(test)]
-mod answers;
-#[cfg(test)]
-mod crowds;
-#[cfg(test)]
-mod ends;
-#[cfg(test)]
-mod heads;
-#[cfg(test)]
-mod host;
-#[cfg(test)]
-mod hosted;
-#[cfg(test)]
-mod outputs;
-#[cfg(test)]
-mod ranges;
-#[cfg(test)]
-mod refusals;
-#[cfg(test)]
-mod rows;
-#[cfg(test)]
-mod scripts;
-#[cfg(test)]
-mod sizes;
-#[cfg(test)]
-mod together;
-#[cfg(test)]
-mod turns;
+mod tests;

@@ -2,18 +2,4 @@
 #![tactic(auto)]
 
 #[cfg(test)]
-mod answers;
-#[cfg(test)]
-mod chunks;
-#[cfg(test)]
-mod malformed_heads;
-#[cfg(test)]
-mod outcomes;
-#[cfg(test)]
-mod ranges;
-#[cfg(test)]
-mod real_heads;
-#[cfg(test)]
-mod texts;
-#[cfg(test)]
-mod windows;
+mod tests;

@@ -53,3 +53,16 @@ pub fn pass_each<T, E: Debug + Drop, F: FnMut(&T) -> Result<bool, E>>(
 {
     pass_all(count_held(rows, holds), rows.len())
 }
+
+/// Whether this holds of what was made for a test. Then std's `drop` lets it go, and no test opens it.
+pub fn lend<T: Drop, E: Drop, F: FnOnce(&mut T) -> bool + Drop>(
+    made: Result<T, E>,
+    holds: F,
+) -> Result<bool, E>
+    requires { F.IsAlwaysCallable holds }
+{
+    let mut value = made?;
+    let all = holds(&mut value);
+    drop(value);
+    Ok(all)
+}

@@ -1,0 +1,6 @@
+//! What workers make of scripts.
+mod ample;
+mod ends;
+mod outputs;
+mod rows;
+mod stage;

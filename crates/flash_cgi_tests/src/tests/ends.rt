@@ -1,0 +1,84 @@
+//! Scripts that nobody reads, jobs that are none, and the end of the job pipe.
+use super::rows::{OUTPUT, close, give, is_put_out, job_of};
+use super::stage::{Stage, on_stage};
+use iol_core::events::{Call, Reply};
+use iol_core::lists::Bytes;
+use iol_core::refusals::Refusal;
+use std::alloc::Global;
+use std::test::Fail;
+use test_parts::checks::pass;
+
+// Whether the worker has this number, and the next, free.
+fn has_free(stage: &mut Stage, fd: u32) -> bool {
+    match stage.call(2, Call::Pipe) {
+        Reply::Fds(read, write) => read.number() == fd && write.number() == fd.saturating_add(1),
+        _ => false,
+    }
+}
+
+// The pipe is closed before the script begins: it ends at its first write, and the next job is run.
+fn goes_on(stage: &mut Stage, unread: Bytes, next: Bytes) -> bool {
+    give(stage, unread)
+        && close(stage, 0)
+        && stage.settle()
+        && give(stage, next)
+        && is_put_out(stage, b"x\n")
+        && has_free(stage, OUTPUT)
+}
+
+fn ends_unread(alloc: Global) -> Result<bool, Refusal> {
+    let unread = job_of(alloc, OUTPUT, "", "emit a\nquery\nemit b")?;
+    let next = job_of(alloc, OUTPUT, "x", "query")?;
+    on_stage(alloc, |stage| {
+        goes_on(stage, unread, next) && !stage.is_rough()
+    })
+}
+
+#[test]
+fn broken_pipe_ends_the_script(rt: HostRuntime) -> Result<(), Fail> {
+    pass(ends_unread(rt.alloc()))
+}
+
+// What is no job is dropped, and what it gave the worker is left there.
+fn passes_over(stage: &mut Stage, none: Bytes, next: Bytes) -> bool {
+    give(stage, none)
+        && stage.settle()
+        && close(stage, 0)
+        && give(stage, next)
+        && is_put_out(stage, b"x\n")
+}
+
+fn drops_no_job(alloc: Global, script: &str) -> Result<bool, Refusal> {
+    let none = job_of(alloc, OUTPUT, "", script)?;
+    let next = job_of(alloc, OUTPUT + 1, "x", "query")?;
+    on_stage(alloc, |stage| passes_over(stage, none, next))
+}
+
+#[test]
+fn what_is_no_job_is_dropped(rt: HostRuntime) -> Result<(), Fail> {
+    pass(drops_no_job(rt.alloc(), "jump"))
+}
+
+#[test]
+fn what_begins_as_a_job_is_dropped(rt: HostRuntime) -> Result<(), Fail> {
+    pass(drops_no_job(rt.alloc(), "emit a\ncat "))
+}
+
+// The job pipe ends behind a job: the job is run, and then the worker makes no more calls.
+fn stops(stage: &mut Stage, job: Bytes) -> bool {
+    give(stage, job)
+        && close(stage, 1)
+        && is_put_out(stage, b"x\n")
+        && stage.settle()
+        && has_free(stage, OUTPUT)
+}
+
+fn stops_at_the_end(alloc: Global) -> Result<bool, Refusal> {
+    let job = job_of(alloc, OUTPUT, "x", "query")?;
+    on_stage(alloc, |stage| stops(stage, job) && !stage.is_rough())
+}
+
+#[test]
+fn job_pipe_ends(rt: HostRuntime) -> Result<(), Fail> {
+    pass(stops_at_the_end(rt.alloc()))
+}

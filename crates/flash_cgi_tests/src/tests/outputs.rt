@@ -1,0 +1,86 @@
+//! What scripts put out.
+use super::rows::{OUTPUT, Row, give, held, is_put_out};
+use super::stage::on_stage;
+use flash_cgi::jobs::job_text;
+use iol_core::numbers::Fd;
+use iol_core::refusals::Refusal;
+use std::alloc::Global;
+use std::test::Fail;
+use test_parts::checks::{pass, pass_all};
+use test_parts::texts::repeated;
+use test_worlds::files::Kept;
+
+// A file for all, and one of the guest's.
+const FILES: [Kept<'static>; 2] = [("f", b"a\nb", false), ("p", b"secret", true)];
+
+// One byte more than a query has that is joined to texts.
+const LONG_QUERY: &str = "xxxxxxxxxxxxxxxxxxxxxxxxxxxxxxxxxxxxxxxxxxxxxxxxxxxxxxxxxxxxxxxxx";
+
+const ROWS: [Row<'static>; 13] = [
+    ("emit a\nquery\ncat f", "q=1", b"a\nq=1\na\nb"),
+    ("wc f\ncat none\nemit\n", "", b"1 3\n[NoFile]\n\n"),
+    ("cat p", "", b"[Denied]\n"),
+    ("wc p\ncat f\nwc none", "", b"[Denied]\na\nb[NoFile]\n"),
+    ("pause\npause\npause\nemit a", "", b"a\n"),
+    ("", "q", b""),
+    ("\n\n", "", b""),
+    (
+        "emit a\nquery\nemit b",
+        LONG_QUERY,
+        b"a\nxxxxxxxxxxxxxxxxxxxxxxxxxxxxxxxxxxxxxxxxxxxxxxxxxxxxxxxxxxxxxxxxx\nb\n",
+    ),
+    ("emit  two  ", "", b" two  \n"),
+    ("emit \nquery\nquery", "", b"\n\n\n"),
+    ("emit a\r\ncat f\r\n", "", b"a\r\n[NoFile]\n"),
+    ("emit a\nemit b\npause\nemit c\nemit", "", b"a\nb\nc\n\n"),
+    (
+        "emit a\nemit\ncat f\nemit b\nemit c\nquery",
+        "q",
+        b"a\n\na\nbb\nc\nq\n",
+    ),
+];
+
+#[test]
+fn outcomes_of_a_script(rt: HostRuntime) -> Result<(), Fail> {
+    pass_all(held(rt.alloc(), &FILES, &ROWS), ROWS.len())
+}
+
+// Files of no bytes, of as many as a pipe holds, and of more, which go in pieces.
+fn sizes_held<'a>(alloc: Global, full: &'a [u8], more: &'a [u8]) -> Result<usize, Refusal> {
+    let files: [Kept<'a>; 3] = [
+        ("none", b"", false),
+        ("full", full, false),
+        ("more", more, false),
+    ];
+    let counts = b"0 0\n0 65536\n100000 100000\n".as_slice();
+    let rows = [
+        ("cat none", "", b"".as_slice()),
+        ("cat full", "", full),
+        ("cat more", "", more),
+        ("wc none\nwc full\nwc more", "", counts),
+    ];
+    held(alloc, &files, &rows)
+}
+
+#[test]
+fn files_of_several_sizes(rt: HostRuntime) -> Result<(), Fail> {
+    let full = vec![in rt.alloc(); b'z'; 65_536]?;
+    let more = vec![in rt.alloc(); b'\n'; 100_000]?;
+    pass_all(sizes_held(rt.alloc(), &full, &more), 4)
+}
+
+// Many more texts than the worker's pool has pages: nothing is read before all of them are put out, and no
+// call is refused for want of room.
+fn many_texts(alloc: Global) -> Result<bool, Refusal> {
+    let script = repeated(alloc, b"emit abc\n", 1500)?;
+    let wanted = repeated(alloc, b"abc\n", 1500)?;
+    let job = job_text(alloc, Fd::new(OUTPUT), b"", &script)?;
+    on_stage(alloc, |stage| {
+        give(stage, job) && is_put_out(stage, &wanted) && !stage.is_rough()
+    })
+}
+
+#[test]
+fn more_texts_than_pages(rt: HostRuntime) -> Result<(), Fail> {
+    pass(many_texts(rt.alloc()))
+}

@@ -1,0 +1,106 @@
+//! Rows: a script, the query of its request, and all that it puts out.
+use super::stage::{Stage, stage_of};
+use flash_cgi::jobs::job_text;
+use iol_core::events::{Call, Reply};
+use iol_core::lists::Bytes;
+use iol_core::numbers::{DomainId, Fd};
+use iol_core::refusals::Refusal;
+use std::alloc::{AllocError, Global};
+use test_worlds::files::Kept;
+
+/// A script, the query, and what is put out.
+pub type Row<'a> = (&'a str, &'a str, &'a [u8]);
+
+/// The descriptor that takes a job's output, in the worker: its lowest that is free.
+pub const OUTPUT: u32 = 1;
+
+/// The job of a script.
+pub fn job_of(alloc: Global, fd: u32, query: &str, script: &str) -> Result<Bytes, AllocError> {
+    job_text(alloc, Fd::new(fd), query.as_bytes(), script.as_bytes())
+}
+
+// Gives the write end of a new pipe to the worker. The read end is descriptor 0.
+fn open_output(stage: &mut Stage) -> bool {
+    let opened = stage.call(1, Call::Pipe);
+    let (fd, to) = (Fd::new(2), DomainId::new(2));
+    let given = stage.call(1, Call::GiveFd { fd, to });
+    matches!(opened, Reply::Fds(_, _)) && matches!(given, Reply::Fd(_))
+}
+
+/// Gives the worker a job whose output goes to a new pipe. Whether it can be done.
+pub fn give(stage: &mut Stage, job: Bytes) -> bool {
+    if !open_output(stage) {
+        return false;
+    }
+    let Reply::Agg(agg) = stage.call(1, Call::AggMake { bytes: job }) else {
+        return false;
+    };
+    let written = stage.call(
+        1,
+        Call::IolWrite {
+            fd: Fd::new(1),
+            agg,
+        },
+    );
+    let dropped = stage.call(1, Call::AggDrop { agg });
+    matches!(written, Reply::Count(_)) && matches!(dropped, Reply::Done)
+}
+
+/// Closes a descriptor of the first domain.
+pub fn close(stage: &mut Stage, fd: u32) -> bool {
+    matches!(stage.call(1, Call::Close { fd: Fd::new(fd) }), Reply::Done)
+}
+
+/// Takes all that is put out, up to its end, with turns before each read, and compares it.
+pub fn is_put_out(stage: &mut Stage, wanted: &[u8]) -> bool {
+    let mut left = wanted;
+    for _ in 0..1000 {
+        if !stage.settle() {
+            return false;
+        }
+        let read = Call::Read {
+            fd: Fd::new(0),
+            count: 65536,
+        };
+        let Reply::Bytes(bytes) = stage.call(1, read) else {
+            return false;
+        };
+        if bytes.as_slice().is_empty() {
+            return left.is_empty() && close(stage, 0);
+        }
+        match left.strip_prefix(bytes.as_slice()) {
+            Some(rest) => left = rest,
+            None => return false,
+        }
+    }
+    false
+}
+
+// How many rows hold, up to the first that does not.
+fn count_held(stage: &mut Stage, jobs: Vec<Bytes>, rows: &[Row<'_>]) -> u32 {
+    let mut held = 0u32;
+    for (row, job) in rows.iter().zip(jobs) {
+        if !give(stage, job) || !is_put_out(stage, row.2) {
+            return held;
+        }
+        held = held.saturating_add(1);
+    }
+    held
+}
+
+fn jobs_of(alloc: Global, rows: &[Row<'_>]) -> Result<Vec<Bytes>, AllocError> {
+    let mut jobs = Vec::new(alloc);
+    for (script, query, _) in rows {
+        jobs.push(job_of(alloc, OUTPUT, query, script)?)?;
+    }
+    Ok(jobs)
+}
+
+/// How many rows hold with these files, run one after another by one worker, up to the first that does not.
+pub fn held(alloc: Global, files: &[Kept<'_>], rows: &[Row<'_>]) -> Result<usize, Refusal> {
+    let jobs = jobs_of(alloc, rows)?;
+    let mut stage = stage_of(alloc, files)?;
+    let count = count_held(&mut stage, jobs, rows);
+    drop(stage);
+    Ok(count as usize)
+}

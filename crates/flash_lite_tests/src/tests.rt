@@ -1,0 +1,15 @@
+//! Requests to a site in memory, and what is answered.
+mod answers;
+mod crowds;
+mod ends;
+mod heads;
+mod host;
+mod hosted;
+mod outputs;
+mod ranges;
+mod refusals;
+mod rows;
+mod scripts;
+mod sizes;
+mod together;
+mod turns;

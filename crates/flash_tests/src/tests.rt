@@ -1,0 +1,9 @@
+//! What the libraries of the web server make of heads, ranges and texts.
+mod answers;
+mod chunks;
+mod malformed_heads;
+mod outcomes;
+mod ranges;
+mod real_heads;
+mod texts;
+mod windows;

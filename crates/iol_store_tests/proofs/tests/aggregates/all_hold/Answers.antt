@@ -1,0 +1,5 @@
+use Rattle.iol_agg.proofs.Holding.{held_moves}
+use Rattle.iol_store_tests.proofs.tests.aggregates.all_hold.Goals as goal
+
+pub copy_all-copied-requires : goal.copy_all-copied-requires
+copy_all-copied-requires g c = held_moves c.start-store.ensures c.filled-agg.ensures.moves

@@ -1,0 +1,14 @@
+use Rattle.std.proofs.Common.{◌≡◌, replicate, sym, subst, false, List}
+use Rattle.iol_arena.specs.State.{State}
+use Rattle.iol_pool.specs.Pools.{Pool}
+use Rattle.iol_pool.specs.Owned.{AreOwned}
+use Rattle.iol_pool.proofs.Owning.{owned_none}
+use Rattle.iol_hold.proofs.Making.{none_taken}
+use Rattle.iol_agg.proofs.Holding.{of_ok}
+use Rattle.iol_store_tests.proofs.tests.pools.all_hold.Goals as goal
+
+pub create-requires-clause-owned : goal.create-requires-clause-owned
+create-requires-clause-owned g c =
+    let a = c.expect-arena.result in
+    let taken = of_ok (λ (s : State). s.taken ≡ replicate 3 false) c.new.result a c.new.ensures.taken c.expect-arena.ensures in
+    subst (λ (l : List Pool). AreOwned a l) (sym c.new-pools.ensures) (owned_none a (none_taken a.taken 3 taken))

@@ -1,0 +1,14 @@
+//! Pages, aggregates, pipes, descriptors, sums, extents and stores of files.
+mod aggregates;
+mod arenas;
+mod backing;
+mod extents;
+mod holds;
+mod order;
+mod pipes;
+mod pools;
+mod refusals;
+mod remembered;
+mod stores;
+mod sums;
+mod tables;

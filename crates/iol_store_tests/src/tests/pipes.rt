@@ -1,0 +1,105 @@
+//! Each call that wants memory answers when there is enough.
+ghost use Rattle.std.specs.Prelude.{[]};
+ghost use Rattle.iol_hold.specs.Prelude.{bufs_of};
+ghost use Rattle.iol_agg.specs.Prelude.{IsHeldBy};
+
+use super::stores::{add_pool, filled, new_store};
+use iol_core::configuration::Config;
+use iol_core::numbers::{DomainId, PoolId};
+use iol_hold::Store;
+use iol_pipe::Pipe;
+use std::alloc::Global;
+use std::process::Abort;
+use std::test::Fail;
+use test_parts::checks::pass_if;
+
+// Each page is used once.
+const FOUR_CHUNKS: Config = Config {
+    chunks: 4,
+    gen_limit: 1,
+    sums: 1,
+};
+
+// A store with a pool for two domains, and one for the second of them.
+fn start<R: Abort>(rt: &R, alloc: Global) -> (Store, PoolId, PoolId)
+    ensures { IsHeldBy result.0 [] }
+{
+    let (one, two) = (DomainId::new(1), DomainId::new(2));
+    let mut store = new_store(rt, alloc, FOUR_CHUNKS);
+    let both = add_pool(rt, alloc, &mut store, 2, &[one, two]);
+    let second = add_pool(rt, alloc, &mut store, 2, &[two]);
+    (store, both, second)
+}
+
+// Pushes new bytes, and tells how many were taken. Each way to count them comes to the same.
+fn push<R: Abort>(
+    rt: &R,
+    alloc: Global,
+    store: &mut Store,
+    pipe: &mut Pipe,
+    pool: PoolId,
+    text: &[u8],
+) -> u32
+    requires { IsHeldBy store.old (bufs_of pipe.old) }
+    ensures { IsHeldBy store.new (bufs_of pipe.new) }
+{
+    let waiting = pipe.len();
+    let agg = filled(rt, alloc, store, pool, text);
+    let len = agg.len();
+    let taken = pipe.push(store, &agg).expect(rt, "memory");
+    agg.release(store);
+    assert!(rt; len as usize == text.len() && pipe.len() - waiting == taken);
+    taken
+}
+
+// Takes bytes off for a domain, and tells how many they were.
+fn front<R: Abort>(
+    rt: &R,
+    alloc: Global,
+    store: &mut Store,
+    pipe: &mut Pipe,
+    n: u32,
+    d: DomainId,
+) -> u32
+    requires { IsHeldBy store.old (bufs_of pipe.old) }
+    ensures { IsHeldBy store.new (bufs_of pipe.new) }
+{
+    let waiting = pipe.len();
+    let given = pipe.front(alloc, store, n, d).expect(rt, "memory");
+    let len = given.len();
+    given.release(store);
+    assert!(rt; pipe.len() == waiting - len);
+    len
+}
+
+// How many bytes are asked for, by which domain, and how many it gets of five that both may read and then three of domain 2.
+const FRONTS: [(u32, u32, u32); 5] = [(3, 1, 3), (9, 1, 2), (9, 1, 0), (2, 2, 2), (9, 2, 1)];
+
+// Takes bytes off as the rows say.
+fn fronts_hold<R: Abort>(rt: &R, alloc: Global, store: &mut Store, pipe: &mut Pipe) -> bool
+    requires { IsHeldBy store.old (bufs_of pipe.old) }
+    ensures { IsHeldBy store.new (bufs_of pipe.new) }
+{
+    let mut all = true;
+    for (n, d, want) in FRONTS {
+        all &= front(rt, alloc, store, pipe, n, DomainId::new(d)) == want;
+    }
+    all
+}
+
+fn all_hold<R: Abort>(rt: &R, alloc: Global, text: &[u8]) -> bool {
+    let (mut store, both, second) = start(rt, alloc);
+    let mut pipe = Pipe::new(alloc);
+    let five = push(rt, alloc, &mut store, &mut pipe, both, b"hello");
+    let three = push(rt, alloc, &mut store, &mut pipe, second, b"you");
+    let all_come = fronts_hold(rt, alloc, &mut store, &mut pipe) && pipe.is_empty();
+    let most = push(rt, alloc, &mut store, &mut pipe, second, text);
+    let taken = five == 5 && three == 3 && most == 65_536;
+    taken && all_come && pipe.first_pool() == Some(second)
+}
+
+#[test]
+fn ample(rt: HostRuntime) -> Result<(), Fail> {
+    let text = vec![in rt.alloc(); 7u8; 70_000]?;
+    pass_if(all_hold(&rt, rt.alloc(), &text))
+}

@@ -1,0 +1,179 @@
+//! A system with connection 1, which is served from outside.
+use iol_back::memory::MemoryBacking;
+use iol_core::configuration::Config;
+use iol_core::descriptors::How;
+use iol_core::events::{Call, Event, Reply};
+use iol_core::lists::{Bytes, Domains};
+use iol_core::numbers::{AggId, ConnId, DomainId, Fd, PoolId};
+use iol_core::refusals::Refusal;
+use iol_sock::{Arrived, Drained};
+use std::alloc::{AllocError, Global};
+use test_parts::streams::{Sink, Source};
+use test_worlds::files::empty_store;
+use test_worlds::systems::{TestSystem, call_of};
+
+// The connection that is there.
+const CONN: u32 = 1;
+
+/// One that is not.
+pub const NONE: u32 = 2;
+
+const FD: u32 = 0;
+
+/// What one read gave: how many bytes, whether the reader is at its end, and whether it failed.
+pub type Gave = (u32, bool, bool);
+
+const CONFIG: Config = Config {
+    chunks: 2,
+    gen_limit: u32::MAX,
+    sums: 8,
+};
+
+// What makes the pool, for these domains, and the connection.
+fn beginnings(domains: Domains) -> [Event; 4] {
+    let (pool, chunks) = (PoolId::new(1), CONFIG.chunks);
+    [
+        call_of(1, Call::PoolCreate { chunks, domains }),
+        call_of(1, Call::SetPool { pool }),
+        Event::ConnNew { pool },
+        call_of(1, Call::Accept),
+    ]
+}
+
+// What came in is read, as the first aggregate, written back and dropped.
+fn echoing() -> [Event; 3] {
+    let (fd, agg) = (Fd::new(FD), AggId::new(1));
+    [
+        call_of(1, Call::IolRead { fd, count: 65_536 }),
+        call_of(1, Call::IolWrite { fd, agg }),
+        call_of(1, Call::AggDrop { agg }),
+    ]
+}
+
+/// So many bytes.
+pub fn text(alloc: Global, count: usize) -> Result<Bytes, AllocError> {
+    let list = vec![in alloc; b'a'; count]?;
+    Ok(Bytes::from_vec(list))
+}
+
+/// A system over an empty store, with pool 1 of 32 pages, the default of domain 1, and connection 1 of it, which
+/// domain 1 accepted as descriptor 0.
+#[derive(Drop)]
+pub struct Line {
+    /// Where a test has its memory.
+    pub alloc: Global,
+    system: TestSystem<MemoryBacking>,
+}
+
+impl Line {
+    pub fn new(alloc: Global) -> Result<Line, Refusal> {
+        let domains = Domains::from_vec([DomainId::new(1)].to_vec(alloc)?);
+        let events = beginnings(domains);
+        let system = TestSystem::begun(alloc, CONFIG, empty_store(alloc), &[&events])?;
+        Ok(Line { alloc, system })
+    }
+
+    // Whether an event is answered by an aggregate.
+    fn makes(&mut self, event: &Event) -> bool {
+        matches!(self.system.step(event), Reply::Agg(_))
+    }
+
+    // Whether it is answered by a count.
+    fn counts(&mut self, event: &Event) -> bool {
+        matches!(self.system.step(event), Reply::Count(_))
+    }
+
+    // Whether it is done, with nothing to tell.
+    fn completes(&mut self, event: &Event) -> bool {
+        matches!(self.system.step(event), Reply::Done)
+    }
+
+    /// Bytes come in from a reader.
+    pub fn arrive_from(
+        &mut self,
+        conn: u32,
+        reader: &mut Source<'_>,
+        max: u32,
+    ) -> Result<Arrived, Refusal> {
+        self.system.arrive_from(ConnId::new(conn), reader, max)
+    }
+
+    /// Whether this comes in from a reader.
+    pub fn arrives(&mut self, reader: &mut Source<'_>, max: u32, want: Gave) -> bool {
+        let (taken, end, failed) = want;
+        let want = Arrived { taken, end, failed };
+        self.arrive_from(CONN, reader, max) == Ok(want)
+    }
+
+    /// Whether so many bytes come in, and the reader neither ends nor fails.
+    pub fn takes(&mut self, reader: &mut Source<'_>, max: u32, taken: u32) -> bool {
+        self.arrives(reader, max, (taken, false, false))
+    }
+
+    /// Whether what a reader has is refused so.
+    pub fn refuses(&mut self, reader: &mut Source<'_>, max: u32, want: Refusal) -> bool {
+        self.arrive_from(CONN, reader, max) == Err(want)
+    }
+
+    /// Bytes go out to a writer.
+    pub fn drain_to(&mut self, conn: u32, writer: &mut Sink, max: u32) -> Result<Drained, Refusal> {
+        self.system.drain_to(ConnId::new(conn), writer, max)
+    }
+
+    /// Whether so many bytes go out to a writer, and whether it fails.
+    pub fn drains(&mut self, writer: &mut Sink, max: u32, (taken, failed): (u32, bool)) -> bool {
+        self.drain_to(CONN, writer, max) == Ok(Drained { taken, failed })
+    }
+
+    /// So many bytes arrive that come from no reader.
+    pub fn arrive(&mut self, count: usize) -> bool {
+        let conn = ConnId::new(CONN);
+        match text(self.alloc, count) {
+            Ok(bytes) => self.counts(&Event::Arrive { conn, bytes }),
+            Err(_) => false,
+        }
+    }
+
+    /// Domain 1 makes an aggregate of so many bytes.
+    pub fn fill(&mut self, count: usize) -> bool {
+        match text(self.alloc, count) {
+            Ok(bytes) => self.makes(&call_of(1, Call::AggMake { bytes })),
+            Err(_) => false,
+        }
+    }
+
+    /// The peer sends no more.
+    pub fn end(&mut self) -> bool {
+        let (conn, how) = (ConnId::new(CONN), How::Done);
+        self.completes(&Event::PeerClosed { conn, how })
+    }
+
+    /// Domain 1 reads what came in, as its first aggregate, and writes it back.
+    pub fn echo(&mut self) -> bool {
+        let [read, write, end] = &echoing();
+        self.makes(read) && self.counts(write) && self.completes(end)
+    }
+
+    /// Whether this is sent as a segment: these bytes, with their checksum.
+    pub fn transmits(&mut self, max: u32, (want, sum): (&[u8], u16)) -> bool {
+        let conn = ConnId::new(CONN);
+        match self.system.step(&Event::Transmit { conn, max }) {
+            Reply::Segment { bytes, checksum } => bytes.as_slice() == want && checksum == sum,
+            _ => false,
+        }
+    }
+
+    /// Whether domain 1 reads these bytes, which came in.
+    pub fn reads(&mut self, want: &[u8]) -> bool {
+        let (fd, count) = (Fd::new(FD), 65_536);
+        match self.system.step(&call_of(1, Call::Read { fd, count })) {
+            Reply::Bytes(bytes) => bytes.as_slice() == want,
+            _ => false,
+        }
+    }
+
+    /// Whether so many buffers are live.
+    pub fn holds(&self, want: u32) -> bool {
+        self.system.buffers() == Ok(want)
+    }
+}
