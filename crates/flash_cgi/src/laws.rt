@@ -1,18 +1,5 @@
 //! Laws of scripts and workers. The functions do nothing; their contracts are the laws.
-ghost use Rattle.flash_cgi.specs.Beside.{OthersHear};
-ghost use Rattle.flash_cgi.specs.Due.{ScriptsPutOut};
-ghost use Rattle.flash_cgi.specs.Ending.{WorkersStop};
-ghost use Rattle.flash_cgi.specs.Feeds.{FeedsOn};
-ghost use Rattle.flash_cgi.specs.Free.{WorkersStayFree};
-ghost use Rattle.flash_cgi.specs.Full.{RunningIsFull};
-ghost use Rattle.flash_cgi.specs.Having.{WorkersKeepNothing};
-ghost use Rattle.flash_cgi.specs.Laws.{GatheringKeeps, JobsAreRead};
-ghost use Rattle.flash_cgi.specs.Leaving.{WorkersAreQuiet};
-ghost use Rattle.flash_cgi.specs.Outcomes.{OutcomesAreTrue};
-ghost use Rattle.flash_cgi.specs.Shown.{OutputsAreShown};
-ghost use Rattle.flash_cgi.specs.Taking.{JobsAreTaken};
-ghost use Rattle.flash_cgi.specs.Turns.{TurnsFeed};
-ghost use Rattle.flash_cgi.specs.Waiting.{WaitingIsEmpty};
+ghost use Rattle.flash_cgi.specs.Laws.{OthersHear, ScriptsPutOut, WorkersStop, FeedsOn, WorkersStayFree, RunningIsFull, WorkersKeepNothing, GatheringKeeps, JobsAreRead, WorkersAreQuiet, OutcomesAreTrue, OutputsAreShown, JobsAreTaken, TurnsFeed, WaitingIsEmpty};
 
 use iol_laws::laws;
 

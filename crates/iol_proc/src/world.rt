@@ -4,12 +4,12 @@ ghost use Rattle.std.specs.List.{IsDistinct};
 ghost use Rattle.std.specs.List.Sorted.{IsPermutation};
 ghost use Rattle.iol_back.specs.Prelude.{IfHonest};
 ghost use Rattle.iol_kernel.specs.Prelude.{Reports};
-ghost use Rattle.iol_proc.specs.Idle.{Idles};
-ghost use Rattle.iol_proc.specs.Laws.{HasEvents, KeepsHonesty};
-ghost use Rattle.iol_proc.specs.Looks.{lent};
-ghost use Rattle.iol_proc.specs.Lent.{lent_to};
 ghost use Rattle.iol_system.specs.Prelude.{machine_of};
-ghost use Rattle.iol_proc.specs.World.{Stage, copying, sharing, copied, seat_of, domains_of, IsRising, IsSeated, WorldStep, WorldRun, DomainTurn, OutsideStep};
+ghost use Rattle.iol_proc.specs.Prelude.{KeepsHonesty, copied, lent};
+ghost use Rattle.iol_proc.specs.Idle.{Idles};
+ghost use Rattle.iol_proc.specs.Laws.{HasEvents};
+ghost use Rattle.iol_proc.specs.Lent.{lent_to};
+ghost use Rattle.iol_proc.specs.World.{Stage, copying, sharing, seat_of, domains_of, IsRising, IsSeated, WorldStep, WorldRun, DomainTurn, OutsideStep};
 
 use crate::choice::Choice;
 use crate::look::Look;

@@ -107,8 +107,8 @@ impl<B: Backing> System<B> {
     }
 
     /// Carries out one event, whole, and replies. All that is promised of it is one record, [`Promises`]
-    /// (`specs/Promises.antt`): what is answered, as the copying machine answers; when NoRoom, Fault and Memory come, and
-    /// what they leave; where bytes lie then; what the store was asked, and has; that all is safe again.
+    /// (`specs/Promises.antt`): what is answered, as the copying machine answers; when Fault comes, where NoRoom may, and what
+    /// refusals leave; where bytes lie then; what the store was asked, and has; that all is safe again.
     pub fn step(&mut self, event: Event) -> Reply
         ensures { Promises self.old event result self.new }
     {
