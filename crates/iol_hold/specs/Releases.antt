@@ -1,11 +1,14 @@
 -- What a release does to pages.
-use Rattle.std.specs.Prelude.{◌≡◌, ◌⊎◌, ℕ, false, [], Option, Some, None}
+use Rattle.std.specs.Prelude.{◌≡◌, ◌⊎◌, ℕ, false, List, [], Option, Some, None}
 use Rattle.iol_core.specs.declared.numbers.BufId.{BufId}
 use Rattle.iol_arena.specs.State.{State, HasRuns, entry_at, generation_at, page_count}
 use Rattle.iol_arena.specs.declared.pages.PageKind as kind
 use Rattle.iol_arena.specs.declared.pages.PageKind.TheVariants.{Free, Pending, Head, Tail}
 use Rattle.iol_pool.specs.Pools.{pool_in}
-use Rattle.iol_hold.specs.Stored.{Stored, count_of}
+use Rattle.iol_hold.specs.Moves.{Moves, SameLists}
+use Rattle.iol_hold.specs.Stored.{Stored, AllSettled, count_of}
+use Rattle.iol_hold.specs.Texts.{AllReadable, bufs_of}
+use Rattle.iol_hold.specs.declared.slices.Slice.{Slice}
 
 -- the page at which the buffer on page q begins, by what stands on q: none where q is in no buffer
 abbrev pub first_page : kind.PageKind → (q : ℕ) → Option ℕ
@@ -34,3 +37,11 @@ pub record FreesOnly (old new : Stored) : Type 0 where
   pub pools : (p : ℕ) → (pool_in old.pools p).closed ≡ false → pool_in new.pools p ≡ pool_in old.pools p
   pub chunks : (p : ℕ) → HasAllOrNone old new p
   pub runs : HasRuns old.arena.entries → HasRuns new.arena.entries
+
+-- What slices held was released, but for what those that are left hold, and no list changed. Where the slices could be read, no
+-- closed pool keeps chunks in which nothing lies, if none did before.
+pub record Releases (s t : Stored) (slices left : List Slice) : Type 0 where
+  pub moves : Moves s t (bufs_of slices) (bufs_of left)
+  pub lists : SameLists s t
+  pub frees : FreesOnly s t
+  pub settles : AllReadable s slices → AllSettled s → AllSettled t

@@ -8,6 +8,7 @@ pub mod LookUps
 pub mod Sources
 pub mod Flowing
 pub mod Queueing
+pub mod Reads
 pub mod CloseAll
 pub mod ClosedEnds
 pub mod TakenEnds

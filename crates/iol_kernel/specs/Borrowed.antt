@@ -1,7 +1,7 @@
 -- What comes in from a reader and what goes out to a writer, in the copying machine's words.
 use Rattle.std.specs.Prelude.{◌≡◌, ℕ, zero, suc, ◌-◌, ◌<◌, ◌≤◌, ◌==◌, min, Bool, true, false}
 use Rattle.std.specs.Prelude.{List, [], ◌∷◌, length, take, Option, Result, Err, OnOk, IfErr, OnErr}
-use Rattle.std.specs.Io.KnownBytes.{Appends, Consumes, IsAtEnd}
+use Rattle.std.specs.Io.KnownBytes.{Appends, Consumes}
 use Rattle.iol_core.specs.State.{State, conn_at}
 use Rattle.iol_core.specs.Text.{Text, bytes_of}
 use Rattle.iol_core.specs.Meaning.{◌when◌, WantOfRoom}
@@ -9,6 +9,7 @@ use Rattle.iol_core.specs.Calls.Outside.{arrive, transmit, lacks_conn}
 use Rattle.iol_core.specs.declared.limits.TheConstants.{MAX_QUEUE_BYTES, PAGE_BYTES}
 use Rattle.iol_core.specs.declared.refusals.Refusal.{Refusal}
 use Rattle.iol_core.specs.declared.refusals.Refusal.TheVariants.{BadFd, BadRange, NoRoom}
+use Rattle.iol_pipe.specs.Arriving.{IsOneRead}
 use Rattle.iol_pipe.specs.declared.arrive.Arrived.{Arrived}
 use Rattle.iol_sock.specs.Refused.{IsPassed, IsRefused}
 use Rattle.iol_sock.specs.declared.drain_to.Drained.{Drained}
@@ -35,14 +36,6 @@ pub record TakesIn (left after : Option (List ℕ)) (n : ℕ) (P : List ℕ → 
 -- the most that one read asks for: max, a page, and what fits behind what came in
 abbrev pub most_asked : (max : ℕ) → (incoming : Text) → ℕ
 most_asked max incoming = min (min max PAGE_BYTES) (MAX_QUEUE_BYTES - length incoming)
-
--- What one read is told to have brought: some bytes, at most so many; or none, since the reader has ended, or has failed.
-pub record IsOneRead (bound : ℕ) (after : Option (List ℕ)) (a : Arrived) : Type 0 where
-  pub most : a.taken ≤ bound
-  pub some : a.end ≡ false → a.failed ≡ false → 0 < a.taken
-  pub either : a.end ≡ true → a.failed ≡ false
-  pub ended : a.end ≡ true → (a.taken ≡ 0) × IsAtEnd after
-  pub failed : a.failed ≡ true → a.taken ≡ 0
 
 -- One read came in on connection c, after which the reader has these bytes left. Room was made for a byte, and what the read
 -- brought lies on the lowest free page then; where it brought none, the system means what it meant.

@@ -2,10 +2,8 @@
 use Rattle.std.specs.Prelude.{◌≡◌, ℕ, ◌+◌, ◌≤◌, false, ◌||◌, if◌then◌else◌, List, [], Option, Some, None, slice_set}
 use Rattle.iol_core.specs.State.{Domain}
 use Rattle.iol_core.specs.declared.descriptors.Descriptor.{Descriptor}
-use Rattle.iol_hold.specs.Releases.{FreesOnly}
-use Rattle.iol_hold.specs.Stored.{Stored, AllSettled}
-use Rattle.iol_hold.specs.Moves.{Moves, SameLists}
-use Rattle.iol_hold.specs.Texts.{bufs_of, AllReadable}
+use Rattle.iol_hold.specs.Releases.{Releases}
+use Rattle.iol_hold.specs.Stored.{Stored}
 use Rattle.iol_hold.specs.declared.slices.Slice.{Slice}
 use Rattle.iol_kernel.specs.Views.{Pipe, Objects}
 use Rattle.iol_kernel.specs.Ends.{same_end, ends_on, all_ends_on}
@@ -26,10 +24,7 @@ with_pipe_in pipes p x = slice_set pipes p (if x.reading || x.writing then Some 
 -- the pipe p became x, which holds a part of what it held
 pub record ClosesEnd (s t : Stored) (old new : List (Option (Pipe (List Slice)))) (p : ℕ) (x : Pipe (List Slice)) : Type 0 where
   pub pipes : new ≡ with_pipe_in old p x
-  pub moves : Moves s t (bufs_of (queue_at old p).queue) (bufs_of x.queue)
-  pub lists : SameLists s t
-  pub frees : FreesOnly s t
-  pub settles : AllReadable s (queue_at old p).queue → AllSettled s → AllSettled t
+  pub releases : Releases s t (queue_at old p).queue x.queue
 
 -- what a domain's numbers were open on: each end is open, and in no other descriptor
 pub record AreTaken (domains : List (Domain (List Slice))) (objects : Objects (List Slice))

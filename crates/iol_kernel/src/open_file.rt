@@ -1,5 +1,5 @@
 //! What a descriptor on a file says: which file, where it reads and writes on, and how it was opened.
-ghost use Rattle.std.specs.Prelude.{◌≡◌, ◌+◌, ◌≤◌};
+ghost use Rattle.std.specs.Prelude.{◌≡◌, ◌+◌, ◌≤◌, false, IfSome, None, Some};
 ghost use Rattle.iol_core.specs.Calls.Reading as reading;
 ghost use Rattle.iol_core.specs.Calls.Writing as writing;
 
@@ -16,6 +16,23 @@ pub struct OpenFile {
 }
 
 impl OpenFile {
+    /// The file that a descriptor is open on, if it is open on one.
+    pub(crate) fn of(end: &Descriptor) -> Option<OpenFile>
+        ensures some { IfSome result (λ x. end.now ≡ Descriptor.File x.file x.at x.mode) }
+        ensures none { result ≡ None → writing.is_file (Some end.now) ≡ false }
+    {
+        match end {
+            Descriptor::File { file, at, mode } => Some(OpenFile {
+                file: *file,
+                at: *at,
+                mode: *mode,
+            }),
+            Descriptor::ReadEnd { .. }
+            | Descriptor::WriteEnd { .. }
+            | Descriptor::Connection { .. } => None,
+        }
+    }
+
     /// What the descriptor is open on once its position moved over so many bytes.
     pub(crate) fn moved_by(self, len: u32) -> Descriptor
         requires { self.at + len ≤ MAX_FILE_BYTES }

@@ -1,8 +1,8 @@
 //! Pipes: bounded queues, each in a place of its own, with a read end and a write end.
-ghost use Rattle.std.specs.Prelude.{◌≡◌, ℕ, ◌+◌, ◌-◌, ◌<◌, ◌≤◌, ◌^◌, length, min, take, take_while, drop, true, [], ◌++◌, Some, Err, IfOk, IfErr, OnOk, OnErr, false};
+ghost use Rattle.std.specs.Prelude.{◌≡◌, ◌<◌, ◌≤◌, ◌^◌, length, take, take_while, drop, true, [], ◌++◌, IfOk, IfErr, OnOk, OnErr, false};
 ghost use Rattle.iol_core.specs.Prelude.{lowest, placed, taken, WantOfRoom, bytes_of};
-ghost use Rattle.iol_hold.specs.Prelude.{Covers, IsCountable, Moves, SameLists, Shares, byte_len, places, FreesOnly, AllSettled, text_of, bufs_of, AllReadable, has_room};
-ghost use Rattle.iol_pipe.specs.Prelude.{AddsBytes, first_pool, fitting, may_see};
+ghost use Rattle.iol_hold.specs.Prelude.{Covers, IsCountable, Releases, TellsRoom, byte_len, places, text_of, bufs_of, AllReadable, has_room};
+ghost use Rattle.iol_pipe.specs.Prelude.{AddsFitting, GivesFirst, SharesFitting, first_pool, fitting, may_see};
 ghost use Rattle.iol_pool.specs.Prelude.{pool_in};
 ghost use Rattle.iol_kernel.specs.ClosedEnds.{without_reader, without_writer, ClosesEnd};
 ghost use Rattle.iol_kernel.specs.KernelState.{queue_at};
@@ -41,12 +41,7 @@ impl Pipe {
         requires { Covers store.old (bufs_of self.old.queue) }
         ensures stays { result ≡ self.old.writing }
         ensures pipe { self.new ≡ without_reader self.old }
-        ensures moves { Moves store.old store.new (bufs_of self.old.queue) (bufs_of
-            self.new.queue) }
-        ensures lists { SameLists store.old store.new }
-        ensures frees { FreesOnly store.old store.new }
-        ensures settles { AllReadable store.old self.old.queue → AllSettled store.old → AllSettled
-            store.new }
+        ensures releases { Releases store.old store.new self.old.queue self.new.queue }
     {
         self.queue.clear(store);
         self.reading = false;
@@ -60,12 +55,7 @@ impl Pipe {
         requires { Covers store.old (bufs_of self.old.queue) }
         ensures stays { result ≡ self.old.reading }
         ensures pipe { self.new ≡ without_writer self.old }
-        ensures moves { Moves store.old store.new (bufs_of self.old.queue) (bufs_of
-            self.new.queue) }
-        ensures lists { SameLists store.old store.new }
-        ensures frees { FreesOnly store.old store.new }
-        ensures settles { AllReadable store.old self.old.queue → AllSettled store.old → AllSettled
-            store.new }
+        ensures releases { Releases store.old store.new self.old.queue self.new.queue }
     {
         self.writing = false;
         if self.reading {
@@ -192,16 +182,11 @@ impl Pipes {
         requires covered { Covers store.old (bufs_of from.now) }
         requires countable { IsCountable store.old (bufs_of from.now) }
         requires writing { (queue_at self.old.places p).writing ≡ true }
-        ensures taken { IfOk result (λ n. n ≡ min (byte_len from.now) (MAX_QUEUE_BYTES - byte_len
-            (queue_at self.old.places p).queue)) }
-        ensures places { IfOk result (λ n. places (queue_at self.new.places p).queue ≡ places
-            (queue_at self.old.places p).queue ++ take n (places from.now)) }
+        ensures shares { IfOk result (SharesFitting store.old store.new
+            (queue_at self.old.places p).queue (queue_at self.new.places p).queue from.now) }
         ensures pipes { OnOk result (self.new.places ≡ with_queue_of self.old.places p
             self.new.places) }
-        ensures shares { OnOk result (Shares store.old store.new (bufs_of (queue_at self.old.places
-            p).queue) (bufs_of (queue_at self.new.places p).queue)) }
-        ensures err { OnErr result (self.new.places ≡ self.old.places) }
-        ensures err_store { OnErr result (store.new ≡ store.old) }
+        ensures err { OnErr result ((self.new.places ≡ self.old.places) × (store.new ≡ store.old)) }
     {
         let pipe = self.places.value_mut(p.number() as usize);
         pipe.queue.push(store, from)
@@ -220,19 +205,14 @@ impl Pipes {
     ) -> Result<u32, Refusal>
         requires open { (pool_in store.old.pools pool).closed ≡ false }
         requires writing { (queue_at self.old.places p).writing ≡ true }
-        ensures taken { IfOk result (λ n. n ≡ fitting (queue_at self.old.places p).queue (length
-            bytes.now)) }
-        ensures added { IfOk result (λ n. AddsBytes store.old store.new (queue_at self.old.places
-            p).queue (queue_at self.new.places p).queue pool (take n bytes.now)) }
+        ensures adds { IfOk result (AddsFitting store.old store.new
+            (queue_at self.old.places p).queue (queue_at self.new.places p).queue pool bytes.now) }
         ensures pipes { OnOk result (self.new.places ≡ with_queue_of self.old.places p
             self.new.places) }
-        ensures room { OnOk result (has_room store.old pool (fitting (queue_at self.old.places
-            p).queue (length bytes.now)) ≡ true) }
-        ensures no_room { (q : ℕ) → result ≡ Err (Refusal.NoRoom q) → has_room store.old pool
-            (fitting (queue_at self.old.places p).queue (length bytes.now)) ≡ false }
+        ensures room { TellsRoom (has_room store.old pool (fitting
+            (queue_at self.old.places p).queue (length bytes.now))) result }
         ensures late { IfErr result (WantOfRoom pool) }
-        ensures err { OnErr result (self.new.places ≡ self.old.places) }
-        ensures err_store { OnErr result (store.new ≡ store.old) }
+        ensures err { OnErr result ((self.new.places ≡ self.old.places) × (store.new ≡ store.old)) }
     {
         let pipe = self.places.value_mut(p.number() as usize);
         Ok(pipe.queue.fill(alloc, store, pool, bytes)?)
@@ -251,16 +231,11 @@ impl Pipes {
         requires covered { Covers store.old (bufs_of (queue_at self.old.places p).queue) }
         requires countable { IsCountable store.old (bufs_of (queue_at self.old.places p).queue) }
         requires reading { (queue_at self.old.places p).reading ≡ true }
-        ensures given { IfOk result (λ a. places a ≡ take_while (may_see store.old.pools d) (take n
-            (places (queue_at self.old.places p).queue))) }
-        ensures rest { IfOk result (λ a. places (queue_at self.new.places p).queue ≡ drop (byte_len
-            a) (places (queue_at self.old.places p).queue)) }
+        ensures gives { IfOk result (λ a. GivesFirst store.old store.new
+            (queue_at self.old.places p).queue a (queue_at self.new.places p).queue n d) }
         ensures pipes { OnOk result (self.new.places ≡ with_queue_of self.old.places p
             self.new.places) }
-        ensures shares { IfOk result (λ a. Shares store.old store.new (bufs_of (queue_at
-            self.old.places p).queue) (bufs_of a ++ bufs_of (queue_at self.new.places p).queue)) }
-        ensures err { OnErr result (self.new.places ≡ self.old.places) }
-        ensures err_store { OnErr result (store.new ≡ store.old) }
+        ensures err { OnErr result ((self.new.places ≡ self.old.places) × (store.new ≡ store.old)) }
     {
         let pipe = self.places.value_mut(p.number() as usize);
         pipe.queue.front(alloc, store, n, d)
@@ -287,15 +262,11 @@ impl Pipes {
     pub(crate) fn skip(&mut self, store: &mut Store, p: PipeId, n: u32)
         requires covered { Covers store.old (bufs_of (queue_at self.old.places p).queue) }
         requires reading { (queue_at self.old.places p).reading ≡ true }
-        ensures rest { places (queue_at self.new.places p).queue ≡ drop n (places (queue_at
-            self.old.places p).queue) }
+        ensures rest { places (queue_at self.new.places p).queue ≡ drop n
+            (places (queue_at self.old.places p).queue) }
         ensures pipes { self.new.places ≡ with_queue_of self.old.places p self.new.places }
-        ensures moves { Moves store.old store.new (bufs_of (queue_at self.old.places p).queue)
-            (bufs_of (queue_at self.new.places p).queue) }
-        ensures lists { SameLists store.old store.new }
-        ensures frees { FreesOnly store.old store.new }
-        ensures settles { AllReadable store.old (queue_at self.old.places p).queue → AllSettled
-            store.old → AllSettled store.new }
+        ensures releases { Releases store.old store.new (queue_at self.old.places p).queue
+            (queue_at self.new.places p).queue }
     {
         self.places
             .value_mut(p.number() as usize)

@@ -1,5 +1,5 @@
 -- A queue of slices.
-use Rattle.std.specs.Prelude.{◌≡◌, ℕ, zero, suc, ◌-◌, ◌≤◌, Bool, true, List, [], ◌∷◌, ◌++◌, length, map, take, min, Option, Some, None, option_map}
+use Rattle.std.specs.Prelude.{◌≡◌, ℕ, zero, suc, ◌-◌, ◌≤◌, Bool, true, List, [], ◌∷◌, ◌++◌, length, map, take, drop, min, Option, Some, None, option_map}
 use Rattle.std.specs.List.{slice_get, take_while}
 use Rattle.iol_core.specs.declared.limits.TheConstants.{MAX_QUEUE_BYTES}
 use Rattle.iol_pool.specs.Pools.{Pool, names_in}
@@ -44,3 +44,16 @@ pub record TakesFirst (s t : Stored) (old given new : List Slice) (n : ℕ) (d :
   pub cut : d ≡ None → map slice_places given ≡ first_parts n (map slice_places old)
   pub whole : places given ++ places new ≡ places old
   pub shares : Shares s t (bufs_of old) (bufs_of given ++ bufs_of new)
+
+-- A domain was given the front of a queue: of its first n bytes the longest prefix whose pools all name the domain.
+pub record GivesFirst (s t : Stored) (old front new : List Slice) (n d : ℕ) : Type 0 where
+  pub given : places front ≡ take_while (may_see s.pools d) (take n (places old))
+  pub rest : places new ≡ drop (byte_len front) (places old)
+  pub shares : Shares s t (bufs_of old) (bufs_of front ++ bufs_of new)
+
+-- The first n bytes of a queue were taken off, or all where fewer wait. The slice in which the last of them lies was cut there.
+pub record CutsFirst (s t : Stored) (old first new : List Slice) (n : ℕ) : Type 0 where
+  pub given : places first ≡ take n (places old)
+  pub cut : map slice_places first ≡ first_parts n (map slice_places old)
+  pub rest : places new ≡ drop n (places old)
+  pub shares : Shares s t (bufs_of old) (bufs_of first ++ bufs_of new)

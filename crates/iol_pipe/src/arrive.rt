@@ -1,10 +1,10 @@
 //! The bytes of one read, straight into a new buffer.
-ghost use Rattle.std.specs.Prelude.{◌≡◌, ℕ, ◌+◌, ◌<◌, ◌≤◌, length, take, true, false, Err, IfOk, IfErr, OnOk, OnErr};
+ghost use Rattle.std.specs.Prelude.{◌≡◌, ◌+◌, ◌<◌, ◌≤◌, length, take, false, IfOk, IfErr, OnErr};
 ghost use Rattle.std.specs.Io.KnownBytes.{Consumes, IsAtEnd, Keeps};
 ghost use Rattle.iol_core.specs.Prelude.{WantOfRoom};
 ghost use Rattle.iol_pool.specs.Prelude.{pool_in};
-ghost use Rattle.iol_hold.specs.Prelude.{byte_len, has_room};
-ghost use Rattle.iol_pipe.specs.Arriving.{listed, MakesRead, ReadsIn};
+ghost use Rattle.iol_hold.specs.Prelude.{TellsRoom, byte_len, has_room};
+ghost use Rattle.iol_pipe.specs.Arriving.{listed, IsOneRead, MakesRead, ReadsIn};
 
 use crate::Pipe;
 use crate::fill::add_whole;
@@ -62,18 +62,10 @@ impl Pipe {
         requires fits { byte_len self.old + n ≤ MAX_QUEUE_BYTES }
         ensures read { IfOk result (λ a. ReadsIn (R.remaining reader.old) (R.remaining reader.new)
             store.old store.new self.old self.new pool a.taken) }
-        ensures most { IfOk result (λ a. a.taken ≤ n) }
-        ensures some { IfOk result (λ a. a.end ≡ false → a.failed ≡ false → 0 < a.taken) }
-        ensures either { IfOk result (λ a. a.end ≡ true → a.failed ≡ false) }
-        ensures ended { IfOk result (λ a. a.end ≡ true →
-            (a.taken ≡ 0) × IsAtEnd (R.remaining reader.new)) }
-        ensures failed { IfOk result (λ a. a.failed ≡ true → a.taken ≡ 0) }
-        ensures room { OnOk result (has_room store.old pool 1 ≡ true) }
-        ensures no_room { (p : ℕ) → result ≡ Err (Refusal.NoRoom p) → has_room store.old pool 1 ≡
-            false }
+        ensures told { IfOk result (IsOneRead n (R.remaining reader.new)) }
+        ensures room { TellsRoom (has_room store.old pool 1) result }
         ensures late { IfErr result (WantOfRoom pool) }
-        ensures err { OnErr result (self.new ≡ self.old) }
-        ensures err_store { OnErr result (store.new ≡ store.old) }
+        ensures err { OnErr result ((self.new ≡ self.old) × (store.new ≡ store.old)) }
         ensures err_reader { OnErr result (reader.new ≡ reader.old) }
     {
         self.queue.reserve(1)?;
@@ -101,15 +93,8 @@ fn read_in<R: Read>(
     requires page { n ≤ PAGE_BYTES }
     ensures made { IfOk result (λ r. MakesRead (R.remaining reader.old) (R.remaining reader.new)
         store.old store.new (listed r.0) pool r.1.taken) }
-    ensures most { IfOk result (λ r. r.1.taken ≤ n) }
-    ensures some { IfOk result (λ r. r.1.end ≡ false → r.1.failed ≡ false → 0 < r.1.taken) }
-    ensures either { IfOk result (λ r. r.1.end ≡ true → r.1.failed ≡ false) }
-    ensures ended { IfOk result (λ r. r.1.end ≡ true →
-        (r.1.taken ≡ 0) × IsAtEnd (R.remaining reader.new)) }
-    ensures failed { IfOk result (λ r. r.1.failed ≡ true → r.1.taken ≡ 0) }
-    ensures room { OnOk result (has_room store.old pool 1 ≡ true) }
-    ensures no_room { (p : ℕ) → result ≡ Err (Refusal.NoRoom p) → has_room store.old pool 1 ≡
-        false }
+    ensures told { IfOk result (λ r. IsOneRead n (R.remaining reader.new) r.1) }
+    ensures room { TellsRoom (has_room store.old pool 1) result }
     ensures late { IfErr result (WantOfRoom pool) }
     ensures err { OnErr result (store.new ≡ store.old) }
     ensures err_reader { OnErr result (reader.new ≡ reader.old) }

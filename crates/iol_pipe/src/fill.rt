@@ -1,11 +1,11 @@
 //! New bytes at the end of a queue, in buffers of their own.
-ghost use Rattle.std.specs.Prelude.{◌≡◌, ℕ, ◌+◌, ◌≤◌, length, take, true, false, Err, IsOk, IfOk, IfErr, OnOk, OnErr};
+ghost use Rattle.std.specs.Prelude.{◌≡◌, ◌+◌, ◌≤◌, length, false, IsOk, IfOk, IfErr, OnErr};
 ghost use Rattle.std.specs.List.{All};
 ghost use Rattle.std.specs.VecDeque.{deque_len, deque_capacity};
 ghost use Rattle.iol_core.specs.Prelude.{WantOfRoom};
 ghost use Rattle.iol_pool.specs.Prelude.{pool_in};
-ghost use Rattle.iol_hold.specs.Prelude.{has_room, IsFilled};
-ghost use Rattle.iol_pipe.specs.Adding.{AddsBytes, AddsWhole};
+ghost use Rattle.iol_hold.specs.Prelude.{TellsRoom, has_room, IsFilled};
+ghost use Rattle.iol_pipe.specs.Adding.{AddsFitting, AddsWhole};
 ghost use Rattle.iol_pipe.specs.Queue.{fitting};
 
 use crate::Pipe;
@@ -27,17 +27,13 @@ impl Pipe {
         bytes: &[u8],
     ) -> Result<u32, Refusal>
         requires { (pool_in store.old.pools pool).closed ≡ false }
-        ensures taken { IfOk result (λ n. n ≡ fitting self.old (length bytes.now)) }
-        ensures added { IfOk result (λ n.
-            AddsBytes store.old store.new self.old self.new pool (take n bytes.now)) }
-        ensures room { OnOk result (has_room store.old pool
-            (fitting self.old (length bytes.now)) ≡ true) }
-        ensures no_room { (p : ℕ) → result ≡ Err (Refusal.NoRoom p) → has_room store.old pool
-            (fitting self.old (length bytes.now)) ≡ false }
+        ensures adds { IfOk result (AddsFitting store.old store.new self.old self.new pool
+            bytes.now) }
+        ensures room { TellsRoom (has_room store.old pool (fitting self.old (length bytes.now)))
+            result }
         ensures late { IfErr result (WantOfRoom pool) }
         ensures none { fitting self.old (length bytes.now) ≡ 0 → IsOk result }
-        ensures err { OnErr result (self.new ≡ self.old) }
-        ensures err_store { OnErr result (store.new ≡ store.old) }
+        ensures err { OnErr result ((self.new ≡ self.old) × (store.new ≡ store.old)) }
     {
         let room = MAX_QUEUE_BYTES - self.len as usize;
         let taken = bytes.len().min(room);

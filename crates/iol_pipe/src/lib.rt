@@ -3,12 +3,11 @@
 //! A pipe holds the buffer of each slice that waits in it. What is pushed is shared, and what is taken off moves: no
 //! byte is copied.
 //!
-//! The contract. In: `push` (`taken`: the longest prefix that fits; `places`, `shares`, `err`), `fill` (`added`: new bytes
-//! on the lowest free pages of a pool; `room`, `no_room`, `late`, `err`), `fill_from` (`read`: those of one read, in
-//! place). Off: `front` (`given`: the longest prefix of at most n bytes whose pools all name the domain; `rest`,
-//! `shares`, `err`), `take` (`cut`: the first n bytes, slice by slice), `skip` and `clear` (`rest`, `moves`, `frees`,
-//! `settles`). And `len`, `is_empty`, `first_pool`, `slice`. The words are in `specs/Queue`, `specs/Adding`,
-//! `specs/Arriving` and iol_hold's.
+//! The contract. In: `push` (`shares`: the longest prefix that fits), `fill` (`adds`: new bytes on the lowest free pages of a
+//! pool; `room`, `late`), `fill_from` (`read`, `told`: those of one read, in place). Off: `front` (`gives`: the longest
+//! prefix of at most n bytes whose pools all name the domain), `take` (`cuts`: the first n bytes, slice by slice), `skip`
+//! and `clear` (`releases`). Where one is refused, nothing has changed (`err`). And `len`, `is_empty`, `first_pool`,
+//! `slice`. The words are in `specs/Queue`, `specs/Adding`, `specs/Arriving` and iol_hold's.
 //!
 //! ```
 //! let taken = pipe.push(&mut store, &agg)?;
@@ -16,12 +15,13 @@
 //! ```
 #![tactic(auto)]
 
-ghost use Rattle.std.specs.Prelude.{◌≡◌, ◌+◌, ◌-◌, ◌<◌, ◌≤◌, ◌↔◌, min, [], ◌∷◌, ◌++◌, length, map, take, drop, take_while, slice_index_or, IsTrue, IsOk, IfOk, OnOk, OnErr};
+ghost use Rattle.std.specs.Prelude.{◌≡◌, ◌+◌, ◌-◌, ◌<◌, ◌≤◌, ◌↔◌, min, [], ◌∷◌, ◌++◌, length, map, take, slice_index_or, IsTrue, IsOk, IfOk, OnErr};
 ghost use Rattle.std.specs.VecDeque.{deque_len, deque_capacity};
 ghost use Rattle.std.specs.Vec.{vec_capacity};
 ghost use Rattle.iol_core.specs.declared.numbers.BufId.{BufId};
-ghost use Rattle.iol_hold.specs.Prelude.{same, tally, Shares, Moves, SameLists, Covers, IsCountable, slice_places, places, byte_len, FreesOnly, AllSettled, bufs_of, AllReadable};
-ghost use Rattle.iol_pipe.specs.Queue.{TakesFirst, first_parts, first_pool, may_see, names_given};
+ghost use Rattle.iol_hold.specs.Prelude.{same, tally, Shares, Covers, IsCountable, Releases, slice_places, places, byte_len, bufs_of};
+ghost use Rattle.iol_pipe.specs.Adding.{SharesFitting};
+ghost use Rattle.iol_pipe.specs.Queue.{GivesFirst, TakesFirst, first_parts, first_pool, names_given};
 
 mod arrive;
 mod copy;
@@ -94,15 +94,9 @@ impl Pipe {
     pub fn push(&mut self, store: &mut Store, from: &Agg) -> Result<u32, AllocError>
         requires covered { Covers store.old (bufs_of from.now) }
         requires countable { IsCountable store.old (bufs_of from.now) }
-        ensures taken { IfOk result (λ n. n ≡
-            min (byte_len from.now) (MAX_QUEUE_BYTES - byte_len self.old)) }
-        ensures places { IfOk result (λ n. places self.new ≡ places self.old ++
-            take n (places from.now)) }
-        ensures shares { OnOk result (Shares store.old store.new (bufs_of self.old)
-            (bufs_of self.new)) }
+        ensures shares { IfOk result (SharesFitting store.old store.new self.old self.new from.now) }
         ensures none { byte_len from.now ≡ 0 → IsOk result }
-        ensures err { OnErr result (self.new ≡ self.old) }
-        ensures err_store { OnErr result (store.new ≡ store.old) }
+        ensures err { OnErr result ((self.new ≡ self.old) × (store.new ≡ store.old)) }
     {
         let room = MAX_QUEUE_BYTES as u32 - self.len;
         let taken = from.len().min(room);
@@ -123,13 +117,8 @@ impl Pipe {
     ) -> Result<Agg, AllocError>
         requires covered { Covers store.old (bufs_of self.old) }
         requires countable { IsCountable store.old (bufs_of self.old) }
-        ensures given { IfOk result (λ a. places a ≡
-            take_while (may_see store.old.pools d) (take n (places self.old))) }
-        ensures rest { IfOk result (λ a. places self.new ≡ drop (byte_len a) (places self.old)) }
-        ensures shares { IfOk result (λ a.
-            Shares store.old store.new (bufs_of self.old) (bufs_of a ++ bufs_of self.new)) }
-        ensures err { OnErr result (self.new ≡ self.old) }
-        ensures err_store { OnErr result (store.new ≡ store.old) }
+        ensures gives { IfOk result (λ a. GivesFirst store.old store.new self.old a self.new n d) }
+        ensures err { OnErr result ((self.new ≡ self.old) × (store.new ≡ store.old)) }
     {
         Ok(self.take_off(alloc, store, n, Some(d))?)
     }
@@ -145,8 +134,7 @@ impl Pipe {
         requires covered { Covers store.old (bufs_of self.old) }
         requires countable { IsCountable store.old (bufs_of self.old) }
         ensures takes { IfOk result (λ a. TakesFirst store.old store.new self.old a self.new n d) }
-        ensures err { OnErr result (self.new ≡ self.old) }
-        ensures err_store { OnErr result (store.new ≡ store.old) }
+        ensures err { OnErr result ((self.new ≡ self.old) × (store.new ≡ store.old)) }
     {
         let room = self.queue.len().min(n as usize);
         let mut slices = Vec::with_capacity(alloc, room)?;
@@ -160,11 +148,7 @@ impl Pipe {
     pub fn clear(&mut self, store: &mut Store)
         requires { Covers store.old (bufs_of self.old) }
         ensures empty { self.new ≡ [] }
-        ensures moves { Moves store.old store.new (bufs_of self.old) [] }
-        ensures lists { SameLists store.old store.new }
-        ensures frees { FreesOnly store.old store.new }
-        ensures settles { AllReadable store.old self.old → AllSettled store.old →
-            AllSettled store.new }
+        ensures releases { Releases store.old store.new self.old [] }
     {
         release_all(&mut self.queue, store);
         self.len = 0;
@@ -175,11 +159,7 @@ impl Pipe {
 fn release_all(queue: &mut VecDeque<Slice>, store: &mut Store)
     requires { Covers store.old (bufs_of queue.old.items) }
     ensures empty { queue.new.items ≡ [] }
-    ensures moves { Moves store.old store.new (bufs_of queue.old.items) [] }
-    ensures lists { SameLists store.old store.new }
-    ensures frees { FreesOnly store.old store.new }
-    ensures settles { AllReadable store.old queue.old.items → AllSettled store.old →
-        AllSettled store.new }
+    ensures releases { Releases store.old store.new queue.old.items [] }
 {
     while let Some(slice) = queue.pop_back() {
         slice.release(store);

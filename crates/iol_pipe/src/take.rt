@@ -1,7 +1,7 @@
 //! The first bytes of a queue, whoever may read them.
-ghost use Rattle.std.specs.Prelude.{◌≡◌, ◌++◌, length, map, take, drop, min, slice_index_or, ◌↔◌, ◌<◌, IsSome, IfSome, IfOk, OnOk, OnErr};
-ghost use Rattle.iol_hold.specs.Prelude.{Covers, IsCountable, Moves, SameLists, Shares, slice_places, places, FreesOnly, AllSettled, bufs_of, AllReadable};
-ghost use Rattle.iol_pipe.specs.Queue.{first_parts};
+ghost use Rattle.std.specs.Prelude.{◌≡◌, length, drop, slice_index_or, ◌↔◌, ◌<◌, IsSome, IfSome, IfOk, OnErr};
+ghost use Rattle.iol_hold.specs.Prelude.{Covers, IsCountable, Releases, places, bufs_of};
+ghost use Rattle.iol_pipe.specs.Queue.{CutsFirst};
 
 use crate::Pipe;
 use iol_agg::Agg;
@@ -14,14 +14,8 @@ impl Pipe {
     pub fn take(&mut self, alloc: Global, store: &mut Store, n: u32) -> Result<Agg, AllocError>
         requires covered { Covers store.old (bufs_of self.old) }
         requires countable { IsCountable store.old (bufs_of self.old) }
-        ensures given { IfOk result (λ a. places a ≡ take n (places self.old)) }
-        ensures cut { IfOk result (λ a. map slice_places a ≡
-            first_parts n (map slice_places self.old)) }
-        ensures rest { OnOk result (places self.new ≡ drop n (places self.old)) }
-        ensures shares { IfOk result (λ a.
-            Shares store.old store.new (bufs_of self.old) (bufs_of a ++ bufs_of self.new)) }
-        ensures err { OnErr result (self.new ≡ self.old) }
-        ensures err_store { OnErr result (store.new ≡ store.old) }
+        ensures cuts { IfOk result (λ a. CutsFirst store.old store.new self.old a self.new n) }
+        ensures err { OnErr result ((self.new ≡ self.old) × (store.new ≡ store.old)) }
     {
         Ok(self.take_off(alloc, store, n, None)?)
     }
@@ -38,11 +32,7 @@ impl Pipe {
     pub fn skip(&mut self, store: &mut Store, n: u32)
         requires { Covers store.old (bufs_of self.old) }
         ensures rest { places self.new ≡ drop n (places self.old) }
-        ensures moves { Moves store.old store.new (bufs_of self.old) (bufs_of self.new) }
-        ensures lists { SameLists store.old store.new }
-        ensures frees { FreesOnly store.old store.new }
-        ensures settles { AllReadable store.old self.old → AllSettled store.old →
-            AllSettled store.new }
+        ensures releases { Releases store.old store.new self.old self.new }
     {
         let skipped = self.len.min(n);
         skip_bytes(&mut self.queue, store, n);
@@ -54,11 +44,7 @@ impl Pipe {
 fn skip_bytes(queue: &mut VecDeque<Slice>, store: &mut Store, n: u32)
     requires { Covers store.old (bufs_of queue.old.items) }
     ensures rest { places queue.new.items ≡ drop n (places queue.old.items) }
-    ensures moves { Moves store.old store.new (bufs_of queue.old.items) (bufs_of queue.new.items) }
-    ensures lists { SameLists store.old store.new }
-    ensures frees { FreesOnly store.old store.new }
-    ensures settles { AllReadable store.old queue.old.items → AllSettled store.old →
-        AllSettled store.new }
+    ensures releases { Releases store.old store.new queue.old.items queue.new.items }
 {
     let mut left = n;
     while left > 0 {

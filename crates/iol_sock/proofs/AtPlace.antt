@@ -4,7 +4,7 @@ use Rattle.iol_core.specs.Numbered.{lookup, changed}
 use Rattle.iol_hold.specs.declared.slices.Slice.{Slice}
 use Rattle.iol_desc.specs.Listed.{Rises}
 use Rattle.iol_sock.specs.Connections.{Conn}
-use Rattle.iol_sock.specs.Table.{ConnTable, conn_in, with_conn}
+use Rattle.iol_sock.specs.Table.{ChangesOne, ConnTable, conn_in, with_conn}
 use Rattle.iol_sock.proofs.Waiting.{some-none, conn_in-there, lookup-changed, changed-same}
 
 -- From the table t to u a call went, on the connection of that number alone, from x to y. What the call says of x and y,
@@ -12,8 +12,7 @@ use Rattle.iol_sock.proofs.Waiting.{some-none, conn_in-there, lookup-changed, ch
 pub record AtPlace (t u : ConnTable) (number : ℕ) (x y : Conn (List Slice)) : Type 0 where
   pub old : x ≡ conn_in t.conns number
   pub new : y ≡ conn_in u.conns number
-  pub others : {z : Conn (List Slice)} → conn_in u.conns number ≡ z → u ≡ with_conn t number z
-  pub same : conn_in u.conns number ≡ conn_in t.conns number → u ≡ t
+  pub one : ChangesOne t u number
 
 here : (t : ConnTable) (to n : ℕ) (x y : Conn (List Slice)) → Rises 0 t.conns to → lookup t.conns n ≡ Some x → AtPlace t (with_conn t n y) n x y
 here t to n x y r found =
@@ -22,8 +21,10 @@ here t to n x y r found =
     record {
       old = sym old;
       new = sym new;
-      others = λ e. ap (with_conn t n) (sym new ∙ e);
-      same = λ e. ap (with_conn t n) (sym new ∙ e ∙ old) ∙ ap (λ es. record t { conns = es }) (changed-same t.conns 0 to n x r found);
+      one = record {
+        others = ap (with_conn t n) (sym new);
+        same = λ e. ap (with_conn t n) (sym new ∙ e ∙ old) ∙ ap (λ es. record t { conns = es }) (changed-same t.conns 0 to n x r found);
+      };
     }
 
 -- the table t is seen as v
@@ -33,3 +34,7 @@ at_place {v} {t} {n} {x} to y view r found = subst (λ u. AtPlace u (with_conn v
 -- the same, before the call
 pub was_at : {v t : ConnTable} {x : Conn (List Slice)} (n : ℕ) → v ≡ t → lookup v.conns n ≡ Some x → x ≡ conn_in t.conns n
 was_at {v} {t} {x} n view found = subst (λ u. x ≡ conn_in u.conns n) view (sym (conn_in-there v.conns n x found))
+
+-- the connection that was changed is now this
+pub changed_to : {t u : ConnTable} {number : ℕ} {z : Conn (List Slice)} → ChangesOne t u number → conn_in u.conns number ≡ z → u ≡ with_conn t number z
+changed_to {t} {u} {number} one is = one.others ∙ ap (with_conn t number) is

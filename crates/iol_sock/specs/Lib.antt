@@ -1,3 +1,4 @@
+pub mod Calls
 pub mod Connections
 pub mod Meant
 pub mod Refused

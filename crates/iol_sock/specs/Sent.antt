@@ -3,10 +3,9 @@ use Rattle.std.specs.Prelude.{◌≡◌, ◌<◌, ◌≤◌, ℕ, Bool, true, fa
 use Rattle.std.specs.Io.KnownBytes.{Appends}
 use Rattle.iol_core.specs.Text.{bytes_of}
 use Rattle.iol_hold.specs.Stored.{Stored}
-use Rattle.iol_hold.specs.Moves.{Moves}
 use Rattle.iol_hold.specs.Places.{places, slice_places}
-use Rattle.iol_hold.specs.Releases.{FreesOnly}
-use Rattle.iol_hold.specs.Texts.{bufs_of, text_of}
+use Rattle.iol_hold.specs.Releases.{Releases}
+use Rattle.iol_hold.specs.Texts.{text_of}
 use Rattle.iol_hold.specs.declared.slices.Slice.{Slice}
 use Rattle.iol_pipe.specs.Queue.{first_parts}
 use Rattle.iol_sum.specs.Sums.{Sums, UsesEach}
@@ -22,8 +21,7 @@ pub record UsesSent (s : Stored) (queue : List Slice) (n : ℕ) (old new : Sums)
 pub record IsSent (s t : Stored) (old new : List Slice) (n : ℕ) (sums summed : Sums) (sent : List ℕ) : Type 0 where
   pub bytes : sent ≡ bytes_of (take n (text_of s old))
   pub rest : places new ≡ drop n (places old)
-  pub moves : Moves s t (bufs_of old) (bufs_of new)
-  pub frees : FreesOnly s t
+  pub releases : Releases s t old new
   pub uses : UsesSent s old n sums summed
 
 -- A writer takes bytes up to the last that it is offered, or fails before.

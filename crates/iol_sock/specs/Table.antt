@@ -1,5 +1,5 @@
 -- The table of live connections.
-use Rattle.std.specs.Prelude.{ℕ, ◌==◌, Bool, true, false, not, List, [], map, filter, Option, Some, None, unwrap_or}
+use Rattle.std.specs.Prelude.{◌≡◌, ℕ, ◌==◌, Bool, true, false, not, List, [], map, filter, Option, Some, None, unwrap_or}
 use Rattle.iol_core.specs.Numbered.{lookup, changed}
 use Rattle.iol_core.specs.declared.descriptors.How.TheVariants.{Gone}
 use Rattle.iol_hold.specs.declared.slices.Slice.{Slice}
@@ -24,13 +24,10 @@ conn_in conns c = unwrap_or (lookup conns c) no_conn
 abbrev pub with_conn : ConnTable → (c : ℕ) → Conn (List Slice) → ConnTable
 with_conn t c x = record t { conns = changed t.conns c x }
 
--- with xs as what came in on it
-abbrev pub with_incoming : ConnTable → (c : ℕ) → List Slice → ConnTable
-with_incoming t c xs = with_conn t c (record (conn_in t.conns c) { incoming = xs })
-
--- with xs as what is to be sent on it
-abbrev pub with_outgoing : ConnTable → (c : ℕ) → List Slice → ConnTable
-with_outgoing t c xs = with_conn t c (record (conn_in t.conns c) { outgoing = xs })
+-- of the connections at most this one is changed
+pub record ChangesOne (t u : ConnTable) (c : ℕ) : Type 0 where
+  pub others : u ≡ with_conn t c (conn_in u.conns c)
+  pub same : conn_in u.conns c ≡ conn_in t.conns c → u ≡ t
 
 -- the numbers of those that no domain accepted, each with its pool
 abbrev pub waiting_in : List (ℕ × Conn (List Slice)) → List (ℕ × ℕ)

@@ -1,11 +1,7 @@
 //! What arrives from a reader, straight into a page.
-ghost use Rattle.std.specs.Prelude.{◌≡◌, ℕ, ◌<◌, ◌≤◌, ◌-◌, min, true, false, Err, IfOk, IfErr, OnOk, OnErr};
-ghost use Rattle.std.specs.Io.KnownBytes.{IsAtEnd};
-ghost use Rattle.iol_core.specs.Prelude.{WantOfRoom};
+ghost use Rattle.std.specs.Prelude.{◌≡◌, false, OnErr};
 ghost use Rattle.iol_pool.specs.Prelude.{pool_in};
-ghost use Rattle.iol_hold.specs.Prelude.{byte_len, has_room};
-ghost use Rattle.iol_pipe.specs.Prelude.{ReadsIn};
-ghost use Rattle.iol_sock.specs.Refused.{read_refusals, IsPassed, IsRefused};
+ghost use Rattle.iol_sock.specs.Calls.{ArrivesFrom};
 
 use crate::connections::Connection;
 use iol_core::limits::{MAX_QUEUE_BYTES, PAGE_BYTES};
@@ -29,24 +25,8 @@ impl Connection {
         max: u32,
     ) -> Result<Arrived, Refusal>
         requires { (pool_in store.old.pools self.old.pool).closed ≡ false }
-        ensures passed { OnOk result (IsPassed (read_refusals self.old max)) }
-        ensures refused { IfErr result (IsRefused (read_refusals self.old max)
-            (WantOfRoom self.old.pool)) }
-        ensures read { IfOk result (λ a. ReadsIn (R.remaining reader.old) (R.remaining reader.new)
-            store.old store.new self.old.incoming self.new.incoming self.old.pool a.taken) }
-        ensures most { IfOk result (λ a. a.taken ≤
-            min (min max PAGE_BYTES) (MAX_QUEUE_BYTES - byte_len self.old.incoming)) }
-        ensures some { IfOk result (λ a. a.end ≡ false → a.failed ≡ false → 0 < a.taken) }
-        ensures either { IfOk result (λ a. a.end ≡ true → a.failed ≡ false) }
-        ensures ended { IfOk result (λ a. a.end ≡ true →
-            (a.taken ≡ 0) × IsAtEnd (R.remaining reader.new)) }
-        ensures failed { IfOk result (λ a. a.failed ≡ true → a.taken ≡ 0) }
-        ensures others { self.new ≡ record self.old { incoming = self.new.incoming } }
-        ensures room { OnOk result (has_room store.old self.old.pool 1 ≡ true) }
-        ensures no_room { (p : ℕ) → result ≡ Err (Refusal.NoRoom p) →
-            has_room store.old self.old.pool 1 ≡ false }
-        ensures err { OnErr result (self.new ≡ self.old) }
-        ensures err_store { OnErr result (store.new ≡ store.old) }
+        ensures arrives { ArrivesFrom store.old store.new self.old self.new (R.remaining reader.old)
+            (R.remaining reader.new) max result }
         ensures err_reader { OnErr result (reader.new ≡ reader.old) }
     {
         if max == 0 {

@@ -3,7 +3,8 @@ ghost use Rattle.std.specs.Prelude.{◌≡◌, ◌++◌, [], true, false, is_non
 ghost use Rattle.iol_core.specs.Prelude.{is_gone};
 ghost use Rattle.iol_hold.specs.Prelude.{Covers, Moves, SameLists, byte_len, FreesOnly, AllSettled, bufs_of, AllReadable};
 ghost use Rattle.iol_pipe.specs.Prelude.{first_pool};
-ghost use Rattle.iol_sock.specs.Connections.{closed_by, held_by, is_over, new_conn};
+ghost use Rattle.iol_sock.specs.Calls.{Closes, ClosesPeer};
+ghost use Rattle.iol_sock.specs.Connections.{held_by, is_over, new_conn};
 
 use iol_core::descriptors::How;
 use iol_core::limits::MAX_QUEUE_BYTES;
@@ -135,13 +136,7 @@ impl Connection {
     /// The peer sends no more, or also takes no more. What was to be sent to a peer that is gone is dropped.
     pub fn peer_closed(&mut self, store: &mut Store, how: How)
         requires { Covers store.old (bufs_of self.old.outgoing) }
-        ensures closed { self.new ≡ closed_by self.old how }
-        ensures moves { Moves store.old store.new (bufs_of self.old.outgoing)
-            (bufs_of self.new.outgoing) }
-        ensures lists { SameLists store.old store.new }
-        ensures frees { FreesOnly store.old store.new }
-        ensures settles { AllReadable store.old self.old.outgoing → AllSettled store.old →
-            AllSettled store.new }
+        ensures { ClosesPeer store.old store.new self.old self.new how }
     {
         match how {
             How::Done => {
@@ -159,12 +154,7 @@ impl Connection {
     /// The domain closes it. What came in is dropped, and what is to be sent stays.
     pub fn close(&mut self, store: &mut Store)
         requires { Covers store.old (bufs_of self.old.incoming) }
-        ensures closed { self.new ≡ record self.old { incoming = []; closed = true } }
-        ensures moves { Moves store.old store.new (bufs_of self.old.incoming) [] }
-        ensures lists { SameLists store.old store.new }
-        ensures frees { FreesOnly store.old store.new }
-        ensures settles { AllReadable store.old self.old.incoming → AllSettled store.old →
-            AllSettled store.new }
+        ensures { Closes store.old store.new self.old self.new }
     {
         self.incoming.clear(store);
         self.closed = true;

@@ -2,9 +2,10 @@
 ghost use Rattle.std.specs.Prelude.{◌≡◌, ◌≢◌, ◌++◌, None, length, take, drop};
 ghost use Rattle.std.specs.List.{take_while};
 ghost use Rattle.iol_core.specs.Prelude.{lookup, bytes_of};
-ghost use Rattle.iol_hold.specs.Prelude.{Covers, Moves, SameLists, places, FreesOnly, AllSettled, text_of, bufs_of, AllReadable};
+ghost use Rattle.iol_hold.specs.Prelude.{Covers, places, text_of, bufs_of, AllReadable};
 ghost use Rattle.iol_pipe.specs.Prelude.{may_see};
-ghost use Rattle.iol_sock.specs.Table.{conn_in, with_incoming};
+ghost use Rattle.iol_sock.specs.Calls.{Skips};
+ghost use Rattle.iol_sock.specs.Table.{ChangesOne, conn_in};
 
 use crate::connections::Connection;
 use crate::table::{Connections, conn_mut};
@@ -27,14 +28,7 @@ impl Connection {
     /// Releases the first `n` bytes that came in, or all where fewer wait. It takes no memory.
     pub fn skip(&mut self, store: &mut Store, n: u32)
         requires { Covers store.old (bufs_of self.old.incoming) }
-        ensures rest { places self.new.incoming ≡ drop n (places self.old.incoming) }
-        ensures others { self.new ≡ record self.old { incoming = self.new.incoming } }
-        ensures moves { Moves store.old store.new (bufs_of self.old.incoming)
-            (bufs_of self.new.incoming) }
-        ensures lists { SameLists store.old store.new }
-        ensures frees { FreesOnly store.old store.new }
-        ensures settles { AllReadable store.old self.old.incoming → AllSettled store.old →
-            AllSettled store.new }
+        ensures { Skips store.old store.new self.old self.new n }
     {
         self.incoming.skip(store, n);
     }
@@ -46,15 +40,8 @@ impl Connections {
     pub fn skip(&mut self, store: &mut Store, c: ConnId, n: u32)
         requires there { lookup self.old.conns c ≢ None }
         requires covered { Covers store.old (bufs_of (conn_in self.old.conns c).incoming) }
-        ensures rest { places (conn_in self.new.conns c).incoming ≡ drop n
-            (places (conn_in self.old.conns c).incoming) }
-        ensures others { self.new ≡ with_incoming self.old c (conn_in self.new.conns c).incoming }
-        ensures moves { Moves store.old store.new (bufs_of (conn_in self.old.conns c).incoming)
-            (bufs_of (conn_in self.new.conns c).incoming) }
-        ensures lists { SameLists store.old store.new }
-        ensures frees { FreesOnly store.old store.new }
-        ensures settles { AllReadable store.old (conn_in self.old.conns c).incoming → AllSettled
-            store.old → AllSettled store.new }
+        ensures conn { Skips store.old store.new (conn_in self.old.conns c) (conn_in self.new.conns c) n }
+        ensures others { ChangesOne self.old self.new c }
     {
         conn_mut(&mut self.live, c).skip(store, n);
     }

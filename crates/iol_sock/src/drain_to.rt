@@ -1,8 +1,9 @@
 //! What a writer takes of what is to be sent, straight from where it lies.
-ghost use Rattle.std.specs.Prelude.{◌≡◌, ◌<◌, ◌≤◌, length, min, take, drop, false, true};
+ghost use Rattle.std.specs.Prelude.{◌≤◌, length, min, take};
 ghost use Rattle.std.specs.Io.KnownBytes.{Appends};
 ghost use Rattle.iol_core.specs.Prelude.{bytes_of};
-ghost use Rattle.iol_hold.specs.Prelude.{Covers, Moves, SameLists, byte_len, places, FreesOnly, AllSettled, text_of, bufs_of, AllReadable};
+ghost use Rattle.iol_hold.specs.Prelude.{Covers, byte_len, text_of, bufs_of, AllReadable};
+ghost use Rattle.iol_sock.specs.Calls.{Drains};
 ghost use Rattle.iol_sock.specs.Sent.{Writes};
 
 use crate::connections::Connection;
@@ -26,18 +27,8 @@ impl Connection {
     pub fn drain_to<W: Write>(&mut self, store: &mut Store, writer: &mut W, max: u32) -> Drained
         requires covered { Covers store.old (bufs_of self.old.outgoing) }
         requires readable { AllReadable store.old self.old.outgoing }
-        ensures most { result.taken ≤ min max (byte_len self.old.outgoing) }
-        ensures all { result.failed ≡ false → result.taken ≡ min max (byte_len self.old.outgoing) }
-        ensures fewer { result.failed ≡ true → result.taken < min max (byte_len self.old.outgoing) }
-        ensures written { Appends (W.contents writer.old) (W.contents writer.new)
-            (take result.taken (bytes_of (text_of store.old self.old.outgoing))) }
-        ensures rest { places self.new.outgoing ≡ drop result.taken (places self.old.outgoing) }
-        ensures others { self.new ≡ record self.old { outgoing = self.new.outgoing } }
-        ensures moves { Moves store.old store.new (bufs_of self.old.outgoing)
-            (bufs_of self.new.outgoing) }
-        ensures lists { SameLists store.old store.new }
-        ensures frees { FreesOnly store.old store.new }
-        ensures settles { AllSettled store.old → AllSettled store.new }
+        ensures { Drains store.old store.new self.old self.new (W.contents writer.old)
+            (W.contents writer.new) max result }
     {
         let drained = write_first(&self.outgoing, store, writer, max);
         self.outgoing.skip(store, drained.taken);

@@ -4,15 +4,15 @@
 //! What is sent carries the checksum of its payload, put together from sums of slices that are remembered
 //! ([`iol_sum`]).
 //!
-//! The contract. A call is refused as the copying machine's is, and a refused one changes nothing (`refused`, `passed`,
-//! `err`). In: `arrive` (`count`, `added`: new bytes of the connection's pool on its lowest free pages; `room`,
-//! `no_room`), `arrive_from` (`read`: those of one read, in place), `front` (`given`: the longest prefix whose pools name
-//! the reader). Out: `queue` (`places`: shared), `segment` (`bytes`, `checksum` of these alone, for every cutting into
-//! slices; `uses`: which sums are remembered), `drain_to` (`written`: what a writer took; `rest`). Ended: `peer_closed`,
-//! `close`, `release` (`moves`, `frees`, `settles`). Many: [`Connections`] has the live ones under numbers that rise
-//! (`numbers_rise`); `add`, `get`, `accept`, `forget` are words on that list, `first_waiting` the first that a domain may
-//! accept, and each call above is there by number (`with_conn`, `conn_in`). That its words are the machine's: [`laws`].
-//! The words are in `specs/Connections`, `specs/Table`, `specs/Refused`, `specs/Sent`, iol_pipe's and iol_sum's.
+//! The contract. What each call does to a connection is said by one record (`specs/Calls`), of the connection before and
+//! after: when it is refused, which changes nothing, and what becomes of its queues and of the store. In: `Arrives` (new
+//! bytes of the connection's pool, on its lowest free pages), `ArrivesFrom` (those of one read, in place), `GivesFront` (the
+//! longest prefix whose pools name the reader). Out: `QueuesShared`, `QueuesNew`, `Segments` (bytes with the checksum of
+//! these alone, for every cutting into slices, and which sums are remembered), `Drains` (what a writer took). Ended:
+//! `ClosesPeer`, `Closes`, and `release`. Many: [`Connections`] has the live ones under numbers that rise (`numbers_rise`);
+//! `add`, `get`, `accept`, `forget` are words on that list, `first_waiting` the first that a domain may accept. Each call
+//! above is there by number, and does the same to that connection and nothing to any other (`ChangesOne`). That its words
+//! are the machine's: [`laws`].
 //!
 //! ```text
 //! let taken = conn.arrive(alloc, &mut store, b"GET /")?;

@@ -1,13 +1,13 @@
 //! What is to be sent, and what is sent of it.
-ghost use Rattle.std.specs.Prelude.{◌≡◌, ◌≢◌, ℕ, ◌+◌, ◌≤◌, ◌++◌, length, take, drop, true, false, Some, Err, IfOk, IfErr, OnOk, OnErr};
+ghost use Rattle.std.specs.Prelude.{◌≡◌, ◌+◌, ◌≤◌, ◌++◌, false, Some, IfOk, IfErr, OnOk, OnErr};
 ghost use Rattle.std.specs.Vec.{vec_len, vec_capacity};
-ghost use Rattle.iol_core.specs.Prelude.{checksum as checksum_of, first, WantOfMemory, WantOfRoom, bytes_of};
-ghost use Rattle.iol_hold.specs.Prelude.{Covers, IsCountable, Moves, SameLists, Shares, byte_len, places, FreesOnly, has_room, AllSettled, text_of, bufs_of, AllReadable};
+ghost use Rattle.iol_core.specs.Prelude.{checksum as checksum_of, first, bytes_of};
+ghost use Rattle.iol_hold.specs.Prelude.{Covers, IsCountable, byte_len, text_of, bufs_of, AllReadable};
 ghost use Rattle.iol_pool.specs.Prelude.{pool_in};
-ghost use Rattle.iol_pipe.specs.Prelude.{AddsBytes, fitting};
 ghost use Rattle.iol_sum.specs.Prelude.{IsRight};
-ghost use Rattle.iol_sock.specs.Refused.{queue_refusals, segment_refusals, IsPassed, IsRefused};
-ghost use Rattle.iol_sock.specs.Sent.{IsSent, UsesSent};
+ghost use Rattle.iol_sock.specs.Calls.{QueuesNew, QueuesShared, Segments};
+ghost use Rattle.iol_sock.specs.Refused.{queue_refusals, IsPassed};
+ghost use Rattle.iol_sock.specs.Sent.{IsSent};
 
 use crate::connections::Connection;
 use iol_agg::Agg;
@@ -50,18 +50,7 @@ impl Connection {
     pub fn queue(&mut self, store: &mut Store, from: &Agg) -> Result<u32, Refusal>
         requires covered { Covers store.old (bufs_of from.now) }
         requires countable { IsCountable store.old (bufs_of from.now) }
-        ensures passed { OnOk result (IsPassed (queue_refusals self.old (byte_len from.now))) }
-        ensures refused { IfErr result (IsRefused
-            (queue_refusals self.old (byte_len from.now)) WantOfMemory) }
-        ensures count { IfOk result (λ n. n ≡ fitting self.old.outgoing (byte_len from.now)) }
-        ensures places { IfOk result (λ n. places self.new.outgoing ≡
-            places self.old.outgoing ++ take n (places from.now)) }
-        ensures others { self.new ≡ record self.old { outgoing = self.new.outgoing } }
-        ensures shares { OnOk result (Shares store.old store.new
-            (bufs_of self.old.outgoing) (bufs_of self.new.outgoing)) }
-        ensures none { byte_len from.now ≡ 0 → result ≢ Err Refusal.Memory }
-        ensures err { OnErr result (self.new ≡ self.old) }
-        ensures err_store { OnErr result (store.new ≡ store.old) }
+        ensures { QueuesShared store.old store.new self.old self.new from.now result }
     {
         self.may_queue(from.len() as usize)?;
         Ok(self.outgoing.push(store, from)?)
@@ -79,20 +68,7 @@ impl Connection {
         bytes: &[u8],
     ) -> Result<u32, Refusal>
         requires { (pool_in store.old.pools pool).closed ≡ false }
-        ensures passed { OnOk result (IsPassed (queue_refusals self.old (length bytes.now))) }
-        ensures refused { IfErr result (IsRefused (queue_refusals self.old (length bytes.now))
-            (WantOfRoom pool)) }
-        ensures count { IfOk result (λ n. n ≡ fitting self.old.outgoing (length bytes.now)) }
-        ensures added { IfOk result (λ n.
-            AddsBytes store.old store.new self.old.outgoing self.new.outgoing pool
-            (take n bytes.now)) }
-        ensures others { self.new ≡ record self.old { outgoing = self.new.outgoing } }
-        ensures room { OnOk result (has_room store.old pool
-            (fitting self.old.outgoing (length bytes.now)) ≡ true) }
-        ensures no_room { (p : ℕ) → result ≡ Err (Refusal.NoRoom p) → has_room store.old pool
-            (fitting self.old.outgoing (length bytes.now)) ≡ false }
-        ensures err { OnErr result (self.new ≡ self.old) }
-        ensures err_store { OnErr result (store.new ≡ store.old) }
+        ensures { QueuesNew store.old store.new self.old self.new pool bytes.now result }
     {
         self.may_queue(bytes.len())?;
         self.outgoing.fill(alloc, store, pool, bytes)
@@ -113,24 +89,7 @@ impl Connection {
         requires countable { IsCountable store.old (bufs_of self.old.outgoing) }
         requires readable { AllReadable store.old self.old.outgoing }
         requires right { IsRight store.old.arena sums.old }
-        ensures passed { OnOk result (IsPassed (segment_refusals self.old max)) }
-        ensures refused { IfErr result (IsRefused (segment_refusals self.old max) WantOfMemory) }
-        ensures bytes { IfOk result (λ g. g.bytes ≡
-            bytes_of (take max (text_of store.old self.old.outgoing))) }
-        ensures checksum { IfOk result (λ g. g.checksum ≡ checksum_of g.bytes) }
-        ensures rest { OnOk result (places self.new.outgoing ≡
-            drop max (places self.old.outgoing)) }
-        ensures others { self.new ≡ record self.old { outgoing = self.new.outgoing } }
-        ensures moves { OnOk result (Moves store.old store.new
-            (bufs_of self.old.outgoing) (bufs_of self.new.outgoing)) }
-        ensures lists { SameLists store.old store.new }
-        ensures frees { OnOk result (FreesOnly store.old store.new) }
-        ensures settles { AllSettled store.old → AllSettled store.new }
-        ensures uses { OnOk result (UsesSent store.old self.old.outgoing max sums.old sums.new) }
-        ensures right { IsRight store.new.arena sums.new }
-        ensures err { OnErr result (self.new ≡ self.old) }
-        ensures err_store { OnErr result (store.new ≡ store.old) }
-        ensures err_sums { OnErr result (sums.new ≡ sums.old) }
+        ensures { Segments store.old store.new self.old self.new max sums.old sums.new result }
     {
         if max == 0 {
             return Err(Refusal::BadRange);
@@ -157,12 +116,9 @@ fn send(
     ensures sent { IfOk result (λ g. IsSent store.old store.new queue.old queue.new max sums.old
         sums.new g.bytes) }
     ensures checksum { IfOk result (λ g. g.checksum ≡ checksum_of g.bytes) }
-    ensures lists { SameLists store.old store.new }
-    ensures settles { AllSettled store.old → AllSettled store.new }
     ensures right { IsRight store.new.arena sums.new }
-    ensures err { OnErr result (queue.new ≡ queue.old) }
-    ensures err_store { OnErr result (store.new ≡ store.old) }
-    ensures err_sums { OnErr result (sums.new ≡ sums.old) }
+    ensures err { OnErr result ((queue.new ≡ queue.old) × (store.new ≡ store.old) ×
+        (sums.new ≡ sums.old)) }
 {
     let len = queue.len().min(max);
     let mut bytes = Vec::with_capacity(alloc, len as usize)?;

@@ -1,15 +1,11 @@
 //! What is sent on a connection of the table, by its number, and its peer.
-ghost use Rattle.iol_core.specs.Prelude.{checksum as checksum_of, WantOfMemory, WantOfRoom, lookup, bytes_of};
-ghost use Rattle.iol_hold.specs.Prelude.{Covers, IsCountable, Moves, SameLists, Shares, byte_len, places, FreesOnly, has_room, AllSettled, AllReadable, bufs_of, text_of};
-ghost use Rattle.iol_pipe.specs.Prelude.{AddsBytes, fitting};
+ghost use Rattle.iol_core.specs.Prelude.{lookup};
+ghost use Rattle.iol_hold.specs.Prelude.{Covers, IsCountable, AllReadable, bufs_of};
 ghost use Rattle.iol_pool.specs.Prelude.{pool_in};
-ghost use Rattle.iol_sock.specs.Connections.{closed_by};
-ghost use Rattle.iol_sock.specs.Refused.{IsPassed, IsRefused, queue_refusals, segment_refusals};
-ghost use Rattle.iol_sock.specs.Sent.{UsesSent};
-ghost use Rattle.iol_sock.specs.Table.{conn_in, with_conn, with_outgoing};
+ghost use Rattle.iol_sock.specs.Calls.{ClosesPeer, Drains, QueuesNew, QueuesShared, Segments};
+ghost use Rattle.iol_sock.specs.Table.{ChangesOne, conn_in};
 ghost use Rattle.iol_sum.specs.Prelude.{IsRight};
-ghost use Rattle.std.specs.Io.KnownBytes.{Appends};
-ghost use Rattle.std.specs.Prelude.{Err, IfErr, IfOk, None, OnErr, OnOk, drop, false, length, min, take, true, ℕ, ◌++◌, ◌<◌, ◌≡◌, ◌≢◌, ◌≤◌};
+ghost use Rattle.std.specs.Prelude.{None, false, ◌≡◌, ◌≢◌};
 
 use crate::connections::Connection;
 use crate::drain_to::Drained;
@@ -34,21 +30,9 @@ impl Connections {
         requires there { lookup self.old.conns c ≢ None }
         requires covered { Covers store.old (bufs_of from.now) }
         requires countable { IsCountable store.old (bufs_of from.now) }
-        ensures passed { OnOk result (IsPassed (queue_refusals (conn_in self.old.conns c) (byte_len
-            from.now))) }
-        ensures refused { IfErr result (IsRefused (queue_refusals (conn_in self.old.conns c)
-            (byte_len from.now)) WantOfMemory) }
-        ensures count { IfOk result (λ n. n ≡ fitting (conn_in self.old.conns c).outgoing (byte_len
-            from.now)) }
-        ensures places { IfOk result (λ n. places (conn_in self.new.conns c).outgoing ≡ places
-            (conn_in self.old.conns c).outgoing ++ take n (places from.now)) }
-        ensures others { self.new ≡ with_outgoing self.old c (conn_in self.new.conns c).outgoing }
-        ensures shares { OnOk result (Shares store.old store.new
-            (bufs_of (conn_in self.old.conns c).outgoing)
-            (bufs_of (conn_in self.new.conns c).outgoing)) }
-        ensures none { byte_len from.now ≡ 0 → result ≢ Err Refusal.Memory }
-        ensures err { OnErr result (self.new ≡ self.old) }
-        ensures err_store { OnErr result (store.new ≡ store.old) }
+        ensures conn { QueuesShared store.old store.new (conn_in self.old.conns c)
+            (conn_in self.new.conns c) from.now result }
+        ensures others { ChangesOne self.old self.new c }
     {
         conn_mut(&mut self.live, c).queue(store, from)
     }
@@ -68,22 +52,9 @@ impl Connections {
     ) -> Result<u32, Refusal>
         requires there { lookup self.old.conns c ≢ None }
         requires pool { (pool_in store.old.pools pool).closed ≡ false }
-        ensures passed { OnOk result (IsPassed (queue_refusals (conn_in self.old.conns c)
-            (length bytes.now))) }
-        ensures refused { IfErr result (IsRefused (queue_refusals (conn_in self.old.conns c)
-            (length bytes.now)) (WantOfRoom pool)) }
-        ensures count { IfOk result (λ n. n ≡ fitting (conn_in self.old.conns c).outgoing
-            (length bytes.now)) }
-        ensures added { IfOk result (λ n. AddsBytes store.old store.new
-            (conn_in self.old.conns c).outgoing (conn_in self.new.conns c).outgoing pool (take n
-            bytes.now)) }
-        ensures others { self.new ≡ with_outgoing self.old c (conn_in self.new.conns c).outgoing }
-        ensures room { OnOk result (has_room store.old pool (fitting
-            (conn_in self.old.conns c).outgoing (length bytes.now)) ≡ true) }
-        ensures no_room { (p : ℕ) → result ≡ Err (Refusal.NoRoom p) → has_room store.old pool
-            (fitting (conn_in self.old.conns c).outgoing (length bytes.now)) ≡ false }
-        ensures err { OnErr result (self.new ≡ self.old) }
-        ensures err_store { OnErr result (store.new ≡ store.old) }
+        ensures conn { QueuesNew store.old store.new (conn_in self.old.conns c)
+            (conn_in self.new.conns c) pool bytes.now result }
+        ensures others { ChangesOne self.old self.new c }
     {
         conn_mut(&mut self.live, c).write(alloc, store, pool, bytes)
     }
@@ -105,27 +76,9 @@ impl Connections {
         requires countable { IsCountable store.old (bufs_of (conn_in self.old.conns c).outgoing) }
         requires readable { AllReadable store.old (conn_in self.old.conns c).outgoing }
         requires right { IsRight store.old.arena sums.old }
-        ensures passed { OnOk result (IsPassed (segment_refusals (conn_in self.old.conns c) max)) }
-        ensures refused { IfErr result (IsRefused (segment_refusals (conn_in self.old.conns c) max)
-            WantOfMemory) }
-        ensures bytes { IfOk result (λ g. g.bytes ≡ bytes_of (take max (text_of store.old
-            (conn_in self.old.conns c).outgoing))) }
-        ensures checksum { IfOk result (λ g. g.checksum ≡ checksum_of g.bytes) }
-        ensures rest { OnOk result (places (conn_in self.new.conns c).outgoing ≡ drop max
-            (places (conn_in self.old.conns c).outgoing)) }
-        ensures others { self.new ≡ with_outgoing self.old c (conn_in self.new.conns c).outgoing }
-        ensures moves { OnOk result (Moves store.old store.new
-            (bufs_of (conn_in self.old.conns c).outgoing)
-            (bufs_of (conn_in self.new.conns c).outgoing)) }
-        ensures lists { SameLists store.old store.new }
-        ensures frees { OnOk result (FreesOnly store.old store.new) }
-        ensures settles { AllSettled store.old → AllSettled store.new }
-        ensures uses { OnOk result (UsesSent store.old (conn_in self.old.conns c).outgoing max
-            sums.old sums.new) }
-        ensures right { IsRight store.new.arena sums.new }
-        ensures err { OnErr result (self.new ≡ self.old) }
-        ensures err_store { OnErr result (store.new ≡ store.old) }
-        ensures err_sums { OnErr result (sums.new ≡ sums.old) }
+        ensures conn { Segments store.old store.new (conn_in self.old.conns c)
+            (conn_in self.new.conns c) max sums.old sums.new result }
+        ensures others { ChangesOne self.old self.new c }
     {
         conn_mut(&mut self.live, c).segment(alloc, store, sums, max)
     }
@@ -142,21 +95,9 @@ impl Connections {
         requires there { lookup self.old.conns c ≢ None }
         requires covered { Covers store.old (bufs_of (conn_in self.old.conns c).outgoing) }
         requires readable { AllReadable store.old (conn_in self.old.conns c).outgoing }
-        ensures most { result.taken ≤ min max (byte_len (conn_in self.old.conns c).outgoing) }
-        ensures all { result.failed ≡ false → result.taken ≡ min max (byte_len
-            (conn_in self.old.conns c).outgoing) }
-        ensures fewer { result.failed ≡ true → result.taken < min max (byte_len
-            (conn_in self.old.conns c).outgoing) }
-        ensures written { Appends (W.contents writer.old) (W.contents writer.new) (take
-            result.taken (bytes_of (text_of store.old (conn_in self.old.conns c).outgoing))) }
-        ensures rest { places (conn_in self.new.conns c).outgoing ≡ drop result.taken
-            (places (conn_in self.old.conns c).outgoing) }
-        ensures others { self.new ≡ with_outgoing self.old c (conn_in self.new.conns c).outgoing }
-        ensures moves { Moves store.old store.new (bufs_of (conn_in self.old.conns c).outgoing)
-            (bufs_of (conn_in self.new.conns c).outgoing) }
-        ensures lists { SameLists store.old store.new }
-        ensures frees { FreesOnly store.old store.new }
-        ensures settles { AllSettled store.old → AllSettled store.new }
+        ensures conn { Drains store.old store.new (conn_in self.old.conns c)
+            (conn_in self.new.conns c) (W.contents writer.old) (W.contents writer.new) max result }
+        ensures others { ChangesOne self.old self.new c }
     {
         conn_mut(&mut self.live, c).drain_to(store, writer, max)
     }
@@ -167,13 +108,9 @@ impl Connections {
     pub fn peer_closed(&mut self, store: &mut Store, c: ConnId, how: How)
         requires there { lookup self.old.conns c ≢ None }
         requires covered { Covers store.old (bufs_of (conn_in self.old.conns c).outgoing) }
-        ensures closed { self.new ≡ with_conn self.old c (closed_by (conn_in self.old.conns c) how) }
-        ensures moves { Moves store.old store.new (bufs_of (conn_in self.old.conns c).outgoing)
-            (bufs_of (conn_in self.new.conns c).outgoing) }
-        ensures lists { SameLists store.old store.new }
-        ensures frees { FreesOnly store.old store.new }
-        ensures settles { AllReadable store.old (conn_in self.old.conns c).outgoing → AllSettled
-            store.old → AllSettled store.new }
+        ensures conn { ClosesPeer store.old store.new (conn_in self.old.conns c)
+            (conn_in self.new.conns c) how }
+        ensures others { ChangesOne self.old self.new c }
     {
         conn_mut(&mut self.live, c).peer_closed(store, how);
     }

@@ -1,6 +1,6 @@
 -- What arrives at a connection, and what is sent of it.
 use Rattle.std.proofs.Common.{◌≡◌, ◌≢◌, ℕ, ◌≤◌, ◌==◌, ◌&&◌, ◌||◌, Bool, not, List, [], ◌∷◌, ◌++◌, length, map, take, ap, ◌∙◌, refl, sym, subst, arith, Option, Some, None, true, false}
-use Rattle.std.specs.Prelude.{if◌then◌else◌, is_some, MatchOption, Result, Ok, Err, IfErr, IfOk, OnErr, OnOk}
+use Rattle.std.specs.Prelude.{if◌then◌else◌, is_some, MatchOption, Result, Ok, Err, OnErr}
 use Rattle.iol_core.specs.Text.{Text, labelled}
 use Rattle.iol_core.specs.Numbered.{lookup, without, changed}
 use Rattle.iol_core.specs.State as machine
@@ -17,14 +17,15 @@ use Rattle.iol_hold.specs.declared.slices.Slice.{Slice}
 use Rattle.iol_hold.proofs.AtPlaces.{read-append}
 use Rattle.std.proofs.lemmas.List.{length-take}
 use Rattle.iol_pipe.specs.Adding.{AddsBytes}
+use Rattle.iol_sock.specs.Calls.{Arrives as ArrivesOn}
 use Rattle.iol_sock.specs.Connections.{Conn, conn_view}
 use Rattle.iol_sock.specs.Table.{conn_in}
 use Rattle.iol_sock.proofs.Meaning.{conn_at-is, arrives_meant, takes_meant, wants_meant}
-use Rattle.iol_sock.specs.Refused.{arrive_refusals, arrive_late, IsPassed, IsRefused}
+use Rattle.iol_sock.specs.Refused.{arrive_refusals, arrive_late, IsRefused}
 use Rattle.iol_pipe.specs.Queue.{fitting}
 use Rattle.iol_core.specs.Meaning.{Meaning, Step, first, ◌when◌}
 use Rattle.iol_core.specs.declared.refusals.Refusal.{Refusal}
-use Rattle.iol_core.specs.declared.refusals.Refusal.TheVariants.{BrokenPipe, NoRoom}
+use Rattle.iol_core.specs.declared.refusals.Refusal.TheVariants.{BrokenPipe}
 use Rattle.iol_kernel.specs.KernelState as held
 use Rattle.iol_kernel.specs.KernelState.{KernelState, IsSound, read_of, machine_of}
 use Rattle.iol_kernel.specs.Putting.{Fills}
@@ -151,15 +152,15 @@ module _ (h k : KernelState) (c n : ℕ) (bytes : List ℕ) (sound : IsSound h) 
       (subst (λ m. MakesBytes (with_incoming c) (conn_in h.conns c).pool m h (arrived h k.store c (conn_in h.conns c) (conn_in k.conns c).incoming (take n bytes) sound found adds short)) len made))
 
 -- of any number of bytes: those that fit arrive, or the refusal leaves what was there
-pub arrives : (h k : KernelState) (c : ℕ) (bytes : List ℕ) (r : Result ℕ Refusal) → IsSound h → lookup h.conns c ≢ None → let x = conn_in h.conns c in
-    OnOk r (IsPassed (arrive_refusals x (length bytes))) → IfErr r (IsRefused (arrive_refusals x (length bytes)) (arrive_late x bytes)) → IfOk r (λ n. n ≡ fitting x.incoming (length bytes)) → IfOk r (λ n. AddsBytes h.store k.store x.incoming (conn_in k.conns c).incoming x.pool (take n bytes))
-    → k ≡ record h { store = k.store; conns = changed h.conns c (record x { incoming = (conn_in k.conns c).incoming }) } → ((p : ℕ) → r ≡ Err (NoRoom p) → has_room h.store x.pool (fitting x.incoming (length bytes)) ≡ false) → OnErr r (k ≡ h)
-    → Fills (λ s. outside.arrive s c bytes) (with_incoming c) (machine.conn_at (machine_of [] h) c).pool h r k
-arrives h k c bytes (Ok n) sound there passed refused number adds same lacks kept =
+pub arrives : (h k : KernelState) (c : ℕ) (bytes : List ℕ) (r : Result ℕ Refusal) → IsSound h → lookup h.conns c ≢ None → ArrivesOn h.store k.store (conn_in h.conns c) (conn_in k.conns c) bytes r
+    → k ≡ record h { store = k.store; conns = changed h.conns c (record (conn_in h.conns c) { incoming = (conn_in k.conns c).incoming }) } → OnErr r (k ≡ h) → Fills (λ s. outside.arrive s c bytes) (with_incoming c) (machine.conn_at (machine_of [] h) c).pool h r k
+arrives h k c bytes (Ok n) sound there a same kept =
+    let taken = a.adds.taken in
+    let adds = a.adds.added in
     fills_some (λ s. outside.arrive s c bytes) (with_incoming c) (machine.conn_at (machine_of [] h) c).pool n h k
-    (all_step h k c n bytes sound there passed number adds same) (all_made h k c n bytes sound there passed number adds same) (all_sound h k c n bytes sound there passed number adds same) adds.moves.stays
-arrives h k c bytes (Err r) sound there passed refused number adds same lacks kept =
+    (all_step h k c n bytes sound there a.passed taken adds same) (all_made h k c n bytes sound there a.passed taken adds same) (all_sound h k c n bytes sound there a.passed taken adds same) adds.moves.stays
+arrives h k c bytes (Err r) sound there a same kept =
     let x : Conn (List Slice) = conn_in h.conns c in
     let found = conn_in-found h.conns c there in
-    fills_none (λ s. outside.arrive s c bytes) (with_incoming c) (machine.conn_at (machine_of [] h) c).pool h k r sound kept (λ stored. arrive_refused stored h c x bytes r found refused)
-    (λ p is. ap (λ q. has_room h.store q (outside.arrive (machine_of [] h) c bytes).answer) (arrive_pool [] h c x found) ∙ ap (has_room h.store x.pool) (arrive_count [] h c x bytes found) ∙ lacks p is)
+    fills_none (λ s. outside.arrive s c bytes) (with_incoming c) (machine.conn_at (machine_of [] h) c).pool h k r sound kept (λ stored. arrive_refused stored h c x bytes r found a.refused)
+    (λ p is. ap (λ q. has_room h.store q (outside.arrive (machine_of [] h) c bytes).answer) (arrive_pool [] h c x found) ∙ ap (has_room h.store x.pool) (arrive_count [] h c x bytes found) ∙ a.room.no_room p is)

@@ -9,7 +9,7 @@ use Rattle.iol_hold.specs.Texts.{AllReadable}
 use Rattle.iol_hold.specs.declared.slices.Slice.{Slice}
 use Rattle.iol_pipe.specs.Adding.{AddsBytes}
 use Rattle.iol_sock.specs.Connections.{Conn}
-use Rattle.iol_sock.specs.Table.{ConnTable}
+use Rattle.iol_sock.specs.Table.{ChangesOne, ConnTable, conn_in}
 use Rattle.iol_kernel.specs.Counted.{conn_uses, uses}
 use Rattle.iol_kernel.specs.KernelState as held
 use Rattle.iol_kernel.specs.KernelState.{IsConnReadable, IsSound, KernelState}
@@ -32,6 +32,6 @@ module _ (h : KernelState) (t : Stored) (c pool : ℕ) (x y : Conn (List Slice))
       (turned_pooled h t c x y sound found pool' (pools_pooled h.store t h.conns h.cache.files adds.pools sound.pooled))
 
 -- a refusal leaves the table and the store
-pub kept_table : {A : Type 0} (h : KernelState) (t : Stored) (old w : ConnTable) (r : Result A Refusal) → OnErr r (w ≡ old) → OnErr r (t ≡ h.store) → OnErr r (record h { store = t; conns = w.conns; next_conn = w.next } ≡ record h { conns = old.conns; next_conn = old.next })
-kept_table h t old w (Ok a) same store = tt
-kept_table h t old w (Err x) same store = λ i. record h { store = store i; conns = (same i).conns; next_conn = (same i).next }
+pub kept_table : {A : Type 0} (h : KernelState) (t : Stored) (old w : ConnTable) (c : ℕ) (r : Result A Refusal) → ChangesOne old w c → OnErr r ((conn_in w.conns c ≡ conn_in old.conns c) × (t ≡ h.store)) → OnErr r (record h { store = t; conns = w.conns; next_conn = w.next } ≡ record h { conns = old.conns; next_conn = old.next })
+kept_table h t old w c (Ok a) one same = tt
+kept_table h t old w c (Err x) one same = let table = one.same same.0 in λ i. record h { store = same.1 i; conns = (table i).conns; next_conn = (table i).next }

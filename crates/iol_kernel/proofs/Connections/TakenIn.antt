@@ -21,7 +21,8 @@ use Rattle.iol_sock.specs.Connections.{Conn}
 use Rattle.iol_sock.specs.Refused.{arrive_refusals, read_refusals, IsRefused}
 use Rattle.iol_sock.proofs.Meaning.{arrives_meant}
 use Rattle.iol_kernel.specs.Backed.{Serves, with_slots}
-use Rattle.iol_kernel.specs.Borrowed.{BringsIn, IsOneRead, RefusesByte, RefusesArrival, TakesIn, arrive_from_refusals, most_asked}
+use Rattle.iol_pipe.specs.Arriving.{IsOneRead}
+use Rattle.iol_kernel.specs.Borrowed.{BringsIn, RefusesByte, RefusesArrival, TakesIn, arrive_from_refusals, most_asked}
 use Rattle.iol_kernel.specs.Calls.{Arrives, Steps}
 use Rattle.iol_kernel.specs.KernelState.{KernelState, IsSound, machine_of}
 use Rattle.iol_kernel.specs.MakingRoom.{AfterRoom, IsSame, MakesRoom, MayHaveEvicted, RefusedRoomy, can_fit}

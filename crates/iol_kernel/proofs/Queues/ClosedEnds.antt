@@ -7,18 +7,18 @@ use Rattle.std.proofs.lemmas.List.{set-set, get_or-set_same, get_or-set_other, g
 use Rattle.std.proofs.lemmas.List.Sums.{sum_by-set, sum_by-cons}
 use Rattle.iol_core.specs.Numbered.{in_place}
 use Rattle.iol_core.specs.State as machine
-use Rattle.iol_core.specs.State.{State, Domain}
+use Rattle.iol_core.specs.State.{Domain}
 use Rattle.iol_core.specs.Calls.Descriptors as fds
 use Rattle.iol_core.specs.declared.descriptors.Descriptor.{Descriptor}
 use Rattle.iol_core.specs.declared.descriptors.Descriptor.TheVariants as on
 use Rattle.iol_core.specs.declared.numbers.BufId.{BufId}
-use Rattle.iol_hold.specs.Stored.{Stored, AllSettled}
-use Rattle.iol_hold.specs.Moves.{Moves, SameLists}
+use Rattle.iol_hold.specs.Stored.{Stored}
+use Rattle.iol_hold.specs.Moves.{Moves}
 use Rattle.iol_hold.specs.Places.{byte_len}
-use Rattle.iol_hold.specs.Texts.{bufs_of, AllReadable}
+use Rattle.iol_hold.specs.Texts.{AllReadable}
 use Rattle.iol_hold.specs.declared.slices.Slice.{Slice}
 use Rattle.iol_hold.proofs.Counting.{tally_none}
-use Rattle.iol_hold.specs.Releases.{FreesOnly}
+use Rattle.iol_hold.specs.Releases.{FreesOnly, Releases}
 use Rattle.iol_hold.proofs.Paging.{keeps_pages_frees}
 use Rattle.iol_hold.proofs.Releasing.{frees_none}
 use Rattle.iol_hold.proofs.Moving.{moves_none}
@@ -53,18 +53,14 @@ pub ruleset same_rules = (moves_same, frees_same)
 pub found_there : (old : Pipes) (n : ℕ) (z : Option (Pipe (List Slice))) (x : Pipe (List Slice)) → n < length old → z ≡ Some x → z ≡ get_or old n z → Some x ≡ in_place old n
 found_there old n z x there is read = sym is ∙ read ∙ get_or_default old n z None there
 
-pub closes_gone : (s t : Stored) (old : Pipes) (n p : ℕ) (x y : Pipe (List Slice)) (after : Pipe (List Slice) → Pipe (List Slice)) → n ≡ p → Some x ≡ in_place old n → y ≡ after x → ((after x).reading || (after x).writing) ≡ false → Moves s t (bufs_of x.queue) (bufs_of y.queue) → SameLists s t → FreesOnly s t → (AllReadable s x.queue → AllSettled s → AllSettled t)
-    → ClosesEnd s t old (slice_set (slice_set old n (Some y)) n None) p (after (queue_at old p))
-closes_gone s t old n p x y after same there is gone moves lists frees settles =
+pub closes_gone : (s t : Stored) (old : Pipes) (n p : ℕ) (x y : Pipe (List Slice)) (after : Pipe (List Slice) → Pipe (List Slice)) → n ≡ p → Some x ≡ in_place old n → y ≡ after x → ((after x).reading || (after x).writing) ≡ false → Releases s t x.queue y.queue → ClosesEnd s t old (slice_set (slice_set old n (Some y)) n None) p (after (queue_at old p))
+closes_gone s t old n p x y after same there is gone releases =
     let found : queue_at old p ≡ x = ap (queue_at old) (sym same) ∙ ap (λ (o : Option (Pipe (List Slice))). unwrap_or o (record { queue = []; reading = false; writing = false })) (sym there) in
     let become : after (queue_at old p) ≡ y = ap after found ∙ sym is in
     record {
       pipes = set-set old n (Some y) None ∙ ap (λ k. slice_set old k None) same
           ∙ sym (ap (λ (z : Pipe (List Slice)). slice_set old p (if z.reading || z.writing then Some z else None)) (ap after found) ∙ rw gone refl);
-      moves = subst (λ (z : Pipe (List Slice)). Moves s t (bufs_of z.queue) (bufs_of (after (queue_at old p)).queue)) (sym found) (subst (λ (z : Pipe (List Slice)). Moves s t (bufs_of x.queue) (bufs_of z.queue)) (sym become) moves);
-      lists = lists;
-      frees = frees;
-      settles = subst (λ (z : Pipe (List Slice)). AllReadable s z.queue → AllSettled s → AllSettled t) (sym found) settles;
+      releases = subst (λ (z : Pipe (List Slice)). Releases s t z.queue (after (queue_at old p)).queue) (sym found) (subst (λ (z : Pipe (List Slice)). Releases s t x.queue z.queue) (sym become) releases);
     }
 
 pub neither : (r : Bool) → r ≡ false → (r || false) ≡ false
@@ -167,7 +163,7 @@ module _ (h : KernelState) (t : Stored) (qs : Pipes) (p : ℕ) (x : Pipe (List S
   less = with_pipe_in h.pipes p x
 
   less_counted : IsCounted t h.domains (record (objects_of h) { pipes = less })
-  less_counted = record { each = λ b. omega (arith, sound.counted.each b, closes.moves.counts.each b, uses-with_pipe b h.pipes p x there empty) }
+  less_counted = record { each = λ b. omega (arith, sound.counted.each b, closes.releases.moves.counts.each b, uses-with_pipe b h.pipes p x there empty) }
 
   queue_good : AllReadable h.store x.queue
   queue_good = elim part [ inl e ↦ subst (AllReadable h.store) (sym e) (readable_none h.store) | inr e ↦ subst (AllReadable h.store) (sym e) (queue_readable h p sound) ]
@@ -194,7 +190,7 @@ module _ (h : KernelState) (t : Stored) (qs : Pipes) (p : ℕ) (x : Pipe (List S
   unfolding read_of
   closed_pipe-read f =
       ap (λ (ys : Pipes). state_view f h.domains t.pools (record (objects_of h) { pipes = ys })) closes.pipes
-      ∙ pools-view f h.domains h.store.pools t.pools (record (objects_of h) { pipes = less }) closes.lists
+      ∙ pools-view f h.domains h.store.pools t.pools (record (objects_of h) { pipes = less }) closes.releases.lists
       ∙ with_pipe_in-view f h.domains h.store.pools (objects_of h) p x
 
   qs_good : AreReadable h.store (record (objects_of h) { pipes = qs })
@@ -202,8 +198,8 @@ module _ (h : KernelState) (t : Stored) (qs : Pipes) (p : ℕ) (x : Pipe (List S
 
   closed_pipe-sound : (end : Descriptor) → KeepsEnds end (objects_of h) (record (objects_of h) { pipes = less }) → all_ends_on end h.domains ≡ 0 → IsSound (record h { store = t; pipes = qs })
   closed_pipe-sound end keeps free = subst (λ (ys : Pipes). IsSound (record h { store = t; pipes = ys })) (sym closes.pipes)
-      (moved-sound h.store (record h { store = t; pipes = less }) closes.moves.stays less_counted (closes.moves.tidy sound.tidy) (closes.moves.still sound.still) (closes.settles (queue_readable h p sound) sound.settled) sound.domains less_good
-      (all_ends_kept end (objects_of h) (record (objects_of h) { pipes = less }) keeps h.domains sound.fds free) sound.once less_limits (same_pooled h.store t h.conns h.cache.files closes.lists sound.pooled) sound.sums sound.filed sound.cached (keeps_pages_frees closes.frees).count)
+      (moved-sound h.store (record h { store = t; pipes = less }) closes.releases.moves.stays less_counted (closes.releases.moves.tidy sound.tidy) (closes.releases.moves.still sound.still) (closes.releases.settles (queue_readable h p sound) sound.settled) sound.domains less_good
+      (all_ends_kept end (objects_of h) (record (objects_of h) { pipes = less }) keeps h.domains sound.fds free) sound.once less_limits (same_pooled h.store t h.conns h.cache.files closes.releases.lists sound.pooled) sound.sums sound.filed sound.cached (keeps_pages_frees closes.releases.frees).count)
 
 -- a read end
 
@@ -216,7 +212,7 @@ module _ (h : KernelState) (t : Stored) (qs : Pipes) (p : ℕ) (sound : IsSound 
       let x : Pipe (List Slice) = without_reader (queue_at h.pipes p) in
       leaves (λ s. fds.closed_on s (Some (on.ReadEnd p))) h (record h { store = t; pipes = qs })
       (λ f. closed_pipe-read h t qs p x sound reader_there closes (inl refl) (λ e. refl) f ∙ reader-read f h p)
-      refl refl closes.moves.stays (keeps_pages_frees closes.frees) sound.domains (qs_good h t qs p x sound reader_there closes (inl refl) (λ e. refl))
+      refl refl closes.releases.moves.stays (keeps_pages_frees closes.releases.frees) sound.domains (qs_good h t qs p x sound reader_there closes (inl refl) (λ e. refl))
       (closed_pipe-sound h t qs p x sound reader_there closes (inl refl) (λ e. refl) (on.ReadEnd p) (reader_keeps (objects_of h) p reader_there) free)
 
 -- a write end
@@ -242,5 +238,5 @@ module _ (h : KernelState) (t : Stored) (qs : Pipes) (p : ℕ) (sound : IsSound 
       let none = none_of (queue_at h.pipes p).queue (queue_at h.pipes p).reading in
       leaves (λ s. fds.closed_on s (Some (on.WriteEnd p))) h (record h { store = t; pipes = qs })
       (λ f. closed_pipe-read h t qs p x sound writer_there closes writer_part none f ∙ writer-read f h p)
-      refl refl closes.moves.stays (keeps_pages_frees closes.frees) sound.domains (qs_good h t qs p x sound writer_there closes writer_part none)
+      refl refl closes.releases.moves.stays (keeps_pages_frees closes.releases.frees) sound.domains (qs_good h t qs p x sound writer_there closes writer_part none)
       (closed_pipe-sound h t qs p x sound writer_there closes writer_part none (on.WriteEnd p) (writer_keeps (objects_of h) p writer_there) free)

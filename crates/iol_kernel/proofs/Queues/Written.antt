@@ -17,13 +17,14 @@ use Rattle.iol_pool.specs.Pools.{Pool}
 use Rattle.iol_hold.specs.Stored.{Stored}
 use Rattle.iol_hold.specs.Moves.{pool_meant}
 use Rattle.iol_hold.specs.Places.{byte_len}
-use Rattle.iol_hold.specs.Room.{has_room}
+use Rattle.iol_hold.specs.Room.{TellsRoom, has_room}
 use Rattle.iol_hold.specs.Texts.{text_of, AllReadable}
 use Rattle.iol_hold.specs.declared.slices.Slice.{Slice}
 use Rattle.iol_hold.proofs.AtPlaces.{read-append}
 use Rattle.iol_hold.proofs.Reading.{readable_none}
-use Rattle.iol_pipe.specs.Adding.{AddsBytes}
+use Rattle.iol_pipe.specs.Adding.{AddsBytes, AddsFitting}
 use Rattle.iol_pipe.specs.Queue.{fitting}
+use Rattle.iol_sock.specs.Calls.{QueuesNew}
 use Rattle.iol_sock.specs.Connections.{Conn, conn_view}
 use Rattle.iol_sock.specs.Refused.{queue_refusals, IsRefused}
 use Rattle.iol_sock.specs.Table.{conn_in}
@@ -218,10 +219,9 @@ module _ (h : KernelState) (d fd c pool : ℕ) (bytes : List ℕ) (may : MayPut 
     sent : FillsQueue d fd pool bytes h (Ok n) k
     sent = put_some h d fd (on.Connection c) pool bytes may k n y.outgoing (conn_in k.conns c).outgoing (λ f. count ∙ sym (number f)) adds sent_each (ap (λ (x : KernelState). x.sums) same) (ap (λ (x : KernelState). x.cache) same) sent_sound
 
-  pub sends : (k : KernelState) (r : Result ℕ Refusal) → IfErr r (IsRefused (queue_refusals y (length bytes)) (WantOfRoom pool)) → IfOk r (λ n. n ≡ fitting y.outgoing (length bytes)) → IfOk r (λ n. AddsBytes h.store k.store y.outgoing (conn_in k.conns c).outgoing pool (take n bytes))
-      → k ≡ record h { store = k.store; conns = changed h.conns c (record y { outgoing = (conn_in k.conns c).outgoing }) } → ((p : ℕ) → r ≡ Err (NoRoom p) → has_room h.store pool (fitting y.outgoing (length bytes)) ≡ false) → OnErr r (k ≡ h) → FillsQueue d fd pool bytes h r k
-  sends k (Ok n) refused count adds same lacks kept = sent k n count adds same
-  sends k (Err r) refused count adds same lacks kept = put_none h d fd (on.Connection c) pool bytes may k r (fitting y.outgoing (length bytes)) (number (bytes_over [] h.store)) (late' r refused) kept lacks
+  pub sends : (k : KernelState) (r : Result ℕ Refusal) → QueuesNew h.store k.store y (conn_in k.conns c) pool bytes r → k ≡ record h { store = k.store; conns = changed h.conns c (record y { outgoing = (conn_in k.conns c).outgoing }) } → OnErr r (k ≡ h) → FillsQueue d fd pool bytes h r k
+  sends k (Ok n) q same kept = sent k n q.adds.taken q.adds.added same
+  sends k (Err r) q same kept = put_none h d fd (on.Connection c) pool bytes may k r (fitting y.outgoing (length bytes)) (number (bytes_over [] h.store)) (late' r q.refused) kept q.room.no_room
 
 -- In a pipe.
 
@@ -252,12 +252,11 @@ module _ (h : KernelState) (d fd p pool : ℕ) (bytes : List ℕ) (may : MayPut 
       some_filled : FillsQueue d fd pool bytes h (Ok n) filled
       some_filled = put_some h d fd (on.WriteEnd p) pool bytes may filled n waits (queue_at qs p).queue (λ f. count ∙ sym (counts f)) adds filled_each refl refl filled_sound
 
-    pub fills : (r : Result ℕ Refusal) → IfErr r (WantOfRoom pool) → IfOk r (λ n. n ≡ fitting waits (length bytes)) → IfOk r (λ n. AddsBytes h.store t waits (queue_at qs p).queue pool (take n bytes)) → OnOk r (qs ≡ with_queue_of h.pipes p qs)
-        → ((q : ℕ) → r ≡ Err (NoRoom q) → has_room h.store pool (fitting waits (length bytes)) ≡ false) → OnErr r (filled ≡ h) → FillsQueue d fd pool bytes h r filled
-    fills (Ok n) late count adds pipes' lacks kept = some_filled n count adds pipes'
-    fills (Err r) late count adds pipes' lacks kept = put_none h d fd (on.WriteEnd p) pool bytes may filled r (fitting waits (length bytes)) (counts (bytes_over [] h.store)) late kept lacks
+    pub fills : (r : Result ℕ Refusal) → IfErr r (WantOfRoom pool) → IfOk r (AddsFitting h.store t waits (queue_at qs p).queue pool bytes) → OnOk r (qs ≡ with_queue_of h.pipes p qs) → TellsRoom (has_room h.store pool (fitting waits (length bytes))) r → OnErr r (filled ≡ h) → FillsQueue d fd pool bytes h r filled
+    fills (Ok n) late adds pipes' room kept = some_filled n adds.taken adds.added pipes'
+    fills (Err r) late adds pipes' room kept = put_none h d fd (on.WriteEnd p) pool bytes may filled r (fitting waits (length bytes)) (counts (bytes_over [] h.store)) late kept room.no_room
 
 -- a refusal leaves the pipes and the store
-pub kept_pipes : {A : Type 0} (h : KernelState) (t : Stored) (qs : List (Option (Pipe (List Slice)))) (r : Result A Refusal) → OnErr r (qs ≡ h.pipes) → OnErr r (t ≡ h.store) → OnErr r (record h { store = t; pipes = qs } ≡ h)
-kept_pipes h t qs (Ok a) same store = tt
-kept_pipes h t qs (Err x) same store = λ i. record h { store = store i; pipes = same i }
+pub kept_pipes : {A : Type 0} (h : KernelState) (t : Stored) (qs : List (Option (Pipe (List Slice)))) (r : Result A Refusal) → OnErr r ((qs ≡ h.pipes) × (t ≡ h.store)) → OnErr r (record h { store = t; pipes = qs } ≡ h)
+kept_pipes h t qs (Ok a) same = tt
+kept_pipes h t qs (Err x) same = λ i. record h { store = same.1 i; pipes = same.0 i }

@@ -1,14 +1,14 @@
 //! Reading by reference.
-ghost use Rattle.std.specs.Prelude.{◌≡◌, false, None, IfOk, OnErr};
-ghost use Rattle.iol_core.specs.Prelude.{too_many_aggs, open_on};
+ghost use Rattle.std.specs.Prelude.{◌≡◌, false, Some, IfOk, OnErr};
+ghost use Rattle.iol_core.specs.Prelude.{too_many_aggs};
 ghost use Rattle.iol_core.specs.Calls.Reading as calls;
-ghost use Rattle.iol_kernel.specs.FileReading.{held_by};
+ghost use Rattle.iol_core.specs.Calls.Writing.{is_file};
 ghost use Rattle.iol_kernel.specs.KernelState.{IsSound};
-ghost use Rattle.iol_kernel.specs.Readings.{Reading};
 
 pub(crate) mod file;
 
 use crate::kernel::Kernel;
+use crate::open_file::OpenFile;
 use crate::queue_end::can_read;
 use iol_agg::Agg;
 use iol_back::backing::Backing;
@@ -18,7 +18,7 @@ use iol_core::refusals::Refusal;
 use std::alloc::AllocError;
 
 impl Kernel {
-    ghost use Rattle.iol_kernel.specs.Kernel.{state_of, machine, as_read, Answers, CarriesOut, GivesFront, IsOpenOn, IsSource, Reads, Serves};
+    ghost use Rattle.iol_kernel.specs.Kernel.{state_of, machine, Answers, CarriesOut, GivesFront, IsOpenOn, IsSource, Reads, Serves};
 
     /// Reads up to `count` bytes, as the caller's next aggregate. The store under the files is asked for what of a file is not
     /// in memory.
@@ -35,33 +35,39 @@ impl Kernel {
         ensures reads { Reads by fd count (B.disk backing.old) self.old result
             (B.disk backing.new) self.new }
     {
-        match self.file_open(by, fd) {
+        let from = self.opened(by, fd)?;
+        match OpenFile::of(&from) {
             Some(found) => self.read_file(backing, by, fd, found, count),
-            None => self.read_queue(by, fd, count),
+            None => self.read_queue(by, fd, &from, count),
         }
     }
 
     /// Reads from a pipe or a connection.
     #[tactic(auto, using(crate::proofs::State::Stay::stay_rules))]
-    fn read_queue(&mut self, by: DomainId, fd: Fd, count: u32) -> Result<AggId, Refusal>
-        requires sound { IsSound (state_of self.old) }
-        requires no_file { (f : Reading) → open_on (held_by (as_read f self.old) by fd) ≡ None }
+    fn read_queue(
+        &mut self,
+        by: DomainId,
+        fd: Fd,
+        from: &Descriptor,
+        count: u32,
+    ) -> Result<AggId, Refusal>
+        requires held { IsOpenOn self.old by fd from.now }
+        requires no_file { is_file (Some from.now) ≡ false }
         ensures { CarriesOut (λ s. calls.iol_read s by fd count) self.old result self.new }
     {
-        let from = self.opened(by, fd)?;
-        if !can_read(&from) {
+        if !can_read(from) {
             return Err(Refusal::WrongMode);
         }
         if self.is_too_many(by, 1, 0) {
             return Err(Refusal::TooMany);
         }
-        if let Some(pool) = self.first_barred(by, &from, count as usize) {
+        if let Some(pool) = self.first_barred(by, from, count as usize) {
             return Err(Refusal::Denied { pool });
         }
-        if self.must_wait(&from, count as usize) {
+        if self.must_wait(from, count as usize) {
             return Err(Refusal::WouldBlock);
         }
-        Ok(self.take(by, fd, &from, count)?)
+        Ok(self.take(by, fd, from, count)?)
     }
 
     /// Takes what the reader may see of the first bytes of a queue, as its next aggregate.

@@ -1,4 +1,4 @@
-use Rattle.std.proofs.Common.{◌∙◌, subst}
+use Rattle.std.proofs.Common.{◌∙◌, [], subst, rules}
 use Rattle.iol_hold.specs.Moves.{Moves}
 use Rattle.iol_hold.specs.Texts.{bufs_of, AllReadable}
 use Rattle.iol_hold.proofs.Reading.{bufs_of-push, home_stays, readable_last}
@@ -33,5 +33,9 @@ loop-slice-preserved c =
           (l.0, c.release.ensures.settles (home_stays x c.loop-slice.invariant.moves.stays (last_held s t gone (bufs_of rest) x.hold.buf c.requires moves) l.1) r.1);
     }
 
-pub returns-clause-settles : goal.returns-clause-settles
-returns-clause-settles c = λ readable all. (c.loop-slice.invariant.settles readable all).1
+pub returns-clause-releases : goal.returns-clause-releases
+returns-clause-releases c =
+    let s = c.args.store.now in
+    let before = c.loop-slice.invariant in
+    let moves : Moves s c.loop-slice.store (bufs_of c.args.queue.now.items) [] = search (rules) in
+    record { moves = moves; lists = before.lists; frees = before.frees; settles = λ readable all. (before.settles readable all).1 }

@@ -8,6 +8,7 @@ use Rattle.iol_pipe.specs.Adding.{AddsBytes}
 use Rattle.iol_pipe.specs.Queue.{fitting}
 use Rattle.iol_pipe.proofs.Wholes.{length_added, bytes_added, none_added}
 use Rattle.iol_pipe.proofs.Pipe.fill.Goals as goal
+use Rattle.iol_pipe.proofs.Pipe.fill.Goals.{Then-taken-eq0}
 
 pub add_whole-requires-clause-room : goal.add_whole-requires-clause-room
 unfolding pages_for
@@ -25,22 +26,28 @@ invariant_of-self-2 c =
       most = omega (arith, more, same, size, c.self.invariant.len, c.self.invariant.most, c.min-taken.ensures);
     }
 
-pub returns-clause-added : goal.returns-clause-added
-returns-clause-added c =
+pub returns-clause-adds : goal.returns-clause-adds
+returns-clause-adds c =
     let s = c.args.store.now in
     let t = c.fill.new.self in
     let taken = take c.min-taken.result c.args.bytes.now in
     let held = c.in_ok-holds.ensures in
     let now = c.add_whole.new.queue.items in
-    subst (λ old. AddsBytes s t old now c.args.pool taken) (c.reserve.ensures.items ∙ c.self.view_is)
-    (bytes_added s t c.reserve.new.self.items now c.args.pool taken c.in_ok-holds.holds c.add_whole.ensures held.pool held.value held.moves held.made_on held.others held.grows held.settles held.pools)
+    record {
+      taken = omega (arith, c.min-taken.ensures, c.self.invariant.len, ap byte_len c.self.view_is);
+      added = subst (λ old. AddsBytes s t old now c.args.pool taken) (c.reserve.ensures.items ∙ c.self.view_is)
+          (bytes_added s t c.reserve.new.self.items now c.args.pool taken c.in_ok-holds.holds c.add_whole.ensures held.pool held.value held.moves held.made_on held.others held.grows held.settles held.pools);
+    }
 
-pub returns-then-taken-eq0-clause-added : goal.returns-then-taken-eq0-clause-added
-returns-then-taken-eq0-clause-added c = none_added c.args.store.now c.args.self.now c.args.pool
+-- no byte fits, or none is offered
+none : (c : Then-taken-eq0) → fitting c.args.self.now (length c.args.bytes.now) ≡ 0
+none c = omega (arith, c.min-taken.ensures, c.if-taken-eq0.true, c.self.invariant.len, ap byte_len c.self.view_is)
+
+pub returns-then-taken-eq0-clause-adds : goal.returns-then-taken-eq0-clause-adds
+returns-then-taken-eq0-clause-adds c = record { taken = sym (none (goal.at.returns-then-taken-eq0-clause-adds c).Then-taken-eq0); added = none_added c.args.store.now c.args.self.now c.args.pool }
 
 pub returns-then-taken-eq0-clause-room : goal.returns-then-taken-eq0-clause-room
-returns-then-taken-eq0-clause-room c =
-    let old = c.args.self.now in
-    let n = length c.args.bytes.now in
-    let none : fitting old n ≡ 0 = omega (arith, c.min-taken.ensures, c.if-taken-eq0.true, c.self.invariant.len, ap byte_len c.self.view_is) in
-    subst (λ k. has_room c.args.store.now c.args.pool k ≡ true) (sym none) (room_for_none c.args.store.now c.args.pool)
+returns-then-taken-eq0-clause-room c = record {
+  room = subst (λ k. has_room c.args.store.now c.args.pool k ≡ true) (sym (none (goal.at.returns-then-taken-eq0-clause-room c).Then-taken-eq0)) (room_for_none c.args.store.now c.args.pool);
+  no_room = λ p is. absurd (cc is);
+}

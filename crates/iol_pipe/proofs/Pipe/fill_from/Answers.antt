@@ -37,7 +37,7 @@ invariant_of-self-2 g c =
     let seen = ap byte_len c.self.view_is in
     record {
       len = omega (arith, more, same, c.self.invariant.len);
-      most = omega (arith, more, same, seen, c.requires.fits, c.in_ok-made.ensures.most);
+      most = omega (arith, more, same, seen, c.requires.fits, c.in_ok-made.ensures.told.most);
     }
 
 pub returns-clause-read : goal.returns-clause-read

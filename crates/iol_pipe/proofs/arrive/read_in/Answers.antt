@@ -2,18 +2,29 @@ use Rattle.std.proofs.Common.{sym, ap, ◌∙◌, arith, length, rules}
 use Rattle.iol_pipe.proofs.ReadIn.{room_for_one, kept_consumes, consumes_none, home_as, read_made, none_made, read_as}
 use Rattle.iol_pipe.proofs.arrive.read_in.Goals as goal
 
-pub returns-in_err-filling-clause-no_room : goal.returns-in_err-filling-clause-no_room
-returns-in_err-filling-clause-no_room g c = λ p is.
-    sym (room_for_one c.args.store.now c.args.pool c.args.n c.requires.some c.requires.page) ∙ c.in_err-filling.ensures.no_room p (search rules)
+pub returns-in_err-filling-clause-room : goal.returns-in_err-filling-clause-room
+returns-in_err-filling-clause-room g c = record {
+  room = search (rules);
+  no_room = λ p is. sym (room_for_one c.args.store.now c.args.pool c.args.n c.requires.some c.requires.page) ∙ c.in_err-filling.ensures.no_room p (search (rules, is));
+}
 
 pub returns-then-taken-eq0-clause-room : goal.returns-then-taken-eq0-clause-room
-returns-then-taken-eq0-clause-room g c = sym (room_for_one c.args.store.now c.args.pool c.args.n c.requires.some c.requires.page) ∙ c.in_ok-filling.ensures.room
+returns-then-taken-eq0-clause-room g c = record {
+  room = sym (room_for_one c.args.store.now c.args.pool c.args.n c.requires.some c.requires.page) ∙ c.in_ok-filling.ensures.room;
+  no_room = λ p is. absurd (cc is);
+}
 
 pub returns-else-taken-eq0-clause-room : goal.returns-else-taken-eq0-clause-room
-returns-else-taken-eq0-clause-room g c = sym (room_for_one c.args.store.now c.args.pool c.args.n c.requires.some c.requires.page) ∙ c.in_ok-filling.ensures.room
+returns-else-taken-eq0-clause-room g c = record {
+  room = sym (room_for_one c.args.store.now c.args.pool c.args.n c.requires.some c.requires.page) ∙ c.in_ok-filling.ensures.room;
+  no_room = λ p is. absurd (cc is);
+}
 
 pub returns-in-Err-clause-room : goal.returns-in-Err-clause-room
-returns-in-Err-clause-room g c = sym (room_for_one c.args.store.now c.args.pool c.args.n c.requires.some c.requires.page) ∙ c.in_ok-filling.ensures.room
+returns-in-Err-clause-room g c = record {
+  room = sym (room_for_one c.args.store.now c.args.pool c.args.n c.requires.some c.requires.page) ∙ c.in_ok-filling.ensures.room;
+  no_room = λ p is. absurd (cc is);
+}
 
 pub returns-then-taken-eq0-clause-made : goal.returns-then-taken-eq0-clause-made
 returns-then-taken-eq0-clause-made g c =

@@ -2,6 +2,7 @@ use Rattle.std.proofs.Common.{ap, Some}
 use Rattle.iol_core.specs.Calls.Descriptors.{closed_on}
 use Rattle.iol_core.specs.declared.descriptors.Descriptor.TheVariants as on
 use Rattle.iol_sock.specs.Table.{ConnTable, conn_in}
+use Rattle.iol_sock.proofs.AtPlace.{changed_to}
 use Rattle.iol_kernel.specs.Kernel.{state_of}
 use Rattle.iol_kernel.proofs.Connections.Connecting.{IsChanged, conn_in-found, incoming_covered, open_conn-there}
 use Rattle.iol_kernel.proofs.Connections.Hanging.{hung_changed, hung_others}
@@ -23,7 +24,7 @@ hung c =
     let w = c.close.new in
     let e = c.close.ensures in
     hung_changed h (record h { store = w.store; conns = w.self.conns; next_conn = w.self.next }) c.args.conn c.requires.sound c.requires.open c.requires.free
-    (ap (λ (t : ConnTable). record h { store = w.store; conns = t.conns; next_conn = t.next }) e.closed) e.moves e.lists e.frees e.settles
+    (ap (λ (t : ConnTable). record h { store = w.store; conns = t.conns; next_conn = t.next }) (changed_to e.others e.conn.closed)) e.conn.releases.moves e.conn.releases.lists e.conn.releases.frees e.conn.releases.settles
 
 pub settle-requires-clause-sound : goal.settle-requires-clause-sound
 settle-requires-clause-sound c = (hung (goal.at.settle-requires-clause-sound c).After-close).sound
@@ -40,4 +41,4 @@ returns-clause-others c =
     let w = c.close.new in
     let e = c.close.ensures in
     hung_others h (record h { store = w.store; conns = w.self.conns; next_conn = w.self.next }) c.args.conn c.requires.sound c.requires.open c.requires.free
-    (ap (λ (t : ConnTable). record h { store = w.store; conns = t.conns; next_conn = t.next }) e.closed) e.moves e.lists e.frees e.settles (state_of c.settle.new.self) c.settle.ensures.others
+    (ap (λ (t : ConnTable). record h { store = w.store; conns = t.conns; next_conn = t.next }) (changed_to e.others e.conn.closed)) e.conn.releases.moves e.conn.releases.lists e.conn.releases.frees e.conn.releases.settles (state_of c.settle.new.self) c.settle.ensures.others

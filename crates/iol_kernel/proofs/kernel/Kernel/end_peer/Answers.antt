@@ -2,6 +2,7 @@ use Rattle.std.proofs.Common.{ap}
 use Rattle.iol_core.specs.State.{conn_at, with_conn}
 use Rattle.iol_core.specs.Calls.Outside.{closed_by}
 use Rattle.iol_sock.specs.Table.{ConnTable, conn_in}
+use Rattle.iol_sock.proofs.AtPlace.{changed_to}
 use Rattle.iol_kernel.specs.Kernel.{state_of}
 use Rattle.iol_kernel.proofs.Connections.Connecting.{IsChanged, conn_is, found_conn, outgoing_covered}
 use Rattle.iol_kernel.proofs.Connections.PeerClosed.{peer_changed}
@@ -23,7 +24,7 @@ told c =
     let w = c.peer_closed.new in
     let e = c.peer_closed.ensures in
     peer_changed h (record h { store = w.store; conns = w.self.conns; next_conn = w.self.next }) c.args.conn c.args.how c.requires.sound (conn_is h c.args.conn c.requires.there)
-    (ap (λ (t : ConnTable). record h { store = w.store; conns = t.conns; next_conn = t.next }) e.closed) e.moves e.lists e.frees e.settles
+    (ap (λ (t : ConnTable). record h { store = w.store; conns = t.conns; next_conn = t.next }) (changed_to e.others e.conn.closed)) e.conn.releases.moves e.conn.releases.lists e.conn.releases.frees e.conn.releases.settles
 
 pub settle-requires-clause-sound : goal.settle-requires-clause-sound
 settle-requires-clause-sound c = (told (goal.at.settle-requires-clause-sound c).After-peer_closed).sound

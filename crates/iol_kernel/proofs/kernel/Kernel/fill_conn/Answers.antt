@@ -1,5 +1,6 @@
 use Rattle.std.proofs.Common.{ap}
 use Rattle.iol_sock.specs.Table.{ConnTable, conn_in}
+use Rattle.iol_sock.proofs.AtPlace.{changed_to}
 use Rattle.iol_kernel.specs.Kernel.{state_of}
 use Rattle.iol_kernel.specs.KernelState.{KernelState}
 use Rattle.iol_kernel.proofs.Connections.Arriving.{arrives}
@@ -20,5 +21,5 @@ returns c =
     let h = state_of c.args.self.now in
     let k : KernelState = record h { store = c.arrive.new.store; conns = c.arrive.new.self.conns; next_conn = c.arrive.new.self.next } in
     let e = c.arrive.ensures in
-    arrives h k c.args.conn c.args.bytes.now c.arrive.result c.requires.sound (conn_is h c.args.conn c.requires.there) e.passed e.refused e.count e.added
-    (ap (λ (w : ConnTable). record h { store = c.arrive.new.store; conns = w.conns; next_conn = w.next }) e.others) e.no_room (kept_table h c.arrive.new.store c.args.self.now.conns c.arrive.new.self c.arrive.result e.err e.err_store)
+    arrives h k c.args.conn c.args.bytes.now c.arrive.result c.requires.sound (conn_is h c.args.conn c.requires.there) e.conn
+    (ap (λ (w : ConnTable). record h { store = c.arrive.new.store; conns = w.conns; next_conn = w.next }) (changed_to e.others e.conn.others)) (kept_table h c.arrive.new.store c.args.self.now.conns c.arrive.new.self c.args.conn c.arrive.result e.others e.conn.err)

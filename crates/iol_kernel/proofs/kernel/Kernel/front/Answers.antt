@@ -1,6 +1,7 @@
-use Rattle.std.proofs.Common.{ap, arith, subst, sym}
+use Rattle.std.proofs.Common.{◌≡◌, ap, arith, rules, subst, sym}
 use Rattle.iol_core.specs.declared.descriptors.Descriptor.{Descriptor}
 use Rattle.iol_sock.specs.Table.{ConnTable, conn_in}
+use Rattle.iol_sock.proofs.AtPlace.{changed_to}
 use Rattle.iol_kernel.specs.Kernel.{state_of}
 use Rattle.iol_kernel.specs.KernelState.{KernelState, objects_of, queue_at}
 use Rattle.iol_kernel.specs.QueueEnds.{GivesFront}
@@ -21,7 +22,7 @@ returns-in_ok-front-in-ReadEnd-clause-given c =
     let h = state_of c.args.self.now in
     let e = c.in_ok-front-in-ReadEnd.ensures in
     subst (λ (x : Descriptor). GivesFront x c.args.by c.args.n h (record h { store = c.front.new.store; pipes = c.front.new.self.places }) c.in_ok-front-in-ReadEnd.field-0) (sym c.in-ReadEnd.is)
-    (pipe_front h c.front.new.store c.front.new.self.places c.in-ReadEnd.pipe c.args.by c.args.n c.in_ok-front-in-ReadEnd.field-0 e.given e.rest e.pipes e.shares)
+    (pipe_front h c.front.new.store c.front.new.self.places c.in-ReadEnd.pipe c.args.by c.args.n c.in_ok-front-in-ReadEnd.field-0 e.gives.given e.gives.rest e.pipes e.gives.shares)
 
 pub front-requires-in-Connection-clause-there : goal.front-requires-in-Connection-clause-there
 front-requires-in-Connection-clause-there c = source_there (state_of c.args.self.now) c.args.from.now c.in-Connection.conn c.requires c.in-Connection.is
@@ -42,6 +43,17 @@ returns-in_ok-front-in-Connection-clause-given c =
     let w = c.front-in-Connection.new in
     let k : KernelState = record h { store = w.store; conns = w.self.conns; next_conn = w.self.next } in
     let e = c.in_ok-front-in-Connection.ensures in
+    let gives = e.conn.gives in
     subst (λ (x : Descriptor). GivesFront x c.args.by c.args.n h k c.in_ok-front-in-Connection.field-0) (sym c.in-Connection.is)
-    (conn_front h k c.in-Connection.conn c.args.by c.args.n c.in_ok-front-in-Connection.field-0 e.given e.rest
-    (ap (λ (t : ConnTable). record h { store = w.store; conns = t.conns; next_conn = t.next }) e.others) e.shares)
+    (conn_front h k c.in-Connection.conn c.args.by c.args.n c.in_ok-front-in-Connection.field-0 gives.given gives.rest
+    (ap (λ (t : ConnTable). record h { store = w.store; conns = t.conns; next_conn = t.next }) (changed_to e.others e.conn.others)) gives.shares)
+
+pub returns-in_err-front-in-Connection-clause-err : goal.returns-in_err-front-in-Connection-clause-err
+returns-in_err-front-in-Connection-clause-err c =
+    let h = state_of c.args.self.now in
+    let w = c.front-in-Connection.new in
+    let k : KernelState = record h { store = w.store; conns = w.self.conns; next_conn = w.self.next } in
+    let e = c.in_err-front-in-Connection.ensures in
+    let table = e.others.same e.conn.err.0 in
+    let same : k ≡ h = λ i. record h { store = e.conn.err.1 i; conns = (table i).conns; next_conn = (table i).next } in
+    search (rules, same)

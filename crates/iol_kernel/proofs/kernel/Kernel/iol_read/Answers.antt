@@ -1,8 +1,48 @@
+use Rattle.std.proofs.Common.{◌∙◌, ap, rules, Some}
 use Rattle.iol_core.specs.Calls.Reading as calls
+use Rattle.iol_core.specs.declared.descriptors.Descriptor.{Descriptor}
+use Rattle.iol_core.specs.declared.descriptors.Descriptor.TheVariants as on
 use Rattle.iol_kernel.specs.Kernel.{state_of}
+use Rattle.iol_kernel.specs.Opened.{IsOpenOn}
+use Rattle.iol_kernel.proofs.Queues.Reads.{reads_file, reads_queue, reads_unopened, serves_unopened}
 use Rattle.iol_kernel.proofs.State.Serving.{carried_serves}
+use Rattle.iol_kernel.proofs.kernel.Kernel.iol_read.Given.{Over}
 use Rattle.iol_kernel.proofs.kernel.Kernel.iol_read.Goals as goal
+use Rattle.iol_kernel.proofs.kernel.Kernel.iol_read.Goals.{In-Some, In_ok-from}
+
+pub returns-in_err-from-clause-serves : goal.returns-in_err-from-clause-serves
+returns-in_err-from-clause-serves g c =
+    let kept = serves_unopened (state_of c.args.self.now) c.args.by c.args.fd c.args.count c.in_err-from.field-0.0 c.requires c.in_err-from.ensures.err (g.B.Backing.disk c.args.backing.now) in
+    search (rules, kept)
+
+pub returns-in_err-from-clause-reads : goal.returns-in_err-from-clause-reads
+returns-in_err-from-clause-reads g c =
+    let kept = reads_unopened (state_of c.args.self.now) c.args.by c.args.fd c.args.count c.in_err-from.field-0.0 c.requires c.in_err-from.ensures.err (g.B.Backing.disk c.args.backing.now) in
+    search (rules, kept)
+
+-- the descriptor is open
+opened : (g : Over) (c : In_ok-from g) → IsOpenOn (state_of c.args.self.now) c.args.by c.args.fd c.in_ok-from.from
+opened g c = record { sound = c.requires; live = c.in_ok-from.ensures.live; from = c.in_ok-from.ensures.open }
+
+-- on a file
+on_file : (g : Over) (c : In-Some g) → IsOpenOn (state_of c.args.self.now) c.args.by c.args.fd (on.File c.in-Some.found.file c.in-Some.found.at c.in-Some.found.mode)
+on_file g c = record { sound = c.requires; live = c.in_ok-from.ensures.live; from = λ f. c.in_ok-from.ensures.open f ∙ ap (λ (x : Descriptor). Some x) c.in-Some.ensures.some }
+
+pub read_file-requires : goal.read_file-requires
+read_file-requires g c = record { is = on_file g (goal.at.read_file-requires g c).In-Some }
+
+pub returns-in-Some-clause-reads : goal.returns-in-Some-clause-reads
+returns-in-Some-clause-reads g c =
+    reads_file (state_of c.args.self.now) (state_of c.read_file.new.self) c.args.by c.args.fd c.args.count c.in-Some.found c.read_file.result (g.B.Backing.disk c.args.backing.now) (g.B.Backing.disk c.read_file.new.backing)
+    (on_file g (goal.at.returns-in-Some-clause-reads g c).In-Some) c.read_file.ensures
+
+pub read_queue-requires-clause-held : goal.read_queue-requires-clause-held
+read_queue-requires-clause-held g c = opened g (goal.at.read_queue-requires-clause-held g c).In_ok-from
 
 pub returns-in-None-clause-serves : goal.returns-in-None-clause-serves
 returns-in-None-clause-serves g c =
     carried_serves (λ s. calls.iol_read s c.args.by c.args.fd c.args.count) (state_of c.args.self.now) (state_of c.read_queue.new.self) c.read_queue.result c.requires c.read_queue.ensures (g.B.Backing.disk c.args.backing.now)
+
+pub returns-in-None-clause-reads : goal.returns-in-None-clause-reads
+returns-in-None-clause-reads g c =
+    reads_queue (state_of c.args.self.now) (state_of c.read_queue.new.self) c.args.by c.args.fd c.args.count c.in_ok-from.from c.read_queue.result (g.B.Backing.disk c.args.backing.now) (opened g (goal.at.returns-in-None-clause-reads g c).In_ok-from) (search (rules)) c.read_queue.ensures

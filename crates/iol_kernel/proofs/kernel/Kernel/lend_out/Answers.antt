@@ -1,5 +1,6 @@
 use Rattle.std.proofs.Common.{ap, arith}
 use Rattle.iol_sock.specs.Table.{ConnTable, conn_in}
+use Rattle.iol_sock.proofs.AtPlace.{changed_to}
 use Rattle.iol_kernel.specs.Kernel.{state_of}
 use Rattle.iol_kernel.proofs.Connections.Borrowing.{Lent, drains_to, lent_out}
 use Rattle.iol_kernel.proofs.Connections.Connecting.{conn_is, conn_readable, found_conn, outgoing_covered}
@@ -26,8 +27,10 @@ lent g c =
     let h = state_of c.args.self.now in
     let w = c.drain_to-drained.new in
     let e = c.drain_to-drained.ensures in
-    lent_out h (record h { store = w.store; conns = w.self.conns; next_conn = w.self.next }) c.args.conn c.drain_to-drained.result.taken c.requires.sound (conn_is h c.args.conn c.requires.there) e.rest
-    (ap (λ (t : ConnTable). record h { store = w.store; conns = t.conns; next_conn = t.next }) e.others) e.moves e.lists e.frees e.settles
+    let r = e.conn.releases in
+    lent_out h (record h { store = w.store; conns = w.self.conns; next_conn = w.self.next }) c.args.conn c.drain_to-drained.result.taken c.requires.sound (conn_is h c.args.conn c.requires.there) e.conn.rest
+    (ap (λ (t : ConnTable). record h { store = w.store; conns = t.conns; next_conn = t.next }) (changed_to e.others e.conn.others)) r.moves r.lists r.frees
+    (r.settles (conn_readable h c.args.conn (conn_in h.conns c.args.conn) c.requires.sound (found_conn h c.args.conn c.requires.there)).1)
 
 pub settle-requires-clause-sound : goal.settle-requires-clause-sound
 settle-requires-clause-sound g c = (lent g (goal.at.settle-requires-clause-sound g c).After-drain_to-drained).sound
@@ -39,13 +42,13 @@ pub returns-then-drained-eq0 : goal.returns-then-drained-eq0
 returns-then-drained-eq0 g c =
     let h = state_of c.args.self.now in
     let w = c.drain_to-drained.new in
-    let e = c.drain_to-drained.ensures in
+    let e = c.drain_to-drained.ensures.conn.writes in
     drains_to h c.args.conn c.args.max (conn_is h c.args.conn c.requires.there) (g.W.Write.contents c.args.writer.now) (g.W.Write.contents w.writer) (record h { store = w.store; conns = w.self.conns; next_conn = w.self.next }) c.drain_to-drained.result e.most e.all e.fewer e.written
     ((lent g (goal.at.returns-then-drained-eq0 g c).After-drain_to-drained).nothing (omega (arith, c.if-drained-eq0.true)))
 
 pub returns : goal.returns
 returns g c =
     let h = state_of c.args.self.now in
-    let e = c.drain_to-drained.ensures in
+    let e = c.drain_to-drained.ensures.conn.writes in
     drains_to h c.args.conn c.args.max (conn_is h c.args.conn c.requires.there) (g.W.Write.contents c.args.writer.now) (g.W.Write.contents c.drain_to-drained.new.writer) (state_of c.settle.new.self) c.drain_to-drained.result e.most e.all e.fewer e.written
     ((lent g (goal.at.returns g c).After-drain_to-drained).some (state_of c.settle.new.self) (λ none. omega (arith, none, c.if-drained-eq0.false)) c.settle.ensures.left)

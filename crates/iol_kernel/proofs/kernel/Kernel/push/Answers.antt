@@ -8,6 +8,7 @@ use Rattle.iol_hold.specs.Moves.{Covers, IsCountable}
 use Rattle.iol_hold.specs.Places.{places, byte_len}
 use Rattle.iol_hold.specs.Texts.{bufs_of}
 use Rattle.iol_sock.specs.Table.{ConnTable}
+use Rattle.iol_sock.proofs.AtPlace.{changed_to}
 use Rattle.iol_kernel.specs.Kernel.{state_of}
 use Rattle.iol_kernel.specs.Readings.{bytes_over}
 use Rattle.iol_kernel.specs.KernelState.{KernelState, objects_of, queue_at}
@@ -63,10 +64,10 @@ returns-in_ok-push-in-WriteEnd c =
     let n = c.in_ok-push-in-WriteEnd.field-0 in
     let from = c.in-Some.found.now in
     let e = c.in_ok-push-in-WriteEnd.ensures in
-    let bound = short (byte_len (queue_at h.pipes p).queue) (byte_len (queue_at qs p).queue) (byte_len from) n (queue_short h p c.requires.open.sound) e.taken
-    (omega (arith, ap length e.places, length-append (places (queue_at h.pipes p).queue) (take n (places from)), length-take n (places from))) in
+    let bound = short (byte_len (queue_at h.pipes p).queue) (byte_len (queue_at qs p).queue) (byte_len from) n (queue_short h p c.requires.open.sound) e.shares.taken
+    (omega (arith, ap length e.shares.added, length-append (places (queue_at h.pipes p).queue) (take n (places from)), length-take n (places from))) in
     carried_done (λ s. iol_write s c.args.by c.args.fd c.args.agg) h (record h { store = c.push.new.store; pipes = qs }) c.requires.passed n
-    (pushed_answers h c.push.new.store qs c.args.fd p n c.args.by c.args.agg from c.requires.open.sound (λ f. c.requires.open.from f ∙ ap (λ (x : Descriptor). Some x) c.in-WriteEnd.is) c.in-Some.ensures bound e.taken e.places e.pipes e.shares)
+    (pushed_answers h c.push.new.store qs c.args.fd p n c.args.by c.args.agg from c.requires.open.sound (λ f. c.requires.open.from f ∙ ap (λ (x : Descriptor). Some x) c.in-WriteEnd.is) c.in-Some.ensures bound e.shares.taken e.shares.added e.pipes e.shares.shares)
 
 pub returns-in_ok-queue-in-Connection : goal.returns-in_ok-queue-in-Connection
 returns-in_ok-queue-in-Connection c =
@@ -75,14 +76,16 @@ returns-in_ok-queue-in-Connection c =
     let n = c.in_ok-queue-in-Connection.field-0 in
     let e = c.in_ok-queue-in-Connection.ensures in
     carried_done (λ s. iol_write s c.args.by c.args.fd c.args.agg) h k c.requires.passed n
-    (queued_answers h c.args.by c.args.fd c.args.agg c.in-Connection.conn c.in-Some.found.now c.requires.open.sound (λ f. c.requires.open.from f ∙ ap (λ (x : Descriptor). Some x) c.in-Connection.is) c.in-Some.ensures k n e.count e.places
-    (ap (λ (w : ConnTable). record h { store = c.queue.new.store; conns = w.conns; next_conn = w.next }) e.others) e.shares)
+    (queued_answers h c.args.by c.args.fd c.args.agg c.in-Connection.conn c.in-Some.found.now c.requires.open.sound (λ f. c.requires.open.from f ∙ ap (λ (x : Descriptor). Some x) c.in-Connection.is) c.in-Some.ensures k n e.conn.shares.taken e.conn.shares.added
+    (ap (λ (w : ConnTable). record h { store = c.queue.new.store; conns = w.conns; next_conn = w.next }) (changed_to e.others e.conn.others)) e.conn.shares.shares)
 
 pub returns-in_err-queue-in-Connection : goal.returns-in_err-queue-in-Connection
 returns-in_err-queue-in-Connection c =
     let h = state_of c.args.self.now in
     let k : KernelState = record h { store = c.queue.new.store; conns = c.queue.new.self.conns; next_conn = c.queue.new.self.next } in
     let e = c.in_err-queue-in-Connection.ensures in
-    let same : k ≡ h = λ i. record h { store = e.err_store i; conns = (e.err i).conns; next_conn = (e.err i).next } in
-    let kept = queue_refused h c.args.by c.args.fd c.args.agg c.in-Connection.conn c.in-Some.found.now c.requires.open.sound (λ f. c.requires.open.from f ∙ ap (λ (x : Descriptor). Some x) c.in-Connection.is) c.in-Some.ensures c.requires.passed k c.in_err-queue-in-Connection.field-0.0 (search (rules)) same in
+    let table = e.others.same e.conn.err.0 in
+    let same : k ≡ h = λ i. record h { store = e.conn.err.1 i; conns = (table i).conns; next_conn = (table i).next } in
+    let refused = e.conn.refused in
+    let kept = queue_refused h c.args.by c.args.fd c.args.agg c.in-Connection.conn c.in-Some.found.now c.requires.open.sound (λ f. c.requires.open.from f ∙ ap (λ (x : Descriptor). Some x) c.in-Connection.is) c.in-Some.ensures c.requires.passed k c.in_err-queue-in-Connection.field-0.0 (search (rules, refused)) same in
     search (rules, kept)

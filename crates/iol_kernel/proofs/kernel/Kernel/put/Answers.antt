@@ -3,6 +3,7 @@ use Rattle.iol_core.specs.Calls.Writing.{fitting, write}
 use Rattle.iol_core.specs.declared.descriptors.Descriptor.{Descriptor}
 use Rattle.iol_core.specs.declared.descriptors.Descriptor.TheVariants as on
 use Rattle.iol_sock.specs.Table.{ConnTable}
+use Rattle.iol_sock.proofs.AtPlace.{changed_to}
 use Rattle.iol_kernel.specs.Kernel.{state_of}
 use Rattle.iol_kernel.specs.KernelState.{KernelState, read_of}
 use Rattle.iol_kernel.specs.Putting.{MayPut}
@@ -59,8 +60,8 @@ returns-in-WriteEnd c =
     let e = c.fill.ensures in
     write_places c.args.by c.args.fd c.args.to c.args.pool c.fitting-count.result c.args.bytes.now (state_of c.args.self.now) k c.requires.may r.made (counted (goal.at.returns-in-WriteEnd c).After-fitting-count) l c.fill.result
     (r.room c.if-not-make_room_for.false) (r.fits ∙ c.if-not-make_room_for.false)
-    (fills k c.args.by c.args.fd c.in-WriteEnd.pipe c.args.pool c.args.bytes.now (to_pipe (goal.at.returns-in-WriteEnd c).In-WriteEnd) c.fill.new.store c.fill.new.self.places c.fill.result e.late e.taken e.added e.pipes e.no_room
-    (kept_pipes k c.fill.new.store c.fill.new.self.places c.fill.result e.err e.err_store))
+    (fills k c.args.by c.args.fd c.in-WriteEnd.pipe c.args.pool c.args.bytes.now (to_pipe (goal.at.returns-in-WriteEnd c).In-WriteEnd) c.fill.new.store c.fill.new.self.places c.fill.result e.late e.adds e.pipes e.room
+    (kept_pipes k c.fill.new.store c.fill.new.self.places c.fill.result e.err))
 
 pub write-requires-clause-there : goal.write-requires-clause-there
 write-requires-clause-there c =
@@ -78,5 +79,5 @@ returns-in-Connection c =
     let e = c.write.ensures in
     write_places c.args.by c.args.fd c.args.to c.args.pool c.fitting-count.result c.args.bytes.now (state_of c.args.self.now) k c.requires.may r.made (counted (goal.at.returns-in-Connection c).After-fitting-count) l c.write.result
     (r.room c.if-not-make_room_for.false) (r.fits ∙ c.if-not-make_room_for.false)
-    (sends k c.args.by c.args.fd c.in-Connection.conn c.args.pool c.args.bytes.now (to_conn (goal.at.returns-in-Connection c).In-Connection) l c.write.result e.refused e.count e.added
-    (ap (λ (w : ConnTable). record k { store = c.write.new.store; conns = w.conns; next_conn = w.next }) e.others) e.no_room (kept_table k c.write.new.store c.make_room_for.new.self.conns c.write.new.self c.write.result e.err e.err_store))
+    (sends k c.args.by c.args.fd c.in-Connection.conn c.args.pool c.args.bytes.now (to_conn (goal.at.returns-in-Connection c).In-Connection) l c.write.result e.conn
+    (ap (λ (w : ConnTable). record k { store = c.write.new.store; conns = w.conns; next_conn = w.next }) (changed_to e.others e.conn.others)) (kept_table k c.write.new.store c.make_room_for.new.self.conns c.write.new.self c.in-Connection.conn c.write.result e.others e.conn.err))

@@ -2,18 +2,13 @@ use Rattle.std.proofs.Common.{[], ◌≡◌, rules, Some, true}
 use Rattle.iol_core.specs.Calls.Reading.{can_read}
 use Rattle.iol_kernel.specs.Kernel.{state_of}
 use Rattle.iol_kernel.specs.Readings.{bytes_over}
-use Rattle.iol_kernel.proofs.Queues.LookUps.{is_queue, source_held}
+use Rattle.iol_kernel.proofs.Queues.Opening.{end_held}
 use Rattle.iol_kernel.proofs.kernel.Kernel.read_queue.Goals as goal
-
-pub first_barred-requires : goal.first_barred-requires
-first_barred-requires c =
-    let h = state_of c.args.self.now in
-    let e = c.in_ok-from.ensures in
-    is_queue h c.args.by c.args.fd c.in_ok-from.from (e.live (bytes_over [] h.store)) (e.open (bytes_over [] h.store)) c.requires.no_file
 
 pub take-requires-clause-source : goal.take-requires-clause-source
 take-requires-clause-source c =
     let h = state_of c.args.self.now in
-    let e = c.in_ok-from.ensures in
-    let readable : can_read (Some c.in_ok-from.from) ≡ true = search (rules) in
-    source_held h c.args.by c.args.fd c.in_ok-from.from c.requires.sound (e.live (bytes_over [] h.store)) (e.open (bytes_over [] h.store)) c.requires.no_file readable
+    let f = bytes_over [] h.store in
+    let held = c.requires.held in
+    let readable : can_read (Some c.args.from.now) ≡ true = search (rules) in
+    record { sound = held.sound; opened = end_held f h c.args.by c.args.fd c.args.from.now held.sound (held.from f); readable = readable; no_file = c.requires.no_file }

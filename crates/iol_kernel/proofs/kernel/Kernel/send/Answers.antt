@@ -1,5 +1,6 @@
 use Rattle.std.proofs.Common.{◌≡◌, ap, rules, arith}
 use Rattle.iol_sock.specs.Table.{ConnTable, conn_in}
+use Rattle.iol_sock.proofs.AtPlace.{changed_to}
 use Rattle.iol_kernel.specs.Kernel.{state_of}
 use Rattle.iol_kernel.specs.KernelState.{KernelState, objects_of}
 use Rattle.iol_kernel.proofs.Connections.Connecting.{conn_is, conn_limit, conn_readable, found_conn, outgoing_covered}
@@ -28,28 +29,36 @@ pub settle-requires-clause-sound : goal.settle-requires-clause-sound
 settle-requires-clause-sound c =
     let h = state_of c.args.self.now in
     let e = c.in_ok-segment.ensures in
-    mid_sound h (record h { store = c.segment.new.store; conns = c.segment.new.self.conns; next_conn = c.segment.new.self.next; sums = c.segment.new.sums }) (state_of c.args.self.now) c.args.conn c.args.max c.in_ok-segment.segment.bytes c.in_ok-segment.segment.checksum c.requires.sound (conn_is h c.args.conn c.requires.there) e.passed e.bytes e.checksum
-    e.rest (ap (λ (w : ConnTable). record h { store = c.segment.new.store; conns = w.conns; next_conn = w.next; sums = c.segment.new.sums }) c.segment.ensures.others) e.moves c.segment.ensures.lists e.frees c.segment.ensures.settles c.segment.ensures.right
+    let sent = e.conn.sent in
+    let readable = (conn_readable h c.args.conn (conn_in h.conns c.args.conn) c.requires.sound (found_conn h c.args.conn c.requires.there)).1 in
+    mid_sound h (record h { store = c.segment.new.store; conns = c.segment.new.self.conns; next_conn = c.segment.new.self.next; sums = c.segment.new.sums }) (state_of c.args.self.now) c.args.conn c.args.max c.in_ok-segment.segment.bytes c.in_ok-segment.segment.checksum c.requires.sound (conn_is h c.args.conn c.requires.there) e.conn.passed sent.bytes e.conn.checksum
+    sent.rest (ap (λ (w : ConnTable). record h { store = c.segment.new.store; conns = w.conns; next_conn = w.next; sums = c.segment.new.sums }) (changed_to e.others e.conn.others)) sent.releases.moves sent.releases.lists sent.releases.frees (sent.releases.settles readable) e.conn.right
 
 pub settle-requires-clause-there : goal.settle-requires-clause-there
 settle-requires-clause-there c =
     let h = state_of c.args.self.now in
     let e = c.in_ok-segment.ensures in
-    mid_there h (record h { store = c.segment.new.store; conns = c.segment.new.self.conns; next_conn = c.segment.new.self.next; sums = c.segment.new.sums }) (state_of c.args.self.now) c.args.conn c.args.max c.in_ok-segment.segment.bytes c.in_ok-segment.segment.checksum c.requires.sound (conn_is h c.args.conn c.requires.there) e.passed e.bytes e.checksum
-    e.rest (ap (λ (w : ConnTable). record h { store = c.segment.new.store; conns = w.conns; next_conn = w.next; sums = c.segment.new.sums }) c.segment.ensures.others) e.moves c.segment.ensures.lists e.frees c.segment.ensures.settles c.segment.ensures.right
+    let sent = e.conn.sent in
+    let readable = (conn_readable h c.args.conn (conn_in h.conns c.args.conn) c.requires.sound (found_conn h c.args.conn c.requires.there)).1 in
+    mid_there h (record h { store = c.segment.new.store; conns = c.segment.new.self.conns; next_conn = c.segment.new.self.next; sums = c.segment.new.sums }) (state_of c.args.self.now) c.args.conn c.args.max c.in_ok-segment.segment.bytes c.in_ok-segment.segment.checksum c.requires.sound (conn_is h c.args.conn c.requires.there) e.conn.passed sent.bytes e.conn.checksum
+    sent.rest (ap (λ (w : ConnTable). record h { store = c.segment.new.store; conns = w.conns; next_conn = w.next; sums = c.segment.new.sums }) (changed_to e.others e.conn.others)) sent.releases.moves sent.releases.lists sent.releases.frees (sent.releases.settles readable) e.conn.right
 
 pub returns : goal.returns
 returns c =
     let h = state_of c.args.self.now in
     let e = c.in_ok-segment.ensures in
-    transmitted h (record h { store = c.segment.new.store; conns = c.segment.new.self.conns; next_conn = c.segment.new.self.next; sums = c.segment.new.sums }) (state_of c.settle.new.self) c.args.conn c.args.max c.in_ok-segment.segment.bytes c.in_ok-segment.segment.checksum c.requires.sound (conn_is h c.args.conn c.requires.there) e.passed e.bytes e.checksum
-    e.rest (ap (λ (w : ConnTable). record h { store = c.segment.new.store; conns = w.conns; next_conn = w.next; sums = c.segment.new.sums }) c.segment.ensures.others) e.moves c.segment.ensures.lists e.frees c.segment.ensures.settles c.segment.ensures.right c.settle.ensures.left (uses_kept c.settle.ensures.left.sums e.uses)
+    let sent = e.conn.sent in
+    let readable = (conn_readable h c.args.conn (conn_in h.conns c.args.conn) c.requires.sound (found_conn h c.args.conn c.requires.there)).1 in
+    transmitted h (record h { store = c.segment.new.store; conns = c.segment.new.self.conns; next_conn = c.segment.new.self.next; sums = c.segment.new.sums }) (state_of c.settle.new.self) c.args.conn c.args.max c.in_ok-segment.segment.bytes c.in_ok-segment.segment.checksum c.requires.sound (conn_is h c.args.conn c.requires.there) e.conn.passed sent.bytes e.conn.checksum
+    sent.rest (ap (λ (w : ConnTable). record h { store = c.segment.new.store; conns = w.conns; next_conn = w.next; sums = c.segment.new.sums }) (changed_to e.others e.conn.others)) sent.releases.moves sent.releases.lists sent.releases.frees (sent.releases.settles readable) e.conn.right c.settle.ensures.left (uses_kept c.settle.ensures.left.sums sent.uses)
 
 pub returns-in_err-segment : goal.returns-in_err-segment
 returns-in_err-segment c =
     let h = state_of c.args.self.now in
     let e = c.in_err-segment.ensures in
     let k : KernelState = record h { store = c.segment.new.store; conns = c.segment.new.self.conns; next_conn = c.segment.new.self.next; sums = c.segment.new.sums } in
-    let same : k ≡ h = λ i. record h { store = e.err_store i; conns = (e.err i).conns; next_conn = (e.err i).next; sums = e.err_sums i } in
-    let kept = send_kept h k c.args.conn c.args.max c.in_err-segment.field-0.0 c.requires.sound (conn_is h c.args.conn c.requires.there) (search (rules)) same in
+    let table = e.others.same e.conn.err.0 in
+    let same : k ≡ h = λ i. record h { store = e.conn.err.1 i; conns = (table i).conns; next_conn = (table i).next; sums = e.conn.err.2 i } in
+    let refused = e.conn.refused in
+    let kept = send_kept h k c.args.conn c.args.max c.in_err-segment.field-0.0 c.requires.sound (conn_is h c.args.conn c.requires.there) (search (rules, refused)) same in
     search (rules, kept)

@@ -2,6 +2,7 @@ use Rattle.std.proofs.Common.{◌≡◌, Some, ap, subst, sym, true}
 use Rattle.iol_core.specs.Calls.Reading.{read_on}
 use Rattle.iol_core.specs.declared.descriptors.Descriptor.{Descriptor}
 use Rattle.iol_sock.specs.Table.{ConnTable}
+use Rattle.iol_sock.proofs.AtPlace.{changed_to}
 use Rattle.iol_kernel.specs.Calls.{Leaves}
 use Rattle.iol_kernel.specs.Kernel.{state_of}
 use Rattle.iol_kernel.specs.KernelState.{KernelState, IsOpenEnd, objects_of, queue_at}
@@ -19,7 +20,7 @@ returns-in-ReadEnd c = λ d fd.
     let k : KernelState = record h { store = c.skip.new.store; pipes = c.skip.new.self.places } in
     let e = c.skip.ensures in
     subst (λ (x : Descriptor). Leaves (λ s. read_on s d fd (Some x) c.args.count) h k) (sym c.in-ReadEnd.is)
-    (pipe_skipped h c.skip.new.store c.skip.new.self.places c.in-ReadEnd.pipe c.args.count c.requires.sound (reading (goal.at.returns-in-ReadEnd c).In-ReadEnd) e.rest e.pipes e.moves e.lists e.frees e.settles)
+    (pipe_skipped h c.skip.new.store c.skip.new.self.places c.in-ReadEnd.pipe c.args.count c.requires.sound (reading (goal.at.returns-in-ReadEnd c).In-ReadEnd) e.rest e.pipes e.releases.moves e.releases.lists e.releases.frees e.releases.settles)
 
 pub skip-requires-in-Connection-clause-there : goal.skip-requires-in-Connection-clause-there
 skip-requires-in-Connection-clause-there c = source_there (state_of c.args.self.now) c.args.from.now c.in-Connection.conn c.requires c.in-Connection.is
@@ -33,6 +34,7 @@ returns-in-Connection c = λ d fd.
     let w = c.skip-in-Connection.new in
     let k : KernelState = record h { store = w.store; conns = w.self.conns; next_conn = w.self.next } in
     let e = c.skip-in-Connection.ensures in
+    let r = e.conn.releases in
     subst (λ (x : Descriptor). Leaves (λ s. read_on s d fd (Some x) c.args.count) h k) (sym c.in-Connection.is)
-    (conn_skipped h k c.in-Connection.conn c.args.count c.requires.sound (source_open h c.args.from.now c.in-Connection.conn c.requires c.in-Connection.is) e.rest
-    (ap (λ (t : ConnTable). record h { store = w.store; conns = t.conns; next_conn = t.next }) e.others) e.moves e.lists e.frees e.settles)
+    (conn_skipped h k c.in-Connection.conn c.args.count c.requires.sound (source_open h c.args.from.now c.in-Connection.conn c.requires c.in-Connection.is) e.conn.rest
+    (ap (λ (t : ConnTable). record h { store = w.store; conns = t.conns; next_conn = t.next }) (changed_to e.others e.conn.others)) r.moves r.lists r.frees r.settles)

@@ -17,15 +17,15 @@ clear-requires c =
 pub clear-requires-2 : goal.clear-requires-2
 clear-requires-2 c =
     let inside = c.self.inside in
-    covers_rest (bufs_of inside.incoming) (bufs_of inside.outgoing) (subst (λ (v : Conn (List Slice)). Covers c.args.store.now (held_by v)) (sym c.self.view_is) c.requires) c.clear.ensures.moves
+    covers_rest (bufs_of inside.incoming) (bufs_of inside.outgoing) (subst (λ (v : Conn (List Slice)). Covers c.args.store.now (held_by v)) (sym c.self.view_is) c.requires) c.clear.ensures.releases.moves
 
 pub returns-clause-moves : goal.returns-clause-moves
 returns-clause-moves c =
     let none : List BufId = [] in
-    subst (λ (v : Conn (List Slice)). Moves c.args.store.now c.clear-2.new.store (held_by v) none) c.self.view_is (moves_trans c.clear.ensures.moves c.clear-2.ensures.moves)
+    subst (λ (v : Conn (List Slice)). Moves c.args.store.now c.clear-2.new.store (held_by v) none) c.self.view_is (moves_trans c.clear.ensures.releases.moves c.clear-2.ensures.releases.moves)
 
 pub returns-clause-frees : goal.returns-clause-frees
-returns-clause-frees c = frees_trans c.clear.ensures.frees c.clear-2.ensures.frees c.clear-2.ensures.moves.counts
+returns-clause-frees c = frees_trans c.clear.ensures.releases.frees c.clear-2.ensures.releases.frees c.clear-2.ensures.releases.moves.counts
 
 pub returns-clause-settles : goal.returns-clause-settles
 returns-clause-settles c = λ readable all.
@@ -33,5 +33,5 @@ returns-clause-settles c = λ readable all.
     let inside = c.self.inside in
     let covered = subst (λ (v : Conn (List Slice)). Covers s (held_by v)) (sym c.self.view_is) c.requires in
     let there = subst (λ (v : Conn (List Slice)). AllReadable s (v.incoming ++ v.outgoing)) (sym c.self.view_is) readable in
-    let each = readable_after inside.incoming inside.outgoing covered c.clear.ensures.moves there in
-    c.clear-2.ensures.settles each.1 (c.clear.ensures.settles each.0 all)
+    let each = readable_after inside.incoming inside.outgoing covered c.clear.ensures.releases.moves there in
+    c.clear-2.ensures.releases.settles each.1 (c.clear.ensures.releases.settles each.0 all)

@@ -7,5 +7,4 @@ drain_to-requires-clause-readable g c = rw (was_at c.args.c c.self.view_is c.con
 pub returns : goal.returns
 returns g c =
     let at = at_place c.self.inside.live.next c.drain_to.new.self c.self.view_is c.conn_mut.ensures.rise c.conn_mut.ensures.value in
-    let e = rw (at.old, at.new) at c.drain_to.ensures in
-    record { most = e.most; all = e.all; fewer = e.fewer; written = e.written; rest = e.rest; others = at.others e.others; moves = e.moves; lists = e.lists; frees = e.frees; settles = e.settles }
+    record { conn = rw (at.old, at.new) at c.drain_to.ensures; others = at.one }

@@ -4,5 +4,4 @@ use Rattle.iol_sock.proofs.table.Connections.peer_closed.Goals as goal
 pub returns : goal.returns
 returns c =
     let at = at_place c.self.inside.live.next c.peer_closed.new.self c.self.view_is c.conn_mut.ensures.rise c.conn_mut.ensures.value in
-    let e = rw (at.old, at.new) at c.peer_closed.ensures in
-    record { closed = at.others e.closed; moves = e.moves; lists = e.lists; frees = e.frees; settles = e.settles }
+    record { conn = rw (at.old, at.new) at c.peer_closed.ensures; others = at.one }

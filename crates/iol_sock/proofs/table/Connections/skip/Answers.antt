@@ -4,5 +4,4 @@ use Rattle.iol_sock.proofs.table.Connections.skip.Goals as goal
 pub returns : goal.returns
 returns c =
     let at = at_place c.self.inside.live.next c.skip.new.self c.self.view_is c.conn_mut.ensures.rise c.conn_mut.ensures.value in
-    let e = rw (at.old, at.new) at c.skip.ensures in
-    record { rest = e.rest; others = at.others e.others; moves = e.moves; lists = e.lists; frees = e.frees; settles = e.settles }
+    record { conn = rw (at.old, at.new) at c.skip.ensures; others = at.one }

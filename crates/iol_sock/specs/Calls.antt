@@ -1,0 +1,106 @@
+-- What each call does to a connection: x before and y after, over the store s before and t after.
+use Rattle.std.specs.Prelude.{◌≡◌, ◌≢◌, ℕ, ◌-◌, [], true, List, length, min, drop, Option, Result, Err, IfOk, IfErr, OnOk, OnErr}
+use Rattle.iol_core.specs.Prelude.{WantOfMemory, WantOfRoom, bytes_of, checksum as checksum_of}
+use Rattle.iol_core.specs.declared.descriptors.How.{How}
+use Rattle.iol_core.specs.declared.limits.TheConstants.{MAX_QUEUE_BYTES, PAGE_BYTES}
+use Rattle.iol_core.specs.declared.refusals.Refusal.{Refusal}
+use Rattle.iol_core.specs.declared.refusals.Refusal.TheVariants.{Memory}
+use Rattle.iol_hold.specs.Prelude.{Releases, Stored, TellsRoom, byte_len, has_room, places, text_of}
+use Rattle.iol_hold.specs.declared.slices.Slice.{Slice}
+use Rattle.iol_pipe.specs.Arriving.{ReadsIn}
+use Rattle.iol_pipe.specs.Prelude.{AddsFitting, GivesFirst, IsOneRead, SharesFitting, fitting}
+use Rattle.iol_pipe.specs.declared.arrive.Arrived.{Arrived}
+use Rattle.iol_sum.specs.Prelude.{IsRight}
+use Rattle.iol_sum.specs.Sums.{Sums}
+use Rattle.iol_sock.specs.Connections.{Conn, closed_by}
+use Rattle.iol_sock.specs.Refused.{IsPassed, IsRefused, arrive_late, arrive_refusals, queue_refusals, read_refusals, segment_refusals}
+use Rattle.iol_sock.specs.Sent.{IsSent, Writes}
+use Rattle.iol_sock.specs.declared.drain_to.Drained.{Drained}
+use Rattle.iol_sock.specs.declared.outgoing.Segment.{Segment}
+
+-- What comes in.
+
+-- Bytes arrive, as many as fit: they lie in new buffers of the connection's pool. A refusal changes nothing.
+pub record Arrives (s t : Stored) (x y : Conn (List Slice)) (bytes : List ℕ) (r : Result ℕ Refusal) : Type 0 where
+  pub passed : OnOk r (IsPassed (arrive_refusals x (length bytes)))
+  pub refused : IfErr r (IsRefused (arrive_refusals x (length bytes)) (arrive_late x bytes))
+  pub adds : IfOk r (AddsFitting s t x.incoming y.incoming x.pool bytes)
+  pub others : y ≡ record x { incoming = y.incoming }
+  pub room : TellsRoom (has_room s x.pool (fitting x.incoming (length bytes))) r
+  pub err : OnErr r ((y ≡ x) × (t ≡ s))
+
+-- the most that one read asks for: max, a page, and what fits
+abbrev pub most_read : Conn (List Slice) → (max : ℕ) → ℕ
+most_read x max = min (min max PAGE_BYTES) (MAX_QUEUE_BYTES - byte_len x.incoming)
+
+-- The bytes of one read arrive, of those that the reader has left, where these are known.
+pub record ArrivesFrom (s t : Stored) (x y : Conn (List Slice)) (left after : Option (List ℕ)) (max : ℕ)
+    (r : Result Arrived Refusal) : Type 0 where
+  pub passed : OnOk r (IsPassed (read_refusals x max))
+  pub refused : IfErr r (IsRefused (read_refusals x max) (WantOfRoom x.pool))
+  pub read : IfOk r (λ a. ReadsIn left after s t x.incoming y.incoming x.pool a.taken)
+  pub told : IfOk r (IsOneRead (most_read x max) after)
+  pub others : y ≡ record x { incoming = y.incoming }
+  pub room : TellsRoom (has_room s x.pool 1) r
+  pub err : OnErr r ((y ≡ x) × (t ≡ s))
+
+-- A domain is given the front of what came in. A refusal, for want of memory alone, changes nothing.
+pub record GivesFront {E : Type 0} (s t : Stored) (x y : Conn (List Slice)) (n d : ℕ) (r : Result (List Slice) E) : Type 0 where
+  pub gives : IfOk r (λ a. GivesFirst s t x.incoming a y.incoming n d)
+  pub others : y ≡ record x { incoming = y.incoming }
+  pub err : OnErr r ((y ≡ x) × (t ≡ s))
+
+-- The first n bytes that came in are released, or all where fewer wait.
+pub record Skips (s t : Stored) (x y : Conn (List Slice)) (n : ℕ) : Type 0 where
+  pub rest : places y.incoming ≡ drop n (places x.incoming)
+  pub others : y ≡ record x { incoming = y.incoming }
+  pub releases : Releases s t x.incoming y.incoming
+
+-- What is to be sent.
+
+-- An aggregate's bytes are to be sent, as many as fit. They are shared. No bytes want no memory.
+pub record QueuesShared (s t : Stored) (x y : Conn (List Slice)) (from : List Slice) (r : Result ℕ Refusal) : Type 0 where
+  pub passed : OnOk r (IsPassed (queue_refusals x (byte_len from)))
+  pub refused : IfErr r (IsRefused (queue_refusals x (byte_len from)) WantOfMemory)
+  pub shares : IfOk r (SharesFitting s t x.outgoing y.outgoing from)
+  pub others : y ≡ record x { outgoing = y.outgoing }
+  pub none : byte_len from ≡ 0 → r ≢ Err Memory
+  pub err : OnErr r ((y ≡ x) × (t ≡ s))
+
+-- New bytes of a pool are to be sent, as many as fit.
+pub record QueuesNew (s t : Stored) (x y : Conn (List Slice)) (pool : ℕ) (bytes : List ℕ) (r : Result ℕ Refusal) : Type 0 where
+  pub passed : OnOk r (IsPassed (queue_refusals x (length bytes)))
+  pub refused : IfErr r (IsRefused (queue_refusals x (length bytes)) (WantOfRoom pool))
+  pub adds : IfOk r (AddsFitting s t x.outgoing y.outgoing pool bytes)
+  pub others : y ≡ record x { outgoing = y.outgoing }
+  pub room : TellsRoom (has_room s pool (fitting x.outgoing (length bytes))) r
+  pub err : OnErr r ((y ≡ x) × (t ≡ s))
+
+-- The first max bytes are sent, or all where fewer wait, with the checksum of these alone.
+pub record Segments (s t : Stored) (x y : Conn (List Slice)) (max : ℕ) (sums summed : Sums) (r : Result Segment Refusal) : Type 0 where
+  pub passed : OnOk r (IsPassed (segment_refusals x max))
+  pub refused : IfErr r (IsRefused (segment_refusals x max) WantOfMemory)
+  pub sent : IfOk r (λ g. IsSent s t x.outgoing y.outgoing max sums summed g.bytes)
+  pub checksum : IfOk r (λ g. g.checksum ≡ checksum_of g.bytes)
+  pub others : y ≡ record x { outgoing = y.outgoing }
+  pub right : IsRight t.arena summed
+  pub err : OnErr r ((y ≡ x) × (t ≡ s) × (summed ≡ sums))
+
+-- A writer was lent the first bytes, at most max, and those that it took are sent: it held some bytes, and holds these now.
+pub record Drains (s t : Stored) (x y : Conn (List Slice)) (held now : Option (List ℕ)) (max : ℕ) (d : Drained) : Type 0 where
+  pub writes : Writes held now (bytes_of (text_of s x.outgoing)) (min max (byte_len x.outgoing)) d.taken d.failed
+  pub rest : places y.outgoing ≡ drop d.taken (places x.outgoing)
+  pub others : y ≡ record x { outgoing = y.outgoing }
+  pub releases : Releases s t x.outgoing y.outgoing
+
+-- How it ends.
+
+-- Its peer sends no more, or also takes no more. What was to be sent to a peer that is gone is released.
+pub record ClosesPeer (s t : Stored) (x y : Conn (List Slice)) (how : How) : Type 0 where
+  pub closed : y ≡ closed_by x how
+  pub releases : Releases s t x.outgoing y.outgoing
+
+-- Its domain closes it. What came in is released.
+pub record Closes (s t : Stored) (x y : Conn (List Slice)) : Type 0 where
+  pub closed : y ≡ record x { incoming = []; closed = true }
+  pub releases : Releases s t x.incoming []
