@@ -1,11 +1,10 @@
 //! Connections of a world that are served from outside in place, from readers and to writers.
 ghost use Rattle.std.specs.Prelude.{◌≡◌, IfOk, OnErr};
 ghost use Rattle.iol_back.specs.Prelude.{IfHonest};
-ghost use Rattle.iol_hold.specs.Prelude.{Stays};
-ghost use Rattle.iol_kernel.specs.Prelude.{BringsIn, DrainsTo, RefusesDrain, RefusesArrival, TakesIn};
+ghost use Rattle.iol_kernel.specs.Prelude.{TakesIn};
 ghost use Rattle.iol_proc.specs.Borrowed.{ArrivesAs, SendsAs};
 ghost use Rattle.iol_proc.specs.World.{copied};
-ghost use Rattle.iol_system.specs.Prelude.{tables_of, IsSafe, Comes};
+ghost use Rattle.iol_system.specs.Prelude.{ServesReader, ServesWriter};
 
 use crate::process::Process;
 use crate::world::World;
@@ -34,15 +33,8 @@ impl<B: Backing + Drop, P: Process> World<B, P> {
         ensures rough { self.new.rough ≡ self.old.rough }
 
         // What it does to the system.
-        ensures refuses { RefusesArrival conn max self.old.machine.kernel self.new.machine.kernel
-            reader.old reader.new result }
-        ensures brings { IfOk result (BringsIn conn max (R.remaining reader.new)
-            self.old.machine.kernel self.new.machine.kernel) }
-        ensures read { IfOk result (λ a. TakesIn (R.remaining reader.old) (R.remaining reader.new)
-            a.taken (λ bytes. Comes conn a.taken bytes self.old.machine self.new.machine)) }
-        ensures disk { self.new.machine.disk ≡ self.old.machine.disk }
-        ensures safe { IsSafe self.new.machine }
-        ensures stays { Stays self.old.machine.kernel.store self.new.machine.kernel.store }
+        ensures system { ServesReader conn max self.old.machine self.new.machine reader.old
+            reader.new (R.remaining reader.old) (R.remaining reader.new) result }
     {
         self.system.arrive_from(conn, reader, max)
     }
@@ -61,13 +53,8 @@ impl<B: Backing + Drop, P: Process> World<B, P> {
         ensures rough { self.new.rough ≡ self.old.rough }
 
         // What it does to the system.
-        ensures refuses { RefusesDrain (tables_of self.old.machine.kernel) conn self.old self.new
-            writer.old writer.new result }
-        ensures drains { IfOk result (DrainsTo conn max (W.contents writer.old) (W.contents
-            writer.new) self.old.machine.kernel self.new.machine.kernel) }
-        ensures disk { self.new.machine.disk ≡ self.old.machine.disk }
-        ensures safe { IsSafe self.new.machine }
-        ensures stays { Stays self.old.machine.kernel.store self.new.machine.kernel.store }
+        ensures system { ServesWriter conn max self.old.machine self.new.machine writer.old
+            writer.new (W.contents writer.old) (W.contents writer.new) result }
     {
         self.system.drain_to(conn, writer, max)
     }

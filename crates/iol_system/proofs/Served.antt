@@ -1,6 +1,7 @@
 -- A connection that is served from outside keeps a system safe: nobody gets anything by it, and files stay as they are.
 use Rattle.std.proofs.Common.{◌≡◌, ℕ, zero, suc, drop, List, [], refl, sym, ap, subst, Option, inl, inr}
 use Rattle.std.specs.Prelude.{Result, Ok, Err, IfOk, IfErr, OnErr}
+use Rattle.std.proofs.lemmas.Result.{on_err_weaker}
 use Rattle.iol_back.specs.Disk.{Disk, IfHonest}
 use Rattle.iol_core.specs.Access.{HasAccess}
 use Rattle.iol_core.specs.Positions.{ArePlaced}
@@ -15,12 +16,12 @@ use Rattle.iol_core.specs.declared.refusals.Refusal.{Refusal}
 use Rattle.iol_sock.specs.declared.drain_to.Drained.{Drained}
 use Rattle.iol_pipe.specs.declared.arrive.Arrived.{Arrived}
 use Rattle.iol_kernel.specs.Backed.{Serves, StepsBeside}
-use Rattle.iol_kernel.specs.Borrowed.{DrainsTo, TakesIn, sent_on}
+use Rattle.iol_kernel.specs.Borrowed.{DrainsTo, RefusesDrain, TakesIn, sent_on}
 use Rattle.iol_kernel.specs.KernelState as held
 use Rattle.iol_kernel.specs.KernelState.{KernelState, IsSound}
 use Rattle.iol_kernel.specs.MakingRoom.{MayHaveEvicted, MakesRoom}
 use Rattle.iol_kernel.proofs.State.Serving.{backed_stays}
-use Rattle.iol_system.specs.Machine.{machine_of, system_of}
+use Rattle.iol_system.specs.Machine.{machine_of, system_of, tables_of}
 use Rattle.iol_system.specs.Safe.{IsSafe}
 use Rattle.iol_system.specs.Served.{Comes}
 use Rattle.iol_system.proofs.Beside.{access_beside}
@@ -94,3 +95,7 @@ drained_safe h k disk c max before after (Ok d) safe sound drains err = record {
   placed = λ honest. subst ArePlaced (sym (drains.left.bytes disk.slots)) (sent_placed c d.taken (held.machine_of disk.slots h) (safe.placed honest));
 }
 drained_safe h k disk c max before after (Err x) safe sound drains err = subst (λ (l : KernelState). IsSafe (system_of l disk)) (sym err) safe
+
+-- what is refused leaves the store under the files, too
+pub refuses_same : {W : Type 0} (h k : KernelState) (disk : Disk) (c : ℕ) (writer after : W) (r : Result Drained Refusal) → RefusesDrain (tables_of h) c h k writer after r → RefusesDrain (tables_of h) c (system_of h disk) (system_of k disk) writer after r
+refuses_same h k disk c writer after r x = record { passed = x.passed; refused = x.refused; err = on_err_weaker r (λ same. ap (λ l. system_of l disk) same) x.err; err_writer = x.err_writer }

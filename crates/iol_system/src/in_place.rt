@@ -1,11 +1,5 @@
 //! Connections that are served from outside in place, from readers and to writers.
-ghost use Rattle.std.specs.Prelude.{◌≡◌, IfOk, OnErr};
-ghost use Rattle.iol_back.specs.Prelude.{IfHonest};
-ghost use Rattle.iol_hold.specs.Prelude.{Stays};
-ghost use Rattle.iol_kernel.specs.Prelude.{BringsIn, DrainsTo, RefusesDrain, RefusesArrival, TakesIn};
-ghost use Rattle.iol_system.specs.Machine.{machine_of, tables_of};
-ghost use Rattle.iol_system.specs.Safe.{IsSafe};
-ghost use Rattle.iol_system.specs.Served.{Comes};
+ghost use Rattle.iol_system.specs.Served.{ServesReader, ServesWriter};
 
 use crate::system::System;
 use iol_back::backing::Backing;
@@ -26,19 +20,8 @@ impl<B: Backing> System<B> {
         reader: &mut R,
         max: u32,
     ) -> Result<Arrived, Refusal>
-        ensures refuses { RefusesArrival conn max self.old.kernel self.new.kernel reader.old reader.new
-            result }
-        ensures brings { IfOk result (BringsIn conn max (R.remaining reader.new) self.old.kernel
-            self.new.kernel) }
-        ensures read { IfOk result (λ a. TakesIn (R.remaining reader.old) (R.remaining reader.new)
-            a.taken (λ bytes. Comes conn a.taken bytes self.old self.new)) }
-
-        // Over an honest store a refusal leaves the copying machine as it was.
-        ensures err_machine { IfHonest self.old.disk
-            (OnErr result (machine_of self.new ≡ machine_of self.old)) }
-        ensures disk { self.new.disk ≡ self.old.disk }
-        ensures safe { IsSafe self.new }
-        ensures stays { Stays self.old.kernel.store self.new.kernel.store }
+        ensures { ServesReader conn max self.old self.new reader.old reader.new
+            (R.remaining reader.old) (R.remaining reader.new) result }
     {
         self.kernel.arrive_from(conn, reader, max)
     }
@@ -53,13 +36,8 @@ impl<B: Backing> System<B> {
         writer: &mut W,
         max: u32,
     ) -> Result<Drained, Refusal>
-        ensures refuses { RefusesDrain (tables_of self.old.kernel) conn self.old self.new writer.old
-            writer.new result }
-        ensures drains { IfOk result (DrainsTo conn max (W.contents writer.old) (W.contents
-            writer.new) self.old.kernel self.new.kernel) }
-        ensures disk { self.new.disk ≡ self.old.disk }
-        ensures safe { IsSafe self.new }
-        ensures stays { Stays self.old.kernel.store self.new.kernel.store }
+        ensures { ServesWriter conn max self.old self.new writer.old writer.new
+            (W.contents writer.old) (W.contents writer.new) result }
     {
         self.kernel.drain_to(conn, writer, max)
     }

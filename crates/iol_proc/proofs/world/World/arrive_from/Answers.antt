@@ -20,8 +20,5 @@ returns-clause-err_copied g c =
     refl refl c.arrive_from.ensures.err_machine)
 
 -- what it does to the system
-pub returns-clause-refuses : goal.returns-clause-refuses
-returns-clause-refuses g c = rw (← c.self.view_is) c.arrive_from.ensures.refuses
-
-pub returns-clause-brings : goal.returns-clause-brings
-returns-clause-brings g c = rw (← c.self.view_is) c.arrive_from.ensures.brings
+pub returns-clause-system : goal.returns-clause-system
+returns-clause-system g c = rw (← c.self.view_is) c.arrive_from.ensures

@@ -10,3 +10,7 @@ returns-clause-copied g c =
     (record { machine = c.self.inside.system; seats = c.self.inside.seats.items; rough = c.self.inside.rough })
     (record { machine = c.drain_to.new.self; seats = c.self.inside.seats.items; rough = c.self.inside.rough })
     refl refl c.drain_to.ensures.disk c.drain_to.ensures.refuses.passed c.drain_to.ensures.drains)
+
+-- what it does to the system
+pub returns-clause-system : goal.returns-clause-system
+returns-clause-system g c = rw (← c.self.view_is) c.drain_to.ensures

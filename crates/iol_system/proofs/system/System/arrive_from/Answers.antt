@@ -1,10 +1,7 @@
-use Rattle.std.proofs.Common.{subst}
-use Rattle.std.specs.Prelude.{◌≡◌, IfOk, OnErr}
-use Rattle.iol_back.specs.Disk.{IfHonest}
-use Rattle.iol_kernel.specs.Borrowed.{BringsIn, RefusesArrival, TakesIn}
+use Rattle.std.proofs.Common.{refl, subst}
 use Rattle.iol_kernel.specs.Kernel.{state_of}
-use Rattle.iol_system.specs.Machine.{SystemState, machine_of, system_of}
-use Rattle.iol_system.specs.Served.{Comes}
+use Rattle.iol_system.specs.Machine.{SystemState, system_of}
+use Rattle.iol_system.specs.Served.{ServesReader}
 use Rattle.iol_system.proofs.Served.{arrived_comes, arrived_safe, refused_stays}
 use Rattle.iol_system.proofs.system.System.arrive_from.Goals as goal
 
@@ -13,32 +10,20 @@ invariant_of-self g c =
     let e = c.arrive_from.ensures in
     arrived_safe (state_of c.self.inside.kernel) (state_of c.arrive_from.new.self) (g.B.Backing.disk c.self.inside.backing) c.args.conn _ _ (g.R.Read.remaining c.args.reader.now) (g.R.Read.remaining c.arrive_from.new.reader) c.arrive_from.result c.self.invariant e.read e.refuses.err
 
-pub returns-clause-safe : goal.returns-clause-safe
-returns-clause-safe g c =
+pub returns : goal.returns
+returns g c =
     let e = c.arrive_from.ensures in
-    arrived_safe (state_of c.self.inside.kernel) (state_of c.arrive_from.new.self) (g.B.Backing.disk c.self.inside.backing) c.args.conn _ _ (g.R.Read.remaining c.args.reader.now) (g.R.Read.remaining c.arrive_from.new.reader) c.arrive_from.result c.self.invariant e.read e.refuses.err
-
-pub returns-clause-read : goal.returns-clause-read
-returns-clause-read g c =
-    let e = c.arrive_from.ensures in
+    let old = state_of c.self.inside.kernel in
+    let k = state_of c.arrive_from.new.self in
+    let disk = g.B.Backing.disk c.self.inside.backing in
     let left = g.R.Read.remaining c.args.reader.now in
     let after = g.R.Read.remaining c.arrive_from.new.reader in
-    let new = system_of (state_of c.arrive_from.new.self) (g.B.Backing.disk c.self.inside.backing) in
-    subst (λ (s : SystemState). IfOk c.arrive_from.result (λ a. TakesIn left after a.taken (λ bytes. Comes c.args.conn a.taken bytes s new))) c.self.view_is
-    (arrived_comes (state_of c.self.inside.kernel) (state_of c.arrive_from.new.self) (g.B.Backing.disk c.self.inside.backing) c.args.conn left after c.arrive_from.result c.self.invariant e.read)
-
-pub returns-clause-refuses : goal.returns-clause-refuses
-returns-clause-refuses g c =
-    subst (λ (s : SystemState). RefusesArrival c.args.conn c.args.max s.kernel (state_of c.arrive_from.new.self) c.args.reader.now c.arrive_from.new.reader c.arrive_from.result) c.self.view_is
-    c.arrive_from.ensures.refuses
-
-pub returns-clause-brings : goal.returns-clause-brings
-returns-clause-brings g c =
-    subst (λ (s : SystemState). IfOk c.arrive_from.result (BringsIn c.args.conn c.args.max (g.R.Read.remaining c.arrive_from.new.reader) s.kernel (state_of c.arrive_from.new.self))) c.self.view_is
-    c.arrive_from.ensures.brings
-
-pub returns-clause-err_machine : goal.returns-clause-err_machine
-returns-clause-err_machine g c =
-    let new = system_of (state_of c.arrive_from.new.self) (g.B.Backing.disk c.self.inside.backing) in
-    subst (λ (s : SystemState). IfHonest s.disk (OnErr c.arrive_from.result (machine_of new ≡ machine_of s))) c.self.view_is
-    (refused_stays (state_of c.self.inside.kernel) (state_of c.arrive_from.new.self) (g.B.Backing.disk c.self.inside.backing) _ _ c.arrive_from.result c.self.invariant c.arrive_from.ensures.refuses.err)
+    subst (λ (s : SystemState). ServesReader c.args.conn c.args.max s (system_of k disk) c.args.reader.now c.arrive_from.new.reader left after c.arrive_from.result) c.self.view_is (record {
+      refuses = e.refuses;
+      brings = e.brings;
+      read = arrived_comes old k disk c.args.conn left after c.arrive_from.result c.self.invariant e.read;
+      err_machine = refused_stays old k disk _ _ c.arrive_from.result c.self.invariant e.refuses.err;
+      disk = refl;
+      safe = arrived_safe old k disk c.args.conn _ _ left after c.arrive_from.result c.self.invariant e.read e.refuses.err;
+      stays = e.stays;
+    })

@@ -1,5 +1,8 @@
+use Rattle.std.proofs.Common.{refl, subst}
 use Rattle.iol_kernel.specs.Kernel.{state_of}
-use Rattle.iol_system.proofs.Served.{drained_safe}
+use Rattle.iol_system.specs.Machine.{SystemState, system_of}
+use Rattle.iol_system.specs.Served.{ServesWriter}
+use Rattle.iol_system.proofs.Served.{drained_safe, refuses_same}
 use Rattle.iol_system.proofs.system.System.drain_to.Goals as goal
 
 pub invariant_of-self : goal.invariant_of-self
@@ -7,7 +10,18 @@ invariant_of-self g c =
     let e = c.drain_to.ensures in
     drained_safe (state_of c.self.inside.kernel) (state_of c.drain_to.new.self) (g.B.Backing.disk c.self.inside.backing) c.args.conn _ _ _ c.drain_to.result c.self.invariant e.sound e.drains e.refuses.err
 
-pub returns-clause-safe : goal.returns-clause-safe
-returns-clause-safe g c =
+pub returns : goal.returns
+returns g c =
     let e = c.drain_to.ensures in
-    drained_safe (state_of c.self.inside.kernel) (state_of c.drain_to.new.self) (g.B.Backing.disk c.self.inside.backing) c.args.conn _ _ _ c.drain_to.result c.self.invariant e.sound e.drains e.refuses.err
+    let old = state_of c.self.inside.kernel in
+    let k = state_of c.drain_to.new.self in
+    let disk = g.B.Backing.disk c.self.inside.backing in
+    let held = g.W.Write.contents c.args.writer.now in
+    let now = g.W.Write.contents c.drain_to.new.writer in
+    subst (λ (s : SystemState). ServesWriter c.args.conn c.args.max s (system_of k disk) c.args.writer.now c.drain_to.new.writer held now c.drain_to.result) c.self.view_is (record {
+      refuses = refuses_same old k disk c.args.conn _ _ c.drain_to.result e.refuses;
+      drains = e.drains;
+      disk = refl;
+      safe = drained_safe old k disk c.args.conn _ _ _ c.drain_to.result c.self.invariant e.sound e.drains e.refuses.err;
+      stays = e.stays;
+    })
