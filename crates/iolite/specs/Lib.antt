@@ -4,6 +4,7 @@ pub mod Commands
 pub mod Failure
 pub mod Outside
 pub mod Printed
+pub mod Reads
 pub mod Script
 pub mod Setup
 pub mod Words

@@ -1,10 +1,12 @@
 -- The lines that stand first in a script: the sizes of its system, which call of its store fails, and what the store has.
-use Rattle.std.specs.Prelude.{◌≡◌, ◌⊎◌, ◌<◌, ◌≤◌, ◌+◌, ◌*◌, ◌++◌, ◌||◌, ℕ, Bool, List, [], ◌∷◌, Some, None, length, codes, bytes_eq}
+use Rattle.std.specs.Prelude.{◌≡◌, ◌⊎◌, ◌<◌, ◌≤◌, ◌+◌, ◌*◌, ◌++◌, ◌||◌, ℕ, Bool, List, [], ◌∷◌, Some, None, Result, Err, OnOk, length, codes, bytes_eq}
 use Rattle.std.specs.List.{repeat}
 use Rattle.percent_encoding.specs.Percent.{percent_decode as decoded}
 use Rattle.iol_core.specs.Configuration.{IsInRange}
 use Rattle.iol_core.specs.declared.configuration.Config.{Config}
 use Rattle.iol_back.specs.Disk.{IsSlot, OthersStay, content}
+use Rattle.iolite.specs.declared.headers.HeaderError.{HeaderError}
+use Rattle.iolite.specs.declared.headers.HeaderError.TheVariants.{NotACommand}
 use Rattle.iolite.specs.declared.setup.Setup.{Setup}
 use Rattle.iolite.specs.declared.words.TheConstants.{MAX_REPEATED_BYTES}
 use Rattle.iolite.specs.Words.{IsLong, IsShort, rest_of, value, word}
@@ -70,6 +72,11 @@ SetsUp name rest old new =
     ⊎ (((name ≡ codes "fault") × SetsFault rest old new)
     ⊎ (((name ≡ codes "store") × StoresBytes (word rest) (decoded (rest_of rest)) old new)
     ⊎ ((name ≡ codes "storen") × StoresRepeated (word rest) (word (rest_of rest)) (rest_of (rest_of rest)) old new)))
+
+-- A line is taken, and then P holds of what is set up now; or it is no command here, just where P holds of nothing.
+pub record Takes {A : Type 0} (P : Setup → Type 0) (now : Setup) (r : Result A HeaderError) : Type 0 where
+  pub sets : OnOk r (P now)
+  pub none : r ≡ Err NotACommand → (x : Setup) → ¬ (P x)
 
 -- lines that set up, one after another
 abbrev pub SetUp : List (List ℕ) → (old new : Setup) → Type 0

@@ -1,8 +1,8 @@
 //! The calls of a script's lines.
-ghost use Rattle.std.specs.Prelude.{◌≡◌, None, IfOk, IfSome};
-ghost use Rattle.iol_core.specs.declared.events.Call.{Call};
+ghost use Rattle.std.specs.Prelude.{◌≡◌, IfOk};
 ghost use Rattle.iolite.specs.declared.names.CallName.TheVariants as name;
 ghost use Rattle.iolite.specs.Calls.{CanBeMade, IsBare, IsCall, IsCalled, IsNamed, call_of};
+ghost use Rattle.iolite.specs.Reads.{Reads, ReadsAs};
 
 use crate::names::{CallName, find_name};
 use crate::words::{
@@ -29,9 +29,7 @@ pub enum CallLine<'a> {
 
 /// Reads a call: its name, and after one space what it is called with. To read one takes no memory.
 pub fn read_call(text: &str) -> Option<CallLine<'_>>
-    ensures call { IfSome result (λ line. IsCall text.now (call_of line)) }
-    ensures can { IfSome result CanBeMade }
-    ensures none { result ≡ None → (c : Call) → ¬ (IsCall text.now c) }
+    ensures { ReadsAs (IsCall text.now) call_of CanBeMade result }
 {
     match read_bare(text) {
         Some(call) => Some(CallLine::Whole(call)),
@@ -41,8 +39,7 @@ pub fn read_call(text: &str) -> Option<CallLine<'_>>
 
 /// Reads a call whose name stands alone.
 fn read_bare(text: &str) -> Option<Call>
-    ensures call { IfSome result (IsBare text.now) }
-    ensures none { result ≡ None → (c : Call) → ¬ (IsBare text.now c) }
+    ensures { Reads (IsBare text.now) result }
 {
     match text {
         "domain_new" => Some(Call::DomainNew),
@@ -55,9 +52,7 @@ fn read_bare(text: &str) -> Option<Call>
 
 /// Reads a name and what stands behind it.
 fn read_named(text: &str) -> Option<CallLine<'_>>
-    ensures call { IfSome result (λ line. IsNamed text.now (call_of line)) }
-    ensures can { IfSome result CanBeMade }
-    ensures none { result ≡ None → (c : Call) → ¬ (IsNamed text.now c) }
+    ensures { ReadsAs (IsNamed text.now) call_of CanBeMade result }
 {
     let (word, rest) = split_word(text);
     match find_name(word) {
@@ -68,9 +63,7 @@ fn read_named(text: &str) -> Option<CallLine<'_>>
 
 /// Reads what stands behind a name.
 fn read_called(name: CallName, rest: &str) -> Option<CallLine<'_>>
-    ensures call { IfSome result (λ line. IsCalled name rest.now (call_of line)) }
-    ensures can { IfSome result CanBeMade }
-    ensures none { result ≡ None → (c : Call) → ¬ (IsCalled name rest.now c) }
+    ensures { ReadsAs (IsCalled name rest.now) call_of CanBeMade result }
 {
     let call = match name {
         CallName::Number(call) => call.with(parse_u32(rest)?),
@@ -98,8 +91,7 @@ fn read_called(name: CallName, rest: &str) -> Option<CallLine<'_>>
 }
 
 fn read_join(rest: &str) -> Option<Call>
-    ensures call { IfSome result (IsCalled name.AggJoin rest.now) }
-    ensures none { result ≡ None → (c : Call) → ¬ (IsCalled name.AggJoin rest.now c) }
+    ensures { Reads (IsCalled name.AggJoin rest.now) result }
 {
     let (first, second) = split_word(rest);
     let first = AggId::new(parse_u64(first)?);
@@ -108,8 +100,7 @@ fn read_join(rest: &str) -> Option<Call>
 }
 
 fn read_iol_write(rest: &str) -> Option<Call>
-    ensures call { IfSome result (IsCalled name.IolWrite rest.now) }
-    ensures none { result ≡ None → (c : Call) → ¬ (IsCalled name.IolWrite rest.now c) }
+    ensures { Reads (IsCalled name.IolWrite rest.now) result }
 {
     let (fd, agg) = split_word(rest);
     let fd = Fd::new(parse_u32(fd)?);
@@ -118,8 +109,7 @@ fn read_iol_write(rest: &str) -> Option<Call>
 }
 
 fn read_cut(rest: &str) -> Option<Call>
-    ensures call { IfSome result (IsCalled name.AggCut rest.now) }
-    ensures none { result ≡ None → (c : Call) → ¬ (IsCalled name.AggCut rest.now c) }
+    ensures { Reads (IsCalled name.AggCut rest.now) result }
 {
     let (agg, range) = split_word(rest);
     let (from, to) = split_word(range);
@@ -130,8 +120,7 @@ fn read_cut(rest: &str) -> Option<Call>
 }
 
 fn read_replace(rest: &str) -> Option<Call>
-    ensures call { IfSome result (IsCalled name.AggReplace rest.now) }
-    ensures none { result ≡ None → (c : Call) → ¬ (IsCalled name.AggReplace rest.now c) }
+    ensures { Reads (IsCalled name.AggReplace rest.now) result }
 {
     let (agg, range) = split_word(rest);
     let (from, last) = split_word(range);
@@ -149,9 +138,7 @@ fn read_replace(rest: &str) -> Option<Call>
 }
 
 fn read_pool_create(rest: &str) -> Option<CallLine<'_>>
-    ensures call { IfSome result (λ line. IsCalled name.PoolCreate rest.now (call_of line)) }
-    ensures can { IfSome result CanBeMade }
-    ensures none { result ≡ None → (c : Call) → ¬ (IsCalled name.PoolCreate rest.now c) }
+    ensures { ReadsAs (IsCalled name.PoolCreate rest.now) call_of CanBeMade result }
 {
     let (chunks, domains) = split_word(rest);
     let chunks = parse_u32(chunks)?;
@@ -163,9 +150,7 @@ fn read_pool_create(rest: &str) -> Option<CallLine<'_>>
 }
 
 fn read_fill(rest: &str) -> Option<CallLine<'_>>
-    ensures call { IfSome result (λ line. IsCalled name.AggFill rest.now (call_of line)) }
-    ensures can { IfSome result CanBeMade }
-    ensures none { result ≡ None → (c : Call) → ¬ (IsCalled name.AggFill rest.now c) }
+    ensures { ReadsAs (IsCalled name.AggFill rest.now) call_of CanBeMade result }
 {
     let (count, text) = split_word(rest);
     let count = parse_u32(count)?;
@@ -177,9 +162,7 @@ fn read_fill(rest: &str) -> Option<CallLine<'_>>
 }
 
 fn read_write(rest: &str) -> Option<CallLine<'_>>
-    ensures call { IfSome result (λ line. IsCalled name.Write rest.now (call_of line)) }
-    ensures can { IfSome result CanBeMade }
-    ensures none { result ≡ None → (c : Call) → ¬ (IsCalled name.Write rest.now c) }
+    ensures { ReadsAs (IsCalled name.Write rest.now) call_of CanBeMade result }
 {
     let (fd, text) = split_word(rest);
     let fd = Fd::new(parse_u32(fd)?);
@@ -187,9 +170,7 @@ fn read_write(rest: &str) -> Option<CallLine<'_>>
 }
 
 fn read_file_new(rest: &str) -> Option<CallLine<'_>>
-    ensures call { IfSome result (λ line. IsCalled name.FileNew rest.now (call_of line)) }
-    ensures can { IfSome result CanBeMade }
-    ensures none { result ≡ None → (c : Call) → ¬ (IsCalled name.FileNew rest.now c) }
+    ensures { ReadsAs (IsCalled name.FileNew rest.now) call_of CanBeMade result }
 {
     let (file, pool) = split_word(rest);
     let pool = PoolId::new(parse_u32(pool)?);
@@ -197,9 +178,7 @@ fn read_file_new(rest: &str) -> Option<CallLine<'_>>
 }
 
 fn read_open_file(rest: &str) -> Option<CallLine<'_>>
-    ensures call { IfSome result (λ line. IsCalled name.OpenFile rest.now (call_of line)) }
-    ensures can { IfSome result CanBeMade }
-    ensures none { result ≡ None → (c : Call) → ¬ (IsCalled name.OpenFile rest.now c) }
+    ensures { ReadsAs (IsCalled name.OpenFile rest.now) call_of CanBeMade result }
 {
     let (file, mode) = split_word(rest);
     let mode = parse_mode(mode)?;

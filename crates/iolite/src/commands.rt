@@ -1,8 +1,8 @@
 //! What the program's words ask for.
-ghost use Rattle.std.specs.Prelude.{◌≡◌, ◌↔◌, None, IsSome, IfSome, map, string_bytes};
+ghost use Rattle.std.specs.Prelude.{◌≡◌, ◌↔◌, IsSome, IfSome, map, string_bytes};
 ghost use Rattle.iolite.specs.Commands.{IsCommand, IsCount, IsLoop, IsPort, IsReplay, IsServe};
+ghost use Rattle.iolite.specs.Reads.{Reads};
 ghost use Rattle.iolite.specs.Words.{value};
-ghost use Rattle.iolite.specs.declared.commands.Command.{Command};
 
 use crate::words::parse_u32;
 
@@ -29,9 +29,7 @@ pub enum Command<'a> {
 
 /// The command that the words behind the program's name are, if they are one.
 pub fn read_command(words: &[String]) -> Option<Command<'_>>
-    ensures command { IfSome result (IsCommand (map string_bytes words.now)) }
-    ensures none { result ≡ None →
-        (c : Command) → ¬ (IsCommand (map string_bytes words.now) c) }
+    ensures { Reads (IsCommand (map string_bytes words.now)) result }
 {
     match words {
         [name] => read_replay(name.as_str()),
@@ -47,8 +45,7 @@ pub fn read_command(words: &[String]) -> Option<Command<'_>>
 }
 
 fn read_replay(name: &str) -> Option<Command<'_>>
-    ensures command { IfSome result (IsReplay name.now) }
-    ensures none { result ≡ None → (c : Command) → ¬ (IsReplay name.now c) }
+    ensures { Reads (IsReplay name.now) result }
 {
     if name == "replay" {
         Some(Command::Replay)
@@ -58,8 +55,7 @@ fn read_replay(name: &str) -> Option<Command<'_>>
 }
 
 fn read_loop<'a>(name: &str, root: &'a str, path: &'a str) -> Option<Command<'a>>
-    ensures command { IfSome result (IsLoop name.now root.now path.now) }
-    ensures none { result ≡ None → (c : Command) → ¬ (IsLoop name.now root.now path.now c) }
+    ensures { Reads (IsLoop name.now root.now path.now) result }
 {
     if name == "loop" && path.len() <= MAX_PATH_BYTES {
         Some(Command::Loop { root, path })
@@ -69,9 +65,7 @@ fn read_loop<'a>(name: &str, root: &'a str, path: &'a str) -> Option<Command<'a>
 }
 
 fn read_serve<'a>(name: &str, port: &str, root: &'a str, count: &str) -> Option<Command<'a>>
-    ensures command { IfSome result (IsServe name.now port.now root.now count.now) }
-    ensures none { result ≡ None →
-        (c : Command) → ¬ (IsServe name.now port.now root.now count.now c) }
+    ensures { Reads (IsServe name.now port.now root.now count.now) result }
 {
     if name != "serve" {
         return None;

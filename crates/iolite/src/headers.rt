@@ -1,9 +1,8 @@
 //! The lines that stand first in a script: the sizes of its system, and the store under its files.
-ghost use Rattle.std.specs.Prelude.{◌≡◌, ◌↔◌, Err, IsSome, IfSome, OnOk};
-ghost use Rattle.iolite.specs.Setup.{AreSizes, SetsFault, SetsSizes, SetsUp, StoresBytes, StoresRepeated, is_header, sizes_of};
+ghost use Rattle.std.specs.Prelude.{◌≡◌, ◌↔◌, IsSome, IfSome};
+ghost use Rattle.iolite.specs.Setup.{AreSizes, SetsFault, SetsSizes, SetsUp, StoresBytes, StoresRepeated, Takes, is_header, sizes_of};
 ghost use Rattle.iolite.specs.Words.{word, rest_of};
 ghost use Rattle.iolite.specs.declared.headers.HeaderError.TheVariants.{Memory};
-ghost use Rattle.iolite.specs.declared.setup.Setup.{Setup};
 ghost use Rattle.percent_encoding.specs.Percent.{percent_decode as decoded};
 
 use crate::setup::Setup;
@@ -43,9 +42,7 @@ pub fn is_header(word: &str) -> bool
 impl Setup {
     /// Takes what a line says, by its first word and what stands behind it. Sizes and a fault may be named once.
     pub fn add(&mut self, alloc: Global, name: &str, rest: &str) -> Result<(), HeaderError>
-        ensures sets { OnOk result (SetsUp name.now rest.now self.old self.new) }
-        ensures none { result ≡ Err HeaderError.NotACommand →
-            (new : Setup) → ¬ (SetsUp name.now rest.now self.old new) }
+        ensures { Takes (SetsUp name.now rest.now self.old) self.new result }
     {
         match name {
             "config" => self.set_sizes(rest),
@@ -58,9 +55,7 @@ impl Setup {
 
     // Takes the sizes, where none were given.
     fn set_sizes(&mut self, words: &str) -> Result<(), HeaderError>
-        ensures sets { OnOk result (SetsSizes words.now self.old self.new) }
-        ensures none { result ≡ Err HeaderError.NotACommand →
-            (new : Setup) → ¬ (SetsSizes words.now self.old new) }
+        ensures { Takes (SetsSizes words.now self.old) self.new result }
     {
         if self.config.is_some() {
             return Err(HeaderError::NotACommand);
@@ -74,9 +69,7 @@ impl Setup {
 
     // Takes the number of the call of the store that fails, where none was given.
     fn set_fault(&mut self, word: &str) -> Result<(), HeaderError>
-        ensures sets { OnOk result (SetsFault word.now self.old self.new) }
-        ensures none { result ≡ Err HeaderError.NotACommand →
-            (new : Setup) → ¬ (SetsFault word.now self.old new) }
+        ensures { Takes (SetsFault word.now self.old) self.new result }
     {
         let Some(call) = parse_u64(word) else {
             return Err(HeaderError::NotACommand);
@@ -90,10 +83,8 @@ impl Setup {
 
     // Puts a text at the end of a file of the store.
     fn store_text(&mut self, alloc: Global, rest: &str) -> Result<(), HeaderError>
-        ensures sets { OnOk result (StoresBytes (word rest.now) (decoded (rest_of rest.now))
-            self.old self.new) }
-        ensures none { result ≡ Err HeaderError.NotACommand → (new : Setup) →
-            ¬ (StoresBytes (word rest.now) (decoded (rest_of rest.now)) self.old new) }
+        ensures { Takes (StoresBytes (word rest.now) (decoded (rest_of rest.now)) self.old) self.new
+            result }
     {
         let (slot, text) = split_word(rest);
         let bytes = decode_text(alloc, text)?;
@@ -102,11 +93,8 @@ impl Setup {
 
     // Puts a text at the end of a file of the store, so many times over.
     fn store_repeated(&mut self, alloc: Global, rest: &str) -> Result<(), HeaderError>
-        ensures sets { OnOk result (StoresRepeated (word rest.now) (word (rest_of rest.now))
-            (rest_of (rest_of rest.now)) self.old self.new) }
-        ensures none { result ≡ Err HeaderError.NotACommand → (new : Setup) →
-            ¬ (StoresRepeated (word rest.now) (word (rest_of rest.now))
-            (rest_of (rest_of rest.now)) self.old new) }
+        ensures { Takes (StoresRepeated (word rest.now) (word (rest_of rest.now))
+            (rest_of (rest_of rest.now)) self.old) self.new result }
     {
         let (slot, repeated) = split_word(rest);
         let (numeral, text) = split_word(repeated);
@@ -122,9 +110,7 @@ impl Setup {
 
     // Puts bytes at the end of a file of the store, where there is one of that number and they are not too many.
     fn store(&mut self, slot: &str, bytes: &[u8]) -> Result<(), HeaderError>
-        ensures sets { OnOk result (StoresBytes slot.now bytes.now self.old self.new) }
-        ensures none { result ≡ Err HeaderError.NotACommand → (new : Setup) →
-            ¬ (StoresBytes slot.now bytes.now self.old new) }
+        ensures { Takes (StoresBytes slot.now bytes.now self.old) self.new result }
     {
         let Some(number) = parse_u32(slot) else {
             return Err(HeaderError::NotACommand);

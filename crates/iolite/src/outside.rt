@@ -1,8 +1,7 @@
 //! What the lines of a script have happen: a call of a domain, or what happens outside, on the network.
-ghost use Rattle.std.specs.Prelude.{◌≡◌, ◌≢◌, None, IfOk, IfSome};
-ghost use Rattle.iol_core.specs.declared.descriptors.How.{How};
-ghost use Rattle.iol_core.specs.declared.events.Event.{Event};
+ghost use Rattle.std.specs.Prelude.{◌≡◌, IfOk};
 ghost use Rattle.iolite.specs.Outside.{CanHappen, Happens, IsArrive, IsCallOf, IsConnNew, IsEvent, IsPeerClosed, IsTransmit, event_of, how_word};
+ghost use Rattle.iolite.specs.Reads.{Reads, ReadsAs};
 
 use crate::calls::{CallLine, read_call};
 use crate::words::{decode_text, parse_u32, split_word};
@@ -22,9 +21,7 @@ pub enum EventLine<'a> {
 
 /// Reads a call of the domain of that number, or what happens outside under that name. To read one takes no memory.
 pub fn read_event<'a>(first: &str, rest: &'a str) -> Option<EventLine<'a>>
-    ensures event { IfSome result (λ line. IsEvent first.now rest.now (event_of line)) }
-    ensures can { IfSome result CanHappen }
-    ensures none { result ≡ None → (e : Event) → ¬ (IsEvent first.now rest.now e) }
+    ensures { ReadsAs (IsEvent first.now rest.now) event_of CanHappen result }
 {
     match read_call_of(first, rest) {
         Some(line) => Some(line),
@@ -34,9 +31,7 @@ pub fn read_event<'a>(first: &str, rest: &'a str) -> Option<EventLine<'a>>
 
 /// Reads a call of the domain of that number.
 fn read_call_of<'a>(first: &str, rest: &'a str) -> Option<EventLine<'a>>
-    ensures event { IfSome result (λ line. IsCallOf first.now rest.now (event_of line)) }
-    ensures can { IfSome result CanHappen }
-    ensures none { result ≡ None → (e : Event) → ¬ (IsCallOf first.now rest.now e) }
+    ensures { ReadsAs (IsCallOf first.now rest.now) event_of CanHappen result }
 {
     let by = DomainId::new(parse_u32(first)?);
     match read_call(rest) {
@@ -47,9 +42,7 @@ fn read_call_of<'a>(first: &str, rest: &'a str) -> Option<EventLine<'a>>
 
 /// Reads what happens outside, by its name and what stands behind it. A text that is not given is empty.
 fn read_outside<'a>(name: &str, rest: &'a str) -> Option<EventLine<'a>>
-    ensures event { IfSome result (λ line. Happens name.now rest.now (event_of line)) }
-    ensures can { IfSome result CanHappen }
-    ensures none { result ≡ None → (e : Event) → ¬ (Happens name.now rest.now e) }
+    ensures { ReadsAs (Happens name.now rest.now) event_of CanHappen result }
 {
     let event = match name {
         "conn_new" => read_conn_new(rest)?,
@@ -62,17 +55,14 @@ fn read_outside<'a>(name: &str, rest: &'a str) -> Option<EventLine<'a>>
 }
 
 fn read_conn_new(rest: &str) -> Option<Event>
-    ensures event { IfSome result (IsConnNew rest.now) }
-    ensures none { result ≡ None → (e : Event) → ¬ (IsConnNew rest.now e) }
+    ensures { Reads (IsConnNew rest.now) result }
 {
     let pool = PoolId::new(parse_u32(rest)?);
     Some(Event::ConnNew { pool })
 }
 
 fn read_arrive(rest: &str) -> Option<EventLine<'_>>
-    ensures event { IfSome result (λ line. IsArrive rest.now (event_of line)) }
-    ensures can { IfSome result CanHappen }
-    ensures none { result ≡ None → (e : Event) → ¬ (IsArrive rest.now e) }
+    ensures { ReadsAs (IsArrive rest.now) event_of CanHappen result }
 {
     let (conn, text) = split_word(rest);
     let conn = ConnId::new(parse_u32(conn)?);
@@ -80,8 +70,7 @@ fn read_arrive(rest: &str) -> Option<EventLine<'_>>
 }
 
 fn read_peer_closed(rest: &str) -> Option<Event>
-    ensures event { IfSome result (IsPeerClosed rest.now) }
-    ensures none { result ≡ None → (e : Event) → ¬ (IsPeerClosed rest.now e) }
+    ensures { Reads (IsPeerClosed rest.now) result }
 {
     let (conn, how) = split_word(rest);
     let conn = ConnId::new(parse_u32(conn)?);
@@ -90,8 +79,7 @@ fn read_peer_closed(rest: &str) -> Option<Event>
 }
 
 fn read_transmit(rest: &str) -> Option<Event>
-    ensures event { IfSome result (IsTransmit rest.now) }
-    ensures none { result ≡ None → (e : Event) → ¬ (IsTransmit rest.now e) }
+    ensures { Reads (IsTransmit rest.now) result }
 {
     let (conn, max) = split_word(rest);
     let conn = ConnId::new(parse_u32(conn)?);
@@ -101,8 +89,7 @@ fn read_transmit(rest: &str) -> Option<Event>
 
 /// Reads how a peer closed its connection.
 fn parse_how(word: &str) -> Option<How>
-    ensures how { IfSome result (λ how. word.now ≡ how_word how) }
-    ensures none { result ≡ None → (how : How) → word.now ≢ how_word how }
+    ensures { Reads (λ how. word.now ≡ how_word how) result }
 {
     match word {
         "done" => Some(How::Done),

@@ -1,9 +1,9 @@
 //! Scripts: lines of text that stand for events. A script is judged whole, and then read a line at a time.
-ghost use Rattle.std.specs.Prelude.{◌≡◌, ◌↔◌, Err, None, IfErr, IfOk, IfSome, OnOk, true};
+ghost use Rattle.std.specs.Prelude.{◌≡◌, ◌↔◌, Err, IfErr, IfOk, OnOk, true};
 ghost use Rattle.iolite.specs.Failure.{IsBadLine, IsOfLines};
+ghost use Rattle.iolite.specs.Reads.{ReadsAs};
 ghost use Rattle.iolite.specs.Script.{Asks, AsksAlone, AsksEvent, AsksSomething, CanAsk, HasBadLine, IsBadAfter, IsJudged, Judges, commands, is_asking, is_blank, line_of};
 ghost use Rattle.iolite.specs.declared.headers.HeaderError.TheVariants.{NotACommand};
-ghost use Rattle.iolite.specs.declared.script.Line.{Line};
 
 use crate::failure::Failure;
 use crate::headers::{HeaderError, is_header};
@@ -114,9 +114,7 @@ fn is_blank(line: &str) -> bool
 
 /// Reads what a line asks for. To read it takes no memory.
 pub fn read_line(line: &str) -> Option<Asked<'_>>
-    ensures asks { IfSome result (λ asked. Asks line.now (line_of asked)) }
-    ensures can { IfSome result CanAsk }
-    ensures none { result ≡ None → (x : Line) → ¬ (Asks line.now x) }
+    ensures { ReadsAs (Asks line.now) line_of CanAsk result }
 {
     match read_alone(line) {
         Some(asked) => Some(asked),
@@ -126,9 +124,7 @@ pub fn read_line(line: &str) -> Option<Asked<'_>>
 
 /// Reads a line that is one word.
 fn read_alone(line: &str) -> Option<Asked<'_>>
-    ensures asks { IfSome result (λ asked. AsksAlone line.now (line_of asked)) }
-    ensures can { IfSome result CanAsk }
-    ensures none { result ≡ None → (x : Line) → ¬ (AsksAlone line.now x) }
+    ensures { ReadsAs (AsksAlone line.now) line_of CanAsk result }
 {
     match line {
         "report" => Some(Asked::Report),
@@ -140,9 +136,7 @@ fn read_alone(line: &str) -> Option<Asked<'_>>
 
 /// Reads a line that has a call, or what happens outside.
 fn read_event_line(line: &str) -> Option<Asked<'_>>
-    ensures asks { IfSome result (λ asked. AsksEvent line.now (line_of asked)) }
-    ensures can { IfSome result CanAsk }
-    ensures none { result ≡ None → (x : Line) → ¬ (AsksEvent line.now x) }
+    ensures { ReadsAs (AsksEvent line.now) line_of CanAsk result }
 {
     let (first, rest) = split_word(line);
     match read_event(first, rest) {

@@ -1,10 +1,10 @@
 //! The words of a script's lines: numbers, lists of numbers, and texts. What reads them takes no memory, and so judges them;
 //! only a text that is decoded and a list that is made take some.
-ghost use Rattle.std.specs.Prelude.{◌≡◌, ◌↔◌, ◌≤◌, ◌*◌, ◌≢◌, None, IsSome, IfOk, IfSome, length, true};
+ghost use Rattle.std.specs.Prelude.{◌≡◌, ◌↔◌, ◌≤◌, ◌*◌, IsSome, IfOk, IfSome, length, true};
 ghost use Rattle.std.specs.List.{repeat};
-ghost use Rattle.iol_core.specs.declared.descriptors.Mode.{Mode};
 ghost use Rattle.iolite.specs.declared.words.TheConstants.{MAX_REPEATED_BYTES};
 ghost use Rattle.iolite.specs.Calls.{AreDomains, domains_of, mode_word};
+ghost use Rattle.iolite.specs.Reads.{Reads};
 ghost use Rattle.iolite.specs.Words.{IsLong, IsShort, rest_of, value, word};
 ghost use Rattle.percent_encoding.specs.Percent.{percent_decode as decoded};
 
@@ -51,8 +51,7 @@ pub fn parse_u64(word: &str) -> Option<u64>
 
 /// Reads how a file is to be open.
 pub fn parse_mode(word: &str) -> Option<Mode>
-    ensures mode { IfSome result (λ mode. word.now ≡ mode_word mode) }
-    ensures none { result ≡ None → (mode : Mode) → word.now ≢ mode_word mode }
+    ensures { Reads (λ mode. word.now ≡ mode_word mode) result }
 {
     match word {
         "read" => Some(Mode::Read),

@@ -1,8 +1,6 @@
-use Rattle.std.proofs.Common.{inl, inr, refl}
+use Rattle.std.proofs.Common.{refl}
+use Rattle.iolite.proofs.Reading.{reads_second}
 use Rattle.iolite.proofs.calls.read_call.Goals as goal
 
-pub returns-in-None-clause-none : goal.returns-in-None-clause-none
-returns-in-None-clause-none c = λ e d asked. elim asked [
-  | inl bare ↦ c.in-None.ensures.none refl d bare
-  | inr named ↦ c.read_named.ensures.none e d named
-]
+pub returns-in-None : goal.returns-in-None
+returns-in-None c = reads_second c.read_named.result (c.in-None.ensures.none refl) c.read_named.ensures

@@ -1,8 +1,6 @@
-use Rattle.std.proofs.Common.{inl, inr, refl}
+use Rattle.std.proofs.Common.{refl}
+use Rattle.iolite.proofs.Reading.{reads_second}
 use Rattle.iolite.proofs.outside.read_event.Goals as goal
 
-pub returns-in-None-clause-none : goal.returns-in-None-clause-none
-returns-in-None-clause-none c = λ none e is. elim is [
-  | inl called ↦ c.in-None.ensures.none refl e called
-  | inr happens ↦ c.read_outside.ensures.none none e happens
-]
+pub returns-in-None : goal.returns-in-None
+returns-in-None c = reads_second c.read_outside.result (c.in-None.ensures.none refl) c.read_outside.ensures

@@ -14,7 +14,7 @@ returns-clause-lost c =
       record {
         line = c.in-Ok.line;
         answer = answer;
-        asks = rw (c.in-Ok.ensures) c.in-Some.ensures.asks;
+        asks = rw (c.in-Ok.ensures) c.in-Some.ensures.some;
         answered = c.in_ok-answer.ensures.answer;
         is = refl;
       },

@@ -1,8 +1,6 @@
-use Rattle.std.proofs.Common.{inl, inr, refl}
+use Rattle.std.proofs.Common.{refl}
+use Rattle.iolite.proofs.Reading.{reads_second}
 use Rattle.iolite.proofs.script.read_line.Goals as goal
 
-pub returns-in-None-clause-none : goal.returns-in-None-clause-none
-returns-in-None-clause-none c = λ none x asks. elim asks [
-  | inl alone ↦ c.in-None.ensures.none refl x alone
-  | inr event ↦ c.read_event_line.ensures.none none x event
-]
+pub returns-in-None : goal.returns-in-None
+returns-in-None c = reads_second c.read_event_line.result (c.in-None.ensures.none refl) c.read_event_line.ensures

@@ -1,10 +1,14 @@
+use Rattle.std.proofs.Common.{inl, inr}
 use Rattle.iolite.proofs.Named.{config_alone, fault_alone}
+use Rattle.iolite.proofs.Reading.{takes_as}
 use Rattle.iolite.proofs.setup.Setup.add.Goals as goal
 
-pub returns-in-config-clause-none : goal.returns-in-config-clause-none
-returns-in-config-clause-none c = λ none new sets.
-    c.set_sizes.ensures.none none new (config_alone c.args.name.now c.args.rest.now c.args.self.now new c.in-config.is sets)
+pub returns-in-config : goal.returns-in-config
+returns-in-config c =
+    let old = c.args.self.now in
+    takes_as c.set_sizes.new.self c.set_sizes.result (λ x sets. inl (c.in-config.is, sets)) (λ x sets. config_alone c.args.name.now c.args.rest.now old x c.in-config.is sets) c.set_sizes.ensures
 
-pub returns-in-fault-clause-none : goal.returns-in-fault-clause-none
-returns-in-fault-clause-none c = λ none new sets.
-    c.set_fault.ensures.none none new (fault_alone c.args.name.now c.args.rest.now c.args.self.now new c.in-fault.is sets)
+pub returns-in-fault : goal.returns-in-fault
+returns-in-fault c =
+    let old = c.args.self.now in
+    takes_as c.set_fault.new.self c.set_fault.result (λ x sets. inr (inl (c.in-fault.is, sets))) (λ x sets. fault_alone c.args.name.now c.args.rest.now old x c.in-fault.is sets) c.set_fault.ensures
