@@ -32,6 +32,7 @@ class Prover:
     def __init__(self, root):
         self.root = root
         self.crates = tree.crates(root)
+        self.first = ()  # what a check is begun by
 
     def make_libraries(self, crates):
         """Has these and all below in their places, by `rt lib` where `rt ci` did not leave them: those that are not."""
@@ -62,5 +63,5 @@ class Prover:
         words += [word for function in functions for word in ("--only", function)]
         words += ["--incremental", kept] if kept else []
         how = {"stdin": subprocess.DEVNULL, "stdout": subprocess.PIPE, "stderr": subprocess.STDOUT}
-        ran = subprocess.run([f"{KIT}/bin/rattle", "check", *words], cwd=room, text=True, errors="replace", **how)
+        ran = subprocess.run([*self.first, f"{KIT}/bin/rattle", "check", *words], cwd=room, text=True, errors="replace", **how)
         return ran.returncode, ran.stdout
