@@ -21,7 +21,7 @@ ghost use Rattle.std.specs.Vec.{vec_capacity};
 ghost use Rattle.iol_core.specs.declared.numbers.BufId.{BufId};
 ghost use Rattle.iol_hold.specs.Prelude.{same, tally, Shares, Covers, IsCountable, Releases, slice_places, places, byte_len, bufs_of};
 ghost use Rattle.iol_pipe.specs.Adding.{SharesFitting};
-ghost use Rattle.iol_pipe.specs.Queue.{GivesFirst, TakesFirst, first_parts, first_pool, names_given};
+ghost use Rattle.iol_pipe.specs.Queue.{GivesFirst, TakesFirst, first_parts, first_pool, fitting, names_given};
 
 mod arrive;
 mod copy;
@@ -90,12 +90,12 @@ impl Pipe {
         Some(first.hold.pool())
     }
 
-    /// Takes in the longest prefix that fits, and tells how many bytes that was. No bytes want no memory.
+    /// Takes in the longest prefix that fits, and tells how many bytes that was. Where none fits it wants no memory.
     pub fn push(&mut self, store: &mut Store, from: &Agg) -> Result<u32, AllocError>
         requires covered { Covers store.old (bufs_of from.now) }
         requires countable { IsCountable store.old (bufs_of from.now) }
         ensures shares { IfOk result (SharesFitting store.old store.new self.old self.new from.now) }
-        ensures none { byte_len from.now ≡ 0 → IsOk result }
+        ensures none { fitting self.old (byte_len from.now) ≡ 0 → IsOk result }
         ensures err { OnErr result ((self.new ≡ self.old) × (store.new ≡ store.old)) }
     {
         let room = MAX_QUEUE_BYTES as u32 - self.len;
@@ -107,7 +107,7 @@ impl Pipe {
         Ok(taken)
     }
 
-    /// Takes off the longest prefix of at most `n` bytes whose pools all name the domain.
+    /// Takes off the longest prefix of at most `n` bytes whose pools all name the domain. No bytes want no memory.
     pub fn front(
         &mut self,
         alloc: Global,
@@ -118,6 +118,7 @@ impl Pipe {
         requires covered { Covers store.old (bufs_of self.old) }
         requires countable { IsCountable store.old (bufs_of self.old) }
         ensures gives { IfOk result (λ a. GivesFirst store.old store.new self.old a self.new n d) }
+        ensures none { min n (byte_len self.old) ≡ 0 → IsOk result }
         ensures err { OnErr result ((self.new ≡ self.old) × (store.new ≡ store.old)) }
     {
         Ok(self.take_off(alloc, store, n, Some(d))?)
@@ -134,6 +135,7 @@ impl Pipe {
         requires covered { Covers store.old (bufs_of self.old) }
         requires countable { IsCountable store.old (bufs_of self.old) }
         ensures takes { IfOk result (λ a. TakesFirst store.old store.new self.old a self.new n d) }
+        ensures none { min n (byte_len self.old) ≡ 0 → IsOk result }
         ensures err { OnErr result ((self.new ≡ self.old) × (store.new ≡ store.old)) }
     {
         let room = self.queue.len().min(n as usize);

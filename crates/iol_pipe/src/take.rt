@@ -1,6 +1,6 @@
 //! The first bytes of a queue, whoever may read them.
-ghost use Rattle.std.specs.Prelude.{◌≡◌, length, drop, slice_index_or, ◌↔◌, ◌<◌, IsSome, IfSome, IfOk, OnErr};
-ghost use Rattle.iol_hold.specs.Prelude.{Covers, IsCountable, Releases, places, bufs_of};
+ghost use Rattle.std.specs.Prelude.{◌≡◌, length, drop, min, slice_index_or, ◌↔◌, ◌<◌, IsSome, IfSome, IsOk, IfOk, OnErr};
+ghost use Rattle.iol_hold.specs.Prelude.{Covers, IsCountable, Releases, places, byte_len, bufs_of};
 ghost use Rattle.iol_pipe.specs.Queue.{CutsFirst};
 
 use crate::Pipe;
@@ -10,11 +10,13 @@ use std::alloc::{AllocError, Global};
 use std::collections::VecDeque;
 
 impl Pipe {
-    /// Takes off the first `n` bytes, or all where fewer wait. The slice in which the last of them lies is cut there.
+    /// Takes off the first `n` bytes, or all where fewer wait. The slice in which the last of them lies is cut there. No bytes
+    /// want no memory.
     pub fn take(&mut self, alloc: Global, store: &mut Store, n: u32) -> Result<Agg, AllocError>
         requires covered { Covers store.old (bufs_of self.old) }
         requires countable { IsCountable store.old (bufs_of self.old) }
         ensures cuts { IfOk result (λ a. CutsFirst store.old store.new self.old a self.new n) }
+        ensures none { min n (byte_len self.old) ≡ 0 → IsOk result }
         ensures err { OnErr result ((self.new ≡ self.old) × (store.new ≡ store.old)) }
     {
         Ok(self.take_off(alloc, store, n, None)?)

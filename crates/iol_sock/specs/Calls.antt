@@ -1,5 +1,5 @@
 -- What each call does to a connection: x before and y after, over the store s before and t after.
-use Rattle.std.specs.Prelude.{◌≡◌, ◌≢◌, ℕ, ◌-◌, [], true, List, length, min, drop, Option, Result, Err, IfOk, IfErr, OnOk, OnErr}
+use Rattle.std.specs.Prelude.{◌≡◌, ◌≢◌, ℕ, ◌-◌, [], true, List, length, min, drop, Option, Result, Err, IsOk, IfOk, IfErr, OnOk, OnErr}
 use Rattle.iol_core.specs.Prelude.{WantOfMemory, WantOfRoom, bytes_of, checksum as checksum_of}
 use Rattle.iol_core.specs.declared.descriptors.How.{How}
 use Rattle.iol_core.specs.declared.limits.TheConstants.{MAX_QUEUE_BYTES, PAGE_BYTES}
@@ -44,9 +44,10 @@ pub record ArrivesFrom (s t : Stored) (x y : Conn (List Slice)) (left after : Op
   pub room : TellsRoom (has_room s x.pool 1) r
   pub err : OnErr r ((y ≡ x) × (t ≡ s))
 
--- A domain is given the front of what came in. A refusal, for want of memory alone, changes nothing.
+-- A domain is given the front of what came in. A refusal, for want of memory alone, changes nothing, and no bytes want none.
 pub record GivesFront {E : Type 0} (s t : Stored) (x y : Conn (List Slice)) (n d : ℕ) (r : Result (List Slice) E) : Type 0 where
   pub gives : IfOk r (λ a. GivesFirst s t x.incoming a y.incoming n d)
+  pub none : min n (byte_len x.incoming) ≡ 0 → IsOk r
   pub others : y ≡ record x { incoming = y.incoming }
   pub err : OnErr r ((y ≡ x) × (t ≡ s))
 
@@ -58,13 +59,13 @@ pub record Skips (s t : Stored) (x y : Conn (List Slice)) (n : ℕ) : Type 0 whe
 
 -- What is to be sent.
 
--- An aggregate's bytes are to be sent, as many as fit. They are shared. No bytes want no memory.
+-- An aggregate's bytes are to be sent, as many as fit. They are shared. Where none fits it wants no memory.
 pub record QueuesShared (s t : Stored) (x y : Conn (List Slice)) (from : List Slice) (r : Result ℕ Refusal) : Type 0 where
   pub passed : OnOk r (IsPassed (queue_refusals x (byte_len from)))
   pub refused : IfErr r (IsRefused (queue_refusals x (byte_len from)) WantOfMemory)
   pub shares : IfOk r (SharesFitting s t x.outgoing y.outgoing from)
   pub others : y ≡ record x { outgoing = y.outgoing }
-  pub none : byte_len from ≡ 0 → r ≢ Err Memory
+  pub none : fitting x.outgoing (byte_len from) ≡ 0 → r ≢ Err Memory
   pub err : OnErr r ((y ≡ x) × (t ≡ s))
 
 -- New bytes of a pool are to be sent, as many as fit.

@@ -1,0 +1,15 @@
+use Rattle.std.proofs.Common.{◌≡◌, min, List, ℕ, [], ◌∷◌, length, arith, rules}
+use Rattle.iol_hold.specs.Places.{byte_len}
+use Rattle.iol_hold.specs.declared.slices.Slice.{Slice}
+use Rattle.iol_hold.proofs.Slicing.{byte_len-cons}
+use Rattle.iol_pipe.proofs.Pipe.take_off.Goals as goal
+
+-- where no byte is asked for, or none waits, no slice is wanted
+no_slice : (xs : List Slice) (n k : ℕ) → min n (byte_len xs) ≡ 0 → k ≡ min (length xs) n → k ≡ 0
+no_slice [] n k e is = omega (arith, is)
+no_slice (x ∷ xs) n k e is = omega (arith, e, is, byte_len-cons x xs, x.some)
+
+pub returns-in_err-slices-clause-none : goal.returns-in_err-slices-clause-none
+returns-in_err-slices-clause-none c = λ e.
+    let zero = no_slice c.args.self.now c.args.n c.min-room.result e (search (rules, c.min-room.ensures, c.len.ensures, c.self.view_is)) in
+    absurd (cc (c.in_err-slices.ensures.succeeds zero))
