@@ -9,6 +9,7 @@ use Rattle.iol_core.specs.Calls.Outside.{arrive, transmit, lacks_conn}
 use Rattle.iol_core.specs.declared.limits.TheConstants.{MAX_QUEUE_BYTES, PAGE_BYTES}
 use Rattle.iol_core.specs.declared.refusals.Refusal.{Refusal}
 use Rattle.iol_core.specs.declared.refusals.Refusal.TheVariants.{BadFd, BadRange, NoRoom}
+use Rattle.iol_pool.specs.Pools.{pool_in}
 use Rattle.iol_pipe.specs.Arriving.{IsOneRead}
 use Rattle.iol_pipe.specs.declared.arrive.Arrived.{Arrived}
 use Rattle.iol_sock.specs.Refused.{IsPassed, IsRefused}
@@ -25,6 +26,13 @@ arrive_from_refusals s c max =
     (BadFd when lacks_conn s c) ∷
     (BadRange when (max == 0)) ∷
     (arrive s c (0 ∷ [])).refusals
+
+-- One read passes the tests: what it brings would lie in this pool.
+pub record MayBringIn (c max pool : ℕ) (h : KernelState) : Type 0 where
+  pub passed : IsPassed (arrive_from_refusals (machine_of [] h) c max)
+  pub there : lacks_conn (machine_of [] h) c ≡ false
+  pub lands : (conn_at (machine_of [] h) c).pool ≡ pool
+  pub opened : (pool_in h.store.pools pool).closed ≡ false
 
 -- A reader gave n bytes of those that it has left, where these are known, and what arrives of them is P.
 pub record TakesIn (left after : Option (List ℕ)) (n : ℕ) (P : List ℕ → Type 0) : Type 0 where

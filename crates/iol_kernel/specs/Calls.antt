@@ -1,29 +1,30 @@
 -- What a call does to what a system holds, said of the copying machine whatever is read at the places of bytes.
-use Rattle.std.specs.Prelude.{◌≡◌, ℕ, ◌+◌, ◌≤◌, Bool, nat_lt, length, ◌⊎◌, ◌++◌, true, false, List, [], ◌∷◌, None, Some, Result, Ok, Err, OnOk, OnErr}
+use Rattle.std.specs.Prelude.{◌≡◌, ℕ, ◌+◌, ◌≤◌, Bool, nat_lt, length, ◌⊎◌, ◌++◌, true, false, List, [], ◌∷◌, None, Some, Result, Ok, Err, IfOk, IfErr, OnOk, OnErr}
 use Rattle.iol_core.specs.Text.{Text, labelled}
 use Rattle.iol_core.specs.State.{State, is_live, text, descriptor, conn_at, with_conn}
-use Rattle.iol_core.specs.Meaning.{Meaning, Step, first}
-use Rattle.iol_core.specs.Calls.Aggregates.{lacks_agg, with_agg, show}
+use Rattle.iol_core.specs.Meaning.{Meaning}
+use Rattle.iol_core.specs.Prelude.{Step, WantOfRoom, first}
+use Rattle.iol_core.specs.Calls.Aggregates.{agg_make, default_pool, lacks_agg, next_agg, show, too_many_aggs, with_agg}
 use Rattle.iol_core.specs.declared.refusals.Refusal.{Refusal}
 use Rattle.iol_core.specs.declared.refusals.Refusal.TheVariants.{NoDomain, BadAgg, BadFd, NoRoom}
 use Rattle.iol_core.specs.State as machine
-use Rattle.iol_core.specs.declared.limits.TheConstants.{MAX_FILE_BYTES}
+use Rattle.iol_core.specs.declared.limits.TheConstants.{MAX_AGGREGATE_BYTES, MAX_FILE_BYTES}
 use Rattle.iol_back.specs.Disk.{Disk, IfHonest, content}
 use Rattle.iol_arena.specs.Pages.{MadeOn}
 use Rattle.iol_hold.specs.Moves.{Stays}
 use Rattle.iol_hold.specs.Stored.{with_pools}
 use Rattle.iol_hold.specs.Pages.{KeepsPages}
-use Rattle.iol_hold.specs.Room.{lowest_of}
+use Rattle.iol_hold.specs.Room.{TellsRoom, has_room, lowest_of}
 use Rattle.iol_hold.specs.Texts.{bufs_of}
 use Rattle.iol_hold.specs.declared.slices.Slice.{Slice}
 use Rattle.iol_cache.specs.Cached.{Cached, new_file, order_in}
 use Rattle.iol_cache.specs.Keeping.{KeepsCover}
 use Rattle.iol_desc.specs.Tables.{agg_in}
-use Rattle.iol_pool.specs.Pools.{with_admitted}
+use Rattle.iol_pool.specs.Pools.{pool_in, with_admitted}
 use Rattle.iol_sock.specs.declared.outgoing.Segment.{Segment}
 use Rattle.iol_sock.specs.Sent.{UsesSent}
 use Rattle.iol_sock.specs.Table.{conn_in}
-use Rattle.iol_core.specs.Calls.Outside.{transmit}
+use Rattle.iol_core.specs.Calls.Outside.{arrive, transmit}
 use Rattle.iol_kernel.specs.Backed.{IsBackedBy, StepsBeside}
 use Rattle.iol_kernel.specs.KernelState.{KernelState, read_of, machine_of, IsSound}
 use Rattle.iol_kernel.specs.Readings.{Reading, read, KeepsPools}
@@ -162,9 +163,37 @@ pub record MakesBytes (put : State → Text → State) (pool n : ℕ) (old new :
 abbrev pub MakesAgg : (d pool n : ℕ) → (old new : KernelState) → Type 0
 MakesAgg d pool n old new = MakesBytes (λ s t. with_agg s d t) pool n old new
 
+-- Bytes pass the tests of `agg_make`, and would lie in this pool.
+pub record MayMake (by : ℕ) (bytes : List ℕ) (pool : ℕ) (h : KernelState) : Type 0 where
+  pub passed : (f : Reading) → first (agg_make (read_of f h) by bytes).refusals ≡ None
+  pub lands : (f : Reading) → default_pool (read_of f h) by ≡ pool
+  pub live : is_live (machine_of [] h) by ≡ true
+  pub few : too_many_aggs (machine_of [] h) by 1 0 ≡ false
+  pub small : length bytes ≤ MAX_AGGREGATE_BYTES
+  pub opened : (machine.pool (machine_of [] h) pool).closed ≡ false
+
+-- New bytes of a pool become a domain's next aggregate; or there is no room for them, or no memory, and nothing changed.
+pub record MakesNext (by pool : ℕ) (bytes : List ℕ) (old : KernelState) (r : Result ℕ Refusal) (new : KernelState) : Type 0 where
+  pub number : IfOk r (λ n. (f : Reading) → n ≡ next_agg (read_of f old) by)
+  pub placed : OnOk r (AddsBytes by pool bytes old new)
+  pub made : OnOk r (MakesAgg by pool (length bytes) old new)
+  pub cache : new.cache ≡ old.cache
+  pub sound : IsSound new
+  pub stays : Stays old.store new.store
+  pub room : TellsRoom (has_room old.store pool (length bytes)) r
+  pub late : IfErr r (WantOfRoom pool)
+  pub err : OnErr r (new ≡ old)
+
 -- a connection gets them at the end of what came in
 abbrev pub Arrives : (c n : ℕ) → (old new : KernelState) → Type 0
 Arrives c n old new = MakesBytes (with_incoming c) (conn_at (machine_of [] old) c).pool n old new
+
+-- Bytes pass the tests of `arrive`: so many of them fit, and would lie in this pool.
+pub record MayArrive (c : ℕ) (bytes : List ℕ) (pool count : ℕ) (h : KernelState) : Type 0 where
+  pub passed : (f : Reading) → first (arrive (read_of f h) c bytes).refusals ≡ None
+  pub lands : (f : Reading) → (conn_at (read_of f h) c).pool ≡ pool
+  pub fits : (f : Reading) → (arrive (read_of f h) c bytes).answer ≡ count
+  pub opened : (pool_in h.store.pools pool).closed ≡ false
 
 -- the domain is live, and its aggregate is these slices
 pub record IsFound (h : KernelState) (d a : ℕ) (xs : List Slice) : Type 0 where

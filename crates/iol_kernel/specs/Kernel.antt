@@ -86,17 +86,11 @@ CopiesFileAs x disk old r after new = files.CopiesFileAs x disk (state_of old) r
 abbrev pub Reads : (d fd n : ℕ) → Disk → Kernel → Result ℕ Refusal → Disk → Kernel → Type 0
 Reads d fd n disk old r after new = files.Reads d fd n disk (state_of old) r after (state_of new)
 
-abbrev pub AddsBytes : (d pool : ℕ) → List ℕ → (old new : Kernel) → Type 0
-AddsBytes d pool bytes old new = calls.AddsBytes d pool bytes (state_of old) (state_of new)
-
 abbrev pub Shows : (d a : ℕ) → List ℕ → Kernel → Type 0
 Shows d a bytes k = calls.Shows d a bytes (state_of k)
 
 abbrev pub ShowsSoMany : (d a n : ℕ) → Kernel → Type 0
 ShowsSoMany d a n k = calls.ShowsSoMany d a n (state_of k)
-
-abbrev pub MakesAgg : (d pool n : ℕ) → (old new : Kernel) → Type 0
-MakesAgg d pool n old new = calls.MakesAgg d pool n (state_of old) (state_of new)
 
 abbrev pub Arrives : (c n : ℕ) → (old new : Kernel) → Type 0
 Arrives c n old new = calls.Arrives c n (state_of old) (state_of new)

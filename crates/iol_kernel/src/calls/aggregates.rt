@@ -1,10 +1,10 @@
 //! Aggregates: made of new bytes or of those that lie there already, shown, and dropped.
-ghost use Rattle.std.specs.Prelude.{◌≡◌, ◌≢◌, ℕ, ◌+◌, ◌<◌, ◌≤◌, length, true, false, Option, Some, None, IfOk, IfErr, OnOk, OnErr, Err};
+ghost use Rattle.std.specs.Prelude.{◌≡◌, ◌≢◌, ℕ, ◌+◌, ◌<◌, ◌≤◌, length, true, false, Option, Some, IfOk, IfErr, OnErr, Err};
 ghost use Rattle.iol_core.specs.State as state;
-ghost use Rattle.iol_core.specs.Prelude.{is_live, domain, text, may_read, Step, WantOfRoom, first, barred, default_pool, lacks_agg, too_many_aggs};
+ghost use Rattle.iol_core.specs.Prelude.{is_live, domain, text, may_read, first, barred, default_pool, lacks_agg, too_many_aggs};
 ghost use Rattle.iol_core.specs.Calls.Aggregates as calls;
-ghost use Rattle.iol_hold.specs.Prelude.{Stays, has_room};
 ghost use Rattle.iol_kernel.specs.Adding.{replaced};
+ghost use Rattle.iol_kernel.specs.Calls.{MakesNext, MayMake};
 ghost use Rattle.iol_kernel.specs.KernelState.{joined, IsSound};
 ghost use Rattle.iol_kernel.specs.Readings.{Reading, read, KeepsPools};
 
@@ -18,7 +18,7 @@ use iol_core::refusals::Refusal;
 use std::alloc::AllocError;
 
 impl Kernel {
-    ghost use Rattle.iol_kernel.specs.Kernel.{state_of, machine, as_read, Steps, AddsBytes, Shows, ShowsSoMany, MakesAgg, Places, CarriesOut, KeepsPlaces, Answers, Leaves};
+    ghost use Rattle.iol_kernel.specs.Kernel.{state_of, machine, as_read, Steps, Shows, ShowsSoMany, Places, CarriesOut, KeepsPlaces, Answers, Leaves};
 
     /// Places bytes in the caller's default pool, as its next aggregate. Clean extents of the pool's files give way.
     pub fn agg_make(&mut self, by: DomainId, bytes: &Bytes) -> Result<AggId, Refusal>
@@ -37,16 +37,10 @@ impl Kernel {
     /// The pool in which the caller's bytes lie once they are an aggregate. It is refused as `agg_make` is, but for want
     /// of room and of memory.
     fn pool_to_make(&self, by: DomainId, bytes: &[u8]) -> Result<PoolId, Refusal>
-        ensures passed { OnOk result ((f : Reading) →
-            first (calls.agg_make (as_read f self.now) by bytes.now).refusals ≡ None) }
+        ensures may { IfOk result (λ p. MayMake by bytes.now p (state_of self.now)) }
         ensures refused { IfErr result (λ x. (f : Reading) →
             first (calls.agg_make (as_read f self.now) by bytes.now).refusals ≡ Some x) }
         ensures roomy { (p : ℕ) → result ≡ Err (Refusal.NoRoom p) → ⊥ }
-        ensures pool { IfOk result (λ p. (f : Reading) → default_pool (as_read f self.now) by ≡ p) }
-        ensures live { OnOk result (is_live (machine self.now) by ≡ true) }
-        ensures few { OnOk result (too_many_aggs (machine self.now) by 1 0 ≡ false) }
-        ensures small { OnOk result (length bytes.now ≤ MAX_AGGREGATE_BYTES) }
-        ensures open { IfOk result (λ p. (state.pool (machine self.now) p).closed ≡ false) }
     {
         if !self.is_live(by) {
             return Err(Refusal::NoDomain);
@@ -83,17 +77,7 @@ impl Kernel {
         requires few { too_many_aggs (machine self.old) by 1 0 ≡ false }
         requires small { length bytes.now ≤ MAX_AGGREGATE_BYTES }
         requires open { (state.pool (machine self.old) pool).closed ≡ false }
-        ensures number { IfOk result (λ n. (f : Reading) → n ≡ calls.next_agg (as_read f self.old) by) }
-        ensures placed { OnOk result (AddsBytes by pool bytes.now self.old self.new) }
-        ensures made { OnOk result (MakesAgg by pool (length bytes.now) self.old self.new) }
-        ensures cache { (state_of self.new).cache ≡ (state_of self.old).cache }
-        ensures sound { IsSound (state_of self.new) }
-        ensures stays { Stays self.old.store self.new.store }
-        ensures room { OnOk result (has_room self.old.store pool (length bytes.now) ≡ true) }
-        ensures no_room { (p : ℕ) → result ≡ Err (Refusal.NoRoom p) → has_room self.old.store pool
-            (length bytes.now) ≡ false }
-        ensures late { IfErr result (WantOfRoom pool) }
-        ensures err { OnErr result (state_of self.new ≡ state_of self.old) }
+        ensures { MakesNext by pool bytes.now (state_of self.old) result (state_of self.new) }
     {
         self.domains.reserve_aggs(by, 1)?;
         let agg = Agg::fill(self.alloc, &mut self.store, pool, bytes)?;

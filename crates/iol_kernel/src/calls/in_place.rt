@@ -1,14 +1,12 @@
 //! Connections that are served from outside in place: what a reader gives comes straight into a page, and a writer takes
 //! bytes from where they lie.
-ghost use Rattle.std.specs.Prelude.{◌≡◌, ℕ, false, List, Some, Ok, Err, IfOk, IfErr, OnOk, OnErr};
+ghost use Rattle.std.specs.Prelude.{◌≡◌, ℕ, false, List, Some, Ok, Err, IfOk, IfErr, OnErr};
 ghost use Rattle.iol_core.specs.Prelude.{first, conn_at, lacks_conn};
 ghost use Rattle.iol_core.specs.Calls.Outside as outside;
 ghost use Rattle.iol_back.specs.Prelude.{Disk};
-ghost use Rattle.iol_pool.specs.Prelude.{pool_in};
 ghost use Rattle.iol_hold.specs.Prelude.{Stays, has_room};
 ghost use Rattle.iol_pipe.specs.Prelude.{IsOneRead};
-ghost use Rattle.iol_sock.specs.Prelude.{IsPassed};
-ghost use Rattle.iol_kernel.specs.Borrowed.{arrive_from_refusals, most_asked, BringsIn, DrainsTo, TakesIn};
+ghost use Rattle.iol_kernel.specs.Borrowed.{arrive_from_refusals, most_asked, BringsIn, DrainsTo, MayBringIn, TakesIn};
 ghost use Rattle.iol_kernel.specs.Borrowed.{RefusesArrival, RefusesByte, RefusesDrain};
 ghost use Rattle.iol_kernel.specs.Backed.{Serves};
 ghost use Rattle.iol_kernel.specs.KernelState.{machine_of, IsSound};
@@ -56,13 +54,10 @@ impl Kernel {
     /// memory.
     fn may_arrive_from(&self, conn: ConnId, max: u32) -> Result<PoolId, Refusal>
         requires { IsSound (state_of self.now) }
-        ensures passed { OnOk result (IsPassed (arrive_from_refusals (machine self.now) conn max)) }
+        ensures may { IfOk result (λ p. MayBringIn conn max p (state_of self.now)) }
         ensures refused { IfErr result (λ x. first (arrive_from_refusals (machine self.now) conn
             max) ≡ Some x) }
         ensures roomy { (p : ℕ) → result ≡ Err (Refusal.NoRoom p) → ⊥ }
-        ensures pool { IfOk result (λ p. (conn_at (machine self.now) conn).pool ≡ p) }
-        ensures open { IfOk result (λ p. (pool_in self.now.store.pools p).closed ≡ false) }
-        ensures there { OnOk result (lacks_conn (machine self.now) conn ≡ false) }
     {
         let Some(found) = self.conns.get(conn) else {
             return Err(Refusal::BadFd);

@@ -61,11 +61,11 @@ impl Kernel {
         if self.is_too_many(by, 1, 0) {
             return Err(Refusal::TooMany);
         }
-        if let Some(pool) = self.first_barred(by, from, count as usize) {
-            return Err(Refusal::Denied { pool });
-        }
         if self.must_wait(from, count as usize) {
             return Err(Refusal::WouldBlock);
+        }
+        if let Some(pool) = self.first_barred(by, from, count as usize) {
+            return Err(Refusal::Denied { pool });
         }
         Ok(self.take(by, fd, from, count)?)
     }

@@ -1,10 +1,9 @@
 //! Acts from outside: connections are made, bytes arrive on them and are sent, and their peers close.
-ghost use Rattle.std.specs.Prelude.{◌≡◌, ◌≢◌, ℕ, ◌<◌, ◌≤◌, length, true, false, Some, None, IfOk, IfErr, OnOk, OnErr, Err};
+ghost use Rattle.std.specs.Prelude.{◌≡◌, ◌≢◌, ℕ, ◌<◌, ◌≤◌, length, true, false, Some, None, IfOk, IfErr, OnErr, Err};
 ghost use Rattle.iol_core.specs.State as state;
 ghost use Rattle.iol_core.specs.Prelude.{conn_at, with_conn, first, lookup, lacks_conn};
 ghost use Rattle.iol_core.specs.Calls.Outside as calls;
-ghost use Rattle.iol_pool.specs.Prelude.{pool_in};
-ghost use Rattle.iol_kernel.specs.Calls.{told, with_incoming};
+ghost use Rattle.iol_kernel.specs.Calls.{MayArrive, told, with_incoming};
 ghost use Rattle.iol_kernel.specs.ClosedEnds.{KeepsEnds};
 ghost use Rattle.iol_kernel.specs.KernelState.{objects_of, IsSound};
 ghost use Rattle.iol_kernel.specs.Putting.{Fills};
@@ -141,16 +140,10 @@ impl Kernel {
     /// and of memory.
     fn room_to_arrive(&self, conn: ConnId, bytes: &[u8]) -> Result<(PoolId, u32), Refusal>
         requires { IsSound (state_of self.now) }
-        ensures passed { OnOk result ((f : Reading) →
-            first (calls.arrive (as_read f self.now) conn bytes.now).refusals ≡ None) }
+        ensures may { IfOk result (λ r. MayArrive conn bytes.now r.0 r.1 (state_of self.now)) }
         ensures refused { IfErr result (λ x. (f : Reading) →
             first (calls.arrive (as_read f self.now) conn bytes.now).refusals ≡ Some x) }
         ensures roomy { (p : ℕ) → result ≡ Err (Refusal.NoRoom p) → ⊥ }
-        ensures pool { IfOk result (λ r. (f : Reading) → (conn_at (as_read f self.now) conn).pool ≡
-            r.0) }
-        ensures count { IfOk result (λ r. (f : Reading) →
-            (calls.arrive (as_read f self.now) conn bytes.now).answer ≡ r.1) }
-        ensures open { IfOk result (λ r. (pool_in self.now.store.pools r.0).closed ≡ false) }
     {
         let Some(found) = self.conns.get(conn) else {
             return Err(Refusal::BadFd);
@@ -169,12 +162,7 @@ impl Kernel {
         bytes: &[u8],
     ) -> Result<u32, Refusal>
         requires sound { IsSound (state_of self.old) }
-        requires passed { (f : Reading) → first (calls.arrive (as_read f self.old) conn
-            bytes.now).refusals ≡ None }
-        requires pool { (f : Reading) → (conn_at (as_read f self.old) conn).pool ≡ pool }
-        requires count { (f : Reading) → (calls.arrive (as_read f self.old) conn bytes.now).answer ≡
-            count }
-        requires open { (pool_in self.old.store.pools pool).closed ≡ false }
+        requires may { MayArrive conn bytes.now pool count (state_of self.old) }
         ensures { Places (λ s. calls.arrive s conn bytes.now) (with_incoming conn) (conn_at (machine
             self.old) conn).pool (calls.arrive (machine self.old) conn bytes.now).answer self.old
             result self.new }

@@ -20,35 +20,35 @@ returns-in_err-pool c =
     (places_refused (λ s. agg_make s c.args.by c.args.bytes.now) (λ s t. with_agg s c.args.by t) (default_pool (machine c.args.self.now) c.args.by) (length c.args.bytes.now) h c.in_err-pool.field-0.0 c.requires (search (rules)) (search (rules)))
 
 pub make_room_for-requires-clause-open : goal.make_room_for-requires-clause-open
-make_room_for-requires-clause-open c = sym (closed-read_of (bytes_over [] c.args.self.now.store) (state_of c.args.self.now) c.in_ok-pool.pool) ∙ c.in_ok-pool.ensures.open
+make_room_for-requires-clause-open c = sym (closed-read_of (bytes_over [] c.args.self.now.store) (state_of c.args.self.now) c.in_ok-pool.pool) ∙ c.in_ok-pool.ensures.may.opened
 
 pub returns-then-not-make_room_for : goal.returns-then-not-make_room_for
 returns-then-not-make_room_for c =
     let h = state_of c.args.self.now in
     let k = state_of c.make_room_for.new.self in
-    let passes = c.in_ok-pool.ensures in
+    let passes = c.in_ok-pool.ensures.may in
     let room = c.make_room_for.ensures in
     subst (λ (bs : List ℕ). Places (λ s. agg_make s c.args.by bs) (λ s t. with_agg s c.args.by t) (default_pool (machine c.args.self.now) c.args.by) (length bs) h (Err (NoRoom c.in_ok-pool.pool)) k) c.as_slice-list.ensures
-    (make_none c.in_ok-pool.pool c.args.by c.as_slice-list.result.now h k room.made (room.refused c.if-not-make_room_for.true) passes.passed passes.pool (room.fits ∙ c.if-not-make_room_for.true))
+    (make_none c.in_ok-pool.pool c.args.by c.as_slice-list.result.now h k room.made (room.refused c.if-not-make_room_for.true) passes.passed passes.lands (room.fits ∙ c.if-not-make_room_for.true))
 
 pub fill_agg-requires-clause-live : goal.fill_agg-requires-clause-live
-fill_agg-requires-clause-live c = live_after c.in_ok-pool.pool (pages_for (length c.as_slice-list.result.now)) (state_of c.args.self.now) (state_of c.make_room_for.new.self) c.make_room_for.ensures.made c.args.by c.in_ok-pool.ensures.live
+fill_agg-requires-clause-live c = live_after c.in_ok-pool.pool (pages_for (length c.as_slice-list.result.now)) (state_of c.args.self.now) (state_of c.make_room_for.new.self) c.make_room_for.ensures.made c.args.by c.in_ok-pool.ensures.may.live
 
 pub fill_agg-requires-clause-few : goal.fill_agg-requires-clause-few
-fill_agg-requires-clause-few c = few_after c.in_ok-pool.pool (pages_for (length c.as_slice-list.result.now)) (state_of c.args.self.now) (state_of c.make_room_for.new.self) c.make_room_for.ensures.made c.args.by 1 0 c.in_ok-pool.ensures.few
+fill_agg-requires-clause-few c = few_after c.in_ok-pool.pool (pages_for (length c.as_slice-list.result.now)) (state_of c.args.self.now) (state_of c.make_room_for.new.self) c.make_room_for.ensures.made c.args.by 1 0 c.in_ok-pool.ensures.may.few
 
 pub fill_agg-requires-clause-open : goal.fill_agg-requires-clause-open
-fill_agg-requires-clause-open c = open_after c.in_ok-pool.pool (pages_for (length c.as_slice-list.result.now)) (state_of c.args.self.now) (state_of c.make_room_for.new.self) c.make_room_for.ensures.made c.in_ok-pool.pool c.in_ok-pool.ensures.open
+fill_agg-requires-clause-open c = open_after c.in_ok-pool.pool (pages_for (length c.as_slice-list.result.now)) (state_of c.args.self.now) (state_of c.make_room_for.new.self) c.make_room_for.ensures.made c.in_ok-pool.pool c.in_ok-pool.ensures.may.opened
 
 pub returns : goal.returns
 returns c =
     let h = state_of c.args.self.now in
     let k = state_of c.make_room_for.new.self in
     let l = state_of c.fill_agg.new.self in
-    let passes = c.in_ok-pool.ensures in
+    let passes = c.in_ok-pool.ensures.may in
     let room = c.make_room_for.ensures in
     let e = c.fill_agg.ensures in
     let bytes : List ℕ = c.as_slice-list.result.now in
     subst (λ (bs : List ℕ). Places (λ s. agg_make s c.args.by bs) (λ s t. with_agg s c.args.by t) (default_pool (machine c.args.self.now) c.args.by) (length bs) h c.fill_agg.result l) c.as_slice-list.ensures
-    (make_places c.in_ok-pool.pool (pages_for (length bytes)) h k room.made c.args.by bytes passes.passed passes.pool l c.fill_agg.result
-    (room.room c.if-not-make_room_for.false) (room.fits ∙ c.if-not-make_room_for.false) e.number e.placed e.made e.late e.err e.sound e.cache e.stays e.no_room refl)
+    (make_places c.in_ok-pool.pool (pages_for (length bytes)) h k room.made c.args.by bytes passes.passed passes.lands l c.fill_agg.result
+    (room.room c.if-not-make_room_for.false) (room.fits ∙ c.if-not-make_room_for.false) e.number e.placed e.made e.late e.err e.sound e.cache e.stays e.room.no_room refl)

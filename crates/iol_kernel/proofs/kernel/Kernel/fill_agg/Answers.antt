@@ -1,4 +1,4 @@
-use Rattle.std.proofs.Common.{[], ◌∙◌, ap, sym, arith, length, List, ℕ}
+use Rattle.std.proofs.Common.{[], ◌∙◌, ap, refl, sym, arith, length, List, ℕ}
 use Rattle.std.proofs.lemmas.List.{length-map}
 use Rattle.iol_core.specs.State.{Domain}
 use Rattle.iol_core.specs.Text.{labelled}
@@ -36,17 +36,22 @@ added c =
       added = c.add_agg.ensures.added ∙ ap (λ (ds : List (Domain (List Slice))). with_agg_in ds c.args.by c.in_ok-agg.agg) c.in_ok-reserve_aggs.ensures.same;
     }
 
-pub returns-clause-number : goal.returns-clause-number
-returns-clause-number c = λ f. c.add_agg.ensures.number ∙ ap (λ (ds : List (Domain (List Slice))). (domain_in ds c.args.by).next_agg) c.in_ok-reserve_aggs.ensures.same ∙ sym (next_agg-read_of f (state_of c.args.self.now) c.args.by)
-
-pub returns-clause-placed : goal.returns-clause-placed
-returns-clause-placed c = placed-machine (state_of c.args.self.now) c.fill.new.store (domains_of c.add_agg.new.self) c.args.by _ _ c.requires.sound (added (goal.at.returns-clause-placed c).After-add_agg)
-
-pub returns-clause-made : goal.returns-clause-made
-returns-clause-made c = placed_alone (state_of c.args.self.now) c.fill.new.store (domains_of c.add_agg.new.self) c.args.by c.args.pool (length c.args.bytes.now) _ c.requires.sound (added (goal.at.returns-clause-made c).After-add_agg)
-
-pub returns-clause-sound : goal.returns-clause-sound
-returns-clause-sound c =
+pub returns : goal.returns
+returns c =
     let h = state_of c.args.self.now in
-    placed-sound h c.fill.new.store (domains_of c.add_agg.new.self) c.args.by _ _ c.requires.sound (live_held _ h c.args.by c.requires.live) (omega (arith, few_aggs (bytes_over [] h.store) h c.args.by 1 0 c.requires.few))
-    (omega (arith, length-map {B = ℕ × ℕ} c.args.bytes.now (λ b. (b, c.args.pool)), c.requires.small)) (added (goal.at.returns-clause-sound c).After-add_agg)
+    let e = c.in_ok-agg.ensures in
+    let t = c.fill.new.store in
+    let ds = domains_of c.add_agg.new.self in
+    let all = added (goal.at.returns c).After-add_agg in
+    record {
+      number = λ f. c.add_agg.ensures.number ∙ ap (λ (xs : List (Domain (List Slice))). (domain_in xs c.args.by).next_agg) c.in_ok-reserve_aggs.ensures.same ∙ sym (next_agg-read_of f h c.args.by);
+      placed = placed-machine h t ds c.args.by _ _ c.requires.sound all;
+      made = placed_alone h t ds c.args.by c.args.pool (length c.args.bytes.now) _ c.requires.sound all;
+      cache = refl;
+      sound = placed-sound h t ds c.args.by _ _ c.requires.sound (live_held _ h c.args.by c.requires.live) (omega (arith, few_aggs (bytes_over [] h.store) h c.args.by 1 0 c.requires.few))
+          (omega (arith, length-map {B = ℕ × ℕ} c.args.bytes.now (λ b. (b, c.args.pool)), c.requires.small)) all;
+      stays = e.moves.stays;
+      room = record { room = e.room; no_room = λ p is. absurd (cc is) };
+      late = tt;
+      err = tt;
+    }

@@ -23,18 +23,16 @@ returns-in_err-may_arrive-clause-refused c =
     let refused = read_some_asked (state_of c.args.self.now) c.args.conn c.args.max c.in-Some.found.now (sym c.in-Some.ensures) (Some c.in_err-may_arrive.field-0.0) some is in
     search (rules, refused)
 
-pub returns-clause-passed : goal.returns-clause-passed
-returns-clause-passed c =
-    let some : (c.args.max == 0) ≡ false = let ne = c.if-max-eq0.false in grind (arith, nat_tests, ne) in
-    read_some_asked (state_of c.args.self.now) c.args.conn c.args.max c.in-Some.found.now (sym c.in-Some.ensures) None some c.in_ok-may_arrive.ensures.passed
-
-pub returns-clause-pool : goal.returns-clause-pool
-returns-clause-pool c = arrive_in (state_of c.args.self.now) c.args.conn c.in-Some.found.now [] (sym c.in-Some.ensures) c.pool.result c.pool.ensures (bytes_over [] c.args.self.now.store)
-
-pub returns-clause-open : goal.returns-clause-open
-returns-clause-open c =
+pub returns-clause-may : goal.returns-clause-may
+returns-clause-may c =
     let h = state_of c.args.self.now in
-    ap (λ p. (pool_in h.store.pools p).closed) c.pool.ensures ∙ conn_open h c.args.conn c.in-Some.found.now c.requires (sym c.in-Some.ensures)
-
-pub returns-clause-there : goal.returns-clause-there
-returns-clause-there c = conn_there (bytes_over [] c.args.self.now.store) (state_of c.args.self.now) c.args.conn c.in-Some.found.now c.in-Some.ensures
+    let f = bytes_over [] h.store in
+    let x = c.in-Some.found.now in
+    let there = sym c.in-Some.ensures in
+    let some : (c.args.max == 0) ≡ false = let ne = c.if-max-eq0.false in grind (arith, nat_tests, ne) in
+    record {
+      passed = read_some_asked h c.args.conn c.args.max x there None some c.in_ok-may_arrive.ensures.passed;
+      there = conn_there f h c.args.conn x c.in-Some.ensures;
+      lands = arrive_in h c.args.conn x [] there c.pool.result c.pool.ensures f;
+      opened = ap (λ p. (pool_in h.store.pools p).closed) c.pool.ensures ∙ conn_open h c.args.conn x c.requires there;
+    }

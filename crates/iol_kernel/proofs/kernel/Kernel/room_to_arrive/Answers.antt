@@ -18,19 +18,15 @@ returns-in_err-may_arrive-clause-refused c =
     let refused = arrive_first (state_of c.args.self.now) c.args.conn x c.args.bytes.now (sym c.in-Some.ensures) (Some c.in_err-may_arrive.field-0.0) is in
     search (rules, refused)
 
-pub returns-clause-passed : goal.returns-clause-passed
-returns-clause-passed c = arrive_first (state_of c.args.self.now) c.args.conn c.in-Some.found.now c.args.bytes.now (sym c.in-Some.ensures) None c.in_ok-may_arrive.ensures.passed
-
-pub returns-clause-pool : goal.returns-clause-pool
-returns-clause-pool c = arrive_in (state_of c.args.self.now) c.args.conn c.in-Some.found.now c.args.bytes.now (sym c.in-Some.ensures) c.pool.result c.pool.ensures
-
-pub returns-clause-count : goal.returns-clause-count
-returns-clause-count c =
-    let x = c.in-Some.found.now in
-    let is : fitting x.incoming (length c.args.bytes.now) ≡ c.min.result = omega (arith, c.min.ensures, c.unread.ensures.len, c.unread.ensures.most) in
-    arrive_fits (state_of c.args.self.now) c.args.conn x c.args.bytes.now (sym c.in-Some.ensures) c.min.result is
-
-pub returns-clause-open : goal.returns-clause-open
-returns-clause-open c =
+pub returns-clause-may : goal.returns-clause-may
+returns-clause-may c =
     let h = state_of c.args.self.now in
-    ap (λ p. (pool_in h.store.pools p).closed) c.pool.ensures ∙ conn_open h c.args.conn c.in-Some.found.now c.requires (sym c.in-Some.ensures)
+    let x = c.in-Some.found.now in
+    let there = sym c.in-Some.ensures in
+    let is : fitting x.incoming (length c.args.bytes.now) ≡ c.min.result = omega (arith, c.min.ensures, c.unread.ensures.len, c.unread.ensures.most) in
+    record {
+      passed = arrive_first h c.args.conn x c.args.bytes.now there None c.in_ok-may_arrive.ensures.passed;
+      lands = arrive_in h c.args.conn x c.args.bytes.now there c.pool.result c.pool.ensures;
+      fits = arrive_fits h c.args.conn x c.args.bytes.now there c.min.result is;
+      opened = ap (λ p. (pool_in h.store.pools p).closed) c.pool.ensures ∙ conn_open h c.args.conn x c.requires there;
+    }
