@@ -1,6 +1,7 @@
 -- Whose each chunk is.
-use Rattle.std.specs.Prelude.{◌≡◌, ℕ, ◌<◌, true, List}
-use Rattle.std.specs.List.{Contains}
+use Rattle.std.specs.Prelude.{◌≡◌, ℕ, ◌<◌, ◌≤◌, true, List, length}
+use Rattle.std.specs.List.{All, Contains}
+use Rattle.iol_core.specs.declared.limits.TheConstants.{MAX_CHUNKS}
 use Rattle.iol_arena.specs.State.{State, chunk_count}
 use Rattle.iol_arena.specs.Chunks.{is_taken}
 use Rattle.iol_pool.specs.Pools.{Pool, pool_in}
@@ -11,3 +12,9 @@ pub record AreOwned (s : State) (ps : List Pool) : Type 0 where
   pub taken : (p c : ℕ) → Contains (pool_in ps p).chunks c → is_taken s c ≡ true
   pub single : (p q c : ℕ) → Contains (pool_in ps p).chunks c → Contains (pool_in ps q).chunks c → p ≡ q
   pub owner : (c : ℕ) → c < chunk_count s → is_taken s c ≡ true → (p : ℕ) × Contains (pool_in ps p).chunks c
+
+-- these are the chunks of the pool, few and all of the arena
+pub record AreChunksOf (s : State) (ps : List Pool) (p : ℕ) (cs : List ℕ) : Type 0 where
+  pub value : cs ≡ (pool_in ps p).chunks
+  pub within : All (λ c. c < chunk_count s) cs
+  pub few : length cs ≤ MAX_CHUNKS

@@ -5,7 +5,7 @@ ghost use Rattle.std.specs.List.{All, filter, list_all};
 ghost use Rattle.iol_core.specs.Prelude.{is_numbered, has_place};
 ghost use Rattle.iol_arena.specs.Prelude.{chunk_count, chunk_pages, free_chunks, free_pages, is_unused, retired_pages};
 ghost use Rattle.iol_pool.specs.Pools.{AddsPool, goes_back, is_counted, names_in, no_pool, pool_in, settled, settled_arena, with_admitted, with_closed, with_emptied, with_returned};
-ghost use Rattle.iol_pool.specs.Owned.{AreOwned};
+ghost use Rattle.iol_pool.specs.Owned.{AreChunksOf, AreOwned};
 
 use crate::names::Names;
 use crate::report::PoolReport;
@@ -230,9 +230,7 @@ impl Pools {
     fn chunks_in(&self, arena: &Arena, p: PoolId) -> &[ChunkNo]
         requires there { is_numbered self.now p ≡ true }
         requires owned { AreOwned arena.now self.now }
-        ensures value { result.now ≡ (pool_in self.now p).chunks }
-        ensures within { All (λ c. c < chunk_count arena.now) result.now }
-        ensures few { length result.now ≤ MAX_CHUNKS }
+        ensures { AreChunksOf arena.now self.now p result.now }
     {
         // Tells that a pool has few chunks.
         let _few = arena.chunk_count();

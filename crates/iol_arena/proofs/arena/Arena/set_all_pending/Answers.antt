@@ -26,19 +26,19 @@ loop-part-preserved c =
       spares = spares_trans m.spares c.set_pending.ensures.spares;
     }
 
-all : (c : goal.After-loop-part) → AreMarked (reserved_kind c.args.pending) (part_pages c.args.parts.now) c.args.self.now c.loop-part.self
-all c =
-    let P : List Part → Type 0 = λ ps. AreMarked (reserved_kind c.args.pending) (part_pages ps) c.args.self.now c.loop-part.self in
-    subst P (take_all c.loop-part.part-index c.args.parts.now (omega arith)) c.loop-part.invariant.marked
-
-pub returns-clause-each : goal.returns-clause-each
-returns-clause-each c =
-    let g = c.loop-part.invariant.grows in
-    all_marked (reserved_kind (not c.args.pending)) (reserved_kind c.args.pending) c.args.self.now c.loop-part.self (part_pages c.args.parts.now) c.args.parts.now
-    (all c) (λ q h. h) g.limit g.count c.requires.each
-
-pub returns-clause-others : goal.returns-clause-others
-returns-clause-others c = others-marked (reserved_kind c.args.pending) c.args.self.now c.loop-part.self c.args.parts.now (all c)
-
-pub returns-clause-unraised : goal.returns-clause-unraised
-returns-clause-unraised c = unraised-marked (reserved_kind c.args.pending) c.args.self.now c.loop-part.self c.args.parts.now (all c)
+pub returns : goal.returns
+returns c =
+    let s = c.args.self.now in
+    let t = c.loop-part.self in
+    let ps = c.args.parts.now in
+    let k = reserved_kind c.args.pending in
+    let m = c.loop-part.invariant in
+    let all = subst (λ (qs : List Part). AreMarked k (part_pages qs) s t) (take_all c.loop-part.part-index ps (omega arith)) m.marked in
+    record {
+      each = all_marked (reserved_kind (not c.args.pending)) k s t (part_pages ps) ps all (λ q h. h) m.grows.limit m.grows.count c.requires.each;
+      others = others-marked k s t ps all;
+      unraised = unraised-marked k s t ps all;
+      memory = m.memory;
+      grows = m.grows;
+      spares = m.spares;
+    }

@@ -1,5 +1,5 @@
 use Rattle.std.proofs.Common.{◌≡◌, ℕ, arith, ap, sym, subst, ◌^◌, ◌<◌, ◌∙◌, Bool, true, false, not, refl}
-use Rattle.iol_arena.specs.State.{CanMark, with_marked, kind_head}
+use Rattle.iol_arena.specs.State.{State, CanMark, with_marked, kind_head}
 use Rattle.iol_arena.specs.Written.{reserved_kind}
 use Rattle.iol_arena.specs.Buffers.{Grows}
 use Rattle.iol_arena.specs.declared.pages.PageKind.TheVariants.{Head, Tail}
@@ -31,16 +31,16 @@ set_run-requires c =
     subst (λ k. CanMark es p.first p.count k 0) (sym c.reserved_kind.ensures)
     (can_mark es p.first p.count (reserved_kind (not b)) (reserved_kind b) 0 c.args.self.now.limit runs c.requires.within c.requires.each c.requires.below (no_tail (not b)) (no_head b) small (omega arith))
 
-pub returns-clause-arena : goal.returns-clause-arena
-returns-clause-arena c = c.set_run.ensures ∙ ap (λ k. with_marked c.args.self.now c.args.part.first c.args.part.count k 0) c.reserved_kind.ensures
-
-pub returns-clause-grows : goal.returns-clause-grows
-returns-clause-grows c =
+pub returns : goal.returns
+returns c =
+    let s = c.args.self.now in
+    let p = c.args.part in
     let b = c.args.pending in
-    subst (λ x. Grows c.args.self.now x) (sym (returns-clause-arena c))
-    (marks_grow c.args.self.now c.args.part.first c.args.part.count (reserved_kind (not b)) (reserved_kind b) 0 c.requires.within c.requires.each (bare (not b)) (bare b) (no_head b))
-
-pub returns-clause-spares : goal.returns-clause-spares
-returns-clause-spares c =
-    let b = c.args.pending in
-    marks_spare c.args.self.now c.set_run.new.self c.args.part.first c.args.part.count (reserved_kind (not b)) (reserved_kind b) 0 (ap (λ s. s.entries) (returns-clause-arena c)) c.requires.within c.requires.each (bare (not b)) (bare b)
+    let was = reserved_kind (not b) in
+    let now = reserved_kind b in
+    let is = c.set_run.ensures ∙ ap (λ k. with_marked s p.first p.count k 0) c.reserved_kind.ensures in
+    record {
+      arena = is;
+      grows = subst (λ x. Grows s x) (sym is) (marks_grow s p.first p.count was now 0 c.requires.within c.requires.each (bare (not b)) (bare b) (no_head b));
+      spares = marks_spare s c.set_run.new.self p.first p.count was now 0 (ap (λ (x : State). x.entries) is) c.requires.within c.requires.each (bare (not b)) (bare b);
+    }
