@@ -1,13 +1,12 @@
 //! Aggregates.
-ghost use Rattle.std.specs.Prelude.{◌≡◌, ℕ, ◌+◌, ◌<◌, ◌≤◌, ◌^◌, ◌↔◌, [], length, take, true, false, Err, IsTrue, IfOk, IfErr, OnOk, OnErr};
+ghost use Rattle.std.specs.Prelude.{◌≡◌, ◌<◌, ◌≤◌, ◌^◌, ◌↔◌, [], length, false, IsTrue, IfOk};
 ghost use Rattle.std.specs.List.{All};
 ghost use Rattle.std.specs.Vec.{vec_capacity};
-ghost use Rattle.iol_core.specs.Prelude.{WantOfRoom};
 ghost use Rattle.iol_core.specs.Text as text;
-ghost use Rattle.iol_arena.specs.Prelude.{Grows, free_pages, IsSameBut, MadeOn};
 ghost use Rattle.iol_pool.specs.Prelude.{pool_in};
-ghost use Rattle.iol_hold.specs.Prelude.{Moves, Covers, SameLists, byte_len, FreesOnly, has_room, lowest_of, others_of, AllSettled, held_bufs, text_of, bufs_of, AllReadable, IsFilled};
+ghost use Rattle.iol_hold.specs.Prelude.{Covers, Releases, byte_len, text_of, bufs_of, AllReadable, IsFilled};
 ghost use Rattle.iol_agg.specs.Parts.{parts_of, whole_texts};
+ghost use Rattle.iol_agg.specs.Wholes.{AreWhole, FillsAgg, MayAddWhole};
 
 use crate::parts::Parts;
 use iol_core::limits::{MAX_AGGREGATE_BYTES, PAGE_BYTES};
@@ -73,23 +72,7 @@ impl Agg {
     ) -> Result<Agg, Refusal>
         requires open { (pool_in store.old.pools pool).closed ≡ false }
         requires small { length bytes.now ≤ MAX_AGGREGATE_BYTES }
-        ensures text { IfOk result (λ a. text_of store.new a ≡ text.labelled pool bytes.now) }
-        ensures readable { IfOk result (λ a. AllReadable store.new a) }
-        ensures moves { IfOk result (λ a. Moves store.old store.new [] (bufs_of a)) }
-        ensures made_on { IfOk result (λ a. MadeOn store.old.arena store.new.arena (bufs_of a)
-            (lowest_of store.old pool (length bytes.now))) }
-        ensures others { OnOk result (IsSameBut (lowest_of store.old pool (length bytes.now))
-            store.old.arena store.new.arena) }
-        ensures grows { OnOk result (Grows store.old.arena store.new.arena) }
-        ensures settles { AllSettled store.old → AllSettled store.new }
-        ensures pools { store.new.pools ≡ store.old.pools }
-        ensures lowest { OnOk result (free_pages store.new.arena
-            (pool_in store.old.pools pool).chunks ≡ others_of store.old pool (length bytes.now)) }
-        ensures room { OnOk result (has_room store.old pool (length bytes.now) ≡ true) }
-        ensures no_room { (p : ℕ) → result ≡ Err (Refusal.NoRoom p) →
-            has_room store.old pool (length bytes.now) ≡ false }
-        ensures late { IfErr result (WantOfRoom pool) }
-        ensures err { OnErr result (store.new ≡ store.old) }
+        ensures { FillsAgg store.old store.new pool bytes.now result }
     {
         let slices = Vec::with_capacity(alloc, bytes.len().div_ceil(PAGE_BYTES))?;
         let holds = store.fill(alloc, pool, bytes)?;
@@ -103,9 +86,7 @@ impl Agg {
         requires filled { All (IsFilled store.now) holds }
         requires room { length holds ≤ vec_capacity slices }
         requires small { length (whole_texts store.now holds) < 2 ^ 32 }
-        ensures text { text_of store.now result ≡ whole_texts store.now holds }
-        ensures readable { AllReadable store.now result }
-        ensures bufs { bufs_of result ≡ held_bufs holds }
+        ensures { AreWhole store.now result holds }
     {
         let mut slices = slices;
         add_whole(&mut slices, store, holds);
@@ -156,10 +137,7 @@ impl Agg {
     /// Releases all holds.
     pub fn release(self, store: &mut Store)
         requires { Covers store.old (bufs_of self) }
-        ensures moves { Moves store.old store.new (bufs_of self) [] }
-        ensures lists { SameLists store.old store.new }
-        ensures frees { FreesOnly store.old store.new }
-        ensures settles { AllReadable store.old self → AllSettled store.old → AllSettled store.new }
+        ensures { Releases store.old store.new self [] }
     {
         let mut slices = self.slices;
         while let Some(slice) = slices.pop() {
@@ -170,12 +148,8 @@ impl Agg {
 
 // Adds a slice for each of the buffers, whole.
 fn add_whole(slices: &mut Vec<Slice>, store: &Store, holds: Holds)
-    requires none { slices.old.items ≡ [] }
-    requires filled { All (IsFilled store.now) holds }
-    requires room { length holds ≤ vec_capacity slices.old }
-    ensures text { text_of store.now slices.new.items ≡ whole_texts store.now holds }
-    ensures readable { AllReadable store.now slices.new.items }
-    ensures bufs { bufs_of slices.new.items ≡ held_bufs holds }
+    requires { MayAddWhole store.now slices.old holds }
+    ensures { AreWhole store.now slices.new.items holds }
 {
     let mut left = holds;
     while let Some(hold) = left.take_first() {

@@ -1,8 +1,11 @@
 pub mod Stored
 pub mod Moves
 pub mod Waiting
+pub mod Writing
+pub mod Made
 pub mod Room
 pub mod Places
+pub mod Slicing
 pub mod Texts
 pub mod View
 pub mod Lending
@@ -10,5 +13,6 @@ pub mod Filling
 pub mod Layout
 pub mod Releases
 pub mod Pages
+pub mod Founding
 pub mod Loose
 pub mod Prelude

@@ -1,12 +1,12 @@
 -- What a release does to pages.
-use Rattle.std.specs.Prelude.{◌≡◌, ◌⊎◌, ℕ, false, List, [], Option, Some, None}
+use Rattle.std.specs.Prelude.{◌≡◌, ◌⊎◌, ℕ, false, List, [], ◌∷◌, Option, Some, None}
 use Rattle.iol_core.specs.declared.numbers.BufId.{BufId}
 use Rattle.iol_arena.specs.State.{State, HasRuns, entry_at, generation_at, page_count}
 use Rattle.iol_arena.specs.declared.pages.PageKind as kind
 use Rattle.iol_arena.specs.declared.pages.PageKind.TheVariants.{Free, Pending, Head, Tail}
 use Rattle.iol_pool.specs.Pools.{pool_in}
 use Rattle.iol_hold.specs.Moves.{Moves, SameLists}
-use Rattle.iol_hold.specs.Stored.{Stored, AllSettled, count_of}
+use Rattle.iol_hold.specs.Stored.{Stored, Buffer, AllSettled, AllSettledBut, IsHome, IsSettled, IsTidy, count_of}
 use Rattle.iol_hold.specs.Texts.{AllReadable, bufs_of}
 use Rattle.iol_hold.specs.declared.slices.Slice.{Slice}
 
@@ -45,3 +45,28 @@ pub record Releases (s t : Stored) (slices left : List Slice) : Type 0 where
   pub lists : SameLists s t
   pub frees : FreesOnly s t
   pub settles : AllReadable s slices → AllSettled s → AllSettled t
+
+-- A buffer that was held once was freed. Its own pool alone may have chunks to return since.
+pub record FreesBuffer (s t : Stored) (b : BufId) : Type 0 where
+  pub moves : Moves s t (b ∷ []) []
+  pub pools : t.pools ≡ s.pools
+  pub frees : FreesOnly s t
+  pub others : (p : ℕ) → IsHome s p b → AllSettled s → AllSettledBut p t
+  pub tidy : IsTidy t
+
+-- A pool that is closed returned its chunks, if nothing stood on them.
+pub record Settles (s t : Stored) (p : ℕ) : Type 0 where
+  pub moves : Moves s t [] []
+  pub lists : SameLists s t
+  pub settled : IsSettled t p
+  pub settles : AllSettledBut p s → AllSettled t
+  pub frees : FreesOnly s t
+  pub tidy : IsTidy t
+
+-- A hold was released. With the last one of its buffer a closed pool returned its chunks, if nothing else lay in them.
+pub record ReleasesHold (s t : Stored) (h : Buffer) : Type 0 where
+  pub moves : Moves s t (h.buf ∷ []) []
+  pub frees : FreesOnly s t
+  pub lists : SameLists s t
+  pub settled : count_of s h.buf ≡ 1 → IsSettled t h.pool
+  pub settles : IsHome s h.pool h.buf → AllSettled s → AllSettled t

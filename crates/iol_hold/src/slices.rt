@@ -1,5 +1,5 @@
 //! Slices of buffers.
-ghost use Rattle.std.specs.Prelude.{◌≡◌, ◌+◌, ◌-◌, ◌<◌, ◌≤◌, ◌^◌, [], ◌∷◌, length, slice_range};
+ghost use Rattle.std.specs.Prelude.{◌≡◌, ◌+◌, ◌<◌, ◌≤◌, ◌^◌};
 
 use crate::holds::Hold;
 use crate::store::Store;
@@ -19,19 +19,15 @@ pub struct Slice {
 }
 
 impl Slice {
-    ghost use Rattle.iol_arena.specs.Prelude.{bytes_of};
-    ghost use Rattle.iol_hold.specs.Stored.{count_of, IsHome, AllSettled};
-    ghost use Rattle.iol_hold.specs.Moves.{Shares, Moves, SameLists};
-    ghost use Rattle.iol_hold.specs.Releases.{FreesOnly};
-    ghost use Rattle.iol_hold.specs.Places.{slice_places};
+    ghost use Rattle.iol_hold.specs.Stored.{count_of};
+    ghost use Rattle.iol_hold.specs.Releases.{ReleasesHold};
+    ghost use Rattle.iol_hold.specs.Slicing.{IsCut, IsWhole, SharesSlice};
     ghost use Rattle.iol_hold.specs.Texts.{slice_bytes, IsFilled, IsReadable};
 
     /// All bytes of a buffer.
     pub fn whole(store: &Store, hold: Hold) -> Slice
         requires { IsFilled store.now hold }
-        ensures hold { result.hold ≡ hold }
-        ensures from { result.from ≡ 0 }
-        ensures len { result.len ≡ length (bytes_of store.now.arena hold.buf) }
+        ensures { IsWhole store.now hold result }
     {
         let len = store.len(&hold);
         Slice { hold, from: 0, len }
@@ -48,10 +44,7 @@ impl Slice {
     pub fn share(&self, store: &mut Store) -> Slice
         requires live { 0 < count_of store.old self.now.hold.buf }
         requires few { count_of store.old self.now.hold.buf < 2 ^ 63 }
-        ensures hold { result.hold ≡ self.now.hold }
-        ensures places { slice_places result ≡ slice_places self.now }
-        ensures len { result.len ≡ self.now.len }
-        ensures shares { Shares store.old store.new [] (self.now.hold.buf ∷ []) }
+        ensures { SharesSlice store.old store.new self.now result }
     {
         Slice {
             hold: store.share(&self.hold),
@@ -64,9 +57,7 @@ impl Slice {
     pub fn cut(self, from: u32, to: u32) -> Slice
         requires some { from < to }
         requires within { to ≤ self.len }
-        ensures hold { result.hold ≡ self.hold }
-        ensures places { slice_places result ≡ slice_range (slice_places self) from to }
-        ensures len { result.len ≡ to - from }
+        ensures { IsCut self result from to }
     {
         Slice {
             hold: self.hold,
@@ -78,11 +69,7 @@ impl Slice {
     /// Releases the hold: see [`Store::release`].
     pub fn release(self, store: &mut Store)
         requires { 0 < count_of store.old self.hold.buf }
-        ensures moves { Moves store.old store.new (self.hold.buf ∷ []) [] }
-        ensures frees { FreesOnly store.old store.new }
-        ensures settles { IsHome store.old self.hold.pool self.hold.buf → AllSettled store.old →
-            AllSettled store.new }
-        ensures lists { SameLists store.old store.new }
+        ensures { ReleasesHold store.old store.new self.hold }
     {
         store.release(self.hold);
     }

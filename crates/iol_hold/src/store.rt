@@ -1,10 +1,10 @@
 //! The store: pages, pools, and how often each buffer is held.
-ghost use Rattle.std.specs.Prelude.{◌≡◌, ◌⊎◌, ◌↔◌, ℕ, ◌+◌, ◌*◌, ◌<◌, ◌≤◌, ◌^◌, [], ◌∷◌, length, replicate, false, slice_range, IfOk, IfErr, Err};
-ghost use Rattle.iol_core.specs.Prelude.{IsInRange};
-ghost use Rattle.iol_arena.specs.Prelude.{no_entry, IsLive, SharesNoPage, bytes_of, live_pages};
-ghost use Rattle.iol_hold.specs.Stored.{count_of, with_count, IsHome, IsTidy, IsSettled, AllSettled, AllSettledBut};
-ghost use Rattle.iol_hold.specs.Moves.{Shares, Moves, SameLists};
-ghost use Rattle.iol_hold.specs.Releases.{FreesOnly};
+ghost use Rattle.std.specs.Prelude.{◌≡◌, ◌<◌, ◌≤◌, ◌^◌, length, slice_range};
+ghost use Rattle.iol_arena.specs.Prelude.{IsLive, SharesNoPage, bytes_of, live_pages};
+ghost use Rattle.iol_hold.specs.Founding.{MakesStore};
+ghost use Rattle.iol_hold.specs.Moves.{SharesHold};
+ghost use Rattle.iol_hold.specs.Releases.{FreesBuffer, ReleasesHold, Settles};
+ghost use Rattle.iol_hold.specs.Stored.{SetsCount, count_of};
 
 use crate::holds::Hold;
 use iol_arena::arena::Arena;
@@ -41,15 +41,7 @@ impl Model for Store {
 impl Store {
     /// A store of free pages without pools.
     pub fn new(alloc: Global, config: Config) -> Result<Store, Refusal>
-        ensures range { (result ≡ Err Refusal.BadRange) ↔ (IsInRange config → ⊥) }
-        ensures errors { IfErr result (λ e. (e ≡ Refusal.BadRange) ⊎ (e ≡ Refusal.Memory)) }
-        ensures entries { IfOk result (λ s. s.arena.entries ≡
-            replicate (config.chunks * CHUNK_PAGES) no_entry) }
-        ensures taken { IfOk result (λ s. s.arena.taken ≡ replicate config.chunks false) }
-        ensures limit { IfOk result (λ s. s.arena.limit ≡ config.gen_limit) }
-        ensures pools { IfOk result (λ s. s.pools ≡ []) }
-        ensures tidy { IfOk result IsTidy }
-        ensures settled { IfOk result AllSettled }
+        ensures { MakesStore config result }
     {
         let arena = Arena::new(alloc, config)?;
         let pages = config.chunks as usize * CHUNK_PAGES;
@@ -72,8 +64,7 @@ impl Store {
     fn set_count(&mut self, buf: BufId, count: u64)
         requires live { 0 < count_of self.old buf }
         requires some { 0 < count }
-        ensures set { self.new ≡ with_count self.old buf.page count }
-        ensures tidy { IsTidy self.new }
+        ensures { SetsCount self.old self.new buf.page count }
     {
         self.counts[buf.page as usize] = count;
     }
@@ -90,8 +81,7 @@ impl Store {
     pub fn share(&mut self, hold: &Hold) -> Hold
         requires live { 0 < count_of self.old hold.now.buf }
         requires few { count_of self.old hold.now.buf < 2 ^ 63 }
-        ensures same { result ≡ hold.now }
-        ensures shares { Shares self.old self.new [] (hold.now.buf ∷ []) }
+        ensures { SharesHold self.old self.new hold.now result }
     {
         let buf = hold.buf();
         let count = self.count_at(buf);
@@ -102,24 +92,14 @@ impl Store {
     // Frees a buffer that is held once.
     fn free(&mut self, buf: BufId)
         requires { count_of self.old buf ≡ 1 }
-        ensures moves { Moves self.old self.new (buf ∷ []) [] }
-        ensures pools { self.new.pools ≡ self.old.pools }
-        ensures frees { FreesOnly self.old self.new }
-        ensures others { (p : ℕ) → IsHome self.old p buf → AllSettled self.old →
-            AllSettledBut p self.new }
-        ensures tidy { IsTidy self.new }
+        ensures { FreesBuffer self.old self.new buf }
     {
         self.arena.free(buf);
     }
 
     // Returns the chunks of a closed pool, if nothing stands on them.
     fn settle(&mut self, pool: PoolId)
-        ensures moves { Moves self.old self.new [] [] }
-        ensures lists { SameLists self.old self.new }
-        ensures settled { IsSettled self.new pool }
-        ensures settles { AllSettledBut pool self.old → AllSettled self.new }
-        ensures frees { FreesOnly self.old self.new }
-        ensures tidy { IsTidy self.new }
+        ensures { Settles self.old self.new pool }
     {
         self.pools.settle(&mut self.arena, pool);
     }
@@ -128,12 +108,7 @@ impl Store {
     /// returned if nothing else lies in them.
     pub fn release(&mut self, hold: Hold)
         requires { 0 < count_of self.old hold.buf }
-        ensures moves { Moves self.old self.new (hold.buf ∷ []) [] }
-        ensures frees { FreesOnly self.old self.new }
-        ensures lists { SameLists self.old self.new }
-        ensures settled { count_of self.old hold.buf ≡ 1 → IsSettled self.new hold.pool }
-        ensures settles { IsHome self.old hold.pool hold.buf → AllSettled self.old →
-            AllSettled self.new }
+        ensures { ReleasesHold self.old self.new hold }
     {
         let buf = hold.buf();
         let count = self.count_at(buf);

@@ -1,7 +1,7 @@
 //! Aggregates made of the bytes of others, by reference.
-ghost use Rattle.std.specs.Prelude.{◌≡◌, ◌+◌, ◌-◌, ◌<◌, ◌≤◌, ◌^◌, ◌++◌, [], take, drop, slice_range, IfOk, OnErr, OnOk};
-ghost use Rattle.iol_hold.specs.Prelude.{Shares, Covers, IsCountable, places, byte_len, bufs_of};
-ghost use Rattle.iol_agg.specs.Pours.{meeting};
+ghost use Rattle.std.specs.Prelude.{◌+◌, ◌-◌, ◌<◌, ◌≤◌, ◌^◌, ◌++◌, take, drop, slice_range};
+ghost use Rattle.iol_hold.specs.Prelude.{Covers, IsCountable, places, byte_len, bufs_of};
+ghost use Rattle.iol_agg.specs.Pours.{AddsRange, SharesPlaces, meeting};
 
 use super::pour::pour;
 use crate::aggregates::Agg;
@@ -13,10 +13,7 @@ impl Agg {
     pub fn dup(&self, alloc: Global, store: &mut Store) -> Result<Agg, AllocError>
         requires covered { Covers store.old (bufs_of self.now) }
         requires countable { IsCountable store.old (bufs_of self.now) }
-        ensures places { IfOk result (λ a. places a ≡ places self.now) }
-        ensures shares { IfOk result (λ a. Shares store.old store.new [] (bufs_of a)) }
-        ensures most { IfOk result (λ a. bufs_of a ≡ bufs_of self.now) }
-        ensures err { OnErr result (store.new ≡ store.old) }
+        ensures { SharesPlaces store.old store.new (places self.now) (bufs_of self.now) result }
     {
         self.cut(alloc, store, 0, self.len)
     }
@@ -34,10 +31,8 @@ impl Agg {
         requires within { to ≤ byte_len self.now }
         requires covered { Covers store.old (bufs_of self.now) }
         requires countable { IsCountable store.old (bufs_of self.now) }
-        ensures places { IfOk result (λ a. places a ≡ slice_range (places self.now) from to) }
-        ensures shares { IfOk result (λ a. Shares store.old store.new [] (bufs_of a)) }
-        ensures most { IfOk result (λ a. bufs_of a ≡ bufs_of (meeting from to self.now)) }
-        ensures err { OnErr result (store.new ≡ store.old) }
+        ensures { SharesPlaces store.old store.new (slice_range (places self.now) from to)
+            (bufs_of (meeting from to self.now)) result }
     {
         let room = self.slices.len().min((to - from) as usize);
         let mut slices = Vec::with_capacity(alloc, room)?;
@@ -62,14 +57,7 @@ impl Agg {
         requires small { byte_len self.old + (to - from) < 2 ^ 32 }
         requires covered { Covers store.old (bufs_of other.now) }
         requires countable { IsCountable store.old (bufs_of other.now) }
-        ensures places { OnOk result (places self.new ≡
-            places self.old ++ slice_range (places other.now) from to) }
-        ensures shares { OnOk result
-            (Shares store.old store.new (bufs_of self.old) (bufs_of self.new)) }
-        ensures most { OnOk result (bufs_of self.new ≡
-            bufs_of self.old ++ bufs_of (meeting from to other.now)) }
-        ensures err { OnErr result (self.new ≡ self.old) }
-        ensures err_store { OnErr result (store.new ≡ store.old) }
+        ensures { AddsRange store.old store.new self.old self.new other.now from to result }
     {
         let room = other.slices.len().min((to - from) as usize);
         self.slices.reserve(room)?;
@@ -95,13 +83,11 @@ impl Agg {
         requires other_covered { Covers store.old (bufs_of other.now) }
         requires countable { IsCountable store.old
             (bufs_of self.now ++ bufs_of self.now ++ bufs_of other.now) }
-        ensures places { IfOk result (λ a. places a ≡ take from (places self.now) ++
-            places other.now ++ drop to (places self.now)) }
-        ensures shares { IfOk result (λ a. Shares store.old store.new [] (bufs_of a)) }
-        ensures most { let xs = self.now in
-            IfOk result (λ a. bufs_of a ≡ bufs_of (meeting 0 from xs) ++
-            bufs_of other.now ++ bufs_of (meeting to (byte_len xs) xs)) }
-        ensures err { OnErr result (store.new ≡ store.old) }
+        ensures { let xs = self.now in
+            SharesPlaces store.old store.new
+            (take from (places xs) ++ places other.now ++ drop to (places xs))
+            (bufs_of (meeting 0 from xs) ++ bufs_of other.now ++
+            bufs_of (meeting to (byte_len xs) xs)) result }
     {
         let before = self.slices.len().min(from as usize);
         let after = self.slices.len().min((self.len - to) as usize);

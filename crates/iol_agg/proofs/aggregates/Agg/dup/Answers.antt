@@ -1,12 +1,16 @@
-use Rattle.std.proofs.Common.{◌≡◌, List, refl, ap, subst, arith}
-use Rattle.std.specs.Result.{IfOk}
-use Rattle.iol_hold.specs.declared.slices.Slice.{Slice}
-use Rattle.iol_hold.specs.Places.{byte_len}
+use Rattle.std.proofs.Common.{◌≡◌, ◌∙◌, ◌-◌, slice_range, refl, ap, subst, arith}
+use Rattle.std.proofs.lemmas.List.{take_all}
+use Rattle.iol_hold.specs.Places.{places, byte_len}
 use Rattle.iol_hold.specs.Texts.{bufs_of}
+use Rattle.iol_agg.specs.Pours.{SharesPlaces}
 use Rattle.iol_agg.proofs.Meeting.{meeting-all}
 use Rattle.iol_agg.proofs.aggregates.Agg.dup.Goals as goal
 
-pub returns-clause-most : goal.returns-clause-most
-returns-clause-most c =
-    let whole = meeting-all 0 c.self.inside.len c.args.self.now refl (omega (arith, c.self.invariant, ap byte_len c.self.view_is)) in
-    subst (λ (l : List Slice). IfOk c.cut.result (λ (a : List Slice). bufs_of a ≡ bufs_of l)) whole c.cut.ensures.most
+pub returns : goal.returns
+returns c =
+    let xs = c.args.self.now in
+    let n = c.self.inside.len in
+    let long : n ≡ byte_len xs = c.self.invariant ∙ ap byte_len c.self.view_is in
+    let all = take_all (n - 0) (places xs) (omega (arith, long)) in
+    let whole = ap bufs_of (meeting-all 0 n xs refl (omega (arith, long))) in
+    subst (λ ps. SharesPlaces c.args.store.now c.cut.new.store ps (bufs_of xs) c.cut.result) all (subst (λ bs. SharesPlaces c.args.store.now c.cut.new.store (slice_range (places xs) 0 n) bs c.cut.result) whole c.cut.ensures)

@@ -1,4 +1,4 @@
-use Rattle.std.proofs.Common.{◌∙◌, subst}
+use Rattle.std.proofs.Common.{◌∙◌, subst, rules}
 use Rattle.iol_hold.specs.Moves.{Moves}
 use Rattle.iol_hold.specs.Texts.{bufs_of, AllReadable}
 use Rattle.iol_hold.proofs.Reading.{bufs_of-push, home_stays, readable_last}
@@ -31,5 +31,7 @@ loop-slice-preserved c =
           (l.0, c.release.ensures.settles (home_stays x c.loop-slice.invariant.moves.stays (last_held s t (bufs_of c.args.self) (bufs_of rest) x.hold.buf c.requires moves) l.1) r.1);
     }
 
-pub returns-clause-settles : goal.returns-clause-settles
-returns-clause-settles c = λ readable all. (c.loop-slice.invariant.settles readable all).1
+pub returns : goal.returns
+returns c =
+    let m = c.loop-slice.invariant in
+    record { moves = search rules; lists = m.lists; frees = m.frees; settles = λ readable all. (m.settles readable all).1 }

@@ -1,30 +1,33 @@
-use Rattle.std.proofs.Common.{◌≡◌, ◌<◌, get_or, ap, ◌∙◌, arith}
+use Rattle.std.proofs.Common.{◌≡◌, ◌≤◌, get_or, ap, ◌∙◌, arith}
 use Rattle.iol_hold.specs.Places.{places}
 use Rattle.iol_hold.specs.Stored.{Buffer}
+use Rattle.iol_hold.specs.declared.slices.Slice.{Slice}
 use Rattle.iol_agg.proofs.Dividing.{covers_at, places-given, places-left, shares-given}
 use Rattle.iol_agg.proofs.aggregates.join.move_bytes.Goals as goal
 
-pub divide-part-requires-clause-live : goal.divide-part-requires-clause-live
-divide-part-requires-clause-live c =
-    covers_at c.args.second.now.items 0 c.index_mut.result.now (c.requires.there (omega arith)) c.index_mut.ensures.value c.requires.covered
-
-pub returns-clause-places : goal.returns-clause-places
-returns-clause-places c =
+pub divide-part-requires : goal.divide-part-requires
+divide-part-requires c =
+    let xs = c.args.second.now.items in
     let x = c.index_mut.result.now in
-    let first : x ≡ get_or c.args.second.now.items 0 x = c.index_mut.ensures.value in
-    let small : c.args.n < (get_or c.args.second.now.items 0 x).len = c.requires.inside x (omega arith) in
-    ap places c.push_reserved.ensures.items
-    ∙ places-given c.args.first.now.items c.args.second.now.items x c.divide-part.result c.args.n (c.requires.there (omega arith)) first (omega (arith, small, ap (λ y. y.len) first)) c.divide-part.ensures.given
+    let first : x ≡ get_or xs 0 x = c.index_mut.ensures.value in
+    let m = c.requires.moves in
+    record { some = omega arith; within = omega (arith, m.inside x (omega arith), ap (λ (y : Slice). y.len) first); live = covers_at xs 0 x (m.there (omega arith)) first m.held.covered; few = omega (arith, m.held.countable.each x.hold.buf) }
 
-pub returns-clause-rest : goal.returns-clause-rest
-returns-clause-rest c =
+pub returns : goal.returns
+returns c =
+    let fs = c.args.first.now.items in
+    let xs = c.args.second.now.items in
     let x = c.index_mut.result.now in
-    let first : x ≡ get_or c.args.second.now.items 0 x = c.index_mut.ensures.value in
-    let small : c.args.n < (get_or c.args.second.now.items 0 x).len = c.requires.inside x (omega arith) in
-    places-left c.args.second.now.items x c.divide-part.new.slice c.args.n (c.requires.there (omega arith)) first (omega (arith, small, ap (λ y. y.len) first)) c.divide-part.ensures.kept
-
-pub returns-clause-shares : goal.returns-clause-shares
-returns-clause-shares c =
-    let x = c.index_mut.result.now in
-    rw c.push_reserved.ensures.items (shares-given c.args.first.now.items c.args.second.now.items x c.divide-part.new.slice c.divide-part.result (c.requires.there (omega arith)) c.index_mut.ensures.value
-    (ap (λ (h : Buffer). h.buf) c.divide-part.ensures.given_hold) (ap (λ (h : Buffer). h.buf) c.divide-part.ensures.kept_hold) c.divide-part.ensures.shares)
+    let y = c.divide-part.new.slice in
+    let part = c.divide-part.result in
+    let n = c.args.n in
+    let first : x ≡ get_or xs 0 x = c.index_mut.ensures.value in
+    let there = c.requires.moves.there (omega arith) in
+    let small = c.requires.moves.inside x (omega arith) in
+    let fits : n ≤ x.len = omega (arith, small, ap (λ (z : Slice). z.len) first) in
+    let e = c.divide-part.ensures in
+    record {
+      places = ap places c.push_reserved.ensures.items ∙ places-given fs xs x part n there first fits e.given;
+      left = places-left xs x y n there first fits e.kept;
+      shares = rw c.push_reserved.ensures.items (shares-given fs xs x y part there first (ap (λ (h : Buffer). h.buf) e.given_hold) (ap (λ (h : Buffer). h.buf) e.kept_hold) e.shares);
+    }

@@ -1,15 +1,15 @@
 use Rattle.std.proofs.Common.{◌≡◌, ℕ, ◌+◌, ◌-◌, ◌<◌, ◌++◌, List, length, take, drop, get_or, slice_range, subst, sym, ap, ◌∙◌, arith, rules}
+use Rattle.std.proofs.lemmas.Grind.{common_steps}
 use Rattle.std.proofs.lemmas.List.{take_rest, drop_all, length-drop, get_or-drop}
-use Rattle.iol_hold.specs.Moves.{Covers, IsCountable}
 use Rattle.iol_hold.specs.Places.{places}
 use Rattle.iol_hold.specs.Stored.{Stored, Buffer}
 use Rattle.iol_hold.specs.Texts.{bufs_of}
 use Rattle.iol_hold.specs.declared.slices.Slice.{Slice}
-use Rattle.iol_agg.specs.Pours.{Pours, meeting}
+use Rattle.iol_agg.specs.Pours.{AreShareable, Pours, meeting}
 use Rattle.iol_agg.proofs.Cutting.{cut_more}
-use Rattle.iol_agg.proofs.Dividing.{covers_drop, countable_drop, drop-halves}
+use Rattle.iol_agg.proofs.Dividing.{drop-halves}
 use Rattle.iol_agg.proofs.Meeting.{meeting-drop, meeting-empty, meeting-nil, meeting_more, meeting_done}
-use Rattle.iol_agg.proofs.Poured.{pours_rest, pours_within, pours_more, pours_one, next_live, next_few}
+use Rattle.iol_agg.proofs.Poured.{shareable_drop, pours_rest, pours_within, pours_more, pours_one, next_live, next_few}
 use Rattle.iol_agg.proofs.aggregates.pour.pour.Goals as goal
 
 -- the slices from the k-th on
@@ -20,11 +20,8 @@ later xs k = slice_range xs k (length xs)
 poured : {s t : Stored} {before after : List Slice} (xs : List Slice) (k i : ℕ) → Pours s t before after (bufs_of (take i (later xs k))) → Pours s t before after (bufs_of xs)
 poured {s} {t} {before} {after} xs k i m = pours_rest xs k (subst (λ l. Pours s t before after (bufs_of l)) (take_rest xs k) (pours_within (later xs k) i m))
 
-covers_later : {s : Stored} (xs : List Slice) (k : ℕ) → Covers s (bufs_of xs) → Covers s (bufs_of (later xs k))
-covers_later {s} xs k covered = subst (λ l. Covers s (bufs_of l)) (sym (take_rest xs k)) (covers_drop xs k covered)
-
-countable_later : {s : Stored} (xs : List Slice) (k : ℕ) → IsCountable s (bufs_of xs) → IsCountable s (bufs_of (later xs k))
-countable_later {s} xs k countable = subst (λ l. IsCountable s (bufs_of l)) (sym (take_rest xs k)) (countable_drop xs k countable)
+shareable_later : {s : Stored} (xs : List Slice) (k : ℕ) → AreShareable s (bufs_of xs) → AreShareable s (bufs_of (later xs k))
+shareable_later {s} xs k held = subst (λ l. AreShareable s (bufs_of l)) (sym (take_rest xs k)) (shareable_drop xs k held)
 
 -- the next slice ends after what is passed over
 ends_after : (xs : List Slice) (i skip : ℕ) (x : Slice) → x ≡ get_or xs i x → ((d : Slice) → 0 < skip → skip < (get_or xs i d).len) → skip < x.len
@@ -53,37 +50,48 @@ loop-slice-init c =
       short = omega (arith, ap length (take_rest xs k), length-drop k xs);
     }
 
-pub returns-then-left-eq0-clause-pours : goal.returns-then-left-eq0-clause-pours
-returns-then-left-eq0-clause-pours c = poured c.args.slices.now c.place_of-whole.result.0 c.loop-slice.slice-index c.loop-slice.invariant.pours
-
-pub returns-clause-pours : goal.returns-clause-pours
-returns-clause-pours c = poured c.args.slices.now c.place_of-whole.result.0 c.loop-slice.slice-index c.loop-slice.invariant.pours
-
-pub returns-then-left-eq0-clause-bufs : goal.returns-then-left-eq0-clause-bufs
-returns-then-left-eq0-clause-bufs c =
+pub returns-then-left-eq0 : goal.returns-then-left-eq0
+returns-then-left-eq0 c =
+    let m = c.loop-slice.invariant in
+    let out = c.loop-slice.out.items in
     let rest = drop c.loop-slice.slice-index (later c.args.slices.now c.place_of-whole.result.0) in
     let skip = c.loop-slice.skip in
     let left = c.loop-slice.left in
     let here : skip + left ≡ skip = omega arith in
-    meeting_done c.loop-slice.out.items rest skip left _ (ap (λ n. meeting skip n rest) here ∙ meeting-empty skip rest) c.loop-slice.invariant.bufs
+    record {
+      places = grind (arith, common_steps, m.so_far);
+      pours = poured c.args.slices.now c.place_of-whole.result.0 c.loop-slice.slice-index m.pours;
+      bufs = meeting_done out rest skip left _ (ap (λ n. meeting skip n rest) here ∙ meeting-empty skip rest) m.bufs;
+      capacity = m.capacity;
+      len = omega (arith, m.short);
+    }
 
-pub returns-clause-bufs : goal.returns-clause-bufs
-returns-clause-bufs c =
+pub returns : goal.returns
+returns c =
+    let m = c.loop-slice.invariant in
+    let out = c.loop-slice.out.items in
     let xs = later c.args.slices.now c.place_of-whole.result.0 in
     let i = c.loop-slice.slice-index in
     let skip = c.loop-slice.skip in
     let left = c.loop-slice.left in
-    meeting_done c.loop-slice.out.items (drop i xs) skip left _ (ap (meeting skip (skip + left)) (drop_all i xs (omega arith)) ∙ meeting-nil skip (skip + left)) c.loop-slice.invariant.bufs
+    let none = drop_all i xs (omega arith) in
+    record {
+      places = grind (arith, common_steps, m.so_far);
+      pours = poured c.args.slices.now c.place_of-whole.result.0 i m.pours;
+      bufs = meeting_done out (drop i xs) skip left _ (ap (meeting skip (skip + left)) none ∙ meeting-nil skip (skip + left)) m.bufs;
+      capacity = m.capacity;
+      len = omega (arith, m.short);
+    }
 
 pub share-requires-clause-live : goal.share-requires-clause-live
 share-requires-clause-live c =
-    let covered = covers_later c.args.slices.now c.place_of-whole.result.0 c.requires.covered in
-    next_live (later c.args.slices.now c.place_of-whole.result.0) c.loop-slice.slice-index c.slice-item.result (omega arith) c.slice-item.is covered c.loop-slice.invariant.pours
+    let held = shareable_later c.args.slices.now c.place_of-whole.result.0 c.requires.held in
+    next_live (later c.args.slices.now c.place_of-whole.result.0) c.loop-slice.slice-index c.slice-item.result (omega arith) c.slice-item.is held.covered c.loop-slice.invariant.pours
 
 pub share-requires-clause-few : goal.share-requires-clause-few
 share-requires-clause-few c =
-    let countable = countable_later c.args.slices.now c.place_of-whole.result.0 c.requires.countable in
-    next_few (later c.args.slices.now c.place_of-whole.result.0) c.loop-slice.slice-index c.slice-item.result (omega arith) c.slice-item.is countable c.loop-slice.invariant.pours
+    let held = shareable_later c.args.slices.now c.place_of-whole.result.0 c.requires.held in
+    next_few (later c.args.slices.now c.place_of-whole.result.0) c.loop-slice.slice-index c.slice-item.result (omega arith) c.slice-item.is held.countable c.loop-slice.invariant.pours
 
 pub loop-slice-preserved : goal.loop-slice-preserved
 loop-slice-preserved c =

@@ -1,19 +1,20 @@
-use Rattle.std.proofs.Common.{◌≡◌, ◌∙◌, ap, sym, subst, refl, length, get_or, take, drop, inl, inr, List, flat_map, arith}
+use Rattle.std.proofs.Common.{◌∙◌, ap, sym, subst, refl, length, get_or, take, drop, inl, inr, List, arith}
 use Rattle.std.specs.List.{All}
 use Rattle.iol_core.specs.declared.numbers.BufId.{BufId}
 use Rattle.iol_arena.specs.Adds.{IsNew}
 use Rattle.iol_arena.specs.Buffers.{bytes_in}
 use Rattle.iol_arena.specs.State.{pages_for}
 use Rattle.iol_arena.specs.Pages.{MadeOn}
-use Rattle.iol_arena.specs.Parts.{needed_pages, part_bytes, part_pages}
+use Rattle.iol_arena.specs.Parts.{needed_pages, part_pages}
 use Rattle.iol_arena.specs.declared.pages.PageKind.TheVariants.{Pending}
 use Rattle.iol_arena.proofs.Marked.{page_all}
 use Rattle.iol_arena.proofs.Made.{new_places}
 use Rattle.iol_arena.proofs.Members.{In, in_either, in_contains, contains_in}
 use Rattle.iol_hold.specs.Filling.{IsHeld}
-use Rattle.iol_hold.specs.Stored.{Stored, Buffer, held_bufs}
+use Rattle.iol_hold.specs.Made.{PublishesFirst}
+use Rattle.iol_hold.specs.Stored.{Stored, Buffer, IsTidy}
 use Rattle.iol_hold.specs.View.{stored}
-use Rattle.iol_hold.specs.Waiting.{Publishes, FreesNone, all_held}
+use Rattle.iol_hold.specs.Waiting.{Publishes, all_held}
 use Rattle.iol_pool.proofs.Owning.{owned_stays}
 use Rattle.iol_hold.proofs.Placing.{holds_all, tidy_of}
 use Rattle.iol_hold.proofs.Publishing.{Makes, held_filled, held_named, held_pool, made_holds, made_publishes, made_usable, length-all_held}
@@ -45,47 +46,12 @@ makes c =
       counts = c.hold_once.ensures ∙ ap (all_held s.counts) c.as_slice.ensures;
     }
 
--- the names of the holds are those of the new buffers
-named : (c : goal.After-new) → held_bufs c.new.result ≡ c.publish_reserved-bufs.result.items
-named c = held_named c.args.reserved.pool c.publish_reserved-bufs.result.items c.new.result c.new.ensures
-
-pub returns-clause-tidy : goal.returns-clause-tidy
-returns-clause-tidy c =
+tidy : (c : goal.After-new) → IsTidy (after c)
+tidy c =
     let s : Stored = stored c.self.inside in
     let ps = c.args.reserved.reservation.parts.items in
     let e = c.publish_reserved-bufs.ensures in
     tidy_of (made_holds s (after c) (part_pages ps) (needed_pages ps c.args.len) c.publish_reserved-bufs.result.items (makes c) (holds_all c.self.invariant.tidy)) e.runs (owned_stays s.arena c.publish_reserved-bufs.new.self s.pools e.adds.grows.taken c.self.invariant.tidy.owned)
-
-pub returns-clause-publishes : goal.returns-clause-publishes
-returns-clause-publishes c =
-    let s : Stored = stored c.self.inside in
-    let ps = c.args.reserved.reservation.parts.items in
-    let bufs = c.publish_reserved-bufs.result.items in
-    subst (λ bs. Publishes c.args.self.now (after c) ps bs) (sym (named c)) (subst (λ (x : Stored). Publishes x (after c) ps bufs) c.self.view_is
-    (made_publishes s (after c) ps (needed_pages ps c.args.len) bufs (makes c) c.publish_reserved-bufs.ensures.adds.grows refl))
-
-pub returns-clause-made : goal.returns-clause-made
-returns-clause-made c =
-    let a = c.publish_reserved-bufs.new.self in
-    subst (λ bs. All (IsNew c.args.self.now.arena a) bs) (sym (named c)) (subst (λ (x : Stored). All (IsNew x.arena a) c.publish_reserved-bufs.result.items) c.self.view_is c.publish_reserved-bufs.ensures.adds.made)
-
-pub returns-clause-value : goal.returns-clause-value
-returns-clause-value c =
-    let ps = c.args.reserved.reservation.parts.items in
-    ap (bytes_in c.publish_reserved-bufs.new.self) (named c) ∙ c.publish_reserved-bufs.ensures.adds.value ∙ ap (λ (x : Stored). take c.args.len (flat_map (part_bytes x.arena) ps)) c.self.view_is
-
-pub returns-clause-filled : goal.returns-clause-filled
-returns-clause-filled c =
-    let s : Stored = stored c.self.inside in
-    let ps = c.args.reserved.reservation.parts.items in
-    let bufs : List BufId = c.publish_reserved-bufs.result.items in
-    let held = subst (λ (x : Stored). IsHeld x c.args.reserved) (sym c.self.view_is) c.requires in
-    let e = c.publish_reserved-bufs.ensures in
-    let places = new_places (part_pages ps) bufs (λ q out. e.others.each q (λ h. out (in_contains (part_pages ps) q h))) e.adds.made in
-    held_filled s (after c) c.args.reserved.pool bufs c.new.result c.new.ensures e.adds.made (λ k d h. held.inside (get_or bufs k d).page (contains_in (part_pages ps) (get_or bufs k d).page (places k d h)))
-
-pub returns-clause-pool : goal.returns-clause-pool
-returns-clause-pool c = held_pool c.args.reserved.pool c.publish_reserved-bufs.result.items c.new.result c.new.ensures
 
 pub invariant_of-self : goal.invariant_of-self
 invariant_of-self c =
@@ -93,28 +59,35 @@ invariant_of-self c =
     let counts = c.hold_once.ensures ∙ ap (all_held s.counts) c.as_slice.ensures in
     record {
       counts = ap length counts ∙ length-all_held s.counts c.publish_reserved-bufs.result.items ∙ c.self.invariant.counts ∙ sym c.publish_reserved-bufs.ensures.adds.grows.count;
-      tidy = returns-clause-tidy c;
+      tidy = tidy c;
     }
 
-pub returns-clause-few : goal.returns-clause-few
-returns-clause-few c =
-    let one : BufId → Buffer = λ b. record { pool = c.args.reserved.pool; buf = b } in
-    omega (arith, ap length c.new.ensures, length-map c.publish_reserved-bufs.result.items one, c.publish_reserved-bufs.ensures.few)
-
-pub returns-clause-free : goal.returns-clause-free
-returns-clause-free c =
+pub returns : goal.returns
+returns c =
     let s : Stored = stored c.self.inside in
+    let t : Stored = after c in
+    let p = c.args.reserved.pool in
     let ps = c.args.reserved.reservation.parts.items in
-    let a = c.publish_reserved-bufs.new.self in
+    let pages = part_pages ps in
     let placed = needed_pages ps c.args.len in
-    let free : FreesNone s.arena a ps c.args.len = record {
-      each = λ long. made_usable s (after c) (part_pages ps) placed c.publish_reserved-bufs.result.items (makes c) c.publish_reserved-bufs.ensures.adds.grows.limit
-          (λ q h. subst (λ l. In l q) (sym (take_all (pages_for c.args.len) (part_pages ps) (omega (arith, long)))) h);
-    } in
-    subst (λ (x : Stored). FreesNone x.arena a ps c.args.len) c.self.view_is free
-
-pub returns-clause-made_on : goal.returns-clause-made_on
-returns-clause-made_on c =
-    let placed = needed_pages c.args.reserved.reservation.parts.items c.args.len in
-    let a = c.publish_reserved-bufs.new.self in
-    subst (λ bs. MadeOn c.args.self.now.arena a bs placed) (sym (named c)) (subst (λ (x : Stored). MadeOn x.arena a c.publish_reserved-bufs.result.items placed) c.self.view_is c.publish_reserved-bufs.ensures.made_on)
+    let bufs : List BufId = c.publish_reserved-bufs.result.items in
+    let held = subst (λ (x : Stored). IsHeld x c.args.reserved) (sym c.self.view_is) c.requires in
+    let e = c.publish_reserved-bufs.ensures in
+    let m = makes c in
+    -- the names of the holds are those of the new buffers
+    let named = held_named p bufs c.new.result c.new.ensures in
+    let one : BufId → Buffer = λ b. record { pool = p; buf = b } in
+    let places = new_places pages bufs (λ q out. e.others.each q (λ h. out (in_contains pages q h))) e.adds.made in
+    subst (λ (x : Stored). PublishesFirst x t p ps c.args.len c.new.result) c.self.view_is (record {
+      publishes = subst (λ bs. Publishes s t ps bs) (sym named) (made_publishes s t ps placed bufs m e.adds.grows refl);
+      made = subst (λ bs. All (IsNew s.arena t.arena) bs) (sym named) e.adds.made;
+      value = ap (bytes_in t.arena) named ∙ e.adds.value;
+      filled = held_filled s t p bufs c.new.result c.new.ensures e.adds.made (λ k d h. held.inside (get_or bufs k d).page (contains_in pages (get_or bufs k d).page (places k d h)));
+      pool = held_pool p bufs c.new.result c.new.ensures;
+      few = omega (arith, ap length c.new.ensures, length-map bufs one, e.few);
+      made_on = subst (λ bs. MadeOn s.arena t.arena bs placed) (sym named) e.made_on;
+      others = e.others;
+      returned = e.returned;
+      free = record { each = λ long. made_usable s t pages placed bufs m e.adds.grows.limit (λ q h. subst (λ l. In l q) (sym (take_all (pages_for c.args.len) pages (omega (arith, long)))) h) };
+      tidy = tidy c;
+    })
