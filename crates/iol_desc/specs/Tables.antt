@@ -1,8 +1,8 @@
 -- The table of domains, whatever an aggregate is.
-use Rattle.std.specs.Prelude.{◌≡◌, ◌<◌, ◌≤◌, ◌^◌, ℕ, ◌+◌, ◌==◌, ◌||◌, Bool, nat_lt, List, [], ◌∷◌, ◌++◌, length, Option, Some, map, sum_by, slice_set}
+use Rattle.std.specs.Prelude.{◌≡◌, ◌≢◌, ◌<◌, ◌≤◌, ◌^◌, ℕ, ◌+◌, ◌==◌, ◌||◌, Bool, nat_lt, List, [], ◌∷◌, ◌++◌, length, Option, Some, None, map, sum_by, slice_set, Result, IfOk, OnOk, OnErr}
 use Rattle.std.specs.List.{AllByRecursion, position_or_len}
 use Rattle.iol_core.specs.State.{Domain, no_domain}
-use Rattle.iol_core.specs.Numbered.{numbered_or, with_numbered, lookup, without, lowest, placed}
+use Rattle.iol_core.specs.Numbered.{numbered_or, with_numbered, lookup, without, lowest, placed, taken}
 use Rattle.iol_core.specs.Calls.Descriptors.{with_read_end}
 use Rattle.iol_core.specs.declared.descriptors.Descriptor.{Descriptor}
 use Rattle.iol_core.specs.declared.descriptors.Descriptor.TheVariants as on
@@ -74,6 +74,45 @@ place_in es n = position_or_len (λ e. e.0 == n) es
 abbrev pub exchanged : {A : Type 0} → List (ℕ × A) → (n : ℕ) → A → List (ℕ × A)
 exchanged es n x = slice_set es (place_in es n) (n, x)
 
+-- A domain got an aggregate under its next number, n, in room that was reserved.
+pub record AddsAgg {A : Type 0} (old new : Row A) (x : A) (n : ℕ) : Type 0 where
+  pub number : n ≡ old.domain.next_agg
+  pub added : new.domain ≡ with_next old.domain x
+  pub short : length new.domain.aggs < 2 ^ 64
+  pub room : old.room ≤ new.room + 1
+  pub count : length new.domain.aggs ≡ length old.domain.aggs + 1
+
+-- It gave up one, and keeps its room.
+pub record TakesAgg {A : Type 0} (old new : Row A) (a : ℕ) (x : A) : Type 0 where
+  pub given : Some x ≡ lookup old.domain.aggs a
+  pub rest : new.domain ≡ record old.domain { aggs = without old.domain.aggs a }
+  pub room : old.room ≤ new.room
+  pub count : length new.domain.aggs + 1 ≡ length old.domain.aggs
+
+-- It gave up one, and has another under its number.
+pub record SwapsAgg {A : Type 0} (old new : Row A) (a : ℕ) (other x : A) : Type 0 where
+  pub given : Some x ≡ lookup old.domain.aggs a
+  pub swapped : new.domain ≡ record old.domain { aggs = exchanged old.domain.aggs a other }
+  pub kept : KeepsAggs old new
+
+-- The same three of a domain of a table.
+
+pub record AddsAggIn {A : Type 0} (old new : List (Row A)) (d : ℕ) (x : A) (n : ℕ) : Type 0 where
+  pub number : n ≡ (domain_in (domains_of old) d).next_agg
+  pub added : domains_of new ≡ with_agg_in (domains_of old) d x
+  pub room : room_in old d ≤ room_in new d + 1
+
+pub record TakesAggIn {A : Type 0} (old new : List (Row A)) (d a : ℕ) (x : A) : Type 0 where
+  pub given : Some x ≡ agg_in (domains_of old) d a
+  pub rest : domains_of new ≡ without_agg_in (domains_of old) d a
+  pub room : room_in old d ≤ room_in new d
+  pub others : (e : ℕ) → d ≢ e → room_in new e ≡ room_in old e
+
+pub record SwapsAggIn {A : Type 0} (old new : List (Row A)) (d a : ℕ) (other x : A) : Type 0 where
+  pub given : Some x ≡ agg_in (domains_of old) d a
+  pub swapped : domains_of new ≡ with_aggs_in (domains_of old) d (exchanged (aggs_in (domains_of old) d) a other)
+  pub room : room_in old d ≤ room_in new d
+
 -- the aggregates of all domains
 abbrev pub live_aggs_in : {A : Type 0} → List (Domain A) → ℕ
 live_aggs_in ds = sum_by (λ d. length d.aggs) ds
@@ -107,3 +146,29 @@ next_ends fds p = (lowest fds, lowest (with_read_end fds p))
 -- with both ends of a pipe open, the read end first
 abbrev pub with_ends : List (Option Descriptor) → (pipe : ℕ) → List (Option Descriptor)
 with_ends fds p = with_next_fd (with_read_end fds p) (on.WriteEnd p)
+
+-- a domain has no aggregate, and no descriptor is open
+pub record HasNothing {A : Type 0} (d : Domain A) : Type 0 where
+  pub no_aggs : d.aggs ≡ []
+  pub no_fds : taken d.fds ≡ 0
+
+-- Of these descriptors, whatever has them (as `put` says), the lowest that was free is open, and its number is the answer. A
+-- refusal changes nothing.
+pub record OpensNext {S E : Type 0} (old new : S) (put : List (Option Descriptor) → S) (fds : List (Option Descriptor))
+    (x : Descriptor) (r : Result ℕ E) : Type 0 where
+  pub number : IfOk r (λ n. n ≡ lowest fds)
+  pub opened : OnOk r (new ≡ put (with_next_fd fds x))
+  pub err : OnErr r (new ≡ old)
+
+-- The same of both ends of a pipe.
+pub record OpensEnds {S E : Type 0} (old new : S) (put : List (Option Descriptor) → S) (fds : List (Option Descriptor))
+    (pipe : ℕ) (r : Result (ℕ × ℕ) E) : Type 0 where
+  pub numbers : IfOk r (λ ends. ends ≡ next_ends fds pipe)
+  pub opened : OnOk r (new ≡ put (with_ends fds pipe))
+  pub err : OnErr r (new ≡ old)
+
+-- One that was open is closed, and then the lowest that is free is open: n.
+pub record MovesFd {S : Type 0} (new : S) (put : List (Option Descriptor) → S) (fds : List (Option Descriptor)) (fd : ℕ)
+    (x : Descriptor) (n : ℕ) : Type 0 where
+  pub number : n ≡ lowest (slice_set fds fd None)
+  pub moved : new ≡ put (with_next_fd (slice_set fds fd None) x)

@@ -1,11 +1,11 @@
 //! Values under rising numbers, found by a binary search.
-ghost use Rattle.std.specs.Prelude.{◌≡◌, ◌≢◌, ◌+◌, ◌-◌, ◌<◌, ◌≤◌, ◌^◌, length, [], ◌∷◌, ◌++◌, Some, None, OnOk, OnErr, filter, is_some, slice_set, vec_len, vec_capacity};
+ghost use Rattle.std.specs.Prelude.{◌≡◌, ◌≢◌, ◌-◌, ◌<◌, ◌≤◌, length, [], ◌++◌, Some, None, filter, is_some, vec_len, vec_capacity};
 ghost use Rattle.std.specs.Option.{option_copied, option_to_list};
 ghost use Rattle.std.specs.Borrow.{sem};
-ghost use Rattle.iol_core.specs.Prelude.{lookup, without};
-ghost use Rattle.iol_desc.specs.Tables.{place_in, exchanged};
+ghost use Rattle.iol_core.specs.Prelude.{lookup};
+ghost use Rattle.iol_desc.specs.Tables.{place_in};
 ghost use Rattle.iol_desc.specs.Lending.{LendsEntry};
-ghost use Rattle.iol_desc.specs.Listed.{there, DropsHole, IsRising, Rises};
+ghost use Rattle.iol_desc.specs.Listed.{there, AddsEntry, DropsHole, IsRising, Replaces, ReservesEntries, Rises, SwapsEntry, TakesEntry};
 
 use crate::places::occupant;
 use iol_core::numbers::AggId;
@@ -43,9 +43,7 @@ fn entry<A>(list: &[(u64, Option<A>)], number: u64) -> Option<&A>
 fn replace<A: Drop>(list: &mut Vec<(u64, Option<A>)>, number: u64, other: Option<A>) -> A
     requires rising { IsRising list.old.items }
     requires there { lookup (there list.old.items) number ≢ None }
-    ensures given { Some result ≡ lookup (there list.old.items) number }
-    ensures items { list.new.items ≡ slice_set list.old.items (place_in list.old.items number) (number, other) }
-    ensures room { vec_capacity list.old - vec_len list.old ≤ vec_capacity list.new - vec_len list.new }
+    ensures { Replaces list.old list.new number other result }
 {
     let at = place_of(list, number);
     let entry = &mut list[at];
@@ -175,11 +173,7 @@ impl<A: Drop> Entries<A> {
     /// Reserves room for so many more. Where there is so much room, it is not refused; where half of the list is holes, it
     /// need not grow.
     pub fn reserve(&mut self, count: usize) -> Result<(), AllocError>
-        ensures entries { self.new.entries ≡ self.old.entries }
-        ensures next { self.new.next ≡ self.old.next }
-        ensures room { OnOk result (count ≤ self.new.room) }
-        ensures no_less { self.old.room ≤ self.new.room }
-        ensures needed { OnErr result (self.old.room < count) }
+        ensures { ReservesEntries self.old self.new count result }
     {
         if count <= self.list.capacity() - self.list.len() {
             return Ok(());
@@ -196,11 +190,7 @@ impl<A: Drop> Entries<A> {
     pub fn push(&mut self, value: A) -> u64
         requires few { self.old.next ≤ LAST_ENTRY }
         requires room { 0 < self.old.room }
-        ensures number { result ≡ self.old.next }
-        ensures entries { self.new.entries ≡ self.old.entries ++ (self.old.next, value) ∷ [] }
-        ensures next { self.new.next ≡ self.old.next + 1 }
-        ensures short { length self.new.entries < 2 ^ 64 }
-        ensures room { self.old.room ≤ self.new.room + 1 }
+        ensures { AddsEntry self.old self.new value result }
     {
         let number = self.next;
         self.list.push_reserved((number, Some(value)));
@@ -239,10 +229,7 @@ impl<A: Drop> Entries<A> {
     #[tactic(auto, using(crate::proofs::Holes::method_rules))]
     pub fn take(&mut self, number: u64) -> A
         requires { lookup self.old.entries number ≢ None }
-        ensures given { Some result ≡ lookup self.old.entries number }
-        ensures entries { self.new.entries ≡ without self.old.entries number }
-        ensures next { self.new.next ≡ self.old.next }
-        ensures room { self.old.room ≤ self.new.room }
+        ensures { TakesEntry self.old self.new number result }
     {
         let given = replace(&mut self.list, number, None);
         self.holes += 1;
@@ -254,10 +241,7 @@ impl<A: Drop> Entries<A> {
     #[tactic(auto, using(crate::proofs::Holes::method_rules))]
     pub fn swap(&mut self, number: u64, other: A) -> A
         requires { lookup self.old.entries number ≢ None }
-        ensures given { Some result ≡ lookup self.old.entries number }
-        ensures entries { self.new.entries ≡ exchanged self.old.entries number other }
-        ensures next { self.new.next ≡ self.old.next }
-        ensures room { self.old.room ≤ self.new.room }
+        ensures { SwapsEntry self.old self.new number other result }
     {
         replace(&mut self.list, number, Some(other))
     }

@@ -1,9 +1,10 @@
 //! Lists of places, some of them free.
-ghost use Rattle.std.specs.Prelude.{◌≡◌, ◌≢◌, ◌+◌, ◌-◌, ◌<◌, ◌≤◌, length, [], None, Some, OnErr, OnOk, slice_set, vec_len, vec_capacity};
+ghost use Rattle.std.specs.Prelude.{◌≡◌, ◌≢◌, ◌-◌, ◌<◌, ◌≤◌, length, [], None, Some, slice_set, vec_len, vec_capacity};
 ghost use Rattle.std.specs.Option.{option_copied};
 ghost use Rattle.std.specs.Borrow.{sem};
 ghost use Rattle.iol_desc.specs.Lending.{LendsPlace, LendsValue};
-ghost use Rattle.iol_core.specs.Prelude.{in_place, lowest, placed, taken};
+ghost use Rattle.iol_core.specs.Prelude.{in_place, lowest, taken};
+ghost use Rattle.iol_desc.specs.Lowest.{CanLower, IsLowest, MovesLower, PutsAt, PutsLowest, PutsLower, ReservesPlaces};
 
 use std::alloc::{AllocError, Global};
 use std::marker::Model;
@@ -12,9 +13,7 @@ use std::mem;
 /// The lowest free place, which may be the first past the end.
 #[tactic(auto, using(crate::proofs::Taken::lowest_rules))]
 pub fn lowest_place<T>(places: &[Option<T>]) -> usize
-    ensures lowest { result ≡ lowest places.now }
-    ensures within { result ≤ length places.now }
-    ensures few { result ≤ taken places.now }
+    ensures { IsLowest places.now result }
 {
     for (i, place) in places.iter().enumerate() {
         if place.is_none() {
@@ -29,11 +28,7 @@ pub fn lowest_place<T>(places: &[Option<T>]) -> usize
 pub fn put<T: Drop>(places: &mut Vec<Option<T>>, place: usize, value: T)
     requires place { place ≤ length places.old.items }
     requires room { vec_len places.old < vec_capacity places.old }
-    ensures taken { place ≡ lowest places.old.items →
-        taken places.new.items ≡ taken places.old.items + 1 }
-    ensures items { places.new.items ≡ placed places.old.items place value }
-    ensures len { vec_len places.new ≤ vec_len places.old + 1 }
-    ensures capacity { vec_capacity places.old ≤ vec_capacity places.new }
+    ensures { PutsAt places.old places.new place value }
 {
     if place < places.len() {
         places[place] = Some(value);
@@ -46,9 +41,7 @@ pub fn put<T: Drop>(places: &mut Vec<Option<T>>, place: usize, value: T)
 #[tactic(auto, using(crate::proofs::Taken::from_rules))]
 fn lowest_from<T>(places: &[Option<T>], from: usize) -> usize
     requires { from ≤ lowest places.now }
-    ensures lowest { result ≡ lowest places.now }
-    ensures within { result ≤ length places.now }
-    ensures few { result ≤ taken places.now }
+    ensures { IsLowest places.now result }
 {
     let (_, rest) = places.split_at(from);
     from + lowest_place(rest)
@@ -77,15 +70,8 @@ fn set_taken<T: Drop>(places: &mut Vec<Option<T>>, place: usize, value: T)
 /// Leaves a place free, and puts a value in the lowest.
 #[tactic(auto, using(crate::proofs::Taken::lower_rules))]
 fn set_lower<T: Drop>(places: &mut Vec<Option<T>>, place: usize, from: usize, value: T) -> usize
-    requires place { place < length places.old.items }
-    requires from { from ≤ lowest places.old.items }
-    requires below { from ≤ place }
-    ensures lowest { result ≡ lowest (slice_set places.old.items place None) }
-    ensures lower { result ≤ place }
-    ensures items { places.new.items ≡ placed (slice_set places.old.items place None)
-        (lowest (slice_set places.old.items place None)) value }
-    ensures room { vec_capacity places.old - vec_len places.old ≤
-        vec_capacity places.new - vec_len places.new }
+    requires { CanLower places.old.items place from }
+    ensures { MovesLower places.old places.new place value result }
 {
     set_free(places, place);
     let lower = lowest_from(places, from);
@@ -167,19 +153,14 @@ impl<T: Drop> Places<T> {
 
     /// The lowest free place, which may be the first past the end.
     pub fn lowest(&self) -> usize
-        ensures lowest { result ≡ lowest self.now.places }
-        ensures within { result ≤ length self.now.places }
-        ensures few { result ≤ taken self.now.places }
+        ensures { IsLowest self.now.places result }
     {
         lowest_from(&self.list, self.low)
     }
 
     /// Reserves room for so many values more. Where there is so much room, it is not refused.
     pub fn reserve(&mut self, count: usize) -> Result<(), AllocError>
-        ensures same { self.new.places ≡ self.old.places }
-        ensures room { OnOk result (count ≤ self.new.room) }
-        ensures no_less { self.old.room ≤ self.new.room }
-        ensures needed { OnErr result (self.old.room < count) }
+        ensures { ReservesPlaces self.old self.new count result }
     {
         self.list.reserve(count)?;
         Ok(())
@@ -189,11 +170,7 @@ impl<T: Drop> Places<T> {
     #[tactic(auto, using(crate::proofs::Taken::method_rules))]
     pub fn put(&mut self, value: T) -> usize
         requires { 0 < self.old.room }
-        ensures place { result ≡ lowest self.old.places }
-        ensures few { result ≤ taken self.old.places }
-        ensures put { self.new.places ≡ placed self.old.places (lowest self.old.places) value }
-        ensures taken { taken self.new.places ≡ taken self.old.places + 1 }
-        ensures room { self.old.room ≤ self.new.room + 1 }
+        ensures { PutsLowest self.old self.new value result }
     {
         let place = lowest_from(&self.list, self.low);
         put(&mut self.list, place, value);
@@ -218,11 +195,7 @@ impl<T: Drop> Places<T> {
     #[tactic(auto, using(crate::proofs::Taken::moved_rules))]
     pub fn put_lower(&mut self, place: usize, value: T) -> usize
         requires { in_place self.old.places place ≢ None }
-        ensures place { result ≡ lowest (slice_set self.old.places place None) }
-        ensures lower { result ≤ place }
-        ensures put { self.new.places ≡ placed (slice_set self.old.places place None)
-            (lowest (slice_set self.old.places place None)) value }
-        ensures room { self.old.room ≤ self.new.room }
+        ensures { PutsLower self.old self.new place value result }
     {
         let from = self.low.min(place);
         let lower = set_lower(&mut self.list, place, from, value);

@@ -1,8 +1,8 @@
 //! One domain.
-ghost use Rattle.std.specs.Prelude.{◌≡◌, ◌≢◌, ◌+◌, ◌-◌, ◌<◌, ◌≤◌, ◌^◌, length, true, Option, Some, None, [], IfOk, OnOk, OnErr, slice_set, nat_lt};
+ghost use Rattle.std.specs.Prelude.{◌≡◌, ◌≢◌, ◌+◌, ◌<◌, ◌≤◌, length, Some, None, [], OnOk, slice_set, nat_lt};
 ghost use Rattle.std.specs.Option.{option_copied};
-ghost use Rattle.iol_core.specs.Prelude.{new_domain, no_domain, in_place, lookup, without, lowest, taken};
-ghost use Rattle.iol_desc.specs.Tables.{KeepsAggs, with_next, exchanged, with_next_fd, next_ends, with_ends};
+ghost use Rattle.iol_core.specs.Prelude.{new_domain, no_domain, in_place, lookup, taken};
+ghost use Rattle.iol_desc.specs.Tables.{AddsAgg, HasNothing, KeepsAggs, MovesFd, OpensEnds, OpensNext, SwapsAgg, TakesAgg};
 
 use crate::entries::{Entries, Taken};
 use crate::places::Places;
@@ -41,9 +41,7 @@ impl<A> Model for Domain<A> {
 /// Opens both ends of a pipe.
 fn open_ends(fds: &mut Places<Descriptor>, pipe: PipeId) -> Result<(Fd, Fd), AllocError>
     requires { taken fds.old.places ≤ MAX_OPEN }
-    ensures numbers { IfOk result (λ ends. ends ≡ next_ends fds.old.places pipe) }
-    ensures opened { OnOk result (fds.new.places ≡ with_ends fds.old.places pipe) }
-    ensures err { OnErr result (fds.new.places ≡ fds.old.places) }
+    ensures { OpensEnds fds.old.places fds.new.places (λ fds. fds) fds.old.places pipe result }
 {
     fds.reserve(2)?;
     let read = fds.put(Descriptor::ReadEnd { pipe });
@@ -54,9 +52,7 @@ fn open_ends(fds: &mut Places<Descriptor>, pipe: PipeId) -> Result<(Fd, Fd), All
 /// Opens the lowest free number.
 fn open_next(fds: &mut Places<Descriptor>, on: Descriptor) -> Result<Fd, AllocError>
     requires { taken fds.old.places < MAX_OPEN }
-    ensures number { IfOk result (λ n. n ≡ lowest fds.old.places) }
-    ensures opened { OnOk result (fds.new.places ≡ with_next_fd fds.old.places on) }
-    ensures err { OnErr result (fds.new.places ≡ fds.old.places) }
+    ensures { OpensNext fds.old.places fds.new.places (λ fds. fds) fds.old.places on result }
 {
     fds.reserve(1)?;
     let place = fds.put(on);
@@ -78,8 +74,7 @@ impl<A: Drop> Domain<A> {
 
     /// Ends: nothing is left of it.
     pub(crate) fn end(&mut self)
-        requires no_aggs { self.old.domain.aggs ≡ [] }
-        requires no_fds { taken self.old.domain.fds ≡ 0 }
+        requires { HasNothing self.old.domain }
         ensures ended { self.new.domain ≡ no_domain }
         ensures count { length self.new.domain.aggs ≡ length self.old.domain.aggs }
     {
@@ -110,11 +105,7 @@ impl<A: Drop> Domain<A> {
     pub(crate) fn add_agg(&mut self, agg: A) -> AggId
         requires few { self.old.domain.next_agg ≤ LAST_AGGREGATE }
         requires room { 0 < self.old.room }
-        ensures number { result ≡ self.old.domain.next_agg }
-        ensures added { self.new.domain ≡ with_next self.old.domain agg }
-        ensures short { length self.new.domain.aggs < 2 ^ 64 }
-        ensures room { self.old.room ≤ self.new.room + 1 }
-        ensures count { length self.new.domain.aggs ≡ length self.old.domain.aggs + 1 }
+        ensures { AddsAgg self.old self.new agg result }
     {
         AggId::new(self.aggs.push(agg))
     }
@@ -123,11 +114,7 @@ impl<A: Drop> Domain<A> {
     #[tactic(auto, using(crate::proofs::Counted::counted_rules))]
     pub(crate) fn take_agg(&mut self, agg: AggId) -> A
         requires { lookup self.old.domain.aggs agg ≢ None }
-        ensures given { Some result ≡ lookup self.old.domain.aggs agg }
-        ensures rest { self.new.domain ≡ record self.old.domain
-            { aggs = without self.old.domain.aggs agg } }
-        ensures room { self.old.room ≤ self.new.room }
-        ensures count { length self.new.domain.aggs + 1 ≡ length self.old.domain.aggs }
+        ensures { TakesAgg self.old self.new agg result }
     {
         self.aggs.take(agg.number())
     }
@@ -135,10 +122,7 @@ impl<A: Drop> Domain<A> {
     /// Puts another aggregate under this number.
     pub(crate) fn swap_agg(&mut self, agg: AggId, other: A) -> A
         requires { lookup self.old.domain.aggs agg ≢ None }
-        ensures given { Some result ≡ lookup self.old.domain.aggs agg }
-        ensures swapped { self.new.domain ≡ record self.old.domain
-            { aggs = exchanged self.old.domain.aggs agg other } }
-        ensures kept { KeepsAggs self.old self.new }
+        ensures { SwapsAgg self.old self.new agg other result }
     {
         self.aggs.swap(agg.number(), other)
     }
@@ -186,10 +170,8 @@ impl<A: Drop> Domain<A> {
     /// Opens both ends of a pipe.
     pub(crate) fn add_ends(&mut self, pipe: PipeId) -> Result<(Fd, Fd), AllocError>
         requires { taken self.old.domain.fds ≤ MAX_OPEN }
-        ensures numbers { IfOk result (λ ends. ends ≡ next_ends self.old.domain.fds pipe) }
-        ensures opened { OnOk result (self.new.domain ≡ record self.old.domain
-            { fds = with_ends self.old.domain.fds pipe }) }
-        ensures err { OnErr result (self.new.domain ≡ self.old.domain) }
+        ensures opens { OpensEnds self.old.domain self.new.domain
+            (λ fds. record self.old.domain { fds = fds }) self.old.domain.fds pipe result }
         ensures kept { KeepsAggs self.old self.new }
     {
         open_ends(&mut self.fds, pipe)
@@ -198,10 +180,8 @@ impl<A: Drop> Domain<A> {
     /// Opens the lowest free number.
     pub(crate) fn add_fd(&mut self, on: Descriptor) -> Result<Fd, AllocError>
         requires { taken self.old.domain.fds < MAX_OPEN }
-        ensures number { IfOk result (λ n. n ≡ lowest self.old.domain.fds) }
-        ensures opened { OnOk result (self.new.domain ≡ record self.old.domain
-            { fds = with_next_fd self.old.domain.fds on }) }
-        ensures err { OnErr result (self.new.domain ≡ self.old.domain) }
+        ensures opens { OpensNext self.old.domain self.new.domain
+            (λ fds. record self.old.domain { fds = fds }) self.old.domain.fds on result }
         ensures kept { KeepsAggs self.old self.new }
     {
         open_next(&mut self.fds, on)
@@ -230,9 +210,8 @@ impl<A: Drop> Domain<A> {
     /// Closes an open number, and opens the lowest.
     pub(crate) fn move_fd(&mut self, fd: Fd, on: Descriptor) -> Fd
         requires { in_place self.old.domain.fds fd ≢ None }
-        ensures number { result ≡ lowest (slice_set self.old.domain.fds fd None) }
-        ensures moved { self.new.domain ≡ record self.old.domain
-            { fds = with_next_fd (slice_set self.old.domain.fds fd None) on } }
+        ensures moves { MovesFd self.new.domain (λ fds. record self.old.domain { fds = fds })
+            self.old.domain.fds fd on result }
         ensures kept { KeepsAggs self.old self.new }
     {
         Fd::new(self.fds.put_lower(fd.number() as usize, on) as u32)

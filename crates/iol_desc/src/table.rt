@@ -1,10 +1,10 @@
 //! The table of domains.
 #![tactic(auto, using(crate::proofs::Rows::row_rules, crate::proofs::Counted::counted_rules), unfolding(crate::specs::Tables::domain_in, crate::specs::Tables::with_domain_in, crate::specs::Tables::row_in))]
 
-ghost use Rattle.std.specs.Prelude.{◌≡◌, ◌≢◌, ℕ, ◌+◌, ◌-◌, ◌<◌, ◌≤◌, length, true, false, Option, Some, None, List, [], ◌∷◌, ◌++◌, IfOk, OnOk, OnErr, slice_set, nat_lt};
+ghost use Rattle.std.specs.Prelude.{◌≡◌, ◌≢◌, ◌+◌, ◌<◌, ◌≤◌, length, true, Some, None, [], ◌∷◌, ◌++◌, OnOk, OnErr, slice_set, nat_lt};
 ghost use Rattle.std.specs.Option.{option_copied};
-ghost use Rattle.iol_core.specs.Prelude.{new_domain, no_domain, in_place, without, lowest, taken};
-ghost use Rattle.iol_desc.specs.Tables.{domains_of, row_in, room_in, domain_in, with_domain_in, with_default_in, agg_in, aggs_in, with_aggs_in, with_agg_in, without_agg_in, exchanged, too_many_in, fds_in, with_fds_in, with_next_fd, next_ends, with_ends};
+ghost use Rattle.iol_core.specs.Prelude.{new_domain, no_domain, in_place, taken};
+ghost use Rattle.iol_desc.specs.Tables.{domains_of, room_in, domain_in, with_domain_in, with_default_in, agg_in, aggs_in, with_aggs_in, too_many_in, fds_in, with_fds_in, AddsAggIn, MovesFd, OpensEnds, OpensNext, SwapsAggIn, TakesAggIn};
 
 use crate::entries::Taken;
 use crate::row::Domain;
@@ -130,13 +130,12 @@ impl<A: Drop> Table<A> {
     }
 
     /// Adds an aggregate under the domain's next number, in room that is reserved.
+    #[tactic(auto, using(std::proofs::lemmas::Grind::common_steps, crate::proofs::Rows::row_rules, crate::proofs::Counted::counted_rules), unfolding(crate::specs::Tables::domain_in, crate::specs::Tables::with_domain_in, crate::specs::Tables::row_in))]
     pub fn add_agg(&mut self, d: DomainId, agg: A) -> AggId
         requires live { (domain_in (domains_of self.old) d).live ≡ true }
         requires few { (domain_in (domains_of self.old) d).next_agg ≤ LAST_AGGREGATE }
         requires room { 0 < room_in self.old d }
-        ensures number { result ≡ (domain_in (domains_of self.old) d).next_agg }
-        ensures added { domains_of self.new ≡ with_agg_in (domains_of self.old) d agg }
-        ensures room { room_in self.old d ≤ room_in self.new d + 1 }
+        ensures { AddsAggIn self.old self.new d agg result }
     {
         let at = self.place_of(d);
         let domain = &mut self.rows[at];
@@ -146,13 +145,11 @@ impl<A: Drop> Table<A> {
     }
 
     /// Takes an aggregate from its domain.
+    #[tactic(auto, using(std::proofs::lemmas::Grind::common_steps, crate::proofs::Rows::row_rules, crate::proofs::Counted::counted_rules), unfolding(crate::specs::Tables::domain_in, crate::specs::Tables::with_domain_in, crate::specs::Tables::row_in))]
     pub fn take_agg(&mut self, d: DomainId, agg: AggId) -> A
         requires live { (domain_in (domains_of self.old) d).live ≡ true }
         requires there { agg_in (domains_of self.old) d agg ≢ None }
-        ensures given { Some result ≡ agg_in (domains_of self.old) d agg }
-        ensures rest { domains_of self.new ≡ without_agg_in (domains_of self.old) d agg }
-        ensures room { room_in self.old d ≤ room_in self.new d }
-        ensures others { (e : ℕ) → d ≢ e → room_in self.new e ≡ room_in self.old e }
+        ensures { TakesAggIn self.old self.new d agg result }
     {
         let at = self.place_of(d);
         let domain = &mut self.rows[at];
@@ -162,13 +159,11 @@ impl<A: Drop> Table<A> {
     }
 
     /// Puts another aggregate under the number of one, and gives that.
+    #[tactic(auto, using(std::proofs::lemmas::Grind::common_steps, crate::proofs::Rows::row_rules, crate::proofs::Counted::counted_rules), unfolding(crate::specs::Tables::domain_in, crate::specs::Tables::with_domain_in, crate::specs::Tables::row_in))]
     pub fn swap_agg(&mut self, d: DomainId, agg: AggId, other: A) -> A
         requires live { (domain_in (domains_of self.old) d).live ≡ true }
         requires there { agg_in (domains_of self.old) d agg ≢ None }
-        ensures given { Some result ≡ agg_in (domains_of self.old) d agg }
-        ensures swapped { domains_of self.new ≡ with_aggs_in (domains_of self.old) d
-            (exchanged (aggs_in (domains_of self.old) d) agg other) }
-        ensures room { room_in self.old d ≤ room_in self.new d }
+        ensures { SwapsAggIn self.old self.new d agg other result }
     {
         let at = self.place_of(d);
         let domain = &mut self.rows[at];
@@ -232,10 +227,8 @@ impl<A: Drop> Table<A> {
     pub fn add_fd(&mut self, d: DomainId, on: Descriptor) -> Result<Fd, AllocError>
         requires live { (domain_in (domains_of self.old) d).live ≡ true }
         requires few { taken (fds_in (domains_of self.old) d) < MAX_OPEN }
-        ensures number { IfOk result (λ n. n ≡ lowest (fds_in (domains_of self.old) d)) }
-        ensures opened { OnOk result (domains_of self.new ≡ with_fds_in (domains_of self.old) d
-            (with_next_fd (fds_in (domains_of self.old) d) on)) }
-        ensures err { OnErr result (domains_of self.new ≡ domains_of self.old) }
+        ensures { OpensNext (domains_of self.old) (domains_of self.new)
+            (with_fds_in (domains_of self.old) d) (fds_in (domains_of self.old) d) on result }
     {
         let at = self.place_of(d);
         let domain = &mut self.rows[at];
@@ -246,11 +239,8 @@ impl<A: Drop> Table<A> {
     pub fn add_ends(&mut self, d: DomainId, pipe: PipeId) -> Result<(Fd, Fd), AllocError>
         requires live { (domain_in (domains_of self.old) d).live ≡ true }
         requires few { taken (fds_in (domains_of self.old) d) ≤ MAX_OPEN }
-        ensures numbers { IfOk result
-            (λ ends. ends ≡ next_ends (fds_in (domains_of self.old) d) pipe) }
-        ensures opened { OnOk result (domains_of self.new ≡ with_fds_in (domains_of self.old) d
-            (with_ends (fds_in (domains_of self.old) d) pipe)) }
-        ensures err { OnErr result (domains_of self.new ≡ domains_of self.old) }
+        ensures { OpensEnds (domains_of self.old) (domains_of self.new)
+            (with_fds_in (domains_of self.old) d) (fds_in (domains_of self.old) d) pipe result }
     {
         let at = self.place_of(d);
         let domain = &mut self.rows[at];
@@ -299,9 +289,8 @@ impl<A: Drop> Table<A> {
     pub fn move_fd(&mut self, d: DomainId, fd: Fd, on: Descriptor) -> Fd
         requires live { (domain_in (domains_of self.old) d).live ≡ true }
         requires there { in_place (fds_in (domains_of self.old) d) fd ≢ None }
-        ensures number { result ≡ lowest (slice_set (fds_in (domains_of self.old) d) fd None) }
-        ensures moved { domains_of self.new ≡ with_fds_in (domains_of self.old) d
-            (with_next_fd (slice_set (fds_in (domains_of self.old) d) fd None) on) }
+        ensures { MovesFd (domains_of self.new) (with_fds_in (domains_of self.old) d)
+            (fds_in (domains_of self.old) d) fd on result }
     {
         let at = self.place_of(d);
         let domain = &mut self.rows[at];

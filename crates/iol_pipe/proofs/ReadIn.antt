@@ -1,5 +1,5 @@
 -- The bytes of one read in a new buffer, or a page that is free again.
-use Rattle.std.proofs.Common.{◌≡◌, inl, inr, ℕ, zero, suc, nat_le, ◌+◌, ◌*◌, ◌<◌, ◌≤◌, Bool, true, false, ◌&&◌, Option, Some, None, List, [], ◌∷◌, length, get_or, take, drop, refl, sym, ap, ◌∙◌, subst, arith, length-append, append-nil}
+use Rattle.std.proofs.Common.{◌≡◌, inl, inr, ℕ, zero, suc, nat_le, ◌+◌, ◌*◌, ◌<◌, ◌≤◌, Bool, true, false, ◌&&◌, Option, Some, None, Ok, List, [], ◌∷◌, length, get_or, take, drop, refl, sym, ap, ◌∙◌, subst, arith, length-append, append-nil}
 use Rattle.std.specs.List.{Contains, All, flat_map, range_with_len}
 use Rattle.std.specs.Io.KnownBytes.{Consumes, Keeps}
 use Rattle.std.proofs.lemmas.List.{length-take, length-drop, take-take, take_all, length-take-le}
@@ -32,7 +32,8 @@ use Rattle.iol_hold.proofs.Reading.{readable_none}
 use Rattle.iol_core.specs.Text as text
 use Rattle.iol_agg.proofs.Wholes.{whole_texts-one}
 use Rattle.iol_pipe.specs.Adding.{AddsWhole}
-use Rattle.iol_pipe.specs.Arriving.{MakesRead, ReadsIn}
+use Rattle.iol_pipe.specs.Arriving.{listed, IsOneRead, MakesRead, MayRead, ReadsIn, ReadsOnce}
+use Rattle.iol_pipe.specs.declared.arrive.Arrived.{Arrived}
 use Rattle.iol_pipe.proofs.Wholes.{length_added}
 
 -- some bytes, at most a page of them
@@ -166,9 +167,16 @@ module _ (s u t : Stored) (parts : List Part) (pool n : ℕ) (w : List ℕ)
         pools = pools;
       }
 
--- under another name of the store after it
-pub read_as : {left after : Option (List ℕ)} {s : Stored} {holds : List Buffer} {pool n : ℕ} (t r : Stored) → MakesRead left after s t holds pool n → t ≡ r → MakesRead left after s r holds pool n
-read_as {left} {after} {s} {holds} {pool} {n} t r made e = subst (λ x. MakesRead left after s x holds pool n) e made
+-- a read that had room, under another name of the store after it
+pub reads_once : {left after : Option (List ℕ)} {s : Stored} {pool n : ℕ} {x : Option (List Buffer) × Arrived} (t r : Stored) → MayRead s pool n → has_room s pool n ≡ true → MakesRead left after s t (listed x.0) pool x.1.taken → t ≡ r → IsOneRead n after x.1
+    → ReadsOnce left after s r pool n (Ok x)
+reads_once {left} {after} {s} {pool} {n} {x} t r may had made same told = record {
+  made = subst (λ u. MakesRead left after s u (listed x.0) pool x.1.taken) same made;
+  told = told;
+  room = record { room = sym (room_for_one s pool n may.some may.page) ∙ had; no_room = λ p is. absurd (cc is) };
+  late = tt;
+  err = tt;
+}
 
 pub consumes_none : (a b : Option (List ℕ)) (n : ℕ) (w : List ℕ) → n ≡ 0 → Consumes a b (take n w) → Consumes a b []
 consumes_none a b n w e h = subst (λ k. Consumes a b (take k w)) e h

@@ -5,6 +5,7 @@ use Rattle.iol_hold.specs.Stored.{Stored, count_of}
 use Rattle.iol_hold.specs.Moves.{same, tally, Shares, Covers, IsCountable}
 use Rattle.iol_hold.specs.declared.slices.Slice.{Slice}
 use Rattle.iol_hold.specs.Texts.{bufs_of}
+use Rattle.iol_pipe.specs.Queue.{MayShare}
 use Rattle.iol_hold.proofs.Counting.{tally-append, tally_one, tally_none, same_self, bufs-push, bufs-take_more, tally-at}
 use Rattle.iol_hold.proofs.Moving.{shares_none, shares_trans}
 
@@ -106,8 +107,8 @@ pub fewer_moved : (old out queue moved rest : List Slice) (x : Slice) (b : BufId
 fewer_moved old out queue moved rest x b e few split = omega (arith, moved_tally out moved x b e, few, split)
 
 -- what is left is covered
-pub rest_covered : {s t : Stored} (old out queue : List Slice) → Covers s (bufs_of old) → Shares s t (bufs_of old) (bufs_of out ++ bufs_of queue) → Covers t (bufs_of queue)
-rest_covered old out queue c m = record { each = λ b. omega (arith, c.each b, m.counts.each b, tally-append b (bufs_of out) (bufs_of queue)) }
-
-pub rest_countable : {s t : Stored} (old out queue : List Slice) → IsCountable s (bufs_of old) → ((b : BufId) → tally b (bufs_of out) + tally b (bufs_of queue) ≤ tally b (bufs_of old)) → Shares s t (bufs_of old) (bufs_of out ++ bufs_of queue) → IsCountable t (bufs_of queue)
-rest_countable old out queue c few m = record { each = λ b. omega (arith, c.each b, few b, m.counts.each b, tally-append b (bufs_of out) (bufs_of queue)) }
+pub rest_shared : {s t : Stored} (old out queue : List Slice) → MayShare s old → ((b : BufId) → tally b (bufs_of out) + tally b (bufs_of queue) ≤ tally b (bufs_of old)) → Shares s t (bufs_of old) (bufs_of out ++ bufs_of queue) → MayShare t queue
+rest_shared old out queue may few m = record {
+  covered = record { each = λ b. omega (arith, may.covered.each b, m.counts.each b, tally-append b (bufs_of out) (bufs_of queue)) };
+  countable = record { each = λ b. omega (arith, may.countable.each b, few b, m.counts.each b, tally-append b (bufs_of out) (bufs_of queue)) };
+}

@@ -33,6 +33,11 @@ pub record AddsWhole (s : Stored) (old new : List Slice) (holds : List Buffer) :
   pub readable : AllReadable s slices
   pub bufs : bufs_of slices ≡ held_bufs holds
 
+-- Of these slices a queue got the first n bytes at its end. They are shared.
+pub record SharesPrefix (s t : Stored) (old new from : List Slice) (n : ℕ) : Type 0 where
+  pub added : places new ≡ places old ++ take n (places from)
+  pub shares : Shares s t (bufs_of old) (bufs_of new)
+
 -- Of the slices of an aggregate a queue got as many bytes as fit at its end: n. They are shared.
 pub record SharesFitting (s t : Stored) (old new from : List Slice) (n : ℕ) : Type 0 where
   pub taken : n ≡ fitting old (byte_len from)

@@ -1,9 +1,14 @@
 -- The bytes of one read.
-use Rattle.std.specs.Prelude.{◌≡◌, ◌<◌, ◌≤◌, ℕ, true, false, List, [], length, Option, Some, None}
+use Rattle.std.specs.Prelude.{◌≡◌, ◌<◌, ◌≤◌, ℕ, true, false, List, [], length, take, Option, Some, None, Result, IfOk, IfErr, OnErr}
 use Rattle.std.specs.List.{All}
-use Rattle.std.specs.Io.KnownBytes.{Consumes, IsAtEnd}
+use Rattle.std.specs.Io.KnownBytes.{Consumes, IsAtEnd, Keeps}
+use Rattle.iol_core.specs.Prelude.{WantOfRoom}
+use Rattle.iol_core.specs.declared.limits.TheConstants.{PAGE_BYTES}
+use Rattle.iol_core.specs.declared.refusals.Refusal.{Refusal}
 use Rattle.iol_arena.specs.Buffers.{bytes_in}
 use Rattle.iol_arena.specs.Pages.{MadeOn}
+use Rattle.iol_pool.specs.Pools.{pool_in}
+use Rattle.iol_hold.specs.Prelude.{TellsRoom, has_room}
 use Rattle.iol_hold.specs.Stored.{Stored, Buffer, AllSettled, held_bufs}
 use Rattle.iol_hold.specs.Moves.{Moves}
 use Rattle.iol_hold.specs.Pages.{KeepsPages}
@@ -48,3 +53,27 @@ pub record IsOneRead (bound : ℕ) (after : Option (List ℕ)) (a : Arrived) : T
   pub either : a.end ≡ true → a.failed ≡ false
   pub ended : a.end ≡ true → (a.taken ≡ 0) × IsAtEnd after
   pub failed : a.failed ≡ true → a.taken ≡ 0
+
+-- at most n bytes may be read into a page of an open pool
+pub record MayRead (s : Stored) (pool n : ℕ) : Type 0 where
+  pub opened : (pool_in s.pools pool).closed ≡ false
+  pub some : 0 < n
+  pub page : n ≤ PAGE_BYTES
+
+-- Of one read at most n bytes came into a buffer, or there is none where the reader gave none. A refusal changes nothing.
+pub record ReadsOnce (left after : Option (List ℕ)) (s t : Stored) (pool n : ℕ)
+    (r : Result (Option (List Buffer) × Arrived) Refusal) : Type 0 where
+  pub made : IfOk r (λ x. MakesRead left after s t (listed x.0) pool x.1.taken)
+  pub told : IfOk r (λ x. IsOneRead n after x.1)
+  pub room : TellsRoom (has_room s pool 1) r
+  pub late : IfErr r (WantOfRoom pool)
+  pub err : OnErr r (t ≡ s)
+
+-- A reader gave the first bytes of the memory, at most n: none only at its end, or where none was asked for. Where it failed it
+-- has those that it had.
+pub record ReadsSome {E : Type 0} (left after : Option (List ℕ)) (memory : List ℕ) (n : ℕ) (r : Result ℕ E) : Type 0 where
+  pub most : IfOk r (λ k. k ≤ n)
+  pub inside : IfOk r (λ k. k ≤ length memory)
+  pub given : IfOk r (λ k. Consumes left after (take k memory))
+  pub end : IfOk r (λ k. k ≡ 0 → 0 < n → IsAtEnd after)
+  pub err : OnErr r (Keeps left after)

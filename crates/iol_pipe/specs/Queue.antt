@@ -1,10 +1,13 @@
 -- A queue of slices.
-use Rattle.std.specs.Prelude.{◌≡◌, ℕ, zero, suc, ◌-◌, ◌≤◌, Bool, true, List, [], ◌∷◌, ◌++◌, length, map, take, drop, min, Option, Some, None, option_map}
+use Rattle.std.specs.Prelude.{◌≡◌, ℕ, zero, suc, ◌+◌, ◌-◌, ◌<◌, ◌≤◌, Bool, true, List, [], ◌∷◌, ◌++◌, length, map, take, drop, min, Option, Some, None, option_map, slice_index_or, Result, IsOk, IfOk, OnErr}
 use Rattle.std.specs.List.{slice_get, take_while}
+use Rattle.std.specs.Global.{Vec}
+use Rattle.std.specs.Vec.{vec_capacity}
 use Rattle.iol_core.specs.declared.limits.TheConstants.{MAX_QUEUE_BYTES}
+use Rattle.iol_core.specs.declared.numbers.BufId.{BufId}
 use Rattle.iol_pool.specs.Pools.{Pool, names_in}
 use Rattle.iol_hold.specs.declared.slices.Slice.{Slice}
-use Rattle.iol_hold.specs.Moves.{Shares}
+use Rattle.iol_hold.specs.Moves.{Covers, IsCountable, Shares, same, tally}
 use Rattle.iol_hold.specs.Places.{Place, slice_places, places, byte_len}
 use Rattle.iol_hold.specs.Stored.{Stored}
 use Rattle.iol_hold.specs.Texts.{bufs_of}
@@ -37,6 +40,32 @@ abbrev pub names_given : List Pool → (d : Option ℕ) → (pool : ℕ) → Boo
 names_given pools None p = true
 names_given pools (Some d) p = names_in pools p d
 
+-- what these slices hold is held, and may be held once more for each
+pub record MayShare (s : Stored) (xs : List Slice) : Type 0 where
+  pub covered : Covers s (bufs_of xs)
+  pub countable : IsCountable s (bufs_of xs)
+
+-- the list is empty, and has room for n slices
+pub record IsEmptyFor (out : Vec Slice) (n : ℕ) : Type 0 where
+  pub none : out.items ≡ []
+  pub room : n ≤ vec_capacity out
+
+-- bytes are wanted, and slices wait, which may be shared
+pub record MayTakeFirst (s : Stored) (xs : List Slice) (most : ℕ) : Type 0 where
+  pub some : 0 < most
+  pub filled : 0 < length xs
+  pub shared : MayShare s xs
+
+-- The first slice of a queue was taken off, or its first bytes where it has more than wanted: then its buffer is held once more.
+pub record TakesSlice (s t : Stored) (old new : List Slice) (most : ℕ) (x : Slice) : Type 0 where
+  pub given : slice_places x ++ places new ≡ places old
+  pub cut : first_parts most (map slice_places old) ≡ slice_places x ∷ first_parts (most - x.len) (map slice_places new)
+  pub pool : (y : Slice) → x.hold.pool ≡ (slice_index_or old 0 y).hold.pool
+  pub len : x.len ≤ most
+  pub fewer : min (length new) (most - x.len) + 1 ≤ min (length old) most
+  pub shares : Shares s t (bufs_of old) (x.hold.buf ∷ bufs_of new)
+  pub whole : x.len < most → (b : BufId) → same b x.hold.buf + tally b (bufs_of new) ≤ tally b (bufs_of old)
+
 -- The first bytes of a queue went to others, at most n, for as long as their pools name the domain, if one is given. If
 -- none is, only the last of these slices may have been cut.
 pub record TakesFirst (s t : Stored) (old given new : List Slice) (n : ℕ) (d : Option ℕ) : Type 0 where
@@ -44,6 +73,13 @@ pub record TakesFirst (s t : Stored) (old given new : List Slice) (n : ℕ) (d :
   pub cut : d ≡ None → map slice_places given ≡ first_parts n (map slice_places old)
   pub whole : places given ++ places new ≡ places old
   pub shares : Shares s t (bufs_of old) (bufs_of given ++ bufs_of new)
+
+-- The same, or it was refused: then nothing changed. No bytes want no memory.
+pub record TakesOff {E : Type 0} (s t : Stored) (old new : List Slice) (n : ℕ) (d : Option ℕ)
+    (r : Result (List Slice) E) : Type 0 where
+  pub takes : IfOk r (λ given. TakesFirst s t old given new n d)
+  pub none : min n (byte_len old) ≡ 0 → IsOk r
+  pub err : OnErr r ((new ≡ old) × (t ≡ s))
 
 -- A domain was given the front of a queue: of its first n bytes the longest prefix whose pools all name the domain.
 pub record GivesFirst (s t : Stored) (old front new : List Slice) (n d : ℕ) : Type 0 where

@@ -1,10 +1,9 @@
 //! The bytes of one read, straight into a new buffer.
-ghost use Rattle.std.specs.Prelude.{◌≡◌, ◌+◌, ◌<◌, ◌≤◌, length, take, false, IfOk, IfErr, OnErr};
-ghost use Rattle.std.specs.Io.KnownBytes.{Consumes, IsAtEnd, Keeps};
+ghost use Rattle.std.specs.Prelude.{◌≡◌, ◌+◌, ◌<◌, ◌≤◌, length, false, IfOk, IfErr, OnErr};
 ghost use Rattle.iol_core.specs.Prelude.{WantOfRoom};
 ghost use Rattle.iol_pool.specs.Prelude.{pool_in};
 ghost use Rattle.iol_hold.specs.Prelude.{TellsRoom, byte_len, has_room};
-ghost use Rattle.iol_pipe.specs.Arriving.{listed, IsOneRead, MakesRead, ReadsIn};
+ghost use Rattle.iol_pipe.specs.Arriving.{IsOneRead, MayRead, ReadsIn, ReadsOnce, ReadsSome};
 
 use crate::Pipe;
 use crate::fill::add_whole;
@@ -88,15 +87,9 @@ fn read_in<R: Read>(
     reader: &mut R,
     n: u32,
 ) -> Result<(Option<Holds>, Arrived), Refusal>
-    requires open { (pool_in store.old.pools pool).closed ≡ false }
-    requires some { 0 < n }
-    requires page { n ≤ PAGE_BYTES }
-    ensures made { IfOk result (λ r. MakesRead (R.remaining reader.old) (R.remaining reader.new)
-        store.old store.new (listed r.0) pool r.1.taken) }
-    ensures told { IfOk result (λ r. IsOneRead n (R.remaining reader.new) r.1) }
-    ensures room { TellsRoom (has_room store.old pool 1) result }
-    ensures late { IfErr result (WantOfRoom pool) }
-    ensures err { OnErr result (store.new ≡ store.old) }
+    requires { MayRead store.old pool n }
+    ensures reads { ReadsOnce (R.remaining reader.old) (R.remaining reader.new) store.old store.new
+        pool n result }
     ensures err_reader { OnErr result (reader.new ≡ reader.old) }
 {
     let mut filling = store.begin(alloc, pool, n)?;
@@ -125,12 +118,7 @@ fn read_in<R: Read>(
 // Reads at most n bytes at once, to the front of the memory.
 fn read_some<R: Read>(reader: &mut R, memory: &mut [u8], n: usize) -> io::Result<usize>
     requires { n ≤ length memory.old }
-    ensures most { IfOk result (λ k. k ≤ n) }
-    ensures inside { IfOk result (λ k. k ≤ length memory.new) }
-    ensures given { IfOk result (λ k.
-        Consumes (R.remaining reader.old) (R.remaining reader.new) (take k memory.new)) }
-    ensures end { IfOk result (λ k. k ≡ 0 → 0 < n → IsAtEnd (R.remaining reader.new)) }
-    ensures err { OnErr result (Keeps (R.remaining reader.old) (R.remaining reader.new)) }
+    ensures { ReadsSome (R.remaining reader.old) (R.remaining reader.new) memory.new n result }
 {
     reader.read(&mut memory[..n])
 }

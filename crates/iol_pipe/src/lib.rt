@@ -15,13 +15,11 @@
 //! ```
 #![tactic(auto)]
 
-ghost use Rattle.std.specs.Prelude.{◌≡◌, ◌+◌, ◌-◌, ◌<◌, ◌≤◌, ◌↔◌, min, [], ◌∷◌, ◌++◌, length, map, take, slice_index_or, IsTrue, IsOk, IfOk, OnErr};
+ghost use Rattle.std.specs.Prelude.{◌≡◌, ◌+◌, ◌≤◌, ◌↔◌, min, [], length, IsTrue, IsOk, IfOk, OnErr};
 ghost use Rattle.std.specs.VecDeque.{deque_len, deque_capacity};
-ghost use Rattle.std.specs.Vec.{vec_capacity};
-ghost use Rattle.iol_core.specs.declared.numbers.BufId.{BufId};
-ghost use Rattle.iol_hold.specs.Prelude.{same, tally, Shares, Covers, IsCountable, Releases, slice_places, places, byte_len, bufs_of};
-ghost use Rattle.iol_pipe.specs.Adding.{SharesFitting};
-ghost use Rattle.iol_pipe.specs.Queue.{GivesFirst, TakesFirst, first_parts, first_pool, fitting, names_given};
+ghost use Rattle.iol_hold.specs.Prelude.{Covers, IsCountable, Releases, byte_len, bufs_of};
+ghost use Rattle.iol_pipe.specs.Adding.{SharesFitting, SharesPrefix};
+ghost use Rattle.iol_pipe.specs.Queue.{GivesFirst, IsEmptyFor, MayShare, MayTakeFirst, TakesFirst, TakesOff, TakesSlice, first_pool, fitting, names_given};
 
 mod arrive;
 mod copy;
@@ -132,11 +130,8 @@ impl Pipe {
         n: u32,
         d: Option<DomainId>,
     ) -> Result<Agg, AllocError>
-        requires covered { Covers store.old (bufs_of self.old) }
-        requires countable { IsCountable store.old (bufs_of self.old) }
-        ensures takes { IfOk result (λ a. TakesFirst store.old store.new self.old a self.new n d) }
-        ensures none { min n (byte_len self.old) ≡ 0 → IsOk result }
-        ensures err { OnErr result ((self.new ≡ self.old) × (store.new ≡ store.old)) }
+        requires { MayShare store.old self.old }
+        ensures { TakesOff store.old store.new self.old self.new n d result }
     {
         let room = self.queue.len().min(n as usize);
         let mut slices = Vec::with_capacity(alloc, room)?;
@@ -171,11 +166,8 @@ fn release_all(queue: &mut VecDeque<Slice>, store: &mut Store)
 // Adds the first n bytes of the slices, held once more.
 fn add_prefix(queue: &mut VecDeque<Slice>, store: &mut Store, slices: &[Slice], n: u32)
     requires room { deque_len queue.old + min (length slices.now) n ≤ deque_capacity queue.old }
-    requires covered { Covers store.old (bufs_of slices.now) }
-    requires countable { IsCountable store.old (bufs_of slices.now) }
-    ensures places { places queue.new.items ≡ places queue.old.items ++ take n (places slices.now) }
-    ensures shares { Shares store.old store.new (bufs_of queue.old.items)
-        (bufs_of queue.new.items) }
+    requires shared { MayShare store.old slices.now }
+    ensures { SharesPrefix store.old store.new queue.old.items queue.new.items slices.now n }
 {
     let mut left = n;
     for slice in slices {
@@ -206,10 +198,8 @@ fn take_prefix(
     n: u32,
     d: &Option<DomainId>,
 )
-    requires none { out.old.items ≡ [] }
-    requires room { min (length queue.old.items) n ≤ vec_capacity out.old }
-    requires covered { Covers store.old (bufs_of queue.old.items) }
-    requires countable { IsCountable store.old (bufs_of queue.old.items) }
+    requires room { IsEmptyFor out.old (min (length queue.old.items) n) }
+    requires shared { MayShare store.old queue.old.items }
     ensures { TakesFirst store.old store.new queue.old.items out.new.items queue.new.items n d.now }
 {
     let mut left = n;
@@ -228,23 +218,8 @@ fn take_prefix(
 
 // Takes off the first slice, or its first bytes where it has more than wanted: then its buffer is held once more.
 fn take_first(queue: &mut VecDeque<Slice>, store: &mut Store, most: u32) -> Slice
-    requires some { 0 < most }
-    requires filled { 0 < length queue.old.items }
-    requires covered { Covers store.old (bufs_of queue.old.items) }
-    requires countable { IsCountable store.old (bufs_of queue.old.items) }
-    ensures places { slice_places result ++ places queue.new.items ≡ places queue.old.items }
-    ensures cut { first_parts most (map slice_places queue.old.items) ≡
-        slice_places result ∷
-        first_parts (most - result.len) (map slice_places queue.new.items) }
-    ensures pool { (x : Slice) → result.hold.pool ≡ (slice_index_or queue.old.items 0 x).hold.pool }
-    ensures len { result.len ≤ most }
-    ensures fewer { min (length queue.new.items) (most - result.len) + 1 ≤ min
-        (length queue.old.items) most }
-    ensures shares { Shares store.old store.new (bufs_of queue.old.items)
-        (result.hold.buf ∷ bufs_of queue.new.items) }
-    ensures whole { result.len < most → (b : BufId) →
-        same b result.hold.buf + tally b (bufs_of queue.new.items) ≤ tally b
-        (bufs_of queue.old.items) }
+    requires { MayTakeFirst store.old queue.old.items most }
+    ensures { TakesSlice store.old store.new queue.old.items queue.new.items most result }
 {
     let Some(first) = queue.pop_front() else {
         unreachable!();

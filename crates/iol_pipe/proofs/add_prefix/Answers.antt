@@ -1,4 +1,5 @@
 use Rattle.std.proofs.Common.{◌-◌, ◌+◌, ◌++◌, take, drop, arith, ap, sym, ◌∙◌, append_assoc}
+use Rattle.std.proofs.lemmas.Grind.{common_steps}
 use Rattle.iol_hold.specs.Places.{slice_places, places}
 use Rattle.iol_hold.specs.Texts.{bufs_of}
 use Rattle.iol_hold.proofs.Slicing.{places-push}
@@ -6,17 +7,19 @@ use Rattle.iol_pipe.proofs.Prefixes.{take_step, cut_first}
 use Rattle.iol_pipe.proofs.Shared.{next_held, next_countable, shares_next, bufs_next, shares_into}
 use Rattle.iol_pipe.proofs.add_prefix.Goals as goal
 
-pub returns-then-left-eq0-clause-shares : goal.returns-then-left-eq0-clause-shares
-returns-then-left-eq0-clause-shares c =
-    shares_into c.args.queue.now.items c.loop-slice.queue.items (bufs_of (take c.loop-slice.slice-index c.args.slices.now)) c.loop-slice.invariant.bufs c.loop-slice.invariant.shares
+pub returns-then-left-eq0 : goal.returns-then-left-eq0
+returns-then-left-eq0 c = record {
+  added = grind (arith, common_steps);
+  shares = shares_into c.args.queue.now.items c.loop-slice.queue.items (bufs_of (take c.loop-slice.slice-index c.args.slices.now)) c.loop-slice.invariant.bufs c.loop-slice.invariant.shares;
+}
 
 pub share-requires-clause-live : goal.share-requires-clause-live
 share-requires-clause-live c =
-    next_held c.args.slices.now c.loop-slice.slice-index c.slice-item.result c.loop-slice-test.true c.slice-item.is c.requires.covered c.loop-slice.invariant.shares
+    next_held c.args.slices.now c.loop-slice.slice-index c.slice-item.result c.loop-slice-test.true c.slice-item.is c.requires.shared.covered c.loop-slice.invariant.shares
 
 pub share-requires-clause-few : goal.share-requires-clause-few
 share-requires-clause-few c =
-    next_countable c.args.slices.now c.loop-slice.slice-index c.slice-item.result c.loop-slice-test.true c.slice-item.is c.requires.countable c.loop-slice.invariant.shares
+    next_countable c.args.slices.now c.loop-slice.slice-index c.slice-item.result c.loop-slice-test.true c.slice-item.is c.requires.shared.countable c.loop-slice.invariant.shares
 
 pub loop-slice-preserved : goal.loop-slice-preserved
 loop-slice-preserved c =
@@ -38,6 +41,8 @@ loop-slice-preserved c =
       room = omega (arith, c.loop-slice.invariant.room, c.push_back_reserved.ensures.len, c.push_back_reserved.ensures.capacity, part.some);
     }
 
-pub returns-clause-shares : goal.returns-clause-shares
-returns-clause-shares c =
-    shares_into c.args.queue.now.items c.loop-slice.queue.items (bufs_of (take c.loop-slice.slice-index c.args.slices.now)) c.loop-slice.invariant.bufs c.loop-slice.invariant.shares
+pub returns : goal.returns
+returns c = record {
+  added = grind (arith, common_steps);
+  shares = shares_into c.args.queue.now.items c.loop-slice.queue.items (bufs_of (take c.loop-slice.slice-index c.args.slices.now)) c.loop-slice.invariant.bufs c.loop-slice.invariant.shares;
+}

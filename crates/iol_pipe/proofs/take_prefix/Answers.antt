@@ -3,7 +3,7 @@ use Rattle.iol_pool.specs.Pools.{Pool}
 use Rattle.iol_hold.specs.declared.slices.Slice.{Slice}
 use Rattle.iol_pipe.specs.Queue.{names_given}
 use Rattle.iol_pipe.proofs.Parts.{taken_none, taken_all, taken_barred, taken_more}
-use Rattle.iol_pipe.proofs.Shared.{none_tally, fewer_moved, rest_covered, rest_countable}
+use Rattle.iol_pipe.proofs.Shared.{none_tally, fewer_moved, rest_shared}
 use Rattle.iol_pipe.proofs.take_prefix.Goals as goal
 
 -- what was asked of the pools now holds of those before
@@ -12,9 +12,9 @@ asked old now p q d answer same first is = ap (λ ps. names_given ps d p) (sym s
 
 pub loop-left-init : goal.loop-left-init
 loop-left-init c = record {
-  so_far = taken_none c.args.store.now c.args.queue.now.items c.args.out.now.items c.args.n c.args.d.now c.requires.none;
-  room = omega (arith, c.requires.room, ap length c.requires.none, c.args.out.now.ok.0);
-  unsplit = λ some b. omega (arith, none_tally c.args.out.now.items b c.requires.none);
+  so_far = taken_none c.args.store.now c.args.queue.now.items c.args.out.now.items c.args.n c.args.d.now c.requires.room.none;
+  room = omega (arith, c.requires.room.room, ap length c.requires.room.none, c.args.out.now.ok.0);
+  unsplit = λ some b. omega (arith, none_tally c.args.out.now.items b c.requires.room.none);
 }
 
 pub returns-then-not-names : goal.returns-then-not-names
@@ -25,12 +25,12 @@ returns-then-not-names c =
     taken_barred c.args.store.now c.loop-left.store c.args.queue.now.items c.loop-left.out.items c.loop-left.queue.items c.args.n c.loop-left.left c.args.d.now first
     c.loop-left.invariant.so_far some c.in-Some.ensures.lookup c.loop-left-test.true (barred ∙ c.if-not-names.true)
 
-pub take_first-slice-requires-clause-covered : goal.take_first-slice-requires-clause-covered
-take_first-slice-requires-clause-covered c = rest_covered c.args.queue.now.items c.loop-left.out.items c.loop-left.queue.items c.requires.covered c.loop-left.invariant.so_far.shares
-
-pub take_first-slice-requires-clause-countable : goal.take_first-slice-requires-clause-countable
-take_first-slice-requires-clause-countable c =
-    rest_countable c.args.queue.now.items c.loop-left.out.items c.loop-left.queue.items c.requires.countable (c.loop-left.invariant.unsplit c.loop-left-test.true) c.loop-left.invariant.so_far.shares
+pub take_first-slice-requires : goal.take_first-slice-requires
+take_first-slice-requires c = record {
+  some = c.loop-left-test.true;
+  filled = omega (arith, c.in-Some.ensures.variant.0 refl, c.loop-left.queue.ok.0);
+  shared = rest_shared c.args.queue.now.items c.loop-left.out.items c.loop-left.queue.items c.requires.shared (c.loop-left.invariant.unsplit c.loop-left-test.true) c.loop-left.invariant.so_far.shares;
+}
 
 pub loop-left-preserved : goal.loop-left-preserved
 loop-left-preserved c =
@@ -45,7 +45,7 @@ loop-left-preserved c =
     let seen = asked pools c.loop-left.store.pools slice.hold.pool c.pool.result c.args.d.now c.names.result c.loop-left.invariant.so_far.shares.pools (c.pool.ensures ∙ sym pool) c.names.ensures in
     record {
       so_far = taken_more c.args.store.now c.loop-left.store c.take_first-slice.new.store old out moved queue after c.args.n c.loop-left.left c.args.d.now slice c.loop-left.invariant.so_far c.push_reserved.ensures.items
-          c.take_first-slice.ensures.places c.take_first-slice.ensures.cut c.take_first-slice.ensures.len (seen ∙ c.if-not-names.false) c.take_first-slice.ensures.shares;
+          c.take_first-slice.ensures.given c.take_first-slice.ensures.cut c.take_first-slice.ensures.len (seen ∙ c.if-not-names.false) c.take_first-slice.ensures.shares;
       room = omega (arith, c.loop-left.invariant.room, c.push_reserved.ensures.len, c.push_reserved.ensures.capacity, c.take_first-slice.ensures.fewer);
       unsplit = λ more b. fewer_moved old out queue moved after slice b c.push_reserved.ensures.items (c.loop-left.invariant.unsplit c.loop-left-test.true b) (c.take_first-slice.ensures.whole (omega (arith, more)) b);
     }

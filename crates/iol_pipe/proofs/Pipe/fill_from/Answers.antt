@@ -14,7 +14,7 @@ returns-in_default-clause-read g c =
     let after = g.R.Read.remaining c.read_in.new.reader in
     let old = c.args.self.now in
     let n = c.in_ok-made.arrived.taken in
-    let made = subst (λ (o : Option (List Buffer)). MakesRead left after s t (listed o) c.args.pool n) c.in_default.is c.in_ok-made.ensures.made in
+    let made = subst (λ (o : Option (List Buffer)). MakesRead left after s t (listed o) c.args.pool n) c.in_default.is c.in_ok-made.ensures.reads.made in
     let same : c.reserve.new.self.items ≡ old = ◌∙◌ {A = List Slice} c.reserve.ensures.items c.self.view_is in
     subst (λ new. ReadsIn left after s t old new c.args.pool n) (sym same) (nothing_added left after s t old c.args.pool n made)
 
@@ -22,7 +22,7 @@ pub add_whole-requires-clause-filled : goal.add_whole-requires-clause-filled
 add_whole-requires-clause-filled g c =
     let left = g.R.Read.remaining c.args.reader.now in
     let after = g.R.Read.remaining c.read_in.new.reader in
-    (subst (λ (o : Option (List Buffer)). MakesRead left after c.args.store.now c.read_in.new.store (listed o) c.args.pool c.in_ok-made.arrived.taken) c.in-Some.is c.in_ok-made.ensures.made).filled
+    (subst (λ (o : Option (List Buffer)). MakesRead left after c.args.store.now c.read_in.new.store (listed o) c.args.pool c.in_ok-made.arrived.taken) c.in-Some.is c.in_ok-made.ensures.reads.made).filled
 
 pub invariant_of-self-2 : goal.invariant_of-self-2
 invariant_of-self-2 g c =
@@ -31,13 +31,13 @@ invariant_of-self-2 g c =
     let left = g.R.Read.remaining c.args.reader.now in
     let after = g.R.Read.remaining c.read_in.new.reader in
     let n = c.in_ok-made.arrived.taken in
-    let made = subst (λ (o : Option (List Buffer)). MakesRead left after s t (listed o) c.args.pool n) c.in-Some.is c.in_ok-made.ensures.made in
+    let made = subst (λ (o : Option (List Buffer)). MakesRead left after s t (listed o) c.args.pool n) c.in-Some.is c.in_ok-made.ensures.reads.made in
     let more = length_read left after s t c.reserve.new.self.items c.add_whole.new.queue.items c.in-Some.holds c.args.pool n c.add_whole.ensures made in
     let same = ap byte_len c.reserve.ensures.items in
     let seen = ap byte_len c.self.view_is in
     record {
       len = omega (arith, more, same, c.self.invariant.len);
-      most = omega (arith, more, same, seen, c.requires.fits, c.in_ok-made.ensures.told.most);
+      most = omega (arith, more, same, seen, c.requires.fits, c.in_ok-made.ensures.reads.told.most);
     }
 
 pub returns-clause-read : goal.returns-clause-read
@@ -48,7 +48,7 @@ returns-clause-read g c =
     let after = g.R.Read.remaining c.read_in.new.reader in
     let n = c.in_ok-made.arrived.taken in
     let new = c.add_whole.new.queue.items in
-    let made = subst (λ (o : Option (List Buffer)). MakesRead left after s t (listed o) c.args.pool n) c.in-Some.is c.in_ok-made.ensures.made in
+    let made = subst (λ (o : Option (List Buffer)). MakesRead left after s t (listed o) c.args.pool n) c.in-Some.is c.in_ok-made.ensures.reads.made in
     let same : c.reserve.new.self.items ≡ c.args.self.now = ◌∙◌ {A = List Slice} c.reserve.ensures.items c.self.view_is in
     subst (λ old. ReadsIn left after s t old new c.args.pool n) same
     (read_added left after s t c.reserve.new.self.items new c.in-Some.holds c.args.pool n c.add_whole.ensures made)

@@ -9,7 +9,11 @@ no_slice : (xs : List Slice) (n k : ℕ) → min n (byte_len xs) ≡ 0 → k ≡
 no_slice [] n k e is = omega (arith, is)
 no_slice (x ∷ xs) n k e is = omega (arith, e, is, byte_len-cons x xs, x.some)
 
-pub returns-in_err-slices-clause-none : goal.returns-in_err-slices-clause-none
-returns-in_err-slices-clause-none c = λ e.
-    let zero = no_slice c.args.self.now c.args.n c.min-room.result e (search (rules, c.min-room.ensures, c.len.ensures, c.self.view_is)) in
-    absurd (cc (c.in_err-slices.ensures.succeeds zero))
+pub returns-in_err-slices : goal.returns-in_err-slices
+returns-in_err-slices c = record {
+  takes = search rules;
+  none = λ e.
+      let zero = no_slice c.args.self.now c.args.n c.min-room.result e (search (rules, c.min-room.ensures, c.len.ensures, c.self.view_is)) in
+      absurd (cc (c.in_err-slices.ensures.succeeds zero));
+  err = search rules;
+}

@@ -1,4 +1,4 @@
-use Rattle.std.proofs.Common.{◌≢◌, ℕ, List, Option, None, ap, ◌∙◌, sym, subst}
+use Rattle.std.proofs.Common.{◌≢◌, ℕ, List, Option, None, ap, arith, ◌∙◌, sym, subst}
 use Rattle.iol_core.specs.Numbered.{lookup}
 use Rattle.iol_desc.specs.Tables.{exchanged}
 use Rattle.iol_desc.specs.Listed.{there, Listed}
@@ -8,7 +8,13 @@ use Rattle.iol_desc.proofs.entries.Entries.swap.Goals as goal
 pub invariant_of-self : goal.invariant_of-self
 invariant_of-self g c = rw c.replace.ensures.items (listed-exchanged _ _ _ _ _ c.self.invariant (subst (λ (l : Listed g.row.A.Denot). lookup l.entries c.args.number ≢ None) (sym c.self.view_is) c.requires))
 
-pub returns-clause-entries : goal.returns-clause-entries
-returns-clause-entries g c =
+pub returns : goal.returns
+returns g c =
+    let was = c.self.view_is in
     let found = subst (λ (l : Listed g.row.A.Denot). lookup l.entries c.args.number ≢ None) (sym c.self.view_is) c.requires in
-    ap (λ (es : List (ℕ × Option g.row.A.Denot)). there es) c.replace.ensures.items ∙ exchanged_held _ _ c.args.number _ c.args.other c.self.invariant found ∙ ap (λ (l : Listed g.row.A.Denot). exchanged l.entries c.args.number c.args.other) c.self.view_is
+    record {
+      given = c.replace.ensures.given ∙ ap (λ (l : Listed g.row.A.Denot). lookup l.entries c.args.number) was;
+      entries = ap (λ (es : List (ℕ × Option g.row.A.Denot)). there es) c.replace.ensures.items ∙ exchanged_held _ _ c.args.number _ c.args.other c.self.invariant found ∙ ap (λ (l : Listed g.row.A.Denot). exchanged l.entries c.args.number c.args.other) was;
+      next = ap (λ (l : Listed g.row.A.Denot). l.next) was;
+      room = omega (arith, c.replace.ensures.room, ap (λ (l : Listed g.row.A.Denot). l.room) was);
+    }
