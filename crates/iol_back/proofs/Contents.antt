@@ -1,5 +1,5 @@
 -- Files by number.
-use Rattle.std.proofs.Common.{inl, inr, ◌≡◌, ◌≢◌, ℕ, ◌-◌, ◌<◌, ◌≤◌, ◌⊎◌, ◌^◌, ◌==◌, if◌then◌else◌, min, refl, Bool, true, false, Some, slice_get, List, [], ◌∷◌, ◌++◌, length, map, get_or, ap, subst, ◌∙◌, sym, arith, Result, Ok, Err, OnOk, OnErr}
+use Rattle.std.proofs.Common.{inl, inr, ◌≡◌, ◌≢◌, ℕ, ◌-◌, ◌<◌, ◌≤◌, ◌⊎◌, ◌^◌, ◌==◌, if◌then◌else◌, min, refl, Bool, true, false, Some, slice_get, List, [], ◌∷◌, ◌++◌, length, map, get_or, ap, subst, ◌∙◌, sym, arith}
 use Rattle.std.proofs.lemmas.List.{get_or-map, get_or-set_same, get_or-set_other, length-map, map-append}
 use Rattle.std.proofs.Math.ListN as lists
 use Rattle.std.proofs.Math.ListN.{set, length-set}
@@ -48,15 +48,6 @@ content-set_other f xs n m x some within other = elim (cases_eq m 0) [
 -- with an empty one more
 pub content-push_none : {A : Type 0} (f : A → List ℕ) (xs : List A) (x : A) (n : ℕ) → f x ≡ [] → content (map f (xs ++ x ∷ [])) n ≡ content (map f xs) n
 content-push_none f xs x n none = ap (λ (r : List (List ℕ)). content r n) (map-append f xs (x ∷ []) ∙ ap (λ (w : List ℕ). map f xs ++ w ∷ []) none) ∙ content-push (map f xs) n
-
--- what follows of a success, or of a refusal
-pub on_ok : {A E P Q : Type 0} (r : Result A E) → (P → Q) → OnOk r P → OnOk r Q
-on_ok (Ok x) f p = f p
-on_ok (Err e) f p = tt
-
-pub on_err : {A E P Q : Type 0} (r : Result A E) → (P → Q) → OnErr r P → OnErr r Q
-on_err (Ok x) f p = tt
-on_err (Err e) f p = f p
 
 -- a file that has bytes is there
 pub content-some : {A : Type 0} (f : A → List ℕ) (xs : List A) (n : ℕ) → 0 < length (content (map f xs) n) → n ≤ length xs

@@ -1,5 +1,5 @@
 -- What a contract sees of a backing store.
-use Rattle.std.specs.Prelude.{◌≡◌, ◌≢◌, ℕ, ◌+◌, ◌<◌, ◌≤◌, ◌^◌, ◌-◌, ◌⊎◌, Bool, true, List, [], ◌++◌, length, map, take, drop, min, max, slice_index, Result, Ok, Err}
+use Rattle.std.specs.Prelude.{◌≡◌, ◌≢◌, ℕ, ◌+◌, ◌<◌, ◌≤◌, ◌^◌, ◌-◌, ◌⊎◌, Bool, true, List, [], ◌++◌, length, map, take, drop, min, max, slice_index, Result, Ok, Err, OnOk, OnErr}
 use Rattle.iol_core.specs.Numbered.{numbered_or}
 use Rattle.iol_core.specs.declared.limits.TheConstants.{MAX_FILES}
 
@@ -83,3 +83,26 @@ pub record Tears (at n : ℕ) (old new : List ℕ) : Type 0 where
   pub each : (i : ℕ) → (i < at) ⊎ (at + n ≤ i) → slice_index new i ≡ slice_index old i
   pub no_shorter : length old ≤ length new
   pub no_longer : length new ≤ max (length old) (at + n)
+
+-- A call reads a file from `at` on, into bytes that were these and are those now. An honest store gave
+-- what is there, and stays as it was.
+pub record ReadsAt {E : Type 0} (file at : ℕ) (old new : Disk) (was now : List ℕ)
+    (r : Result (Unit {0}) E) : Type 0 where
+  pub honest : new.honest ≡ old.honest
+  pub counts : Counts old new r
+  pub slot : OnOk r (IsSlot file)
+  pub slots : IfHonest old (new.slots ≡ old.slots)
+  pub read : IfHonest old (OnOk r (Reads at (content old.slots file) was now))
+
+-- A call writes bytes to a file from `at` on. Of an honest store the other files stay, and where it
+-- failed also what is outside of the range.
+pub record WritesAt {E : Type 0} (file at : ℕ) (bytes : List ℕ) (old new : Disk)
+    (r : Result (Unit {0}) E) : Type 0 where
+  pub honest : new.honest ≡ old.honest
+  pub counts : Counts old new r
+  pub slot : OnOk r (IsSlot file)
+  pub others : IfHonest old (OthersStay file old.slots new.slots)
+  pub written : IfHonest old
+      (OnOk r (Writes at bytes (content old.slots file) (content new.slots file)))
+  pub torn : IfHonest old
+      (OnErr r (Tears at (length bytes) (content old.slots file) (content new.slots file)))

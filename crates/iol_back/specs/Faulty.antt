@@ -1,6 +1,6 @@
 -- A store whose k-th call fails, over another.
-use Rattle.std.specs.Prelude.{ℕ}
-use Rattle.iol_back.specs.Disk.{Disk}
+use Rattle.std.specs.Prelude.{◌≡◌, ◌≢◌, ℕ, ◌-◌, ◌<◌, Result, IsErr}
+use Rattle.iol_back.specs.Disk.{Disk, Counts, last_failure}
 use Rattle.iol_back.specs.declared.faulty.FaultyBacking.{FaultyBacking}
 
 -- the store below
@@ -16,3 +16,14 @@ calls_to_fault f = f.left
 abbrev pub disk_over : {B : Type 0} → (B → Disk) → FaultyBacking B → Disk
 disk_over disk f =
     record { slots = (disk f.inner).slots; failures = f.failed; honest = (disk f.inner).honest; told = (disk f.inner).told }
+
+-- One call fewer is left to the one that fails. The call that is due fails; any other fails where the store
+-- below does. That one is not asked any more once this store failed too often.
+pub record CountsDown {B E : Type 0} (disk : B → Disk) (old new : FaultyBacking B)
+    (r : Result (Unit {0}) E) : Type 0 where
+  pub calls : calls_to_fault new ≡ calls_to_fault old - 1
+  pub due : calls_to_fault old ≡ 1 → IsErr r
+  pub passed : calls_to_fault old ≢ 1 → (disk_over disk old).failures < last_failure
+      → Counts (disk (inner_of old)) (disk (inner_of new)) r
+  pub worn : calls_to_fault old ≢ 1 → (disk_over disk old).failures ≡ last_failure
+      → inner_of new ≡ inner_of old

@@ -1,5 +1,5 @@
 -- A folder as a store.
-use Rattle.std.specs.Prelude.{◌≡◌, ◌≢◌, ℕ, ◌≤◌, List, [], false, length, All, AllPairs}
+use Rattle.std.specs.Prelude.{◌≡◌, ◌≢◌, ℕ, ◌<◌, ◌≤◌, List, [], false, length, All, AllPairs}
 use Rattle.std.specs.Cmp.Lexicographic.{slice_cmp}
 use Rattle.std.specs.Ordering.{nat_cmp}
 use Rattle.std.specs.declared.cmp.Ordering.TheVariants.{Less}
@@ -23,6 +23,12 @@ AreRising names = AllPairs Precedes names
 abbrev pub AreDistinct : List (List ℕ) → Type 0
 AreDistinct names = AllPairs (λ first second. first ≢ second) names
 
+-- a file of this name may stand behind those of these names
+pub record MayFollow (names : List (List ℕ)) (name : List ℕ) : Type 0 where
+  pub room : length names < MAX_FILES
+  pub sized : IsSized name
+  pub last : All (λ other. Precedes other name) names
+
 -- the names of the files of a folder, that of slot 1 first
 pub record AreNames (names : List (List ℕ)) : Type 0 where
   pub few : length names ≤ MAX_FILES
@@ -33,6 +39,11 @@ pub record AreNames (names : List (List ℕ)) : Type 0 where
 pub record Listed : Type 0 where
   pub names : List (List ℕ)
   pub lengths : List ℕ
+
+-- the names of files, and as many lengths
+pub record AreListed (names : List (List ℕ)) (lengths : List ℕ) : Type 0 where
+  pub is : AreNames names
+  pub count : length lengths ≡ length names
 
 -- The names of the files, the lengths that are told of them, and how often the store failed.
 pub record Folder : Type 0 where

@@ -1,6 +1,6 @@
 //! A store that fails once.
-ghost use Rattle.std.specs.Prelude.{◌≡◌, ◌≢◌, ◌-◌, ◌/◌, ◌<◌, true, false, take, length, OnOk, OnErr, IsErr};
-ghost use Rattle.iol_back.specs.Disk.{IsSlot, content, raised, last_failure, IfHonest, Succeeds, Counts, Reads, Writes, Tears, OthersStay};
+ghost use Rattle.std.specs.Prelude.{◌≡◌, ◌-◌, ◌/◌, ◌<◌, ◌↔◌, take, length, IsTrue};
+ghost use Rattle.iol_back.specs.Disk.{IfHonest, ReadsAt, Succeeds, Writes, WritesAt, content, raised};
 
 use crate::backing::{Backing, StoreFault};
 use iol_core::numbers::FileId;
@@ -32,11 +32,8 @@ impl<B: Backing> FaultyBacking<B> {
 
     // Counts a call, and tells whether it is the one that fails.
     fn count_call(&mut self) -> bool
-        ensures due { result ≡ true → self.old.left ≡ 1 }
-        ensures not_due { result ≡ false → self.old.left ≢ 1 }
-        ensures left { self.new.left ≡ self.old.left - 1 }
-        ensures inner { self.new.inner ≡ self.old.inner }
-        ensures failed { self.new.failed ≡ self.old.failed }
+        ensures due { IsTrue result ↔ (self.old.left ≡ 1) }
+        ensures left { self.new ≡ record self.old { left = self.old.left - 1 } }
     {
         let due = self.left == 1;
         self.left = self.left.saturating_sub(1);
@@ -45,9 +42,7 @@ impl<B: Backing> FaultyBacking<B> {
 
     // Counts a failure.
     fn fail(&mut self) -> StoreFault
-        ensures left { self.new.left ≡ self.old.left }
-        ensures inner { self.new.inner ≡ self.old.inner }
-        ensures failed { self.new.failed ≡ raised self.old.failed }
+        ensures { self.new ≡ record self.old { failed = raised self.old.failed } }
     {
         self.failed = self.failed.saturating_add(1);
         StoreFault
@@ -55,7 +50,7 @@ impl<B: Backing> FaultyBacking<B> {
 }
 
 impl<B: Backing> Backing for FaultyBacking<B> {
-    ghost use Rattle.iol_back.specs.Faulty.{inner_of, calls_to_fault, disk_over};
+    ghost use Rattle.iol_back.specs.Faulty.{CountsDown, inner_of, calls_to_fault, disk_over};
 
     ghost disk = { disk_over B.disk };
 
@@ -64,25 +59,12 @@ impl<B: Backing> Backing for FaultyBacking<B> {
     }
 
     fn read_at(&mut self, file: FileId, at: u32, into: &mut [u8]) -> Result<(), StoreFault>
-        ensures honest { (disk_over B.disk self.new).honest ≡ (disk_over B.disk self.old).honest }
-        ensures counts { Counts (disk_over B.disk self.old) (disk_over B.disk self.new) result }
-        ensures slot { OnOk result (IsSlot file) }
-        ensures slots { let old = disk_over B.disk self.old in
-            IfHonest old ((disk_over B.disk self.new).slots ≡ old.slots) }
-        ensures read { let old = disk_over B.disk self.old in
-            IfHonest old (OnOk result (Reads at (content old.slots file) into.old into.new)) }
+        ensures reads { let old = disk_over B.disk self.old in
+            ReadsAt file at old (disk_over B.disk self.new) into.old into.new result }
+        ensures calls { CountsDown B.disk self.old self.new result }
 
-        // The call that is due fails and reads nothing; any other fails where the store below does. That one is not
-        // asked any more once this store failed too often.
-        ensures calls { calls_to_fault self.new ≡ calls_to_fault self.old - 1 }
-        ensures due { calls_to_fault self.old ≡ 1 → IsErr result }
+        // The call that is due reads nothing.
         ensures unread { calls_to_fault self.old ≡ 1 → inner_of self.new ≡ inner_of self.old }
-        ensures passed { let old = self.old in
-            calls_to_fault old ≢ 1 → (disk_over B.disk old).failures < last_failure →
-            Counts (B.disk (inner_of old)) (B.disk (inner_of self.new)) result }
-        ensures worn { let old = self.old in
-            calls_to_fault old ≢ 1 → (disk_over B.disk old).failures ≡ last_failure →
-            inner_of self.new ≡ inner_of old }
     {
         let due = self.count_call();
         if due || self.failed == u64::MAX || self.inner.read_at(file, at, into).is_err() {
@@ -92,34 +74,16 @@ impl<B: Backing> Backing for FaultyBacking<B> {
     }
 
     fn write_at(&mut self, file: FileId, at: u32, bytes: &[u8]) -> Result<(), StoreFault>
-        ensures honest { (disk_over B.disk self.new).honest ≡ (disk_over B.disk self.old).honest }
-        ensures counts { Counts (disk_over B.disk self.old) (disk_over B.disk self.new) result }
-        ensures slot { OnOk result (IsSlot file) }
-        ensures others { let old = disk_over B.disk self.old in
-            IfHonest old (OthersStay file old.slots (disk_over B.disk self.new).slots) }
-        ensures written { let old = disk_over B.disk self.old in
-            let new = content (disk_over B.disk self.new).slots file in
-            IfHonest old (OnOk result (Writes at bytes.now (content old.slots file) new)) }
-        ensures torn { let old = disk_over B.disk self.old in
-            let new = disk_over B.disk self.new in let n = length bytes.now in
-            IfHonest old (OnErr result
-            (Tears at n (content old.slots file) (content new.slots file))) }
+        ensures writes { let old = disk_over B.disk self.old in
+            WritesAt file at bytes.now old (disk_over B.disk self.new) result }
+        ensures calls { CountsDown B.disk self.old self.new result }
 
-        // The call that is due fails after the store below took half of the bytes; any other fails
-        // where that does. That one is not asked any more once this store failed too often.
-        ensures calls { calls_to_fault self.new ≡ calls_to_fault self.old - 1 }
-        ensures due { calls_to_fault self.old ≡ 1 → IsErr result }
+        // The call that is due fails after the store below took half of the bytes.
         ensures half { let old = B.disk (inner_of self.old) in
             let new = B.disk (inner_of self.new) in
             let half = take (length bytes.now / 2) bytes.now in
             calls_to_fault self.old ≡ 1 → Succeeds old new →
             IfHonest old (Writes at half (content old.slots file) (content new.slots file)) }
-        ensures passed { let old = self.old in
-            calls_to_fault old ≢ 1 → (disk_over B.disk old).failures < last_failure →
-            Counts (B.disk (inner_of old)) (B.disk (inner_of self.new)) result }
-        ensures worn { let old = self.old in
-            calls_to_fault old ≢ 1 → (disk_over B.disk old).failures ≡ last_failure →
-            inner_of self.new ≡ inner_of old }
     {
         let due = self.count_call();
         if due {

@@ -1,8 +1,8 @@
 //! A store of the files of a folder.
-ghost use Rattle.std.specs.Prelude.{◌≡◌, ◌+◌, ◌-◌, ◌<◌, ◌≤◌, ◌↔◌, length, All, Some, IsSome, IfSome, IfOk, OnOk, OnErr, slice_get, min};
-ghost use Rattle.iol_back.specs.Disk.{IsSlot, Counts, raised, content, length_told, IfHonest, Reads, Writes, Tears, OthersStay};
-ghost use Rattle.iol_back.specs.Folder.{disk_of, IsSized, AreRising, AreDistinct};
-ghost use Rattle.iol_core.specs.declared.limits.TheConstants.{MAX_FILES, MAX_FILE_BYTES};
+ghost use Rattle.std.specs.Prelude.{◌≡◌, ◌+◌, ◌-◌, ◌<◌, ◌≤◌, ◌↔◌, length, Some, IsSome, IfSome, IfOk, OnOk, slice_get, min};
+ghost use Rattle.iol_back.specs.Disk.{IfHonest, IsSlot, ReadsAt, WritesAt, content, length_told, raised};
+ghost use Rattle.iol_back.specs.Folder.{AreDistinct, AreListed, AreNames, IsSized, disk_of};
+ghost use Rattle.iol_core.specs.declared.limits.TheConstants.{MAX_FILE_BYTES};
 
 use crate::backing::{Backing, StoreFault};
 use crate::listing::{Listing, Stamp, listed, stamp_at};
@@ -57,9 +57,7 @@ impl<R: Files> FolderBacking<R> {
     /// How many files there are. They have the slots from 1 on.
     pub fn count(&self) -> usize
         ensures count { result ≡ length self.now.names }
-        ensures few { length self.now.names ≤ MAX_FILES }
-        ensures sized { All IsSized self.now.names }
-        ensures rising { AreRising self.now.names }
+        ensures names { AreNames self.now.names }
         ensures distinct { AreDistinct self.now.names }
     {
         self.listing.count()
@@ -79,8 +77,7 @@ impl<R: Files> FolderBacking<R> {
     fn place(&self, slot: FileId) -> Option<usize>
         ensures which { IsSome result ↔ ((0 < slot) × (slot ≤ length self.now.names)) }
         ensures slot { IfSome result (λ place. IsSlot slot × (place ≡ slot - 1)) }
-        ensures sized { All IsSized self.now.names }
-        ensures lengths { length self.now.lengths ≡ length self.now.names }
+        ensures listed { AreListed self.now.names self.now.lengths }
     {
         let number = slot.number() as usize;
         let listing = &self.listing;
@@ -174,13 +171,8 @@ impl<R: Files> Backing for FolderBacking<R> {
     }
 
     fn read_at(&mut self, file: FileId, at: u32, into: &mut [u8]) -> Result<(), StoreFault>
-        ensures honest { (disk_of self.new).honest ≡ (disk_of self.old).honest }
-        ensures counts { Counts (disk_of self.old) (disk_of self.new) result }
-        ensures slot { OnOk result (IsSlot file) }
-        ensures slots { let old = disk_of self.old in
-            IfHonest old ((disk_of self.new).slots ≡ old.slots) }
-        ensures read { let old = disk_of self.old in
-            IfHonest old (OnOk result (Reads at (content old.slots file) into.old into.new)) }
+        ensures reads { let old = disk_of self.old in
+            ReadsAt file at old (disk_of self.new) into.old into.new result }
 
         // Of a file of the folder alone, and the names stay.
         ensures file { OnOk result (file ≤ length self.old.names) }
@@ -199,18 +191,7 @@ impl<R: Files> Backing for FolderBacking<R> {
     }
 
     fn write_at(&mut self, file: FileId, at: u32, bytes: &[u8]) -> Result<(), StoreFault>
-        ensures honest { (disk_of self.new).honest ≡ (disk_of self.old).honest }
-        ensures counts { Counts (disk_of self.old) (disk_of self.new) result }
-        ensures slot { OnOk result (IsSlot file) }
-        ensures others { let old = disk_of self.old in
-            IfHonest old (OthersStay file old.slots (disk_of self.new).slots) }
-        ensures written { let old = disk_of self.old in
-            let new = content (disk_of self.new).slots file in
-            IfHonest old (OnOk result (Writes at bytes.now (content old.slots file) new)) }
-        ensures torn { let old = disk_of self.old in
-            let new = disk_of self.new in let n = length bytes.now in
-            IfHonest old (OnErr result
-            (Tears at n (content old.slots file) (content new.slots file))) }
+        ensures writes { WritesAt file at bytes.now (disk_of self.old) (disk_of self.new) result }
 
         // Of a file of the folder alone, and the names stay.
         ensures file { OnOk result (file ≤ length self.old.names) }

@@ -9,8 +9,9 @@
 //! The contract, of every store: `read_at` gives the bytes of a range that lies in the file (`read`, `slots`), `write_at`
 //! puts bytes there (`written`, `others`, `torn`), both only of the files 1 to 1,024 (`slot`); a failure counts one more
 //! (`counts`), and none makes a store honest or not (`honest`); `length` tells one length of a file until it is read or
-//! written (`told`), an honest store that of what is stored. Of a list in memory: when a call succeeds (`succeeds`).
-//! Of a folder: its names, which rise in byte order, each once (`FolderBacking::count`, `name`).
+//! written (`told`), an honest store that of what is stored. The stores here say so by one record a call (`ReadsAt`,
+//! `WritesAt`). Of a list in memory: when a call succeeds (`ReadsMemory`, `WritesMemory`). Of a folder: its names, which
+//! rise in byte order, each once (`FolderBacking::count`, `name`).
 //!
 //!     let mut slots = Slots::new(alloc);
 //!     slots.append(FileId::new(1), b"abcdef")?;

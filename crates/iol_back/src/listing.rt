@@ -1,7 +1,7 @@
 //! The files that lie in a folder.
 ghost use Rattle.std.specs.Prelude.{◌≡◌, ◌+◌, ◌-◌, ◌<◌, ◌≤◌, [], length, All, Some, IsTrue, slice_get, string_bytes, map};
-ghost use Rattle.iol_back.specs.Folder.{IsSized, Precedes, AreNames};
-ghost use Rattle.iol_core.specs.declared.limits.TheConstants.{MAX_FILES, MAX_FILE_BYTES};
+ghost use Rattle.iol_back.specs.Folder.{AreNames, MayFollow, Precedes};
+ghost use Rattle.iol_core.specs.declared.limits.TheConstants.{MAX_FILE_BYTES};
 
 use iol_core::limits::{MAX_FILE_BYTES, MAX_FILES, MAX_NAME_BYTES};
 use std::alloc::{AllocError, Global};
@@ -128,9 +128,7 @@ impl Listing {
 
     // Whether a file of this name may stand behind the others.
     fn takes(&self, name: &str) -> bool
-        ensures room { IsTrue result → length self.now.names < MAX_FILES }
-        ensures sized { IsTrue result → IsSized name.now }
-        ensures last { IsTrue result → All (λ other. Precedes other name.now) self.now.names }
+        ensures { IsTrue result → MayFollow self.now.names name.now }
     {
         let is_sized = 1 <= name.len() && name.len() <= MAX_NAME_BYTES;
         is_sized && self.entries.len() < MAX_FILES && self.is_last(name)
@@ -149,9 +147,7 @@ impl Listing {
 
     // Adds a file behind the others.
     fn add(&mut self, entry: Entry, stamp: Stamp) -> Result<(), AllocError>
-        requires room { length self.old.names < MAX_FILES }
-        requires sized { IsSized (string_bytes entry.name) }
-        requires last { All (λ other. Precedes other (string_bytes entry.name)) self.old.names }
+        requires { MayFollow self.old.names (string_bytes entry.name) }
     {
         self.entries.reserve(1)?;
         self.stamps.reserve(1)?;

@@ -1,6 +1,7 @@
 //! A store in memory.
-ghost use Rattle.std.specs.Prelude.{◌≡◌, ◌+◌, ◌-◌, ◌<◌, ◌↔◌, min, true, length, OnOk, OnErr, IsOk, IsTrue};
-ghost use Rattle.iol_back.specs.Disk.{Disk, IsSlot, content, lengths_of, raised, CanRead, Counts, Reads, Writes, OthersStay};
+ghost use Rattle.std.specs.Prelude.{◌≡◌, ◌+◌, ◌-◌, ◌<◌, ◌↔◌, min, true, length, IsTrue};
+ghost use Rattle.iol_back.specs.Disk.{Disk, CanRead, lengths_of, raised};
+ghost use Rattle.iol_back.specs.Memory.{ReadsMemory, WritesMemory};
 
 use crate::backing::{Backing, StoreFault};
 use crate::slots::Slots;
@@ -74,14 +75,7 @@ impl Backing for MemoryBacking {
     }
 
     fn read_at(&mut self, file: FileId, at: u32, into: &mut [u8]) -> Result<(), StoreFault>
-        ensures honest { self.new.honest ≡ self.old.honest }
-        ensures counts { Counts self.old self.new result }
-        ensures slot { OnOk result (IsSlot file) }
-        ensures slots { self.new.slots ≡ self.old.slots }
-        ensures read { OnOk result (Reads at (content self.old.slots file) into.old into.new) }
-
-        // It fails for no other reason.
-        ensures succeeds { CanRead self.old file at (length into.old) → IsOk result }
+        ensures { ReadsMemory file at self.old self.new into.old into.new result }
     {
         if !self.can_read(file, at, into.len()) {
             return Err(self.fail());
@@ -92,16 +86,7 @@ impl Backing for MemoryBacking {
     }
 
     fn write_at(&mut self, file: FileId, at: u32, bytes: &[u8]) -> Result<(), StoreFault>
-        ensures honest { self.new.honest ≡ self.old.honest }
-        ensures counts { Counts self.old self.new result }
-        ensures slot { OnOk result (IsSlot file) }
-        ensures others { OthersStay file self.old.slots self.new.slots }
-        ensures written { let new = content self.new.slots file in
-            OnOk result (Writes at bytes.now (content self.old.slots file) new) }
-
-        // A write that fails changes nothing. One inside of the file fails for no other reason.
-        ensures err { OnErr result (content self.new.slots file ≡ content self.old.slots file) }
-        ensures succeeds { CanRead self.old file at (length bytes.now) → IsOk result }
+        ensures { WritesMemory file at bytes.now self.old self.new result }
     {
         if !self.can_read(file, at, 0) || self.slots.overwrite(file, at as usize, bytes).is_err() {
             return Err(self.fail());

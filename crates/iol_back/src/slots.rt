@@ -1,7 +1,7 @@
 //! Lists of bytes by file number.
-ghost use Rattle.std.specs.Prelude.{◌≡◌, ℕ, ◌+◌, ◌-◌, ◌<◌, ◌≤◌, [], ◌++◌, length, OnOk, OnErr, IsOk};
-ghost use Rattle.iol_back.specs.Disk.{IsSlot, content, overwritten, OthersStay, AllStay};
-ghost use Rattle.iol_back.specs.Lists.{items_of};
+ghost use Rattle.std.specs.Prelude.{◌≡◌, ℕ, ◌+◌, ◌-◌, ◌<◌, ◌≤◌, [], length};
+ghost use Rattle.iol_back.specs.Disk.{IsSlot, content};
+ghost use Rattle.iol_back.specs.Lists.{Appends, MayOverwrite, Overwrites, OverwritesFile, Reaches, items_of};
 
 use iol_core::limits::MAX_FILES;
 use iol_core::numbers::FileId;
@@ -30,9 +30,7 @@ impl Model for Slots {
 // Puts bytes over those from `at` on. Refused, it changes nothing.
 fn overwrite(list: &mut Vec<u8>, at: usize, bytes: &[u8]) -> Result<(), AllocError>
     requires { at ≤ length list.old.items }
-    ensures written { OnOk result (list.new.items ≡ overwritten at bytes.now list.old.items) }
-    ensures err { OnErr result (list.new.items ≡ list.old.items) }
-    ensures inside { at + length bytes.now ≤ length list.old.items → IsOk result }
+    ensures { Overwrites at bytes.now list.old.items list.new.items result }
 {
     let inside = bytes.len().min(list.len() - at);
     let (first, rest) = bytes.split_at(inside);
@@ -45,10 +43,7 @@ fn overwrite(list: &mut Vec<u8>, at: usize, bytes: &[u8]) -> Result<(), AllocErr
 fn reach(lists: &mut Vec<Vec<u8>>, alloc: Global, number: usize) -> Result<(), AllocError>
     requires number { number ≤ MAX_FILES }
     requires few { length lists.old.items ≤ MAX_FILES }
-    ensures stay { AllStay (items_of lists.old.items) (items_of lists.new.items) }
-    ensures there { OnOk result (number ≤ length lists.new.items) }
-    ensures few { length lists.new.items ≤ MAX_FILES }
-    ensures already { number ≤ length lists.old.items → IsOk result }
+    ensures { Reaches number lists.old.items lists.new.items result }
 {
     while lists.len() < number {
         lists.reserve(1)?;
@@ -65,19 +60,10 @@ fn write_list(
     at: usize,
     bytes: &[u8],
 ) -> Result<(), AllocError>
-    requires slot { IsSlot number }
-    requires few { length lists.old.items ≤ MAX_FILES }
-    requires begins { at ≤ length (content (items_of lists.old.items) number) }
+    requires { MayOverwrite number at bytes.now lists.old.items }
     ensures few { length lists.new.items ≤ MAX_FILES }
-    ensures others { OthersStay number (items_of lists.old.items) (items_of lists.new.items) }
-    ensures written { let old = items_of lists.old.items in
-        let new = items_of lists.new.items in
-        OnOk result (content new number ≡ overwritten at bytes.now (content old number)) }
-    ensures err { let old = items_of lists.old.items in
-        let new = items_of lists.new.items in
-        OnErr result (content new number ≡ content old number) }
-    ensures inside { let old = content (items_of lists.old.items) number in
-        0 < length bytes.now → at + length bytes.now ≤ length old → IsOk result }
+    ensures writes { let old = items_of lists.old.items in
+        OverwritesFile number at bytes.now old (items_of lists.new.items) result }
 {
     reach(lists, alloc, number)?;
     overwrite(&mut lists[number - 1], at, bytes)
@@ -111,11 +97,7 @@ impl Slots {
     /// Puts bytes at the end of a file. Refused, it changes nothing; no bytes want no memory.
     pub fn append(&mut self, file: FileId, bytes: &[u8]) -> Result<(), AllocError>
         requires { IsSlot file }
-        ensures appended { let old = content self.old file in
-            OnOk result (content self.new file ≡ old ++ bytes.now) }
-        ensures others { OthersStay file self.old self.new }
-        ensures err { OnErr result (content self.new file ≡ content self.old file) }
-        ensures nothing { length bytes.now ≡ 0 → IsOk result }
+        ensures { Appends file bytes.now self.old self.new result }
     {
         let end = self.bytes(file).len();
         self.overwrite(file, end, bytes)
@@ -131,11 +113,7 @@ impl Slots {
     ) -> Result<(), AllocError>
         requires slot { IsSlot file }
         requires begins { at ≤ length (content self.old file) }
-        ensures written { let old = content self.old file in
-            OnOk result (content self.new file ≡ overwritten at bytes.now old) }
-        ensures others { OthersStay file self.old self.new }
-        ensures err { OnErr result (content self.new file ≡ content self.old file) }
-        ensures inside { at + length bytes.now ≤ length (content self.old file) → IsOk result }
+        ensures { OverwritesFile file at bytes.now self.old self.new result }
     {
         if bytes.is_empty() {
             return Ok(());

@@ -10,7 +10,7 @@ use Rattle.iol_evict.specs.declared.entry.Rank.{Rank}
 use Rattle.iol_evict.specs.declared.entry.By.TheVariants.{Place, Height}
 use Rattle.iol_evict.specs.Ranking.{Table, no_entry, is_at, entry_at, with_height}
 use Rattle.iol_evict.specs.Ranks.{rank_by}
-use Rattle.iol_evict.specs.Indexes.{entry_of, one_if, times, AreLive, IsRising, HasRank, HaveSameKeys, Finds, Adds, Takes, IsIndexed}
+use Rattle.iol_evict.specs.Indexes.{entry_of, one_if, times, AreLive, IsIndex, IsRising, HasRank, HaveSameKeys, Finds, Adds, Takes, IsIndexed}
 use Rattle.iol_evict.proofs.Edits.{each-insert, each-remove, remove-cases}
 use Rattle.iol_evict.proofs.Times.{StandsIn, stands-same, same-sym, same-insert, same-remove, each-same}
 use Rattle.iol_evict.proofs.Rising.{SameAt, same-entry, same-others, live-same, live-other, rising-ranks, rising-same, rising-insert, rising-remove}
@@ -18,8 +18,15 @@ use Rattle.iol_evict.proofs.Listed.{is_at-true, entry_at-none}
 use Rattle.iol_evict.proofs.Indexing.{rank_of_place, entries-with_height, entries_of, read, taken-key, taken-gone, has-rank, places-apart}
 
 -- the keys of the second index are live, too
-pub live-heights : (s : Slab Entry) (ks js : List ℕ) → IsIndexed s ks js → AreLive s js
+live-heights : (s : Slab Entry) (ks js : List ℕ) → IsIndexed s ks js → AreLive s js
 live-heights s ks js indexed = record { each = each-same (λ k. ContainsKey s k) ks js indexed.same indexed.live.each }
+
+-- each index by itself
+pub index-places : (s : Slab Entry) (ks js : List ℕ) → IsIndexed s ks js → IsIndex Place s ks
+index-places s ks js indexed = record { live = indexed.live; rising = indexed.places }
+
+pub index-heights : (s : Slab Entry) (ks js : List ℕ) → IsIndexed s ks js → IsIndex Height s js
+index-heights s ks js indexed = record { live = live-heights s ks js indexed; rising = indexed.heights }
 
 -- the same values
 pub indexed-same : (s t : Slab Entry) (ks js : List ℕ) → SameValues s t → IsIndexed s ks js → IsIndexed t ks js
@@ -182,8 +189,8 @@ same-left s t ks js js' rank key taken slot indexed found from_heights updates =
     let one = taken-key Height s js js' key taken indexed.heights (stands-height s ks js found.index key indexed found.within found.is) from_heights in
     same-others s t js' key slot updates (λ i within is. taken-gone Height s js js' (rank_by Height (entry_of s key)) taken indexed.heights from_heights i within (is ∙ sym one))
 
-pub live-left : (s : Slab Entry) (ks js js' : List ℕ) (rank : Rank) (taken : ℕ) → IsIndexed s ks js → Takes Height s rank taken js js' → AreLive s js'
-live-left s ks js js' rank taken indexed takes = record { each = subst (λ (l : List ℕ). (i : ℕ) → i < length l → ContainsKey s (get_or l i 0)) (sym takes.keys) (each-remove (λ k. ContainsKey s k) js takes.index (live-heights s ks js indexed).each takes.within) }
-
-pub rising-left : (s : Slab Entry) (ks js js' : List ℕ) (rank : Rank) (taken : ℕ) → IsIndexed s ks js → Takes Height s rank taken js js' → IsRising Height s js'
-rising-left s ks js js' rank taken indexed takes = subst (λ (l : List ℕ). IsRising Height s l) (sym takes.keys) (rising-remove Height s js takes.index indexed.heights takes.within)
+pub index-left : (s : Slab Entry) (ks js js' : List ℕ) (rank : Rank) (taken : ℕ) → IsIndexed s ks js → Takes Height s rank taken js js' → IsIndex Height s js'
+index-left s ks js js' rank taken indexed takes = subst (λ (l : List ℕ). IsIndex Height s l) (sym takes.keys) (record {
+  live = record { each = each-remove (λ k. ContainsKey s k) js takes.index (live-heights s ks js indexed).each takes.within };
+  rising = rising-remove Height s js takes.index indexed.heights takes.within;
+})

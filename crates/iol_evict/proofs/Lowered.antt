@@ -1,5 +1,5 @@
 -- All entries lowered, and sorted by height anew.
-use Rattle.std.proofs.Common.{◌≡◌, ℕ, ◌+◌, ◌<◌, List, [], length, get_or, map, take, arith, refl, sym, ap, subst, ◌∙◌}
+use Rattle.std.proofs.Common.{◌≡◌, ℕ, ◌+◌, ◌<◌, List, length, get_or, map, take, arith, refl, sym, ap, subst, ◌∙◌}
 use Rattle.std.proofs.lemmas.List.{get_or-take, length-take, length-map, get_or-map, ext_get_or}
 use Rattle.std.proofs.lemmas.List.Sums.{sum_by-insert, sum_by_more}
 use Rattle.slab.specs.Slab.{Slab, ContainsKey}
@@ -46,12 +46,6 @@ same-next s keys old new n in_it same adds = record {
       sum_by_more (one_if k) keys n 0 in_it ∙ ap (λ (t : ℕ). t + one_if k (get_or keys n 0)) (same.each k)
       ∙ sym (sum_by-insert (one_if k) old adds.index (get_or keys n 0)) ∙ ap (times k) (sym adds.keys);
 }
-
-pub same-none : (keys by_height : List ℕ) → by_height ≡ [] → HaveSameKeys (take 0 keys) by_height
-same-none keys by_height none = record { each = λ k. sym (ap (times k) none) }
-
-pub rising-none : (s : Slab Entry) (by_height : List ℕ) → by_height ≡ [] → IsRising Height s by_height
-rising-none s by_height none = record { each = λ i j lt within. absurd (let zero = ap length none in omega (arith, zero, within)) }
 
 -- after all were lowered
 pub rising-lowered : (s t : Slab Entry) (keys : List ℕ) (low : ℕ) → IsRising Place s keys → Lowers low keys (length keys) s t → IsRising Place t keys

@@ -8,7 +8,7 @@ use Rattle.iol_evict.specs.declared.entry.By.{By}
 use Rattle.iol_evict.specs.declared.entry.By.TheVariants.{Place, Height}
 use Rattle.iol_evict.specs.Ranks.{rank_by, RankLt, RankLe}
 use Rattle.iol_evict.specs.Ranking.{no_entry}
-use Rattle.iol_evict.specs.Indexes.{entry_of, rank_at, AreLive, IsRising, IsPlace, IsApart}
+use Rattle.iol_evict.specs.Indexes.{entry_of, rank_at, AreLive, IsIndex, IsRising, IsPlace, IsApart}
 use Rattle.iol_evict.proofs.Comparing.{le_other}
 use Rattle.iol_evict.proofs.Edits.{WasAt, insert-cases, remove-cases}
 
@@ -42,6 +42,9 @@ rising-ranks by s t keys same rising = record {
 
 pub rising-same : (by : By) (s t : Slab Entry) (keys : List ℕ) → SameAt s t keys → IsRising by s keys → IsRising by t keys
 rising-same by s t keys same rising = rising-ranks by s t keys (λ i within. ap (rank_by by) (same-entry s t keys i same within)) rising
+
+pub index-same : (by : By) (s t : Slab Entry) (keys : List ℕ) → SameAt s t keys → IsIndex by s keys → IsIndex by t keys
+index-same by s t keys same index = record { live = live-same s t keys same index.live; rising = rising-same by s t keys same index.rising }
 
 rank_of_key : By → Slab Entry → ℕ → Rank
 rank_of_key by s key = rank_by by (entry_of s key)

@@ -1,6 +1,9 @@
 -- Sorted lists of a slab's keys.
-use Rattle.std.specs.Prelude.{◌≡◌, ℕ, ◌<◌, ◌≤◌, ◌==◌, if◌then◌else◌, List, length, sum_by, slice_index, unwrap_or, insert, remove}
-use Rattle.slab.specs.Slab.{Slab, get, ContainsKey}
+use Rattle.std.specs.Prelude.{◌≡◌, ℕ, ◌+◌, ◌<◌, ◌≤◌, ◌==◌, if◌then◌else◌, List, [], length, sum_by, slice_index, Some, unwrap_or, insert, remove, Result, OnOk}
+use Rattle.std.specs.Global.{Global}
+use Rattle.std.specs.VecDeque.{deque_len, deque_capacity}
+use Rattle.std.specs.declared.collections.VecDeque.{VecDeque}
+use Rattle.slab.specs.Slab.{Slab, get, ContainsKey, HasRoomFor, SameValues, Updates, slab_len}
 use Rattle.iol_evict.specs.declared.entry.Entry.{Entry}
 use Rattle.iol_evict.specs.declared.entry.Rank.{Rank}
 use Rattle.iol_evict.specs.declared.entry.By.{By}
@@ -20,6 +23,11 @@ pub record AreLive (s : Slab Entry) (keys : List ℕ) : Type 0 where
 
 pub record IsRising (by : By) (s : Slab Entry) (keys : List ℕ) : Type 0 where
   pub each : (i j : ℕ) → i < j → j < length keys → RankLt (rank_at by s keys i) (rank_at by s keys j)
+
+-- keys of entries, in their order
+pub record IsIndex (by : By) (s : Slab Entry) (keys : List ℕ) : Type 0 where
+  pub live : AreLive s keys
+  pub rising : IsRising by s keys
 
 -- as many ranks lie before this one
 pub record IsPlace (by : By) (s : Slab Entry) (keys : List ℕ) (rank : Rank) (n : ℕ) : Type 0 where
@@ -76,10 +84,70 @@ pub record IsIndexed (s : Slab Entry) (by_place by_height : List ℕ) : Type 0 w
   pub same : HaveSameKeys by_place by_height
   pub sized : (i : ℕ) → i < length by_place → 0 < (entry_of s (slice_index by_place i)).size
 
--- The entries at the first n of these keys are lower by `low`, and all others as they were.
+-- The entries at the first n of these keys are lower by `low`, and all others as they were. The room stays.
 pub record Lowers (low : ℕ) (keys : List ℕ) (n : ℕ) (old new : Slab Entry) : Type 0 where
   pub done : (i : ℕ) → i < n → i < length keys →
       entry_of new (slice_index keys i) ≡ lowered_by low (entry_of old (slice_index keys i))
   pub rest : (i : ℕ) → n ≤ i → i < length keys →
       entry_of new (slice_index keys i) ≡ entry_of old (slice_index keys i)
   pub live : AreLive new keys
+  pub len : slab_len new ≡ slab_len old
+  pub capacity : new.capacity ≡ old.capacity
+
+-- The entry at a key is this one then, and the room stays.
+pub record SetsEntry (old new : Slab Entry) (key : ℕ) (entry : Entry) : Type 0 where
+  pub updates : Updates old new key (Some entry)
+  pub len : slab_len new ≡ slab_len old
+  pub capacity : new.capacity ≡ old.capacity
+
+-- Keys in a ring, as an index has them.
+
+abbrev pub Keys : Type 0
+Keys = VecDeque ℕ Global
+
+-- a live key may come in, in room that is there
+pub record MayAdd (s : Slab Entry) (key : ℕ) (keys : Keys) : Type 0 where
+  pub there : ContainsKey s key
+  pub room : deque_len keys < deque_capacity keys
+
+-- a key came in, in its place
+pub record AddsKey (by : By) (s : Slab Entry) (key : ℕ) (old new : Keys) : Type 0 where
+  pub adds : Adds by s key old.items new.items
+  pub len : deque_len new ≡ deque_len old + 1
+  pub capacity : deque_capacity old ≤ deque_capacity new
+
+-- the key whose entry has a rank went out
+pub record TakesKey (by : By) (s : Slab Entry) (rank : Rank) (key : ℕ) (old new : Keys)
+    : Type 0 where
+  pub takes : Takes by s rank key old.items new.items
+  pub len : deque_len new + 1 ≡ deque_len old
+  pub capacity : deque_capacity new ≡ deque_capacity old
+
+-- no keys, and room for so many
+pub record HasRoomAlone (count : ℕ) (keys : Keys) : Type 0 where
+  pub empty : keys.items ≡ []
+  pub none : deque_len keys ≡ 0
+  pub room : count ≤ deque_capacity keys
+
+-- all of these keys came in, and are in the order of height
+pub record SortsAll (s : Slab Entry) (keys : List ℕ) (old new : Keys) : Type 0 where
+  pub rising : IsRising Height s new.items
+  pub same : HaveSameKeys keys new.items
+  pub len : deque_len new ≡ length keys
+  pub capacity : deque_capacity old ≤ deque_capacity new
+
+-- Room was made for so many keys more. They are as they were, and refused, there is no less room.
+pub record ReservesKeys {E : Type 0} (count : ℕ) (old new : Keys) (r : Result (Unit {0}) E)
+    : Type 0 where
+  pub room : OnOk r (deque_len new + count ≤ deque_capacity new)
+  pub items : new.items ≡ old.items
+  pub len : deque_len new ≡ deque_len old
+  pub capacity : deque_capacity old ≤ deque_capacity new
+
+-- The same of entries.
+pub record ReservesEntries {E : Type 0} (count : ℕ) (old new : Slab Entry)
+    (r : Result (Unit {0}) E) : Type 0 where
+  pub room : OnOk r (HasRoomFor new count)
+  pub values : SameValues old new
+  pub len : slab_len new ≡ slab_len old
+  pub capacity : old.capacity ≤ new.capacity

@@ -1,6 +1,6 @@
 -- The entries of an order and what becomes of them, by GreedyDual-Size (Cao and Irani, "Cost-Aware
 -- WWW Proxy Caching Algorithms", 1997).
-use Rattle.std.specs.Prelude.{ℕ, ◌+◌, ◌-◌, ◌*◌, ◌/◌, ◌^◌, ◌==◌, ◌&&◌, ◌||◌, nat_lt, if◌then◌else◌, Bool, List, [], ◌∷◌, map, find, Option, unwrap_or}
+use Rattle.std.specs.Prelude.{◌≡◌, ℕ, ◌+◌, ◌-◌, ◌*◌, ◌/◌, ◌^◌, ◌<◌, ◌≤◌, ◌==◌, ◌&&◌, ◌||◌, nat_lt, if◌then◌else◌, Bool, List, [], ◌∷◌, map, find, Option, None, unwrap_or, Result, IsOk, OnOk, OnErr}
 use Rattle.iol_evict.specs.declared.entry.Entry.{Entry}
 use Rattle.iol_evict.specs.declared.entry.TheConstants.{MAX_LOW}
 
@@ -91,3 +91,23 @@ with_one_kept r = record r { room = r.room - 1; kept = r.kept + 1 }
 -- a place that was kept is room again
 abbrev pub with_one_given_back : Ranking → Ranking
 with_one_given_back r = record r { room = r.room + 1; kept = r.kept - 1 }
+
+-- an entry may come in, in room that is there: it has bytes, and none lies in its place
+pub record MayPut (t : Table) (e : Entry) : Type 0 where
+  pub room : 0 < t.room
+  pub absent : entry_at t.entries e.file e.at ≡ None
+  pub sized : 0 < e.size
+
+-- No room is lost where so much is wanted: where there is as much it is not refused, and refused, it
+-- stays as it was.
+pub record KeepsRoom {E : Type 0} (count old new : ℕ) (r : Result (Unit {0}) E) : Type 0 where
+  pub no_less : old ≤ new
+  pub err : OnErr r (new ≡ old)
+  pub succeeds : count ≤ old → IsOk r
+
+-- Room was made for so many entries more, and those that are there stay.
+pub record Reserves {E : Type 0} (count : ℕ) (old new : Table) (r : Result (Unit {0}) E)
+    : Type 0 where
+  pub room : OnOk r (count ≤ new.room)
+  pub entries : new.entries ≡ old.entries
+  pub keeps : KeepsRoom count old.room new.room r

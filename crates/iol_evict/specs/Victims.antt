@@ -1,11 +1,11 @@
 -- Which entry goes first.
-use Rattle.std.specs.Prelude.{◌≡◌, ℕ, ◌<◌, ◌≤◌, ◌⊎◌, Bool, true, false, List, length, slice_index, All, Contains}
+use Rattle.std.specs.Prelude.{◌≡◌, ℕ, ◌<◌, ◌≤◌, ◌⊎◌, Bool, true, false, List, [], length, slice_index, All, Contains, Option, MatchOption}
 use Rattle.slab.specs.Slab.{Slab}
 use Rattle.iol_evict.specs.declared.entry.Entry.{Entry}
 use Rattle.iol_evict.specs.declared.entry.Rank.{Rank}
 use Rattle.iol_evict.specs.declared.entry.By.TheVariants.{Height}
 use Rattle.iol_evict.specs.Ranks.{rank_by, RankLt}
-use Rattle.iol_evict.specs.Indexes.{entry_of, rank_at}
+use Rattle.iol_evict.specs.Indexes.{IsIndex, entry_of, rank_at}
 
 -- by height, then file, then place
 pub record KeyLe (a b : Entry) : Type 0 where
@@ -48,3 +48,16 @@ pub record GoesFirst (in_use : ℕ → ℕ → Bool) (s : Slab Entry) (keys : Li
 -- all of these keys whose entries lie below a rank are in use
 pub record KeysUsedBelow (in_use : ℕ → ℕ → Bool) (rank : Rank) (s : Slab Entry) (keys : List ℕ) : Type 0 where
   pub each : (i : ℕ) → i < length keys → RankLt (rank_at Height s keys i) rank → is_used in_use s keys i ≡ true
+
+-- Keys may be searched from this rank on for the entry that goes first.
+pub record MaySearch (can_ask : ℕ → ℕ → Type 0) (in_use : ℕ → ℕ → Bool) (rank : Rank)
+    (s : Slab Entry) (keys : List ℕ) : Type 0 where
+  pub index : IsIndex Height s keys
+  pub ask : CanAskOf can_ask s keys
+  pub below : KeysUsedBelow in_use rank s keys
+
+-- The entry that goes first was found, if there are any, and all below this rank are in use.
+pub record FindsFirst (in_use : ℕ → ℕ → Bool) (rank : Rank) (es : List Entry)
+    (found : Option (ℕ × ℕ)) : Type 0 where
+  pub first : MatchOption found (es ≡ []) (IsVictim in_use es)
+  pub below : AreUsedBelow in_use rank es

@@ -1,10 +1,10 @@
 //! Entries, found by place and by height.
-ghost use Rattle.std.specs.Prelude.{◌≡◌, ◌≢◌, ◌+◌, ◌-◌, ◌<◌, ◌≤◌, [], All, None, MatchOption, OnOk, OnErr, IsOk, map};
+ghost use Rattle.std.specs.Prelude.{◌≡◌, ◌≢◌, ◌+◌, ◌-◌, ◌<◌, ◌≤◌, [], All, None, map};
 ghost use Rattle.std.specs.VecDeque.{deque_len, deque_capacity};
-ghost use Rattle.slab.specs.Slab.{get, HasRoomFor, slab_len, SameValues};
-ghost use Rattle.iol_evict.specs.Indexes.{entry_of, IsIndexed};
-ghost use Rattle.iol_evict.specs.Ranking.{Table, entry_at, entry_or, put_in, without, with_height, lowered_by};
-ghost use Rattle.iol_evict.specs.Victims.{AreUsedBelow, IsVictim};
+ghost use Rattle.slab.specs.Slab.{get, HasRoomFor};
+ghost use Rattle.iol_evict.specs.Indexes.{entry_of, IsIndexed, ReservesEntries, ReservesKeys};
+ghost use Rattle.iol_evict.specs.Ranking.{MayPut, Reserves, Table, entry_at, entry_or, put_in, without, with_height, lowered_by};
+ghost use Rattle.iol_evict.specs.Victims.{AreUsedBelow, FindsFirst};
 
 use crate::entry::{By, Entry, Rank};
 use crate::index::{find_key, insert_key, read_entry, remove_key, write_height};
@@ -68,18 +68,9 @@ fn reserve_each(
     by_height: &mut VecDeque<usize>,
     count: usize,
 ) -> Result<(), AllocError>
-    ensures slab_room { OnOk result (HasRoomFor slab.new count) }
-    ensures place_room { OnOk result (deque_len by_place.new + count ≤ deque_capacity by_place.new) }
-    ensures height_room { OnOk result (deque_len by_height.new + count ≤ deque_capacity by_height.new) }
-    ensures values { SameValues slab.old slab.new }
-    ensures len { slab_len slab.new ≡ slab_len slab.old }
-    ensures places { by_place.new.items ≡ by_place.old.items }
-    ensures place_len { deque_len by_place.new ≡ deque_len by_place.old }
-    ensures heights { by_height.new.items ≡ by_height.old.items }
-    ensures height_len { deque_len by_height.new ≡ deque_len by_height.old }
-    ensures slab_kept { slab.old.capacity ≤ slab.new.capacity }
-    ensures places_kept { deque_capacity by_place.old ≤ deque_capacity by_place.new }
-    ensures heights_kept { deque_capacity by_height.old ≤ deque_capacity by_height.new }
+    ensures slab { ReservesEntries count slab.old slab.new result }
+    ensures places { ReservesKeys count by_place.old by_place.new result }
+    ensures heights { ReservesKeys count by_height.old by_height.new result }
 {
     slab.reserve(count)?;
     by_place.reserve(count)?;
@@ -102,11 +93,7 @@ impl Entries {
 
     /// Makes room for so many more.
     pub(crate) fn reserve(&mut self, count: usize) -> Result<(), AllocError>
-        ensures room { OnOk result (count ≤ self.new.room) }
-        ensures entries { self.new.entries ≡ self.old.entries }
-        ensures no_less { self.old.room ≤ self.new.room }
-        ensures err { OnErr result (self.new.room ≡ self.old.room) }
-        ensures succeeds { count ≤ self.old.room → IsOk result }
+        ensures { Reserves count self.old self.new result }
     {
         if count <= self.room {
             return Ok(());
@@ -140,9 +127,7 @@ impl Entries {
 
     /// Puts an entry in, in room that is there.
     pub(crate) fn insert(&mut self, entry: Entry)
-        requires room { 0 < self.old.room }
-        requires absent { entry_at self.old.entries entry.file entry.at ≡ None }
-        requires sized { 0 < entry.size }
+        requires { MayPut self.old entry }
         ensures { let new = put_in self.old.entries entry in
             self.new ≡ record { entries = new; room = self.old.room - 1 } }
     {
@@ -212,9 +197,7 @@ impl Entries {
     pub(crate) fn least<U: InUse>(&self, users: &U, passed: &mut Rank) -> Option<(FileId, u32)>
         requires ask { All (λ e. U.can_ask users.now e.file e.at) self.now.entries }
         requires below { AreUsedBelow (U.in_use users.now) passed.old self.now.entries }
-        ensures first { MatchOption result (self.now.entries ≡ [])
-            (IsVictim (U.in_use users.now) self.now.entries) }
-        ensures below { AreUsedBelow (U.in_use users.now) passed.new self.now.entries }
+        ensures { FindsFirst (U.in_use users.now) passed.new self.now.entries result }
     {
         first_idle(&self.slab, &self.by_height, users, passed)
     }

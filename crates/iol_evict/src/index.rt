@@ -1,8 +1,7 @@
 //! Sorted lists of a slab's keys.
-ghost use Rattle.std.specs.Prelude.{◌≡◌, ◌+◌, ◌-◌, ◌/◌, ◌<◌, ◌≤◌, Some};
-ghost use Rattle.std.specs.VecDeque.{deque_len, deque_capacity};
-ghost use Rattle.slab.specs.Slab.{ContainsKey, Updates, slab_len};
-ghost use Rattle.iol_evict.specs.Indexes.{entry_of, AreLive, IsRising, IsPlace, HasRank, Finds, Adds, Takes};
+ghost use Rattle.std.specs.Prelude.{◌≡◌, ◌+◌, ◌-◌, ◌/◌, ◌<◌};
+ghost use Rattle.slab.specs.Slab.{ContainsKey};
+ghost use Rattle.iol_evict.specs.Indexes.{AddsKey, Finds, HasRank, IsIndex, IsPlace, MayAdd, SetsEntry, TakesKey, entry_of};
 
 use crate::entry::{By, Entry, Rank};
 use crate::rank::{comes_before, rank_of};
@@ -20,18 +19,15 @@ pub(crate) fn read_entry(entries: &Slab<Entry>, key: usize) -> Entry
 /// Gives the entry at a key another height.
 pub(crate) fn write_height(slab: &mut Slab<Entry>, key: usize, height: u64)
     requires { ContainsKey slab.old key }
-    ensures updates { let new = record (entry_of slab.old key) { height = height } in
-        Updates slab.old slab.new key (Some new) }
-    ensures len { slab_len slab.new ≡ slab_len slab.old }
-    ensures capacity { slab.new.capacity ≡ slab.old.capacity }
+    ensures { let new = record (entry_of slab.old key) { height = height } in
+        SetsEntry slab.old slab.new key new }
 {
     slab[key].height = height;
 }
 
 /// How many keys come before a rank.
 pub(crate) fn position(entries: &Slab<Entry>, keys: &VecDeque<usize>, by: By, rank: &Rank) -> usize
-    requires live { AreLive entries.now keys.now.items }
-    requires rising { IsRising by entries.now keys.now.items }
+    requires { IsIndex by entries.now keys.now.items }
     ensures { IsPlace by entries.now keys.now.items rank.now result }
 {
     let mut low = 0;
@@ -50,8 +46,7 @@ pub(crate) fn position(entries: &Slab<Entry>, keys: &VecDeque<usize>, by: By, ra
 
 /// The key whose entry has this rank.
 pub(crate) fn find_key(entries: &Slab<Entry>, keys: &VecDeque<usize>, by: By, rank: &Rank) -> usize
-    requires live { AreLive entries.now keys.now.items }
-    requires rising { IsRising by entries.now keys.now.items }
+    requires index { IsIndex by entries.now keys.now.items }
     requires there { HasRank by entries.now keys.now.items rank.now }
     ensures { Finds by entries.now keys.now.items rank.now result }
 {
@@ -60,13 +55,9 @@ pub(crate) fn find_key(entries: &Slab<Entry>, keys: &VecDeque<usize>, by: By, ra
 
 /// Puts a key in its place, in room that is there.
 pub(crate) fn insert_key(entries: &Slab<Entry>, keys: &mut VecDeque<usize>, by: By, key: usize)
-    requires live { AreLive entries.now keys.old.items }
-    requires there { ContainsKey entries.now key }
-    requires rising { IsRising by entries.now keys.old.items }
-    requires room { deque_len keys.old < deque_capacity keys.old }
-    ensures adds { Adds by entries.now key keys.old.items keys.new.items }
-    ensures len { deque_len keys.new ≡ deque_len keys.old + 1 }
-    ensures capacity { deque_capacity keys.old ≤ deque_capacity keys.new }
+    requires index { IsIndex by entries.now keys.old.items }
+    requires may { MayAdd entries.now key keys.old }
+    ensures { AddsKey by entries.now key keys.old keys.new }
 {
     let entry = read_entry(entries, key);
     let place = position(entries, keys, by, &rank_of(by, &entry));
@@ -80,12 +71,9 @@ pub(crate) fn remove_key(
     by: By,
     rank: &Rank,
 ) -> usize
-    requires live { AreLive entries.now keys.old.items }
-    requires rising { IsRising by entries.now keys.old.items }
+    requires index { IsIndex by entries.now keys.old.items }
     requires there { HasRank by entries.now keys.old.items rank.now }
-    ensures takes { Takes by entries.now rank.now result keys.old.items keys.new.items }
-    ensures len { deque_len keys.new + 1 ≡ deque_len keys.old }
-    ensures capacity { deque_capacity keys.new ≡ deque_capacity keys.old }
+    ensures { TakesKey by entries.now rank.now result keys.old keys.new }
 {
     let place = position(entries, keys, by, rank);
     let key = keys[place];

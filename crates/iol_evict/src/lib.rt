@@ -9,7 +9,7 @@
 //!
 //! The contract. `enter`, `hit`, `leave` and `evict` are the order's own words (`entered`, `hit_at`, `left_at`, `evicted_at`);
 //! `least` is the least entry that is not in use (`first`, `below`); `low` is L, `height` an entry's. Room is reserved first
-//! (`reserve`, clauses `room`, `same`, `err`), and a place kept for an entry to come (`keep`, `give_back`), so that entering
+//! (`reserve`, clauses `room`, `same`, `keeps`), and a place kept for an entry to come (`keep`, `give_back`), so that entering
 //! cannot fail.
 //!
 //!     order.reserve(1)?;

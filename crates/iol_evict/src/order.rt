@@ -1,6 +1,6 @@
 //! The order in which parts of files are evicted.
-ghost use Rattle.std.specs.Prelude.{◌≡◌, ◌≢◌, ℕ, ◌+◌, ◌-◌, ◌*◌, ◌/◌, ◌^◌, ◌<◌, ◌≤◌, [], All, Bool, None, MatchOption, OnOk, OnErr, IsOk};
-ghost use Rattle.iol_evict.specs.Ranking.{Ranking, worth, entry_at, entry_or, entered, hit_at, left_at, evicted_at, with_one_kept, with_one_given_back};
+ghost use Rattle.std.specs.Prelude.{◌≡◌, ◌≢◌, ℕ, ◌+◌, ◌-◌, ◌*◌, ◌/◌, ◌^◌, ◌<◌, ◌≤◌, [], All, Bool, None, MatchOption, OnOk};
+ghost use Rattle.iol_evict.specs.Ranking.{KeepsRoom, Ranking, worth, entry_at, entry_or, entered, hit_at, left_at, evicted_at, with_one_kept, with_one_given_back};
 ghost use Rattle.iol_evict.specs.Victims.{AreUsedBelow, IsVictim};
 
 use crate::entries::Entries;
@@ -69,9 +69,7 @@ impl Order {
     pub fn reserve(&mut self, count: usize) -> Result<(), AllocError>
         ensures room { OnOk result (count ≤ self.new.room) }
         ensures same { self.new ≡ record self.old { room = self.new.room } }
-        ensures no_less { self.old.room ≤ self.new.room }
-        ensures err { OnErr result (self.new.room ≡ self.old.room) }
-        ensures succeeds { count ≤ self.old.room → IsOk result }
+        ensures keeps { KeepsRoom count self.old.room self.new.room result }
     {
         if count <= self.entries.room() - self.kept {
             return Ok(());

@@ -1,8 +1,6 @@
 //! Finding the entry that goes first.
 ghost use Rattle.std.specs.Prelude.{◌≡◌, ◌<◌, length, MatchOption};
-ghost use Rattle.iol_evict.specs.declared.entry.By.TheVariants.{Height};
-ghost use Rattle.iol_evict.specs.Indexes.{AreLive, IsRising};
-ghost use Rattle.iol_evict.specs.Victims.{CanAskOf, GoesFirst, KeysUsedBelow};
+ghost use Rattle.iol_evict.specs.Victims.{GoesFirst, KeysUsedBelow, MaySearch};
 
 use crate::entry::{By, Entry, Rank};
 use crate::index::{position, read_entry};
@@ -20,10 +18,8 @@ pub(crate) fn first_idle<U: InUse>(
     users: &U,
     passed: &mut Rank,
 ) -> Option<(FileId, u32)>
-    requires live { AreLive slab.now keys.now.items }
-    requires rising { IsRising Height slab.now keys.now.items }
-    requires ask { CanAskOf (U.can_ask users.now) slab.now keys.now.items }
-    requires below { KeysUsedBelow (U.in_use users.now) passed.old slab.now keys.now.items }
+    requires { let ask = U.can_ask users.now in
+        MaySearch ask (U.in_use users.now) passed.old slab.now keys.now.items }
     ensures first { MatchOption result (length keys.now.items ≡ 0)
         (GoesFirst (U.in_use users.now) slab.now keys.now.items) }
     ensures below { KeysUsedBelow (U.in_use users.now) passed.new slab.now keys.now.items }

@@ -1,9 +1,8 @@
-use Rattle.std.proofs.Common.{inl, inr, ◌≡◌, ◌⊎◌, ℕ, zero, suc, ◌+◌, ◌-◌, ◌<◌, ◌≤◌, ◌==◌, Bool, true, false, cond, List, [], ◌∷◌, length, get_or, take, drop, Option, Some, None, IsSome, ap, ◌∙◌, refl, sym, arith, subst, insert, remove, max}
+use Rattle.std.proofs.Common.{inl, inr, ◌≡◌, ◌⊎◌, ℕ, zero, suc, ◌-◌, ◌<◌, ◌≤◌, ◌==◌, Bool, true, false, cond, List, [], ◌∷◌, length, get_or, take, Option, Some, None, IsSome, ap, ◌∙◌, refl, sym, arith, subst, insert, remove, max}
 use Rattle.std.proofs.lemmas.Bool.{cases_lt}
-use Rattle.std.proofs.lemmas.List.{get_or-take, get_or-drop, length-take-le, length-drop}
 use Rattle.std.proofs.lemmas.Bool.Decides.{nat_tests}
-use Rattle.iol_hold.specs.Places.{Place, places, byte_len}
-use Rattle.iol_extent.specs.Extents.{Extent, Cell, extent_over, cover, is_over, cell_at, end_of, IsApart, IsGap, no_place, Adds, Lacks, last_end, begins_at}
+use Rattle.iol_hold.specs.Places.{byte_len}
+use Rattle.iol_extent.specs.Extents.{Extent, Cell, extent_over, cover, is_over, cell_at, end_of, IsApart, IsGap, Adds, Lacks, last_end, begins_at}
 
 none_there : Extent
 none_there = record { at = 0; parts = []; dirty = false }
@@ -203,43 +202,12 @@ lacks_remove es k e a h f =
       gap = λ i o. gone i ∙ ap (λ b. cond b None (cover es i)) o;
     }
 
-pub gap_over : (es : List Extent) (e : Extent) → IsGap es e.at (end_of e) → (i : ℕ) → is_over e i ≡ true → cover es i ≡ None
-gap_over es e g i o = let h = over_from e i o in g.each i h.0 h.1
-
 -- the gap before the extent at k, or after the last
 pub gap_past : (es : List Extent) (k at to : ℕ) → IsApart 0 es → k ≡ length es → ((j : ℕ) (d : Extent) → j < k → end_of (get_or es j d) ≤ at) → IsGap es at to
 gap_past es k at to a h b = record { each = λ i l m. over_past es k i a h (λ j d n. let t = b j d n in omega arith) }
 
 pub gap_before : (es : List Extent) (k at to : ℕ) (e : Extent) → IsApart 0 es → k ≤ length es → ((j : ℕ) (d : Extent) → j < k → end_of (get_or es j d) ≤ at) → e ≡ get_or es k e → to ≤ e.at → IsGap es at to
 gap_before es k at to e a h b r t = record { each = λ i l m. over_before es k i e a h (λ j d n. let u = b j d n in omega arith) r (omega arith) }
-
--- bytes of the extent at k
-pub hit_at : (es : List Extent) (k at i : ℕ) (e : Extent) → IsApart 0 es → k < length es → ((j : ℕ) (d : Extent) → j < k → end_of (get_or es j d) ≤ at) → e ≡ get_or es k e → e.at ≤ at → at ≤ i → i < end_of e → cover es i ≡ Some (cell_at e i)
-hit_at es k at i e a h b r f l t = over_at es k i e a h (λ j d n. let u = b j d n in omega arith) r (omega arith) (omega (arith, ap end_of r))
-
--- an extent cut in two
-pub cover_split : (e x y : Extent) (k : ℕ) (rest : List Extent) (i : ℕ) → x.at ≡ e.at → y.at ≡ e.at + k → k ≤ byte_len e.parts → x.dirty ≡ e.dirty → y.dirty ≡ e.dirty → places x.parts ≡ take k (places e.parts) → places y.parts ≡ drop k (places e.parts) → cover (x ∷ y ∷ rest) i ≡ cover (e ∷ rest) i
-cover_split e x y k rest i xa ya h xd yd xp yp =
-    let ps = places e.parts in
-    let xl : byte_len x.parts ≡ k = ap length xp ∙ length-take-le k ps h in
-    let yl : byte_len y.parts ≡ byte_len e.parts - k = ap length yp ∙ length-drop k ps in
-    elim (cases_lt i e.at) [
-      | inl l ↦ cover_no x (y ∷ rest) i (inl (omega arith)) ∙ cover_no y rest i (inl (omega arith)) ∙ sym (cover_no e rest i (inl l))
-      | inr l ↦ elim (cases_lt i (e.at + k)) [
-        | inl m ↦ cover_yes x (y ∷ rest) i (omega arith) (omega arith)
-            ∙ same_cell x e i xd (ap (λ (t : List Place). get_or t (i - x.at) no_place) xp ∙ get_or-take k ps (i - x.at) no_place (omega arith) ∙ ap (λ n. get_or ps (i - n) no_place) xa)
-            ∙ sym (cover_yes e rest i l (omega arith))
-        | inr m ↦ elim (cases_lt i (end_of e)) [
-          | inl n ↦ cover_no x (y ∷ rest) i (inr (omega arith)) ∙ cover_yes y rest i (omega arith) (omega arith)
-              ∙ same_cell y e i yd (ap (λ (t : List Place). get_or t (i - y.at) no_place) yp ∙ get_or-drop k ps (i - y.at) no_place ∙ ap (λ n. get_or ps n no_place) (let q : k + (i - y.at) ≡ i - e.at = omega arith in q))
-              ∙ sym (cover_yes e rest i l n)
-          | inr n ↦ cover_no x (y ∷ rest) i (inr (omega arith)) ∙ cover_no y rest i (inr (omega arith)) ∙ sym (cover_no e rest i (inr n))
-        ]
-      ]
-    ]
-  where
-    same_cell : (x e : Extent) (i : ℕ) → x.dirty ≡ e.dirty → get_or (places x.parts) (i - x.at) no_place ≡ get_or (places e.parts) (i - e.at) no_place → Some (cell_at x i) ≡ Some (cell_at e i)
-    same_cell x e i d p = cc
 
 pub some_is : {o : Option Cell} {c : Cell} → o ≡ Some c → IsSome o
 some_is {o} {c} h = subst IsSome (sym h) refl

@@ -15,9 +15,6 @@ met_no e from to (inr h) = below e from to h where
   below : (e : Extent) (from to : ℕ) → end_of e ≤ from → meets from to e ≡ false
   below e from to h = grind (arith, nat_tests)
 
-pub met_from : (e : Extent) (from to : ℕ) → meets from to e ≡ true → (e.at < to) × (from < end_of e)
-met_from e from to h = (grind (arith, nat_tests), grind (arith, nat_tests))
-
 -- none beyond the range
 met_late : (low : ℕ) (es : List Extent) (from to : ℕ) → IsApart low es → to ≤ low → met_in es from to ≡ None
 met_late low [] from to a h = refl

@@ -24,13 +24,17 @@ pub record Cell : Type 0 where
   pub place : Place
   pub dirty : Bool
 
--- room was made for so many more, and the extents are as they were; refused, the room is so, too
+-- no room is lost where so much is wanted: it is refused only where there is less, and then stays as it was
+pub record KeepsRoom {A E : Type 0} (count old new : ℕ) (r : Result A E) : Type 0 where
+  pub no_less : old ≤ new
+  pub needed : OnErr r (old < count)
+  pub err : OnErr r (new ≡ old)
+
+-- room was made for so many more, and the extents are as they were
 pub record Reserves {A E : Type 0} (count : ℕ) (old new : ExtentMap) (r : Result A E) : Type 0 where
   pub room : OnOk r (count ≤ new.room)
   pub same : new ≡ record old { room = new.room }
-  pub no_less : old.room ≤ new.room
-  pub needed : OnErr r (old.room < count)
-  pub err : OnErr r (new.room ≡ old.room)
+  pub keeps : KeepsRoom count old.room new.room r
 
 abbrev pub extent_of : (at : ℕ) → (parts : List Slice) → (dirty : Bool) → Extent
 extent_of at parts dirty = record { at = at; parts = parts; dirty = dirty }

@@ -1,7 +1,7 @@
 -- Extents in a slab, by their keys.
-use Rattle.std.specs.Prelude.{◌≢◌, ℕ, false, List, [], ◌∷◌, All, unwrap_or}
-use Rattle.slab.specs.Slab.{Slab, get, ContainsKey}
-use Rattle.iol_extent.specs.Extents.{Each, Extent, extent_of}
+use Rattle.std.specs.Prelude.{◌≡◌, ◌≢◌, ℕ, ◌+◌, ◌-◌, ◌<◌, ◌≤◌, ◌^◌, false, List, [], ◌∷◌, length, slice_index_or, insert, remove, All, Some, unwrap_or}
+use Rattle.slab.specs.Slab.{Slab, get, ContainsKey, Updates, slab_len}
+use Rattle.iol_extent.specs.Extents.{Each, Extent, ExtentMap, as_clean, end_of, extent_of}
 
 -- the extent at a key
 abbrev pub extent_at : Slab Extent → (key : ℕ) → Extent
@@ -20,3 +20,27 @@ AreDistinct (key ∷ keys) = IsNotIn key keys × AreDistinct keys
 pub record AreKeys (s : Slab Extent) (keys : List ℕ) : Type 0 where
   pub live : All (ContainsKey s) keys
   pub distinct : AreDistinct keys
+
+-- The extent at a key is clean then, in as much room.
+pub record Cleans (old new : Slab Extent) (key : ℕ) : Type 0 where
+  pub updates : Updates old new key (Some (as_clean (extent_at old key)))
+  pub len : slab_len new ≡ slab_len old
+  pub capacity : new.capacity ≡ old.capacity
+
+-- An extent came in at a place of the list, in room that was there.
+pub record Inserts (place : ℕ) (piece : Extent) (old new : ExtentMap) : Type 0 where
+  pub extents : new.extents ≡ insert old.extents place piece
+  pub room : new.room ≡ old.room - 1
+  pub few : length old.extents + 1 < 2 ^ 64
+
+-- The extent at a place of the list went out, and left room for one.
+pub record Removes (place : ℕ) (taken : Extent) (old new : ExtentMap) : Type 0 where
+  pub piece : taken ≡ slice_index_or old.extents place taken
+  pub extents : new.extents ≡ remove old.extents place
+  pub room : new.room ≡ old.room + 1
+
+-- so many extents end at a place or before it
+pub record EndBefore (at : ℕ) (es : List Extent) (n : ℕ) : Type 0 where
+  pub within : n ≤ length es
+  pub before : (k : ℕ) (d : Extent) → k < n → end_of (slice_index_or es k d) ≤ at
+  pub after : (d : Extent) → n < length es → at < end_of (slice_index_or es n d)

@@ -1,5 +1,5 @@
 -- Hits and gaps of a range.
-use Rattle.std.specs.Prelude.{◌≡◌, ℕ, ◌<◌, ◌≤◌, ◌⊎◌, min, List, [], ◌∷◌, length, slice_index_or, All, IsSome}
+use Rattle.std.specs.Prelude.{◌≡◌, ℕ, ◌<◌, ◌≤◌, ◌⊎◌, min, Bool, false, IsTrue, List, [], ◌∷◌, length, slice_index_or, All, IsSome}
 use Rattle.iol_extent.specs.declared.spans.Span.{Span}
 use Rattle.iol_extent.specs.Extents.{Extent, cover, end_of, IsGap}
 
@@ -28,6 +28,15 @@ IsGapSpan es s = IsGap es s.from s.to
 -- a gap goes on to the next extent, or to the end of the range
 pub record IsWhole (es : List Extent) (to : ℕ) (s : Span) : Type 0 where
   pub ends : s.to < to → IsSome (cover es s.to)
+
+-- The hit or the gap of a range that begins at a place, and which it is.
+pub record BeginsAt (es : List Extent) (at to : ℕ) (s : Span) (is_hit : Bool) : Type 0 where
+  pub from : s.from ≡ at
+  pub further : at < s.to
+  pub within : s.to ≤ to
+  pub hit : IsTrue is_hit → IsHit es to s
+  pub gap : is_hit ≡ false → IsGap es at s.to
+  pub whole : is_hit ≡ false → IsWhole es to s
 
 -- Hits and gaps of a range, each in order. Each byte of the range lies in one of them.
 pub record Tile (es : List Extent) (from to : ℕ) (found missed : List Span) : Type 0 where

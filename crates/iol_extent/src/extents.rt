@@ -1,8 +1,8 @@
 //! The extents of a file.
-ghost use Rattle.std.specs.Prelude.{◌≡◌, ◌+◌, ◌-◌, ◌<◌, ◌≤◌, ◌^◌, [], length, All, IfOk, IfSome, OnOk, OnErr, MatchOption, Some, None, insert, remove, max, cond, IsSome, IsTrue, true, false};
+ghost use Rattle.std.specs.Prelude.{◌≡◌, ◌+◌, ◌-◌, ◌<◌, ◌≤◌, ◌^◌, [], length, All, IfOk, IfSome, OnOk, MatchOption, Some, None, insert, remove, max, cond, IsSome, true, false};
 ghost use Rattle.iol_hold.specs.Prelude.{byte_len};
-ghost use Rattle.iol_extent.specs.Extents.{Extent, IsFirstMet, met_in, extent_of, extent_over, extent_in, dirty_in, cover, cell_in, dirty_count, end_of, IsApart, IsGap, Adds, Lacks, last_end, begins_at, put_in, without_at, cleaned_at, IsFirstDirty};
-ghost use Rattle.iol_extent.specs.Spans.{IsHit, IsWhole, Tile};
+ghost use Rattle.iol_extent.specs.Extents.{Extent, IsFirstMet, met_in, extent_of, extent_over, extent_in, dirty_in, cover, cell_in, dirty_count, end_of, IsApart, IsGap, Adds, KeepsRoom, Lacks, last_end, begins_at, put_in, without_at, cleaned_at, IsFirstDirty};
+ghost use Rattle.iol_extent.specs.Spans.{BeginsAt, Tile};
 
 use crate::piece::Piece;
 use crate::pieces::{Pieces, count_before};
@@ -74,9 +74,7 @@ impl Extents {
     pub fn reserve(&mut self, count: usize) -> Result<(), AllocError>
         ensures room { OnOk result (count ≤ self.new.room) }
         ensures same { self.new ≡ record self.old { room = self.new.room } }
-        ensures no_less { self.old.room ≤ self.new.room }
-        ensures needed { OnErr result (self.old.room < count) }
-        ensures err { OnErr result (self.new.room ≡ self.old.room) }
+        ensures keeps { KeepsRoom count self.old.room self.new.room result }
     {
         self.pieces.reserve(count)
     }
@@ -170,12 +168,7 @@ impl Extents {
     // The hit or the gap that begins at a place, and which it is.
     fn span_at(&self, at: u32, to: u32) -> (Span, bool)
         requires { at < to }
-        ensures from { result.0.from ≡ at }
-        ensures further { at < result.0.to }
-        ensures within { result.0.to ≤ to }
-        ensures hit { IsTrue result.1 → IsHit self.now.extents to result.0 }
-        ensures gap { result.1 ≡ false → IsGap self.now.extents at result.0.to }
-        ensures whole { result.1 ≡ false → IsWhole self.now.extents to result.0 }
+        ensures { BeginsAt self.now.extents at to result.0 result.1 }
     {
         let found = count_before(&self.pieces, at);
         if found == self.pieces.len() {

@@ -1,8 +1,8 @@
 //! Extents, one after another.
-ghost use Rattle.std.specs.Prelude.{◌≡◌, ℕ, ◌+◌, ◌-◌, ◌/◌, ◌<◌, ◌≤◌, ◌^◌, [], length, slice_index_or, slice_set, insert, remove, Some};
-ghost use Rattle.slab.specs.Slab.{ContainsKey, Updates, slab_len};
-ghost use Rattle.iol_extent.specs.Extents.{Extent, as_clean, end_of, IsApart, Reserves};
-ghost use Rattle.iol_extent.specs.Keys.{extent_at};
+ghost use Rattle.std.specs.Prelude.{◌≡◌, ◌+◌, ◌-◌, ◌/◌, ◌<◌, ◌≤◌, [], length, slice_index_or, slice_set};
+ghost use Rattle.slab.specs.Slab.{ContainsKey};
+ghost use Rattle.iol_extent.specs.Extents.{Extent, as_clean, IsApart, Reserves};
+ghost use Rattle.iol_extent.specs.Keys.{Cleans, EndBefore, Inserts, Removes};
 
 use crate::piece::Piece;
 use iol_tier::tiers::TieredVec;
@@ -86,9 +86,7 @@ impl Pieces {
     pub(crate) fn insert(&mut self, place: usize, piece: Piece)
         requires place { place ≤ length self.old.extents }
         requires room { 0 < self.old.room }
-        ensures extents { self.new.extents ≡ insert self.old.extents place piece }
-        ensures room { self.new.room ≡ self.old.room - 1 }
-        ensures few { length self.old.extents + 1 < 2 ^ 64 }
+        ensures { Inserts place piece self.old self.new }
     {
         let key = self.slab.insert_reserved(piece);
         self.keys.insert(place, key);
@@ -98,9 +96,7 @@ impl Pieces {
     /// Takes a piece out.
     pub(crate) fn remove(&mut self, place: usize) -> Piece
         requires { place < length self.old.extents }
-        ensures piece { result ≡ slice_index_or self.old.extents place result }
-        ensures extents { self.new.extents ≡ remove self.old.extents place }
-        ensures room { self.new.room ≡ self.old.room + 1 }
+        ensures { Removes place result self.old self.new }
     {
         let key = self.keys.remove(place);
         self.room += 1;
@@ -122,9 +118,7 @@ impl Pieces {
 // The piece at a key is clean then.
 fn clean_at(slab: &mut Slab<Piece>, key: usize)
     requires { ContainsKey slab.old key }
-    ensures updates { Updates slab.old slab.new key (Some (as_clean (extent_at slab.old key))) }
-    ensures len { slab_len slab.new ≡ slab_len slab.old }
-    ensures capacity { slab.new.capacity ≡ slab.old.capacity }
+    ensures { Cleans slab.old slab.new key }
 {
     slab[key].dirty = false;
 }
@@ -132,11 +126,7 @@ fn clean_at(slab: &mut Slab<Piece>, key: usize)
 /// How many end at a place or before it.
 pub(crate) fn count_before(pieces: &Pieces, at: u32) -> usize
     requires { IsApart 0 pieces.now.extents }
-    ensures within { result ≤ length pieces.now.extents }
-    ensures before { (k : ℕ) (d : Extent) → k < result →
-        end_of (slice_index_or pieces.now.extents k d) ≤ at }
-    ensures after { (d : Extent) → result < length pieces.now.extents →
-        at < end_of (slice_index_or pieces.now.extents result d) }
+    ensures { EndBefore at pieces.now.extents result }
 {
     let mut low = 0;
     let mut high = pieces.len();

@@ -3,7 +3,7 @@ use Rattle.std.proofs.Common.{inl, inr, ◌≡◌, ◌≢◌, ℕ, ◌+◌, ◌-
 use Rattle.std.proofs.lemmas.Bool.{cases_eq}
 use Rattle.std.proofs.lemmas.Bool.Decides.{nat_tests}
 use Rattle.std.proofs.lemmas.List.{length-set, get_or-set_same, get_or-set_other, get_or_default, set_comm}
-use Rattle.iol_tier.specs.Blocks.{Block, joined, block_at, size_at, width_at, no_block, one_if, Shifts}
+use Rattle.iol_tier.specs.Blocks.{Block, joined, block_at, size_at, width_at, no_block, one_if, HasPlace, MovesPlace, Shifts}
 use Rattle.iol_tier.proofs.Joined.{joined-border}
 
 pub one_here : (k at : ℕ) → k ≡ at → one_if k at ≡ 1
@@ -40,14 +40,14 @@ crossed bs at next to from b c n h e bl cl other bw cw = record {
       (λ d f. refl);
 }
 
-pub pulled : (bs : List Block) (at next : ℕ) (b c : Block) → next ≡ at + 1 → next < length bs → b.keys ++ c.keys ≡ (block_at bs at).keys ++ (block_at bs next).keys → length b.keys ≡ size_at bs at + 1 → length c.keys + 1 ≡ size_at bs next → b.capacity ≡ width_at bs at → c.capacity ≡ width_at bs next → Shifts at next bs (set (set bs next c) at b)
+pulled : (bs : List Block) (at next : ℕ) (b c : Block) → next ≡ at + 1 → next < length bs → b.keys ++ c.keys ≡ (block_at bs at).keys ++ (block_at bs next).keys → length b.keys ≡ size_at bs at + 1 → length c.keys + 1 ≡ size_at bs next → b.capacity ≡ width_at bs at → c.capacity ≡ width_at bs next → Shifts at next bs (set (set bs next c) at b)
 pulled bs at next b c n h e bl cl bw cw =
     crossed bs at next at next b c n h e
     (omega (arith, bl, one_here at at refl, one_other at next (omega (arith, n))))
     (omega (arith, cl, one_here next next refl, one_other next at (omega (arith, n))))
     (λ k d f. one_other k next f ∙ sym (one_other k at d)) bw cw
 
-pub pushed : (bs : List Block) (at next : ℕ) (b c : Block) → next ≡ at + 1 → next < length bs → b.keys ++ c.keys ≡ (block_at bs at).keys ++ (block_at bs next).keys → length b.keys + 1 ≡ size_at bs at → length c.keys ≡ size_at bs next + 1 → b.capacity ≡ width_at bs at → c.capacity ≡ width_at bs next → Shifts next at bs (set (set bs at b) next c)
+pushed : (bs : List Block) (at next : ℕ) (b c : Block) → next ≡ at + 1 → next < length bs → b.keys ++ c.keys ≡ (block_at bs at).keys ++ (block_at bs next).keys → length b.keys + 1 ≡ size_at bs at → length c.keys ≡ size_at bs next + 1 → b.capacity ≡ width_at bs at → c.capacity ≡ width_at bs next → Shifts next at bs (set (set bs at b) next c)
 pushed bs at next b c n h e bl cl bw cw = subst (Shifts next at bs) (set_comm bs next at c b (omega (arith, n)))
     (crossed bs at next next at b c n h e
     (omega (arith, bl, one_here at at refl, one_other at next (omega (arith, n))))
@@ -55,41 +55,32 @@ pushed bs at next b c n h e bl cl bw cw = subst (Shifts next at bs) (set_comm bs
     (λ k d f. one_other k at d ∙ sym (one_other k next f)) bw cw)
 
 -- as it is done: the block that loses the key first
-pub pull_step : (bs : List Block) (at key : ℕ) (x y b c : Block) → at + 1 < length bs → y ≡ get_or bs (at + 1) y → y.keys ≡ key ∷ c.keys → c.capacity ≡ y.capacity → x ≡ get_or (set bs (at + 1) c) at x → b ≡ record x { keys = x.keys ++ key ∷ [] } → Shifts at (at + 1) bs (set (set bs (at + 1) c) at b)
-pull_step bs at key x y b c h yr yk yw xr new =
+pub pull_step : (bs : List Block) (at key : ℕ) (x y b c : Block) → at + 1 < length bs → y ≡ get_or bs (at + 1) y → y.keys ≡ key ∷ c.keys → HasPlace y c → x ≡ get_or (set bs (at + 1) c) at x → b ≡ record x { keys = x.keys ++ key ∷ [] } → MovesPlace at (at + 1) bs (set (set bs (at + 1) c) at b)
+pull_step bs at key x y b c h yr yk place xr new =
     let y_is : y ≡ block_at bs (at + 1) = yr ∙ get_or_default bs (at + 1) y no_block h in
     let x_is : x ≡ block_at bs at = xr ∙ get_or-set_other bs (at + 1) at c x (omega arith) ∙ get_or_default bs at x no_block (omega (arith, h)) in
     let b_keys : b.keys ≡ (block_at bs at).keys ++ key ∷ [] = ap (λ (z : Block). z.keys) new ∙ ap (λ (z : Block). z.keys ++ key ∷ []) x_is in
     let y_keys : key ∷ c.keys ≡ (block_at bs (at + 1)).keys = sym yk ∙ ap (λ (z : Block). z.keys) y_is in
-    pulled bs at (at + 1) b c refl h
+    let moved : block_at (set (set bs (at + 1) c) at b) (at + 1) ≡ c = get_or-set_other (set bs (at + 1) c) at (at + 1) b no_block (omega arith) ∙ get_or-set_same bs (at + 1) c no_block h in
+    let shifts = pulled bs at (at + 1) b c refl h
     (ap (λ (ks : List ℕ). ks ++ c.keys) b_keys ∙ append_assoc (block_at bs at).keys (key ∷ []) c.keys ∙ ap (λ (ks : List ℕ). (block_at bs at).keys ++ ks) y_keys)
     (ap length b_keys ∙ length-append (block_at bs at).keys (key ∷ []))
     (let long = ap length y_keys in omega (arith, long))
     (ap (λ (z : Block). z.capacity) new ∙ ap (λ (z : Block). z.capacity) x_is)
-    (yw ∙ ap (λ (z : Block). z.capacity) y_is)
+    (place.width ∙ ap (λ (z : Block). z.capacity) y_is) in
+    record { shifts = shifts; room = subst (λ (z : Block). length z.keys < z.capacity) (sym moved) place.room }
 
-pub push_step : (bs : List Block) (at key : ℕ) (x y b c : Block) → at + 1 < length bs → x ≡ get_or bs at x → x.keys ≡ b.keys ++ key ∷ [] → b.capacity ≡ x.capacity → y ≡ get_or (set bs at b) (at + 1) y → c ≡ record y { keys = key ∷ y.keys } → Shifts (at + 1) at bs (set (set bs at b) (at + 1) c)
-push_step bs at key x y b c h xr xk xw yr new =
+pub push_step : (bs : List Block) (at key : ℕ) (x y b c : Block) → at + 1 < length bs → x ≡ get_or bs at x → x.keys ≡ b.keys ++ key ∷ [] → HasPlace x b → y ≡ get_or (set bs at b) (at + 1) y → c ≡ record y { keys = key ∷ y.keys } → MovesPlace (at + 1) at bs (set (set bs at b) (at + 1) c)
+push_step bs at key x y b c h xr xk place yr new =
     let x_is : x ≡ block_at bs at = xr ∙ get_or_default bs at x no_block (omega (arith, h)) in
     let y_is : y ≡ block_at bs (at + 1) = yr ∙ get_or-set_other bs at (at + 1) b y (omega arith) ∙ get_or_default bs (at + 1) y no_block h in
     let c_keys : c.keys ≡ key ∷ (block_at bs (at + 1)).keys = ap (λ (z : Block). z.keys) new ∙ ap (λ (z : Block). key ∷ z.keys) y_is in
     let x_keys : b.keys ++ key ∷ [] ≡ (block_at bs at).keys = sym xk ∙ ap (λ (z : Block). z.keys) x_is in
-    pushed bs at (at + 1) b c refl h
+    let moved : block_at (set (set bs at b) (at + 1) c) at ≡ b = get_or-set_other (set bs at b) (at + 1) at c no_block (omega arith) ∙ get_or-set_same bs at b no_block (omega (arith, h)) in
+    let shifts = pushed bs at (at + 1) b c refl h
     (ap (λ (ks : List ℕ). b.keys ++ ks) c_keys ∙ sym (append_assoc b.keys (key ∷ []) (block_at bs (at + 1)).keys) ∙ ap (λ (ks : List ℕ). ks ++ (block_at bs (at + 1)).keys) x_keys)
     (sym (length-append b.keys (key ∷ [])) ∙ ap length x_keys)
     (let long = ap length c_keys in omega (arith, long))
-    (xw ∙ ap (λ (z : Block). z.capacity) x_is)
-    (ap (λ (z : Block). z.capacity) new ∙ ap (λ (z : Block). z.capacity) y_is)
-
--- One shift after another.
-
-pub shifts_none : (bs : List Block) (at : ℕ) → Shifts at at bs bs
-shifts_none bs at = record { keys = refl; count = refl; sizes = λ k. refl; widths = λ k. refl }
-
-pub shifts_then : (xs ys zs : List Block) (to mid from : ℕ) → Shifts to mid xs ys → Shifts mid from ys zs → Shifts to from xs zs
-shifts_then xs ys zs to mid from s t = record {
-  keys = t.keys ∙ s.keys;
-  count = t.count ∙ s.count;
-  sizes = λ k. omega (arith, s.sizes k, t.sizes k);
-  widths = λ k. t.widths k ∙ s.widths k;
-}
+    (place.width ∙ ap (λ (z : Block). z.capacity) x_is)
+    (ap (λ (z : Block). z.capacity) new ∙ ap (λ (z : Block). z.capacity) y_is) in
+    record { shifts = shifts; room = subst (λ (z : Block). length z.keys < z.capacity) (sym moved) place.room }

@@ -1,8 +1,8 @@
 -- Empty blocks that come to the other end, and blocks that are added.
-use Rattle.std.proofs.Common.{inl, inr, ◌≡◌, ℕ, zero, suc, ◌+◌, ◌-◌, ◌*◌, ◌<◌, ◌≤◌, List, [], ◌∷◌, ◌++◌, length, get_or, set, take, drop, refl, sym, ap, ◌∙◌, arith, subst, length-append, append-nil}
+use Rattle.std.proofs.Common.{inl, inr, ◌≡◌, ℕ, zero, suc, ◌+◌, ◌-◌, ◌*◌, ◌<◌, ◌≤◌, List, [], ◌∷◌, ◌++◌, length, get_or, set, take, drop, ◌^◌, refl, sym, ap, ◌∙◌, arith, subst, length-append, append-nil}
 use Rattle.std.proofs.lemmas.Bool.{cases_eq, cases_lt}
 use Rattle.std.proofs.lemmas.List.{get_or_append_left, get_or-append_right, get_or_push, get_or_past, nil_from_length, length-set, get_or_default, get_or-set_same, get_or-set_other}
-use Rattle.iol_tier.specs.Blocks.{Block, joined, block_at, size_at, width_at, no_block, before_block, AreFilled, AreWide, Becomes, Grows}
+use Rattle.iol_tier.specs.Blocks.{Block, joined, block_at, size_at, width_at, no_block, before_block, AreFilled, AreLaid, AreWide, Becomes, Grows, Widens}
 use Rattle.iol_tier.proofs.Joined.{joined-append, joined-set, joined-split}
 use Rattle.iol_tier.proofs.Filling.{width_set}
 
@@ -66,9 +66,6 @@ turned_left old rest b skip is filled room fits =
 
 -- Blocks that are added.
 
-pub grows_none : (bs : List Block) → Grows bs bs
-grows_none bs = record { keys = refl; count = omega arith; sizes = λ k. refl }
-
 pub grows_more : (old mid : List Block) (b : Block) → Grows old mid → b.keys ≡ [] → Grows old (mid ++ b ∷ [])
 grows_more old mid b g empty = record {
   keys = empty_last mid b (ap length empty) ∙ g.keys;
@@ -99,13 +96,13 @@ wide_more mid b w all fits = record {
 
 -- Blocks that are widened, one after another.
 
-pub widened_keys : (mid : List Block) (at : ℕ) (x b : Block) → at < length mid → x ≡ get_or mid at x → b.keys ≡ x.keys → joined (set mid at b) ≡ joined mid
+widened_keys : (mid : List Block) (at : ℕ) (x b : Block) → at < length mid → x ≡ get_or mid at x → b.keys ≡ x.keys → joined (set mid at b) ≡ joined mid
 widened_keys mid at x b h read same =
     joined-set mid at b h
     ∙ ap (λ (ks : List ℕ). joined (take at mid) ++ (ks ++ joined (drop (suc at) mid))) (same ∙ ap (λ (y : Block). y.keys) (read ∙ get_or_default mid at x no_block h))
     ∙ sym (joined-split mid at h)
 
-pub widened_grows : (old mid : List Block) (at : ℕ) (x b : Block) → Grows old mid → at < length mid → x ≡ get_or mid at x → b.keys ≡ x.keys → Grows old (set mid at b)
+widened_grows : (old mid : List Block) (at : ℕ) (x b : Block) → Grows old mid → at < length mid → x ≡ get_or mid at x → b.keys ≡ x.keys → Grows old (set mid at b)
 widened_grows old mid at x b g h read same = record {
   keys = widened_keys mid at x b h read same ∙ g.keys;
   count = omega (arith, g.count, length-set mid at b);
@@ -128,17 +125,32 @@ widened_here mid at b k w h fits others below = elim (cases_lt k at) [
       subst (λ n. w ≤ n) (sym (ap (width_at (set mid at b)) is ∙ ap (λ (y : Block). y.capacity) (get_or-set_same mid at b no_block h))) fits)
 ]
 
+pub widened : (old mid : List Block) (at : ℕ) (x b : Block) → Widens old mid → at < length mid → x ≡ get_or mid at x → b.keys ≡ x.keys → x.capacity ≤ b.capacity → Widens old (set mid at b)
+widened old mid at x b g h read same more = record {
+  grows = widened_grows old mid at x b g.grows h read same;
+  count = length-set mid at b ∙ g.count;
+  wide = λ w all. let had = g.wide w all in record { each = λ k below. widened_width mid at x b k w h read more (had.each k (omega (arith, below, length-set mid at b))) };
+}
+
 -- What holds of blocks holds of more.
 
 pub grows_then : (xs ys zs : List Block) → Grows xs ys → Grows ys zs → Grows xs zs
 grows_then xs ys zs g h = record { keys = h.keys ∙ g.keys; count = omega (arith, g.count, h.count); sizes = λ k. h.sizes k ∙ g.sizes k }
 
-pub grows_filled : (old new : List Block) (skip len : ℕ) → Grows old new → AreFilled old skip len → skip + len ≤ length old * 128 → AreFilled new skip len
+grows_filled : (old new : List Block) (skip len : ℕ) → Grows old new → AreFilled old skip len → skip + len ≤ length old * 128 → AreFilled new skip len
 grows_filled old new skip len g filled fits = record {
   each = λ k below. elim (cases_lt k (length old)) [
     | inl l ↦ omega (arith, filled.each k l, g.sizes k)
     | inr m ↦ omega (arith, m, fits, g.sizes k, ap (λ (x : Block). length x.keys) (get_or_past old k no_block m))
   ];
+}
+
+pub grows_laid : (old new : List Block) (skip len : ℕ) → Grows old new → length new ≤ 2 ^ 48 → AreLaid old skip len → AreLaid new skip len
+grows_laid old new skip len g few laid = record {
+  keys = laid.keys ∙ sym (ap length g.keys);
+  filled = grows_filled old new skip len g laid.filled laid.places;
+  places = omega (arith, g.count, laid.places);
+  few = few;
 }
 
 pub wide_less : (bs : List Block) (v w : ℕ) → AreWide bs w → v ≤ w → AreWide bs v

@@ -1,5 +1,5 @@
 -- Keys in blocks.
-use Rattle.std.specs.Prelude.{◌≡◌, ℕ, ◌+◌, ◌-◌, ◌*◌, ◌<◌, ◌≤◌, ◌==◌, min, cond, List, [], ◌∷◌, ◌++◌, length, slice_index_or}
+use Rattle.std.specs.Prelude.{◌≡◌, ℕ, ◌+◌, ◌-◌, ◌*◌, ◌<◌, ◌≤◌, ◌^◌, ◌==◌, min, max, cond, Bool, false, IsTrue, List, [], ◌∷◌, ◌++◌, length, slice_index_or, insert, remove}
 
 -- a block: its keys, and how many it can hold
 pub record Block : Type 0 where
@@ -40,12 +40,75 @@ pub record AreFilled (bs : List Block) (skip len : ℕ) : Type 0 where
 pub record AreWide (bs : List Block) (width : ℕ) : Type 0 where
   pub each : (k : ℕ) → k < length bs → width ≤ width_at bs k
 
+-- So many keys lie in blocks without a gap, from the place `skip` on.
+pub record AreLaid (bs : List Block) (skip len : ℕ) : Type 0 where
+  pub keys : len ≡ length (joined bs)
+  pub filled : AreFilled bs skip len
+  pub places : skip + len ≤ length bs * 128
+  pub few : length bs ≤ 2 ^ 48
+
+-- A key may come in at this place, once there is one free before the first key or behind the last.
+pub record MayComeIn (bs : List Block) (skip len place : ℕ) : Type 0 where
+  pub laid : AreLaid bs skip len
+  pub within : place ≤ len
+  pub wide : AreWide bs (min 128 (len + 1))
+
+-- The key at this place may go out.
+pub record MayGoOut (bs : List Block) (skip len place : ℕ) : Type 0 where
+  pub laid : AreLaid bs skip len
+  pub within : place < len
+  pub wide : AreWide bs (min 128 len)
+
+-- One block.
+
+-- a key came in at a place of it
+pub record PutsKey (place key : ℕ) (old new : Block) : Type 0 where
+  pub keys : new.keys ≡ insert old.keys place key
+  pub width : old.capacity ≤ new.capacity
+
+-- the key at a place of it went out
+pub record TakesKey (place taken : ℕ) (old new : Block) : Type 0 where
+  pub key : taken ≡ slice_index_or old.keys place taken
+  pub keys : new.keys ≡ remove old.keys place
+  pub width : new.capacity ≡ old.capacity
+
+-- it is as wide as it was, and a place is free
+pub record HasPlace (old new : Block) : Type 0 where
+  pub width : new.capacity ≡ old.capacity
+  pub room : length new.keys < new.capacity
+
+-- All blocks.
+
 -- The same keys, of which one moved over each border between two blocks: block `to` has one more, block `from` one less.
 pub record Shifts (to from : ℕ) (old new : List Block) : Type 0 where
   pub keys : joined new ≡ joined old
   pub count : length new ≡ length old
   pub sizes : (k : ℕ) → size_at new k + one_if k from ≡ size_at old k + one_if k to
   pub widths : (k : ℕ) → width_at new k ≡ width_at old k
+
+-- A place is free in block `from`, and block `to` has a key that can take it.
+pub record CanCross (from to : ℕ) (bs : List Block) : Type 0 where
+  pub some : 0 < size_at bs to
+  pub room : size_at bs from < width_at bs from
+
+-- A place is free in block `from`, and each block behind it, up to `to`, has a key.
+pub record CanShiftLeft (from to : ℕ) (bs : List Block) : Type 0 where
+  pub order : from ≤ to
+  pub within : to < length bs
+  pub some : (k : ℕ) → from < k → k ≤ to → 0 < size_at bs k
+  pub room : size_at bs from < width_at bs from
+
+-- A place is free in block `from`, and each block before it, down to `to`, has a key.
+pub record CanShiftRight (from to : ℕ) (bs : List Block) : Type 0 where
+  pub order : to ≤ from
+  pub within : from < length bs
+  pub some : (k : ℕ) → to ≤ k → k < from → 0 < size_at bs k
+  pub room : size_at bs from < width_at bs from
+
+-- The place that was free in block `from` came to block `to`.
+pub record MovesPlace (from to : ℕ) (old new : List Block) : Type 0 where
+  pub shifts : Shifts from to old new
+  pub room : size_at new to < width_at new to
 
 -- These keys, without a gap, in as many blocks, each as wide at least as some block was.
 pub record Becomes (keys : List ℕ) (skip : ℕ) (old new : List Block) : Type 0 where
@@ -59,3 +122,22 @@ pub record Grows (old new : List Block) : Type 0 where
   pub keys : joined new ≡ joined old
   pub count : length old ≤ length new
   pub sizes : (k : ℕ) → size_at new k ≡ size_at old k
+
+-- The same keys from the place `skip` on, with a place free before the first or behind the last.
+pub record OpensEnd (len : ℕ) (old new : List Block) (skip : ℕ) (is_left : Bool) : Type 0 where
+  pub becomes : Becomes (joined old) skip old new
+  pub places : skip + len ≤ length old * 128
+  pub left : IsTrue is_left → 0 < skip
+  pub right : is_left ≡ false → skip + len < length old * 128
+
+-- Empty blocks came behind, up to so many, each of them so wide.
+pub record AddsBlocks (most width : ℕ) (old new : List Block) : Type 0 where
+  pub grows : Grows old new
+  pub wide : (w : ℕ) → w ≤ width → AreWide old w → AreWide new w
+  pub few : length new ≤ max most (length old)
+
+-- The same keys in as many blocks, each as wide at least as it was.
+pub record Widens (old new : List Block) : Type 0 where
+  pub grows : Grows old new
+  pub count : length new ≡ length old
+  pub wide : (w : ℕ) → AreWide old w → AreWide new w

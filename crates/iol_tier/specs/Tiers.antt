@@ -1,7 +1,41 @@
 -- Keys in order.
-use Rattle.std.specs.Prelude.{ℕ, List}
+use Rattle.std.specs.Prelude.{◌≡◌, ℕ, ◌+◌, ◌-◌, ◌*◌, ◌<◌, ◌≤◌, ◌^◌, min, List, length, slice_index_or, insert, remove, Result, OnOk, OnErr}
 
 -- the keys, and how many more may come in without memory
 pub record Tiered : Type 0 where
   pub keys : List ℕ
   pub room : ℕ
+
+-- Room was made for so many more, and the keys are as they were. Where there was so much it was not
+-- refused; refused, the room is as it was.
+pub record Reserves {A E : Type 0} (count : ℕ) (old new : Tiered) (r : Result A E) : Type 0 where
+  pub room : OnOk r (count ≤ new.room)
+  pub same : new ≡ record old { room = new.room }
+  pub no_less : old.room ≤ new.room
+  pub needed : OnErr r (old.room < count)
+  pub err : OnErr r (new.room ≡ old.room)
+
+-- A key came in, in room that was there.
+pub record Inserts (place key : ℕ) (old new : Tiered) : Type 0 where
+  pub keys : new.keys ≡ insert old.keys place key
+  pub room : new.room ≡ old.room - 1
+  pub few : length old.keys + 1 < 2 ^ 64
+
+-- The key at a place went out, and left room for one.
+pub record Removes (place taken : ℕ) (old new : Tiered) : Type 0 where
+  pub key : taken ≡ slice_index_or old.keys place taken
+  pub keys : new.keys ≡ remove old.keys place
+  pub room : new.room ≡ old.room + 1
+  pub few : new.room < 2 ^ 64
+
+-- So many blocks have places for so many keys; where these want more than one, also without the last.
+pub record AreEnough (blocks keys : ℕ) : Type 0 where
+  pub enough : keys ≤ blocks * 128
+  pub more : 128 < keys → keys ≤ (blocks - 1) * 128
+  pub few : blocks ≤ 2 ^ 48
+
+-- How many keys so many blocks are to take, where these are wanted: no fewer, and in blocks no wider.
+pub record IsMost (blocks wanted most : ℕ) : Type 0 where
+  pub keys : wanted ≤ most
+  pub fits : most ≤ blocks * 128
+  pub width : min 128 most ≤ min 128 wanted

@@ -1,5 +1,6 @@
 //! A block of keys.
-ghost use Rattle.std.specs.Prelude.{◌≡◌, ◌+◌, ◌-◌, ◌<◌, ◌≤◌, [], ◌∷◌, ◌++◌, length, slice_index_or, insert, remove, OnOk};
+ghost use Rattle.std.specs.Prelude.{◌≡◌, ◌+◌, ◌-◌, ◌<◌, ◌≤◌, [], ◌∷◌, ◌++◌, length, slice_index_or, OnOk};
+ghost use Rattle.iol_tier.specs.Blocks.{HasPlace, PutsKey, TakesKey};
 
 use std::alloc::{AllocError, Global};
 use std::collections::VecDeque;
@@ -48,17 +49,14 @@ impl Block {
     pub(crate) fn insert(&mut self, place: usize, key: usize)
         requires place { place ≤ length self.old.keys }
         requires room { length self.old.keys < self.old.capacity }
-        ensures keys { self.new.keys ≡ insert self.old.keys place key }
-        ensures width { self.old.capacity ≤ self.new.capacity }
+        ensures { PutsKey place key self.old self.new }
     {
         let _inserted = self.keys.insert(place, key);
     }
 
     pub(crate) fn remove(&mut self, place: usize) -> usize
         requires { place < length self.old.keys }
-        ensures key { result ≡ slice_index_or self.old.keys place result }
-        ensures keys { self.new.keys ≡ remove self.old.keys place }
-        ensures width { self.new.capacity ≡ self.old.capacity }
+        ensures { TakesKey place result self.old self.new }
     {
         match self.keys.remove(place) {
             Some(key) => key,
@@ -83,8 +81,7 @@ impl Block {
     pub(crate) fn pop_front(&mut self) -> usize
         requires { 0 < length self.old.keys }
         ensures keys { self.old.keys ≡ result ∷ self.new.keys }
-        ensures width { self.new.capacity ≡ self.old.capacity }
-        ensures room { length self.new.keys < self.new.capacity }
+        ensures place { HasPlace self.old self.new }
     {
         match self.keys.pop_front() {
             Some(key) => key,
@@ -95,8 +92,7 @@ impl Block {
     pub(crate) fn pop_back(&mut self) -> usize
         requires { 0 < length self.old.keys }
         ensures keys { self.old.keys ≡ self.new.keys ++ result ∷ [] }
-        ensures width { self.new.capacity ≡ self.old.capacity }
-        ensures room { length self.new.keys < self.new.capacity }
+        ensures place { HasPlace self.old self.new }
     {
         match self.keys.pop_back() {
             Some(key) => key,

@@ -1,6 +1,6 @@
 //! Keys that move over the borders between blocks.
-ghost use Rattle.std.specs.Prelude.{ℕ, ◌+◌, ◌-◌, ◌<◌, ◌≤◌, length};
-ghost use Rattle.iol_tier.specs.Blocks.{Shifts, size_at, width_at};
+ghost use Rattle.std.specs.Prelude.{◌+◌, ◌-◌, ◌<◌, length};
+ghost use Rattle.iol_tier.specs.Blocks.{CanCross, CanShiftLeft, CanShiftRight, MovesPlace};
 
 use crate::block::Block;
 use std::collections::VecDeque;
@@ -8,10 +8,8 @@ use std::collections::VecDeque;
 // The first key of the block after this one becomes its last.
 fn pull(blocks: &mut VecDeque<Block>, at: usize)
     requires within { at + 1 < length blocks.old.items }
-    requires some { 0 < size_at blocks.old.items (at + 1) }
-    requires room { size_at blocks.old.items at < width_at blocks.old.items at }
-    ensures shifts { Shifts at (at + 1) blocks.old.items blocks.new.items }
-    ensures room { size_at blocks.new.items (at + 1) < width_at blocks.new.items (at + 1) }
+    requires can { CanCross at (at + 1) blocks.old.items }
+    ensures { MovesPlace at (at + 1) blocks.old.items blocks.new.items }
 {
     let key = blocks[at + 1].pop_front();
     blocks[at].push_back(key);
@@ -20,10 +18,8 @@ fn pull(blocks: &mut VecDeque<Block>, at: usize)
 // The last key of this block becomes the first of the next.
 fn push(blocks: &mut VecDeque<Block>, at: usize)
     requires within { at + 1 < length blocks.old.items }
-    requires some { 0 < size_at blocks.old.items at }
-    requires room { size_at blocks.old.items (at + 1) < width_at blocks.old.items (at + 1) }
-    ensures shifts { Shifts (at + 1) at blocks.old.items blocks.new.items }
-    ensures room { size_at blocks.new.items at < width_at blocks.new.items at }
+    requires can { CanCross (at + 1) at blocks.old.items }
+    ensures { MovesPlace (at + 1) at blocks.old.items blocks.new.items }
 {
     let key = blocks[at].pop_back();
     blocks[at + 1].push_front(key);
@@ -31,12 +27,8 @@ fn push(blocks: &mut VecDeque<Block>, at: usize)
 
 /// A place comes free in block `to`, for one in block `from` before it.
 pub(crate) fn shift_left(blocks: &mut VecDeque<Block>, from: usize, to: usize)
-    requires order { from ≤ to }
-    requires within { to < length blocks.old.items }
-    requires some { (k : ℕ) → from < k → k ≤ to → 0 < size_at blocks.old.items k }
-    requires room { size_at blocks.old.items from < width_at blocks.old.items from }
-    ensures shifts { Shifts from to blocks.old.items blocks.new.items }
-    ensures room { size_at blocks.new.items to < width_at blocks.new.items to }
+    requires { CanShiftLeft from to blocks.old.items }
+    ensures { MovesPlace from to blocks.old.items blocks.new.items }
 {
     for at in from..to {
         pull(blocks, at);
@@ -45,12 +37,8 @@ pub(crate) fn shift_left(blocks: &mut VecDeque<Block>, from: usize, to: usize)
 
 /// A place comes free in block `to`, for one in block `from` behind it.
 pub(crate) fn shift_right(blocks: &mut VecDeque<Block>, from: usize, to: usize)
-    requires order { to ≤ from }
-    requires within { from < length blocks.old.items }
-    requires some { (k : ℕ) → to ≤ k → k < from → 0 < size_at blocks.old.items k }
-    requires room { size_at blocks.old.items from < width_at blocks.old.items from }
-    ensures shifts { Shifts from to blocks.old.items blocks.new.items }
-    ensures room { size_at blocks.new.items to < width_at blocks.new.items to }
+    requires { CanShiftRight from to blocks.old.items }
+    ensures { MovesPlace from to blocks.old.items blocks.new.items }
 {
     let mut at = from;
     while to < at {

@@ -1,6 +1,6 @@
 //! Empty blocks at the ends.
-ghost use Rattle.std.specs.Prelude.{◌≡◌, ℕ, ◌+◌, ◌-◌, ◌*◌, ◌<◌, ◌≤◌, ◌^◌, length, max, OnOk, IsTrue, false};
-ghost use Rattle.iol_tier.specs.Blocks.{joined, AreFilled, AreWide, Becomes, Grows};
+ghost use Rattle.std.specs.Prelude.{◌+◌, ◌-◌, ◌*◌, ◌<◌, ◌≤◌, length, OnOk};
+ghost use Rattle.iol_tier.specs.Blocks.{AddsBlocks, AreLaid, AreWide, Becomes, OpensEnd, Widens, joined};
 
 use crate::block::Block;
 use crate::places::BLOCK;
@@ -9,7 +9,7 @@ use std::collections::VecDeque;
 
 // The last block, which is empty, comes first.
 fn turn_right(blocks: &mut VecDeque<Block>, skip: usize)
-    requires filled { AreFilled blocks.old.items skip (length (joined blocks.old.items)) }
+    requires laid { AreLaid blocks.old.items skip (length (joined blocks.old.items)) }
     requires empty { skip + length (joined blocks.old.items) + 128 ≤ length blocks.old.items * 128 }
     ensures { Becomes (joined blocks.old.items) (skip + 128) blocks.old.items blocks.new.items }
 {
@@ -20,9 +20,8 @@ fn turn_right(blocks: &mut VecDeque<Block>, skip: usize)
 
 // The first block, which is empty, comes last.
 fn turn_left(blocks: &mut VecDeque<Block>, skip: usize)
-    requires filled { AreFilled blocks.old.items skip (length (joined blocks.old.items)) }
+    requires laid { AreLaid blocks.old.items skip (length (joined blocks.old.items)) }
     requires empty { 128 ≤ skip }
-    requires places { skip + length (joined blocks.old.items) ≤ length blocks.old.items * 128 }
     ensures { Becomes (joined blocks.old.items) (skip - 128) blocks.old.items blocks.new.items }
 {
     if let Some(block) = blocks.pop_front() {
@@ -38,15 +37,9 @@ pub(crate) fn open_end(
     len: usize,
     left: bool,
 ) -> (usize, bool)
-    requires len { len ≡ length (joined blocks.old.items) }
-    requires filled { AreFilled blocks.old.items skip len }
-    requires places { skip + len ≤ length blocks.old.items * 128 }
+    requires laid { AreLaid blocks.old.items skip len }
     requires room { len < length blocks.old.items * 128 }
-    requires few { length blocks.old.items ≤ 2 ^ 48 }
-    ensures becomes { Becomes (joined blocks.old.items) result.0 blocks.old.items blocks.new.items }
-    ensures places { result.0 + len ≤ length blocks.old.items * 128 }
-    ensures left { IsTrue result.1 → 0 < result.0 }
-    ensures right { result.1 ≡ false → result.0 + len < length blocks.old.items * 128 }
+    ensures { OpensEnd len blocks.old.items blocks.new.items result.0 result.1 }
 {
     let places = blocks.len() * BLOCK;
     if left && skip == 0 && len + BLOCK <= places {
@@ -67,10 +60,8 @@ pub(crate) fn add_blocks(
     count: usize,
     width: usize,
 ) -> Result<(), AllocError>
-    ensures grows { Grows blocks.old.items blocks.new.items }
-    ensures wide { (old : ℕ) → old ≤ width → AreWide blocks.old.items old → AreWide blocks.new.items old }
+    ensures adds { AddsBlocks count width blocks.old.items blocks.new.items }
     ensures count { OnOk result (count ≤ length blocks.new.items) }
-    ensures few { length blocks.new.items ≤ max count (length blocks.old.items) }
 {
     while blocks.len() < count {
         blocks.reserve(1)?;
@@ -83,10 +74,8 @@ pub(crate) fn add_blocks(
 
 /// Makes each block this wide.
 pub(crate) fn widen_blocks(blocks: &mut VecDeque<Block>, width: usize) -> Result<(), AllocError>
-    ensures grows { Grows blocks.old.items blocks.new.items }
-    ensures kept { (old : ℕ) → AreWide blocks.old.items old → AreWide blocks.new.items old }
+    ensures widens { Widens blocks.old.items blocks.new.items }
     ensures wide { OnOk result (AreWide blocks.new.items width) }
-    ensures count { length blocks.new.items ≡ length blocks.old.items }
 {
     for at in 0..blocks.len() {
         blocks[at].widen(width)?;

@@ -5,8 +5,8 @@
 //! division. Where a key comes or goes, those of its block move, and one key crosses each border on the shorter side: of n keys
 //! about n / 512 cross at a random place, and none near either end. A contract sees a list and the room (`specs/Tiers`).
 //!
-//! The contract. `insert` and `remove` are std's words of that name on the list (`keys`), `at` is one key, `len` counts. Room is made
-//! first (`reserve`, clauses `room`, `same`, `err`), so that inserting cannot fail; removing gives a place of room back.
+//! The contract. `insert` and `remove` are std's words of that name on the list (`Inserts`, `Removes`), `at` is one key, `len`
+//! counts. Room is made first (`reserve`: `Reserves`), so that inserting cannot fail; removing gives a place of room back.
 //!
 //!     keys.reserve(1)?;
 //!     keys.insert(0, 7);

@@ -1,6 +1,6 @@
 //! Keys that come into blocks and go out of them.
-ghost use Rattle.std.specs.Prelude.{◌≡◌, ◌+◌, ◌-◌, ◌*◌, ◌<◌, ◌≤◌, ◌^◌, length, min, slice_index_or, insert, remove};
-ghost use Rattle.iol_tier.specs.Blocks.{joined, AreFilled, AreWide, Becomes};
+ghost use Rattle.std.specs.Prelude.{◌≡◌, ◌+◌, ◌-◌, ◌*◌, ◌<◌, ◌≤◌, ◌^◌, length, slice_index_or, insert, remove};
+ghost use Rattle.iol_tier.specs.Blocks.{AreLaid, Becomes, MayComeIn, MayGoOut, joined};
 
 use crate::block::Block;
 use crate::borders::{shift_left, shift_right};
@@ -19,10 +19,8 @@ fn begin_of(skip: usize, block: usize) -> usize
 
 /// The key at a place.
 pub(crate) fn key_at(blocks: &VecDeque<Block>, skip: usize, place: usize) -> usize
-    requires filled { AreFilled blocks.now.items skip (length (joined blocks.now.items)) }
+    requires laid { AreLaid blocks.now.items skip (length (joined blocks.now.items)) }
     requires within { place < length (joined blocks.now.items) }
-    requires places { skip + length (joined blocks.now.items) ≤ length blocks.now.items * 128 }
-    requires few { length blocks.now.items ≤ 2 ^ 48 }
     ensures { result ≡ slice_index_or (joined blocks.now.items) place result }
 {
     let block = (skip + place) / BLOCK;
@@ -31,12 +29,8 @@ pub(crate) fn key_at(blocks: &VecDeque<Block>, skip: usize, place: usize) -> usi
 
 /// Puts a key in, for which there is a place before the first one.
 pub(crate) fn put_left(blocks: &mut VecDeque<Block>, skip: usize, place: usize, key: usize)
-    requires filled { AreFilled blocks.old.items skip (length (joined blocks.old.items)) }
-    requires place { place ≤ length (joined blocks.old.items) }
+    requires may { MayComeIn blocks.old.items skip (length (joined blocks.old.items)) place }
     requires free { 0 < skip }
-    requires places { skip + length (joined blocks.old.items) ≤ length blocks.old.items * 128 }
-    requires wide { AreWide blocks.old.items (min 128 (length (joined blocks.old.items) + 1)) }
-    requires few { length blocks.old.items ≤ 2 ^ 48 }
     ensures { Becomes (insert (joined blocks.old.items) place key) (skip - 1) blocks.old.items blocks.new.items }
 {
     let skip = skip - 1;
@@ -53,12 +47,8 @@ pub(crate) fn put_right(
     place: usize,
     key: usize,
 )
-    requires len { len ≡ length (joined blocks.old.items) }
-    requires filled { AreFilled blocks.old.items skip len }
-    requires place { place ≤ len }
+    requires may { MayComeIn blocks.old.items skip len place }
     requires free { skip + len < length blocks.old.items * 128 }
-    requires wide { AreWide blocks.old.items (min 128 (len + 1)) }
-    requires few { length blocks.old.items ≤ 2 ^ 48 }
     ensures { Becomes (insert (joined blocks.old.items) place key) skip blocks.old.items blocks.new.items }
 {
     let block = (skip + place) / BLOCK;
@@ -68,11 +58,7 @@ pub(crate) fn put_right(
 
 /// Takes a key out; its place comes free before the first one.
 pub(crate) fn take_left(blocks: &mut VecDeque<Block>, skip: usize, place: usize) -> usize
-    requires filled { AreFilled blocks.old.items skip (length (joined blocks.old.items)) }
-    requires place { place < length (joined blocks.old.items) }
-    requires places { skip + length (joined blocks.old.items) ≤ length blocks.old.items * 128 }
-    requires wide { AreWide blocks.old.items (min 128 (length (joined blocks.old.items))) }
-    requires few { length blocks.old.items ≤ 2 ^ 48 }
+    requires { MayGoOut blocks.old.items skip (length (joined blocks.old.items)) place }
     ensures key { result ≡ slice_index_or (joined blocks.old.items) place result }
     ensures becomes { Becomes (remove (joined blocks.old.items) place) (skip + 1) blocks.old.items blocks.new.items }
 {
@@ -89,12 +75,7 @@ pub(crate) fn take_right(
     len: usize,
     place: usize,
 ) -> usize
-    requires len { len ≡ length (joined blocks.old.items) }
-    requires filled { AreFilled blocks.old.items skip len }
-    requires place { place < len }
-    requires places { skip + len ≤ length blocks.old.items * 128 }
-    requires wide { AreWide blocks.old.items (min 128 len) }
-    requires few { length blocks.old.items ≤ 2 ^ 48 }
+    requires { MayGoOut blocks.old.items skip len place }
     ensures key { result ≡ slice_index_or (joined blocks.old.items) place result }
     ensures becomes { Becomes (remove (joined blocks.old.items) place) skip blocks.old.items blocks.new.items }
 {

@@ -1,5 +1,6 @@
 //! A tiered vector of keys.
-ghost use Rattle.std.specs.Prelude.{◌≡◌, ◌+◌, ◌-◌, ◌*◌, ◌<◌, ◌≤◌, ◌^◌, [], length, min, slice_index_or, insert, remove, OnOk, OnErr};
+ghost use Rattle.std.specs.Prelude.{◌≡◌, ◌+◌, ◌-◌, ◌*◌, ◌<◌, ◌≤◌, ◌^◌, [], length, slice_index_or};
+ghost use Rattle.iol_tier.specs.Tiers.{AreEnough, Inserts, IsMost, Removes, Reserves};
 
 use crate::block::Block;
 use crate::ends::{add_blocks, open_end, widen_blocks};
@@ -23,42 +24,33 @@ pub struct TieredVec {
 }
 
 impl Model for TieredVec {
-    ghost use Rattle.std.specs.Prelude.{◌≡◌, ◌+◌, ◌*◌, ◌≤◌, ◌^◌, length, min};
+    ghost use Rattle.std.specs.Prelude.{◌+◌, ◌*◌, ◌≤◌, length, min};
     ghost use Rattle.iol_tier.specs.Tiers.{Tiered};
-    ghost use Rattle.iol_tier.specs.Blocks.{joined, AreFilled, AreWide};
+    ghost use Rattle.iol_tier.specs.Blocks.{AreLaid, AreWide, joined};
 
     ghost Value = { Tiered };
 
     ghost view = { λ t. record { keys = joined t.blocks.items; room = t.room } };
 
     ghost invariant = { λ t. record {
-      len : t.len ≡ length (joined t.blocks.items);
-      filled : AreFilled t.blocks.items t.skip t.len;
+      laid : AreLaid t.blocks.items t.skip t.len;
       room : t.len + t.room ≤ length t.blocks.items * 128;
-      places : t.skip + t.len ≤ length t.blocks.items * 128;
       wide : AreWide t.blocks.items (min 128 (t.len + t.room));
-      few : length t.blocks.items ≤ 2 ^ 48;
     } };
 }
 
 // How many blocks so many keys want: one more than they fill, so that one is empty at either end.
 fn blocks_for(keys: usize) -> usize
     requires { keys ≤ 2 ^ 54 }
-    ensures enough { keys ≤ result * 128 }
-    ensures more { 128 < keys → keys ≤ (result - 1) * 128 }
-    ensures few { result ≤ 2 ^ 48 }
+    ensures { AreEnough result keys }
 {
     if keys <= BLOCK { 1 } else { keys / BLOCK + 2 }
 }
 
 // How many keys so many blocks are to take, where so many are wanted.
 fn most_in(blocks: usize, keys: usize) -> usize
-    requires enough { keys ≤ blocks * 128 }
-    requires more { 128 < keys → keys ≤ (blocks - 1) * 128 }
-    requires few { blocks ≤ 2 ^ 48 }
-    ensures keys { keys ≤ result }
-    ensures fits { result ≤ blocks * 128 }
-    ensures width { min 128 result ≤ min 128 keys }
+    requires { AreEnough blocks keys }
+    ensures { IsMost blocks keys result }
 {
     if keys <= BLOCK {
         keys
@@ -83,11 +75,7 @@ impl TieredVec {
     /// Makes room for so many keys more. Where there is so much room, it is not refused; refused, it leaves the room that
     /// there was.
     pub fn reserve(&mut self, count: usize) -> Result<(), AllocError>
-        ensures room { OnOk result (count ≤ self.new.room) }
-        ensures same { self.new ≡ record self.old { room = self.new.room } }
-        ensures no_less { self.old.room ≤ self.new.room }
-        ensures needed { OnErr result (self.old.room < count) }
-        ensures err { OnErr result (self.new.room ≡ self.old.room) }
+        ensures { Reserves count self.old self.new result }
     {
         if count <= self.room {
             return Ok(());
@@ -122,9 +110,7 @@ impl TieredVec {
     pub fn insert(&mut self, place: usize, key: usize)
         requires place { place ≤ length self.old.keys }
         requires room { 0 < self.old.room }
-        ensures keys { self.new.keys ≡ insert self.old.keys place key }
-        ensures room { self.new.room ≡ self.old.room - 1 }
-        ensures few { length self.old.keys + 1 < 2 ^ 64 }
+        ensures { Inserts place key self.old self.new }
     {
         let (skip, left) = open_end(
             &mut self.blocks,
@@ -146,10 +132,7 @@ impl TieredVec {
     /// Takes a key out.
     pub fn remove(&mut self, place: usize) -> usize
         requires { place < length self.old.keys }
-        ensures key { result ≡ slice_index_or self.old.keys place result }
-        ensures keys { self.new.keys ≡ remove self.old.keys place }
-        ensures room { self.new.room ≡ self.old.room + 1 }
-        ensures few { self.new.room < 2 ^ 64 }
+        ensures { Removes place result self.old self.new }
     {
         let key = if place < self.len - place {
             self.skip += 1;

@@ -13,5 +13,5 @@ loop-i-preserved g c =
     let entry = c.read_entry-entry.ensures ∙ ap (entry_of c.args.slab.now) key in
     record {
       used = used-next used c.args.slab.now c.args.keys.now.items c.loop-i.i c.read_entry-entry.result c.loop-i.invariant.used entry (sym c.is_in_use.ensures ∙ c.if-not-is_in_use.false);
-      below = below-next used c.args.slab.now c.args.keys.now.items c.loop-i.i c.rank_of.result c.requires.rising (c.rank_of.ensures ∙ ap (rank_by Height) entry) c.loop-i.invariant.used;
+      below = below-next used c.args.slab.now c.args.keys.now.items c.loop-i.i c.rank_of.result c.requires.index.rising (c.rank_of.ensures ∙ ap (rank_by Height) entry) c.loop-i.invariant.used;
     }

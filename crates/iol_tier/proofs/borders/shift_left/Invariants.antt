@@ -1,9 +1,5 @@
-use Rattle.std.proofs.Common.{◌<◌, ◌-◌}
-use Rattle.iol_tier.specs.Blocks.{Shifts, size_at, width_at}
+use Rattle.iol_tier.specs.Blocks.{MovesPlace}
 use Rattle.iol_tier.proofs.borders.shift_left.Given as goal
 
 abbrev pub invariant-loop-at : goal.invariant-loop-at
-invariant-loop-at l = record {
-  shifts : Shifts l.from l.at l.fn.blocks.items l.blocks.items;
-  room : size_at l.blocks.items l.at < width_at l.blocks.items l.at;
-}
+invariant-loop-at l = MovesPlace l.from l.at l.fn.blocks.items l.blocks.items

@@ -11,7 +11,7 @@ returns-in-None-clause-told g c =
       | inl none ↦ inl none
       | inr some ↦ elim (cases_lt (length told) f) [
         | inl past ↦ inr past
-        | inr there ↦ absurd (let wrong = c.in-None.ensures.which.1 (omega (arith, some), omega (arith, there, c.in-None.ensures.lengths)) in cc wrong)
+        | inr there ↦ absurd (let wrong = c.in-None.ensures.which.1 (omega (arith, some), omega (arith, there, c.in-None.ensures.listed.count)) in cc wrong)
       ]
     ] in
     sym (told-none told f out)

@@ -2,22 +2,18 @@ use Rattle.std.proofs.Common.{◌≡◌, ◌-◌, ◌∙◌, ap, sym, subst, ari
 use Rattle.iol_evict.specs.declared.entry.Entry.{Entry}
 use Rattle.iol_evict.specs.declared.entry.By.TheVariants.{Place, Height}
 use Rattle.iol_evict.specs.Ranking.{Table, no_entry, entry_at, put_in}
-use Rattle.iol_evict.proofs.Rising.{live-same, rising-same}
+use Rattle.iol_evict.proofs.Rising.{index-same}
 use Rattle.iol_evict.proofs.Indexing.{entries-put_in}
-use Rattle.iol_evict.proofs.Changing.{live-heights, fresh-places, fresh-heights, indexed-insert, table-is}
+use Rattle.iol_evict.proofs.Changing.{index-places, index-heights, fresh-places, fresh-heights, indexed-insert, table-is}
 use Rattle.iol_evict.proofs.entries.Entries.insert.Goals as goal
 
-pub insert_key-requires-clause-rising : goal.insert_key-requires-clause-rising
-insert_key-requires-clause-rising c =
-    rising-same Place _ _ _ (fresh-places _ _ _ _ _ _ c.self.invariant.indexed c.insert_reserved-key.ensures.was_vacant c.insert_reserved-key.ensures.updates) c.self.invariant.indexed.places
+pub insert_key-requires-clause-index : goal.insert_key-requires-clause-index
+insert_key-requires-clause-index c =
+    index-same Place _ _ _ (fresh-places _ _ _ _ _ _ c.self.invariant.indexed c.insert_reserved-key.ensures.was_vacant c.insert_reserved-key.ensures.updates) (index-places _ _ _ c.self.invariant.indexed)
 
-pub insert_key-requires-2-clause-live : goal.insert_key-requires-2-clause-live
-insert_key-requires-2-clause-live c =
-    live-same _ _ _ (fresh-heights _ _ _ _ _ _ c.self.invariant.indexed c.insert_reserved-key.ensures.was_vacant c.insert_reserved-key.ensures.updates) (live-heights _ _ _ c.self.invariant.indexed)
-
-pub insert_key-requires-2-clause-rising : goal.insert_key-requires-2-clause-rising
-insert_key-requires-2-clause-rising c =
-    rising-same Height _ _ _ (fresh-heights _ _ _ _ _ _ c.self.invariant.indexed c.insert_reserved-key.ensures.was_vacant c.insert_reserved-key.ensures.updates) c.self.invariant.indexed.heights
+pub insert_key-requires-2-clause-index : goal.insert_key-requires-2-clause-index
+insert_key-requires-2-clause-index c =
+    index-same Height _ _ _ (fresh-heights _ _ _ _ _ _ c.self.invariant.indexed c.insert_reserved-key.ensures.was_vacant c.insert_reserved-key.ensures.updates) (index-heights _ _ _ c.self.invariant.indexed)
 
 pub invariant_of-self : goal.invariant_of-self
 invariant_of-self c =

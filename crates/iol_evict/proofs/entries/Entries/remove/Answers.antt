@@ -6,7 +6,7 @@ use Rattle.iol_evict.specs.Ranks.{rank_by}
 use Rattle.iol_evict.specs.Indexes.{HasRank, Takes}
 use Rattle.iol_evict.proofs.Rising.{same-others}
 use Rattle.iol_evict.proofs.Indexing.{has-place, found-entry, entries-without, taken-gone}
-use Rattle.iol_evict.proofs.Changing.{live-heights, stands-taken, indexed-remove, table-is, finds-taken}
+use Rattle.iol_evict.proofs.Changing.{index-heights, stands-taken, indexed-remove, table-is, finds-taken}
 use Rattle.iol_evict.proofs.entries.Entries.remove.Goals as goal
 
 pub remove_key-key-requires-clause-there : goal.remove_key-key-requires-clause-there
@@ -14,8 +14,8 @@ remove_key-key-requires-clause-there c =
     let there = subst (λ (t : Table). entry_at t.entries c.args.file c.args.at ≢ None) (sym c.self.view_is) c.requires in
     subst (λ (r : Rank). HasRank Place c.self.inside.slab c.self.inside.by_place.items r) (sym c.place_of.ensures) (has-place _ _ c.args.file c.args.at there)
 
-pub remove_key-requires-clause-live : goal.remove_key-requires-clause-live
-remove_key-requires-clause-live c = live-heights _ _ _ c.self.invariant.indexed
+pub remove_key-requires-clause-index : goal.remove_key-requires-clause-index
+remove_key-requires-clause-index c = index-heights _ _ _ c.self.invariant.indexed
 
 pub remove_key-requires-clause-there : goal.remove_key-requires-clause-there
 remove_key-requires-clause-there c =

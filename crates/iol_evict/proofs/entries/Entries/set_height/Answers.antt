@@ -5,9 +5,9 @@ use Rattle.iol_evict.specs.declared.entry.By.TheVariants.{Place, Height}
 use Rattle.iol_evict.specs.Ranking.{Table, entry_at, with_height}
 use Rattle.iol_evict.specs.Ranks.{rank_by}
 use Rattle.iol_evict.specs.Indexes.{HasRank, Finds, Takes}
-use Rattle.iol_evict.proofs.Rising.{live-same, rising-same}
+use Rattle.iol_evict.proofs.Rising.{index-same}
 use Rattle.iol_evict.proofs.Indexing.{has-place, entries-with_height}
-use Rattle.iol_evict.proofs.Changing.{live-heights, stands-found, same-left, live-left, rising-left, indexed-height, same-height, table-is}
+use Rattle.iol_evict.proofs.Changing.{index-heights, index-left, stands-found, same-left, indexed-height, same-height, table-is}
 use Rattle.iol_evict.proofs.entries.Entries.set_height.Goals as goal
 
 pub find_key-key-requires-clause-there : goal.find_key-key-requires-clause-there
@@ -15,23 +15,18 @@ find_key-key-requires-clause-there c =
     let there = subst (λ (t : Table). entry_at t.entries c.args.file c.args.at ≢ None) (sym c.self.view_is) c.requires in
     subst (λ (r : Rank). HasRank Place c.self.inside.slab c.self.inside.by_place.items r) (sym c.place_of.ensures) (has-place _ _ c.args.file c.args.at there)
 
-pub remove_key-requires-clause-live : goal.remove_key-requires-clause-live
-remove_key-requires-clause-live c = live-heights _ _ _ c.self.invariant.indexed
+pub remove_key-requires-clause-index : goal.remove_key-requires-clause-index
+remove_key-requires-clause-index c = index-heights _ _ _ c.self.invariant.indexed
 
 pub remove_key-requires-clause-there : goal.remove_key-requires-clause-there
 remove_key-requires-clause-there c =
     subst (λ (r : Rank). HasRank Height c.self.inside.slab c.self.inside.by_height.items r) (sym (c.rank_of.ensures ∙ ap (rank_by Height) c.read_entry-entry.ensures))
     (stands-found _ _ _ _ _ c.self.invariant.indexed c.find_key-key.ensures)
 
-pub insert_key-requires-clause-live : goal.insert_key-requires-clause-live
-insert_key-requires-clause-live c =
+pub insert_key-requires-clause-index : goal.insert_key-requires-clause-index
+insert_key-requires-clause-index c =
     let taken = subst (λ (r : Rank). Takes Height c.self.inside.slab r c.remove_key.result c.self.inside.by_height.items c.remove_key.new.keys.items) (c.rank_of.ensures ∙ ap (rank_by Height) c.read_entry-entry.ensures) c.remove_key.ensures.takes in
-    live-same _ _ _ (same-left _ _ _ _ _ _ _ _ _ c.self.invariant.indexed c.find_key-key.ensures taken c.write_height.ensures.updates) (live-left _ _ _ _ _ _ c.self.invariant.indexed taken)
-
-pub insert_key-requires-clause-rising : goal.insert_key-requires-clause-rising
-insert_key-requires-clause-rising c =
-    let taken = subst (λ (r : Rank). Takes Height c.self.inside.slab r c.remove_key.result c.self.inside.by_height.items c.remove_key.new.keys.items) (c.rank_of.ensures ∙ ap (rank_by Height) c.read_entry-entry.ensures) c.remove_key.ensures.takes in
-    rising-same Height _ _ _ (same-left _ _ _ _ _ _ _ _ _ c.self.invariant.indexed c.find_key-key.ensures taken c.write_height.ensures.updates) (rising-left _ _ _ _ _ _ c.self.invariant.indexed taken)
+    index-same Height _ _ _ (same-left _ _ _ _ _ _ _ _ _ c.self.invariant.indexed c.find_key-key.ensures taken c.write_height.ensures.updates) (index-left _ _ _ _ _ _ c.self.invariant.indexed taken)
 
 pub invariant_of-self : goal.invariant_of-self
 invariant_of-self c =

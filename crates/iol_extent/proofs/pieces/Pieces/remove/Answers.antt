@@ -1,4 +1,4 @@
-use Rattle.std.proofs.Common.{◌<◌, ℕ, length, map, get_or, remove, ap, sym, ◌∙◌, subst, arith}
+use Rattle.std.proofs.Common.{◌+◌, ◌<◌, ℕ, length, map, get_or, remove, ap, sym, ◌∙◌, subst, arith}
 use Rattle.std.proofs.lemmas.List.{length-map}
 use Rattle.slab.specs.Slab.{ContainsKey}
 use Rattle.iol_extent.specs.Extents.{ExtentMap}
@@ -25,21 +25,18 @@ invariant_of-self c =
       key_room = omega (arith, c.remove-key.ensures.room, c.self.invariant.key_room);
     }
 
-pub returns-clause-piece : goal.returns-clause-piece
-returns-clause-piece c =
-    let s = c.self.inside.slab in
-    let ks = c.self.inside.keys.keys in
-    let e = c.remove.result in
-    let within : c.args.place < length ks = omega (arith, c.requires, length-map ks (extent_at s), ap (λ (m : ExtentMap). length m.extents) c.self.view_is) in
-    sym (extent_there s ks c.args.place c.remove-key.result e within c.remove-key.ensures.key ∙ there s c.remove-key.result e c.remove.ensures.value)
-    ∙ ap (λ (m : ExtentMap). get_or m.extents c.args.place e) c.self.view_is
-
-pub returns-clause-extents : goal.returns-clause-extents
-returns-clause-extents c =
+pub returns : goal.returns
+returns c =
     let s = c.self.inside.slab in
     let t = c.remove.new.self in
     let ks = c.self.inside.keys.keys in
+    let e = c.remove.result in
     let within : c.args.place < length ks = omega (arith, c.requires, length-map ks (extent_at s), ap (λ (m : ExtentMap). length m.extents) c.self.view_is) in
-    ap (map (extent_at t)) c.remove-key.ensures.keys
-    ∙ extents_taken s t ks c.args.place c.remove-key.result c.remove.ensures.updates c.remove-key.ensures.key within c.self.invariant.keys
-    ∙ ap (λ (m : ExtentMap). remove m.extents c.args.place) c.self.view_is
+    record {
+      piece = sym (extent_there s ks c.args.place c.remove-key.result e within c.remove-key.ensures.key ∙ there s c.remove-key.result e c.remove.ensures.value)
+          ∙ ap (λ (m : ExtentMap). get_or m.extents c.args.place e) c.self.view_is;
+      extents = ap (map (extent_at t)) c.remove-key.ensures.keys
+          ∙ extents_taken s t ks c.args.place c.remove-key.result c.remove.ensures.updates c.remove-key.ensures.key within c.self.invariant.keys
+          ∙ ap (λ (m : ExtentMap). remove m.extents c.args.place) c.self.view_is;
+      room = ap (λ (m : ExtentMap). m.room + 1) c.self.view_is;
+    }

@@ -1,0 +1,25 @@
+-- What calls do to a store in memory, which is honest.
+use Rattle.std.specs.Prelude.{◌≡◌, ℕ, List, length, Result, IsOk, OnOk, OnErr}
+use Rattle.iol_back.specs.Disk.{Disk, CanRead, Counts, IsSlot, OthersStay, Reads, Writes, content}
+
+-- It reads a file from `at` on, and fails only where the store does not answer any more or has no such range.
+pub record ReadsMemory {E : Type 0} (file at : ℕ) (old new : Disk) (was now : List ℕ)
+    (r : Result (Unit {0}) E) : Type 0 where
+  pub honest : new.honest ≡ old.honest
+  pub counts : Counts old new r
+  pub slot : OnOk r (IsSlot file)
+  pub slots : new.slots ≡ old.slots
+  pub read : OnOk r (Reads at (content old.slots file) was now)
+  pub succeeds : CanRead old file at (length was) → IsOk r
+
+-- It writes bytes to a file from `at` on. A write that fails changes nothing, and one inside of the file
+-- fails for no other reason than that the store does not answer any more.
+pub record WritesMemory {E : Type 0} (file at : ℕ) (bytes : List ℕ) (old new : Disk)
+    (r : Result (Unit {0}) E) : Type 0 where
+  pub honest : new.honest ≡ old.honest
+  pub counts : Counts old new r
+  pub slot : OnOk r (IsSlot file)
+  pub others : OthersStay file old.slots new.slots
+  pub written : OnOk r (Writes at bytes (content old.slots file) (content new.slots file))
+  pub err : OnErr r (content new.slots file ≡ content old.slots file)
+  pub succeeds : CanRead old file at (length bytes) → IsOk r
