@@ -1,6 +1,7 @@
 pub mod Composed
 pub mod CutOut
 pub mod Replaced
+pub mod InPlace
 pub mod Written
 pub mod Overlaid
 pub mod Prepared

@@ -1,5 +1,5 @@
 -- What a cache of files holds.
-use Rattle.std.specs.Prelude.{◌≡◌, ℕ, ◌+◌, ◌&&◌, not, if◌then◌else◌, cond, eqb, List, [], flat_map, length, sum_by, Option, Some, None}
+use Rattle.std.specs.Prelude.{◌≡◌, ℕ, ◌+◌, ◌≤◌, ◌&&◌, not, if◌then◌else◌, cond, eqb, List, [], flat_map, length, max, sum_by, Option, Some, None, Result, OnErr, OnOk}
 use Rattle.iol_core.specs.Numbered.{numbered_or, with_numbered}
 use Rattle.iol_core.specs.declared.numbers.BufId.{BufId}
 use Rattle.iol_hold.specs.Texts.{bufs_of}
@@ -123,3 +123,11 @@ with_evicted os p f at = with_order os p (evicted_at (order_in os p) f at)
 -- a file of the pool, of which nothing is in memory
 abbrev pub new_file : (pool : ℕ) → CachedFile
 new_file p = record { pool = p; extents = record { extents = []; room = 0 } }
+
+-- Empty orders came after those that were there, if need be, until there were n. Refused, none.
+pub record AddsOrders {A E : Type 0} (n : ℕ) (old new : List Ranking) (r : Result A E) : Type 0 where
+  pub same : (p : ℕ) → order_in new p ≡ order_in old p
+  pub enough : OnOk r (n ≤ length new)
+  pub no_fewer : length old ≤ length new
+  pub no_more : length new ≤ max n (length old)
+  pub err : OnErr r (new ≡ old)

@@ -1,14 +1,21 @@
 -- The bytes of a write, as an aggregate of the file's pool: its own are shared, and each run of others is copied.
-use Rattle.std.specs.Prelude.{◌≡◌, ℕ, ◌+◌, ◌==◌, ◌<◌, ◌++◌, if◌then◌else◌, List, [], ◌∷◌, length, slice_index_or}
+use Rattle.std.specs.Prelude.{◌≡◌, ℕ, ◌+◌, ◌==◌, ◌<◌, ◌≤◌, ◌++◌, if◌then◌else◌, Bool, false, not, List, [], ◌∷◌, All, length, take, drop, slice_index_or, Result, Err, IfErr, IfOk, OnErr}
+use Rattle.iol_core.specs.Meaning.{WantOfRoom}
 use Rattle.iol_core.specs.Text as text
+use Rattle.iol_core.specs.declared.limits.TheConstants.{MAX_AGGREGATE_BYTES}
+use Rattle.iol_core.specs.declared.refusals.Refusal.{Refusal}
+use Rattle.iol_core.specs.declared.refusals.Refusal.TheVariants.{NoRoom}
 use Rattle.iol_arena.specs.State.{pages_for}
 use Rattle.iol_extent.specs.Extents.{no_place}
-use Rattle.iol_hold.specs.Moves.{Moves}
-use Rattle.iol_hold.specs.Places.{Place, places}
-use Rattle.iol_hold.specs.Stored.{Stored, AllSettled}
+use Rattle.iol_hold.specs.Moves.{Covers, Moves}
+use Rattle.iol_hold.specs.Places.{Place, byte_len, places}
+use Rattle.iol_hold.specs.Room.{free_of}
+use Rattle.iol_hold.specs.Stored.{Stored, AllSettled, IsTidy}
 use Rattle.iol_hold.specs.Texts.{AllReadable, bufs_of, text_of}
 use Rattle.iol_hold.specs.declared.slices.Slice.{Slice}
-use Rattle.iol_cache.specs.Loading.{PlacesPages}
+use Rattle.iol_pool.specs.Pools.{pool_in}
+use Rattle.iol_cache.specs.Loading.{PlacesOrReleases, PlacesPages}
+use Rattle.iol_cache.specs.Sharing.{CountsBelow}
 
 -- The pages that new bytes need in a pool, after so many bytes of other pools: each maximal run of bytes of other pools is
 -- copied apart.
@@ -43,3 +50,60 @@ pub record ComposesRun (s t : Stored) (pool : ℕ) (source left out : List Slice
   pub count : ℕ
   pub pages : count + copied_pages pool left ≡ copied_pages pool source
   pub composes : Composes s t pool count run out
+
+-- The source's bytes may be composed in the pool: it is open, and the slices are held and can be read. No buffer is held n times.
+pub record MayCompose (s : Stored) (n pool : ℕ) (source : List Slice) : Type 0 where
+  pub opened : (pool_in s.pools pool).closed ≡ false
+  pub small : byte_len source ≤ MAX_AGGREGATE_BYTES
+  pub covered : Covers s (bufs_of source)
+  pub few : CountsBelow s n
+  pub readable : AllReadable s source
+  pub tidy : IsTidy s
+
+-- They were composed. Refused, for want of room or memory, what was placed is gone.
+pub record ComposesOrReleases (s t : Stored) (pool : ℕ) (source : List Slice)
+    (r : Result (List Slice) Refusal) : Type 0 where
+  pub composes : IfOk r (Composes s t pool (copied_pages pool source) source)
+  pub leaves : PlacesOrReleases pool (copied_pages pool source) s t r
+  pub late : IfErr r (WantOfRoom pool)
+
+-- One run of the source.
+
+-- the first slices that are all of the pool, or all of others: how many there are, and how many bytes they have
+pub record IsFirstRun (pool : ℕ) (own : Bool) (xs : List Slice) (n size : ℕ) : Type 0 where
+  pub within : n ≤ length xs
+  pub bytes : size ≡ byte_len (take n xs)
+  pub all : All (λ (x : Slice). (x.hold.pool == pool) ≡ own) (take n xs)
+  pub ends : (d : Slice) → n < length xs → ((slice_index_or xs n d).hold.pool == pool) ≡ not own
+
+-- slices of other pools may be copied to the pool: it is open, and they can be read
+pub record MayCopy (s : Stored) (pool : ℕ) (run : List Slice) : Type 0 where
+  pub opened : (pool_in s.pools pool).closed ≡ false
+  pub small : byte_len run ≤ MAX_AGGREGATE_BYTES
+  pub readable : AllReadable s run
+  pub tidy : IsTidy s
+  pub others : All (λ (x : Slice). (x.hold.pool == pool) ≡ false) run
+
+-- They were copied. A refusal, for want of room or memory, changes nothing, and NoRoom tells that fewer pages are free.
+pub record CopiesOrKeeps (s t : Stored) (pool : ℕ) (run : List Slice) (r : Result (List Slice) Refusal) : Type 0 where
+  pub composes : IfOk r (Composes s t pool (pages_for (byte_len run)) run)
+  pub no_room : (p : ℕ) → r ≡ Err (NoRoom p) → length (free_of s pool) < pages_for (byte_len run)
+  pub late : IfErr r (WantOfRoom pool)
+  pub err : OnErr r (t ≡ s)
+
+-- the i-th slice is there, and so many bytes stand before it
+pub record IsSliceAt (source : List Slice) (i at : ℕ) : Type 0 where
+  pub there : i < length source
+  pub before : at ≡ byte_len (take i source)
+
+-- The run that begins with the i-th slice was composed; which slice is next is told, and how many bytes stand before that. A
+-- refusal, for want of room or memory, changes nothing, and NoRoom tells that fewer pages are free than what is left needs.
+pub record ComposesRunOrKeeps (s t : Stored) (pool : ℕ) (source : List Slice) (i : ℕ)
+    (r : Result (ℕ × ℕ × List Slice) Refusal) : Type 0 where
+  pub further : IfOk r (λ x. i < x.0)
+  pub within : IfOk r (λ x. x.0 ≤ length source)
+  pub ends : IfOk r (λ x. x.1 ≡ byte_len (take x.0 source))
+  pub composes : IfOk r (λ x. ComposesRun s t pool (drop i source) (drop x.0 source) x.2)
+  pub no_room : (p : ℕ) → r ≡ Err (NoRoom p) → length (free_of s pool) < copied_pages pool (drop i source)
+  pub late : IfErr r (WantOfRoom pool)
+  pub err : OnErr r (t ≡ s)

@@ -1,5 +1,5 @@
 -- Clean extents that go, one after another.
-use Rattle.std.specs.Prelude.{◌≡◌, ◌↔◌, ℕ, zero, suc, ◌+◌, ◌<◌, ◌≤◌, Bool, true, false, List, [], ◌∷◌, length, Option, Some, None, IsTrue}
+use Rattle.std.specs.Prelude.{◌≡◌, ◌≢◌, ◌↔◌, ℕ, zero, suc, ◌+◌, ◌<◌, ◌≤◌, Bool, true, false, List, [], ◌∷◌, length, Option, Some, None, MatchOption, IsTrue}
 use Rattle.std.specs.List.{list_any}
 use Rattle.iol_core.specs.declared.numbers.BufId.{BufId}
 use Rattle.iol_hold.specs.Stored.{Stored, AllSettled, count_of}
@@ -15,6 +15,7 @@ use Rattle.iol_cache.specs.Marks.{is_held_beside}
 use Rattle.iol_cache.specs.Contents.{Mirrors, SameFiles}
 use Rattle.iol_cache.specs.Cached.{Cached, file_in, extents_in, order_in, parts_at, held, clean_held, without_extent, with_evicted}
 use Rattle.iol_cache.specs.Pinned.{pinned_beside}
+use Rattle.iol_cache.specs.Sound.{IsSound}
 
 -- a store, and a cache over it
 pub record Holding : Type 0 where
@@ -33,6 +34,12 @@ in_use s fs f at = list_any (λ x. is_held_beside s (clean_held fs) x.hold.buf) 
 abbrev pub ArePassed : Rank → (p : ℕ) → Holding → Type 0
 ArePassed rank p h = AreUsedBelow (in_use h.store h.cache.files) rank (order_in h.cache.orders p).entries
 
+-- the clean extent that goes first of those of the pool's files, if there is one; those below this rank are in use
+pub record FindsVictim (rank : Rank) (p : ℕ) (h : Holding) (victim : Option (ℕ × ℕ)) : Type 0 where
+  pub first : let entries = (order_in h.cache.orders p).entries in
+      MatchOption victim (entries ≡ []) (IsVictim (in_use h.store h.cache.files) entries)
+  pub below : ArePassed rank p h
+
 -- the clean extent that begins at a place of a file
 pub record IsCleanAt (fs : List CachedFile) (f at : ℕ) : Type 0 where
   pub extent : Extent
@@ -48,6 +55,13 @@ pub record Evicts (f at : ℕ) (old new : Holding) : Type 0 where
   pub frees : FreesOnly old.store new.store
   pub lists : SameLists old.store new.store
   pub settles : AllSettled old.store → AllSettled new.store
+
+-- A clean extent is evicted, and the cache is sound. Where those of its pool's files below one rank were in use, those below the
+-- other are.
+pub record EvictsOne (f at : ℕ) (was now : Rank) (old new : Holding) : Type 0 where
+  pub evicts : Evicts f at old new
+  pub sound : IsSound new.store new.cache
+  pub below : let p = (file_in old.cache.files f).pool in ArePassed was p old → ArePassed now p new
 
 -- fewer pages of the pool are free than wanted, if a number of them is wanted
 abbrev pub IsWanted : (pool : ℕ) → (wanted : Option ℕ) → Stored → Type 0
@@ -108,3 +122,13 @@ pub record MakesFree (p n : ℕ) (old new : Holding) (has_room : Bool) : Type 0 
   pub free : IsTrue has_room → n ≤ length (free_of new.store p)
   pub victims : EvictsAll p (Some n) old new
   pub gives_up : GivesUp old new
+  pub sound : IsSound new.store new.cache
+
+-- All clean extents of the pool's files were evicted: its order is empty, and the other orders are as they were.
+pub record DropsClean (p : ℕ) (old new : Holding) : Type 0 where
+  pub none : (order_in new.cache.orders p).entries ≡ []
+  pub others : (q : ℕ) → q ≢ p → order_in new.cache.orders q ≡ order_in old.cache.orders q
+  pub len : length new.cache.orders ≡ length old.cache.orders
+  pub victims : EvictsAll p None old new
+  pub gives_up : GivesUp old new
+  pub sound : IsSound new.store new.cache

@@ -1,25 +1,38 @@
 -- Gaps of a file that become clean extents.
-use Rattle.std.specs.Prelude.{◌≡◌, ℕ, ◌+◌, ◌-◌, ◌≤◌, false, List, [], ◌∷◌, ◌++◌, length, IsSome, slice_range, All}
+use Rattle.std.specs.Prelude.{◌≡◌, ℕ, ◌+◌, ◌-◌, ◌≤◌, false, List, [], ◌∷◌, ◌++◌, length, take, drop, IsSome, slice_range, All, Result, IfErr, OnErr}
 use Rattle.std.specs.List.{AllZip}
+use Rattle.iol_core.specs.Meaning.{WantOfRoomOrFault}
 use Rattle.iol_core.specs.Text as text
+use Rattle.iol_core.specs.declared.refusals.Refusal.{Refusal}
 use Rattle.iol_arena.specs.Adds.{IsNew}
 use Rattle.iol_arena.specs.State.{pages_for}
 use Rattle.iol_arena.specs.Buffers.{Grows}
 use Rattle.iol_back.specs.Disk.{Disk, IfHonest, content}
 use Rattle.iol_cache.specs.Cached.{all_parts, parts_in}
-use Rattle.iol_cache.specs.Loading.{PlacesPages}
+use Rattle.iol_cache.specs.Loading.{Asks, PlacesBuffers, PlacesOrReleases, PlacesPages}
 use Rattle.iol_extent.specs.Extents.{Adds, Extent, ExtentMap, IsApart, begins_at, end_of, put_in, without_at}
+use Rattle.iol_extent.specs.Spans.{AreInOrder, IsGapSpan}
 use Rattle.iol_extent.specs.declared.spans.Span.{Span}
-use Rattle.iol_hold.specs.Moves.{Moves}
+use Rattle.iol_hold.specs.Moves.{Moves, SameLists}
 use Rattle.iol_hold.specs.Places.{byte_len}
-use Rattle.iol_hold.specs.Stored.{Stored}
+use Rattle.iol_hold.specs.Releases.{FreesOnly}
+use Rattle.iol_hold.specs.Stored.{AllSettled, Stored}
 use Rattle.iol_hold.specs.Texts.{text_of, bufs_of, AllReadable}
 use Rattle.iol_hold.specs.declared.slices.Slice.{Slice}
+use Rattle.iol_pool.specs.Pools.{pool_in}
 
 -- how many pages gaps need: each has pages of its own
 abbrev pub gap_pages : List Span → ℕ
 gap_pages [] = 0
 gap_pages (g ∷ gs) = pages_for (g.to - g.from) + gap_pages gs
+
+-- These are gaps between extents, in order from low to high, and there is room for as many extents, with bytes of an open pool.
+pub record HasGaps (s : Stored) (m : ExtentMap) (pool low high : ℕ) (gaps : List Span) : Type 0 where
+  pub apart : IsApart 0 m.extents
+  pub in_order : AreInOrder low high gaps
+  pub each : All (IsGapSpan m.extents) gaps
+  pub room : length gaps ≤ m.room
+  pub opened : (pool_in s.pools pool).closed ≡ false
 
 -- with these extents more, put in one after another
 unfoldable pub all_put : List Extent → List Extent → List Extent
@@ -55,15 +68,14 @@ pub record Mirrors (s : Stored) (pool : ℕ) (stored : List ℕ) (e : Extent) : 
 pub record AllMirror (s : Stored) (pool : ℕ) (stored : List ℕ) (es : List Extent) : Type 0 where
   pub each : All (Mirrors s pool stored) es
 
--- n bytes were read into new buffers on the lowest free pages of the pool
-pub record LoadsSlices (s t : Stored) (pool n : ℕ) (xs : List Slice) : Type 0 where
-  pub moves : Moves s t [] (bufs_of xs)
+-- n bytes of a file from `at` on were read into new buffers of the pool, which these slices hold
+pub record LoadsSlices (s t : Stored) (pool n : ℕ) (disk : Disk) (file at : ℕ) (xs : List Slice) : Type 0 where
+  pub placed : PlacesBuffers s t pool n (bufs_of xs)
   pub long : byte_len xs ≡ n
   pub readable : AllReadable t xs
   pub pooled : AreOf pool xs
-  pub fresh : AreNew s t xs
-  pub grows : Grows s.arena t.arena
-  pub places : PlacesPages s t pool (pages_for n)
+  pub value : IfHonest disk (text_of t xs ≡ text.labelled pool (take n (drop at (content disk.slots file))))
+  pub inside : IfHonest disk (at + n ≤ length (content disk.slots file))
 
 -- a gap was read into new buffers of the pool, and stands as a clean extent
 pub record FillsGap (s t : Stored) (old new : ExtentMap) (pool : ℕ) (gap : Span) (disk : Disk) (file : ℕ) : Type 0 where
@@ -83,9 +95,20 @@ pub record FillsGaps (s t : Stored) (old new : ExtentMap) (pool : ℕ) (gaps : L
   pub made : List Extent
   pub each : AreMade s t pool gaps made
   pub extents : new.extents ≡ all_put old.extents made
+  pub apart : IsApart 0 new.extents
   pub room : new.room + length gaps ≡ old.room
   pub moves : Moves s t [] (bufs_of (all_parts made))
+  pub places : PlacesPages s t pool (gap_pages gaps)
   pub mirrors : IfHonest disk (AllMirror t pool (content disk.slots file) made)
+
+-- A call that reads these gaps of a file into pages of a pool, all of them or none, and asks the store for each. Refused, what
+-- stays is as it was, and nothing is left of what was placed.
+pub record ReadsAllGaps {A : Type 0} (pool file : ℕ) (gaps : List Span) (stays : Type 0) (disk after : Disk) (old new : Stored)
+    (r : Result A Refusal) : Type 0 where
+  pub same : OnErr r stays
+  pub leaves : PlacesOrReleases pool (gap_pages gaps) old new r
+  pub asks : Asks (length gaps) disk after r
+  pub late : IfErr r (WantOfRoomOrFault pool file)
 
 -- without the extents that begin where these spans do: the last goes first
 abbrev pub without_spans : List Extent → List Span → List Extent
@@ -101,3 +124,12 @@ parts_back es (g ∷ gs) = parts_back es gs ++ parts_in (begins_at (without_span
 abbrev pub AllBegin : List Extent → List Span → Type 0
 AllBegin es [] = Unit {0}
 AllBegin es (g ∷ gs) = AllBegin es gs × IsSome (begins_at (without_spans es gs) g.from)
+
+-- these extents are taken away, the last first, and released
+pub record TakesBack (s t : Stored) (old new : ExtentMap) (spans : List Span) : Type 0 where
+  pub extents : new.extents ≡ without_spans old.extents spans
+  pub room : new.room ≡ old.room + length spans
+  pub moves : Moves s t (bufs_of (parts_back old.extents spans)) []
+  pub lists : SameLists s t
+  pub frees : FreesOnly s t
+  pub settles : AllReadable s (parts_back old.extents spans) → AllSettled s → AllSettled t

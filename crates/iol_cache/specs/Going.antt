@@ -1,6 +1,7 @@
 -- What a read does to a store and a cache over it, at each of its steps.
-use Rattle.std.specs.Prelude.{◌≡◌, ℕ, ◌+◌, ◌<◌, ◌≤◌, List, [], ◌++◌, length}
+use Rattle.std.specs.Prelude.{◌≡◌, ℕ, ◌+◌, ◌<◌, ◌≤◌, List, [], ◌++◌, length, Result, IfOk}
 use Rattle.iol_core.specs.declared.numbers.BufId.{BufId}
+use Rattle.iol_core.specs.declared.refusals.Refusal.{Refusal}
 use Rattle.iol_arena.specs.State.{page_count}
 use Rattle.iol_back.specs.Disk.{Disk, IfHonest}
 use Rattle.iol_hold.specs.Moves.{Moves, Shares, SameLists}
@@ -9,16 +10,17 @@ use Rattle.iol_hold.specs.Room.{pages_of}
 use Rattle.iol_hold.specs.Stored.{Stored, AllSettled}
 use Rattle.iol_hold.specs.Texts.{bufs_of}
 use Rattle.iol_hold.specs.declared.slices.Slice.{Slice}
-use Rattle.iol_extent.specs.Extents.{ExtentMap, IsApart}
+use Rattle.iol_extent.specs.Extents.{ExtentMap}
 use Rattle.iol_extent.specs.Spans.{Tile}
 use Rattle.iol_extent.specs.declared.spans.Span.{Span}
 use Rattle.iol_cache.specs.Cached.{Cached, file_in, with_file, order_in, with_order, extents_in, held, clean_held}
 use Rattle.iol_cache.specs.Contents.{Mirrors, SameFiles}
 use Rattle.iol_cache.specs.Evicting.{Holding}
-use Rattle.iol_cache.specs.Gaps.{gap_pages}
+use Rattle.iol_cache.specs.Gaps.{ReadsAllGaps, gap_pages}
 use Rattle.iol_cache.specs.Pinned.{pinned_beside}
 use Rattle.iol_cache.specs.Marks.{Marks}
-use Rattle.iol_cache.specs.Reading.{FillsRange, hits_counted, all_entered, parts_of_spans}
+use Rattle.iol_cache.specs.Reading.{FillsRange, SameButRoom, hits_counted, all_entered, parts_of_spans}
+use Rattle.iol_cache.specs.Sound.{IsSound}
 use Rattle.iol_cache.specs.Weaving.{places_beside}
 
 -- The holds `taken`, beside those of the extents, became the holds `given` beside theirs. With an honest store every
@@ -71,9 +73,16 @@ pub record FillsFile (f from to : ℕ) (beside : List Place) (gaps : List Span) 
   pub extents : ExtentMap
   pub range : FillsRange old.store new.store (file_in old.cache.files f).extents extents (file_in old.cache.files f).pool
       beside gaps from to disk f xs
-  pub apart : IsApart 0 extents.extents
   pub files : new.cache.files ≡ with_file old.cache.files f
       (record { pool = (file_in old.cache.files f).pool; extents = extents })
   pub orders : let p = (file_in old.cache.files f).pool in
       new.cache.orders ≡ with_order old.cache.orders p (all_entered (order_in old.cache.orders p) f extents.extents gaps)
   pub marks : Marks old.cache.marks new.cache.marks (parts_of_spans extents.extents gaps)
+
+-- The gaps of a range of a file are filled, all of them or none, and the range is put together with these slices beside them.
+pub record FillsAllOf (f from to : ℕ) (gaps : List Span) (xs : List Slice) (disk after : Disk) (old new : Holding)
+    (r : Result (List Slice) Refusal) : Type 0 where
+  pub filled : IfOk r (FillsFile f from to (places xs) gaps disk old new)
+  pub sound : IsSound new.store new.cache
+  pub reads : ReadsAllGaps (file_in old.cache.files f).pool f gaps (SameButRoom old.cache new.cache) disk after
+      old.store new.store r

@@ -13,6 +13,8 @@ pub mod Paging
 pub mod Sharing
 pub mod Weaving
 pub mod Reading
+pub mod Entering
+pub mod Reserving
 pub mod Composing
 pub mod Cutting
 pub mod Going

@@ -1,17 +1,24 @@
 -- Bytes of the store read into new buffers.
-use Rattle.std.specs.Prelude.{◌≡◌, ℕ, ◌<◌, ◌≤◌, false, List, [], length, take, drop, Result, Ok, Err, IfErr, IfOk, OnErr}
-use Rattle.std.specs.List.{Contains}
+use Rattle.std.specs.Prelude.{◌≡◌, ℕ, ◌+◌, ◌<◌, ◌≤◌, ◌^◌, false, List, [], length, take, drop, min, Result, Ok, Err, IfErr, IfOk, OnErr, OnOk}
+use Rattle.std.specs.List.{All, Contains}
+use Rattle.iol_core.specs.Meaning.{WantOfRoomOrFault}
+use Rattle.iol_core.specs.declared.numbers.BufId.{BufId}
 use Rattle.iol_core.specs.declared.refusals.Refusal.{Refusal}
 use Rattle.iol_core.specs.declared.refusals.Refusal.TheVariants.{Fault, NoRoom}
+use Rattle.iol_arena.specs.Adds.{IsNew}
+use Rattle.iol_arena.specs.Buffers.{Grows, bytes_in}
 use Rattle.iol_arena.specs.State.{entry_at, kind_free, pages_for, with_bytes}
-use Rattle.iol_arena.specs.Pages.{IsSameBut}
-use Rattle.iol_arena.specs.Parts.{part_bytes, part_room}
-use Rattle.iol_arena.specs.declared.pages.Part.{Part}
-use Rattle.iol_back.specs.Disk.{Disk, IfHonest, Succeeds, last_failure, raised}
+use Rattle.iol_arena.specs.Pages.{IsSameBut, MadeOn}
+use Rattle.iol_arena.specs.Parts.{part_bytes, part_pages, part_room}
+use Rattle.iol_back.specs.Disk.{Disk, IfHonest, Succeeds, content, last_failure, raised}
+use Rattle.iol_hold.specs.Filling.{Fill, IsFilling, filling_lender, filling_part, filling_parts, filling_store}
 use Rattle.iol_hold.specs.Moves.{Moves, SameLists}
 use Rattle.iol_hold.specs.Pages.{KeepsPages}
-use Rattle.iol_hold.specs.Room.{free_of}
-use Rattle.iol_hold.specs.Stored.{AllSettled, Stored, with_arena}
+use Rattle.iol_hold.specs.Room.{free_of, lowest_of}
+use Rattle.iol_hold.specs.Stored.{AllSettled, Buffer, Stored, held_bufs, with_arena}
+use Rattle.iol_hold.specs.Texts.{IsFilled}
+use Rattle.iol_hold.specs.Waiting.{Fills}
+use Rattle.iol_pool.specs.Pools.{pool_in}
 
 -- reads were made, and the first that failed ended them
 abbrev pub ReadCounts : {A E : Type 0} → (old new : Disk) → Result A E → Type 0
@@ -24,13 +31,43 @@ pub record IsRead {A E : Type 0} (old new : Disk) (r : Result A E) : Type 0 wher
   pub slots : IfHonest old (new.slots ≡ old.slots)
   pub counts : ReadCounts old new r
 
--- A part that waits was written. Where an honest store did not fail, the first bytes are those that were read.
-pub record ReadsPart {E : Type 0} (s t : Stored) (p : Part) (disk : Disk) (bytes : List ℕ) (r : Result ℕ E) : Type 0 where
+-- The store is read into memory, which has these bytes then. Where an honest one does not fail, the first n are those of the
+-- file from `at` on.
+pub record ReadsInto {A E : Type 0} (disk after : Disk) (file at n : ℕ) (bytes : List ℕ) (r : Result A E) : Type 0 where
+  pub asks : IsRead disk after r
+  pub whole : OnOk r (n ≤ length bytes)
+  pub read : IfHonest disk (OnOk r (take n bytes ≡ take n (drop at (content disk.slots file))))
+  pub inside : IfHonest disk (OnOk r (at + n ≤ length (content disk.slots file)))
+
+-- memory of a filling was written, and it waits as before
+pub record WritesFilling (f g : Fill) : Type 0 where
+  pub reserved : g.reserved ≡ f.reserved
+  pub same_reference : filling_lender g ≡ filling_lender f
+  pub filling : IsFilling g
+  pub fills : Fills (filling_store f) (filling_store g) (filling_parts f)
+  pub entries : (filling_store g).arena.entries ≡ (filling_store f).arena.entries
+
+-- At most `left` bytes of a file are read into part i of a filling. Where an honest store does not fail, they are those of the
+-- file from `at` on.
+pub record ReadsPart {E : Type 0} (f g : Fill) (i left : ℕ) (disk after : Disk) (file at : ℕ)
+    (r : Result ℕ E) : Type 0 where
+  pub writes : WritesFilling f g
   pub written : List ℕ
-  pub len : length written ≡ part_room p
-  pub there : t ≡ with_arena s (with_bytes s.arena p.first written)
-  pub was : length (part_bytes s.arena p) ≡ part_room p
-  pub read : IfHonest disk (IfOk r (λ n. take n written ≡ take n bytes))
+  pub len : length written ≡ part_room (filling_part f i)
+  pub there : filling_store g
+      ≡ with_arena (filling_store f) (with_bytes (filling_store f).arena (filling_part f i).first written)
+  pub was : length (part_bytes (filling_store f).arena (filling_part f i)) ≡ part_room (filling_part f i)
+  pub asks : IsRead disk after r
+  pub count : IfOk r (λ n. n ≡ min left (part_room (filling_part f i)))
+  pub read : IfHonest disk (IfOk r (λ n. take n written ≡ take n (drop at (content disk.slots file))))
+  pub inside : IfHonest disk (IfOk r (λ n. at + n ≤ length (content disk.slots file)))
+
+-- the parts of a filling are as long as n bytes need, which can be read from `at` on
+pub record IsBegunFor (f : Fill) (at n : ℕ) : Type 0 where
+  pub some : 0 < n
+  pub fits : at + n < 2 ^ 32
+  pub filling : IsFilling f
+  pub long : length (part_pages (filling_parts f)) ≡ pages_for n
 
 -- A call that reads so many ranges of the store. It fails by the store's failure, which it counts once, or before it asks;
 -- where it had to ask and did not fail, the store still answers.
@@ -59,14 +96,41 @@ pub record PlacesSome (old new : Stored) (pool most : ℕ) : Type 0 where
   pub few : count ≤ most
   pub pages : KeepsPages old new (take count (free_of old pool))
 
--- n bytes are read into new buffers of a pool. Refused, no page and no hold is another than before, and NoRoom tells that fewer
--- pages are free.
-pub record LoadsOrKeeps {A : Type 0} (pool n : ℕ) (old new : Stored) (r : Result A Refusal) : Type 0 where
+-- n bytes from `at` on may be loaded into a pool
+pub record MayLoad (s : Stored) (pool at n : ℕ) : Type 0 where
+  pub some : 0 < n
+  pub fits : at + n < 2 ^ 32
+  pub opened : (pool_in s.pools pool).closed ≡ false
+
+-- these buffers were made on the lowest free pages of a pool, those that n bytes need
+pub record PlacesBuffers (old new : Stored) (pool n : ℕ) (bufs : List BufId) : Type 0 where
+  pub moves : Moves old new [] bufs
+  pub made : All (IsNew old.arena new.arena) bufs
+  pub made_on : MadeOn old.arena new.arena bufs (lowest_of old pool n)
+  pub grows : Grows old.arena new.arena
+  pub pages : PlacesPages old new pool (pages_for n)
+
+-- n bytes of a file from `at` on were read into new buffers of a pool, which are held once
+pub record LoadsHolds (old new : Stored) (pool n : ℕ) (disk : Disk) (file at : ℕ) (holds : List Buffer) : Type 0 where
+  pub placed : PlacesBuffers old new pool n (held_bufs holds)
+  pub filled : All (IsFilled new) holds
+  pub pooled : All (λ (h : Buffer). h.pool ≡ pool) holds
+  pub few : length holds ≤ pages_for n
+  pub len : length (bytes_in new.arena (held_bufs holds)) ≡ n
+  pub value : IfHonest disk (bytes_in new.arena (held_bufs holds) ≡ take n (drop at (content disk.slots file)))
+  pub inside : IfHonest disk (at + n ≤ length (content disk.slots file))
+
+-- n bytes of a file are read into new buffers of a pool, for which the store is asked once. Refused, no page and no hold is
+-- another than before, and NoRoom tells that fewer pages are free.
+pub record LoadsOrKeeps {A : Type 0} (pool n file : ℕ) (disk after : Disk) (old new : Stored)
+    (r : Result A Refusal) : Type 0 where
   pub none : OnErr r (Moves old new [] [])
   pub kept : OnErr r (KeepsPages old new [])
   pub pools : new.pools ≡ old.pools
   pub settles : AllSettled old → AllSettled new
   pub no_room : IfErr r (λ x. (p : ℕ) → x ≡ NoRoom p → length (free_of old pool) < pages_for n)
+  pub asks : Asks 1 disk after r
+  pub late : IfErr r (WantOfRoomOrFault pool file)
 
 -- Bytes are placed on so many pages of a pool. Refused, no hold is another than before, what was placed is gone, and NoRoom tells
 -- that fewer pages are free.

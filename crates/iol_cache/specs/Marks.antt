@@ -49,6 +49,12 @@ abbrev pub Turns : (is_clean : Bool) → (old new : List ℕ) → List Slice →
 Turns true old new xs = Marks old new xs
 Turns false old new xs = Unmarks old new xs
 
+-- one slice more, or one fewer, can be counted at a page
+pub record CanTurnAt (is_clean : Bool) (marks : List ℕ) (page : ℕ) : Type 0 where
+  pub within : page < length marks
+  pub few : is_clean ≡ true → slice_index marks page < 2 ^ 63
+  pub some : is_clean ≡ false → 0 < slice_index marks page
+
 -- the mark of a page, with one slice more or fewer
 abbrev pub turned : (is_clean : Bool) → (mark : ℕ) → ℕ
 turned true n = n + 1

@@ -1,20 +1,30 @@
 -- What a write leaves of files and of extents.
-use Rattle.std.specs.Prelude.{◌≡◌, ◌≢◌, ◌⊎◌, ℕ, ◌+◌, ◌<◌, ◌≤◌, true, List, length, Option, Some, None}
+use Rattle.std.specs.Prelude.{◌≡◌, ◌≢◌, ◌⊎◌, ℕ, ◌+◌, ◌<◌, ◌≤◌, ◌^◌, ◌++◌, true, List, length, Option, Some, None, Result, Err, IfErr, OnErr, OnOk}
 use Rattle.iol_back.specs.Disk.{overwritten}
+use Rattle.iol_core.specs.Meaning.{WantOfRoom}
+use Rattle.iol_core.specs.Numbered.{is_numbered}
 use Rattle.iol_core.specs.Text as text
+use Rattle.iol_core.specs.declared.limits.TheConstants.{MAX_FILE_BYTES}
+use Rattle.iol_core.specs.declared.refusals.Refusal.{Refusal}
+use Rattle.iol_core.specs.declared.refusals.Refusal.TheVariants.{NoRoom}
 use Rattle.iol_extent.specs.Extents.{Cell, Extent, cover}
+use Rattle.iol_hold.specs.Moves.{Covers}
 use Rattle.iol_hold.specs.Places.{byte_len, places}
+use Rattle.iol_hold.specs.Room.{free_of, pages_of}
 use Rattle.iol_hold.specs.Stored.{Stored}
-use Rattle.iol_hold.specs.Texts.{text_of}
+use Rattle.iol_hold.specs.Texts.{AllReadable, bufs_of, text_of}
 use Rattle.iol_hold.specs.declared.slices.Slice.{Slice}
-use Rattle.iol_cache.specs.Cached.{Cached, extents_in, file_in}
+use Rattle.iol_cache.specs.Cached.{Cached, clean_held, extents_in, file_in, held}
 use Rattle.iol_cache.specs.Composing.{KeepsOwn, copied_pages}
 use Rattle.iol_cache.specs.Contents.{Mirrors, SameFiles, bytes_in_slot}
 use Rattle.iol_cache.specs.Evicting.{EvictsAll, GivesUp, HasPages, Holding}
-use Rattle.iol_cache.specs.Loading.{PlacesSome}
+use Rattle.iol_cache.specs.Loading.{PlacesOrReleases, PlacesSome}
+use Rattle.iol_cache.specs.Pinned.{pinned_beside}
 use Rattle.iol_cache.specs.Preparing.{Prepares}
 use Rattle.iol_cache.specs.Reading.{SameButRoom}
-use Rattle.iol_cache.specs.Sharing.{places_over}
+use Rattle.iol_cache.specs.Replacing.{HasPlaces, indexing_in}
+use Rattle.iol_cache.specs.Sharing.{CountsBelow, places_over}
+use Rattle.iol_cache.specs.Sound.{IsSound}
 use Rattle.iol_cache.specs.Writing.{PutsOver}
 
 -- the bytes of a file
@@ -89,3 +99,42 @@ pub record WritesFile (f at : ℕ) (source : List Slice) (old new : Holding) : T
   pub mid : Holding
   pub room : let p = (file_in old.cache.files f).pool in MakesRoom p (copied_pages p source) old mid
   pub over : Overwrites f at source mid new
+
+-- Room may be made for a write of these bytes to a file.
+pub record MayMakePlace (f : ℕ) (source : List Slice) (h : Holding) : Type 0 where
+  pub sound : IsSound h.store h.cache
+  pub file : is_numbered h.cache.files f ≡ true
+  pub small : byte_len source ≤ MAX_FILE_BYTES
+
+-- It was made, for three extents, for their entries, and in the file's pool p for the pages of the bytes that are copied; or all
+-- was left. It is refused for want of room only where pinned pages and those for the copies are more than the pool has.
+pub record MakesPlace {A : Type 0} (f p : ℕ) (source : List Slice) (old new : Holding) (r : Result A Refusal) : Type 0 where
+  pub room : MakesRoom p (copied_pages p source) old new
+  pub free : OnOk r (copied_pages p source ≤ length (free_of new.store p))
+  pub fits : OnOk r (HasPages p (copied_pages p source) old)
+  pub lacks : (q : ℕ) → r ≡ Err (NoRoom q)
+      → length (pages_of old.store p) < pinned_beside old.store (clean_held old.cache.files) p + copied_pages p source
+  pub kept : OnErr r (LeavesAll old new)
+  pub late : IfErr r (WantOfRoom p)
+  pub places : OnOk r (HasPlaces 3 (indexing_in new.cache f))
+  pub sound : IsSound new.store new.cache
+
+-- The bytes of a source may be written over those of a file from a place on: there is room for the extents and their entries.
+pub record MayOverwrite (f at : ℕ) (source : List Slice) (h : Holding) : Type 0 where
+  pub sound : IsSound h.store h.cache
+  pub file : is_numbered h.cache.files f ≡ true
+  pub some : 0 < byte_len source
+  pub short : at + byte_len source ≤ MAX_FILE_BYTES
+  pub held : Covers h.store (held h.cache.files ++ bufs_of source)
+  pub readable : AllReadable h.store source
+  pub few : CountsBelow h.store (2 ^ 60)
+  pub places : HasPlaces 3 (indexing_in h.cache f)
+
+-- They were. Refused, what was placed is gone again.
+pub record OverwritesOrReleases {A : Type 0} (f at : ℕ) (source : List Slice) (old new : Holding)
+    (r : Result A Refusal) : Type 0 where
+  pub overwrites : OnOk r (Overwrites f at source old new)
+  pub leaves : let p = (file_in old.cache.files f).pool in
+      PlacesOrReleases p (copied_pages p source) old.store new.store r
+  pub late : IfErr r (WantOfRoom (file_in old.cache.files f).pool)
+  pub sound : IsSound new.store new.cache

@@ -1,13 +1,18 @@
 -- What a write puts in place of a range of a file.
-use Rattle.std.specs.Prelude.{◌≡◌, ℕ, ◌+◌, true, List, [], ◌++◌}
+use Rattle.std.specs.Prelude.{◌≡◌, ℕ, ◌+◌, ◌<◌, ◌^◌, true, List, [], ◌++◌, Result, IfErr, IfOk}
+use Rattle.iol_core.specs.Meaning.{WantOfRoom}
+use Rattle.iol_core.specs.declared.refusals.Refusal.{Refusal}
 use Rattle.iol_extent.specs.Extents.{Extent}
 use Rattle.iol_hold.specs.Moves.{Shares}
 use Rattle.iol_hold.specs.Places.{byte_len}
 use Rattle.iol_hold.specs.Stored.{Stored}
 use Rattle.iol_hold.specs.Texts.{bufs_of}
 use Rattle.iol_hold.specs.declared.slices.Slice.{Slice}
-use Rattle.iol_cache.specs.Composing.{Composes, copied_pages}
+use Rattle.iol_cache.specs.Composing.{Composes, MayCompose, copied_pages}
 use Rattle.iol_cache.specs.Cutting.{CutsLeft, CutsRight}
+use Rattle.iol_cache.specs.Loading.{PlacesOrReleases}
+use Rattle.iol_cache.specs.Sharing.{AreHeld}
+use Rattle.iol_cache.specs.declared.write.cut.Replacement.{Replacement}
 
 -- The bytes that a source has lie in the file's pool, as a dirty extent that begins at a place; and the parts of extents
 -- on both sides of them are shared.
@@ -21,3 +26,17 @@ pub record Prepares (s t : Stored) (pool : ℕ) (es : List Extent) (at : ℕ) (s
   pub mid : Stored
   pub composes : Composes s mid pool (copied_pages pool source) source e.parts
   pub shares : Shares mid t [] (bufs_of left.parts ++ bufs_of right.parts)
+
+-- The bytes that a source has may be put in place of those of a file from a place on.
+pub record MayPrepare (s : Stored) (pool : ℕ) (es : List Extent) (at : ℕ) (source : List Slice) : Type 0 where
+  pub some : 0 < byte_len source
+  pub fits : at + byte_len source < 2 ^ 32
+  pub bytes : MayCompose s (2 ^ 61) pool source
+  pub extents : AreHeld s es
+
+-- They were prepared. Refused, for want of room or memory, they and the parts are released.
+pub record PreparesOrReleases (s t : Stored) (pool : ℕ) (es : List Extent) (at : ℕ) (source : List Slice)
+    (r : Result Replacement Refusal) : Type 0 where
+  pub prepares : IfOk r (λ x. Prepares s t pool es at source x.left x.right x.bytes)
+  pub leaves : PlacesOrReleases pool (copied_pages pool source) s t r
+  pub late : IfErr r (WantOfRoom pool)

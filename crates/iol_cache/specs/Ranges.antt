@@ -1,5 +1,6 @@
 -- A range of a file that is read, step by step.
-use Rattle.std.specs.Prelude.{◌≡◌, ◌⊎◌, ℕ, ◌≤◌, false, List, [], length, All, Some}
+use Rattle.std.specs.Prelude.{◌≡◌, ◌⊎◌, ℕ, ◌≤◌, ◌^◌, true, false, List, [], length, All, Some, Result, OnErr}
+use Rattle.iol_core.specs.Numbered.{is_numbered}
 use Rattle.iol_core.specs.declared.refusals.Refusal.{Refusal}
 use Rattle.iol_core.specs.declared.refusals.Refusal.TheVariants.{NoRoom}
 use Rattle.iol_back.specs.Disk.{Disk}
@@ -9,6 +10,7 @@ use Rattle.iol_extent.specs.declared.spans.Span.{Span}
 use Rattle.iol_hold.specs.Moves.{Moves, SameLists, Shares}
 use Rattle.iol_hold.specs.Places.{places}
 use Rattle.iol_hold.specs.Releases.{FreesOnly}
+use Rattle.iol_hold.specs.Stored.{AllSettled}
 use Rattle.iol_hold.specs.Texts.{bufs_of}
 use Rattle.iol_hold.specs.declared.slices.Slice.{Slice}
 use Rattle.iol_cache.specs.Cached.{Cached, file_in, extents_in, order_in}
@@ -17,7 +19,16 @@ use Rattle.iol_cache.specs.Gaps.{gap_pages}
 use Rattle.iol_cache.specs.Going.{CountsHits, FillsFile}
 use Rattle.iol_cache.specs.Loading.{PlacesSome}
 use Rattle.iol_cache.specs.Reading.{SameButRoom}
+use Rattle.iol_cache.specs.Sharing.{CountsBelow}
+use Rattle.iol_cache.specs.Sound.{IsSound}
 use Rattle.iol_cache.specs.Weaving.{places_beside}
+
+-- a range of a file of a sound cache may be read
+pub record MayRead (f from to : ℕ) (h : Holding) : Type 0 where
+  pub sound : IsSound h.store h.cache
+  pub file : is_numbered h.cache.files f ≡ true
+  pub ordered : from ≤ to
+  pub few : CountsBelow h.store (2 ^ 59)
 
 -- A range has these gaps. The bytes beside them were shared, the hits were counted, and the gaps have room in the file and
 -- in the order.
@@ -31,6 +42,16 @@ pub record PinsRange (f from to : ℕ) (old new : Holding) (pins : List Slice) (
   pub counted : CountsHits f hits reserved new.cache
   pub space : length gaps ≤ (file_in new.cache.files f).extents.room
   pub entries : length gaps ≤ (order_in new.cache.orders (file_in new.cache.files f).pool).room
+
+-- What is in memory of a range is shared, and nothing else happens to the store. Refused, nothing changed but how many extents
+-- and entries can come in.
+pub record SharesHits {A E : Type 0} (old new : Holding) (r : Result A E) : Type 0 where
+  pub sound : IsSound new.store new.cache
+  pub same : OnErr r (SameButRoom old.cache new.cache)
+  pub none : OnErr r (Moves old.store new.store [] [])
+  pub frees : FreesOnly old.store new.store
+  pub lists : SameLists old.store new.store
+  pub settles : AllSettled old.store → AllSettled new.store
 
 -- a clean extent lies over just this span
 pub record IsCleanSpan (es : List Extent) (s : Span) : Type 0 where

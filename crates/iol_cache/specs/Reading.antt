@@ -1,22 +1,26 @@
 -- Reading a range of a file.
-use Rattle.std.specs.Prelude.{◌≡◌, ℕ, ◌≤◌, true, if◌then◌else◌, List, [], ◌∷◌, All, length, Option, Some, None, IsSome, flat_map}
+use Rattle.std.specs.Prelude.{◌≡◌, ℕ, ◌≤◌, ◌^◌, true, if◌then◌else◌, List, [], ◌∷◌, ◌++◌, All, length, Option, Some, None, IsSome, Result, IfOk, flat_map}
 use Rattle.iol_core.specs.Numbered.{is_numbered}
 use Rattle.iol_core.specs.declared.limits.TheConstants.{MAX_FILE_BYTES}
+use Rattle.iol_core.specs.declared.refusals.Refusal.{Refusal}
 use Rattle.iol_back.specs.Disk.{Disk}
-use Rattle.iol_hold.specs.Moves.{Shares}
+use Rattle.iol_hold.specs.Moves.{Covers, Shares}
 use Rattle.iol_hold.specs.Places.{Place, places, byte_len}
 use Rattle.iol_hold.specs.Stored.{Stored}
-use Rattle.iol_hold.specs.Texts.{bufs_of}
+use Rattle.iol_hold.specs.Texts.{AllReadable, bufs_of}
 use Rattle.iol_hold.specs.declared.slices.Slice.{Slice}
 use Rattle.iol_extent.specs.Extents.{Extent, ExtentMap, begins_at, extent_over}
 use Rattle.iol_extent.specs.Spans.{AreInOrder, IsGapSpan}
 use Rattle.iol_extent.specs.declared.spans.Span.{Span}
 use Rattle.iol_evict.specs.Ranking.{Ranking, hit_at, entered}
-use Rattle.iol_cache.specs.Gaps.{FillsGaps, gap_pages}
-use Rattle.iol_cache.specs.Loading.{PlacesPages}
+use Rattle.iol_cache.specs.declared.files.CachedFile.{CachedFile}
+use Rattle.iol_cache.specs.Evicting.{Holding}
+use Rattle.iol_cache.specs.Gaps.{FillsGaps, HasGaps, ReadsAllGaps}
 use Rattle.iol_cache.specs.Marks.{AreWithin}
-use Rattle.iol_cache.specs.Weaving.{woven}
-use Rattle.iol_cache.specs.Cached.{Cached, file_in, extents_in, order_in, parts_in, held, clean_held, clean_at, entries_at}
+use Rattle.iol_cache.specs.Sharing.{CountsBelow}
+use Rattle.iol_cache.specs.Sound.{IsSound}
+use Rattle.iol_cache.specs.Weaving.{LieBeside, len_beside, woven}
+use Rattle.iol_cache.specs.Cached.{Cached, file_in, extents_in, order_in, parts_in, all_parts, held, clean_held, clean_at, entries_at}
 
 -- nothing changed but how many more can come in without memory
 pub record SameButRoom (old new : Cached) : Type 0 where
@@ -80,9 +84,25 @@ pub record FillsRange (s t : Stored) (old new : ExtentMap) (pool : ℕ) (beside 
     (from to : ℕ) (disk : Disk) (file : ℕ) (xs : List Slice) : Type 0 where
   pub mid : Stored
   pub fills : FillsGaps s mid old new pool gaps disk file
-  pub filled : PlacesPages s mid pool (gap_pages gaps)
   pub shares : Shares mid t [] (bufs_of xs)
   pub lies : places xs ≡ woven beside new.extents from to gaps
+
+-- The gaps of a range of a file in memory may be filled, and the range put together with these slices beside them.
+pub record MayFillRange (s : Stored) (x : CachedFile) (from to : ℕ) (gs : List Span) (xs : List Slice) : Type 0 where
+  pub gaps : HasGaps s x.extents x.pool from to gs
+  pub end : to ≤ MAX_FILE_BYTES
+  pub held : Covers s (bufs_of (all_parts x.extents.extents))
+  pub readable : AllReadable s (all_parts x.extents.extents)
+  pub beside : LieBeside s from to gs xs
+  pub few : CountsBelow s (2 ^ 60)
+
+-- The gaps of a range of a file in memory are filled, all of them or none, and the range is put together with these slices beside
+-- them.
+pub record FillsAndWeaves (s t : Stored) (x y : CachedFile) (f from to : ℕ) (gs : List Span) (xs : List Slice)
+    (disk after : Disk) (r : Result (List Slice) Refusal) : Type 0 where
+  pub fills : IfOk r (FillsRange s t x.extents y.extents x.pool (places xs) gs from to disk f)
+  pub pool : y.pool ≡ x.pool
+  pub reads : ReadsAllGaps x.pool f gs (y ≡ x) disk after s t r
 
 -- These are gaps of a range of a file, and there is room in the file and in its pool's order for as many extents.
 pub record CanFill (c : Cached) (f from to : ℕ) (gs : List Span) : Type 0 where
@@ -93,3 +113,13 @@ pub record CanFill (c : Cached) (f from to : ℕ) (gs : List Span) : Type 0 wher
   pub gaps : All (IsGapSpan (extents_in c.files f)) gs
   pub room : length gs ≤ (file_in c.files f).extents.room
   pub entries : length gs ≤ (order_in c.orders (file_in c.files f).pool).room
+
+-- A range of a file may be filled: these are its gaps, and what lies beside them is held by these slices, beside all that the
+-- cache holds.
+pub record MayFill (f from to : ℕ) (gs : List Span) (xs : List Slice) (h : Holding) : Type 0 where
+  pub sound : IsSound h.store h.cache
+  pub range : CanFill h.cache f from to gs
+  pub long : byte_len xs ≡ len_beside from to gs
+  pub held : Covers h.store (held h.cache.files ++ bufs_of xs)
+  pub readable : AllReadable h.store xs
+  pub few : CountsBelow h.store (2 ^ 60)

@@ -1,12 +1,17 @@
 -- A range of a file that is replaced: which extents stand, their entries in the order and their marks.
-use Rattle.std.specs.Prelude.{◌≡◌, ℕ, ◌+◌, ◌≤◌, ◌==◌, if◌then◌else◌, List, [], ◌∷◌, length, slice_index}
+use Rattle.std.specs.Prelude.{◌≡◌, ℕ, ◌+◌, ◌<◌, ◌≤◌, ◌^◌, ◌==◌, max, if◌then◌else◌, List, [], ◌∷◌, length, slice_index, Option, Some, None, IsSome}
 use Rattle.std.specs.List.{filter}
+use Rattle.iol_arena.specs.Prelude.{page_count}
 use Rattle.iol_evict.specs.Ranking.{Ranking, entered, left_at, with_one_given_back, with_one_kept}
-use Rattle.iol_extent.specs.Extents.{Extent, IsApart, meets, put_in, dirty_count}
+use Rattle.iol_extent.specs.Extents.{ExtentMap, put_in, dirty_count}
+use Rattle.iol_extent.specs.Prelude.{Adds, Extent, IsApart, IsGap, begins_at, end_of, last_end, meets, unmet, without_at}
+use Rattle.iol_hold.specs.Prelude.{Covers, FreesOnly, Moves, SameLists}
 use Rattle.iol_hold.specs.Places.{byte_len}
-use Rattle.iol_hold.specs.Texts.{bufs_of}
-use Rattle.iol_cache.specs.Cached.{clean_in, entries_at}
-use Rattle.iol_cache.specs.Marks.{at_page}
+use Rattle.iol_hold.specs.Stored.{AllSettled, Stored}
+use Rattle.iol_hold.specs.Texts.{AllReadable, bufs_of}
+use Rattle.iol_cache.specs.declared.files.CachedFile.{CachedFile}
+use Rattle.iol_cache.specs.Cached.{Cached, all_parts, clean_in, entries_at, file_in, order_in, parts_in}
+use Rattle.iol_cache.specs.Marks.{AreWithin, HasMarksLeft, at_page}
 use Rattle.iol_cache.specs.Reading.{RanksFile}
 
 -- The extents of file f changed, and with them the order and the marks, as far as they are of the file. L stays.
@@ -44,6 +49,11 @@ put_some es e = if byte_len e.parts == 0 then es else put_in es e
 abbrev pub forgotten : Ranking → (f : ℕ) → Extent → Ranking
 forgotten r f e = if e.dirty then with_one_given_back r else left_at r f e.at
 
+-- so, where one begins
+abbrev pub forgotten_at : Ranking → (f : ℕ) → Option Extent → Ranking
+forgotten_at r f None = r
+forgotten_at r f (Some e) = forgotten r f e
+
 abbrev pub all_forgotten : Ranking → (f : ℕ) → List Extent → Ranking
 all_forgotten r f [] = r
 all_forgotten r f (e ∷ es) = all_forgotten (forgotten r f e) f es
@@ -57,3 +67,95 @@ remembered r f e =
 abbrev pub reordered : Ranking → (f : ℕ) → List Extent → (from to : ℕ) → (left right e : Extent) → Ranking
 reordered r f es from to left right e =
     remembered (remembered (remembered (all_forgotten r f (filter (meets from to) es)) f left) f right) f e
+
+-- What becomes of the extents of a file, and with them of the order and the marks, as some go and others come.
+
+-- the extents of a file, the order of its pool, and the marks of pages
+pub record Indexing : Type 0 where
+  pub extents : ExtentMap
+  pub order : Ranking
+  pub marks : List ℕ
+
+abbrev pub indexing_of : ExtentMap → Ranking → (marks : List ℕ) → Indexing
+indexing_of es r marks = record { extents = es; order = r; marks = marks }
+
+-- of a file of a cache
+abbrev pub indexing_in : Cached → (f : ℕ) → Indexing
+indexing_in c f =
+    let x : CachedFile = file_in c.files f in
+    indexing_of x.extents (order_in c.orders x.pool) c.marks
+
+-- n extents more may come in, and their entries
+pub record HasPlaces (n : ℕ) (old : Indexing) : Type 0 where
+  pub extents : n ≤ old.extents.room
+  pub entries : n ≤ old.order.room
+
+-- an extent of file f begins at a place, and may leave the order and the marks
+pub record MayForget (f at : ℕ) (old : Indexing) : Type 0 where
+  pub begins : IsSome (begins_at old.extents.extents at)
+  pub indexed : IsIndexed f old.extents.extents old.order old.marks
+  pub within : AreWithin (length old.marks) (parts_in (begins_at old.extents.extents at))
+
+-- it left them
+pub record Forgets (f at : ℕ) (es : List Extent) (r t : Ranking) (marks new : List ℕ) : Type 0 where
+  pub follows : Reindexes f es (without_at es at) r t marks new
+  pub order : t ≡ forgotten_at r f (begins_at es at)
+  pub room : r.room ≤ t.room
+
+-- Extents of file f may go: they are indexed, each page has a mark, and their slices are held and can be read.
+pub record MayGo (f : ℕ) (s : Stored) (old : Indexing) : Type 0 where
+  pub indexed : IsIndexed f old.extents.extents old.order old.marks
+  pub pages : length old.marks ≡ page_count s.arena
+  pub held : Covers s (bufs_of (all_parts old.extents.extents))
+  pub readable : AllReadable s (all_parts old.extents.extents)
+
+-- Some went, and what they held was released. There is no less room, and those that are left may go, too.
+pub record LetsGo (f : ℕ) (s t : Stored) (old new : Indexing) : Type 0 where
+  pub room : old.extents.room ≤ new.extents.room
+  pub order_room : old.order.room ≤ new.order.room
+  pub follows : Reindexes f old.extents.extents new.extents.extents old.order new.order old.marks new.marks
+  pub moves : Moves s t (bufs_of (all_parts old.extents.extents)) (bufs_of (all_parts new.extents.extents))
+  pub frees : FreesOnly s t
+  pub lists : SameLists s t
+  pub settles : AllSettled s → AllSettled t
+  pub left : MayGo f t new
+
+-- the one that begins at a place went
+pub record TakesOut (f at : ℕ) (s t : Stored) (old new : Indexing) : Type 0 where
+  pub extents : new.extents.extents ≡ without_at old.extents.extents at
+  pub order : new.order ≡ forgotten_at old.order f (begins_at old.extents.extents at)
+  pub gone : LetsGo f s t old new
+
+-- those went that have bytes of a range
+pub record ClearsRange (f from to : ℕ) (s t : Stored) (old new : Indexing) : Type 0 where
+  pub extents : new.extents.extents ≡ unmet old.extents.extents from to
+  pub order : new.order ≡ all_forgotten old.order f (filter (meets from to) old.extents.extents)
+  pub gone : LetsGo f s t old new
+
+-- An extent may come into file f, if it has a byte: nothing lies there, it has room, and its slices can be marked.
+pub record MayCome (f : ℕ) (e : Extent) (old : Indexing) : Type 0 where
+  pub fits : 0 < byte_len e.parts → end_of e < 2 ^ 32
+  pub gap : 0 < byte_len e.parts → IsGap old.extents.extents e.at (end_of e)
+  pub indexed : IsIndexed f old.extents.extents old.order old.marks
+  pub places : HasPlaces 1 old
+  pub within : AreWithin (length old.marks) e.parts
+  pub few : HasMarksLeft old.marks e.parts
+
+-- it came in, if it has a byte, and all else lies where it lay
+pub record ComesIn (e : Extent) (old new : ExtentMap) : Type 0 where
+  pub extents : new.extents ≡ put_some old.extents e
+  pub adds : Adds old.extents e new.extents
+  pub apart : IsApart 0 new.extents
+  pub ends : 0 < byte_len e.parts → last_end new.extents ≡ max (end_of e) (last_end old.extents)
+  pub room : old.room ≤ new.room + 1
+
+-- the order and the marks went on with it
+pub record Remembers (f : ℕ) (e : Extent) (old new : Indexing) : Type 0 where
+  pub follows : Reindexes f old.extents.extents new.extents.extents old.order new.order old.marks new.marks
+  pub order : new.order ≡ remembered old.order f e
+  pub room : old.order.room ≤ new.order.room + 1
+
+-- it came in, and the order and the marks know it
+pub record PutsIn (f : ℕ) (e : Extent) (old new : Indexing) : Type 0 where
+  pub comes : ComesIn e old.extents new.extents
+  pub remembers : Remembers f e old new

@@ -1,5 +1,6 @@
 -- What a read of a file does to a store and a cache over it.
-use Rattle.std.specs.Prelude.{◌≡◌, ◌⊎◌, ℕ, ◌+◌, ◌<◌, ◌≤◌, min, max, true, List, [], length, take, drop, Result, Ok, Err}
+use Rattle.std.specs.Prelude.{◌≡◌, ◌⊎◌, ℕ, ◌+◌, ◌<◌, ◌≤◌, min, max, true, List, [], length, take, drop, Result, Ok, Err, IfOk, IfErr, OnErr}
+use Rattle.iol_core.specs.Meaning.{WantOfRoomOrFault}
 use Rattle.iol_core.specs.Numbered.{is_numbered}
 use Rattle.iol_core.specs.declared.limits.TheConstants.{MAX_FILE_BYTES}
 use Rattle.iol_core.specs.declared.refusals.Refusal.{Refusal}
@@ -10,14 +11,20 @@ use Rattle.iol_extent.specs.declared.spans.Span.{Span}
 use Rattle.iol_hold.specs.Moves.{Moves}
 use Rattle.iol_hold.specs.Places.{places}
 use Rattle.iol_hold.specs.Releases.{FreesOnly}
+use Rattle.iol_hold.specs.Room.{pages_of}
 use Rattle.iol_hold.specs.Stored.{Stored}
+use Rattle.iol_hold.specs.Texts.{AllReadable, bufs_of}
 use Rattle.iol_hold.specs.declared.slices.Slice.{Slice}
-use Rattle.iol_cache.specs.Cached.{Cached, extents_in}
+use Rattle.iol_cache.specs.Cached.{Cached, clean_held, extents_in, file_in}
 use Rattle.iol_cache.specs.Contents.{Mirrors, bytes_in_slot}
-use Rattle.iol_cache.specs.Evicting.{Holding}
-use Rattle.iol_cache.specs.Going.{HasRoom, LacksRoom}
-use Rattle.iol_cache.specs.Ranges.{CompletesRange, PinsRange, UndoesAfter}
+use Rattle.iol_cache.specs.Evicting.{HasPages, Holding}
+use Rattle.iol_cache.specs.Gaps.{gap_pages}
+use Rattle.iol_cache.specs.Going.{Goes, HasRoom, LacksRoom}
+use Rattle.iol_cache.specs.Loading.{Asks}
+use Rattle.iol_cache.specs.Pinned.{pinned_beside}
+use Rattle.iol_cache.specs.Ranges.{CompletesRange, FillsAfter, PinsRange, UndoesAfter}
 use Rattle.iol_cache.specs.Reading.{SameButRoom}
+use Rattle.iol_cache.specs.Sound.{IsSound}
 use Rattle.iol_cache.specs.Weaving.{places_read}
 
 -- A call that wants pages is refused for want of room only where it lacks room. It succeeds, or meets a fault, only where it
@@ -61,6 +68,25 @@ pub record Range (disk : Disk) (c : Cached) (f at n : ℕ) : Type 0 where
   pub begins : from ≡ min at end
   pub to : ℕ
   pub stops : to ≡ min (at + n) end
+
+-- so many pages of a pool are not free, and cannot be by evictions
+abbrev pub LacksPages : (p n : ℕ) → Holding → Type 0
+LacksPages p n h = length (pages_of h.store p) < pinned_beside h.store (clean_held h.cache.files) p + n
+
+-- Room is made for the gaps of a range, they are filled, all of them or none, and the range is put together with what was shared
+-- beside them, which is released. With these holds gone, and the range's made, the cache is sound and every file has its bytes.
+pub record FillsPinned (f from to : ℕ) (pins : List Slice) (gaps : List Span) (disk after : Disk) (old new : Holding)
+    (r : Result (List Slice) Refusal) : Type 0 where
+  pub filled : IfOk r (FillsAfter f from to pins gaps disk old new)
+  pub undone : IfErr r (UndoesAfter f pins gaps old new)
+  pub readable : IfOk r (AllReadable new.store)
+  pub goes : IfOk r (λ xs. Goes disk (bufs_of pins) (bufs_of xs) old new)
+  pub gone : OnErr r (Goes disk (bufs_of pins) [] old new)
+  pub sound : IsSound new.store new.cache
+  pub room : let p = (file_in old.cache.files f).pool in
+      TellsRoom (HasPages p (gap_pages gaps) old) (LacksPages p (gap_pages gaps) old) r
+  pub asks : Asks (length gaps) disk after r
+  pub late : IfErr r (WantOfRoomOrFault (file_in old.cache.files f).pool f)
 
 -- The hits of a range were shared and counted. Where there are gaps, extents went to make room for them, and they stand as
 -- clean extents now. Its bytes lie over hits where they lay, over gaps in the new extents.

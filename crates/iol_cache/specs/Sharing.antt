@@ -1,11 +1,11 @@
 -- Bytes of a file, shared from the extents over them.
-use Rattle.std.specs.Prelude.{ℕ, ◌-◌, ◌<◌, ◌≤◌, List, [], map, Option, Some, None, IsSome, Result, IfOk, OnErr}
+use Rattle.std.specs.Prelude.{◌≡◌, ℕ, ◌+◌, ◌-◌, ◌<◌, ◌≤◌, ◌^◌, ◌++◌, List, [], map, Option, Some, None, IsSome, Result, IfOk, OnErr}
 use Rattle.std.specs.List.{range_with_len}
 use Rattle.iol_core.specs.declared.numbers.BufId.{BufId}
 use Rattle.iol_extent.specs.Extents.{Cell, Extent, IsApart, cover, no_place}
 use Rattle.iol_extent.specs.declared.spans.Span.{Span}
-use Rattle.iol_hold.specs.Moves.{Covers, Moves, SameLists, Shares}
-use Rattle.iol_hold.specs.Places.{Place}
+use Rattle.iol_hold.specs.Moves.{Covers, Moves, SameLists, Shares, tally}
+use Rattle.iol_hold.specs.Places.{Place, byte_len, places}
 use Rattle.iol_hold.specs.Releases.{FreesOnly}
 use Rattle.iol_hold.specs.Stored.{AllSettled, Stored, count_of}
 use Rattle.iol_hold.specs.Texts.{AllReadable, bufs_of}
@@ -50,3 +50,20 @@ pub record SharesOrReleases {A E : Type 0} (so_far : List Slice) (given : A → 
   pub frees : FreesOnly old new
   pub lists : SameLists old new
   pub settles : AllSettled old → AllSettled new
+
+-- The bytes of a range lie under extents, and may be added to what was shared so far: all of it is held, and can be read.
+pub record MayShare (s : Stored) (es : List Extent) (so_far : List Slice) (from to : ℕ) : Type 0 where
+  pub ordered : from ≤ to
+  pub apart : IsApart 0 es
+  pub covered : IsCovered es from to
+  pub held : Covers s (bufs_of so_far ++ bufs_of (all_parts es))
+  pub readable : AllReadable s (all_parts es)
+  pub own_readable : AllReadable s so_far
+  pub few : (b : BufId) → count_of s b < 2 ^ 62 + tally b (bufs_of so_far)
+  pub small : byte_len so_far + (to - from) < 2 ^ 32
+
+-- they were added, or all is released
+pub record SharesOver {E : Type 0} (es : List Extent) (so_far : List Slice) (from to : ℕ) (old new : Stored)
+    (r : Result (List Slice) E) : Type 0 where
+  pub places : IfOk r (λ a. places a ≡ places so_far ++ places_over es from to)
+  pub shared : SharesOrReleases so_far (λ a. a) old new r

@@ -1,17 +1,23 @@
 -- Dirty extents that are written back.
-use Rattle.std.specs.Prelude.{Bool, ◌≡◌, ℕ, zero, suc, ◌+◌, ◌-◌, ◌<◌, ◌≤◌, ◌⊎◌, true, false, if◌then◌else◌, List, [], ◌∷◌, map, length, max, slice_index, Result, Ok, Err, OnErr, OnOk, Some, None}
+use Rattle.std.specs.Prelude.{Bool, ◌≡◌, ℕ, zero, suc, ◌+◌, ◌-◌, ◌<◌, ◌≤◌, ◌^◌, ◌⊎◌, true, false, if◌then◌else◌, List, [], ◌∷◌, map, length, max, slice_index, Result, Ok, Err, IfSome, OnErr, OnOk, Some, None}
 use Rattle.iol_back.specs.Disk.{Disk, IfHonest, OthersStay, Succeeds, Tears, content, raised}
+use Rattle.iol_core.specs.Numbered.{is_numbered}
 use Rattle.iol_core.specs.Text as text
 use Rattle.iol_core.specs.declared.refusals.Refusal.{Refusal}
 use Rattle.iol_core.specs.declared.refusals.Refusal.TheVariants.{Fault}
 use Rattle.iol_evict.specs.Ranking.{Ranking, entered, with_one_given_back}
-use Rattle.iol_extent.specs.Extents.{Extent, ExtentMap, IsApart, as_clean, cleaned_at, dirty_in}
+use Rattle.iol_extent.specs.Extents.{Extent, ExtentMap, IsApart, IsFirstDirty, as_clean, begins_at, cleaned_at, dirty_in}
 use Rattle.iol_hold.specs.Places.{byte_len}
 use Rattle.iol_hold.specs.Stored.{Stored}
-use Rattle.iol_hold.specs.Texts.{text_of}
-use Rattle.iol_cache.specs.Cached.{Cached, extents_in, file_in, order_in, with_file, with_order}
+use Rattle.iol_hold.specs.Texts.{AllReadable, text_of}
+use Rattle.iol_hold.specs.declared.slices.Slice.{Slice}
+use Rattle.iol_cache.specs.Cached.{Cached, extents_in, file_in, order_in, parts_in, with_file, with_order}
 use Rattle.iol_cache.specs.Contents.{Mirrors, bytes_in_slot}
-use Rattle.iol_cache.specs.Replacing.{Reindexes}
+use Rattle.iol_cache.specs.Marks.{AreWithin, HasMarksLeft}
+use Rattle.iol_cache.specs.Reading.{RanksFile}
+use Rattle.iol_cache.specs.Replacing.{IsReady, Reindexes}
+use Rattle.iol_cache.specs.Sharing.{CountsBelow}
+use Rattle.iol_cache.specs.Sound.{IsSound}
 use Rattle.iol_cache.specs.declared.sync.Flushed.{Flushed}
 use Rattle.iol_cache.specs.declared.sync.Flushed.TheVariants.{Nothing, Wrote}
 
@@ -29,6 +35,12 @@ pub record Stores (at : ℕ) (bytes old new : List ℕ) : Type 0 where
 abbrev pub WriteCounts : {A E : Type 0} → (old new : Disk) → Result A E → Type 0
 WriteCounts old new (Ok x) = Succeeds old new
 WriteCounts old new (Err e) = new.failures ≡ raised old.failures
+
+-- slices that have bytes, which can be read, and fit a file from a place on
+pub record MayWriteBack (s : Stored) (at : ℕ) (xs : List Slice) : Type 0 where
+  pub some : 0 < byte_len xs
+  pub fits : at + byte_len xs < 2 ^ 32
+  pub readable : AllReadable s xs
 
 -- The bytes of a range of a file were written, slice by slice. Where a write failed, what lies in the range is anything.
 pub record WritesBack {A E : Type 0} (file at : ℕ) (bytes : List ℕ) (old new : Disk) (r : Result A E) : Type 0 where
@@ -67,6 +79,23 @@ pub record KeepsContents (s : Stored) (old new : Cached) (d e : Disk) : Type 0 w
   pub stored : KeepsStored s old new d e
 
 -- The first dirty extent of a file is written back.
+
+-- It begins at a place, and may become clean there: the order has the clean ones and a place for each dirty one, and its
+-- pages can be marked.
+pub record MaySettle (f at : ℕ) (es : List Extent) (r : Ranking) (marks : List ℕ) : Type 0 where
+  pub apart : IsApart 0 es
+  pub dirty : IsFirstDirty es at
+  pub ranked : RanksFile r f es
+  pub ready : IsReady r es
+  pub within : AreWithin (length marks) (parts_in (begins_at es at))
+  pub few : HasMarksLeft marks (parts_in (begins_at es at))
+
+-- It is clean where it stands, is marked, and came into the order with the height of a new entry.
+pub record Settles (f at : ℕ) (es fs : List Extent) (r t : Ranking) (marks new : List ℕ) : Type 0 where
+  pub extents : fs ≡ cleaned_at es at
+  pub apart : IsApart 0 fs
+  pub follows : Reindexes f es fs r t marks new
+  pub order : IfSome (dirty_in es) (λ e. t ≡ entered (with_one_given_back r) f e.at (byte_len e.parts) 1)
 
 -- it was written, is clean, and stands in the order, where it came in with the height of a new entry
 pub record Cleans (s : Stored) (f : ℕ) (old new : Cached) (d e : Disk) : Type 0 where
@@ -107,6 +136,18 @@ abbrev pub StoresFirst : (s : Stored) (f : ℕ) (old new : Cached) (d e : Disk) 
 StoresFirst s f old new d e (Ok true) = Cleans s f old new d e
 StoresFirst s f old new d e (Ok false) = IsClean f old new d e
 StoresFirst s f old new d e (Err x) = Fails f old new d e × (x ≡ Fault f)
+
+-- a file of a sound cache may be written back: no buffer is held 2^61 times
+pub record MaySync (s : Stored) (f : ℕ) (c : Cached) : Type 0 where
+  pub sound : IsSound s c
+  pub file : is_numbered c.files f ≡ true
+  pub few : CountsBelow s (2 ^ 61)
+
+-- Its first dirty extent was written back, or not: each file keeps its bytes, and the cache is sound.
+pub record WritesFirst (s : Stored) (f : ℕ) (old new : Cached) (d e : Disk) (r : Result Bool Refusal) : Type 0 where
+  pub stores : StoresFirst s f old new d e r
+  pub keeps : KeepsContents s old new d e
+  pub sound : IsSound s new
 
 -- n extents of a file were written back, one after another
 abbrev pub AreCleaned : (s : Stored) (f n : ℕ) (old new : Cached) (d e : Disk) → Type 0

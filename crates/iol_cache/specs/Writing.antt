@@ -1,21 +1,60 @@
 -- What a write does to a store and a cache over it.
-use Rattle.std.specs.Prelude.{◌≡◌, ℕ, false, List, ◌++◌}
+use Rattle.std.specs.Prelude.{◌≡◌, ℕ, ◌≤◌, ◌^◌, true, false, List, ◌++◌}
+use Rattle.iol_core.specs.Numbered.{is_numbered}
+use Rattle.iol_core.specs.declared.limits.TheConstants.{MAX_FILE_BYTES}
 use Rattle.iol_arena.specs.State.{page_count}
 use Rattle.iol_pool.specs.Pools.{pool_in}
-use Rattle.iol_hold.specs.Moves.{Moves, SameLists}
+use Rattle.iol_hold.specs.Moves.{Covers, Moves, SameLists}
 use Rattle.iol_hold.specs.Releases.{FreesOnly}
-use Rattle.iol_hold.specs.Stored.{AllSettled}
+use Rattle.iol_hold.specs.Stored.{AllSettled, Stored}
 use Rattle.iol_hold.specs.Texts.{bufs_of}
 use Rattle.iol_hold.specs.declared.slices.Slice.{Slice}
 use Rattle.iol_evict.specs.Ranking.{Ranking}
 use Rattle.iol_extent.specs.Extents.{Adds, Extent, ExtentMap, IsApart, unmet}
-use Rattle.iol_cache.specs.Cached.{extents_in, file_in, order_in, with_file, with_order, all_parts}
+use Rattle.iol_cache.specs.Cached.{extents_in, file_in, held, order_in, with_file, with_order, all_parts}
+use Rattle.iol_cache.specs.Cutting.{CutsAround}
 use Rattle.iol_cache.specs.Evicting.{Holding}
-use Rattle.iol_cache.specs.Replacing.{Reindexes, put_some, reordered}
+use Rattle.iol_cache.specs.Marks.{HasMarksLeft}
+use Rattle.iol_cache.specs.Replacing.{HasPlaces, Indexing, MayGo, Reindexes, indexing_in, put_some, reordered}
+use Rattle.iol_cache.specs.Sharing.{CountsBelow}
+use Rattle.iol_cache.specs.Sound.{IsLaid, IsSound}
 
 -- the slices of the parts on both sides of a range, and of the new bytes
 abbrev pub parts_put : (left right e : Extent) → List Slice
 parts_put left right e = left.parts ++ (right.parts ++ e.parts)
+
+-- In place of what a range of file f meets, the parts on both sides of it and an extent of new bytes may come: they are held
+-- beside what stands, they can be marked, and there is room for three.
+pub record MayReplace (f from to : ℕ) (left right e : Extent) (s : Stored) (old : Indexing) : Type 0 where
+  pub cuts : CutsAround old.extents.extents from to left right e
+  pub stands : MayGo f s old
+  pub beside : Covers s (bufs_of (all_parts old.extents.extents ++ parts_put left right e))
+  pub few : HasMarksLeft old.marks (parts_put left right e)
+  pub places : HasPlaces 3 old
+
+-- they came
+pub record Replaces (f from to : ℕ) (left right e : Extent) (s t : Stored) (old new : Indexing) : Type 0 where
+  pub is : new.extents.extents ≡ put_some (put_some (put_some (unmet old.extents.extents from to) left) right) e
+  pub adds : Adds old.extents.extents e new.extents.extents
+  pub apart : IsApart 0 new.extents.extents
+  pub ranks : new.order ≡ reordered old.order f old.extents.extents from to left right e
+  pub follows : Reindexes f old.extents.extents new.extents.extents old.order new.order old.marks new.marks
+  pub moves : Moves s t (bufs_of (all_parts old.extents.extents ++ parts_put left right e))
+      (bufs_of (all_parts new.extents.extents))
+  pub frees : FreesOnly s t
+  pub lists : SameLists s t
+  pub settles : AllSettled s → AllSettled t
+
+-- The same of a file of a cache: the new bytes lie in its pool.
+pub record MayPutOver (f from to : ℕ) (left right e : Extent) (h : Holding) : Type 0 where
+  pub sound : IsSound h.store h.cache
+  pub file : is_numbered h.cache.files f ≡ true
+  pub short : to ≤ MAX_FILE_BYTES
+  pub cuts : CutsAround (extents_in h.cache.files f) from to left right e
+  pub laid : IsLaid h.store (file_in h.cache.files f).pool e
+  pub held : Covers h.store (held h.cache.files ++ bufs_of (parts_put left right e))
+  pub few : CountsBelow h.store (2 ^ 61)
+  pub places : HasPlaces 3 (indexing_in h.cache f)
 
 -- In place of what a file's range met came the parts on both sides of it, and an extent of new bytes.
 pub record PutsOver (f from to : ℕ) (left right e : Extent) (old new : Holding) : Type 0 where

@@ -1,10 +1,10 @@
 //! The cache of files.
-ghost use Rattle.std.specs.Prelude.{◌≡◌, ℕ, ◌+◌, ◌<◌, ◌≤◌, max, [], ◌∷◌, ◌++◌, length, false, OnOk, OnErr, IfOk};
+ghost use Rattle.std.specs.Prelude.{◌≡◌, ℕ, ◌+◌, ◌<◌, ◌≤◌, [], ◌∷◌, ◌++◌, length, false, OnOk, OnErr, IfOk};
 ghost use Rattle.iol_arena.specs.Prelude.{page_count};
 ghost use Rattle.iol_pool.specs.Prelude.{pool_in};
 ghost use Rattle.iol_hold.specs.Prelude.{Stored, IsTidy, IsStill};
 ghost use Rattle.iol_extent.specs.Prelude.{last_end};
-ghost use Rattle.iol_cache.specs.Cached.{dirty_in_all, extents_in, extents_in_all, new_file, order_in};
+ghost use Rattle.iol_cache.specs.Cached.{AddsOrders, dirty_in_all, extents_in, extents_in_all, new_file, order_in};
 ghost use Rattle.iol_cache.specs.Sound.{IsSound};
 
 use crate::files::CachedFile;
@@ -34,11 +34,7 @@ pub struct CacheReport {
 
 // Empty orders, until there are so many. For want of memory, none.
 fn add_orders(orders: &mut Vec<Order>, alloc: Global, count: usize) -> Result<(), AllocError>
-    ensures same { (p : ℕ) → order_in orders.new.items p ≡ order_in orders.old.items p }
-    ensures enough { OnOk result (count ≤ length orders.new.items) }
-    ensures no_fewer { length orders.old.items ≤ length orders.new.items }
-    ensures no_more { length orders.new.items ≤ max count (length orders.old.items) }
-    ensures err { OnErr result (orders.new.items ≡ orders.old.items) }
+    ensures { AddsOrders count orders.old.items orders.new.items result }
 {
     if count <= orders.len() {
         return Ok(());

@@ -1,11 +1,10 @@
 //! Eviction of clean extents.
-ghost use Rattle.std.specs.Prelude.{◌≡◌, ◌≢◌, ◌↔◌, ℕ, ◌+◌, ◌≤◌, [], length, false, Some, None, MatchOption, IsTrue};
+ghost use Rattle.std.specs.Prelude.{◌≡◌, ◌↔◌, ℕ, ◌+◌, ◌≤◌, length, false, Some, IsTrue};
 ghost use Rattle.iol_pool.specs.Prelude.{pool_in};
 ghost use Rattle.iol_hold.specs.Prelude.{pages_of, free_of};
-ghost use Rattle.iol_evict.specs.Prelude.{IsVictim};
-ghost use Rattle.iol_cache.specs.Cached.{extents_in, file_in, order_in, clean_held};
+ghost use Rattle.iol_cache.specs.Cached.{extents_in, clean_held};
 ghost use Rattle.iol_cache.specs.Cache.{cached_of, holding};
-ghost use Rattle.iol_cache.specs.Evicting.{in_use, ArePassed, IsCleanAt, AllDirty, Evicts, EvictsAll, EvictsPools, GivesUp, MakesFree};
+ghost use Rattle.iol_cache.specs.Evicting.{AllDirty, ArePassed, DropsClean, EvictsAll, EvictsOne, EvictsPools, FindsVictim, GivesUp, IsCleanAt, MakesFree};
 ghost use Rattle.iol_cache.specs.Pinned.{pinned_beside};
 ghost use Rattle.iol_cache.specs.Sound.{IsSound};
 
@@ -20,10 +19,7 @@ impl Cache {
     fn victim(&self, store: &Store, pool: PoolId, passed: &mut Rank) -> Option<(FileId, u32)>
         requires sound { IsSound store.now (cached_of self.now) }
         requires below { ArePassed passed.old pool (holding store.now self.now) }
-        ensures first { let entries = (order_in self.now.orders.items pool).entries in
-            MatchOption result (entries ≡ [])
-            (IsVictim (in_use store.now self.now.files.items) entries) }
-        ensures below { ArePassed passed.new pool (holding store.now self.now) }
+        ensures { FindsVictim passed.new pool (holding store.now self.now) result }
     {
         let number = pool.number() as usize;
         if number == 0 {
@@ -44,11 +40,8 @@ impl Cache {
     fn evict(&mut self, store: &mut Store, file: FileId, at: u32, passed: &mut Rank)
         requires sound { IsSound store.old (cached_of self.old) }
         requires clean { IsCleanAt self.old.files.items file at }
-        ensures evicts { Evicts file at (holding store.old self.old) (holding store.new self.new) }
-        ensures sound { IsSound store.new (cached_of self.new) }
-        ensures below { let pool = (file_in self.old.files.items file).pool in
-            ArePassed passed.old pool (holding store.old self.old) →
-            ArePassed passed.new pool (holding store.new self.new) }
+        ensures { EvictsOne file at passed.old passed.new (holding store.old self.old)
+            (holding store.new self.new) }
     {
         let place = file.number() as usize - 1;
         let pool = self.files[place].pool;
@@ -63,9 +56,8 @@ impl Cache {
     fn evict_for(&mut self, store: &mut Store, pool: PoolId, pages: u32) -> bool
         requires sound { IsSound store.old (cached_of self.old) }
         requires open { (pool_in store.old.pools pool).closed ≡ false }
-        ensures makes { MakesFree pool pages (holding store.old self.old)
-            (holding store.new self.new) result }
-        ensures sound { IsSound store.new (cached_of self.new) }
+        ensures { MakesFree pool pages (holding store.old self.old) (holding store.new self.new)
+            result }
     {
         let mut passed = Rank::least();
         while store.free_count(pool) < pages {
@@ -119,13 +111,7 @@ impl Cache {
     // Evicts all clean extents of the pool's files, those that go first before the others.
     fn drop_clean_of(&mut self, store: &mut Store, pool: PoolId)
         requires { IsSound store.old (cached_of self.old) }
-        ensures none { (order_in self.new.orders.items pool).entries ≡ [] }
-        ensures others { (q : ℕ) → q ≢ pool →
-            order_in self.new.orders.items q ≡ order_in self.old.orders.items q }
-        ensures len { length self.new.orders.items ≡ length self.old.orders.items }
-        ensures victims { EvictsAll pool None (holding store.old self.old) (holding store.new self.new) }
-        ensures gives_up { GivesUp (holding store.old self.old) (holding store.new self.new) }
-        ensures sound { IsSound store.new (cached_of self.new) }
+        ensures { DropsClean pool (holding store.old self.old) (holding store.new self.new) }
     {
         let mut passed = Rank::least();
         while let Some(place) = self.victim(store, pool, &mut passed) {

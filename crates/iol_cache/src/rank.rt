@@ -1,11 +1,9 @@
 //! Extents of a file in the order of its pool: hits that count, and extents that come in.
-ghost use Rattle.std.specs.Prelude.{◌≡◌, ◌<◌, ◌≤◌, length, IsSome};
-ghost use Rattle.iol_extent.specs.Prelude.{IsApart, begins_at, AreInOrder};
-ghost use Rattle.iol_evict.specs.Prelude.{entered};
-ghost use Rattle.iol_hold.specs.Prelude.{byte_len};
-ghost use Rattle.iol_cache.specs.Cached.{entries_at, parts_in};
-ghost use Rattle.iol_cache.specs.Marks.{Marks, AreWithin, HasMarksLeft};
-ghost use Rattle.iol_cache.specs.Reading.{RanksFile, hits_counted, parts_of_spans, all_entered, AllBeginAt, AllWithin, AreAbsent};
+ghost use Rattle.std.specs.Prelude.{◌≡◌, ◌≤◌, length};
+ghost use Rattle.iol_extent.specs.Prelude.{IsApart, AreInOrder};
+ghost use Rattle.iol_cache.specs.Entering.{Enters, EntersAll, MayEnter};
+ghost use Rattle.iol_cache.specs.Marks.{HasMarksLeft};
+ghost use Rattle.iol_cache.specs.Reading.{RanksFile, hits_counted, parts_of_spans, AllBeginAt, AllWithin, AreAbsent};
 
 use crate::marks::CleanHolds;
 use iol_core::numbers::FileId;
@@ -36,15 +34,8 @@ pub(crate) fn enter_one(
     file: FileId,
     at: u32,
 )
-    requires apart { IsApart 0 extents.now.extents }
-    requires begins { IsSome (begins_at extents.now.extents at) }
-    requires absent { entries_at file at order.old.entries ≡ 0 }
-    requires room { 0 < order.old.room }
-    requires within { AreWithin (length marks.old) (parts_in (begins_at extents.now.extents at)) }
-    requires few { HasMarksLeft marks.old (parts_in (begins_at extents.now.extents at)) }
-    ensures order { let xs = parts_in (begins_at extents.now.extents at) in
-        order.new ≡ entered order.old file at (byte_len xs) 1 }
-    ensures marks { Marks marks.old marks.new (parts_in (begins_at extents.now.extents at)) }
+    requires { MayEnter file at extents.now.extents order.old marks.old }
+    ensures { Enters file at extents.now.extents order.old order.new marks.old marks.new }
 {
     let Some((_, agg, _)) = extents.over(at) else {
         return;
@@ -68,8 +59,7 @@ pub(crate) fn enter_all(
     requires room { length spans.now ≤ order.old.room }
     requires within { AllWithin (length marks.old) extents.now.extents }
     requires few { HasMarksLeft marks.old (parts_of_spans extents.now.extents spans.now) }
-    ensures order { order.new ≡ all_entered order.old file extents.now.extents spans.now }
-    ensures marks { Marks marks.old marks.new (parts_of_spans extents.now.extents spans.now) }
+    ensures { EntersAll file extents.now.extents spans.now order.old order.new marks.old marks.new }
 {
     for span in spans {
         enter_one(order, marks, extents, file, span.from);

@@ -1,23 +1,19 @@
 //! Reads of files: what is in memory is shared, room is made for the gaps, and these are read.
-ghost use Rattle.std.specs.Prelude.{◌≡◌, ◌+◌, ◌<◌, ◌≤◌, ◌^◌, ◌++◌, [], length, true, OnErr, IfOk, IfErr};
+ghost use Rattle.std.specs.Prelude.{◌≡◌, ◌≤◌, ◌^◌, [], length, true, OnErr, IfOk, IfErr};
 ghost use Rattle.iol_core.specs.Prelude.{WantOfRoomOrFault, is_numbered};
 ghost use Rattle.iol_core.specs.Text as text;
-ghost use Rattle.iol_hold.specs.Prelude.{Covers, byte_len, pages_of, Stored, bufs_of, text_of, AllReadable};
+ghost use Rattle.iol_hold.specs.Prelude.{byte_len, Stored, bufs_of, text_of, AllReadable};
 ghost use Rattle.iol_extent.specs.Prelude.{last_end};
-ghost use Rattle.iol_cache.specs.Cached.{clean_held, extents_in, file_in, held};
+ghost use Rattle.iol_cache.specs.Cached.{extents_in, file_in};
 ghost use Rattle.iol_cache.specs.Cache.{cached_of, holding};
 ghost use Rattle.iol_cache.specs.Contents.{bytes_in_slot};
-ghost use Rattle.iol_cache.specs.Gaps.{AreOf, gap_pages};
+ghost use Rattle.iol_cache.specs.Gaps.{AreOf};
 ghost use Rattle.iol_cache.specs.Going.{Goes};
-ghost use Rattle.iol_cache.specs.Loading.{Asks};
 ghost use Rattle.iol_cache.specs.Paging.{FillsLowest};
-ghost use Rattle.iol_cache.specs.Pinned.{pinned_beside};
-ghost use Rattle.iol_cache.specs.Ranges.{FillsAfter, UndoesAfter};
-ghost use Rattle.iol_cache.specs.Reading.{CanFill};
-ghost use Rattle.iol_cache.specs.Serving.{IsBacked, IsEnd, NoRoomToRead, ReadsFile, RefusesRead, RoomToRead, TellsFault, TellsRoom, bytes_read};
+ghost use Rattle.iol_cache.specs.Reading.{MayFill};
+ghost use Rattle.iol_cache.specs.Serving.{FillsPinned, IsBacked, IsEnd, NoRoomToRead, ReadsFile, RefusesRead, RoomToRead, TellsFault, TellsRoom, bytes_read};
 ghost use Rattle.iol_cache.specs.Sharing.{CountsBelow};
 ghost use Rattle.iol_cache.specs.Sound.{IsSound};
-ghost use Rattle.iol_cache.specs.Weaving.{len_beside};
 
 mod fill;
 mod gaps;
@@ -49,29 +45,11 @@ impl Cache {
         pins: Agg,
         gaps: &[Span],
     ) -> Result<Agg, Refusal>
-        requires sound { IsSound store.old (cached_of self.old) }
-        requires range { CanFill (cached_of self.old) part.now.file part.now.from part.now.to gaps.now }
-        requires pins_len { byte_len pins ≡ len_beside part.now.from part.now.to gaps.now }
-        requires held { Covers store.old (held self.old.files.items ++ bufs_of pins) }
-        requires readable { AllReadable store.old pins }
-        requires few { CountsBelow store.old (2 ^ 60) }
-        ensures filled { IfOk result (FillsAfter part.now.file part.now.from part.now.to pins gaps.now
-            (B.disk backing.old) (holding store.old self.old) (holding store.new self.new)) }
-        ensures undone { IfErr result (UndoesAfter part.now.file pins gaps.now
-            (holding store.old self.old) (holding store.new self.new)) }
-        ensures readable { IfOk result (AllReadable store.new) }
-        ensures goes { IfOk result (λ a. Goes (B.disk backing.old) (bufs_of pins) (bufs_of a)
-            (holding store.old self.old) (holding store.new self.new)) }
-        ensures gone { OnErr result (Goes (B.disk backing.old) (bufs_of pins) []
-            (holding store.old self.old) (holding store.new self.new)) }
-        ensures sound { IsSound store.new (cached_of self.new) }
-        ensures room { let p = (file_in self.old.files.items part.now.file).pool in
-            let wanted = pinned_beside store.old (clean_held self.old.files.items) p +
-            gap_pages gaps.now in let all = length (pages_of store.old p) in
-            TellsRoom (wanted ≤ all) (all < wanted) result }
-        ensures disk { Asks (length gaps.now) (B.disk backing.old) (B.disk backing.new) result }
-        ensures late { IfErr result
-            (WantOfRoomOrFault (file_in self.old.files.items part.now.file).pool part.now.file) }
+        requires { MayFill part.now.file part.now.from part.now.to gaps.now pins
+            (holding store.old self.old) }
+        ensures { FillsPinned part.now.file part.now.from part.now.to pins gaps.now
+            (B.disk backing.old) (B.disk backing.new) (holding store.old self.old)
+            (holding store.new self.new) result }
     {
         let place = part.file.number() as usize - 1;
         let pool = self.files[place].pool;

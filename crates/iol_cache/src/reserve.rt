@@ -1,9 +1,9 @@
 //! Room for extents, and for the entries that they have in their pool's order once they are clean.
-ghost use Rattle.std.specs.Prelude.{◌≡◌, ◌≤◌, true, OnOk};
+ghost use Rattle.std.specs.Prelude.{◌≡◌, true};
 ghost use Rattle.iol_core.specs.Prelude.{is_numbered};
 ghost use Rattle.iol_cache.specs.Cache.{cached_of};
-ghost use Rattle.iol_cache.specs.Cached.{file_in, order_in};
-ghost use Rattle.iol_cache.specs.Reading.{SameButRoom};
+ghost use Rattle.iol_cache.specs.Cached.{file_in};
+ghost use Rattle.iol_cache.specs.Reserving.{ReservesPlaces};
 
 use crate::cache::Cache;
 use iol_core::numbers::FileId;
@@ -15,10 +15,7 @@ impl Cache {
         requires file { is_numbered self.old.files.items file ≡ true }
         requires order { let p = (file_in self.old.files.items file).pool in
             is_numbered self.old.orders.items p ≡ true }
-        ensures same { SameButRoom (cached_of self.old) (cached_of self.new) }
-        ensures extents { OnOk result (count ≤ (file_in self.new.files.items file).extents.room) }
-        ensures entries { let p = (file_in self.old.files.items file).pool in
-            OnOk result (count ≤ (order_in self.new.orders.items p).room) }
+        ensures { ReservesPlaces file count (cached_of self.old) (cached_of self.new) result }
     {
         let place = file.number() as usize - 1;
         let pool = self.files[place].pool;

@@ -1,19 +1,15 @@
 //! Writing back of dirty extents.
-ghost use Rattle.std.specs.Prelude.{◌≡◌, ◌+◌, ◌<◌, ◌^◌, length, true, None, IfErr, IfSome, OnErr, OnOk};
+ghost use Rattle.std.specs.Prelude.{◌≡◌, ◌^◌, true, None, IfErr, OnErr, OnOk};
 ghost use Rattle.iol_core.specs.Text as text;
 ghost use Rattle.iol_core.specs.Prelude.{is_numbered, FaultOf};
 ghost use Rattle.iol_cache.specs.Cache.{cached_of};
-ghost use Rattle.iol_cache.specs.Cached.{extents_in, parts_in};
+ghost use Rattle.iol_cache.specs.Cached.{extents_in};
 ghost use Rattle.iol_cache.specs.Sharing.{CountsBelow};
 ghost use Rattle.iol_cache.specs.Sound.{IsSound};
-ghost use Rattle.iol_cache.specs.Marks.{AreWithin, HasMarksLeft};
-ghost use Rattle.iol_cache.specs.Reading.{RanksFile};
-ghost use Rattle.iol_cache.specs.Replacing.{Reindexes, IsReady};
-ghost use Rattle.iol_cache.specs.Syncing.{Flushes, KeepsBytes, KeepsContents, KeepsStored, StoresFirst, Syncs, WritesBack, WritesDirty};
-ghost use Rattle.iol_extent.specs.Prelude.{IsFirstDirty, cleaned_at, IsApart, begins_at, dirty_in};
+ghost use Rattle.iol_cache.specs.Syncing.{Flushes, KeepsBytes, KeepsStored, MaySettle, MaySync, MayWriteBack, Settles, Syncs, WritesBack, WritesDirty, WritesFirst};
+ghost use Rattle.iol_extent.specs.Prelude.{dirty_in};
 ghost use Rattle.iol_back.specs.Prelude.{raised};
-ghost use Rattle.iol_evict.specs.Prelude.{entered, with_one_given_back};
-ghost use Rattle.iol_hold.specs.Prelude.{byte_len, AllReadable, text_of};
+ghost use Rattle.iol_hold.specs.Prelude.{text_of};
 
 use crate::cache::Cache;
 use crate::marks::CleanHolds;
@@ -42,9 +38,7 @@ fn write_back<B: Backing>(
     at: u32,
     slices: &[Slice],
 ) -> Result<(), StoreFault>
-    requires some { 0 < byte_len slices.now }
-    requires fits { at + byte_len slices.now < 2 ^ 32 }
-    requires readable { AllReadable store.now slices.now }
+    requires { MayWriteBack store.now at slices.now }
     ensures { WritesBack file at (text.bytes_of (text_of store.now slices.now))
         (B.disk backing.old) (B.disk backing.new) result }
 {
@@ -62,18 +56,9 @@ fn write_back<B: Backing>(
 // The first dirty extent becomes clean where it stands, which begins at a place: it is marked, and enters the order in the place that was
 // kept for it.
 fn settle(order: &mut Order, marks: &mut CleanHolds, extents: &mut Extents, file: FileId, at: u32)
-    requires apart { IsApart 0 extents.old.extents }
-    requires dirty { IsFirstDirty extents.old.extents at }
-    requires ranked { RanksFile order.old file extents.old.extents }
-    requires ready { IsReady order.old extents.old.extents }
-    requires within { AreWithin (length marks.old) (parts_in (begins_at extents.old.extents at)) }
-    requires few { HasMarksLeft marks.old (parts_in (begins_at extents.old.extents at)) }
-    ensures extents { extents.new.extents ≡ cleaned_at extents.old.extents at }
-    ensures apart { IsApart 0 extents.new.extents }
-    ensures follows { Reindexes file extents.old.extents extents.new.extents order.old order.new
-        marks.old marks.new }
-    ensures order { IfSome (dirty_in extents.old.extents) (λ e. order.new ≡
-        entered (with_one_given_back order.old) file e.at (byte_len e.parts) 1) }
+    requires { MaySettle file at extents.old.extents order.old marks.old }
+    ensures { Settles file at extents.old.extents extents.new.extents order.old order.new marks.old
+        marks.new }
 {
     order.give_back();
     enter_one(order, marks, extents, file, at);
@@ -88,14 +73,9 @@ impl Cache {
         backing: &mut B,
         file: FileId,
     ) -> Result<bool, Refusal>
-        requires sound { IsSound store.now (cached_of self.old) }
-        requires file { is_numbered self.old.files.items file ≡ true }
-        requires few { CountsBelow store.now (2 ^ 61) }
-        ensures stores { StoresFirst store.now file (cached_of self.old) (cached_of self.new)
+        requires { MaySync store.now file (cached_of self.old) }
+        ensures { WritesFirst store.now file (cached_of self.old) (cached_of self.new)
             (B.disk backing.old) (B.disk backing.new) result }
-        ensures keeps { KeepsContents store.now (cached_of self.old) (cached_of self.new)
-            (B.disk backing.old) (B.disk backing.new) }
-        ensures sound { IsSound store.now (cached_of self.new) }
     {
         let place = file.number() as usize - 1;
         let pool = self.files[place].pool;

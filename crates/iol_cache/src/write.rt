@@ -1,19 +1,16 @@
 //! Writing of files.
 ghost use Rattle.std.specs.Prelude.{◌≡◌, ℕ, ◌+◌, ◌<◌, ◌≤◌, ◌^◌, ◌++◌, length, true, Err, IfErr, OnErr, OnOk};
 ghost use Rattle.iol_core.specs.Prelude.{WantOfRoom, is_numbered};
-ghost use Rattle.iol_extent.specs.Prelude.{end_of};
-ghost use Rattle.iol_hold.specs.Prelude.{Covers, Moves, SameLists, byte_len, free_of, pages_of, AllSettled, AllReadable, bufs_of};
+ghost use Rattle.iol_hold.specs.Prelude.{Covers, Moves, SameLists, byte_len, pages_of, AllSettled, AllReadable, bufs_of};
 ghost use Rattle.iol_cache.specs.Cache.{cached_of, holding};
-ghost use Rattle.iol_cache.specs.Cached.{clean_held, extents_in, file_in, held, order_in};
+ghost use Rattle.iol_cache.specs.Cached.{clean_held, file_in, held};
 ghost use Rattle.iol_cache.specs.Composing.{copied_pages};
-ghost use Rattle.iol_cache.specs.Cutting.{CutsLeft, CutsRight};
-ghost use Rattle.iol_cache.specs.Overwriting.{IsWritten, KeepsFiles, KeepsMirrors, KeepsOthers, LeavesAll, LiesDirty, MakesRoom, OnlyMakesRoom, Overwrites, WritesFile};
+ghost use Rattle.iol_cache.specs.Overwriting.{IsWritten, KeepsFiles, KeepsMirrors, KeepsOthers, LeavesAll, LiesDirty, MakesPlace, MayMakePlace, MayOverwrite, OnlyMakesRoom, OverwritesOrReleases, WritesFile};
 ghost use Rattle.iol_cache.specs.Paging.{FillsLowest};
 ghost use Rattle.iol_cache.specs.Pinned.{pinned_beside};
 ghost use Rattle.iol_cache.specs.Sharing.{CountsBelow};
-ghost use Rattle.iol_cache.specs.Sound.{IsLaid, IsSound};
-ghost use Rattle.iol_cache.specs.Writing.{PutsOver, parts_put};
-ghost use Rattle.iol_cache.specs.Loading.{PlacesOrReleases};
+ghost use Rattle.iol_cache.specs.Sound.{IsSound};
+ghost use Rattle.iol_cache.specs.Writing.{MayPutOver, PutsOver};
 
 mod copies;
 mod cut;
@@ -36,22 +33,8 @@ use std::alloc::Global;
 impl Cache {
     // Replaces a range of a file, in room that was made for its parts and the new bytes. No memory is taken.
     fn put_over(&mut self, store: &mut Store, file: FileId, range: Span, put: Replacement)
-        requires sound { IsSound store.old (cached_of self.old) }
-        requires file { is_numbered self.old.files.items file ≡ true }
-        requires some { range.from < range.to }
-        requires short { range.to ≤ MAX_FILE_BYTES }
-        requires left { CutsLeft (extents_in self.old.files.items file) range.from put.left }
-        requires right { CutsRight (extents_in self.old.files.items file) range.to put.right }
-        requires fits { end_of put.right < 2 ^ 32 }
-        requires begins { put.bytes.at ≡ range.from }
-        requires ends { end_of put.bytes ≡ range.to }
-        requires laid { IsLaid store.old (file_in self.old.files.items file).pool put.bytes }
-        requires held { Covers store.old
-            (held self.old.files.items ++ bufs_of (parts_put put.left put.right put.bytes)) }
-        requires few { CountsBelow store.old (2 ^ 61) }
-        requires room { 3 ≤ (file_in self.old.files.items file).extents.room }
-        requires entries { let p = (file_in self.old.files.items file).pool in
-            3 ≤ (order_in self.old.orders.items p).room }
+        requires { MayPutOver file range.from range.to put.left put.right put.bytes
+            (holding store.old self.old) }
         ensures puts { PutsOver file range.from range.to put.left put.right put.bytes
             (holding store.old self.old) (holding store.new self.new) }
         ensures sound { IsSound store.new (cached_of self.new) }
@@ -71,29 +54,10 @@ impl Cache {
 
     // Room for the extents of a write, for their entries and for the pages of the bytes that are copied.
     fn make_place(&mut self, store: &mut Store, file: FileId, source: &Agg) -> Result<(), Refusal>
-        requires sound { IsSound store.old (cached_of self.old) }
-        requires file { is_numbered self.old.files.items file ≡ true }
-        requires small { byte_len source.now ≤ MAX_FILE_BYTES }
-        ensures room { let p = (file_in self.old.files.items file).pool in
-            MakesRoom p (copied_pages p source.now) (holding store.old self.old)
-            (holding store.new self.new) }
-        ensures free { let p = (file_in self.old.files.items file).pool in
-            OnOk result (copied_pages p source.now ≤ length (free_of store.new p)) }
-        ensures fits { let p = (file_in self.old.files.items file).pool in
-            let clean = clean_held self.old.files.items in
-            OnOk result (pinned_beside store.old clean p + copied_pages p source.now ≤
-            length (pages_of store.old p)) }
-        ensures lacks { let p = (file_in self.old.files.items file).pool in
-            let clean = clean_held self.old.files.items in
-            (q : ℕ) → result ≡ Err (Refusal.NoRoom q) → length (pages_of store.old p) <
-            pinned_beside store.old clean p + copied_pages p source.now }
-        ensures kept { OnErr result
-            (LeavesAll (holding store.old self.old) (holding store.new self.new)) }
-        ensures late { IfErr result (WantOfRoom (file_in self.old.files.items file).pool) }
-        ensures extents { OnOk result (3 ≤ (file_in self.new.files.items file).extents.room) }
-        ensures entries { let p = (file_in self.old.files.items file).pool in
-            OnOk result (3 ≤ (order_in self.new.orders.items p).room) }
-        ensures sound { IsSound store.new (cached_of self.new) }
+        requires { MayMakePlace file source.now (holding store.old self.old) }
+        ensures { let p = (file_in self.old.files.items file).pool in
+            MakesPlace file p source.now (holding store.old self.old) (holding store.new self.new)
+            result }
     {
         let place = file.number() as usize - 1;
         let pool = self.files[place].pool;
@@ -115,23 +79,10 @@ impl Cache {
         at: u32,
         source: &Agg,
     ) -> Result<(), Refusal>
-        requires sound { IsSound store.old (cached_of self.old) }
-        requires file { is_numbered self.old.files.items file ≡ true }
-        requires some { 0 < byte_len source.now }
-        requires short { at + byte_len source.now ≤ MAX_FILE_BYTES }
-        requires held { Covers store.old (held self.old.files.items ++ bufs_of source.now) }
-        requires readable { AllReadable store.old source.now }
-        requires few { CountsBelow store.old (2 ^ 60) }
-        requires room { 3 ≤ (file_in self.old.files.items file).extents.room }
-        requires entries { let p = (file_in self.old.files.items file).pool in
-            3 ≤ (order_in self.old.orders.items p).room }
-        ensures overwrites { OnOk result
-            (Overwrites file at source.now (holding store.old self.old) (holding store.new self.new)) }
+        requires { MayOverwrite file at source.now (holding store.old self.old) }
+        ensures over { OverwritesOrReleases file at source.now (holding store.old self.old)
+            (holding store.new self.new) result }
         ensures same { OnErr result (self.new ≡ self.old) }
-        ensures leaves { let p = (file_in self.old.files.items file).pool in
-            PlacesOrReleases p (copied_pages p source.now) store.old store.new result }
-        ensures late { IfErr result (WantOfRoom (file_in self.old.files.items file).pool) }
-        ensures sound { IsSound store.new (cached_of self.new) }
     {
         let place = file.number() as usize - 1;
         let pool = self.files[place].pool;

@@ -1,11 +1,10 @@
 -- Clean extents of a pool's files that are evicted one by one, as a search goes on.
-use Rattle.std.proofs.Common.{◌≡◌, ℕ, ◌<◌, length, Option}
+use Rattle.std.proofs.Common.{◌≡◌, ℕ, ◌<◌, length, Option, Some}
 use Rattle.iol_evict.specs.declared.entry.Rank.{Rank}
 use Rattle.iol_evict.specs.Ranks.{least_rank}
-use Rattle.iol_evict.specs.Victims.{IsVictim}
 use Rattle.iol_cache.specs.Cached.{file_in, order_in}
 use Rattle.iol_cache.specs.Sound.{IsSound}
-use Rattle.iol_cache.specs.Evicting.{Holding, in_use, ArePassed, Evicts, EvictsAll, GivesUp, IsCleanAt, IsWanted}
+use Rattle.iol_cache.specs.Evicting.{Holding, in_use, ArePassed, Evicts, EvictsAll, EvictsOne, FindsVictim, GivesUp, IsCleanAt, IsWanted}
 use Rattle.iol_cache.proofs.Evictions.Choosing.{evicts_fewer, none_evicted, one_more, victim_clean}
 use Rattle.iol_cache.proofs.Evictions.GivenUp.{gives_up_more, gives_up_none}
 use Rattle.iol_cache.proofs.Evictions.Passed.{passed_least, passed_pool}
@@ -21,18 +20,17 @@ pub on_none : (pool : ℕ) (wanted : Option ℕ) (h : Holding) (passed : Rank) �
 on_none pool wanted h passed sound is = record { sound = sound; below = passed_least pool passed h is; victims = none_evicted pool wanted h; gives_up = gives_up_none h }
 
 -- the next one
-module _ {pool : ℕ} {wanted : Option ℕ} {old now : Holding} {passed : Rank} (m : EvictsOn pool wanted old now passed) (place : ℕ × ℕ) (first : IsVictim (in_use now.store now.cache.files) (order_in now.cache.orders pool).entries place) where
+module _ {pool : ℕ} {wanted : Option ℕ} {old now : Holding} {passed rank : Rank} (m : EvictsOn pool wanted old now passed) (place : ℕ × ℕ) (found : FindsVictim rank pool now (Some place)) where
   pub next_clean : ((file_in now.cache.files place.0).pool ≡ pool) × IsCleanAt now.cache.files place.0 place.1
-  next_clean = victim_clean (in_use now.store now.cache.files) now.store now.cache pool place m.sound first
+  next_clean = victim_clean (in_use now.store now.cache.files) now.store now.cache pool place m.sound found.first
 
   pub next_fewer : (next : Holding) → Evicts place.0 place.1 now next → length (order_in next.cache.orders pool).entries < length (order_in now.cache.orders pool).entries
   next_fewer next gone = evicts_fewer now next place.0 place.1 pool m.sound gone next_clean.0
 
-  pub on_more : (next : Holding) (was then : Rank) → Evicts place.0 place.1 now next → IsSound next.store next.cache → IsWanted pool wanted now.store
-      → (let p = (file_in now.cache.files place.0).pool in ArePassed was p now → ArePassed then p next) → ArePassed was pool now → EvictsOn pool wanted old next then
-  on_more next was then gone sound wants keeps below = record {
-    sound = sound;
-    below = passed_pool (file_in now.cache.files place.0).pool pool was then now next next_clean.0 keeps below;
-    victims = one_more pool wanted place old now next m.victims m.sound wants first gone;
-    gives_up = gives_up_more old now next place.0 place.1 m.gives_up m.sound gone;
+  pub on_more : {next : Holding} {then : Rank} → EvictsOne place.0 place.1 rank then now next → IsWanted pool wanted now.store → EvictsOn pool wanted old next then
+  on_more {next} {then} one wants = record {
+    sound = one.sound;
+    below = passed_pool (file_in now.cache.files place.0).pool pool rank then now next next_clean.0 one.below found.below;
+    victims = one_more pool wanted place old now next m.victims m.sound wants found.first one.evicts;
+    gives_up = gives_up_more old now next place.0 place.1 m.gives_up m.sound one.evicts;
   }

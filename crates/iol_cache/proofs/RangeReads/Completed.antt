@@ -121,7 +121,7 @@ module _ (old new : Holding) (f from to : ℕ) (beside : List Place) (gs : List 
   changes = record {
     extents = filled.extents;
     order = all_entered (order_in old.cache.orders pool) f filled.extents.extents gs;
-    apart = filled.apart;
+    apart = filled.range.fills.apart;
     files = filled.files;
     orders = filled.orders;
     follows = follows;
@@ -131,8 +131,8 @@ module _ (old new : Holding) (f from to : ℕ) (beside : List Place) (gs : List 
       still = m.still;
       tidy = m.tidy;
     });
-    pages = filled.range.filled.pages.count;
-    pools = λ p is. ap (λ ps. pool_in ps p) filled.range.filled.pools;
+    pages = filled.range.fills.places.pages.count;
+    pools = λ p is. ap (λ ps. pool_in ps p) filled.range.fills.places.pools;
   }
 
   none_own : Covers old.store (held old.cache.files ++ [])
@@ -172,7 +172,7 @@ module _ (old new : Holding) (f from to : ℕ) (beside : List Place) (gs : List 
   laid_put = each-all_put (IsLaid mid pool) es made (laid_stays pool es stays_mid covers_old (sound.files f).laid) (made_laid old.store mid pool gs made zip)
 
   pub pages_are : page_count new.store.arena ≡ page_count old.store.arena
-  pages_are = ap page_count filled.range.shares.arena ∙ filled.range.filled.pages.count
+  pages_are = ap page_count filled.range.shares.arena ∙ filled.range.fills.places.pages.count
 
   pub sound_filled : to ≤ MAX_FILE_BYTES → IsSound new.store new.cache
   sound_filled small =

@@ -1,28 +1,30 @@
 -- Gaps filled one after another.
-use Rattle.std.proofs.Common.{add-one, Err, inl, inr, ◌≡◌, ◌⊎◌, false, ℕ, zero, suc, ◌+◌, ◌-◌, ◌<◌, ◌≤◌, ◌++◌, All, List, [], ◌∷◌, length, take, drop, get_or, refl, sym, ap, ◌∙◌, arith, subst}
+use Rattle.std.proofs.Common.{add-one, Err, OnErr, Result, inl, inr, ◌≡◌, ◌⊎◌, false, ℕ, zero, suc, ◌+◌, ◌-◌, ◌<◌, ◌≤◌, ◌++◌, All, List, [], ◌∷◌, length, take, drop, get_or, refl, sym, ap, ◌∙◌, arith, subst}
 use Rattle.std.specs.List.{AllZip, Contains}
 use Rattle.std.proofs.lemmas.List.{append-nil, length-append, length-drop, drop-drop}
 use Rattle.std.proofs.lemmas.List.Elements.{All-append, All-cons, All-nil, All-weaker}
 use Rattle.std.proofs.Math.Seq.{drop-cons}
 use Rattle.std.proofs.lemmas.Grind.{flat_map-append}
+use Rattle.iol_core.specs.Meaning.{WantOfRoomOrFault}
 use Rattle.iol_core.specs.declared.numbers.BufId.{BufId}
 use Rattle.iol_core.specs.declared.refusals.Refusal.{Refusal}
+use Rattle.iol_core.specs.declared.refusals.Refusal.TheVariants.{Fault, NoRoom}
 use Rattle.iol_arena.specs.Adds.{IsNew}
 use Rattle.iol_arena.specs.Buffers.{Grows}
 use Rattle.iol_arena.specs.Chunks.{usable}
 use Rattle.iol_arena.specs.State.{State, kind_free, pages_for}
 use Rattle.iol_arena.specs.declared.pages.Entry.{Entry}
 use Rattle.iol_arena.proofs.Members.{In, in_contains, contains_in, in_left, in_right, in_either, in_take, in_passes}
-use Rattle.iol_back.specs.Disk.{Disk, IfHonest, content}
+use Rattle.iol_back.specs.Disk.{Disk, IfHonest, content, raised}
 use Rattle.iol_extent.specs.Extents.{Adds, Extent, ExtentMap, IsApart, end_of, put_in}
 use Rattle.iol_extent.proofs.Alone.{ends_high}
 use Rattle.iol_extent.specs.Spans.{AreInOrder, IsGapSpan}
 use Rattle.iol_extent.specs.declared.spans.Span.{Span}
-use Rattle.iol_hold.specs.Moves.{Covers, Moves, Stays, tally}
+use Rattle.iol_hold.specs.Moves.{Covers, Moves, SameLists, Stays, tally}
 use Rattle.iol_hold.specs.Pages.{KeepsPages}
 use Rattle.iol_hold.specs.Releases.{FreesOnly}
 use Rattle.iol_hold.specs.Room.{free_of}
-use Rattle.iol_hold.specs.Stored.{Stored}
+use Rattle.iol_hold.specs.Stored.{AllSettled, Stored}
 use Rattle.iol_hold.specs.Texts.{AllReadable, bufs_of}
 use Rattle.iol_hold.specs.declared.slices.Slice.{Slice}
 use Rattle.iol_hold.proofs.Counting.{bufs-append, tally-append, tally_none}
@@ -31,8 +33,8 @@ use Rattle.iol_hold.proofs.Paging.{keeps_pages_same}
 use Rattle.iol_hold.proofs.Releasing.{all_or_none}
 use Rattle.iol_hold.proofs.Reading.{readable_stays, text_stays}
 use Rattle.iol_pool.specs.Pools.{Pool, pool_in}
-use Rattle.iol_cache.specs.Gaps.{AllBegin, FillsGap, FillsGaps, IsMade, Mirrors, all_put, gap_pages, parts_back, without_spans}
-use Rattle.iol_cache.specs.Loading.{PlacesOrReleases, PlacesPages, PlacesSome}
+use Rattle.iol_cache.specs.Gaps.{AllBegin, FillsGap, FillsGaps, IsMade, Mirrors, ReadsAllGaps, TakesBack, all_put, gap_pages, parts_back, without_spans}
+use Rattle.iol_cache.specs.Loading.{AskCounts, Asks, PlacesOrReleases, PlacesPages, PlacesSome}
 use Rattle.iol_cache.proofs.RangeReads.Paged.{usable_free}
 use Rattle.iol_cache.proofs.RangeReads.Undone.{Begin, CanRead, all_put-push, back_put, back_readable, begin_put, gap_left, none_gaps, without_put}
 use Rattle.iol_cache.specs.Cached.{all_parts}
@@ -203,20 +205,22 @@ new_since s t u p k n b first then new =
     absurd (omega (arith, same, new.live.generation, new.next)) in
     record { live = new.live; some = new.some; next = new.next ∙ ap (λ g. g + 1) (first.pages.raises.kept b.page out) }
 
-pub fills_none : (s : Stored) (m : ExtentMap) (p : ℕ) (disk : Disk) (file : ℕ) → FillsGaps s s m m p [] disk file
+pub fills_none : (s : Stored) (m : ExtentMap) (p : ℕ) (disk : Disk) (file : ℕ) → IsApart 0 m.extents → FillsGaps s s m m p [] disk file
 unfolding all_put
-fills_none s m p disk file = record {
+fills_none s m p disk file apart = record {
   made = [];
   each = record { each = tt };
   extents = refl;
+  apart = apart;
   room = omega arith;
   moves = moves_none s;
+  places = places_none s p;
   mirrors = λ y. record { each = All-nil (Mirrors s p (content disk.slots file)) };
 }
 
-pub fills_more : (s t u : Stored) (old mid new : ExtentMap) (p k file : ℕ) (gs : List Span) (g : Span) (d e : Disk) → e.honest ≡ d.honest → IfHonest d (e.slots ≡ d.slots) → PlacesPages s t p k
+pub fills_more : (s t u : Stored) (old mid new : ExtentMap) (p file : ℕ) (gs : List Span) (g : Span) (d e : Disk) → e.honest ≡ d.honest → IfHonest d (e.slots ≡ d.slots)
     → FillsGaps s t old mid p gs d file → FillsGap t u mid new p g e file → FillsGaps s u old new p (gs ++ g ∷ []) d file
-fills_more s t u old mid new p k file gs g d e honest slots first a b =
+fills_more s t u old mid new p file gs g d e honest slots a b =
     let x = b.made in
     let joined = parts-push a.made x in
     let moves : Moves s u [] (bufs_of (all_parts a.made) ++ bufs_of x.parts) = moves_trans a.moves b.moves in
@@ -227,14 +231,16 @@ fills_more s t u old mid new p k file gs g d e honest slots first a b =
       clean = b.is.clean;
       readable = b.is.readable;
       pooled = b.is.pooled;
-      fresh = record { each = λ i c h. new_since s t u p k (pages_for (g.to - g.from)) (get_or (bufs_of x.parts) i c) first b.places (b.is.fresh.each i c h) };
+      fresh = record { each = λ i c h. new_since s t u p (gap_pages gs) (pages_for (g.to - g.from)) (get_or (bufs_of x.parts) i c) a.places b.places (b.is.fresh.each i c h) };
     } in
     record {
       made = a.made ++ x ∷ [];
       each = record { each = zip_push (IsMade s u p) gs a.made g x (made_stay s t u p gs a.made b.moves.stays b.grows held a.each.each) is };
       extents = b.extents ∙ ap (λ (es : List Extent). put_in es x) a.extents ∙ sym (all_put-push old.extents a.made x);
+      apart = b.apart;
       room = omega (arith, a.room, b.room, length-append gs (g ∷ []));
       moves = subst (λ bs. Moves s u [] bs) (sym joined) moves;
+      places = subst (λ n. PlacesPages s u p n) (sym (gap_pages-push gs g)) (places_then a.places b.places);
       mirrors = λ y. record {
         each = All-append (Mirrors u p (content d.slots file)) a.made (x ∷ [])
             (mirror_stay t u p (content d.slots file) gs a.made s b.moves.stays held a.each.each (a.mirrors y).each)
@@ -329,3 +335,40 @@ placed_some {s = s} {t = t} {u = u} {v = v} {p = p} {k = k} n few a b c same =
 
 pub same_map : (m n : ExtentMap) → m.extents ≡ n.extents → m.room ≡ n.room → m ≡ n
 same_map m n e r = λ i. record { extents = e i; room = r i }
+
+-- Gaps that were filled were taken back, after a step that left nothing.
+pub taken_back : {A : Type 0} {s t u v : Stored} {old mid new : ExtentMap} {p file : ℕ} {gs : List Span} {d e : Disk} (all : List Span) (x : Refusal) (f : FillsGaps s t old mid p gs d file) → CanTakeBack t old.extents mid.extents gs (bufs_of (all_parts f.made)) → Moves t u [] []
+    → SameLists s u → (AllSettled s → AllSettled u) → TakesBack u v mid new gs → PlacesSome s v p (gap_pages all) → ((q : ℕ) → x ≡ NoRoom q → length (free_of s p) < gap_pages all) → Asks {A = A} (length all) d e (Err x) → WantOfRoomOrFault p file x
+    → ReadsAllGaps {A = A} p file all (new ≡ old) d e s v (Err x)
+taken_back {old = old} {mid = mid} {new = new} {gs = gs} all x f can none lists settles taken left no_room asks late = record {
+  same = same_map new old (taken.extents ∙ can.without) (omega (arith, taken.room, f.room));
+  leaves = record {
+    none = moved_back f.moves none taken.moves can.same;
+    given_back = left;
+    lists = taken.lists ∙ lists;
+    settles = λ h. taken.settles (readable_stays (parts_back mid.extents gs) none.stays (covers_back f.moves none can.same) can.readable) (settles h);
+    no_room = no_room;
+  };
+  asks = asks;
+  late = late;
+}
+
+-- What a call asked the store for, after others that did not fail.
+
+counts_after : (n : ℕ) (a b c : Disk) (x : Refusal) → 0 < n → b.failures ≡ a.failures → AskCounts {A = ℕ} 1 b c (Err x) → AskCounts {A = ℕ} n a c (Err x)
+counts_after n a b c (Fault f) some same h = (h.0 ∙ ap raised same, some)
+counts_after n a b c x some same h = h ∙ same
+
+pub asks_after : {A B : Type 0} {a b c : Disk} {x : Refusal} (n : ℕ) → 0 < n → b.honest ≡ a.honest → IfHonest a (b.slots ≡ a.slots) → b.failures ≡ a.failures → Asks {A = A} 1 b c (Err x) → Asks {A = B} n a c (Err x)
+asks_after {a = a} {b = b} {c = c} {x = x} n some honest slots same h =
+    record { honest = h.honest ∙ honest; slots = λ y. h.slots (honest ∙ y) ∙ slots y; counts = counts_after n a b c x some same h.counts }
+
+-- what is told of a pool that is the same, and of what stays
+pub reads_as : {A S T : Type 0} {p q file : ℕ} {gs : List Span} {d e : Disk} {s t : Stored} {r : Result A Refusal} → p ≡ q → (OnErr r S → OnErr r T) → ReadsAllGaps p file gs S d e s t r → ReadsAllGaps q file gs T d e s t r
+reads_as {T = T} {p = p} {file = file} {gs = gs} {d = d} {e = e} {s = s} {t = t} {r = r} pool stays h =
+    let here : ReadsAllGaps p file gs T d e s t r = record { same = stays h.same; leaves = h.leaves; asks = h.asks; late = h.late } in
+    subst (λ k. ReadsAllGaps k file gs T d e s t r) pool here
+
+-- a refusal of the gaps is one of the range
+pub reads_refused : {A B S T : Type 0} {p file : ℕ} {gs : List Span} {d e : Disk} {s t : Stored} {x : Refusal} → (S → T) → ReadsAllGaps {A = A} p file gs S d e s t (Err x) → ReadsAllGaps {A = B} p file gs T d e s t (Err x)
+reads_refused stays h = record { same = stays h.same; leaves = leaves_as refl refl h.leaves; asks = record { honest = h.asks.honest; slots = h.asks.slots; counts = h.asks.counts }; late = h.late }

@@ -25,11 +25,10 @@ use Rattle.iol_cache.specs.Cached.{Cached, clean_held, extents_in, file_in, held
 use Rattle.iol_cache.specs.Evicting.{Holding}
 use Rattle.iol_cache.specs.Gaps.{gap_pages}
 use Rattle.iol_cache.specs.Going.{Goes}
-use Rattle.iol_cache.specs.Loading.{Asks}
 use Rattle.iol_cache.specs.Pinned.{pinned_beside}
-use Rattle.iol_cache.specs.Ranges.{CompletesRange, FillsAfter, PinsRange, UndoesAfter}
-use Rattle.iol_cache.specs.Reading.{CanFill}
-use Rattle.iol_cache.specs.Serving.{NoRoomToRead, Range, ReadsFile, RefusesRead, RoomToRead, TellsRoom}
+use Rattle.iol_cache.specs.Ranges.{CompletesRange, FillsAfter, PinsRange}
+use Rattle.iol_cache.specs.Reading.{CanFill, MayFill}
+use Rattle.iol_cache.specs.Serving.{FillsPinned, NoRoomToRead, Range, ReadsFile, RefusesRead, RoomToRead, TellsRoom}
 use Rattle.iol_cache.specs.Sharing.{CountsBelow, places_over}
 use Rattle.iol_cache.specs.Sound.{IsSound}
 use Rattle.iol_cache.specs.Weaving.{IsCoveredBeside, len_beside, places_beside, places_read, woven}
@@ -89,7 +88,7 @@ module _ {f at n : ℕ} {d : Disk} {a b : Holding} {pins : List Slice} {gs : Lis
 
   -- What the gaps need to be filled.
 
-  pub can_fill : CanFill b.cache f from to gs
+  can_fill : CanFill b.cache f from to gs
   can_fill = record {
     file = numbered_hit;
     ordered = omega (arith, h.range.begins, h.range.stops);
@@ -100,10 +99,10 @@ module _ {f at n : ℕ} {d : Disk} {a b : Holding} {pins : List Slice} {gs : Lis
     entries = h.pinned.entries;
   }
 
-  pub len_hit : byte_len pins ≡ len_beside from to gs
+  len_hit : byte_len pins ≡ len_beside from to gs
   len_hit = ap length h.pinned.lies ∙ length-places_beside es from to gs
 
-  pub covers_hit : Covers b.store (held b.cache.files ++ bufs_of pins)
+  covers_hit : Covers b.store (held b.cache.files ++ bufs_of pins)
   covers_hit = record { each = λ y. omega (arith, h.sound.covered.each y, h.pinned.shares.counts.each y, tally_none y, tally-append y (held b.cache.files) (bufs_of pins), ap (tally y) held_same) }
 
   pub readable_hit : AllReadable b.store pins
@@ -112,8 +111,15 @@ module _ {f at n : ℕ} {d : Disk} {a b : Holding} {pins : List Slice} {gs : Lis
       let all = laid_readable (file_in a.cache.files f).pool es (h.sound.files f).laid in
       readable_same a.store b.store pins h.pinned.shares.arena h.pinned.shares.pools (readable_of pins (places_beside es from to gs) h.pinned.lies (beside_there es from to gs covered all))
 
-  pub few_hit : CountsBelow a.store (2 ^ 59) → CountsBelow b.store (2 ^ 60)
-  few_hit few = record { each = λ y. omega (arith, few.each y, h.pinned.shares.counts.each y, tally_none y, tally_len y pins, len_hit, beside_few from to gs h.pinned.tile.gaps, short) }
+  pub may_fill : IsSound b.store b.cache → CountsBelow a.store (2 ^ 59) → MayFill f from to gs pins b
+  may_fill sound few = record {
+    sound = sound;
+    range = can_fill;
+    long = len_hit;
+    held = covers_hit;
+    readable = readable_hit;
+    few = record { each = λ y. omega (arith, few.each y, h.pinned.shares.counts.each y, tally_none y, tally_len y pins, len_hit, beside_few from to gs h.pinned.tile.gaps, short) };
+  }
 
   pub goes_hit : Goes d [] (bufs_of pins) a b
   goes_hit =
@@ -149,18 +155,18 @@ module _ {f at n : ℕ} {d : Disk} {a b : Holding} {pins : List Slice} {gs : Lis
   fits_hit none = omega (arith, ap gap_pages none, at_most b.store (clean_held b.cache.files) (pages_of b.store (file_in b.cache.files f).pool))
 
   -- With gaps, which were filled then, or were not.
-  module _ (e : Disk) (c : Holding) (r : Result (List Slice) Refusal) where
-    pub reads_filled : IfOk r (FillsAfter f from to pins gs d b c) → Asks (length gs) d e r → IfOk r (ReadsFile f at n d a c)
-    reads_filled filled asks =
+  module _ {e : Disk} {c : Holding} {r : Result (List Slice) Refusal} (filled : FillsPinned f from to pins gs d e b c r) where
+    pub reads_filled : IfOk r (ReadsFile f at n d a c)
+    reads_filled =
         let fills = FillsAfter f from to pins gs d b c in
         let answers = λ (xs : List Slice). 0 < length gs → d.failures < last_failure in
         IfOk-weaker r (λ xs. fills xs × answers xs) (ReadsFile f at n d a c) (λ xs k. record {
           range = h.range;
           reads = record { pins = pins; gaps = gs; hit = b; pinned = h.pinned; completed = inr k.0; lies = lies_read c xs (inr k.0); answers = k.1 };
-        }) (ok_both fills answers r filled (asks_ok (length gs) d e r asks.counts))
+        }) (ok_both fills answers r filled.filled (asks_ok (length gs) d e r filled.asks.counts))
 
-    pub refused_filled : IfErr r (UndoesAfter f pins gs b c) → Asks (length gs) d e r → TellsRoom (wanted ≤ pages) (pages < wanted) r → IfErr r (RefusesRead f at n d a c)
-    refused_filled undone asks told = told_late (length gs) d e (wanted ≤ pages) (pages < wanted) r (RefusesRead f at n d a c) asks.counts told (λ y faults roomy u. record {
+    pub refused_filled : IfErr r (RefusesRead f at n d a c)
+    refused_filled = told_late (length gs) d e (wanted ≤ pages) (pages < wanted) r (RefusesRead f at n d a c) filled.asks.counts filled.room (λ y faults roomy u. record {
       range = h.range;
       leaves = inr (record {
         pins = pins;
@@ -171,13 +177,13 @@ module _ {f at n : ℕ} {d : Disk} {a b : Holding} {pins : List Slice} {gs : Lis
         pinned = h.pinned;
         undone = u;
       });
-    }) undone
+    }) filled.undone
 
-  pub goes_filled : (c : Holding) (r : Result (List Slice) Refusal) → IfOk r (λ xs. Goes d (bufs_of pins) (bufs_of xs) b c) → IfOk r (λ xs. Goes d [] (bufs_of xs) a c)
-  goes_filled c r went = IfOk-weaker r (λ xs. Goes d (bufs_of pins) (bufs_of xs) b c) (λ xs. Goes d [] (bufs_of xs) a c) (λ xs k. goes_trans d [] (bufs_of pins) (bufs_of xs) a b c goes_hit k) went
+    pub goes_filled : IfOk r (λ xs. Goes d [] (bufs_of xs) a c)
+    goes_filled = IfOk-weaker r (λ xs. Goes d (bufs_of pins) (bufs_of xs) b c) (λ xs. Goes d [] (bufs_of xs) a c) (λ xs k. goes_trans d [] (bufs_of pins) (bufs_of xs) a b c goes_hit k) filled.goes
 
-  pub gone_filled : (c : Holding) (r : Result (List Slice) Refusal) → OnErr r (Goes d (bufs_of pins) [] b c) → OnErr r (Goes d [] [] a c)
-  gone_filled c r went = on_err_weaker r (λ k. goes_trans d [] (bufs_of pins) [] a b c goes_hit k) went
+    pub gone_filled : OnErr r (Goes d [] [] a c)
+    gone_filled = on_err_weaker r (λ k. goes_trans d [] (bufs_of pins) [] a b c goes_hit k) filled.gone
 
-  pub late_filled : (r : Result (List Slice) Refusal) → IfErr r (WantOfRoomOrFault (file_in b.cache.files f).pool f) → IfErr r (WantOfRoomOrFault (file_in a.cache.files f).pool f)
-  late_filled r late = subst (λ p. IfErr r (WantOfRoomOrFault p f)) (pool_same f) late
+    pub late_filled : IfErr r (WantOfRoomOrFault (file_in a.cache.files f).pool f)
+    late_filled = subst (λ p. IfErr r (WantOfRoomOrFault p f)) (pool_same f) filled.late

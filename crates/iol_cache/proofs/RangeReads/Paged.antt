@@ -1,11 +1,11 @@
 -- What becomes of pages: where bytes were placed, where a placing was given up, and one step after another.
-use Rattle.std.proofs.Common.{inl, inr, ◌≡◌, zero, suc, ◌∷◌, get_or, All, true, false, ℕ, ◌+◌, ◌<◌, ◌≤◌, List, [], length, take, map, refl, sym, ap, ◌∙◌, arith, subst}
+use Rattle.std.proofs.Common.{inl, inr, ◌≡◌, zero, suc, ◌∷◌, get_or, All, true, false, ℕ, ◌+◌, ◌<◌, ◌≤◌, List, [], length, take, drop, map, refl, sym, ap, ◌∙◌, arith, subst}
 use Rattle.std.specs.List.{Contains, flat_map, range_with_len}
 use Rattle.std.proofs.lemmas.Bool.{cases_eq, cases_lt}
 use Rattle.std.proofs.lemmas.List.{length-map, take-take, length-take-le}
 use Rattle.iol_core.specs.declared.numbers.BufId.{BufId}
 use Rattle.iol_arena.specs.State.{State, HasRuns, entry_at, entry_in, pages_for, is_free, kind_free}
-use Rattle.iol_arena.specs.Buffers.{Grows, IsLive, IsUnraised, len_of}
+use Rattle.iol_arena.specs.Buffers.{IsLive, IsUnraised, bytes_in, len_of}
 use Rattle.iol_arena.specs.Adds.{IsNew}
 use Rattle.iol_arena.specs.Chunks.{usable, chunk_pages, free_pages}
 use Rattle.iol_arena.specs.Pages.{AreUsable, IsSameBut, MadeOn, begun_on}
@@ -18,16 +18,17 @@ use Rattle.iol_arena.proofs.Good.{and_left}
 use Rattle.iol_arena.proofs.Grows.{grows_trans}
 use Rattle.iol_arena.proofs.Made.{made_since, same_but_trans, same_but_entries}
 use Rattle.iol_arena.proofs.Members.{In, in_either, range_in, in_or_out, in_contains, contains_in, filter_same}
+use Rattle.iol_back.specs.Disk.{Disk, IfHonest, content}
 use Rattle.iol_pool.specs.Pools.{Pool, pool_in}
-use Rattle.iol_hold.specs.Stored.{Stored, IsTidy}
+use Rattle.iol_hold.specs.Stored.{Buffer, Stored, IsTidy, held_bufs}
 use Rattle.iol_hold.specs.Pages.{KeepsPages}
-use Rattle.iol_hold.specs.Moves.{Moves}
 use Rattle.iol_hold.specs.Room.{free_of, has_room, lowest_of, others_of}
+use Rattle.iol_hold.specs.Texts.{IsFilled}
 use Rattle.iol_hold.specs.Waiting.{Fills, Publishes, FreesNone}
 use Rattle.iol_hold.proofs.Paging.{keeps_pages_made}
 use Rattle.iol_hold.proofs.Reserving.{fill_publish, fills_trans}
 use Rattle.iol_hold.proofs.Rooms.{room_there}
-use Rattle.iol_cache.specs.Loading.{PlacesPages}
+use Rattle.iol_cache.specs.Loading.{LoadsHolds, PlacesBuffers}
 
 no_member : (q : ℕ) → Contains (let l : List ℕ = [] in l) q → ⊥
 no_member q h = in_contains [] q h
@@ -106,16 +107,9 @@ made_stands {s = s} {t = t} {bufs = bufs} {placed = placed} m live runs q h =
     run_stands t r.first (len_of t b) q runs alive.head x.1 (omega (arith, x.2, pages))
 
 -- pages that were reserved, written and published, all of them
-pub record Places (a d : Stored) (p n : ℕ) (bufs : List BufId) : Type 0 where
-  pub moves : Moves a d [] bufs
-  pub made_on : MadeOn a.arena d.arena bufs (lowest_of a p n)
-  pub others : IsSameBut (lowest_of a p n) a.arena d.arena
-  pub grows : Grows a.arena d.arena
-  pub pages : PlacesPages a d p (pages_for n)
-
 pub placed_all : {a b c d : Stored} {bufs : List BufId} (ps qs : List Part) (p n : ℕ) → qs ≡ ps → part_pages ps ≡ lowest_of a p n → pages_for n ≤ length (free_of a p) → Fills a b ps → IsSameBut (part_pages ps) a.arena b.arena
     → free_pages b.arena (pool_in a.pools p).chunks ≡ others_of a p n → Fills b c ps → c.arena.entries ≡ b.arena.entries
-    → Publishes c d qs bufs → All (IsNew c.arena d.arena) bufs → MadeOn c.arena d.arena bufs (needed_pages qs n) → IsSameBut (part_pages qs) c.arena d.arena → FreesNone c.arena d.arena qs n → IsTidy d → Places a d p n bufs
+    → Publishes c d qs bufs → All (IsNew c.arena d.arena) bufs → MadeOn c.arena d.arena bufs (needed_pages qs n) → IsSameBut (part_pages qs) c.arena d.arena → FreesNone c.arena d.arena qs n → IsTidy d → PlacesBuffers a d p n bufs
 placed_all {a = a} {b = b} {c = c} {d = d} {bufs = bufs} ps qs p n is at enough one but free two same three fresh made left none tidy =
     let k = pages_for n in
     let fs = free_of a p in
@@ -130,8 +124,8 @@ placed_all {a = a} {b = b} {c = c} {d = d} {bufs = bufs} ps qs p n is at enough 
     let limits = two.grows.limit in
     record {
       moves = fill_publish (fills_trans one two) publishes tidy;
+      made = λ k e h. (let x = fresh k e h in record { live = x.live; some = x.some; next = x.next ∙ ap (λ g. g + 1) (two.unraised (get_or bufs k e).page ∙ one.unraised (get_or bufs k e).page) });
       made_on = made2;
-      others = but2;
       grows = grows;
       pages = record {
         enough = enough;
@@ -144,3 +138,8 @@ placed_all {a = a} {b = b} {c = c} {d = d} {bufs = bufs} ps qs p n is at enough 
         pools = pools;
       };
     }
+
+pub loaded : {s t : Stored} {p n : ℕ} (holds : List Buffer) (disk : Disk) (file at : ℕ) → PlacesBuffers s t p n (held_bufs holds) → All (IsFilled t) holds → All (λ (h : Buffer). h.pool ≡ p) holds → length holds ≤ pages_for n
+    → length (bytes_in t.arena (held_bufs holds)) ≡ n → IfHonest disk (bytes_in t.arena (held_bufs holds) ≡ take n (drop at (content disk.slots file))) → IfHonest disk (at + n ≤ length (content disk.slots file))
+    → LoadsHolds s t p n disk file at holds
+loaded holds disk file at placed filled pooled few len value inside = record { placed = placed; filled = filled; pooled = pooled; few = few; len = len; value = value; inside = inside }

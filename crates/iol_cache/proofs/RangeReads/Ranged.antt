@@ -9,7 +9,7 @@ use Rattle.iol_hold.specs.Places.{byte_len, places}
 use Rattle.iol_hold.specs.Stored.{Stored}
 use Rattle.iol_hold.specs.Texts.{bufs_of, AllReadable}
 use Rattle.iol_hold.specs.declared.slices.Slice.{Slice}
-use Rattle.iol_hold.proofs.Counting.{tally_none, same_few}
+use Rattle.iol_hold.proofs.Counting.{tally-append, tally_none, same_few}
 use Rattle.std.proofs.lemmas.List.{take_at, drop_at}
 use Rattle.std.proofs.lemmas.List.Elements.{All-nil, All-cons}
 use Rattle.iol_hold.proofs.Reading.{readable_none, readable_joined, readable_stays, readable_taken, readable_rest}
@@ -18,12 +18,14 @@ use Rattle.iol_extent.specs.Extents.{Extent, ExtentMap, cover}
 use Rattle.iol_extent.specs.Spans.{AreInOrder, IsGapSpan, LiesIn}
 use Rattle.iol_extent.specs.declared.spans.Span.{Span}
 use Rattle.iol_cache.specs.Gaps.{all_put, IsMade, FillsGaps}
+use Rattle.iol_cache.specs.Evicting.{Holding}
+use Rattle.iol_cache.specs.Reading.{MayFill, MayFillRange}
 use Rattle.iol_cache.specs.Sound.{Each, IsLaid, IsSound}
 use Rattle.iol_cache.specs.Sharing.{AreHeld, CountsBelow, IsCoveredSpan}
 use Rattle.iol_cache.proofs.Extents.Filing.{additive_tally, additive_bufs, sum-flat}
 use Rattle.iol_cache.proofs.RangeReads.Putting.{made_fits, covered-made, sum-all_put, each-all_put}
 use Rattle.iol_cache.proofs.Extents.Using.{covers_file}
-use Rattle.iol_cache.specs.Cached.{Cached, all_parts, extents_in}
+use Rattle.iol_cache.specs.Cached.{Cached, all_parts, extents_in, file_in, held}
 
 pub tally_len : (b : BufId) (xs : List Slice) → tally b (bufs_of xs) ≤ byte_len xs
 unfolding tally
@@ -109,3 +111,17 @@ range_readable s t old new p file gs d f readable held =
 -- the extents of a file of a sound cache
 pub file_held : {s : Stored} {c : Cached} (f : ℕ) → IsSound s c → AreHeld s (extents_in c.files f)
 file_held {c = c} f sound = record { apart = (sound.files f).apart; held = covers_file c.files f sound.covered; readable = laid_readable _ _ (sound.files f).laid }
+
+-- a file of a cache, a range of which may be filled
+pub may_fill_range : {f from to : ℕ} {gs : List Span} {xs : List Slice} {h : Holding} → MayFill f from to gs xs h → MayFillRange h.store (file_in h.cache.files f) from to gs xs
+may_fill_range {f = f} {xs = xs} {h = h} may =
+    let at = file_held f may.sound in
+    let r = may.range in
+    record {
+      gaps = record { apart = at.apart; in_order = r.in_order; each = r.gaps; room = r.room; opened = (may.sound.opened f r.file).is_open };
+      end = r.end;
+      held = at.held;
+      readable = at.readable;
+      beside = record { long = may.long; held = record { each = λ b. omega (arith, may.held.each b, tally-append b (held h.cache.files) (bufs_of xs)) }; readable = may.readable };
+      few = may.few;
+    }

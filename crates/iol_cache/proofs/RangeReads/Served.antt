@@ -1,9 +1,10 @@
 -- A range that is read after its hits were shared: how its holds go.
-use Rattle.std.proofs.Common.{◌≡◌, ℕ, ◌+◌, ◌-◌, ◌<◌, ◌≤◌, true, List, [], ◌∷◌, ◌++◌, length, IsSome, None, Some, Result, Ok, Err, IfOk, IfErr, OnErr, refl, sym, ap, ◌∙◌, arith, subst}
+use Rattle.std.proofs.Common.{inl, ◌≡◌, ℕ, ◌+◌, ◌-◌, ◌<◌, ◌≤◌, Bool, true, IsTrue, List, [], ◌∷◌, ◌++◌, length, IsSome, None, Some, Result, Ok, Err, IfOk, IfErr, OnErr, refl, sym, ap, ◌∙◌, arith, subst}
 use Rattle.std.specs.Prelude.{take, drop}
 use Rattle.std.specs.List.{All, AllZip}
 use Rattle.std.specs.Result.{IsErrAnd}
 use Rattle.std.proofs.lemmas.List.Elements.{All-append, All-cons, All-drop, All-head, All-nil, All-tail, All-take, All-weaker}
+use Rattle.iol_core.specs.Meaning.{WantOfRoomOrFault}
 use Rattle.iol_core.specs.Numbered.{is_numbered}
 use Rattle.iol_core.specs.declared.numbers.BufId.{BufId}
 use Rattle.iol_core.specs.declared.refusals.Refusal.{Refusal}
@@ -15,7 +16,8 @@ use Rattle.iol_extent.specs.Spans.{AreInOrder, IsGapSpan}
 use Rattle.iol_extent.specs.declared.spans.Span.{Span}
 use Rattle.iol_hold.specs.Moves.{tally, Moves, Covers, SameLists}
 use Rattle.iol_hold.specs.Places.{Place, places}
-use Rattle.iol_hold.specs.Room.{pages_of}
+use Rattle.iol_hold.specs.Releases.{FreesOnly}
+use Rattle.iol_hold.specs.Room.{free_of, pages_of}
 use Rattle.iol_hold.specs.Stored.{Stored, AllSettled}
 use Rattle.iol_hold.specs.Texts.{AllReadable, IsThere, bufs_of}
 use Rattle.iol_hold.specs.declared.slices.Slice.{Slice}
@@ -23,15 +25,15 @@ use Rattle.iol_hold.proofs.Counting.{tally-append, tally_none}
 use Rattle.iol_hold.proofs.Paging.{keeps_pages_same}
 use Rattle.iol_hold.proofs.Reading.{readable_stays}
 use Rattle.iol_cache.specs.declared.files.CachedFile.{CachedFile}
-use Rattle.iol_cache.specs.Cached.{Cached, extents_in, file_in, held, all_parts}
-use Rattle.iol_cache.specs.Evicting.{GivesUp, Holding, KeepsPlaces}
+use Rattle.iol_cache.specs.Cached.{Cached, extents_in, file_in, held, all_parts, order_in}
+use Rattle.iol_cache.specs.Evicting.{GivesUp, Holding, KeepsPlaces, MakesFree}
 use Rattle.iol_cache.specs.Gaps.{IsMade, all_put, gap_pages}
-use Rattle.iol_cache.specs.Going.{FillsFile, Goes}
+use Rattle.iol_cache.specs.Going.{FillsAllOf, FillsFile, Goes}
 use Rattle.iol_cache.specs.Loading.{AskCounts, Asks, PlacesSome}
 use Rattle.iol_cache.specs.Pinned.{pinned_beside}
 use Rattle.iol_cache.specs.Ranges.{IsCleanSpan}
-use Rattle.iol_cache.specs.Reading.{SameButRoom}
-use Rattle.iol_cache.specs.Serving.{FaultCounts, TellsFault, TellsRoom}
+use Rattle.iol_cache.specs.Reading.{MayFill, SameButRoom}
+use Rattle.iol_cache.specs.Serving.{FaultCounts, FillsPinned, TellsFault, TellsRoom}
 use Rattle.iol_cache.specs.Sharing.{IsCoveredSpan, places_over}
 use Rattle.iol_cache.specs.Sound.{IsSound}
 use Rattle.iol_cache.specs.Weaving.{woven}
@@ -66,18 +68,6 @@ if_err (Err y) Q f e = f y e
 pub on_memory : {A : Type 0} (r : Result A Refusal) (P : Refusal → Type 0) → IsErrAnd r (λ y. y ≡ refusal.Memory) → P refusal.Memory → IfErr r P
 on_memory (Ok x) P is p = tt
 on_memory (Err y) P is p = subst P (sym is) p
-
-pub on_errs : {A E P Q R S : Type 0} (r : Result A E) → OnErr r P → OnErr r Q → OnErr r R → (P → Q → R → S) → OnErr r S
-on_errs (Ok x) p q s f = tt
-on_errs (Err y) p q s f = f p q s
-
--- each error of a result, with what holds of all
-pub told_errs : {A E P Q R : Type 0} {S : E → Type 0} (r : Result A E) → OnErr r P → OnErr r Q → OnErr r R → ((y : E) → r ≡ Err y → P → Q → R → S y) → IfErr r S
-told_errs (Ok x) p q s f = tt
-told_errs (Err y) p q s f = f y refl p q s
-
-pub told_err : {A E : Type 0} (P : E → Type 0) (r : Result A E) (y : E) → r ≡ Err y → IfErr r P → P y
-told_err P r y told h = subst (λ x. IfErr x P) told h
 
 pub always_err : {A E Q : Type 0} (r : Result A E) → Q → OnErr r Q
 always_err (Ok x) q = tt
@@ -179,12 +169,6 @@ places_none s p n = record { count = 0; few = omega arith; pages = keeps_pages_s
 pub gaps_kept : (a b : Holding) (f : ℕ) (gs : List Span) → KeepsPlaces a.cache b.cache → All (IsGapSpan (extents_in a.cache.files f)) gs → All (IsGapSpan (extents_in b.cache.files f)) gs
 gaps_kept a b f gs keeps all = All-weaker (IsGapSpan (extents_in a.cache.files f)) (IsGapSpan (extents_in b.cache.files f)) (λ g h. record { each = λ i l u. keeps.gaps f i (h.each i l u) }) gs all
 
--- what a refused filling leaves
-pub record Undone (b c : Holding) (p n : ℕ) : Type 0 where
-  pub same : SameButRoom b.cache c.cache
-  pub none : Moves b.store c.store [] []
-  pub back : PlacesSome b.store c.store p n
-
 -- Gaps that stand as clean extents.
 
 pub stand_made : (s t : Stored) (p : ℕ) (es : List Extent) (low high : ℕ) (gs : List Span) (made : List Extent) → AreInOrder low high gs → NoneBegins es low gs → AllZip (IsMade s t p) gs made → All (IsCleanSpan (all_put es made)) gs
@@ -242,77 +226,155 @@ pub record Went (d : Disk) (a c : Holding) (pins more : List BufId) : Type 0 whe
   pub split : (x : BufId) → tally x own ≡ tally x pins + tally x more
   pub goes : Goes d pins own a c
 
+-- what a call holds of its result
+abbrev pub given : {E : Type 0} → Result (List Slice) E → List BufId
+given (Ok xs) = bufs_of xs
+given (Err y) = []
+
 -- After room was made.
-module _ (d : Disk) (f from to : ℕ) (a b c : Holding) (pins : List Slice) (gs : List Span) (there : is_numbered a.cache.files f ≡ true) (covers : Covers a.store (held a.cache.files ++ bufs_of pins)) (readable : AllReadable a.store pins) (less : GivesUp a b) (sound : IsSound b.store b.cache) where
+module _ (d : Disk) {f from to : ℕ} {a b : Holding} {pins : List Slice} {gs : List Span} (may : MayFill f from to gs pins a) (less : GivesUp a b) (sound : IsSound b.store b.cache) where
   there_b : is_numbered b.cache.files f ≡ true
-  there_b = let n = numbered_bounds a.cache.files f there in numbered_yes b.cache.files f n.0 (omega (arith, n.1, less.keeps.count))
+  there_b = let n = numbered_bounds a.cache.files f may.range.file in numbered_yes b.cache.files f n.0 (omega (arith, n.1, less.keeps.count))
+
+  gaps_b : All (IsGapSpan (extents_in b.cache.files f)) gs
+  gaps_b = gaps_kept a b f gs less.keeps may.range.gaps
 
   covers_b : Covers b.store (held b.cache.files ++ bufs_of pins)
-  covers_b = goes_covers d (bufs_of pins) (bufs_of pins) a b (goes_less d (bufs_of pins) a b less) covers
+  covers_b = goes_covers d (bufs_of pins) (bufs_of pins) a b (goes_less d (bufs_of pins) a b less) may.held
 
   pub pins_left : Covers b.store (bufs_of pins)
   pins_left = covers_right b.store (held b.cache.files) (bufs_of pins) covers_b
 
-  pub readable_left : AllReadable b.store pins
-  readable_left = readable_stays pins less.moves.stays pins_left readable
+  pub may_left : MayFill f from to gs pins b
+  may_left = record {
+    sound = sound;
+    range = record {
+      file = there_b;
+      ordered = may.range.ordered;
+      end = may.range.end;
+      in_order = may.range.in_order;
+      gaps = gaps_b;
+      room = omega (arith, may.range.room, less.keeps.rooms f);
+      entries = omega (arith, may.range.entries, less.keeps.entries (file_in a.cache.files f).pool, ap (λ p. (order_in b.cache.orders p).room) (less.keeps.pools f));
+    };
+    long = may.long;
+    held = covers_b;
+    readable = readable_stays pins less.moves.stays pins_left may.readable;
+    few = record { each = λ x. omega (arith, may.few.each x, less.fewer x) };
+  }
 
   pub went_none : Went d a b (bufs_of pins) []
   went_none = record { own = bufs_of pins; split = λ x. omega (arith, tally_none x); goes = goes_less d (bufs_of pins) a b less }
 
-  pub went_filled : (xs : List Slice) → AreInOrder from to gs → All (IsGapSpan (extents_in a.cache.files f)) gs → FillsFile f from to (places pins) gs d b c xs → SameLists b.store c.store → (AllSettled b.store → AllSettled c.store) → Went d a c (bufs_of pins) (bufs_of xs)
-  went_filled xs order are_gaps filled lists settles = record {
+  -- the gaps were filled, or were not
+  pub went : {e : Disk} {c : Holding} (r : Result (List Slice) Refusal) → FillsAllOf f from to gs pins d e b c r → Went d a c (bufs_of pins) (given r)
+  went {c = c} (Ok xs) h = record {
     own = bufs_of pins ++ bufs_of xs;
     split = λ x. tally-append x (bufs_of pins) (bufs_of xs);
     goes = goes_trans d (bufs_of pins) (bufs_of pins) (bufs_of pins ++ bufs_of xs) a b c (goes_less d (bufs_of pins) a b less)
-        (goes_filled b c f from to (places pins) gs d xs sound there_b order (gaps_kept a b f gs less.keeps are_gaps) filled (bufs_of pins) lists settles);
+        (goes_filled b c f from to (places pins) gs d xs sound there_b may.range.in_order gaps_b h.filled (bufs_of pins) h.reads.leaves.lists h.reads.leaves.settles);
   }
-
-  pub went_undone : SameButRoom b.cache c.cache → Moves b.store c.store [] [] → SameLists b.store c.store → (AllSettled b.store → AllSettled c.store) → page_count c.store.arena ≡ page_count b.store.arena → Went d a c (bufs_of pins) []
-  went_undone same moves lists settles pages =
+  went {c = c} (Err y) h =
       let own = bufs_of pins in
+      let left = h.reads.leaves in
+      let same = h.reads.same in
       let mid : Holding = record { store = c.store; cache = b.cache } in
-      let first = goes_released d own [] own b.store c.store b.cache (λ x. omega (arith, tally_none x)) sound covers_b moves lists settles pages in
+      let first = goes_released d own [] own b.store c.store b.cache (λ x. omega (arith, tally_none x)) sound covers_b left.none left.lists left.settles left.given_back.pages.count in
       let last = goes_cache d own c.store b.cache c.cache same.files same.pools same.extents same.held in
       record { own = own; split = λ x. omega (arith, tally_none x); goes = goes_trans d own own own a b c (goes_less d own a b less) (goes_trans d own own own b mid c first last) }
 
-  pub stand_filled : (xs : List Slice) → AreInOrder from to gs → All (IsGapSpan (extents_in a.cache.files f)) gs → FillsFile f from to (places pins) gs d b c xs → All (IsCleanSpan (extents_in c.cache.files f)) gs
-  stand_filled xs order are_gaps filled =
+  stand_filled : {c : Holding} {xs : List Slice} → FillsFile f from to (places pins) gs d b c xs → All (IsCleanSpan (extents_in c.cache.files f)) gs
+  stand_filled {c = c} {xs = xs} filled =
       let es = extents_in b.cache.files f in
       let fills = filled.range.fills in
-      let none = none_gaps es from to gs (sound.files f).apart order (gaps_kept a b f gs less.keeps are_gaps) in
-      let stand = stand_made b.store filled.range.mid (file_in b.cache.files f).pool es from to gs fills.made order none fills.each.each in
+      let none = none_gaps es from to gs (sound.files f).apart may.range.in_order gaps_b in
+      let stand = stand_made b.store filled.range.mid (file_in b.cache.files f).pool es from to gs fills.made may.range.in_order none fills.each.each in
       subst (λ (l : List Extent). All (IsCleanSpan l) gs) (sym (extents_filled f from to b c (places pins) gs d xs there_b filled ∙ fills.extents)) stand
 
-  pub readable_filled : (xs : List Slice) → AreInOrder from to gs → All (IsGapSpan (extents_in a.cache.files f)) gs → FillsFile f from to (places pins) gs d b c xs → IsSound c.store c.cache → AllReadable c.store pins → AllReadable c.store xs
-  readable_filled xs order are_gaps filled sound_c held_pins =
+  readable_filled : {c : Holding} {xs : List Slice} → FillsFile f from to (places pins) gs d b c xs → IsSound c.store c.cache → AllReadable c.store pins → AllReadable c.store xs
+  readable_filled {c = c} {xs = xs} filled sound_c held_pins =
       let es = extents_in c.cache.files f in
       let is = extents_filled f from to b c (places pins) gs d xs there_b filled in
       let laid = sound_c.files f in
       readable_of xs (woven (places pins) es from to gs) (filled.range.lies ∙ ap (λ (l : List Extent). woven (places pins) l from to gs) (sym is))
-      (woven_there (places pins) es from to gs held_pins.each (All-weaker (IsCleanSpan es) (IsCoveredSpan es) (λ g h. covered_span es g laid.apart h) gs (stand_filled xs order are_gaps filled)) (laid_readable (file_in c.cache.files f).pool es laid.laid))
+      (woven_there (places pins) es from to gs held_pins.each (All-weaker (IsCleanSpan es) (IsCoveredSpan es) (λ g h. covered_span es g laid.apart h) gs (stand_filled filled)) (laid_readable (file_in c.cache.files f).pool es laid.laid))
 
 -- After what was shared was released.
-module _ (d : Disk) (a c : Holding) (pins : List Slice) (more : List BufId) (went : Went d a c (bufs_of pins) more) (covers : Covers a.store (held a.cache.files ++ bufs_of pins)) (readable : AllReadable a.store pins) where
+module _ (d : Disk) {f from to : ℕ} {a c : Holding} {pins : List Slice} {gs : List Span} {more : List BufId} (may : MayFill f from to gs pins a) (went : Went d a c (bufs_of pins) more) where
   covers_c : Covers c.store (held c.cache.files ++ went.own)
-  covers_c = goes_covers d (bufs_of pins) went.own a c went.goes covers
+  covers_c = goes_covers d (bufs_of pins) went.own a c went.goes may.held
 
   pub pins_held : Covers c.store (bufs_of pins)
   pins_held = record { each = λ x. omega (arith, covers_c.each x, tally-append x (held c.cache.files) went.own, went.split x) }
 
-  pub readable_c : AllReadable c.store pins
-  readable_c = readable_stays pins went.goes.moves.stays pins_held readable
+  readable_c : AllReadable c.store pins
+  readable_c = readable_stays pins went.goes.moves.stays pins_held may.readable
 
-  pub goes_out : (t : Stored) → IsSound c.store c.cache → Moves c.store t (bufs_of pins) [] → SameLists c.store t → (AllReadable c.store pins → AllSettled c.store → AllSettled t) → page_count t.arena ≡ page_count c.store.arena → Goes d (bufs_of pins) more a (record { store = t; cache = c.cache })
-  goes_out t sound m lists settles pages =
-      goes_trans d (bufs_of pins) went.own more a c (record { store = t; cache = c.cache }) went.goes
-      (goes_released d went.own (bufs_of pins) more c.store t c.cache went.split sound covers_c m lists (settles readable_c) pages)
+  module _ {t : Stored} (sound : IsSound c.store c.cache) (m : Moves c.store t (bufs_of pins) []) where
+    pub goes_out : SameLists c.store t → (AllReadable c.store pins → AllSettled c.store → AllSettled t) → page_count t.arena ≡ page_count c.store.arena → Goes d (bufs_of pins) more a (record { store = t; cache = c.cache })
+    goes_out lists settles pages =
+        goes_trans d (bufs_of pins) went.own more a c (record { store = t; cache = c.cache }) went.goes
+        (goes_released d went.own (bufs_of pins) more c.store t c.cache went.split sound covers_c m lists (settles readable_c) pages)
 
-  pub sound_out : (t : Stored) → IsSound c.store c.cache → Moves c.store t (bufs_of pins) [] → SameLists c.store t → page_count t.arena ≡ page_count c.store.arena → IsSound t c.cache
-  sound_out t sound m lists pages =
-      let left : Covers t (held c.cache.files) = record { each = λ x. omega (arith, covers_c.each x, m.counts.each x, tally_none x, tally-append x (held c.cache.files) went.own, went.split x) } in
-      sound_on c.store t c.cache sound m left lists pages
+    pub sound_out : SameLists c.store t → page_count t.arena ≡ page_count c.store.arena → IsSound t c.cache
+    sound_out lists pages =
+        let left : Covers t (held c.cache.files) = record { each = λ x. omega (arith, covers_c.each x, m.counts.each x, tally_none x, tally-append x (held c.cache.files) went.own, went.split x) } in
+        sound_on c.store t c.cache sound m left lists pages
 
-  pub readable_out : (t : Stored) (xs : List Slice) → more ≡ bufs_of xs → AllReadable c.store xs → Moves c.store t (bufs_of pins) [] → AllReadable t xs
-  readable_out t xs is all m =
-      let left : Covers t (bufs_of xs) = record { each = λ x. omega (arith, covers_c.each x, m.counts.each x, tally_none x, tally-append x (held c.cache.files) went.own, went.split x, ap (tally x) is) } in
-      readable_stays xs m.stays left all
+    readable_out : (xs : List Slice) → more ≡ bufs_of xs → AllReadable c.store xs → AllReadable t xs
+    readable_out xs is all =
+        let left : Covers t (bufs_of xs) = record { each = λ x. omega (arith, covers_c.each x, m.counts.each x, tally_none x, tally-append x (held c.cache.files) went.own, went.split x, ap (tally x) is) } in
+        readable_stays xs m.stays left all
+
+err_is : {A : Type 0} (x y : Refusal) → (let r : Result A Refusal = Err x in r) ≡ Err y → x ≡ y
+err_is x y e = cc
+
+-- The whole, where there was room.
+pub pinned_filled : {d e : Disk} {f from to : ℕ} {a b c : Holding} {t : Stored} {pins : List Slice} {gs : List Span} {ok : Bool} (r : Result (List Slice) Refusal) → MayFill f from to gs pins a → MakesFree (file_in a.cache.files f).pool (gap_pages gs) a b ok → IsTrue ok → IsSound b.store b.cache → FillsAllOf f from to gs pins d e b c r
+    → Moves c.store t (bufs_of pins) [] → FreesOnly c.store t → SameLists c.store t → (AllReadable c.store pins → AllSettled c.store → AllSettled t) → FillsPinned f from to pins gs d e a (record { store = t; cache = c.cache }) r
+pinned_filled {d = d} {b = b} {c = c} (Ok xs) may made has sound h m frees lists settles =
+    let less = made.gives_up in
+    let gone = went d may less sound (Ok xs) h in
+    let here = readable_filled d may less sound h.filled h.sound (readable_c d may gone) in
+    record {
+      filled = record { mid = b; victims = made.victims; less = less; full = c; fills = h.filled; stand = stand_filled d may less sound h.filled; cache = refl; released = m; frees = frees };
+      undone = tt;
+      readable = readable_out d may gone h.sound m xs refl here;
+      goes = goes_out d may gone h.sound m lists settles frees.count;
+      gone = tt;
+      sound = sound_out d may gone h.sound m lists frees.count;
+      room = made.room.0 has;
+      asks = h.reads.asks;
+      late = tt;
+    }
+pinned_filled {d = d} {f = f} {b = b} {c = c} {gs = gs} (Err y) may made has sound h m frees lists settles =
+    let less = made.gives_up in
+    let pool = less.keeps.pools f in
+    let gone = went d may less sound (Err y) h in
+    let left = h.reads.leaves in
+    let roomy : (p : ℕ) → y ≡ refusal.NoRoom p → ⊥ = λ p is. absurd (omega (arith, made.free has, left.no_room p is, ap (λ q. length (free_of b.store q)) pool)) in
+    record {
+      filled = tt;
+      undone = record {
+        mid = b;
+        victims = made.victims;
+        less = less;
+        full = c;
+        met = inl (made.room.0 has);
+        kept = λ p is. absurd (roomy p is);
+        same = h.reads.same;
+        moves = left.none;
+        placed = subst (λ q. PlacesSome b.store c.store q (gap_pages gs)) pool left.given_back;
+        lists = left.lists;
+        cache = refl;
+        released = m;
+        frees = frees;
+      };
+      readable = tt;
+      goes = tt;
+      gone = goes_out d may gone h.sound m lists settles frees.count;
+      sound = sound_out d may gone h.sound m lists frees.count;
+      room = tells_has {A = List Slice} _ _ (Err y) (made.room.0 has) (λ p is. roomy p (err_is y (refusal.NoRoom p) is));
+      asks = h.reads.asks;
+      late = subst (λ q. WantOfRoomOrFault q f y) pool h.reads.late;
+    }

@@ -1,5 +1,5 @@
 -- Bytes of a file, shared from the extents over them.
-use Rattle.std.proofs.Common.{◌≡◌, ℕ, zero, suc, ◌+◌, ◌-◌, ◌/◌, ◌<◌, ◌≤◌, inr, Bool, true, false, cond, All, List, [], ◌∷◌, ◌++◌, length, map, take, drop, get_or, Option, Some, None, IsSome, Ok, Err, slice_range, refl, sym, ap, ◌∙◌, arith, subst}
+use Rattle.std.proofs.Common.{◌≡◌, ℕ, zero, suc, ◌+◌, ◌-◌, ◌/◌, ◌^◌, ◌<◌, ◌≤◌, inr, Bool, true, false, cond, All, List, [], ◌∷◌, ◌++◌, length, map, take, drop, get_or, Option, Some, None, IsSome, Ok, Err, slice_range, refl, sym, ap, ◌∙◌, arith, subst}
 use Rattle.std.specs.List.{Contains, range_with_len}
 use Rattle.std.proofs.lemmas.List.Elements.{All-append, All-same}
 use Rattle.std.proofs.lemmas.List.FromFn.{get_or-map-range_with_len, length-map-range_with_len}
@@ -10,7 +10,7 @@ use Rattle.iol_core.specs.declared.numbers.BufId.{BufId}
 use Rattle.iol_extent.specs.Extents.{Cell, Extent, IsApart, cell_at, cover, end_of, extent_over, is_over, no_place}
 use Rattle.iol_extent.proofs.Cover.{cover_no, cover_yes}
 use Rattle.iol_hold.specs.Moves.{Covers, Moves, SameLists, Shares, pool_meant, tally}
-use Rattle.iol_hold.specs.Places.{Place, places}
+use Rattle.iol_hold.specs.Places.{Place, byte_len, places}
 use Rattle.iol_hold.specs.Releases.{FreesOnly}
 use Rattle.iol_hold.specs.Stored.{Stored, AllSettled}
 use Rattle.iol_hold.specs.Texts.{AllReadable, IsThere, bufs_of}
@@ -25,7 +25,7 @@ use Rattle.iol_arena.specs.Buffers.{IsLive, bytes_of}
 use Rattle.iol_arena.specs.State.{State}
 use Rattle.iol_pool.specs.Pools.{Pool, pool_in}
 use Rattle.iol_cache.specs.Cached.{all_parts}
-use Rattle.iol_cache.specs.Sharing.{IsCovered, SharesOrReleases, place_in, place_over, places_over}
+use Rattle.iol_cache.specs.Sharing.{AreHeld, CountsBelow, IsCovered, MayShare, SharesOrReleases, place_in, place_over, places_over}
 use Rattle.iol_cache.proofs.RangeReads.Paging.{frees_shares}
 
 over_from : (e : Extent) (i : ℕ) → is_over e i ≡ true → (e.at ≤ i) × (i < end_of e)
@@ -201,3 +201,16 @@ held_beside {xs = xs} {ys = ys} c m = record { each = λ x. omega (arith, c.each
 
 pub readable_of : {s : Stored} (xs : List Slice) (ps : List Place) → places xs ≡ ps → All (IsThere s) ps → AllReadable s xs
 readable_of {s} xs ps e all = record { each = All-same (IsThere s) _ _ e all }
+
+-- what was shared so far, and the bytes of a range that lie under extents
+pub may_share : {s t : Stored} {es : List Extent} {so_far : List Slice} {from to n : ℕ} → AreHeld s es → CountsBelow s n → n ≤ 2 ^ 62 → Shares s t [] (bufs_of so_far) → AllReadable s so_far → from ≤ to → IsCovered es from to → byte_len so_far + (to - from) < 2 ^ 32 → MayShare t es so_far from to
+may_share {es = es} {so_far = so_far} there few most m readable ordered covered small = record {
+  ordered = ordered;
+  apart = there.apart;
+  covered = covered;
+  held = held_beside there.held m;
+  readable = readable_on (all_parts es) m there.readable;
+  own_readable = readable_on so_far m readable;
+  few = λ b. omega (arith, few.each b, most, m.counts.each b, tally_none b);
+  small = small;
+}

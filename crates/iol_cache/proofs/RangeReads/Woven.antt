@@ -14,22 +14,32 @@ use Rattle.iol_extent.specs.Extents.{Extent}
 use Rattle.iol_extent.specs.Spans.{AreInOrder}
 use Rattle.iol_extent.specs.declared.spans.Span.{Span}
 use Rattle.iol_cache.specs.Sharing.{CountsBelow, places_over}
-use Rattle.iol_cache.specs.Weaving.{len_beside, places_beside, woven, places_read}
+use Rattle.iol_cache.specs.Weaving.{LieBeside, MayAddPart, len_beside, places_beside, woven, places_read}
 use Rattle.iol_cache.proofs.RangeReads.Ranged.{tally_len}
-use Rattle.iol_cache.proofs.RangeReads.Shared.{length-places_over, readable_places}
+use Rattle.iol_cache.proofs.RangeReads.Shared.{length-places_over, readable_on, readable_places}
 
 pub beside_few : (at to : ℕ) (gs : List Span) → AreInOrder at to gs → len_beside at to gs + at ≤ to
 beside_few at to [] order = omega (arith, order)
 beside_few at to (g ∷ gs) order = omega (arith, beside_few g.to to gs order.2, order.0, order.1)
 
-pub shared_covers : {s t : Stored} {xs : List BufId} → Shares s t [] xs → Covers t xs
+shared_covers : {s t : Stored} {xs : List BufId} → Shares s t [] xs → Covers t xs
 shared_covers m = record { each = λ b. omega (arith, m.counts.each b, tally_none b) }
 
 pub still_covers : {s t : Stored} {xs ys : List BufId} → Covers s ys → Shares s t [] xs → Covers t ys
 still_covers c m = record { each = λ b. omega (arith, c.each b, m.counts.each b, tally_none b) }
 
-pub shared_few : {s t : Stored} (xs : List Slice) → Shares s t [] (bufs_of xs) → byte_len xs < 2 ^ 32 → CountsBelow s (2 ^ 61) → CountsBelow t (2 ^ 62)
-shared_few xs m small few = record { each = λ b. omega (arith, m.counts.each b, tally_none b, few.each b, tally_len b xs, small) }
+-- a part of what lies beside the gaps may be added to what was shared so far
+pub may_add_part : {s t : Stored} {from to : ℕ} {gaps : List Span} (xs ys : List Slice) (used next : ℕ) → LieBeside s from to gaps ys → Shares s t [] (bufs_of xs) → AllReadable s xs → CountsBelow s (2 ^ 61) → used ≤ next → next ≤ byte_len ys → byte_len xs + (next - used) < 2 ^ 32 → MayAddPart t xs ys used next
+may_add_part xs ys used next beside m readable few ordered within small = record {
+  ordered = ordered;
+  within = within;
+  held = still_covers beside.held m;
+  readable = readable_on ys m beside.readable;
+  own = shared_covers m;
+  own_readable = readable_on xs m readable;
+  few = record { each = λ b. omega (arith, m.counts.each b, tally_none b, few.each b, tally_len b xs, small) };
+  small = small;
+}
 
 pub length-places_beside : (es : List Extent) (at to : ℕ) (gs : List Span) → length (places_beside es at to gs) ≡ len_beside at to gs
 length-places_beside es at to [] = length-places_over es at to

@@ -1,5 +1,5 @@
 -- The bytes of a write, run after run.
-use Rattle.std.proofs.Common.{add-one, append_assoc, length-append, ◌≡◌, ℕ, zero, suc, ◌+◌, ◌-◌, ◌<◌, ◌≤◌, ◌==◌, Bool, true, false, cond, inl, inr, All, List, [], ◌∷◌, ◌++◌, length, map, take, drop, get_or, slice_range, refl, sym, ap, ◌∙◌, arith, subst}
+use Rattle.std.proofs.Common.{add-one, append_assoc, length-append, ◌≡◌, ℕ, zero, suc, ◌+◌, ◌-◌, ◌<◌, ◌≤◌, ◌^◌, ◌==◌, Bool, true, false, cond, inl, inr, All, Ok, List, [], ◌∷◌, ◌++◌, length, map, take, drop, get_or, slice_range, refl, sym, ap, ◌∙◌, arith, subst}
 use mathlib.Core.Bool.{not}
 use Rattle.std.specs.Int.{div_ceil}
 use Rattle.std.specs.List.{range_with_len}
@@ -8,6 +8,7 @@ use Rattle.std.proofs.lemmas.List.{append-nil, get_or_append_left, get_or-append
 use Rattle.std.proofs.lemmas.List.Elements.{All-append, All-map, All-nil, All-same}
 use Rattle.std.proofs.lemmas.Bool.Decides.{nat_tests}
 use Rattle.std.proofs.Math.Seq.{drop-cons, take-add}
+use Rattle.iol_agg.proofs.Holding.{tally-few}
 use Rattle.iol_arena.specs.State.{State, entry_at, pages_for}
 use Rattle.iol_arena.proofs.Members.{in_contains}
 use Rattle.iol_arena.specs.Buffers.{Grows, IsLive, bytes_of}
@@ -17,7 +18,7 @@ use Rattle.iol_core.specs.Text as text
 use Rattle.iol_core.specs.declared.numbers.BufId.{BufId}
 use Rattle.iol_extent.specs.Extents.{no_place}
 use Rattle.iol_pool.specs.Pools.{Pool, pool_in}
-use Rattle.iol_hold.specs.Moves.{Covers, Moves, Shares, tally}
+use Rattle.iol_hold.specs.Moves.{Covers, Moves, Shares, pool_meant, tally}
 use Rattle.iol_hold.proofs.Counting.{bufs-append, tally-append, tally_none}
 use Rattle.iol_hold.specs.Places.{Place, byte_len, place_in, places, slice_places}
 use Rattle.iol_hold.specs.Room.{free_of, has_room, lowest_of, others_of}
@@ -29,9 +30,9 @@ use Rattle.iol_hold.proofs.Reading.{bytes_of-labelled, length-text_of, readable_
 use Rattle.iol_hold.proofs.Rooms.{no_room_there}
 use Rattle.iol_hold.specs.declared.slices.Slice.{Slice}
 use Rattle.iol_hold.proofs.Slicing.{byte_len-append, byte_len-cons, byte_len-take-le, places-append}
-use Rattle.iol_cache.specs.Composing.{Composes, ComposesRun, KeepsOwn, copied_pages, pages_after}
+use Rattle.iol_cache.specs.Composing.{Composes, ComposesRun, IsFirstRun, KeepsOwn, MayCompose, MayCopy, copied_pages, pages_after}
 use Rattle.iol_cache.proofs.RangeReads.Filled.{places_none, places_then}
-use Rattle.iol_cache.specs.Loading.{PlacesPages}
+use Rattle.iol_cache.specs.Loading.{PlacesOrReleases, PlacesPages}
 use Rattle.iol_cache.proofs.RangeReads.Paged.{made_stands}
 use Rattle.iol_cache.proofs.RangeReads.Pooled.{length-labelled}
 use Rattle.iol_cache.proofs.RangeReads.Shared.{readable_same, settles_shares}
@@ -222,26 +223,20 @@ not_both false h = cc
 pub all_rest : (ys xs : List Slice) (i : ℕ) → ys ≡ xs → take (length ys - i) (drop i ys) ≡ drop i xs
 all_rest ys xs i e = take_all (length ys - i) (drop i ys) (omega (arith, length-drop i ys)) ∙ ap (drop i) e
 
-pub is_run : (ys xs : List Slice) (i p n count : ℕ) (own : Bool) (x : Slice) → ys ≡ xs → i < length xs → x ≡ get_or ys i x → (x.hold.pool == p) ≡ own → n ≤ length (take (length ys - i) (drop i ys)) → count ≡ byte_len (take n (take (length ys - i) (drop i ys)))
-    → All (λ (x : Slice). (x.hold.pool == p) ≡ own) (take n (take (length ys - i) (drop i ys))) → ((d : Slice) → n < length (take (length ys - i) (drop i ys)) → ((get_or (take (length ys - i) (drop i ys)) n d).hold.pool == p) ≡ not own)
-    → IsRun xs i p n count own
-is_run ys xs i p n count own x same there at kind within bytes all ends =
-    let e = all_rest ys xs i same in
-    let w : n ≤ length (drop i xs) = subst (λ (l : List Slice). n ≤ length l) e within in
-    let b : count ≡ byte_len (take n (drop i xs)) = subst (λ (l : List Slice). count ≡ byte_len (take n l)) e bytes in
-    let a = subst (λ (l : List Slice). All (λ (x : Slice). (x.hold.pool == p) ≡ own) (take n l)) e all in
-    let f = subst (λ (l : List Slice). (d : Slice) → n < length l → ((get_or l n d).hold.pool == p) ≡ not own) e ends in
+pub is_run : (ys xs : List Slice) (i p n count : ℕ) (own : Bool) (x : Slice) → ys ≡ xs → i < length xs → x ≡ get_or ys i x → (x.hold.pool == p) ≡ own → IsFirstRun p own (take (length ys - i) (drop i ys)) n count → IsRun xs i p n count own
+is_run ys xs i p n count own x same there at kind first =
+    let r = subst (λ (l : List Slice). IsFirstRun p own l n count) (all_rest ys xs i same) first in
     let next = slice_next xs i x there (at ∙ ap (λ (l : List Slice). get_or l i x) same) in
     let joined : take (i + n) xs ≡ take i xs ++ take n (drop i xs) = take-add i n xs in
-    let long : byte_len (take i xs) + count ≡ byte_len (take (i + n) xs) = omega (arith, b, ap byte_len joined, byte_len-append (take i xs) (take n (drop i xs))) in
+    let long : byte_len (take i xs) + count ≡ byte_len (take (i + n) xs) = omega (arith, r.bytes, ap byte_len joined, byte_len-append (take i xs) (take n (drop i xs))) in
     record {
-      within = omega (arith, w, length-drop i xs, there);
-      some = some_of n next f kind;
-      bytes = b;
+      within = omega (arith, r.within, length-drop i xs, there);
+      some = some_of n next r.ends kind;
+      bytes = r.bytes;
       few = omega (arith, long, byte_len-take-le xs (i + n));
       long = long;
-      all = a;
-      ends = λ d h. ap (λ (y : Slice). y.hold.pool == p) (first_rest xs i n d) ∙ f d (omega (arith, h, length-drop (i + n) xs, length-drop i xs));
+      all = r.all;
+      ends = λ d h. ap (λ (y : Slice). y.hold.pool == p) (first_rest xs i n d) ∙ r.ends d (omega (arith, h, length-drop (i + n) xs, length-drop i xs));
     }
   where
     some_of : (n : ℕ) → drop i xs ≡ x ∷ drop (i + 1) xs → ((d : Slice) → n < length (drop i xs) → ((get_or (drop i xs) n d).hold.pool == p) ≡ not own) → (x.hold.pool == p) ≡ own → 0 < n
@@ -258,6 +253,16 @@ readable_take {s} xs ys n e h = subst (AllReadable s) (sym e) (first {s = s} ys 
     first {s} ys zero h = readable_none s
     first {s} [] (suc n) h = h
     first {s} (y ∷ ys) (suc n) h = readable_cons {s = s} y (take n ys) (readable_first {s = s} y ys h) (first {s = s} ys n (readable_later {s = s} y ys h))
+
+-- a run of others may be copied
+pub may_copy : {s : Stored} {n p : ℕ} {xs : List Slice} {i k count : ℕ} → MayCompose s n p xs → IsRun xs i p k count false → MayCopy s p (take k (drop i xs))
+may_copy {s} {n} {p} {xs} {i} {k} may r = record {
+  opened = may.opened;
+  small = omega (arith, r.bytes, r.few, may.small);
+  readable = readable_take _ (drop i xs) k refl (readable_drop xs i may.readable);
+  tidy = may.tidy;
+  others = r.all;
+}
 
 pub byte_len-drop-le : (xs : List Slice) (i : ℕ) → byte_len (drop i xs) ≤ byte_len xs
 byte_len-drop-le xs i = omega (arith, ap byte_len (take-append-drop i xs), byte_len-append (take i xs) (drop i xs))
@@ -370,3 +375,23 @@ covers_second a b c = record { each = λ x. omega (arith, a.counts.each x, b.cou
 
 pub covers_source : {s t : Stored} {xs ys : List BufId} → Covers s ys → Moves s t [] xs → Covers t ys
 covers_source c a = record { each = λ x. omega (arith, c.each x, a.counts.each x, tally_none x) }
+
+-- The source, after the first of its runs.
+
+pub may_go_on : {s t : Stored} {p : ℕ} {xs left out : List Slice} → MayCompose s (2 ^ 62) p xs → ComposesRun s t p xs left out → MayCompose t (2 ^ 62 + 2 ^ 32) p xs
+may_go_on {s} {t} {p} {xs} {left} {out} may m =
+    let moves = m.composes.moves in
+    let held = covers_source may.covered moves in
+    let long : byte_len out ≤ byte_len xs = omega (arith, composed_long m.composes, ap byte_len m.splits, byte_len-append m.run left) in
+    record {
+      opened = ap (λ (ps : List Pool). (pool_in ps p).closed) m.composes.pages.pools ∙ may.opened;
+      small = may.small;
+      covered = held;
+      few = record { each = λ b. omega (arith, may.few.each b, moves.counts.each b, tally_none b, tally-few b out, long, may.small) };
+      readable = readable_stays {old = s} {new = t} xs moves.stays held may.readable;
+      tidy = moves.tidy may.tidy;
+    }
+
+-- all of it is placed
+pub composed : {A : Type 0} {s t : Stored} {p n : ℕ} {xs out : List Slice} {a : A} → Composes s t p n xs out → PlacesOrReleases p n s t (Ok a)
+composed m = record { none = tt; given_back = tt; lists = ap (map pool_meant) m.pages.pools; settles = m.settles; no_room = tt }

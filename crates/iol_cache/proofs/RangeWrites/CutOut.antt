@@ -14,12 +14,6 @@ use Rattle.iol_cache.proofs.RangeReads.Shared.{over_at, over_low}
 met : (e : Extent) (from to : ℕ) → e.at < to → from < end_of e → meets from to e ≡ true
 met e from to h k = grind (arith, nat_tests)
 
-not_met : (e : Extent) (from to : ℕ) → meets from to e ≡ false → (to ≤ e.at) ⊎ (end_of e ≤ from)
-not_met e from to h = elim (cases_lt e.at to) [
-  | inl l ↦ elim (cases_lt from (end_of e)) [ inl m ↦ absurd (let x = met e from to l m in cc) | inr m ↦ inr m ]
-  | inr l ↦ inl l
-]
-
 -- an extent is over all its bytes
 over_same : (low : ℕ) (es : List Extent) (at i : ℕ) (e : Extent) → IsApart low es → extent_over es at ≡ Some e → e.at ≤ i → i < end_of e → extent_over es i ≡ Some e
 over_same low [] at i e a h lo hi = cc
@@ -234,7 +228,3 @@ replaced es es2 es3 es4 from to l x new apart order cl cr begins ends al ar an =
     ]
   ];
 }
-
--- a part that is empty adds nothing
-pub adds_nothing : (es : List Extent) (x : Extent) → byte_len x.parts ≡ 0 → Adds es x es
-adds_nothing es x none = record { each = λ i. sym (ap (λ b. cond b (Some (cell_at x i)) (cover es i)) (no_edge x i (λ some. absurd (omega (arith, none, some))))) }

@@ -15,12 +15,14 @@ use Rattle.iol_hold.proofs.Counting.{bufs-append, tally-append, tally_none}
 use Rattle.iol_hold.proofs.Moving.{shares_move, stays_trans}
 use Rattle.iol_hold.proofs.Reading.{readable_none, readable_taken}
 use Rattle.iol_extent.specs.Extents.{Extent, end_of, extent_over, last_end}
-use Rattle.iol_cache.specs.Cached.{Cached, held, all_parts}
+use Rattle.iol_cache.specs.Cached.{Cached, extents_in, file_in, held, all_parts}
 use Rattle.iol_cache.specs.Cutting.{CutsLeft, CutsRight, IsBefore}
+use Rattle.iol_cache.specs.Evicting.{Holding}
+use Rattle.iol_cache.specs.Overwriting.{MayOverwrite}
 use Rattle.iol_cache.specs.Preparing.{Prepares}
 use Rattle.iol_cache.specs.Sharing.{CountsBelow}
 use Rattle.iol_cache.specs.Sound.{IsLaid, IsSound}
-use Rattle.iol_cache.specs.Writing.{parts_put}
+use Rattle.iol_cache.specs.Writing.{MayPutOver, parts_put}
 use Rattle.iol_cache.proofs.RangeWrites.Composed.{composed_long}
 use Rattle.iol_cache.proofs.RangeWrites.CutOut.{right_of}
 use Rattle.iol_cache.proofs.RangeReads.Pooled.{pooled_text}
@@ -98,6 +100,29 @@ module _ {s t : Stored} {p : ℕ} {es : List Extent} {at : ℕ} {source : List S
     readable = readable_same a.mid t e.parts a.shares.arena a.shares.pools a.composes.readable;
     home = pooled_text a.mid p e.parts (text.bytes_of (text_of s source)) a.composes.is;
   }
+
+-- it may be put in place
+pub prepared_may : (h : Holding) (t : Stored) (f at : ℕ) (source : List Slice) (left right e : Extent) → MayOverwrite f at source h → Prepares h.store t (file_in h.cache.files f).pool (extents_in h.cache.files f) at source left right e
+    → MayPutOver f at (at + byte_len source) left right e (record { store = t; cache = h.cache })
+prepared_may h t f at source left right e may a =
+    let filed = may.sound.files f in
+    record {
+      sound = prepared_sound a h.cache may.sound;
+      file = may.file;
+      short = may.short;
+      cuts = record {
+        some = omega (arith, may.some);
+        before = a.before;
+        after = a.after;
+        fits = omega (arith, right_len (extents_in h.cache.files f) (at + byte_len source) right (omega (arith, may.some)) a.after a.ends filed.short may.short);
+        begins = a.begins;
+        ends = prepared_ends a;
+      };
+      laid = prepared_laid a;
+      held = prepared_covers a (held h.cache.files) may.sound.covered;
+      few = prepared_few a may.few may.short may.some filed.short;
+      places = may.places;
+    }
 
 -- Parts that are given up.
 

@@ -234,12 +234,6 @@ clean_none (x ∷ xs) at h = sum_by-cons (begins_clean at) x xs ∙ here (eqb x.
 pub absent_gap : (f : ℕ) (es : List Extent) (at to : ℕ) (r : Ranking) → IsApart 0 es → IsGap es at to → at < to → RanksFile r f es → entry_at r.entries f at ≡ None
 absent_gap f es at to r apart gap some ranked = entry_absent r.entries f at (ranked.each at ∙ clean_none es at (begins_gap 0 es at to apart gap some))
 
-pub put_one : (es : List Extent) (e : Extent) → 0 < byte_len e.parts → put_some es e ≡ put_in es e
-put_one es e some = ap (λ b. cond b es (put_in es e)) (off (byte_len e.parts) some)
-  where
-    off : (n : ℕ) → 0 < n → (n == 0) ≡ false
-    off n h = grind (arith, nat_tests)
-
 -- Sums over what is left, and over what comes in.
 
 pub unmet-clean : (h : List BufId → ℕ) → IsAdditive h → (es : List Extent) (from to : ℕ) → h (bufs_of (clean_in (unmet es from to))) ≤ h (bufs_of (clean_in es))

@@ -1,15 +1,19 @@
 -- The first dirty extent, which becomes clean where it stands.
-use Rattle.std.proofs.Common.{◌≡◌, ◌∙◌, ℕ, ◌<◌, Bool, true, false, cond, eqb, List, [], ◌∷◌, Some, refl, sym, ap, arith, subst}
+use Rattle.std.proofs.Common.{◌≡◌, ◌∙◌, ℕ, ◌<◌, Bool, true, false, cond, eqb, List, [], ◌∷◌, Some, IsSome, refl, sym, ap, arith, subst}
 use Rattle.std.specs.Prelude.{not, ◌&&◌}
 use Rattle.std.proofs.lemmas.Bool.Decides.{nat_tests}
 use Rattle.std.proofs.lemmas.List.Sums.{sum_by-cons}
 use Rattle.iol_hold.specs.Places.{byte_len}
 use Rattle.iol_hold.specs.declared.slices.Slice.{Slice}
 use Rattle.iol_evict.specs.Ranking.{Ranking, entered, with_one_given_back}
-use Rattle.iol_extent.specs.Extents.{Extent, IsApart, IsFirstDirty, as_clean, begins_at, cleaned_at, dirty_in, end_of, without_at}
+use Rattle.iol_extent.specs.Extents.{Extent, IsApart, as_clean, begins_at, cleaned_at, dirty_in, end_of, without_at}
 use Rattle.iol_cache.specs.Cached.{begins_clean, clean_at, parts_in}
+use Rattle.iol_cache.specs.Entering.{Enters, MayEnter}
 use Rattle.iol_cache.specs.Marks.{Marks}
 use Rattle.iol_cache.specs.Replacing.{Reindexes}
+use Rattle.iol_cache.specs.Syncing.{MaySettle, Settles}
+use Rattle.iol_cache.proofs.Evictions.Ready.{some_kept}
+use Rattle.iol_cache.proofs.Evictions.Reordered.{is_some}
 use Rattle.iol_cache.proofs.RangeWrites.Cleaned.{cleaned_put, first_dirty}
 use Rattle.iol_cache.proofs.RangeWrites.Replaced.{clean_comes, dirty_goes, reindexes_then}
 
@@ -40,17 +44,37 @@ none_clean low (x ∷ xs) e a h = pick x.dirty refl h (λ k. none_clean (end_of 
         let r = (first_dirty (end_of x) xs e a.2 h).2 in
         omega (arith, sum_by-cons (begins_clean e.at) x xs, ih h, ap (λ b. cond {A = ℕ} (b && not x.dirty) 1 0) (other x.at e.at (omega (arith, r, a.1))))
 
-pub begins_there : (es : List Extent) (at : ℕ) (d : IsFirstDirty es at) → IsApart 0 es → begins_at es at ≡ Some d.extent
-begins_there es at d apart = ap (begins_at es) (sym d.begins) ∙ (first_dirty 0 es d.extent apart d.is).0
+module _ {f at : ℕ} {es : List Extent} {r : Ranking} {marks : List ℕ} (m : MaySettle f at es r marks) where
+  abbrev first : Extent
+  first = m.dirty.extent
 
-pub settled : (f : ℕ) (es : List Extent) (at : ℕ) (d : IsFirstDirty es at) (r t : Ranking) (marks new : List ℕ) → IsApart 0 es → 0 < r.kept → Marks marks new (parts_in (begins_at es at)) → t ≡ entered (with_one_given_back r) f at (byte_len (parts_in (begins_at es at))) 1 → Reindexes f es (cleaned_at es at) r t marks new
-settled f es at d r t marks new apart kept m is =
-    let e = d.extent in
-    let begins = begins_there es at d apart in
-    let parts : parts_in (begins_at es at) ≡ e.parts = ap parts_in begins in
-    let goes = dirty_goes f es at e r marks begins (first_dirty 0 es e apart d.is).1 kept in
-    let comes = clean_comes f (without_at es at) (as_clean e) (byte_len e.parts) (with_one_given_back r) marks new refl (subst (λ (xs : List Slice). Marks marks new xs) parts m) in
-    let done = reindexes_then goes comes in
-    let order : entered (with_one_given_back r) f e.at (byte_len e.parts) 1 ≡ t = ap (λ n. entered (with_one_given_back r) f n (byte_len e.parts) 1) d.begins ∙ ap (λ (xs : List Slice). entered (with_one_given_back r) f at (byte_len xs) 1) (sym parts) ∙ sym is in
-    subst (λ (q : Ranking). Reindexes f es (cleaned_at es at) r q marks new) order
-    (subst (λ (l : List Extent). Reindexes f es l r (entered (with_one_given_back r) f e.at (byte_len e.parts) 1) marks new) (cleaned_put at e 0 es apart begins) done)
+  begins : begins_at es at ≡ Some first
+  begins = ap (begins_at es) (sym m.dirty.begins) ∙ (first_dirty 0 es first m.apart m.dirty.is).0
+
+  pub place_kept : 0 < r.kept
+  place_kept = some_kept r es at first begins (first_dirty 0 es first m.apart m.dirty.is).1 m.ready
+
+  pub may_enter : MayEnter f at es (with_one_given_back r) marks
+  may_enter = record {
+    apart = m.apart;
+    begins = subst IsSome (sym begins) refl;
+    absent = m.ranked.each at ∙ ap (λ n. clean_at n es) (sym m.dirty.begins) ∙ none_clean 0 es first m.apart m.dirty.is;
+    room = omega arith;
+    within = m.within;
+    few = m.few;
+  }
+
+  pub settled : (fs : List Extent) (t : Ranking) (new : List ℕ) → fs ≡ cleaned_at es at → IsApart 0 fs → Enters f at es (with_one_given_back r) t marks new → Settles f at es fs r t marks new
+  settled fs t new is apart e =
+      let low = with_one_given_back r in
+      let parts : parts_in (begins_at es at) ≡ first.parts = ap parts_in begins in
+      let order : t ≡ entered low f first.at (byte_len first.parts) 1 = e.order ∙ ap (λ (xs : List Slice). entered low f at (byte_len xs) 1) parts ∙ ap (λ n. entered low f n (byte_len first.parts) 1) (sym m.dirty.begins) in
+      let goes = dirty_goes f es at first r marks begins (first_dirty 0 es first m.apart m.dirty.is).1 place_kept in
+      let comes = clean_comes f (without_at es at) (as_clean first) (byte_len first.parts) low marks new refl (subst (λ (xs : List Slice). Marks marks new xs) parts e.marks) in
+      record {
+        extents = is;
+        apart = apart;
+        follows = subst (λ (q : Ranking). Reindexes f es fs r q marks new) (sym order)
+            (subst (λ (l : List Extent). Reindexes f es l r (entered low f first.at (byte_len first.parts) 1) marks new) (cleaned_put at first 0 es m.apart begins ∙ sym is) (reindexes_then goes comes));
+        order = is_some (λ y. t ≡ entered low f y.at (byte_len y.parts) 1) (dirty_in es) first m.dirty.is order;
+      }

@@ -25,14 +25,17 @@ use Rattle.iol_cache.specs.Cached.{Cached, file_in, extents_in, clean_in, held, 
 use Rattle.iol_cache.specs.Cutting.{CutsLeft, CutsRight}
 use Rattle.iol_cache.specs.Evicting.{Holding}
 use Rattle.iol_cache.specs.Gaps.{all_put}
-use Rattle.iol_cache.specs.Replacing.{HaveClean, put_some}
+use Rattle.iol_cache.specs.Replacing.{HaveClean, indexing_in, put_some}
 use Rattle.iol_cache.specs.Sound.{Each, IsLaid, IsSound}
-use Rattle.iol_cache.specs.Writing.{Changes, PutsOver, parts_put}
+use Rattle.iol_cache.specs.Writing.{Changes, MayPutOver, MayReplace, PutsOver, parts_put}
+use Rattle.iol_cache.proofs.Evictions.Ready.{is_ready}
+use Rattle.iol_cache.proofs.Evictions.Roomy.{ranks_file}
 use Rattle.iol_cache.proofs.RangeWrites.Composed.{pools_of}
 use Rattle.iol_cache.proofs.RangeWrites.CutOut.{left_of, right_of}
 use Rattle.iol_cache.proofs.Extents.Filing.{additive_tally, additive_page, sum-flat, sum-file_in, each-put_in}
 use Rattle.iol_cache.proofs.RangeReads.Putting.{last_end-all_put}
-use Rattle.iol_cache.proofs.Extents.Using.{sum-file}
+use Rattle.iol_cache.proofs.RangeReads.Ranged.{laid_readable}
+use Rattle.iol_cache.proofs.Extents.Using.{covers_file, sum-file}
 use Rattle.iol_cache.proofs.RangeWrites.Replaced.{page-three}
 use Rattle.iol_cache.proofs.Extents.Stepping.{mark_few, page_len}
 use Rattle.iol_cache.proofs.Extents.Changed.{sound_changed}
@@ -136,28 +139,41 @@ left_len es from x cut = elim (cases_lt 0 (byte_len x.parts)) [
   | inr none ↦ omega (arith, none)
 ]
 
-pub have_clean : (fs : List CachedFile) (f : ℕ) (marks : List ℕ) → Counted marks (clean_held fs) → HaveClean marks (extents_in fs f)
+have_clean : (fs : List CachedFile) (f : ℕ) (marks : List ℕ) → Counted marks (clean_held fs) → HaveClean marks (extents_in fs f)
 unfolding clean_held
 have_clean fs f marks counted =
     let g : CachedFile → List BufId = λ y. bufs_of (clean_in y.extents.extents) in
     record { each = λ p. omega (arith, counted.each p, sum-flat (additive_page p) g fs, sum-file_in (λ y. at_page p (g y)) fs f (additive_page p).none) }
 
-pub covers_put : {s : Stored} (fs : List CachedFile) (f : ℕ) (ps : List Slice) → Covers s (held fs ++ bufs_of ps) → Covers s (bufs_of (all_parts (extents_in fs f) ++ ps))
+covers_put : {s : Stored} (fs : List CachedFile) (f : ℕ) (ps : List Slice) → Covers s (held fs ++ bufs_of ps) → Covers s (bufs_of (all_parts (extents_in fs f) ++ ps))
 covers_put fs f ps c =
     let es = extents_in fs f in
     record {
-      each = λ b. omega (
-        arith,
-        c.each b,
-        tally-append b (held fs) (bufs_of ps),
-        sum-file (tally b) (additive_tally b) fs f,
-        ap (tally b) (bufs-append (all_parts es) ps),
-        tally-append b (bufs_of (all_parts es)) (bufs_of ps),
-      );
+      each = λ b. omega (arith, c.each b, tally-append b (held fs) (bufs_of ps), sum-file (tally b) (additive_tally b) fs f, ap (tally b) (bufs-append (all_parts es) ps), tally-append b (bufs_of (all_parts es)) (bufs_of ps));
     }
 
-pub marks_left : (s : Stored) (c : Cached) (l r n : List Slice) → IsSound s c → CountsBelow s (2 ^ 61) → byte_len l < 2 ^ 32 → byte_len r < 2 ^ 32 → byte_len n < 2 ^ 32 → HasMarksLeft c.marks (l ++ (r ++ n))
+marks_left : (s : Stored) (c : Cached) (l r n : List Slice) → IsSound s c → CountsBelow s (2 ^ 61) → byte_len l < 2 ^ 32 → byte_len r < 2 ^ 32 → byte_len n < 2 ^ 32 → HasMarksLeft c.marks (l ++ (r ++ n))
 marks_left s c l r n sound few hl hr hn = record { each = λ p. omega (arith, mark_few s c (2 ^ 61) p sound few (omega arith), page-three p l r n, page_len p l, page_len p r, page_len p n, hl, hr, hn) }
+
+pub may_replace : (h : Holding) (f from to : ℕ) (left right e : Extent) → MayPutOver f from to left right e h
+    → MayReplace f from to left right e h.store (indexing_in h.cache f)
+may_replace h f from to left right e may =
+    let c = h.cache in
+    let sound = may.sound in
+    let cuts = may.cuts in
+    record {
+      cuts = cuts;
+      stands = record {
+        indexed = record { apart = (sound.files f).apart; ranked = ranks_file h.store c f sound; ready = is_ready c.files c.orders f sound.ready; marked = have_clean c.files f c.marks sound.marked };
+        pages = sound.pages;
+        held = covers_file c.files f sound.covered;
+        readable = laid_readable _ _ (sound.files f).laid;
+      };
+      beside = covers_put c.files f (parts_put left right e) may.held;
+      few = marks_left h.store c left.parts right.parts e.parts sound may.few
+          (omega (arith, left_len (extents_in c.files f) from left cuts.before, cuts.some, may.short)) (omega (arith, cuts.fits)) (omega (arith, cuts.begins, cuts.ends, may.short));
+      places = may.places;
+    }
 
 -- What holds after.
 
@@ -196,7 +212,9 @@ module _ (old new : Holding) (f from to : ℕ) (left right e : Extent) (sound : 
       let two = some_end (put_some (unmet es from to) left) right MAX_FILE_BYTES one (λ some. (let r = right_of es to right pos cut_right some in omega (arith, r.ends, over_end es (to - 1) r.extent r.over, was))) in
       omega (arith, ap last_end puts.is, some_end _ e MAX_FILE_BYTES two (λ some. omega (arith, ends, small)))
 
-  pub sound_put : from < to → to ≤ MAX_FILE_BYTES → end_of e ≡ to → CutsLeft es from left → CutsRight es to right → IsLaid old.store pool e → IsSound new.store new.cache
-  sound_put order small ends cut_left cut_right own =
-      let pos : 0 < to = omega (arith, order) in
-      sound_changed old new f (parts_put left right e) sound there changes held_all (laid_put pos cut_left cut_right own) (short_put pos small ends order cut_left cut_right)
+  pub sound_put : MayPutOver f from to left right e old → IsSound new.store new.cache
+  sound_put may =
+      let cuts = may.cuts in
+      let pos : 0 < to = omega (arith, cuts.some) in
+      sound_changed old new f (parts_put left right e) sound there changes held_all (laid_put pos cuts.before cuts.after may.laid)
+      (short_put pos may.short cuts.ends cuts.some cuts.before cuts.after)

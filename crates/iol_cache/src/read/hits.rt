@@ -1,18 +1,11 @@
 //! Reading of files.
-ghost use Rattle.std.specs.Prelude.{◌≡◌, ◌≤◌, ◌^◌, [], length, true, OnErr, IfOk, IfErr};
-ghost use Rattle.iol_core.specs.Prelude.{WantOfRoomOrFault, is_numbered};
-ghost use Rattle.iol_hold.specs.Prelude.{Moves, Covers, SameLists, places, byte_len, FreesOnly, AllSettled, bufs_of, AllReadable};
+ghost use Rattle.std.specs.Prelude.{◌≡◌, IfOk};
 ghost use Rattle.iol_extent.specs.Prelude.{AreInOrder};
-ghost use Rattle.iol_cache.specs.Cached.{file_in};
-ghost use Rattle.iol_cache.specs.Cache.{cached_of, holding};
+ghost use Rattle.iol_cache.specs.Cache.{holding};
 ghost use Rattle.iol_cache.specs.Gaps.{gap_pages};
-ghost use Rattle.iol_cache.specs.Going.{FillsFile};
-ghost use Rattle.iol_cache.specs.Loading.{Asks, PlacesOrReleases};
-ghost use Rattle.iol_cache.specs.Ranges.{PinsRange};
-ghost use Rattle.iol_cache.specs.Reading.{CanFill, SameButRoom};
-ghost use Rattle.iol_cache.specs.Sharing.{CountsBelow};
-ghost use Rattle.iol_cache.specs.Sound.{IsSound};
-ghost use Rattle.iol_cache.specs.Weaving.{len_beside};
+ghost use Rattle.iol_cache.specs.Going.{FillsAllOf};
+ghost use Rattle.iol_cache.specs.Ranges.{MayRead, PinsRange, SharesHits};
+ghost use Rattle.iol_cache.specs.Reading.{MayFill};
 
 use crate::cache::Cache;
 use crate::files::FilePart;
@@ -21,7 +14,7 @@ use crate::read::fill::fill_range;
 use crate::read::weave::share_beside;
 use iol_agg::Agg;
 use iol_back::backing::Backing;
-use iol_core::limits::{MAX_FILE_BYTES, PAGE_BYTES};
+use iol_core::limits::PAGE_BYTES;
 use iol_core::refusals::Refusal;
 use iol_extent::spans::Span;
 use iol_hold::Store;
@@ -50,22 +43,11 @@ impl Cache {
         beside: &Agg,
         gaps: &[Span],
     ) -> Result<Agg, Refusal>
-        requires sound { IsSound store.old (cached_of self.old) }
-        requires range { CanFill (cached_of self.old) part.now.file part.now.from part.now.to gaps.now }
-        requires beside_len { byte_len beside.now ≡ len_beside part.now.from part.now.to gaps.now }
-        requires beside_held { Covers store.old (bufs_of beside.now) }
-        requires beside_readable { AllReadable store.old beside.now }
-        requires few { CountsBelow store.old (2 ^ 60) }
-        ensures filled { IfOk result (FillsFile part.now.file part.now.from part.now.to
-            (places beside.now) gaps.now (B.disk backing.old) (holding store.old self.old)
-            (holding store.new self.new)) }
-        ensures sound { IsSound store.new (cached_of self.new) }
-        ensures same { OnErr result (SameButRoom (cached_of self.old) (cached_of self.new)) }
-        ensures leaves { let p = (file_in self.old.files.items part.now.file).pool in
-            PlacesOrReleases p (gap_pages gaps.now) store.old store.new result }
-        ensures disk { Asks (length gaps.now) (B.disk backing.old) (B.disk backing.new) result }
-        ensures late { IfErr result
-            (WantOfRoomOrFault (file_in self.old.files.items part.now.file).pool part.now.file) }
+        requires { MayFill part.now.file part.now.from part.now.to gaps.now beside.now
+            (holding store.old self.old) }
+        ensures { FillsAllOf part.now.file part.now.from part.now.to gaps.now beside.now
+            (B.disk backing.old) (B.disk backing.new) (holding store.old self.old)
+            (holding store.new self.new) result }
     {
         let place = part.file.number() as usize - 1;
         let pool = self.files[place].pool;
@@ -99,18 +81,11 @@ impl Cache {
         store: &mut Store,
         part: &FilePart,
     ) -> Result<(Agg, Vec<Span>), AllocError>
-        requires sound { IsSound store.old (cached_of self.old) }
-        requires file { is_numbered self.old.files.items part.now.file ≡ true }
-        requires ordered { part.now.from ≤ part.now.to }
-        requires few { CountsBelow store.old (2 ^ 59) }
+        requires { MayRead part.now.file part.now.from part.now.to (holding store.old self.old) }
         ensures pinned { IfOk result (λ x. PinsRange part.now.file part.now.from part.now.to
             (holding store.old self.old) (holding store.new self.new) x.0 x.1.items) }
-        ensures sound { IsSound store.new (cached_of self.new) }
-        ensures same { OnErr result (SameButRoom (cached_of self.old) (cached_of self.new)) }
-        ensures none { OnErr result (Moves store.old store.new [] []) }
-        ensures frees { FreesOnly store.old store.new }
-        ensures lists { SameLists store.old store.new }
-        ensures settles { AllSettled store.old → AllSettled store.new }
+        ensures shares { SharesHits (holding store.old self.old) (holding store.new self.new)
+            result }
     {
         let place = part.file.number() as usize - 1;
         let found = self.files[place].extents.find(alloc, part.from, part.to)?;

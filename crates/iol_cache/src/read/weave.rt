@@ -1,9 +1,8 @@
 //! A range of a file, put together from what was shared before its gaps were read and from the gaps.
-ghost use Rattle.std.specs.Prelude.{◌≡◌, ◌+◌, ◌-◌, ◌<◌, ◌≤◌, ◌^◌, ◌++◌, [], All, IfOk, slice_range};
-ghost use Rattle.iol_hold.specs.Prelude.{Covers, places, byte_len, bufs_of, AllReadable};
-ghost use Rattle.iol_extent.specs.Prelude.{AreInOrder};
-ghost use Rattle.iol_cache.specs.Sharing.{AreHeld, CountsBelow, IsCoveredSpan, SharesOrReleases};
-ghost use Rattle.iol_cache.specs.Weaving.{IsCoveredBeside, len_beside, places_beside, woven};
+ghost use Rattle.std.specs.Prelude.{◌≡◌, ◌++◌, [], IfOk, slice_range};
+ghost use Rattle.iol_hold.specs.Prelude.{places};
+ghost use Rattle.iol_cache.specs.Sharing.{SharesOrReleases};
+ghost use Rattle.iol_cache.specs.Weaving.{MayAddPart, MayShareBeside, MayWeave, places_beside, woven};
 
 use crate::share::share_over;
 use iol_agg::Agg;
@@ -21,10 +20,7 @@ pub(crate) fn share_beside(
     from: u32,
     to: u32,
 ) -> Result<Agg, AllocError>
-    requires there { AreHeld store.old extents.now.extents }
-    requires in_order { AreInOrder from to gaps.now }
-    requires covered { IsCoveredBeside extents.now.extents from to gaps.now }
-    requires few { CountsBelow store.old (2 ^ 62) }
+    requires { MayShareBeside store.old extents.now.extents from to gaps.now }
     ensures places { IfOk result (λ a. places a ≡ places_beside extents.now.extents from to gaps.now) }
     ensures shared { SharesOrReleases [] (λ a. a) store.old store.new result }
 {
@@ -51,14 +47,7 @@ fn add_part(
     from: u32,
     to: u32,
 ) -> Result<Agg, AllocError>
-    requires ordered { from ≤ to }
-    requires within { to ≤ byte_len other.now }
-    requires held { Covers store.old (bufs_of other.now) }
-    requires readable { AllReadable store.old other.now }
-    requires own { Covers store.old (bufs_of so_far) }
-    requires own_readable { AllReadable store.old so_far }
-    requires few { CountsBelow store.old (2 ^ 62) }
-    requires small { byte_len so_far + (to - from) < 2 ^ 32 }
+    requires { MayAddPart store.old so_far other.now from to }
     ensures places { IfOk result (λ a.
         places a ≡ places so_far ++ slice_range (places other.now) from to) }
     ensures shared { SharesOrReleases so_far (λ a. a) store.old store.new result }
@@ -83,13 +72,7 @@ pub(crate) fn weave(
     from: u32,
     to: u32,
 ) -> Result<Agg, AllocError>
-    requires there { AreHeld store.old extents.now.extents }
-    requires in_order { AreInOrder from to gaps.now }
-    requires covered { All (IsCoveredSpan extents.now.extents) gaps.now }
-    requires beside_len { byte_len beside.now ≡ len_beside from to gaps.now }
-    requires beside_held { Covers store.old (bufs_of beside.now) }
-    requires beside_readable { AllReadable store.old beside.now }
-    requires few { CountsBelow store.old (2 ^ 61) }
+    requires { MayWeave store.old extents.now.extents from to gaps.now beside.now }
     ensures places { IfOk result (λ a.
         places a ≡ woven (places beside.now) extents.now.extents from to gaps.now) }
     ensures shared { SharesOrReleases [] (λ a. a) store.old store.new result }

@@ -1,14 +1,8 @@
 //! The bytes of a write, as an aggregate of the file's pool: its own are shared, and each run of others is copied.
-ghost use Rattle.std.specs.Prelude.{◌≡◌, ℕ, ◌==◌, ◌<◌, ◌≤◌, ◌^◌, All, not, false, length, take, drop, slice_index_or, Err, IfOk, IfErr, OnErr};
-ghost use Rattle.iol_arena.specs.Prelude.{pages_for};
-ghost use Rattle.iol_cache.specs.Composing.{Composes, ComposesRun, copied_pages};
-ghost use Rattle.iol_cache.specs.Sharing.{CountsBelow};
-ghost use Rattle.iol_core.specs.Prelude.{WantOfRoom};
+ghost use Rattle.std.specs.Prelude.{◌≡◌, ◌+◌, ◌<◌, ◌≤◌, ◌^◌, IfOk};
+ghost use Rattle.iol_cache.specs.Composing.{ComposesOrReleases, ComposesRunOrKeeps, CopiesOrKeeps, IsFirstRun, IsSliceAt, MayCompose, MayCopy, copied_pages};
 ghost use Rattle.iol_core.specs.Text as text;
-ghost use Rattle.iol_hold.specs.Prelude.{Covers, IsCountable, byte_len, free_of, IsTidy, AllReadable, bufs_of, text_of};
-ghost use Rattle.iol_hold.specs.declared.slices.Slice.{Slice};
-ghost use Rattle.iol_pool.specs.Prelude.{pool_in};
-ghost use Rattle.iol_cache.specs.Loading.{PlacesOrReleases};
+ghost use Rattle.iol_hold.specs.Prelude.{byte_len, AllReadable, text_of};
 
 use iol_agg::Agg;
 use iol_core::limits::{MAX_AGGREGATE_BYTES, PAGE_BYTES};
@@ -20,11 +14,7 @@ use std::alloc::{AllocError, Global};
 // How many slices, from the first on, are of the pool, or are of others, and how many bytes they have.
 fn run_of(slices: &[Slice], pool: PoolId, own: bool) -> (usize, u32)
     requires { byte_len slices.now < 2 ^ 32 }
-    ensures within { result.0 ≤ length slices.now }
-    ensures bytes { result.1 ≡ byte_len (take result.0 slices.now) }
-    ensures all { All (λ x. (x.hold.pool == pool) ≡ own) (take result.0 slices.now) }
-    ensures ends { (d : Slice) → result.0 < length slices.now →
-        ((slice_index_or slices.now result.0 d).hold.pool == pool) ≡ not own }
+    ensures { IsFirstRun pool own slices.now result.0 result.1 }
 {
     let mut count = 0;
     let mut bytes = 0;
@@ -71,17 +61,8 @@ fn bytes_of(alloc: Global, store: &Store, slices: &[Slice]) -> Result<Vec<u8>, A
 
 // The bytes of slices of other pools, copied into new buffers of the pool.
 fn copy_run(alloc: Global, store: &mut Store, pool: PoolId, run: &[Slice]) -> Result<Agg, Refusal>
-    requires open { (pool_in store.old.pools pool).closed ≡ false }
-    requires small { byte_len run.now ≤ MAX_AGGREGATE_BYTES }
-    requires readable { AllReadable store.old run.now }
-    requires tidy { IsTidy store.old }
-    requires others { All (λ x. (x.hold.pool == pool) ≡ false) run.now }
-    ensures composes { IfOk result
-        (Composes store.old store.new pool (pages_for (byte_len run.now)) run.now) }
-    ensures no_room { (p : ℕ) → result ≡ Err (Refusal.NoRoom p) →
-        length (free_of store.old pool) < pages_for (byte_len run.now) }
-    ensures late { IfErr result (WantOfRoom pool) }
-    ensures err { OnErr result (store.new ≡ store.old) }
+    requires { MayCopy store.old pool run.now }
+    ensures { CopiesOrKeeps store.old store.new pool run.now result }
 {
     let bytes = bytes_of(alloc, store, run)?;
     let copy = match Agg::fill(alloc, store, pool, &bytes) {
@@ -100,23 +81,9 @@ fn compose_run(
     i: usize,
     at: u32,
 ) -> Result<(usize, u32, Agg), Refusal>
-    requires there { i < length source.now }
-    requires at { at ≡ byte_len (take i source.now) }
-    requires small { byte_len source.now ≤ MAX_AGGREGATE_BYTES }
-    requires open { (pool_in store.old.pools pool).closed ≡ false }
-    requires covered { Covers store.old (bufs_of source.now) }
-    requires countable { IsCountable store.old (bufs_of source.now) }
-    requires readable { AllReadable store.old source.now }
-    requires tidy { IsTidy store.old }
-    ensures further { IfOk result (λ r. i < r.0) }
-    ensures within { IfOk result (λ r. r.0 ≤ length source.now) }
-    ensures ends { IfOk result (λ r. r.1 ≡ byte_len (take r.0 source.now)) }
-    ensures composes { IfOk result (λ r. ComposesRun store.old store.new pool
-        (drop i source.now) (drop r.0 source.now) r.2) }
-    ensures no_room { (p : ℕ) → result ≡ Err (Refusal.NoRoom p) →
-        length (free_of store.old pool) < copied_pages pool (drop i source.now) }
-    ensures late { IfErr result (WantOfRoom pool) }
-    ensures err { OnErr result (store.new ≡ store.old) }
+    requires at { IsSliceAt source.now i at }
+    requires may { MayCompose store.old (2 ^ 62 + 2 ^ 32) pool source.now }
+    ensures { ComposesRunOrKeeps store.old store.new pool source.now i result }
 {
     let slices = source.slices();
     let own = slices[i].hold.pool().number() == pool.number();
@@ -144,17 +111,8 @@ pub(crate) fn compose(
     pool: PoolId,
     source: &Agg,
 ) -> Result<Agg, Refusal>
-    requires small { byte_len source.now ≤ MAX_AGGREGATE_BYTES }
-    requires open { (pool_in store.old.pools pool).closed ≡ false }
-    requires covered { Covers store.old (bufs_of source.now) }
-    requires few { CountsBelow store.old (2 ^ 62) }
-    requires readable { AllReadable store.old source.now }
-    requires tidy { IsTidy store.old }
-    ensures composes { IfOk result
-        (Composes store.old store.new pool (copied_pages pool source.now) source.now) }
-    ensures leaves { PlacesOrReleases pool (copied_pages pool source.now) store.old store.new
-        result }
-    ensures late { IfErr result (WantOfRoom pool) }
+    requires { MayCompose store.old (2 ^ 62) pool source.now }
+    ensures { ComposesOrReleases store.old store.new pool source.now result }
 {
     let mut so_far = Agg::new(alloc);
     let mut i = 0;

@@ -1,9 +1,6 @@
 //! What a write cuts: the parts of extents on both sides of its range.
-ghost use Rattle.std.specs.Prelude.{◌≡◌, ◌<◌, ◌^◌, [], IfOk, OnErr};
-ghost use Rattle.iol_cache.specs.Cutting.{CutsLeft, CutsRight};
-ghost use Rattle.iol_cache.specs.Cached.{all_parts};
-ghost use Rattle.iol_cache.specs.Sharing.{CountsBelow};
-ghost use Rattle.iol_hold.specs.Prelude.{Covers, Shares, bufs_of};
+ghost use Rattle.std.specs.Prelude.{◌<◌};
+ghost use Rattle.iol_cache.specs.Cutting.{CutsLeft, CutsRight, MayCut, SharesPart};
 
 use iol_agg::Agg;
 use iol_extent::extents::Extents;
@@ -42,11 +39,8 @@ pub(crate) fn cut_left(
     store: &mut Store,
     from: u32,
 ) -> Result<Edge, AllocError>
-    requires held { Covers store.old (bufs_of (all_parts extents.now.extents)) }
-    requires few { CountsBelow store.old (2 ^ 62) }
-    ensures cut { IfOk result (CutsLeft extents.now.extents from) }
-    ensures shares { IfOk result (λ x. Shares store.old store.new [] (bufs_of x.parts)) }
-    ensures err { OnErr result (store.new ≡ store.old) }
+    requires { MayCut store.old extents.now.extents }
+    ensures { SharesPart (CutsLeft extents.now.extents from) store.old store.new result }
 {
     let Some((begin, agg, dirty)) = extents.over(from) else {
         return Ok(Edge {
@@ -74,12 +68,8 @@ pub(crate) fn cut_right(
     to: u32,
 ) -> Result<Edge, AllocError>
     requires some { 0 < to }
-    requires held { Covers store.old (bufs_of (all_parts extents.now.extents)) }
-    requires few { CountsBelow store.old (2 ^ 62) }
-    ensures cut { IfOk result (CutsRight extents.now.extents to) }
-    ensures begins { IfOk result (λ x. x.at ≡ to) }
-    ensures shares { IfOk result (λ x. Shares store.old store.new [] (bufs_of x.parts)) }
-    ensures err { OnErr result (store.new ≡ store.old) }
+    requires may { MayCut store.old extents.now.extents }
+    ensures { SharesPart (CutsRight extents.now.extents to) store.old store.new result }
 {
     let Some((begin, agg, dirty)) = extents.over(to - 1) else {
         return Ok(Edge {

@@ -22,20 +22,22 @@ loop-span-init c = record {
   marked = marks_nothing c.args.marks.now;
 }
 
-pub enter_one-requires-clause-begins : goal.enter_one-requires-clause-begins
-enter_one-requires-clause-begins c = (subst (AllBeginAt c.args.extents.now.extents) (drop_more c.args.spans.now c.loop-span.span-index none c.loop-span-test.true) c.loop-span.invariant.begin).0
-
-pub enter_one-requires-clause-absent : goal.enter_one-requires-clause-absent
-enter_one-requires-clause-absent c = (subst (AreAbsent c.loop-span.order c.args.file) (drop_more c.args.spans.now c.loop-span.span-index none c.loop-span-test.true) c.loop-span.invariant.absent).0
-
-pub enter_one-requires-clause-room : goal.enter_one-requires-clause-room
-enter_one-requires-clause-room c = omega (arith, c.loop-span.invariant.room, ap length (drop_more c.args.spans.now c.loop-span.span-index none c.loop-span-test.true))
-
-pub enter_one-requires-clause-within : goal.enter_one-requires-clause-within
-enter_one-requires-clause-within c = subst (λ n. AreWithin n (parts_from c.args.extents.now.extents (get_or c.args.spans.now c.loop-span.span-index none))) (sym c.loop-span.invariant.marked.long) (c.requires.within.each (get_or c.args.spans.now c.loop-span.span-index none).from)
-
-pub enter_one-requires-clause-few : goal.enter_one-requires-clause-few
-enter_one-requires-clause-few c = few_left c.args.marks.now c.loop-span.marks c.args.extents.now.extents c.args.spans.now c.loop-span.span-index none c.loop-span-test.true c.loop-span.invariant.marked c.requires.few
+pub enter_one-requires : goal.enter_one-requires
+enter_one-requires c =
+    let es = c.args.extents.now.extents in
+    let ss = c.args.spans.now in
+    let i = c.loop-span.span-index in
+    let s = get_or ss i none in
+    let v = c.loop-span.invariant in
+    let more = drop_more ss i none c.loop-span-test.true in
+    record {
+      apart = c.requires.apart;
+      begins = (subst (AllBeginAt es) more v.begin).0;
+      absent = (subst (AreAbsent c.loop-span.order c.args.file) more v.absent).0;
+      room = omega (arith, v.room, ap length more);
+      within = subst (λ n. AreWithin n (parts_from es s)) (sym v.marked.long) (c.requires.within.each s.from);
+      few = few_left c.args.marks.now c.loop-span.marks es ss i none c.loop-span-test.true v.marked c.requires.few;
+    }
 
 pub loop-span-preserved : goal.loop-span-preserved
 loop-span-preserved c =

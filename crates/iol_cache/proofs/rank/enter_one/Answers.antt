@@ -7,11 +7,8 @@ use Rattle.iol_cache.proofs.Evictions.Ranked.{entry_absent}
 use Rattle.iol_cache.proofs.Evictions.Entering.{begin_is, begin_not, begin_some}
 use Rattle.iol_cache.proofs.rank.enter_one.Goals as goal
 
-pub returns-in_default-clause-order : goal.returns-in_default-clause-order
-returns-in_default-clause-order c = absurd (begin_not c.args.extents.now.extents c.args.at c.requires.apart c.requires.begins c.in_default.ensures.extent)
-
-pub returns-in_default-clause-marks : goal.returns-in_default-clause-marks
-returns-in_default-clause-marks c = absurd (begin_not c.args.extents.now.extents c.args.at c.requires.apart c.requires.begins c.in_default.ensures.extent)
+pub returns-in_default : goal.returns-in_default
+returns-in_default c = absurd (begin_not c.args.extents.now.extents c.args.at c.requires.apart c.requires.begins c.in_default.ensures.extent)
 
 pub set_clean-requires-clause-within : goal.set_clean-requires-clause-within
 set_clean-requires-clause-within c =
@@ -31,12 +28,10 @@ enter-requires-clause-sized c =
     let is = begin_is c.args.extents.now.extents c.args.at _ c.requires.apart c.requires.begins c.in-Some.ensures.extent in
     omega (arith, c.len.ensures, ap byte_len is, begin_some c.args.extents.now.extents c.args.at c.requires.apart c.requires.begins)
 
-pub returns-clause-order : goal.returns-clause-order
-returns-clause-order c =
+pub returns : goal.returns
+returns c =
     let is = begin_is c.args.extents.now.extents c.args.at _ c.requires.apart c.requires.begins c.in-Some.ensures.extent in
-    c.enter.ensures ∙ ap (λ n. entered c.args.order.now c.args.file c.args.at n 1) (c.len.ensures ∙ ap byte_len is)
-
-pub returns-clause-marks : goal.returns-clause-marks
-returns-clause-marks c =
-    let is = c.slices.ensures ∙ begin_is c.args.extents.now.extents c.args.at _ c.requires.apart c.requires.begins c.in-Some.ensures.extent in
-    subst (Marks c.args.marks.now c.set_clean.new.self) is c.set_clean.ensures
+    record {
+      order = c.enter.ensures ∙ ap (λ n. entered c.args.order.now c.args.file c.args.at n 1) (c.len.ensures ∙ ap byte_len is);
+      marks = subst (Marks c.args.marks.now c.set_clean.new.self) (c.slices.ensures ∙ is) c.set_clean.ensures;
+    }

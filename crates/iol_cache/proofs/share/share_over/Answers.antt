@@ -97,16 +97,19 @@ release-requires c =
     let m = still (goal.at.release-requires c).In-Err in
     record { each = λ b. omega (arith, c.requires.held.each b, tally-append b (bufs_of c.args.so_far) all, m.counts.each b) }
 
-pub returns-in-Err-clause-shared : goal.returns-in-Err-clause-shared
-returns-in-Err-clause-shared c =
-    let at = goal.at.returns-in-Err-clause-shared c in
+pub returns-in-Err : goal.returns-in-Err
+returns-in-Err c =
+    let at = goal.at.returns-in-Err c in
     let m = still at.In-Err in
     let r = c.release.ensures in
     let there = subst (AllReadable c.args.store.now) (sym c.in-Err.ensures.err) (readable at.In-Some) in
-    released_then m r.moves r.lists r.frees (r.settles (readable_on c.add_range.new.self m there))
+    record { places = tt; shared = released_then m r.moves r.lists r.frees (r.settles (readable_on c.add_range.new.self m there)) }
 
-pub returns-clause-shared : goal.returns-clause-shared
-returns-clause-shared c = all_shared _ c.loop-at.invariant.shares
+pub returns : goal.returns
+returns c =
+    let v = c.loop-at.invariant in
+    let end : c.loop-at.at ≡ c.args.to = omega (arith, c.loop-at-test.false, v.within) in
+    record { places = v.places ∙ ap (λ n. places c.args.so_far ++ places_over c.args.extents.now.extents c.args.from n) end; shared = all_shared _ v.shares }
 
 pub loop-at-preserved : goal.loop-at-preserved
 loop-at-preserved c =

@@ -1,16 +1,18 @@
-use Rattle.std.proofs.Common.{◌≡◌, ℕ, ◌<◌, ◌≤◌, ◌∙◌, List, [], length, Some, IsSome, refl, sym, ap, arith, subst}
+use Rattle.std.proofs.Common.{◌≡◌, ℕ, ◌<◌, ◌≤◌, ◌∙◌, Bool, List, [], length, Some, IsSome, refl, sym, ap, arith, subst}
 use Rattle.iol_hold.specs.Moves.{Covers, Moves}
 use Rattle.iol_hold.specs.Stored.{Stored}
 use Rattle.iol_hold.specs.Texts.{bufs_of, AllReadable}
 use Rattle.iol_hold.specs.declared.slices.Slice.{Slice}
 use Rattle.iol_extent.specs.Extents.{Extent, begins_at}
-use Rattle.iol_evict.specs.Ranking.{Ranking, entry_at}
+use Rattle.iol_evict.specs.Ranking.{Ranking, entry_at, evicted_at}
+use Rattle.iol_evict.specs.Victims.{AreUsedBelow}
+use Rattle.iol_evict.specs.declared.entry.Rank.{Rank}
 use Rattle.iol_cache.specs.declared.files.CachedFile.{CachedFile}
 use Rattle.iol_cache.specs.Marks.{HaveMarks, Unmarks}
 use Rattle.iol_cache.specs.Cached.{Cached, file_in, order_in, extents_in, parts_at, parts_in}
 use Rattle.iol_cache.specs.Cache.{cached_of, holding}
 use Rattle.iol_cache.specs.Sound.{IsSound, IsLaid}
-use Rattle.iol_cache.specs.Evicting.{IsCleanAt}
+use Rattle.iol_cache.specs.Evicting.{Evicts, EvictsOne, Holding, IsCleanAt}
 use Rattle.iol_cache.proofs.Extents.Filing.{file_at_number, order_at_number, numbered_bounds, numbered_yes, additive_page, each-begins}
 use Rattle.iol_cache.proofs.Extents.Using.{clean_numbered, are_within, covers_at, sum-clean_at}
 use Rattle.iol_cache.proofs.Evictions.Ranked.{clean_ranked, entry_there}
@@ -91,8 +93,15 @@ release-requires c =
     let parts = given_is c.index_mut.result.now.extents.extents c.args.at there.extent c.remove-agg.result (begins_in fs c.args.file c.args.at c.index_mut.result.now there.extent x there.begins) c.remove-agg.ensures.given in
     subst (λ xs. Covers c.args.store.now (bufs_of xs)) (sym parts) (covers_at fs c.args.file c.args.at there.extent there.begins c.requires.sound.covered)
 
-pub returns-clause-evicts : goal.returns-clause-evicts
-returns-clause-evicts c =
+-- what is evicted leaves the cache sound, and what was passed in use
+evicted : (old new : Holding) (f at : ℕ) (was now : Rank) (r s : Ranking) → IsSound old.store old.cache → Unmarks old.cache.marks new.cache.marks (parts_at old.cache.files f at) → r ≡ order_in old.cache.orders (file_in old.cache.files f).pool → s ≡ evicted_at r f at
+    → ((u : ℕ → ℕ → Bool) → AreUsedBelow u was r.entries → AreUsedBelow u now s.entries) → Evicts f at old new → EvictsOne f at was now old new
+evicted old new f at was now r s sound unmarks order is keeps gone =
+    let after = sound_evicted old new f at sound gone unmarks in
+    record { evicts = gone; sound = after; below = passed_evicted old new f at was now r s sound after gone order is keeps }
+
+pub returns : goal.returns
+returns c =
     let fs = c.args.self.now.files.items in
     let os = c.args.self.now.orders.items in
     let there = c.requires.clean in
@@ -104,9 +113,10 @@ returns-clause-evicts c =
     let whole : c.remove-agg.result ≡ parts_at fs c.args.file c.args.at = parts ∙ sym (ap parts_in there.begins) in
     let b = ordered_pool c.args.store.now (cached_of c.args.self.now) c.args.file c.args.at c.requires.sound there in
     let pool = c.number-2.ensures ∙ ap (λ (y : CachedFile). y.pool) read in
-    let o = order (goal.at.returns-clause-evicts c).After-index_mut-2 in
+    let o = order (goal.at.returns c).After-index_mut-2 in
     let laid = each-begins (IsLaid c.args.store.now p) (extents_in fs c.args.file) c.args.at there.extent (c.requires.sound.files c.args.file).laid there.begins in
-    record {
+    let unmarks = subst (Unmarks c.args.self.now.marks c.set_clean.new.self) (c.slices.ensures ∙ whole) c.set_clean.ensures in
+    evicted (holding c.args.store.now c.args.self.now) _ c.args.file c.args.at c.args.passed.now c.evict.new.passed c.index_mut-2.result.now c.evict.new.self c.requires.sound unmarks o c.evict.ensures.evicted c.evict.ensures.below (record {
       there = there;
       files = files_are fs c.args.file c.args.at c.number.result c.index_mut.result.now c.remove-agg.new.self c.number.ensures numbered.0 x c.remove-agg.ensures.extents c.remove-agg.ensures.room;
       orders = orders_are os p c.args.file c.args.at c.number-2.result c.index_mut-2.result.now c.evict.new.self pool b.0 o c.evict.ensures.evicted;
@@ -114,18 +124,4 @@ returns-clause-evicts c =
       frees = c.release.ensures.frees;
       lists = c.release.ensures.lists;
       settles = c.release.ensures.settles (subst (AllReadable c.args.store.now) (sym parts) laid.readable);
-    }
-
-pub returns-clause-sound : goal.returns-clause-sound
-returns-clause-sound c =
-    let fs = c.args.self.now.files.items in
-    let there = c.requires.clean in
-    let x = file_at_number fs c.args.file c.number.result c.index_mut.result.now c.number.ensures (clean_numbered there) c.index_mut.ensures.value in
-    let parts = given_is c.index_mut.result.now.extents.extents c.args.at there.extent c.remove-agg.result (begins_in fs c.args.file c.args.at c.index_mut.result.now there.extent x there.begins) c.remove-agg.ensures.given in
-    let whole : c.slices.result.now ≡ parts_at fs c.args.file c.args.at = c.slices.ensures ∙ parts ∙ sym (ap parts_in there.begins) in
-    sound_evicted (holding c.args.store.now c.args.self.now) _ c.args.file c.args.at c.requires.sound (returns-clause-evicts c) (subst (Unmarks c.args.self.now.marks c.set_clean.new.self) whole c.set_clean.ensures)
-
-pub returns-clause-below : goal.returns-clause-below
-returns-clause-below c = λ passed.
-    passed_evicted (holding c.args.store.now c.args.self.now) _ c.args.file c.args.at c.args.passed.now c.evict.new.passed c.index_mut-2.result.now c.evict.new.self
-    c.requires.sound (returns-clause-sound c) (returns-clause-evicts c) (order (goal.at.returns-clause-below c).After-index_mut-2) c.evict.ensures.evicted c.evict.ensures.below passed
+    })

@@ -16,19 +16,18 @@ pub loop-pool-init : goal.loop-pool-init
 loop-pool-init c = on_none c.args.pool (Some c.args.pages) (holding c.args.store.now c.args.self.now) c.least-passed.result c.requires.sound c.least-passed.ensures
 
 pub evict-requires-clause-clean : goal.evict-requires-clause-clean
-evict-requires-clause-clean c = (next_clean c.loop-pool.invariant c.in-Some.place c.in-Some.ensures.first).1
+evict-requires-clause-clean c = (next_clean c.loop-pool.invariant c.in-Some.place c.in-Some.ensures).1
 
 pub loop-pool-smaller : goal.loop-pool-smaller
-loop-pool-smaller c = next_fewer c.loop-pool.invariant c.in-Some.place c.in-Some.ensures.first (holding c.evict.new.store c.evict.new.self) c.evict.ensures.evicts
+loop-pool-smaller c = next_fewer c.loop-pool.invariant c.in-Some.place c.in-Some.ensures (holding c.evict.new.store c.evict.new.self) c.evict.ensures.evicts
 
 pub loop-pool-preserved : goal.loop-pool-preserved
 loop-pool-preserved c =
     let few : length (free_of c.loop-pool.store c.args.pool) < c.args.pages = omega (arith, c.free_count.ensures, c.loop-pool-test.true) in
-    let e = c.evict.ensures in
-    on_more c.loop-pool.invariant c.in-Some.place c.in-Some.ensures.first (holding c.evict.new.store c.evict.new.self) c.victim.new.passed c.evict.new.passed e.evicts e.sound few e.below c.victim.ensures.below
+    on_more c.loop-pool.invariant c.in-Some.place c.in-Some.ensures c.evict.ensures few
 
-pub returns-clause-makes : goal.returns-clause-makes
-returns-clause-makes c =
+pub returns : goal.returns
+returns c =
     let s = c.args.store.now in
     let t = c.loop-pool.store in
     let v = c.loop-pool.invariant in
@@ -39,10 +38,11 @@ returns-clause-makes c =
       free = λ y. enough;
       victims = v.victims;
       gives_up = m;
+      sound = v.sound;
     }
 
-pub returns-in_default-clause-makes : goal.returns-in_default-clause-makes
-returns-in_default-clause-makes c =
+pub returns-in_default : goal.returns-in_default
+returns-in_default c =
     let s = c.args.store.now in
     let t = c.loop-pool.store in
     let v = c.loop-pool.invariant in
@@ -57,6 +57,7 @@ returns-in_default-clause-makes c =
       free = λ y. absurd (false_true y);
       victims = v.victims;
       gives_up = m;
+      sound = v.sound;
     }
   where
     false_true : ◌≡◌ {A = Bool} false true → ⊥

@@ -1,7 +1,5 @@
-use Rattle.std.proofs.Common.{◌≡◌, ◌∙◌, ℕ, ◌<◌, ◌^◌, List, length, refl, sym, ap, arith, subst}
+use Rattle.std.proofs.Common.{◌≡◌, ◌∙◌, ℕ, ◌-◌, ◌<◌, ◌^◌, List, length, set, refl, sym, ap, arith, subst}
 use Rattle.std.specs.List.{All}
-use Rattle.iol_core.specs.Meaning.{WantOfRoomOrFault}
-use Rattle.iol_pool.specs.Pools.{pool_in}
 use Rattle.iol_hold.specs.Places.{Place, places}
 use Rattle.iol_hold.specs.Stored.{Stored}
 use Rattle.iol_hold.specs.Texts.{bufs_of}
@@ -15,16 +13,18 @@ use Rattle.iol_cache.specs.declared.files.CachedFile.{CachedFile}
 use Rattle.iol_cache.specs.Marks.{HasMarksLeft, Marks, at_page}
 use Rattle.iol_cache.specs.Cached.{Cached, file_in, with_file, extents_in, order_in, with_order, all_parts}
 use Rattle.iol_cache.specs.Cache.{cached_of, holding}
-use Rattle.iol_cache.specs.Reading.{FillsRange, AllBeginAt, AllWithin, AreAbsent, all_entered, parts_of_spans}
-use Rattle.iol_cache.specs.Sharing.{AreHeld, CountsBelow}
+use Rattle.iol_cache.specs.Evicting.{Holding}
+use Rattle.iol_cache.specs.Going.{FillsFile}
+use Rattle.iol_cache.specs.Reading.{FillsRange, MayFillRange, AllBeginAt, AllWithin, AreAbsent, all_entered, parts_of_spans}
+use Rattle.iol_cache.specs.Sharing.{CountsBelow}
 use Rattle.iol_cache.specs.Sound.{IsSound}
 use Rattle.iol_cache.proofs.Extents.Filing.{numbered_bounds}
 use Rattle.iol_cache.proofs.Extents.Finding.{file_back, file_here, file_put, order_here, order_put, pool_bounds}
 use Rattle.iol_cache.proofs.Extents.Using.{covers_file}
 use Rattle.iol_cache.proofs.RangeReads.Undone.{none_gaps}
-use Rattle.iol_cache.proofs.RangeReads.Filled.{leaves_as, order_wide}
+use Rattle.iol_cache.proofs.RangeReads.Filled.{order_wide, reads_as}
 use Rattle.iol_cache.proofs.RangeReads.Putting.{begins_made, zip_begins, absent_gaps}
-use Rattle.iol_cache.proofs.RangeReads.Ranged.{file_held, made_len, range_held}
+use Rattle.iol_cache.proofs.RangeReads.Ranged.{made_len, may_fill_range, range_held}
 use Rattle.iol_cache.proofs.Evictions.Roomy.{ranks_file, same_room, sound_same}
 use Rattle.iol_cache.proofs.Extents.Stepping.{sound_to, all_within, page_len, mark_few}
 use Rattle.iol_cache.proofs.RangeReads.Completed.{sound_filled}
@@ -48,45 +48,35 @@ all_made {s} {t} {c} {f} {from} {to} {m} {beside} {gs} {disk} {xs} sound order a
     (begins_made (extents_in c.files f) from to gs filled.fills.made order none (zip_begins s filled.mid pool gs filled.fills.made filled.fills.each.each)) in
     record {
       begin = at.1;
-      within = all_within m.extents (length c.marks) (sound.pages ∙ sym filled.filled.pages.count) (range_held s filled.mid (file_in c.files f).extents m pool f from to gs disk filled.fills (covers_file c.files f sound.covered));
+      within = all_within m.extents (length c.marks) (sound.pages ∙ sym filled.fills.places.pages.count) (range_held s filled.mid (file_in c.files f).extents m pool f from to gs disk filled.fills (covers_file c.files f sound.covered));
       few = record { each = λ p. omega (arith, mark_few s c (2 ^ 60) p sound counts (omega arith), ap (λ l. at_page p (bufs_of l)) at.0, page_len p (all_parts filled.fills.made), made_len s filled.mid pool from to gs filled.fills.made order filled.fills.each.each, small) };
       absent = absent_gaps (order_in c.orders pool) f (extents_in c.files f) from to gs (ranks_file s c f sound).each none;
     }
 
-pub fill_range-requires-clause-there : goal.fill_range-requires-clause-there
-fill_range-requires-clause-there g c = subst (λ (y : CachedFile). AreHeld c.args.store.now y.extents.extents) (sym (file_here _ c.number.ensures c.index_mut.ensures.value c.requires.range.file)) (file_held c.args.part.now.file c.requires.sound)
-
-pub fill_range-requires-clause-gaps : goal.fill_range-requires-clause-gaps
-fill_range-requires-clause-gaps g c =
-    subst (λ (y : CachedFile). All (IsGapSpan y.extents.extents) c.args.gaps.now) (sym (file_here _ c.number.ensures c.index_mut.ensures.value c.requires.range.file)) c.requires.range.gaps
-
-pub fill_range-requires-clause-room : goal.fill_range-requires-clause-room
-fill_range-requires-clause-room g c = omega (arith, c.requires.range.room, ap (λ (y : CachedFile). y.extents.room) (file_here _ c.number.ensures c.index_mut.ensures.value c.requires.range.file))
-
-pub fill_range-requires-clause-open : goal.fill_range-requires-clause-open
-fill_range-requires-clause-open g c =
-    ap (λ (y : CachedFile). (pool_in c.args.store.now.pools y.pool).closed) (file_here _ c.number.ensures c.index_mut.ensures.value c.requires.range.file) ∙ (c.requires.sound.opened c.args.part.now.file c.requires.range.file).is_open
+pub fill_range-requires : goal.fill_range-requires
+fill_range-requires g c =
+    let part = c.args.part.now in
+    let fits : MayFillRange c.args.store.now (file_in c.args.self.now.files.items part.file) part.from part.to c.args.gaps.now c.args.beside.now = may_fill_range c.requires in
+    subst (λ (y : CachedFile). MayFillRange c.args.store.now y part.from part.to c.args.gaps.now c.args.beside.now) (sym (file_here _ c.number.ensures c.index_mut.ensures.value c.requires.range.file)) fits
 
 -- Refused.
 
-pub returns-in-Err-clause-same : goal.returns-in-Err-clause-same
-returns-in-Err-clause-same g c =
+pub returns-in-Err : goal.returns-in-Err
+returns-in-Err g c =
+    let s = c.args.store.now in
     let old = cached_of c.args.self.now in
     let f = c.args.part.now.file in
-    let x = c.in-Err.ensures.same ∙ file_here _ c.number.ensures c.index_mut.ensures.value c.requires.range.file in
-    same_room old _ f c.fill_range.new.cached (numbered_bounds old.files f c.requires.range.file) (file_put old.files c.fill_range.new.cached c.number.ensures c.requires.range.file) (ap (λ (y : CachedFile). y.pool) x) (ap (λ (y : CachedFile). y.extents.extents) x)
-    (λ p. refl) (λ p. refl) (λ p. refl) refl refl
-
-pub returns-in-Err-clause-sound : goal.returns-in-Err-clause-sound
-returns-in-Err-clause-sound g c =
-    let e = c.in-Err.ensures in
-    sound_same c.fill_range.new.store (cached_of c.args.self.now) _ (sound_to c.args.store.now c.fill_range.new.store (cached_of c.args.self.now) c.requires.sound e.leaves.none e.leaves.lists e.leaves.given_back.pages.count) (returns-in-Err-clause-same g c)
-
-pub returns-in-Err-clause-leaves : goal.returns-in-Err-clause-leaves
-returns-in-Err-clause-leaves g c = leaves_as (ap (λ (y : CachedFile). y.pool) (file_here _ c.number.ensures c.index_mut.ensures.value c.requires.range.file)) refl c.in-Err.ensures.leaves
-
-pub returns-in-Err-clause-late : goal.returns-in-Err-clause-late
-returns-in-Err-clause-late g c = subst (λ (y : CachedFile). WantOfRoomOrFault y.pool c.args.part.now.file c.in-Err.refusal) (file_here _ c.number.ensures c.index_mut.ensures.value c.requires.range.file) c.in-Err.ensures.late
+    let file = file_here _ c.number.ensures c.index_mut.ensures.value c.requires.range.file in
+    let e = c.in-Err.ensures.reads in
+    let x = e.same ∙ file in
+    let same = same_room old _ f c.fill_range.new.cached (numbered_bounds old.files f c.requires.range.file) (file_put old.files c.fill_range.new.cached c.number.ensures c.requires.range.file) (ap (λ (y : CachedFile). y.pool) x) (ap (λ (y : CachedFile). y.extents.extents) x)
+    (λ p. refl) (λ p. refl) (λ p. refl) refl refl in
+    let left = e.leaves in
+    record {
+      filled = tt;
+      sound = sound_same c.fill_range.new.store old _ (sound_to s c.fill_range.new.store old c.requires.sound left.none left.lists left.given_back.pages.count) same;
+      reads = reads_as (ap (λ (y : CachedFile). y.pool) file) (λ h. same) e;
+    }
 
 -- Filled.
 
@@ -107,7 +97,7 @@ made : (g : Over) (c : In-Ok g) → Made (cached_of c.args.self.now) c.args.part
 made g c = all_made c.requires.sound c.requires.range.in_order c.requires.range.gaps (fills g c) (omega (arith, c.requires.range.end)) c.requires.few
 
 pub enter_all-requires-clause-apart : goal.enter_all-requires-clause-apart
-enter_all-requires-clause-apart g c = subst (λ (y : CachedFile). IsApart 0 y.extents.extents) (sym (file_back _ _ c.number.ensures c.index-2.ensures c.requires.range.file)) c.in-Ok.ensures.apart
+enter_all-requires-clause-apart g c = subst (λ (y : CachedFile). IsApart 0 y.extents.extents) (sym (file_back _ _ c.number.ensures c.index-2.ensures c.requires.range.file)) c.in-Ok.ensures.fills.fills.apart
 
 pub enter_all-requires-clause-begin : goal.enter_all-requires-clause-begin
 enter_all-requires-clause-begin g c =
@@ -134,28 +124,33 @@ pub enter_all-requires-clause-few : goal.enter_all-requires-clause-few
 enter_all-requires-clause-few g c =
     subst (λ (y : CachedFile). HasMarksLeft c.args.self.now.marks (parts_of_spans y.extents.extents c.args.gaps.now)) (sym (file_back _ _ c.number.ensures c.index-2.ensures c.requires.range.file)) (made g (goal.at.enter_all-requires-clause-few g c).In-Ok).few
 
-pub returns-clause-filled : goal.returns-clause-filled
-returns-clause-filled g c =
+pub returns : goal.returns
+returns g c =
     let fs = c.args.self.now.files.items in
     let os = c.args.self.now.orders.items in
-    let f = c.args.part.now.file in
+    let part = c.args.part.now in
+    let gaps = c.args.gaps.now in
+    let f = part.file in
     let p = (file_in fs f).pool in
     let x = c.fill_range.new.cached in
-    let w = file_here _ c.number.ensures c.index.ensures c.requires.range.file in
-    let y = file_back _ _ c.number.ensures c.index-2.ensures c.requires.range.file in
-    let o = order_here c.args.part.now.file c.requires.sound c.requires.range.file w c.number-2.ensures c.index_mut-2.ensures.value in
-    let r = all_entered (order_in os p) f x.extents.extents c.args.gaps.now in
-    let entered : c.enter_all.new.order ≡ r = c.enter_all.ensures.order ∙ ap (λ (q : Ranking). all_entered q f c.index-2.result.now.extents.extents c.args.gaps.now) o ∙ ap (λ (z : CachedFile). all_entered (order_in os p) f z.extents.extents c.args.gaps.now) y in
-    let pool : x.pool ≡ p = c.fill_range.ensures.pool ∙ ap (λ (z : CachedFile). z.pool) (file_here _ c.number.ensures c.index_mut.ensures.value c.requires.range.file) in
-    record {
+    let there = c.requires.range.file in
+    let w = file_here _ c.number.ensures c.index.ensures there in
+    let y = file_back _ _ c.number.ensures c.index-2.ensures there in
+    let o = order_here f c.requires.sound there w c.number-2.ensures c.index_mut-2.ensures.value in
+    let r = all_entered (order_in os p) f x.extents.extents gaps in
+    let entered : c.enter_all.new.order ≡ r = c.enter_all.ensures.order ∙ ap (λ (q : Ranking). all_entered q f c.index-2.result.now.extents.extents gaps) o ∙ ap (λ (z : CachedFile). all_entered (order_in os p) f z.extents.extents gaps) y in
+    let was = ap (λ (z : CachedFile). z.pool) (file_here _ c.number.ensures c.index_mut.ensures.value there) in
+    let old = holding c.args.store.now c.args.self.now in
+    let new : Holding = record { store = c.fill_range.new.store; cache = record { files = set fs (c.number.result - 1) x; orders = set os (c.number-2.result - 1) c.enter_all.new.order; marks = c.enter_all.new.marks } } in
+    let filled : FillsFile f part.from part.to (places c.args.beside.now) gaps (g.B.Backing.disk c.args.backing.now) old new c.in-Ok.agg = record {
       extents = x.extents;
-      range = fills g (goal.at.returns-clause-filled g c).In-Ok;
-      apart = c.in-Ok.ensures.apart;
-      files = file_put fs x c.number.ensures c.requires.range.file ∙ ap (λ k. with_file fs f (let z : CachedFile = record { pool = k; extents = x.extents } in z)) pool;
-      orders = order_put c.args.part.now.file c.requires.sound c.requires.range.file c.enter_all.new.order w c.number-2.ensures ∙ ap (with_order os p) entered;
-      marks = subst (λ (z : CachedFile). Marks c.args.self.now.marks c.enter_all.new.marks (parts_of_spans z.extents.extents c.args.gaps.now)) y c.enter_all.ensures.marks;
+      range = fills g (goal.at.returns g c).In-Ok;
+      files = file_put fs x c.number.ensures there ∙ ap (λ k. with_file fs f (let z : CachedFile = record { pool = k; extents = x.extents } in z)) (c.fill_range.ensures.pool ∙ was);
+      orders = order_put f c.requires.sound there c.enter_all.new.order w c.number-2.ensures ∙ ap (with_order os p) entered;
+      marks = subst (λ (z : CachedFile). Marks c.args.self.now.marks c.enter_all.new.marks (parts_of_spans z.extents.extents gaps)) y c.enter_all.ensures.marks;
+    } in
+    record {
+      filled = filled;
+      sound = sound_filled old new f part.from part.to (places c.args.beside.now) gaps (g.B.Backing.disk c.args.backing.now) c.in-Ok.agg c.requires.sound there c.requires.range.in_order c.requires.range.gaps filled c.requires.range.end;
+      reads = reads_as was (λ h. tt) c.in-Ok.ensures.reads;
     }
-
-pub returns-clause-sound : goal.returns-clause-sound
-returns-clause-sound g c =
-    sound_filled (holding c.args.store.now c.args.self.now) _ c.args.part.now.file c.args.part.now.from c.args.part.now.to (places c.args.beside.now) c.args.gaps.now (g.B.Backing.disk c.args.backing.now) c.in-Ok.agg c.requires.sound c.requires.range.file c.requires.range.in_order c.requires.range.gaps (returns-clause-filled g c) c.requires.range.end

@@ -1,9 +1,10 @@
-use Rattle.std.proofs.Common.{◌≡◌, ◌∙◌, ◌-◌, List, true, length, set, refl, sym, ap, arith, subst}
+use Rattle.std.proofs.Common.{◌≡◌, ◌∙◌, ◌-◌, List, true, length, set, refl, sym, ap, arith, rules, subst}
 use Rattle.iol_core.specs.Numbered.{is_numbered}
 use Rattle.iol_hold.proofs.Moving.{shares_move}
+use Rattle.iol_hold.proofs.Releasing.{frees_none}
 use Rattle.iol_evict.specs.Ranking.{Ranking}
 use Rattle.iol_extent.specs.Extents.{Extent, IsApart}
-use Rattle.iol_extent.specs.Spans.{Tile}
+use Rattle.iol_extent.specs.Spans.{AreInOrder, Tile}
 use Rattle.iol_cache.specs.declared.files.CachedFile.{CachedFile}
 use Rattle.iol_cache.specs.Cached.{Cached, extents_in, file_in, order_in, with_order}
 use Rattle.iol_cache.specs.Cache.{cached_of}
@@ -41,29 +42,33 @@ module _ (c : After-index-cached) where
   here : c.index-cached.result.now ≡ file_in now.files c.args.part.now.file
   here = file_here _ c.number.ensures c.index-cached.ensures there
 
-pub returns-in_err-reserve_places-clause-sound : goal.returns-in_err-reserve_places-clause-sound
-returns-in_err-reserve_places-clause-sound c = sound_same c.args.store.now (cached_of c.args.self.now) (cached_of c.reserve_places.new.self) c.requires.sound c.reserve_places.ensures.same
+pub returns-in_err-reserve_places-clause-shares : goal.returns-in_err-reserve_places-clause-shares
+returns-in_err-reserve_places-clause-shares c =
+    let s = c.args.store.now in
+    record { sound = sound_same s (cached_of c.args.self.now) (cached_of c.reserve_places.new.self) c.requires.sound c.reserve_places.ensures.same; same = search (rules); none = search (rules); frees = frees_none s s refl refl refl; lists = refl; settles = λ all. all }
 
-pub share_beside-requires-clause-there : goal.share_beside-requires-clause-there
-share_beside-requires-clause-there c =
-    let at = (goal.at.share_beside-requires-clause-there c).After-index-cached in
-    subst (λ (y : CachedFile). AreHeld c.args.store.now y.extents.extents) (sym (here at)) (file_held c.args.part.now.file (sound at))
-
-pub share_beside-requires-clause-covered : goal.share_beside-requires-clause-covered
-share_beside-requires-clause-covered c =
-    let at = (goal.at.share_beside-requires-clause-covered c).After-index-cached in
+pub share_beside-requires : goal.share_beside-requires
+share_beside-requires c =
+    let at = (goal.at.share_beside-requires c).After-index-cached in
     let from = c.args.part.now.from in
     let to = c.args.part.now.to in
     let gaps = c.in_ok-found.found.gaps.items in
     let es = extents_in c.args.self.now.files.items c.args.part.now.file in
     let same = ap (λ (y : CachedFile). y.extents.extents) (here at) ∙ c.reserve_places.ensures.same.extents c.args.part.now.file in
     let beside = tile_beside es from to c.in_ok-found.found.hits.items gaps (tile at) in
-    subst (λ (l : List Extent). IsCoveredBeside l from to c.deref.result.now) (sym same) (subst (IsCoveredBeside es from to) (sym c.deref.ensures.value) beside)
+    let value = sym c.deref.ensures.value in
+    record {
+      there = subst (λ (y : CachedFile). AreHeld c.args.store.now y.extents.extents) (sym (here at)) (file_held c.args.part.now.file (sound at));
+      in_order = subst (AreInOrder from to) value (tile at).gaps;
+      covered = subst (λ (l : List Extent). IsCoveredBeside l from to c.deref.result.now) (sym same) (subst (IsCoveredBeside es from to) value beside);
+      few = record { each = λ b. omega (arith, c.requires.few.each b) };
+    }
 
-pub returns-in_err-pins-clause-sound : goal.returns-in_err-pins-clause-sound
-returns-in_err-pins-clause-sound c =
-    let at = (goal.at.returns-in_err-pins-clause-sound c).After-index-cached in
-    sound_to c.args.store.now c.share_beside.new.store (now at) (sound at) c.in_err-pins.ensures.shared.gone c.share_beside.ensures.shared.lists c.share_beside.ensures.shared.frees.count
+pub returns-in_err-pins-clause-shares : goal.returns-in_err-pins-clause-shares
+returns-in_err-pins-clause-shares c =
+    let at = (goal.at.returns-in_err-pins-clause-shares c).After-index-cached in
+    let w = c.share_beside.ensures.shared in
+    record { sound = sound_to c.args.store.now c.share_beside.new.store (now at) (sound at) c.in_err-pins.ensures.shared.gone w.lists w.frees.count; same = search (rules); none = search (rules); frees = w.frees; lists = w.lists; settles = w.settles }
 
 pub overflow_sub-number : goal.overflow_sub-number
 overflow_sub-number c =
@@ -136,13 +141,14 @@ returns-clause-pinned c =
       entries = hits_entries_left c.args.store.now n (next at.After-count_hits) f (length found.gaps.items) found.hits.items (sound at.After-index-cached) (there at.After-index-cached) hits (omega (arith, c.len.ensures, c.in_ok-reserve_places.ensures.entries, ap (λ p. (order_in n.orders p).room) (same.pools f)));
     }
 
-pub returns-clause-sound : goal.returns-clause-sound
-returns-clause-sound c =
-    let at = goal.at.returns-clause-sound c in
+pub returns-clause-shares : goal.returns-clause-shares
+returns-clause-shares c =
+    let at = goal.at.returns-clause-shares c in
     let n = now at.After-index-cached in
     let s = c.args.store.now in
     let t = c.share_beside.new.store in
+    let w = c.share_beside.ensures.shared in
     let shares = c.in_ok-pins.ensures.shared.shares in
     let sound-n = sound at.After-index-cached in
-    let sound-t = sound_on s t n sound-n (shares_move shares) (still_covers sound-n.covered shares) c.share_beside.ensures.shared.lists c.share_beside.ensures.shared.frees.count in
-    sound_hits t n (next at.After-count_hits) c.args.part.now.file c.in_ok-found.found.hits.items sound-t (there at.After-index-cached) (counted at.After-count_hits)
+    let sound-t = sound_on s t n sound-n (shares_move shares) (still_covers sound-n.covered shares) w.lists w.frees.count in
+    record { sound = sound_hits t n (next at.After-count_hits) c.args.part.now.file c.in_ok-found.found.hits.items sound-t (there at.After-index-cached) (counted at.After-count_hits); same = tt; none = tt; frees = w.frees; lists = w.lists; settles = w.settles }

@@ -10,7 +10,7 @@ use Rattle.iol_cache.specs.Evicting.{Holding}
 use Rattle.iol_cache.specs.Going.{Goes}
 use Rattle.iol_cache.specs.Ranges.{PinsRange}
 use Rattle.iol_cache.specs.Serving.{Range, RefusesRead}
-use Rattle.iol_cache.proofs.RangeReads.Hits.{HitsShared, can_fill, covers_hit, few_hit, fits_hit, goes_filled, goes_hit, gone_filled, late_filled, len_hit, readable_hit, reads_filled, reads_hit, refused_filled, room_hit}
+use Rattle.iol_cache.proofs.RangeReads.Hits.{HitsShared, fits_hit, goes_filled, goes_hit, gone_filled, late_filled, may_fill, readable_hit, reads_filled, reads_hit, refused_filled, room_hit}
 use Rattle.iol_cache.proofs.RangeReads.Paging.{fills_none}
 use Rattle.iol_cache.proofs.RangeReads.Served.{always_err, goes_reserved, on_memory, tells_fault}
 use Rattle.iol_cache.proofs.RangeReads.Whole.{file_backed, file_pages, file_pool, file_short, file_text, range_of}
@@ -37,14 +37,14 @@ module _ (g : Over) (c : After-pin g) where
 pub returns-in_err-pins-clause-refused : goal.returns-in_err-pins-clause-refused
 returns-in_err-pins-clause-refused g c =
     let at = (goal.at.returns-in_err-pins-clause-refused g c).After-pin in
-    let e = c.in_err-pins.ensures in
+    let e = c.in_err-pins.ensures.shares in
     on_memory c.from_residual.result (RefusesRead c.args.file c.args.at c.args.count (disk g at) (old g at) (hit g at)) c.from_residual.ensures.1
     (record { range = range g at; leaves = inl (refl, record { same = e.same; moves = e.none; frees = e.frees }) })
 
 pub returns-in_err-pins-clause-gone : goal.returns-in_err-pins-clause-gone
 returns-in_err-pins-clause-gone g c =
     let at = (goal.at.returns-in_err-pins-clause-gone g c).After-pin in
-    let e = c.in_err-pins.ensures in
+    let e = c.in_err-pins.ensures.shares in
     always_err c.from_residual.result (goes_reserved (disk g at) (old g at) (hit g at) c.requires.sound e.same e.none e.lists e.settles e.frees.count)
 
 pub returns-in_err-pins-clause-backed : goal.returns-in_err-pins-clause-backed
@@ -54,7 +54,7 @@ returns-in_err-pins-clause-backed g c =
     file_backed (disk g at) (disk g at) (old g at) (hit g at) c.from_residual.result none (returns-in_err-pins-clause-gone g c) refl (λ h. refl)
 
 pub returns-in_err-pins-clause-pages : goal.returns-in_err-pins-clause-pages
-returns-in_err-pins-clause-pages g c = fills_none (file_in c.args.self.now.files.items c.args.file).pool c.pin.ensures.frees
+returns-in_err-pins-clause-pages g c = fills_none (file_in c.args.self.now.files.items c.args.file).pool c.pin.ensures.shares.frees
 
 -- What was in memory was shared.
 abbrev shared : (g : Over) (c : In_ok-pins g) (gs : List Span) → gs ≡ c.in_ok-pins.gaps.items → HitsShared c.args.file c.args.at c.args.count (g.B.Backing.disk c.args.backing.now) (holding c.args.store.now c.args.self.now) (holding c.pin.new.store c.pin.new.self) c.in_ok-pins.pins gs
@@ -83,13 +83,13 @@ returns-then-is_empty-clause-goes g c = goes_hit (shared g (goal.at.returns-then
 pub returns-then-is_empty-clause-text : goal.returns-then-is_empty-clause-text
 returns-then-is_empty-clause-text g c =
     let at = (goal.at.returns-then-is_empty-clause-text g c).After-pin in
-    file_text c.args.file c.args.at c.args.count (disk g at) (old g at) (hit g at) (Ok c.in_ok-pins.pins) (returns-then-is_empty-clause-reads g c) c.requires.sound c.pin.ensures.sound c.requires.file
+    file_text c.args.file c.args.at c.args.count (disk g at) (old g at) (hit g at) (Ok c.in_ok-pins.pins) (returns-then-is_empty-clause-reads g c) c.requires.sound c.pin.ensures.shares.sound c.requires.file
     (returns-then-is_empty-clause-goes g c) (returns-then-is_empty-clause-readable g c)
 
 pub returns-then-is_empty-clause-pool : goal.returns-then-is_empty-clause-pool
 returns-then-is_empty-clause-pool g c =
     let at = (goal.at.returns-then-is_empty-clause-pool g c).After-pin in
-    file_pool c.args.file c.args.at c.args.count (disk g at) (old g at) (hit g at) (Ok c.in_ok-pins.pins) (returns-then-is_empty-clause-reads g c) c.requires.sound c.pin.ensures.sound (returns-then-is_empty-clause-goes g c)
+    file_pool c.args.file c.args.at c.args.count (disk g at) (old g at) (hit g at) (Ok c.in_ok-pins.pins) (returns-then-is_empty-clause-reads g c) c.requires.sound c.pin.ensures.shares.sound (returns-then-is_empty-clause-goes g c)
 
 pub returns-then-is_empty-clause-short : goal.returns-then-is_empty-clause-short
 returns-then-is_empty-clause-short g c =
@@ -113,41 +113,20 @@ returns-then-is_empty-clause-room g c =
 
 -- With gaps.
 
-pub fill_pinned-requires-clause-range : goal.fill_pinned-requires-clause-range
-fill_pinned-requires-clause-range g c = can_fill (shared g (goal.at.fill_pinned-requires-clause-range g c).In_ok-pins c.deref.result.now c.deref.ensures.value)
-
-pub fill_pinned-requires-clause-pins_len : goal.fill_pinned-requires-clause-pins_len
-fill_pinned-requires-clause-pins_len g c = len_hit (shared g (goal.at.fill_pinned-requires-clause-pins_len g c).In_ok-pins c.deref.result.now c.deref.ensures.value)
-
-pub fill_pinned-requires-clause-held : goal.fill_pinned-requires-clause-held
-fill_pinned-requires-clause-held g c = covers_hit (shared g (goal.at.fill_pinned-requires-clause-held g c).In_ok-pins c.deref.result.now c.deref.ensures.value)
-
-pub fill_pinned-requires-clause-readable : goal.fill_pinned-requires-clause-readable
-fill_pinned-requires-clause-readable g c = readable_hit (shared g (goal.at.fill_pinned-requires-clause-readable g c).In_ok-pins c.deref.result.now c.deref.ensures.value)
-
-pub fill_pinned-requires-clause-few : goal.fill_pinned-requires-clause-few
-fill_pinned-requires-clause-few g c = few_hit (shared g (goal.at.fill_pinned-requires-clause-few g c).In_ok-pins c.deref.result.now c.deref.ensures.value) c.requires.few
+pub fill_pinned-requires : goal.fill_pinned-requires
+fill_pinned-requires g c = may_fill (shared g (goal.at.fill_pinned-requires g c).In_ok-pins c.deref.result.now c.deref.ensures.value) c.pin.ensures.shares.sound c.requires.few
 
 pub returns-clause-reads : goal.returns-clause-reads
-returns-clause-reads g c =
-    let h = shared g (goal.at.returns-clause-reads g c).In_ok-pins c.deref.result.now c.deref.ensures.value in
-    reads_filled h (g.B.Backing.disk c.fill_pinned.new.backing) (holding c.fill_pinned.new.store c.fill_pinned.new.self) c.fill_pinned.result c.fill_pinned.ensures.filled c.fill_pinned.ensures.disk
+returns-clause-reads g c = reads_filled (shared g (goal.at.returns-clause-reads g c).In_ok-pins c.deref.result.now c.deref.ensures.value) c.fill_pinned.ensures
 
 pub returns-clause-refused : goal.returns-clause-refused
-returns-clause-refused g c =
-    let h = shared g (goal.at.returns-clause-refused g c).In_ok-pins c.deref.result.now c.deref.ensures.value in
-    let e = c.fill_pinned.ensures in
-    refused_filled h (g.B.Backing.disk c.fill_pinned.new.backing) (holding c.fill_pinned.new.store c.fill_pinned.new.self) c.fill_pinned.result e.undone e.disk e.room
+returns-clause-refused g c = refused_filled (shared g (goal.at.returns-clause-refused g c).In_ok-pins c.deref.result.now c.deref.ensures.value) c.fill_pinned.ensures
 
 pub returns-clause-goes : goal.returns-clause-goes
-returns-clause-goes g c =
-    let h = shared g (goal.at.returns-clause-goes g c).In_ok-pins c.deref.result.now c.deref.ensures.value in
-    goes_filled h (holding c.fill_pinned.new.store c.fill_pinned.new.self) c.fill_pinned.result c.fill_pinned.ensures.goes
+returns-clause-goes g c = goes_filled (shared g (goal.at.returns-clause-goes g c).In_ok-pins c.deref.result.now c.deref.ensures.value) c.fill_pinned.ensures
 
 pub returns-clause-gone : goal.returns-clause-gone
-returns-clause-gone g c =
-    let h = shared g (goal.at.returns-clause-gone g c).In_ok-pins c.deref.result.now c.deref.ensures.value in
-    gone_filled h (holding c.fill_pinned.new.store c.fill_pinned.new.self) c.fill_pinned.result c.fill_pinned.ensures.gone
+returns-clause-gone g c = gone_filled (shared g (goal.at.returns-clause-gone g c).In_ok-pins c.deref.result.now c.deref.ensures.value) c.fill_pinned.ensures
 
 pub returns-clause-text : goal.returns-clause-text
 returns-clause-text g c =
@@ -173,14 +152,14 @@ returns-clause-pages g c =
 pub returns-clause-backed : goal.returns-clause-backed
 returns-clause-backed g c =
     let at = (goal.at.returns-clause-backed g c).After-pin in
-    let e = c.fill_pinned.ensures.disk in
+    let e = c.fill_pinned.ensures.asks in
     file_backed (disk g at) (g.B.Backing.disk c.fill_pinned.new.backing) (old g at) (holding c.fill_pinned.new.store c.fill_pinned.new.self) c.fill_pinned.result (returns-clause-goes g c) (returns-clause-gone g c) e.honest e.slots
 
 pub returns-clause-room : goal.returns-clause-room
 returns-clause-room g c = room_hit (shared g (goal.at.returns-clause-room g c).In_ok-pins c.deref.result.now c.deref.ensures.value) c.fill_pinned.result c.fill_pinned.ensures.room
 
 pub returns-clause-fault : goal.returns-clause-fault
-returns-clause-fault g c = tells_fault (length c.deref.result.now) (g.B.Backing.disk c.args.backing.now) (g.B.Backing.disk c.fill_pinned.new.backing) c.fill_pinned.result c.fill_pinned.ensures.disk
+returns-clause-fault g c = tells_fault (length c.deref.result.now) (g.B.Backing.disk c.args.backing.now) (g.B.Backing.disk c.fill_pinned.new.backing) c.fill_pinned.result c.fill_pinned.ensures.asks
 
 pub returns-clause-late : goal.returns-clause-late
-returns-clause-late g c = late_filled (shared g (goal.at.returns-clause-late g c).In_ok-pins c.deref.result.now c.deref.ensures.value) c.fill_pinned.result c.fill_pinned.ensures.late
+returns-clause-late g c = late_filled (shared g (goal.at.returns-clause-late g c).In_ok-pins c.deref.result.now c.deref.ensures.value) c.fill_pinned.ensures

@@ -1,4 +1,4 @@
-use Rattle.std.proofs.Common.{◌≡◌, ◌∙◌, ℕ, ◌-◌, ◌<◌, ◌≤◌, List, length, set, refl, ap, arith}
+use Rattle.std.proofs.Common.{◌≡◌, ◌∙◌, ℕ, ◌-◌, ◌<◌, ◌≤◌, List, length, set, refl, ap, arith, rules}
 use Rattle.iol_extent.specs.Extents.{ExtentMap}
 use Rattle.iol_evict.specs.Ranking.{Ranking}
 use Rattle.iol_cache.specs.declared.files.CachedFile.{CachedFile}
@@ -48,24 +48,21 @@ reserved c d files orders marks =
     let o = order_at_number os (file_in fs c.args.file).pool c.number-2.result c.index_mut-2.result.now pool ob c.index_mut-2.ensures.value in
     same_reserved (cached_of c.args.self.now) d c.args.file c.number.result c.number-2.result c.index_mut.result.now c.reserve.new.self c.index_mut-2.result.now c.reserve-2.new.self c.number.ensures (numbered_bounds fs c.args.file c.requires.file) (file_here _ c.number.ensures c.index_mut.ensures.value c.requires.file) c.reserve.ensures.same pool ob o c.reserve-2.ensures.same files orders marks
 
-pub returns-in_err-reserve-2-clause-same : goal.returns-in_err-reserve-2-clause-same
-returns-in_err-reserve-2-clause-same c = reserved (goal.at.returns-in_err-reserve-2-clause-same c).After-reserve-2 _ refl refl refl
+pub returns-in_err-reserve-2 : goal.returns-in_err-reserve-2
+returns-in_err-reserve-2 c = record { same = reserved (goal.at.returns-in_err-reserve-2 c).After-reserve-2 _ refl refl refl; extents = search (rules); entries = search (rules) }
 
-pub returns-clause-same : goal.returns-clause-same
-returns-clause-same c = reserved (goal.at.returns-clause-same c).After-reserve-2 _ refl refl refl
-
-pub returns-clause-extents : goal.returns-clause-extents
-returns-clause-extents c =
+pub returns : goal.returns
+returns c =
     let fs = c.args.self.now.files.items in
-    let b = numbered_bounds fs c.args.file c.requires.file in
-    let new : CachedFile = record { pool = c.index_mut.result.now.pool; extents = c.reserve.new.self } in
-    omega (arith, c.in_ok-reserve.ensures.room, ap (λ (y : CachedFile). y.extents.room) (ap (λ l. file_in l c.args.file) (file_put fs new c.number.ensures c.requires.file) ∙ file_same fs c.args.file new b.0 b.1))
-
-pub returns-clause-entries : goal.returns-clause-entries
-returns-clause-entries c =
     let os = c.args.self.now.orders.items in
-    let p = (file_in c.args.self.now.files.items c.args.file).pool in
-    let ob = numbered_bounds c.args.self.now.orders.items (file_in c.args.self.now.files.items c.args.file).pool c.requires.order in
+    let p = (file_in fs c.args.file).pool in
+    let b = numbered_bounds fs c.args.file c.requires.file in
+    let ob = numbered_bounds os p c.requires.order in
+    let new : CachedFile = record { pool = c.index_mut.result.now.pool; extents = c.reserve.new.self } in
     let pool : c.number-2.result ≡ p = c.number-2.ensures ∙ ap (λ (y : CachedFile). y.pool) (file_here _ c.number.ensures c.index.ensures c.requires.file) in
     let q = c.reserve-2.new.self in
-    omega (arith, c.in_ok-reserve-2.ensures.room, ap (λ (y : Ranking). y.room) (ap (λ l. order_in l p) (set_orders os p c.number-2.result q pool ob.0) ∙ order_same os p q ob.0 ob.1))
+    record {
+      same = reserved (goal.at.returns c).After-reserve-2 _ refl refl refl;
+      extents = omega (arith, c.in_ok-reserve.ensures.room, ap (λ (y : CachedFile). y.extents.room) (ap (λ l. file_in l c.args.file) (file_put fs new c.number.ensures c.requires.file) ∙ file_same fs c.args.file new b.0 b.1));
+      entries = omega (arith, c.in_ok-reserve-2.ensures.room, ap (λ (y : Ranking). y.room) (ap (λ l. order_in l p) (set_orders os p c.number-2.result q pool ob.0) ∙ order_same os p q ob.0 ob.1));
+    }

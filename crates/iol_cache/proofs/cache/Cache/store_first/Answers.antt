@@ -1,23 +1,22 @@
-use Rattle.std.proofs.Common.{◌≡◌, ◌∙◌, ℕ, ◌<◌, ◌≤◌, ◌^◌, true, List, length, Some, refl, sym, ap, arith, subst}
-use Rattle.iol_back.specs.Disk.{Tears, content}
+use Rattle.std.proofs.Common.{◌≡◌, ◌∙◌, ℕ, ◌≤◌, ◌^◌, true, List, length, Ok, Err, Some, refl, sym, ap, arith, subst}
+use Rattle.iol_back.specs.Disk.{Disk, Tears, content}
+use Rattle.iol_core.specs.Numbered.{is_numbered}
 use Rattle.iol_core.specs.Text as text
 use Rattle.iol_core.specs.declared.limits.TheConstants.{MAX_FILE_BYTES}
+use Rattle.iol_core.specs.declared.refusals.Refusal.TheVariants.{Fault}
 use Rattle.iol_hold.specs.Places.{byte_len}
 use Rattle.iol_hold.specs.Stored.{Stored}
-use Rattle.iol_hold.specs.Texts.{AllReadable, text_of}
+use Rattle.iol_hold.specs.Texts.{text_of}
 use Rattle.iol_hold.specs.declared.slices.Slice.{Slice}
 use Rattle.iol_evict.specs.Ranking.{Ranking, entered, with_one_given_back}
-use Rattle.iol_extent.specs.Extents.{Extent, IsApart, begins_at, dirty_in, end_of, extent_of}
+use Rattle.iol_extent.specs.Extents.{Extent, begins_at, dirty_in, end_of, extent_of}
 use Rattle.iol_cache.specs.declared.files.CachedFile.{CachedFile}
 use Rattle.iol_cache.specs.Cache.{cached_of}
-use Rattle.iol_cache.specs.Cached.{Cached, extents_in, file_in, with_file, parts_in}
+use Rattle.iol_cache.specs.Cached.{Cached, extents_in, file_in, order_in, with_file, parts_in}
 use Rattle.iol_cache.specs.Marks.{AreWithin, HasMarksLeft}
-use Rattle.iol_cache.specs.Reading.{RanksFile}
-use Rattle.iol_cache.specs.Replacing.{Reindexes, IsReady}
 use Rattle.iol_cache.specs.Sharing.{CountsBelow}
 use Rattle.iol_cache.specs.Sound.{IsLaid, IsSound}
-use Rattle.iol_cache.specs.Syncing.{Stores}
-use Rattle.iol_extent.specs.Extents.{IsFirstDirty, cleaned_at}
+use Rattle.iol_cache.specs.Syncing.{Cleans, Fails, MaySettle, MayWriteBack, Settles, Stores, WritesFirst}
 use Rattle.iol_cache.proofs.RangeWrites.Cleaned.{dirty_some, first_dirty}
 use Rattle.iol_cache.proofs.RangeWrites.Composed.{length-bytes}
 use Rattle.iol_cache.proofs.Extents.Extending.{last_end-without_at}
@@ -33,61 +32,76 @@ use Rattle.iol_cache.proofs.cache.Cache.store_first.Given.{Over}
 use Rattle.iol_cache.proofs.cache.Cache.store_first.Goals.{In-Some}
 use Rattle.iol_cache.proofs.cache.Cache.store_first.Goals as goal
 
--- what holds of the first dirty extent of a file
-record IsFirst (s : Stored) (c : Cached) (f : ℕ) (x : Extent) : Type 0 where
-  pub some : 0 < byte_len x.parts
-  pub laid : IsLaid s (file_in c.files f).pool x
-  pub short : end_of x ≤ MAX_FILE_BYTES
-  pub within : AreWithin (length c.marks) (parts_in (begins_at (extents_in c.files f) x.at))
-  pub left : CountsBelow s (2 ^ 61) → HasMarksLeft c.marks (parts_in (begins_at (extents_in c.files f) x.at))
+-- the first dirty extent of a file
+module _ (s : Stored) (c : Cached) (f : ℕ) (x : Extent) (sound : IsSound s c) (is : dirty_in (extents_in c.files f) ≡ Some x) where
+  begins : begins_at (extents_in c.files f) x.at ≡ Some x
+  begins = (first_dirty 0 (extents_in c.files f) x (sound.files f).apart is).0
 
-is_first : (s : Stored) (c : Cached) (f : ℕ) (x : Extent) → IsSound s c → dirty_in (extents_in c.files f) ≡ Some x → IsFirst s c f x
-is_first s c f x sound here =
-    let es = extents_in c.files f in
-    let begins = (first_dirty 0 es x (sound.files f).apart here).0 in
-    let short : end_of x ≤ MAX_FILE_BYTES = omega (arith, last_end-without_at es x.at x begins, (sound.files f).short) in
-    record {
-      some = dirty_some 0 es x (sound.files f).apart here;
-      laid = each-begins (IsLaid s (file_in c.files f).pool) es x.at x (sound.files f).laid begins;
-      short = short;
-      within = subst (AreWithin (length c.marks)) (sym (ap parts_in begins)) (are_within x.parts (length c.marks) sound.pages (covers_at c.files f x.at x begins sound.covered));
-      left = λ few. subst (HasMarksLeft c.marks) (sym (ap parts_in begins)) (record { each = λ q. omega (arith, mark_few s c (2 ^ 61) q sound few (omega arith), page_len q x.parts, short) });
-    }
+  short : end_of x ≤ MAX_FILE_BYTES
+  short = omega (arith, last_end-without_at (extents_in c.files f) x.at x begins, (sound.files f).short)
+
+  may_write : MayWriteBack s x.at x.parts
+  may_write = record {
+    some = dirty_some 0 (extents_in c.files f) x (sound.files f).apart is;
+    fits = omega (arith, short);
+    readable = (each-begins (IsLaid s (file_in c.files f).pool) (extents_in c.files f) x.at x (sound.files f).laid begins).readable;
+  }
+
+  may_settle : CountsBelow s (2 ^ 61) → MaySettle f x.at (extents_in c.files f) (order_in c.orders (file_in c.files f).pool) c.marks
+  may_settle few = record {
+    apart = (sound.files f).apart;
+    dirty = record { extent = x; is = is; begins = refl };
+    ranked = ranks_file s c f sound;
+    ready = is_ready c.files c.orders f sound.ready;
+    within = subst (AreWithin (length c.marks)) (sym (ap parts_in begins)) (are_within x.parts (length c.marks) sound.pages (covers_at c.files f x.at x begins sound.covered));
+    few = subst (HasMarksLeft c.marks) (sym (ap parts_in begins)) (record { each = λ q. omega (arith, mark_few s c (2 ^ 61) q sound few (omega arith), page_len q x.parts, short) });
+  }
+
+-- What was written back, or was not, keeps the bytes of each file, and the cache sound.
+
+cleaned : (s : Stored) (f : ℕ) (old new : Cached) (d e : Disk) → IsSound s old → is_numbered old.files f ≡ true → Cleans s f old new d e → WritesFirst s f old new d e (Ok true)
+cleaned s f old new d e sound there m = record {
+  stores = m;
+  keeps = record { bytes = λ h. record { each = clean_bytes s f old new d e sound there m h }; stored = clean_mirrors s f old new d e sound there m };
+  sound = cleaned_sound s f old new d e sound there m;
+}
+
+failed : (s : Stored) (f : ℕ) (old : Cached) (d e : Disk) → IsSound s old → Fails f old old d e → WritesFirst s f old old d e (Err (Fault f))
+failed s f old d e sound m = record {
+  stores = (m, refl);
+  keeps = record { bytes = fail_bytes s f old old d e sound m; stored = fail_stored s f old old d e sound m };
+  sound = sound;
+}
 
 here : (g : Over) (c : In-Some g) → dirty_in (extents_in c.args.self.now.files.items c.args.file) ≡ Some (extent_of c.in-Some.at c.in-Some.agg.now true)
 here g c = ap (λ (z : CachedFile). dirty_in z.extents.extents) (sym (file_here _ c.number.ensures c.index-2.ensures c.requires.file)) ∙ c.in-Some.ensures
 
-first : (g : Over) (c : In-Some g) → IsFirst c.args.store.now (cached_of c.args.self.now) c.args.file (extent_of c.in-Some.at c.in-Some.agg.now true)
-first g c = is_first c.args.store.now (cached_of c.args.self.now) c.args.file _ c.requires.sound (here g c)
+pub returns-in_default : goal.returns-in_default
+returns-in_default g c = record {
+  stores = record { none = ap (λ (z : CachedFile). dirty_in z.extents.extents) (sym (file_here _ c.number.ensures c.index-2.ensures c.requires.file)) ∙ c.in_default.ensures; same = refl; disk = refl };
+  keeps = record { bytes = λ h. record { each = λ f. refl }; stored = λ h m. m };
+  sound = c.requires.sound;
+}
 
-pub returns-in_default-clause-stores : goal.returns-in_default-clause-stores
-returns-in_default-clause-stores g c = record { none = ap (λ (z : CachedFile). dirty_in z.extents.extents) (sym (file_here _ c.number.ensures c.index-2.ensures c.requires.file)) ∙ c.in_default.ensures; same = refl; disk = refl }
+pub write_back-requires : goal.write_back-requires
+write_back-requires g c =
+    let first = here g (goal.at.write_back-requires g c).In-Some in
+    subst (MayWriteBack c.args.store.now c.in-Some.at) (sym c.slices.ensures) (may_write c.args.store.now (cached_of c.args.self.now) c.args.file _ c.requires.sound first)
 
-pub write_back-requires-clause-some : goal.write_back-requires-clause-some
-write_back-requires-clause-some g c = omega (arith, ap byte_len c.slices.ensures, (first g (goal.at.write_back-requires-clause-some g c).In-Some).some)
-
-pub write_back-requires-clause-fits : goal.write_back-requires-clause-fits
-write_back-requires-clause-fits g c = omega (arith, ap byte_len c.slices.ensures, (first g (goal.at.write_back-requires-clause-fits g c).In-Some).short)
-
-pub write_back-requires-clause-readable : goal.write_back-requires-clause-readable
-write_back-requires-clause-readable g c = subst (AllReadable c.args.store.now) (sym c.slices.ensures) (first g (goal.at.write_back-requires-clause-readable g c).In-Some).laid.readable
-
-pub returns-in-Err-clause-stores : goal.returns-in-Err-clause-stores
-returns-in-Err-clause-stores g c =
+pub returns-in-Err : goal.returns-in-Err
+returns-in-Err g c =
     let d = g.B.Backing.disk c.args.backing.now in
     let e = g.B.Backing.disk c.write_back.new.backing in
-    let w = c.in-Err.ensures in (
-      record {
-        extent = extent_of c.in-Some.at c.in-Some.agg.now true;
-        first = here g (goal.at.returns-in-Err-clause-stores g c).In-Some;
-        same = refl;
-        honest = w.honest;
-        counts = w.counts;
-        others = w.others;
-        torn = λ h. subst (λ n. Tears c.in-Some.at n (content d.slots c.args.file) (content e.slots c.args.file)) (length-bytes c.args.store.now c.slices.result.now ∙ ap byte_len c.slices.ensures) (w.torn h);
-      },
-      refl,
-    )
+    let w = c.in-Err.ensures in
+    failed c.args.store.now c.args.file (cached_of c.args.self.now) d e c.requires.sound (record {
+      extent = extent_of c.in-Some.at c.in-Some.agg.now true;
+      first = here g (goal.at.returns-in-Err g c).In-Some;
+      same = refl;
+      honest = w.honest;
+      counts = w.counts;
+      others = w.others;
+      torn = λ h. subst (λ n. Tears c.in-Some.at n (content d.slots c.args.file) (content e.slots c.args.file)) (length-bytes c.args.store.now c.slices.result.now ∙ ap byte_len c.slices.ensures) (w.torn h);
+    })
 
 pub overflow_sub-number : goal.overflow_sub-number
 overflow_sub-number g c = (let b = pool_bounds c.args.file c.requires.sound c.requires.file in omega (arith, b.0, c.number-2.ensures, ap (λ (y : CachedFile). y.pool) (file_here _ c.number.ensures c.index.ensures c.requires.file)))
@@ -97,35 +111,19 @@ index_mut-requires g c =
     let b = pool_bounds c.args.file c.requires.sound c.requires.file in
     omega (arith, b.0, b.1, c.number-2.ensures, ap (λ (y : CachedFile). y.pool) (file_here _ c.number.ensures c.index.ensures c.requires.file), c.args.self.now.orders.ok.0)
 
-pub settle-requires-clause-apart : goal.settle-requires-clause-apart
-settle-requires-clause-apart g c = subst (λ (y : CachedFile). IsApart 0 y.extents.extents) (sym (file_here _ c.number.ensures c.index_mut-2.ensures.value c.requires.file)) (c.requires.sound.files c.args.file).apart
+pub settle-requires : goal.settle-requires
+settle-requires g c =
+    let f = c.args.file in
+    let old = cached_of c.args.self.now in
+    let first = here g (goal.at.settle-requires g c).In-Some in
+    let z = file_here _ c.number.ensures c.index_mut-2.ensures.value c.requires.file in
+    let o = order_here f c.requires.sound c.requires.file (file_here _ c.number.ensures c.index.ensures c.requires.file) c.number-2.ensures c.index_mut.ensures.value in
+    subst (λ (y : CachedFile). MaySettle f c.in-Some.at y.extents.extents c.index_mut.result.now old.marks) (sym z) (subst (λ (q : Ranking). MaySettle f c.in-Some.at (extents_in old.files f) q old.marks) (sym o) (may_settle c.args.store.now old f _ c.requires.sound first c.requires.few))
 
-pub settle-requires-clause-dirty : goal.settle-requires-clause-dirty
-settle-requires-clause-dirty g c =
-    subst (λ (y : CachedFile). IsFirstDirty y.extents.extents c.in-Some.at) (sym (file_here _ c.number.ensures c.index_mut-2.ensures.value c.requires.file))
-    (record { extent = extent_of c.in-Some.at c.in-Some.agg.now true; is = here g (goal.at.settle-requires-clause-dirty g c).In-Some; begins = refl })
-
-pub settle-requires-clause-ranked : goal.settle-requires-clause-ranked
-settle-requires-clause-ranked g c =
-    let q = ranks_file c.args.store.now (cached_of c.args.self.now) c.args.file c.requires.sound in
-    subst (λ (y : CachedFile). RanksFile c.index_mut.result.now c.args.file y.extents.extents) (sym (file_here _ c.number.ensures c.index_mut-2.ensures.value c.requires.file)) (subst (λ (o : Ranking). RanksFile o c.args.file (extents_in c.args.self.now.files.items c.args.file)) (sym (order_here c.args.file c.requires.sound c.requires.file (file_here _ c.number.ensures c.index.ensures c.requires.file) c.number-2.ensures c.index_mut.ensures.value)) q)
-
-pub settle-requires-clause-ready : goal.settle-requires-clause-ready
-settle-requires-clause-ready g c =
-    let q = is_ready c.args.self.now.files.items c.args.self.now.orders.items c.args.file c.requires.sound.ready in
-    subst (λ (y : CachedFile). IsReady c.index_mut.result.now y.extents.extents) (sym (file_here _ c.number.ensures c.index_mut-2.ensures.value c.requires.file)) (subst (λ (o : Ranking). IsReady o (extents_in c.args.self.now.files.items c.args.file)) (sym (order_here c.args.file c.requires.sound c.requires.file (file_here _ c.number.ensures c.index.ensures c.requires.file) c.number-2.ensures c.index_mut.ensures.value)) q)
-
-pub settle-requires-clause-within : goal.settle-requires-clause-within
-settle-requires-clause-within g c =
-    subst (λ (y : CachedFile). AreWithin (length c.args.self.now.marks) (parts_in (begins_at y.extents.extents c.in-Some.at))) (sym (file_here _ c.number.ensures c.index_mut-2.ensures.value c.requires.file)) (first g (goal.at.settle-requires-clause-within g c).In-Some).within
-
-pub settle-requires-clause-few : goal.settle-requires-clause-few
-settle-requires-clause-few g c =
-    subst (λ (y : CachedFile). HasMarksLeft c.args.self.now.marks (parts_in (begins_at y.extents.extents c.in-Some.at))) (sym (file_here _ c.number.ensures c.index_mut-2.ensures.value c.requires.file)) ((first g (goal.at.settle-requires-clause-few g c).In-Some).left c.requires.few)
-
-pub returns-clause-stores : goal.returns-clause-stores
-returns-clause-stores g c =
+pub returns : goal.returns
+returns g c =
     let fs = c.args.self.now.files.items in
+    let marks = c.args.self.now.marks in
     let f = c.args.file in
     let at = c.in-Some.at in
     let z = file_here _ c.number.ensures c.index_mut-2.ensures.value c.requires.file in
@@ -134,51 +132,26 @@ returns-clause-stores g c =
     let x = extent_of at c.in-Some.agg.now true in
     let m = c.settle.new.extents in
     let r = c.settle.new.order in
-    let s = c.settle.ensures in
+    let kept = order_in c.args.self.now.orders.items (file_in fs f).pool in
+    let s : Settles f at (extents_in fs f) m.extents kept r marks c.settle.new.marks =
+    subst (λ (q : Ranking). Settles f at (extents_in fs f) m.extents q r marks c.settle.new.marks) o (subst (λ (y : CachedFile). Settles f at y.extents.extents m.extents c.index_mut.result.now r marks c.settle.new.marks) z c.settle.ensures) in
     let b = c.in_default-write_back.ensures in
     let d = g.B.Backing.disk c.args.backing.now in
     let e = g.B.Backing.disk c.write_back.new.backing in
-    let first = here g (goal.at.returns-clause-stores g c).In-Some in
-    record {
+    let first = here g (goal.at.returns g c).In-Some in
+    cleaned c.args.store.now f (cached_of c.args.self.now) _ d e c.requires.sound c.requires.file (record {
       extent = x;
       first = first;
       extents = m;
       order = r;
-      is = s.extents ∙ ap (λ (q : CachedFile). cleaned_at q.extents.extents at) z;
+      is = s.extents;
       apart = s.apart;
       files = file_put fs _ c.number.ensures c.requires.file ∙ ap (λ k. with_file fs f (let q : CachedFile = record { pool = k; extents = m } in q)) (ap (λ (q : CachedFile). q.pool) z);
       orders = order_put f c.requires.sound c.requires.file r w c.number-2.ensures;
-      ranks = some_is (λ q. r ≡ entered (with_one_given_back c.index_mut.result.now) f q.at (byte_len q.parts) 1) (dirty_in c.index_mut-2.result.now.extents.extents) x (ap (λ (q : CachedFile). dirty_in q.extents.extents) z ∙ first) s.order
-          ∙ ap (λ q. entered (with_one_given_back q) f at (byte_len x.parts) 1) o;
-      follows = subst (λ (q : Ranking). Reindexes f (extents_in fs f) m.extents q r c.args.self.now.marks c.settle.new.marks) o (subst (λ (q : CachedFile). Reindexes f q.extents.extents m.extents c.index_mut.result.now r c.args.self.now.marks c.settle.new.marks) z s.follows);
+      ranks = some_is (λ q. r ≡ entered (with_one_given_back kept) f q.at (byte_len q.parts) 1) (dirty_in (extents_in fs f)) x first s.order;
+      follows = s.follows;
       honest = b.honest;
       counts = b.counts;
       others = b.others;
       stored = λ h. subst (λ (l : List Slice). Stores at (text.bytes_of (text_of c.args.store.now l)) (content d.slots f) (content e.slots f)) c.slices.ensures (b.stored h);
-    }
-
-pub returns-clause-sound : goal.returns-clause-sound
-returns-clause-sound g c =
-    cleaned_sound c.args.store.now c.args.file (cached_of c.args.self.now) _ (g.B.Backing.disk c.args.backing.now) (g.B.Backing.disk c.write_back.new.backing) c.requires.sound c.requires.file (returns-clause-stores g c)
-
-pub returns-in-Err-clause-keeps : goal.returns-in-Err-clause-keeps
-returns-in-Err-clause-keeps g c =
-    let s = c.args.store.now in
-    let old = cached_of c.args.self.now in
-    let d = g.B.Backing.disk c.args.backing.now in
-    let e = g.B.Backing.disk c.write_back.new.backing in
-    let failed = (returns-in-Err-clause-stores g c).0 in
-    record { bytes = fail_bytes s c.args.file old old d e c.requires.sound failed; stored = fail_stored s c.args.file old old d e c.requires.sound failed }
-
-pub returns-clause-keeps : goal.returns-clause-keeps
-returns-clause-keeps g c =
-    let s = c.args.store.now in
-    let f = c.args.file in
-    let old = cached_of c.args.self.now in
-    let d = g.B.Backing.disk c.args.backing.now in
-    let e = g.B.Backing.disk c.write_back.new.backing in
-    let cleaned = returns-clause-stores g c in
-    record {
-      bytes = λ h. record { each = clean_bytes s f old _ d e c.requires.sound c.requires.file cleaned h };
-      stored = clean_mirrors s f old _ d e c.requires.sound c.requires.file cleaned;
-    }
+    })

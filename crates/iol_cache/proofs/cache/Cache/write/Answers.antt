@@ -1,4 +1,4 @@
-use Rattle.std.proofs.Common.{inr, ◌≡◌, ℕ, ◌<◌, ◌≤◌, List, [], ◌∷◌, length, refl, sym, arith, subst}
+use Rattle.std.proofs.Common.{inr, ◌≡◌, ℕ, ◌<◌, ◌≤◌, List, [], ◌∷◌, length, refl, rules, sym, arith, subst}
 use mathlib.Core.Bool.{not}
 use Rattle.std.proofs.lemmas.Bool.Decides.{nat_tests}
 use Rattle.std.proofs.lemmas.List.Filters.{length-filter_both}
@@ -16,7 +16,7 @@ use Rattle.iol_cache.specs.Pinned.{is_pinned, pinned_beside}
 use Rattle.iol_cache.proofs.RangeWrites.Composed.{pages_for-zero}
 use Rattle.iol_cache.proofs.RangeReads.Paging.{unwritten_pages, write_pages}
 use Rattle.iol_cache.proofs.RangeReads.Served.{places_none}
-use Rattle.iol_cache.proofs.RangeWrites.Placed.{KeepsAll, Wrote, all_wrote, goes_all, goes_refused, goes_room, room_held, room_readable}
+use Rattle.iol_cache.proofs.RangeWrites.Placed.{KeepsAll, Wrote, all_wrote, goes_all, goes_refused, goes_room, room_held, room_numbered, room_readable}
 use Rattle.iol_cache.proofs.cache.Cache.write.Goals as goal
 
 pages_none : (p : ℕ) (xs : List Slice) → byte_len xs ≡ 0 → copied_pages p xs ≡ 0
@@ -55,21 +55,26 @@ returns-in-Err-clause-evicts c =
 pub returns-in-Err-clause-pages : goal.returns-in-Err-clause-pages
 returns-in-Err-clause-pages c = unwritten_pages _ _ _ _ (returns-in-Err-clause-evicts c)
 
-pub overwrite-requires-clause-held : goal.overwrite-requires-clause-held
-overwrite-requires-clause-held c = room_held _ _ c.args.source.now _ _ c.make_place.ensures.room c.requires.held
-
-pub overwrite-requires-clause-readable : goal.overwrite-requires-clause-readable
-overwrite-requires-clause-readable c = room_readable _ _ c.args.source.now _ _ c.make_place.ensures.room c.requires.held c.requires.readable
-
-pub overwrite-requires-clause-few : goal.overwrite-requires-clause-few
-overwrite-requires-clause-few c = record { each = λ b. omega (arith, c.requires.few.each b, c.make_place.ensures.room.gives_up.fewer b) }
+pub overwrite-requires : goal.overwrite-requires
+overwrite-requires c =
+    let m = c.make_place.ensures in
+    record {
+      sound = m.sound;
+      file = room_numbered _ _ c.args.file _ _ m.room c.requires.file;
+      some = grind (arith, nat_tests, c.if-is_empty.ensures, c.is_empty.ensures);
+      short = c.requires.short;
+      held = room_held _ _ c.args.source.now _ _ m.room c.requires.held;
+      readable = room_readable _ _ c.args.source.now _ _ m.room c.requires.held c.requires.readable;
+      few = record { each = λ b. omega (arith, c.requires.few.each b, m.room.gives_up.fewer b) };
+      places = search (rules);
+    }
 
 -- Carried out.
 
 done : (c : goal.In-Ok) → Wrote c.args.file c.args.at c.args.source.now (holding c.args.store.now c.args.self.now) (holding c.overwrite.new.store c.overwrite.new.self)
 done c =
     let some : 0 < byte_len c.args.source.now = grind (arith, nat_tests, c.if-is_empty.ensures, c.is_empty.ensures) in
-    all_wrote _ _ _ c.args.file c.args.at _ _ c.args.source.now c.make_place.ensures.room c.make_place.ensures.sound c.requires.file c.overwrite.ensures.sound some c.in-Ok.ensures.overwrites c.requires.held c.requires.readable
+    all_wrote _ _ _ c.args.file c.args.at _ _ c.args.source.now c.make_place.ensures.room c.make_place.ensures.sound c.requires.file c.overwrite.ensures.over.sound some c.in-Ok.ensures.over.overwrites c.requires.held c.requires.readable
 
 pub returns-in-Ok-clause-written : goal.returns-in-Ok-clause-written
 returns-in-Ok-clause-written c = (done c).written
@@ -89,7 +94,7 @@ returns-in-Ok-clause-moves c = (done c).moves
 pub returns-in-Ok-clause-pages : goal.returns-in-Ok-clause-pages
 returns-in-Ok-clause-pages c =
     let mid = holding c.make_place.new.store c.make_place.new.self in
-    write_pages c.args.file c.args.at c.args.source.now _ _ (record { mid = mid; room = c.make_place.ensures.room; over = c.in-Ok.ensures.overwrites })
+    write_pages c.args.file c.args.at c.args.source.now _ _ (record { mid = mid; room = c.make_place.ensures.room; over = c.in-Ok.ensures.over.overwrites })
 
 -- Refused after room was made: the store went on, and the cache did not.
 
@@ -97,8 +102,8 @@ stayed : (c : goal.In-Err-overwrite) → KeepsAll c.args.file (holding c.args.st
 stayed c =
     let old = holding c.args.store.now c.args.self.now in
     let t = c.overwrite.new.store in
-    let e = c.in-Err-overwrite.ensures in
-    subst (λ (x : Cache). KeepsAll c.args.file old (holding t x)) (sym e.same) (goes_all c.args.file old _ (λ d. goes_refused d _ _ _ _ t c.make_place.ensures.room c.make_place.ensures.sound e.leaves.none e.leaves.lists e.leaves.settles e.leaves.given_back.pages.count))
+    let e = c.in-Err-overwrite.ensures.over.leaves in
+    subst (λ (x : Cache). KeepsAll c.args.file old (holding t x)) (sym c.in-Err-overwrite.ensures.same) (goes_all c.args.file old _ (λ d. goes_refused d _ _ _ _ t c.make_place.ensures.room c.make_place.ensures.sound e.none e.lists e.settles e.given_back.pages.count))
 
 pub returns-in-Err-overwrite-clause-others : goal.returns-in-Err-overwrite-clause-others
 returns-in-Err-overwrite-clause-others c = (stayed c).others

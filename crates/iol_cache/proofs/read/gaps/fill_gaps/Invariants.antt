@@ -1,18 +1,14 @@
 use Rattle.std.proofs.Common.{◌≡◌, ◌<◌, ◌≤◌, true, All, length, take, drop}
 use Rattle.iol_back.specs.Disk.{last_failure}
-use Rattle.iol_extent.specs.Extents.{IsApart}
 use Rattle.iol_extent.specs.Spans.{IsGapSpan}
 use Rattle.iol_hold.specs.Stored.{AllSettled}
-use Rattle.iol_cache.specs.Gaps.{FillsGaps, gap_pages}
-use Rattle.iol_cache.specs.Loading.{PlacesPages}
+use Rattle.iol_cache.specs.Gaps.{FillsGaps}
 use Rattle.iol_cache.proofs.read.gaps.fill_gaps.Given as goal
 
 abbrev pub invariant-loop-i : goal.invariant-loop-i
 invariant-loop-i g l = record {
   within : l.i ≤ length l.gaps;
   fills : FillsGaps l.fn.store l.store l.fn.extents l.extents l.pool (take l.i l.gaps) (g.B.Backing.disk l.fn.backing) l.file;
-  places : PlacesPages l.fn.store l.store l.pool (gap_pages (take l.i l.gaps));
-  apart : IsApart 0 l.extents.extents;
   left : All (IsGapSpan l.extents.extents) (drop l.i l.gaps);
   settles : AllSettled l.fn.store → AllSettled l.store;
   honest : (g.B.Backing.disk l.backing).honest ≡ (g.B.Backing.disk l.fn.backing).honest;

@@ -1,15 +1,15 @@
-use Rattle.std.proofs.Common.{◌≡◌, ◌∙◌, ap, sym, subst, length, List, [], ℕ, arith, All}
+use Rattle.std.proofs.Common.{◌≡◌, ◌∙◌, ◌-◌, ap, sym, subst, length, List, ℕ, arith, All}
 use Rattle.iol_core.specs.Text as text
+use Rattle.iol_core.specs.declared.numbers.BufId.{BufId}
 use Rattle.iol_arena.specs.State.{pages_for}
 use Rattle.iol_arena.specs.Buffers.{bytes_in}
 use Rattle.iol_hold.specs.Stored.{Stored, Buffer, held_bufs}
 use Rattle.iol_hold.specs.Texts.{text_of}
 use Rattle.iol_hold.specs.declared.slices.Slice.{Slice}
-use Rattle.iol_hold.specs.Moves.{Moves}
 use Rattle.iol_hold.proofs.Reading.{length-text_of}
 use Rattle.iol_agg.specs.Parts.{whole_texts}
 use Rattle.iol_agg.proofs.Wholes.{whole_texts-one}
-use Rattle.iol_arena.specs.Adds.{IsNew}
+use Rattle.iol_cache.specs.Loading.{PlacesBuffers}
 use Rattle.iol_cache.proofs.RangeReads.Pooled.{length-labelled, pooled_text}
 use Rattle.iol_cache.proofs.read.gaps.gap_agg.Goals as goal
 
@@ -18,36 +18,28 @@ texts t xs hs p e one = e ∙ whole_texts-one t p hs one
 
 pub of_holds-requires-clause-room : goal.of_holds-requires-clause-room
 unfolding pages_for
-of_holds-requires-clause-room g c = omega (arith, c.in-Ok-load.ensures.few, c.div_ceil.ensures, c.in-Ok.ensures.exact)
+of_holds-requires-clause-room g c = omega (arith, c.in-Ok-load.ensures.loads.few, c.div_ceil.ensures, c.in-Ok.ensures.exact)
 
 pub of_holds-requires-clause-small : goal.of_holds-requires-clause-small
 of_holds-requires-clause-small g c =
+    let l = c.in-Ok-load.ensures.loads in
     let t = c.load.new.store in
     let bytes = bytes_in t.arena (held_bufs c.in-Ok-load.holds) in
-    omega (arith, ap length (whole_texts-one t c.args.pool c.in-Ok-load.holds c.in-Ok-load.ensures.pool), length-labelled c.args.pool bytes, c.in-Ok-load.ensures.len, c.requires.some)
+    omega (arith, ap length (whole_texts-one t c.args.pool c.in-Ok-load.holds l.pooled), length-labelled c.args.pool bytes, l.len, c.requires.some, c.requires.fits)
 
 pub returns-clause-loads : goal.returns-clause-loads
 returns-clause-loads g c =
-    let s = c.args.store.now in
+    let l = c.in-Ok-load.ensures.loads in
     let t = c.load.new.store in
+    let p = c.args.pool in
     let xs = c.of_holds.result in
     let bytes = bytes_in t.arena (held_bufs c.in-Ok-load.holds) in
-    let e = texts t xs c.in-Ok-load.holds c.args.pool c.of_holds.ensures.text c.in-Ok-load.ensures.pool in
-    let bufs = sym c.of_holds.ensures.bufs in
+    let e = texts t xs c.in-Ok-load.holds p c.of_holds.ensures.text l.pooled in
     record {
-      moves = subst (λ bs. Moves s t [] bs) bufs c.in-Ok-load.ensures.moves;
-      long = sym (length-text_of t xs) ∙ ap length e ∙ length-labelled c.args.pool bytes ∙ c.in-Ok-load.ensures.len;
+      placed = subst (λ (bs : List BufId). PlacesBuffers c.args.store.now t p (c.args.gap.to - c.args.gap.from) bs) (sym c.of_holds.ensures.bufs) l.placed;
+      long = sym (length-text_of t xs) ∙ ap length e ∙ length-labelled p bytes ∙ l.len;
       readable = c.of_holds.ensures.readable;
-      pooled = record { each = pooled_text t c.args.pool xs bytes e };
-      fresh = record { each = subst (All (IsNew s.arena t.arena)) bufs c.in-Ok-load.ensures.made };
-      grows = c.in-Ok-load.ensures.grows;
-      places = c.in-Ok-load.ensures.pages;
+      pooled = record { each = pooled_text t p xs bytes e };
+      value = λ y. e ∙ ap (text.labelled p) (l.value y);
+      inside = l.inside;
     }
-
-pub returns-clause-value : goal.returns-clause-value
-returns-clause-value g c = λ y.
-    let t = c.load.new.store in
-    texts t c.of_holds.result c.in-Ok-load.holds c.args.pool c.of_holds.ensures.text c.in-Ok-load.ensures.pool ∙ ap (text.labelled c.args.pool) (c.in-Ok-load.ensures.value y)
-
-pub returns-clause-inside : goal.returns-clause-inside
-returns-clause-inside g c = λ y. omega (arith, c.in-Ok-load.ensures.inside y, c.requires.some)

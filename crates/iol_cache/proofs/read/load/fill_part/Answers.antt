@@ -1,22 +1,41 @@
-use Rattle.std.proofs.Common.{◌∙◌, refl, sym, ap, length, arith}
-use Rattle.iol_hold.specs.Filling.{filling_store, filling_parts}
+use Rattle.std.proofs.Common.{◌≡◌, ◌∙◌, ◌+◌, ◌≤◌, List, ℕ, Result, IfOk, length, take, drop, min, refl, sym, ap, arith, rules}
+use Rattle.iol_arena.specs.Buffers.{Grows}
+use Rattle.iol_arena.specs.Parts.{part_bytes, part_room}
+use Rattle.iol_arena.specs.State.{with_bytes}
+use Rattle.iol_back.specs.Disk.{Disk, IfHonest, content}
+use Rattle.iol_hold.specs.Filling.{Fill, IsFilling, filling_part, filling_parts, filling_store, with_store}
+use Rattle.iol_hold.specs.Stored.{with_arena}
 use Rattle.iol_hold.proofs.Reserving.{same_fills, same_held}
+use Rattle.iol_cache.specs.Loading.{IsRead, ReadsPart}
 use Rattle.iol_cache.proofs.read.load.fill_part.Goals as goal
 
-pub returns-in-Err-clause-reads : goal.returns-in-Err-clause-reads
-returns-in-Err-clause-reads g c = record {
-  written = c.read_part.new.part;
-  len = c.read_part.auto.part ∙ c.part_mut-part.ensures.len;
+-- the memory of a part was written
+wrote : {E : Type 0} {d e : Disk} {left file at : ℕ} {r : Result ℕ E} (f : Fill) (i : ℕ) (w : List ℕ) → IsFilling f → length w ≡ part_room (filling_part f i) → length (part_bytes (filling_store f).arena (filling_part f i)) ≡ part_room (filling_part f i)
+    → Grows (filling_store f).arena (with_bytes (filling_store f).arena (filling_part f i).first w) → IsRead d e r → IfOk r (λ n. n ≡ min left (part_room (filling_part f i)))
+    → IfHonest d (IfOk r (λ n. take n w ≡ take n (drop at (content d.slots file)))) → IfHonest d (IfOk r (λ n. at + n ≤ length (content d.slots file)))
+    → ReadsPart f (with_store f (with_arena (filling_store f) (with_bytes (filling_store f).arena (filling_part f i).first w))) i left d e file at r
+wrote f i w filling len was grows asks count read inside = record {
+  writes = record { reserved = refl; same_reference = refl; filling = same_held (filling_store f) f.reserved _ refl refl filling; fills = same_fills (filling_store f) _ (filling_parts f) refl grows; entries = refl };
+  written = w;
+  len = len;
   there = refl;
-  was = sym (ap length c.part_mut-part.ensures.value) ∙ c.part_mut-part.ensures.len;
-  read = λ h. tt;
+  was = was;
+  asks = asks;
+  count = count;
+  read = read;
+  inside = inside;
 }
 
-pub returns-in-Err-clause-filling : goal.returns-in-Err-clause-filling
-returns-in-Err-clause-filling g c = same_held (filling_store c.args.filling.now) c.args.filling.now.reserved _ refl refl c.requires.filling
+pub returns-in-Err : goal.returns-in-Err
+returns-in-Err g c =
+    let w = c.read_part.new.part in
+    let lent = c.part_mut-part.ensures in
+    let e = c.in-Err.ensures.asks in
+    wrote c.args.filling.now c.args.i w c.requires.filling (c.read_part.auto.part ∙ lent.len) (sym (ap length lent.value) ∙ lent.len) (lent.keeps.each w (omega (arith, c.read_part.auto.part, lent.len))) (record { honest = e.honest; slots = e.slots; counts = e.counts }) tt (λ y. tt) (λ y. tt)
 
-pub returns-in-Err-clause-fills : goal.returns-in-Err-clause-fills
-returns-in-Err-clause-fills g c = same_fills (filling_store c.args.filling.now) _ (filling_parts c.args.filling.now) refl (c.part_mut-part.ensures.keeps.each c.read_part.new.part (omega (arith, c.read_part.auto.part, c.part_mut-part.ensures.len)))
-
-pub returns-in-Ok-clause-fills : goal.returns-in-Ok-clause-fills
-returns-in-Ok-clause-fills g c = same_fills (filling_store c.args.filling.now) _ (filling_parts c.args.filling.now) refl (c.part_mut-part.ensures.keeps.each c.read_part.new.part (omega (arith, c.read_part.auto.part, c.part_mut-part.ensures.len)))
+pub returns-in-Ok : goal.returns-in-Ok
+returns-in-Ok g c =
+    let w = c.read_part.new.part in
+    let lent = c.part_mut-part.ensures in
+    let e = c.in-Ok.ensures.asks in
+    wrote c.args.filling.now c.args.i w c.requires.filling (c.read_part.auto.part ∙ lent.len) (sym (ap length lent.value) ∙ lent.len) (lent.keeps.each w (omega (arith, c.read_part.auto.part, lent.len))) (record { honest = e.honest; slots = e.slots; counts = e.counts }) (search (rules)) c.in-Ok.ensures.read c.in-Ok.ensures.inside

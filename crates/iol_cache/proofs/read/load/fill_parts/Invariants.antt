@@ -1,21 +1,17 @@
 use Rattle.std.proofs.Common.{◌≡◌, ◌+◌, ◌*◌, ◌<◌, ◌≤◌, true, length, take, drop, min, flat_map}
 use Rattle.iol_arena.specs.Parts.{part_pages, part_bytes}
-use Rattle.iol_hold.specs.Waiting.{Fills}
-use Rattle.iol_hold.specs.Filling.{filling_store, filling_parts, filling_lender, IsFilling}
+use Rattle.iol_hold.specs.Filling.{filling_store, filling_parts}
 use Rattle.iol_back.specs.Disk.{content, last_failure}
+use Rattle.iol_cache.specs.Loading.{WritesFilling}
 use Rattle.iol_cache.proofs.read.load.fill_parts.Given as goal
 
 abbrev pub invariant-loop-i : goal.invariant-loop-i
 invariant-loop-i g l = record {
-  reserved : l.filling.reserved ≡ l.fn.filling.reserved;
-  lender : filling_lender l.filling ≡ filling_lender l.fn.filling;
-  filling : IsFilling l.filling;
-  fills : Fills (filling_store l.fn.filling) (filling_store l.filling) (filling_parts l.fn.filling);
+  writes : WritesFilling l.fn.filling l.filling;
   honest : (g.B.Backing.disk l.backing).honest ≡ (g.B.Backing.disk l.fn.backing).honest;
   slots : (g.B.Backing.disk l.fn.backing).honest ≡ true → (g.B.Backing.disk l.backing).slots ≡ (g.B.Backing.disk l.fn.backing).slots;
   failures : (g.B.Backing.disk l.backing).failures ≡ (g.B.Backing.disk l.fn.backing).failures;
   works : 0 < l.i → (g.B.Backing.disk l.fn.backing).failures < last_failure;
-  entries : (filling_store l.filling).arena.entries ≡ (filling_store l.fn.filling).arena.entries;
   inside : (g.B.Backing.disk l.fn.backing).honest ≡ true → 0 < l.done → l.at + l.done ≤ length (content (g.B.Backing.disk l.fn.backing).slots l.file);
   within : l.i ≤ length (filling_parts l.fn.filling);
   whole : length (flat_map (part_bytes (filling_store l.filling).arena) (take l.i (filling_parts l.fn.filling))) ≡ length (part_pages (take l.i (filling_parts l.fn.filling))) * 4096;

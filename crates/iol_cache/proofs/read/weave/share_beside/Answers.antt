@@ -1,36 +1,38 @@
-use Rattle.std.proofs.Common.{ap, subst, get_or, length, arith, length-append}
-use Rattle.std.proofs.lemmas.List.{drop_more}
+use Rattle.std.proofs.Common.{◌+◌, ap, subst, drop, get_or, length, arith, length-append}
+use Rattle.std.proofs.lemmas.List.{drop_all, drop_more}
 use Rattle.iol_agg.proofs.Poured.{shares_then}
+use Rattle.iol_extent.proofs.Alone.{ends_high}
 use Rattle.iol_extent.specs.Spans.{AreInOrder}
 use Rattle.iol_extent.specs.declared.spans.Span.{Span}
 use Rattle.iol_hold.specs.Places.{places}
-use Rattle.iol_cache.specs.Cached.{all_parts}
 use Rattle.iol_cache.specs.Sharing.{places_over}
 use Rattle.iol_cache.specs.Weaving.{IsCoveredBeside}
-use Rattle.iol_cache.proofs.RangeReads.Shared.{all_shared, held_beside, length-places_over, over_there, readable_places, readable_on, refused_then}
+use Rattle.iol_cache.proofs.RangeReads.Shared.{all_shared, length-places_over, may_share, over_there, readable_places, refused_then}
 use Rattle.iol_cache.proofs.RangeReads.Woven.{beside_more}
 use Rattle.iol_cache.proofs.read.weave.share_beside.Goals as goal
 
 abbrev no_span : Span
 no_span = record { from = 0; to = 0 }
 
-pub share_over-requires-clause-held : goal.share_over-requires-clause-held
-share_over-requires-clause-held c = held_beside c.requires.there.held c.loop-gap.invariant.shares
+pub share_over-requires : goal.share_over-requires
+share_over-requires c =
+    let v = c.loop-gap.invariant in
+    let g = get_or c.args.gaps.now c.loop-gap.gap-index no_span in
+    let more = drop_more c.args.gaps.now c.loop-gap.gap-index no_span c.loop-gap-test.true in
+    let order = subst (AreInOrder c.loop-gap.at c.args.to) more v.in_order in
+    let covered = subst (IsCoveredBeside c.args.extents.now.extents c.loop-gap.at c.args.to) more v.covered in
+    let end = ends_high g.to c.args.to (drop (c.loop-gap.gap-index + 1) c.args.gaps.now) order.2 in
+    let t = c.ranges.to.fits in
+    may_share c.requires.there c.requires.few (omega arith) v.shares v.readable order.0 covered.0 (omega (arith, v.few, order.0, order.1, end, t))
 
-pub share_over-requires-2-clause-held : goal.share_over-requires-2-clause-held
-share_over-requires-2-clause-held c = held_beside c.requires.there.held c.loop-gap.invariant.shares
-
-pub share_over-requires-clause-readable : goal.share_over-requires-clause-readable
-share_over-requires-clause-readable c = readable_on (all_parts c.args.extents.now.extents) c.loop-gap.invariant.shares c.requires.there.readable
-
-pub share_over-requires-clause-own_readable : goal.share_over-requires-clause-own_readable
-share_over-requires-clause-own_readable c = readable_on c.loop-gap.shared c.loop-gap.invariant.shares c.loop-gap.invariant.readable
-
-pub share_over-requires-2-clause-readable : goal.share_over-requires-2-clause-readable
-share_over-requires-2-clause-readable c = readable_on (all_parts c.args.extents.now.extents) c.loop-gap.invariant.shares c.requires.there.readable
-
-pub share_over-requires-2-clause-own_readable : goal.share_over-requires-2-clause-own_readable
-share_over-requires-2-clause-own_readable c = readable_on c.loop-gap.shared c.loop-gap.invariant.shares c.loop-gap.invariant.readable
+pub share_over-requires-2 : goal.share_over-requires-2
+share_over-requires-2 c =
+    let v = c.loop-gap.invariant in
+    let none = drop_all c.loop-gap.gap-index c.args.gaps.now c.loop-gap-test.false in
+    let order = subst (AreInOrder c.loop-gap.at c.args.to) none v.in_order in
+    let covered = subst (IsCoveredBeside c.args.extents.now.extents c.loop-gap.at c.args.to) none v.covered in
+    let t = c.ranges.to.fits in
+    may_share c.requires.there c.requires.few (omega arith) v.shares v.readable order covered (omega (arith, v.few, order, t))
 
 pub returns-in-Err-clause-shared : goal.returns-in-Err-clause-shared
 returns-in-Err-clause-shared c = refused_then c.loop-gap.invariant.shares c.in-Err.ensures.shared

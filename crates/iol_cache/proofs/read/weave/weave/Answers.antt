@@ -1,4 +1,4 @@
-use Rattle.std.proofs.Common.{◌≡◌, ◌∙◌, ◌+◌, ◌-◌, ◌++◌, [], All, ap, sym, subst, get_or, length, take, drop, List, arith, append_assoc, length-append, slice_range}
+use Rattle.std.proofs.Common.{◌≡◌, ◌∙◌, ◌+◌, ◌-◌, ◌++◌, [], All, ap, sym, subst, get_or, length, take, drop, List, ℕ, arith, append_assoc, length-append, slice_range}
 use Rattle.std.proofs.lemmas.List.{drop_more, drop-drop, length-take}
 use Rattle.std.proofs.Math.Seq.{drop-length}
 use Rattle.std.proofs.lemmas.List.Elements.{All-head, All-tail}
@@ -7,11 +7,10 @@ use Rattle.iol_extent.proofs.Alone.{ends_high}
 use Rattle.iol_extent.specs.Spans.{AreInOrder}
 use Rattle.iol_extent.specs.declared.spans.Span.{Span}
 use Rattle.iol_hold.specs.Places.{Place, places}
-use Rattle.iol_cache.specs.Cached.{all_parts}
 use Rattle.iol_cache.specs.Sharing.{IsCoveredSpan, places_over}
 use Rattle.iol_cache.specs.Weaving.{len_beside, woven}
-use Rattle.iol_cache.proofs.RangeReads.Shared.{all_shared, held_beside, length-places_over, over_there, readable_places, readable_on, refused_then}
-use Rattle.iol_cache.proofs.RangeReads.Woven.{beside_few, shared_covers, still_covers, shared_few, readable_more}
+use Rattle.iol_cache.proofs.RangeReads.Shared.{all_shared, length-places_over, may_share, over_there, readable_places, refused_then}
+use Rattle.iol_cache.proofs.RangeReads.Woven.{beside_few, may_add_part, readable_more}
 use Rattle.iol_cache.proofs.read.weave.weave.Goals as goal
 
 abbrev no_span : Span
@@ -23,39 +22,41 @@ overflow_add-next c =
     let more = drop_more c.args.gaps.now c.loop-gap.gap-index no_span c.loop-gap-test.true in
     let few = beside_few c.args.from c.args.to c.args.gaps.now c.requires.in_order in
     let t = c.ranges.to.fits in
-    record { fits = omega (arith, v.left, ap (len_beside c.loop-gap.at c.args.to) more, few, c.requires.beside_len, t) }
+    record { fits = omega (arith, v.left, ap (len_beside c.loop-gap.at c.args.to) more, few, c.requires.beside.long, t) }
 
-pub add_part-requires-clause-held : goal.add_part-requires-clause-held
-add_part-requires-clause-held c = still_covers c.requires.beside_held c.loop-gap.invariant.shares
-
-pub add_part-requires-clause-readable : goal.add_part-requires-clause-readable
-add_part-requires-clause-readable c = readable_on c.args.beside.now c.loop-gap.invariant.shares c.requires.beside_readable
-
-pub add_part-requires-clause-own : goal.add_part-requires-clause-own
-add_part-requires-clause-own c = shared_covers c.loop-gap.invariant.shares
-
-pub add_part-requires-clause-own_readable : goal.add_part-requires-clause-own_readable
-add_part-requires-clause-own_readable c = readable_on c.loop-gap.shared c.loop-gap.invariant.shares c.loop-gap.invariant.readable
-
-pub add_part-requires-clause-few : goal.add_part-requires-clause-few
-add_part-requires-clause-few c = (let t = c.ranges.to.fits in shared_few c.loop-gap.shared c.loop-gap.invariant.shares (omega (arith, ends_high c.loop-gap.at c.args.to (drop c.loop-gap.gap-index c.args.gaps.now) c.loop-gap.invariant.in_order, t, c.loop-gap.invariant.few)) c.requires.few)
+pub add_part-requires : goal.add_part-requires
+add_part-requires c =
+    let v = c.loop-gap.invariant in
+    let g = get_or c.args.gaps.now c.loop-gap.gap-index no_span in
+    let rest = drop (c.loop-gap.gap-index + 1) c.args.gaps.now in
+    let more = drop_more c.args.gaps.now c.loop-gap.gap-index no_span c.loop-gap-test.true in
+    let order = subst (AreInOrder c.loop-gap.at c.args.to) more v.in_order in
+    let t = c.ranges.to.fits in
+    may_add_part c.loop-gap.shared c.args.beside.now c.loop-gap.used (c.loop-gap.used + (g.from - c.loop-gap.at)) c.requires.beside v.shares v.readable c.requires.few
+    (omega arith) (omega (arith, v.left, ap (len_beside c.loop-gap.at c.args.to) more)) (omega (arith, v.few, order.0, order.1, ends_high g.to c.args.to rest order.2, t))
 
 pub returns-in-Err-clause-shared : goal.returns-in-Err-clause-shared
 returns-in-Err-clause-shared c = refused_then c.loop-gap.invariant.shares c.in-Err.ensures.shared
 
-pub share_over-requires-clause-held : goal.share_over-requires-clause-held
-share_over-requires-clause-held c = held_beside c.requires.there.held (shares_then c.loop-gap.invariant.shares c.in-Ok.ensures.shared.shares)
-
-pub share_over-requires-clause-readable : goal.share_over-requires-clause-readable
-share_over-requires-clause-readable c =
-    let m = shares_then c.loop-gap.invariant.shares c.in-Ok.ensures.shared.shares in
-    readable_on (all_parts c.args.extents.now.extents) m c.requires.there.readable
-
-pub share_over-requires-clause-own_readable : goal.share_over-requires-clause-own_readable
-share_over-requires-clause-own_readable c =
+pub share_over-requires : goal.share_over-requires
+share_over-requires c =
     let v = c.loop-gap.invariant in
-    let m = shares_then v.shares c.in-Ok.ensures.shared.shares in
-    readable_on c.in-Ok.more m (readable_more c.in-Ok.more c.loop-gap.shared c.args.beside.now _ _ c.in-Ok.ensures.places v.readable c.requires.beside_readable)
+    let es = c.args.extents.now.extents in
+    let gaps = c.args.gaps.now in
+    let i = c.loop-gap.gap-index in
+    let g = get_or gaps i no_span in
+    let rest = drop (i + 1) gaps in
+    let ps = places c.args.beside.now in
+    let used = c.loop-gap.used in
+    let n = g.from - c.loop-gap.at in
+    let more = drop_more gaps i no_span c.loop-gap-test.true in
+    let order = subst (AreInOrder c.loop-gap.at c.args.to) more v.in_order in
+    let covered = All-head (IsCoveredSpan es) g rest (subst (All (IsCoveredSpan es)) more v.covered) in
+    let one = c.in-Ok.ensures.places in
+    let read = readable_more c.in-Ok.more c.loop-gap.shared c.args.beside.now _ _ one v.readable c.requires.beside.readable in
+    let t = c.ranges.to.fits in
+    may_share c.requires.there c.requires.few (omega arith) (shares_then v.shares c.in-Ok.ensures.shared.shares) read (omega (arith, order.1)) covered
+    (omega (arith, ap length one, length-append (places c.loop-gap.shared) (slice_range ps used (used + n)), length-take (used + n - used) (drop used ps), v.few, order.0, order.1, ends_high g.to c.args.to rest order.2, t))
 
 pub returns-in-Err-share_over-clause-shared : goal.returns-in-Err-share_over-clause-shared
 returns-in-Err-share_over-clause-shared c = refused_then (shares_then c.loop-gap.invariant.shares c.in-Ok.ensures.shared.shares) c.in-Err-share_over.ensures.shared
@@ -80,7 +81,7 @@ loop-gap-preserved c =
     let two = c.in-Ok-share_over.ensures.places in
     let part : slice_range ps used (used + n) ≡ take n (drop used ps) = (let k : used + n - used ≡ n = omega arith in ap (λ m. take m (drop used ps)) k) in
     let left : List Place = woven (drop (used + n) ps) es g.to to rest in
-    let read = readable_more c.in-Ok.more c.loop-gap.shared c.args.beside.now used (used + n) one v.readable c.requires.beside_readable in
+    let read = readable_more c.in-Ok.more c.loop-gap.shared c.args.beside.now used (used + n) one v.readable c.requires.beside.readable in
     record {
       places = ap (λ l. l ++ left) (two ∙ ap (λ l. l ++ places_over es g.from g.to) (one ∙ ap (λ l. places c.loop-gap.shared ++ l) part))
           ∙ regroup (places c.loop-gap.shared) (take n (drop used ps)) (places_over es g.from g.to) left
@@ -97,29 +98,24 @@ loop-gap-preserved c =
     regroup : (a b d e : List Place) → ((a ++ b) ++ d) ++ e ≡ a ++ (b ++ d ++ e)
     regroup a b d e = simp append_assoc
 
+none_left : (gs : List Span) (i : ℕ) → i ≡ length gs → drop i gs ≡ []
+none_left gs i all = ap (λ n. drop n gs) all ∙ drop-length gs
+
 pub overflow_add-end : goal.overflow_add-end
 overflow_add-end c =
     let v = c.loop-gap.invariant in
     let few = beside_few c.args.from c.args.to c.args.gaps.now c.requires.in_order in
     let t = c.ranges.to.fits in
-    let all : c.loop-gap.gap-index ≡ length c.args.gaps.now = omega (arith, c.loop-gap-test.false, c.loop-gap.auto.gap-index-end) in
-    let none : drop c.loop-gap.gap-index c.args.gaps.now ≡ [] = ap (λ n. drop n c.args.gaps.now) all ∙ drop-length c.args.gaps.now in
-    record { fits = omega (arith, v.left, ap (len_beside c.loop-gap.at c.args.to) none, few, c.requires.beside_len, t) }
+    let none = none_left c.args.gaps.now c.loop-gap.gap-index (omega (arith, c.loop-gap-test.false, c.loop-gap.auto.gap-index-end)) in
+    record { fits = omega (arith, v.left, ap (len_beside c.loop-gap.at c.args.to) none, few, c.requires.beside.long, t) }
 
-pub add_part-requires-2-clause-held : goal.add_part-requires-2-clause-held
-add_part-requires-2-clause-held c = still_covers c.requires.beside_held c.loop-gap.invariant.shares
-
-pub add_part-requires-2-clause-readable : goal.add_part-requires-2-clause-readable
-add_part-requires-2-clause-readable c = readable_on c.args.beside.now c.loop-gap.invariant.shares c.requires.beside_readable
-
-pub add_part-requires-2-clause-own : goal.add_part-requires-2-clause-own
-add_part-requires-2-clause-own c = shared_covers c.loop-gap.invariant.shares
-
-pub add_part-requires-2-clause-own_readable : goal.add_part-requires-2-clause-own_readable
-add_part-requires-2-clause-own_readable c = readable_on c.loop-gap.shared c.loop-gap.invariant.shares c.loop-gap.invariant.readable
-
-pub add_part-requires-2-clause-few : goal.add_part-requires-2-clause-few
-add_part-requires-2-clause-few c = (let t = c.ranges.to.fits in shared_few c.loop-gap.shared c.loop-gap.invariant.shares (omega (arith, ends_high c.loop-gap.at c.args.to (drop c.loop-gap.gap-index c.args.gaps.now) c.loop-gap.invariant.in_order, t, c.loop-gap.invariant.few)) c.requires.few)
+pub add_part-requires-2 : goal.add_part-requires-2
+add_part-requires-2 c =
+    let v = c.loop-gap.invariant in
+    let t = c.ranges.to.fits in
+    let none = none_left c.args.gaps.now c.loop-gap.gap-index (omega (arith, c.loop-gap-test.false, c.loop-gap.auto.gap-index-end)) in
+    may_add_part c.loop-gap.shared c.args.beside.now c.loop-gap.used (c.loop-gap.used + (c.args.to - c.loop-gap.at)) c.requires.beside v.shares v.readable c.requires.few
+    (omega arith) (omega (arith, v.left, ap (len_beside c.loop-gap.at c.args.to) none)) (omega (arith, v.few, ends_high c.loop-gap.at c.args.to (drop c.loop-gap.gap-index c.args.gaps.now) v.in_order, t))
 
 pub returns-in-Err-add_part-clause-shared : goal.returns-in-Err-add_part-clause-shared
 returns-in-Err-add_part-clause-shared c = refused_then c.loop-gap.invariant.shares c.in-Err-add_part.ensures.shared

@@ -1,21 +1,17 @@
-use Rattle.std.proofs.Common.{Err, ◌≤◌, [], List, ℕ, length, drop, refl, sym, ap, subst, arith, rules}
+use Rattle.std.proofs.Common.{Err, [], List, length, drop, refl, sym, ap, subst, arith, rules}
 use Rattle.iol_cache.specs.Composing.{copied_pages}
 use Rattle.std.proofs.lemmas.List.{drop_all, length-drop}
-use Rattle.iol_agg.proofs.Holding.{tally-few}
 use Rattle.iol_hold.specs.Moves.{Covers, Moves}
-use Rattle.iol_hold.specs.Places.{byte_len}
 use Rattle.iol_hold.specs.Room.{free_of}
 use Rattle.iol_hold.specs.Stored.{Stored}
 use Rattle.iol_hold.specs.Texts.{AllReadable, bufs_of}
 use Rattle.iol_hold.specs.declared.slices.Slice.{Slice}
-use Rattle.iol_hold.proofs.Counting.{tally_none}
 use Rattle.iol_hold.proofs.Moving.{covers_given, moves_none}
 use Rattle.iol_hold.proofs.Paging.{keeps_pages_same}
 use Rattle.iol_hold.proofs.Reading.{readable_stays}
 use Rattle.iol_hold.proofs.Releasing.{frees_trans}
-use Rattle.iol_hold.proofs.Slicing.{byte_len-append}
 use Rattle.iol_cache.specs.Composing.{ComposesRun}
-use Rattle.iol_cache.proofs.RangeWrites.Composed.{covers_first, covers_second, covers_source, gone_both, run_all, run_none, run_then}
+use Rattle.iol_cache.proofs.RangeWrites.Composed.{composed, covers_first, covers_second, covers_source, gone_both, may_go_on, run_all, run_none, run_then}
 use Rattle.iol_cache.proofs.RangeReads.Filled.{moved_back, placed_some, places_then}
 use Rattle.iol_cache.proofs.write.copies.compose.Goals as goal
 
@@ -26,38 +22,27 @@ loop-i-init c = record {
   composes = subst (λ (l : List Slice). ComposesRun c.args.store.now c.args.store.now c.args.pool c.args.source.now c.args.source.now l) (sym c.new-so_far.ensures) (run_none c.args.store.now c.args.pool c.args.source.now);
 }
 
-pub compose_run-requires-clause-covered : goal.compose_run-requires-clause-covered
-compose_run-requires-clause-covered c = covers_source c.requires.covered c.loop-i.invariant.composes.composes.moves
-
--- the run so far has no more bytes than the source
-short : {s t : Stored} {p : ℕ} {xs left out : List Slice} → ComposesRun s t p xs left out → byte_len out ≤ byte_len xs
-short {left = left} m = omega (arith, m.composes.own.long, ap byte_len m.splits, byte_len-append m.run left)
-
-pub compose_run-requires-clause-countable : goal.compose_run-requires-clause-countable
-compose_run-requires-clause-countable c =
-    let m = c.loop-i.invariant.composes in
-    let few = short m in
-    record { each = λ b. omega (arith, c.requires.few.each b, m.composes.moves.counts.each b, tally_none b, tally-few b c.loop-i.so_far, tally-few b c.args.source.now, few, c.requires.small) }
-
-pub compose_run-requires-clause-readable : goal.compose_run-requires-clause-readable
-compose_run-requires-clause-readable c =
-    let m = c.loop-i.invariant.composes.composes.moves in
-    readable_stays c.args.source.now m.stays (covers_source c.requires.covered m) c.requires.readable
+pub compose_run-requires-clause-may : goal.compose_run-requires-clause-may
+compose_run-requires-clause-may c = may_go_on c.requires c.loop-i.invariant.composes
 
 pub release-requires : goal.release-requires
 release-requires c = subst (λ (u : Stored). Covers u (bufs_of c.loop-i.so_far)) (sym c.in-Err.ensures.err) (covers_given c.loop-i.invariant.composes.composes.moves.counts)
 
-pub returns-in-Err-clause-leaves : goal.returns-in-Err-clause-leaves
-returns-in-Err-clause-leaves c =
+pub returns-in-Err : goal.returns-in-Err
+returns-in-Err c =
     let err = c.in-Err.ensures.err in
     let pools = ap (λ (x : Stored). x.pools) err in
     let m = c.loop-i.invariant.composes in
     record {
-      none = moved_back m.composes.moves (subst (λ (u : Stored). Moves c.loop-i.store u [] []) (sym err) (moves_none c.loop-i.store)) c.release.ensures.moves (λ b. refl);
-      given_back = placed_some (copied_pages c.args.pool c.args.source.now) (omega (arith, m.pages)) m.composes.pages (keeps_pages_same c.loop-i.store c.compose_run.new.store (ap (λ (x : Stored). x.arena) err) pools) c.release.ensures.frees pools;
-      lists = search (rules);
-      settles = search (rules);
-      no_room = λ p is. omega (arith, c.in-Err.ensures.no_room p (ap (λ x. Err x) is), ap length m.composes.pages.free, length-drop m.count (free_of c.args.store.now c.args.pool), m.composes.pages.enough, m.pages);
+      composes = tt;
+      leaves = record {
+        none = moved_back m.composes.moves (subst (λ (u : Stored). Moves c.loop-i.store u [] []) (sym err) (moves_none c.loop-i.store)) c.release.ensures.moves (λ b. refl);
+        given_back = placed_some (copied_pages c.args.pool c.args.source.now) (omega (arith, m.pages)) m.composes.pages (keeps_pages_same c.loop-i.store c.compose_run.new.store (ap (λ (x : Stored). x.arena) err) pools) c.release.ensures.frees pools;
+        lists = search (rules);
+        settles = search (rules);
+        no_room = λ p is. omega (arith, c.in-Err.ensures.no_room p (ap (λ x. Err x) is), ap length m.composes.pages.free, length-drop m.count (free_of c.args.store.now c.args.pool), m.composes.pages.enough, m.pages);
+      };
+      late = c.in-Err.ensures.late;
     }
 
 pub release-requires-in-Err-join : goal.release-requires-in-Err-join
@@ -72,8 +57,8 @@ release-requires-in-Err-join-2 c =
     let gone = subst (λ (x : List Slice). Moves c.compose_run.new.store c.release-in-Err-join.new.store (bufs_of x) []) is0 c.release-in-Err-join.ensures.moves in
     subst (λ (x : List Slice). Covers c.release-in-Err-join.new.store (bufs_of x)) (sym is1) (covers_second c.loop-i.invariant.composes.composes.moves c.in-Ok.ensures.composes.composes.moves gone)
 
-pub returns-in-Err-join-clause-leaves : goal.returns-in-Err-join-clause-leaves
-returns-in-Err-join-clause-leaves c =
+pub returns-in-Err-join : goal.returns-in-Err-join
+returns-in-Err-join c =
     let u = c.compose_run.new.store in
     let v = c.release-in-Err-join.new.store in
     let one = c.release-in-Err-join.ensures in
@@ -88,11 +73,15 @@ returns-in-Err-join-clause-leaves c =
     let first = readable_stays c.loop-i.so_far b.moves.stays (covers_first a.moves b.moves) a.readable in
     let second = readable_stays c.in-Ok.composed.2 gone.stays (covers_second a.moves b.moves gone) b.readable in
     record {
-      none = gone_both a.moves b.moves gone (subst (λ (x : List Slice). Moves v c.release-in-Err-join-2.new.store (bufs_of x) []) is1 two.moves);
-      given_back = placed_some (copied_pages c.args.pool c.args.source.now) (omega (arith, m.pages, n.pages)) (places_then a.pages b.pages) (keeps_pages_same u u refl refl) (frees_trans one.frees two.frees two.moves.counts) refl;
-      lists = search (rules);
-      settles = λ all. two.settles (subst (AllReadable v) (sym is1) second) (one.settles (subst (AllReadable u) (sym is0) first) (b.settles (a.settles all)));
-      no_room = search (rules);
+      composes = tt;
+      leaves = record {
+        none = gone_both a.moves b.moves gone (subst (λ (x : List Slice). Moves v c.release-in-Err-join-2.new.store (bufs_of x) []) is1 two.moves);
+        given_back = placed_some (copied_pages c.args.pool c.args.source.now) (omega (arith, m.pages, n.pages)) (places_then a.pages b.pages) (keeps_pages_same u u refl refl) (frees_trans one.frees two.frees two.moves.counts) refl;
+        lists = search (rules);
+        settles = λ all. two.settles (subst (AllReadable v) (sym is1) second) (one.settles (subst (AllReadable u) (sym is0) first) (b.settles (a.settles all)));
+        no_room = search (rules);
+      };
+      late = tt;
     }
 
 pub loop-i-preserved : goal.loop-i-preserved
@@ -105,7 +94,8 @@ loop-i-preserved c =
           (run_then c.requires.readable (covers_source c.requires.covered m.composes.moves) m c.in-Ok.ensures.composes);
     }
 
-pub returns-clause-composes : goal.returns-clause-composes
-returns-clause-composes c =
+pub returns : goal.returns
+returns c =
     let xs = c.args.source.now in
-    run_all (drop c.loop-i.i xs) (drop_all c.loop-i.i xs (omega (arith, ap length c.slices.ensures, c.loop-i-test.false))) c.loop-i.invariant.composes
+    let all = run_all (drop c.loop-i.i xs) (drop_all c.loop-i.i xs (omega (arith, ap length c.slices.ensures, c.loop-i-test.false))) c.loop-i.invariant.composes in
+    record { composes = all; leaves = composed all; late = tt }

@@ -6,16 +6,17 @@ use Rattle.iol_cache.proofs.RangeReads.Paged.{few_free}
 use Rattle.iol_cache.proofs.RangeWrites.Composed.{composes_copied, length-bytes}
 use Rattle.iol_cache.proofs.write.copies.copy_run.Goals as goal
 
-pub returns-in-Err-clause-no_room : goal.returns-in-Err-clause-no_room
-returns-in-Err-clause-no_room c = λ p e.
+pub returns-in-Err : goal.returns-in-Err
+returns-in-Err c =
     let s = c.args.store.now in
     let bytes = ap length (c.deref.ensures.value ∙ c.in_ok-bytes.ensures) ∙ length-bytes s c.args.run.now in
-    subst (λ n. length (free_of s c.args.pool) < pages_for n) bytes (few_free s c.args.pool (length c.deref.result.now) (c.in-Err.ensures.no_room p e))
+    record { composes = tt; no_room = λ p e. subst (λ n. length (free_of s c.args.pool) < pages_for n) bytes (few_free s c.args.pool (length c.deref.result.now) (c.in-Err.ensures.no_room p e)); late = c.in-Err.ensures.late; err = c.in-Err.ensures.err }
 
-pub returns-clause-composes : goal.returns-clause-composes
-returns-clause-composes c =
+pub returns : goal.returns
+returns c =
     let s = c.args.store.now in
     let e = c.in-Ok.ensures in
     let bytes = c.deref.ensures.value ∙ c.in_ok-bytes.ensures in
-    composes_copied {s = s} {t = c.fill.new.store} {p = c.args.pool} {run = c.args.run.now} (length c.deref.result.now) (ap length bytes ∙ length-bytes s c.args.run.now) c.requires.others c.requires.tidy e.moves
-    (e.text ∙ ap (text.labelled c.args.pool) bytes) e.readable e.made_on e.others e.grows e.pools e.lowest e.room e.settles
+    let all = composes_copied {s = s} {t = c.fill.new.store} {p = c.args.pool} {run = c.args.run.now} (length c.deref.result.now) (ap length bytes ∙ length-bytes s c.args.run.now) c.requires.others c.requires.tidy e.moves
+    (e.text ∙ ap (text.labelled c.args.pool) bytes) e.readable e.made_on e.others e.grows e.pools e.lowest e.room e.settles in
+    record { composes = all; no_room = λ p is. cc; late = tt; err = tt }
