@@ -1,21 +1,23 @@
 -- What comes in from a reader and what goes out to a writer, in the copying machine's words.
 use Rattle.std.specs.Prelude.{◌≡◌, ℕ, zero, suc, ◌-◌, ◌<◌, ◌≤◌, ◌==◌, min, Bool, true, false}
-use Rattle.std.specs.Prelude.{List, [], ◌∷◌, length, take, Option, Result, Err, OnOk, IfErr, OnErr}
+use Rattle.std.specs.Prelude.{List, [], ◌∷◌, length, take, Option, Some, Result, Ok, Err, IfOk, OnOk, IfErr, OnErr}
 use Rattle.std.specs.Io.KnownBytes.{Appends, Consumes}
 use Rattle.iol_core.specs.State.{State, conn_at}
 use Rattle.iol_core.specs.Text.{Text, bytes_of}
-use Rattle.iol_core.specs.Meaning.{◌when◌, WantOfRoom}
+use Rattle.iol_core.specs.Meaning.{◌when◌, WantOfRoom, first}
 use Rattle.iol_core.specs.Calls.Outside.{arrive, transmit, lacks_conn}
 use Rattle.iol_core.specs.declared.limits.TheConstants.{MAX_QUEUE_BYTES, PAGE_BYTES}
 use Rattle.iol_core.specs.declared.refusals.Refusal.{Refusal}
 use Rattle.iol_core.specs.declared.refusals.Refusal.TheVariants.{BadFd, BadRange, NoRoom}
+use Rattle.iol_hold.specs.Moves.{Stays}
+use Rattle.iol_hold.specs.Room.{has_room}
 use Rattle.iol_pool.specs.Pools.{pool_in}
 use Rattle.iol_pipe.specs.Arriving.{IsOneRead}
 use Rattle.iol_pipe.specs.declared.arrive.Arrived.{Arrived}
 use Rattle.iol_sock.specs.Refused.{IsPassed, IsRefused}
 use Rattle.iol_sock.specs.declared.drain_to.Drained.{Drained}
-use Rattle.iol_kernel.specs.Calls.{Arrives, Leaves}
-use Rattle.iol_kernel.specs.KernelState.{KernelState, machine_of}
+use Rattle.iol_kernel.specs.Calls.{Arrives, Leaves, Steps}
+use Rattle.iol_kernel.specs.KernelState.{KernelState, IsSound, machine_of}
 use Rattle.iol_kernel.specs.MakingRoom.{AfterRoom, IsSame, MayHaveEvicted, can_fit}
 
 -- What comes in.
@@ -33,6 +35,11 @@ pub record MayBringIn (c max pool : ℕ) (h : KernelState) : Type 0 where
   pub there : lacks_conn (machine_of [] h) c ≡ false
   pub lands : (conn_at (machine_of [] h) c).pool ≡ pool
   pub opened : (pool_in h.store.pools pool).closed ≡ false
+
+-- A read is refused by the first test that holds, and not yet for want of room.
+pub record FailsToRead (c max : ℕ) (x : Refusal) (h : KernelState) : Type 0 where
+  pub refused : first (arrive_from_refusals (machine_of [] h) c max) ≡ Some x
+  pub roomy : (p : ℕ) → x ≡ NoRoom p → ⊥
 
 -- A reader gave n bytes of those that it has left, where these are known, and what arrives of them is P.
 pub record TakesIn (left after : Option (List ℕ)) (n : ℕ) (P : List ℕ → Type 0) : Type 0 where
@@ -65,6 +72,22 @@ pub record RefusesArrival {A R : Type 0} (c max : ℕ) (old new : KernelState) (
   pub byte : RefusesByte (machine_of [] old) c max (can_fit old (conn_at (machine_of [] old) c).pool 1) r
   pub err : IfErr r (MayHaveEvicted (conn_at (machine_of [] old) c).pool 1 old new)
   pub err_reader : OnErr r (after ≡ reader)
+
+-- One read comes in, of bytes that the reader has left, and no extent goes for them. Where it brings none, the system
+-- means what it meant; a refusal changes nothing.
+pub record TakesRead (c max : ℕ) (left after : Option (List ℕ)) (old : KernelState)
+    (r : Result Arrived Refusal) (new : KernelState) : Type 0 where
+  pub refuses : RefusesByte (machine_of [] old) c max (has_room old.store (conn_at (machine_of [] old) c).pool 1) r
+  pub read : IfOk r (λ a. TakesIn left after a.taken
+      (λ bytes. Steps (λ s. arrive s c bytes) old (Ok a.taken) new))
+  pub made : IfOk r (λ a. Arrives c a.taken old new)
+  pub told : IfOk r (IsOneRead (most_asked max (conn_at (machine_of [] old) c).incoming) after)
+  pub none : IfOk r (λ a. a.taken ≡ 0 → (stored : List (List ℕ))
+      → machine_of stored new ≡ machine_of stored old)
+  pub cache : new.cache ≡ old.cache
+  pub err : OnErr r (new ≡ old)
+  pub sound : IsSound new
+  pub stays : Stays old.store new.store
 
 -- What goes out.
 

@@ -120,6 +120,11 @@ pub record AddsFile {A : Type 0} (m : State → Meaning A) (old : KernelState) (
   pub added : AddsEmpty old.cache new.cache
   pub sound : IsSound new
 
+-- A call is refused by the first of its tests that holds, and never for want of room.
+pub record Refuses {A : Type 0} (m : State → Meaning A) (x : Refusal) (h : KernelState) : Type 0 where
+  pub refused : (f : Reading) → first (m (read_of f h)).refusals ≡ Some x
+  pub roomy : (p : ℕ) → x ≡ NoRoom p → ⊥
+
 -- The effect of a call that carries out: its answer, and the state after it.
 pub record Answers {A : Type 0} (m : State → Meaning A) (old : KernelState) (a : A) (new : KernelState) : Type 0 where
   pub answer : (f : Reading) → KeepsPools f → a ≡ (m (read_of f old)).answer
@@ -130,6 +135,12 @@ pub record Answers {A : Type 0} (m : State → Meaning A) (old : KernelState) (a
   pub cache : new.cache ≡ old.cache
   pub sound : IsSound new
   pub stays : Stays old.store new.store
+
+-- An effect that may want memory: its answer and the state after it. Refused, it changed nothing.
+pub record Attempts {A E : Type 0} (m : State → Meaning A) (old : KernelState) (r : Result A E)
+    (new : KernelState) : Type 0 where
+  pub done : IfOk r (λ a. Answers m old a new)
+  pub err : OnErr r (new ≡ old)
 
 -- An effect that may free pages or take chunks: the state after it, of bytes and of places.
 pub record Leaves (after : State → State) (old new : KernelState) : Type 0 where
@@ -190,6 +201,7 @@ Arrives c n old new = MakesBytes (with_incoming c) (conn_at (machine_of [] old) 
 
 -- Bytes pass the tests of `arrive`: so many of them fit, and would lie in this pool.
 pub record MayArrive (c : ℕ) (bytes : List ℕ) (pool count : ℕ) (h : KernelState) : Type 0 where
+  pub sound : IsSound h
   pub passed : (f : Reading) → first (arrive (read_of f h) c bytes).refusals ≡ None
   pub lands : (f : Reading) → (conn_at (read_of f h) c).pool ≡ pool
   pub fits : (f : Reading) → (arrive (read_of f h) c bytes).answer ≡ count
@@ -201,6 +213,12 @@ pub record IsFound (h : KernelState) (d a : ℕ) (xs : List Slice) : Type 0 wher
   pub live : (f : Reading) → is_live (read_of f h) d ≡ true
   pub there : (f : Reading) → lacks_agg (read_of f h) d a ≡ false
   pub text : (f : Reading) → text (read_of f h) d a ≡ read f xs
+
+-- the domain is live, and its aggregate is so long
+pub record IsSoLong (h : KernelState) (d a n : ℕ) : Type 0 where
+  pub live : (f : Reading) → is_live (read_of f h) d ≡ true
+  pub there : (f : Reading) → lacks_agg (read_of f h) d a ≡ false
+  pub len : (f : Reading) → n ≡ length (text (read_of f h) d a)
 
 -- the refusal where there is no such domain, or no such aggregate of it
 abbrev pub IsMissing : KernelState → (d a : ℕ) → Refusal → Type 0

@@ -1,13 +1,15 @@
--- What closing an end does to a pipe, and to the pipes.
-use Rattle.std.specs.Prelude.{◌≡◌, ℕ, ◌+◌, ◌≤◌, false, ◌||◌, if◌then◌else◌, List, [], Option, Some, None, slice_set}
+-- What closing an end does to a pipe, to the pipes, and to what a system holds.
+use Rattle.std.specs.Prelude.{◌≡◌, ℕ, ◌+◌, ◌≤◌, false, fold, ◌||◌, if◌then◌else◌, List, [], Option, Some, None, slice_set}
 use Rattle.iol_core.specs.State.{Domain}
+use Rattle.iol_core.specs.Calls.Descriptors.{closed_on}
 use Rattle.iol_core.specs.declared.descriptors.Descriptor.{Descriptor}
 use Rattle.iol_hold.specs.Releases.{Releases}
 use Rattle.iol_hold.specs.Stored.{Stored}
 use Rattle.iol_hold.specs.declared.slices.Slice.{Slice}
 use Rattle.iol_kernel.specs.Views.{Pipe, Objects}
+use Rattle.iol_kernel.specs.Calls.{Leaves}
 use Rattle.iol_kernel.specs.Ends.{same_end, ends_on, all_ends_on}
-use Rattle.iol_kernel.specs.KernelState.{queue_at, Each, IsOpenEnd}
+use Rattle.iol_kernel.specs.KernelState.{KernelState, objects_of, queue_at, Each, IsOpenEnd, IsSound}
 
 -- a pipe whose read end is closed: nothing waits any more
 abbrev pub without_reader : Pipe (List Slice) → Pipe (List Slice)
@@ -16,6 +18,11 @@ without_reader x = record { queue = []; reading = false; writing = x.writing }
 -- a pipe whose write end is closed: where nobody reads either, nothing waits
 abbrev pub without_writer : Pipe (List Slice) → Pipe (List Slice)
 without_writer x = record { queue = if x.reading then x.queue else []; reading = x.reading; writing = false }
+
+-- a pipe became x, which holds a part of what it held
+pub record Becomes (s t : Stored) (old new x : Pipe (List Slice)) : Type 0 where
+  pub pipe : new ≡ x
+  pub releases : Releases s t old.queue new.queue
 
 -- with x in a place; a pipe whose ends are both closed is gone
 abbrev pub with_pipe_in : List (Option (Pipe (List Slice))) → (p : ℕ) → Pipe (List Slice) → List (Option (Pipe (List Slice)))
@@ -35,3 +42,25 @@ pub record AreTaken (domains : List (Domain (List Slice))) (objects : Objects (L
 -- all ends but one stay open
 pub record KeepsEnds (end : Descriptor) (old new : Objects (List Slice)) : Type 0 where
   pub each : (e : Descriptor) → same_end end e ≡ 0 → IsOpenEnd old (Some e) → IsOpenEnd new (Some e)
+
+-- An end is still open, and no descriptor is open on it any more.
+pub record IsLetGo (h : KernelState) (end : Descriptor) : Type 0 where
+  pub sound : IsSound h
+  pub opened : IsOpenEnd (objects_of h) (Some end)
+  pub free : all_ends_on end h.domains ≡ 0
+
+-- It is closed. No domain changes, and all other ends stay open.
+pub record Closes (end : Descriptor) (old new : KernelState) : Type 0 where
+  pub closed : Leaves (λ s. closed_on s (Some end)) old new
+  pub domains : new.domains ≡ old.domains
+  pub others : KeepsEnds end (objects_of old) (objects_of new)
+
+-- These ends are all still open, each with no descriptor on it any more.
+pub record AreLetGo (h : KernelState) (ends : List (Option Descriptor)) : Type 0 where
+  pub sound : IsSound h
+  pub taken : AreTaken h.domains (objects_of h) ends
+
+-- They are closed one after another, and no domain changes.
+pub record ClosesAll (ends : List (Option Descriptor)) (old new : KernelState) : Type 0 where
+  pub closed : Leaves (λ s. fold closed_on s ends) old new
+  pub domains : new.domains ≡ old.domains

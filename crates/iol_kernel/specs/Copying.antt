@@ -1,5 +1,6 @@
 -- What reads by copying do to what a system holds.
-use Rattle.std.specs.Prelude.{◌≡◌, ℕ, List, [], Option, Some, Result, Err, OnOk, OnErr}
+use Rattle.std.specs.Prelude.{◌≡◌, ℕ, List, [], Option, Some, None, Result, Err, OnOk, OnErr}
+use Rattle.iol_core.specs.Calls.Files.{open_on}
 use Rattle.iol_core.specs.Calls.Reading.{read}
 use Rattle.iol_core.specs.declared.descriptors.Descriptor.{Descriptor}
 use Rattle.iol_core.specs.declared.descriptors.Descriptor.TheVariants as on
@@ -9,8 +10,13 @@ use Rattle.iol_back.specs.Disk.{Disk}
 use Rattle.iol_hold.specs.Pages.{KeepsPages}
 use Rattle.iol_kernel.specs.Backed.{Serves}
 use Rattle.iol_kernel.specs.FileReading.{CopiesFileAs, file_read, held_by}
-use Rattle.iol_kernel.specs.KernelState.{KernelState, read_of, machine_of}
+use Rattle.iol_kernel.specs.KernelState.{KernelState, IsSound, read_of, machine_of}
 use Rattle.iol_kernel.specs.Readings.{Reading, KeepsPools}
+
+-- Between two events: the descriptor is open on no file.
+pub record IsOnNoFile (h : KernelState) (d fd : ℕ) : Type 0 where
+  pub sound : IsSound h
+  pub no_file : (f : Reading) → open_on (held_by (read_of f h) d fd) ≡ None
 
 -- The machine's `read` of n bytes of a queue, over each store: what is left lies where it lay, of the pages some may be freed,
 -- and what memory has of files stays. A refusal changes nothing.

@@ -3,7 +3,7 @@ use Rattle.std.specs.Prelude.{◌≡◌, ℕ, ◌+◌, List, Option, Some, None,
 use Rattle.iol_core.specs.State.{Domain}
 use Rattle.iol_core.specs.declared.numbers.BufId.{BufId}
 use Rattle.iol_hold.specs.Stored.{Stored, count_of}
-use Rattle.iol_hold.specs.Moves.{tally}
+use Rattle.iol_hold.specs.Moves.{Covers, IsCountable, tally}
 use Rattle.iol_hold.specs.Texts.{bufs_of}
 use Rattle.iol_hold.specs.declared.slices.Slice.{Slice}
 use Rattle.iol_sock.specs.Connections.{Conn}
@@ -36,6 +36,11 @@ abbrev pub all_uses : List (Domain (List Slice)) → Objects (List Slice) → Bu
 all_uses domains objects b =
     sum_by (domain_uses b) domains + sum_by (pipe_uses b) objects.pipes + sum_by (conn_uses b) objects.conns
     + tally b (held objects.cached)
+
+-- these slices are counted, and may be so once more
+pub record MayShare (s : Stored) (slices : List Slice) : Type 0 where
+  pub covered : Covers s (bufs_of slices)
+  pub countable : IsCountable s (bufs_of slices)
 
 -- the count of each buffer is the number of its slices, wherever they lie
 pub record IsCounted (s : Stored) (domains : List (Domain (List Slice))) (objects : Objects (List Slice)) : Type 0 where

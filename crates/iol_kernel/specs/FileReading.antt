@@ -2,7 +2,7 @@
 use Rattle.std.specs.Prelude.{◌≡◌, ◌⊎◌, ℕ, ◌+◌, ◌-◌, ◌≤◌, ◌&&◌, Bool, not, min, List, [], ◌∷◌, length, slice_set, Option, Some, None, Result, IfOk, IfErr, OnErr, OnOk, if◌then◌else◌}
 use Rattle.iol_core.specs.State as machine
 use Rattle.iol_core.specs.State.{State, Domain, is_live, descriptor}
-use Rattle.iol_core.specs.Meaning.{◌when◌, WantOfRoomOrFault}
+use Rattle.iol_core.specs.Meaning.{◌when◌, WantOfRoomOrFault, first}
 use Rattle.iol_core.specs.Text.{bytes_of}
 use Rattle.iol_core.specs.Calls.Aggregates.{too_many_aggs}
 use Rattle.iol_core.specs.Calls.Descriptors.{denied_by}
@@ -28,8 +28,9 @@ use Rattle.iol_cache.specs.Serving.{IsBacked, IsEnd, NoRoomToRead, ReadsFile, Re
 use Rattle.iol_kernel.specs.Backed.{Serves, holding_of}
 use Rattle.iol_kernel.specs.Calls.{CarriesOut}
 use Rattle.iol_kernel.specs.Keeping.{KeepsUnless, LacksPagesToRead}
-use Rattle.iol_kernel.specs.KernelState.{KernelState, machine_of}
+use Rattle.iol_kernel.specs.KernelState.{KernelState, machine_of, read_of}
 use Rattle.iol_kernel.specs.Opened.{IsOpenOn}
+use Rattle.iol_kernel.specs.Readings.{Reading}
 use Rattle.iol_kernel.specs.declared.open_file.OpenFile.{OpenFile}
 
 -- Of n bytes of a file from `at` on, it has so many: as far as the file goes.
@@ -59,12 +60,25 @@ read_at d fd found n = file_read d fd found.file found.at found.mode n
 pub record IsOpenAt (h : KernelState) (x : FileRead) : Type 0 where
   pub is : IsOpenOn h x.domain x.fd (on.File x.file x.at x.mode)
 
+-- neither for want of room nor by a fault
+abbrev pub IsBeforeRoom : Refusal → Type 0
+IsBeforeRoom (NoRoom p) = ⊥
+IsBeforeRoom (Fault f) = ⊥
+IsBeforeRoom y = Unit {0}
+
 -- what may refuse a read of a file before the store is asked: only one by reference makes an aggregate
 abbrev pub read_tests : State → (by f : ℕ) → Mode → (makes_agg : Bool) → List (Option Refusal)
 read_tests s by f mode makes_agg =
     (WrongMode when not (calls.reads mode)) ∷
     (TooMany when (makes_agg && too_many_aggs s by 1 0)) ∷
     denied_by s by (Some (machine.file s f).pool) ∷ []
+
+-- A read passed these tests, or was refused by the first that holds, before it asked for room.
+pub record TestsRead {A : Type 0} (d f : ℕ) (mode : Mode) (makes_agg : Bool) (h : KernelState)
+    (r : Result A Refusal) : Type 0 where
+  pub passed : OnOk r ((g : Reading) → first (read_tests (read_of g h) d f mode makes_agg) ≡ None)
+  pub refused : IfErr r (λ x. (g : Reading) → first (read_tests (read_of g h) d f mode makes_agg) ≡ Some x)
+  pub early : IfErr r (λ x. IsBeforeRoom x)
 
 -- the pool of the file's bytes
 abbrev pub pool_read : KernelState → FileRead → ℕ
@@ -84,12 +98,6 @@ pub record GivesRead (x : FileRead) (disk : Disk) (old new : KernelState) : Type
 -- what of a kernel's files is in memory, over these pages
 abbrev pub holding_over : Stored → KernelState → Holding
 holding_over s h = record { store = s; cache = h.cache }
-
--- neither for want of room nor by a fault
-abbrev pub IsBeforeRoom : Refusal → Type 0
-IsBeforeRoom (NoRoom p) = ⊥
-IsBeforeRoom (Fault f) = ⊥
-IsBeforeRoom y = Unit {0}
 
 -- A refused read. One that was refused before it asked for room changed nothing. A late one left hits that count, and clean
 -- extents that went to make room, the first ones before the others, where the pages that it wanted could be had; for want of

@@ -1,5 +1,5 @@
 -- The fields of the kernel, as what it holds; and the words of contracts, said of kernels.
-use Rattle.std.specs.Prelude.{ℕ, List, [], Result}
+use Rattle.std.specs.Prelude.{◌≡◌, ℕ, List, [], Result, IfOk, OnErr}
 use Rattle.iol_core.specs.State.{State}
 use Rattle.iol_core.specs.Text.{Text}
 use Rattle.iol_core.specs.Meaning.{Meaning}
@@ -48,6 +48,9 @@ KeepsPlaces m old r new = calls.KeepsPlaces m (state_of old) r (state_of new)
 
 abbrev pub Answers : {A : Type 0} → (State → Meaning A) → Kernel → A → Kernel → Type 0
 Answers m old a new = calls.Answers m (state_of old) a (state_of new)
+
+abbrev pub Attempts : {A E : Type 0} → (State → Meaning A) → Kernel → Result A E → Kernel → Type 0
+Attempts m old r new = calls.Attempts m (state_of old) r (state_of new)
 
 abbrev pub AddsFile : {A : Type 0} → (State → Meaning A) → Kernel → A → Kernel → Type 0
 AddsFile m old a new = calls.AddsFile m (state_of old) a (state_of new)
@@ -101,6 +104,9 @@ Transmits c max old r new = calls.Transmits c max (state_of old) r (state_of new
 abbrev pub IsFound : Kernel → (d a : ℕ) → List Slice → Type 0
 IsFound k d a xs = calls.IsFound (state_of k) d a xs
 
+abbrev pub IsSoLong : Kernel → (d a n : ℕ) → Type 0
+IsSoLong k d a n = calls.IsSoLong (state_of k) d a n
+
 abbrev pub IsMissing : Kernel → (d a : ℕ) → Refusal → Type 0
 IsMissing k d a x = calls.IsMissing (state_of k) d a x
 
@@ -112,6 +118,14 @@ IsSource k end = ends.IsSource (state_of k) end
 
 abbrev pub GivesFront : Descriptor → (d n : ℕ) → Kernel → Kernel → List Slice → Type 0
 GivesFront end d n old new slices = ends.GivesFront end d n (state_of old) (state_of new) slices
+
+-- The front of a queue was taken off it, or memory was wanting and nothing changed. The table of
+-- domains is as it was.
+pub record TakesOff {E : Type 0} (end : Descriptor) (d n : ℕ) (old : Kernel) (r : Result (List Slice) E)
+    (new : Kernel) : Type 0 where
+  pub given : IfOk r (λ a. GivesFront end d n old new a)
+  pub table : new.domains ≡ old.domains
+  pub err : OnErr r (state_of new ≡ state_of old)
 
 abbrev pub Places : {A : Type 0} → (State → Meaning A) → (State → Text → State) → (pool n : ℕ) → Kernel
     → Result A Refusal → Kernel → Type 0

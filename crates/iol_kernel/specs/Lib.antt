@@ -5,6 +5,7 @@ pub mod Counted
 pub mod Ends
 pub mod KernelState
 pub mod Opened
+pub mod NewDescriptors
 pub mod ClosedEnds
 pub mod Kernel
 pub mod Report
@@ -18,9 +19,14 @@ pub mod MakingRoom
 pub mod Putting
 pub mod Copying
 pub mod Adding
+pub mod Having
+pub mod PoolCalls
 pub mod Regrouped
 pub mod Queues
 pub mod QueueEnds
 pub mod Borrowed
+pub mod Outside
+pub mod NamingFiles
+pub mod WritingAggs
 pub mod Keeping
 pub mod Prelude

@@ -1,5 +1,5 @@
 -- Clean extents of files give way to new bytes.
-use Rattle.std.specs.Prelude.{◌≡◌, ◌⊎◌, ℕ, ◌+◌, ◌≤◌, Bool, true, false, nat_le, List, length, Some, Result, Err, OnOk, IfErr}
+use Rattle.std.specs.Prelude.{◌≡◌, ◌⊎◌, ◌↔◌, ℕ, ◌+◌, ◌≤◌, Bool, IsTrue, true, false, nat_le, List, length, Some, Result, Err, OnOk, IfErr}
 use Rattle.iol_core.specs.State.{State}
 use Rattle.iol_core.specs.Text.{Text}
 use Rattle.iol_core.specs.Meaning.{Meaning}
@@ -7,11 +7,12 @@ use Rattle.iol_core.specs.declared.refusals.Refusal.{Refusal}
 use Rattle.iol_core.specs.declared.refusals.Refusal.TheVariants.{NoRoom, Memory}
 use Rattle.iol_arena.specs.State.{pages_for}
 use Rattle.iol_back.specs.Disk.{Disk}
-use Rattle.iol_hold.specs.Room.{free_of, pages_of}
+use Rattle.iol_hold.specs.Room.{free_of, has_room, pages_of}
 use Rattle.iol_cache.specs.Cached.{clean_held}
 use Rattle.iol_cache.specs.Evicting.{EvictsAll, GivesUp}
 use Rattle.iol_cache.specs.Keeping.{KeepsDirty}
 use Rattle.iol_cache.specs.Pinned.{pinned_beside}
+use Rattle.iol_pool.specs.Pools.{pool_in}
 use Rattle.iol_kernel.specs.Backed.{IsBackedBy, Serves, holding_of, with_slots}
 use Rattle.iol_kernel.specs.Calls.{MakesBytes}
 use Rattle.iol_kernel.specs.KernelState.{KernelState, machine_of, read_of, IsSound}
@@ -38,6 +39,27 @@ pub record MakesRoom (pool pages : ℕ) (old new : KernelState) : Type 0 where
   pub reads : (f : Reading) → read_of f new ≡ record (read_of f old) { slots = (read_of f new).slots }
   pub same : IsSame old new
   pub sound : IsSound new
+
+-- Between two events: the pool is open, so new bytes may be placed in it.
+pub record MayPlaceIn (pool : ℕ) (h : KernelState) : Type 0 where
+  pub sound : IsSound h
+  pub opened : (pool_in h.store.pools pool).closed ≡ false
+
+-- Room was asked for, of so many pages. It was made just where these, and those that something else
+-- than clean extents holds, are no more than the pool has; else nothing changed.
+pub record AsksRoom (pool pages : ℕ) (old : KernelState) (enough : Bool) (new : KernelState) : Type 0 where
+  pub made : MakesRoom pool pages old new
+  pub room : IsTrue enough
+      ↔ (pinned_beside old.store (clean_held old.cache.files) pool + pages ≤ length (pages_of old.store pool))
+  pub free : IsTrue enough → pages ≤ length (free_of new.store pool)
+  pub refused : enough ≡ false → new ≡ old
+
+-- The same of so many bytes: it was made just where they fit.
+pub record AsksToFit (pool n : ℕ) (old : KernelState) (enough : Bool) (new : KernelState) : Type 0 where
+  pub made : MakesRoom pool (pages_for n) old new
+  pub fits : can_fit old pool n ≡ enough
+  pub room : IsTrue enough → has_room new.store pool n ≡ true
+  pub refused : enough ≡ false → new ≡ old
 
 -- Room was made for n bytes, and P holds of the state then.
 pub record AfterRoom (pool n : ℕ) (old : KernelState) (P : KernelState → Type 0) : Type 0 where

@@ -1,5 +1,5 @@
 -- Bytes that a domain writes by copying: where they go, and in which pool they lie.
-use Rattle.std.specs.Prelude.{◌≡◌, ℕ, false, List, [], Some, Result, Err, IfOk, OnErr}
+use Rattle.std.specs.Prelude.{◌≡◌, ℕ, false, List, [], Some, Result, Err, IfOk, IfErr, OnErr}
 use Rattle.iol_core.specs.State as machine
 use Rattle.iol_core.specs.State.{State, descriptor}
 use Rattle.iol_core.specs.Text.{Text}
@@ -34,6 +34,11 @@ pub record PassesTests (d fd : ℕ) (bytes : List ℕ) (p : ℕ) (h : KernelStat
 pub record FailsTests (d fd : ℕ) (bytes : List ℕ) (x : Refusal) (h : KernelState) : Type 0 where
   pub refused : (f : Reading) → IsRefused (writing.write (read_of f h) d fd bytes).refusals Never x
   pub roomy : (p : ℕ) → x ≡ NoRoom p → ⊥
+
+-- A write of these bytes was tested: the pool in which they are to lie, or why it is refused.
+pub record TestsWrite (d fd : ℕ) (bytes : List ℕ) (h : KernelState) (r : Result ℕ Refusal) : Type 0 where
+  pub passes : IfOk r (λ p. PassesTests d fd bytes p h)
+  pub refused : IfErr r (λ x. FailsTests d fd bytes x h)
 
 -- These bytes may be written to a descriptor that is open on this, and are to lie in this pool.
 pub record MayPut (d fd : ℕ) (target : Descriptor) (p : ℕ) (bytes : List ℕ) (h : KernelState) : Type 0 where

@@ -1,7 +1,8 @@
 -- What a descriptor is open on, to read from it.
-use Rattle.std.specs.Prelude.{◌≡◌, ℕ, ◌<◌, true, false, List, Option, Some, option_map}
+use Rattle.std.specs.Prelude.{◌≡◌, ℕ, ◌<◌, true, false, List, [], Option, Some, option_map}
 use Rattle.std.specs.List.{slice_get}
 use Rattle.iol_core.specs.Text.{Text}
+use Rattle.iol_core.specs.Calls.Aggregates.{too_many_aggs}
 use Rattle.iol_core.specs.Calls.Reading.{can_read, iol_read}
 use Rattle.iol_core.specs.Calls.Writing.{is_file}
 use Rattle.iol_core.specs.declared.descriptors.Descriptor.{Descriptor}
@@ -9,7 +10,7 @@ use Rattle.iol_core.specs.declared.limits.TheConstants.{MAX_AGGREGATES}
 use Rattle.iol_hold.specs.declared.slices.Slice.{Slice}
 use Rattle.iol_desc.specs.Tables.{domain_in, live_aggs_in, with_agg_in}
 use Rattle.iol_kernel.specs.Calls.{Answers}
-use Rattle.iol_kernel.specs.KernelState.{KernelState, objects_of, IsOpenEnd, IsSound}
+use Rattle.iol_kernel.specs.KernelState.{KernelState, objects_of, IsOpenEnd, IsSound, machine_of}
 use Rattle.iol_kernel.specs.Opened.{IsOpenOn}
 
 -- the pool of a text's first byte
@@ -22,6 +23,12 @@ pub record IsSource (h : KernelState) (end : Descriptor) : Type 0 where
   pub opened : IsOpenEnd (objects_of h) (Some end)
   pub readable : can_read (Some end) ≡ true
   pub no_file : is_file (Some end) ≡ false
+
+-- The domain may take the front of a queue, by this descriptor, as one more aggregate.
+pub record MayTake (d fd : ℕ) (end : Descriptor) (h : KernelState) : Type 0 where
+  pub held : IsOpenOn h d fd end
+  pub source : IsSource h end
+  pub few : too_many_aggs (machine_of [] h) d 1 0 ≡ false
 
 -- Of the first n bytes of a queue those that the domain may see were taken off it: these slices. Added to the domain, they
 -- answer its read.

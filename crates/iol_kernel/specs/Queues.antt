@@ -1,6 +1,17 @@
--- Pipes of which one has another queue.
-use Rattle.std.specs.Prelude.{ℕ, List, Option, Some, slice_set}
+-- Pipes of which one has another queue, and what each call does to it.
+use Rattle.std.specs.Prelude.{◌≡◌, ℕ, ◌++◌, List, true, length, take, take_while, drop, Option, Some, Result, IfOk, IfErr, OnOk, OnErr, slice_set}
+use Rattle.iol_core.specs.Meaning.{WantOfRoom}
+use Rattle.iol_core.specs.Text.{bytes_of}
+use Rattle.iol_core.specs.declared.refusals.Refusal.{Refusal}
+use Rattle.iol_hold.specs.Moves.{Covers}
+use Rattle.iol_hold.specs.Places.{places}
+use Rattle.iol_hold.specs.Releases.{Releases}
+use Rattle.iol_hold.specs.Room.{TellsRoom, has_room}
+use Rattle.iol_hold.specs.Stored.{Stored}
+use Rattle.iol_hold.specs.Texts.{bufs_of, text_of}
 use Rattle.iol_hold.specs.declared.slices.Slice.{Slice}
+use Rattle.iol_pipe.specs.Adding.{AddsFitting, SharesFitting}
+use Rattle.iol_pipe.specs.Queue.{GivesFirst, fitting, may_see}
 use Rattle.iol_kernel.specs.Views.{Pipe}
 use Rattle.iol_kernel.specs.KernelState.{queue_at}
 
@@ -12,3 +23,47 @@ with_queue pipes p xs = slice_set pipes p (Some (record (queue_at pipes p) { que
 abbrev pub with_queue_of : List (Option (Pipe (List Slice))) → (p : ℕ) → (others : List (Option (Pipe (List Slice))))
     → List (Option (Pipe (List Slice)))
 with_queue_of pipes p others = with_queue pipes p (queue_at others p).queue
+
+-- Of these slices it gets as many bytes as fit. They are shared. A refusal changes nothing.
+pub record PushesIn {E : Type 0} (s t : Stored) (old new : List (Option (Pipe (List Slice)))) (p : ℕ)
+    (from : List Slice) (r : Result ℕ E) : Type 0 where
+  pub shares : IfOk r (SharesFitting s t (queue_at old p).queue (queue_at new p).queue from)
+  pub pipes : OnOk r (new ≡ with_queue_of old p new)
+  pub err : OnErr r ((new ≡ old) × (t ≡ s))
+
+-- Of new bytes of a pool it gets as many as fit. A refusal, for want of room or memory alone, changes
+-- nothing.
+pub record FillsIn (s t : Stored) (old new : List (Option (Pipe (List Slice)))) (p pool : ℕ)
+    (bytes : List ℕ) (r : Result ℕ Refusal) : Type 0 where
+  pub adds : IfOk r (AddsFitting s t (queue_at old p).queue (queue_at new p).queue pool bytes)
+  pub pipes : OnOk r (new ≡ with_queue_of old p new)
+  pub room : TellsRoom (has_room s pool (fitting (queue_at old p).queue (length bytes))) r
+  pub late : IfErr r (WantOfRoom pool)
+  pub err : OnErr r ((new ≡ old) × (t ≡ s))
+
+-- A domain is given the longest prefix of its first n bytes whose pools all name the domain. A refusal
+-- changes nothing.
+pub record GivesFrontIn {E : Type 0} (s t : Stored) (old new : List (Option (Pipe (List Slice))))
+    (p n d : ℕ) (r : Result (List Slice) E) : Type 0 where
+  pub gives : IfOk r (λ a. GivesFirst s t (queue_at old p).queue a (queue_at new p).queue n d)
+  pub pipes : OnOk r (new ≡ with_queue_of old p new)
+  pub err : OnErr r ((new ≡ old) × (t ≡ s))
+
+-- The longest prefix of what waits whose pools all name the domain is copied, as much of it as there is
+-- room for: n bytes. All still wait.
+pub record CopiesFront (s : Stored) (pipes : List (Option (Pipe (List Slice)))) (p d : ℕ)
+    (old new : List ℕ) (n : ℕ) : Type 0 where
+  pub count : n ≡ length (take_while (may_see s.pools d)
+      (take (length old) (places (queue_at pipes p).queue)))
+  pub copied : new ≡ take n (bytes_of (text_of s (queue_at pipes p).queue)) ++ drop n old
+
+-- its read end is open, and what waits is counted
+pub record IsTakenFrom (s : Stored) (pipes : List (Option (Pipe (List Slice)))) (p : ℕ) : Type 0 where
+  pub covered : Covers s (bufs_of (queue_at pipes p).queue)
+  pub reading : (queue_at pipes p).reading ≡ true
+
+-- The first n bytes are released, or all where fewer wait.
+pub record SkipsIn (s t : Stored) (old new : List (Option (Pipe (List Slice)))) (p n : ℕ) : Type 0 where
+  pub rest : places (queue_at new p).queue ≡ drop n (places (queue_at old p).queue)
+  pub pipes : new ≡ with_queue_of old p new
+  pub releases : Releases s t (queue_at old p).queue (queue_at new p).queue

@@ -1,5 +1,8 @@
 -- Writing back of what is dirty, and what it leaves beside what it means.
-use Rattle.std.specs.Prelude.{◌≡◌, ◌⊎◌, ℕ, None, Result, Ok, Err, OnOk}
+use Rattle.std.specs.Prelude.{◌≡◌, ◌⊎◌, ℕ, true, None, Result, Ok, Err, OnOk}
+use Rattle.iol_core.specs.Meaning.{first}
+use Rattle.iol_core.specs.Numbered.{is_numbered}
+use Rattle.iol_core.specs.Calls.Files.{file_on, fsync}
 use Rattle.iol_core.specs.declared.refusals.Refusal.{Refusal}
 use Rattle.iol_core.specs.declared.refusals.Refusal.TheVariants.{Fault}
 use Rattle.iol_back.specs.Disk.{Disk}
@@ -8,7 +11,16 @@ use Rattle.iol_cache.specs.Cached.{extents_in}
 use Rattle.iol_cache.specs.Serving.{FaultCounts}
 use Rattle.iol_cache.specs.Syncing as cache
 use Rattle.iol_cache.specs.declared.sync.Flushed.{Flushed}
-use Rattle.iol_kernel.specs.KernelState.{KernelState}
+use Rattle.iol_kernel.specs.Backed.{Serves}
+use Rattle.iol_kernel.specs.KernelState.{KernelState, IsSound, read_of}
+use Rattle.iol_kernel.specs.Readings.{Reading}
+
+-- Between two events: an fsync by this descriptor passes its tests, and is of the file in slot f.
+pub record MaySync (d fd f : ℕ) (h : KernelState) : Type 0 where
+  pub sound : IsSound h
+  pub passed : (g : Reading) → first (fsync (read_of g h) d fd).refusals ≡ None
+  pub file : (g : Reading) → f ≡ file_on (read_of g h) d fd
+  pub there : is_numbered h.files f ≡ true
 
 -- The first dirty extents of the file in slot f were written back and are clean: all of them, or those before the one at which
 -- the store failed. Each entered the order as a new one. A fault is answered just where one failure more was counted. Nothing
@@ -21,6 +33,12 @@ pub record SyncsFile {A : Type 0} (f : ℕ) (disk : Disk) (old : KernelState) (r
       ⊎ (((g : ℕ) → r ≡ Err (Fault g) → ⊥) × (new ≡ old) × (after ≡ disk))
   pub counts : FaultCounts disk after r
   pub same : new ≡ record old { cache = new.cache }
+
+-- What comes of an fsync that passed its tests: what it means, and what it leaves.
+pub record SyncsBack (d fd f : ℕ) (disk : Disk) (old : KernelState) (r : Result (Unit {0}) Refusal) (after : Disk)
+    (new : KernelState) : Type 0 where
+  pub serves : Serves (λ s. fsync s d fd) disk old r after new
+  pub syncs : SyncsFile f disk old r after new
 
 -- what was flushed, without its number
 abbrev pub done_of : Result Flushed Refusal → Result (Unit {0}) Refusal

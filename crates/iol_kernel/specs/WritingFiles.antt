@@ -1,10 +1,10 @@
 -- What a write to a file leaves, beside what it means.
-use Rattle.std.specs.Prelude.{◌≡◌, ◌⊎◌, ℕ, ◌+◌, ◌<◌, ◌≤◌, List, [], length, slice_set, Option, Some, Result, Err, IfErr, OnErr, OnOk, true, ⊤}
+use Rattle.std.specs.Prelude.{◌≡◌, ◌⊎◌, ℕ, ◌+◌, ◌<◌, ◌≤◌, List, [], length, slice_set, Option, Some, Result, Err, IfErr, OnErr, OnOk, true, false, ⊤}
 use Rattle.iol_arena.specs.State.{pages_for}
 use Rattle.iol_core.specs.Meaning.{WantOfRoom}
 use Rattle.iol_core.specs.State.{Domain}
 use Rattle.iol_core.specs.Text.{labelled}
-use Rattle.iol_core.specs.Calls.Writing.{iol_write}
+use Rattle.iol_core.specs.Calls.Writing.{iol_write, write}
 use Rattle.iol_core.specs.declared.descriptors.Mode.{Mode}
 use Rattle.iol_core.specs.declared.descriptors.Descriptor.{Descriptor}
 use Rattle.iol_core.specs.declared.descriptors.Descriptor.TheVariants as on
@@ -154,6 +154,30 @@ pub record LaysInFile {A : Type 0} (f at pool : ℕ) (bytes : List ℕ) (old : K
     (new : KernelState) : Type 0 where
   pub lays : OnOk r (AfterRoom pool (length bytes) old (λ roomy. LaysOver f at pool bytes roomy new))
   pub leaves : IfErr r (LeavesUnlaid pool bytes old new)
+
+-- New bytes are written over those of a file, where its pool has room for them: what that means, and
+-- where they lie then, and other bytes. It is refused for want of memory alone, and what was placed
+-- is gone.
+pub record FillsFile (d fd f at pool : ℕ) (bytes : List ℕ) (old : KernelState) (r : Result ℕ Refusal)
+    (new : KernelState) : Type 0 where
+  pub serves : (disk : Disk) → Serves (λ s. write s d fd bytes) disk old r disk new
+  pub roomy : (p : ℕ) → r ≡ Err (NoRoom p) → ⊥
+  pub late : IfErr r (WantOfRoom pool)
+  pub fills : OnOk r (KeepsPages old.store new.store (lowest_of old.store pool (length bytes)))
+  pub beside : KeepsBeside f at (length bytes) pool ⊥ old.cache new.cache
+  pub lays : OnOk r (LaysOver f at pool bytes old new)
+  pub leaves : IfErr r (λ x. (new ≡ old) ⊎ GivesUpNew pool bytes old new)
+
+-- The same once clean extents of files of the pool gave way: for want of room it is refused just
+-- where the bytes do not fit.
+pub record PutsOver (d fd f at pool : ℕ) (bytes : List ℕ) (old : KernelState) (r : Result ℕ Refusal)
+    (new : KernelState) : Type 0 where
+  pub serves : (disk : Disk) → Serves (λ s. write s d fd bytes) disk old r disk new
+  pub room : OnOk r (can_fit old pool (length bytes) ≡ true)
+  pub no_room : (p : ℕ) → r ≡ Err (NoRoom p) → can_fit old pool (length bytes) ≡ false
+  pub late : IfErr r (WantOfRoom pool)
+  pub puts : PutsInFile f at pool (length bytes) old r new
+  pub lays : LaysInFile f at pool bytes old r new
 
 -- A write of these bytes by copying, where the descriptor is open on a file.
 abbrev pub LaysOn : Option Descriptor → (pool : ℕ) (bytes : List ℕ) → (old : KernelState) → Result ℕ Refusal

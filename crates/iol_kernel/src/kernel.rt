@@ -1,6 +1,6 @@
 //! What a system holds, and the tests that its calls make.
-ghost use Rattle.std.specs.Prelude.{replicate, ◌*◌, ◌⊎◌, ◌↔◌, Err, IfOk, IfErr, OnOk, ◌≡◌, ◌≤◌, ℕ, length, true, false, Option, Some, List, []};
-ghost use Rattle.iol_core.specs.Prelude.{IsInRange, new_state, is_live, may_read, text, descriptor, lacks_agg, too_many_aggs, too_many_open};
+ghost use Rattle.std.specs.Prelude.{replicate, ◌*◌, ◌⊎◌, ◌↔◌, Err, IfOk, IfErr, OnOk, ◌≡◌, ◌≤◌, ℕ, max, true, false, Option, Some, List, []};
+ghost use Rattle.iol_core.specs.Prelude.{IsInRange, new_state, is_live, may_read, descriptor, too_many_aggs, too_many_open};
 ghost use Rattle.iol_arena.specs.Prelude.{no_entry};
 ghost use Rattle.iol_kernel.specs.Report.{Reports};
 ghost use Rattle.iol_kernel.specs.KernelState.{machine_of, IsSound};
@@ -35,7 +35,7 @@ pub struct Kernel {
 }
 
 impl Kernel {
-    ghost use Rattle.iol_kernel.specs.Kernel.{state_of, machine, as_read, IsFound, IsMissing, IsUnopened};
+    ghost use Rattle.iol_kernel.specs.Kernel.{state_of, machine, as_read, IsFound, IsMissing, IsSoLong, IsUnopened};
 
     /// A kernel with domain 1 and nothing else. A size out of its range is `BadRange`.
     pub fn new(alloc: Global, config: Config) -> Result<Kernel, Refusal>
@@ -96,11 +96,7 @@ impl Kernel {
     /// How long a domain's aggregate is. It is refused as `find` is.
     #[tactic(auto, using(crate::proofs::State::ReadOf::length_rules))]
     pub(crate) fn find_len(&self, d: DomainId, agg: AggId) -> Result<u32, Refusal>
-        ensures live { IfOk result (λ n. (f : Reading) → is_live (as_read f self.now) d ≡ true) }
-        ensures there { IfOk result (λ n. (f : Reading) → lacks_agg (as_read f self.now) d agg ≡
-            false) }
-        ensures len { IfOk result (λ n. (f : Reading) → n ≡ length (text (as_read f self.now) d
-            agg)) }
+        ensures ok { IfOk result (λ n. IsSoLong self.now d agg n) }
         ensures err { IfErr result (IsMissing self.now d agg) }
     {
         let found = self.find(d, agg)?;
@@ -128,8 +124,7 @@ impl Kernel {
     #[tactic(auto, using(crate::proofs::State::Views::domain_rules), unfolding(crate::specs::KernelState::read_of))]
     pub(crate) fn is_too_many(&self, d: DomainId, made: u64, given: u64) -> bool
         requires live { is_live (machine self.now) d ≡ true }
-        requires made { made ≤ 2 }
-        requires given { given ≤ 2 }
+        requires most { max made given ≤ 2 }
         ensures { (f : Reading) → result ≡ too_many_aggs (as_read f self.now) d made given }
     {
         self.domains.is_too_many(d, made, given)

@@ -1,12 +1,13 @@
 //! Pipes: bounded queues, each in a place of its own, with a read end and a write end.
-ghost use Rattle.std.specs.Prelude.{◌≡◌, ◌<◌, ◌≤◌, ◌^◌, length, take, take_while, drop, true, [], ◌++◌, IfOk, IfErr, OnOk, OnErr, false};
-ghost use Rattle.iol_core.specs.Prelude.{lowest, placed, taken, WantOfRoom, bytes_of};
-ghost use Rattle.iol_hold.specs.Prelude.{Covers, IsCountable, Releases, TellsRoom, byte_len, places, text_of, bufs_of, AllReadable, has_room};
-ghost use Rattle.iol_pipe.specs.Prelude.{AddsFitting, GivesFirst, SharesFitting, first_pool, fitting, may_see};
+ghost use Rattle.std.specs.Prelude.{◌≡◌, ◌<◌, ◌≤◌, ◌^◌, true, [], OnOk, false};
+ghost use Rattle.iol_core.specs.Prelude.{lowest, placed, taken};
+ghost use Rattle.iol_hold.specs.Prelude.{Covers, byte_len, bufs_of, AllReadable};
+ghost use Rattle.iol_pipe.specs.Prelude.{first_pool};
 ghost use Rattle.iol_pool.specs.Prelude.{pool_in};
-ghost use Rattle.iol_kernel.specs.ClosedEnds.{without_reader, without_writer, ClosesEnd};
+ghost use Rattle.iol_kernel.specs.ClosedEnds.{without_reader, without_writer, Becomes, ClosesEnd};
+ghost use Rattle.iol_kernel.specs.Counted.{MayShare};
 ghost use Rattle.iol_kernel.specs.KernelState.{queue_at};
-ghost use Rattle.iol_kernel.specs.Queues.{with_queue_of};
+ghost use Rattle.iol_kernel.specs.Queues.{CopiesFront, FillsIn, GivesFrontIn, IsTakenFrom, PushesIn, SkipsIn};
 
 use iol_agg::Agg;
 use iol_core::limits::MAX_QUEUE_BYTES;
@@ -40,8 +41,7 @@ impl Pipe {
     fn close_reader(&mut self, store: &mut Store) -> bool
         requires { Covers store.old (bufs_of self.old.queue) }
         ensures stays { result ≡ self.old.writing }
-        ensures pipe { self.new ≡ without_reader self.old }
-        ensures releases { Releases store.old store.new self.old.queue self.new.queue }
+        ensures becomes { Becomes store.old store.new self.old self.new (without_reader self.old) }
     {
         self.queue.clear(store);
         self.reading = false;
@@ -54,8 +54,7 @@ impl Pipe {
     fn close_writer(&mut self, store: &mut Store) -> bool
         requires { Covers store.old (bufs_of self.old.queue) }
         ensures stays { result ≡ self.old.reading }
-        ensures pipe { self.new ≡ without_writer self.old }
-        ensures releases { Releases store.old store.new self.old.queue self.new.queue }
+        ensures becomes { Becomes store.old store.new self.old self.new (without_writer self.old) }
     {
         self.writing = false;
         if self.reading {
@@ -179,14 +178,9 @@ impl Pipes {
         p: PipeId,
         from: &Agg,
     ) -> Result<u32, AllocError>
-        requires covered { Covers store.old (bufs_of from.now) }
-        requires countable { IsCountable store.old (bufs_of from.now) }
+        requires shared { MayShare store.old from.now }
         requires writing { (queue_at self.old.places p).writing ≡ true }
-        ensures shares { IfOk result (SharesFitting store.old store.new
-            (queue_at self.old.places p).queue (queue_at self.new.places p).queue from.now) }
-        ensures pipes { OnOk result (self.new.places ≡ with_queue_of self.old.places p
-            self.new.places) }
-        ensures err { OnErr result ((self.new.places ≡ self.old.places) × (store.new ≡ store.old)) }
+        ensures { PushesIn store.old store.new self.old.places self.new.places p from.now result }
     {
         let pipe = self.places.value_mut(p.number() as usize);
         pipe.queue.push(store, from)
@@ -205,14 +199,8 @@ impl Pipes {
     ) -> Result<u32, Refusal>
         requires open { (pool_in store.old.pools pool).closed ≡ false }
         requires writing { (queue_at self.old.places p).writing ≡ true }
-        ensures adds { IfOk result (AddsFitting store.old store.new
-            (queue_at self.old.places p).queue (queue_at self.new.places p).queue pool bytes.now) }
-        ensures pipes { OnOk result (self.new.places ≡ with_queue_of self.old.places p
-            self.new.places) }
-        ensures room { TellsRoom (has_room store.old pool (fitting
-            (queue_at self.old.places p).queue (length bytes.now))) result }
-        ensures late { IfErr result (WantOfRoom pool) }
-        ensures err { OnErr result ((self.new.places ≡ self.old.places) × (store.new ≡ store.old)) }
+        ensures { FillsIn store.old store.new self.old.places self.new.places p pool bytes.now
+            result }
     {
         let pipe = self.places.value_mut(p.number() as usize);
         Ok(pipe.queue.fill(alloc, store, pool, bytes)?)
@@ -228,14 +216,9 @@ impl Pipes {
         n: u32,
         d: DomainId,
     ) -> Result<Agg, AllocError>
-        requires covered { Covers store.old (bufs_of (queue_at self.old.places p).queue) }
-        requires countable { IsCountable store.old (bufs_of (queue_at self.old.places p).queue) }
+        requires shared { MayShare store.old (queue_at self.old.places p).queue }
         requires reading { (queue_at self.old.places p).reading ≡ true }
-        ensures gives { IfOk result (λ a. GivesFirst store.old store.new
-            (queue_at self.old.places p).queue a (queue_at self.new.places p).queue n d) }
-        ensures pipes { OnOk result (self.new.places ≡ with_queue_of self.old.places p
-            self.new.places) }
-        ensures err { OnErr result ((self.new.places ≡ self.old.places) × (store.new ≡ store.old)) }
+        ensures { GivesFrontIn store.old store.new self.old.places self.new.places p n d result }
     {
         let pipe = self.places.value_mut(p.number() as usize);
         pipe.queue.front(alloc, store, n, d)
@@ -246,10 +229,7 @@ impl Pipes {
     pub(crate) fn copy_front(&self, store: &Store, p: PipeId, d: DomainId, into: &mut [u8]) -> u32
         requires readable { AllReadable store.now (queue_at self.now.places p).queue }
         requires reading { (queue_at self.now.places p).reading ≡ true }
-        ensures count { result ≡ length (take_while (may_see store.now.pools d) (take
-            (length into.old) (places (queue_at self.now.places p).queue))) }
-        ensures copied { into.new ≡ take result (bytes_of (text_of store.now (queue_at
-            self.now.places p).queue)) ++ drop result into.old }
+        ensures { CopiesFront store.now self.now.places p d into.old into.new result }
     {
         let Some(pipe) = self.places.get(p.number() as usize) else {
             unreachable!()
@@ -260,13 +240,8 @@ impl Pipes {
     /// Releases the first `n` bytes that wait in a pipe, or all where fewer wait.
     #[tactic(auto, using(crate::proofs::Queues::Ends::there_rules))]
     pub(crate) fn skip(&mut self, store: &mut Store, p: PipeId, n: u32)
-        requires covered { Covers store.old (bufs_of (queue_at self.old.places p).queue) }
-        requires reading { (queue_at self.old.places p).reading ≡ true }
-        ensures rest { places (queue_at self.new.places p).queue ≡ drop n
-            (places (queue_at self.old.places p).queue) }
-        ensures pipes { self.new.places ≡ with_queue_of self.old.places p self.new.places }
-        ensures releases { Releases store.old store.new (queue_at self.old.places p).queue
-            (queue_at self.new.places p).queue }
+        requires { IsTakenFrom store.old self.old.places p }
+        ensures { SkipsIn store.old store.new self.old.places self.new.places p n }
     {
         self.places
             .value_mut(p.number() as usize)
@@ -277,8 +252,7 @@ impl Pipes {
     /// Closes the read end of a pipe, which goes where its write end is closed.
     #[tactic(auto, using(crate::proofs::Queues::Ends::there_rules))]
     pub(crate) fn close_reader(&mut self, store: &mut Store, p: PipeId)
-        requires covered { Covers store.old (bufs_of (queue_at self.old.places p).queue) }
-        requires reading { (queue_at self.old.places p).reading ≡ true }
+        requires { IsTakenFrom store.old self.old.places p }
         ensures { ClosesEnd store.old store.new self.old.places self.new.places p (without_reader
             (queue_at self.old.places p)) }
     {

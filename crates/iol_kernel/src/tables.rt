@@ -1,16 +1,14 @@
 //! Effects on the table of domains, whose aggregates are slices of a store. Room is reserved
 //! first, so that a refusal has changed nothing.
-ghost use Rattle.std.specs.Prelude.{◌≡◌, ◌≢◌, ◌+◌, ◌<◌, ◌≤◌, ◌^◌, true, not, None, [], IfOk, OnOk, OnErr, option_map, find};
+ghost use Rattle.std.specs.Prelude.{◌≡◌, not, [], option_map, find};
 ghost use Rattle.std.specs.List.{list_all};
 ghost use Rattle.iol_pool.specs.Prelude.{names_in};
-ghost use Rattle.iol_hold.specs.Prelude.{Covers, IsCountable, Moves, SameLists, byte_len, FreesOnly, AllSettled, bufs_of, AllReadable};
-ghost use Rattle.iol_desc.specs.Prelude.{domains_of, domain_in, agg_in, with_agg_in, without_agg_in};
+ghost use Rattle.iol_hold.specs.Prelude.{Covers};
+ghost use Rattle.iol_desc.specs.Prelude.{domains_of, domain_in};
 ghost use Rattle.iol_kernel.specs.Counted.{bufs_in};
-ghost use Rattle.iol_kernel.specs.KernelState.{slices_in, Each};
-ghost use Rattle.iol_kernel.specs.Regrouped.{joined_in, SplitsAgg};
+ghost use Rattle.iol_kernel.specs.Regrouped.{GivesNext, JoinsNext, MayGiveIn, MayJoinIn, MaySplitIn, ReleasesAll, SplitsNext};
 
 use iol_agg::Agg;
-use iol_core::limits::LAST_AGGREGATE;
 use iol_core::numbers::{AggId, DomainId, PoolId};
 use iol_desc::entries::Taken;
 use iol_desc::table::Table;
@@ -35,21 +33,9 @@ pub(crate) fn split_agg(
     agg: AggId,
     at: u32,
 ) -> Result<(AggId, AggId), AllocError>
-    requires live { (domain_in (domains_of domains.old) d).live ≡ true }
-    requires there { agg_in (domains_of domains.old) d agg ≢ None }
-    requires few { (domain_in (domains_of domains.old) d).next_agg + 1 ≤ LAST_AGGREGATE }
-    requires within { at ≤ byte_len (slices_in (domains_of domains.old) d agg) }
-    requires covered { Covers store.old (bufs_of (slices_in (domains_of domains.old) d agg)) }
-    requires countable { IsCountable store.old (bufs_of (slices_in (domains_of
-        domains.old) d agg)) }
-    ensures numbers { IfOk result (λ r. r ≡ (
-      (domain_in (domains_of domains.old) d).next_agg,
-      (domain_in (domains_of domains.old) d).next_agg + 1,
-    )) }
-    ensures split { OnOk result (SplitsAgg store.old store.new (domains_of domains.old) (domains_of
-        domains.new) d agg at) }
-    ensures err { OnErr result (domains_of domains.new ≡ domains_of domains.old) }
-    ensures err_store { OnErr result (store.new ≡ store.old) }
+    requires { MaySplitIn store.old (domains_of domains.old) d agg at }
+    ensures { SplitsNext store.old store.new (domains_of domains.old) (domains_of domains.new) d
+        agg at result }
 {
     domains.reserve_aggs(d, 2)?;
     let whole = domains.swap_agg(d, agg, Agg::new(alloc));
@@ -76,17 +62,8 @@ pub(crate) fn join_aggs(
     first: AggId,
     second: AggId,
 ) -> Result<AggId, AllocError>
-    requires live { (domain_in (domains_of domains.old) d).live ≡ true }
-    requires first { agg_in (domains_of domains.old) d first ≢ None }
-    requires second { agg_in (domains_of domains.old) d second ≢ None }
-    requires differ { first ≢ second }
-    requires few { (domain_in (domains_of domains.old) d).next_agg ≤ LAST_AGGREGATE }
-    requires small { byte_len (slices_in (domains_of domains.old) d first) + byte_len (slices_in
-        (domains_of domains.old) d second) < 2 ^ 32 }
-    ensures number { IfOk result (λ n. n ≡ (domain_in (domains_of domains.old) d).next_agg) }
-    ensures joined { OnOk result (domains_of domains.new ≡ joined_in (domains_of domains.old) d
-        first second) }
-    ensures err { OnErr result (domains_of domains.new ≡ domains_of domains.old) }
+    requires { MayJoinIn (domains_of domains.old) d first second }
+    ensures { JoinsNext (domains_of domains.old) (domains_of domains.new) d first second result }
 {
     domains.reserve_aggs(d, 1)?;
     let front = domains.swap_agg(d, first, Agg::new(alloc));
@@ -124,14 +101,8 @@ pub(crate) fn move_agg(
     agg: AggId,
     to: DomainId,
 ) -> Result<AggId, AllocError>
-    requires from { (domain_in (domains_of domains.old) from).live ≡ true }
-    requires to { (domain_in (domains_of domains.old) to).live ≡ true }
-    requires there { agg_in (domains_of domains.old) from agg ≢ None }
-    requires few { (domain_in (domains_of domains.old) to).next_agg ≤ LAST_AGGREGATE }
-    ensures number { IfOk result (λ n. n ≡ (domain_in (domains_of domains.old) to).next_agg) }
-    ensures moved { OnOk result (domains_of domains.new ≡ with_agg_in (without_agg_in (domains_of
-        domains.old) from agg) to (slices_in (domains_of domains.old) from agg)) }
-    ensures err { OnErr result (domains_of domains.new ≡ domains_of domains.old) }
+    requires { MayGiveIn (domains_of domains.old) from agg to }
+    ensures { GivesNext (domains_of domains.old) (domains_of domains.new) from agg to result }
 {
     domains.reserve_aggs(to, 1)?;
     let given = domains.take_agg(from, agg);
@@ -142,11 +113,7 @@ pub(crate) fn move_agg(
 #[tactic(auto, using(crate::proofs::Queues::ClosedEnds::same_rules))]
 pub(crate) fn release_all(store: &mut Store, aggs: Taken<Agg>)
     requires { Covers store.old (bufs_in aggs) }
-    ensures moves { Moves store.old store.new (bufs_in aggs) [] }
-    ensures lists { SameLists store.old store.new }
-    ensures frees { FreesOnly store.old store.new }
-    ensures settles { Each (λ e. AllReadable store.old e.1) aggs → AllSettled store.old → AllSettled
-        store.new }
+    ensures { ReleasesAll store.old store.new aggs [] }
 {
     let mut left = aggs;
     while let Some((_, agg)) = left.pop() {

@@ -21,12 +21,13 @@ use Rattle.iol_hold.proofs.Reading.{readable_stays}
 use Rattle.iol_desc.specs.Tables.{domain_in, live_aggs_in}
 use Rattle.iol_kernel.specs.Views.{state_view}
 use Rattle.iol_kernel.specs.Adding.{replaced, AddsShared}
+use Rattle.iol_kernel.specs.Having.{MayCut, MayReplace}
 use Rattle.iol_kernel.specs.KernelState.{KernelState, objects_of, machine_of, IsSound, slices_in, read_of}
 use Rattle.iol_kernel.proofs.State.Answered.{answers_as, answers_shared}
 use Rattle.iol_kernel.proofs.State.Views.{with_agg-view}
-use Rattle.iol_kernel.proofs.State.Effects.{gained-sound}
+use Rattle.iol_kernel.proofs.State.Effects.{few_aggs, gained-sound}
 use Rattle.iol_kernel.proofs.State.ReadOf.{text-read_of, length_text-read_of, next_agg-read_of}
-use Rattle.iol_kernel.proofs.AggregateCalls.Slices.{slices_readable, slices_small}
+use Rattle.iol_kernel.proofs.AggregateCalls.Slices.{agg_live, slices_readable, slices_small}
 use Rattle.iol_core.specs.declared.limits.TheConstants.{MAX_AGGREGATES, MAX_AGGREGATE_BYTES}
 use Rattle.iol_kernel.specs.Calls.{Answers}
 
@@ -49,12 +50,15 @@ module _ (h : KernelState) (t : Stored) (ds : List (Domain (List Slice))) (d : �
 
 -- Part of an aggregate.
 
-module _ (h : KernelState) (t : Stored) (ds : List (Domain (List Slice))) (d a from to n : ℕ) (adds : AddsShared h.store t h.domains ds d (slice_range (places (slices_in h.domains d a)) from to))
-    (sound : IsSound h) (live : (domain_in h.domains d).live ≡ true) (few : live_aggs_in h.domains < MAX_AGGREGATES) (number : n ≡ (domain_in h.domains d).next_agg) where
+few_cut : {h : KernelState} {d a from to : ℕ} → MayCut d a from to h → live_aggs_in h.domains < MAX_AGGREGATES
+few_cut {h} {d} may = omega (arith, few_aggs (bytes_over [] h.store) h d 1 0 may.few)
+
+module _ (h : KernelState) (t : Stored) (ds : List (Domain (List Slice))) (d a from to n : ℕ) (adds : AddsShared h.store t h.domains ds d (slice_range (places (slices_in h.domains d a)) from to)) (may : MayCut d a from to h) (number : n ≡ (domain_in h.domains d).next_agg) where
   cut-sound : IsSound (record h { store = t; domains = ds })
   cut-sound =
+      let sound = may.has.sound in
       let xs : List Slice = slices_in h.domains d a in
-      added-sound h t ds d _ adds sound live few
+      added-sound h t ds d _ adds sound (agg_live may.has) (few_cut may)
       (record { each = All-same (IsThere h.store) _ _ adds.is_there (All-take (IsThere h.store) (to - from) (drop from (places xs)) (All-drop (IsThere h.store) from (places xs) (slices_readable h d a sound).each)) })
       (omega (arith, slices_small h d a sound, ap length adds.is_there, length-take (to - from) (drop from (places xs)), length-drop from (places xs)))
 
@@ -72,20 +76,20 @@ dup_answers h k d a len n all cut = answers_as (λ s. aggs.agg_cut s d a 0 len) 
 -- An aggregate with another in place of a range.
 
 module _ (h : KernelState) (t : Stored) (ds : List (Domain (List Slice))) (d a from to b n : ℕ) (adds : AddsShared h.store t h.domains ds d (replaced (places (slices_in h.domains d a)) from to (places (slices_in h.domains d b))))
-    (sound : IsSound h) (live : (domain_in h.domains d).live ≡ true) (few : live_aggs_in h.domains < MAX_AGGREGATES) (number : n ≡ (domain_in h.domains d).next_agg)
-    (small : length (replaced (machine.text (machine_of [] h) d a) from to (machine.text (machine_of [] h) d b)) ≤ MAX_AGGREGATE_BYTES) where
+    (may : MayReplace d a from to b h) (number : n ≡ (domain_in h.domains d).next_agg) where
   replaced-sound : IsSound (record h { store = t; domains = ds })
   replaced-sound =
       let xs : List Place = places (slices_in h.domains d a) in
       let ys : List Place = places (slices_in h.domains d b) in
       let P : Place → Type 0 = IsThere h.store in
+      let sound = may.other.sound in
       let good = (slices_readable h d a sound).each in
-      added-sound h t ds d _ adds sound live few
+      added-sound h t ds d _ adds sound (agg_live may.other) (few_cut may.cuts)
       (record {
         each = All-same P _ _ adds.is_there
             (All-append P (take from xs ++ ys) (drop to xs) (All-append P (take from xs) ys (All-take P from xs good) (slices_readable h d b sound).each) (All-drop P to xs good));
       })
-      (omega (arith, small, ap length adds.is_there, as_long))
+      (omega (arith, may.small, ap length adds.is_there, as_long))
     where
       as_long : length (replaced (places (slices_in h.domains d a)) from to (places (slices_in h.domains d b))) ≡ length (replaced (machine.text (machine_of [] h) d a) from to (machine.text (machine_of [] h) d b))
       as_long =

@@ -1,5 +1,5 @@
 -- An aggregate goes from one domain to another, or to the same under a new number.
-use Rattle.std.proofs.Common.{◌≡◌, ◌≢◌, ℕ, ◌<◌, ◌==◌, List, length, ap, ◌∙◌, refl, sym, subst, arith, Some, None, inl, inr, true}
+use Rattle.std.proofs.Common.{◌≡◌, ◌≢◌, ℕ, ◌<◌, ◌==◌, List, length, ap, ◌∙◌, refl, sym, subst, arith, [], Some, inl, inr, true}
 use Rattle.std.specs.Prelude.{if◌then◌else◌}
 use Rattle.std.proofs.lemmas.Bool.{cases_eq}
 use Rattle.std.proofs.lemmas.Bool.Decides.{nat_tests}
@@ -13,16 +13,18 @@ use Rattle.iol_hold.specs.declared.slices.Slice.{Slice}
 use Rattle.iol_desc.specs.Tables.{domain_in, with_domain_in, agg_in, with_agg_in, without_agg_in, live_aggs_in, with_next}
 use Rattle.iol_kernel.specs.Views.{state_view}
 use Rattle.iol_kernel.specs.KernelState.{KernelState, objects_of, IsSound, slices_in, read_of}
-use Rattle.iol_kernel.specs.Readings.{Reading, read}
+use Rattle.iol_kernel.specs.Having.{MayGive}
+use Rattle.iol_kernel.specs.Regrouped.{MayGiveIn}
+use Rattle.iol_kernel.specs.Readings.{Reading, bytes_over, read}
 use Rattle.iol_kernel.proofs.State.Answered.{answers_here}
 use Rattle.iol_kernel.proofs.State.Views.{with_agg-view, without_agg-view}
 use Rattle.iol_kernel.proofs.State.Uses.{uses-with_agg, uses-without_agg, sum-with_domain, length-without}
 use Rattle.iol_kernel.proofs.State.Sound.{agg_readable, agg_small, drop_readable, add_readable, fds_stay, limits_agg, limits_drop}
 use Rattle.iol_kernel.proofs.State.Once.{once_same}
-use Rattle.iol_kernel.proofs.State.Effects.{moved-sound}
+use Rattle.iol_kernel.proofs.State.Effects.{few_numbers, moved-sound}
 use Rattle.iol_kernel.proofs.State.Stay.{stays_here}
-use Rattle.iol_kernel.proofs.State.ReadOf.{is_live-read_of, text-read_of, next_agg-read_of}
-use Rattle.iol_kernel.proofs.AggregateCalls.Slices.{found_slices}
+use Rattle.iol_kernel.proofs.State.ReadOf.{is_live-read_of, live_held, text-read_of, next_agg-read_of}
+use Rattle.iol_kernel.proofs.AggregateCalls.Slices.{agg_live, agg_there, found_slices}
 use Rattle.iol_kernel.proofs.State.Rows.{domain-with_same, domain-with_other, with_domain-twice, with_domain-comm}
 use Rattle.iol_core.specs.declared.limits.TheConstants.{MAX_AGGREGATES}
 use Rattle.iol_kernel.specs.Calls.{Answers}
@@ -68,9 +70,18 @@ left_live ds d a e live = kept (λ y. y.live) ds d e (record (domain_in ds d) { 
 pub left_next : (ds : List (Domain (List Slice))) (d a e : ℕ) → (domain_in (without_agg_in ds d a) e).next_agg ≡ (domain_in ds e).next_agg
 left_next ds d a e = kept (λ y. y.next_agg) ds d e (record (domain_in ds d) { aggs = without (domain_in ds d).aggs a }) refl
 
+-- of the table
+pub give_in : {h : KernelState} {d a e : ℕ} → MayGive d a e h → MayGiveIn h.domains d a e
+give_in {h} {d} {a} {e} may = record {
+  from = agg_live may.has;
+  to = live_held (bytes_over [] h.store) h e may.to;
+  there = agg_there may.has;
+  few = omega (arith, few_numbers (bytes_over [] h.store) h e 1 1 may.few);
+}
+
 -- The whole change.
 
-module _ (h : KernelState) (ds : List (Domain (List Slice))) (d a e : ℕ) (live : (domain_in h.domains d).live ≡ true) (moved : ds ≡ with_agg_in (without_agg_in h.domains d a) e (slices_in h.domains d a)) where
+module _ (h : KernelState) (ds : List (Domain (List Slice))) (d a e : ℕ) (may : MayGive d a e h) (moved : ds ≡ with_agg_in (without_agg_in h.domains d a) e (slices_in h.domains d a)) where
   moved-read : (f : Reading) → read_of f (record h { domains = ds }) ≡ aggs.with_agg (aggs.without_agg (read_of f h) d a) e (read f (slices_in h.domains d a))
   unfolding read_of
   moved-read f =
@@ -79,16 +90,18 @@ module _ (h : KernelState) (ds : List (Domain (List Slice))) (d a e : ℕ) (live
       ∙ ap (λ (s : State). aggs.with_agg s e (read f (slices_in h.domains d a))) (without_agg-view f h.domains h.store.pools (objects_of h) d a)
 
   given-each : (f : Reading) → read_of f (record h { domains = ds }) ≡ (aggs.agg_give (read_of f h) d a e).after
-  given-each f = moved-read f ∙ ap (aggs.with_agg (aggs.without_agg (read_of f h) d a) e) (sym (text-read_of f h d a)) ∙ given_either (read_of f h) d a e (machine.text (read_of f h) d a) (is_live-read_of f h d ∙ live)
+  given-each f = moved-read f ∙ ap (aggs.with_agg (aggs.without_agg (read_of f h) d a) e) (sym (text-read_of f h d a)) ∙ given_either (read_of f h) d a e (machine.text (read_of f h) d a) (is_live-read_of f h d ∙ agg_live may.has)
 
-  given-sound : IsSound h → (domain_in h.domains e).live ≡ true → agg_in h.domains d a ≢ None → IsSound (record h { domains = ds })
-  given-sound sound to_live some =
+  given-sound : IsSound (record h { domains = ds })
+  given-sound =
+      let sound = may.has.sound in
+      let live = agg_live may.has in
       let xs : List Slice = slices_in h.domains d a in
       let rest : List (Domain (List Slice)) = without_agg_in h.domains d a in
       let x : Domain (List Slice) = record (domain_in h.domains d) { aggs = without (domain_in h.domains d).aggs a } in
       let y : Domain (List Slice) = with_next (domain_in rest e) xs in
-      let found : Some xs ≡ agg_in h.domains d a = found_slices h.domains d a some in
-      let live' = left_live h.domains d a e to_live in
+      let found : Some xs ≡ agg_in h.domains d a = found_slices h.domains d a (agg_there may.has) in
+      let live' = left_live h.domains d a e (give_in may).to in
       let few : live_aggs_in rest < MAX_AGGREGATES = omega (arith, sound.limits.few, sum-with_domain (λ (z : Domain (List Slice)). length z.aggs) h.domains d x live, length-without (domain_in h.domains d).aggs a xs found) in
       subst (λ (ys : List (Domain (List Slice))). IsSound (record h { domains = ys })) (sym moved)
       (moved-sound h.store (record h { domains = with_agg_in rest e xs }) (stays_here h.store)
@@ -97,5 +110,5 @@ module _ (h : KernelState) (ds : List (Domain (List Slice))) (d a e : ℕ) (live
       (fds_stay (objects_of h) rest e y (fds_stay (objects_of h) h.domains d x sound.fds refl) refl) (once_same rest e y live' refl (once_same h.domains d x live refl sound.once))
       (limits_agg rest (objects_of h) e xs (limits_drop h.domains (objects_of h) d a xs sound.limits live found) live' (agg_small h d a xs sound found) few) sound.pooled sound.sums sound.filed sound.cached refl)
 
-  pub given_answers : (n : ℕ) → IsSound h → (domain_in h.domains e).live ≡ true → agg_in h.domains d a ≢ None → n ≡ (domain_in h.domains e).next_agg → Answers (λ s. aggs.agg_give s d a e) h n (record h { domains = ds })
-  given_answers n sound to_live there number = answers_here (λ s. aggs.agg_give s d a e) h (record h { domains = ds }) n (given-sound sound to_live there) refl refl (λ f. number ∙ sym (next_agg-read_of f h e)) refl given-each
+  pub given_answers : (n : ℕ) → n ≡ (domain_in h.domains e).next_agg → Answers (λ s. aggs.agg_give s d a e) h n (record h { domains = ds })
+  given_answers n number = answers_here (λ s. aggs.agg_give s d a e) h (record h { domains = ds }) n given-sound refl refl (λ f. number ∙ sym (next_agg-read_of f h e)) refl given-each

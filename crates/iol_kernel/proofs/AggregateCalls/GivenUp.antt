@@ -7,13 +7,12 @@ use Rattle.iol_core.specs.Text.{Text}
 use Rattle.iol_core.specs.State as machine
 use Rattle.iol_core.specs.State.{Domain, no_domain}
 use Rattle.iol_core.specs.declared.numbers.BufId.{BufId}
-use Rattle.iol_hold.specs.Stored.{Stored, AllSettled}
-use Rattle.iol_hold.specs.Moves.{tally, Moves, Covers, SameLists, Stays}
+use Rattle.iol_hold.specs.Stored.{Stored}
+use Rattle.iol_hold.specs.Moves.{tally, Moves, Covers, Stays}
 use Rattle.iol_hold.specs.Places.{byte_len}
 use Rattle.iol_hold.specs.Texts.{bufs_of, AllReadable}
 use Rattle.iol_hold.specs.declared.slices.Slice.{Slice}
 use Rattle.iol_hold.proofs.Counting.{tally-append, tally_none}
-use Rattle.iol_hold.specs.Releases.{FreesOnly}
 use Rattle.iol_hold.proofs.Moving.{stays_trans}
 use Rattle.iol_hold.proofs.Paging.{keeps_pages_frees}
 use Rattle.iol_hold.proofs.Reading.{readable_stays}
@@ -22,6 +21,7 @@ use Rattle.iol_kernel.specs.Views.{state_view}
 use Rattle.iol_kernel.specs.Counted.{uses, domain_uses, bufs_in, IsCounted}
 use Rattle.iol_kernel.specs.KernelState.{KernelState, objects_of, Each, IsDomainReadable, IsLimited, IsSound, read_of}
 use Rattle.iol_kernel.specs.Readings.{Reading}
+use Rattle.iol_kernel.specs.Regrouped.{ReleasesAll}
 use Rattle.iol_kernel.proofs.State.Views.{domain-view, with_domain-view, pools-view}
 use Rattle.iol_kernel.proofs.State.Uses.{sum-with_domain, domain_le, Domains}
 use Rattle.iol_kernel.proofs.State.Once.{once_same, once_fewer}
@@ -82,7 +82,7 @@ all_covered h d es sound live is = record {
 }
 
 module _ (h : KernelState) (t : Stored) (ds : Domains) (d : ℕ) (es : List (ℕ × List Slice)) (sound : IsSound h) (live : (domain_in h.domains d).live ≡ true) (all : es ≡ (domain_in h.domains d).aggs)
-    (rest : ds ≡ with_aggs_in h.domains d []) (moves : Moves h.store t (bufs_in es) []) (lists : SameLists h.store t) (frees : FreesOnly h.store t) (settles : Each (λ (e : ℕ × List Slice). AllReadable h.store e.1) es → AllSettled h.store → AllSettled t) where
+    (rest : ds ≡ with_aggs_in h.domains d []) (released : ReleasesAll h.store t es []) where
   abbrev emptied : Domain (List Slice)
   emptied = record (domain_in h.domains d) { aggs = [] }
 
@@ -91,7 +91,7 @@ module _ (h : KernelState) (t : Stored) (ds : Domains) (d : ℕ) (es : List (ℕ
     each = λ b. omega (
       arith,
       sound.counted.each b,
-      moves.counts.each b,
+      released.moves.counts.each b,
       tally_none b,
       tally-bufs_in b es,
       ap (λ (l : List (ℕ × List Slice)). sum_by (λ e. uses b e.1) l) all,
@@ -113,17 +113,17 @@ module _ (h : KernelState) (t : Stored) (ds : Domains) (d : ℕ) (es : List (ℕ
   unfolding read_of
   emptied-read f =
       ap (λ (ys : Domains). state_view f ys t.pools (objects_of h)) rest
-      ∙ pools-view f (with_domain_in h.domains d emptied) h.store.pools t.pools (objects_of h) lists
+      ∙ pools-view f (with_domain_in h.domains d emptied) h.store.pools t.pools (objects_of h) released.lists
       ∙ with_domain-view f h.domains h.store.pools (objects_of h) d emptied
       ∙ ap (λ (y : Domain Text). machine.with_domain (read_of f h) d (record y { aggs = [] })) (sym (domain-view f h.domains h.store.pools (objects_of h) d))
 
   emptied-sound : IsSound (record h { store = t; domains = ds })
   emptied-sound = subst (λ (ys : Domains). IsSound (record h { store = t; domains = ys })) (sym rest)
-      (moved-sound h.store (record h { store = t; domains = with_domain_in h.domains d emptied }) moves.stays emptied_counted (moves.tidy sound.tidy) (moves.still sound.still) (settles (subst (λ (l : List (ℕ × List Slice)). Each (λ e. AllReadable h.store e.1) l) (sym all) (aggs_readable h d sound)) sound.settled) emptied_good sound.objects
-      (fds_stay (objects_of h) h.domains d emptied sound.fds refl) (once_same h.domains d emptied live refl sound.once) emptied_limits (same_pooled h.store t h.conns h.cache.files lists sound.pooled) sound.sums sound.filed sound.cached (keeps_pages_frees frees).count)
+      (moved-sound h.store (record h { store = t; domains = with_domain_in h.domains d emptied }) released.moves.stays emptied_counted (released.moves.tidy sound.tidy) (released.moves.still sound.still) (released.settles (subst (λ (l : List (ℕ × List Slice)). Each (λ e. AllReadable h.store e.1) l) (sym all) (aggs_readable h d sound)) sound.settled) emptied_good sound.objects
+      (fds_stay (objects_of h) h.domains d emptied sound.fds refl) (once_same h.domains d emptied live refl sound.once) emptied_limits (same_pooled h.store t h.conns h.cache.files released.lists sound.pooled) sound.sums sound.filed sound.cached (keeps_pages_frees released.frees).count)
 
   pub aggs_dropped : Leaves (λ s. machine.with_domain s d (record (machine.domain s d) { aggs = [] })) h (record h { store = t; domains = ds })
-  aggs_dropped = leaves (λ s. machine.with_domain s d (record (machine.domain s d) { aggs = [] })) h (record h { store = t; domains = ds }) emptied-read refl refl moves.stays (keeps_pages_frees frees) (subst (λ (ys : Domains). Each (IsDomainReadable h.store) ys) (sym rest) emptied_good) sound.objects emptied-sound
+  aggs_dropped = leaves (λ s. machine.with_domain s d (record (machine.domain s d) { aggs = [] })) h (record h { store = t; domains = ds }) emptied-read refl refl released.moves.stays (keeps_pages_frees released.frees) (subst (λ (ys : Domains). Each (IsDomainReadable h.store) ys) (sym rest) emptied_good) sound.objects emptied-sound
 
 -- and the domain itself
 

@@ -1,6 +1,6 @@
 -- An aggregate is made of new bytes, after clean extents gave way.
-use Rattle.std.proofs.Common.{◌≡◌, ℕ, ◌∙◌, List, [], length, None, refl, sym, ap, subst, true, false}
-use Rattle.std.specs.Prelude.{Result, Ok, Err, OnOk, OnErr, IfOk, IfErr}
+use Rattle.std.proofs.Common.{◌≡◌, ℕ, ◌∙◌, List, [], length, refl, sym, ap, subst, true, false}
+use Rattle.std.specs.Prelude.{Result, Ok, Err}
 use Rattle.iol_arena.specs.State.{pages_for}
 use Rattle.iol_core.specs.Text.{labelled}
 use Rattle.iol_core.specs.State as machine
@@ -9,10 +9,9 @@ use Rattle.iol_core.specs.Meaning.{WantOfRoom, first}
 use Rattle.iol_core.specs.Calls.Aggregates as aggs
 use Rattle.iol_core.specs.declared.refusals.Refusal.{Refusal}
 use Rattle.iol_core.specs.declared.refusals.Refusal.TheVariants.{NoRoom}
-use Rattle.iol_hold.specs.Moves.{Stays}
 use Rattle.iol_hold.specs.Room.{has_room}
-use Rattle.iol_kernel.specs.Calls.{AddsBytes, MakesAgg, Steps}
-use Rattle.iol_kernel.specs.KernelState.{KernelState, IsSound, machine_of, read_of}
+use Rattle.iol_kernel.specs.Calls.{AddsBytes, MakesNext, MayMake, Steps}
+use Rattle.iol_kernel.specs.KernelState.{KernelState, machine_of, read_of}
 use Rattle.iol_kernel.specs.MakingRoom.{MakesRoom, Places, can_fit}
 use Rattle.iol_kernel.specs.Readings.{Reading, bytes_over}
 use Rattle.iol_kernel.proofs.State.AfterRoom.{kept_machine, kept_reading, late_step, places_filled, places_late, places_none}
@@ -40,47 +39,47 @@ unfolding machine.domain machine.pool
 make_blind d bytes s x = refl
 
 module _ (pool pages : ℕ) (h k : KernelState) (room : MakesRoom pool pages h k) where
-  pub live_after : (d : ℕ) → machine.is_live (machine_of [] h) d ≡ true → machine.is_live (machine_of [] k) d ≡ true
-  live_after d is = kept_machine (λ s. machine.is_live s d) pool pages h k room (live_blind d) ∙ is
-
-  pub few_after : (d made given : ℕ) → aggs.too_many_aggs (machine_of [] h) d made given ≡ false → aggs.too_many_aggs (machine_of [] k) d made given ≡ false
-  few_after d made given is = kept_machine (λ s. aggs.too_many_aggs s d made given) pool pages h k room (few_blind d made given) ∙ is
-
   pub open_after : (p : ℕ) → (machine.pool (machine_of [] h) p).closed ≡ false → (machine.pool (machine_of [] k) p).closed ≡ false
   open_after p is = kept_machine (λ s. (machine.pool s p).closed) pool pages h k room (closed_blind p) ∙ is
 
-  module _ (d : ℕ) (bytes : List ℕ) (passed : (f : Reading) → first (aggs.agg_make (read_of f h) d bytes).refusals ≡ None) (default : (f : Reading) → aggs.default_pool (read_of f h) d ≡ pool) where
-    passed_after : (f : Reading) → first (aggs.agg_make (read_of f k) d bytes).refusals ≡ None
-    passed_after f = kept_reading (λ s. first (aggs.agg_make s d bytes).refusals) pool pages h k f room (make_blind d bytes) ∙ passed f
+  pub may_after : (d : ℕ) (bytes : List ℕ) (p : ℕ) → MayMake d bytes p h → MayMake d bytes p k
+  may_after d bytes p may = record {
+    passed = λ f. kept_reading (λ s. first (aggs.agg_make s d bytes).refusals) pool pages h k f room (make_blind d bytes) ∙ may.passed f;
+    lands = λ f. kept_reading (λ s. aggs.default_pool s d) pool pages h k f room (default_blind d) ∙ may.lands f;
+    live = kept_machine (λ s. machine.is_live s d) pool pages h k room (live_blind d) ∙ may.live;
+    few = kept_machine (λ s. aggs.too_many_aggs s d 1 0) pool pages h k room (few_blind d 1 0) ∙ may.few;
+    small = may.small;
+    opened = open_after p may.opened;
+  }
 
-    default_after : (f : Reading) → aggs.default_pool (read_of f k) d ≡ pool
-    default_after f = kept_reading (λ s. aggs.default_pool s d) pool pages h k f room (default_blind d) ∙ default f
+  module _ (d : ℕ) (bytes : List ℕ) (may : MayMake d bytes pool h) where
+    after : MayMake d bytes pool k
+    after = may_after d bytes pool may
 
     pub make_steps : (l : KernelState) (n : ℕ) → ((f : Reading) → n ≡ aggs.next_agg (read_of f k) d) → AddsBytes d pool bytes k l → Steps (λ s. aggs.agg_make s d bytes) k (Ok n) l
     make_steps l n number adds stored =
         let f = bytes_over stored k.store in
-        (passed_after f, number f, adds stored ∙ ap (λ p. aggs.with_agg (machine_of stored k) d (labelled p bytes)) (sym (default_after f)))
+        (after.passed f, number f, adds stored ∙ ap (λ p. aggs.with_agg (machine_of stored k) d (labelled p bytes)) (sym (after.lands f)))
 
     pub make_late : (l : KernelState) (x : Refusal) → WantOfRoom pool x → l ≡ k → Steps (λ s. aggs.agg_make s d bytes) k (Err x) l
     make_late l x late same stored =
         let f = bytes_over stored k.store in
-        (late_step (aggs.agg_make (machine_of stored k) d bytes) x (passed_after f) (subst (λ p. WantOfRoom p x) (sym (default_after f)) late), ap (machine_of stored) same)
+        (late_step (aggs.agg_make (machine_of stored k) d bytes) x (after.passed f) (subst (λ p. WantOfRoom p x) (sym (after.lands f)) late), ap (machine_of stored) same)
 
-    pub make_places : (l : KernelState) (r : Result ℕ Refusal) → has_room k.store pool (length bytes) ≡ true → can_fit h pool (length bytes) ≡ true → IfOk r (λ n. (f : Reading) → n ≡ aggs.next_agg (read_of f k) d) → OnOk r (AddsBytes d pool bytes k l) → OnOk r (MakesAgg d pool (length bytes) k l)
-        → IfErr r (WantOfRoom pool) → OnErr r (l ≡ k) → IsSound l → l.cache ≡ k.cache → Stays k.store l.store → ((p : ℕ) → r ≡ Err (NoRoom p) → has_room k.store pool (length bytes) ≡ false) → pages ≡ pages_for (length bytes)
+    pub make_places : (l : KernelState) (r : Result ℕ Refusal) → has_room k.store pool (length bytes) ≡ true → can_fit h pool (length bytes) ≡ true → MakesNext d pool bytes k r l → pages ≡ pages_for (length bytes)
         → Places (λ s. aggs.agg_make s d bytes) (λ s t. aggs.with_agg s d t) (aggs.default_pool (machine_of [] h) d) (length bytes) h r l
-    make_places l (Ok n) roomy fits number adds made late same sound cache stays lacks is =
+    make_places l (Ok n) roomy fits next is =
         let room' : MakesRoom pool (pages_for (length bytes)) h k = subst (λ q. MakesRoom pool q h k) is room in
-        subst (λ p. Places (λ s. aggs.agg_make s d bytes) (λ s t. aggs.with_agg s d t) p (length bytes) h (Ok n) l) (sym (default (bytes_over [] h.store)))
-        (places_filled (λ s. aggs.agg_make s d bytes) (λ s t. aggs.with_agg s d t) pool (length bytes) h k l n room' fits (make_steps l n number adds) made sound cache stays)
-    make_places l (Err x) roomy fits number adds made late same sound cache stays lacks is =
+        subst (λ p. Places (λ s. aggs.agg_make s d bytes) (λ s t. aggs.with_agg s d t) p (length bytes) h (Ok n) l) (sym (may.lands (bytes_over [] h.store)))
+        (places_filled (λ s. aggs.agg_make s d bytes) (λ s t. aggs.with_agg s d t) pool (length bytes) h k l n room' fits (make_steps l n next.number next.placed) next.made next.sound next.cache next.stays)
+    make_places l (Err x) roomy fits next is =
         let room' : MakesRoom pool (pages_for (length bytes)) h k = subst (λ q. MakesRoom pool q h k) is room in
-        subst (λ p. Places (λ s. aggs.agg_make s d bytes) (λ s t. aggs.with_agg s d t) p (length bytes) h (Err x) l) (sym (default (bytes_over [] h.store)))
-        (places_late (λ s. aggs.agg_make s d bytes) (λ s t. aggs.with_agg s d t) pool (length bytes) h k l x room' roomy fits (make_late l x late same) same late lacks)
+        subst (λ p. Places (λ s. aggs.agg_make s d bytes) (λ s t. aggs.with_agg s d t) p (length bytes) h (Err x) l) (sym (may.lands (bytes_over [] h.store)))
+        (places_late (λ s. aggs.agg_make s d bytes) (λ s t. aggs.with_agg s d t) pool (length bytes) h k l x room' roomy fits (make_late l x next.late next.err) next.err next.late next.room.no_room)
 
 -- where the bytes have no room
-pub make_none : (pool d : ℕ) (bytes : List ℕ) (h k : KernelState) → MakesRoom pool (pages_for (length bytes)) h k → k ≡ h → ((f : Reading) → first (aggs.agg_make (read_of f h) d bytes).refusals ≡ None) → ((f : Reading) → aggs.default_pool (read_of f h) d ≡ pool) → can_fit h pool (length bytes) ≡ false
+pub make_none : (pool d : ℕ) (bytes : List ℕ) (h k : KernelState) → MakesRoom pool (pages_for (length bytes)) h k → k ≡ h → MayMake d bytes pool h → can_fit h pool (length bytes) ≡ false
     → Places (λ s. aggs.agg_make s d bytes) (λ s t. aggs.with_agg s d t) (aggs.default_pool (machine_of [] h) d) (length bytes) h (Err (NoRoom pool)) k
-make_none pool d bytes h k room same passed default lacks =
-    subst (λ p. Places (λ s. aggs.agg_make s d bytes) (λ s t. aggs.with_agg s d t) p (length bytes) h (Err (NoRoom pool)) k) (sym (default (bytes_over [] h.store)))
-    (places_none (λ s. aggs.agg_make s d bytes) (λ s t. aggs.with_agg s d t) pool (length bytes) h k room same passed (λ f. sym (default f)) lacks)
+make_none pool d bytes h k room same may lacks =
+    subst (λ p. Places (λ s. aggs.agg_make s d bytes) (λ s t. aggs.with_agg s d t) p (length bytes) h (Err (NoRoom pool)) k) (sym (may.lands (bytes_over [] h.store)))
+    (places_none (λ s. aggs.agg_make s d bytes) (λ s t. aggs.with_agg s d t) pool (length bytes) h k room same may.passed (λ f. sym (may.lands f)) lacks)

@@ -1,5 +1,5 @@
 -- Effects that regroup a domain's aggregates: its slices move, and the store counts those that were divided.
-use Rattle.std.proofs.Common.{◌≡◌, ◌≢◌, ℕ, ◌+◌, ◌<◌, ◌≤◌, List, [], ◌∷◌, ◌++◌, length, take, drop, ap, ◌∙◌, refl, sym, subst, arith, Some, None, true, length-append}
+use Rattle.std.proofs.Common.{◌≡◌, ℕ, ◌+◌, ◌<◌, ◌≤◌, List, [], ◌∷◌, ◌++◌, length, take, drop, ap, ◌∙◌, refl, sym, subst, arith, Some, true, length-append}
 use Rattle.std.proofs.lemmas.List.{map-append, length-take, length-drop}
 use Rattle.std.proofs.lemmas.List.Sums.{sum_by-append, sum_by_push}
 use Rattle.iol_core.specs.Text.{Text}
@@ -22,21 +22,22 @@ use Rattle.iol_hold.proofs.Emptied.{all_settled_same}
 use Rattle.iol_hold.proofs.Moving.{shares_move, shares_none}
 use Rattle.iol_hold.proofs.Reading.{readable_taken, readable_rest, readable_joined}
 use Rattle.iol_hold.proofs.Slicing.{byte_len-append}
-use Rattle.iol_desc.specs.Tables.{domain_in, with_domain_in, agg_in, live_aggs_in}
+use Rattle.iol_desc.specs.Tables.{domain_in, with_domain_in, live_aggs_in}
 use Rattle.iol_kernel.specs.Views.{Objects, domain_view, state_view}
 use Rattle.iol_kernel.specs.Counted.{uses, domain_uses}
 use Rattle.iol_kernel.specs.KernelState.{KernelState, objects_of, Each, IsDomainReadable, IsSound, slices_in, read_of}
-use Rattle.iol_kernel.specs.Readings.{Reading, read}
-use Rattle.iol_kernel.specs.Regrouped.{with_two, with_one, joined_in, SplitsAgg}
+use Rattle.iol_kernel.specs.Having.{MayJoin, MaySplit}
+use Rattle.iol_kernel.specs.Readings.{Reading, bytes_over, read}
+use Rattle.iol_kernel.specs.Regrouped.{with_two, with_one, joined_in, MayJoinIn, MaySplitIn, SplitsAgg}
 use Rattle.iol_kernel.proofs.State.Answered.{answers_here, answers_shared}
 use Rattle.iol_kernel.proofs.State.Pooling.{pools_pooled}
-use Rattle.iol_kernel.proofs.State.Effects.{moved-sound}
+use Rattle.iol_kernel.proofs.State.Effects.{few_aggs, few_numbers, moved-sound}
 use Rattle.iol_kernel.proofs.State.Views.{domain-view, with_domain-view, without-map}
 use Rattle.iol_kernel.proofs.State.Once.{once_same}
 use Rattle.iol_kernel.proofs.State.Sound.{each-push, each-without, each-with_domain_in, aggs_readable, aggs_small, agg_readable, agg_small, fds_stay}
 use Rattle.iol_kernel.proofs.State.Uses.{sum-with_domain, uses-without, length-without}
-use Rattle.iol_kernel.proofs.State.ReadOf.{next_agg-read_of, text-view}
-use Rattle.iol_kernel.proofs.AggregateCalls.Slices.{found_slices}
+use Rattle.iol_kernel.proofs.State.ReadOf.{length_text-read_of, next_agg-read_of, text-view}
+use Rattle.iol_kernel.proofs.AggregateCalls.Slices.{agg_live, agg_shared, agg_there, found_slices}
 use Rattle.iol_core.specs.declared.limits.TheConstants.{MAX_AGGREGATES, MAX_AGGREGATE_BYTES}
 use Rattle.iol_kernel.specs.Calls.{Answers}
 
@@ -84,11 +85,14 @@ module _ (h : KernelState) (t : Stored) (ds : List (Domain (List Slice))) (d a a
       ∙ ap (λ (ys : List (Domain (List Slice))). state_view f ys h.store.pools (objects_of h)) splits.split
       ∙ split-view f h.domains h.store.pools (objects_of h) d a at splits.first splits.second splits.before splits.after
 
-  split-sound : IsSound h → (domain_in h.domains d).live ≡ true → agg_in h.domains d a ≢ None → live_aggs_in h.domains < MAX_AGGREGATES → IsSound (record h { store = t; domains = ds })
-  split-sound sound live there few =
+  split-sound : MaySplit d a at h → IsSound (record h { store = t; domains = ds })
+  split-sound may =
+      let sound = may.has.sound in
+      let live = agg_live may.has in
+      let few : live_aggs_in h.domains < MAX_AGGREGATES = omega (arith, few_aggs (bytes_over [] h.store) h d 2 1 may.few) in
       let x : Domain (List Slice) = domain_in h.domains d in
       let xs : List Slice = slices_in h.domains d a in
-      let found = found_slices h.domains d a there in
+      let found = found_slices h.domains d a (agg_there may.has) in
       let readable : AllReadable h.store xs = agg_readable h d a xs sound found in
       let short : byte_len xs ≤ MAX_AGGREGATE_BYTES = agg_small h d a xs sound found in
       let two : List (ℕ × List Slice) = (x.next_agg, splits.first) ∷ (x.next_agg + 1, splits.second) ∷ [] in
@@ -108,8 +112,18 @@ module _ (h : KernelState) (t : Stored) (ds : List (Domain (List Slice))) (d a a
       each-two P [] e f h p q = (p, (q, tt))
       each-two P (g ∷ es) e f h p q = (h.0, each-two P es e f h.1 p q)
 
-  pub split_answers : (r : ℕ × ℕ) → IsSound h → (domain_in h.domains d).live ≡ true → agg_in h.domains d a ≢ None → live_aggs_in h.domains < MAX_AGGREGATES → r ≡ ((domain_in h.domains d).next_agg, (domain_in h.domains d).next_agg + 1) → Answers (λ s. aggs.agg_split s d a at) h r (record h { store = t; domains = ds })
-  split_answers r sound live there few numbers = answers_shared (λ s. aggs.agg_split s d a at) h (record h { store = t; domains = ds }) r (split-sound sound live there few) refl refl (λ f. numbers ∙ ap {B = ℕ × ℕ} (λ n. (n, n + 1)) (sym (next_agg-read_of f h d))) splits.shares (λ f keeps. split-each f)
+  pub split_answers : (r : ℕ × ℕ) → MaySplit d a at h → r ≡ ((domain_in h.domains d).next_agg, (domain_in h.domains d).next_agg + 1) → Answers (λ s. aggs.agg_split s d a at) h r (record h { store = t; domains = ds })
+  split_answers r may numbers = answers_shared (λ s. aggs.agg_split s d a at) h (record h { store = t; domains = ds }) r (split-sound may) refl refl (λ f. numbers ∙ ap {B = ℕ × ℕ} (λ n. (n, n + 1)) (sym (next_agg-read_of f h d))) splits.shares (λ f keeps. split-each f)
+
+-- the same of the table
+pub split_in : {h : KernelState} {d a at : ℕ} → MaySplit d a at h → MaySplitIn h.store h.domains d a at
+split_in {h} {d} {a} {at} may = record {
+  live = agg_live may.has;
+  there = agg_there may.has;
+  few = omega (arith, few_numbers (bytes_over [] h.store) h d 2 1 may.few);
+  within = subst (λ n. at ≤ n) (length_text-read_of (bytes_over [] h.store) h d a) may.within;
+  shared = agg_shared may.has;
+}
 
 -- Two aggregates are joined; the store stays as it was.
 
@@ -131,19 +145,35 @@ join-view f ds ps qs d a b =
     ∙ ap (λ (w : Text). machine.with_domain s d (record (domain_view (read f) x) { aggs = without (without (domain_view (read f) x).aggs a) b ++ (n, w) ∷ []; next_agg = n + 1 })) one
     ∙ ap (λ (y : Domain Text). machine.with_domain s d (record y { aggs = without (without y.aggs a) b ++ (y.next_agg, text) ∷ []; next_agg = y.next_agg + 1 })) (sym (domain-view f ds ps qs d))
 
+join_short : {h : KernelState} {d a b : ℕ} → MayJoin d a b h → byte_len (slices_in h.domains d a) + byte_len (slices_in h.domains d b) ≤ MAX_AGGREGATE_BYTES
+join_short {h} {d} {a} {b} may = omega (arith, may.short, length_text-read_of (bytes_over [] h.store) h d a, length_text-read_of (bytes_over [] h.store) h d b)
+
+pub join_in : {h : KernelState} {d a b : ℕ} → MayJoin d a b h → MayJoinIn h.domains d a b
+join_in {h} {d} may = record {
+  live = agg_live may.first;
+  first = agg_there may.first;
+  second = agg_there may.second;
+  differ = may.differ;
+  few = omega (arith, few_numbers (bytes_over [] h.store) h d 1 2 may.few);
+  small = omega (arith, join_short may);
+}
+
 module _ (h : KernelState) (ds : List (Domain (List Slice))) (d a b : ℕ) (joined : ds ≡ joined_in h.domains d a b) where
   join-each : (f : Reading) → read_of f (record h { domains = ds }) ≡ (aggs.agg_join (read_of f h) d a b).after
   unfolding read_of
   join-each f = ap (λ (ys : List (Domain (List Slice))). state_view f ys h.store.pools (objects_of h)) joined ∙ join-view f h.domains h.store.pools (objects_of h) d a b
 
-  join-sound : IsSound h → (domain_in h.domains d).live ≡ true → agg_in h.domains d a ≢ None → agg_in h.domains d b ≢ None → a ≢ b → byte_len (slices_in h.domains d a) + byte_len (slices_in h.domains d b) ≤ MAX_AGGREGATE_BYTES → IsSound (record h { domains = ds })
-  join-sound sound live first second differ short =
+  join-sound : MayJoin d a b h → IsSound (record h { domains = ds })
+  join-sound may =
+      let sound = may.first.sound in
+      let live = agg_live may.first in
       let x : Domain (List Slice) = domain_in h.domains d in
       let xs : List Slice = slices_in h.domains d a in
       let ys : List Slice = slices_in h.domains d b in
-      let found = found_slices h.domains d a first in
-      let also : Some ys ≡ lookup (without x.aggs a) b = found_slices h.domains d b second ∙ sym (lookup-without x.aggs a b differ) in
-      let readable : AllReadable h.store (xs ++ ys) = readable_joined (agg_readable h d a xs sound found) (agg_readable h d b ys sound (found_slices h.domains d b second)) in
+      let found = found_slices h.domains d a (agg_there may.first) in
+      let other = found_slices h.domains d b (agg_there may.second) in
+      let also : Some ys ≡ lookup (without x.aggs a) b = other ∙ sym (lookup-without x.aggs a b may.differ) in
+      let readable : AllReadable h.store (xs ++ ys) = readable_joined (agg_readable h d a xs sound found) (agg_readable h d b ys sound other) in
       let rest : List (ℕ × List Slice) = without (without x.aggs a) b in
       subst (λ (zs : List (Domain (List Slice))). IsSound (record h { domains = zs })) (sym joined)
       (regrouped-sound h h.store d (with_one x a b (xs ++ ys)) [] [] sound live refl (shares_none h.store)
@@ -155,8 +185,8 @@ module _ (h : KernelState) (ds : List (Domain (List Slice))) (d a b : ℕ) (join
       let t = ap (tally c) (bufs-append xs ys) ∙ tally-append c (bufs_of xs) (bufs_of ys) in
       omega (arith, u, v, w, t)))
       (each-push (λ (e : ℕ × List Slice). byte_len e.1 ≤ MAX_AGGREGATE_BYTES) rest (x.next_agg, xs ++ ys)
-      (each-without (λ (e : ℕ × List Slice). byte_len e.1 ≤ MAX_AGGREGATE_BYTES) (without x.aggs a) b (each-without (λ (e : ℕ × List Slice). byte_len e.1 ≤ MAX_AGGREGATE_BYTES) x.aggs a (aggs_small h d sound))) (omega (arith, short, byte_len-append xs ys)))
+      (each-without (λ (e : ℕ × List Slice). byte_len e.1 ≤ MAX_AGGREGATE_BYTES) (without x.aggs a) b (each-without (λ (e : ℕ × List Slice). byte_len e.1 ≤ MAX_AGGREGATE_BYTES) x.aggs a (aggs_small h d sound))) (omega (arith, join_short may, byte_len-append xs ys)))
       (omega (arith, sound.limits.few, length-without x.aggs a xs found, length-without (without x.aggs a) b ys also, length-append rest ((x.next_agg, xs ++ ys) ∷ []))))
 
-  pub join_answers : (n : ℕ) → IsSound h → (domain_in h.domains d).live ≡ true → agg_in h.domains d a ≢ None → agg_in h.domains d b ≢ None → a ≢ b → byte_len (slices_in h.domains d a) + byte_len (slices_in h.domains d b) ≤ MAX_AGGREGATE_BYTES → n ≡ (domain_in h.domains d).next_agg → Answers (λ s. aggs.agg_join s d a b) h n (record h { domains = ds })
-  join_answers n sound live first second differ short number = answers_here (λ s. aggs.agg_join s d a b) h (record h { domains = ds }) n (join-sound sound live first second differ short) refl refl (λ f. number ∙ sym (next_agg-read_of f h d)) refl join-each
+  pub join_answers : (n : ℕ) → MayJoin d a b h → n ≡ (domain_in h.domains d).next_agg → Answers (λ s. aggs.agg_join s d a b) h n (record h { domains = ds })
+  join_answers n may number = answers_here (λ s. aggs.agg_join s d a b) h (record h { domains = ds }) n (join-sound may) refl refl (λ f. number ∙ sym (next_agg-read_of f h d)) refl join-each

@@ -5,15 +5,17 @@ use Rattle.iol_core.specs.Text.{Text}
 use Rattle.iol_core.specs.State.{Domain}
 use Rattle.iol_core.specs.Calls.Aggregates as aggs
 use Rattle.iol_core.specs.declared.refusals.Refusal.TheVariants.{NoDomain, BadAgg}
-use Rattle.iol_hold.specs.Moves.{Covers, IsCountable}
+use Rattle.iol_hold.specs.Moves.{IsCountable}
 use Rattle.iol_hold.specs.Places.{byte_len}
 use Rattle.iol_hold.specs.Texts.{bufs_of, AllReadable}
 use Rattle.iol_hold.specs.declared.slices.Slice.{Slice}
-use Rattle.iol_hold.proofs.Counting.{tally-append, tally_none}
+use Rattle.iol_hold.proofs.Counting.{tally-append}
 use Rattle.iol_hold.proofs.Reading.{readable_none}
 use Rattle.iol_desc.specs.Tables.{domain_in, agg_in}
 use Rattle.iol_kernel.specs.KernelState.{KernelState, objects_of, IsSound, slices_in, read_of}
-use Rattle.iol_kernel.specs.Readings.{Reading, read}
+use Rattle.iol_kernel.specs.Counted.{MayShare}
+use Rattle.iol_kernel.specs.Having.{HasAgg}
+use Rattle.iol_kernel.specs.Readings.{Reading, bytes_over, read}
 use Rattle.iol_kernel.proofs.State.Views.{aggregate-view}
 use Rattle.iol_kernel.proofs.State.Sound.{agg_readable, agg_small}
 use Rattle.iol_kernel.proofs.State.Uses.{agg_covered, all_few, countable}
@@ -81,16 +83,6 @@ slices_small h d a sound = found (agg_in h.domains d a) (λ xs is. agg_small h d
     found None r = omega arith
     found (Some xs) r = r xs refl
 
-pub slices_covered : (h : KernelState) (d a : ℕ) → IsSound h → (domain_in h.domains d).live ≡ true → Covers h.store (bufs_of (slices_in h.domains d a))
-slices_covered h d a sound live = found (agg_in h.domains d a) (λ xs is. agg_covered h.store h.domains (objects_of h) d a xs sound.counted live is)
-  where
-    found : (o : Option (List Slice)) → ((xs : List Slice) → Some xs ≡ o → Covers h.store (bufs_of xs)) → Covers h.store (bufs_of (unwrap_or o []))
-    found None r = record { each = λ b. omega (arith, tally_none b) }
-    found (Some xs) r = r xs refl
-
-pub slices_countable : (h : KernelState) (d a : ℕ) → IsSound h → IsCountable h.store (bufs_of (slices_in h.domains d a))
-slices_countable h d a sound = countable h.store h.domains (objects_of h) (slices_in h.domains d a) sound.counted sound.limits (slices_small h d a sound)
-
 -- of two aggregates, the first twice
 pub thrice_countable : (h : KernelState) (d a b : ℕ) → IsSound h → IsCountable h.store (bufs_of (slices_in h.domains d a) ++ bufs_of (slices_in h.domains d a) ++ bufs_of (slices_in h.domains d b))
 thrice_countable h d a b sound =
@@ -109,5 +101,19 @@ thrice_countable h d a b sound =
         tally-append n (bufs_of xs ++ bufs_of xs) (bufs_of ys),
       );
     }
+
+-- what a domain has
+
+pub agg_live : {h : KernelState} {d a : ℕ} → HasAgg h d a → (domain_in h.domains d).live ≡ true
+agg_live {h} {d} has = live_held (bytes_over [] h.store) h d has.live
+
+pub agg_there : {h : KernelState} {d a : ℕ} → HasAgg h d a → agg_in h.domains d a ≢ None
+agg_there {h} {d} {a} has = there_held (bytes_over [] h.store) h d a has.there
+
+pub agg_shared : {h : KernelState} {d a : ℕ} → HasAgg h d a → MayShare h.store (slices_in h.domains d a)
+agg_shared {h} {d} {a} has = record {
+  covered = agg_covered h.store h.domains (objects_of h) d a (slices_in h.domains d a) has.sound.counted (agg_live has) (found_slices h.domains d a (agg_there has));
+  countable = countable h.store h.domains (objects_of h) (slices_in h.domains d a) has.sound.counted has.sound.limits (slices_small h d a has.sound);
+}
 
 pub ruleset held_rules = (live_held, there_held)

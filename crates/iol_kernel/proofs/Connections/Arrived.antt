@@ -15,9 +15,10 @@ use Rattle.iol_pipe.specs.Queue.{fitting}
 use Rattle.iol_sock.specs.Connections.{Conn}
 use Rattle.iol_sock.specs.Refused.{arrive_refusals}
 use Rattle.iol_sock.proofs.Meaning.{arrives_meant, conn_at-is, takes_meant}
-use Rattle.iol_kernel.specs.Calls.{with_incoming}
+use Rattle.iol_kernel.specs.Calls.{MayArrive, with_incoming}
 use Rattle.iol_kernel.specs.KernelState.{KernelState, machine_of, read_of}
 use Rattle.iol_kernel.specs.MakingRoom.{MakesRoom, Places, can_fit}
+use Rattle.iol_kernel.specs.Outside.{HasConn}
 use Rattle.iol_kernel.specs.Putting.{Fills}
 use Rattle.iol_kernel.specs.Readings.{Reading, bytes_over}
 use Rattle.iol_kernel.proofs.Connections.Connecting.{conn_found, conn_missing}
@@ -48,26 +49,25 @@ late_some : (c : ℕ) (bytes : List ℕ) (s : State) (pool : ℕ) → (length by
 late_some c [] s pool some is = absurd (some refl)
 late_some c (b ∷ bytes) s pool some is = sym is
 
-module _ (c : ℕ) (bytes : List ℕ) (pool count : ℕ) (h k : KernelState) (room : MakesRoom pool (pages_for count) h k) (passed : (f : Reading) → first (outside.arrive (read_of f h) c bytes).refusals ≡ None) (in_pool : (f : Reading) → (conn_at (read_of f h) c).pool ≡ pool)
-    (counted : (f : Reading) → (outside.arrive (read_of f h) c bytes).answer ≡ count) where
-  pub there_now : outside.lacks_conn (machine_of [] h) c ≡ false → outside.lacks_conn (machine_of [] k) c ≡ false
-  there_now there = kept_machine (λ s. outside.lacks_conn s c) pool (pages_for count) h k room (lacks_same c) ∙ there
-
-  pub arrive_places : (l : KernelState) (r : Result ℕ Refusal) → has_room k.store pool count ≡ true → can_fit h pool count ≡ true → Fills (λ s. outside.arrive s c bytes) (with_incoming c) (conn_at (machine_of [] k) c).pool k r l
-      → Places (λ s. outside.arrive s c bytes) (with_incoming c) (conn_at (machine_of [] h) c).pool (outside.arrive (machine_of [] h) c bytes).answer h r l
-  arrive_places = queue_places (λ s. outside.arrive s c bytes) (with_incoming c) (λ s. (conn_at s c).pool) pool count h k room (first_same c bytes) (answer_same c bytes) (pool_same c) (late_is c bytes) passed in_pool counted
-
-  pub arrive_none : k ≡ h → can_fit h pool count ≡ false → Places (λ s. outside.arrive s c bytes) (with_incoming c) (conn_at (machine_of [] h) c).pool (outside.arrive (machine_of [] h) c bytes).answer h (Err (NoRoom pool)) k
-  arrive_none same lacks =
-      let some : length bytes ≡ 0 → ⊥ = λ none. none_fit h pool count lacks (omega (arith, none, counted (bytes_over [] h.store))) in
-      queue_none (λ s. outside.arrive s c bytes) (with_incoming c) (λ s. (conn_at s c).pool) pool count h k room (first_same c bytes) (answer_same c bytes) (pool_same c) (late_is c bytes) passed in_pool counted same (λ f. late_some c bytes (read_of f h) pool some (in_pool f)) lacks
-
-pub there_if_passed : (c : ℕ) (bytes : List ℕ) (h : KernelState) → ((f : Reading) → first (outside.arrive (read_of f h) c bytes).refusals ≡ None) → outside.lacks_conn (machine_of [] h) c ≡ false
+there_if_passed : (c : ℕ) (bytes : List ℕ) (h : KernelState) → ((f : Reading) → first (outside.arrive (read_of f h) c bytes).refusals ≡ None) → outside.lacks_conn (machine_of [] h) c ≡ false
 there_if_passed c bytes h passed = of (outside.lacks_conn (machine_of [] h) c) _ (passed (bytes_over [] h.store))
   where
     of : (b : Bool) (rest : List (Option Refusal)) → first ((BadFd when b) ∷ rest) ≡ None → b ≡ false
     of false rest is = refl
     of true rest is = absurd (cc is)
+
+module _ (c : ℕ) (bytes : List ℕ) (pool count : ℕ) (h k : KernelState) (room : MakesRoom pool (pages_for count) h k) (may : MayArrive c bytes pool count h) where
+  pub conn_now : HasConn k c
+  conn_now = record { sound = room.sound; there = kept_machine (λ s. outside.lacks_conn s c) pool (pages_for count) h k room (lacks_same c) ∙ there_if_passed c bytes h may.passed }
+
+  pub arrive_places : (l : KernelState) (r : Result ℕ Refusal) → has_room k.store pool count ≡ true → can_fit h pool count ≡ true → Fills (λ s. outside.arrive s c bytes) (with_incoming c) (conn_at (machine_of [] k) c).pool k r l
+      → Places (λ s. outside.arrive s c bytes) (with_incoming c) (conn_at (machine_of [] h) c).pool (outside.arrive (machine_of [] h) c bytes).answer h r l
+  arrive_places = queue_places (λ s. outside.arrive s c bytes) (with_incoming c) (λ s. (conn_at s c).pool) pool count h k room (first_same c bytes) (answer_same c bytes) (pool_same c) (late_is c bytes) may.passed may.lands may.fits
+
+  pub arrive_none : k ≡ h → can_fit h pool count ≡ false → Places (λ s. outside.arrive s c bytes) (with_incoming c) (conn_at (machine_of [] h) c).pool (outside.arrive (machine_of [] h) c bytes).answer h (Err (NoRoom pool)) k
+  arrive_none same lacks =
+      let some : length bytes ≡ 0 → ⊥ = λ none. none_fit h pool count lacks (omega (arith, none, may.fits (bytes_over [] h.store))) in
+      queue_none (λ s. outside.arrive s c bytes) (with_incoming c) (λ s. (conn_at s c).pool) pool count h k room (first_same c bytes) (answer_same c bytes) (pool_same c) (late_is c bytes) may.passed may.lands may.fits same (λ f. late_some c bytes (read_of f h) pool some (may.lands f)) lacks
 
 -- Whether bytes may arrive, how many, and where.
 

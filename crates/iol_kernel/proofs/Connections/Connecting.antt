@@ -30,8 +30,7 @@ use Rattle.iol_hold.proofs.Paging.{keeps_pages_frees}
 use Rattle.iol_hold.proofs.Reading.{readable_none}
 use Rattle.iol_desc.specs.Listed.{Rises}
 use Rattle.iol_sock.specs.Connections.{Conn, conn_view, held_by, is_over, new_conn}
-use Rattle.iol_sock.specs.Table as table
-use Rattle.iol_sock.specs.Table.{ConnTable, conn_in, no_conn}
+use Rattle.iol_sock.specs.Table.{conn_in, no_conn}
 use Rattle.iol_sock.specs.Meant.{IsConn}
 use Rattle.iol_sock.proofs.Meaning.{conn_at-is, over_meant}
 use Rattle.iol_kernel.specs.Views.{Objects, state_view}
@@ -244,14 +243,6 @@ module _ (h : KernelState) (t : Stored) (c : ℕ) (x y : Conn (List Slice)) (sou
     turned_leaves F as_meant pages = leaves (λ s. record s { conns = changed s.conns c (F (machine.conn_at s c)) }) h turned
         (λ f. turned-read lists f ∙ ap (λ (w : Connection). record (read_of f h) { conns = changed (read_of f h).conns c w }) (sym (ap F (conn_at-is f.at (read_of f h) c x (conn_found f h c x found)) ∙ as_meant f)))
         refl refl stays pages sound.domains (turned_good readable) turned-sound
-
--- the table that has it so
-pub turned_table : (h : KernelState) (t : Stored) (c : ℕ) (x y : Conn (List Slice)) (sound : IsSound h) (found : lookup h.conns c ≡ Some x) (old new : ConnTable) → old.conns ≡ h.conns → old.next ≡ h.next_conn → new ≡ table.with_conn old c y
-    → record h { store = t; conns = new.conns; next_conn = new.next } ≡ turned h t c x y sound found
-turned_table h t c x y sound found old new conns' next' is =
-    ap (λ (w : ConnTable). record h { store = t; conns = w.conns; next_conn = w.next }) is
-    ∙ ap (λ (cs : Conns). record h { store = t; conns = changed cs c y; next_conn = old.next }) conns'
-    ∙ ap (λ n. record h { store = t; conns = changed h.conns c y; next_conn = n }) next'
 
 -- what it holds is held
 pub conn_covered : (h : KernelState) (c : ℕ) (x : Conn (List Slice)) → IsSound h → lookup h.conns c ≡ Some x → Covers h.store (held_by x)

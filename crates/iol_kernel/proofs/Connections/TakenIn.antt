@@ -22,7 +22,7 @@ use Rattle.iol_sock.specs.Refused.{arrive_refusals, read_refusals, IsRefused}
 use Rattle.iol_sock.proofs.Meaning.{arrives_meant}
 use Rattle.iol_kernel.specs.Backed.{Serves, with_slots}
 use Rattle.iol_pipe.specs.Arriving.{IsOneRead}
-use Rattle.iol_kernel.specs.Borrowed.{BringsIn, RefusesByte, RefusesArrival, TakesIn, arrive_from_refusals, most_asked}
+use Rattle.iol_kernel.specs.Borrowed.{BringsIn, RefusesByte, RefusesArrival, TakesIn, TakesRead, arrive_from_refusals}
 use Rattle.iol_kernel.specs.Calls.{Arrives, Steps}
 use Rattle.iol_kernel.specs.KernelState.{KernelState, IsSound, machine_of}
 use Rattle.iol_kernel.specs.MakingRoom.{AfterRoom, IsSame, MakesRoom, MayHaveEvicted, RefusedRoomy, can_fit}
@@ -37,10 +37,6 @@ use Rattle.iol_kernel.proofs.State.Serving.{backed_stays}
 pub on_ok : {A : Type 0} {P : Type 0} (r : Result A Refusal) → P → OnOk r P
 on_ok (Ok a) p = p
 on_ok (Err x) p = tt
-
-pub if_ok_both : {A : Type 0} (P R Q : A → Type 0) (r : Result A Refusal) → ((a : A) → P a → R a → Q a) → IfOk r P → IfOk r R → IfOk r Q
-if_ok_both P R Q (Ok a) f p q = f a p q
-if_ok_both P R Q (Err x) f p q = tt
 
 -- Whether bytes may be read, in the machine's words.
 
@@ -97,14 +93,17 @@ module _ (c max pool : ℕ) (h k : KernelState) (room : MakesRoom pool (pages_fo
   pub still_there : outside.lacks_conn (machine_of [] h) c ≡ false → outside.lacks_conn (machine_of [] k) c ≡ false
   still_there there = kept_machine (λ s. outside.lacks_conn s c) pool (pages_for 1) h k room (lacks_same c) ∙ there
 
-  pub takes_serves : (left after : Option (List ℕ)) (n : ℕ) (l : KernelState) → IsSound l → l.cache ≡ k.cache → Stays k.store l.store → TakesIn left after n (λ bytes. Steps (λ s. outside.arrive s c bytes) k (Ok n) l) → Arrives c n k l
-      → TakesIn left after n (λ bytes. (disk : Disk) → Serves (λ s. outside.arrive s c bytes) disk h (Ok n) disk l)
-  takes_serves left after n l sound cache stays takes made = record {
-    bytes = takes.bytes;
-    count = takes.count;
-    given = takes.given;
-    arrives = serves_after (λ s. outside.arrive s c takes.bytes) pool (pages_for 1) h k l (Ok n) room takes.arrives sound cache made.sums stays;
-  }
+  pub takes_serves : (left after : Option (List ℕ)) (r : Result Arrived Refusal) (l : KernelState) → TakesRead c max left after k r l → IfOk r (λ a. TakesIn left after a.taken (λ bytes. (disk : Disk) → Serves (λ s. outside.arrive s c bytes) disk h (Ok a.taken) disk l))
+  takes_serves left after (Ok a) l takes =
+      let read : TakesIn left after a.taken (λ bytes. Steps (λ s. outside.arrive s c bytes) k (Ok a.taken) l) = takes.read in
+      let made : Arrives c a.taken k l = takes.made in
+      record {
+        bytes = read.bytes;
+        count = read.count;
+        given = read.given;
+        arrives = serves_after (λ s. outside.arrive s c read.bytes) pool (pages_for 1) h k l (Ok a.taken) room read.arrives takes.sound takes.cache made.sums takes.stays;
+      }
+  takes_serves left after (Err x) l takes = tt
 
   pub takes_made : (n : ℕ) (l : KernelState) → Arrives c n k l → AfterRoom (conn_at (machine_of [] h) c).pool 1 h (λ roomy. Arrives c n roomy l)
   takes_made n l made = subst (λ p. AfterRoom p 1 h (λ roomy. Arrives c n roomy l)) (sym in_pool) (record { roomy = k; room = room; then = made })
@@ -116,14 +115,15 @@ module _ (c max pool : ℕ) (h k : KernelState) (room : MakesRoom pool (pages_fo
     beside = λ slots. slots_beside k l (same []) slots ∙ room.same.beside slots;
   }
 
-  pub takes_brought : (after : Option (List ℕ)) (r : Result Arrived Refusal) (l : KernelState) → IsSound l → l.cache ≡ k.cache → Stays k.store l.store → IfOk r (IsOneRead (most_asked max (conn_at (machine_of [] k) c).incoming) after) → IfOk r (λ a. Arrives c a.taken k l)
-      → IfOk r (λ a. a.taken ≡ 0 → (stored : List (List ℕ)) → machine_of stored l ≡ machine_of stored k) → IfOk r (BringsIn c max after h l)
-  takes_brought after (Ok a) l sound cache stays told made none = record {
-    told = subst (λ n. IsOneRead (min (min max PAGE_BYTES) (MAX_QUEUE_BYTES - n)) after a) unread_kept told;
-    made = takes_made a.taken l made;
-    none = λ nothing. takes_none l sound cache stays (none nothing);
-  }
-  takes_brought after (Err x) l sound cache stays told made none = tt
+  pub takes_brought : (left after : Option (List ℕ)) (r : Result Arrived Refusal) (l : KernelState) → TakesRead c max left after k r l → IfOk r (BringsIn c max after h l)
+  takes_brought left after (Ok a) l takes =
+      let none : a.taken ≡ 0 → (stored : List (List ℕ)) → machine_of stored l ≡ machine_of stored k = takes.none in
+      record {
+        told = subst (λ n. IsOneRead (min (min max PAGE_BYTES) (MAX_QUEUE_BYTES - n)) after a) unread_kept takes.told;
+        made = takes_made a.taken l takes.made;
+        none = λ nothing. takes_none l takes.sound takes.cache takes.stays (none nothing);
+      }
+  takes_brought left after (Err x) l takes = tt
 
   pub takes_stays : (l : KernelState) → Stays k.store l.store → Stays h.store l.store
   takes_stays l stays = stays_trans room.gives_up.moves.stays stays

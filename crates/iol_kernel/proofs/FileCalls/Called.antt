@@ -1,7 +1,6 @@
 -- A file is found by its name, and opened.
-use Rattle.std.proofs.Common.{◌≡◌, ℕ, ◌+◌, ◌<◌, ◌≤◌, ◌∙◌, Bool, true, List, Option, Some, refl, sym, ap, arith}
-use Rattle.std.specs.Prelude.{position, option_map, unwrap_or, bytes_eq}
-use Rattle.std.proofs.lemmas.List.Quantifiers.{position-Some}
+use Rattle.std.proofs.Common.{◌≡◌, ℕ, ◌+◌, ◌<◌, ◌≤◌, ◌∙◌, true, List, Option, refl, sym, ap, arith}
+use Rattle.std.specs.Prelude.{position, option_map, bytes_eq}
 use Rattle.iol_core.specs.Numbered.{is_numbered, numbered_or, lowest, placed}
 use Rattle.iol_core.specs.State as machine
 use Rattle.iol_core.specs.State.{State, Domain}
@@ -11,14 +10,14 @@ use Rattle.iol_core.specs.declared.descriptors.Descriptor.{Descriptor}
 use Rattle.iol_core.specs.declared.descriptors.Descriptor.TheVariants as on
 use Rattle.iol_core.specs.declared.descriptors.Mode.{Mode}
 use Rattle.iol_core.specs.declared.limits.TheConstants.{MAX_FILES}
-use Rattle.iol_cache.proofs.Extents.Filing.{numbered_bounds, numbered_yes}
+use Rattle.iol_cache.proofs.Extents.Filing.{numbered_bounds}
 use Rattle.iol_desc.specs.Tables.{domain_in, with_fds_in, with_next_fd}
 use Rattle.iol_kernel.specs.Calls.{Answers}
 use Rattle.iol_kernel.specs.Ends.{same_end, IsOpenOnce}
 use Rattle.iol_kernel.specs.Files.{opens}
 use Rattle.iol_kernel.specs.KernelState.{KernelState, objects_of, IsOpenEnd, IsSound, read_of}
 use Rattle.iol_kernel.specs.Readings.{Reading}
-use Rattle.iol_kernel.proofs.State.Answered.{answers_as, answers_here}
+use Rattle.iol_kernel.proofs.State.Answered.{answers_here}
 use Rattle.iol_kernel.proofs.State.Effects.{fds-changed, fds-sound}
 use Rattle.iol_kernel.proofs.FileCalls.Named.{as_many, files-read_of}
 use Rattle.iol_kernel.proofs.State.Once.{ends-placed, once_fewer}
@@ -28,10 +27,6 @@ use Rattle.iol_kernel.proofs.State.Uses.{Domains}
 
 pub file_called-read_of : (f : Reading) (h : KernelState) (name : List ℕ) → option_map (λ i. i + 1) (position (λ x. bytes_eq x.name name) h.files) ≡ calls.file_called (read_of f h) name
 file_called-read_of f h name = ap (λ (fs : List machine.File). option_map (λ i. i + 1) (position (λ x. bytes_eq x.name name) fs)) (sym (files-read_of f h))
-
--- it is one of them
-pub called_there : {A : Type 0} (p : A → Bool) (xs : List A) (i n : ℕ) (z : A) → position p xs ≡ Some i → n ≡ i + 1 → is_numbered xs n ≡ true
-called_there p xs i n z is next = let found = position-Some p xs i z is in numbered_yes xs n (omega (arith, next)) (omega (arith, next, found.0))
 
 -- the pool of a file
 pub file_pool-read_of : (f : Reading) (h : KernelState) (n : ℕ) → machine.file (read_of f h) n ≡ numbered_or h.files n machine.no_file
@@ -70,7 +65,3 @@ module _ (h : KernelState) (ds : Domains) (d f : ℕ) (mode : Mode) (sound : IsS
   pub opened_answers : (n : ℕ) → n ≡ lowest xs → Answers (λ s. opens s d (on.File f 0 mode)) h n (record h { domains = ds })
   opened_answers n number = answers_here (λ s. opens s d (on.File f 0 mode)) h (record h { domains = ds }) n opened-sound refl refl (λ g. number ∙ sym (ap lowest (fds-read_of g h d))) refl
       (λ g. fds-changed g h ds d (placed xs (lowest xs) (on.File f 0 mode)) opened' ∙ ap (λ (ys : List (Option Descriptor)). fds.with_fds (read_of g h) d (placed ys (lowest ys) (on.File f 0 mode))) (sym (fds-read_of g h d)))
-
--- a file of that name
-pub opened_called : (h k : KernelState) (d n f : ℕ) (mode : Mode) (name : List ℕ) → ((g : Reading) → calls.file_called (read_of g h) name ≡ Some f) → Answers (λ s. opens s d (on.File f 0 mode)) h n k → Answers (λ s. calls.open_file s d name mode) h n k
-opened_called h k d n f mode name called one = answers_as (λ s. opens s d (on.File f 0 mode)) (λ s. calls.open_file s d name mode) h k n (λ g. refl) (λ g. ap (λ (o : Option ℕ). fds.opened (read_of g h) d (on.File (unwrap_or o 0) 0 mode)) (sym (called g))) one

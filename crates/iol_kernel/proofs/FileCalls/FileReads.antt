@@ -41,6 +41,7 @@ use Rattle.iol_cache.proofs.RangeWrites.Composed.{own_places, own_text}
 use Rattle.iol_cache.proofs.Extents.Filing.{numbered_bounds, numbered_yes}
 use Rattle.iol_kernel.specs.Backed.{IsBackedBy, Serves, holding_of, with_slots}
 use Rattle.iol_kernel.specs.Ends.{ends_on, on_end, same_end}
+use Rattle.iol_kernel.specs.FileEnds.{HasFileFor}
 use Rattle.iol_kernel.specs.FileReading.{FileRead, IsOpenAt, moved_on, pool_read, read_at}
 use Rattle.iol_kernel.specs.KernelState.{KernelState, objects_of, AreFiled, IsOpenEnd, IsSound, machine_of, read_of}
 use Rattle.iol_kernel.specs.Readings.{Reading, bytes_over, slot_read, slots_read}
@@ -197,11 +198,11 @@ module _ {x : FileRead} {h : KernelState} (held : IsOpenAt h x) where
   is_open : IsOpenEnd (objects_of h) (Some (on.File x.file x.at x.mode))
   is_open = subst (IsOpenEnd (objects_of h)) (row_holds held) (each-get (IsOpenEnd (objects_of h)) (domain_in h.domains x.domain).fds x.fd None (ends_open h x.domain held.is.sound) tt)
 
-  pub file_there : is_numbered h.files x.file ≡ true
-  file_there = is_open.0
+  pub file_for : HasFileFor h x.domain x.file
+  file_for = record { file = record { sound = held.is.sound; there = is_open.0 }; live = held.is.live (bytes_over [] h.store) }
 
   pub numbered_here : is_numbered h.cache.files x.file ≡ true
-  numbered_here = (let b = numbered_bounds h.files x.file file_there in numbered_yes h.cache.files x.file b.0 (omega (arith, b.1, as_many h held.is.sound.filed)))
+  numbered_here = (let b = numbered_bounds h.files x.file is_open.0 in numbered_yes h.cache.files x.file b.0 (omega (arith, b.1, as_many h held.is.sound.filed)))
 
   pub position_short : x.at ≤ MAX_FILE_BYTES
   position_short = is_open.1

@@ -1,6 +1,6 @@
 -- Files in the kernel's table, as the machine sees them.
-use Rattle.std.proofs.Common.{◌≡◌, ◌∙◌, ℕ, ◌+◌, Bool, true, false, List, [], ◌∷◌, ◌++◌, length, get_or, slice_get, Option, Some, None, refl, sym, ap, subst, arith, inl, inr}
-use Rattle.std.specs.Prelude.{◌==◌, ◌||◌, bytes_eq, cond, is_some, nat_eq, nat_lt, not, option_map, position}
+use Rattle.std.proofs.Common.{◌≡◌, ◌∙◌, ℕ, ◌+◌, Bool, true, false, List, [], ◌∷◌, ◌++◌, length, Option, Some, None, refl, sym, ap, subst, arith, inl, inr}
+use Rattle.std.specs.Prelude.{◌==◌, ◌||◌, bytes_eq, cond, is_some, nat_eq, nat_lt, not, position}
 use Rattle.std.specs.Cmp.Lexicographic.{nat_list_eq_equiv}
 use Rattle.std.specs.Global.{Vec}
 use Rattle.std.specs.List.{list_any, position_or_len}
@@ -9,7 +9,6 @@ use Rattle.std.proofs.lemmas.Bool.{cases_Bool, cases_eq}
 use Rattle.std.proofs.lemmas.Bool.Decides.{nat_tests}
 use Rattle.std.proofs.lemmas.List.{length-map}
 use Rattle.std.proofs.lemmas.List.Folds.{list_any-append}
-use Rattle.std.proofs.lemmas.Option.{get_or_from_slice_get, slice_get-map}
 use Rattle.std.proofs.lemmas.Map.Made.{is_some-lookup}
 use Rattle.indexmap.specs.IndexSet.{insert_key}
 use Rattle.iol_core.specs.State as machine
@@ -50,10 +49,6 @@ none_from (Some x) none = cc none
 -- a new name is no key of the map
 pub new_name : (name : Vec ℕ) (es : Entries) → list_any (λ f. bytes_eq f.name name.items) (files_of es) ≡ false → lookup (has_name name.items) es ≡ None
 new_name name es new = none_from (lookup (has_name name.items) es) (has-named name.items es ∙ new)
-
--- the pool of the file in a slot
-pub pool-at : (es : Entries) (i : ℕ) (e : Vec ℕ × ℕ) → slice_get es i ≡ Some e → (get_or (files_of es) i machine.no_file).pool ≡ e.1
-pool-at es i e is = ap (λ (f : machine.File). f.pool) (get_or_from_slice_get (files_of es) i (file_of e) machine.no_file (slice_get-map file_of es i ∙ ap (option_map file_of) is))
 
 -- Pools that files lie in.
 

@@ -5,6 +5,7 @@ use Rattle.std.proofs.lemmas.Bool.{cases_lt}
 use Rattle.iol_core.specs.Text.{Text, bytes_of}
 use Rattle.iol_core.specs.Numbered.{is_numbered}
 use Rattle.iol_core.specs.declared.limits.TheConstants.{MAX_AGGREGATE_BYTES}
+use Rattle.iol_core.specs.declared.numbers.BufId.{BufId}
 use Rattle.iol_arena.specs.State.{page_count}
 use Rattle.iol_back.specs.Disk.{overwritten}
 use Rattle.iol_hold.specs.Moves.{Covers, Moves, SameLists, pool_meant}
@@ -53,12 +54,13 @@ module _ (h : KernelState) (s : Stored) (xs : List Slice) (sound : IsSound h) (f
   pub filled_sound : cache.IsSound s h.cache
   filled_sound = sound_beside [] (bufs_of xs) c (cache_sound h sound) (record { each = λ b. omega (arith, tally-append b (held c.files) [], tally_none b, (cache_sound h sound).covered.each b) }) fills (ap (map pool_meant) pools) pages
 
+  -- whatever becomes of files
+  pub still_covers : {t : Stored} {left : List BufId} → Moves s t (held h.cache.files) left → Covers t (bufs_of xs)
+  still_covers moves = record { each = λ b. omega (arith, moves.counts.each b, filled_covers.each b, tally-append b (held c.files) (bufs_of xs)) }
+
   -- They are written, and then released.
   module _ (t u : Stored) (d : Cached) (f : ℕ) (readable : AllReadable s xs) (moves : Moves s t (held h.cache.files) (held d.files)) (lists : SameLists s t) (settles : AllSettled s → AllSettled t) (filling : FillsLowest (pool_of_file h f) s t) (after : cache.IsSound t d) (mirrors : KeepsMirrors (record { store = s; cache = h.cache }) (record { store = t; cache = d }))
       (gone : Moves t u (bufs_of xs) []) (lists' : SameLists t u) (frees : FreesOnly t u) (settles' : AllReadable t xs → AllSettled t → AllSettled u) where
-    pub written_covers : Covers t (bufs_of xs)
-    written_covers = record { each = λ b. omega (arith, moves.counts.each b, filled_covers.each b, tally-append b (held c.files) (bufs_of xs)) }
-
     both_covers : Covers t (held d.files ++ bufs_of xs)
     both_covers = record { each = λ b. omega (arith, moves.counts.each b, filled_covers.each b, tally-append b (held c.files) (bufs_of xs), tally-append b (held d.files) (bufs_of xs)) }
 
@@ -83,7 +85,7 @@ module _ (h : KernelState) (s : Stored) (xs : List Slice) (sound : IsSound h) (f
         tidy = λ x. gone.tidy (moves.tidy (fills.tidy x));
       };
       lists = lists' ∙ lists ∙ ap (map pool_meant) pools;
-      settles = λ x. settles' (readable_stays xs moves.stays written_covers readable) (settles (settled x));
+      settles = λ x. settles' (readable_stays xs moves.stays (still_covers moves) readable) (settles (settled x));
       pages = (keeps_pages_frees frees).count ∙ (pages_kept filling).count ∙ pages;
       files = same.0;
       pools = same.1;

@@ -3,7 +3,7 @@ use Rattle.std.proofs.Common.{◌≡◌, ℕ, ◌+◌, ◌≤◌, true, List, []
 use Rattle.std.specs.Prelude.{Result, Ok, Err, MatchOption, OnOk}
 use Rattle.std.proofs.lemmas.List.{length-map, take_all}
 use Rattle.iol_core.specs.Text.{bytes_of, labelled}
-use Rattle.iol_core.specs.Numbered.{in_place}
+use Rattle.iol_core.specs.Numbered.{in_place, is_numbered}
 use Rattle.iol_core.specs.Meaning.{Meaning, Step, first}
 use Rattle.iol_core.specs.State as machine
 use Rattle.iol_core.specs.State.{State}
@@ -32,6 +32,8 @@ use Rattle.iol_kernel.specs.Putting.{MayPut}
 use Rattle.iol_kernel.specs.Readings.{Reading, bytes_over}
 use Rattle.iol_kernel.proofs.FileCalls.FileWrites.{Puts, late_serves, write_serves}
 use Rattle.iol_kernel.proofs.FileCalls.Moved.{repositioned}
+use Rattle.iol_kernel.proofs.FileCalls.WrittenOver.{in_cache}
+use Rattle.iol_kernel.proofs.Queues.Opening.{end_held}
 use Rattle.iol_kernel.proofs.State.ReadOf.{descriptor-read_of, live_held}
 use Rattle.iol_kernel.proofs.FileCalls.Recached.{Recaches}
 use Rattle.iol_kernel.proofs.Queues.Passed.{passed_live, passed_short}
@@ -55,6 +57,9 @@ module _ (h : KernelState) (by fd f at pool : ℕ) (mode : Mode) (bytes : List �
 
   pub held_file : in_place (domain_in h.domains by).fds fd ≡ Some (on.File f at mode)
   held_file = sym (descriptor-read_of (over []) h by fd) ∙ may.to (over [])
+
+  pub held_there : is_numbered h.cache.files f ≡ true
+  held_there = in_cache h f may.sound (end_held (over []) h by fd (on.File f at mode) may.sound (may.to (over []))).0
 
   pub held_short : at + length bytes ≤ MAX_FILE_BYTES
   held_short = passed_short (machine_of [] h) by fd bytes (may.passes.passed (over [])) f at mode (may.to (over []))

@@ -13,14 +13,13 @@ use Rattle.iol_core.specs.declared.refusals.Refusal.TheVariants.{NoDomain, NoPoo
 use Rattle.iol_back.specs.Disk.{Disk, IfHonest, content}
 use Rattle.iol_hold.specs.Stored.{Stored}
 use Rattle.iol_hold.proofs.AtPlaces.{keeps_bytes}
-use Rattle.iol_kernel.specs.Backed.{Serves}
 use Rattle.iol_kernel.specs.Calls.{AddsFile, Names, TellsNext}
+use Rattle.iol_kernel.specs.FileEnds.{AsksNext}
 use Rattle.iol_kernel.specs.KernelState.{KernelState, AreFiled, IsSound, read_of, machine_of}
 use Rattle.iol_kernel.specs.Readings.{Reading, bytes_over}
 use Rattle.iol_kernel.proofs.State.Beside.{even, length-even}
 use Rattle.iol_kernel.proofs.FileCalls.Named.{files-read_of, last-slot, next-slot}
 use Rattle.iol_kernel.proofs.State.Serving.{steps_beside}
-use Rattle.iol_kernel.proofs.State.Stay.{stays_equal}
 
 -- Whether the next slot has more bytes than a file may have is told of some bytes there.
 
@@ -117,7 +116,7 @@ refused_always disk m h x is roomy sound = unnamed disk m h h x [] (λ honest. r
 
 -- By what is told of the next slot: with the bytes that an honest store has, and with some bytes there.
 
-module _ (disk : Disk) (h : KernelState) (d p : ℕ) (name : List ℕ) {long : Bool} (honest : IfHonest disk ((f : Reading) → f.stored ≡ disk.slots → long ≡ nat_lt MAX_FILE_BYTES (length (machine.content (read_of f h) (length (read_of f h).files + 1))))) (told : TellsNext h long) (sound : IsSound h) where
+module _ (disk : Disk) (h : KernelState) (d p : ℕ) (name : List ℕ) {long : Bool} (next : AsksNext disk h long) (sound : IsSound h) where
   abbrev m : State → Meaning ℕ
   m s = calls.file_new s d name p
 
@@ -126,24 +125,24 @@ module _ (disk : Disk) (h : KernelState) (d p : ℕ) (name : List ℕ) {long : B
   Comes o = (f : Reading) → long ≡ nat_lt MAX_FILE_BYTES (length (machine.content (read_of f h) (length (read_of f h).files + 1))) → first (m (read_of f h)).refusals ≡ o
 
   here : (o : Option Refusal) → Comes o → IfHonest disk (first (m (machine_of disk.slots h)).refusals ≡ o)
-  here o is i = is (bytes_over disk.slots h.store) (honest i (bytes_over disk.slots h.store) refl)
+  here o is i = is (bytes_over disk.slots h.store) (next.honest i (bytes_over disk.slots h.store) refl)
 
-  aside : (o : Option Refusal) → Comes o → first (m (machine_of told.stored h)).refusals ≡ o
-  aside o is = is (bytes_over told.stored h.store) (told.is (bytes_over told.stored h.store) refl)
+  aside : (o : Option Refusal) → Comes o → first (m (machine_of next.told.stored h)).refusals ≡ o
+  aside o is = is (bytes_over next.told.stored h.store) (next.told.is (bytes_over next.told.stored h.store) refl)
 
   pub refused_told : (x : Refusal) → Comes (Some x) → ((q : ℕ) → x ≡ NoRoom q → ⊥) → Names disk m h (Err x) h
-  refused_told x is roomy = unnamed disk m h h x told.stored (λ i. refused_first m (machine_of disk.slots h) x (here (Some x) is i)) (refused_first m (machine_of told.stored h) x (aside (Some x) is)) roomy refl sound
+  refused_told x is roomy = unnamed disk m h h x next.told.stored (λ i. refused_first m (machine_of disk.slots h) x (here (Some x) is i)) (refused_first m (machine_of next.told.stored h) x (aside (Some x) is)) roomy refl sound
 
   -- and the late one
   pub refused_memory : (k : KernelState) → Comes None → k ≡ h → Names disk m h (Err Memory) k
-  refused_memory k is same = unnamed disk m h k Memory told.stored (λ i. refused_late m (machine_of disk.slots h) Memory (here None is i) tt) (refused_late m (machine_of told.stored h) Memory (aside None is) tt) (λ q e. cc e) same sound
+  refused_memory k is same = unnamed disk m h k Memory next.told.stored (λ i. refused_late m (machine_of disk.slots h) Memory (here None is i) tt) (refused_late m (machine_of next.told.stored h) Memory (aside None is) tt) (λ q e. cc e) same sound
 
   -- a file is there
   pub names : (k : KernelState) (n : ℕ) → Comes None → AddsFile m h n k → Names disk m h (Ok n) k
   names k n is one = record {
     step = λ i. stepped disk.slots (here None is i);
     backed = λ backed. one.backed disk (next_short disk h d p name sound.filed (here None is backed.honest)) backed;
-    beside = steps_beside m h k (Ok n) told.stored told.stored (stepped told.stored (aside None is));
+    beside = steps_beside m h k (Ok n) next.told.stored next.told.stored (stepped next.told.stored (aside None is));
     places = one.after;
     store = one.store;
     roomy = λ q e. cc e;
@@ -157,15 +156,3 @@ module _ (disk : Disk) (h : KernelState) (d p : ℕ) (name : List ℕ) {long : B
     where
       stepped : (slots : List (List ℕ)) → first (m (machine_of slots h)).refusals ≡ None → Step (m (machine_of slots h)) (machine_of slots h) (Ok n) (machine_of slots k)
       stepped slots none = (none, one.answer (bytes_over slots h.store) (keeps_bytes h.store), ap (λ (s : Stored). read_of (bytes_over slots s) k) one.store ∙ one.after (bytes_over slots h.store) (keeps_bytes h.store))
-
--- it is a call that may ask the store
-pub named_serves : (disk : Disk) (m : State → Meaning ℕ) (old new : KernelState) (r : Result ℕ Refusal) → Names disk m old r new → Serves m disk old r disk new
-named_serves disk m old new r n = record {
-  step = λ backed placed. n.step backed.honest;
-  backed = n.backed;
-  beside = n.beside;
-  honest = refl;
-  sums = n.sums;
-  sound = n.sound;
-  stays = stays_equal old.store new.store n.store;
-}

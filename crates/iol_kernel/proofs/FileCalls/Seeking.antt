@@ -17,25 +17,30 @@ use Rattle.iol_core.specs.declared.refusals.Refusal.{Refusal}
 use Rattle.iol_core.specs.declared.refusals.Refusal.TheVariants.{NoDomain, BadFd, WrongMode, BadRange, Fault, NoRoom}
 use Rattle.iol_back.specs.Disk.{Disk}
 use Rattle.iol_extent.specs.Extents.{last_end}
-use Rattle.iol_cache.proofs.Extents.Filing.{numbered_bounds, numbered_yes}
 use Rattle.iol_cache.specs.Cached.{extents_in}
 use Rattle.iol_cache.specs.Contents.{bytes_in_slot}
 use Rattle.iol_desc.specs.Tables.{domain_in, with_fds_in}
 use Rattle.iol_kernel.specs.Backed.{IsBackedBy, LooksUp, Serves, with_slots}
 use Rattle.iol_kernel.specs.Ends.{IsOpenOnce}
 use Rattle.iol_kernel.specs.KernelState.{KernelState, objects_of, IsOpenEnd, IsSound, machine_of, read_of}
-use Rattle.iol_kernel.specs.Opened.{IsOpenOn}
+use Rattle.iol_kernel.specs.Opened.{IsOnFile, IsOpenOn}
 use Rattle.iol_kernel.specs.Readings.{Reading, KeepsPools, bytes_over}
 use Rattle.iol_kernel.proofs.State.Answered.{refusal_of}
 use Rattle.iol_kernel.proofs.State.Beside.{content-machine_of, descriptor-with_slots, even, fds-with_slots, length_content-even, live-with_slots, open-with_slots, serves_refused, serves_where, with_slots-own}
 use Rattle.iol_kernel.proofs.FileCalls.Called.{file_within, same_end-file}
 use Rattle.iol_kernel.proofs.State.Effects.{fds-changed, fds-sound}
-use Rattle.iol_kernel.proofs.FileCalls.Named.{as_many, cache_sound}
+use Rattle.iol_kernel.proofs.FileCalls.Named.{cache_sound}
 use Rattle.iol_kernel.proofs.State.Once.{ends-set, once_fewer}
 use Rattle.iol_kernel.proofs.Queues.Opening.{end_held}
 use Rattle.iol_kernel.proofs.State.ReadOf.{descriptor-read_of, fds-read_of, live_held}
 use Rattle.iol_kernel.proofs.State.Sound.{each-set, ends_open}
 use Rattle.iol_kernel.proofs.State.Uses.{Domains}
+
+-- what is open on a file
+pub open_file : {h : KernelState} {d fd f at : ℕ} {mode : Mode} → IsOpenOn h d fd (on.File f at mode) → IsOnFile h d fd f at mode
+open_file {h} {d} {fd} {f} {at} {mode} held =
+    let is = end_held (bytes_over [] h.store) h d fd (on.File f at mode) held.sound (held.from (bytes_over [] h.store)) in
+    record { held = held; there = is.0; within = is.1 }
 
 -- What the two calls refuse, by what they look at.
 
@@ -211,9 +216,6 @@ module _ (disk : Disk) (h : KernelState) (d fd f was len : ℕ) (mode : Mode) (h
 pub length_is : (disk : Disk) (h : KernelState) (f n : ℕ) → IsSound h → is_numbered h.files f ≡ true → (IsBackedBy disk h → n ≡ length (bytes_in_slot h.store disk.slots h.cache.files f)) → IsBackedBy disk h → n ≡ length (machine.content (machine_of disk.slots h) f)
 length_is disk h f n sound there is backed = let bounds = file_within h f sound there in is backed ∙ ap length (sym (content-machine_of disk.slots h f bounds.0 bounds.1))
 
--- it is in the cache, where no extent goes beyond a file's limit
-pub file_cached : (h : KernelState) (f : ℕ) → IsSound h → is_numbered h.files f ≡ true → is_numbered h.cache.files f ≡ true
-file_cached h f sound there = let bounds = numbered_bounds h.files f there in numbered_yes h.cache.files f bounds.0 (omega (arith, bounds.1, as_many h sound.filed))
-
+-- no extent goes beyond a file's limit
 pub extents_short : (h : KernelState) (f : ℕ) → IsSound h → last_end (extents_in h.cache.files f) ≤ MAX_FILE_BYTES
 extents_short h f sound = let filed = (cache_sound h sound).files f in filed.short

@@ -5,7 +5,7 @@ use Rattle.std.proofs.lemmas.Bool.{cases_lt}
 use Rattle.std.proofs.lemmas.List.{take_all}
 use Rattle.iol_core.specs.Text.{Text}
 use Rattle.iol_core.specs.Numbered.{in_place, is_numbered, numbered_or}
-use Rattle.iol_core.specs.Meaning.{Meaning, first, WantOfRoom}
+use Rattle.iol_core.specs.Meaning.{Meaning, WantOfRoom}
 use Rattle.iol_core.specs.State as machine
 use Rattle.iol_core.specs.State.{Domain, State}
 use Rattle.iol_core.specs.Calls.Writing as writing
@@ -41,7 +41,7 @@ use Rattle.iol_kernel.specs.KernelState.{KernelState, IsSound, machine_of, objec
 use Rattle.iol_kernel.specs.Readings.{Reading, bytes_over}
 use Rattle.iol_kernel.specs.Views.{state_view}
 use Rattle.iol_kernel.specs.Keeping.{KeepsBeside, LacksPages}
-use Rattle.iol_kernel.specs.Opened.{IsOpenOn}
+use Rattle.iol_kernel.specs.WritingAggs.{MayWriteAgg}
 use Rattle.iol_kernel.specs.WritingFiles.{WritesAgg, WritesOn, WritesOver, pages_to_write, pool_of_file}
 use Rattle.iol_cache.proofs.Extents.Keeping.{apart_of}
 use Rattle.iol_kernel.proofs.FileCalls.Kept.{beside_same, unwritten_unless, write_unless}
@@ -49,7 +49,8 @@ use Rattle.iol_kernel.proofs.FileCalls.FileWrites.{SamePools, late_serves, unwri
 use Rattle.iol_kernel.proofs.FileCalls.Moved.{repositioned}
 use Rattle.iol_kernel.proofs.FileCalls.Named.{as_many, cache_sound}
 use Rattle.iol_kernel.proofs.State.Answered.{refusal_of}
-use Rattle.iol_kernel.proofs.State.ReadOf.{descriptor-read_of, live_held, text-read_of}
+use Rattle.iol_kernel.proofs.Queues.Passed.{agg_short}
+use Rattle.iol_kernel.proofs.State.ReadOf.{descriptor-read_of, length_text-read_of, live_held, text-read_of}
 use Rattle.iol_kernel.proofs.FileCalls.Recached.{Recaches}
 use Rattle.iol_kernel.proofs.Queues.Opening.{end_held}
 use Rattle.iol_kernel.proofs.AggregateCalls.Slices.{slices_found}
@@ -112,9 +113,14 @@ queued_on d fd a h k r (on.ReadEnd p) other c = c
 queued_on d fd a h k r (on.WriteEnd p) other c = c
 queued_on d fd a h k r (on.Connection n) other c = c
 
-module _ (h : KernelState) (t : Stored) (d : Cached) (by fd a f at : ℕ) (mode : Mode) (xs : List Slice) (open' : IsOpenOn h by fd (on.File f at mode)) (found : Some xs ≡ agg_in h.domains by a)
-    (moves : Moves h.store t (held h.cache.files) (held d.files)) (lists : SameLists h.store t) (settles : AllSettled h.store → AllSettled t) (pages : FillsLowest (pool_of_file h f) h.store t) (after : cache.IsSound t d) (mirrors : KeepsMirrors (holding_of h) (record { store = t; cache = d }))
-    (passed : (r : Reading) → first (writing.iol_write (read_of r h) by fd a).refusals ≡ None) where
+-- an aggregate that may be written to a file fits in it
+pub agg_fits : {h : KernelState} {by fd a f at : ℕ} {mode : Mode} {xs : List Slice} → MayWriteAgg by fd a (on.File f at mode) h → Some xs ≡ agg_in h.domains by a → at + byte_len xs ≤ MAX_FILE_BYTES
+agg_fits {h} {by} {fd} {a} {f} {at} {mode} {xs} may found =
+    let r = bytes_over [] h.store in
+    omega (arith, agg_short (machine_of [] h) by fd a (may.passed r) f at mode (may.held.from r), length_text-read_of r h by a, ap byte_len (slices_found h.domains by a xs found))
+
+module _ (h : KernelState) (t : Stored) (d : Cached) (by fd a f at : ℕ) (mode : Mode) (xs : List Slice) (may : MayWriteAgg by fd a (on.File f at mode) h) (found : Some xs ≡ agg_in h.domains by a)
+    (moves : Moves h.store t (held h.cache.files) (held d.files)) (lists : SameLists h.store t) (settles : AllSettled h.store → AllSettled t) (pages : FillsLowest (pool_of_file h f) h.store t) (after : cache.IsSound t d) (mirrors : KeepsMirrors (holding_of h) (record { store = t; cache = d })) where
   abbrev new : Holding
   new = record { store = t; cache = d }
 
@@ -122,13 +128,13 @@ module _ (h : KernelState) (t : Stored) (d : Cached) (by fd a f at : ℕ) (mode 
   over stored = bytes_over stored h.store
 
   live : (domain_in h.domains by).live ≡ true
-  live = live_held (over []) h by (open'.live (over []))
+  live = live_held (over []) h by (may.held.live (over []))
 
   is : in_place (domain_in h.domains by).fds fd ≡ Some (on.File f at mode)
-  is = sym (descriptor-read_of (over []) h by fd) ∙ open'.from (over [])
+  is = sym (descriptor-read_of (over []) h by fd) ∙ may.held.from (over [])
 
   there : is_numbered h.cache.files f ≡ true
-  there = in_cache h f open'.sound (end_held (over []) h by fd (on.File f at mode) open'.sound (open'.from (over []))).0
+  there = in_cache h f may.held.sound (end_held (over []) h by fd (on.File f at mode) may.held.sound (may.held.from (over []))).0
 
   same_source : xs ≡ slices_in h.domains by a
   same_source = slices_found h.domains by a xs found
@@ -148,12 +154,12 @@ module _ (h : KernelState) (t : Stored) (d : Cached) (by fd a f at : ℕ) (mode 
   answered : (stored : List (List ℕ)) → length (text_of h.store xs) ≡ (m (machine_of stored h)).answer
   answered stored =
       let s : State = machine_of stored h in
-      sym (ap (λ (o : Option Descriptor). writing.fitting s o (length (machine.text s by a))) (open'.from (over stored)) ∙ ap (λ (w : Text). length w) (source stored))
+      sym (ap (λ (o : Option Descriptor). writing.fitting s o (length (machine.text s by a))) (may.held.from (over stored)) ∙ ap (λ (w : Text). length w) (source stored))
 
   left : (stored : List (List ℕ)) → (m (machine_of stored h)).after ≡ writing.written (machine_of stored h) by fd (Some (on.File f at mode)) (text_of h.store xs)
   left stored =
       let s : State = machine_of stored h in
-      ap (λ (o : Option Descriptor). writing.written s by fd o (take (writing.fitting s o (length (machine.text s by a))) (machine.text s by a))) (open'.from (over stored))
+      ap (λ (o : Option Descriptor). writing.written s by fd o (take (writing.fitting s o (length (machine.text s by a))) (machine.text s by a))) (may.held.from (over stored))
       ∙ ap (λ (w : Text). writing.written s by fd (Some (on.File f at mode)) (take (length w) w)) (source stored)
       ∙ ap (λ (w : Text). writing.written s by fd (Some (on.File f at mode)) w) (take_all (length (text_of h.store xs)) (text_of h.store xs) (omega arith))
 
@@ -166,15 +172,15 @@ module _ (h : KernelState) (t : Stored) (d : Cached) (by fd a f at : ℕ) (mode 
 
     beside : let p = pool_of_file h f in KeepsBeside f at (byte_len xs) p (LacksPages h p (copied_pages p xs)) h.cache d
     beside = elim (cases_lt 0 (byte_len xs)) [
-      | inl some ↦ write_unless h f at xs new (apart_of {h = holding_of h} (cache_sound h open'.sound)) there (writes some)
+      | inl some ↦ write_unless h f at xs new (apart_of {h = holding_of h} (cache_sound h may.held.sound)) there (writes some)
       | inr none ↦ (let p = pool_of_file h f in beside_same f at (byte_len xs) p (LacksPages h p (copied_pages p xs)) h.cache d (ap (λ (x : Holding). x.cache) (nothing (omega (arith, none)))))
     ]
 
-    pub overwritten : (ds : List (Domain (List Slice))) (n : ℕ) → IsWritten f at xs (holding_of h) new → KeepsOthers f (holding_of h) new → at + byte_len (slices_in h.domains by a) ≤ MAX_FILE_BYTES → n ≡ byte_len xs → pages_to_write h f xs ≤ length (pages_of h.store (pool_of_file h f))
+    pub overwritten : (ds : List (Domain (List Slice))) (n : ℕ) → IsWritten f at xs (holding_of h) new → KeepsOthers f (holding_of h) new → n ≡ byte_len xs → pages_to_write h f xs ≤ length (pages_of h.store (pool_of_file h f))
         → ds ≡ with_fds_in h.domains by (repositioned h by fd f (at + n) mode) → WritesAgg by fd a f at h (Ok n) (record h { store = t; cache = d; domains = ds })
-    overwritten ds n written others short count room moved = let k : KernelState = record h { store = t; cache = d; domains = ds } in record {
+    overwritten ds n written others count room moved = let k : KernelState = record h { store = t; cache = d; domains = ds } in record {
       serves = λ disk. subst (λ z. Serves m disk h (Ok z) disk k) (long ∙ sym count)
-          (write_serves m h k t d by fd f at mode (text_of h.store xs) open'.sound live is (recaches pools) (record { written = written.each; others = others; mirrors = mirrors }) (omega (arith, short, long, ap byte_len same_source)) (λ stored. passed (over stored)) answered left
+          (write_serves m h k t d by fd f at mode (text_of h.store xs) may.held.sound live is (recaches pools) (record { written = written.each; others = others; mirrors = mirrors }) (omega (arith, agg_fits may found, long)) (λ stored. may.passed (over stored)) answered left
           (ap (λ (es : List (Domain (List Slice))). let l : KernelState = record h { store = t; cache = d; domains = es } in l) (moved_by (count ∙ sym long))) disk);
       over = subst (λ (ys : List Slice). WritesOver f at ys h (Ok n) k) same_source (record {
         lies = lies;
@@ -199,15 +205,15 @@ module _ (h : KernelState) (t : Stored) (d : Cached) (by fd a f at : ℕ) (mode 
   pub unwritten : (x : Refusal) → OnlyMakesRoom (pool_of_file h f) (copied_pages (pool_of_file h f) xs) (holding_of h) new → KeepsFiles (holding_of h) new → ((p : ℕ) → x ≡ NoRoom p → length (pages_of h.store (pool_of_file h f)) < pages_to_write h f xs)
       → ((p : ℕ) → x ≡ NoRoom p → LeavesAll (holding_of h) new) → WantOfRoom (pool_of_file h f) x → WritesAgg by fd a f at h (Err x) (record h { store = t; cache = d })
   unwritten x room keeps lacks kept late = let k : KernelState = record h { store = t; cache = d } in record {
-    serves = late_serves m h k t d x open'.sound (recaches (unwritten_pools (pool_of_file h f) (copied_pages (pool_of_file h f) xs) (holding_of h) new room)) keeps mirrors (λ stored. passed (over stored))
-        (λ stored. subst (λ (o : Option Descriptor). writing.write_late (machine_of stored h) o x) (sym (open'.from (over stored))) (subst (λ p. WantOfRoom p x) (sym (pool-file (over stored) h f open'.sound)) late))
+    serves = late_serves m h k t d x may.held.sound (recaches (unwritten_pools (pool_of_file h f) (copied_pages (pool_of_file h f) xs) (holding_of h) new room)) keeps mirrors (λ stored. may.passed (over stored))
+        (λ stored. subst (λ (o : Option Descriptor). writing.write_late (machine_of stored h) o x) (sym (may.held.from (over stored))) (subst (λ p. WantOfRoom p x) (sym (pool-file (over stored) h f may.held.sound)) late))
         refl;
     over = subst (λ (ys : List Slice). WritesOver {A = ℕ} f at ys h (Err x) k) same_source (record {
       lies = tt;
       over = λ some. tt;
       nothing = λ none. tt;
       moves = tt;
-      beside = unwritten_unless h f at xs new (apart_of {h = holding_of h} (cache_sound h open'.sound)) room;
+      beside = unwritten_unless h f at xs new (apart_of {h = holding_of h} (cache_sound h may.held.sound)) room;
       room = tt;
       no_room = λ p e. lacks p (refusal_of x (NoRoom p) e);
       pages = pages;

@@ -28,7 +28,7 @@ use Rattle.iol_kernel.specs.Counted.{uses, pipe_uses, IsCounted}
 use Rattle.iol_kernel.specs.Ends.{same_end, on_end, ends_on, all_ends_on}
 use Rattle.iol_kernel.specs.KernelState.{KernelState, objects_of, Each, IsOpenEnd, IsPipeReadable, AreReadable, IsShort, IsLimited, IsSound, queue_at, read_of}
 use Rattle.iol_kernel.specs.Readings.{Reading, read}
-use Rattle.iol_kernel.specs.ClosedEnds.{without_reader, without_writer, with_pipe_in, ClosesEnd, KeepsEnds}
+use Rattle.iol_kernel.specs.ClosedEnds.{without_reader, without_writer, with_pipe_in, Closes, ClosesEnd, IsLetGo, KeepsEnds}
 use Rattle.iol_kernel.proofs.State.Uses.{uses-set_pipe, uses_at, Pipes}
 use Rattle.iol_kernel.proofs.State.Sound.{each-set, with_pipes}
 use Rattle.iol_kernel.proofs.Queues.Ends.{there_if_open, closed_pipe}
@@ -37,7 +37,6 @@ use Rattle.iol_kernel.proofs.State.Effects.{moved-sound, leaves}
 use Rattle.iol_kernel.proofs.Queues.Queueing.{queue_readable, queue_short}
 use Rattle.iol_kernel.proofs.State.ReadOf.{pipe_at-read_of}
 use Rattle.iol_kernel.proofs.State.Views.{with_pipe_in-view, pools-view}
-use Rattle.iol_kernel.specs.Calls.{Leaves}
 
 pub moves_same : (s : Stored) (xs : List BufId) → Moves s s xs xs
 moves_same s xs = let m = moves_none s in record { counts = record { each = λ b. refl }; stays = m.stays; still = m.still; tidy = m.tidy }
@@ -201,19 +200,22 @@ module _ (h : KernelState) (t : Stored) (qs : Pipes) (p : ℕ) (x : Pipe (List S
       (moved-sound h.store (record h { store = t; pipes = less }) closes.releases.moves.stays less_counted (closes.releases.moves.tidy sound.tidy) (closes.releases.moves.still sound.still) (closes.releases.settles (queue_readable h p sound) sound.settled) sound.domains less_good
       (all_ends_kept end (objects_of h) (record (objects_of h) { pipes = less }) keeps h.domains sound.fds free) sound.once less_limits (same_pooled h.store t h.conns h.cache.files closes.releases.lists sound.pooled) sound.sums sound.filed sound.cached (keeps_pages_frees closes.releases.frees).count)
 
+  -- an end of it is closed
+  closed_pipe-closes : (end : Descriptor) → KeepsEnds end (objects_of h) (record (objects_of h) { pipes = less }) → all_ends_on end h.domains ≡ 0 → ((f : Reading) → machine.with_pipe (read_of f h) p (pipe_view (read f) x) ≡ fds.closed_on (read_of f h) (Some end)) → Closes end h (record h { store = t; pipes = qs })
+  closed_pipe-closes end keeps free means = record {
+    closed = leaves (λ s. fds.closed_on s (Some end)) h (record h { store = t; pipes = qs }) (λ f. closed_pipe-read f ∙ means f) refl refl closes.releases.moves.stays (keeps_pages_frees closes.releases.frees) sound.domains qs_good (closed_pipe-sound end keeps free);
+    domains = refl;
+    others = subst (λ (ys : Pipes). KeepsEnds end (objects_of h) (record (objects_of h) { pipes = ys })) (sym closes.pipes) keeps;
+  }
+
 -- a read end
 
-module _ (h : KernelState) (t : Stored) (qs : Pipes) (p : ℕ) (sound : IsSound h) (reading : (queue_at h.pipes p).reading ≡ true) (closes : ClosesEnd h.store t h.pipes qs p (without_reader (queue_at h.pipes p))) where
+module _ (h : KernelState) (t : Stored) (qs : Pipes) (p : ℕ) (free : IsLetGo h (on.ReadEnd p)) (closes : ClosesEnd h.store t h.pipes qs p (without_reader (queue_at h.pipes p))) where
   reader_there : p < length h.pipes
-  reader_there = there_if_open h.pipes p (inl reading)
+  reader_there = there_if_open h.pipes p (inl free.opened)
 
-  pub reader_closed : all_ends_on (on.ReadEnd p) h.domains ≡ 0 → Leaves (λ s. fds.closed_on s (Some (on.ReadEnd p))) h (record h { store = t; pipes = qs })
-  reader_closed free =
-      let x : Pipe (List Slice) = without_reader (queue_at h.pipes p) in
-      leaves (λ s. fds.closed_on s (Some (on.ReadEnd p))) h (record h { store = t; pipes = qs })
-      (λ f. closed_pipe-read h t qs p x sound reader_there closes (inl refl) (λ e. refl) f ∙ reader-read f h p)
-      refl refl closes.releases.moves.stays (keeps_pages_frees closes.releases.frees) sound.domains (qs_good h t qs p x sound reader_there closes (inl refl) (λ e. refl))
-      (closed_pipe-sound h t qs p x sound reader_there closes (inl refl) (λ e. refl) (on.ReadEnd p) (reader_keeps (objects_of h) p reader_there) free)
+  pub reader_closes : Closes (on.ReadEnd p) h (record h { store = t; pipes = qs })
+  reader_closes = closed_pipe-closes h t qs p (without_reader (queue_at h.pipes p)) free.sound reader_there closes (inl refl) (λ e. refl) (on.ReadEnd p) (reader_keeps (objects_of h) p reader_there) free.free (λ f. reader-read f h p)
 
 -- a write end
 
@@ -225,18 +227,9 @@ none_of : (q : List Slice) (r : Bool) → (r || false) ≡ false → (if r then 
 none_of q true e = absurd (cc)
 none_of q false e = refl
 
-module _ (h : KernelState) (t : Stored) (qs : Pipes) (p : ℕ) (sound : IsSound h) (writing : (queue_at h.pipes p).writing ≡ true) (closes : ClosesEnd h.store t h.pipes qs p (without_writer (queue_at h.pipes p))) where
+module _ (h : KernelState) (t : Stored) (qs : Pipes) (p : ℕ) (free : IsLetGo h (on.WriteEnd p)) (closes : ClosesEnd h.store t h.pipes qs p (without_writer (queue_at h.pipes p))) where
   writer_there : p < length h.pipes
-  writer_there = there_if_open h.pipes p (inr writing)
+  writer_there = there_if_open h.pipes p (inr free.opened)
 
-  writer_part : ((without_writer (queue_at h.pipes p)).queue ≡ []) ⊎ ((without_writer (queue_at h.pipes p)).queue ≡ (queue_at h.pipes p).queue)
-  writer_part = part_of (queue_at h.pipes p).queue (queue_at h.pipes p).reading
-
-  pub writer_closed : all_ends_on (on.WriteEnd p) h.domains ≡ 0 → Leaves (λ s. fds.closed_on s (Some (on.WriteEnd p))) h (record h { store = t; pipes = qs })
-  writer_closed free =
-      let x : Pipe (List Slice) = without_writer (queue_at h.pipes p) in
-      let none = none_of (queue_at h.pipes p).queue (queue_at h.pipes p).reading in
-      leaves (λ s. fds.closed_on s (Some (on.WriteEnd p))) h (record h { store = t; pipes = qs })
-      (λ f. closed_pipe-read h t qs p x sound writer_there closes writer_part none f ∙ writer-read f h p)
-      refl refl closes.releases.moves.stays (keeps_pages_frees closes.releases.frees) sound.domains (qs_good h t qs p x sound writer_there closes writer_part none)
-      (closed_pipe-sound h t qs p x sound writer_there closes writer_part none (on.WriteEnd p) (writer_keeps (objects_of h) p writer_there) free)
+  pub writer_closes : Closes (on.WriteEnd p) h (record h { store = t; pipes = qs })
+  writer_closes = closed_pipe-closes h t qs p (without_writer (queue_at h.pipes p)) free.sound writer_there closes (part_of (queue_at h.pipes p).queue (queue_at h.pipes p).reading) (none_of (queue_at h.pipes p).queue (queue_at h.pipes p).reading) (on.WriteEnd p) (writer_keeps (objects_of h) p writer_there) free.free (λ f. writer-read f h p)

@@ -20,14 +20,17 @@ use Rattle.iol_desc.specs.Tables.{domain_in, with_domain_in, with_fds_in, with_n
 use Rattle.iol_kernel.specs.Views.{Pipe, Objects, state_view}
 use Rattle.iol_kernel.specs.Ends.{same_end, ends_on, all_ends_on, IsOpenOnce}
 use Rattle.iol_kernel.specs.KernelState.{KernelState, objects_of, Each, IsOpenEnd, IsPipeReadable, IsSound, IsShort, read_of}
-use Rattle.iol_kernel.specs.Readings.{Reading}
+use Rattle.iol_kernel.specs.ClosedEnds.{IsLetGo}
+use Rattle.iol_kernel.specs.NewDescriptors.{MayGiveFd, MayPipe}
+use Rattle.iol_kernel.specs.Opened.{IsOpenOn}
+use Rattle.iol_kernel.specs.Readings.{Reading, bytes_over}
 use Rattle.iol_kernel.proofs.State.Views.{add_pipe-view, lowest-view}
 use Rattle.iol_kernel.proofs.State.Sound.{with_pipes, each-set, each-get, each-weaker, each-placed, ends_open}
 use Rattle.iol_kernel.proofs.State.Once.{end_alone, ends-with_domain, ends-placed, ends-freed, once_fewer, once_freed, both_once, all_ends_closed}
 use Rattle.iol_kernel.proofs.Queues.Ends.{ends_placed, lowest_closed, new_reading, new_writing}
 use Rattle.iol_kernel.proofs.State.Effects.{fds-sound, fds-changed}
 use Rattle.iol_kernel.proofs.State.Rows.{domain_in-with_other, with_domain_in-comm}
-use Rattle.iol_kernel.proofs.State.ReadOf.{descriptor-read_of, fds-read_of, lowest-read_of}
+use Rattle.iol_kernel.proofs.State.ReadOf.{descriptor-read_of, fds-read_of, live_held, lowest-read_of, open_row, taken_pipes-read_of}
 use Rattle.iol_kernel.specs.Calls.{Answers}
 use Rattle.std.specs.Option.{option_map_or}
 
@@ -110,8 +113,10 @@ piped-sound h ds qs d sound live few domains' pipes' =
     let second : Each (IsOpenEnd o) (with_ends xs (lowest h.pipes)) = each-placed (IsOpenEnd o) (with_read_end xs (lowest h.pipes)) (lowest (with_read_end xs (lowest h.pipes))) (on.WriteEnd (lowest h.pipes)) first (new_writing h.pipes empty) in
     subst (λ (ys : List (Option (Pipe (List Slice)))). IsSound (record h { domains = ds; pipes = ys })) (sym pipes') (fds-sound k ds d (with_ends xs (lowest h.pipes)) sound' live domains' second (once_piped h d sound live))
 
-pub piped_answers : (h : KernelState) (ds : List (Domain (List Slice))) (qs : List (Option (Pipe (List Slice)))) (d : ℕ) (r : ℕ × ℕ) → IsSound h → (domain_in h.domains d).live ≡ true → taken h.pipes < MAX_PIPES → r ≡ ends_of (domain_in h.domains d).fds (lowest h.pipes) → ds ≡ with_fds_in h.domains d (with_ends (domain_in h.domains d).fds (lowest h.pipes)) → qs ≡ placed h.pipes (lowest h.pipes) empty → Answers (λ s. fds.pipe s d) h r (record h { domains = ds; pipes = qs })
-piped_answers h ds qs d r sound live few numbers domains' pipes' = answers_here (λ s. fds.pipe s d) h (record h { domains = ds; pipes = qs }) r (piped-sound h ds qs d sound live few domains' pipes') refl refl (λ f. numbers ∙ sym (ends-read f h d)) refl (λ f. piped-read f h ds qs d domains' pipes')
+pub piped_answers : (h : KernelState) (ds : List (Domain (List Slice))) (qs : List (Option (Pipe (List Slice)))) (d : ℕ) (r : ℕ × ℕ) → MayPipe d h → r ≡ ends_of (domain_in h.domains d).fds (lowest h.pipes) → ds ≡ with_fds_in h.domains d (with_ends (domain_in h.domains d).fds (lowest h.pipes)) → qs ≡ placed h.pipes (lowest h.pipes) empty → Answers (λ s. fds.pipe s d) h r (record h { domains = ds; pipes = qs })
+piped_answers h ds qs d r may numbers domains' pipes' =
+    let f = bytes_over [] h.store in
+    answers_here (λ s. fds.pipe s d) h (record h { domains = ds; pipes = qs }) r (piped-sound h ds qs d may.sound (live_held f h d may.live) (subst (λ n. n < MAX_PIPES) (taken_pipes-read_of f h) may.few_pipes) domains' pipes') refl refl (λ f. numbers ∙ sym (ends-read f h d)) refl (λ f. piped-read f h ds qs d domains' pipes')
 
 few_open : (n k : ℕ) → nat_lt MAX_OPEN (n + k) ≡ false → n + k ≤ MAX_OPEN
 few_open n k few = grind (arith, nat_tests, few)
@@ -137,10 +142,21 @@ freed-alone h ds d fd x sound live there is = (end_alone x [] ds once).0
       ends-freed x x (domain_in h.domains d).fds fd there,
     )
 
--- a descriptor moves
+-- what it is open on
 
 pub end_held : (f : Reading) (h : KernelState) (d fd : ℕ) (x : Descriptor) → IsSound h → machine.descriptor (read_of f h) d fd ≡ Some x → IsOpenEnd (objects_of h) (Some x)
 end_held f h d fd x sound is = subst (IsOpenEnd (objects_of h)) (sym (descriptor-read_of f h d fd) ∙ is) (each-get (IsOpenEnd (objects_of h)) (domain_in h.domains d).fds fd None (ends_open h d sound) tt)
+
+pub open_in : {h : KernelState} {d fd : ℕ} {x : Descriptor} → IsOpenOn h d fd x → in_place (domain_in h.domains d).fds fd ≡ Some x
+open_in {h} {d} {fd} held = sym (descriptor-read_of (bytes_over [] h.store) h d fd) ∙ held.from (bytes_over [] h.store)
+
+pub open_end : {h : KernelState} {d fd : ℕ} {x : Descriptor} → IsOpenOn h d fd x → IsOpenEnd (objects_of h) (Some x)
+open_end {h} {d} {fd} {x} held = end_held (bytes_over [] h.store) h d fd x held.sound (held.from (bytes_over [] h.store))
+
+pub let_go : (h : KernelState) (ds : List (Domain (List Slice))) (d fd : ℕ) (x : Descriptor) → IsOpenOn h d fd x → ds ≡ with_fds_in h.domains d (slice_set (domain_in h.domains d).fds fd None) → IsLetGo (record h { domains = ds }) x
+let_go h ds d fd x held is = record { sound = freed-sound h ds d fd x held.sound (open_row held) (open_in held) is; opened = open_end held; free = freed-alone h ds d fd x held.sound (open_row held) (open_in held) is }
+
+-- a descriptor moves
 
 pub freed-read_of : (f : Reading) (h : KernelState) (d fd : ℕ) → fds.freed (read_of f h) d fd ≡ slice_set (domain_in h.domains d).fds fd None
 freed-read_of f h d fd = ap (λ (xs : List (Option Descriptor)). slice_set xs fd None) (fds-read_of f h d)
@@ -170,9 +186,10 @@ within-sound h ds d fd x sound live there open' is =
     (each-placed (IsOpenEnd (objects_of h)) xs (lowest xs) x (each-set (IsOpenEnd (objects_of h)) (domain_in h.domains d).fds fd None (ends_open h d sound) tt) open')
     (once_fewer h.domains d (record (domain_in h.domains d) { fds = placed xs (lowest xs) x }) live (λ e. omega (arith, ends-placed e x xs, ends-freed e x (domain_in h.domains d).fds fd there)) sound.once)
 
-pub moved_within : (h : KernelState) (ds : List (Domain (List Slice))) (d fd to n : ℕ) (x : Descriptor) → IsSound h → (domain_in h.domains d).live ≡ true → d ≡ to → in_place (domain_in h.domains d).fds fd ≡ Some x → IsOpenEnd (objects_of h) (Some x) → n ≡ lowest (slice_set (domain_in h.domains d).fds fd None)
+pub moved_within : (h : KernelState) (ds : List (Domain (List Slice))) (d fd to n : ℕ) (x : Descriptor) → MayGiveFd d fd to x h → d ≡ to → n ≡ lowest (slice_set (domain_in h.domains d).fds fd None)
     → ds ≡ with_fds_in h.domains d (placed (slice_set (domain_in h.domains d).fds fd None) (lowest (slice_set (domain_in h.domains d).fds fd None)) x) → Answers (λ s. fds.give_fd s d fd to) h n (record h { domains = ds })
-moved_within h ds d fd to n x sound live same there open' number is = answers_here (λ s. fds.give_fd s d fd to) h (record h { domains = ds }) n (within-sound h ds d fd x sound live there open' is) refl refl (λ f. within-number f h d fd to n same number) refl (λ f. within-read f h ds d fd to x same is ∙ sym (gift f h d fd to x there))
+moved_within h ds d fd to n x may same number is =
+    answers_here (λ s. fds.give_fd s d fd to) h (record h { domains = ds }) n (within-sound h ds d fd x may.held.sound (open_row may.held) (open_in may.held) (open_end may.held) is) refl refl (λ f. within-number f h d fd to n same number) refl (λ f. within-read f h ds d fd to x same is ∙ sym (gift f h d fd to x (open_in may.held)))
 
 -- across domains
 
@@ -234,10 +251,11 @@ across-sound h ms ds d fd to x sound differ to_live live there open' opened' clo
     } in
     fds-sound k ds to last mid live' (closed' ∙ across-turned h.domains ms d fd to x differ opened') (each-placed (IsOpenEnd (objects_of h)) y.fds (lowest y.fds) x (ends_open k to mid) open') once
 
-pub moved_across : (h : KernelState) (ms ds : List (Domain (List Slice))) (d fd to n : ℕ) (x : Descriptor) → IsSound h → d ≢ to → (domain_in h.domains to).live ≡ true → (domain_in h.domains d).live ≡ true → in_place (domain_in h.domains d).fds fd ≡ Some x → IsOpenEnd (objects_of h) (Some x) → n ≡ lowest (domain_in h.domains to).fds → ms ≡ opened_in h.domains to x
+pub moved_across : (h : KernelState) (ms ds : List (Domain (List Slice))) (d fd to n : ℕ) (x : Descriptor) → MayGiveFd d fd to x h → d ≢ to → n ≡ lowest (domain_in h.domains to).fds → ms ≡ opened_in h.domains to x
     → ds ≡ with_fds_in ms d (slice_set (domain_in ms d).fds fd None) → Answers (λ s. fds.give_fd s d fd to) h n (record h { domains = ds })
-moved_across h ms ds d fd to n x sound differ to_live live there open' number opened' closed' = answers_here (λ s. fds.give_fd s d fd to) h (record h { domains = ds }) n (across-sound h ms ds d fd to x sound differ to_live live there open' opened' closed') refl refl (λ f. across-number f h d fd to n differ number) refl
-    (λ f. across-read f h ms ds d fd to x differ opened' closed' ∙ sym (gift f h d fd to x there))
+moved_across h ms ds d fd to n x may differ number opened' closed' =
+    answers_here (λ s. fds.give_fd s d fd to) h (record h { domains = ds }) n (across-sound h ms ds d fd to x may.held.sound differ (live_held (bytes_over [] h.store) h to may.to) (open_row may.held) (open_in may.held) (open_end may.held) opened' closed') refl refl (λ f. across-number f h d fd to n differ number) refl
+    (λ f. across-read f h ms ds d fd to x differ opened' closed' ∙ sym (gift f h d fd to x (open_in may.held)))
 
 pub not_none : {A : Type 0} (o p : Option A) (x : A) → p ≡ Some x → o ≡ p → o ≡ None → ⊥
 not_none o p x is same none = cc

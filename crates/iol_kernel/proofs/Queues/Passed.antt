@@ -12,7 +12,7 @@ use Rattle.iol_core.specs.declared.descriptors.Descriptor.{Descriptor}
 use Rattle.iol_core.specs.declared.descriptors.Descriptor.TheVariants as on
 use Rattle.iol_core.specs.declared.limits.TheConstants.{MAX_FILE_BYTES}
 use Rattle.iol_core.specs.declared.refusals.Refusal.{Refusal}
-use Rattle.iol_core.specs.declared.refusals.Refusal.TheVariants.{NoDomain, WrongMode, TooLong, BrokenPipe, WouldBlock}
+use Rattle.iol_core.specs.declared.refusals.Refusal.TheVariants.{NoDomain, TooLong, BrokenPipe, WouldBlock}
 
 -- the test in a place
 abbrev test_at : (n : ℕ) → List (Option Refusal) → Option Refusal
@@ -64,9 +64,6 @@ module _ (s : State) (d fd : ℕ) (bytes : List ℕ) (passed : first (writing.wr
   pub passed_live : machine.is_live s d ≡ true
   passed_live = negated (machine.is_live s d) (not_when NoDomain (not (machine.is_live s d)) (test_passed 0 tests passed))
 
-  pub passed_writable : writing.can_write (descriptor s d fd) ≡ true
-  passed_writable = negated (writing.can_write (descriptor s d fd)) (not_when WrongMode (not (writing.can_write (descriptor s d fd))) (test_passed 3 tests passed))
-
   pub passed_short : (f at : ℕ) (mode : Mode) → descriptor s d fd ≡ Some (on.File f at mode) → at + length bytes ≤ MAX_FILE_BYTES
   passed_short f at mode is = short_enough (descriptor s d fd) f at (length bytes) mode is (test_passed 4 tests passed)
 
@@ -78,9 +75,6 @@ module _ (s : State) (d fd : ℕ) (bytes : List ℕ) (passed : first (writing.wr
 module _ (s : State) (d fd a : ℕ) (passed : first (writing.iol_write s d fd a).refusals ≡ None) where
   abbrev agg_tests : List (Option Refusal)
   agg_tests = (writing.iol_write s d fd a).refusals
-
-  pub agg_writable : writing.can_write (descriptor s d fd) ≡ true
-  agg_writable = negated (writing.can_write (descriptor s d fd)) (not_when WrongMode (not (writing.can_write (descriptor s d fd))) (test_passed 3 agg_tests passed))
 
   pub agg_short : (f at : ℕ) (mode : Mode) → descriptor s d fd ≡ Some (on.File f at mode) → at + length (machine.text s d a) ≤ MAX_FILE_BYTES
   agg_short f at mode is = short_enough (descriptor s d fd) f at (length (machine.text s d a)) mode is (test_passed 4 agg_tests passed)

@@ -1,5 +1,5 @@
 -- Bytes are written by copying, or refused before anything was done.
-use Rattle.std.proofs.Common.{◌≡◌, ◌⊎◌, ℕ, List, Option, Some, None, ap, sym, subst, inl, inr}
+use Rattle.std.proofs.Common.{◌≡◌, ◌⊎◌, ℕ, List, Option, Some, None, ap, sym, inl, inr}
 use Rattle.std.specs.Prelude.{IfErr, MatchOption, Result, Ok, Err}
 use Rattle.iol_core.specs.Calls.Writing.{write}
 use Rattle.iol_core.specs.Meaning.{Never, WantOfRoom, first}
@@ -20,10 +20,6 @@ pub put_refused : (put : State → Text → State) (pool n d fd : ℕ) (bytes : 
 put_refused put pool n d fd bytes h x sound fails = places_refused (λ s. write s d fd bytes) put pool n h x sound (λ f. first_holds (first (write (read_of f h) d fd bytes).refusals) x (fails.refused f)) fails.roomy
 
 -- a refusal is late, or nothing has changed
-
-pub left_late : (p q : ℕ) (h k : KernelState) (r : Result ℕ Refusal) → p ≡ q → IfErr r (WantOfRoom p) → IfErr r (λ x. (k ≡ h) ⊎ WantOfRoom q x)
-left_late p q h k (Ok n) same late = tt
-left_late p q h k (Err x) same late = inr (subst (λ z. WantOfRoom z x) same late)
 
 pub left_placing : (p n : ℕ) (h k : KernelState) (r : Result ℕ Refusal) → IfErr r (MayHaveEvicted p n h k) → IfErr r (λ x. (k ≡ h) ⊎ WantOfRoom p x)
 left_placing p n h k (Ok m) left = tt

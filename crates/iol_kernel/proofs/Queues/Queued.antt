@@ -13,11 +13,16 @@ use Rattle.iol_core.specs.declared.refusals.Refusal.{Refusal}
 use Rattle.iol_core.specs.declared.refusals.Refusal.TheVariants.{NoDomain, BadFd, NoPool, WrongMode, TooLong, PoolClosed, BrokenPipe, WouldBlock, NoRoom}
 use Rattle.iol_hold.specs.Room.{has_room}
 use Rattle.iol_kernel.specs.KernelState.{KernelState, read_of}
-use Rattle.iol_kernel.specs.MakingRoom.{MakesRoom, can_fit}
+use Rattle.iol_kernel.specs.MakingRoom.{MakesRoom, MayPlaceIn, can_fit}
 use Rattle.iol_kernel.specs.Putting.{FillsQueue, MayPut, PlacesInQueue, lands_in, written_to}
 use Rattle.iol_kernel.specs.Readings.{Reading, bytes_over}
 use Rattle.iol_kernel.proofs.AggregateCalls.Making.{open_after}
 use Rattle.iol_kernel.proofs.State.AfterRoom.{kept_reading, queue_none, queue_places}
+use Rattle.iol_kernel.proofs.State.ReadOf.{closed-read_of}
+
+-- the pool in which the bytes are to lie is open
+pub may_place : {d fd : ℕ} {target : Descriptor} {pool : ℕ} {bytes : List ℕ} {h : KernelState} → MayPut d fd target pool bytes h → MayPlaceIn pool h
+may_place {d} {fd} {target} {pool} {bytes} {h} may = record { sound = may.sound; opened = sym (closed-read_of (bytes_over [] h.store) h pool) ∙ may.passes.opened }
 
 -- What a write asks does not look at the bytes of files.
 

@@ -6,10 +6,13 @@ use Rattle.iol_core.specs.declared.descriptors.Descriptor.{Descriptor}
 use Rattle.iol_desc.specs.Tables.{domain_in, with_fds_in}
 use Rattle.iol_kernel.specs.Ends.{same_end, on_end, ends_on, all_ends_on}
 use Rattle.iol_kernel.specs.KernelState.{KernelState, objects_of, Each, IsOpenEnd, IsSound}
-use Rattle.iol_kernel.specs.ClosedEnds.{AreTaken, KeepsEnds}
+use Rattle.iol_kernel.specs.ClosedEnds.{AreLetGo, AreTaken, KeepsEnds}
+use Rattle.iol_kernel.specs.Having.{Lives}
+use Rattle.iol_kernel.specs.Readings.{bytes_over}
 use Rattle.iol_kernel.proofs.State.Once.{end_alone, ends-with_domain, once_fewer}
 use Rattle.iol_kernel.proofs.State.Sound.{ends_open}
 use Rattle.iol_kernel.proofs.State.Effects.{fds-sound}
+use Rattle.iol_kernel.proofs.State.ReadOf.{live_held}
 use Rattle.iol_kernel.proofs.Queues.ClosedEnds.{ends_kept}
 use Rattle.iol_kernel.specs.Views.{Objects}
 use Rattle.iol_kernel.proofs.State.Uses.{Domains}
@@ -17,14 +20,17 @@ use Rattle.iol_hold.specs.declared.slices.Slice.{Slice}
 
 -- all numbers of a domain are taken
 
-pub taken-sound : (h : KernelState) (ds : Domains) (d : ℕ) → IsSound h → (domain_in h.domains d).live ≡ true → ds ≡ with_fds_in h.domains d [] → IsSound (record h { domains = ds })
+taken-sound : (h : KernelState) (ds : Domains) (d : ℕ) → IsSound h → (domain_in h.domains d).live ≡ true → ds ≡ with_fds_in h.domains d [] → IsSound (record h { domains = ds })
 taken-sound h ds d sound live is = fds-sound h ds d [] sound live is tt (once_fewer h.domains d (record (domain_in h.domains d) { fds = [] }) live (λ e. omega arith) sound.once)
 
-pub taken_ends : (h : KernelState) (ds : Domains) (d : ℕ) (ends : List (Option Descriptor)) → IsSound h → (domain_in h.domains d).live ≡ true → ends ≡ (domain_in h.domains d).fds → ds ≡ with_fds_in h.domains d [] → AreTaken ds (objects_of h) ends
+taken_ends : (h : KernelState) (ds : Domains) (d : ℕ) (ends : List (Option Descriptor)) → IsSound h → (domain_in h.domains d).live ≡ true → ends ≡ (domain_in h.domains d).fds → ds ≡ with_fds_in h.domains d [] → AreTaken ds (objects_of h) ends
 taken_ends h ds d ends sound live is rest = record {
   opened = subst (λ (xs : List (Option Descriptor)). Each (IsOpenEnd (objects_of h)) xs) (sym is) (ends_open h d sound);
   once = λ x. omega (arith, ap (ends_on x) is, ap (all_ends_on x) rest, sound.once.each x, ends-with_domain x h.domains d (record (domain_in h.domains d) { fds = [] }) live);
 }
+
+pub all_let_go : (h : KernelState) (ds : Domains) (d : ℕ) (ends : List (Option Descriptor)) → Lives h d → ends ≡ (domain_in h.domains d).fds → ds ≡ with_fds_in h.domains d [] → AreLetGo (record h { domains = ds }) ends
+all_let_go h ds d ends lives is rest = (let live = live_held (bytes_over [] h.store) h d lives.live in record { sound = taken-sound h ds d lives.sound live rest; taken = taken_ends h ds d ends lives.sound live is rest })
 
 -- the first of them
 

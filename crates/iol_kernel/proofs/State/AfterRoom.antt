@@ -23,7 +23,7 @@ use Rattle.iol_cache.specs.Pinned.{is_pinned, pinned_beside}
 use Rattle.iol_kernel.specs.Backed.{Serves, StepsBeside, with_slots}
 use Rattle.iol_kernel.specs.Calls.{MakesBytes, Steps}
 use Rattle.iol_kernel.specs.KernelState.{KernelState, IsSound, machine_of, read_of}
-use Rattle.iol_kernel.specs.MakingRoom.{AfterRoom, IsSame, MakesRoom, MayHaveEvicted, Places, can_fit}
+use Rattle.iol_kernel.specs.MakingRoom.{AfterRoom, AsksRoom, AsksToFit, IsSame, MakesRoom, MayHaveEvicted, Places, can_fit}
 use Rattle.iol_kernel.specs.Putting.{Fills}
 use Rattle.iol_kernel.specs.Readings.{Reading, bytes_over}
 use Rattle.iol_kernel.proofs.State.Serving.{backed_stays, steps_beside, still_serves, with_slots-same}
@@ -40,6 +40,15 @@ fits h p n pages false is room = of (pinned_beside h.store (clean_held h.cache.f
 
 pub has : (h : KernelState) (p n pages : ℕ) (b : Bool) → pages ≡ pages_for n → (IsTrue b → pages ≤ length (free_of h.store p)) → IsTrue b → has_room h.store p n ≡ true
 has h p n pages b is free true' = room_there h.store p n (omega (arith, is, free true'))
+
+-- of so many bytes as of the pages that hold them
+pub fits_asked : (h k : KernelState) (p n pages : ℕ) (b : Bool) → pages ≡ pages_for n → AsksRoom p pages h b k → AsksToFit p n h b k
+fits_asked h k p n pages b is asked = record {
+  made = subst (λ m. MakesRoom p m h k) is asked.made;
+  fits = fits h p n pages b is asked.room;
+  room = has k p n pages b is asked.free;
+  refused = asked.refused;
+}
 
 -- What does not look at the bytes of files is as it was.
 

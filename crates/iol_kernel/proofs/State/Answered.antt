@@ -1,6 +1,6 @@
 -- The answer of a call that changes tables alone, or also who holds which buffers.
 use Rattle.std.proofs.Common.{◌≡◌, List, ap, ◌∙◌}
-use Rattle.std.specs.Prelude.{Result, Err}
+use Rattle.std.specs.Prelude.{Result, Ok, Err}
 use Rattle.iol_core.specs.State.{State}
 use Rattle.iol_core.specs.Meaning.{Meaning}
 use Rattle.iol_core.specs.declared.numbers.BufId.{BufId}
@@ -8,7 +8,7 @@ use Rattle.iol_core.specs.declared.refusals.Refusal.{Refusal}
 use Rattle.iol_hold.specs.Moves.{Shares}
 use Rattle.iol_hold.specs.Stored.{Stored}
 use Rattle.iol_hold.proofs.Moving.{shares_move}
-use Rattle.iol_kernel.specs.Calls.{Answers}
+use Rattle.iol_kernel.specs.Calls.{Answers, Attempts}
 use Rattle.iol_kernel.specs.KernelState.{KernelState, IsSound, read_of}
 use Rattle.iol_kernel.specs.Readings.{Reading, KeepsPools}
 use Rattle.iol_kernel.proofs.State.Stay.{stays_equal}
@@ -52,6 +52,10 @@ answers_as m n h k a answer after one = record {
   sound = one.sound;
   stays = one.stays;
 }
+
+-- an effect that may want memory, done
+pub attempted : {A E : Type 0} {m : State → Meaning A} {h k : KernelState} {a : A} → Answers m h a k → Attempts {E = E} m h (Ok a) k
+attempted done = record { done = done; err = tt }
 
 -- which refusal it is
 pub refusal_of : {A : Type 0} (x y : Refusal) → ◌≡◌ {A = Result A Refusal} (Err x) (Err y) → x ≡ y

@@ -1,10 +1,9 @@
 //! Aggregates: made of new bytes or of those that lie there already, shown, and dropped.
-ghost use Rattle.std.specs.Prelude.{◌≡◌, ◌≢◌, ℕ, ◌+◌, ◌<◌, ◌≤◌, length, true, false, Option, Some, IfOk, IfErr, OnErr, Err};
-ghost use Rattle.iol_core.specs.State as state;
-ghost use Rattle.iol_core.specs.Prelude.{is_live, domain, text, may_read, first, barred, default_pool, lacks_agg, too_many_aggs};
+ghost use Rattle.std.specs.Prelude.{◌≡◌, ℕ, ◌<◌, length, true, Option, Some, IfOk, IfErr, Err};
+ghost use Rattle.iol_core.specs.Prelude.{is_live, domain, may_read, first, barred, default_pool};
 ghost use Rattle.iol_core.specs.Calls.Aggregates as calls;
-ghost use Rattle.iol_kernel.specs.Adding.{replaced};
-ghost use Rattle.iol_kernel.specs.Calls.{MakesNext, MayMake};
+ghost use Rattle.iol_kernel.specs.Calls.{MakesNext, MayMake, Refuses};
+ghost use Rattle.iol_kernel.specs.Having.{HasAgg, MayCut, MayGive, MayJoin, MayReplace, MaySplit};
 ghost use Rattle.iol_kernel.specs.KernelState.{joined, IsSound};
 ghost use Rattle.iol_kernel.specs.Readings.{Reading, read, KeepsPools};
 
@@ -18,7 +17,7 @@ use iol_core::refusals::Refusal;
 use std::alloc::AllocError;
 
 impl Kernel {
-    ghost use Rattle.iol_kernel.specs.Kernel.{state_of, machine, as_read, Steps, Shows, ShowsSoMany, Places, CarriesOut, KeepsPlaces, Answers, Leaves};
+    ghost use Rattle.iol_kernel.specs.Kernel.{state_of, machine, as_read, Steps, Shows, ShowsSoMany, Places, CarriesOut, KeepsPlaces, Attempts, Leaves};
 
     /// Places bytes in the caller's default pool, as its next aggregate. Clean extents of the pool's files give way.
     pub fn agg_make(&mut self, by: DomainId, bytes: &Bytes) -> Result<AggId, Refusal>
@@ -38,9 +37,8 @@ impl Kernel {
     /// of room and of memory.
     fn pool_to_make(&self, by: DomainId, bytes: &[u8]) -> Result<PoolId, Refusal>
         ensures may { IfOk result (λ p. MayMake by bytes.now p (state_of self.now)) }
-        ensures refused { IfErr result (λ x. (f : Reading) →
-            first (calls.agg_make (as_read f self.now) by bytes.now).refusals ≡ Some x) }
-        ensures roomy { (p : ℕ) → result ≡ Err (Refusal.NoRoom p) → ⊥ }
+        ensures refused { IfErr result (λ x. Refuses (λ s. calls.agg_make s by bytes.now) x
+            (state_of self.now)) }
     {
         if !self.is_live(by) {
             return Err(Refusal::NoDomain);
@@ -73,10 +71,7 @@ impl Kernel {
     #[tactic(auto, using(crate::proofs::State::Stay::stay_rules, crate::proofs::AggregateCalls::Slices::held_rules))]
     fn fill_agg(&mut self, by: DomainId, pool: PoolId, bytes: &[u8]) -> Result<AggId, Refusal>
         requires sound { IsSound (state_of self.old) }
-        requires live { is_live (machine self.old) by ≡ true }
-        requires few { too_many_aggs (machine self.old) by 1 0 ≡ false }
-        requires small { length bytes.now ≤ MAX_AGGREGATE_BYTES }
-        requires open { (state.pool (machine self.old) pool).closed ≡ false }
+        requires may { MayMake by bytes.now pool (state_of self.old) }
         ensures { MakesNext by pool bytes.now (state_of self.old) result (state_of self.new) }
     {
         self.domains.reserve_aggs(by, 1)?;
@@ -122,15 +117,8 @@ impl Kernel {
     /// Adds the bytes of a range once more.
     #[tactic(auto, using(crate::proofs::State::Stay::stay_rules, crate::proofs::AggregateCalls::Slices::held_rules))]
     fn add_cut(&mut self, by: DomainId, agg: AggId, from: u32, to: u32) -> Result<AggId, AllocError>
-        requires sound { IsSound (state_of self.old) }
-        requires live { is_live (machine self.old) by ≡ true }
-        requires there { lacks_agg (machine self.old) by agg ≡ false }
-        requires ordered { from ≤ to }
-        requires within { to ≤ length (text (machine self.old) by agg) }
-        requires few { too_many_aggs (machine self.old) by 1 0 ≡ false }
-        ensures done { IfOk result (λ n. Answers (λ s. calls.agg_cut s by agg from to) self.old n
-            self.new) }
-        ensures err { OnErr result (state_of self.new ≡ state_of self.old) }
+        requires { MayCut by agg from to (state_of self.old) }
+        ensures { Attempts (λ s. calls.agg_cut s by agg from to) self.old result self.new }
     {
         self.domains.reserve_aggs(by, 1)?;
         let Some(whole) = self.domains.agg(by, agg) else {
@@ -164,14 +152,8 @@ impl Kernel {
     /// Splits an aggregate into the domain's next two.
     #[tactic(auto, using(crate::proofs::State::Stay::stay_rules, crate::proofs::AggregateCalls::Slices::held_rules))]
     fn split(&mut self, by: DomainId, agg: AggId, at: u32) -> Result<(AggId, AggId), AllocError>
-        requires sound { IsSound (state_of self.old) }
-        requires live { is_live (machine self.old) by ≡ true }
-        requires there { lacks_agg (machine self.old) by agg ≡ false }
-        requires within { at ≤ length (text (machine self.old) by agg) }
-        requires few { too_many_aggs (machine self.old) by 2 1 ≡ false }
-        ensures done { IfOk result (λ r. Answers (λ s. calls.agg_split s by agg at) self.old r
-            self.new) }
-        ensures err { OnErr result (state_of self.new ≡ state_of self.old) }
+        requires { MaySplit by agg at (state_of self.old) }
+        ensures { Attempts (λ s. calls.agg_split s by agg at) self.old result self.new }
     {
         Ok(split_agg(self.alloc, &mut self.store, &mut self.domains, by, agg, at)?)
     }
@@ -199,17 +181,8 @@ impl Kernel {
     /// Joins two aggregates to the domain's next one.
     #[tactic(auto, using(crate::proofs::State::Stay::stay_rules, crate::proofs::AggregateCalls::Slices::held_rules))]
     fn join(&mut self, by: DomainId, first: AggId, second: AggId) -> Result<AggId, AllocError>
-        requires sound { IsSound (state_of self.old) }
-        requires live { is_live (machine self.old) by ≡ true }
-        requires first { lacks_agg (machine self.old) by first ≡ false }
-        requires second { lacks_agg (machine self.old) by second ≡ false }
-        requires differ { first ≢ second }
-        requires short { length (text (machine self.old) by first) + length (text (machine self.old)
-            by second) ≤ MAX_AGGREGATE_BYTES }
-        requires few { too_many_aggs (machine self.old) by 1 2 ≡ false }
-        ensures done { IfOk result (λ n. Answers (λ s. calls.agg_join s by first second) self.old n
-            self.new) }
-        ensures err { OnErr result (state_of self.new ≡ state_of self.old) }
+        requires { MayJoin by first second (state_of self.old) }
+        ensures { Attempts (λ s. calls.agg_join s by first second) self.old result self.new }
     {
         Ok(join_aggs(self.alloc, &mut self.domains, by, first, second)?)
     }
@@ -253,18 +226,9 @@ impl Kernel {
         to: u32,
         other: AggId,
     ) -> Result<AggId, AllocError>
-        requires sound { IsSound (state_of self.old) }
-        requires live { is_live (machine self.old) by ≡ true }
-        requires there { lacks_agg (machine self.old) by agg ≡ false }
-        requires ordered { from ≤ to }
-        requires within { to ≤ length (text (machine self.old) by agg) }
-        requires other_there { lacks_agg (machine self.old) by other ≡ false }
-        requires small { length (replaced (text (machine self.old) by agg) from to (text (machine
-            self.old) by other)) ≤ MAX_AGGREGATE_BYTES }
-        requires few { too_many_aggs (machine self.old) by 1 0 ≡ false }
-        ensures done { IfOk result (λ n. Answers (λ s. calls.agg_replace s by agg from to other)
-            self.old n self.new) }
-        ensures err { OnErr result (state_of self.new ≡ state_of self.old) }
+        requires { MayReplace by agg from to other (state_of self.old) }
+        ensures { Attempts (λ s. calls.agg_replace s by agg from to other) self.old result
+            self.new }
     {
         self.domains.reserve_aggs(by, 1)?;
         let Some(whole) = self.domains.agg(by, agg) else {
@@ -292,9 +256,7 @@ impl Kernel {
     /// Takes an aggregate from its domain, and releases its holds.
     #[tactic(auto, using(crate::proofs::AggregateCalls::Slices::held_rules))]
     fn release(&mut self, by: DomainId, agg: AggId)
-        requires sound { IsSound (state_of self.old) }
-        requires live { is_live (machine self.old) by ≡ true }
-        requires there { lacks_agg (machine self.old) by agg ≡ false }
+        requires { HasAgg (state_of self.old) by agg }
         ensures { Leaves (λ s. calls.without_agg s by agg) self.old self.new }
     {
         let given = self.domains.take_agg(by, agg);
@@ -331,14 +293,8 @@ impl Kernel {
     /// Moves an aggregate.
     #[tactic(auto, using(crate::proofs::State::Stay::stay_rules, crate::proofs::AggregateCalls::Slices::held_rules))]
     fn give(&mut self, by: DomainId, agg: AggId, to: DomainId) -> Result<AggId, AllocError>
-        requires sound { IsSound (state_of self.old) }
-        requires from { is_live (machine self.old) by ≡ true }
-        requires to { is_live (machine self.old) to ≡ true }
-        requires there { lacks_agg (machine self.old) by agg ≡ false }
-        requires few { too_many_aggs (machine self.old) to 1 1 ≡ false }
-        ensures done { IfOk result (λ n. Answers (λ s. calls.agg_give s by agg to) self.old n
-            self.new) }
-        ensures err { OnErr result (state_of self.new ≡ state_of self.old) }
+        requires { MayGive by agg to (state_of self.old) }
+        ensures { Attempts (λ s. calls.agg_give s by agg to) self.old result self.new }
     {
         Ok(move_agg(&mut self.domains, by, agg, to)?)
     }

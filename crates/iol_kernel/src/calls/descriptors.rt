@@ -1,11 +1,11 @@
 //! Pipes are made and connections accepted, and descriptors on them are given and closed.
-ghost use Rattle.std.specs.Prelude.{◌≡◌, ◌≢◌, ℕ, ◌<◌, true, false, not, ◌&&◌, ◌==◌, Option, Some, None, option_map, IfOk, OnErr, Err};
+ghost use Rattle.std.specs.Prelude.{◌≡◌, ◌≢◌, ℕ, true, Option, Some, None, option_map, Err};
 ghost use Rattle.iol_core.specs.State as state;
-ghost use Rattle.iol_core.specs.Prelude.{is_live, descriptor, conn_at, is_numbered, lookup, taken, closed_on, freed, too_many_open, with_fds};
+ghost use Rattle.iol_core.specs.Prelude.{conn_at, is_numbered, lookup, taken, closed_on, freed, with_fds};
 ghost use Rattle.iol_core.specs.Calls.Descriptors as calls;
-ghost use Rattle.iol_kernel.specs.Ends.{all_ends_on};
-ghost use Rattle.iol_kernel.specs.ClosedEnds.{KeepsEnds};
+ghost use Rattle.iol_kernel.specs.ClosedEnds.{Closes, IsLetGo};
 ghost use Rattle.iol_kernel.specs.KernelState.{objects_of, IsOpenEnd, IsSound};
+ghost use Rattle.iol_kernel.specs.NewDescriptors.{MayAccept, MayGiveFd, MayPipe};
 ghost use Rattle.iol_kernel.specs.Readings.{Reading};
 
 use crate::kernel::Kernel;
@@ -16,7 +16,7 @@ use iol_core::refusals::Refusal;
 use std::alloc::AllocError;
 
 impl Kernel {
-    ghost use Rattle.iol_kernel.specs.Kernel.{state_of, machine, as_read, CarriesOut, KeepsPlaces, Answers, Leaves};
+    ghost use Rattle.iol_kernel.specs.Kernel.{state_of, as_read, Attempts, CarriesOut, IsOpenOn, KeepsPlaces, Leaves};
 
     /// Makes a pipe, and opens its read end and its write end.
     #[tactic(auto, using(crate::proofs::State::Stay::stay_rules))]
@@ -44,12 +44,8 @@ impl Kernel {
     /// Adds a pipe with both ends in a domain.
     #[tactic(auto, using(crate::proofs::State::Stay::stay_rules, crate::proofs::AggregateCalls::Slices::held_rules))]
     fn new_pipe(&mut self, by: DomainId) -> Result<(Fd, Fd), AllocError>
-        requires sound { IsSound (state_of self.old) }
-        requires live { is_live (machine self.old) by ≡ true }
-        requires few { too_many_open (machine self.old) by 2 ≡ false }
-        requires few_pipes { taken (machine self.old).pipes < MAX_PIPES }
-        ensures done { IfOk result (λ ends. Answers (λ s. calls.pipe s by) self.old ends self.new) }
-        ensures err { OnErr result (state_of self.new ≡ state_of self.old) }
+        requires { MayPipe by (state_of self.old) }
+        ensures { Attempts (λ s. calls.pipe s by) self.old result self.new }
     {
         self.pipes.reserve()?;
         let ends = self.domains.add_ends(by, self.pipes.next())?;
@@ -129,14 +125,8 @@ impl Kernel {
         to: DomainId,
         given: Descriptor,
     ) -> Result<Fd, AllocError>
-        requires sound { IsSound (state_of self.old) }
-        requires from { is_live (machine self.old) by ≡ true }
-        requires to { is_live (machine self.old) to ≡ true }
-        requires given { descriptor (machine self.old) by fd ≡ Some given }
-        requires few { (not (by == to) && too_many_open (machine self.old) to 1) ≡ false }
-        ensures done { IfOk result (λ n. Answers (λ s. calls.give_fd s by fd to) self.old n
-            self.new) }
-        ensures err { OnErr result (state_of self.new ≡ state_of self.old) }
+        requires { MayGiveFd by fd to given (state_of self.old) }
+        ensures { Attempts (λ s. calls.give_fd s by fd to) self.old result self.new }
     {
         if by.number() == to.number() {
             return Ok(self.domains.move_fd(by, fd, given));
@@ -161,9 +151,7 @@ impl Kernel {
     /// Closes an open descriptor, and the end that it is open on.
     #[tactic(auto, using(crate::proofs::AggregateCalls::Slices::held_rules))]
     fn close_fd(&mut self, by: DomainId, fd: Fd, end: Descriptor)
-        requires sound { IsSound (state_of self.old) }
-        requires live { is_live (machine self.old) by ≡ true }
-        requires open { descriptor (machine self.old) by fd ≡ Some end }
+        requires { IsOpenOn self.old by fd end }
         ensures { Leaves (λ s. with_fds (closed_on s (Some end)) by (freed s by fd)) self.old
             self.new }
     {
@@ -173,12 +161,8 @@ impl Kernel {
 
     /// Closes an end of a pipe or a connection, on which no descriptor is open any more. Of a file nothing is closed.
     pub(crate) fn close_end(&mut self, end: Descriptor)
-        requires sound { IsSound (state_of self.old) }
-        requires open { IsOpenEnd (objects_of (state_of self.old)) (Some end) }
-        requires free { all_ends_on end (state_of self.old).domains ≡ 0 }
-        ensures closed { Leaves (λ s. closed_on s (Some end)) self.old self.new }
-        ensures domains { (state_of self.new).domains ≡ (state_of self.old).domains }
-        ensures others { KeepsEnds end (objects_of (state_of self.old)) (objects_of (state_of self.new)) }
+        requires { IsLetGo (state_of self.old) end }
+        ensures { Closes end (state_of self.old) (state_of self.new) }
     {
         match end {
             Descriptor::ReadEnd { pipe } => self.pipes.close_reader(&mut self.store, pipe),
@@ -190,15 +174,8 @@ impl Kernel {
 
     /// Closes a connection, on which no descriptor is open any more, and forgets it where nothing is left to send.
     fn close_conn(&mut self, conn: ConnId)
-        requires sound { IsSound (state_of self.old) }
-        requires open { IsOpenEnd (objects_of (state_of self.old))
-            (Some (Descriptor.Connection conn)) }
-        requires free { all_ends_on (Descriptor.Connection conn) (state_of self.old).domains ≡ 0 }
-        ensures closed { Leaves (λ s. closed_on s (Some (Descriptor.Connection conn))) self.old
-            self.new }
-        ensures domains { (state_of self.new).domains ≡ (state_of self.old).domains }
-        ensures others { KeepsEnds (Descriptor.Connection conn) (objects_of (state_of self.old))
-            (objects_of (state_of self.new)) }
+        requires { IsLetGo (state_of self.old) (Descriptor.Connection conn) }
+        ensures { Closes (Descriptor.Connection conn) (state_of self.old) (state_of self.new) }
     {
         self.conns.close(&mut self.store, conn);
         self.settle(conn);
@@ -232,12 +209,8 @@ impl Kernel {
     /// Opens a connection that waits in a domain.
     #[tactic(auto, using(crate::proofs::State::Stay::stay_rules, crate::proofs::AggregateCalls::Slices::held_rules))]
     fn open_conn(&mut self, by: DomainId, conn: ConnId) -> Result<Fd, AllocError>
-        requires sound { IsSound (state_of self.old) }
-        requires live { is_live (machine self.old) by ≡ true }
-        requires few { too_many_open (machine self.old) by 1 ≡ false }
-        requires waits { calls.waiting (machine self.old) by ≡ Some conn }
-        ensures done { IfOk result (λ n. Answers (λ s. calls.accept s by) self.old n self.new) }
-        ensures err { OnErr result (state_of self.new ≡ state_of self.old) }
+        requires { MayAccept by conn (state_of self.old) }
+        ensures { Attempts (λ s. calls.accept s by) self.old result self.new }
     {
         let number = self.domains.add_fd(by, Descriptor::Connection { conn })?;
         self.conns.accept(conn);

@@ -1,10 +1,11 @@
 //! Domains come and go.
-ghost use Rattle.std.specs.Prelude.{◌≡◌, ℕ, [], length, true, fold, Option, Err};
-ghost use Rattle.iol_core.specs.Prelude.{is_live, domain, with_domain, closed_on, with_fds};
+ghost use Rattle.std.specs.Prelude.{◌≡◌, ℕ, [], length, fold, Option, Err};
+ghost use Rattle.iol_core.specs.Prelude.{domain, with_domain, closed_on, with_fds};
 ghost use Rattle.iol_core.specs.Calls.Domains as calls;
 ghost use Rattle.iol_desc.specs.Prelude.{with_aggs_in, with_fds_in};
-ghost use Rattle.iol_kernel.specs.ClosedEnds.{AreTaken};
-ghost use Rattle.iol_kernel.specs.KernelState.{objects_of, IsSound};
+ghost use Rattle.iol_kernel.specs.ClosedEnds.{AreLetGo, ClosesAll};
+ghost use Rattle.iol_kernel.specs.Having.{Lives};
+ghost use Rattle.iol_kernel.specs.KernelState.{IsSound};
 ghost use Rattle.iol_kernel.specs.Readings.{Reading};
 
 use crate::kernel::Kernel;
@@ -16,7 +17,7 @@ use iol_core::refusals::Refusal;
 use std::alloc::AllocError;
 
 impl Kernel {
-    ghost use Rattle.iol_kernel.specs.Kernel.{state_of, machine, as_read, CarriesOut, KeepsPlaces, Leaves};
+    ghost use Rattle.iol_kernel.specs.Kernel.{state_of, as_read, CarriesOut, KeepsPlaces, Leaves};
 
     /// Makes a domain.
     #[tactic(auto, using(crate::proofs::State::Stay::stay_rules))]
@@ -59,8 +60,7 @@ impl Kernel {
 
     /// Ends a domain: all that it has is released.
     fn end(&mut self, by: DomainId)
-        requires sound { IsSound (state_of self.old) }
-        requires live { is_live (machine self.old) by ≡ true }
+        requires { Lives (state_of self.old) by }
         ensures { Leaves (λ s. (calls.exit s by).after) self.old self.new }
     {
         self.drop_aggs(by);
@@ -71,8 +71,7 @@ impl Kernel {
     /// Drops all aggregates of a domain.
     #[tactic(auto, using(crate::proofs::AggregateCalls::Slices::held_rules))]
     fn drop_aggs(&mut self, by: DomainId)
-        requires sound { IsSound (state_of self.old) }
-        requires live { is_live (machine self.old) by ≡ true }
+        requires { Lives (state_of self.old) by }
         ensures dropped { Leaves (λ s. with_domain s by (record (domain s by) { aggs = [] }))
             self.old self.new }
         ensures domains { (state_of self.new).domains ≡ with_aggs_in (state_of self.old).domains by
@@ -85,8 +84,7 @@ impl Kernel {
     /// Closes all descriptors of a domain, by rising number.
     #[tactic(auto, using(crate::proofs::AggregateCalls::Slices::held_rules))]
     fn close_fds(&mut self, by: DomainId)
-        requires sound { IsSound (state_of self.old) }
-        requires live { is_live (machine self.old) by ≡ true }
+        requires { Lives (state_of self.old) by }
         ensures closed { Leaves (λ s. fold closed_on (with_fds s by []) (domain s by).fds) self.old
             self.new }
         ensures domains { (state_of self.new).domains ≡ with_fds_in (state_of self.old).domains by
@@ -99,10 +97,8 @@ impl Kernel {
     /// Closes ends that were taken from a domain, one after another.
     #[tactic(auto, using(crate::proofs::State::Stay::stay_rules))]
     fn close_ends(&mut self, ends: &[Option<Descriptor>])
-        requires sound { IsSound (state_of self.old) }
-        requires taken { AreTaken (state_of self.old).domains (objects_of (state_of self.old)) ends.now }
-        ensures closed { Leaves (λ s. fold closed_on s ends.now) self.old self.new }
-        ensures domains { (state_of self.new).domains ≡ (state_of self.old).domains }
+        requires { AreLetGo (state_of self.old) ends.now }
+        ensures { ClosesAll ends.now (state_of self.old) (state_of self.new) }
     {
         for place in ends {
             let Some(end) = *place else {

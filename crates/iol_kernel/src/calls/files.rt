@@ -1,13 +1,12 @@
 //! Files by name.
-ghost use Rattle.std.specs.Prelude.{◌≡◌, ◌+◌, ◌<◌, length, true, false, is_some, nat_lt, IfOk, IfSome, OnErr, Err};
+ghost use Rattle.std.specs.Prelude.{◌≡◌, length, true, is_some};
 ghost use Rattle.iol_core.specs.State as state;
-ghost use Rattle.iol_core.specs.Prelude.{content, is_numbered, too_many_open, file_called};
+ghost use Rattle.iol_core.specs.Prelude.{is_numbered, file_called};
 ghost use Rattle.iol_core.specs.Calls.Files as calls;
-ghost use Rattle.iol_back.specs.Prelude.{IfHonest};
-ghost use Rattle.iol_kernel.specs.Calls.{TellsNext};
-ghost use Rattle.iol_kernel.specs.FileEnds.{FitsNext, is_next_long};
+ghost use Rattle.iol_kernel.specs.FileEnds.{AsksNext, FitsNext};
 ghost use Rattle.iol_kernel.specs.Files.{opens};
 ghost use Rattle.iol_kernel.specs.KernelState.{IsSound};
+ghost use Rattle.iol_kernel.specs.NamingFiles.{FindsNamed, MayAddFile, MayOpenFile, TriesFile};
 ghost use Rattle.iol_kernel.specs.Readings.{Reading};
 
 use crate::kernel::Kernel;
@@ -20,7 +19,7 @@ use iol_core::refusals::Refusal;
 use std::alloc::AllocError;
 
 impl Kernel {
-    ghost use Rattle.iol_kernel.specs.Kernel.{state_of, machine, as_read, AddsFile, Answers, CarriesOut, Names};
+    ghost use Rattle.iol_kernel.specs.Kernel.{state_of, as_read, Attempts, CarriesOut, Names};
 
     /// Gives the next slot of the store under files a name and a pool. The file begins with the bytes that are stored there.
     ///
@@ -99,8 +98,7 @@ impl Kernel {
     /// The file of this name.
     fn find_file(&self, name: &Bytes) -> Option<FileId>
         requires { IsSound (state_of self.now) }
-        ensures called { (f : Reading) → result ≡ file_called (as_read f self.now) name.now }
-        ensures there { IfSome result (λ n. is_numbered (state_of self.now).files n ≡ true) }
+        ensures { FindsNamed name.now (state_of self.now) result }
     {
         self.files.table.find(name.as_slice())
     }
@@ -115,13 +113,9 @@ impl Kernel {
 
     /// Opens a file that is there, at position 0.
     fn open_at_start(&mut self, by: DomainId, file: FileId, mode: Mode) -> Result<Fd, AllocError>
-        requires sound { IsSound (state_of self.old) }
-        requires live { state.is_live (machine self.old) by ≡ true }
-        requires few { too_many_open (machine self.old) by 1 ≡ false }
-        requires there { is_numbered (state_of self.old).files file ≡ true }
-        ensures done { IfOk result (λ n. Answers (λ s. opens s by (Descriptor.File file 0 mode))
-            self.old n self.new) }
-        ensures err { OnErr result (state_of self.new ≡ state_of self.old) }
+        requires { MayOpenFile by file (state_of self.old) }
+        ensures { Attempts (λ s. opens s by (Descriptor.File file 0 mode)) self.old result
+            self.new }
     {
         let start = Descriptor::File { file, at: 0, mode };
         Ok(self.domains.add_fd(by, start)?)
@@ -138,10 +132,7 @@ impl Kernel {
     /// Whether the bytes stored in the next slot are more than a file may have.
     fn is_next_too_long<B: Backing>(&self, backing: &B) -> bool
         requires { IsSound (state_of self.now) }
-        ensures honest { IfHonest (B.disk backing.now) ((f : Reading) → f.stored ≡ (B.disk backing.now).slots → result ≡
-            nat_lt MAX_FILE_BYTES (length (content (as_read f self.now) (length (as_read f self.now).files + 1)))) }
-        ensures told { TellsNext (state_of self.now) result }
-        ensures long { result ≡ is_next_long (B.disk backing.now) (state_of self.now) }
+        ensures { AsksNext (B.disk backing.now) (state_of self.now) result }
     {
         let count = self.files.table.len();
         if count >= MAX_FILES {
@@ -153,13 +144,8 @@ impl Kernel {
 
     /// Adds a file in the next slot.
     fn add_file(&mut self, by: DomainId, name: &Bytes, pool: PoolId) -> Result<FileId, AllocError>
-        requires sound { IsSound (state_of self.old) }
-        requires few { length (machine self.old).files < MAX_FILES }
-        requires new { is_some (file_called (machine self.old) name.now) ≡ false }
-        requires open { (state.pool (machine self.old) pool).closed ≡ false }
-        ensures done { IfOk result (λ n. AddsFile (λ s. calls.file_new s by name.now pool) self.old n
-            self.new) }
-        ensures err { OnErr result (state_of self.new ≡ state_of self.old) }
+        requires { MayAddFile name.now pool (state_of self.old) }
+        ensures { TriesFile by name.now pool (state_of self.old) result (state_of self.new) }
     {
         Ok(self.files.add(self.alloc, name.as_slice(), pool)?)
     }

@@ -1,15 +1,14 @@
 //! Connections that are served from outside in place: what a reader gives comes straight into a page, and a writer takes
 //! bytes from where they lie.
-ghost use Rattle.std.specs.Prelude.{◌≡◌, ℕ, false, List, Some, Ok, Err, IfOk, IfErr, OnErr};
-ghost use Rattle.iol_core.specs.Prelude.{first, conn_at, lacks_conn};
+ghost use Rattle.std.specs.Prelude.{◌≡◌, Ok, IfOk, IfErr, OnErr};
 ghost use Rattle.iol_core.specs.Calls.Outside as outside;
 ghost use Rattle.iol_back.specs.Prelude.{Disk};
-ghost use Rattle.iol_hold.specs.Prelude.{Stays, has_room};
-ghost use Rattle.iol_pipe.specs.Prelude.{IsOneRead};
-ghost use Rattle.iol_kernel.specs.Borrowed.{arrive_from_refusals, most_asked, BringsIn, DrainsTo, MayBringIn, TakesIn};
-ghost use Rattle.iol_kernel.specs.Borrowed.{RefusesArrival, RefusesByte, RefusesDrain};
+ghost use Rattle.iol_hold.specs.Prelude.{Stays};
+ghost use Rattle.iol_kernel.specs.Outside.{HasConn};
+ghost use Rattle.iol_kernel.specs.Borrowed.{BringsIn, DrainsTo, FailsToRead, MayBringIn, TakesIn, TakesRead};
+ghost use Rattle.iol_kernel.specs.Borrowed.{RefusesArrival, RefusesDrain};
 ghost use Rattle.iol_kernel.specs.Backed.{Serves};
-ghost use Rattle.iol_kernel.specs.KernelState.{machine_of, IsSound};
+ghost use Rattle.iol_kernel.specs.KernelState.{IsSound};
 
 use crate::kernel::Kernel;
 use iol_core::numbers::{ConnId, PoolId};
@@ -18,7 +17,7 @@ use iol_sock::{Arrived, Drained};
 use std::io::{Read, Write};
 
 impl Kernel {
-    ghost use Rattle.iol_kernel.specs.Kernel.{state_of, machine, Arrives, Steps};
+    ghost use Rattle.iol_kernel.specs.Kernel.{state_of, machine};
 
     /// The bytes of one read come in from a connection's peer, straight into a new buffer on the lowest free page of the
     /// connection's pool. At most `max` bytes are asked for, a page of them, and what fits. Clean extents of the pool's
@@ -55,9 +54,7 @@ impl Kernel {
     fn may_arrive_from(&self, conn: ConnId, max: u32) -> Result<PoolId, Refusal>
         requires { IsSound (state_of self.now) }
         ensures may { IfOk result (λ p. MayBringIn conn max p (state_of self.now)) }
-        ensures refused { IfErr result (λ x. first (arrive_from_refusals (machine self.now) conn
-            max) ≡ Some x) }
-        ensures roomy { (p : ℕ) → result ≡ Err (Refusal.NoRoom p) → ⊥ }
+        ensures refused { IfErr result (λ x. FailsToRead conn max x (state_of self.now)) }
     {
         let Some(found) = self.conns.get(conn) else {
             return Err(Refusal::BadFd);
@@ -76,23 +73,10 @@ impl Kernel {
         reader: &mut R,
         max: u32,
     ) -> Result<Arrived, Refusal>
-        requires sound { IsSound (state_of self.old) }
-        requires there { lacks_conn (machine self.old) conn ≡ false }
-        ensures refuses { RefusesByte (machine self.old) conn max (has_room self.old.store
-            (conn_at (machine self.old) conn).pool 1) result }
-        ensures read { IfOk result (λ a. TakesIn (R.remaining reader.old) (R.remaining reader.new)
-            a.taken (λ bytes. Steps (λ s. outside.arrive s conn bytes) self.old (Ok a.taken)
-            self.new)) }
-        ensures made { IfOk result (λ a. Arrives conn a.taken self.old self.new) }
-        ensures told { IfOk result (IsOneRead (most_asked max (conn_at (machine self.old)
-            conn).incoming) (R.remaining reader.new)) }
-        ensures none { IfOk result (λ a. a.taken ≡ 0 → (stored : List (List ℕ)) →
-            machine_of stored (state_of self.new) ≡ machine_of stored (state_of self.old)) }
-        ensures cache { (state_of self.new).cache ≡ (state_of self.old).cache }
-        ensures err { OnErr result (state_of self.new ≡ state_of self.old) }
+        requires { HasConn (state_of self.old) conn }
+        ensures takes { TakesRead conn max (R.remaining reader.old) (R.remaining reader.new)
+            (state_of self.old) result (state_of self.new) }
         ensures err_reader { OnErr result (reader.new ≡ reader.old) }
-        ensures sound { IsSound (state_of self.new) }
-        ensures stays { Stays self.old.store self.new.store }
     {
         Ok(
             self.conns
@@ -127,8 +111,7 @@ impl Kernel {
 
     /// Lends the first bytes to be sent on a connection that is there, and forgets it where it is over.
     fn lend_out<W: Write>(&mut self, conn: ConnId, writer: &mut W, max: u32) -> Drained
-        requires sound { IsSound (state_of self.old) }
-        requires there { lacks_conn (machine self.old) conn ≡ false }
+        requires { HasConn (state_of self.old) conn }
         ensures { DrainsTo conn max (W.contents writer.old) (W.contents writer.new)
             (state_of self.old) (state_of self.new) result }
     {

@@ -1,9 +1,8 @@
 //! Reading by reference.
-ghost use Rattle.std.specs.Prelude.{◌≡◌, false, Some, IfOk, OnErr};
-ghost use Rattle.iol_core.specs.Prelude.{too_many_aggs};
 ghost use Rattle.iol_core.specs.Calls.Reading as calls;
-ghost use Rattle.iol_core.specs.Calls.Writing.{is_file};
 ghost use Rattle.iol_kernel.specs.KernelState.{IsSound};
+ghost use Rattle.iol_kernel.specs.Opened.{IsOnQueue};
+ghost use Rattle.iol_kernel.specs.QueueEnds.{MayTake};
 
 pub(crate) mod file;
 
@@ -18,7 +17,7 @@ use iol_core::refusals::Refusal;
 use std::alloc::AllocError;
 
 impl Kernel {
-    ghost use Rattle.iol_kernel.specs.Kernel.{state_of, machine, Answers, CarriesOut, GivesFront, IsOpenOn, IsSource, Reads, Serves};
+    ghost use Rattle.iol_kernel.specs.Kernel.{state_of, Attempts, CarriesOut, IsSource, Reads, Serves, TakesOff};
 
     /// Reads up to `count` bytes, as the caller's next aggregate. The store under the files is asked for what of a file is not
     /// in memory.
@@ -51,8 +50,7 @@ impl Kernel {
         from: &Descriptor,
         count: u32,
     ) -> Result<AggId, Refusal>
-        requires held { IsOpenOn self.old by fd from.now }
-        requires no_file { is_file (Some from.now) ≡ false }
+        requires { IsOnQueue (state_of self.old) by fd from.now }
         ensures { CarriesOut (λ s. calls.iol_read s by fd count) self.old result self.new }
     {
         if !can_read(from) {
@@ -73,12 +71,8 @@ impl Kernel {
     /// Takes what the reader may see of the first bytes of a queue, as its next aggregate.
     #[tactic(auto, using(crate::proofs::State::Stay::stay_rules, crate::proofs::AggregateCalls::Slices::held_rules))]
     fn take(&mut self, by: DomainId, fd: Fd, from: &Descriptor, n: u32) -> Result<AggId, AllocError>
-        requires held { IsOpenOn self.old by fd from.now }
-        requires source { IsSource self.old from.now }
-        requires few { too_many_aggs (machine self.old) by 1 0 ≡ false }
-        ensures done { IfOk result (λ a. Answers (λ s. calls.iol_read s by fd n) self.old a
-            self.new) }
-        ensures err { OnErr result (state_of self.new ≡ state_of self.old) }
+        requires { MayTake by fd from.now (state_of self.old) }
+        ensures { Attempts (λ s. calls.iol_read s by fd n) self.old result self.new }
     {
         self.domains.reserve_aggs(by, 1)?;
         let agg = self.front(by, from, n)?;
@@ -88,9 +82,7 @@ impl Kernel {
     /// Takes the longest prefix of a queue's first `n` bytes off it whose pools all name the domain.
     fn front(&mut self, by: DomainId, from: &Descriptor, n: u32) -> Result<Agg, AllocError>
         requires { IsSource self.old from.now }
-        ensures given { IfOk result (λ a. GivesFront from.now by n self.old self.new a) }
-        ensures table { self.new.domains ≡ self.old.domains }
-        ensures err { OnErr result (state_of self.new ≡ state_of self.old) }
+        ensures { TakesOff from.now by n self.old result self.new }
     {
         match from {
             Descriptor::ReadEnd { pipe } => {

@@ -1,10 +1,10 @@
 //! Writing by reference: to pipes and connections here, to files in `iol_write/file`.
-ghost use Rattle.std.specs.Prelude.{◌≡◌, true, false, None, Some, Err, IfOk, IfErr, OnOk};
-ghost use Rattle.iol_core.specs.Prelude.{first, is_live, descriptor, lacks_agg};
+ghost use Rattle.std.specs.Prelude.{◌≡◌, false, Some};
+ghost use Rattle.iol_core.specs.Prelude.{descriptor};
 ghost use Rattle.iol_core.specs.Calls.Writing as calls;
 ghost use Rattle.iol_back.specs.Prelude.{Disk};
 ghost use Rattle.iol_kernel.specs.KernelState.{IsSound};
-ghost use Rattle.iol_kernel.specs.Readings.{Reading};
+ghost use Rattle.iol_kernel.specs.WritingAggs.{MayWriteAgg, TestsAgg};
 ghost use Rattle.iol_kernel.specs.WritingFiles.{WritesOn};
 
 pub(crate) mod file;
@@ -17,7 +17,7 @@ use iol_core::numbers::{AggId, DomainId, Fd};
 use iol_core::refusals::Refusal;
 
 impl Kernel {
-    ghost use Rattle.iol_kernel.specs.Kernel.{state_of, machine, as_read, CarriesOut, IsOpenOn, Serves};
+    ghost use Rattle.iol_kernel.specs.Kernel.{state_of, machine, CarriesOut, Serves};
 
     /// Writes an aggregate, which stays. Returns how many of its bytes were taken.
     ///
@@ -44,14 +44,7 @@ impl Kernel {
     #[tactic(auto, using(crate::proofs::State::Stay::stay_rules))]
     fn end_to_write(&self, by: DomainId, fd: Fd, agg: AggId) -> Result<Descriptor, Refusal>
         requires { IsSound (state_of self.now) }
-        ensures live { OnOk result ((f : Reading) → is_live (as_read f self.now) by ≡ true) }
-        ensures open { IfOk result (λ x. (f : Reading) → descriptor (as_read f self.now) by fd ≡
-            Some x) }
-        ensures there { OnOk result (lacks_agg (machine self.now) by agg ≡ false) }
-        ensures passed { OnOk result ((f : Reading) → first (calls.iol_write (as_read f self.now) by
-            fd agg).refusals ≡ None) }
-        ensures refused { IfErr result (λ x. CarriesOut (λ s. calls.iol_write s by fd agg) self.now
-            (Err x) self.now) }
+        ensures { TestsAgg by fd agg (state_of self.now) result }
     {
         let to = self.opened(by, fd)?;
         let len = self.find_len(by, agg)?;
@@ -73,11 +66,8 @@ impl Kernel {
     /// Adds the longest prefix of an aggregate that fits to a queue.
     #[tactic(auto, using(crate::proofs::AggregateCalls::Slices::held_rules))]
     fn push(&mut self, by: DomainId, fd: Fd, agg: AggId, to: &Descriptor) -> Result<u32, Refusal>
-        requires open { IsOpenOn self.old by fd to.now }
+        requires may { MayWriteAgg by fd agg to.now (state_of self.old) }
         requires no_file { calls.is_file (Some to.now) ≡ false }
-        requires there { lacks_agg (machine self.old) by agg ≡ false }
-        requires passed { (f : Reading) → first (calls.iol_write (as_read f self.old) by fd
-            agg).refusals ≡ None }
         ensures { CarriesOut (λ s. calls.iol_write s by fd agg) self.old result self.new }
     {
         let Some(found) = self.domains.agg(by, agg) else {

@@ -1,16 +1,15 @@
 //! Acts from outside: connections are made, bytes arrive on them and are sent, and their peers close.
-ghost use Rattle.std.specs.Prelude.{◌≡◌, ◌≢◌, ℕ, ◌<◌, ◌≤◌, length, true, false, Some, None, IfOk, IfErr, OnErr, Err};
-ghost use Rattle.iol_core.specs.State as state;
-ghost use Rattle.iol_core.specs.Prelude.{conn_at, with_conn, first, lookup, lacks_conn};
+ghost use Rattle.std.specs.Prelude.{◌≡◌, ◌≢◌, ℕ, length, None, Err};
+ghost use Rattle.iol_core.specs.Prelude.{conn_at, with_conn, lookup, lacks_conn};
 ghost use Rattle.iol_core.specs.Calls.Outside as calls;
 ghost use Rattle.iol_kernel.specs.Calls.{MayArrive, told, with_incoming};
-ghost use Rattle.iol_kernel.specs.ClosedEnds.{KeepsEnds};
-ghost use Rattle.iol_kernel.specs.KernelState.{objects_of, IsSound};
+ghost use Rattle.iol_kernel.specs.KernelState.{IsSound};
+ghost use Rattle.iol_kernel.specs.Outside.{HasConn, MayConnect, Settles, TestsArrival};
 ghost use Rattle.iol_kernel.specs.Putting.{Fills};
 ghost use Rattle.iol_kernel.specs.Readings.{Reading};
 
 use crate::kernel::Kernel;
-use iol_core::descriptors::{Descriptor, How};
+use iol_core::descriptors::How;
 use iol_core::limits::{LAST_CONNECTION, MAX_CONNECTIONS, MAX_QUEUE_BYTES};
 use iol_core::lists::Bytes;
 use iol_core::numbers::{ConnId, PoolId};
@@ -19,7 +18,7 @@ use iol_sock::Segment;
 use std::alloc::AllocError;
 
 impl Kernel {
-    ghost use Rattle.iol_kernel.specs.Kernel.{state_of, machine, as_read, CarriesOut, KeepsPlaces, Answers, Places, Transmits, Leaves};
+    ghost use Rattle.iol_kernel.specs.Kernel.{state_of, machine, as_read, Attempts, CarriesOut, KeepsPlaces, Places, Transmits, Leaves};
 
     /// Makes a connection that waits to be accepted. What arrives on it will lie in the pool.
     #[tactic(auto, using(crate::proofs::State::Stay::stay_rules))]
@@ -57,12 +56,8 @@ impl Kernel {
 
     /// Adds a connection.
     fn add_conn(&mut self, pool: PoolId) -> Result<ConnId, AllocError>
-        requires sound { IsSound (state_of self.old) }
-        requires few { length (machine self.old).conns < MAX_CONNECTIONS }
-        requires some { (machine self.old).next_conn ≤ LAST_CONNECTION }
-        requires open { (state.pool (machine self.old) pool).closed ≡ false }
-        ensures done { IfOk result (λ n. Answers (λ s. calls.conn_new s pool) self.old n self.new) }
-        ensures err { OnErr result (state_of self.new ≡ state_of self.old) }
+        requires { MayConnect pool (state_of self.old) }
+        ensures { Attempts (λ s. calls.conn_new s pool) self.old result self.new }
     {
         self.conns.reserve()?;
         Ok(self.conns.add(self.alloc, pool))
@@ -96,8 +91,7 @@ impl Kernel {
 
     /// Ends what the peer of a connection does, and forgets the connection where it is over.
     fn end_peer(&mut self, conn: ConnId, how: How)
-        requires sound { IsSound (state_of self.old) }
-        requires there { lacks_conn (machine self.old) conn ≡ false }
+        requires { HasConn (state_of self.old) conn }
         ensures { Leaves (λ s. with_conn s conn (calls.closed_by (conn_at s conn) how)) self.old
             self.new }
     {
@@ -109,10 +103,7 @@ impl Kernel {
     pub(crate) fn settle(&mut self, conn: ConnId)
         requires sound { IsSound (state_of self.old) }
         requires there { lookup (state_of self.old).conns conn ≢ None }
-        ensures left { Leaves (λ s. with_conn s conn (conn_at s conn)) self.old self.new }
-        ensures domains { (state_of self.new).domains ≡ (state_of self.old).domains }
-        ensures others { KeepsEnds (Descriptor.Connection conn) (objects_of (state_of self.old))
-            (objects_of (state_of self.new)) }
+        ensures { Settles conn (state_of self.old) (state_of self.new) }
     {
         let Some(found) = self.conns.get(conn) else {
             unreachable!()
@@ -140,10 +131,7 @@ impl Kernel {
     /// and of memory.
     fn room_to_arrive(&self, conn: ConnId, bytes: &[u8]) -> Result<(PoolId, u32), Refusal>
         requires { IsSound (state_of self.now) }
-        ensures may { IfOk result (λ r. MayArrive conn bytes.now r.0 r.1 (state_of self.now)) }
-        ensures refused { IfErr result (λ x. (f : Reading) →
-            first (calls.arrive (as_read f self.now) conn bytes.now).refusals ≡ Some x) }
-        ensures roomy { (p : ℕ) → result ≡ Err (Refusal.NoRoom p) → ⊥ }
+        ensures { TestsArrival conn bytes.now (state_of self.now) result }
     {
         let Some(found) = self.conns.get(conn) else {
             return Err(Refusal::BadFd);
@@ -161,8 +149,7 @@ impl Kernel {
         count: u32,
         bytes: &[u8],
     ) -> Result<u32, Refusal>
-        requires sound { IsSound (state_of self.old) }
-        requires may { MayArrive conn bytes.now pool count (state_of self.old) }
+        requires { MayArrive conn bytes.now pool count (state_of self.old) }
         ensures { Places (λ s. calls.arrive s conn bytes.now) (with_incoming conn) (conn_at (machine
             self.old) conn).pool (calls.arrive (machine self.old) conn bytes.now).answer self.old
             result self.new }
@@ -175,8 +162,7 @@ impl Kernel {
 
     /// Bytes come in on a connection that is there, and whose pool has room.
     fn fill_conn(&mut self, conn: ConnId, bytes: &[u8]) -> Result<u32, Refusal>
-        requires sound { IsSound (state_of self.old) }
-        requires there { lacks_conn (machine self.old) conn ≡ false }
+        requires { HasConn (state_of self.old) conn }
         ensures { Fills (λ s. calls.arrive s conn bytes.now) (with_incoming conn) (conn_at (machine
             self.old) conn).pool (state_of self.old) result (state_of self.new) }
     {
@@ -198,8 +184,7 @@ impl Kernel {
 
     /// Sends the first bytes of a connection that is there, and forgets it where it is over.
     fn send(&mut self, conn: ConnId, max: u32) -> Result<Segment, Refusal>
-        requires sound { IsSound (state_of self.old) }
-        requires there { lacks_conn (machine self.old) conn ≡ false }
+        requires { HasConn (state_of self.old) conn }
         ensures { Transmits conn max self.old (told result) self.new }
     {
         let segment = self

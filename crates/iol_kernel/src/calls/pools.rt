@@ -1,13 +1,15 @@
 //! Pools.
-ghost use Rattle.std.specs.Prelude.{◌≡◌, ◌&&◌, ℕ, ◌+◌, ◌<◌, ◌≤◌, length, true, false, ◌∷◌, ◌++◌, [], Some, None, IfOk, IfErr, OnOk, OnErr, Err};
+ghost use Rattle.std.specs.Prelude.{◌≡◌, ◌&&◌, ℕ, ◌<◌, ◌≤◌, length, true, IfOk, IfErr, OnOk, Err};
 ghost use Rattle.std.specs.List.{list_all};
 ghost use Rattle.iol_core.specs.State as state;
-ghost use Rattle.iol_core.specs.Prelude.{is_live, is_pool, domain, with_numbered, WantOfRoom, first};
+ghost use Rattle.iol_core.specs.Prelude.{is_live, is_pool, with_numbered};
 ghost use Rattle.iol_core.specs.Calls.Pools as calls;
 ghost use Rattle.iol_arena.specs.Prelude.{free_chunks};
 ghost use Rattle.iol_pool.specs.Prelude.{AddsPool};
-ghost use Rattle.iol_kernel.specs.Calls.{with_reader};
+ghost use Rattle.iol_kernel.specs.Calls.{Refuses, with_reader};
+ghost use Rattle.iol_kernel.specs.Having.{Lives};
 ghost use Rattle.iol_kernel.specs.KernelState.{IsSound};
+ghost use Rattle.iol_kernel.specs.PoolCalls.{Creates, IsIdle, MayAdmit, MayCreate, MayUse};
 ghost use Rattle.iol_kernel.specs.Readings.{Reading};
 
 use crate::kernel::Kernel;
@@ -34,13 +36,9 @@ impl Kernel {
 
     /// Whether a domain may place in a pool, or close it: it is open, and names the domain.
     fn test_pool(&self, by: DomainId, pool: PoolId) -> Result<(), Refusal>
-        ensures passed { OnOk result ((f : Reading) →
-            first (calls.set_pool (as_read f self.now) by pool).refusals ≡ None) }
-        ensures live { OnOk result (is_live (machine self.now) by ≡ true) }
-        ensures there { OnOk result (is_pool (machine self.now) pool ≡ true) }
-        ensures refused { IfErr result (λ x. (f : Reading) →
-            first (calls.set_pool (as_read f self.now) by pool).refusals ≡ Some x) }
-        ensures roomy { (p : ℕ) → result ≡ Err (Refusal.NoRoom p) → ⊥ }
+        ensures may { OnOk result (MayUse by pool (state_of self.now)) }
+        ensures refused { IfErr result (λ x. Refuses (λ s. calls.set_pool s by pool) x (state_of
+            self.now)) }
     {
         if !self.is_live(by) {
             return Err(Refusal::NoDomain);
@@ -60,8 +58,7 @@ impl Kernel {
     /// Sets a domain's default pool.
     #[tactic(auto, using(crate::proofs::AggregateCalls::Slices::held_rules))]
     fn set_default(&mut self, by: DomainId, pool: PoolId)
-        requires sound { IsSound (state_of self.old) }
-        requires live { is_live (machine self.old) by ≡ true }
+        requires { Lives (state_of self.old) by }
         ensures { Answers (λ s. calls.set_pool s by pool) self.old tt self.new }
     {
         self.domains.set_default(by, pool);
@@ -106,13 +103,10 @@ impl Kernel {
 
     /// The domains that a new pool's list names, each once, or why the pool is refused.
     fn names_for(&self, by: DomainId, chunks: u32, list: &[DomainId]) -> Result<Names, Refusal>
-        ensures few { OnOk result ((f : Reading) → length (as_read f self.now).pools < MAX_POOLS) }
-        ensures names { IfOk result (λ names. names ≡ calls.distinct list.now) }
-        ensures ok { OnOk result ((f : Reading) → first (calls.pool_create (as_read f self.now) by
-            chunks list.now).refusals ≡ None) }
-        ensures roomy { (p : ℕ) → result ≡ Err (Refusal.NoRoom p) → ⊥ }
-        ensures err { IfErr result (λ x. (f : Reading) → first (calls.pool_create (as_read f
-            self.now) by chunks list.now).refusals ≡ Some x) }
+        ensures may { IfOk result (λ names. MayCreate by chunks list.now names (state_of
+            self.now)) }
+        ensures refused { IfErr result (λ x. Refuses (λ s. calls.pool_create s by chunks list.now) x
+            (state_of self.now)) }
     {
         if !self.are_live(by, list) {
             return Err(Refusal::NoDomain);
@@ -150,23 +144,7 @@ impl Kernel {
     fn add_pool(&mut self, chunks: u32, names: Names) -> Result<PoolId, Refusal>
         requires sound { IsSound (state_of self.old) }
         requires few { length (machine self.old).pools < MAX_POOLS }
-        ensures number { IfOk result (λ n. (f : Reading) → n ≡ length (as_read f self.old).pools +
-            1) }
-        ensures added { OnOk result (Leaves (λ s. record s {
-          pools = s.pools ++ record {
-            domains =
-                names;
-            closed = false;
-          } ∷ [];
-        }) self.old self.new) }
-        ensures chunks { OnOk result (AddsPool self.old.store.arena self.new.store.arena
-            self.old.store.pools self.new.store.pools chunks names) }
-        ensures room { OnOk result (chunks ≤ length (free_chunks self.old.store.arena)) }
-        ensures no_room { (p : ℕ) → result ≡ Err (Refusal.NoRoom p) → length (free_chunks
-            self.old.store.arena) < chunks }
-        ensures late { IfErr result (λ x. (f : Reading) → WantOfRoom (length (as_read f
-            self.old).pools + 1) x) }
-        ensures err { OnErr result (state_of self.new ≡ state_of self.old) }
+        ensures { Creates chunks names (state_of self.old) result (state_of self.new) }
     {
         Ok(self.store.create_pool(self.alloc, chunks, names)?)
     }
@@ -216,9 +194,7 @@ impl Kernel {
 
     /// Adds a domain to a pool's list.
     fn add_reader(&mut self, p: PoolId, d: DomainId)
-        requires sound { IsSound (state_of self.old) }
-        requires there { is_pool (machine self.old) p ≡ true }
-        requires place { calls.has_place (state.pool (machine self.old) p).domains d ≡ true }
+        requires { MayAdmit p d (state_of self.old) }
         ensures admits { Leaves (λ s. record s {
           pools = with_numbered s.pools p (calls.admitting (state.pool
               s p) d);
@@ -253,9 +229,7 @@ impl Kernel {
 
     /// Closes a pool, which no file and no connection is of.
     fn end_pool(&mut self, p: PoolId)
-        requires sound { IsSound (state_of self.old) }
-        requires there { is_pool (machine self.old) p ≡ true }
-        requires idle { (f : Reading) → calls.is_busy (as_read f self.old) p ≡ false }
+        requires { IsIdle (state_of self.old) p }
         ensures { Leaves (λ s. record s {
           pools = with_numbered s.pools p (record (state.pool
               s p) { closed = true });

@@ -1,13 +1,8 @@
 //! Positions of descriptors on files, and lengths of files.
-ghost use Rattle.std.specs.Prelude.{◌≡◌, ◌≤◌, length, true, None, Some, IfErr, IfOk, OnErr};
-ghost use Rattle.iol_core.specs.Prelude.{is_numbered, first, content, open_on};
+ghost use Rattle.std.specs.Prelude.{◌≤◌, IfOk};
 ghost use Rattle.iol_core.specs.Calls.Files as calls;
-ghost use Rattle.iol_cache.specs.Prelude.{IsEnd};
-ghost use Rattle.iol_kernel.specs.Backed.{IsBackedBy};
-ghost use Rattle.iol_kernel.specs.FileEnds.{EndsAt, SeeksAt};
-ghost use Rattle.iol_kernel.specs.FileReading.{held_by};
-ghost use Rattle.iol_kernel.specs.KernelState.{machine_of, IsSound};
-ghost use Rattle.iol_kernel.specs.Readings.{Reading};
+ghost use Rattle.iol_kernel.specs.FileEnds.{EndsAt, FindsFile, HasFile, IsLengthOf, SeeksAt};
+ghost use Rattle.iol_kernel.specs.KernelState.{IsSound};
 
 use crate::kernel::Kernel;
 use crate::open_file::OpenFile;
@@ -18,7 +13,7 @@ use iol_core::numbers::{DomainId, Fd, FileId};
 use iol_core::refusals::Refusal;
 
 impl Kernel {
-    ghost use Rattle.iol_kernel.specs.Kernel.{state_of, as_read, IsOpenOn, LooksUp};
+    ghost use Rattle.iol_kernel.specs.Kernel.{state_of, LooksUp};
 
     /// Puts a descriptor on a file at a position, at most at the file's end. Of a store that is not honest, that is where a
     /// read of the file would end now.
@@ -71,12 +66,7 @@ impl Kernel {
     /// `WrongMode` where that is open on no file.
     pub(crate) fn find_open(&self, by: DomainId, fd: Fd) -> Result<OpenFile, Refusal>
         requires { IsSound (state_of self.now) }
-        ensures open { IfOk result (λ x. IsOpenOn self.now by fd (Descriptor.File x.file x.at x.mode)) }
-        ensures there { IfOk result (λ x. is_numbered (state_of self.now).files x.file ≡ true) }
-        ensures refused { IfErr result (λ x. (f : Reading) → first (calls.file_length (as_read f
-            self.now) by fd).refusals ≡ Some x) }
-        ensures none { OnErr result ((f : Reading) → open_on (held_by (as_read f self.now) by fd) ≡
-            None) }
+        ensures { FindsFile by fd (state_of self.now) result }
     {
         let on = self.opened(by, fd)?;
         let Descriptor::File { file, at, mode } = on else {
@@ -87,12 +77,8 @@ impl Kernel {
 
     /// How many bytes a file has.
     fn length_of<B: Backing>(&self, backing: &B, file: FileId) -> u32
-        requires sound { IsSound (state_of self.now) }
-        requires there { is_numbered (state_of self.now).files file ≡ true }
-        ensures short { result ≤ MAX_FILE_BYTES }
-        ensures is { let h = state_of self.now in let disk = B.disk backing.now in
-            IsBackedBy disk h → result ≡ length (content (machine_of disk.slots h) file) }
-        ensures end { IsEnd (B.disk backing.now) (state_of self.now).cache file result }
+        requires { HasFile (state_of self.now) file }
+        ensures { IsLengthOf (B.disk backing.now) (state_of self.now) file result }
     {
         self.files.cache.file_length(backing, file)
     }

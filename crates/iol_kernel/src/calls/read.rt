@@ -1,11 +1,7 @@
 //! Reading by copying: no aggregate is made of what is read.
-ghost use Rattle.std.specs.Prelude.{◌≡◌, None};
-ghost use Rattle.iol_core.specs.Prelude.{open_on};
 ghost use Rattle.iol_core.specs.Calls.Reading as calls;
-ghost use Rattle.iol_kernel.specs.Copying.{Copies, ReadsOut};
-ghost use Rattle.iol_kernel.specs.FileReading.{held_by};
+ghost use Rattle.iol_kernel.specs.Copying.{Copies, IsOnNoFile, ReadsOut};
 ghost use Rattle.iol_kernel.specs.KernelState.{IsSound};
-ghost use Rattle.iol_kernel.specs.Readings.{Reading};
 
 mod file;
 mod queue;
@@ -17,7 +13,7 @@ use iol_core::numbers::{DomainId, Fd};
 use iol_core::refusals::Refusal;
 
 impl Kernel {
-    ghost use Rattle.iol_kernel.specs.Kernel.{state_of, as_read, Serves};
+    ghost use Rattle.iol_kernel.specs.Kernel.{state_of, Serves};
 
     /// Reads up to `count` bytes, as a list of their own.
     pub fn read_bytes<B: Backing>(
@@ -41,8 +37,7 @@ impl Kernel {
 
     /// Takes up to `count` bytes off a queue. Of memory it takes as much as waits, and that before it reads.
     fn copy_queue(&mut self, by: DomainId, fd: Fd, count: u32) -> Result<Bytes, Refusal>
-        requires sound { IsSound (state_of self.old) }
-        requires no_file { (f : Reading) → open_on (held_by (as_read f self.old) by fd) ≡ None }
+        requires { IsOnNoFile (state_of self.old) by fd }
         ensures { ReadsOut by fd count (state_of self.old) result (state_of self.new) }
     {
         let most = self.waiting(by, fd, count as usize)?;

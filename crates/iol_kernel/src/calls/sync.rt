@@ -1,6 +1,6 @@
 //! Writing back of what is dirty, and the going of what is clean.
-ghost use Rattle.std.specs.Prelude.{◌≡◌, ℕ, true, None, Ok, [], length};
-ghost use Rattle.iol_core.specs.Prelude.{first, is_numbered, file_on};
+ghost use Rattle.std.specs.Prelude.{◌≡◌, ℕ, Ok, [], length};
+ghost use Rattle.iol_core.specs.Prelude.{file_on};
 ghost use Rattle.iol_core.specs.Calls.Files as calls;
 ghost use Rattle.iol_core.specs.Calls.Outside as outside;
 ghost use Rattle.iol_back.specs.Prelude.{Disk};
@@ -8,8 +8,7 @@ ghost use Rattle.iol_hold.specs.Prelude.{KeepsPages};
 ghost use Rattle.iol_cache.specs.Prelude.{extents_in, AllDirty, EvictsPools, KeepsDirty};
 ghost use Rattle.iol_kernel.specs.Backed.{holding_of};
 ghost use Rattle.iol_kernel.specs.KernelState.{IsSound};
-ghost use Rattle.iol_kernel.specs.Readings.{Reading};
-ghost use Rattle.iol_kernel.specs.WritingBack.{FlushesOne, SyncsFile};
+ghost use Rattle.iol_kernel.specs.WritingBack.{FlushesOne, MaySync, SyncsBack, SyncsFile};
 
 use crate::kernel::Kernel;
 use iol_back::backing::Backing;
@@ -17,7 +16,7 @@ use iol_core::numbers::{DomainId, Fd, FileId};
 use iol_core::refusals::Refusal;
 
 impl Kernel {
-    ghost use Rattle.iol_kernel.specs.Kernel.{state_of, machine, as_read, Serves};
+    ghost use Rattle.iol_kernel.specs.Kernel.{state_of, machine, Serves};
 
     /// Writes all that is dirty of the file back that a descriptor is open on, in the order of offsets, up to the first at which
     /// the store fails. It takes no memory.
@@ -48,14 +47,8 @@ impl Kernel {
         fd: Fd,
         file: FileId,
     ) -> Result<(), Refusal>
-        requires sound { IsSound (state_of self.old) }
-        requires passed { (f : Reading) → first (calls.fsync (as_read f self.old) by fd).refusals ≡
-            None }
-        requires file { (f : Reading) → file ≡ file_on (as_read f self.old) by fd }
-        requires there { is_numbered (state_of self.old).files file ≡ true }
-        ensures serves { Serves (λ s. calls.fsync s by fd) (B.disk backing.old) self.old result
-            (B.disk backing.new) self.new }
-        ensures syncs { SyncsFile file (B.disk backing.old) (state_of self.old) result
+        requires { MaySync by fd file (state_of self.old) }
+        ensures { SyncsBack by fd file (B.disk backing.old) (state_of self.old) result
             (B.disk backing.new) (state_of self.new) }
     {
         self.files.cache.sync(&self.store, backing, file)

@@ -5,7 +5,7 @@ use Rattle.iol_kernel.proofs.AggregateCalls.GivenUp.{front_readable, last_covere
 use Rattle.iol_kernel.proofs.tables.release_all.Goals as goal
 
 pub release-requires : goal.release-requires
-release-requires c = last_covered c.args.store.now c.loop-agg.store (bufs_in c.args.aggs) c.loop-agg.left c.pop.new.self c.in-Some.field-0-0 c.in-Some.agg c.in-Some.ensures.given c.requires c.loop-agg.invariant.moves
+release-requires c = last_covered c.args.store.now c.loop-agg.store (bufs_in c.args.aggs) c.loop-agg.left c.pop.new.self c.in-Some.field-0-0 c.in-Some.agg c.in-Some.ensures.given c.requires c.loop-agg.invariant.released.moves
 
 pub loop-agg-preserved : goal.loop-agg-preserved
 loop-agg-preserved c =
@@ -16,13 +16,16 @@ loop-agg-preserved c =
     let n = c.in-Some.field-0-0 in
     let x = c.in-Some.agg in
     let is = c.in-Some.ensures.given in
-    let so_far = c.loop-agg.invariant in
+    let readable = c.loop-agg.invariant.readable in
+    let so_far = c.loop-agg.invariant.released in
     let released = c.release.ensures in
     let covers = last_covered s t (bufs_in c.args.aggs) es rest n x is c.requires so_far.moves in
     record {
-      moves = last_released s t c.release.new.store (bufs_in c.args.aggs) es rest n x is so_far.moves released.moves;
-      lists = released.lists ∙ so_far.lists;
-      frees = frees_trans so_far.frees released.frees released.moves.counts;
-      readable = λ all. front_readable s es rest n x is (so_far.readable all);
-      settles = λ all settled. released.settles (last_readable s t es rest n x is so_far.moves.stays covers (so_far.readable all)) (so_far.settles all settled);
+      released = record {
+        moves = last_released s t c.release.new.store (bufs_in c.args.aggs) es rest n x is so_far.moves released.moves;
+        lists = released.lists ∙ so_far.lists;
+        frees = frees_trans so_far.frees released.frees released.moves.counts;
+        settles = λ all settled. released.settles (last_readable s t es rest n x is so_far.moves.stays covers (readable all)) (so_far.settles all settled);
+      };
+      readable = λ all. front_readable s es rest n x is (readable all);
     }

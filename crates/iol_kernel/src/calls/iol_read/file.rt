@@ -1,7 +1,8 @@
 //! Reading files by reference: what is in memory is shared, and what is not is read into clean extents.
-ghost use Rattle.std.specs.Prelude.{◌≡◌, true, Some, None, IfSome, IfErr, OnOk};
-ghost use Rattle.iol_core.specs.Prelude.{first, is_numbered, is_live, descriptor, open_on};
-ghost use Rattle.iol_kernel.specs.FileReading.{IsBeforeRoom, held_by, read_at, read_tests};
+ghost use Rattle.std.specs.Prelude.{◌≡◌, true, Some, None, IfSome};
+ghost use Rattle.iol_core.specs.Prelude.{is_live, descriptor, open_on};
+ghost use Rattle.iol_kernel.specs.FileEnds.{HasFileFor};
+ghost use Rattle.iol_kernel.specs.FileReading.{TestsRead, held_by, read_at};
 ghost use Rattle.iol_kernel.specs.Readings.{Reading};
 
 use crate::kernel::Kernel;
@@ -12,7 +13,7 @@ use iol_core::numbers::{AggId, DomainId, Fd, FileId};
 use iol_core::refusals::Refusal;
 
 impl Kernel {
-    ghost use Rattle.iol_kernel.specs.Kernel.{state_of, machine, as_read, IsOpenAt, TakesFromFile};
+    ghost use Rattle.iol_kernel.specs.Kernel.{state_of, as_read, IsOpenAt, TakesFromFile};
 
     /// The file that a live domain's descriptor is open on, with its position and mode.
     pub fn file_open(&self, by: DomainId, fd: Fd) -> Option<OpenFile>
@@ -70,13 +71,8 @@ impl Kernel {
         mode: Mode,
         makes_agg: bool,
     ) -> Result<(), Refusal>
-        requires live { is_live (machine self.now) by ≡ true }
-        requires there { is_numbered (state_of self.now).files file ≡ true }
-        ensures passed { OnOk result ((f : Reading) →
-            first (read_tests (as_read f self.now) by file mode makes_agg) ≡ None) }
-        ensures refused { IfErr result (λ x. (f : Reading) →
-            first (read_tests (as_read f self.now) by file mode makes_agg) ≡ Some x) }
-        ensures early { IfErr result (λ x. IsBeforeRoom x) }
+        requires { HasFileFor (state_of self.now) by file }
+        ensures { TestsRead by file mode makes_agg (state_of self.now) result }
     {
         if !may_be_read(mode) {
             return Err(Refusal::WrongMode);

@@ -1,9 +1,10 @@
 //! Reading files by copying: no aggregate is made of what is read.
 ghost use Rattle.std.specs.Prelude.{◌≡◌, ◌+◌, ◌≤◌, ◌++◌, length, true, Some, IfOk};
 ghost use Rattle.std.specs.Vec.{vec_len, vec_capacity};
-ghost use Rattle.iol_core.specs.Prelude.{is_numbered, is_live, descriptor, bytes_of};
+ghost use Rattle.iol_core.specs.Prelude.{is_live, descriptor, bytes_of};
 ghost use Rattle.iol_core.specs.Calls.Reading as calls;
 ghost use Rattle.iol_hold.specs.Prelude.{byte_len, AllReadable, text_of};
+ghost use Rattle.iol_kernel.specs.FileEnds.{HasFile};
 ghost use Rattle.iol_kernel.specs.FileReading.{IsReadable, file_read};
 ghost use Rattle.iol_kernel.specs.KernelState.{IsSound};
 ghost use Rattle.iol_kernel.specs.Readings.{Reading};
@@ -62,8 +63,7 @@ impl Kernel {
     /// How many of `count` bytes a file has from a place on. Of a store that is not honest, it is where a read of the file would
     /// end now.
     fn readable<B: Backing>(&self, backing: &B, file: FileId, at: u32, count: u32) -> u32
-        requires sound { IsSound (state_of self.now) }
-        requires there { is_numbered (state_of self.now).cache.files file ≡ true }
+        requires { HasFile (state_of self.now) file }
         ensures { IsReadable (B.disk backing.now) (state_of self.now).cache file at count result }
     {
         let end = self.files.cache.file_length(backing, file);

@@ -1,13 +1,6 @@
 //! Bytes are written to files by copying: they are placed in the file's pool, and lie there.
-ghost use Rattle.std.specs.Prelude.{◌≡◌, ◌⊎◌, ℕ, length, true, false, Err, IfErr, OnOk};
-ghost use Rattle.iol_core.specs.Prelude.{WantOfRoom};
-ghost use Rattle.iol_core.specs.Calls.Writing as calls;
-ghost use Rattle.iol_back.specs.Prelude.{Disk};
-ghost use Rattle.iol_hold.specs.Prelude.{KeepsPages, lowest_of};
-ghost use Rattle.iol_kernel.specs.Keeping.{KeepsBeside};
-ghost use Rattle.iol_kernel.specs.MakingRoom.{can_fit};
 ghost use Rattle.iol_kernel.specs.Putting.{MayPut};
-ghost use Rattle.iol_kernel.specs.WritingFiles.{GivesUpNew, LaysInFile, LaysOver, PutsInFile};
+ghost use Rattle.iol_kernel.specs.WritingFiles.{FillsFile, PutsOver};
 
 use crate::kernel::Kernel;
 use crate::open_file::OpenFile;
@@ -18,7 +11,7 @@ use iol_core::numbers::{DomainId, Fd, PoolId};
 use iol_core::refusals::Refusal;
 
 impl Kernel {
-    ghost use Rattle.iol_kernel.specs.Kernel.{state_of, Serves};
+    ghost use Rattle.iol_kernel.specs.Kernel.{state_of};
 
     /// Writes bytes over those of a file, from the descriptor's position on, which moves past them. Clean extents of files of
     /// the pool give way, and the bytes lie in new buffers of the file's pool.
@@ -32,15 +25,7 @@ impl Kernel {
     ) -> Result<u32, Refusal>
         requires { MayPut by fd (Descriptor.File found.file found.at found.mode) pool bytes.now
             (state_of self.old) }
-        ensures serves { (disk : Disk) → Serves (λ s. calls.write s by fd bytes.now) disk self.old
-            result disk self.new }
-        ensures room { OnOk result (can_fit (state_of self.old) pool (length bytes.now) ≡ true) }
-        ensures no_room { (p : ℕ) → result ≡ Err (Refusal.NoRoom p) → can_fit (state_of self.old)
-            pool (length bytes.now) ≡ false }
-        ensures late { IfErr result (WantOfRoom pool) }
-        ensures puts { PutsInFile found.file found.at pool (length bytes.now) (state_of self.old) result
-            (state_of self.new) }
-        ensures lays { LaysInFile found.file found.at pool bytes.now (state_of self.old) result
+        ensures { PutsOver by fd found.file found.at pool bytes.now (state_of self.old) result
             (state_of self.new) }
     {
         let count = bytes.len().min(MAX_FILE_BYTES) as u32;
@@ -61,18 +46,8 @@ impl Kernel {
     ) -> Result<u32, Refusal>
         requires { MayPut by fd (Descriptor.File found.file found.at found.mode) pool bytes.now
             (state_of self.old) }
-        ensures serves { (disk : Disk) → Serves (λ s. calls.write s by fd bytes.now) disk self.old
-            result disk self.new }
-        ensures roomy { (p : ℕ) → result ≡ Err (Refusal.NoRoom p) → ⊥ }
-        ensures late { IfErr result (WantOfRoom pool) }
-        ensures fills { OnOk result (KeepsPages self.old.store self.new.store
-            (lowest_of self.old.store pool (length bytes.now))) }
-        ensures beside { KeepsBeside found.file found.at (length bytes.now) pool ⊥ (state_of self.old).cache
-            (state_of self.new).cache }
-        ensures lays { OnOk result
-            (LaysOver found.file found.at pool bytes.now (state_of self.old) (state_of self.new)) }
-        ensures leaves { IfErr result (λ x. (state_of self.new ≡ state_of self.old) ⊎
-            GivesUpNew pool bytes.now (state_of self.old) (state_of self.new)) }
+        ensures { FillsFile by fd found.file found.at pool bytes.now (state_of self.old) result
+            (state_of self.new) }
     {
         let Ok(agg) = Agg::fill(self.alloc, &mut self.store, pool, bytes) else {
             return Err(Refusal::Memory);

@@ -1,10 +1,9 @@
 //! Bytes are written to pipes and connections by copying: they lie in new buffers.
-ghost use Rattle.std.specs.Prelude.{◌≡◌, ◌≤◌, true, false, Some, IfOk, IfErr};
-ghost use Rattle.iol_core.specs.Prelude.{is_numbered, is_live, descriptor};
+ghost use Rattle.std.specs.Prelude.{◌≡◌, false, Some};
 ghost use Rattle.iol_core.specs.Calls.Writing as calls;
 ghost use Rattle.iol_kernel.specs.KernelState.{IsSound};
-ghost use Rattle.iol_kernel.specs.Putting.{FailsTests, MayPut, PassesTests, PlacesInQueue};
-ghost use Rattle.iol_kernel.specs.Readings.{Reading};
+ghost use Rattle.iol_kernel.specs.Opened.{IsOnFile, IsOnQueue};
+ghost use Rattle.iol_kernel.specs.Putting.{MayPut, PlacesInQueue, TestsWrite};
 
 use crate::kernel::Kernel;
 use crate::open_file::is_for_writing;
@@ -15,7 +14,7 @@ use iol_core::numbers::{DomainId, Fd, FileId, PoolId};
 use iol_core::refusals::Refusal;
 
 impl Kernel {
-    ghost use Rattle.iol_kernel.specs.Kernel.{state_of, as_read};
+    ghost use Rattle.iol_kernel.specs.Kernel.{state_of};
 
     /// The pool in which these bytes lie once they are written to a descriptor. It is refused as that write is, but for
     /// want of room and of memory.
@@ -26,8 +25,7 @@ impl Kernel {
         bytes: &[u8],
     ) -> Result<PoolId, Refusal>
         requires { IsSound (state_of self.now) }
-        ensures passes { IfOk result (λ p. PassesTests by fd bytes.now p (state_of self.now)) }
-        ensures refused { IfErr result (λ x. FailsTests by fd bytes.now x (state_of self.now)) }
+        ensures { TestsWrite by fd bytes.now (state_of self.now) result }
     {
         let to = self.opened(by, fd)?;
         if let Descriptor::File { file, at, mode } = to {
@@ -46,13 +44,8 @@ impl Kernel {
         mode: Mode,
         bytes: &[u8],
     ) -> Result<PoolId, Refusal>
-        requires sound { IsSound (state_of self.now) }
-        requires live { (f : Reading) → is_live (as_read f self.now) by ≡ true }
-        requires to { (f : Reading) → descriptor (as_read f self.now) by fd ≡ Some (Descriptor.File file at mode) }
-        requires there { is_numbered (state_of self.now).files file ≡ true }
-        requires within { at ≤ MAX_FILE_BYTES }
-        ensures passes { IfOk result (λ p. PassesTests by fd bytes.now p (state_of self.now)) }
-        ensures refused { IfErr result (λ x. FailsTests by fd bytes.now x (state_of self.now)) }
+        requires { IsOnFile (state_of self.now) by fd file at mode }
+        ensures { TestsWrite by fd bytes.now (state_of self.now) result }
     {
         if !is_for_writing(mode) {
             return Err(Refusal::WrongMode);
@@ -71,11 +64,8 @@ impl Kernel {
         to: &Descriptor,
         bytes: &[u8],
     ) -> Result<PoolId, Refusal>
-        requires live { (f : Reading) → is_live (as_read f self.now) by ≡ true }
-        requires to { (f : Reading) → descriptor (as_read f self.now) by fd ≡ Some to.now }
-        requires no_file { calls.is_file (Some to.now) ≡ false }
-        ensures passes { IfOk result (λ p. PassesTests by fd bytes.now p (state_of self.now)) }
-        ensures refused { IfErr result (λ x. FailsTests by fd bytes.now x (state_of self.now)) }
+        requires { IsOnQueue (state_of self.now) by fd to.now }
+        ensures { TestsWrite by fd bytes.now (state_of self.now) result }
     {
         let Some(pool) = self.default_of(by) else {
             return Err(Refusal::NoPool);

@@ -9,16 +9,20 @@ use Rattle.iol_kernel.proofs.FileCalls.Named.{as_many, cache_sound, files-read_o
 use Rattle.iol_kernel.proofs.State.ReadOf.{closed-read_of}
 use Rattle.iol_kernel.proofs.kernel.Kernel.add_file.Goals as goal
 
-pub add-requires-clause-new : goal.add-requires-clause-new
-add-requires-clause-new c =
+pub add-requires : goal.add-requires
+add-requires c =
     let h = state_of c.args.self.now in
-    ap (λ (w : List ℕ). list_any (λ (x : machine.File). bytes_eq x.name w) h.files) c.as_slice.ensures ∙ has-file_called (bytes_over [] h.store) h c.args.name.now ∙ c.requires.new
+    record {
+      unnamed = ap (λ (w : List ℕ). list_any (λ (x : machine.File). bytes_eq x.name w) h.files) c.as_slice.ensures ∙ has-file_called (bytes_over [] h.store) h c.args.name.now ∙ c.requires.unnamed;
+      few = omega (arith, c.requires.few, as_many h c.requires.sound.filed, ap length (files-read_of (bytes_over [] h.store) h));
+    }
 
-pub add-requires-clause-few : goal.add-requires-clause-few
-add-requires-clause-few c = let h = state_of c.args.self.now in omega (arith, c.requires.few, as_many h c.requires.sound.filed, ap length (files-read_of (bytes_over [] h.store) h))
-
-pub returns-clause-done : goal.returns-clause-done
-returns-clause-done c =
+pub returns : goal.returns
+returns c =
     let h = state_of c.args.self.now in
-    named_as h c.args.by c.in_ok-add.field-0 c.args.pool c.args.name.now c.add.new.self.table.files (cached_of c.add.new.self.cache) c.requires.sound c.in_ok-add.ensures.number (c.in_ok-add.ensures.list ∙ ap (λ (w : List ℕ). (let x : machine.File = record { name = w; pool = c.args.pool } in h.files ++ x ∷ [])) c.as_slice.ensures) c.in_ok-add.ensures.cached c.add.ensures.orders
-    (c.add.ensures.sound h.store (cache_sound h c.requires.sound) (sym (closed-read_of (bytes_over [] h.store) h c.args.pool) ∙ c.requires.open))
+    let e = c.in_ok-add.ensures in
+    record {
+      done = named_as h c.args.by c.in_ok-add.field-0 c.args.pool c.args.name.now c.add.new.self.table.files (cached_of c.add.new.self.cache) c.requires.sound e.number (e.list ∙ ap (λ (w : List ℕ). (let x : machine.File = record { name = w; pool = c.args.pool } in h.files ++ x ∷ [])) c.as_slice.ensures) e.cached e.orders
+          (e.sound h.store (cache_sound h c.requires.sound) (sym (closed-read_of (bytes_over [] h.store) h c.args.pool) ∙ c.requires.opened));
+      err = tt;
+    }

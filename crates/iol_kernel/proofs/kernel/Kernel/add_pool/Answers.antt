@@ -7,12 +7,12 @@ use Rattle.iol_kernel.proofs.kernel.Kernel.add_pool.Goals as goal
 pub create_pool-requires : goal.create_pool-requires
 create_pool-requires c = subst (λ n. n < 1024) (length_pools-read_of _ (state_of c.args.self.now)) c.requires.few
 
-pub returns-clause-number : goal.returns-clause-number
-returns-clause-number c = λ f. c.in_ok-create_pool.ensures.number ∙ ap (λ n. n + 1) (sym (length_pools-read_of f (state_of c.args.self.now)))
+pub returns : goal.returns
+returns c =
+    let h = state_of c.args.self.now in
+    let e = c.in_ok-create_pool.ensures in
+    let added = pooled h c.create_pool.new.self c.requires.sound e.moves e.settles e.pages c.args.names e.added (subst (λ n. n < 1024) (length_pools-read_of _ h) c.requires.few) in
+    record { number = λ f. e.number ∙ ap (λ n. n + 1) (sym (length_pools-read_of f h)); added = added; chunks = e.pools; room = e.room; no_room = λ p is. absurd (cc is); late = tt; err = tt }
 
-pub returns-clause-added : goal.returns-clause-added
-returns-clause-added c = pooled (state_of c.args.self.now) c.create_pool.new.self c.requires.sound c.in_ok-create_pool.ensures.moves c.in_ok-create_pool.ensures.settles c.in_ok-create_pool.ensures.pages c.args.names c.in_ok-create_pool.ensures.added
-    (subst (λ n. n < 1024) (length_pools-read_of _ (state_of c.args.self.now)) c.requires.few)
-
-pub returns-in_err-create_pool-clause-late : goal.returns-in_err-create_pool-clause-late
-returns-in_err-create_pool-clause-late c = search (rules, length_pools-read_of)
+pub returns-in_err-create_pool : goal.returns-in_err-create_pool
+returns-in_err-create_pool c = record { number = search (rules); added = search (rules); chunks = search (rules); room = search (rules); no_room = search (rules); late = search (rules, length_pools-read_of); err = search (rules) }

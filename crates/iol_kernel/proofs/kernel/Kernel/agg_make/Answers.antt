@@ -7,7 +7,7 @@ use Rattle.iol_core.specs.declared.refusals.Refusal.TheVariants.{NoRoom}
 use Rattle.iol_kernel.specs.Kernel.{state_of, machine}
 use Rattle.iol_kernel.specs.MakingRoom.{Places}
 use Rattle.iol_kernel.specs.Readings.{bytes_over}
-use Rattle.iol_kernel.proofs.AggregateCalls.Making.{live_after, few_after, open_after, make_none, make_places}
+use Rattle.iol_kernel.proofs.AggregateCalls.Making.{may_after, make_none, make_places}
 use Rattle.iol_kernel.proofs.State.AfterRoom.{places_refused}
 use Rattle.iol_kernel.proofs.State.ReadOf.{closed-read_of}
 use Rattle.iol_kernel.proofs.kernel.Kernel.agg_make.Goals as goal
@@ -19,8 +19,8 @@ returns-in_err-pool c =
     subst (λ (r : Result ℕ Refusal). Places (λ s. agg_make s c.args.by c.args.bytes.now) (λ s t. with_agg s c.args.by t) (default_pool (machine c.args.self.now) c.args.by) (length c.args.bytes.now) h r h) is
     (places_refused (λ s. agg_make s c.args.by c.args.bytes.now) (λ s t. with_agg s c.args.by t) (default_pool (machine c.args.self.now) c.args.by) (length c.args.bytes.now) h c.in_err-pool.field-0.0 c.requires (search (rules)) (search (rules)))
 
-pub make_room_for-requires-clause-open : goal.make_room_for-requires-clause-open
-make_room_for-requires-clause-open c = sym (closed-read_of (bytes_over [] c.args.self.now.store) (state_of c.args.self.now) c.in_ok-pool.pool) ∙ c.in_ok-pool.ensures.may.opened
+pub make_room_for-requires : goal.make_room_for-requires
+make_room_for-requires c = record { sound = c.requires; opened = sym (closed-read_of (bytes_over [] c.args.self.now.store) (state_of c.args.self.now) c.in_ok-pool.pool) ∙ c.in_ok-pool.ensures.may.opened }
 
 pub returns-then-not-make_room_for : goal.returns-then-not-make_room_for
 returns-then-not-make_room_for c =
@@ -29,16 +29,10 @@ returns-then-not-make_room_for c =
     let passes = c.in_ok-pool.ensures.may in
     let room = c.make_room_for.ensures in
     subst (λ (bs : List ℕ). Places (λ s. agg_make s c.args.by bs) (λ s t. with_agg s c.args.by t) (default_pool (machine c.args.self.now) c.args.by) (length bs) h (Err (NoRoom c.in_ok-pool.pool)) k) c.as_slice-list.ensures
-    (make_none c.in_ok-pool.pool c.args.by c.as_slice-list.result.now h k room.made (room.refused c.if-not-make_room_for.true) passes.passed passes.lands (room.fits ∙ c.if-not-make_room_for.true))
+    (make_none c.in_ok-pool.pool c.args.by c.as_slice-list.result.now h k room.made (room.refused c.if-not-make_room_for.true) passes (room.fits ∙ c.if-not-make_room_for.true))
 
-pub fill_agg-requires-clause-live : goal.fill_agg-requires-clause-live
-fill_agg-requires-clause-live c = live_after c.in_ok-pool.pool (pages_for (length c.as_slice-list.result.now)) (state_of c.args.self.now) (state_of c.make_room_for.new.self) c.make_room_for.ensures.made c.args.by c.in_ok-pool.ensures.may.live
-
-pub fill_agg-requires-clause-few : goal.fill_agg-requires-clause-few
-fill_agg-requires-clause-few c = few_after c.in_ok-pool.pool (pages_for (length c.as_slice-list.result.now)) (state_of c.args.self.now) (state_of c.make_room_for.new.self) c.make_room_for.ensures.made c.args.by 1 0 c.in_ok-pool.ensures.may.few
-
-pub fill_agg-requires-clause-open : goal.fill_agg-requires-clause-open
-fill_agg-requires-clause-open c = open_after c.in_ok-pool.pool (pages_for (length c.as_slice-list.result.now)) (state_of c.args.self.now) (state_of c.make_room_for.new.self) c.make_room_for.ensures.made c.in_ok-pool.pool c.in_ok-pool.ensures.may.opened
+pub fill_agg-requires-clause-may : goal.fill_agg-requires-clause-may
+fill_agg-requires-clause-may c = may_after c.in_ok-pool.pool (pages_for (length c.as_slice-list.result.now)) (state_of c.args.self.now) (state_of c.make_room_for.new.self) c.make_room_for.ensures.made c.args.by c.as_slice-list.result.now c.in_ok-pool.pool c.in_ok-pool.ensures.may
 
 pub returns : goal.returns
 returns c =
@@ -47,8 +41,7 @@ returns c =
     let l = state_of c.fill_agg.new.self in
     let passes = c.in_ok-pool.ensures.may in
     let room = c.make_room_for.ensures in
-    let e = c.fill_agg.ensures in
     let bytes : List ℕ = c.as_slice-list.result.now in
     subst (λ (bs : List ℕ). Places (λ s. agg_make s c.args.by bs) (λ s t. with_agg s c.args.by t) (default_pool (machine c.args.self.now) c.args.by) (length bs) h c.fill_agg.result l) c.as_slice-list.ensures
-    (make_places c.in_ok-pool.pool (pages_for (length bytes)) h k room.made c.args.by bytes passes.passed passes.lands l c.fill_agg.result
-    (room.room c.if-not-make_room_for.false) (room.fits ∙ c.if-not-make_room_for.false) e.number e.placed e.made e.late e.err e.sound e.cache e.stays e.room.no_room refl)
+    (make_places c.in_ok-pool.pool (pages_for (length bytes)) h k room.made c.args.by bytes passes l c.fill_agg.result
+    (room.room c.if-not-make_room_for.false) (room.fits ∙ c.if-not-make_room_for.false) c.fill_agg.ensures refl)

@@ -5,26 +5,24 @@ use Rattle.iol_sock.specs.Table.{ConnTable, conn_in}
 use Rattle.iol_sock.proofs.AtPlace.{changed_to}
 use Rattle.iol_kernel.specs.Kernel.{state_of}
 use Rattle.iol_kernel.proofs.Connections.Connecting.{IsChanged, conn_in-found, incoming_covered, open_conn-there}
-use Rattle.iol_kernel.proofs.Connections.Hanging.{hung_changed, hung_others}
+use Rattle.iol_kernel.proofs.Connections.Hanging.{hung_changed, hung_closes}
 use Rattle.iol_kernel.proofs.kernel.Kernel.close_conn.Goals as goal
 use Rattle.iol_kernel.proofs.kernel.Kernel.close_conn.Goals.{After-close}
 
 pub close-requires-clause-there : goal.close-requires-clause-there
-close-requires-clause-there c = open_conn-there (state_of c.args.self.now).conns c.args.conn c.requires.open
+close-requires-clause-there c = open_conn-there (state_of c.args.self.now).conns c.args.conn c.requires.opened
 
 pub close-requires-clause-covered : goal.close-requires-clause-covered
 close-requires-clause-covered c =
     let h = state_of c.args.self.now in
-    incoming_covered h c.args.conn (conn_in h.conns c.args.conn) c.requires.sound (conn_in-found h.conns c.args.conn (open_conn-there h.conns c.args.conn c.requires.open))
+    incoming_covered h c.args.conn (conn_in h.conns c.args.conn) c.requires.sound (conn_in-found h.conns c.args.conn (open_conn-there h.conns c.args.conn c.requires.opened))
 
 -- it is closed, whether or not it is forgotten then
 hung : (c : After-close) → IsChanged c.args.conn (λ s. closed_on s (Some (on.Connection c.args.conn))) (state_of c.args.self.now) (record (state_of c.args.self.now) { store = c.close.new.store; conns = c.close.new.self.conns; next_conn = c.close.new.self.next })
 hung c =
     let h = state_of c.args.self.now in
     let w = c.close.new in
-    let e = c.close.ensures in
-    hung_changed h (record h { store = w.store; conns = w.self.conns; next_conn = w.self.next }) c.args.conn c.requires.sound c.requires.open c.requires.free
-    (ap (λ (t : ConnTable). record h { store = w.store; conns = t.conns; next_conn = t.next }) (changed_to e.others e.conn.closed)) e.conn.releases.moves e.conn.releases.lists e.conn.releases.frees e.conn.releases.settles
+    hung_changed h (record h { store = w.store; conns = w.self.conns; next_conn = w.self.next }) c.args.conn c.requires (ap (λ (t : ConnTable). record h { store = w.store; conns = t.conns; next_conn = t.next }) (changed_to c.close.ensures.others c.close.ensures.conn.closed)) c.close.ensures.conn.releases
 
 pub settle-requires-clause-sound : goal.settle-requires-clause-sound
 settle-requires-clause-sound c = (hung (goal.at.settle-requires-clause-sound c).After-close).sound
@@ -32,13 +30,9 @@ settle-requires-clause-sound c = (hung (goal.at.settle-requires-clause-sound c).
 pub settle-requires-clause-there : goal.settle-requires-clause-there
 settle-requires-clause-there c = (hung (goal.at.settle-requires-clause-there c).After-close).there
 
-pub returns-clause-closed : goal.returns-clause-closed
-returns-clause-closed c = (hung (goal.at.returns-clause-closed c).After-close).left (state_of c.settle.new.self) c.settle.ensures.left
-
-pub returns-clause-others : goal.returns-clause-others
-returns-clause-others c =
+pub returns : goal.returns
+returns c =
     let h = state_of c.args.self.now in
     let w = c.close.new in
-    let e = c.close.ensures in
-    hung_others h (record h { store = w.store; conns = w.self.conns; next_conn = w.self.next }) c.args.conn c.requires.sound c.requires.open c.requires.free
-    (ap (λ (t : ConnTable). record h { store = w.store; conns = t.conns; next_conn = t.next }) (changed_to e.others e.conn.closed)) e.conn.releases.moves e.conn.releases.lists e.conn.releases.frees e.conn.releases.settles (state_of c.settle.new.self) c.settle.ensures.others
+    hung_closes h (record h { store = w.store; conns = w.self.conns; next_conn = w.self.next }) c.args.conn c.requires (ap (λ (t : ConnTable). record h { store = w.store; conns = t.conns; next_conn = t.next }) (changed_to c.close.ensures.others c.close.ensures.conn.closed)) c.close.ensures.conn.releases
+    (state_of c.settle.new.self) c.settle.ensures.left c.settle.ensures.domains c.settle.ensures.others

@@ -8,16 +8,12 @@ use Rattle.iol_kernel.specs.KernelState.{read_of}
 use Rattle.iol_kernel.specs.Kernel.{state_of}
 use Rattle.iol_kernel.proofs.Queues.CloseAll.{pools-with_domain}
 use Rattle.iol_kernel.proofs.State.Effects.{fds-changed, leaves_here, leaves_then, leaves_as}
-use Rattle.iol_kernel.proofs.State.ReadOf.{live_held, fds-read_of}
-use Rattle.iol_kernel.proofs.Queues.TakenEnds.{taken-sound, taken_ends}
+use Rattle.iol_kernel.proofs.State.ReadOf.{fds-read_of}
+use Rattle.iol_kernel.proofs.Queues.TakenEnds.{all_let_go}
 use Rattle.iol_kernel.proofs.kernel.Kernel.close_fds.Goals as goal
 
-pub close_ends-requires-clause-sound : goal.close_ends-requires-clause-sound
-close_ends-requires-clause-sound c = taken-sound (state_of c.args.self.now) (domains_of c.take_fds-ends.new.self) c.args.by c.requires.sound (live_held _ (state_of c.args.self.now) c.args.by c.requires.live) c.take_fds-ends.ensures.rest
-
-pub close_ends-requires-clause-taken : goal.close_ends-requires-clause-taken
-close_ends-requires-clause-taken c = taken_ends (state_of c.args.self.now) (domains_of c.take_fds-ends.new.self) c.args.by c.deref.result.now c.requires.sound (live_held _ (state_of c.args.self.now) c.args.by c.requires.live)
-    (c.deref.ensures.value ∙ c.take_fds-ends.ensures.given) c.take_fds-ends.ensures.rest
+pub close_ends-requires : goal.close_ends-requires
+close_ends-requires c = all_let_go (state_of c.args.self.now) (domains_of c.take_fds-ends.new.self) c.args.by c.deref.result.now c.requires (c.deref.ensures.value ∙ c.take_fds-ends.ensures.given) c.take_fds-ends.ensures.rest
 
 pub returns-clause-closed : goal.returns-clause-closed
 returns-clause-closed c =
@@ -25,7 +21,7 @@ returns-clause-closed c =
     let d = c.args.by in
     let ends : List (Option Descriptor) = c.deref.result.now in
     let one = leaves_here (λ s. with_fds s d []) h (domains_of c.take_fds-ends.new.self) (λ f. fds-changed f h (domains_of c.take_fds-ends.new.self) d [] c.take_fds-ends.ensures.rest)
-    (taken-sound h (domains_of c.take_fds-ends.new.self) d c.requires.sound (live_held _ h d c.requires.live) c.take_fds-ends.ensures.rest) in
+    (all_let_go h (domains_of c.take_fds-ends.new.self) d ends c.requires (c.deref.ensures.value ∙ c.take_fds-ends.ensures.given) c.take_fds-ends.ensures.rest).sound in
     leaves_as (λ s. fold closed_on (with_fds s d []) ends) (λ s. fold closed_on (with_fds s d []) (domain s d).fds) h (state_of c.close_ends.new.self)
     (λ f. ap (λ (xs : List (Option Descriptor)). fold closed_on (with_fds (read_of f h) d []) xs) (c.deref.ensures.value ∙ c.take_fds-ends.ensures.given ∙ sym (fds-read_of f h d)))
     (leaves_then (λ s. with_fds s d []) (λ s. fold closed_on s ends) h _ (state_of c.close_ends.new.self) (λ s. pools-with_domain s d (record (domain s d) { fds = [] })) one c.close_ends.ensures.closed)

@@ -16,7 +16,7 @@ use Rattle.iol_kernel.specs.Kernel.{state_of}
 use Rattle.iol_kernel.specs.KernelState.{KernelState}
 use Rattle.iol_kernel.specs.Readings.{bytes_over}
 use Rattle.iol_kernel.proofs.FileCalls.FileCopies.{copied_as, copies_refused, copies_unmade, covers_read, frees_here}
-use Rattle.iol_kernel.proofs.FileCalls.FileReads.{file_there, numbered_here, open_at, open_there, refused_read, row_live, set_to}
+use Rattle.iol_kernel.proofs.FileCalls.FileReads.{file_for, numbered_here, open_at, open_there, refused_read, row_live, set_to}
 use Rattle.iol_kernel.proofs.FileCalls.FileServed.{counts_few, read_fits, reads_done, reads_refused}
 use Rattle.iol_kernel.proofs.FileCalls.FileTests.{read-first}
 use Rattle.iol_kernel.proofs.FileCalls.Named.{cache_sound}
@@ -25,11 +25,8 @@ use Rattle.iol_kernel.proofs.kernel.Kernel.copy_file.Given.{Over}
 use Rattle.iol_kernel.proofs.kernel.Kernel.copy_file.Goals as goal
 use Rattle.iol_kernel.proofs.kernel.Kernel.copy_file.Goals.{In_ok-test_read}
 
-pub test_read-requires-clause-live : goal.test_read-requires-clause-live
-test_read-requires-clause-live g c = c.requires.live (bytes_over [] c.args.self.now.store)
-
-pub test_read-requires-clause-there : goal.test_read-requires-clause-there
-test_read-requires-clause-there g c = file_there (open_at (state_of c.args.self.now) c.args.by c.args.fd c.args.found c.args.count c.requires.sound c.requires.live c.requires.from)
+pub test_read-requires : goal.test_read-requires
+test_read-requires g c = file_for (open_at (state_of c.args.self.now) c.args.by c.args.fd c.args.found c.args.count c.requires.sound c.requires.live c.requires.from)
 
 pub returns-in_err-test_read : goal.returns-in_err-test_read
 returns-in_err-test_read g c =
@@ -47,8 +44,8 @@ returns-in_err-test_read g c =
 held : (g : Over) (c : In_ok-test_read g) → IsOpenAt (state_of c.args.self.now) (read_at c.args.by c.args.fd c.args.found c.args.count)
 held g c = open_at (state_of c.args.self.now) c.args.by c.args.fd c.args.found c.args.count c.requires.sound c.requires.live c.requires.from
 
-pub readable-most-requires-clause-there : goal.readable-most-requires-clause-there
-readable-most-requires-clause-there g c = numbered_here (held g (goal.at.readable-most-requires-clause-there g c).In_ok-test_read)
+pub readable-most-requires : goal.readable-most-requires
+readable-most-requires g c = (file_for (held g (goal.at.readable-most-requires g c).In_ok-test_read)).file
 
 pub returns-in_err-bytes : goal.returns-in_err-bytes
 returns-in_err-bytes g c =

@@ -9,4 +9,4 @@ release_all-requires c = all_covered (state_of c.args.self.now) c.args.by c.take
 
 pub returns-clause-dropped : goal.returns-clause-dropped
 returns-clause-dropped c = aggs_dropped (state_of c.args.self.now) c.release_all.new.store (domains_of c.take_aggs-aggs.new.self) c.args.by c.take_aggs-aggs.result c.requires.sound
-    (live_held _ (state_of c.args.self.now) c.args.by c.requires.live) c.take_aggs-aggs.ensures.given c.take_aggs-aggs.ensures.rest c.release_all.ensures.moves c.release_all.ensures.lists c.release_all.ensures.frees c.release_all.ensures.settles
+    (live_held _ (state_of c.args.self.now) c.args.by c.requires.live) c.take_aggs-aggs.ensures.given c.take_aggs-aggs.ensures.rest c.release_all.ensures

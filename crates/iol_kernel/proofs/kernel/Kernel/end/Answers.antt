@@ -15,12 +15,13 @@ use Rattle.iol_kernel.proofs.AggregateCalls.GivenUp.{domain_ended}
 use Rattle.iol_kernel.proofs.State.Rows.{domain_in-changed}
 use Rattle.iol_kernel.proofs.kernel.Kernel.end.Goals as goal
 
-pub close_fds-requires-clause-live : goal.close_fds-requires-clause-live
-close_fds-requires-clause-live c =
+pub close_fds-requires : goal.close_fds-requires
+close_fds-requires c =
     let h : KernelState = state_of c.args.self.now in
     let k : KernelState = state_of c.drop_aggs.new.self in
     let live = live_held _ h c.args.by c.requires.live in
-    is_live-read_of _ k c.args.by ∙ ap (λ (x : Domain (List Slice)). x.live) (domain_in-changed h.domains k.domains c.args.by _ live c.drop_aggs.ensures.domains) ∙ live
+    let still = is_live-read_of _ k c.args.by ∙ ap (λ (x : Domain (List Slice)). x.live) (domain_in-changed h.domains k.domains c.args.by _ live c.drop_aggs.ensures.domains) ∙ live in
+    record { sound = c.drop_aggs.ensures.dropped.sound; live = still }
 
 -- what is left of it before it ends
 left_of : (h k l : KernelState) (d : ℕ) → (domain_in h.domains d).live ≡ true → k.domains ≡ with_aggs_in h.domains d [] → l.domains ≡ with_fds_in k.domains d [] → domain_in l.domains d ≡ record (domain_in h.domains d) { aggs = []; fds = [] }

@@ -13,8 +13,8 @@ returns-in-Err-clause-told g c =
 pub returns-clause-told : goal.returns-clause-told
 returns-clause-told g c =
     let x = c.in-Ok.found in
-    let told = length_told (g.B.Backing.disk c.args.backing.now) (state_of c.args.self.now) c.args.by c.args.fd x.file x.at c.length_of.result x.mode c.in-Ok.ensures.open c.length_of.ensures.is in
+    let told = length_told (g.B.Backing.disk c.args.backing.now) (state_of c.args.self.now) c.args.by c.args.fd x.file x.at c.length_of.result x.mode c.in-Ok.ensures.found.held c.length_of.ensures.is in
     search (rules, told)
 
 pub returns-clause-ends : goal.returns-clause-ends
-returns-clause-ends g c = let x = c.in-Ok.found in ends_file (g.B.Backing.disk c.args.backing.now) (state_of c.args.self.now) c.args.by c.args.fd x.file x.at x.mode c.in-Ok.ensures.open c.length_of.result c.length_of.ensures.end
+returns-clause-ends g c = let x = c.in-Ok.found in ends_file (g.B.Backing.disk c.args.backing.now) (state_of c.args.self.now) c.args.by c.args.fd x.file x.at x.mode c.in-Ok.ensures.found.held c.length_of.result c.length_of.ensures.end

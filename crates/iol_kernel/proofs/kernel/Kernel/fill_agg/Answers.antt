@@ -15,10 +15,10 @@ use Rattle.iol_kernel.proofs.kernel.Kernel.fill_agg.Goals as goal
 use Rattle.iol_kernel.proofs.kernel.Kernel.fill_agg.Goals.{After-add_agg}
 
 pub fill-requires-clause-open : goal.fill-requires-clause-open
-fill-requires-clause-open c = sym (closed-read_of _ (state_of c.args.self.now) c.args.pool) ∙ c.requires.open
+fill-requires-clause-open c = sym (closed-read_of _ (state_of c.args.self.now) c.args.pool) ∙ c.requires.may.opened
 
 pub add_agg-requires-clause-few : goal.add_agg-requires-clause-few
-add_agg-requires-clause-few c = (let few = few_kept (state_of c.args.self.now) c.args.by c.requires.few c.in_ok-reserve_aggs.ensures.same in omega (arith, few))
+add_agg-requires-clause-few c = (let few = few_kept (state_of c.args.self.now) c.args.by c.requires.may.few c.in_ok-reserve_aggs.ensures.same in omega (arith, few))
 
 -- the domain got the bytes
 added : (c : After-add_agg) → AddsText c.args.self.now.store c.fill.new.store (domains_of c.args.self.now.domains) (domains_of c.add_agg.new.self) c.args.by (labelled c.args.pool c.args.bytes.now) (lowest_of c.args.self.now.store c.args.pool (length c.args.bytes.now))
@@ -48,8 +48,8 @@ returns c =
       placed = placed-machine h t ds c.args.by _ _ c.requires.sound all;
       made = placed_alone h t ds c.args.by c.args.pool (length c.args.bytes.now) _ c.requires.sound all;
       cache = refl;
-      sound = placed-sound h t ds c.args.by _ _ c.requires.sound (live_held _ h c.args.by c.requires.live) (omega (arith, few_aggs (bytes_over [] h.store) h c.args.by 1 0 c.requires.few))
-          (omega (arith, length-map {B = ℕ × ℕ} c.args.bytes.now (λ b. (b, c.args.pool)), c.requires.small)) all;
+      sound = placed-sound h t ds c.args.by _ _ c.requires.sound (live_held _ h c.args.by c.requires.may.live) (omega (arith, few_aggs (bytes_over [] h.store) h c.args.by 1 0 c.requires.may.few))
+          (omega (arith, length-map {B = ℕ × ℕ} c.args.bytes.now (λ b. (b, c.args.pool)), c.requires.may.small)) all;
       stays = e.moves.stays;
       room = record { room = e.room; no_room = λ p is. absurd (cc is) };
       late = tt;

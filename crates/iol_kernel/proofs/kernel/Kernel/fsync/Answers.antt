@@ -26,4 +26,4 @@ returns-clause-syncs g c =
     let h = state_of c.args.self.now in
     let x = g.B.Backing.disk c.args.backing.now in
     let y = g.B.Backing.disk c.sync.new.backing in
-    subst (λ n. SyncsFile n x h c.sync.result y (state_of c.sync.new.self)) (sym (ap (λ (o : Option Descriptor). unwrap_or (option_map (λ x. x.0) (open_on o)) 0) (c.in-Ok.ensures.open.from (bytes_over [] h.store)))) c.sync.ensures.syncs
+    subst (λ n. SyncsFile n x h c.sync.result y (state_of c.sync.new.self)) (sym (ap (λ (o : Option Descriptor). unwrap_or (option_map (λ x. x.0) (open_on o)) 0) (c.in-Ok.ensures.found.held.from (bytes_over [] h.store)))) c.sync.ensures.syncs

@@ -36,8 +36,8 @@ returns-in-Some-clause-reads g c =
     reads_file (state_of c.args.self.now) (state_of c.read_file.new.self) c.args.by c.args.fd c.args.count c.in-Some.found c.read_file.result (g.B.Backing.disk c.args.backing.now) (g.B.Backing.disk c.read_file.new.backing)
     (on_file g (goal.at.returns-in-Some-clause-reads g c).In-Some) c.read_file.ensures
 
-pub read_queue-requires-clause-held : goal.read_queue-requires-clause-held
-read_queue-requires-clause-held g c = opened g (goal.at.read_queue-requires-clause-held g c).In_ok-from
+pub read_queue-requires : goal.read_queue-requires
+read_queue-requires g c = record { held = opened g (goal.at.read_queue-requires g c).In_ok-from; no_file = search (rules) }
 
 pub returns-in-None-clause-serves : goal.returns-in-None-clause-serves
 returns-in-None-clause-serves g c =

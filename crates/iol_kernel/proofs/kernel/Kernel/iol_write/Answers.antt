@@ -1,14 +1,13 @@
-use Rattle.std.proofs.Common.{[], ◌∙◌, Err, Some, ap, arith, sym, subst, Option}
+use Rattle.std.proofs.Common.{[], Err, sym, subst, Option}
 use Rattle.iol_core.specs.Calls.Writing as calls
 use Rattle.iol_core.specs.declared.descriptors.Descriptor.{Descriptor}
 use Rattle.iol_kernel.specs.Kernel.{state_of}
 use Rattle.iol_kernel.specs.Readings.{bytes_over}
+use Rattle.iol_kernel.specs.WritingAggs.{MayWriteAgg}
 use Rattle.iol_kernel.specs.WritingFiles.{WritesOn}
 use Rattle.iol_core.specs.State.{descriptor}
 use Rattle.iol_kernel.specs.KernelState.{machine_of}
 use Rattle.iol_kernel.proofs.State.Serving.{carried_serves}
-use Rattle.iol_kernel.proofs.State.ReadOf.{length_text-read_of}
-use Rattle.iol_kernel.proofs.Queues.Passed.{agg_short}
 use Rattle.iol_kernel.proofs.FileCalls.WrittenOver.{queued_on, refused_on}
 use Rattle.iol_kernel.proofs.kernel.Kernel.iol_write.Goals as goal
 
@@ -28,14 +27,9 @@ returns c =
     let k = state_of c.push.new.self in
     record {
       serves = carried_serves (λ s. calls.iol_write s c.args.by c.args.fd c.args.agg) h k c.push.result c.requires c.push.ensures;
-      writes = subst (λ (o : Option Descriptor). WritesOn c.args.by c.args.fd c.args.agg o h c.push.result k) (sym (c.in-Ok.ensures.open (bytes_over [] h.store)))
+      writes = subst (λ (o : Option Descriptor). WritesOn c.args.by c.args.fd c.args.agg o h c.push.result k) (sym (c.in-Ok.ensures.may.held.from (bytes_over [] h.store)))
           (queued_on c.args.by c.args.fd c.args.agg h k c.push.result c.in-Ok.to c.in_default.not-File c.push.ensures);
     }
 
-pub write_over-requires-clause-short : goal.write_over-requires-clause-short
-write_over-requires-clause-short c =
-    let h = state_of c.args.self.now in
-    let f = bytes_over [] h.store in
-    let e = c.in-Ok.ensures in
-    let fits = agg_short (machine_of [] h) c.args.by c.args.fd c.args.agg (e.passed f) c.in-File.file c.in-File.at c.in-File.mode (e.open f ∙ ap (λ (x : Descriptor). Some x) c.in-File.is) in
-    omega (arith, fits, length_text-read_of f h c.args.by c.args.agg)
+pub write_over-requires : goal.write_over-requires
+write_over-requires c = subst (λ (x : Descriptor). MayWriteAgg c.args.by c.args.fd c.args.agg x (state_of c.args.self.now)) c.in-File.is c.in-Ok.ensures.may

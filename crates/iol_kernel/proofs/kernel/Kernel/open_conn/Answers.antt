@@ -3,6 +3,7 @@ use Rattle.iol_desc.specs.Tables.{domains_of}
 use Rattle.iol_kernel.specs.Kernel.{state_of}
 use Rattle.iol_kernel.specs.Readings.{bytes_over}
 use Rattle.iol_kernel.proofs.Connections.Accepting.{waiter_there, waiter_waits, accepted_answers}
+use Rattle.iol_kernel.proofs.State.Answered.{attempted}
 use Rattle.iol_kernel.proofs.Queues.Opening.{few_open_held}
 use Rattle.iol_kernel.proofs.State.ReadOf.{live_held}
 use Rattle.iol_kernel.proofs.kernel.Kernel.open_conn.Goals as goal
@@ -16,8 +17,8 @@ accept-requires-clause-there c = waiter_there (state_of c.args.self.now) c.args.
 pub accept-requires-clause-waits : goal.accept-requires-clause-waits
 accept-requires-clause-waits c = waiter_waits (state_of c.args.self.now) c.args.by c.args.conn c.requires.sound c.requires.waits
 
-pub returns-clause-done : goal.returns-clause-done
-returns-clause-done c =
+pub returns : goal.returns
+returns c =
     let h = state_of c.args.self.now in
-    accepted_answers h c.args.by c.args.conn c.requires.sound c.requires.waits (domains_of c.add_fd.new.self) (live_held _ h c.args.by c.requires.live) c.in_ok-number.ensures.opened
-    c.in_ok-number.number c.accept.new.self.next c.accept.new.self.conns c.in_ok-number.ensures.number c.accept.ensures.accepted c.accept.ensures.next
+    attempted (accepted_answers h c.args.by c.args.conn c.requires.sound c.requires.waits (domains_of c.add_fd.new.self) (live_held _ h c.args.by c.requires.live) c.in_ok-number.ensures.opened
+    c.in_ok-number.number c.accept.new.self.next c.accept.new.self.conns c.in_ok-number.ensures.number c.accept.ensures.accepted c.accept.ensures.next)

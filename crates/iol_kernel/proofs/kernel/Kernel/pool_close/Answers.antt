@@ -36,18 +36,18 @@ close_left s by p b is busy = last_left (NoDomain when not (machine.is_live s by
 pub returns-in_err-test_pool-clause-pool_close : goal.returns-in_err-test_pool-clause-pool_close
 returns-in_err-test_pool-clause-pool_close c =
     let y = c.in_err-test_pool.field-0.0 in
-    let done = kept_refused (λ s. calls.pool_close s c.args.by c.args.pool) (state_of c.args.self.now) y c.requires (λ f. close_refused (as_read f c.args.self.now) c.args.by c.args.pool y (c.in_err-test_pool.ensures.refused f)) in
+    let done = kept_refused (λ s. calls.pool_close s c.args.by c.args.pool) (state_of c.args.self.now) y c.requires (λ f. close_refused (as_read f c.args.self.now) c.args.by c.args.pool y (c.in_err-test_pool.ensures.refused.refused f)) in
     search (rules, done)
 
 pub returns-then-is_busy-clause-pool_close : goal.returns-then-is_busy-clause-pool_close
 returns-then-is_busy-clause-pool_close c =
     kept_refused (λ s. calls.pool_close s c.args.by c.args.pool) (state_of c.args.self.now) (PoolBusy c.args.pool) c.requires
-    (λ f. close_left (as_read f c.args.self.now) c.args.by c.args.pool true (c.in_ok-test_pool.ensures.passed f) (sym (c.is_busy.ensures f) ∙ c.if-is_busy.true))
+    (λ f. close_left (as_read f c.args.self.now) c.args.by c.args.pool true (c.in_ok-test_pool.ensures.may.passed f) (sym (c.is_busy.ensures f) ∙ c.if-is_busy.true))
 
 pub returns-clause-pool_close : goal.returns-clause-pool_close
 returns-clause-pool_close c =
     let e = c.end_pool.ensures in
-    let passed = λ (f : Reading). close_left (as_read f c.args.self.now) c.args.by c.args.pool false (c.in_ok-test_pool.ensures.passed f) (sym (c.is_busy.ensures f) ∙ c.if-is_busy.false) in
+    let passed = λ (f : Reading). close_left (as_read f c.args.self.now) c.args.by c.args.pool false (c.in_ok-test_pool.ensures.may.passed f) (sym (c.is_busy.ensures f) ∙ c.if-is_busy.false) in
     record {
       step = λ stored. (passed (bytes_over stored c.args.self.now.store), refl, e.bytes stored);
       places = λ f keeps. (passed f, refl, e.places f keeps);

@@ -10,15 +10,14 @@ use Rattle.iol_kernel.specs.Putting.{MayPut}
 use Rattle.iol_kernel.specs.Readings.{Reading, bytes_over}
 use Rattle.iol_kernel.proofs.Connections.ConnQueues.{conn_there_held}
 use Rattle.iol_kernel.proofs.Connections.Grown.{kept_table}
-use Rattle.iol_kernel.proofs.Queues.Queued.{may_still, write_none, write_places}
+use Rattle.iol_kernel.proofs.Queues.Queued.{may_place, may_still, write_none, write_places}
 use Rattle.iol_kernel.proofs.Queues.Queueing.{writing_held}
 use Rattle.iol_kernel.proofs.Queues.Written.{fills, kept_pipes, sends}
-use Rattle.iol_kernel.proofs.State.ReadOf.{closed-read_of}
 use Rattle.iol_kernel.proofs.kernel.Kernel.put.Goals as goal
 use Rattle.iol_kernel.proofs.kernel.Kernel.put.Goals.{After-fitting-count, In-Connection, In-WriteEnd}
 
-pub make_room_for-requires-clause-open : goal.make_room_for-requires-clause-open
-make_room_for-requires-clause-open c = sym (closed-read_of (bytes_over [] c.args.self.now.store) (state_of c.args.self.now) c.args.pool) ∙ c.requires.may.passes.opened
+pub make_room_for-requires : goal.make_room_for-requires
+make_room_for-requires c = may_place c.requires.may
 
 -- the answer is how many fit
 counted : (c : After-fitting-count) (f : Reading) → (write (read_of f (state_of c.args.self.now)) c.args.by c.args.fd c.args.bytes.now).answer ≡ c.fitting-count.result
@@ -44,7 +43,7 @@ to_conn c =
     (may_still c.args.by c.args.fd c.args.to c.args.pool c.fitting-count.result c.args.bytes.now (state_of c.args.self.now) k c.requires.may c.make_room_for.ensures.made)
 
 pub fill-requires-clause-open : goal.fill-requires-clause-open
-fill-requires-clause-open c = sym (closed-read_of (bytes_over [] c.make_room_for.new.self.store) (state_of c.make_room_for.new.self) c.args.pool) ∙ (to_pipe (goal.at.fill-requires-clause-open c).In-WriteEnd).passes.opened
+fill-requires-clause-open c = (may_place (to_pipe (goal.at.fill-requires-clause-open c).In-WriteEnd)).opened
 
 pub fill-requires-clause-writing : goal.fill-requires-clause-writing
 fill-requires-clause-writing c =
@@ -69,7 +68,7 @@ write-requires-clause-there c =
     conn_there_held (state_of c.make_room_for.new.self) c.args.by c.args.fd c.in-Connection.conn may.sound may.to
 
 pub write-requires-clause-pool : goal.write-requires-clause-pool
-write-requires-clause-pool c = sym (closed-read_of (bytes_over [] c.make_room_for.new.self.store) (state_of c.make_room_for.new.self) c.args.pool) ∙ (to_conn (goal.at.write-requires-clause-pool c).In-Connection).passes.opened
+write-requires-clause-pool c = (may_place (to_conn (goal.at.write-requires-clause-pool c).In-Connection)).opened
 
 pub returns-in-Connection : goal.returns-in-Connection
 returns-in-Connection c =

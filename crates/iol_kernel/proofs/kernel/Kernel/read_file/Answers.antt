@@ -8,7 +8,7 @@ use Rattle.iol_kernel.specs.FileReading.{TakesFromFile, moved_on, read_at}
 use Rattle.iol_kernel.specs.Kernel.{state_of, machine}
 use Rattle.iol_kernel.specs.Readings.{bytes_over}
 use Rattle.iol_kernel.proofs.State.Effects.{few_aggs, few_numbers}
-use Rattle.iol_kernel.proofs.FileCalls.FileReads.{agg_added, file_there, given_as, live_moved, live_there, next_moved, numbered_here, open_there, refused_iol_read, row_live, set_to}
+use Rattle.iol_kernel.proofs.FileCalls.FileReads.{agg_added, file_for, given_as, live_moved, live_there, next_moved, numbered_here, open_there, refused_iol_read, row_live, set_to}
 use Rattle.iol_kernel.proofs.FileCalls.FileServed.{counts_few, read_fits, reads_done, reads_refused, takes_nothing, takes_unmade}
 use Rattle.iol_kernel.proofs.FileCalls.FileTests.{iol_read-first, read_few}
 use Rattle.iol_kernel.proofs.FileCalls.Named.{cache_sound}
@@ -16,11 +16,8 @@ use Rattle.iol_kernel.proofs.kernel.Kernel.read_file.Given.{Over}
 use Rattle.iol_kernel.proofs.kernel.Kernel.read_file.Goals as goal
 use Rattle.iol_kernel.proofs.kernel.Kernel.read_file.Goals.{After-set_fd}
 
-pub test_read-requires-clause-live : goal.test_read-requires-clause-live
-test_read-requires-clause-live g c = c.requires.is.live (bytes_over [] c.args.self.now.store)
-
-pub test_read-requires-clause-there : goal.test_read-requires-clause-there
-test_read-requires-clause-there g c = file_there c.requires
+pub test_read-requires : goal.test_read-requires
+test_read-requires g c = file_for c.requires
 
 pub returns-in_err-test_read : goal.returns-in_err-test_read
 returns-in_err-test_read g c =

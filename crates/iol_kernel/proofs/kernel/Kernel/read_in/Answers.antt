@@ -1,10 +1,11 @@
-use Rattle.std.proofs.Common.{◌≡◌, ap, rules, true, false}
+use Rattle.std.proofs.Common.{◌≡◌, ap, refl, rules, subst, sym, true, false}
 use Rattle.iol_sock.specs.Table.{ConnTable, conn_in}
 use Rattle.iol_sock.proofs.AtPlace.{changed_to}
 use Rattle.iol_kernel.specs.Kernel.{state_of}
-use Rattle.iol_kernel.specs.KernelState.{KernelState}
+use Rattle.iol_kernel.specs.KernelState.{KernelState, IsSound}
 use Rattle.iol_kernel.proofs.Connections.Borrowing.{BroughtIn, brought_in, read_passed, read_refused, read_room}
 use Rattle.iol_kernel.proofs.Connections.Connecting.{conn_is, conn_open, found_conn}
+use Rattle.iol_kernel.proofs.State.Stay.{stays_equal}
 use Rattle.iol_kernel.proofs.kernel.Kernel.read_in.Given.{Over}
 use Rattle.iol_kernel.proofs.kernel.Kernel.read_in.Goals as goal
 use Rattle.iol_kernel.proofs.kernel.Kernel.read_in.Goals.{In_ok-arrive_from}
@@ -17,32 +18,6 @@ arrive_from-requires-clause-pool g c =
     let h = state_of c.args.self.now in
     conn_open h c.args.conn (conn_in h.conns c.args.conn) c.requires.sound (found_conn h c.args.conn c.requires.there)
 
-pub returns-clause-refuses : goal.returns-clause-refuses
-returns-clause-refuses g c =
-    let h = state_of c.args.self.now in
-    let there = conn_is h c.args.conn c.requires.there in
-    let e = c.in_ok-arrive_from.ensures.conn in
-    record { passed = read_passed h c.args.conn c.args.max there e.passed; refused = tt; room = read_room h c.args.conn c.args.max there true e.room.room; no_room = λ p is. absurd (cc is) }
-
-pub returns-in_err-arrive_from-clause-refuses : goal.returns-in_err-arrive_from-clause-refuses
-returns-in_err-arrive_from-clause-refuses g c =
-    let h = state_of c.args.self.now in
-    let there = conn_is h c.args.conn c.requires.there in
-    let e = c.in_err-arrive_from.ensures.conn in
-    let told = e.refused in
-    let refused = read_refused h c.args.conn c.args.max there c.in_err-arrive_from.field-0.0 (search (rules, told)) in
-    record { passed = search (rules); refused = search (rules, refused); room = search (rules); no_room = λ p is. read_room h c.args.conn c.args.max there false (e.room.no_room p (search (rules, is))) }
-
-pub returns-in_err-arrive_from-clause-err : goal.returns-in_err-arrive_from-clause-err
-returns-in_err-arrive_from-clause-err g c =
-    let h = state_of c.args.self.now in
-    let w = c.arrive_from.new in
-    let k : KernelState = record h { store = w.store; conns = w.self.conns; next_conn = w.self.next } in
-    let e = c.in_err-arrive_from.ensures in
-    let table = e.others.same e.conn.err.0 in
-    let same : k ≡ h = λ i. record h { store = e.conn.err.1 i; conns = (table i).conns; next_conn = (table i).next } in
-    search (rules, same)
-
 -- what the read brought in
 brought : (g : Over) (c : In_ok-arrive_from g) → BroughtIn (state_of c.args.self.now) (record (state_of c.args.self.now) { store = c.arrive_from.new.store; conns = c.arrive_from.new.self.conns; next_conn = c.arrive_from.new.self.next }) c.args.conn c.args.max c.in_ok-arrive_from.field-0.taken (g.R.Read.remaining c.args.reader.now) (g.R.Read.remaining c.arrive_from.new.reader)
 brought g c =
@@ -52,19 +27,44 @@ brought g c =
     brought_in h (record h { store = w.store; conns = w.self.conns; next_conn = w.self.next }) c.args.conn c.args.max c.in_ok-arrive_from.field-0.taken (g.R.Read.remaining c.args.reader.now) (g.R.Read.remaining w.reader) c.requires.sound (conn_is h c.args.conn c.requires.there) e.conn.passed e.conn.told.most e.conn.read
     (ap (λ (t : ConnTable). record h { store = w.store; conns = t.conns; next_conn = t.next }) (changed_to {z = record (conn_in h.conns c.args.conn) { incoming = (conn_in w.self.conns c.args.conn).incoming }} e.others e.conn.others))
 
-pub returns-clause-read : goal.returns-clause-read
-returns-clause-read g c = (brought g (goal.at.returns-clause-read g c).In_ok-arrive_from).takes
+pub returns-clause-takes : goal.returns-clause-takes
+returns-clause-takes g c =
+    let h = state_of c.args.self.now in
+    let there = conn_is h c.args.conn c.requires.there in
+    let e = c.in_ok-arrive_from.ensures.conn in
+    let told = e.told in
+    let got = brought g (goal.at.returns-clause-takes g c).In_ok-arrive_from in
+    record {
+      refuses = record { passed = read_passed h c.args.conn c.args.max there e.passed; refused = tt; room = read_room h c.args.conn c.args.max there true e.room.room; no_room = λ p is. absurd (cc is) };
+      read = got.takes;
+      made = got.made;
+      told = record { most = got.most; some = told.some; either = told.either; ended = told.ended; failed = told.failed };
+      none = got.none;
+      cache = refl;
+      err = tt;
+      sound = got.sound;
+      stays = e.read.added.moves.stays;
+    }
 
-pub returns-clause-made : goal.returns-clause-made
-returns-clause-made g c = (brought g (goal.at.returns-clause-made g c).In_ok-arrive_from).made
-
-pub returns-clause-told : goal.returns-clause-told
-returns-clause-told g c =
-    let told = c.in_ok-arrive_from.ensures.conn.told in
-    record { most = (brought g (goal.at.returns-clause-told g c).In_ok-arrive_from).most; some = told.some; either = told.either; ended = told.ended; failed = told.failed }
-
-pub returns-clause-none : goal.returns-clause-none
-returns-clause-none g c = (brought g (goal.at.returns-clause-none g c).In_ok-arrive_from).none
-
-pub returns-clause-sound : goal.returns-clause-sound
-returns-clause-sound g c = (brought g (goal.at.returns-clause-sound g c).In_ok-arrive_from).sound
+pub returns-in_err-arrive_from-clause-takes : goal.returns-in_err-arrive_from-clause-takes
+returns-in_err-arrive_from-clause-takes g c =
+    let h = state_of c.args.self.now in
+    let w = c.arrive_from.new in
+    let k : KernelState = record h { store = w.store; conns = w.self.conns; next_conn = w.self.next } in
+    let there = conn_is h c.args.conn c.requires.there in
+    let e = c.in_err-arrive_from.ensures in
+    let told = e.conn.refused in
+    let table = e.others.same e.conn.err.0 in
+    let same : k ≡ h = λ i. record h { store = e.conn.err.1 i; conns = (table i).conns; next_conn = (table i).next } in
+    let refused = read_refused h c.args.conn c.args.max there c.in_err-arrive_from.field-0.0 (search (rules, told)) in
+    record {
+      refuses = record { passed = search (rules); refused = search (rules, refused); room = search (rules); no_room = λ p is. read_room h c.args.conn c.args.max there false (e.conn.room.no_room p (search (rules, is))) };
+      read = search (rules);
+      made = search (rules);
+      told = search (rules);
+      none = search (rules);
+      cache = refl;
+      err = search (rules, same);
+      sound = subst IsSound (sym same) c.requires.sound;
+      stays = stays_equal h.store w.store e.conn.err.1;
+    }

@@ -5,10 +5,14 @@ use Rattle.iol_kernel.specs.Readings.{bytes_over}
 use Rattle.iol_kernel.proofs.Queues.Opening.{end_held}
 use Rattle.iol_kernel.proofs.kernel.Kernel.read_queue.Goals as goal
 
-pub take-requires-clause-source : goal.take-requires-clause-source
-take-requires-clause-source c =
+pub take-requires : goal.take-requires
+take-requires c =
     let h = state_of c.args.self.now in
     let f = bytes_over [] h.store in
     let held = c.requires.held in
     let readable : can_read (Some c.args.from.now) ≡ true = search (rules) in
-    record { sound = held.sound; opened = end_held f h c.args.by c.args.fd c.args.from.now held.sound (held.from f); readable = readable; no_file = c.requires.no_file }
+    record {
+      held = held;
+      source = record { sound = held.sound; opened = end_held f h c.args.by c.args.fd c.args.from.now held.sound (held.from f); readable = readable; no_file = c.requires.no_file };
+      few = search (rules);
+    }

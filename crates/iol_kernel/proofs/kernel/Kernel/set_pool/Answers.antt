@@ -1,5 +1,4 @@
-use Rattle.std.proofs.Common.{rules, ap}
-use Rattle.std.specs.Prelude.{Err}
+use Rattle.std.proofs.Common.{rules}
 use Rattle.iol_core.specs.Calls.Pools as calls
 use Rattle.iol_kernel.specs.Kernel.{state_of}
 use Rattle.iol_kernel.proofs.State.Carried.{carried_done, carried_refused}
@@ -7,9 +6,9 @@ use Rattle.iol_kernel.proofs.kernel.Kernel.set_pool.Goals as goal
 
 pub returns-in_err-test_pool : goal.returns-in_err-test_pool
 returns-in_err-test_pool c =
-    let e = c.in_err-test_pool.ensures in
-    let done = carried_refused (λ s. calls.set_pool s c.args.by c.args.pool) (state_of c.args.self.now) c.in_err-test_pool.field-0.0 c.requires e.refused (λ p is. e.roomy p (ap Err is)) in
+    let e = c.in_err-test_pool.ensures.refused in
+    let done = carried_refused (λ s. calls.set_pool s c.args.by c.args.pool) (state_of c.args.self.now) c.in_err-test_pool.field-0.0 c.requires e.refused e.roomy in
     search (rules, done)
 
 pub returns : goal.returns
-returns c = carried_done (λ s. calls.set_pool s c.args.by c.args.pool) (state_of c.args.self.now) (state_of c.set_default.new.self) c.in_ok-test_pool.ensures.passed tt c.set_default.ensures
+returns c = carried_done (λ s. calls.set_pool s c.args.by c.args.pool) (state_of c.args.self.now) (state_of c.set_default.new.self) c.in_ok-test_pool.ensures.may.passed tt c.set_default.ensures

@@ -1,4 +1,4 @@
-use Rattle.std.proofs.Common.{◌≡◌, ◌∙◌, List, sym, subst, rules, true}
+use Rattle.std.proofs.Common.{◌≡◌, ◌∙◌, List, refl, sym, subst, rules, true}
 use Rattle.iol_core.specs.declared.descriptors.Descriptor.TheVariants as on
 use Rattle.iol_hold.specs.declared.slices.Slice.{Slice}
 use Rattle.iol_hold.proofs.Reading.{readable_joined}
@@ -11,8 +11,12 @@ use Rattle.iol_kernel.proofs.kernel.Kernel.settle.Goals.{After-forget-over}
 pub release-requires : goal.release-requires
 release-requires c = conn_covered (state_of c.args.self.now) c.args.conn c.forget-over.result c.requires.sound (sym c.forget-over.ensures.given)
 
-pub returns-then-not-is_over-clause-left : goal.returns-then-not-is_over-clause-left
-returns-then-not-is_over-clause-left c = settled_stays (state_of c.args.self.now) c.args.conn c.in-Some.found.now c.requires.sound (sym c.in-Some.ensures) (search (rules))
+pub returns-then-not-is_over : goal.returns-then-not-is_over
+returns-then-not-is_over c = record {
+  left = settled_stays (state_of c.args.self.now) c.args.conn c.in-Some.found.now c.requires.sound (sym c.in-Some.ensures) (search (rules));
+  domains = refl;
+  others = record { each = λ e differ open'. open' };
+}
 
 -- what is forgotten was over
 over : (c : After-forget-over) → is_over c.forget-over.result ≡ true
@@ -21,19 +25,17 @@ over c =
     let e : is_over c.in-Some.found.now ≡ true = search (rules) in
     subst (λ (y : Conn (List Slice)). is_over y ≡ true) (sym same) e
 
-pub returns-clause-left : goal.returns-clause-left
-returns-clause-left c =
+pub returns : goal.returns
+returns c =
     let h = state_of c.args.self.now in
     let x : Conn (List Slice) = c.forget-over.result in
     let found = sym c.forget-over.ensures.given in
     let good = conn_readable h c.args.conn x c.requires.sound found in
+    let gone = over (goal.at.returns c).After-forget-over in
     let r = c.release.ensures in
-    settled_as h c.args.conn x c.requires.sound found c.release.new.store (over (goal.at.returns-clause-left c).After-forget-over) r.moves r.lists r.frees (r.settles (readable_joined good.0 good.1) c.requires.sound.settled)
-    c.forget-over.new.self.conns c.forget-over.new.self.next c.forget-over.ensures.rest c.forget-over.ensures.next
-
-pub returns-then-not-is_over-clause-others : goal.returns-then-not-is_over-clause-others
-returns-then-not-is_over-clause-others c = record { each = λ e differ open'. open' }
-
-pub returns-clause-others : goal.returns-clause-others
-returns-clause-others c = gone_keeps (state_of c.args.self.now) c.args.conn c.forget-over.result c.requires.sound (sym c.forget-over.ensures.given) (over (goal.at.returns-clause-others c).After-forget-over)
-    (on.Connection c.args.conn) c.forget-over.new.self.conns c.forget-over.new.self.next c.forget-over.ensures.rest
+    record {
+      left = settled_as h c.args.conn x c.requires.sound found c.release.new.store gone r.moves r.lists r.frees (r.settles (readable_joined good.0 good.1) c.requires.sound.settled)
+          c.forget-over.new.self.conns c.forget-over.new.self.next c.forget-over.ensures.rest c.forget-over.ensures.next;
+      domains = refl;
+      others = gone_keeps h c.args.conn x c.requires.sound found gone (on.Connection c.args.conn) c.forget-over.new.self.conns c.forget-over.new.self.next c.forget-over.ensures.rest;
+    }

@@ -15,10 +15,11 @@ add_agg-requires-clause-few c = (let few = few_kept (state_of c.args.self.now) c
 pub add_agg-requires-clause-room : goal.add_agg-requires-clause-room
 add_agg-requires-clause-room c = omega (arith, ap (λ t. (row_in t c.args.by).room) c.in_ok-agg.ensures.table, c.in_ok-reserve_aggs.ensures.room)
 
-pub returns-clause-done : goal.returns-clause-done
-returns-clause-done c =
+pub returns : goal.returns
+returns c =
     let h = state_of c.args.self.now in
     let old : KernelState = record h { domains = domains_of c.reserve_aggs.new.self } in
-    front_added h old (state_of c.front.new.self) c.args.from.now c.args.by c.args.fd c.args.n c.add_agg.result c.in_ok-agg.agg (domains_of c.add_agg.new.self)
+    let made = front_added h old (state_of c.front.new.self) c.args.from.now c.args.by c.args.fd c.args.n c.add_agg.result c.in_ok-agg.agg (domains_of c.add_agg.new.self)
     (ap (λ (ds : List (Domain (List Slice))). record h { domains = ds }) c.in_ok-reserve_aggs.ensures.same) (ap domains_of c.in_ok-agg.ensures.table ∙ c.in_ok-reserve_aggs.ensures.same) c.in_ok-agg.ensures.given c.requires.held
-    (omega (arith, few_aggs (bytes_over [] h.store) h c.args.by 1 0 c.requires.few)) c.add_agg.ensures.number c.add_agg.ensures.added
+    (omega (arith, few_aggs (bytes_over [] h.store) h c.args.by 1 0 c.requires.few)) c.add_agg.ensures.number c.add_agg.ensures.added in
+    record { done = made; err = tt }

@@ -1,0 +1,51 @@
+-- Pools are made and used, admit a domain and are closed: what these calls want and do.
+use Rattle.std.specs.Prelude.{◌≡◌, ℕ, ◌+◌, ◌<◌, ◌≤◌, length, true, false, List, [], ◌∷◌, ◌++◌, None, Result, Err, IfOk, IfErr, OnOk, OnErr}
+use Rattle.iol_core.specs.Meaning.{WantOfRoom}
+use Rattle.iol_core.specs.Prelude.{first}
+use Rattle.iol_core.specs.State.{is_live, is_pool, pool}
+use Rattle.iol_core.specs.Calls.Pools.{distinct, has_place, is_busy, pool_create, set_pool}
+use Rattle.iol_core.specs.declared.limits.TheConstants.{MAX_POOLS}
+use Rattle.iol_core.specs.declared.refusals.Refusal.{Refusal}
+use Rattle.iol_core.specs.declared.refusals.Refusal.TheVariants.{NoRoom}
+use Rattle.iol_arena.specs.Chunks.{free_chunks}
+use Rattle.iol_pool.specs.Pools.{AddsPool}
+use Rattle.iol_kernel.specs.Calls.{Leaves}
+use Rattle.iol_kernel.specs.KernelState.{KernelState, IsSound, machine_of, read_of}
+use Rattle.iol_kernel.specs.Readings.{Reading}
+
+-- A domain lives, and may place in the pool, or close it: it is open, and names the domain.
+pub record MayUse (d p : ℕ) (h : KernelState) : Type 0 where
+  pub passed : (f : Reading) → first (set_pool (read_of f h) d p).refusals ≡ None
+  pub live : is_live (machine_of [] h) d ≡ true
+  pub there : is_pool (machine_of [] h) p ≡ true
+
+-- A domain may make a pool of n chunks for these domains of a list, each once.
+pub record MayCreate (d n : ℕ) (list names : List ℕ) (h : KernelState) : Type 0 where
+  pub passed : (f : Reading) → first (pool_create (read_of f h) d n list).refusals ≡ None
+  pub few : (f : Reading) → length (read_of f h).pools < MAX_POOLS
+  pub each_once : names ≡ distinct list
+
+-- A pool of n chunks comes, for these domains. It comes only where n chunks are free, and is refused for want of room only
+-- where they are not. A refusal, for want of room or memory alone, changes nothing.
+pub record Creates (n : ℕ) (names : List ℕ) (old : KernelState) (r : Result ℕ Refusal)
+    (new : KernelState) : Type 0 where
+  pub number : IfOk r (λ p. (f : Reading) → p ≡ length (read_of f old).pools + 1)
+  pub added : OnOk r (Leaves (λ s.
+      record s { pools = s.pools ++ record { domains = names; closed = false } ∷ [] }) old new)
+  pub chunks : OnOk r (AddsPool old.store.arena new.store.arena old.store.pools new.store.pools n names)
+  pub room : OnOk r (n ≤ length (free_chunks old.store.arena))
+  pub no_room : (p : ℕ) → r ≡ Err (NoRoom p) → length (free_chunks old.store.arena) < n
+  pub late : IfErr r (λ x. (f : Reading) → WantOfRoom (length (read_of f old).pools + 1) x)
+  pub err : OnErr r (new ≡ old)
+
+-- Between two events: the pool's list names the domain, or has a place for it.
+pub record MayAdmit (p d : ℕ) (h : KernelState) : Type 0 where
+  pub sound : IsSound h
+  pub there : is_pool (machine_of [] h) p ≡ true
+  pub place : has_place (pool (machine_of [] h) p).domains d ≡ true
+
+-- Between two events: the pool is there, and no file and no connection is of it.
+pub record IsIdle (h : KernelState) (p : ℕ) : Type 0 where
+  pub sound : IsSound h
+  pub there : is_pool (machine_of [] h) p ≡ true
+  pub idle : (f : Reading) → is_busy (read_of f h) p ≡ false
