@@ -78,7 +78,8 @@ pub record QueuesNew (s t : Stored) (x y : Conn (List Slice)) (pool : ℕ) (byte
   pub err : OnErr r ((y ≡ x) × (t ≡ s))
 
 -- The first max bytes are sent, or all where fewer wait, with the checksum of these alone.
-pub record Segments (s t : Stored) (x y : Conn (List Slice)) (max : ℕ) (sums summed : Sums) (r : Result Segment Refusal) : Type 0 where
+pub record Segments (s t : Stored) (x y : Conn (List Slice)) (max : ℕ) (sums summed : Sums) (r : Result Segment Refusal)
+    : Type 0 where
   pub passed : OnOk r (IsPassed (segment_refusals x max))
   pub refused : IfErr r (IsRefused (segment_refusals x max) WantOfMemory)
   pub sent : IfOk r (λ g. IsSent s t x.outgoing y.outgoing max sums summed g.bytes)
