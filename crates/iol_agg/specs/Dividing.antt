@@ -1,6 +1,7 @@
 -- Slices divided between two lists.
 use Rattle.std.specs.Prelude.{◌≡◌, ℕ, ◌+◌, ◌<◌, ◌≤◌, ◌^◌, List, [], ◌∷◌, ◌++◌, length, take, drop, slice_index_or, Result, IfOk, IfErr, OnErr}
 use Rattle.std.specs.declared.alloc.AllocFailed.{AllocFailed}
+use Rattle.std.specs.declared.vec.Vec.{Vec}
 use Rattle.iol_hold.specs.Moves.{Shares}
 use Rattle.iol_hold.specs.Places.{slice_places, places as places_of, byte_len}
 use Rattle.iol_hold.specs.Stored.{Stored, count_of}
@@ -22,7 +23,7 @@ pub record MayDivide (s : Stored) (x : Slice) (n : ℕ) : Type 0 where
   pub live : 0 < count_of s x.hold.buf
   pub few : count_of s x.hold.buf < 2 ^ 63
 
--- They were, and each part holds the buffer.
+-- The first n bytes of a slice were taken off, and both parts hold its buffer, which is held once more.
 pub record Divides (s t : Stored) (x first rest : Slice) (n : ℕ) : Type 0 where
   pub given : slice_places first ≡ take n (slice_places x)
   pub kept : slice_places rest ≡ drop n (slice_places x)
@@ -30,17 +31,18 @@ pub record Divides (s t : Stored) (x first rest : Slice) (n : ℕ) : Type 0 wher
   pub kept_hold : rest.hold ≡ x.hold
   pub shares : Shares s t [] (x.hold.buf ∷ [])
 
--- The first n bytes of slices may go to another list: they are fewer than the first slice has.
+-- The first n bytes of slices may go to another list: they are none, or fewer than the first slice has, and what the slices hold
+-- is held so often, and can be so often once more.
 pub record MayMoveBytes (s : Stored) (xs : List Slice) (n : ℕ) : Type 0 where
   pub there : 0 < n → 0 < length xs
   pub inside : (d : Slice) → 0 < n → n < (slice_index_or xs 0 d).len
   pub held : AreShareable s (bufs_of xs)
 
--- They went from the begin of the second list to the end of the first.
-pub record MovesBytes (s t : Stored) (first second longer rest : List Slice) (n : ℕ) : Type 0 where
-  pub places : places_of longer ≡ places_of first ++ take n (places_of second)
-  pub left : places_of rest ≡ drop n (places_of second)
-  pub shares : Shares s t (bufs_of first ++ bufs_of second) (bufs_of longer ++ bufs_of rest)
+-- The first n bytes of the second list of slices went to the end of the first, and the slices of both hold their buffers.
+pub record MovesBytes {Z : Type 0} (s t : Stored) (first second longer rest : Vec Slice Z) (n : ℕ) : Type 0 where
+  pub places : places_of longer.items ≡ places_of first.items ++ take n (places_of second.items)
+  pub left : places_of rest.items ≡ drop n (places_of second.items)
+  pub shares : Shares s t (bufs_of first.items ++ bufs_of second.items) (bufs_of longer.items ++ bufs_of rest.items)
 
 -- An aggregate was split: the bytes before a place, and those from it on. Where there is no memory it is given back whole.
 pub record Splits (s t : Stored) (xs : List Slice) (place : ℕ)

@@ -18,7 +18,7 @@ use Rattle.iol_hold.specs.Texts.{AllReadable, IsFilled, bufs_of, text_of}
 use Rattle.iol_hold.specs.declared.slices.Slice.{Slice}
 use Rattle.iol_agg.specs.Parts.{whole_texts}
 
--- An empty list has room for a slice of each of these buffers.
+-- An empty list has room for a slice of each of these buffers, which are live, of their pools, and have bytes.
 pub record MayAddWhole {Z : Type 0} (s : Stored) (xs : Vec Slice Z) (holds : List Buffer) : Type 0 where
   pub none : xs.items ≡ []
   pub filled : All (IsFilled s) holds

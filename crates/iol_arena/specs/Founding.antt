@@ -7,16 +7,15 @@ use Rattle.iol_core.specs.declared.refusals.Refusal.{Refusal}
 use Rattle.iol_core.specs.declared.refusals.Refusal.TheVariants.{BadRange, Memory}
 use Rattle.iol_arena.specs.State.{State, no_entry}
 
--- it has so many chunks, none of which is taken, and all its pages are free and unraised
+-- the arena has so many chunks, none of which is taken, all its pages are free and unraised, and `last` is their last generation
 pub record IsAllFree (s : State) (chunks last : ℕ) : Type 0 where
   pub entries : s.entries ≡ replicate (chunks * CHUNK_PAGES) no_entry
   pub taken : s.taken ≡ replicate chunks false
   pub limit : s.limit ≡ last
 
--- An arena is made as it is configured. It is refused where that is out of its ranges, and for want of memory.
+-- An arena is made as it is configured: no chunk is taken, and all pages are free and unraised. It is refused where the
+-- configuration is out of its ranges, and only there or for want of memory.
 pub record MakesArena (config : Config) (r : Result State Refusal) : Type 0 where
   pub range : (r ≡ Err BadRange) ↔ (IsInRange config → ⊥)
   pub errors : IfErr r (λ e. (e ≡ BadRange) ⊎ (e ≡ Memory))
-  pub entries : IfOk r (λ s. s.entries ≡ replicate (config.chunks * CHUNK_PAGES) no_entry)
-  pub taken : IfOk r (λ s. s.taken ≡ replicate config.chunks false)
-  pub limit : IfOk r (λ s. s.limit ≡ config.gen_limit)
+  pub all_free : IfOk r (λ s. IsAllFree s config.chunks config.gen_limit)

@@ -22,7 +22,7 @@ pub record MarksPart (k : PageKind) (p : Part) (old new : State) : Type 0 where
   pub grows : Grows old new
   pub spares : Spares old new
 
--- The same of all parts, and nothing else changed.
+-- All parts got this kind, unraised: no buffer was made or freed, and nothing else changed.
 pub record MarksAll (k : PageKind) (ps : List Part) (old new : State) : Type 0 where
   pub each : AreAll k new.limit new.entries ps
   pub others : IsSameBut (part_pages ps) old new

@@ -1,29 +1,21 @@
 -- Buffers that are made on pages that waited.
-use Rattle.std.specs.Prelude.{◌≡◌, ℕ, ◌<◌, ◌≤◌, ◌^◌, true, false, List, [], ◌∷◌, length, take, flat_map, Result, Err, IfOk, IfErr, OnOk, OnErr}
+use Rattle.std.specs.Prelude.{◌≡◌, ℕ, ◌≤◌, true, false, List, [], ◌∷◌, length, take, flat_map, Result, Err, IfOk, IfErr, OnOk, OnErr}
 use Rattle.std.specs.List.{All, Contains}
-use Rattle.smallvec.specs.SmallVec.{SmallVec, HasRoomFor}
+use Rattle.smallvec.specs.SmallVec.{SmallVec}
 use Rattle.iol_core.specs.Meaning.{WantOfRoom}
 use Rattle.iol_core.specs.declared.limits.TheConstants.{MAX_AGGREGATE_BYTES}
 use Rattle.iol_core.specs.declared.numbers.BufId.{BufId}
 use Rattle.iol_core.specs.declared.refusals.Refusal.{Refusal}
 use Rattle.iol_core.specs.declared.refusals.Refusal.TheVariants.{NoRoom}
-use Rattle.iol_arena.specs.Prelude.{Adds, AreAll, AreApart, AreUsable, Grows, IsAll, IsNew, IsSameAround, IsSameBut, IsUnraised, MadeOn, Raises, State, begun_on, bytes_in, free_pages, len_of, needed_pages, pages_for, part_bytes, part_pages, part_room, spare_pages, usable}
+use Rattle.iol_arena.specs.Prelude.{Adds, AreReserved, AreUsable, Grows, IsNew, IsSameAround, IsSameBut, IsUnraised, MadeOn, Raises, State, begun_on, bytes_in, free_pages, len_of, needed_pages, pages_for, part_bytes, part_pages, spare_pages, usable}
 use Rattle.iol_arena.specs.declared.pages.Part.{Part}
-use Rattle.iol_arena.specs.declared.pages.PageKind.TheVariants.{Pending}
 use Rattle.iol_pool.specs.Pools.{pool_in}
 use Rattle.iol_hold.specs.Moves.{Moves}
 use Rattle.iol_hold.specs.Room.{has_room, lowest_of, others_of}
 use Rattle.iol_hold.specs.Stored.{Stored, Buffer, AllSettled, IsTidy, held_bufs}
 use Rattle.iol_hold.specs.Texts.{IsFilled}
 use Rattle.iol_hold.specs.Waiting.{FreesNone, Publishes, all_held}
-
--- Bytes may be filled into a part: its pages wait, and they need them all.
-pub record MayFillPart (s : State) (p : Part) (bytes : List ℕ) : Type 0 where
-  pub pending : IsAll Pending s.limit s.entries p
-  pub some : 0 < length bytes
-  pub fits : length bytes ≤ part_room p
-  pub small : length bytes < 2 ^ 32
-  pub whole : pages_for (length bytes) ≡ p.count
+use Rattle.iol_hold.specs.declared.parts.Reserved.{Reserved}
 
 -- A buffer of these bytes was made on the part, whole. It is held once.
 pub record FillsPart (s t : Stored) (p : Part) (bytes : List ℕ) (b : BufId) : Type 0 where
@@ -38,10 +30,7 @@ pub record FillsPart (s t : Stored) (p : Part) (bytes : List ℕ) (b : BufId) : 
 -- n bytes may be filled into parts: these wait, apart from one another, all their pages are needed, and an empty list has room
 -- for their buffers.
 pub record MayFillParts (s : State) (ps : List Part) (bufs : SmallVec BufId) (n : ℕ) : Type 0 where
-  pub pending : AreAll Pending s.limit s.entries ps
-  pub apart : AreApart 0 ps
-  pub room : HasRoomFor bufs (length ps)
-  pub none : bufs.items ≡ []
+  pub reserved : AreReserved s ps bufs
   pub pages : length (part_pages ps) ≡ pages_for n
   pub small : n ≤ MAX_AGGREGATE_BYTES
 
@@ -77,19 +66,23 @@ pub record FillsHolds (s t : Stored) (p : ℕ) (bytes : List ℕ) (r : Result (L
   pub late : IfErr r (WantOfRoom p)
   pub err : OnErr r (t ≡ s)
 
--- Buffers of pool p were made of the first n bytes that lay on the parts. Each is held once, and pages that got none are
--- free again, unraised.
-pub record PublishesFirst (s t : Stored) (p : ℕ) (ps : List Part) (n : ℕ) (holds : List Buffer) : Type 0 where
-  pub publishes : Publishes s t ps (held_bufs holds)
+-- the parts that are reserved
+abbrev pub reserved_parts : Reserved → List Part
+reserved_parts r = r.reservation.parts.items
+
+-- Buffers of the pool were made of the first n bytes that lay on the reserved parts. Each is held once, and pages that got none
+-- are free again, unraised.
+pub record PublishesFirst (s t : Stored) (r : Reserved) (n : ℕ) (holds : List Buffer) : Type 0 where
+  pub publishes : Publishes s t (reserved_parts r) (held_bufs holds)
   pub made : All (IsNew s.arena t.arena) (held_bufs holds)
-  pub value : bytes_in t.arena (held_bufs holds) ≡ take n (flat_map (part_bytes s.arena) ps)
+  pub value : bytes_in t.arena (held_bufs holds) ≡ take n (flat_map (part_bytes s.arena) (reserved_parts r))
   pub filled : All (IsFilled t) holds
-  pub pool : All (λ h. h.pool ≡ p) holds
-  pub few : length holds ≤ length ps
-  pub made_on : MadeOn s.arena t.arena (held_bufs holds) (needed_pages ps n)
-  pub others : IsSameBut (part_pages ps) s.arena t.arena
-  pub returned : AreUsable t.arena (spare_pages ps n)
-  pub free : FreesNone s.arena t.arena ps n
+  pub pool : All (λ h. h.pool ≡ r.pool) holds
+  pub few : length holds ≤ length (reserved_parts r)
+  pub made_on : MadeOn s.arena t.arena (held_bufs holds) (needed_pages (reserved_parts r) n)
+  pub others : IsSameBut (part_pages (reserved_parts r)) s.arena t.arena
+  pub returned : AreUsable t.arena (spare_pages (reserved_parts r) n)
+  pub free : FreesNone s.arena t.arena (reserved_parts r) n
   pub tidy : IsTidy t
 
 -- No buffer was made on the parts: their pages are free again, unraised.

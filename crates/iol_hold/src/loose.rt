@@ -1,9 +1,8 @@
 //! Which pages of a pool can be had.
-ghost use Rattle.std.specs.Prelude.{◌≡◌, ◌↔◌, ◌<◌, ◌≤◌, [], ◌∷◌, length, flat_map, slice_index, true, IsTrue};
-ghost use Rattle.std.specs.List.{filter};
+ghost use Rattle.std.specs.Prelude.{◌≡◌, ◌↔◌, ◌<◌, ◌≤◌, [], ◌∷◌, length, slice_index, true, IsTrue};
 ghost use Rattle.iol_core.specs.Prelude.{is_numbered};
-ghost use Rattle.iol_arena.specs.Prelude.{chunk_count, page_count, chunk_pages};
-ghost use Rattle.iol_hold.specs.Loose.{is_loose, is_spared, loose_pages};
+ghost use Rattle.iol_arena.specs.Prelude.{chunk_count, page_count};
+ghost use Rattle.iol_hold.specs.Loose.{is_loose, is_spared, loose_in, loose_pages};
 
 use crate::store::Store;
 use iol_core::limits::CHUNK_PAGES;
@@ -44,7 +43,7 @@ impl Store {
     // How many pages of a chunk can be had.
     fn loose_in(&self, chunk: ChunkNo, spared: &[u64]) -> u32
         requires { chunk < chunk_count self.now.arena }
-        ensures { result ≡ length (filter (is_loose self.now spared.now) (flat_map chunk_pages (chunk ∷ []))) }
+        ensures { result ≡ length (loose_in self.now spared.now (chunk ∷ [])) }
     {
         // Tells how many pages there are.
         let _pages = self.arena.page_count();

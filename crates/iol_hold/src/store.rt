@@ -1,6 +1,6 @@
 //! The store: pages, pools, and how often each buffer is held.
-ghost use Rattle.std.specs.Prelude.{◌≡◌, ◌<◌, ◌≤◌, ◌^◌, length, slice_range};
-ghost use Rattle.iol_arena.specs.Prelude.{IsLive, SharesNoPage, bytes_of, live_pages};
+ghost use Rattle.std.specs.Prelude.{◌≡◌, ◌<◌, ◌^◌, length, slice_range};
+ghost use Rattle.iol_arena.specs.Prelude.{HasRange, IsLive, SharesNoPage, bytes_of, live_pages};
 ghost use Rattle.iol_hold.specs.Founding.{MakesStore};
 ghost use Rattle.iol_hold.specs.Moves.{SharesHold};
 ghost use Rattle.iol_hold.specs.Releases.{FreesBuffer, ReleasesHold, Settles};
@@ -130,9 +130,7 @@ impl Store {
 
     /// The bytes of a live buffer, from place `from` up to `to`.
     pub fn bytes(&self, hold: &Hold, from: u32, to: u32) -> &[u8]
-        requires live { IsLive self.now.arena hold.now.buf }
-        requires order { from ≤ to }
-        requires range { to ≤ length (bytes_of self.now.arena hold.now.buf) }
+        requires { HasRange self.now.arena hold.now.buf from to }
         ensures { result.now ≡ slice_range (bytes_of self.now.arena hold.now.buf) from to }
     {
         self.arena.bytes(hold.buf(), from, to)

@@ -168,10 +168,11 @@ module _ (s u t : Stored) (parts : List Part) (pool n : ℕ) (w : List ℕ)
       }
 
 -- a read that had room, under another name of the store after it
-pub reads_once : {left after : Option (List ℕ)} {s : Stored} {pool n : ℕ} {x : Option (List Buffer) × Arrived} (t r : Stored) → MayRead s pool n → has_room s pool n ≡ true → MakesRead left after s t (listed x.0) pool x.1.taken → t ≡ r → IsOneRead n after x.1
-    → ReadsOnce left after s r pool n (Ok x)
-reads_once {left} {after} {s} {pool} {n} {x} t r may had made same told = record {
-  made = subst (λ u. MakesRead left after s u (listed x.0) pool x.1.taken) same made;
+pub reads_once : {R : Type 0} {left : R → Option (List ℕ)} {reader after : R} {s : Stored} {pool n : ℕ} {x : Option (List Buffer) × Arrived} (t r : Stored)
+    → MayRead s pool n → has_room s pool n ≡ true → MakesRead (left reader) (left after) s t (listed x.0) pool x.1.taken → t ≡ r → IsOneRead n (left after) x.1
+    → ReadsOnce left reader after s r pool n (Ok x)
+reads_once {R} {left} {reader} {after} {s} {pool} {n} {x} t r may had made same told = record {
+  made = subst (λ u. MakesRead (left reader) (left after) s u (listed x.0) pool x.1.taken) same made;
   told = told;
   room = record { room = sym (room_for_one s pool n may.some may.page) ∙ had; no_room = λ p is. absurd (cc is) };
   late = tt;
@@ -185,9 +186,9 @@ pub home_as : (holds : List Buffer) (p q : ℕ) → p ≡ q → All (λ (h : Buf
 home_as holds p q e h = subst (λ k. All (λ (h : Buffer). h.pool ≡ k) holds) e h
 
 -- and the queue has them
-module _ (left after : Option (List ℕ)) (s t : Stored) (old new : List Slice) (holds : List Buffer) (pool n : ℕ) (whole : AddsWhole t old new holds) (made : MakesRead left after s t holds pool n) where
+module _ (left after : Option (List ℕ)) (s t : Stored) (old new : List Slice) (holds : List Buffer) (pool n : ℕ) (adds : AddsWhole t old new holds) (made : MakesRead left after s t holds pool n) where
   pub length_read : byte_len new ≡ byte_len old + n
-  length_read = omega (arith, length_added s t old new pool made.bytes holds whole made.home made.value, made.count)
+  length_read = omega (arith, length_added s t old new pool made.bytes holds adds made.home made.value, made.count)
 
   pub read_added : ReadsIn left after s t old new pool n
   read_added = record {
@@ -195,12 +196,12 @@ module _ (left after : Option (List ℕ)) (s t : Stored) (old new : List Slice) 
     count = made.count;
     given = made.given;
     added = record {
-      slices = whole.slices;
-      added = whole.added;
-      is_text = whole.is_text ∙ whole_texts-one t pool holds made.home ∙ ap (text.labelled pool) made.value;
-      readable = whole.readable;
-      moves = subst (λ bs. Moves s t [] bs) (sym whole.bufs) made.moves;
-      made_on = subst (λ bs. MadeOn s.arena t.arena bs (lowest_of s pool (length made.bytes))) (sym whole.bufs) made.made_on;
+      slices = adds.slices;
+      added = adds.added;
+      is_text = adds.whole.text ∙ whole_texts-one t pool holds made.home ∙ ap (text.labelled pool) made.value;
+      readable = adds.whole.readable;
+      moves = subst (λ bs. Moves s t [] bs) (sym adds.whole.bufs) made.moves;
+      made_on = subst (λ bs. MadeOn s.arena t.arena bs (lowest_of s pool (length made.bytes))) (sym adds.whole.bufs) made.made_on;
       pages = made.pages;
       settles = made.settles;
       pools = made.pools;
@@ -208,4 +209,4 @@ module _ (left after : Option (List ℕ)) (s t : Stored) (old new : List Slice) 
   }
 
 pub nothing_added : (left after : Option (List ℕ)) (s t : Stored) (old : List Slice) (pool n : ℕ) → MakesRead left after s t [] pool n → ReadsIn left after s t old old pool n
-nothing_added left after s t old pool n made = read_added left after s t old old [] pool n (record { slices = []; added = sym (append-nil old); is_text = refl; readable = readable_none t; bufs = refl }) made
+nothing_added left after s t old pool n made = read_added left after s t old old [] pool n (record { slices = []; added = sym (append-nil old); whole = record { text = refl; readable = readable_none t; bufs = refl } }) made

@@ -5,7 +5,7 @@ use Rattle.iol_hold.specs.Stored.{Stored, count_of}
 use Rattle.iol_hold.specs.Moves.{same, tally, Shares, Covers, IsCountable}
 use Rattle.iol_hold.specs.declared.slices.Slice.{Slice}
 use Rattle.iol_hold.specs.Texts.{bufs_of}
-use Rattle.iol_pipe.specs.Queue.{MayShare}
+use Rattle.iol_agg.specs.Pours.{AreShareable}
 use Rattle.iol_hold.proofs.Counting.{tally-append, tally_one, tally_none, same_self, bufs-push, bufs-take_more, tally-at}
 use Rattle.iol_hold.proofs.Moving.{shares_none, shares_trans}
 
@@ -107,7 +107,7 @@ pub fewer_moved : (old out queue moved rest : List Slice) (x : Slice) (b : BufId
 fewer_moved old out queue moved rest x b e few split = omega (arith, moved_tally out moved x b e, few, split)
 
 -- what is left is covered
-pub rest_shared : {s t : Stored} (old out queue : List Slice) → MayShare s old → ((b : BufId) → tally b (bufs_of out) + tally b (bufs_of queue) ≤ tally b (bufs_of old)) → Shares s t (bufs_of old) (bufs_of out ++ bufs_of queue) → MayShare t queue
+pub rest_shared : {s t : Stored} (old out queue : List Slice) → AreShareable s (bufs_of old) → ((b : BufId) → tally b (bufs_of out) + tally b (bufs_of queue) ≤ tally b (bufs_of old)) → Shares s t (bufs_of old) (bufs_of out ++ bufs_of queue) → AreShareable t (bufs_of queue)
 rest_shared old out queue may few m = record {
   covered = record { each = λ b. omega (arith, may.covered.each b, m.counts.each b, tally-append b (bufs_of out) (bufs_of queue)) };
   countable = record { each = λ b. omega (arith, may.countable.each b, few b, m.counts.each b, tally-append b (bufs_of out) (bufs_of queue)) };

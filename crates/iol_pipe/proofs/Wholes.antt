@@ -62,30 +62,32 @@ pub whole_end : (s : Stored) (old now : List Slice) (left all : List Buffer) →
 whole_end s old now left all w none = record {
   slices = w.slices;
   added = w.added;
-  is_text = sym (append-nil (text_of s w.slices)) ∙ ap (λ l. text_of s w.slices ++ whole_texts s l) (sym none) ∙ w.is_text;
-  readable = w.readable;
-  bufs = sym (append-nil (bufs_of w.slices)) ∙ ap (λ l. bufs_of w.slices ++ held_bufs l) (sym none) ∙ w.bufs;
+  whole = record {
+    text = sym (append-nil (text_of s w.slices)) ∙ ap (λ l. text_of s w.slices ++ whole_texts s l) (sym none) ∙ w.is_text;
+    readable = w.readable;
+    bufs = sym (append-nil (bufs_of w.slices)) ∙ ap (λ l. bufs_of w.slices ++ held_bufs l) (sym none) ∙ w.bufs;
+  };
 }
 
 -- Buffers of new bytes of a pool.
 
-module _ (s t : Stored) (old new : List Slice) (pool : ℕ) (bytes : List ℕ) (holds : List Buffer) (whole : AddsWhole t old new holds) (all : All (λ (h : Buffer). h.pool ≡ pool) holds) (value : bytes_in t.arena (held_bufs holds) ≡ bytes) where
-  text_added : text_of t whole.slices ≡ text.labelled pool bytes
-  text_added = whole.is_text ∙ whole_texts-one t pool holds all ∙ ap (text.labelled pool) value
+module _ (s t : Stored) (old new : List Slice) (pool : ℕ) (bytes : List ℕ) (holds : List Buffer) (adds : AddsWhole t old new holds) (all : All (λ (h : Buffer). h.pool ≡ pool) holds) (value : bytes_in t.arena (held_bufs holds) ≡ bytes) where
+  text_added : text_of t adds.slices ≡ text.labelled pool bytes
+  text_added = adds.whole.text ∙ whole_texts-one t pool holds all ∙ ap (text.labelled pool) value
 
   pub length_added : byte_len new ≡ byte_len old + length bytes
   length_added =
       let pair : ℕ → ℕ × ℕ = λ b. (b, pool) in
-      omega (arith, ap byte_len whole.added, byte_len-append old whole.slices, length-text_of t whole.slices, ap length text_added, length-map bytes pair)
+      omega (arith, ap byte_len adds.added, byte_len-append old adds.slices, length-text_of t adds.slices, ap length text_added, length-map bytes pair)
 
   pub bytes_added : Moves s t [] (held_bufs holds) → MadeOn s.arena t.arena (held_bufs holds) (lowest_of s pool (length bytes)) → IsSameBut (lowest_of s pool (length bytes)) s.arena t.arena → Grows s.arena t.arena → (AllSettled s → AllSettled t) → t.pools ≡ s.pools → AddsBytes s t old new pool bytes
   bytes_added moves made others grows settles pools = record {
-    slices = whole.slices;
-    added = whole.added;
+    slices = adds.slices;
+    added = adds.added;
     is_text = text_added;
-    readable = whole.readable;
-    moves = subst (λ bs. Moves s t [] bs) (sym whole.bufs) moves;
-    made_on = subst (λ bs. MadeOn s.arena t.arena bs (lowest_of s pool (length bytes))) (sym whole.bufs) made;
+    readable = adds.whole.readable;
+    moves = subst (λ bs. Moves s t [] bs) (sym adds.whole.bufs) moves;
+    made_on = subst (λ bs. MadeOn s.arena t.arena bs (lowest_of s pool (length bytes))) (sym adds.whole.bufs) made;
     pages = keeps_pages_made made others grows pools;
     settles = settles;
     pools = pools;

@@ -2,14 +2,14 @@
 use Rattle.std.specs.Prelude.{◌≡◌, ℕ, List, [], ◌++◌, length, take}
 use Rattle.iol_core.specs.Text.{labelled}
 use Rattle.iol_arena.specs.Pages.{MadeOn}
-use Rattle.iol_hold.specs.Stored.{Stored, Buffer, AllSettled, held_bufs}
+use Rattle.iol_hold.specs.Stored.{Stored, Buffer, AllSettled}
 use Rattle.iol_hold.specs.Moves.{Moves, Shares}
 use Rattle.iol_hold.specs.Pages.{KeepsPages}
 use Rattle.iol_hold.specs.Places.{places, byte_len}
 use Rattle.iol_hold.specs.Room.{lowest_of}
 use Rattle.iol_hold.specs.Texts.{text_of, bufs_of, AllReadable}
 use Rattle.iol_hold.specs.declared.slices.Slice.{Slice}
-use Rattle.iol_agg.specs.Parts.{whole_texts}
+use Rattle.iol_agg.specs.Wholes.{AreWhole}
 use Rattle.iol_pipe.specs.Queue.{fitting}
 
 -- The queue got slices of these bytes at its end, in new buffers of the pool. They were made on the lowest free pages
@@ -29,9 +29,7 @@ pub record AddsBytes (s t : Stored) (old new : List Slice) (pool : ℕ) (bytes :
 pub record AddsWhole (s : Stored) (old new : List Slice) (holds : List Buffer) : Type 0 where
   pub slices : List Slice
   pub added : new ≡ old ++ slices
-  pub is_text : text_of s slices ≡ whole_texts s holds
-  pub readable : AllReadable s slices
-  pub bufs : bufs_of slices ≡ held_bufs holds
+  pub whole : AreWhole s slices holds
 
 -- Of these slices a queue got the first n bytes at its end. They are shared.
 pub record SharesPrefix (s t : Stored) (old new from : List Slice) (n : ℕ) : Type 0 where
@@ -44,7 +42,7 @@ pub record SharesFitting (s t : Stored) (old new from : List Slice) (n : ℕ) : 
   pub added : places new ≡ places old ++ take n (places from)
   pub shares : Shares s t (bufs_of old) (bufs_of new)
 
--- Of new bytes of the pool it got as many as fit: n.
+-- Of new bytes of the pool a queue got as many as fit at its end: n.
 pub record AddsFitting (s t : Stored) (old new : List Slice) (pool : ℕ) (bytes : List ℕ) (n : ℕ) : Type 0 where
   pub taken : n ≡ fitting old (length bytes)
   pub added : AddsBytes s t old new pool (take n bytes)

@@ -31,7 +31,8 @@ abbrev pub listed : Option (List Buffer) → List Buffer
 listed None = []
 listed (Some holds) = holds
 
--- The same of buffers that are not in a queue yet: one of the bytes, or none where there are none.
+-- A reader gave n bytes of those that it has left, where these are known, and they lie in a new buffer of the pool. Where it gave
+-- none there is none: nothing was raised, and the pages are free again.
 pub record MakesRead (left after : Option (List ℕ)) (s t : Stored) (holds : List Buffer) (pool n : ℕ) : Type 0 where
   pub bytes : List ℕ
   pub count : length bytes ≡ n
@@ -60,14 +61,26 @@ pub record MayRead (s : Stored) (pool n : ℕ) : Type 0 where
   pub some : 0 < n
   pub page : n ≤ PAGE_BYTES
 
--- Of one read at most n bytes came into a buffer, or there is none where the reader gave none. A refusal changes nothing.
-pub record ReadsOnce (left after : Option (List ℕ)) (s t : Stored) (pool n : ℕ)
+-- Of one read at most n bytes came into a buffer, or there is none where the reader gave none. Where it is refused, for want of
+-- room or of memory, the store is as it was.
+pub record ReadsOnce {R : Type 0} (left : R → Option (List ℕ)) (reader after : R) (s t : Stored) (pool n : ℕ)
     (r : Result (Option (List Buffer) × Arrived) Refusal) : Type 0 where
-  pub made : IfOk r (λ x. MakesRead left after s t (listed x.0) pool x.1.taken)
-  pub told : IfOk r (λ x. IsOneRead n after x.1)
+  pub made : IfOk r (λ x. MakesRead (left reader) (left after) s t (listed x.0) pool x.1.taken)
+  pub told : IfOk r (λ x. IsOneRead n (left after) x.1)
   pub room : TellsRoom (has_room s pool 1) r
   pub late : IfErr r (WantOfRoom pool)
   pub err : OnErr r (t ≡ s)
+
+-- A queue got the bytes of one read, at most n, where the reader gave any. Where it is refused, for want of room or of memory,
+-- nothing changed: it did not read.
+pub record FillsFrom {R : Type 0} (left : R → Option (List ℕ)) (reader after : R) (s t : Stored) (old new : List Slice)
+    (pool n : ℕ) (r : Result Arrived Refusal) : Type 0 where
+  pub read : IfOk r (λ a. ReadsIn (left reader) (left after) s t old new pool a.taken)
+  pub told : IfOk r (IsOneRead n (left after))
+  pub room : TellsRoom (has_room s pool 1) r
+  pub late : IfErr r (WantOfRoom pool)
+  pub err : OnErr r ((new ≡ old) × (t ≡ s))
+  pub err_reader : OnErr r (after ≡ reader)
 
 -- A reader gave the first bytes of the memory, at most n: none only at its end, or where none was asked for. Where it failed it
 -- has those that it had.

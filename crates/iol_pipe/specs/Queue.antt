@@ -7,10 +7,11 @@ use Rattle.iol_core.specs.declared.limits.TheConstants.{MAX_QUEUE_BYTES}
 use Rattle.iol_core.specs.declared.numbers.BufId.{BufId}
 use Rattle.iol_pool.specs.Pools.{Pool, names_in}
 use Rattle.iol_hold.specs.declared.slices.Slice.{Slice}
-use Rattle.iol_hold.specs.Moves.{Covers, IsCountable, Shares, same, tally}
+use Rattle.iol_hold.specs.Moves.{Shares, same, tally}
 use Rattle.iol_hold.specs.Places.{Place, slice_places, places, byte_len}
 use Rattle.iol_hold.specs.Stored.{Stored}
 use Rattle.iol_hold.specs.Texts.{bufs_of}
+use Rattle.iol_agg.specs.Pours.{AreShareable}
 
 -- n is the number of bytes, and there are not too many
 pub record IsBounded (xs : List Slice) (n : ℕ) : Type 0 where
@@ -35,15 +36,18 @@ first_pool xs = option_map (λ p. p.pool) (slice_get (places xs) 0)
 abbrev pub may_see : List Pool → (d : ℕ) → Place → Bool
 may_see pools d p = names_in pools p.pool d
 
+-- of the first n bytes of a queue the longest prefix whose pools all name the domain, by places
+abbrev pub front_for : List Pool → (d n : ℕ) → List Slice → List Place
+front_for pools d n xs = take_while (may_see pools d) (take n (places xs))
+
+-- bytes whose first k are those of others
+abbrev pub with_first : (k : ℕ) → (others bytes : List ℕ) → List ℕ
+with_first k others bytes = take k others ++ drop k bytes
+
 -- whether the pool names the domain, if one is given
 abbrev pub names_given : List Pool → (d : Option ℕ) → (pool : ℕ) → Bool
 names_given pools None p = true
 names_given pools (Some d) p = names_in pools p d
-
--- what these slices hold is held, and may be held once more for each
-pub record MayShare (s : Stored) (xs : List Slice) : Type 0 where
-  pub covered : Covers s (bufs_of xs)
-  pub countable : IsCountable s (bufs_of xs)
 
 -- the list is empty, and has room for n slices
 pub record IsEmptyFor (out : Vec Slice) (n : ℕ) : Type 0 where
@@ -54,7 +58,7 @@ pub record IsEmptyFor (out : Vec Slice) (n : ℕ) : Type 0 where
 pub record MayTakeFirst (s : Stored) (xs : List Slice) (most : ℕ) : Type 0 where
   pub some : 0 < most
   pub filled : 0 < length xs
-  pub shared : MayShare s xs
+  pub shared : AreShareable s (bufs_of xs)
 
 -- The first slice of a queue was taken off, or its first bytes where it has more than wanted: then its buffer is held once more.
 pub record TakesSlice (s t : Stored) (old new : List Slice) (most : ℕ) (x : Slice) : Type 0 where
@@ -74,7 +78,8 @@ pub record TakesFirst (s t : Stored) (old given new : List Slice) (n : ℕ) (d :
   pub whole : places given ++ places new ≡ places old
   pub shares : Shares s t (bufs_of old) (bufs_of given ++ bufs_of new)
 
--- The same, or it was refused: then nothing changed. No bytes want no memory.
+-- The first bytes of a queue went to others, at most n, and only as long as their pools name the domain, if one is given; or that
+-- was refused: then nothing changed. No bytes want no memory.
 pub record TakesOff {E : Type 0} (s t : Stored) (old new : List Slice) (n : ℕ) (d : Option ℕ)
     (r : Result (List Slice) E) : Type 0 where
   pub takes : IfOk r (λ given. TakesFirst s t old given new n d)
@@ -83,7 +88,7 @@ pub record TakesOff {E : Type 0} (s t : Stored) (old new : List Slice) (n : ℕ)
 
 -- A domain was given the front of a queue: of its first n bytes the longest prefix whose pools all name the domain.
 pub record GivesFirst (s t : Stored) (old front new : List Slice) (n d : ℕ) : Type 0 where
-  pub given : places front ≡ take_while (may_see s.pools d) (take n (places old))
+  pub given : places front ≡ front_for s.pools d n old
   pub rest : places new ≡ drop (byte_len front) (places old)
   pub shares : Shares s t (bufs_of old) (bufs_of front ++ bufs_of new)
 

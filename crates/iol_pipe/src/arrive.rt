@@ -1,9 +1,8 @@
 //! The bytes of one read, straight into a new buffer.
-ghost use Rattle.std.specs.Prelude.{◌≡◌, ◌+◌, ◌<◌, ◌≤◌, length, false, IfOk, IfErr, OnErr};
-ghost use Rattle.iol_core.specs.Prelude.{WantOfRoom};
+ghost use Rattle.std.specs.Prelude.{◌≡◌, ◌+◌, ◌<◌, ◌≤◌, length, false, OnErr};
 ghost use Rattle.iol_pool.specs.Prelude.{pool_in};
-ghost use Rattle.iol_hold.specs.Prelude.{TellsRoom, byte_len, has_room};
-ghost use Rattle.iol_pipe.specs.Arriving.{IsOneRead, MayRead, ReadsIn, ReadsOnce, ReadsSome};
+ghost use Rattle.iol_hold.specs.Prelude.{byte_len};
+ghost use Rattle.iol_pipe.specs.Arriving.{FillsFrom, MayRead, ReadsOnce, ReadsSome};
 
 use crate::Pipe;
 use crate::fill::add_whole;
@@ -59,13 +58,8 @@ impl Pipe {
         requires some { 0 < n }
         requires page { n ≤ PAGE_BYTES }
         requires fits { byte_len self.old + n ≤ MAX_QUEUE_BYTES }
-        ensures read { IfOk result (λ a. ReadsIn (R.remaining reader.old) (R.remaining reader.new)
-            store.old store.new self.old self.new pool a.taken) }
-        ensures told { IfOk result (IsOneRead n (R.remaining reader.new)) }
-        ensures room { TellsRoom (has_room store.old pool 1) result }
-        ensures late { IfErr result (WantOfRoom pool) }
-        ensures err { OnErr result ((self.new ≡ self.old) × (store.new ≡ store.old)) }
-        ensures err_reader { OnErr result (reader.new ≡ reader.old) }
+        ensures { FillsFrom R.remaining reader.old reader.new store.old store.new self.old self.new
+            pool n result }
     {
         self.queue.reserve(1)?;
         let (made, arrived) = read_in(alloc, store, pool, reader, n)?;
@@ -88,8 +82,7 @@ fn read_in<R: Read>(
     n: u32,
 ) -> Result<(Option<Holds>, Arrived), Refusal>
     requires { MayRead store.old pool n }
-    ensures reads { ReadsOnce (R.remaining reader.old) (R.remaining reader.new) store.old store.new
-        pool n result }
+    ensures reads { ReadsOnce R.remaining reader.old reader.new store.old store.new pool n result }
     ensures err_reader { OnErr result (reader.new ≡ reader.old) }
 {
     let mut filling = store.begin(alloc, pool, n)?;

@@ -1,9 +1,8 @@
 //! Copies of the first bytes of a queue.
 ghost use Rattle.std.specs.Prelude.{◌≡◌, ◌+◌, ◌≤◌, ◌++◌, length, take, drop};
-ghost use Rattle.std.specs.List.{take_while};
 ghost use Rattle.iol_core.specs.Prelude.{bytes_of};
-ghost use Rattle.iol_hold.specs.Prelude.{places, text_of, AllReadable};
-ghost use Rattle.iol_pipe.specs.Queue.{may_see};
+ghost use Rattle.iol_hold.specs.Prelude.{text_of, AllReadable};
+ghost use Rattle.iol_pipe.specs.Queue.{front_for, with_first};
 
 use crate::Pipe;
 use iol_core::numbers::DomainId;
@@ -14,10 +13,9 @@ impl Pipe {
     /// for, and tells how many bytes that is. All still wait, and no memory is taken.
     pub fn copy_front(&self, store: &Store, d: DomainId, into: &mut [u8]) -> u32
         requires { AllReadable store.now self.now }
-        ensures count { result ≡ length (take_while (may_see store.now.pools d)
-            (take (length into.old) (places self.now))) }
-        ensures copied { into.new ≡ take result (bytes_of (text_of store.now self.now)) ++
-            drop result into.old }
+        ensures count { result ≡ length (front_for store.now.pools d (length into.old) self.now) }
+        ensures copied { into.new ≡
+            with_first result (bytes_of (text_of store.now self.now)) into.old }
     {
         // That the queue is bounded bounds the answer.
         let _len = self.len;

@@ -18,8 +18,9 @@
 ghost use Rattle.std.specs.Prelude.{◌≡◌, ◌+◌, ◌≤◌, ◌↔◌, min, [], length, IsTrue, IsOk, IfOk, OnErr};
 ghost use Rattle.std.specs.VecDeque.{deque_len, deque_capacity};
 ghost use Rattle.iol_hold.specs.Prelude.{Covers, IsCountable, Releases, byte_len, bufs_of};
+ghost use Rattle.iol_agg.specs.Prelude.{AreShareable};
 ghost use Rattle.iol_pipe.specs.Adding.{SharesFitting, SharesPrefix};
-ghost use Rattle.iol_pipe.specs.Queue.{GivesFirst, IsEmptyFor, MayShare, MayTakeFirst, TakesFirst, TakesOff, TakesSlice, first_pool, fitting, names_given};
+ghost use Rattle.iol_pipe.specs.Queue.{GivesFirst, IsEmptyFor, MayTakeFirst, TakesFirst, TakesOff, TakesSlice, first_pool, fitting, names_given};
 
 mod arrive;
 mod copy;
@@ -130,7 +131,7 @@ impl Pipe {
         n: u32,
         d: Option<DomainId>,
     ) -> Result<Agg, AllocError>
-        requires { MayShare store.old self.old }
+        requires { AreShareable store.old (bufs_of self.old) }
         ensures { TakesOff store.old store.new self.old self.new n d result }
     {
         let room = self.queue.len().min(n as usize);
@@ -166,7 +167,7 @@ fn release_all(queue: &mut VecDeque<Slice>, store: &mut Store)
 // Adds the first n bytes of the slices, held once more.
 fn add_prefix(queue: &mut VecDeque<Slice>, store: &mut Store, slices: &[Slice], n: u32)
     requires room { deque_len queue.old + min (length slices.now) n ≤ deque_capacity queue.old }
-    requires shared { MayShare store.old slices.now }
+    requires shared { AreShareable store.old (bufs_of slices.now) }
     ensures { SharesPrefix store.old store.new queue.old.items queue.new.items slices.now n }
 {
     let mut left = n;
@@ -199,7 +200,7 @@ fn take_prefix(
     d: &Option<DomainId>,
 )
     requires room { IsEmptyFor out.old (min (length queue.old.items) n) }
-    requires shared { MayShare store.old queue.old.items }
+    requires shared { AreShareable store.old (bufs_of queue.old.items) }
     ensures { TakesFirst store.old store.new queue.old.items out.new.items queue.new.items n d.now }
 {
     let mut left = n;

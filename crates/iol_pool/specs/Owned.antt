@@ -13,7 +13,7 @@ pub record AreOwned (s : State) (ps : List Pool) : Type 0 where
   pub single : (p q c : ℕ) → Contains (pool_in ps p).chunks c → Contains (pool_in ps q).chunks c → p ≡ q
   pub owner : (c : ℕ) → c < chunk_count s → is_taken s c ≡ true → (p : ℕ) × Contains (pool_in ps p).chunks c
 
--- these are the chunks of the pool, few and all of the arena
+-- these are the chunks of the pool, all of the arena, and no more than an arena may have
 pub record AreChunksOf (s : State) (ps : List Pool) (p : ℕ) (cs : List ℕ) : Type 0 where
   pub value : cs ≡ (pool_in ps p).chunks
   pub within : All (λ c. c < chunk_count s) cs

@@ -1,10 +1,10 @@
 -- Pools: who may read their bytes, and the chunks in which these lie.
-use Rattle.std.specs.Prelude.{◌≡◌, ℕ, ◌==◌, ◌&&◌, Bool, true, false, not, if◌then◌else◌, List, [], ◌∷◌, ◌++◌, length, map, slice_index_or}
-use Rattle.std.specs.List.{list_any, list_all, range_with_len}
+use Rattle.std.specs.Prelude.{◌≡◌, ℕ, ◌==◌, ◌&&◌, Bool, true, false, not, if◌then◌else◌, List, [], ◌∷◌, ◌++◌, length, flat_map, map, slice_index_or}
+use Rattle.std.specs.List.{filter, list_any, list_all, range_with_len}
 use Rattle.iol_core.specs.Numbered.{numbered_or, with_numbered}
 use Rattle.iol_core.specs.Calls.Pools.{with_name}
 use Rattle.iol_arena.specs.State.{State}
-use Rattle.iol_arena.specs.Chunks.{is_unused, spent, usable, TakesChunks}
+use Rattle.iol_arena.specs.Chunks.{chunk_pages, is_unused, spent, usable, TakesChunks}
 
 -- the domains that may read, whether the pool is closed, and its chunks, by rising number
 pub record Pool : Type 0 where
@@ -22,22 +22,22 @@ pool_in ps p = numbered_or ps p no_pool
 abbrev pub names_in : List Pool → (p d : ℕ) → Bool
 names_in ps p d = list_any (λ e. e == d) (pool_in ps p).domains
 
--- a pool of so many chunks, the lowest free ones, for the domains of a list
+-- An open pool of so many chunks, the lowest free ones, was added for the domains of a list.
 pub record AddsPool (s t : State) (old new : List Pool) (n : ℕ) (list : List ℕ) : Type 0 where
   pub chunks : List ℕ
   pub count : length chunks ≡ n
   pub taken : TakesChunks s t chunks
   pub added : new ≡ old ++ record { domains = list; closed = false; chunks = chunks } ∷ []
 
--- the pool's list names the domain, too
+-- the pools, of which this one's list names the domain, too
 unfoldable pub with_admitted : List Pool → (p d : ℕ) → List Pool
 with_admitted ps p d = with_numbered ps p (record (pool_in ps p) { domains = with_name (pool_in ps p).domains d })
 
--- nothing more is placed in the pool
+-- the pools, of which this one is closed
 unfoldable pub with_closed : List Pool → (p : ℕ) → List Pool
 with_closed ps p = with_numbered ps p (record (pool_in ps p) { closed = true })
 
--- without its chunks
+-- the pools, of which this one has no chunks
 unfoldable pub with_emptied : List Pool → (p : ℕ) → List Pool
 with_emptied ps p = with_numbered ps p (record (pool_in ps p) { chunks = [] })
 
@@ -47,7 +47,7 @@ all_returned taken cs =
     let still : ℕ → Bool = λ c. slice_index_or taken c true && not (list_any (λ d. d == c) cs) in
     map still (range_with_len 0 (length taken))
 
--- with these chunks free again
+-- the arena with these chunks free again
 abbrev pub with_returned : State → List ℕ → State
 with_returned s cs = record { memory = s.memory; entries = s.entries; limit = s.limit; taken = all_returned s.taken cs }
 
@@ -66,3 +66,7 @@ settled_arena s ps p = if goes_back s ps p then with_returned s (pool_in ps p).c
 abbrev pub is_counted : State → (retired : Bool) → ℕ → Bool
 is_counted s true = spent s
 is_counted s false = usable s
+
+-- the pages of these chunks that are retired, or may be used, in order
+abbrev pub counted_pages : State → (retired : Bool) → (chunks : List ℕ) → List ℕ
+counted_pages s retired cs = filter (is_counted s retired) (flat_map chunk_pages cs)

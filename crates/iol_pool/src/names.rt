@@ -1,7 +1,8 @@
 //! The domains that a pool's list names.
-ghost use Rattle.std.specs.Prelude.{◌≡◌, ℕ, ◌+◌, ◌<◌, ◌≤◌, ◌==◌, true, List, length, take, min, MatchOption};
+ghost use Rattle.std.specs.Prelude.{◌≡◌, ℕ, ◌+◌, ◌≤◌, ◌==◌, true, List, length, take, min};
 ghost use Rattle.std.specs.List.{list_any};
 ghost use Rattle.iol_core.specs.Prelude.{distinct, has_place, with_name};
+ghost use Rattle.iol_pool.specs.Names.{NotesNames};
 
 use iol_core::limits::MAX_LISTED;
 use iol_core::numbers::DomainId;
@@ -55,8 +56,7 @@ fn note_distinct(found: &mut [DomainId; MAX_LISTED], list: &[DomainId]) -> usize
 impl Names {
     /// The domains of a list, unless it names more than sixteen.
     pub fn of(list: &[DomainId]) -> Option<Names>
-        ensures { MatchOption result (MAX_LISTED < length (distinct list.now))
-            (λ n. (n ≡ distinct list.now) × (length (distinct list.now) ≤ MAX_LISTED)) }
+        ensures { NotesNames list.now result }
     {
         let mut found = [DomainId::new(0); MAX_LISTED];
         let len = note_distinct(&mut found, list);

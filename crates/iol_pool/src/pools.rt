@@ -1,11 +1,12 @@
 //! The table of pools.
-ghost use Rattle.std.specs.Prelude.{◌≡◌, ◌+◌, ◌*◌, ◌<◌, ◌≤◌, ◌==◌, length, true, false, not, find, Option, Some, None, Err, is_some, IfSome, IfOk, IfErr, OnOk, OnErr, List, [], ◌∷◌, flat_map, ◌↔◌, IsTrue};
+ghost use Rattle.std.specs.Prelude.{◌≡◌, ◌<◌, ◌≤◌, length, true, not, find, Some, None, is_some, IfSome, IfErr, OnOk, [], ◌∷◌, ◌↔◌, IsTrue};
 ghost use Rattle.std.specs.Option.{option_copied};
-ghost use Rattle.std.specs.List.{All, filter, list_all};
+ghost use Rattle.std.specs.List.{All, list_all};
 ghost use Rattle.iol_core.specs.Prelude.{is_numbered, has_place};
-ghost use Rattle.iol_arena.specs.Prelude.{chunk_count, chunk_pages, free_chunks, free_pages, is_unused, retired_pages};
-ghost use Rattle.iol_pool.specs.Pools.{AddsPool, goes_back, is_counted, names_in, no_pool, pool_in, settled, settled_arena, with_admitted, with_closed, with_emptied, with_returned};
+ghost use Rattle.iol_arena.specs.Prelude.{chunk_count, free_pages, is_unused};
+ghost use Rattle.iol_pool.specs.Pools.{counted_pages, goes_back, names_in, no_pool, pool_in, with_admitted, with_closed, with_emptied, with_returned};
 ghost use Rattle.iol_pool.specs.Owned.{AreChunksOf, AreOwned};
+ghost use Rattle.iol_pool.specs.Calls.{CreatesPool, ReportsPool, SettlesPool};
 
 use crate::names::Names;
 use crate::report::PoolReport;
@@ -129,8 +130,7 @@ fn return_all(arena: &mut Arena, chunks: &[ChunkNo])
 // The same of one chunk.
 fn count_in(arena: &Arena, chunk: ChunkNo, retired: bool) -> u32
     requires { chunk < chunk_count arena.now }
-    ensures { result ≡
-        length (filter (is_counted arena.now retired) (flat_map chunk_pages (chunk ∷ []))) }
+    ensures { result ≡ length (counted_pages arena.now retired (chunk ∷ [])) }
 {
     if retired {
         return arena.retired_in(chunk);
@@ -142,8 +142,7 @@ fn count_in(arena: &Arena, chunk: ChunkNo, retired: bool) -> u32
 fn count_pages(arena: &Arena, chunks: &[ChunkNo], retired: bool) -> u32
     requires within { All (λ c. c < chunk_count arena.now) chunks.now }
     requires few { length chunks.now ≤ MAX_CHUNKS }
-    ensures { result ≡
-        length (filter (is_counted arena.now retired) (flat_map chunk_pages chunks.now)) }
+    ensures { result ≡ length (counted_pages arena.now retired chunks.now) }
 {
     let mut count = 0;
     for chunk in chunks {
@@ -247,13 +246,7 @@ impl Pools {
     ) -> Result<PoolId, Unfilled>
         requires owned { AreOwned arena.old self.old }
         requires few { length self.old < MAX_POOLS }
-        ensures number { IfOk result (λ n. n ≡ length self.old + 1) }
-        ensures added { OnOk result (AddsPool arena.old arena.new self.old self.new chunks names) }
-        ensures enough { OnOk result (chunks ≤ length (free_chunks arena.old)) }
-        ensures no_room { result ≡ Err Unfilled.NoRoom → length (free_chunks arena.old) < chunks }
-        ensures err { OnErr result (self.new ≡ self.old) }
-        ensures err_arena { OnErr result (arena.new ≡ arena.old) }
-        ensures owned { AreOwned arena.new self.new }
+        ensures { CreatesPool arena.old arena.new self.old self.new chunks names result }
     {
         if self.list.reserve(1).is_err() {
             return Err(Unfilled::Memory);
@@ -298,9 +291,7 @@ impl Pools {
     /// Returns the chunks of a pool if it is closed and nothing stands on them.
     pub fn settle(&mut self, arena: &mut Arena, p: PoolId)
         requires { AreOwned arena.old self.old }
-        ensures pools { self.new ≡ settled arena.old self.old p }
-        ensures arena { arena.new ≡ settled_arena arena.old self.old p }
-        ensures owned { AreOwned arena.new self.new }
+        ensures { SettlesPool arena.old arena.new self.old self.new p }
     {
         if !self.is_pool(p) {
             return;
@@ -316,9 +307,7 @@ impl Pools {
     pub fn close(&mut self, arena: &mut Arena, p: PoolId)
         requires there { is_numbered self.old p ≡ true }
         requires owned { AreOwned arena.old self.old }
-        ensures pools { self.new ≡ settled arena.old (with_closed self.old p) p }
-        ensures arena { arena.new ≡ settled_arena arena.old (with_closed self.old p) p }
-        ensures owned { AreOwned arena.new self.new }
+        ensures { SettlesPool arena.old arena.new (with_closed self.old p) self.new p }
     {
         set_closed(&mut self.list, p);
         self.settle(arena, p);
@@ -337,11 +326,7 @@ impl Pools {
     pub fn report(&self, arena: &Arena, p: PoolId) -> PoolReport
         requires there { is_numbered self.now p ≡ true }
         requires owned { AreOwned arena.now self.now }
-        ensures pool { result.pool ≡ p }
-        ensures pages { result.pages ≡ CHUNK_PAGES * length (pool_in self.now p).chunks }
-        ensures free { result.free ≡ length (free_pages arena.now (pool_in self.now p).chunks) }
-        ensures retired { result.retired ≡
-            length (retired_pages arena.now (pool_in self.now p).chunks) }
+        ensures { ReportsPool arena.now self.now p result }
     {
         let chunks = self.chunks_in(arena, p);
         PoolReport {

@@ -1,7 +1,7 @@
 //! Aggregates made of the bytes of others, by reference.
-ghost use Rattle.std.specs.Prelude.{◌+◌, ◌-◌, ◌<◌, ◌≤◌, ◌^◌, ◌++◌, take, drop, slice_range};
+ghost use Rattle.std.specs.Prelude.{◌+◌, ◌-◌, ◌<◌, ◌≤◌, ◌^◌};
 ghost use Rattle.iol_hold.specs.Prelude.{Covers, IsCountable, places, byte_len, bufs_of};
-ghost use Rattle.iol_agg.specs.Pours.{AddsRange, SharesPlaces, meeting};
+ghost use Rattle.iol_agg.specs.Pours.{AddsRange, SharesPlaces, SharesRange, SharesReplaced, bufs_around};
 
 use super::pour::pour;
 use crate::aggregates::Agg;
@@ -31,8 +31,7 @@ impl Agg {
         requires within { to ≤ byte_len self.now }
         requires covered { Covers store.old (bufs_of self.now) }
         requires countable { IsCountable store.old (bufs_of self.now) }
-        ensures { SharesPlaces store.old store.new (slice_range (places self.now) from to)
-            (bufs_of (meeting from to self.now)) result }
+        ensures { SharesRange store.old store.new self.now from to result }
     {
         let room = self.slices.len().min((to - from) as usize);
         let mut slices = Vec::with_capacity(alloc, room)?;
@@ -81,13 +80,8 @@ impl Agg {
         requires small { byte_len self.now + byte_len other.now < 2 ^ 32 }
         requires covered { Covers store.old (bufs_of self.now) }
         requires other_covered { Covers store.old (bufs_of other.now) }
-        requires countable { IsCountable store.old
-            (bufs_of self.now ++ bufs_of self.now ++ bufs_of other.now) }
-        ensures { let xs = self.now in
-            SharesPlaces store.old store.new
-            (take from (places xs) ++ places other.now ++ drop to (places xs))
-            (bufs_of (meeting 0 from xs) ++ bufs_of other.now ++
-            bufs_of (meeting to (byte_len xs) xs)) result }
+        requires countable { IsCountable store.old (bufs_around self.now other.now) }
+        ensures { SharesReplaced store.old store.new self.now other.now from to result }
     {
         let before = self.slices.len().min(from as usize);
         let after = self.slices.len().min((self.len - to) as usize);

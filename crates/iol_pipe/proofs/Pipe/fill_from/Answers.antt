@@ -1,4 +1,4 @@
-use Rattle.std.proofs.Common.{◌≡◌, List, Option, sym, ap, ◌∙◌, subst, arith}
+use Rattle.std.proofs.Common.{◌≡◌, List, Option, sym, ap, ◌∙◌, subst, arith, rules}
 use Rattle.iol_hold.specs.Places.{byte_len}
 use Rattle.iol_hold.specs.Stored.{Buffer}
 use Rattle.iol_hold.specs.declared.slices.Slice.{Slice}
@@ -6,8 +6,8 @@ use Rattle.iol_pipe.specs.Arriving.{listed, MakesRead, ReadsIn}
 use Rattle.iol_pipe.proofs.ReadIn.{length_read, read_added, nothing_added}
 use Rattle.iol_pipe.proofs.Pipe.fill_from.Goals as goal
 
-pub returns-in_default-clause-read : goal.returns-in_default-clause-read
-returns-in_default-clause-read g c =
+pub returns-in_default : goal.returns-in_default
+returns-in_default g c =
     let s = c.args.store.now in
     let t = c.read_in.new.store in
     let left = g.R.Read.remaining c.args.reader.now in
@@ -16,7 +16,14 @@ returns-in_default-clause-read g c =
     let n = c.in_ok-made.arrived.taken in
     let made = subst (λ (o : Option (List Buffer)). MakesRead left after s t (listed o) c.args.pool n) c.in_default.is c.in_ok-made.ensures.reads.made in
     let same : c.reserve.new.self.items ≡ old = ◌∙◌ {A = List Slice} c.reserve.ensures.items c.self.view_is in
-    subst (λ new. ReadsIn left after s t old new c.args.pool n) (sym same) (nothing_added left after s t old c.args.pool n made)
+    record {
+      read = subst (λ new. ReadsIn left after s t old new c.args.pool n) (sym same) (nothing_added left after s t old c.args.pool n made);
+      told = search (rules);
+      room = search (rules);
+      late = tt;
+      err = tt;
+      err_reader = tt;
+    }
 
 pub add_whole-requires-clause-filled : goal.add_whole-requires-clause-filled
 add_whole-requires-clause-filled g c =
@@ -40,8 +47,8 @@ invariant_of-self-2 g c =
       most = omega (arith, more, same, seen, c.requires.fits, c.in_ok-made.ensures.reads.told.most);
     }
 
-pub returns-clause-read : goal.returns-clause-read
-returns-clause-read g c =
+pub returns : goal.returns
+returns g c =
     let s = c.args.store.now in
     let t = c.read_in.new.store in
     let left = g.R.Read.remaining c.args.reader.now in
@@ -50,5 +57,12 @@ returns-clause-read g c =
     let new = c.add_whole.new.queue.items in
     let made = subst (λ (o : Option (List Buffer)). MakesRead left after s t (listed o) c.args.pool n) c.in-Some.is c.in_ok-made.ensures.reads.made in
     let same : c.reserve.new.self.items ≡ c.args.self.now = ◌∙◌ {A = List Slice} c.reserve.ensures.items c.self.view_is in
-    subst (λ old. ReadsIn left after s t old new c.args.pool n) same
-    (read_added left after s t c.reserve.new.self.items new c.in-Some.holds c.args.pool n c.add_whole.ensures made)
+    record {
+      read = subst (λ old. ReadsIn left after s t old new c.args.pool n) same
+          (read_added left after s t c.reserve.new.self.items new c.in-Some.holds c.args.pool n c.add_whole.ensures made);
+      told = search (rules);
+      room = search (rules);
+      late = tt;
+      err = tt;
+      err_reader = tt;
+    }

@@ -8,7 +8,7 @@ returns-in_err-filling-clause-reads g c = record {
   told = search (rules);
   room = record {
     room = search (rules);
-    no_room = λ p is. sym (room_for_one c.args.store.now c.args.pool c.args.n c.requires.some c.requires.page) ∙ c.in_err-filling.ensures.no_room p (search (rules, is));
+    no_room = λ p is. sym (room_for_one c.args.store.now c.args.pool c.args.n c.requires.some c.requires.page) ∙ c.in_err-filling.ensures.begins.no_room p (search (rules, is));
   };
   late = search (rules);
   err = search (rules);
@@ -16,10 +16,10 @@ returns-in_err-filling-clause-reads g c = record {
 
 pub returns-then-taken-eq0-clause-reads : goal.returns-then-taken-eq0-clause-reads
 returns-then-taken-eq0-clause-reads g c =
-    let begun = c.in_ok-filling.ensures in
+    let begun = c.in_ok-filling.ensures.begins in
     let f = c.in_ok-filling.filling in
     let memory = c.read_some.new.memory in
-    let lent = c.part_mut.ensures in
+    let lent = c.part_mut.ensures.shows in
     let there = c.abandon.ensures in
     let left = g.R.Read.remaining c.args.reader.now in
     let after = g.R.Read.remaining c.read_some.new.reader in
@@ -33,10 +33,10 @@ returns-then-taken-eq0-clause-reads g c =
 
 pub returns-else-taken-eq0-clause-reads : goal.returns-else-taken-eq0-clause-reads
 returns-else-taken-eq0-clause-reads g c =
-    let begun = c.in_ok-filling.ensures in
+    let begun = c.in_ok-filling.ensures.begins in
     let f = c.in_ok-filling.filling in
     let memory = c.read_some.new.memory in
-    let lent = c.part_mut.ensures in
+    let lent = c.part_mut.ensures.shows in
     let there = c.publish-holds.ensures in
     let size = c.read_some.auto.memory in
     reads_once c.publish-holds.new.self.0 _ c.requires begun.room
@@ -49,10 +49,10 @@ returns-else-taken-eq0-clause-reads g c =
 
 pub returns-in-Err-clause-reads : goal.returns-in-Err-clause-reads
 returns-in-Err-clause-reads g c =
-    let begun = c.in_ok-filling.ensures in
+    let begun = c.in_ok-filling.ensures.begins in
     let f = c.in_ok-filling.filling in
     let memory = c.read_some.new.memory in
-    let lent = c.part_mut.ensures in
+    let lent = c.part_mut.ensures.shows in
     let there = c.abandon-in-Err.ensures in
     let left = g.R.Read.remaining c.args.reader.now in
     let after = g.R.Read.remaining c.read_some.new.reader in

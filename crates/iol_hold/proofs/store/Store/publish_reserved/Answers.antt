@@ -78,7 +78,7 @@ returns c =
     let named = held_named p bufs c.new.result c.new.ensures in
     let one : BufId → Buffer = λ b. record { pool = p; buf = b } in
     let places = new_places pages bufs (λ q out. e.others.each q (λ h. out (in_contains pages q h))) e.adds.made in
-    subst (λ (x : Stored). PublishesFirst x t p ps c.args.len c.new.result) c.self.view_is (record {
+    subst (λ (x : Stored). PublishesFirst x t c.args.reserved c.args.len c.new.result) c.self.view_is (record {
       publishes = subst (λ bs. Publishes s t ps bs) (sym named) (made_publishes s t ps placed bufs m e.adds.grows refl);
       made = subst (λ bs. All (IsNew s.arena t.arena) bs) (sym named) e.adds.made;
       value = ap (bytes_in t.arena) named ∙ e.adds.value;

@@ -5,32 +5,28 @@ use Rattle.iol_pool.specs.Owned.{AreOwned}
 use Rattle.iol_pool.proofs.Owning.{owned_settled, settled-no, settled-nowhere, settled-yes, settled_arena-no, settled_arena-nowhere, settled_arena-yes}
 use Rattle.iol_pool.proofs.pools.Pools.settle.Goals as goal
 
-pub returns-then-not-is_pool-clause-pools : goal.returns-then-not-is_pool-clause-pools
-returns-then-not-is_pool-clause-pools c = sym (settled-nowhere c.args.arena.now c.args.self.now c.args.p (sym c.is_pool.ensures ∙ c.if-not-is_pool.true))
+pub returns-then-not-is_pool : goal.returns-then-not-is_pool
+returns-then-not-is_pool c = record {
+  pools = sym (settled-nowhere c.args.arena.now c.args.self.now c.args.p (sym c.is_pool.ensures ∙ c.if-not-is_pool.true));
+  arena = sym (settled_arena-nowhere c.args.arena.now c.args.self.now c.args.p (sym c.is_pool.ensures ∙ c.if-not-is_pool.true));
+  owned = c.requires;
+}
 
-pub returns-then-not-is_pool-clause-arena : goal.returns-then-not-is_pool-clause-arena
-returns-then-not-is_pool-clause-arena c = sym (settled_arena-nowhere c.args.arena.now c.args.self.now c.args.p (sym c.is_pool.ensures ∙ c.if-not-is_pool.true))
+pub returns-then-not-goes_back : goal.returns-then-not-goes_back
+returns-then-not-goes_back c = record {
+  pools = sym (settled-no c.args.arena.now c.args.self.now c.args.p (sym c.goes_back.ensures ∙ c.if-not-goes_back.true));
+  arena = sym (settled_arena-no c.args.arena.now c.args.self.now c.args.p (sym c.goes_back.ensures ∙ c.if-not-goes_back.true));
+  owned = c.requires;
+}
 
-pub returns-then-not-goes_back-clause-pools : goal.returns-then-not-goes_back-clause-pools
-returns-then-not-goes_back-clause-pools c = sym (settled-no c.args.arena.now c.args.self.now c.args.p (sym c.goes_back.ensures ∙ c.if-not-goes_back.true))
-
-pub returns-then-not-goes_back-clause-arena : goal.returns-then-not-goes_back-clause-arena
-returns-then-not-goes_back-clause-arena c = sym (settled_arena-no c.args.arena.now c.args.self.now c.args.p (sym c.goes_back.ensures ∙ c.if-not-goes_back.true))
-
-pub returns-clause-pools : goal.returns-clause-pools
-returns-clause-pools c =
-    c.set_emptied.ensures ∙ ap (λ (l : List Pool). with_emptied l c.args.p) c.self.view_is
-    ∙ sym (settled-yes c.args.arena.now c.args.self.now c.args.p (sym c.goes_back.ensures ∙ c.if-not-goes_back.false))
-
-pub returns-clause-arena : goal.returns-clause-arena
-returns-clause-arena c =
-    c.return_all.ensures ∙ ap (λ l. with_returned c.args.arena.now l) c.chunks_in.ensures.value
-    ∙ sym (settled_arena-yes c.args.arena.now c.args.self.now c.args.p (sym c.goes_back.ensures ∙ c.if-not-goes_back.false))
-
-pub returns-clause-owned : goal.returns-clause-owned
-returns-clause-owned c =
-    let a = c.return_all.ensures ∙ ap (λ l. with_returned c.args.arena.now l) c.chunks_in.ensures.value in
+pub returns : goal.returns
+returns c =
     let p = c.set_emptied.ensures ∙ ap (λ (l : List Pool). with_emptied l c.args.p) c.self.view_is in
-    subst (λ (s : State). AreOwned s c.set_emptied.new.pools.items) (sym a)
-    (subst (λ (l : List Pool). AreOwned (with_returned c.args.arena.now (pool_in c.args.self.now c.args.p).chunks) l) (sym p)
-    (owned_settled c.args.arena.now c.args.self.now c.args.p (sym c.is_pool.ensures ∙ c.if-not-is_pool.false) c.requires))
+    let a = c.return_all.ensures ∙ ap (λ l. with_returned c.args.arena.now l) c.chunks_in.ensures.value in
+    record {
+      pools = p ∙ sym (settled-yes c.args.arena.now c.args.self.now c.args.p (sym c.goes_back.ensures ∙ c.if-not-goes_back.false));
+      arena = a ∙ sym (settled_arena-yes c.args.arena.now c.args.self.now c.args.p (sym c.goes_back.ensures ∙ c.if-not-goes_back.false));
+      owned = subst (λ (s : State). AreOwned s c.set_emptied.new.pools.items) (sym a)
+          (subst (λ (l : List Pool). AreOwned (with_returned c.args.arena.now (pool_in c.args.self.now c.args.p).chunks) l) (sym p)
+          (owned_settled c.args.arena.now c.args.self.now c.args.p (sym c.is_pool.ensures ∙ c.if-not-is_pool.false) c.requires));
+    }

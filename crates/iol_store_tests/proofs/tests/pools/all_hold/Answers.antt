@@ -1,4 +1,5 @@
-use Rattle.std.proofs.Common.{◌≡◌, replicate, sym, subst, false, List}
+use Rattle.std.proofs.Common.{sym, subst, List}
+use Rattle.iol_arena.specs.Founding.{IsAllFree}
 use Rattle.iol_arena.specs.State.{State}
 use Rattle.iol_pool.specs.Pools.{Pool}
 use Rattle.iol_pool.specs.Owned.{AreOwned}
@@ -10,5 +11,5 @@ use Rattle.iol_store_tests.proofs.tests.pools.all_hold.Goals as goal
 pub create-requires-clause-owned : goal.create-requires-clause-owned
 create-requires-clause-owned g c =
     let a = c.expect-arena.result in
-    let taken = of_ok (λ (s : State). s.taken ≡ replicate 3 false) c.new.result a c.new.ensures.taken c.expect-arena.ensures in
+    let taken = (of_ok (λ (s : State). IsAllFree s 3 4294967295) c.new.result a c.new.ensures.all_free c.expect-arena.ensures).taken in
     subst (λ (l : List Pool). AreOwned a l) (sym c.new-pools.ensures) (owned_none a (none_taken a.taken 3 taken))

@@ -1,5 +1,5 @@
-use Rattle.std.proofs.Common.{◌≡◌, ◌*◌, replicate}
-use Rattle.iol_arena.specs.State.{no_entry}
+use Rattle.std.proofs.Common.{◌*◌}
+use Rattle.iol_arena.specs.Founding.{IsAllFree}
 use Rattle.iol_hold.specs.Stored.{Stored}
 use Rattle.iol_agg.proofs.Holding.{held_none, of_ok}
 use Rattle.iol_store_tests.proofs.tests.stores.new_store.Goals as goal
@@ -7,4 +7,4 @@ use Rattle.iol_store_tests.proofs.tests.stores.new_store.Goals as goal
 pub returns : goal.returns
 returns g c =
     let n = c.args.config.chunks * 16 in
-    held_none c.expect.result n (of_ok (λ (s : Stored). s.arena.entries ≡ replicate n no_entry) c.new.result c.expect.result c.new.ensures.entries c.expect.ensures)
+    held_none c.expect.result n (of_ok (λ (s : Stored). IsAllFree s.arena c.args.config.chunks c.args.config.gen_limit) c.new.result c.expect.result c.new.ensures.all_free c.expect.ensures).entries

@@ -1,0 +1,33 @@
+-- What calls do to pools and to their chunks, and what one tells of a pool.
+use Rattle.std.specs.Prelude.{◌≡◌, ℕ, ◌+◌, ◌*◌, ◌<◌, ◌≤◌, List, length, Result, Err, IfOk, OnOk, OnErr}
+use Rattle.iol_core.specs.declared.limits.TheConstants.{CHUNK_PAGES}
+use Rattle.iol_arena.specs.Prelude.{State, free_chunks, free_pages, retired_pages}
+use Rattle.iol_arena.specs.declared.pages.Unfilled.{Unfilled}
+use Rattle.iol_arena.specs.declared.pages.Unfilled.TheVariants.{NoRoom}
+use Rattle.iol_pool.specs.Owned.{AreOwned}
+use Rattle.iol_pool.specs.Pools.{AddsPool, Pool, pool_in, settled, settled_arena}
+use Rattle.iol_pool.specs.declared.report.PoolReport.{PoolReport}
+
+-- A pool of n chunks, the lowest free ones, was made for the domains of a list: its number is the next. Or nothing changed, for
+-- want of room only where fewer chunks are free. Each chunk that is taken has just one pool.
+pub record CreatesPool (s t : State) (old new : List Pool) (n : ℕ) (list : List ℕ) (r : Result ℕ Unfilled) : Type 0 where
+  pub number : IfOk r (λ p. p ≡ length old + 1)
+  pub added : OnOk r (AddsPool s t old new n list)
+  pub enough : OnOk r (n ≤ length (free_chunks s))
+  pub no_room : r ≡ Err NoRoom → length (free_chunks s) < n
+  pub err : OnErr r (new ≡ old)
+  pub err_arena : OnErr r (t ≡ s)
+  pub owned : AreOwned t new
+
+-- The chunks of pool p were returned, if it is closed and nothing stands on them. Each chunk that is taken has just one pool.
+pub record SettlesPool (s t : State) (old new : List Pool) (p : ℕ) : Type 0 where
+  pub pools : new ≡ settled s old p
+  pub arena : t ≡ settled_arena s old p
+  pub owned : AreOwned t new
+
+-- the pages of pool p, counted: all, those that may be used, and those that are retired
+pub record ReportsPool (s : State) (ps : List Pool) (p : ℕ) (r : PoolReport) : Type 0 where
+  pub pool : r.pool ≡ p
+  pub pages : r.pages ≡ CHUNK_PAGES * length (pool_in ps p).chunks
+  pub free : r.free ≡ length (free_pages s (pool_in ps p).chunks)
+  pub retired : r.retired ≡ length (retired_pages s (pool_in ps p).chunks)
