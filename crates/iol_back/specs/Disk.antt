@@ -50,6 +50,10 @@ Counts old new (Err e) = new.failures ≡ raised old.failures
 abbrev pub IfHonest : Disk → Type 0 → Type 0
 IfHonest disk P = disk.honest ≡ true → P
 
+-- where a store is honest, n is the length of a file, or 2^32 - 1 where that is more
+abbrev pub IsHonestLength : Disk → (file n : ℕ) → Type 0
+IsHonestLength disk file n = IfHonest disk (n ≡ min (length (content disk.slots file)) (2 ^ 32 - 1))
+
 -- whether a store that still answers has the range
 abbrev pub CanRead : Disk → (file at count : ℕ) → Type 0
 CanRead disk file at count =
@@ -84,8 +88,9 @@ pub record Tears (at n : ℕ) (old new : List ℕ) : Type 0 where
   pub no_shorter : length old ≤ length new
   pub no_longer : length new ≤ max (length old) (at + n)
 
--- A call reads a file from `at` on, into bytes that were these and are those now. An honest store gave
--- what is there, and stays as it was.
+-- A call reads a file from `at` on, into bytes that were `was` and are `now`. It counts as `Counts` says, succeeds only where
+-- the file has a slot, and leaves the store as honest as it was. An honest store has the bytes that it had, and where the call
+-- succeeded, `now` are those of the range, which lies in the file.
 pub record ReadsAt {E : Type 0} (file at : ℕ) (old new : Disk) (was now : List ℕ)
     (r : Result (Unit {0}) E) : Type 0 where
   pub honest : new.honest ≡ old.honest
@@ -94,8 +99,9 @@ pub record ReadsAt {E : Type 0} (file at : ℕ) (old new : Disk) (was now : List
   pub slots : IfHonest old (new.slots ≡ old.slots)
   pub read : IfHonest old (OnOk r (Reads at (content old.slots file) was now))
 
--- A call writes bytes to a file from `at` on. Of an honest store the other files stay, and where it
--- failed also what is outside of the range.
+-- A call writes bytes to a file from `at` on. It counts as `Counts` says, succeeds only where the file has a slot, and leaves
+-- the store as honest as it was. In an honest store all other files have the bytes that they had. This one has the new bytes
+-- over its own where the call succeeded, which then did not begin past its end; where the call failed, it is as `Tears` says.
 pub record WritesAt {E : Type 0} (file at : ℕ) (bytes : List ℕ) (old new : Disk)
     (r : Result (Unit {0}) E) : Type 0 where
   pub honest : new.honest ≡ old.honest

@@ -15,13 +15,19 @@ pub record Overwrites {E : Type 0} (at : ℕ) (bytes old new : List ℕ)
   pub err : OnErr r (new ≡ old)
   pub inside : at + length bytes ≤ length old → IsOk r
 
--- The same of a file, and all others stay.
+-- Bytes are put over those of a file from `at` on, as `Overwrites` says, and all other files have the bytes that they had.
 pub record OverwritesFile {E : Type 0} (file at : ℕ) (bytes : List ℕ) (old new : List (List ℕ))
     (r : Result (Unit {0}) E) : Type 0 where
   pub this : Overwrites at bytes (content old file) (content new file) r
   pub others : OthersStay file old new
 
--- Some bytes may be put over those of a file from `at` on, where its list has them or ends.
+-- Bytes are put over those of a file from `at` on, where the files are vectors, as `OverwritesFile` says of what these have.
+abbrev pub OverwritesList : {E : Type 0} → (file at : ℕ) → (bytes : List ℕ) → (old new : List (Vec ℕ)) → Result (Unit {0}) E
+    → Type 0
+OverwritesList file at bytes old new r = OverwritesFile file at bytes (items_of old) (items_of new) r
+
+-- Bytes, one at least, may be put over those of a file from `at` on: it has a slot, `at` is at most its length, and there are
+-- no more lists than slots.
 pub record MayOverwrite (file at : ℕ) (bytes : List ℕ) (lists : List (Vec ℕ)) : Type 0 where
   pub slot : IsSlot file
   pub few : length lists ≤ MAX_FILES

@@ -2,7 +2,8 @@
 use Rattle.std.specs.Prelude.{◌≡◌, ℕ, List, length, Result, IsOk, OnOk, OnErr}
 use Rattle.iol_back.specs.Disk.{Disk, CanRead, Counts, IsSlot, OthersStay, Reads, Writes, content}
 
--- It reads a file from `at` on, and fails only where the store does not answer any more or has no such range.
+-- A call reads a file of a store in memory from `at` on. Where it succeeds the file has a slot, and the bytes are its own. No
+-- file changes, a call that fails is counted, and it fails only where the store does not answer any more or has no such range.
 pub record ReadsMemory {E : Type 0} (file at : ℕ) (old new : Disk) (was now : List ℕ)
     (r : Result (Unit {0}) E) : Type 0 where
   pub honest : new.honest ≡ old.honest
@@ -12,8 +13,9 @@ pub record ReadsMemory {E : Type 0} (file at : ℕ) (old new : Disk) (was now : 
   pub read : OnOk r (Reads at (content old.slots file) was now)
   pub succeeds : CanRead old file at (length was) → IsOk r
 
--- It writes bytes to a file from `at` on. A write that fails changes nothing, and one inside of the file
--- fails for no other reason than that the store does not answer any more.
+-- A call writes bytes to a file of a store in memory from `at` on. Where it succeeds the file has a slot, and these bytes there.
+-- No other file changes, and a write that fails changes none, and is counted. One inside of a file that has a slot fails only
+-- where the store does not answer any more.
 pub record WritesMemory {E : Type 0} (file at : ℕ) (bytes : List ℕ) (old new : Disk)
     (r : Result (Unit {0}) E) : Type 0 where
   pub honest : new.honest ≡ old.honest

@@ -1,6 +1,6 @@
 //! A store that fails once.
-ghost use Rattle.std.specs.Prelude.{◌≡◌, ◌-◌, ◌/◌, ◌<◌, ◌↔◌, take, length, IsTrue};
-ghost use Rattle.iol_back.specs.Disk.{IfHonest, ReadsAt, Succeeds, Writes, WritesAt, content, raised};
+ghost use Rattle.std.specs.Prelude.{◌≡◌, ◌-◌, ◌<◌, ◌↔◌, IsTrue};
+ghost use Rattle.iol_back.specs.Disk.{raised};
 
 use crate::backing::{Backing, StoreFault};
 use iol_core::numbers::FileId;
@@ -50,7 +50,7 @@ impl<B: Backing> FaultyBacking<B> {
 }
 
 impl<B: Backing> Backing for FaultyBacking<B> {
-    ghost use Rattle.iol_back.specs.Faulty.{CountsDown, inner_of, calls_to_fault, disk_over};
+    ghost use Rattle.iol_back.specs.Faulty.{CountsDown, ReadsFaulty, WritesHalf, WritesFaulty, calls_to_fault, disk_over, inner_of};
 
     ghost disk = { disk_over B.disk };
 
@@ -59,8 +59,7 @@ impl<B: Backing> Backing for FaultyBacking<B> {
     }
 
     fn read_at(&mut self, file: FileId, at: u32, into: &mut [u8]) -> Result<(), StoreFault>
-        ensures reads { let old = disk_over B.disk self.old in
-            ReadsAt file at old (disk_over B.disk self.new) into.old into.new result }
+        ensures reads { ReadsFaulty B.disk file at self.old self.new into.old into.new result }
         ensures calls { CountsDown B.disk self.old self.new result }
 
         // The call that is due reads nothing.
@@ -74,16 +73,11 @@ impl<B: Backing> Backing for FaultyBacking<B> {
     }
 
     fn write_at(&mut self, file: FileId, at: u32, bytes: &[u8]) -> Result<(), StoreFault>
-        ensures writes { let old = disk_over B.disk self.old in
-            WritesAt file at bytes.now old (disk_over B.disk self.new) result }
+        ensures writes { WritesFaulty B.disk file at bytes.now self.old self.new result }
         ensures calls { CountsDown B.disk self.old self.new result }
 
         // The call that is due fails after the store below took half of the bytes.
-        ensures half { let old = B.disk (inner_of self.old) in
-            let new = B.disk (inner_of self.new) in
-            let half = take (length bytes.now / 2) bytes.now in
-            calls_to_fault self.old ≡ 1 → Succeeds old new →
-            IfHonest old (Writes at half (content old.slots file) (content new.slots file)) }
+        ensures half { WritesHalf B.disk file at bytes.now self.old self.new }
     {
         let due = self.count_call();
         if due {

@@ -1,6 +1,6 @@
 //! A store of the files of a folder.
-ghost use Rattle.std.specs.Prelude.{◌≡◌, ◌+◌, ◌-◌, ◌<◌, ◌≤◌, ◌↔◌, length, Some, IsSome, IfSome, IfOk, OnOk, slice_get, min};
-ghost use Rattle.iol_back.specs.Disk.{IfHonest, IsSlot, ReadsAt, WritesAt, content, length_told, raised};
+ghost use Rattle.std.specs.Prelude.{◌≡◌, ◌+◌, ◌-◌, ◌<◌, ◌≤◌, ◌↔◌, length, Some, IsSome, IfSome, IfOk, OnOk, slice_get};
+ghost use Rattle.iol_back.specs.Disk.{IsHonestLength, IsSlot, ReadsAt, WritesAt, length_told, raised};
 ghost use Rattle.iol_back.specs.Folder.{AreDistinct, AreListed, AreNames, IsSized, disk_of};
 ghost use Rattle.iol_core.specs.declared.limits.TheConstants.{MAX_FILE_BYTES};
 
@@ -160,8 +160,7 @@ impl<R: Files> Backing for FolderBacking<R> {
     /// The length that the file had when it was found, or was written here last; 0 where there is no file.
     fn length(&self, file: FileId) -> u32
         ensures told { result ≡ length_told (disk_of self.now).told file }
-        ensures honest { let now = disk_of self.now in
-            IfHonest now (result ≡ min (length (content now.slots file)) u32.MAX) }
+        ensures honest { IsHonestLength (disk_of self.now) file result }
         ensures short { result ≤ MAX_FILE_BYTES }
     {
         match self.place(file) {
@@ -171,8 +170,8 @@ impl<R: Files> Backing for FolderBacking<R> {
     }
 
     fn read_at(&mut self, file: FileId, at: u32, into: &mut [u8]) -> Result<(), StoreFault>
-        ensures reads { let old = disk_of self.old in
-            ReadsAt file at old (disk_of self.new) into.old into.new result }
+        ensures reads { ReadsAt file at (disk_of self.old) (disk_of self.new)
+            into.old into.new result }
 
         // Of a file of the folder alone, and the names stay.
         ensures file { OnOk result (file ≤ length self.old.names) }

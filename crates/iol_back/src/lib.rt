@@ -9,7 +9,7 @@
 //! The contract, of every store: `read_at` gives the bytes of a range that lies in the file (`read`, `slots`), `write_at`
 //! puts bytes there (`written`, `others`, `torn`), both only of the files 1 to 1,024 (`slot`); a failure counts one more
 //! (`counts`), and none makes a store honest or not (`honest`); `length` tells one length of a file until it is read or
-//! written (`told`), an honest store that of what is stored. The stores here say so by one record a call (`ReadsAt`,
+//! written (`told`), an honest store that of what is stored. What a read and a write do is one record each (`ReadsAt`,
 //! `WritesAt`). Of a list in memory: when a call succeeds (`ReadsMemory`, `WritesMemory`). Of a folder: its names, which
 //! rise in byte order, each once (`FolderBacking::count`, `name`).
 //!

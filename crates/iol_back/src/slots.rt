@@ -1,7 +1,7 @@
 //! Lists of bytes by file number.
 ghost use Rattle.std.specs.Prelude.{◌≡◌, ℕ, ◌+◌, ◌-◌, ◌<◌, ◌≤◌, [], length};
 ghost use Rattle.iol_back.specs.Disk.{IsSlot, content};
-ghost use Rattle.iol_back.specs.Lists.{Appends, MayOverwrite, Overwrites, OverwritesFile, Reaches, items_of};
+ghost use Rattle.iol_back.specs.Lists.{Appends, MayOverwrite, Overwrites, OverwritesFile, OverwritesList, Reaches};
 
 use iol_core::limits::MAX_FILES;
 use iol_core::numbers::FileId;
@@ -62,8 +62,7 @@ fn write_list(
 ) -> Result<(), AllocError>
     requires { MayOverwrite number at bytes.now lists.old.items }
     ensures few { length lists.new.items ≤ MAX_FILES }
-    ensures writes { let old = items_of lists.old.items in
-        OverwritesFile number at bytes.now old (items_of lists.new.items) result }
+    ensures writes { OverwritesList number at bytes.now lists.old.items lists.new.items result }
 {
     reach(lists, alloc, number)?;
     overwrite(&mut lists[number - 1], at, bytes)

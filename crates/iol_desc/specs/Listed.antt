@@ -40,7 +40,8 @@ pub record Replaces {A : Type 0} (old new : Vec (ℕ × Option A)) (n : ℕ) (ot
   pub items : new.items ≡ slice_set old.items (place_in old.items n) (n, other)
   pub room : vec_capacity old - vec_len old ≤ vec_capacity new - vec_len new
 
--- There is room for so many more. A refusal comes only where there was less.
+-- The entries and the next number are as they were, and there is no less room; on success there is room for so many more. A
+-- refusal comes only where there was room for fewer.
 pub record ReservesEntries {A V E : Type 0} (old new : Listed A) (count : ℕ) (r : Result V E) : Type 0 where
   pub entries : new.entries ≡ old.entries
   pub next : new.next ≡ old.next

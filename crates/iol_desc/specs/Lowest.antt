@@ -10,6 +10,11 @@ pub record IsLowest {A : Type 0} (xs : List (Option A)) (n : ℕ) : Type 0 where
   pub few : n ≤ taken xs
   pub lowest : n ≡ lowest xs
 
+-- Place n holds `held`, and every other place what it held before. There is no less room.
+pub record SetsPlace {A : Type 0} (old new : Vec (Option A)) (n : ℕ) (held : Option A) : Type 0 where
+  pub items : new.items ≡ slice_set old.items n held
+  pub room : vec_capacity old - vec_len old ≤ vec_capacity new - vec_len new
+
 -- The value is in place n.
 pub record PutsAt {A : Type 0} (old new : Vec (Option A)) (n : ℕ) (x : A) : Type 0 where
   pub items : new.items ≡ placed old.items n x
@@ -17,20 +22,21 @@ pub record PutsAt {A : Type 0} (old new : Vec (Option A)) (n : ℕ) (x : A) : Ty
   pub capacity : vec_capacity old ≤ vec_capacity new
   pub taken : n ≡ lowest old.items → taken new.items ≡ taken old.items + 1
 
--- place n may be freed, and no place below `from` is free
+-- n is a place of the list, and `from` is at most n and at most the lowest free place
 pub record CanLower {A : Type 0} (xs : List (Option A)) (n from : ℕ) : Type 0 where
   pub place : n < length xs
   pub low : from ≤ lowest xs
   pub below : from ≤ n
 
--- Place n is free, and the value in the lowest place that is free then: m.
+-- Place n was freed, and then the value put in the lowest free place: m, at most n. There is no less room.
 pub record MovesLower {A : Type 0} (old new : Vec (Option A)) (n : ℕ) (x : A) (m : ℕ) : Type 0 where
   pub lower : m ≤ n
   pub items : new.items ≡ placed (slice_set old.items n None) (lowest (slice_set old.items n None)) x
   pub room : vec_capacity old - vec_len old ≤ vec_capacity new - vec_len new
   pub lowest : m ≡ lowest (slice_set old.items n None)
 
--- There is room for so many more. A refusal comes only where there was less.
+-- The places are as they were, and there is no less room; on success there is room for so many more. A refusal comes only where
+-- there was room for fewer.
 pub record ReservesPlaces {A V E : Type 0} (old new : Slots A) (count : ℕ) (r : Result V E) : Type 0 where
   pub same : new.places ≡ old.places
   pub room : OnOk r (count ≤ new.room)
@@ -45,7 +51,7 @@ pub record PutsLowest {A : Type 0} (old new : Slots A) (x : A) (n : ℕ) : Type 
   pub room : old.room ≤ new.room + 1
   pub taken : taken new.places ≡ taken old.places + 1
 
--- Place n is free, and the value in the lowest place that is free then: m.
+-- Place n was freed, and then the value put in the lowest free place: m, at most n. There is no less room.
 pub record PutsLower {A : Type 0} (old new : Slots A) (n : ℕ) (x : A) (m : ℕ) : Type 0 where
   pub place : m ≡ lowest (slice_set old.places n None)
   pub lower : m ≤ n

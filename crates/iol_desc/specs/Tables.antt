@@ -74,7 +74,7 @@ place_in es n = position_or_len (λ e. e.0 == n) es
 abbrev pub exchanged : {A : Type 0} → List (ℕ × A) → (n : ℕ) → A → List (ℕ × A)
 exchanged es n x = slice_set es (place_in es n) (n, x)
 
--- A domain got an aggregate under its next number, n, in room that was reserved.
+-- A domain got x under its next number: n. It has one aggregate more, and still fewer than 2^64, and room for at most one fewer.
 pub record AddsAgg {A : Type 0} (old new : Row A) (x : A) (n : ℕ) : Type 0 where
   pub number : n ≡ old.domain.next_agg
   pub added : new.domain ≡ with_next old.domain x
@@ -82,32 +82,34 @@ pub record AddsAgg {A : Type 0} (old new : Row A) (x : A) (n : ℕ) : Type 0 whe
   pub room : old.room ≤ new.room + 1
   pub count : length new.domain.aggs ≡ length old.domain.aggs + 1
 
--- It gave up one, and keeps its room.
+-- A domain gave up its aggregate of number a: x. It has one aggregate fewer, and no less room.
 pub record TakesAgg {A : Type 0} (old new : Row A) (a : ℕ) (x : A) : Type 0 where
   pub given : Some x ≡ lookup old.domain.aggs a
   pub rest : new.domain ≡ record old.domain { aggs = without old.domain.aggs a }
   pub room : old.room ≤ new.room
   pub count : length new.domain.aggs + 1 ≡ length old.domain.aggs
 
--- It gave up one, and has another under its number.
+-- A domain gave up its aggregate of number a, x, and has `other` under that number. It has as many as before, and no less room.
 pub record SwapsAgg {A : Type 0} (old new : Row A) (a : ℕ) (other x : A) : Type 0 where
   pub given : Some x ≡ lookup old.domain.aggs a
   pub swapped : new.domain ≡ record old.domain { aggs = exchanged old.domain.aggs a other }
   pub kept : KeepsAggs old new
 
--- The same three of a domain of a table.
-
+-- Domain d of a table got x under its next number: n. No other domain changed, and d has room for at most one fewer.
 pub record AddsAggIn {A : Type 0} (old new : List (Row A)) (d : ℕ) (x : A) (n : ℕ) : Type 0 where
   pub number : n ≡ (domain_in (domains_of old) d).next_agg
   pub added : domains_of new ≡ with_agg_in (domains_of old) d x
   pub room : room_in old d ≤ room_in new d + 1
 
+-- Domain d of a table gave up its aggregate of number a: x. No other domain changed, nor its room; d has no less room.
 pub record TakesAggIn {A : Type 0} (old new : List (Row A)) (d a : ℕ) (x : A) : Type 0 where
   pub given : Some x ≡ agg_in (domains_of old) d a
   pub rest : domains_of new ≡ without_agg_in (domains_of old) d a
   pub room : room_in old d ≤ room_in new d
   pub others : (e : ℕ) → d ≢ e → room_in new e ≡ room_in old e
 
+-- Domain d of a table gave up its aggregate of number a, x, and has `other` under that number. No other domain changed, and
+-- d has no less room.
 pub record SwapsAggIn {A : Type 0} (old new : List (Row A)) (d a : ℕ) (other x : A) : Type 0 where
   pub given : Some x ≡ agg_in (domains_of old) d a
   pub swapped : domains_of new ≡ with_aggs_in (domains_of old) d (exchanged (aggs_in (domains_of old) d) a other)
@@ -135,6 +137,22 @@ fds_in ds d = (domain_in ds d).fds
 abbrev pub with_fds_in : {A : Type 0} → List (Domain A) → (d : ℕ) → List (Option Descriptor) → List (Domain A)
 with_fds_in ds d fds = with_domain_in ds d (record (domain_in ds d) { fds = fds })
 
+-- a domain with its descriptor fd closed
+abbrev pub without_fd : {A : Type 0} → Domain A → (fd : ℕ) → Domain A
+without_fd d fd = record d { fds = slice_set d.fds fd None }
+
+-- domains, with descriptor fd of d closed
+abbrev pub without_fd_in : {A : Type 0} → List (Domain A) → (d fd : ℕ) → List (Domain A)
+without_fd_in ds d fd = with_fds_in ds d (slice_set (fds_in ds d) fd None)
+
+-- a domain with its descriptor fd open on x
+abbrev pub with_fd : {A : Type 0} → Domain A → (fd : ℕ) → Descriptor → Domain A
+with_fd d fd x = record d { fds = slice_set d.fds fd (Some x) }
+
+-- domains, with descriptor fd of d open on x
+abbrev pub with_fd_in : {A : Type 0} → List (Domain A) → (d fd : ℕ) → Descriptor → List (Domain A)
+with_fd_in ds d fd x = with_fds_in ds d (slice_set (fds_in ds d) fd (Some x))
+
 -- with x open under the lowest free number
 abbrev pub with_next_fd : List (Option Descriptor) → Descriptor → List (Option Descriptor)
 with_next_fd fds x = placed fds (lowest fds) x
@@ -160,15 +178,46 @@ pub record OpensNext {S E : Type 0} (old new : S) (put : List (Option Descriptor
   pub opened : OnOk r (new ≡ put (with_next_fd fds x))
   pub err : OnErr r (new ≡ old)
 
--- The same of both ends of a pipe.
+-- Of these descriptors, whatever has them (as `put` says), both ends of a pipe are open, first the read end and then the write
+-- end under the lowest number that is free, and these numbers are the answer. A refusal changes nothing.
 pub record OpensEnds {S E : Type 0} (old new : S) (put : List (Option Descriptor) → S) (fds : List (Option Descriptor))
     (pipe : ℕ) (r : Result (ℕ × ℕ) E) : Type 0 where
   pub numbers : IfOk r (λ ends. ends ≡ next_ends fds pipe)
   pub opened : OnOk r (new ≡ put (with_ends fds pipe))
   pub err : OnErr r (new ≡ old)
 
--- One that was open is closed, and then the lowest that is free is open: n.
+-- Of these descriptors, whatever has them (as `put` says), fd is closed, and then x opened under the lowest free number: n.
 pub record MovesFd {S : Type 0} (new : S) (put : List (Option Descriptor) → S) (fds : List (Option Descriptor)) (fd : ℕ)
     (x : Descriptor) (n : ℕ) : Type 0 where
   pub number : n ≡ lowest (slice_set fds fd None)
   pub moved : new ≡ put (with_next_fd (slice_set fds fd None) x)
+
+-- A domain opens x under its lowest free number, which is the answer. A refusal changes nothing.
+abbrev pub OpensNextOf : {A E : Type 0} → (old new : Domain A) → Descriptor → Result ℕ E → Type 0
+OpensNextOf old new x r = OpensNext old new (λ fds. record old { fds = fds }) old.fds x r
+
+-- A domain opens both ends of a pipe, first the read end and then the write end under its lowest free number, and these
+-- numbers are the answer. A refusal changes nothing.
+abbrev pub OpensEndsOf : {A E : Type 0} → (old new : Domain A) → (pipe : ℕ) → Result (ℕ × ℕ) E → Type 0
+OpensEndsOf old new pipe r = OpensEnds old new (λ fds. record old { fds = fds }) old.fds pipe r
+
+-- A domain closes fd, and then opens x under its lowest free number: n.
+abbrev pub MovesFdOf : {A : Type 0} → (old new : Domain A) → (fd : ℕ) → Descriptor → (n : ℕ) → Type 0
+MovesFdOf old new fd x n = MovesFd new (λ fds. record old { fds = fds }) old.fds fd x n
+
+-- Domain d of a table opens x under its lowest free number, which is the answer, and no other domain changes. A refusal changes
+-- none.
+abbrev pub OpensNextIn : {A E : Type 0} → (old new : List (Row A)) → (d : ℕ) → Descriptor → Result ℕ E → Type 0
+OpensNextIn old new d x r =
+    OpensNext (domains_of old) (domains_of new) (with_fds_in (domains_of old) d) (fds_in (domains_of old) d) x r
+
+-- Domain d of a table opens both ends of a pipe, first the read end and then the write end under its lowest free number, and
+-- these numbers are the answer. No other domain changes, and a refusal changes none.
+abbrev pub OpensEndsIn : {A E : Type 0} → (old new : List (Row A)) → (d pipe : ℕ) → Result (ℕ × ℕ) E → Type 0
+OpensEndsIn old new d pipe r =
+    OpensEnds (domains_of old) (domains_of new) (with_fds_in (domains_of old) d) (fds_in (domains_of old) d) pipe r
+
+-- Domain d of a table closes fd, and then opens x under its lowest free number: n. No other domain changes.
+abbrev pub MovesFdIn : {A : Type 0} → (old new : List (Row A)) → (d fd : ℕ) → Descriptor → (n : ℕ) → Type 0
+MovesFdIn old new d fd x n =
+    MovesFd (domains_of new) (with_fds_in (domains_of old) d) (fds_in (domains_of old) d) fd x n

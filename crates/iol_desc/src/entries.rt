@@ -103,7 +103,11 @@ impl<A> Model for Entries<A> {
 
     ghost Value = { listed.Listed A };
 
-    ghost view = { λ e. record { entries = listed.there e.list.items; next = e.next; room = vec_capacity e.list - vec_len e.list } };
+    ghost view = { λ e. record {
+      entries = listed.there e.list.items;
+      next = e.next;
+      room = vec_capacity e.list - vec_len e.list;
+    } };
 
     ghost invariant = { λ e. listed.IsListed e.holes e.next e.list.items };
 }

@@ -1,10 +1,10 @@
 //! Lists of places, some of them free.
-ghost use Rattle.std.specs.Prelude.{◌≡◌, ◌≢◌, ◌-◌, ◌<◌, ◌≤◌, length, [], None, Some, slice_set, vec_len, vec_capacity};
+ghost use Rattle.std.specs.Prelude.{◌≡◌, ◌≢◌, ◌<◌, ◌≤◌, length, [], None, Some, slice_set, vec_len, vec_capacity};
 ghost use Rattle.std.specs.Option.{option_copied};
 ghost use Rattle.std.specs.Borrow.{sem};
 ghost use Rattle.iol_desc.specs.Lending.{LendsPlace, LendsValue};
 ghost use Rattle.iol_core.specs.Prelude.{in_place, lowest, taken};
-ghost use Rattle.iol_desc.specs.Lowest.{CanLower, IsLowest, MovesLower, PutsAt, PutsLowest, PutsLower, ReservesPlaces};
+ghost use Rattle.iol_desc.specs.Lowest.{CanLower, IsLowest, MovesLower, PutsAt, PutsLowest, PutsLower, ReservesPlaces, SetsPlace};
 
 use std::alloc::{AllocError, Global};
 use std::marker::Model;
@@ -50,9 +50,7 @@ fn lowest_from<T>(places: &[Option<T>], from: usize) -> usize
 /// Leaves a place free.
 fn set_free<T: Drop>(places: &mut Vec<Option<T>>, place: usize)
     requires { place < length places.old.items }
-    ensures items { places.new.items ≡ slice_set places.old.items place None }
-    ensures room { vec_capacity places.old - vec_len places.old ≤
-        vec_capacity places.new - vec_len places.new }
+    ensures { SetsPlace places.old places.new place None }
 {
     places[place] = None;
 }
@@ -60,9 +58,7 @@ fn set_free<T: Drop>(places: &mut Vec<Option<T>>, place: usize)
 /// Puts a value in a place.
 fn set_taken<T: Drop>(places: &mut Vec<Option<T>>, place: usize, value: T)
     requires { place < length places.old.items }
-    ensures items { places.new.items ≡ slice_set places.old.items place (Some value) }
-    ensures room { vec_capacity places.old - vec_len places.old ≤
-        vec_capacity places.new - vec_len places.new }
+    ensures { SetsPlace places.old places.new place (Some value) }
 {
     places[place] = Some(value);
 }

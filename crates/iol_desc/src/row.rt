@@ -1,8 +1,8 @@
 //! One domain.
-ghost use Rattle.std.specs.Prelude.{◌≡◌, ◌≢◌, ◌+◌, ◌<◌, ◌≤◌, length, Some, None, [], OnOk, slice_set, nat_lt};
+ghost use Rattle.std.specs.Prelude.{◌≡◌, ◌≢◌, ◌+◌, ◌<◌, ◌≤◌, length, None, [], OnOk, nat_lt};
 ghost use Rattle.std.specs.Option.{option_copied};
 ghost use Rattle.iol_core.specs.Prelude.{new_domain, no_domain, in_place, lookup, taken};
-ghost use Rattle.iol_desc.specs.Tables.{AddsAgg, HasNothing, KeepsAggs, MovesFd, OpensEnds, OpensNext, SwapsAgg, TakesAgg};
+ghost use Rattle.iol_desc.specs.Tables.{AddsAgg, HasNothing, KeepsAggs, MovesFdOf, OpensEnds, OpensEndsOf, OpensNext, OpensNextOf, SwapsAgg, TakesAgg, with_fd, without_fd};
 
 use crate::entries::{Entries, Taken};
 use crate::places::Places;
@@ -170,8 +170,7 @@ impl<A: Drop> Domain<A> {
     /// Opens both ends of a pipe.
     pub(crate) fn add_ends(&mut self, pipe: PipeId) -> Result<(Fd, Fd), AllocError>
         requires { taken self.old.domain.fds ≤ MAX_OPEN }
-        ensures opens { OpensEnds self.old.domain self.new.domain
-            (λ fds. record self.old.domain { fds = fds }) self.old.domain.fds pipe result }
+        ensures opens { OpensEndsOf self.old.domain self.new.domain pipe result }
         ensures kept { KeepsAggs self.old self.new }
     {
         open_ends(&mut self.fds, pipe)
@@ -180,8 +179,7 @@ impl<A: Drop> Domain<A> {
     /// Opens the lowest free number.
     pub(crate) fn add_fd(&mut self, on: Descriptor) -> Result<Fd, AllocError>
         requires { taken self.old.domain.fds < MAX_OPEN }
-        ensures opens { OpensNext self.old.domain self.new.domain
-            (λ fds. record self.old.domain { fds = fds }) self.old.domain.fds on result }
+        ensures opens { OpensNextOf self.old.domain self.new.domain on result }
         ensures kept { KeepsAggs self.old self.new }
     {
         open_next(&mut self.fds, on)
@@ -190,8 +188,7 @@ impl<A: Drop> Domain<A> {
     /// Closes an open number.
     pub(crate) fn take_fd(&mut self, fd: Fd)
         requires { in_place self.old.domain.fds fd ≢ None }
-        ensures closed { self.new.domain ≡ record self.old.domain
-            { fds = slice_set self.old.domain.fds fd None } }
+        ensures closed { self.new.domain ≡ without_fd self.old.domain fd }
         ensures kept { KeepsAggs self.old self.new }
     {
         self.fds.free(fd.number() as usize);
@@ -200,8 +197,7 @@ impl<A: Drop> Domain<A> {
     /// Opens an open number on something else.
     pub(crate) fn set_fd(&mut self, fd: Fd, on: Descriptor)
         requires { in_place self.old.domain.fds fd ≢ None }
-        ensures set { self.new.domain ≡ record self.old.domain
-            { fds = slice_set self.old.domain.fds fd (Some on) } }
+        ensures set { self.new.domain ≡ with_fd self.old.domain fd on }
         ensures kept { KeepsAggs self.old self.new }
     {
         *self.fds.value_mut(fd.number() as usize) = on;
@@ -210,8 +206,7 @@ impl<A: Drop> Domain<A> {
     /// Closes an open number, and opens the lowest.
     pub(crate) fn move_fd(&mut self, fd: Fd, on: Descriptor) -> Fd
         requires { in_place self.old.domain.fds fd ≢ None }
-        ensures moves { MovesFd self.new.domain (λ fds. record self.old.domain { fds = fds })
-            self.old.domain.fds fd on result }
+        ensures moves { MovesFdOf self.old.domain self.new.domain fd on result }
         ensures kept { KeepsAggs self.old self.new }
     {
         Fd::new(self.fds.put_lower(fd.number() as usize, on) as u32)

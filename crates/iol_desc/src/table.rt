@@ -1,10 +1,10 @@
 //! The table of domains.
 #![tactic(auto, using(crate::proofs::Rows::row_rules, crate::proofs::Counted::counted_rules), unfolding(crate::specs::Tables::domain_in, crate::specs::Tables::with_domain_in, crate::specs::Tables::row_in))]
 
-ghost use Rattle.std.specs.Prelude.{◌≡◌, ◌≢◌, ◌+◌, ◌<◌, ◌≤◌, length, true, Some, None, [], ◌∷◌, ◌++◌, OnOk, OnErr, slice_set, nat_lt};
+ghost use Rattle.std.specs.Prelude.{◌≡◌, ◌≢◌, ◌+◌, ◌<◌, ◌≤◌, length, true, None, [], ◌∷◌, ◌++◌, OnOk, OnErr, nat_lt};
 ghost use Rattle.std.specs.Option.{option_copied};
 ghost use Rattle.iol_core.specs.Prelude.{new_domain, no_domain, in_place, taken};
-ghost use Rattle.iol_desc.specs.Tables.{domains_of, room_in, domain_in, with_domain_in, with_default_in, agg_in, aggs_in, with_aggs_in, too_many_in, fds_in, with_fds_in, AddsAggIn, MovesFd, OpensEnds, OpensNext, SwapsAggIn, TakesAggIn};
+ghost use Rattle.iol_desc.specs.Tables.{domains_of, room_in, domain_in, with_domain_in, with_default_in, agg_in, aggs_in, with_aggs_in, too_many_in, fds_in, with_fds_in, with_fd_in, without_fd_in, AddsAggIn, MovesFdIn, OpensEndsIn, OpensNextIn, SwapsAggIn, TakesAggIn};
 
 use crate::entries::Taken;
 use crate::row::Domain;
@@ -104,8 +104,8 @@ impl<A: Drop> Table<A> {
         domain.agg(agg)
     }
 
-    /// Whether a domain is refused `made` new aggregates where `given` are given up: over 65,536 would be live in all, or its numbers
-    /// would pass their last. Both counts are at most 2.
+    /// Whether a domain is refused `made` new aggregates where `given` are given up: over 65,536 would be live in all, or its
+    /// numbers would pass their last. Both counts are at most 2.
     pub fn is_too_many(&self, d: DomainId, made: u64, given: u64) -> bool
         requires live { (domain_in (domains_of self.now) d).live ≡ true }
         requires made { made ≤ 2 }
@@ -227,8 +227,7 @@ impl<A: Drop> Table<A> {
     pub fn add_fd(&mut self, d: DomainId, on: Descriptor) -> Result<Fd, AllocError>
         requires live { (domain_in (domains_of self.old) d).live ≡ true }
         requires few { taken (fds_in (domains_of self.old) d) < MAX_OPEN }
-        ensures { OpensNext (domains_of self.old) (domains_of self.new)
-            (with_fds_in (domains_of self.old) d) (fds_in (domains_of self.old) d) on result }
+        ensures { OpensNextIn self.old self.new d on result }
     {
         let at = self.place_of(d);
         let domain = &mut self.rows[at];
@@ -239,8 +238,7 @@ impl<A: Drop> Table<A> {
     pub fn add_ends(&mut self, d: DomainId, pipe: PipeId) -> Result<(Fd, Fd), AllocError>
         requires live { (domain_in (domains_of self.old) d).live ≡ true }
         requires few { taken (fds_in (domains_of self.old) d) ≤ MAX_OPEN }
-        ensures { OpensEnds (domains_of self.old) (domains_of self.new)
-            (with_fds_in (domains_of self.old) d) (fds_in (domains_of self.old) d) pipe result }
+        ensures { OpensEndsIn self.old self.new d pipe result }
     {
         let at = self.place_of(d);
         let domain = &mut self.rows[at];
@@ -251,8 +249,7 @@ impl<A: Drop> Table<A> {
     pub fn take_fd(&mut self, d: DomainId, fd: Fd)
         requires live { (domain_in (domains_of self.old) d).live ≡ true }
         requires there { in_place (fds_in (domains_of self.old) d) fd ≢ None }
-        ensures { domains_of self.new ≡ with_fds_in (domains_of self.old) d
-            (slice_set (fds_in (domains_of self.old) d) fd None) }
+        ensures { domains_of self.new ≡ without_fd_in (domains_of self.old) d fd }
     {
         let at = self.place_of(d);
         let domain = &mut self.rows[at];
@@ -263,8 +260,7 @@ impl<A: Drop> Table<A> {
     pub fn set_fd(&mut self, d: DomainId, fd: Fd, on: Descriptor)
         requires live { (domain_in (domains_of self.old) d).live ≡ true }
         requires there { in_place (fds_in (domains_of self.old) d) fd ≢ None }
-        ensures set { domains_of self.new ≡ with_fds_in (domains_of self.old) d
-            (slice_set (fds_in (domains_of self.old) d) fd (Some on)) }
+        ensures set { domains_of self.new ≡ with_fd_in (domains_of self.old) d fd on }
         ensures room { room_in self.old d ≤ room_in self.new d }
     {
         let at = self.place_of(d);
@@ -289,8 +285,7 @@ impl<A: Drop> Table<A> {
     pub fn move_fd(&mut self, d: DomainId, fd: Fd, on: Descriptor) -> Fd
         requires live { (domain_in (domains_of self.old) d).live ≡ true }
         requires there { in_place (fds_in (domains_of self.old) d) fd ≢ None }
-        ensures { MovesFd (domains_of self.new) (with_fds_in (domains_of self.old) d)
-            (fds_in (domains_of self.old) d) fd on result }
+        ensures { MovesFdIn self.old self.new d fd on result }
     {
         let at = self.place_of(d);
         let domain = &mut self.rows[at];

@@ -9,7 +9,7 @@ use Rattle.iol_evict.specs.declared.entry.Entry.{Entry}
 use Rattle.iol_evict.specs.declared.entry.Rank.{Rank}
 use Rattle.iol_evict.specs.declared.entry.By.{By}
 use Rattle.iol_evict.specs.declared.entry.By.TheVariants.{Place}
-use Rattle.iol_evict.specs.Ranking.{no_entry, is_at, lies_before, entry_at, entry_or, put_in, without, set_at, with_height}
+use Rattle.iol_evict.specs.Ranking.{Table, no_entry, is_at, lies_before, entry_at, entry_or, put_in, without, set_at, with_height}
 use Rattle.iol_evict.specs.Ranks.{rank_by, RankLt, RankLe}
 use Rattle.iol_evict.specs.Indexes.{entry_of, rank_at, IsRising, HasRank, Finds, Adds, Takes}
 use Rattle.iol_evict.proofs.Comparing.{lt_not_le, le_refl}
@@ -59,6 +59,11 @@ has-place s keys file at some =
       within = within;
       has = rank-place (entry_of s (get_or keys there.index 0)) file at (subst (λ (e : Entry). is_at e file at ≡ true) (read s keys there.index within) there.here);
     }
+
+-- the rank of a place at which a table has an entry is among those of its keys
+pub place-there : (s : Slab Entry) (keys : List ℕ) (t : Table) (room file at : ℕ) (rank : Rank) → ◌≡◌ {A = Table} (record { entries = entries_of s keys; room = room }) t → rank ≡ rank_of_place file at → entry_at t.entries file at ≢ None → HasRank Place s keys rank
+place-there s keys t room file at rank same is there =
+    subst (λ (r : Rank). HasRank Place s keys r) (sym is) (has-place s keys file at (subst (λ (u : Table). entry_at u.entries file at ≢ None) (sym same) there))
 
 -- earlier entries lie elsewhere
 away-before : (s : Slab Entry) (keys : List ℕ) (file at n : ℕ) → IsRising Place s keys → n < length keys → rank_at Place s keys n ≡ rank_of_place file at → (i : ℕ) → i < n → is_at (get_or (entries_of s keys) i no_entry) file at ≡ false

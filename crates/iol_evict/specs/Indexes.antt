@@ -35,7 +35,7 @@ pub record IsPlace (by : By) (s : Slab Entry) (keys : List ℕ) (rank : Rank) (n
   pub before : (i : ℕ) → i < n → RankLt (rank_at by s keys i) rank
   pub after : (i : ℕ) → n ≤ i → i < length keys → RankLe rank (rank_at by s keys i)
 
--- this rank is among them
+-- this rank is among those of the keys
 pub record HasRank (by : By) (s : Slab Entry) (keys : List ℕ) (rank : Rank) : Type 0 where
   pub index : ℕ
   pub within : index < length keys
@@ -56,18 +56,20 @@ times key keys = sum_by (one_if key) keys
 pub record HaveSameKeys (a b : List ℕ) : Type 0 where
   pub each : (key : ℕ) → times key a ≡ times key b
 
--- what one index finds, and takes away
+-- the key of an entry of this rank is among the keys
 pub record Finds (by : By) (s : Slab Entry) (keys : List ℕ) (rank : Rank) (key : ℕ) : Type 0 where
   pub index : ℕ
   pub within : index < length keys
   pub is : slice_index keys index ≡ key
   pub has : rank_at by s keys index ≡ rank
 
+-- a key came in among the keys, in the place of its entry's rank
 pub record Adds (by : By) (s : Slab Entry) (key : ℕ) (old new : List ℕ) : Type 0 where
   pub index : ℕ
   pub place : IsPlace by s old (rank_by by (entry_of s key)) index
   pub keys : new ≡ insert old index key
 
+-- the key of an entry of this rank went out
 pub record Takes (by : By) (s : Slab Entry) (rank : Rank) (key : ℕ) (old new : List ℕ) : Type 0 where
   pub index : ℕ
   pub within : index < length old
@@ -99,6 +101,10 @@ pub record SetsEntry (old new : Slab Entry) (key : ℕ) (entry : Entry) : Type 0
   pub updates : Updates old new key (Some entry)
   pub len : slab_len new ≡ slab_len old
   pub capacity : new.capacity ≡ old.capacity
+
+-- The entry at a key has this height then, is else as it was, and the room stays.
+abbrev pub SetsHeight : (old new : Slab Entry) → (key height : ℕ) → Type 0
+SetsHeight old new key height = SetsEntry old new key (record (entry_of old key) { height = height })
 
 -- Keys in a ring, as an index has them.
 
@@ -136,7 +142,7 @@ pub record SortsAll (s : Slab Entry) (keys : List ℕ) (old new : Keys) : Type 0
   pub len : deque_len new ≡ length keys
   pub capacity : deque_capacity old ≤ deque_capacity new
 
--- Room was made for so many keys more. They are as they were, and refused, there is no less room.
+-- The keys are as they were, and there is no less room; on success there is room for so many keys more.
 pub record ReservesKeys {E : Type 0} (count : ℕ) (old new : Keys) (r : Result (Unit {0}) E)
     : Type 0 where
   pub room : OnOk r (deque_len new + count ≤ deque_capacity new)
@@ -144,7 +150,7 @@ pub record ReservesKeys {E : Type 0} (count : ℕ) (old new : Keys) (r : Result 
   pub len : deque_len new ≡ deque_len old
   pub capacity : deque_capacity old ≤ deque_capacity new
 
--- The same of entries.
+-- The entries are as they were, and there is no less room; on success there is room for so many entries more.
 pub record ReservesEntries {E : Type 0} (count : ℕ) (old new : Slab Entry)
     (r : Result (Unit {0}) E) : Type 0 where
   pub room : OnOk r (HasRoomFor new count)

@@ -2,4 +2,3 @@ pub mod Ranks
 pub mod Ranking
 pub mod Victims
 pub mod Indexes
-pub mod Prelude

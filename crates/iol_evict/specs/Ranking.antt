@@ -54,6 +54,18 @@ set_at file at height e = if is_at e file at then record e { height = height } e
 abbrev pub with_height : List Entry → (file at height : ℕ) → List Entry
 with_height es file at height = map (set_at file at height) es
 
+-- a table with an entry more, in room that was there
+abbrev pub with_entry : Table → Entry → Table
+with_entry t e = record { entries = put_in t.entries e; room = t.room - 1 }
+
+-- a table without the entry at a place, which leaves room for one more
+abbrev pub without_entry : Table → (file at : ℕ) → Table
+without_entry t file at = record { entries = without t.entries file at; room = t.room + 1 }
+
+-- a table whose entry at a place has this height
+abbrev pub with_height_at : Table → (file at height : ℕ) → Table
+with_height_at t file at height = record t { entries = with_height t.entries file at height }
+
 -- an entry comes in, its worth above L
 abbrev pub entered : Ranking → (file at size cost : ℕ) → Ranking
 entered r file at size cost =

@@ -30,6 +30,10 @@ pub record IsVictim (in_use : ℕ → ℕ → Bool) (es : List Entry) (place : �
 pub record AreUsedBelow (in_use : ℕ → ℕ → Bool) (rank : Rank) (es : List Entry) : Type 0 where
   pub each : All (λ e. RankLt (rank_by Height e) rank → in_use e.file e.at ≡ true) es
 
+-- Whoever is in use: where all of the old entries below one rank are, all of the new ones below the other are.
+abbrev pub KeepsUsedBelow : (was now : Rank) → (old new : List Entry) → Type 0
+KeepsUsedBelow was now old new = (in_use : ℕ → ℕ → Bool) → AreUsedBelow in_use was old → AreUsedBelow in_use now new
+
 -- of each of these entries it may be asked whether it is in use
 pub record CanAskOf (can_ask : ℕ → ℕ → Type 0) (s : Slab Entry) (keys : List ℕ) : Type 0 where
   pub each : (i : ℕ) → i < length keys → can_ask (entry_of s (slice_index keys i)).file (entry_of s (slice_index keys i)).at
@@ -44,6 +48,10 @@ pub record GoesFirst (in_use : ℕ → ℕ → Bool) (s : Slab Entry) (keys : Li
   pub lies : place ≡ ((entry_of s (slice_index keys index)).file, (entry_of s (slice_index keys index)).at)
   pub before : (i : ℕ) → i < index → is_used in_use s keys i ≡ true
   pub idle : (is_used in_use s keys index ≡ false) ⊎ ((index ≡ 0) × ((i : ℕ) → i < length keys → is_used in_use s keys i ≡ true))
+
+-- the place of the entry that goes first, if there are any keys
+abbrev pub FindsIdle : (in_use : ℕ → ℕ → Bool) → Slab Entry → List ℕ → (found : Option (ℕ × ℕ)) → Type 0
+FindsIdle in_use s keys found = MatchOption found (length keys ≡ 0) (GoesFirst in_use s keys)
 
 -- all of these keys whose entries lie below a rank are in use
 pub record KeysUsedBelow (in_use : ℕ → ℕ → Bool) (rank : Rank) (s : Slab Entry) (keys : List ℕ) : Type 0 where

@@ -3,7 +3,7 @@ ghost use Rattle.std.specs.Prelude.{◌≡◌, ◌≢◌, ◌+◌, ◌-◌, ◌<
 ghost use Rattle.std.specs.VecDeque.{deque_len, deque_capacity};
 ghost use Rattle.slab.specs.Slab.{get, HasRoomFor};
 ghost use Rattle.iol_evict.specs.Indexes.{entry_of, IsIndexed, ReservesEntries, ReservesKeys};
-ghost use Rattle.iol_evict.specs.Ranking.{MayPut, Reserves, Table, entry_at, entry_or, put_in, without, with_height, lowered_by};
+ghost use Rattle.iol_evict.specs.Ranking.{MayPut, Reserves, Table, entry_at, entry_or, lowered_by, with_entry, with_height_at, without_entry};
 ghost use Rattle.iol_evict.specs.Victims.{AreUsedBelow, FindsFirst};
 
 use crate::entry::{By, Entry, Rank};
@@ -128,8 +128,7 @@ impl Entries {
     /// Puts an entry in, in room that is there.
     pub(crate) fn insert(&mut self, entry: Entry)
         requires { MayPut self.old entry }
-        ensures { let new = put_in self.old.entries entry in
-            self.new ≡ record { entries = new; room = self.old.room - 1 } }
+        ensures { self.new ≡ with_entry self.old entry }
     {
         let key = self.slab.insert_reserved(entry);
         insert_key(&self.slab, &mut self.by_place, By::Place, key);
@@ -141,8 +140,7 @@ impl Entries {
     pub(crate) fn remove(&mut self, file: FileId, at: u32) -> Entry
         requires { entry_at self.old.entries file at ≢ None }
         ensures entry { result ≡ entry_or self.old.entries file at }
-        ensures rest { let new = without self.old.entries file at in
-            self.new ≡ record { entries = new; room = self.old.room + 1 } }
+        ensures rest { self.new ≡ without_entry self.old file at }
     {
         let key = remove_key(
             &self.slab,
@@ -165,8 +163,7 @@ impl Entries {
     /// Gives the entry at a place a height. Where it has that already, no key moves.
     pub(crate) fn set_height(&mut self, file: FileId, at: u32, height: u64)
         requires { entry_at self.old.entries file at ≢ None }
-        ensures { let new = with_height self.old.entries file at height in
-            self.new ≡ record self.old { entries = new } }
+        ensures { self.new ≡ with_height_at self.old file at height }
     {
         let key = find_key(&self.slab, &self.by_place, By::Place, &place_of(file, at));
         let entry = read_entry(&self.slab, key);

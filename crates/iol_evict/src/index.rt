@@ -1,7 +1,7 @@
 //! Sorted lists of a slab's keys.
 ghost use Rattle.std.specs.Prelude.{◌≡◌, ◌+◌, ◌-◌, ◌/◌, ◌<◌};
 ghost use Rattle.slab.specs.Slab.{ContainsKey};
-ghost use Rattle.iol_evict.specs.Indexes.{AddsKey, Finds, HasRank, IsIndex, IsPlace, MayAdd, SetsEntry, TakesKey, entry_of};
+ghost use Rattle.iol_evict.specs.Indexes.{AddsKey, Finds, HasRank, IsIndex, IsPlace, MayAdd, SetsHeight, TakesKey, entry_of};
 
 use crate::entry::{By, Entry, Rank};
 use crate::rank::{comes_before, rank_of};
@@ -19,8 +19,7 @@ pub(crate) fn read_entry(entries: &Slab<Entry>, key: usize) -> Entry
 /// Gives the entry at a key another height.
 pub(crate) fn write_height(slab: &mut Slab<Entry>, key: usize, height: u64)
     requires { ContainsKey slab.old key }
-    ensures { let new = record (entry_of slab.old key) { height = height } in
-        SetsEntry slab.old slab.new key new }
+    ensures { SetsHeight slab.old slab.new key height }
 {
     slab[key].height = height;
 }

@@ -1,7 +1,7 @@
 //! The order in which parts of files are evicted.
-ghost use Rattle.std.specs.Prelude.{◌≡◌, ◌≢◌, ℕ, ◌+◌, ◌-◌, ◌*◌, ◌/◌, ◌^◌, ◌<◌, ◌≤◌, [], All, Bool, None, MatchOption, OnOk};
+ghost use Rattle.std.specs.Prelude.{◌≡◌, ◌≢◌, ◌+◌, ◌-◌, ◌*◌, ◌/◌, ◌^◌, ◌<◌, ◌≤◌, [], All, None, OnOk};
 ghost use Rattle.iol_evict.specs.Ranking.{KeepsRoom, Ranking, worth, entry_at, entry_or, entered, hit_at, left_at, evicted_at, with_one_kept, with_one_given_back};
-ghost use Rattle.iol_evict.specs.Victims.{AreUsedBelow, IsVictim};
+ghost use Rattle.iol_evict.specs.Victims.{AreUsedBelow, FindsFirst, KeepsUsedBelow};
 
 use crate::entries::Entries;
 use crate::entry::{Entry, MAX_LOW, Rank};
@@ -141,9 +141,7 @@ impl Order {
     pub fn evict(&mut self, file: FileId, at: u32, passed: &mut Rank)
         requires { entry_at self.old.entries file at ≢ None }
         ensures evicted { self.new ≡ evicted_at self.old file at }
-        ensures below { (in_use : ℕ → ℕ → Bool) →
-            AreUsedBelow in_use passed.old self.old.entries →
-            AreUsedBelow in_use passed.new self.new.entries }
+        ensures below { KeepsUsedBelow passed.old passed.new self.old.entries self.new.entries }
     {
         let entry = self.entries.remove(file, at);
         if entry.height <= MAX_LOW {
@@ -161,9 +159,7 @@ impl Order {
     pub fn least<U: InUse>(&self, users: &U, passed: &mut Rank) -> Option<(FileId, u32)>
         requires ask { All (λ e. U.can_ask users.now e.file e.at) self.now.entries }
         requires below { AreUsedBelow (U.in_use users.now) passed.old self.now.entries }
-        ensures first { MatchOption result (self.now.entries ≡ [])
-            (IsVictim (U.in_use users.now) self.now.entries) }
-        ensures below { AreUsedBelow (U.in_use users.now) passed.new self.now.entries }
+        ensures { FindsFirst (U.in_use users.now) passed.new self.now.entries result }
     {
         self.entries.least(users, passed)
     }

@@ -1,6 +1,6 @@
 //! Finding the entry that goes first.
-ghost use Rattle.std.specs.Prelude.{◌≡◌, ◌<◌, length, MatchOption};
-ghost use Rattle.iol_evict.specs.Victims.{GoesFirst, KeysUsedBelow, MaySearch};
+ghost use Rattle.std.specs.Prelude.{◌<◌};
+ghost use Rattle.iol_evict.specs.Victims.{FindsIdle, KeysUsedBelow, MaySearch};
 
 use crate::entry::{By, Entry, Rank};
 use crate::index::{position, read_entry};
@@ -18,10 +18,9 @@ pub(crate) fn first_idle<U: InUse>(
     users: &U,
     passed: &mut Rank,
 ) -> Option<(FileId, u32)>
-    requires { let ask = U.can_ask users.now in
-        MaySearch ask (U.in_use users.now) passed.old slab.now keys.now.items }
-    ensures first { MatchOption result (length keys.now.items ≡ 0)
-        (GoesFirst (U.in_use users.now) slab.now keys.now.items) }
+    requires { MaySearch (U.can_ask users.now) (U.in_use users.now) passed.old slab.now
+        keys.now.items }
+    ensures first { FindsIdle (U.in_use users.now) slab.now keys.now.items result }
     ensures below { KeysUsedBelow (U.in_use users.now) passed.new slab.now keys.now.items }
 {
     let from = position(slab, keys, By::Height, passed);

@@ -1,5 +1,5 @@
 -- The extents of a file: in memory, between gaps that only the store has.
-use Rattle.std.specs.Prelude.{◌≡◌, ℕ, ◌+◌, ◌-◌, ◌<◌, ◌≤◌, ◌&&◌, nat_lt, nat_le, max, Bool, true, false, if◌then◌else◌, cond, sum_by, List, [], ◌∷◌, Option, Some, None, slice_index_or, ◌==◌, Result, OnOk, OnErr}
+use Rattle.std.specs.Prelude.{◌≡◌, ℕ, ◌+◌, ◌-◌, ◌<◌, ◌≤◌, ◌&&◌, nat_lt, nat_le, max, Bool, true, false, if◌then◌else◌, cond, sum_by, List, [], ◌∷◌, Option, Some, None, slice_index_or, slice_set, ◌==◌, Result, OnOk, OnErr, IfSome, MatchOption}
 use Rattle.std.specs.Borrow.{Bor}
 use Rattle.iol_hold.specs.declared.slices.Slice.{Slice}
 use Rattle.iol_hold.specs.Places.{Place, places, byte_len}
@@ -66,6 +66,14 @@ abbrev pub extent_over : List Extent → ℕ → Option Extent
 extent_over [] i = None
 extent_over (e ∷ es) i = if is_over e i then Some e else extent_over es i
 
+-- what `over` finds is the extent over byte i, if one lies there
+abbrev pub IsExtentOver : List Extent → (i : ℕ) → (found : Option (ℕ × Bor (List Slice) × Bool)) → Type 0
+IsExtentOver es i found = MatchOption found (extent_over es i ≡ None) (λ x. extent_over es i ≡ Some (extent_in x))
+
+-- what `over` finds has what lies over byte i, if something does
+abbrev pub HasCellOver : List Extent → (i : ℕ) → (found : Option (ℕ × Bor (List Slice) × Bool)) → Type 0
+HasCellOver es i found = MatchOption found (cover es i ≡ None) (λ x. cover es i ≡ Some (cell_in x i))
+
 -- the extents stand in order from low on, none of them empty
 abbrev pub IsApart : ℕ → List Extent → Type 0
 IsApart low [] = Unit {0}
@@ -95,6 +103,14 @@ abbrev pub begins_at : List Extent → ℕ → Option Extent
 begins_at [] at = None
 begins_at (e ∷ es) at = if e.at == at then Some e else begins_at es at
 
+-- es' lacks the extent of es that begins at a place
+abbrev pub LacksAt : List Extent → (at : ℕ) → List Extent → Type 0
+LacksAt es at es' = IfSome (begins_at es at) (λ e. Lacks es e es')
+
+-- the last one of es ends where its extent that begins at a place or the last one of es' ends, whichever is later
+abbrev pub EndsAtLater : List Extent → (at : ℕ) → List Extent → Type 0
+EndsAtLater es at es' = IfSome (begins_at es at) (λ e. last_end es ≡ max (end_of e) (last_end es'))
+
 -- the first extent that is dirty
 abbrev pub dirty_in : List Extent → Option Extent
 dirty_in [] = None
@@ -112,7 +128,11 @@ Each P (x ∷ xs) = P x × Each P xs
 abbrev pub AreCleanBefore : (place : ℕ) → List Extent → Type 0
 AreCleanBefore place es = Each (λ (e : Extent). e.at < place → e.dirty ≡ false) es
 
--- the first dirty extent begins there
+-- where the first dirty extent begins, and its slices, if one is dirty
+abbrev pub FindsDirty : List Extent → (found : Option (ℕ × Bor (List Slice))) → Type 0
+FindsDirty es found = MatchOption found (dirty_in es ≡ None) (λ x. dirty_in es ≡ Some (extent_of x.0 x.1.now true))
+
+-- the first dirty extent begins at `at`
 pub record IsFirstDirty (es : List Extent) (at : ℕ) : Type 0 where
   pub extent : Extent
   pub is : dirty_in es ≡ Some extent
@@ -120,6 +140,10 @@ pub record IsFirstDirty (es : List Extent) (at : ℕ) : Type 0 where
 
 abbrev pub as_clean : Extent → Extent
 as_clean e = extent_of e.at e.parts false
+
+-- the extent in a place of the list is clean then, and all else is as it was
+abbrev pub CleansPlace : (place : ℕ) → (old new : List Extent) → Type 0
+CleansPlace place old new = (d : Extent) → new ≡ slice_set old place (as_clean (slice_index_or old place d))
 
 -- the extent that begins at a place is clean
 abbrev pub cleaned_at : List Extent → (at : ℕ) → List Extent
@@ -144,18 +168,22 @@ without_at (x ∷ xs) at = if x.at == at then xs else x ∷ without_at xs at
 abbrev pub meets : (from to : ℕ) → Extent → Bool
 meets from to e = nat_lt e.at to && nat_lt from (end_of e)
 
--- the first extent that has one
+-- the first extent that meets from..to
 abbrev pub met_in : List Extent → (from to : ℕ) → Option Extent
 met_in [] from to = None
 met_in (e ∷ es) from to = if meets from to e then Some e else met_in es from to
 
--- the extents that have none
+-- the extents that do not meet from..to
 abbrev pub unmet : List Extent → (from to : ℕ) → List Extent
 unmet [] from to = []
 unmet (e ∷ es) from to = if meets from to e then unmet es from to else e ∷ unmet es from to
 
--- the first extent that has one begins there
+-- the first extent that meets from..to begins at `at`
 pub record IsFirstMet (es : List Extent) (from to at : ℕ) : Type 0 where
   pub extent : Extent
   pub is : met_in es from to ≡ Some extent
   pub begins : extent.at ≡ at
+
+-- where the first extent begins that meets from..to, if one does
+abbrev pub FindsMet : List Extent → (from to : ℕ) → (found : Option ℕ) → Type 0
+FindsMet es from to found = MatchOption found (met_in es from to ≡ None) (IsFirstMet es from to)

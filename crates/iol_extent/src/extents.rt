@@ -1,7 +1,7 @@
 //! The extents of a file.
-ghost use Rattle.std.specs.Prelude.{◌≡◌, ◌+◌, ◌-◌, ◌<◌, ◌≤◌, ◌^◌, [], length, All, IfOk, IfSome, OnOk, MatchOption, Some, None, insert, remove, max, cond, IsSome, true, false};
+ghost use Rattle.std.specs.Prelude.{◌≡◌, ◌+◌, ◌-◌, ◌<◌, ◌≤◌, ◌^◌, [], length, All, IfOk, IfSome, OnOk, insert, remove, max, cond, IsSome, true, false};
 ghost use Rattle.iol_hold.specs.Prelude.{byte_len};
-ghost use Rattle.iol_extent.specs.Extents.{Extent, IsFirstMet, met_in, extent_of, extent_over, extent_in, dirty_in, cover, cell_in, dirty_count, end_of, IsApart, IsGap, Adds, KeepsRoom, Lacks, last_end, begins_at, put_in, without_at, cleaned_at, IsFirstDirty};
+ghost use Rattle.iol_extent.specs.Extents.{Extent, extent_of, dirty_count, Adds, EndsAtLater, FindsDirty, FindsMet, HasCellOver, IsApart, IsExtentOver, IsFirstDirty, IsGap, KeepsRoom, LacksAt, begins_at, cleaned_at, last_end, put_in, without_at};
 ghost use Rattle.iol_extent.specs.Spans.{BeginsAt, Tile};
 
 use crate::piece::Piece;
@@ -81,12 +81,8 @@ impl Extents {
 
     /// The extent over a byte: where it begins, its bytes, and whether it is dirty.
     pub fn over(&self, at: u32) -> Option<(u32, &Agg, bool)>
-        ensures extent { let es = self.now.extents in
-            MatchOption result (extent_over es at ≡ None)
-            (λ found. extent_over es at ≡ Some (extent_in found)) }
-        ensures cell { let es = self.now.extents in
-            MatchOption result (cover es at ≡ None)
-            (λ found. cover es at ≡ Some (cell_in found at)) }
+        ensures extent { IsExtentOver self.now.extents at result }
+        ensures cell { HasCellOver self.now.extents at result }
     {
         let found = count_before(&self.pieces, at);
         if found == self.pieces.len() {
@@ -131,9 +127,7 @@ impl Extents {
 
     /// Where the first dirty extent begins, and its bytes. The search goes on where the last one became clean.
     pub fn first_dirty(&self) -> Option<(u32, &Agg)>
-        ensures { let es = self.now.extents in
-            MatchOption result (dirty_in es ≡ None)
-            (λ found. dirty_in es ≡ Some (extent_of found.0 found.1.now true)) }
+        ensures { FindsDirty self.now.extents result }
     {
         if self.dirty == 0 {
             return None;
@@ -151,8 +145,7 @@ impl Extents {
     /// The place at which the first extent begins that has a byte of the range `from..to`. For an empty range that is the extent
     /// with bytes on both sides of it.
     pub fn first_met(&self, from: u32, to: u32) -> Option<u32>
-        ensures { let es = self.now.extents in
-            MatchOption result (met_in es from to ≡ None) (IsFirstMet es from to) }
+        ensures { FindsMet self.now.extents from to result }
     {
         let found = count_before(&self.pieces, from);
         if found == self.pieces.len() {
@@ -192,8 +185,8 @@ impl Extents {
     /// The hits and the gaps of a range: one hit for each extent that it meets, and each gap as long as it can be.
     pub fn find(&self, alloc: Global, from: u32, to: u32) -> Result<Found, AllocError>
         requires { from ≤ to }
-        ensures { let es = self.now.extents in
-            IfOk result (λ found. Tile es from to found.hits.items found.gaps.items) }
+        ensures { IfOk result (λ found.
+            Tile self.now.extents from to found.hits.items found.gaps.items) }
     {
         let mut hits = Vec::new(alloc);
         let mut gaps = Vec::new(alloc);
@@ -222,8 +215,8 @@ impl Extents {
 
         // What lies over each byte, and where the last one ends.
         ensures adds { Adds self.old.extents (extent_of at agg dirty) self.new.extents }
-        ensures ends { let old = last_end self.old.extents in
-            last_end self.new.extents ≡ max (at + byte_len agg) old }
+        ensures ends { last_end self.new.extents ≡
+            max (at + byte_len agg) (last_end self.old.extents) }
     {
         let place = count_before(&self.pieces, at);
         self.pieces.insert(place, Piece { at, agg, dirty });
@@ -253,11 +246,8 @@ impl Extents {
         ensures apart { IsApart 0 self.new.extents }
 
         // What lies over each byte, and where the last one ends.
-        ensures lacks { let old = self.old.extents in
-            IfSome (begins_at old at) (λ e. Lacks old e self.new.extents) }
-        ensures ends { let old = self.old.extents in
-            IfSome (begins_at old at)
-            (λ e. last_end old ≡ max (end_of e) (last_end self.new.extents)) }
+        ensures lacks { LacksAt self.old.extents at self.new.extents }
+        ensures ends { EndsAtLater self.old.extents at self.new.extents }
     {
         let found = count_before(&self.pieces, at);
         let Piece { at: _, agg, dirty } = self.pieces.remove(found);

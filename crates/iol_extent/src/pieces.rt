@@ -1,7 +1,7 @@
 //! Extents, one after another.
-ghost use Rattle.std.specs.Prelude.{◌≡◌, ◌+◌, ◌-◌, ◌/◌, ◌<◌, ◌≤◌, [], length, slice_index_or, slice_set};
+ghost use Rattle.std.specs.Prelude.{◌≡◌, ◌+◌, ◌-◌, ◌/◌, ◌<◌, ◌≤◌, [], length};
 ghost use Rattle.slab.specs.Slab.{ContainsKey};
-ghost use Rattle.iol_extent.specs.Extents.{Extent, as_clean, IsApart, Reserves};
+ghost use Rattle.iol_extent.specs.Extents.{CleansPlace, IsApart, Reserves};
 ghost use Rattle.iol_extent.specs.Keys.{Cleans, EndBefore, Inserts, Removes};
 
 use crate::piece::Piece;
@@ -106,8 +106,7 @@ impl Pieces {
     /// A piece is clean then.
     pub(crate) fn clean(&mut self, place: usize)
         requires { place < length self.old.extents }
-        ensures extents { (d : Extent) → self.new.extents ≡
-            slice_set self.old.extents place (as_clean (slice_index_or self.old.extents place d)) }
+        ensures extents { CleansPlace place self.old.extents self.new.extents }
         ensures room { self.new.room ≡ self.old.room }
     {
         let key = self.keys.at(place);

@@ -21,7 +21,7 @@ block_at bs k = slice_index_or bs k no_block
 abbrev pub size_at : List Block → (k : ℕ) → ℕ
 size_at bs k = length (block_at bs k).keys
 
--- how many keys it can hold
+-- how many keys block k can hold
 abbrev pub width_at : List Block → (k : ℕ) → ℕ
 width_at bs k = (block_at bs k).capacity
 
@@ -61,18 +61,18 @@ pub record MayGoOut (bs : List Block) (skip len place : ℕ) : Type 0 where
 
 -- One block.
 
--- a key came in at a place of it
+-- a key came in at a place of a block, which is no narrower
 pub record PutsKey (place key : ℕ) (old new : Block) : Type 0 where
   pub keys : new.keys ≡ insert old.keys place key
   pub width : old.capacity ≤ new.capacity
 
--- the key at a place of it went out
+-- the key at a place of a block went out, which is as wide as it was
 pub record TakesKey (place taken : ℕ) (old new : Block) : Type 0 where
   pub key : taken ≡ slice_index_or old.keys place taken
   pub keys : new.keys ≡ remove old.keys place
   pub width : new.capacity ≡ old.capacity
 
--- it is as wide as it was, and a place is free
+-- a block is as wide as it was, and has a free place
 pub record HasPlace (old new : Block) : Type 0 where
   pub width : new.capacity ≡ old.capacity
   pub room : length new.keys < new.capacity
@@ -117,6 +117,14 @@ pub record Becomes (keys : List ℕ) (skip : ℕ) (old new : List Block) : Type 
   pub count : length new ≡ length old
   pub wide : (width : ℕ) → AreWide old width → AreWide new width
 
+-- A key came in at a place of the keys, which begin at the place `skip` then, in as many blocks.
+abbrev pub ComesIn : (skip place key : ℕ) → (old new : List Block) → Type 0
+ComesIn skip place key old new = Becomes (insert (joined old) place key) skip old new
+
+-- The key at a place of the keys went out, and they begin at the place `skip` then, in as many blocks.
+abbrev pub GoesOut : (skip place : ℕ) → (old new : List Block) → Type 0
+GoesOut skip place old new = Becomes (remove (joined old) place) skip old new
+
 -- The same keys, and perhaps empty blocks behind.
 pub record Grows (old new : List Block) : Type 0 where
   pub keys : joined new ≡ joined old
@@ -130,13 +138,13 @@ pub record OpensEnd (len : ℕ) (old new : List Block) (skip : ℕ) (is_left : B
   pub left : IsTrue is_left → 0 < skip
   pub right : is_left ≡ false → skip + len < length old * 128
 
--- Empty blocks came behind, up to so many, each of them so wide.
+-- Empty blocks came behind, up to so many in all. None is narrower than both `width` and the narrowest that there was.
 pub record AddsBlocks (most width : ℕ) (old new : List Block) : Type 0 where
   pub grows : Grows old new
   pub wide : (w : ℕ) → w ≤ width → AreWide old w → AreWide new w
   pub few : length new ≤ max most (length old)
 
--- The same keys in as many blocks, each as wide at least as it was.
+-- The same keys in as many blocks, none of them narrower than the narrowest was.
 pub record Widens (old new : List Block) : Type 0 where
   pub grows : Grows old new
   pub count : length new ≡ length old

@@ -29,8 +29,8 @@ fn turn_left(blocks: &mut VecDeque<Block>, skip: usize)
     }
 }
 
-/// Where a key is to come in from the left (or the right) and no place is free there, an empty block of the other end comes there.
-/// Gives the places before the first key then, and whether a key is to come in from the left.
+/// Where a key is to come in from the left (or the right) and no place is free there, an empty block of the other end comes
+/// there. Gives the places before the first key then, and whether a key is to come in from the left.
 pub(crate) fn open_end(
     blocks: &mut VecDeque<Block>,
     skip: usize,

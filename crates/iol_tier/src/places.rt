@@ -1,6 +1,6 @@
 //! Keys that come into blocks and go out of them.
-ghost use Rattle.std.specs.Prelude.{◌≡◌, ◌+◌, ◌-◌, ◌*◌, ◌<◌, ◌≤◌, ◌^◌, length, slice_index_or, insert, remove};
-ghost use Rattle.iol_tier.specs.Blocks.{AreLaid, Becomes, MayComeIn, MayGoOut, joined};
+ghost use Rattle.std.specs.Prelude.{◌≡◌, ◌+◌, ◌-◌, ◌*◌, ◌<◌, ◌≤◌, ◌^◌, length, slice_index_or};
+ghost use Rattle.iol_tier.specs.Blocks.{AreLaid, ComesIn, GoesOut, MayComeIn, MayGoOut, joined};
 
 use crate::block::Block;
 use crate::borders::{shift_left, shift_right};
@@ -31,7 +31,7 @@ pub(crate) fn key_at(blocks: &VecDeque<Block>, skip: usize, place: usize) -> usi
 pub(crate) fn put_left(blocks: &mut VecDeque<Block>, skip: usize, place: usize, key: usize)
     requires may { MayComeIn blocks.old.items skip (length (joined blocks.old.items)) place }
     requires free { 0 < skip }
-    ensures { Becomes (insert (joined blocks.old.items) place key) (skip - 1) blocks.old.items blocks.new.items }
+    ensures { ComesIn (skip - 1) place key blocks.old.items blocks.new.items }
 {
     let skip = skip - 1;
     let block = (skip + place) / BLOCK;
@@ -49,7 +49,7 @@ pub(crate) fn put_right(
 )
     requires may { MayComeIn blocks.old.items skip len place }
     requires free { skip + len < length blocks.old.items * 128 }
-    ensures { Becomes (insert (joined blocks.old.items) place key) skip blocks.old.items blocks.new.items }
+    ensures { ComesIn skip place key blocks.old.items blocks.new.items }
 {
     let block = (skip + place) / BLOCK;
     shift_right(blocks, (skip + len) / BLOCK, block);
@@ -60,7 +60,7 @@ pub(crate) fn put_right(
 pub(crate) fn take_left(blocks: &mut VecDeque<Block>, skip: usize, place: usize) -> usize
     requires { MayGoOut blocks.old.items skip (length (joined blocks.old.items)) place }
     ensures key { result ≡ slice_index_or (joined blocks.old.items) place result }
-    ensures becomes { Becomes (remove (joined blocks.old.items) place) (skip + 1) blocks.old.items blocks.new.items }
+    ensures becomes { GoesOut (skip + 1) place blocks.old.items blocks.new.items }
 {
     let block = (skip + place) / BLOCK;
     let key = blocks[block].remove(place - begin_of(skip, block));
@@ -77,7 +77,7 @@ pub(crate) fn take_right(
 ) -> usize
     requires { MayGoOut blocks.old.items skip len place }
     ensures key { result ≡ slice_index_or (joined blocks.old.items) place result }
-    ensures becomes { Becomes (remove (joined blocks.old.items) place) skip blocks.old.items blocks.new.items }
+    ensures becomes { GoesOut skip place blocks.old.items blocks.new.items }
 {
     let block = (skip + place) / BLOCK;
     let key = blocks[block].remove(place - begin_of(skip, block));

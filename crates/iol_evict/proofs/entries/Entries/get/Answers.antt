@@ -1,15 +1,14 @@
-use Rattle.std.proofs.Common.{◌≢◌, ◌∙◌, ap, sym, subst, None}
+use Rattle.std.proofs.Common.{◌∙◌, ap, sym, subst}
 use Rattle.iol_evict.specs.declared.entry.Rank.{Rank}
 use Rattle.iol_evict.specs.declared.entry.By.TheVariants.{Place}
-use Rattle.iol_evict.specs.Ranking.{Table, entry_at, entry_or}
-use Rattle.iol_evict.specs.Indexes.{HasRank, Finds}
-use Rattle.iol_evict.proofs.Indexing.{has-place, found-entry}
+use Rattle.iol_evict.specs.Ranking.{Table, entry_or}
+use Rattle.iol_evict.specs.Indexes.{Finds}
+use Rattle.iol_evict.proofs.Indexing.{place-there, found-entry}
 use Rattle.iol_evict.proofs.entries.Entries.get.Goals as goal
 
 pub find_key-key-requires-clause-there : goal.find_key-key-requires-clause-there
 find_key-key-requires-clause-there c =
-    let there = subst (λ (t : Table). entry_at t.entries c.args.file c.args.at ≢ None) (sym c.self.view_is) c.requires in
-    subst (λ (r : Rank). HasRank Place c.self.inside.slab c.self.inside.by_place.items r) (sym c.place_of.ensures) (has-place _ _ c.args.file c.args.at there)
+    place-there c.self.inside.slab c.self.inside.by_place.items _ _ c.args.file c.args.at _ c.self.view_is c.place_of.ensures c.requires
 
 pub returns-clause-entry : goal.returns-clause-entry
 returns-clause-entry c =

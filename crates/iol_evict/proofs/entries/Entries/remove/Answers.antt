@@ -1,18 +1,17 @@
-use Rattle.std.proofs.Common.{◌≢◌, ◌+◌, ◌∙◌, ap, sym, subst, arith, None}
+use Rattle.std.proofs.Common.{◌+◌, ◌∙◌, ap, sym, subst, arith}
 use Rattle.iol_evict.specs.declared.entry.Rank.{Rank}
 use Rattle.iol_evict.specs.declared.entry.By.TheVariants.{Place, Height}
-use Rattle.iol_evict.specs.Ranking.{Table, entry_at, entry_or, without}
+use Rattle.iol_evict.specs.Ranking.{Table, entry_or, without}
 use Rattle.iol_evict.specs.Ranks.{rank_by}
 use Rattle.iol_evict.specs.Indexes.{HasRank, Takes}
 use Rattle.iol_evict.proofs.Rising.{same-others}
-use Rattle.iol_evict.proofs.Indexing.{has-place, found-entry, entries-without, taken-gone}
+use Rattle.iol_evict.proofs.Indexing.{place-there, found-entry, entries-without, taken-gone}
 use Rattle.iol_evict.proofs.Changing.{index-heights, stands-taken, indexed-remove, table-is, finds-taken}
 use Rattle.iol_evict.proofs.entries.Entries.remove.Goals as goal
 
 pub remove_key-key-requires-clause-there : goal.remove_key-key-requires-clause-there
 remove_key-key-requires-clause-there c =
-    let there = subst (λ (t : Table). entry_at t.entries c.args.file c.args.at ≢ None) (sym c.self.view_is) c.requires in
-    subst (λ (r : Rank). HasRank Place c.self.inside.slab c.self.inside.by_place.items r) (sym c.place_of.ensures) (has-place _ _ c.args.file c.args.at there)
+    place-there c.self.inside.slab c.self.inside.by_place.items _ _ c.args.file c.args.at _ c.self.view_is c.place_of.ensures c.requires
 
 pub remove_key-requires-clause-index : goal.remove_key-requires-clause-index
 remove_key-requires-clause-index c = index-heights _ _ _ c.self.invariant.indexed

@@ -1,19 +1,18 @@
-use Rattle.std.proofs.Common.{◌≢◌, ◌∙◌, ap, sym, subst, arith, None}
+use Rattle.std.proofs.Common.{◌∙◌, ap, sym, subst, arith}
 use Rattle.iol_evict.specs.declared.entry.Entry.{Entry}
 use Rattle.iol_evict.specs.declared.entry.Rank.{Rank}
 use Rattle.iol_evict.specs.declared.entry.By.TheVariants.{Place, Height}
-use Rattle.iol_evict.specs.Ranking.{Table, entry_at, with_height}
+use Rattle.iol_evict.specs.Ranking.{Table, with_height}
 use Rattle.iol_evict.specs.Ranks.{rank_by}
 use Rattle.iol_evict.specs.Indexes.{HasRank, Finds, Takes}
 use Rattle.iol_evict.proofs.Rising.{index-same}
-use Rattle.iol_evict.proofs.Indexing.{has-place, entries-with_height}
+use Rattle.iol_evict.proofs.Indexing.{place-there, entries-with_height}
 use Rattle.iol_evict.proofs.Changing.{index-heights, index-left, stands-found, same-left, indexed-height, same-height, table-is}
 use Rattle.iol_evict.proofs.entries.Entries.set_height.Goals as goal
 
 pub find_key-key-requires-clause-there : goal.find_key-key-requires-clause-there
 find_key-key-requires-clause-there c =
-    let there = subst (λ (t : Table). entry_at t.entries c.args.file c.args.at ≢ None) (sym c.self.view_is) c.requires in
-    subst (λ (r : Rank). HasRank Place c.self.inside.slab c.self.inside.by_place.items r) (sym c.place_of.ensures) (has-place _ _ c.args.file c.args.at there)
+    place-there c.self.inside.slab c.self.inside.by_place.items _ _ c.args.file c.args.at _ c.self.view_is c.place_of.ensures c.requires
 
 pub remove_key-requires-clause-index : goal.remove_key-requires-clause-index
 remove_key-requires-clause-index c = index-heights _ _ _ c.self.invariant.indexed

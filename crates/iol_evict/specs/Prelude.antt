@@ -1,1 +1,0 @@
--- The words that contracts of other crates cite, passed on from one place. Declares nothing.
