@@ -1,9 +1,7 @@
 //! Reading by copying.
-ghost use Rattle.std.specs.Prelude.{◌≡◌, ◌<◌, ◌≤◌, ◌^◌, ◌++◌, length, drop, None, IfOk, OnErr};
-ghost use Rattle.iol_core.specs.Prelude.{open_on};
-ghost use Rattle.iol_core.specs.Calls.Reading as calls;
-ghost use Rattle.iol_kernel.specs.Prelude.{Copies, ReadsOut, held_by, state_of, as_read, Serves, IsSound, Reading};
-ghost use Rattle.iol_posix.specs.Copying.{first_of};
+ghost use Rattle.std.specs.Prelude.{◌≡◌, ◌<◌, ◌≤◌, ◌^◌, ◌++◌, length, drop};
+ghost use Rattle.iol_kernel.specs.Prelude.{state_of, IsOnNoFile, IsSound, ReadsList};
+ghost use Rattle.iol_posix.specs.Copying.{ReadsInto, TakesOut};
 
 use iol_back::backing::Backing;
 use iol_core::lists::Bytes;
@@ -30,14 +28,8 @@ pub fn read<B: Backing>(
 ) -> Result<u32, Refusal>
     requires sound { IsSound (state_of kernel.old) }
     requires short { length into.old < 2 ^ 32 }
-    ensures serves { Serves (λ s. calls.read s by fd (length into.old)) (B.disk backing.old) kernel.old
-        (first_of into.new result) (B.disk backing.new) kernel.new }
-    ensures copies { Copies by fd (length into.old) (B.disk backing.old) (state_of kernel.old)
-        (first_of into.new result) (B.disk backing.new) (state_of kernel.new) }
-    ensures count { IfOk result (λ n. n ≤ length into.old) }
-    ensures len { length into.new ≡ length into.old }
-    ensures rest { IfOk result (λ n. drop n into.new ≡ drop n into.old) }
-    ensures err { OnErr result (into.new ≡ into.old) }
+    ensures { ReadsInto by fd into.old into.new B.disk backing.old backing.new kernel.old result
+        kernel.new }
 {
     let Some(found) = kernel.file_open(by, fd) else {
         return read_queue(kernel, by, fd, into);
@@ -49,14 +41,8 @@ pub fn read<B: Backing>(
 
 // Reads from a pipe or a connection.
 fn read_queue(kernel: &mut Kernel, by: DomainId, fd: Fd, into: &mut [u8]) -> Result<u32, Refusal>
-    requires sound { IsSound (state_of kernel.old) }
-    requires no_file { (f : Reading) → open_on (held_by (as_read f kernel.old) by fd) ≡ None }
-    ensures reads { ReadsOut by fd (length into.old) (state_of kernel.old) (first_of into.new result)
-        (state_of kernel.new) }
-    ensures count { IfOk result (λ n. n ≤ length into.old) }
-    ensures len { length into.new ≡ length into.old }
-    ensures rest { IfOk result (λ n. drop n into.new ≡ drop n into.old) }
-    ensures err { OnErr result (into.new ≡ into.old) }
+    requires { IsOnNoFile (state_of kernel.old) by fd }
+    ensures { TakesOut by fd into.old into.new kernel.old result kernel.new }
 {
     kernel.waiting(by, fd, into.len())?;
     Ok(kernel.take_into(by, fd, into))
@@ -72,10 +58,8 @@ pub fn read_bytes<B: Backing>(
     count: u32,
 ) -> Result<Bytes, Refusal>
     requires { IsSound (state_of kernel.old) }
-    ensures serves { Serves (λ s. calls.read s by fd count) (B.disk backing.old) kernel.old result
-        (B.disk backing.new) kernel.new }
-    ensures copies { Copies by fd count (B.disk backing.old) (state_of kernel.old) result
-        (B.disk backing.new) (state_of kernel.new) }
+    ensures { ReadsList by fd count (B.disk backing.old) kernel.old result (B.disk backing.new)
+        kernel.new }
 {
     kernel.read_bytes(backing, by, fd, count)
 }

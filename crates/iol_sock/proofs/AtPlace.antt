@@ -4,7 +4,7 @@ use Rattle.iol_core.specs.Numbered.{lookup, changed}
 use Rattle.iol_hold.specs.declared.slices.Slice.{Slice}
 use Rattle.iol_desc.specs.Listed.{Rises}
 use Rattle.iol_sock.specs.Connections.{Conn}
-use Rattle.iol_sock.specs.Table.{ChangesOne, ConnTable, conn_in, with_conn}
+use Rattle.iol_sock.specs.Table.{ChangesOne, ConnTable, IsAmong, conn_in, with_conn}
 use Rattle.iol_sock.proofs.Waiting.{some-none, conn_in-there, lookup-changed, changed-same}
 
 -- From the table t to u a call went, on the connection of that number alone, from x to y. What the call says of x and y,
@@ -28,10 +28,10 @@ here t to n x y r found =
     }
 
 -- the table t is seen as v
-pub at_place : {v t : ConnTable} {n : ℕ} {x : Conn (List Slice)} (to : ℕ) (y : Conn (List Slice)) → v ≡ t → Rises 0 v.conns to → lookup v.conns n ≡ Some x → AtPlace t (with_conn v n y) n x y
-at_place {v} {t} {n} {x} to y view r found = subst (λ u. AtPlace u (with_conn v n y) n x y) view (here v to n x y r found)
+pub at_place : {v t : ConnTable} {to n : ℕ} {x : Conn (List Slice)} (y : Conn (List Slice)) → v ≡ t → IsAmong v.conns to n x → AtPlace t (with_conn v n y) n x y
+at_place {v} {t} {to} {n} {x} y view found = subst (λ u. AtPlace u (with_conn v n y) n x y) view (here v to n x y found.rise found.value)
 
--- the same, before the call
+-- before the call, the table t seen as v had x under that number
 pub was_at : {v t : ConnTable} {x : Conn (List Slice)} (n : ℕ) → v ≡ t → lookup v.conns n ≡ Some x → x ≡ conn_in t.conns n
 was_at {v} {t} {x} n view found = subst (λ u. x ≡ conn_in u.conns n) view (sym (conn_in-there v.conns n x found))
 

@@ -1,26 +1,30 @@
 -- What each call does to a connection: x before and y after, over the store s before and t after.
-use Rattle.std.specs.Prelude.{◌≡◌, ◌≢◌, ℕ, ◌-◌, [], true, List, length, min, drop, Option, Result, Err, IsOk, IfOk, IfErr, OnOk, OnErr}
+use Rattle.std.specs.Prelude.{◌≡◌, ◌≢◌, ℕ, ◌-◌, ◌++◌, [], true, List, length, min, take, take_while, drop}
+use Rattle.std.specs.Prelude.{Option, Result, Err, IsOk, IfOk, IfErr, OnOk, OnErr}
 use Rattle.iol_core.specs.Prelude.{WantOfMemory, WantOfRoom, bytes_of, checksum as checksum_of}
 use Rattle.iol_core.specs.declared.descriptors.How.{How}
 use Rattle.iol_core.specs.declared.limits.TheConstants.{MAX_QUEUE_BYTES, PAGE_BYTES}
 use Rattle.iol_core.specs.declared.refusals.Refusal.{Refusal}
 use Rattle.iol_core.specs.declared.refusals.Refusal.TheVariants.{Memory}
-use Rattle.iol_hold.specs.Prelude.{Releases, Stored, TellsRoom, byte_len, has_room, places, text_of}
+use Rattle.iol_hold.specs.Prelude.{AllReadable, AllSettled, FreesOnly, Moves, Releases, SameLists, Stored, TellsRoom}
+use Rattle.iol_hold.specs.Prelude.{bufs_of, byte_len, has_room, places, text_of}
 use Rattle.iol_hold.specs.declared.slices.Slice.{Slice}
 use Rattle.iol_pipe.specs.Arriving.{ReadsIn}
-use Rattle.iol_pipe.specs.Prelude.{AddsFitting, GivesFirst, IsOneRead, SharesFitting, fitting}
+use Rattle.iol_pipe.specs.Prelude.{AddsFitting, GivesFirst, IsOneRead, SharesFitting, fitting, may_see}
 use Rattle.iol_pipe.specs.declared.arrive.Arrived.{Arrived}
 use Rattle.iol_sum.specs.Prelude.{IsRight}
 use Rattle.iol_sum.specs.Sums.{Sums}
 use Rattle.iol_sock.specs.Connections.{Conn, closed_by}
-use Rattle.iol_sock.specs.Refused.{IsPassed, IsRefused, arrive_late, arrive_refusals, queue_refusals, read_refusals, segment_refusals}
+use Rattle.iol_sock.specs.Refused.{IsPassed, IsRefused, arrive_late, arrive_refusals, queue_refusals}
+use Rattle.iol_sock.specs.Refused.{read_refusals, segment_refusals}
 use Rattle.iol_sock.specs.Sent.{IsSent, Writes}
 use Rattle.iol_sock.specs.declared.drain_to.Drained.{Drained}
 use Rattle.iol_sock.specs.declared.outgoing.Segment.{Segment}
 
 -- What comes in.
 
--- Bytes arrive, as many as fit: they lie in new buffers of the connection's pool. A refusal changes nothing.
+-- Bytes arrive, as many as fit, in new buffers of the connection's pool. It is refused by the first refusal that holds, else
+-- only for want of room or memory, and a refusal changes nothing.
 pub record Arrives (s t : Stored) (x y : Conn (List Slice)) (bytes : List ℕ) (r : Result ℕ Refusal) : Type 0 where
   pub passed : OnOk r (IsPassed (arrive_refusals x (length bytes)))
   pub refused : IfErr r (IsRefused (arrive_refusals x (length bytes)) (arrive_late x bytes))
@@ -33,23 +37,32 @@ pub record Arrives (s t : Stored) (x y : Conn (List Slice)) (bytes : List ℕ) (
 abbrev pub most_read : Conn (List Slice) → (max : ℕ) → ℕ
 most_read x max = min (min max PAGE_BYTES) (MAX_QUEUE_BYTES - byte_len x.incoming)
 
--- The bytes of one read arrive, of those that the reader has left, where these are known.
-pub record ArrivesFrom (s t : Stored) (x y : Conn (List Slice)) (left after : Option (List ℕ)) (max : ℕ)
-    (r : Result Arrived Refusal) : Type 0 where
+-- The bytes of one read arrive, of those that its reader has left, where these are known. It is refused by the first refusal
+-- that holds, else only for want of room or memory, and a refusal changes nothing, and leaves the reader as it was.
+pub record ArrivesFrom {R : Type 0} (remaining : R → Option (List ℕ)) (reader after : R) (s t : Stored) (x y : Conn (List Slice))
+    (max : ℕ) (r : Result Arrived Refusal) : Type 0 where
   pub passed : OnOk r (IsPassed (read_refusals x max))
   pub refused : IfErr r (IsRefused (read_refusals x max) (WantOfRoom x.pool))
-  pub read : IfOk r (λ a. ReadsIn left after s t x.incoming y.incoming x.pool a.taken)
-  pub told : IfOk r (IsOneRead (most_read x max) after)
+  pub read : IfOk r (λ a. ReadsIn (remaining reader) (remaining after) s t x.incoming y.incoming x.pool a.taken)
+  pub told : IfOk r (IsOneRead (most_read x max) (remaining after))
   pub others : y ≡ record x { incoming = y.incoming }
   pub room : TellsRoom (has_room s x.pool 1) r
   pub err : OnErr r ((y ≡ x) × (t ≡ s))
+  pub err_reader : OnErr r (after ≡ reader)
 
--- A domain is given the front of what came in. A refusal, for want of memory alone, changes nothing, and no bytes want none.
+-- A domain is given the front of what came in. A refusal changes nothing, and there is none where no byte is asked for or
+-- waits.
 pub record GivesFront {E : Type 0} (s t : Stored) (x y : Conn (List Slice)) (n d : ℕ) (r : Result (List Slice) E) : Type 0 where
   pub gives : IfOk r (λ a. GivesFirst s t x.incoming a y.incoming n d)
   pub none : min n (byte_len x.incoming) ≡ 0 → IsOk r
   pub others : y ≡ record x { incoming = y.incoming }
   pub err : OnErr r ((y ≡ x) × (t ≡ s))
+
+-- The longest prefix of what came in whose pools all name the domain is copied to the front of a memory, as much of it as
+-- there is room for: n bytes. The rest of the memory stays.
+pub record CopiesFront (s : Stored) (x : Conn (List Slice)) (d : ℕ) (old new : List ℕ) (n : ℕ) : Type 0 where
+  pub count : n ≡ length (take_while (may_see s.pools d) (take (length old) (places x.incoming)))
+  pub copied : new ≡ take n (bytes_of (text_of s x.incoming)) ++ drop n old
 
 -- The first n bytes that came in are released, or all where fewer wait.
 pub record Skips (s t : Stored) (x y : Conn (List Slice)) (n : ℕ) : Type 0 where
@@ -59,7 +72,8 @@ pub record Skips (s t : Stored) (x y : Conn (List Slice)) (n : ℕ) : Type 0 whe
 
 -- What is to be sent.
 
--- An aggregate's bytes are to be sent, as many as fit. They are shared. Where none fits it wants no memory.
+-- An aggregate's bytes are to be sent, as many as fit, and are shared. It is refused by the first refusal that holds, else
+-- only for want of memory, which is not wanted where none fits, and a refusal changes nothing.
 pub record QueuesShared (s t : Stored) (x y : Conn (List Slice)) (from : List Slice) (r : Result ℕ Refusal) : Type 0 where
   pub passed : OnOk r (IsPassed (queue_refusals x (byte_len from)))
   pub refused : IfErr r (IsRefused (queue_refusals x (byte_len from)) WantOfMemory)
@@ -68,7 +82,8 @@ pub record QueuesShared (s t : Stored) (x y : Conn (List Slice)) (from : List Sl
   pub none : fitting x.outgoing (byte_len from) ≡ 0 → r ≢ Err Memory
   pub err : OnErr r ((y ≡ x) × (t ≡ s))
 
--- New bytes of a pool are to be sent, as many as fit.
+-- New bytes of a pool are to be sent, as many as fit. It is refused by the first refusal that holds, else only for want of
+-- room or memory, and a refusal changes nothing.
 pub record QueuesNew (s t : Stored) (x y : Conn (List Slice)) (pool : ℕ) (bytes : List ℕ) (r : Result ℕ Refusal) : Type 0 where
   pub passed : OnOk r (IsPassed (queue_refusals x (length bytes)))
   pub refused : IfErr r (IsRefused (queue_refusals x (length bytes)) (WantOfRoom pool))
@@ -77,7 +92,8 @@ pub record QueuesNew (s t : Stored) (x y : Conn (List Slice)) (pool : ℕ) (byte
   pub room : TellsRoom (has_room s pool (fitting x.outgoing (length bytes))) r
   pub err : OnErr r ((y ≡ x) × (t ≡ s))
 
--- The first max bytes are sent, or all where fewer wait, with the checksum of these alone.
+-- The first max bytes are sent, or all where fewer wait, with the checksum of these alone. It is refused by the first refusal
+-- that holds, else only for want of memory, and a refusal changes nothing. The sums remembered stay right.
 pub record Segments (s t : Stored) (x y : Conn (List Slice)) (max : ℕ) (sums summed : Sums) (r : Result Segment Refusal)
     : Type 0 where
   pub passed : OnOk r (IsPassed (segment_refusals x max))
@@ -88,9 +104,10 @@ pub record Segments (s t : Stored) (x y : Conn (List Slice)) (max : ℕ) (sums s
   pub right : IsRight t.arena summed
   pub err : OnErr r ((y ≡ x) × (t ≡ s) × (summed ≡ sums))
 
--- A writer was lent the first bytes, at most max, and those that it took are sent: it held some bytes, and holds these now.
-pub record Drains (s t : Stored) (x y : Conn (List Slice)) (held now : Option (List ℕ)) (max : ℕ) (d : Drained) : Type 0 where
-  pub writes : Writes held now (bytes_of (text_of s x.outgoing)) (min max (byte_len x.outgoing)) d.taken d.failed
+-- A writer was lent the first bytes to be sent, at most max, and those that it took are sent.
+pub record Drains {W : Type 0} (contents : W → Option (List ℕ)) (writer after : W) (s t : Stored) (x y : Conn (List Slice))
+    (max : ℕ) (d : Drained) : Type 0 where
+  pub writes : Writes contents writer after s x.outgoing max d
   pub rest : places y.outgoing ≡ drop d.taken (places x.outgoing)
   pub others : y ≡ record x { outgoing = y.outgoing }
   pub releases : Releases s t x.outgoing y.outgoing
@@ -106,3 +123,11 @@ pub record ClosesPeer (s t : Stored) (x y : Conn (List Slice)) (how : How) : Typ
 pub record Closes (s t : Stored) (x y : Conn (List Slice)) : Type 0 where
   pub closed : y ≡ record x { incoming = []; closed = true }
   pub releases : Releases s t x.incoming []
+
+-- What both queues of a connection held is released, no pool's list changed, and pages were at most freed. Where both could be
+-- read, no closed pool keeps its chunks where nothing lies in any of them, if none did before.
+pub record ReleasesBoth (s t : Stored) (incoming outgoing : List Slice) : Type 0 where
+  pub moves : Moves s t (bufs_of incoming ++ bufs_of outgoing) []
+  pub lists : SameLists s t
+  pub frees : FreesOnly s t
+  pub settles : AllReadable s (incoming ++ outgoing) → AllSettled s → AllSettled t

@@ -10,8 +10,8 @@ use Rattle.iol_hold.specs.Places.{byte_len}
 use Rattle.iol_hold.specs.Texts.{bufs_of}
 use Rattle.iol_hold.specs.declared.slices.Slice.{Slice}
 
--- The pool of what arrives, what came in and is not yet read, what is to be sent, whether a domain accepted it and
--- closed it since, and how its peer closed, if it did. A is what its queues are: lists of slices here.
+-- The pool of what arrives, what came in and is not yet read, what is to be sent, whether a domain accepted it, whether one
+-- closed it, and how its peer closed, if it did. A is what its queues are: lists of slices here.
 pub record Conn (A : Type 0) : Type 0 where
   pub pool : ℕ
   pub incoming : A
@@ -20,7 +20,7 @@ pub record Conn (A : Type 0) : Type 0 where
   pub closed : Bool
   pub peer : Option How
 
--- as the copying machine has it, with the text that g gives for each queue
+-- a connection as the copying machine has it, with the text that g gives for each queue
 abbrev pub conn_view : {A : Type 0} → (A → Text) → Conn A → machine.Connection
 conn_view g c = record {
   pool = c.pool;
@@ -31,18 +31,20 @@ conn_view g c = record {
   peer = c.peer;
 }
 
--- the buffers that it holds, one for each slice
+-- the buffers that a connection holds, one for each slice
 abbrev pub held_by : Conn (List Slice) → List BufId
 held_by c = bufs_of c.incoming ++ bufs_of c.outgoing
 
+-- a connection that waits to be accepted, on which nothing came in yet
 abbrev pub new_conn : (pool : ℕ) → Conn (List Slice)
 new_conn p = record { pool = p; incoming = []; outgoing = []; accepted = false; closed = false; peer = None }
 
--- a peer that is gone stays gone, and what was to be sent to it is dropped
+-- A connection whose peer closes it like this: one that is gone stays gone, and what was to be sent to one that is gone now is
+-- dropped.
 abbrev pub closed_by : Conn (List Slice) → How → Conn (List Slice)
 closed_by c Done = record c { peer = if is_gone c.peer then Some Gone else Some Done }
 closed_by c Gone = record c { outgoing = []; peer = Some Gone }
 
--- nothing is left to send, and it was closed, or was never accepted and its peer is gone
+-- whether nothing is left to send, and it was closed, or was never accepted and its peer is gone
 abbrev pub is_over : Conn (List Slice) → Bool
 is_over c = (byte_len c.outgoing == 0) && (c.closed || (not c.accepted && is_gone c.peer))

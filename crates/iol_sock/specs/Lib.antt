@@ -4,4 +4,3 @@ pub mod Meant
 pub mod Refused
 pub mod Sent
 pub mod Table
-pub mod Prelude

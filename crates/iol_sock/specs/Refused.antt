@@ -1,6 +1,7 @@
 -- When calls on a connection are refused, in the copying machine's words.
 use Rattle.std.specs.Prelude.{◌≡◌, ℕ, ◌==◌, ◌&&◌, ◌||◌, nat_lt, List, [], ◌∷◌, Option, None, is_some, MatchOption}
-use Rattle.iol_core.specs.Meaning.{◌when◌, first, WantOfRoom, Never}
+use Rattle.iol_core.specs.Meaning.{◌when◌, first, WantOfRoom}
+use Rattle.iol_core.specs.Prelude.{Never}
 use Rattle.iol_core.specs.State.{is_gone}
 use Rattle.iol_core.specs.declared.refusals.Refusal.{Refusal}
 use Rattle.iol_core.specs.declared.refusals.Refusal.TheVariants.{BadRange, BrokenPipe, WouldBlock}
@@ -9,11 +10,11 @@ use Rattle.iol_hold.specs.declared.slices.Slice.{Slice}
 use Rattle.iol_pipe.specs.Queue.{fitting}
 use Rattle.iol_sock.specs.Connections.{Conn}
 
--- none of these holds
+-- no refusal of the list holds
 abbrev pub IsPassed : List (Option Refusal) → Type 0
 IsPassed refusals = first refusals ≡ None
 
--- the first of these that holds; where none does, a late one
+-- x is the first refusal of the list that holds; where none does, a late one
 abbrev pub IsRefused : List (Option Refusal) → (Late : Refusal → Type 0) → Refusal → Type 0
 IsRefused refusals Late x = MatchOption (first refusals) (Late x) (λ y. x ≡ y)
 

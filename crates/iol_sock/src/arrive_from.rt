@@ -1,5 +1,5 @@
 //! What arrives from a reader, straight into a page.
-ghost use Rattle.std.specs.Prelude.{◌≡◌, false, OnErr};
+ghost use Rattle.std.specs.Prelude.{◌≡◌, false};
 ghost use Rattle.iol_pool.specs.Prelude.{pool_in};
 ghost use Rattle.iol_sock.specs.Calls.{ArrivesFrom};
 
@@ -25,9 +25,8 @@ impl Connection {
         max: u32,
     ) -> Result<Arrived, Refusal>
         requires { (pool_in store.old.pools self.old.pool).closed ≡ false }
-        ensures arrives { ArrivesFrom store.old store.new self.old self.new (R.remaining reader.old)
-            (R.remaining reader.new) max result }
-        ensures err_reader { OnErr result (reader.new ≡ reader.old) }
+        ensures { ArrivesFrom R.remaining reader.old reader.new store.old store.new self.old self.new
+            max result }
     {
         if max == 0 {
             return Err(Refusal::BadRange);

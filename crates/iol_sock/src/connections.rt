@@ -1,9 +1,9 @@
 //! Connections, and how they end.
-ghost use Rattle.std.specs.Prelude.{◌≡◌, ◌++◌, [], true, false, is_none, is_some, ◌||◌, ◌≤◌};
+ghost use Rattle.std.specs.Prelude.{◌≡◌, true, is_none, is_some, ◌||◌, ◌≤◌};
 ghost use Rattle.iol_core.specs.Prelude.{is_gone};
-ghost use Rattle.iol_hold.specs.Prelude.{Covers, Moves, SameLists, byte_len, FreesOnly, AllSettled, bufs_of, AllReadable};
+ghost use Rattle.iol_hold.specs.Prelude.{Covers, byte_len, bufs_of};
 ghost use Rattle.iol_pipe.specs.Prelude.{first_pool};
-ghost use Rattle.iol_sock.specs.Calls.{Closes, ClosesPeer};
+ghost use Rattle.iol_sock.specs.Calls.{Closes, ClosesPeer, ReleasesBoth};
 ghost use Rattle.iol_sock.specs.Connections.{held_by, is_over, new_conn};
 
 use iol_core::descriptors::How;
@@ -163,11 +163,7 @@ impl Connection {
     /// Releases all that it holds, and ends it.
     pub fn release(self, store: &mut Store)
         requires { Covers store.old (held_by self) }
-        ensures moves { Moves store.old store.new (held_by self) [] }
-        ensures lists { SameLists store.old store.new }
-        ensures frees { FreesOnly store.old store.new }
-        ensures settles { AllReadable store.old (self.incoming ++ self.outgoing) →
-            AllSettled store.old → AllSettled store.new }
+        ensures { ReleasesBoth store.old store.new self.incoming self.outgoing }
     {
         let Connection {
             mut incoming,

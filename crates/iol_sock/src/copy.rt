@@ -1,11 +1,9 @@
 //! What came in is copied out, and then skipped.
-ghost use Rattle.std.specs.Prelude.{◌≡◌, ◌≢◌, ◌++◌, None, length, take, drop};
-ghost use Rattle.std.specs.List.{take_while};
-ghost use Rattle.iol_core.specs.Prelude.{lookup, bytes_of};
-ghost use Rattle.iol_hold.specs.Prelude.{Covers, places, text_of, bufs_of, AllReadable};
-ghost use Rattle.iol_pipe.specs.Prelude.{may_see};
-ghost use Rattle.iol_sock.specs.Calls.{Skips};
-ghost use Rattle.iol_sock.specs.Table.{ChangesOne, conn_in};
+ghost use Rattle.std.specs.Prelude.{◌≢◌, None};
+ghost use Rattle.iol_core.specs.Prelude.{lookup};
+ghost use Rattle.iol_hold.specs.Prelude.{Covers, bufs_of, AllReadable};
+ghost use Rattle.iol_sock.specs.Calls.{CopiesFront, Skips};
+ghost use Rattle.iol_sock.specs.Table.{ChangesAs, conn_in};
 
 use crate::connections::Connection;
 use crate::table::{Connections, conn_mut};
@@ -17,10 +15,7 @@ impl Connection {
     /// tells how many bytes that is. All still wait, and no memory is taken.
     pub fn copy_front(&self, store: &Store, d: DomainId, into: &mut [u8]) -> u32
         requires { AllReadable store.now self.now.incoming }
-        ensures count { result ≡ length (take_while (may_see store.now.pools d)
-            (take (length into.old) (places self.now.incoming))) }
-        ensures copied { into.new ≡ take result (bytes_of (text_of store.now self.now.incoming)) ++
-            drop result into.old }
+        ensures { CopiesFront store.now self.now d into.old into.new result }
     {
         self.incoming.copy_front(store, d, into)
     }
@@ -40,8 +35,7 @@ impl Connections {
     pub fn skip(&mut self, store: &mut Store, c: ConnId, n: u32)
         requires there { lookup self.old.conns c ≢ None }
         requires covered { Covers store.old (bufs_of (conn_in self.old.conns c).incoming) }
-        ensures conn { Skips store.old store.new (conn_in self.old.conns c) (conn_in self.new.conns c) n }
-        ensures others { ChangesOne self.old self.new c }
+        ensures { ChangesAs self.old self.new c (λ x y. Skips store.old store.new x y n) }
     {
         conn_mut(&mut self.live, c).skip(store, n);
     }

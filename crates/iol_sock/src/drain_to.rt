@@ -1,8 +1,7 @@
 //! What a writer takes of what is to be sent, straight from where it lies.
-ghost use Rattle.std.specs.Prelude.{◌≤◌, length, min, take};
+ghost use Rattle.std.specs.Prelude.{◌≤◌, length, take};
 ghost use Rattle.std.specs.Io.KnownBytes.{Appends};
-ghost use Rattle.iol_core.specs.Prelude.{bytes_of};
-ghost use Rattle.iol_hold.specs.Prelude.{Covers, byte_len, text_of, bufs_of, AllReadable};
+ghost use Rattle.iol_hold.specs.Prelude.{Covers, bufs_of, AllReadable};
 ghost use Rattle.iol_sock.specs.Calls.{Drains};
 ghost use Rattle.iol_sock.specs.Sent.{Writes};
 
@@ -27,8 +26,8 @@ impl Connection {
     pub fn drain_to<W: Write>(&mut self, store: &mut Store, writer: &mut W, max: u32) -> Drained
         requires covered { Covers store.old (bufs_of self.old.outgoing) }
         requires readable { AllReadable store.old self.old.outgoing }
-        ensures { Drains store.old store.new self.old self.new (W.contents writer.old)
-            (W.contents writer.new) max result }
+        ensures { Drains W.contents writer.old writer.new store.old store.new self.old self.new max
+            result }
     {
         let drained = write_first(&self.outgoing, store, writer, max);
         self.outgoing.skip(store, drained.taken);
@@ -39,9 +38,7 @@ impl Connection {
 // Writes the first bytes of a queue, at most `max`, until the writer fails or takes none.
 fn write_first<W: Write>(queue: &Pipe, store: &Store, writer: &mut W, max: u32) -> Drained
     requires { AllReadable store.now queue.now }
-    ensures { Writes (W.contents writer.old) (W.contents writer.new)
-        (bytes_of (text_of store.now queue.now)) (min max (byte_len queue.now)) result.taken
-        result.failed }
+    ensures { Writes W.contents writer.old writer.new store.now queue.now max result }
 {
     let mut taken = 0;
     let mut i = 0;

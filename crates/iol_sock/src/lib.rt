@@ -11,7 +11,7 @@
 //! these alone, for every cutting into slices, and which sums are remembered), `Drains` (what a writer took). Ended:
 //! `ClosesPeer`, `Closes`, and `release`. Many: [`Connections`] has the live ones under numbers that rise (`numbers_rise`);
 //! `add`, `get`, `accept`, `forget` are words on that list, `first_waiting` the first that a domain may accept. Each call
-//! above is there by number, and does the same to that connection and nothing to any other (`ChangesOne`). That its words
+//! above is there by number, and does the same to that connection and nothing to any other (`ChangesAs`). That its words
 //! are the machine's: [`laws`].
 //!
 //! ```text

@@ -1,13 +1,12 @@
 //! What is to be sent, and what is sent of it.
-ghost use Rattle.std.specs.Prelude.{◌≡◌, ◌+◌, ◌≤◌, ◌++◌, false, Some, IfOk, IfErr, OnOk, OnErr};
+ghost use Rattle.std.specs.Prelude.{◌≡◌, ◌+◌, ◌≤◌, ◌++◌, false, Some, IfErr, OnOk};
 ghost use Rattle.std.specs.Vec.{vec_len, vec_capacity};
-ghost use Rattle.iol_core.specs.Prelude.{checksum as checksum_of, first, bytes_of};
+ghost use Rattle.iol_core.specs.Prelude.{first, bytes_of};
 ghost use Rattle.iol_hold.specs.Prelude.{Covers, IsCountable, byte_len, text_of, bufs_of, AllReadable};
 ghost use Rattle.iol_pool.specs.Prelude.{pool_in};
-ghost use Rattle.iol_sum.specs.Prelude.{IsRight};
 ghost use Rattle.iol_sock.specs.Calls.{QueuesNew, QueuesShared, Segments};
 ghost use Rattle.iol_sock.specs.Refused.{queue_refusals, IsPassed};
-ghost use Rattle.iol_sock.specs.Sent.{IsSent};
+ghost use Rattle.iol_sock.specs.Sent.{MaySend, Sends};
 
 use crate::connections::Connection;
 use iol_agg::Agg;
@@ -85,10 +84,7 @@ impl Connection {
         sums: &mut SumCache,
         max: u32,
     ) -> Result<Segment, Refusal>
-        requires covered { Covers store.old (bufs_of self.old.outgoing) }
-        requires countable { IsCountable store.old (bufs_of self.old.outgoing) }
-        requires readable { AllReadable store.old self.old.outgoing }
-        requires right { IsRight store.old.arena sums.old }
+        requires { MaySend store.old self.old.outgoing sums.old }
         ensures { Segments store.old store.new self.old self.new max sums.old sums.new result }
     {
         if max == 0 {
@@ -109,16 +105,8 @@ fn send(
     sums: &mut SumCache,
     max: u32,
 ) -> Result<Segment, AllocError>
-    requires covered { Covers store.old (bufs_of queue.old) }
-    requires countable { IsCountable store.old (bufs_of queue.old) }
-    requires readable { AllReadable store.old queue.old }
-    requires right { IsRight store.old.arena sums.old }
-    ensures sent { IfOk result (λ g. IsSent store.old store.new queue.old queue.new max sums.old
-        sums.new g.bytes) }
-    ensures checksum { IfOk result (λ g. g.checksum ≡ checksum_of g.bytes) }
-    ensures right { IsRight store.new.arena sums.new }
-    ensures err { OnErr result ((queue.new ≡ queue.old) × (store.new ≡ store.old) ×
-        (sums.new ≡ sums.old)) }
+    requires { MaySend store.old queue.old sums.old }
+    ensures { Sends store.old store.new queue.old queue.new max sums.old sums.new result }
 {
     let len = queue.len().min(max);
     let mut bytes = Vec::with_capacity(alloc, len as usize)?;

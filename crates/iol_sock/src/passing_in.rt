@@ -3,8 +3,8 @@ ghost use Rattle.iol_core.specs.Prelude.{lookup};
 ghost use Rattle.iol_hold.specs.Prelude.{Covers, IsCountable, bufs_of};
 ghost use Rattle.iol_pool.specs.Prelude.{pool_in};
 ghost use Rattle.iol_sock.specs.Calls.{Arrives, ArrivesFrom, Closes, GivesFront};
-ghost use Rattle.iol_sock.specs.Table.{ChangesOne, conn_in};
-ghost use Rattle.std.specs.Prelude.{None, OnErr, false, ◌≡◌, ◌≢◌};
+ghost use Rattle.iol_sock.specs.Table.{ChangesAs, conn_in};
+ghost use Rattle.std.specs.Prelude.{None, false, ◌≡◌, ◌≢◌};
 
 use crate::connections::Connection;
 use crate::table::{Connections, conn_mut};
@@ -32,9 +32,8 @@ impl Connections {
     ) -> Result<u32, Refusal>
         requires there { lookup self.old.conns c ≢ None }
         requires pool { (pool_in store.old.pools (conn_in self.old.conns c).pool).closed ≡ false }
-        ensures conn { Arrives store.old store.new (conn_in self.old.conns c)
-            (conn_in self.new.conns c) bytes.now result }
-        ensures others { ChangesOne self.old self.new c }
+        ensures { ChangesAs self.old self.new c (λ x y. Arrives store.old store.new x y bytes.now
+            result) }
     {
         conn_mut(&mut self.live, c).arrive(alloc, store, bytes)
     }
@@ -54,11 +53,8 @@ impl Connections {
     ) -> Result<Arrived, Refusal>
         requires there { lookup self.old.conns c ≢ None }
         requires pool { (pool_in store.old.pools (conn_in self.old.conns c).pool).closed ≡ false }
-        ensures conn { ArrivesFrom store.old store.new (conn_in self.old.conns c)
-            (conn_in self.new.conns c) (R.remaining reader.old) (R.remaining reader.new) max
-            result }
-        ensures others { ChangesOne self.old self.new c }
-        ensures err_reader { OnErr result (reader.new ≡ reader.old) }
+        ensures { ChangesAs self.old self.new c (λ x y. ArrivesFrom R.remaining reader.old reader.new
+            store.old store.new x y max result) }
     {
         conn_mut(&mut self.live, c).arrive_from(alloc, store, reader, max)
     }
@@ -76,9 +72,8 @@ impl Connections {
         requires there { lookup self.old.conns c ≢ None }
         requires covered { Covers store.old (bufs_of (conn_in self.old.conns c).incoming) }
         requires countable { IsCountable store.old (bufs_of (conn_in self.old.conns c).incoming) }
-        ensures conn { GivesFront store.old store.new (conn_in self.old.conns c)
-            (conn_in self.new.conns c) n d result }
-        ensures others { ChangesOne self.old self.new c }
+        ensures { ChangesAs self.old self.new c (λ x y. GivesFront store.old store.new x y n d
+            result) }
     {
         conn_mut(&mut self.live, c).front(alloc, store, n, d)
     }
@@ -88,9 +83,7 @@ impl Connections {
     pub fn close(&mut self, store: &mut Store, c: ConnId)
         requires there { lookup self.old.conns c ≢ None }
         requires covered { Covers store.old (bufs_of (conn_in self.old.conns c).incoming) }
-        ensures conn { Closes store.old store.new (conn_in self.old.conns c)
-            (conn_in self.new.conns c) }
-        ensures others { ChangesOne self.old self.new c }
+        ensures { ChangesAs self.old self.new c (λ x y. Closes store.old store.new x y) }
     {
         conn_mut(&mut self.live, c).close(store);
     }

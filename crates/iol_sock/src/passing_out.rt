@@ -3,7 +3,7 @@ ghost use Rattle.iol_core.specs.Prelude.{lookup};
 ghost use Rattle.iol_hold.specs.Prelude.{Covers, IsCountable, AllReadable, bufs_of};
 ghost use Rattle.iol_pool.specs.Prelude.{pool_in};
 ghost use Rattle.iol_sock.specs.Calls.{ClosesPeer, Drains, QueuesNew, QueuesShared, Segments};
-ghost use Rattle.iol_sock.specs.Table.{ChangesOne, conn_in};
+ghost use Rattle.iol_sock.specs.Table.{ChangesAs, conn_in};
 ghost use Rattle.iol_sum.specs.Prelude.{IsRight};
 ghost use Rattle.std.specs.Prelude.{None, false, ◌≡◌, ◌≢◌};
 
@@ -30,9 +30,8 @@ impl Connections {
         requires there { lookup self.old.conns c ≢ None }
         requires covered { Covers store.old (bufs_of from.now) }
         requires countable { IsCountable store.old (bufs_of from.now) }
-        ensures conn { QueuesShared store.old store.new (conn_in self.old.conns c)
-            (conn_in self.new.conns c) from.now result }
-        ensures others { ChangesOne self.old self.new c }
+        ensures { ChangesAs self.old self.new c (λ x y. QueuesShared store.old store.new x y from.now
+            result) }
     {
         conn_mut(&mut self.live, c).queue(store, from)
     }
@@ -52,9 +51,8 @@ impl Connections {
     ) -> Result<u32, Refusal>
         requires there { lookup self.old.conns c ≢ None }
         requires pool { (pool_in store.old.pools pool).closed ≡ false }
-        ensures conn { QueuesNew store.old store.new (conn_in self.old.conns c)
-            (conn_in self.new.conns c) pool bytes.now result }
-        ensures others { ChangesOne self.old self.new c }
+        ensures { ChangesAs self.old self.new c (λ x y. QueuesNew store.old store.new x y pool
+            bytes.now result) }
     {
         conn_mut(&mut self.live, c).write(alloc, store, pool, bytes)
     }
@@ -76,9 +74,8 @@ impl Connections {
         requires countable { IsCountable store.old (bufs_of (conn_in self.old.conns c).outgoing) }
         requires readable { AllReadable store.old (conn_in self.old.conns c).outgoing }
         requires right { IsRight store.old.arena sums.old }
-        ensures conn { Segments store.old store.new (conn_in self.old.conns c)
-            (conn_in self.new.conns c) max sums.old sums.new result }
-        ensures others { ChangesOne self.old self.new c }
+        ensures { ChangesAs self.old self.new c (λ x y. Segments store.old store.new x y max sums.old
+            sums.new result) }
     {
         conn_mut(&mut self.live, c).segment(alloc, store, sums, max)
     }
@@ -95,9 +92,8 @@ impl Connections {
         requires there { lookup self.old.conns c ≢ None }
         requires covered { Covers store.old (bufs_of (conn_in self.old.conns c).outgoing) }
         requires readable { AllReadable store.old (conn_in self.old.conns c).outgoing }
-        ensures conn { Drains store.old store.new (conn_in self.old.conns c)
-            (conn_in self.new.conns c) (W.contents writer.old) (W.contents writer.new) max result }
-        ensures others { ChangesOne self.old self.new c }
+        ensures { ChangesAs self.old self.new c (λ x y. Drains W.contents writer.old writer.new
+            store.old store.new x y max result) }
     {
         conn_mut(&mut self.live, c).drain_to(store, writer, max)
     }
@@ -108,9 +104,7 @@ impl Connections {
     pub fn peer_closed(&mut self, store: &mut Store, c: ConnId, how: How)
         requires there { lookup self.old.conns c ≢ None }
         requires covered { Covers store.old (bufs_of (conn_in self.old.conns c).outgoing) }
-        ensures conn { ClosesPeer store.old store.new (conn_in self.old.conns c)
-            (conn_in self.new.conns c) how }
-        ensures others { ChangesOne self.old self.new c }
+        ensures { ChangesAs self.old self.new c (λ x y. ClosesPeer store.old store.new x y how) }
     {
         conn_mut(&mut self.live, c).peer_closed(store, how);
     }

@@ -1,13 +1,13 @@
 //! The table of live connections.
-ghost use Rattle.std.specs.Prelude.{◌≡◌, ◌≢◌, ◌+◌, ◌-◌, ◌<◌, ◌≤◌, ◌&&◌, [], ◌∷◌, ◌++◌, length, find, not, false, true, None, Some, option_map, OnOk, OnErr};
+ghost use Rattle.std.specs.Prelude.{◌≡◌, ◌≢◌, ◌+◌, ◌<◌, ◌≤◌, [], ◌∷◌, ◌++◌, length, find};
+ghost use Rattle.std.specs.Prelude.{false, None, Some, option_map, OnOk, OnErr};
 ghost use Rattle.std.specs.Option.{option_copied};
-ghost use Rattle.std.specs.VecDeque.{deque_len, deque_capacity};
-ghost use Rattle.iol_core.specs.Prelude.{lookup, without, changed};
+ghost use Rattle.iol_core.specs.Prelude.{lookup, without};
 ghost use Rattle.std.specs.Borrow.{sem};
 ghost use Rattle.iol_desc.specs.Prelude.{LendsEntry, IsRising, Rises};
 ghost use Rattle.iol_pool.specs.Prelude.{names_in};
 ghost use Rattle.iol_sock.specs.Connections.{new_conn};
-ghost use Rattle.iol_sock.specs.Table.{conn_in};
+ghost use Rattle.iol_sock.specs.Table.{IsAmong, Unlists, accepted_in, conn_in, first_waiting};
 ghost use Rattle.iol_sock.specs.contracts.connections.Connection.{the_row};
 
 use crate::connections::Connection;
@@ -55,9 +55,7 @@ impl Model for Connections {
 fn unlist(waiting: &mut VecDeque<(u64, PoolId)>, number: u64)
     requires rising { IsRising waiting.old.items }
     requires there { lookup waiting.old.items number ≢ None }
-    ensures items { waiting.new.items ≡ without waiting.old.items number }
-    ensures room { deque_capacity waiting.old - deque_len waiting.old ≤
-        deque_capacity waiting.new - deque_len waiting.new }
+    ensures { Unlists waiting.old waiting.new number }
 {
     let found = waiting.binary_search_by_key(&number, |entry| entry.0);
     if let Ok(at) = found {
@@ -69,8 +67,7 @@ fn unlist(waiting: &mut VecDeque<(u64, PoolId)>, number: u64)
 pub(crate) fn conn_mut(live: &mut Entries<Connection>, c: ConnId) -> &mut Connection
     requires { lookup live.old.entries c ≢ None }
     ensures* writes_back { sem 𝓛 (LendsEntry the_row live.entry c result) }
-    ensures rise { Rises 0 live.old.entries live.old.next }
-    ensures value { lookup live.old.entries c ≡ Some result.now }
+    ensures found { IsAmong live.old.entries live.old.next c result.now }
 {
     live.numbers_rise();
     live.value_mut(c.number() as u64)
@@ -157,8 +154,7 @@ impl Connections {
     /// The first that no domain accepted and whose pool names this one.
     #[tactic(auto, using(crate::proofs::Waiting::table_rules))]
     pub fn first_waiting(&self, store: &Store, d: DomainId) -> Option<ConnId>
-        ensures { result ≡ option_map (λ e. e.0) (find
-            (λ e. not e.1.accepted && names_in store.now.pools e.1.pool d) self.now.conns) }
+        ensures { result ≡ first_waiting store.now.pools d self.now.conns }
     {
         self.live.numbers_rise();
         let number = first_named(&self.waiting, store.pools(), d)?;
@@ -170,8 +166,7 @@ impl Connections {
     pub fn accept(&mut self, c: ConnId)
         requires there { lookup self.old.conns c ≢ None }
         requires waits { (conn_in self.old.conns c).accepted ≡ false }
-        ensures accepted { self.new.conns ≡ changed self.old.conns c
-            (record (conn_in self.old.conns c) { accepted = true }) }
+        ensures accepted { self.new.conns ≡ accepted_in self.old.conns c }
         ensures next { self.new.next ≡ self.old.next }
         ensures room { self.old.room ≤ self.new.room }
     {

@@ -15,8 +15,8 @@ asks_store s (event.Call by (call.Fsync fd)) = true
 asks_store s event.Flush = true
 asks_store s e = false
 
--- Whether the event may change what memory has of files: it does, where new bytes need room, and where files are read, written or
--- written back. It may have done so, too, where it is refused in the end.
+-- Whether the event may change what memory has of files: it does, where new bytes need room, and where files are read,
+-- written or written back. It may have done so, too, where it is refused in the end.
 abbrev pub uses_cache : State → Event → Bool
 uses_cache s (event.Call by (call.AggMake bytes)) = true
 uses_cache s (event.Call by (call.IolRead fd n)) = is_file (held_by s by fd)

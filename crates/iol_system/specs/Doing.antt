@@ -1,15 +1,19 @@
 -- What an event does to what a system's calls work on, over a store: all that its promises are made of.
-use Rattle.std.specs.Prelude.{◌≡◌, true, false}
+use Rattle.std.specs.Prelude.{◌≡◌, ℕ, true, false}
 use Rattle.iol_back.specs.Disk.{Disk, IfHonest}
 use Rattle.iol_cache.specs.Serving.{FaultCounts}
 use Rattle.iol_core.specs.Positions.{ArePlaced}
 use Rattle.iol_core.specs.Run.{meaning, outcome, StepsTo}
 use Rattle.iol_core.specs.Sharing.{is_sharing, LaysOut}
+use Rattle.iol_core.specs.declared.events.Call.{Call}
 use Rattle.iol_core.specs.declared.events.Event.{Event}
+use Rattle.iol_core.specs.declared.events.Event.TheVariants as event
 use Rattle.iol_core.specs.declared.events.Reply.{Reply}
 use Rattle.iol_hold.specs.Moves.{Stays}
 use Rattle.iol_kernel.specs.Backed.{IsBackedBy, StepsBeside}
+use Rattle.iol_kernel.specs.Kernel.{state_of}
 use Rattle.iol_kernel.specs.KernelState.{KernelState, layout_of, machine_of, IsSound}
+use Rattle.iol_kernel.specs.declared.kernel.Kernel.{Kernel}
 use Rattle.iol_system.specs.FileEnds.{TellsEnd}
 use Rattle.iol_system.specs.Asking.{asks_store, makes_file, uses_cache, writes_store}
 use Rattle.iol_system.specs.InPlace.{KeepsInPlace, SharesFile}
@@ -21,8 +25,8 @@ use Rattle.iol_system.specs.Still.{is_still, keeps_store, only_looks, takes_out}
 use Rattle.iol_system.specs.Room.{HasRoomFor, LacksRoomFor, IsDone, IsEarly, IsFault, IsNoRoom, IsRefused}
 use Rattle.iol_system.specs.WrittenBack.{WritesBack}
 
--- With a store that has the same bytes as memory where nothing was written, and positions within files, it is the machine's
--- step; and then the store has them again. The other clauses hold over any store.
+-- What an event does. With a store that has the same bytes as memory where nothing was written, and positions within files,
+-- it is the machine's step; and then the store has them again. All else holds over any store.
 pub record Does (disk : Disk) (old : KernelState) (e : Event) (r : Reply) (after : Disk) (new : KernelState) : Type 0 where
   pub step : IsBackedBy disk old → ArePlaced (machine_of disk.slots old)
       → StepsTo (machine_of disk.slots old) e r (machine_of after.slots new)
@@ -54,3 +58,8 @@ pub record Does (disk : Disk) (old : KernelState) (e : Event) (r : Reply) (after
   pub written_back : WritesBack disk old e r after new
   pub sound : IsSound new
   pub stays : Stays old.store new.store
+
+-- what a call of a domain does to a kernel, over a store that has this disk
+abbrev pub DoesCall : {B : Type 0} → (by : ℕ) → Call → (disk : B → Disk) → (backing after : B) → Kernel → Reply → Kernel → Type 0
+DoesCall by call disk backing after old r new =
+    Does (disk backing) (state_of old) (event.Call by call) r (disk after) (state_of new)

@@ -18,7 +18,7 @@ CallTellsEnd s by (call.Seek fd at) x = SeeksAt by fd at s.disk s.kernel (outcom
 CallTellsEnd s by (call.FileNew name p) x = FitsNext s.disk s.kernel (outcome x)
 CallTellsEnd s by c x = ⊤
 
--- no other event tells of one
+-- what an event tells of where a file ends: a call what `CallTellsEnd` says, and no other event tells of one
 abbrev pub TellsEnd : SystemState → Event → Reply → Type 0
 TellsEnd s (event.Call by c) x = CallTellsEnd s by c x
 TellsEnd s e x = ⊤

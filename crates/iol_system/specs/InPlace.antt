@@ -43,13 +43,13 @@ IsWritten old e f i = ⊥
 abbrev pub WantsMore : KernelState → Wants → (p : ℕ) → Type 0
 WantsMore h w p = (p ≡ w.pool) × LacksPages h p (pages_for w.count)
 
--- so does a read of a file, for what is not in memory
+-- a read of a file wants more pages of the file's pool than are free, for what is not in memory
 abbrev pub ReadWantsMore : SystemState → Option Descriptor → (n p : ℕ) → Type 0
 ReadWantsMore s (Some (on.File f at mode)) n p = (p ≡ pool_of_file s.kernel f)
     × LacksPagesToRead f at n s.disk (holding_of s.kernel)
 ReadWantsMore s o n p = ⊥
 
--- so does a write of slices to a file, for copies of those that lie in other pools
+-- a write of slices to a file wants more pages of the file's pool than are free, for copies of those that lie in other pools
 abbrev pub WriteWantsMore : KernelState → Option Descriptor → List Slice → (p : ℕ) → Type 0
 WriteWantsMore h (Some (on.File f at mode)) xs p = (p ≡ pool_of_file h f) × LacksPages h p (copied_pages p xs)
 WriteWantsMore h o xs p = ⊥
@@ -76,7 +76,8 @@ LiesStill (event.Call by (call.Fsync fd)) c o = IsThereOrClean c o
 LiesStill event.Flush c o = IsThereOrClean c o
 LiesStill e c o = o ≡ Some c
 
--- Each byte of a file that is in memory lies where it lay. Or the event writes it; or it was clean, and the event may let it go.
+-- Each byte of a file that is in memory lies where it lay. Or the event writes it; or it was clean, and the event may let it
+-- go.
 pub record KeepsInPlace (old : SystemState) (e : Event) (new : KernelState) : Type 0 where
   pub each : (f i : ℕ) (c : Cell) → cover (extents_in old.kernel.cache.files f) i ≡ Some c
       → LiesStill e c (cover (extents_in new.cache.files f) i)
@@ -87,12 +88,13 @@ pub record KeepsInPlace (old : SystemState) (e : Event) (new : KernelState) : Ty
 abbrev pub SameElsewhere : (old new : KernelState) → Type 0
 SameElsewhere old new = new ≡ record old { store = new.store; cache = new.cache; domains = new.domains }
 
--- A read of a file by reference gives bytes that were in memory where they lay, and the others where they lie in new extents. Of
--- the tables its domain has one aggregate more, and the descriptor's position moved.
+-- A read of a file by reference gives bytes that were in memory where they lay, and the others where they lie in new extents.
+-- Of the tables its domain has one aggregate more, and the descriptor's position moved.
 pub record ReadsShared (by fd n f at : ℕ) (mode : Mode) (old : SystemState) (new : KernelState) : Type 0 where
   pub gives : GivesRead (file_read by fd f at mode n) old.disk old.kernel new
   pub rest : SameElsewhere old.kernel new
 
+-- what a read by reference shares, where its descriptor is open on a file
 abbrev pub SharesRead : (by fd n : ℕ) → SystemState → Option Descriptor → KernelState → Type 0
 SharesRead by fd n old (Some (on.File f at mode)) new = ReadsShared by fd n f at mode old new
 SharesRead by fd n old o new = ⊤
@@ -106,7 +108,7 @@ pub record CopiesShared (by fd n f at : ℕ) (mode : Mode) (old : SystemState) (
   pub frees : FreesOnly mid new.store
   pub rest : SameElsewhere old.kernel new
 
--- where bytes were answered
+-- what a read by copying shares, where its descriptor is open on a file and bytes were answered
 abbrev pub SharesCopy : (by fd n : ℕ) → SystemState → Option Descriptor → Reply → KernelState → Type 0
 SharesCopy by fd n old (Some (on.File f at mode)) (reply.Bytes bytes) new = CopiesShared by fd n f at mode old bytes new
 SharesCopy by fd n old o r new = ⊤
@@ -121,6 +123,7 @@ pub record WritesShared (f at : ℕ) (xs : List Slice) (old new : KernelState) :
   pub moves : OnlyMoves f at (byte_len xs) old.domains new.domains
   pub rest : SameElsewhere old new
 
+-- what a write of slices shares, where its descriptor is open on a file
 abbrev pub SharesWrite : Option Descriptor → List Slice → (old new : KernelState) → Type 0
 SharesWrite (Some (on.File f at mode)) xs old new = WritesShared f at xs old new
 SharesWrite o xs old new = ⊤
@@ -132,6 +135,7 @@ SharesPut pool bytes (Some (on.File f at mode)) old new =
     AfterRoom pool (length bytes) old (λ roomy. LaysOver f at pool bytes roomy new)
 SharesPut pool bytes o old new = ⊤
 
+-- what a call on a file shares with it, or copies of it
 abbrev pub SharesFile : SystemState → Event → Reply → KernelState → Type 0
 SharesFile old (event.Call by (call.IolRead fd n)) r new = SharesRead by fd n old (held_by (tables_of old.kernel) by fd) new
 SharesFile old (event.Call by (call.IolWrite fd a)) r new =

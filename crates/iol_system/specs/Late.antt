@@ -22,7 +22,7 @@ use Rattle.iol_kernel.specs.WritingFiles.{LeavesUnlaid, LeavesUnwritten}
 use Rattle.iol_system.specs.Machine.{SystemState, tables_of}
 use Rattle.iol_system.specs.Wants.{Wants, for_arrived, for_made, for_written}
 
--- it holds of the refusal, where there is one
+-- P holds of a reply's refusal, where it is one
 abbrev pub IfRefused : Reply → (Refusal → Type 0) → Type 0
 IfRefused (reply.Refused x) P = P x
 IfRefused r P = ⊤
@@ -35,8 +35,8 @@ SameTables old new = new ≡ record old { store = new.store; cache = new.cache }
 abbrev pub MadeRoomFor : Wants → (old : KernelState) → Reply → (new : KernelState) → Type 0
 MadeRoomFor w old r new = IfRefused r (MayHaveEvicted w.pool w.count old new)
 
--- A refused read of a file by reference: hits may count, and clean extents may have gone to make room, the first ones before the
--- others.
+-- A refused read of a file by reference: hits may count, and clean extents may have gone to make room, the first ones before
+-- the others.
 abbrev pub ReadLeaves : (by fd n : ℕ) → (old : SystemState) → Option Descriptor → Reply → (new : SystemState) → Type 0
 ReadLeaves by fd n old (Some (on.File f at mode)) r new =
     IfRefused r (λ x. SameTables old.kernel new.kernel
@@ -51,6 +51,7 @@ pub record LeavesCopied (by fd n f at : ℕ) (mode : Mode) (old new : SystemStat
   pub lists : SameLists mid new.kernel.store
   pub same : SameTables old.kernel new.kernel
 
+-- what a refused read by copying leaves, where its descriptor is open on a file
 abbrev pub CopyLeaves : (by fd n : ℕ) → (old : SystemState) → Option Descriptor → Reply → (new : SystemState) → Type 0
 CopyLeaves by fd n old (Some (on.File f at mode)) r new = IfRefused r (LeavesCopied by fd n f at mode old new)
 CopyLeaves by fd n old o r new = ⊤
@@ -66,6 +67,7 @@ abbrev pub PutLeaves : Wants → List ℕ → (old : KernelState) → Option Des
 PutLeaves w bytes old (Some (on.File f at mode)) r new = IfRefused r (LeavesUnlaid w.pool bytes old new)
 PutLeaves w bytes old o r new = MadeRoomFor w old r new
 
+-- what a call leaves that is refused
 abbrev pub CallLeaves : (old : SystemState) → (by : ℕ) → Call → Reply → (new : SystemState) → Type 0
 CallLeaves old by (call.AggMake bytes) r new = MadeRoomFor (for_made old.kernel by bytes) old.kernel r new.kernel
 CallLeaves old by (call.IolRead fd n) r new = ReadLeaves by fd n old (held_by (tables_of old.kernel) by fd) r new
@@ -77,8 +79,7 @@ CallLeaves old by (call.Write fd bytes) r new =
 CallLeaves old by c r new = ⊤
 
 -- A refused event that places bytes, or reads or writes a file, changed nothing; or it came late, and has just made room or
--- counted hits. Where there is no room it has at most counted hits. Those that write back are told of by `StoresBack`, and others
--- change nothing where they are refused.
+-- counted hits. Where there is no room it has at most counted hits. Of any other event nothing is said here.
 abbrev pub LeavesLate : (old : SystemState) → Event → Reply → (new : SystemState) → Type 0
 LeavesLate old (event.Call by c) r new = CallLeaves old by c r new
 LeavesLate old (event.Arrive c bytes) r new = MadeRoomFor (for_arrived old.kernel c bytes) old.kernel r new.kernel

@@ -54,7 +54,8 @@ abbrev pub RunsInParts : Type 0
 RunsInParts = (old new : SystemState) (past future : List Event) (rs : List Reply) → Chain old (past ++ future) rs new
     → Between old past future rs new
 
--- an event of a run, and its reply: a step that keeps all promises, between a run of the events before and one of those after it
+-- an event of a run, and its reply: a step that keeps all promises, between a run of the events before and one of those after
+-- it
 pub record Moment (old : SystemState) (past : List Event) (e : Event) (future : List Event) (rs : List Reply)
     (new : SystemState) : Type 0 where
   pub before : SystemState
@@ -109,7 +110,7 @@ abbrev pub NoRoomEvictsNothing : Type 0
 NoRoomEvictsNothing = (old new : SystemState) (e : Event) (p : ℕ) → Promises old e (Refused (NoRoom p)) new
     → EvictsNothing (IsRead (tables_of old.kernel) e) old.kernel.cache new.kernel.cache
 
--- nor does one for which there is no room, whatever it is refused for
+-- an event for which there is no room evicts nothing where it is refused, whatever for
 abbrev pub RefusedWithoutRoomEvictsNothing : Type 0
 RefusedWithoutRoomEvictsNothing = (old new : SystemState) (e : Event) (r : Reply) → Promises old e r new → IsRefused r
     → HasRoomFor old e ⊎ EvictsNothing (IsRead (tables_of old.kernel) e) old.kernel.cache new.kernel.cache
@@ -132,16 +133,17 @@ pub record KeepsChunks (old new : Stored) : Type 0 where
       → (pool_in new.pools p).chunks ≡ (pool_in old.pools p).chunks
   pub closes : (p : ℕ) → (pool_in new.pools p).closed ≡ true → HasAllOrNone old new p
 
--- so does each event, whatever it is answered
+-- each event leaves an open pool its chunks, and a closed one all of them or none, whatever it is answered
 abbrev pub EachStepKeepsChunks : Type 0
 EachStepKeepsChunks = (old new : SystemState) (e : Event) (r : Reply) → Promises old e r new
     → KeepsChunks old.kernel.store new.kernel.store
 
--- a run from a safe system ends in one; by the law on parts the system is safe at each moment
+-- a run from a safe system ends in a safe one; by the law on parts the system is safe at each moment
 abbrev pub RunsStaySafe : Type 0
 RunsStaySafe = (old new : SystemState) (es : List Event) (rs : List Reply) → Chain old es rs new → IsSafe old → IsSafe new
 
--- a run from a machine that is orderly ends in one, over any store; a new one is orderly (`iol_laws`, `each_step_keeps_order`)
+-- a run from an orderly machine ends in an orderly one, over any store; a new one is orderly (`iol_laws`,
+-- `each_step_keeps_order`)
 abbrev pub RunsStayOrderly : Type 0
 RunsStayOrderly = (old new : SystemState) (es : List Event) (rs : List Reply) → Chain old es rs new → IsOrderly (machine_of old)
     → IsOrderly (machine_of new)
@@ -174,6 +176,7 @@ AllShare old [] rs new chain = Unit {0}
 AllShare old (e ∷ es) (r ∷ rs) new chain = (is_sharing (tables_of old.kernel) e ≡ true) × AllShare chain.0 es rs new chain.2
 AllShare old (e ∷ es) [] new chain = Unit {0}
 
+-- a run of sharing calls copies nothing
 abbrev pub RunsShare : Type 0
 RunsShare = (old new : SystemState) (es : List Event) (rs : List Reply) → (chain : Chain old es rs new)
     → AllShare old es rs new chain → SharesOver old es rs new

@@ -1,4 +1,6 @@
+pub mod Founding
 pub mod Laws
+pub mod Lent
 pub mod Machine
 pub mod Placed
 pub mod Promises

@@ -33,7 +33,7 @@ abbrev pub Makes : (put : State → Text → State) → Wants → (old new : Ker
 Makes put w old new = AfterRoom w.pool w.count old (λ roomy. MakesBytes put w.pool w.count roomy new)
 
 -- Room was made for bytes in a pool, and of the pages that were free then the lowest were filled: each was raised by one,
--- and no others were. So of a `write` to a file, which puts them over the file's then (`SharesPut`).
+-- and no others were. So it is of a `write` to a file, which puts the bytes over the file's then (`SharesPut`).
 abbrev pub Fills : Wants → (old new : KernelState) → Type 0
 Fills w old new = AfterRoom w.pool w.count old (λ roomy. KeepsPages roomy.store new.store (lowest_of roomy.store w.pool w.count))
 
@@ -57,7 +57,8 @@ CallPublishes old by (call.Write fd bytes) new =
     Puts by fd (for_written old by fd bytes) (descriptor (tables_of old) by fd) old new
 CallPublishes old by c new = KeepsPages old.store new.store []
 
--- so do bytes that arrive in the connection's pool, as many as are taken
+-- A call makes buffers as `CallPublishes` says, and bytes that arrive make some in the connection's pool, as many as are taken.
+-- Any other event makes none.
 abbrev pub Publishes : KernelState → Event → KernelState → Type 0
 Publishes old (event.Call by c) new = CallPublishes old by c new
 Publishes old (event.Arrive c bytes) new = Makes (with_incoming c) (for_arrived old c bytes) old new
@@ -74,8 +75,8 @@ pub record CreatesFile (old new : KernelState) : Type 0 where
   pub same : new ≡ record old { files = new.files; cache = new.cache }
   pub added : AddsEmpty old.cache new.cache
 
--- A call that made a pool: it has as many chunks as were asked for, the lowest free ones, and the others have theirs. One that
--- admitted a domain to a pool: that list names it, and nothing else changed at all. Or one that made a file.
+-- What a call creates. A new pool has as many chunks as were asked for, the lowest free ones, and the others have theirs. A
+-- pool to which a domain was admitted names it, and nothing else changed at all. Of a new file nothing is in memory.
 abbrev pub CallCreates : KernelState → Call → Reply → KernelState → Type 0
 CallCreates old (call.PoolCreate chunks list) (reply.Pool p) new =
     AddsPool old.store.arena new.store.arena old.store.pools new.store.pools chunks (distinct list)
@@ -83,6 +84,7 @@ CallCreates old (call.PoolAdmit p d) reply.Done new = new ≡ with_reader old p 
 CallCreates old (call.FileNew name p) (reply.File f) new = CreatesFile old new
 CallCreates old c r new = ⊤
 
+-- what an event creates: a call what `CallCreates` says, and nothing is said of any other
 abbrev pub Creates : KernelState → Event → Reply → KernelState → Type 0
 Creates old (event.Call by c) r new = CallCreates old c r new
 Creates old e r new = ⊤

@@ -26,7 +26,7 @@ use Rattle.iol_system.specs.Safe.{IsSafe}
 use Rattle.iol_system.specs.Still.{is_still, keeps_store, only_looks, takes_out}
 use Rattle.iol_system.specs.WrittenBack.{IsDropped, IsFlushed, IsKept, IsSynced, StoresBack}
 
--- From old to new, by this event with this reply.
+-- What one event promises, from old to new, with this reply.
 pub record Promises (old : SystemState) (e : Event) (r : Reply) (new : SystemState) : Type 0 where
   -- over an honest store it is the copying machine's step
   pub step : IfHonest old.disk (StepsTo (machine_of old) e r (machine_of new))
@@ -50,9 +50,9 @@ pub record Promises (old : SystemState) (e : Event) (r : Reply) (new : SystemSta
   pub without_room : IsRefused r → HasRoomFor old e ⊎ SameExtents old.kernel.cache new.kernel.cache
   -- a refusal changes nothing at all, if it is not for want of room or of memory or by a fault
   pub early : IsEarly r → new ≡ old
-  -- nor does any other of an event that wants no pages and does not work on what memory has of files
+  -- a refusal of an event that wants no pages and does not work on what memory has of files changes nothing either
   pub refused : uses_cache (tables_of old.kernel) e ≡ false → IsRefused r → new ≡ old
-  -- such an event leaves what memory has of files, but that a new file has nothing there
+  -- an event that does not work on what memory has of files leaves that as it is, but that a new file has nothing there
   pub uncached : uses_cache (tables_of old.kernel) e ≡ false → makes_file e ≡ false → new.kernel.cache ≡ old.kernel.cache
   -- what a late refusal may leave: clean parts of files gone, the first ones before the others, hits counted, and
   -- pages raised that were filled and are free again
@@ -61,7 +61,7 @@ pub record Promises (old : SystemState) (e : Event) (r : Reply) (new : SystemSta
   pub looks : only_looks e ≡ true → new ≡ old
   -- what a sharing call hands on lies where it lay
   pub shares : is_sharing (tables_of old.kernel) e ≡ true → LaysOut (layout_of old.kernel) e r (layout_of new.kernel)
-  -- it changes no page and no pool
+  -- a sharing call changes no page and no pool
   pub pages : is_sharing (tables_of old.kernel) e ≡ true → SamePages old.kernel.store new.kernel.store
   -- what an event leaves that is not about bytes lies where it lay
   pub still : is_still e ≡ true → LaysOut (layout_of old.kernel) e r (layout_of new.kernel)

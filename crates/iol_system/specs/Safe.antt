@@ -6,8 +6,8 @@ use Rattle.iol_kernel.specs.Backed.{IsBackedBy}
 use Rattle.iol_kernel.specs.KernelState.{IsSound}
 use Rattle.iol_system.specs.Machine.{SystemState, machine_of}
 
--- It is sound, and what each domain has it may read, as the copying machine says it. Over an honest store, this has the same
--- bytes as memory where nothing was written, and positions are within files.
+-- A system is sound, and what each of its domains has that one may read, as the copying machine says it. An honest store has
+-- the same bytes as memory where nothing was written, and over one positions are within files.
 pub record IsSafe (s : SystemState) : Type 0 where
   pub sound : IsSound s.kernel
   pub access : HasAccess (machine_of s)

@@ -18,8 +18,8 @@ pub record Comes (c n : ℕ) (bytes : List ℕ) (old new : SystemState) : Type 0
   pub step : IfHonest old.disk (Step (arrive (machine_of old) c bytes) (machine_of old) (Ok n) (machine_of new))
   pub beside : StepsBeside (λ s. arrive s c bytes) old.kernel (Ok n) new.kernel
 
--- The bytes of one read come in on connection c: those that the reader had left, where these are known, were `left`, and are now
--- `after`. A refusal comes before it reads, and over an honest store leaves the copying machine as it was.
+-- The bytes of one read come in on connection c: those that the reader had left, where these are known, were `left`, and are
+-- now `after`. A refusal comes before it reads, and over an honest store leaves the copying machine as it was.
 pub record ServesReader {R : Type 0} (c max : ℕ) (old new : SystemState) (reader read_from : R) (left after : Option (List ℕ))
     (r : Result Arrived Refusal) : Type 0 where
   pub refuses : RefusesArrival c max old.kernel new.kernel reader read_from r
@@ -39,3 +39,13 @@ pub record ServesWriter {W : Type 0} (c max : ℕ) (old new : SystemState) (writ
   pub disk : new.disk ≡ old.disk
   pub safe : IsSafe new
   pub stays : Stays old.kernel.store new.kernel.store
+
+-- Connection c is served by a reader. It is told what the reader has left, where that is known.
+abbrev pub ServesFrom : {R : Type 0} → (left : R → Option (List ℕ)) → (reader after : R) → (c max : ℕ) → (old new : SystemState)
+    → Result Arrived Refusal → Type 0
+ServesFrom left reader after c max old new r = ServesReader c max old new reader after (left reader) (left after) r
+
+-- Connection c is served to a writer. It is told what the writer holds, where that is known.
+abbrev pub ServesTo : {W : Type 0} → (held : W → Option (List ℕ)) → (writer after : W) → (c max : ℕ) → (old new : SystemState)
+    → Result Drained Refusal → Type 0
+ServesTo held writer after c max old new r = ServesWriter c max old new writer after (held writer) (held after) r

@@ -20,6 +20,7 @@ pub record IsInOneBuffer (s : State) (q : ℕ) : Type 0 where
   pub on : LiesOn s buf q
   pub only : (b : BufId) → IsLive s b → LiesOn s b q → b ≡ buf
 
+-- page q is unused, or part of just one live buffer
 abbrev pub HasOneUse : State → (q : ℕ) → Type 0
 HasOneUse s q = IsUnused s q ⊎ IsInOneBuffer s q
 

@@ -5,8 +5,13 @@ use Rattle.iol_core.specs.State.{State, aggregate}
 use Rattle.iol_core.specs.Text.{Text}
 use Rattle.iol_core.specs.Values.{gives_up}
 use Rattle.iol_core.specs.declared.events.Event.{Event}
+use Rattle.iol_system.specs.Machine.{SystemState, machine_of}
 
 -- an aggregate that no event gives up has after them the text that it had before
 pub record ValuesStayOver (old : State) (es : List Event) (new : State) : Type 0 where
   pub each : (d a : ℕ) (t : Text) → aggregate old d a ≡ Some t → list_any (λ e. gives_up e d a) es ≡ false
       → aggregate new d a ≡ Some t
+
+-- an aggregate that no event gives up keeps its text, of the machine that a system stands for
+abbrev pub KeepsValues : (old : SystemState) → List Event → (new : SystemState) → Type 0
+KeepsValues old es new = ValuesStayOver (machine_of old) es (machine_of new)

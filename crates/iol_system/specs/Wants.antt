@@ -1,13 +1,14 @@
 -- How many new bytes an event wants to place, and in which pool.
 use Rattle.std.specs.Prelude.{◌≡◌, ℕ, true, false, List, length}
 use Rattle.iol_core.specs.State.{conn_at, descriptor}
-use Rattle.iol_core.specs.Calls.Aggregates.{default_pool}
 use Rattle.iol_core.specs.Calls.Outside.{arrive}
 use Rattle.iol_core.specs.Calls.Writing.{pool_for, write}
+use Rattle.iol_core.specs.Prelude.{default_pool}
 use Rattle.iol_kernel.specs.KernelState.{KernelState}
 use Rattle.iol_kernel.specs.MakingRoom.{can_fit}
 use Rattle.iol_system.specs.Machine.{tables_of}
 
+-- so many new bytes, in a pool
 pub record Wants : Type 0 where
   pub pool : ℕ
   pub count : ℕ
@@ -27,9 +28,10 @@ for_written h by fd bytes = record {
 abbrev pub for_arrived : KernelState → (c : ℕ) → List ℕ → Wants
 for_arrived h c bytes = record { pool = (conn_at (tables_of h) c).pool; count = (arrive (tables_of h) c bytes).answer }
 
--- they fit their pool, beside what something else than clean extents holds, or they do not
+-- the bytes wanted fit their pool, beside what something else than clean extents holds
 abbrev pub Fits : KernelState → Wants → Type 0
 Fits h w = can_fit h w.pool w.count ≡ true
 
+-- the bytes wanted do not fit their pool
 abbrev pub FitsNot : KernelState → Wants → Type 0
 FitsNot h w = can_fit h w.pool w.count ≡ false

@@ -38,7 +38,7 @@ abbrev pub IsSynced : KernelState → Event → KernelState → Type 0
 IsSynced old (event.Call by (call.Fsync fd)) new = IsCleanFile (descriptor (tables_of old) by fd) new
 IsSynced old e new = ⊤
 
--- and the store has just that file
+-- after an `fsync` the store has in its file's slot just the machine's file
 abbrev pub IsKept : KernelState → Event → SystemState → Type 0
 IsKept old (event.Call by (call.Fsync fd)) new = IsStoredFile (descriptor (tables_of old) by fd) new
 IsKept old e new = ⊤
@@ -53,7 +53,7 @@ pub record CleansFirst (old new : Cached) : Type 0 where
   pub others : (f : ℕ) → (f ≡ file → ⊥) → extents_in new.files f ≡ extents_in old.files f
   pub fewer : dirty_in_all new.files + 1 ≡ dirty_in_all old.files
 
--- a `flush` writes that extent back, or nothing was dirty
+-- a `flush` cleans the dirty extent of least file and offset, or nothing was dirty, and it changes nothing
 abbrev pub IsFlushed : KernelState → Event → KernelState → Type 0
 IsFlushed old event.Flush new = CleansFirst old.cache new.cache ⊎ (AllClean (length old.cache.files) old.cache × (new ≡ old))
 IsFlushed old e new = ⊤
@@ -64,17 +64,19 @@ pub record DropsClean (old new : KernelState) : Type 0 where
   pub victims : EvictsPools (length old.cache.orders) (holding_of old) (holding_of new)
   pub same : new ≡ record old { store = new.store; cache = new.cache }
 
--- `drop_clean` does that
+-- `drop_clean` evicts the clean extents of all files
 abbrev pub IsDropped : KernelState → Event → KernelState → Type 0
 IsDropped old event.DropClean new = DropsClean old new
 IsDropped old e new = ⊤
 
--- What an `fsync` wrote back, whatever it answered: the first dirty extents of its file, up to the one at which the store failed.
+-- What an `fsync` wrote back, whatever it answered: the first dirty extents of its file, up to the one at which the store
+-- failed.
 pub record SyncsAs (f : ℕ) (disk : Disk) (old : KernelState) (r : Reply) (after : Disk) (new : KernelState) : Type 0 where
   pub answer : Result (Unit {0}) Refusal
   pub is : r ≡ told (λ u. reply.Done) answer
   pub syncs : SyncsFile f disk old answer after new
 
+-- what an `fsync` wrote back, by what its descriptor is open on: of anything but a file nothing is said
 abbrev pub SyncsOn : Option Descriptor → Disk → KernelState → Reply → Disk → KernelState → Type 0
 SyncsOn (Some (on.File f at mode)) disk old r after new = SyncsAs f disk old r after new
 SyncsOn o disk old r after new = ⊤
@@ -85,13 +87,13 @@ pub record FlushesAs (disk : Disk) (old : KernelState) (r : Reply) (after : Disk
   pub is : r ≡ told (λ u. reply.Done) answer
   pub flushes : FlushesOne disk old answer after new
 
--- Just what was to be written back was written, refused or not.
+-- An `fsync` and a `flush` wrote back just what was to be, refused or not.
 abbrev pub StoresBack : Disk → KernelState → Event → Reply → Disk → KernelState → Type 0
 StoresBack disk old (event.Call by (call.Fsync fd)) r after new = SyncsOn (descriptor (tables_of old) by fd) disk old r after new
 StoresBack disk old event.Flush r after new = FlushesAs disk old r after new
 StoresBack disk old e r after new = ⊤
 
--- all of this of one event
+-- What one event writes back or drops: what is clean and stored where it is done, and what was written whatever it is answered.
 pub record WritesBack (disk : Disk) (old : KernelState) (e : Event) (r : Reply) (after : Disk) (new : KernelState) : Type 0 where
   pub synced : IsDone r → IsSynced old e new
   pub kept : IsBackedBy after new → IsDone r → IsKept old e (system_of new after)

@@ -1,7 +1,8 @@
 //! The aggregates of all domains, lent.
-ghost use Rattle.std.specs.Prelude.{◌≡◌, [], length, Some, None, IfOk, IfErr};
-ghost use Rattle.iol_core.specs.Prelude.{first, show};
-ghost use Rattle.iol_kernel.specs.Prelude.{state_of, IsSound, joined, machine_of};
+ghost use Rattle.std.specs.Prelude.{◌≡◌};
+ghost use Rattle.iol_kernel.specs.Prelude.{state_of, IsSound};
+ghost use Rattle.iol_system.specs.Lent.{LendsParts, TellsLength};
+ghost use Rattle.iol_system.specs.Machine.{tables_of};
 
 use iol_agg::Parts;
 use iol_core::numbers::{AggId, DomainId};
@@ -36,22 +37,14 @@ impl<'a> Aggregates<'a> {
 
     /// The bytes of a domain's aggregate, where they lie. Nothing is copied, and no memory is taken.
     pub fn parts(&self, by: DomainId, agg: AggId) -> Result<Parts<'a>, Refusal>
-        ensures ok { IfOk result
-            (λ parts. (first (show (machine_of [] self.now) by agg).refusals ≡ None)
-            × (joined parts ≡ (show (machine_of [] self.now) by agg).answer)) }
-        ensures err { IfErr result
-            (λ x. first (show (machine_of [] self.now) by agg).refusals ≡ Some x) }
+        ensures { LendsParts (tables_of self.now) by agg result }
     {
         self.kernel.parts(by, agg)
     }
 
     /// How many bytes a domain's aggregate has. Its slices are not walked, and no memory is taken.
     pub fn len(&self, by: DomainId, agg: AggId) -> Result<u32, Refusal>
-        ensures ok { IfOk result
-            (λ n. (first (show (machine_of [] self.now) by agg).refusals ≡ None)
-            × (n ≡ length (show (machine_of [] self.now) by agg).answer)) }
-        ensures err { IfErr result
-            (λ x. first (show (machine_of [] self.now) by agg).refusals ≡ Some x) }
+        ensures { TellsLength (tables_of self.now) by agg result }
     {
         self.kernel.agg_len(by, agg)
     }

@@ -1,7 +1,6 @@
 //! The calls of domains: to each the kernel's function that carries it out.
-ghost use Rattle.iol_core.specs.declared.events.Event.TheVariants as event;
 ghost use Rattle.iol_kernel.specs.Prelude.{state_of, IsSound};
-ghost use Rattle.iol_system.specs.Doing.{Does};
+ghost use Rattle.iol_system.specs.Doing.{DoesCall};
 
 use crate::replies;
 use iol_back::backing::Backing;
@@ -18,8 +17,7 @@ pub(crate) fn answer_call<B: Backing>(
     call: &Call,
 ) -> Reply
     requires { IsSound (state_of kernel.old) }
-    ensures { Does (B.disk backing.old) (state_of kernel.old) (event.Call by call.now) result
-        (B.disk backing.new) (state_of kernel.new) }
+    ensures { DoesCall by call.now B.disk backing.old backing.new kernel.old result kernel.new }
 {
     match call {
         Call::DomainNew => replies::domain(kernel.domain_new(by)),

@@ -1,5 +1,5 @@
 //! Connections that are served from outside in place, from readers and to writers.
-ghost use Rattle.iol_system.specs.Served.{ServesReader, ServesWriter};
+ghost use Rattle.iol_system.specs.Served.{ServesFrom, ServesTo};
 
 use crate::system::System;
 use iol_back::backing::Backing;
@@ -20,8 +20,7 @@ impl<B: Backing> System<B> {
         reader: &mut R,
         max: u32,
     ) -> Result<Arrived, Refusal>
-        ensures { ServesReader conn max self.old self.new reader.old reader.new
-            (R.remaining reader.old) (R.remaining reader.new) result }
+        ensures { ServesFrom R.remaining reader.old reader.new conn max self.old self.new result }
     {
         self.kernel.arrive_from(conn, reader, max)
     }
@@ -36,8 +35,7 @@ impl<B: Backing> System<B> {
         writer: &mut W,
         max: u32,
     ) -> Result<Drained, Refusal>
-        ensures { ServesWriter conn max self.old self.new writer.old writer.new
-            (W.contents writer.old) (W.contents writer.new) result }
+        ensures { ServesTo W.contents writer.old writer.new conn max self.old self.new result }
     {
         self.kernel.drain_to(conn, writer, max)
     }

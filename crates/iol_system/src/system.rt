@@ -1,15 +1,15 @@
 //! A system: events, one step, and a run.
-ghost use Rattle.std.specs.Prelude.{[], replicate, ◌*◌, ◌≡◌, ◌⊎◌, ◌↔◌, false, Some, None, Err, IfOk, IfErr, OnOk, OnErr};
-ghost use Rattle.iol_arena.specs.Prelude.{no_entry};
+ghost use Rattle.std.specs.Prelude.{◌≡◌, IfOk, OnOk, OnErr};
 ghost use Rattle.iol_back.specs.Prelude.{IfHonest};
-ghost use Rattle.iol_core.specs.Prelude.{show, IsInRange, first, Run, new_state};
-ghost use Rattle.iol_core.specs.declared.limits.TheConstants.{CHUNK_PAGES};
+ghost use Rattle.iol_core.specs.Prelude.{Run};
 ghost use Rattle.iol_hold.specs.Prelude.{Stays};
-ghost use Rattle.iol_kernel.specs.Prelude.{joined, slots_of, Reports};
+ghost use Rattle.iol_kernel.specs.Prelude.{Reports};
+ghost use Rattle.iol_system.specs.Founding.{MakesSystem};
+ghost use Rattle.iol_system.specs.Lent.{LendsParts};
 ghost use Rattle.iol_system.specs.Machine.{machine_of, tables_of};
 ghost use Rattle.iol_system.specs.Promises.{Promises, Chain};
 ghost use Rattle.iol_system.specs.Safe.{IsSafe};
-ghost use Rattle.iol_system.specs.Values.{ValuesStayOver};
+ghost use Rattle.iol_system.specs.Values.{KeepsValues};
 
 use crate::aggregates::Aggregates;
 use crate::calls::answer_call;
@@ -51,24 +51,7 @@ impl<B: Backing + Drop> System<B> {
     /// A system with domain 1 and nothing else, over a store: none of its slots has a name yet. A size out of its range is
     /// `BadRange`.
     pub fn new(alloc: Global, config: Config, backing: B) -> Result<System<B>, Refusal>
-        ensures range { (result ≡ Err Refusal.BadRange) ↔ (IsInRange config → ⊥) }
-        ensures errors { IfErr result (λ e. (e ≡ Refusal.BadRange) ⊎ (e ≡ Refusal.Memory)) }
-        ensures new { IfOk result (λ s. machine_of s ≡ new_state (slots_of s.disk.slots)) }
-        ensures disk { IfOk result (λ s. s.disk ≡ B.disk backing) }
-
-        // Of as many pages as the sizes say, none used yet, and of their generation limit.
-        ensures entries { IfOk result
-            (λ s. s.kernel.store.arena.entries ≡ replicate (config.chunks * CHUNK_PAGES) no_entry) }
-        ensures taken { IfOk result (λ s. s.kernel.store.arena.taken ≡ replicate config.chunks false) }
-        ensures limit { IfOk result (λ s. s.kernel.store.arena.limit ≡ config.gen_limit) }
-
-        // No sum is remembered yet, and there is place for as many as the sizes say.
-        ensures sums { IfOk result (λ s. s.kernel.sums.entries ≡ []) }
-        ensures sum_limit { IfOk result (λ s. s.kernel.sums.limit ≡ config.sums) }
-
-        // Nothing of a file is in memory, so no pool has an order in which extents go.
-        ensures orders { IfOk result (λ s. s.kernel.cache.orders ≡ []) }
-        ensures safe { IfOk result IsSafe }
+        ensures { MakesSystem config (B.disk backing) result }
     {
         let kernel = Kernel::new(alloc, config)?;
         Ok(System {
@@ -82,11 +65,7 @@ impl<B: Backing + Drop> System<B> {
 impl<B: Backing> System<B> {
     /// The bytes of a domain's aggregate, where they lie. Nothing is copied, and no memory is taken.
     pub fn parts(&self, by: DomainId, agg: AggId) -> Result<Parts<'_>, Refusal>
-        ensures ok { IfOk result
-            (λ parts. (first (show (tables_of self.now.kernel) by agg).refusals ≡ None)
-            × (joined parts ≡ (show (tables_of self.now.kernel) by agg).answer)) }
-        ensures err { IfErr result
-            (λ x. first (show (tables_of self.now.kernel) by agg).refusals ≡ Some x) }
+        ensures { LendsParts (tables_of self.now.kernel) by agg result }
     {
         self.kernel.parts(by, agg)
     }
@@ -144,8 +123,7 @@ impl<B: Backing> System<B> {
         ensures honest { self.new.disk.honest ≡ self.old.disk.honest }
         ensures safe { IsSafe self.new }
         ensures stays { Stays self.old.kernel.store self.new.kernel.store }
-        ensures values { OnOk result
-            (ValuesStayOver (machine_of self.old) events.now (machine_of self.new)) }
+        ensures values { OnOk result (KeepsValues self.old events.now self.new) }
         ensures err { OnErr result (self.new ≡ self.old) }
     {
         let mut replies = Vec::with_capacity(self.alloc, events.len())?;

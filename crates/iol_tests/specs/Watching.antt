@@ -6,10 +6,14 @@ use Rattle.iol_core.specs.declared.events.Call.TheVariants as call
 use Rattle.iol_core.specs.declared.events.Event.TheVariants as event
 use Rattle.iol_core.specs.declared.events.Reply.TheVariants as reply
 use Rattle.iol_core.specs.declared.refusals.Refusal.TheVariants.{WouldBlock}
+use Rattle.iol_back.specs.Prelude.{IfHonest}
+use Rattle.iol_system.specs.Prelude.{SystemState, machine_of}
+use Rattle.iol_proc.specs.Prelude.{AllSettled}
+use Rattle.iol_proc.specs.World.{Stage}
 use Rattle.iol_proc.specs.declared.process.Turn.{Turn}
 use Rattle.iol_proc.specs.declared.process.Turn.TheVariants as turn
 
--- it asks for a connection, and yields each time that it has asked: whether it had asked before a turn, and has after it
+-- a watcher asks for a connection, and yields each time that it has asked: whether it had asked before a turn, and has after it
 abbrev pub Watches : (asked : Bool) → Turn → (next : Bool) → Type 0
 Watches asked turn.Yield next = (asked ≡ true) × (next ≡ false)
 Watches asked (turn.Make c) next = (asked ≡ false) × (c ≡ call.Accept) × (next ≡ true)
@@ -18,8 +22,14 @@ Watches asked (turn.Make c) next = (asked ≡ false) × (c ≡ call.Accept) × (
 abbrev pub NoneWaits : State → (by : ℕ) → Type 0
 NoneWaits m by = StepsTo m (event.Call by call.Accept) (reply.Refused WouldBlock) m
 
--- what holds after so many yields of one that has asked or not
+-- what holds after so many yields of a watcher in this domain, which has asked or not
 abbrev pub HasWatched : (n by : ℕ) → (asked : Bool) → State → Type 0
 HasWatched zero by asked m = Unit {0}
 HasWatched (suc zero) by asked m = asked ≡ true → NoneWaits m by
 HasWatched (suc (suc n)) by asked m = NoneWaits m by
+
+-- Over an honest store: where a world of watchers is idle after turns, each of them has watched for two yields, and so no
+-- connection waits that its domain may accept.
+abbrev pub AllHaveWatched : {P : Type 0} → (world after : Stage SystemState P) → (asked : P → Bool) → (idle : Bool) → Type 0
+AllHaveWatched world after asked idle = IfHonest world.machine.disk
+    (idle ≡ true → AllSettled (λ n by p last m. HasWatched n by (asked p) m) after.seats (machine_of after.machine))

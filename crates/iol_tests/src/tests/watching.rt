@@ -1,9 +1,5 @@
 //! A world of watchers, up to the moment at which no connection waits.
-ghost use Rattle.std.specs.Prelude.{◌≡◌, true};
-ghost use Rattle.iol_back.specs.Prelude.{IfHonest};
-ghost use Rattle.iol_proc.specs.Prelude.{AllSettled};
-ghost use Rattle.iol_tests.specs.Watching.{HasWatched};
-ghost use Rattle.iol_system.specs.Prelude.{machine_of};
+ghost use Rattle.iol_tests.specs.Watching.{AllHaveWatched};
 
 use super::start::system_with_pipe;
 use super::watcher::Watcher;
@@ -20,8 +16,7 @@ type Watched = World<MemoryBacking, Watcher>;
 
 // Gives turns until all is idle: then no connection waits that a watcher's domain may accept.
 fn watch(world: &mut Watched, turns: usize) -> bool
-    ensures { IfHonest world.old.machine.disk (result ≡ true →
-        AllSettled (λ n by w last m. HasWatched n by w.asked m) world.new.seats (machine_of world.new.machine)) }
+    ensures { AllHaveWatched world.old world.new (λ w. w.asked) result }
 {
     idle_is_settled::<Watcher>();
     world.until_idle(turns)

@@ -1,4 +1,5 @@
-use Rattle.std.proofs.Common.{◌≡◌, ◌∙◌, ℕ, List, [], ◌++◌, length, take, drop, ap}
+use Rattle.std.proofs.Common.{◌≡◌, ◌∙◌, ℕ, List, [], ◌++◌, length, take, drop, ap, refl, arith, rules}
+use Rattle.std.proofs.lemmas.Grind.{common_steps}
 use Rattle.std.proofs.lemmas.Result.{err_from_is_err_and}
 use Rattle.iol_kernel.specs.Kernel.{state_of}
 use Rattle.iol_kernel.specs.Readings.{bytes_over}
@@ -7,11 +8,13 @@ use Rattle.iol_posix.proofs.copy_out.read.Given.{Over}
 use Rattle.iol_posix.proofs.copy_out.read.Goals.{After-drop-bytes-inside}
 use Rattle.iol_posix.proofs.copy_out.read.Goals as goal
 
-pub returns-in_default-clause-serves : goal.returns-in_default-clause-serves
-returns-in_default-clause-serves g c = c.read_queue.ensures.reads.serves (g.B.Backing.disk c.args.backing.now)
+pub returns-in_default : goal.returns-in_default
+returns-in_default g c = let serves = c.read_queue.ensures.reads.serves (g.B.Backing.disk c.args.backing.now) in search (rules, serves)
 
-pub returns-in_err-bytes-clause-serves : goal.returns-in_err-bytes-clause-serves
-returns-in_err-bytes-clause-serves g c = let p = err_from_is_err_and c.from_residual.result c.from_residual.ensures.1 in rw (p.1, p.2) c.in_err-bytes.ensures.serves
+pub returns-in_err-bytes : goal.returns-in_err-bytes
+returns-in_err-bytes g c =
+    let p = err_from_is_err_and c.from_residual.result c.from_residual.ensures.1 in
+    record { serves = rw (p.1, p.2) c.in_err-bytes.ensures.serves; copies = search (rules); count = search (rules); len = refl; rest = search (rules); err = search (rules) }
 
 -- what was read of a file lies in front
 front : (g : Over) (c : After-drop-bytes-inside g) → take (length c.as_slice-2.result.now) c.put_front.new.into ≡ c.in_ok-bytes.bytes
@@ -20,10 +23,14 @@ front g c =
     let laid : c.put_front.new.into ≡ c.in_ok-bytes.bytes ++ rest = c.put_front.ensures ∙ ap (λ (xs : List ℕ). xs ++ rest) c.as_slice.ensures in
     front_is c.in_ok-bytes.bytes rest c.put_front.new.into (length c.as_slice-2.result.now) laid (ap length c.as_slice-2.ensures)
 
-pub returns-clause-serves : goal.returns-clause-serves
-returns-clause-serves g c = rw (front g c) c.in_ok-bytes.ensures.serves
-
-pub returns-clause-copies : goal.returns-clause-copies
-returns-clause-copies g c =
+pub returns : goal.returns
+returns g c =
     let of_bytes = bytes_over [] (state_of c.args.kernel.now).store in
-    rw (front g c, c.in-Some.ensures.live of_bytes, c.in-Some.ensures.from of_bytes) c.in_ok-bytes.ensures.copies
+    record {
+      serves = rw (front g c) c.in_ok-bytes.ensures.serves;
+      copies = rw (front g c, c.in-Some.ensures.live of_bytes, c.in-Some.ensures.from of_bytes) c.in_ok-bytes.ensures.copies;
+      count = grind (arith, common_steps);
+      len = search (rules);
+      rest = grind (arith, common_steps);
+      err = tt;
+    }

@@ -1,20 +1,27 @@
-use Rattle.std.proofs.Common.{rules, [], length, drop, refl}
+use Rattle.std.proofs.Common.{rules, arith, [], length, drop, refl}
+use Rattle.std.proofs.lemmas.Grind.{common_steps}
 use Rattle.iol_core.specs.Calls.Reading.{read}
 use Rattle.iol_kernel.specs.Kernel.{state_of}
 use Rattle.iol_kernel.specs.KernelState.{machine_of}
 use Rattle.iol_kernel.proofs.Queues.Listing.{front_is, on_no_file, read_refused, taken_out}
 use Rattle.iol_posix.proofs.copy_out.read_queue.Goals as goal
 
-pub returns-in_err-waiting-clause-reads : goal.returns-in_err-waiting-clause-reads
-returns-in_err-waiting-clause-reads c =
+pub returns-in_err-waiting : goal.returns-in_err-waiting
+returns-in_err-waiting c =
     let h = state_of c.args.kernel.now in
     let kept = read_refused h h c.args.by c.args.fd (length c.args.into.now) c.in_err-waiting.field-0.0 c.requires.sound c.in_err-waiting.ensures.refused refl in
     search (rules, kept)
 
-pub returns-clause-reads : goal.returns-clause-reads
-returns-clause-reads c =
+pub returns : goal.returns
+returns c =
     let h = state_of c.args.kernel.now in
     let into = c.args.into.now in
     let e = c.take_into.ensures in
     let front = front_is (read (machine_of [] h) c.args.by c.args.fd (length into)).answer (drop c.take_into.result into) c.take_into.new.into c.take_into.result e.copied e.count in
-    taken_out h (state_of c.take_into.new.self) c.args.by c.args.fd (length into) _ c.requires.sound (on_no_file h c.args.by c.args.fd c.in_ok-waiting.ensures.live c.requires.no_file) c.in_ok-waiting.ensures.passed front e.left
+    record {
+      reads = taken_out h (state_of c.take_into.new.self) c.args.by c.args.fd (length into) _ c.requires.sound (on_no_file h c.args.by c.args.fd c.in_ok-waiting.ensures.live c.requires.no_file) c.in_ok-waiting.ensures.passed front e.left;
+      count = grind (arith, common_steps);
+      len = search (rules);
+      rest = grind (arith, common_steps);
+      err = tt;
+    }

@@ -3,5 +3,5 @@ use Rattle.iol_sock.proofs.table.Connections.arrive_from.Goals as goal
 
 pub returns : goal.returns
 returns g c =
-    let at = at_place c.self.inside.live.next c.arrive_from.new.self c.self.view_is c.conn_mut.ensures.rise c.conn_mut.ensures.value in
-    record { conn = rw (at.old, at.new) at c.arrive_from.ensures.arrives; others = at.one; err_reader = c.arrive_from.ensures.err_reader }
+    let at = at_place c.arrive_from.new.self c.self.view_is c.conn_mut.ensures.found in
+    record { conn = rw (at.old, at.new) at c.arrive_from.ensures; others = at.one }

@@ -3,5 +3,5 @@ use Rattle.iol_sock.proofs.table.Connections.queue.Goals as goal
 
 pub returns : goal.returns
 returns c =
-    let at = at_place c.self.inside.live.next c.queue.new.self c.self.view_is c.conn_mut.ensures.rise c.conn_mut.ensures.value in
+    let at = at_place c.queue.new.self c.self.view_is c.conn_mut.ensures.found in
     record { conn = rw (at.old, at.new) at c.queue.ensures; others = at.one }

@@ -1,2 +1,0 @@
--- The words that contracts of other crates cite, passed on from one place. Declares nothing.
-pub use Rattle.iol_sock.specs.Refused.{IsPassed, IsRefused}
