@@ -1,6 +1,7 @@
 -- What a cache of files holds.
 use Rattle.std.specs.Prelude.{◌≡◌, ℕ, ◌+◌, ◌≤◌, ◌&&◌, not, if◌then◌else◌, cond, eqb, List, [], flat_map, length, max, sum_by, Option, Some, None, Result, OnErr, OnOk}
-use Rattle.iol_core.specs.Numbered.{numbered_or, with_numbered}
+use Rattle.iol_core.specs.Numbered.{numbered_or}
+use Rattle.iol_core.specs.Prelude.{with_numbered}
 use Rattle.iol_core.specs.declared.numbers.BufId.{BufId}
 use Rattle.iol_hold.specs.Texts.{bufs_of}
 use Rattle.iol_hold.specs.declared.slices.Slice.{Slice}

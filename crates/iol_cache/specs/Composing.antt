@@ -27,7 +27,7 @@ pages_after run p (x ∷ xs) =
 abbrev pub copied_pages : (pool : ℕ) → List Slice → ℕ
 copied_pages p xs = pages_after 0 p xs
 
--- as many bytes, and those that lay in the pool already lie where they lay
+-- as many bytes as those of the source, of which those that lay in the pool already lie where they lay
 pub record KeepsOwn (pool : ℕ) (source out : List Place) : Type 0 where
   pub long : length out ≡ length source
   pub each : (i : ℕ) → i < length source → (slice_index_or source i no_place).pool ≡ pool
@@ -43,7 +43,7 @@ pub record Composes (s t : Stored) (pool k : ℕ) (source out : List Slice) : Ty
   pub pages : PlacesPages s t pool k
   pub settles : AllSettled s → AllSettled t
 
--- of the slices of the source the first ones were composed so, and others are left
+-- the first slices of a source were composed in the pool, on as many pages as it needs beside those that are left
 pub record ComposesRun (s t : Stored) (pool : ℕ) (source left out : List Slice) : Type 0 where
   pub run : List Slice
   pub splits : source ≡ run ++ left
@@ -51,7 +51,8 @@ pub record ComposesRun (s t : Stored) (pool : ℕ) (source left out : List Slice
   pub pages : count + copied_pages pool left ≡ copied_pages pool source
   pub composes : Composes s t pool count run out
 
--- The source's bytes may be composed in the pool: it is open, and the slices are held and can be read. No buffer is held n times.
+-- A source's bytes may be composed in a pool: it is open, and the slices are held, can be read, and fit an aggregate. Each buffer
+-- is held fewer than n times, and the store is tidy.
 pub record MayCompose (s : Stored) (n pool : ℕ) (source : List Slice) : Type 0 where
   pub opened : (pool_in s.pools pool).closed ≡ false
   pub small : byte_len source ≤ MAX_AGGREGATE_BYTES
@@ -60,7 +61,7 @@ pub record MayCompose (s : Stored) (n pool : ℕ) (source : List Slice) : Type 0
   pub readable : AllReadable s source
   pub tidy : IsTidy s
 
--- They were composed. Refused, for want of room or memory, what was placed is gone.
+-- A source's bytes were composed in a pool. Refused, for want of room or memory, what was placed is gone.
 pub record ComposesOrReleases (s t : Stored) (pool : ℕ) (source : List Slice)
     (r : Result (List Slice) Refusal) : Type 0 where
   pub composes : IfOk r (Composes s t pool (copied_pages pool source) source)
@@ -76,7 +77,7 @@ pub record IsFirstRun (pool : ℕ) (own : Bool) (xs : List Slice) (n size : ℕ)
   pub all : All (λ (x : Slice). (x.hold.pool == pool) ≡ own) (take n xs)
   pub ends : (d : Slice) → n < length xs → ((slice_index_or xs n d).hold.pool == pool) ≡ not own
 
--- slices of other pools may be copied to the pool: it is open, and they can be read
+-- slices of other pools may be copied to a pool: it is open, they can be read and fit an aggregate, and the store is tidy
 pub record MayCopy (s : Stored) (pool : ℕ) (run : List Slice) : Type 0 where
   pub opened : (pool_in s.pools pool).closed ≡ false
   pub small : byte_len run ≤ MAX_AGGREGATE_BYTES
@@ -84,7 +85,8 @@ pub record MayCopy (s : Stored) (pool : ℕ) (run : List Slice) : Type 0 where
   pub tidy : IsTidy s
   pub others : All (λ (x : Slice). (x.hold.pool == pool) ≡ false) run
 
--- They were copied. A refusal, for want of room or memory, changes nothing, and NoRoom tells that fewer pages are free.
+-- A run of slices was copied to a pool. A refusal, for want of room or memory, changes nothing, and NoRoom tells that fewer pages
+-- are free than the run's bytes need.
 pub record CopiesOrKeeps (s t : Stored) (pool : ℕ) (run : List Slice) (r : Result (List Slice) Refusal) : Type 0 where
   pub composes : IfOk r (Composes s t pool (pages_for (byte_len run)) run)
   pub no_room : (p : ℕ) → r ≡ Err (NoRoom p) → length (free_of s pool) < pages_for (byte_len run)

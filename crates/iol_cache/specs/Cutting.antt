@@ -14,7 +14,7 @@ pub record IsBefore (place : ℕ) (x e : Extent) : Type 0 where
   pub dirty : x.dirty ≡ e.dirty
   pub is : places x.parts ≡ take (place - e.at) (places e.parts)
 
--- those from it on
+-- the bytes of an extent from a place on
 pub record IsAfter (place : ℕ) (x e : Extent) : Type 0 where
   pub begins : x.at ≡ place
   pub dirty : x.dirty ≡ e.dirty
@@ -34,7 +34,7 @@ pub record MayCut (s : Stored) (es : List Extent) : Type 0 where
   pub held : Covers s (bufs_of (all_parts es))
   pub few : CountsBelow s (2 ^ 62)
 
--- A part that is cut so is shared. For want of memory nothing changes.
+-- A part of which `is_cut` holds is shared. Refused, nothing changed.
 pub record SharesPart {E : Type 0} (is_cut : Extent → Type 0) (s t : Stored) (r : Result Extent E) : Type 0 where
   pub cut : IfOk r is_cut
   pub shares : IfOk r (λ x. Shares s t [] (bufs_of x.parts))

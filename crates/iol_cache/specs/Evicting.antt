@@ -132,3 +132,21 @@ pub record DropsClean (p : ℕ) (old new : Holding) : Type 0 where
   pub victims : EvictsAll p None old new
   pub gives_up : GivesUp old new
   pub sound : IsSound new.store new.cache
+
+-- Clean extents of the pool's files were evicted, those that go first, as long as fewer than n pages of the pool were free. It is
+-- told whether the pool has room for so many: where it has, they are free, and where it has not, nothing changed. Every file has
+-- the bytes that it had, and the cache is sound.
+pub record FreesOrKeeps (p n : ℕ) (old new : Holding) (has_room : Bool) : Type 0 where
+  pub room : IsTrue has_room ↔ HasPages p n old
+  pub free : IsTrue has_room → n ≤ length (free_of new.store p)
+  pub victims : EvictsAll p (Some n) old new
+  pub gives_up : GivesUp old new
+  pub sound : IsSound new.store new.cache
+  pub refused : has_room ≡ false → new ≡ old
+
+-- All clean extents were evicted, pool by pool. Every file has the bytes that it had, and the cache is sound.
+pub record DropsAll (old new : Holding) : Type 0 where
+  pub none : (f : ℕ) → AllDirty (extents_in new.cache.files f)
+  pub victims : EvictsPools (length old.cache.orders) old new
+  pub gives_up : GivesUp old new
+  pub sound : IsSound new.store new.cache

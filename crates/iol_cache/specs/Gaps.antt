@@ -1,7 +1,7 @@
 -- Gaps of a file that become clean extents.
-use Rattle.std.specs.Prelude.{◌≡◌, ℕ, ◌+◌, ◌-◌, ◌≤◌, false, List, [], ◌∷◌, ◌++◌, length, take, drop, IsSome, slice_range, All, Result, IfErr, OnErr}
+use Rattle.std.specs.Prelude.{◌≡◌, ℕ, ◌+◌, ◌-◌, ◌≤◌, false, List, [], ◌∷◌, ◌++◌, length, take, drop, IsSome, slice_range, All, Result, IfErr, OnErr, OnOk}
 use Rattle.std.specs.List.{AllZip}
-use Rattle.iol_core.specs.Meaning.{WantOfRoomOrFault}
+use Rattle.iol_core.specs.Prelude.{WantOfRoomOrFault}
 use Rattle.iol_core.specs.Text as text
 use Rattle.iol_core.specs.declared.refusals.Refusal.{Refusal}
 use Rattle.iol_arena.specs.Adds.{IsNew}
@@ -68,14 +68,15 @@ pub record Mirrors (s : Stored) (pool : ℕ) (stored : List ℕ) (e : Extent) : 
 pub record AllMirror (s : Stored) (pool : ℕ) (stored : List ℕ) (es : List Extent) : Type 0 where
   pub each : All (Mirrors s pool stored) es
 
--- n bytes of a file from `at` on were read into new buffers of the pool, which these slices hold
-pub record LoadsSlices (s t : Stored) (pool n : ℕ) (disk : Disk) (file at : ℕ) (xs : List Slice) : Type 0 where
-  pub placed : PlacesBuffers s t pool n (bufs_of xs)
-  pub long : byte_len xs ≡ n
+-- the bytes of a gap of a file were read into new buffers of the pool, which these slices hold
+pub record LoadsSlices (pool file : ℕ) (gap : Span) (disk : Disk) (s t : Stored) (xs : List Slice) : Type 0 where
+  pub placed : PlacesBuffers s t pool (gap.to - gap.from) (bufs_of xs)
+  pub long : byte_len xs ≡ gap.to - gap.from
   pub readable : AllReadable t xs
   pub pooled : AreOf pool xs
-  pub value : IfHonest disk (text_of t xs ≡ text.labelled pool (take n (drop at (content disk.slots file))))
-  pub inside : IfHonest disk (at + n ≤ length (content disk.slots file))
+  pub value : IfHonest disk
+      (text_of t xs ≡ text.labelled pool (take (gap.to - gap.from) (drop gap.from (content disk.slots file))))
+  pub inside : IfHonest disk (gap.from + (gap.to - gap.from) ≤ length (content disk.slots file))
 
 -- a gap was read into new buffers of the pool, and stands as a clean extent
 pub record FillsGap (s t : Stored) (old new : ExtentMap) (pool : ℕ) (gap : Span) (disk : Disk) (file : ℕ) : Type 0 where
@@ -133,3 +134,10 @@ pub record TakesBack (s t : Stored) (old new : ExtentMap) (spans : List Span) : 
   pub lists : SameLists s t
   pub frees : FreesOnly s t
   pub settles : AllReadable s (parts_back old.extents spans) → AllSettled s → AllSettled t
+
+-- Each gap of a file was read into new buffers of the pool and stands as a clean extent; or, refused, the extents are as they
+-- were.
+pub record FillsGapsOrKeeps {A : Type 0} (pool file : ℕ) (gaps : List Span) (disk after : Disk) (s t : Stored)
+    (old new : ExtentMap) (r : Result A Refusal) : Type 0 where
+  pub fills : OnOk r (FillsGaps s t old new pool gaps disk file)
+  pub reads : ReadsAllGaps pool file gaps (new ≡ old) disk after s t r

@@ -9,6 +9,7 @@ pub mod Users
 pub mod Loading
 pub mod Gaps
 pub mod Serving
+pub mod FileReads
 pub mod Paging
 pub mod Sharing
 pub mod Weaving
@@ -26,4 +27,3 @@ pub mod Overwriting
 pub mod Syncing
 pub mod Keeping
 pub mod Laws
-pub mod Prelude

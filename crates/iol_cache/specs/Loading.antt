@@ -1,7 +1,7 @@
 -- Bytes of the store read into new buffers.
 use Rattle.std.specs.Prelude.{◌≡◌, ℕ, ◌+◌, ◌<◌, ◌≤◌, ◌^◌, false, List, [], length, take, drop, min, Result, Ok, Err, IfErr, IfOk, OnErr, OnOk}
 use Rattle.std.specs.List.{All, Contains}
-use Rattle.iol_core.specs.Meaning.{WantOfRoomOrFault}
+use Rattle.iol_core.specs.Prelude.{WantOfRoomOrFault}
 use Rattle.iol_core.specs.declared.numbers.BufId.{BufId}
 use Rattle.iol_core.specs.declared.refusals.Refusal.{Refusal}
 use Rattle.iol_core.specs.declared.refusals.Refusal.TheVariants.{Fault, NoRoom}
@@ -10,7 +10,8 @@ use Rattle.iol_arena.specs.Buffers.{Grows, bytes_in}
 use Rattle.iol_arena.specs.State.{entry_at, kind_free, pages_for, with_bytes}
 use Rattle.iol_arena.specs.Pages.{IsSameBut, MadeOn}
 use Rattle.iol_arena.specs.Parts.{part_bytes, part_pages, part_room}
-use Rattle.iol_back.specs.Disk.{Disk, IfHonest, Succeeds, content, last_failure, raised}
+use Rattle.iol_back.specs.Disk.{Disk, IfHonest, Succeeds, content, last_failure}
+use Rattle.iol_back.specs.Prelude.{raised}
 use Rattle.iol_hold.specs.Filling.{Fill, IsFilling, filling_lender, filling_part, filling_parts, filling_store}
 use Rattle.iol_hold.specs.Moves.{Moves, SameLists}
 use Rattle.iol_hold.specs.Pages.{KeepsPages}
@@ -31,10 +32,9 @@ pub record IsRead {A E : Type 0} (old new : Disk) (r : Result A E) : Type 0 wher
   pub slots : IfHonest old (new.slots ≡ old.slots)
   pub counts : ReadCounts old new r
 
--- The store is read into memory, which has these bytes then. Where an honest one does not fail, the first n are those of the
--- file from `at` on.
-pub record ReadsInto {A E : Type 0} (disk after : Disk) (file at n : ℕ) (bytes : List ℕ) (r : Result A E) : Type 0 where
-  pub asks : IsRead disk after r
+-- The store was read into memory, which has these bytes then. Where it did not fail there are n at least, and of an honest one
+-- the first n are those of the file from `at` on.
+pub record ReadsInto {A E : Type 0} (disk : Disk) (file at n : ℕ) (bytes : List ℕ) (r : Result A E) : Type 0 where
   pub whole : OnOk r (n ≤ length bytes)
   pub read : IfHonest disk (OnOk r (take n bytes ≡ take n (drop at (content disk.slots file))))
   pub inside : IfHonest disk (OnOk r (at + n ≤ length (content disk.slots file)))
@@ -47,17 +47,15 @@ pub record WritesFilling (f g : Fill) : Type 0 where
   pub fills : Fills (filling_store f) (filling_store g) (filling_parts f)
   pub entries : (filling_store g).arena.entries ≡ (filling_store f).arena.entries
 
--- At most `left` bytes of a file are read into part i of a filling. Where an honest store does not fail, they are those of the
+-- At most `left` bytes of a file were read into part i of a filling. Where an honest store did not fail, they are those of the
 -- file from `at` on.
-pub record ReadsPart {E : Type 0} (f g : Fill) (i left : ℕ) (disk after : Disk) (file at : ℕ)
-    (r : Result ℕ E) : Type 0 where
+pub record ReadsPart {E : Type 0} (f g : Fill) (i left : ℕ) (disk : Disk) (file at : ℕ) (r : Result ℕ E) : Type 0 where
   pub writes : WritesFilling f g
   pub written : List ℕ
   pub len : length written ≡ part_room (filling_part f i)
   pub there : filling_store g
       ≡ with_arena (filling_store f) (with_bytes (filling_store f).arena (filling_part f i).first written)
   pub was : length (part_bytes (filling_store f).arena (filling_part f i)) ≡ part_room (filling_part f i)
-  pub asks : IsRead disk after r
   pub count : IfOk r (λ n. n ≡ min left (part_room (filling_part f i)))
   pub read : IfHonest disk (IfOk r (λ n. take n written ≡ take n (drop at (content disk.slots file))))
   pub inside : IfHonest disk (IfOk r (λ n. at + n ≤ length (content disk.slots file)))
@@ -120,16 +118,15 @@ pub record LoadsHolds (old new : Stored) (pool n : ℕ) (disk : Disk) (file at :
   pub value : IfHonest disk (bytes_in new.arena (held_bufs holds) ≡ take n (drop at (content disk.slots file)))
   pub inside : IfHonest disk (at + n ≤ length (content disk.slots file))
 
--- n bytes of a file are read into new buffers of a pool, for which the store is asked once. Refused, no page and no hold is
--- another than before, and NoRoom tells that fewer pages are free.
-pub record LoadsOrKeeps {A : Type 0} (pool n file : ℕ) (disk after : Disk) (old new : Stored)
-    (r : Result A Refusal) : Type 0 where
+-- What stays as n bytes of a file are read into a pool, or are not: the pools, and that no closed one keeps its chunks where
+-- nothing lies in any of them. Refused, for want of room or memory or by a fault at the file, no hold is another than before and
+-- pages were at most freed, and NoRoom tells that fewer pages are free than n bytes need.
+pub record LoadsOrKeeps {A : Type 0} (pool n file : ℕ) (old new : Stored) (r : Result A Refusal) : Type 0 where
   pub none : OnErr r (Moves old new [] [])
   pub kept : OnErr r (KeepsPages old new [])
   pub pools : new.pools ≡ old.pools
   pub settles : AllSettled old → AllSettled new
   pub no_room : IfErr r (λ x. (p : ℕ) → x ≡ NoRoom p → length (free_of old pool) < pages_for n)
-  pub asks : Asks 1 disk after r
   pub late : IfErr r (WantOfRoomOrFault pool file)
 
 -- Bytes are placed on so many pages of a pool. Refused, no hold is another than before, what was placed is gone, and NoRoom tells

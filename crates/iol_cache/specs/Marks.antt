@@ -1,5 +1,5 @@
 -- How often clean extents hold each buffer, by the page at which it begins.
-use Rattle.std.specs.Prelude.{◌≡◌, ℕ, ◌+◌, ◌-◌, ◌<◌, ◌≤◌, ◌^◌, eqb, cond, Bool, true, false, nat_lt, List, [], ◌∷◌, length, slice_index}
+use Rattle.std.specs.Prelude.{◌≡◌, ℕ, ◌+◌, ◌-◌, ◌<◌, ◌≤◌, ◌^◌, eqb, cond, Bool, true, false, nat_lt, List, [], ◌∷◌, length, slice_index, slice_set}
 use Rattle.std.specs.List.{All, list_any}
 use Rattle.iol_core.specs.declared.numbers.BufId.{BufId}
 use Rattle.iol_hold.specs.Stored.{Stored, count_of}
@@ -59,6 +59,10 @@ pub record CanTurnAt (is_clean : Bool) (marks : List ℕ) (page : ℕ) : Type 0 
 abbrev pub turned : (is_clean : Bool) → (mark : ℕ) → ℕ
 turned true n = n + 1
 turned false n = n - 1
+
+-- the marks, with one slice more or fewer at a page
+abbrev pub with_turned : (is_clean : Bool) → (marks : List ℕ) → (page : ℕ) → List ℕ
+with_turned is_clean marks page = slice_set marks page (turned is_clean (slice_index marks page))
 
 -- the buffer is held by more than clean extents
 abbrev pub is_held_more : Stored → List ℕ → BufId → Bool

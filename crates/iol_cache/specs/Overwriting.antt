@@ -8,21 +8,24 @@ use Rattle.iol_core.specs.declared.limits.TheConstants.{MAX_FILE_BYTES}
 use Rattle.iol_core.specs.declared.refusals.Refusal.{Refusal}
 use Rattle.iol_core.specs.declared.refusals.Refusal.TheVariants.{NoRoom}
 use Rattle.iol_extent.specs.Extents.{Cell, Extent, cover}
-use Rattle.iol_hold.specs.Moves.{Covers}
+use Rattle.iol_hold.specs.Moves.{Covers, Moves, SameLists}
 use Rattle.iol_hold.specs.Places.{byte_len, places}
-use Rattle.iol_hold.specs.Room.{free_of, pages_of}
-use Rattle.iol_hold.specs.Stored.{Stored}
+use Rattle.iol_hold.specs.Room.{free_of}
+use Rattle.iol_hold.specs.Stored.{AllSettled, Stored}
 use Rattle.iol_hold.specs.Texts.{AllReadable, bufs_of, text_of}
 use Rattle.iol_hold.specs.declared.slices.Slice.{Slice}
-use Rattle.iol_cache.specs.Cached.{Cached, clean_held, extents_in, file_in, held}
+use Rattle.iol_cache.specs.declared.cache.Cache.{Cache}
+use Rattle.iol_cache.specs.Cache.{cached_of, holding}
+use Rattle.iol_cache.specs.Cached.{Cached, extents_in, file_in, held}
 use Rattle.iol_cache.specs.Composing.{KeepsOwn, copied_pages}
 use Rattle.iol_cache.specs.Contents.{Mirrors, SameFiles, bytes_in_slot}
 use Rattle.iol_cache.specs.Evicting.{EvictsAll, GivesUp, HasPages, Holding}
 use Rattle.iol_cache.specs.Loading.{PlacesOrReleases, PlacesSome}
-use Rattle.iol_cache.specs.Pinned.{pinned_beside}
+use Rattle.iol_cache.specs.Paging.{FillsLowest}
 use Rattle.iol_cache.specs.Preparing.{Prepares}
 use Rattle.iol_cache.specs.Reading.{SameButRoom}
 use Rattle.iol_cache.specs.Replacing.{HasPlaces, indexing_in}
+use Rattle.iol_cache.specs.Serving.{LacksPages}
 use Rattle.iol_cache.specs.Sharing.{CountsBelow, places_over}
 use Rattle.iol_cache.specs.Sound.{IsSound}
 use Rattle.iol_cache.specs.Writing.{PutsOver}
@@ -92,7 +95,8 @@ pub record Overwrites (f at : ℕ) (source : List Slice) (old new : Holding) : T
   pub ready : Stored
   pub prepares : Prepares old.store ready (file_in old.cache.files f).pool
       (extents_in old.cache.files f) at source left right bytes
-  pub puts : PutsOver f at (at + byte_len source) left right bytes (record { store = ready; cache = old.cache }) new
+  pub puts : PutsOver f (record { from = at; to = at + byte_len source })
+      (record { left = left; right = right; bytes = bytes }) (record { store = ready; cache = old.cache }) new
 
 -- room was made, and then the range was overwritten
 pub record WritesFile (f at : ℕ) (source : List Slice) (old new : Holding) : Type 0 where
@@ -100,41 +104,86 @@ pub record WritesFile (f at : ℕ) (source : List Slice) (old new : Holding) : T
   pub room : let p = (file_in old.cache.files f).pool in MakesRoom p (copied_pages p source) old mid
   pub over : Overwrites f at source mid new
 
--- Room may be made for a write of these bytes to a file.
+-- What a call that writes wants and does.
+
+-- the pool of a file
+abbrev pub pool_of : Cache → (f : ℕ) → ℕ
+pool_of c f = (file_in c.files.items f).pool
+
+-- how many pages of a file's pool the bytes of a source need, of which those of other pools are copied
+abbrev pub pages_copied : Cache → (f : ℕ) → List Slice → ℕ
+pages_copied c f source = copied_pages (pool_of c f) source
+
+-- Room may be made for a write of these bytes to a file: the cache is sound and has the file, and they are no more than a file
+-- may have.
 pub record MayMakePlace (f : ℕ) (source : List Slice) (h : Holding) : Type 0 where
   pub sound : IsSound h.store h.cache
   pub file : is_numbered h.cache.files f ≡ true
   pub small : byte_len source ≤ MAX_FILE_BYTES
 
--- It was made, for three extents, for their entries, and in the file's pool p for the pages of the bytes that are copied; or all
--- was left. It is refused for want of room only where pinned pages and those for the copies are more than the pool has.
-pub record MakesPlace {A : Type 0} (f p : ℕ) (source : List Slice) (old new : Holding) (r : Result A Refusal) : Type 0 where
-  pub room : MakesRoom p (copied_pages p source) old new
-  pub free : OnOk r (copied_pages p source ≤ length (free_of new.store p))
-  pub fits : OnOk r (HasPages p (copied_pages p source) old)
-  pub lacks : (q : ℕ) → r ≡ Err (NoRoom q)
-      → length (pages_of old.store p) < pinned_beside old.store (clean_held old.cache.files) p + copied_pages p source
-  pub kept : OnErr r (LeavesAll old new)
-  pub late : IfErr r (WantOfRoom p)
-  pub places : OnOk r (HasPlaces 3 (indexing_in new.cache f))
-  pub sound : IsSound new.store new.cache
+-- Room was made for a write of these bytes to a file, for three extents, for their entries, and in the file's pool for the pages
+-- of the bytes that are copied; or no page, extent, entry or height changed. It is refused for want of memory or of room in that
+-- pool, and for want of room only where pinned pages and those for the copies are more than the pool has. The cache is sound.
+pub record MakesPlace {A : Type 0} (f : ℕ) (source : List Slice) (s : Stored) (c : Cache) (t : Stored) (d : Cache)
+    (r : Result A Refusal) : Type 0 where
+  pub room : MakesRoom (pool_of c f) (pages_copied c f source) (holding s c) (holding t d)
+  pub free : OnOk r (pages_copied c f source ≤ length (free_of t (pool_of c f)))
+  pub fits : OnOk r (HasPages (pool_of c f) (pages_copied c f source) (holding s c))
+  pub lacks : (q : ℕ) → r ≡ Err (NoRoom q) → LacksPages (pool_of c f) (pages_copied c f source) (holding s c)
+  pub kept : OnErr r (LeavesAll (holding s c) (holding t d))
+  pub late : IfErr r (WantOfRoom (pool_of c f))
+  pub places : OnOk r (HasPlaces 3 (indexing_in (cached_of d) f))
+  pub sound : IsSound t (cached_of d)
 
--- The bytes of a source may be written over those of a file from a place on: there is room for the extents and their entries.
-pub record MayOverwrite (f at : ℕ) (source : List Slice) (h : Holding) : Type 0 where
+-- The bytes of a source may be written over those of a file of a sound cache from a place on: they end within what a file may
+-- have, can be read, and are held beside all that the cache holds. Each buffer is held fewer than 2 ^ 60 times.
+pub record MayWrite (f at : ℕ) (source : List Slice) (h : Holding) : Type 0 where
   pub sound : IsSound h.store h.cache
   pub file : is_numbered h.cache.files f ≡ true
-  pub some : 0 < byte_len source
   pub short : at + byte_len source ≤ MAX_FILE_BYTES
   pub held : Covers h.store (held h.cache.files ++ bufs_of source)
   pub readable : AllReadable h.store source
   pub few : CountsBelow h.store (2 ^ 60)
+
+-- The bytes of a source may be written, there is one at least, and there is room for three extents of the file and their entries.
+pub record MayOverwrite (f at : ℕ) (source : List Slice) (h : Holding) : Type 0 where
+  pub may : MayWrite f at source h
+  pub some : 0 < byte_len source
   pub places : HasPlaces 3 (indexing_in h.cache f)
 
--- They were. Refused, what was placed is gone again.
-pub record OverwritesOrReleases {A : Type 0} (f at : ℕ) (source : List Slice) (old new : Holding)
+-- The bytes of a source were written over those of a file from a place on. Refused, for want of room or memory, the cache is as
+-- it was, and what was placed is gone again. The cache is sound.
+pub record OverwritesOrReleases {A : Type 0} (f at : ℕ) (source : List Slice) (s : Stored) (c : Cache) (t : Stored) (d : Cache)
     (r : Result A Refusal) : Type 0 where
-  pub overwrites : OnOk r (Overwrites f at source old new)
-  pub leaves : let p = (file_in old.cache.files f).pool in
-      PlacesOrReleases p (copied_pages p source) old.store new.store r
-  pub late : IfErr r (WantOfRoom (file_in old.cache.files f).pool)
-  pub sound : IsSound new.store new.cache
+  pub overwrites : OnOk r (Overwrites f at source (holding s c) (holding t d))
+  pub same : OnErr r (d ≡ c)
+  pub leaves : PlacesOrReleases (pool_of c f) (pages_copied c f source) s t r
+  pub late : IfErr r (WantOfRoom (pool_of c f))
+  pub sound : IsSound t (cached_of d)
+
+-- The bytes of a source were written over those of a file from a place on; without any nothing changed. Refused, every file has
+-- the bytes that it had.
+pub record Writes {A : Type 0} (f at : ℕ) (source : List Slice) (s : Stored) (c : Cache) (t : Stored) (d : Cache)
+    (r : Result A Refusal) : Type 0 where
+  -- The bytes of files.
+  pub written : OnOk r (IsWritten f at source (holding s c) (holding t d))
+  pub others : KeepsOthers f (holding s c) (holding t d)
+  pub refused : OnErr r (KeepsFiles (holding s c) (holding t d))
+  pub mirrors : KeepsMirrors (holding s c) (holding t d)
+  -- Which extents there are then.
+  pub lies : OnOk r (LiesDirty f at source (cached_of d))
+  pub writes : 0 < byte_len source → OnOk r (WritesFile f at source (holding s c) (holding t d))
+  pub evicts : OnErr r (OnlyMakesRoom (pool_of c f) (pages_copied c f source) (holding s c) (holding t d))
+  pub nothing : byte_len source ≡ 0 → holding t d ≡ holding s c
+  -- It is carried out only where the pages can be had, and refused for want of room only where they cannot: then all is left.
+  -- Else it is refused for want of memory.
+  pub room : OnOk r (HasPages (pool_of c f) (pages_copied c f source) (holding s c))
+  pub no_room : (q : ℕ) → r ≡ Err (NoRoom q) → LacksPages (pool_of c f) (pages_copied c f source) (holding s c)
+  pub kept : (q : ℕ) → r ≡ Err (NoRoom q) → LeavesAll (holding s c) (holding t d)
+  pub late : IfErr r (WantOfRoom (pool_of c f))
+  -- Holds come and go with the extents alone, live buffers keep their bytes, and of the pool's free pages the lowest are filled.
+  pub moves : Moves s t (held c.files.items) (held d.files.items)
+  pub pages : FillsLowest (pool_of c f) s t
+  pub lists : SameLists s t
+  pub settles : AllSettled s → AllSettled t
+  pub sound : IsSound t (cached_of d)

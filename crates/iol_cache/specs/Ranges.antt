@@ -1,5 +1,6 @@
 -- A range of a file that is read, step by step.
-use Rattle.std.specs.Prelude.{◌≡◌, ◌⊎◌, ℕ, ◌≤◌, ◌^◌, true, false, List, [], length, All, Some, Result, OnErr}
+use Rattle.std.specs.Prelude.{◌≡◌, ◌⊎◌, ℕ, ◌≤◌, ◌^◌, true, false, List, [], length, All, Some, Result, IfOk, OnErr}
+use Rattle.std.specs.Global.{Vec}
 use Rattle.iol_core.specs.Numbered.{is_numbered}
 use Rattle.iol_core.specs.declared.refusals.Refusal.{Refusal}
 use Rattle.iol_core.specs.declared.refusals.Refusal.TheVariants.{NoRoom}
@@ -13,6 +14,7 @@ use Rattle.iol_hold.specs.Releases.{FreesOnly}
 use Rattle.iol_hold.specs.Stored.{AllSettled}
 use Rattle.iol_hold.specs.Texts.{bufs_of}
 use Rattle.iol_hold.specs.declared.slices.Slice.{Slice}
+use Rattle.iol_cache.specs.declared.files.FilePart.{FilePart}
 use Rattle.iol_cache.specs.Cached.{Cached, file_in, extents_in, order_in}
 use Rattle.iol_cache.specs.Evicting.{Holding, EvictsAll, GivesUp, HasPages}
 use Rattle.iol_cache.specs.Gaps.{gap_pages}
@@ -43,9 +45,11 @@ pub record PinsRange (f from to : ℕ) (old new : Holding) (pins : List Slice) (
   pub space : length gaps ≤ (file_in new.cache.files f).extents.room
   pub entries : length gaps ≤ (order_in new.cache.orders (file_in new.cache.files f).pool).room
 
--- What is in memory of a range is shared, and nothing else happens to the store. Refused, nothing changed but how many extents
--- and entries can come in.
-pub record SharesHits {A E : Type 0} (old new : Holding) (r : Result A E) : Type 0 where
+-- The hits of a part of a file were shared and counted, and its gaps are told; or, refused, no hold is another than before, and
+-- in the cache nothing changed but how many extents and entries can come in. The cache is sound, pages were at most freed, and
+-- no pool's list changed.
+pub record SharesHits {E : Type 0} (part : FilePart) (old new : Holding) (r : Result (List Slice × Vec Span) E) : Type 0 where
+  pub pinned : IfOk r (λ x. PinsRange part.file part.from part.to old new x.0 x.1.items)
   pub sound : IsSound new.store new.cache
   pub same : OnErr r (SameButRoom old.cache new.cache)
   pub none : OnErr r (Moves old.store new.store [] [])

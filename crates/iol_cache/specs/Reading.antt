@@ -14,6 +14,7 @@ use Rattle.iol_extent.specs.Spans.{AreInOrder, IsGapSpan}
 use Rattle.iol_extent.specs.declared.spans.Span.{Span}
 use Rattle.iol_evict.specs.Ranking.{Ranking, hit_at, entered}
 use Rattle.iol_cache.specs.declared.files.CachedFile.{CachedFile}
+use Rattle.iol_cache.specs.declared.files.FilePart.{FilePart}
 use Rattle.iol_cache.specs.Evicting.{Holding}
 use Rattle.iol_cache.specs.Gaps.{FillsGaps, HasGaps, ReadsAllGaps}
 use Rattle.iol_cache.specs.Marks.{AreWithin}
@@ -87,7 +88,8 @@ pub record FillsRange (s t : Stored) (old new : ExtentMap) (pool : ℕ) (beside 
   pub shares : Shares mid t [] (bufs_of xs)
   pub lies : places xs ≡ woven beside new.extents from to gaps
 
--- The gaps of a range of a file in memory may be filled, and the range put together with these slices beside them.
+-- The gaps of a range of a file in memory may be filled, and the range put together with these slices, which are as long as what
+-- lies beside the gaps.
 pub record MayFillRange (s : Stored) (x : CachedFile) (from to : ℕ) (gs : List Span) (xs : List Slice) : Type 0 where
   pub gaps : HasGaps s x.extents x.pool from to gs
   pub end : to ≤ MAX_FILE_BYTES
@@ -96,13 +98,13 @@ pub record MayFillRange (s : Stored) (x : CachedFile) (from to : ℕ) (gs : List
   pub beside : LieBeside s from to gs xs
   pub few : CountsBelow s (2 ^ 60)
 
--- The gaps of a range of a file in memory are filled, all of them or none, and the range is put together with these slices beside
+-- The gaps of a part of a file in memory are filled, all of them or none, and the part is put together with these slices beside
 -- them.
-pub record FillsAndWeaves (s t : Stored) (x y : CachedFile) (f from to : ℕ) (gs : List Span) (xs : List Slice)
-    (disk after : Disk) (r : Result (List Slice) Refusal) : Type 0 where
-  pub fills : IfOk r (FillsRange s t x.extents y.extents x.pool (places xs) gs from to disk f)
+pub record FillsAll (part : FilePart) (gs : List Span) (xs : List Slice) (disk after : Disk) (s t : Stored) (x y : CachedFile)
+    (r : Result (List Slice) Refusal) : Type 0 where
+  pub fills : IfOk r (FillsRange s t x.extents y.extents x.pool (places xs) gs part.from part.to disk part.file)
   pub pool : y.pool ≡ x.pool
-  pub reads : ReadsAllGaps x.pool f gs (y ≡ x) disk after s t r
+  pub reads : ReadsAllGaps x.pool part.file gs (y ≡ x) disk after s t r
 
 -- These are gaps of a range of a file, and there is room in the file and in its pool's order for as many extents.
 pub record CanFill (c : Cached) (f from to : ℕ) (gs : List Span) : Type 0 where
@@ -114,8 +116,8 @@ pub record CanFill (c : Cached) (f from to : ℕ) (gs : List Span) : Type 0 wher
   pub room : length gs ≤ (file_in c.files f).extents.room
   pub entries : length gs ≤ (order_in c.orders (file_in c.files f).pool).room
 
--- A range of a file may be filled: these are its gaps, and what lies beside them is held by these slices, beside all that the
--- cache holds.
+-- A range of a file may be filled: these are its gaps, and these slices, which are held beside all that the cache holds and can
+-- be read, are as long as what lies beside the gaps.
 pub record MayFill (f from to : ℕ) (gs : List Span) (xs : List Slice) (h : Holding) : Type 0 where
   pub sound : IsSound h.store h.cache
   pub range : CanFill h.cache f from to gs

@@ -96,7 +96,8 @@ pub record MayForget (f at : ℕ) (old : Indexing) : Type 0 where
   pub indexed : IsIndexed f old.extents.extents old.order old.marks
   pub within : AreWithin (length old.marks) (parts_in (begins_at old.extents.extents at))
 
--- it left them
+-- The extent of file f that begins at a place left the order and the marks, or the place that was kept for it was given back. The
+-- order has no less room.
 pub record Forgets (f at : ℕ) (es : List Extent) (r t : Ranking) (marks new : List ℕ) : Type 0 where
   pub follows : Reindexes f es (without_at es at) r t marks new
   pub order : t ≡ forgotten_at r f (begins_at es at)
@@ -109,7 +110,8 @@ pub record MayGo (f : ℕ) (s : Stored) (old : Indexing) : Type 0 where
   pub held : Covers s (bufs_of (all_parts old.extents.extents))
   pub readable : AllReadable s (all_parts old.extents.extents)
 
--- Some went, and what they held was released. There is no less room, and those that are left may go, too.
+-- Some extents of file f went, or none. What they held was released, and the order and the marks follow. There is no less room,
+-- and those that are left may go, too.
 pub record LetsGo (f : ℕ) (s t : Stored) (old new : Indexing) : Type 0 where
   pub room : old.extents.room ≤ new.extents.room
   pub order_room : old.order.room ≤ new.order.room
@@ -120,19 +122,20 @@ pub record LetsGo (f : ℕ) (s t : Stored) (old new : Indexing) : Type 0 where
   pub settles : AllSettled s → AllSettled t
   pub left : MayGo f t new
 
--- the one that begins at a place went
-pub record TakesOut (f at : ℕ) (s t : Stored) (old new : Indexing) : Type 0 where
-  pub extents : new.extents.extents ≡ without_at old.extents.extents at
-  pub order : new.order ≡ forgotten_at old.order f (begins_at old.extents.extents at)
-  pub gone : LetsGo f s t old new
+-- the extent of file f that begins at a place went
+pub record TakesOut (f at : ℕ) (s t : Stored) (es fs : ExtentMap) (r q : Ranking) (marks new : List ℕ) : Type 0 where
+  pub extents : fs.extents ≡ without_at es.extents at
+  pub order : q ≡ forgotten_at r f (begins_at es.extents at)
+  pub gone : LetsGo f s t (indexing_of es r marks) (indexing_of fs q new)
 
--- those went that have bytes of a range
-pub record ClearsRange (f from to : ℕ) (s t : Stored) (old new : Indexing) : Type 0 where
-  pub extents : new.extents.extents ≡ unmet old.extents.extents from to
-  pub order : new.order ≡ all_forgotten old.order f (filter (meets from to) old.extents.extents)
-  pub gone : LetsGo f s t old new
+-- the extents of file f that have bytes of a range went
+pub record ClearsRange (f from to : ℕ) (s t : Stored) (es fs : ExtentMap) (r q : Ranking) (marks new : List ℕ) : Type 0 where
+  pub extents : fs.extents ≡ unmet es.extents from to
+  pub order : q ≡ all_forgotten r f (filter (meets from to) es.extents)
+  pub gone : LetsGo f s t (indexing_of es r marks) (indexing_of fs q new)
 
--- An extent may come into file f, if it has a byte: nothing lies there, it has room, and its slices can be marked.
+-- An extent may come into file f, if it has a byte: nothing lies there, there is room for it and its entry, and its slices can be
+-- marked.
 pub record MayCome (f : ℕ) (e : Extent) (old : Indexing) : Type 0 where
   pub fits : 0 < byte_len e.parts → end_of e < 2 ^ 32
   pub gap : 0 < byte_len e.parts → IsGap old.extents.extents e.at (end_of e)
@@ -141,7 +144,7 @@ pub record MayCome (f : ℕ) (e : Extent) (old : Indexing) : Type 0 where
   pub within : AreWithin (length old.marks) e.parts
   pub few : HasMarksLeft old.marks e.parts
 
--- it came in, if it has a byte, and all else lies where it lay
+-- An extent came in, if it has a byte, and all else lies where it lay. There is room for one extent less at most.
 pub record ComesIn (e : Extent) (old new : ExtentMap) : Type 0 where
   pub extents : new.extents ≡ put_some old.extents e
   pub adds : Adds old.extents e new.extents
@@ -149,13 +152,13 @@ pub record ComesIn (e : Extent) (old new : ExtentMap) : Type 0 where
   pub ends : 0 < byte_len e.parts → last_end new.extents ≡ max (end_of e) (last_end old.extents)
   pub room : old.room ≤ new.room + 1
 
--- the order and the marks went on with it
+-- The order and the marks of file f follow an extent that comes in, if it has a byte. There is room for one entry less at most.
 pub record Remembers (f : ℕ) (e : Extent) (old new : Indexing) : Type 0 where
   pub follows : Reindexes f old.extents.extents new.extents.extents old.order new.order old.marks new.marks
   pub order : new.order ≡ remembered old.order f e
   pub room : old.order.room ≤ new.order.room + 1
 
--- it came in, and the order and the marks know it
-pub record PutsIn (f : ℕ) (e : Extent) (old new : Indexing) : Type 0 where
-  pub comes : ComesIn e old.extents new.extents
-  pub remembers : Remembers f e old new
+-- an extent came into file f, if it has a byte, and the order and the marks follow
+pub record PutsIn (f : ℕ) (e : Extent) (es fs : ExtentMap) (r q : Ranking) (marks new : List ℕ) : Type 0 where
+  pub comes : ComesIn e es fs
+  pub remembers : Remembers f e (indexing_of es r marks) (indexing_of fs q new)

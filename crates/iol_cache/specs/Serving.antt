@@ -1,11 +1,12 @@
 -- What a read of a file does to a store and a cache over it.
 use Rattle.std.specs.Prelude.{◌≡◌, ◌⊎◌, ℕ, ◌+◌, ◌<◌, ◌≤◌, min, max, true, List, [], length, take, drop, Result, Ok, Err, IfOk, IfErr, OnErr}
-use Rattle.iol_core.specs.Meaning.{WantOfRoomOrFault}
 use Rattle.iol_core.specs.Numbered.{is_numbered}
+use Rattle.iol_core.specs.Prelude.{WantOfRoomOrFault}
 use Rattle.iol_core.specs.declared.limits.TheConstants.{MAX_FILE_BYTES}
 use Rattle.iol_core.specs.declared.refusals.Refusal.{Refusal}
 use Rattle.iol_core.specs.declared.refusals.Refusal.TheVariants.{NoRoom, Fault, Memory}
-use Rattle.iol_back.specs.Disk.{Disk, IfHonest, content, last_failure, length_told, raised}
+use Rattle.iol_back.specs.Disk.{Disk, IfHonest, content, last_failure, length_told}
+use Rattle.iol_back.specs.Prelude.{raised}
 use Rattle.iol_extent.specs.Extents.{last_end}
 use Rattle.iol_extent.specs.declared.spans.Span.{Span}
 use Rattle.iol_hold.specs.Moves.{Moves}
@@ -73,8 +74,9 @@ pub record Range (disk : Disk) (c : Cached) (f at n : ℕ) : Type 0 where
 abbrev pub LacksPages : (p n : ℕ) → Holding → Type 0
 LacksPages p n h = length (pages_of h.store p) < pinned_beside h.store (clean_held h.cache.files) p + n
 
--- Room is made for the gaps of a range, they are filled, all of them or none, and the range is put together with what was shared
--- beside them, which is released. With these holds gone, and the range's made, the cache is sound and every file has its bytes.
+-- Room is made for the gaps of a range, if there is room; they are filled, all of them or none, and the range is put together
+-- with what was shared beside them, which is released, also where this is refused. With these holds gone, and the range's made,
+-- the cache is sound, and over an honest store every file has the bytes that it had.
 pub record FillsPinned (f from to : ℕ) (pins : List Slice) (gaps : List Span) (disk after : Disk) (old new : Holding)
     (r : Result (List Slice) Refusal) : Type 0 where
   pub filled : IfOk r (FillsAfter f from to pins gaps disk old new)

@@ -62,7 +62,7 @@ pub record MayShare (s : Stored) (es : List Extent) (so_far : List Slice) (from 
   pub few : (b : BufId) → count_of s b < 2 ^ 62 + tally b (bufs_of so_far)
   pub small : byte_len so_far + (to - from) < 2 ^ 32
 
--- they were added, or all is released
+-- The bytes of a range were added to what was shared so far. Refused, all of it is released.
 pub record SharesOver {E : Type 0} (es : List Extent) (so_far : List Slice) (from to : ℕ) (old new : Stored)
     (r : Result (List Slice) E) : Type 0 where
   pub places : IfOk r (λ a. places a ≡ places so_far ++ places_over es from to)

@@ -1,5 +1,5 @@
 -- What holds between any two calls of a cache.
-use Rattle.std.specs.Prelude.{◌≡◌, ℕ, ◌≤◌, ◌<◌, ◌^◌, true, false, List, [], ◌∷◌, length}
+use Rattle.std.specs.Prelude.{◌≡◌, ℕ, ◌+◌, ◌≤◌, ◌<◌, ◌^◌, true, false, List, [], ◌∷◌, ◌++◌, length, Result, IfOk, OnErr, OnOk}
 use Rattle.std.specs.List.{All}
 use Rattle.iol_core.specs.Numbered.{is_numbered}
 use Rattle.iol_core.specs.declared.limits.TheConstants.{MAX_FILES, MAX_FILE_BYTES}
@@ -12,7 +12,7 @@ use Rattle.iol_hold.specs.declared.slices.Slice.{Slice}
 use Rattle.iol_extent.specs.Extents.{Extent, IsApart, last_end}
 use Rattle.iol_cache.specs.declared.files.CachedFile.{CachedFile}
 use Rattle.iol_cache.specs.Marks.{Counted}
-use Rattle.iol_cache.specs.Cached.{Cached, file_in, held, clean_held, AreRanked, AreReady}
+use Rattle.iol_cache.specs.Cached.{Cached, file_in, held, clean_held, new_file, order_in, AreRanked, AreReady}
 
 -- P holds of each of a list
 abbrev pub Each : {A : Type 0} → (A → Type 0) → List A → Type 0
@@ -56,3 +56,18 @@ pub record IsUsable (s : Stored) (fs : List CachedFile) (marks : List ℕ) : Typ
   pub covered : Covers s (held fs)
   pub marked : Counted marks (clean_held fs)
   pub pages : length marks ≡ page_count s.arena
+
+-- There is no file and no order. The cache is sound over each store of so many pages that is tidy and still.
+pub record HasNoFile (pages : ℕ) (c : Cached) : Type 0 where
+  pub files : c.files ≡ []
+  pub orders : c.orders ≡ []
+  pub sound : (s : Stored) → page_count s.arena ≡ pages → IsTidy s → IsStill s.arena → IsSound s c
+
+-- A file of the pool came, in the next slot, of which nothing is in memory; or, refused, nothing changed. Each pool's order is as
+-- it was, and a cache that was sound stays so, where the pool is open.
+pub record AddsFile {E : Type 0} (pool : ℕ) (old new : Cached) (r : Result ℕ E) : Type 0 where
+  pub number : IfOk r (λ f. f ≡ length old.files + 1)
+  pub added : OnOk r (new.files ≡ old.files ++ new_file pool ∷ [])
+  pub err : OnErr r (new ≡ old)
+  pub orders : (p : ℕ) → order_in new.orders p ≡ order_in old.orders p
+  pub sound : (s : Stored) → IsSound s old → (pool_in s.pools pool).closed ≡ false → IsSound s new

@@ -1,7 +1,9 @@
 -- Dirty extents that are written back.
-use Rattle.std.specs.Prelude.{Bool, ◌≡◌, ℕ, zero, suc, ◌+◌, ◌-◌, ◌<◌, ◌≤◌, ◌^◌, ◌⊎◌, true, false, if◌then◌else◌, List, [], ◌∷◌, map, length, max, slice_index, Result, Ok, Err, IfSome, OnErr, OnOk, Some, None}
-use Rattle.iol_back.specs.Disk.{Disk, IfHonest, OthersStay, Succeeds, Tears, content, raised}
+use Rattle.std.specs.Prelude.{Bool, ◌≡◌, ℕ, zero, suc, ◌+◌, ◌-◌, ◌<◌, ◌≤◌, ◌^◌, ◌⊎◌, true, false, if◌then◌else◌, List, [], ◌∷◌, map, length, max, slice_index, Result, Ok, Err, IfErr, IfSome, OnErr, OnOk, Some, None}
+use Rattle.iol_back.specs.Disk.{Disk, IfHonest, OthersStay, Succeeds, Tears, content}
+use Rattle.iol_back.specs.Prelude.{raised}
 use Rattle.iol_core.specs.Numbered.{is_numbered}
+use Rattle.iol_core.specs.Prelude.{FaultOf}
 use Rattle.iol_core.specs.Text as text
 use Rattle.iol_core.specs.declared.refusals.Refusal.{Refusal}
 use Rattle.iol_core.specs.declared.refusals.Refusal.TheVariants.{Fault}
@@ -11,6 +13,7 @@ use Rattle.iol_hold.specs.Places.{byte_len}
 use Rattle.iol_hold.specs.Stored.{Stored}
 use Rattle.iol_hold.specs.Texts.{AllReadable, text_of}
 use Rattle.iol_hold.specs.declared.slices.Slice.{Slice}
+use Rattle.iol_cache.specs.Cache.{cached_of}
 use Rattle.iol_cache.specs.Cached.{Cached, extents_in, file_in, order_in, parts_in, with_file, with_order}
 use Rattle.iol_cache.specs.Contents.{Mirrors, bytes_in_slot}
 use Rattle.iol_cache.specs.Marks.{AreWithin, HasMarksLeft}
@@ -18,6 +21,7 @@ use Rattle.iol_cache.specs.Reading.{RanksFile}
 use Rattle.iol_cache.specs.Replacing.{IsReady, Reindexes}
 use Rattle.iol_cache.specs.Sharing.{CountsBelow}
 use Rattle.iol_cache.specs.Sound.{IsSound}
+use Rattle.iol_cache.specs.declared.cache.Cache.{Cache}
 use Rattle.iol_cache.specs.declared.sync.Flushed.{Flushed}
 use Rattle.iol_cache.specs.declared.sync.Flushed.TheVariants.{Nothing, Wrote}
 
@@ -36,19 +40,23 @@ abbrev pub WriteCounts : {A E : Type 0} → (old new : Disk) → Result A E → 
 WriteCounts old new (Ok x) = Succeeds old new
 WriteCounts old new (Err e) = new.failures ≡ raised old.failures
 
--- slices that have bytes, which can be read, and fit a file from a place on
+-- slices that have bytes, which can be read, and which end below byte 2^32 of a file, from a place on
 pub record MayWriteBack (s : Stored) (at : ℕ) (xs : List Slice) : Type 0 where
   pub some : 0 < byte_len xs
   pub fits : at + byte_len xs < 2 ^ 32
   pub readable : AllReadable s xs
 
--- The bytes of a range of a file were written, slice by slice. Where a write failed, what lies in the range is anything.
-pub record WritesBack {A E : Type 0} (file at : ℕ) (bytes : List ℕ) (old new : Disk) (r : Result A E) : Type 0 where
+-- The bytes of these slices were written to a file from a place on, slice by slice. Where a write failed, what lies in their
+-- range is anything.
+pub record WritesBack {A E : Type 0} (file at : ℕ) (s : Stored) (xs : List Slice) (old new : Disk)
+    (r : Result A E) : Type 0 where
   pub honest : new.honest ≡ old.honest
   pub counts : WriteCounts old new r
   pub others : IfHonest old (OthersStay file old.slots new.slots)
-  pub stored : IfHonest old (OnOk r (Stores at bytes (content old.slots file) (content new.slots file)))
-  pub torn : IfHonest old (OnErr r (Tears at (length bytes) (content old.slots file) (content new.slots file)))
+  pub stored : let bytes = text.bytes_of (text_of s xs) in
+      IfHonest old (OnOk r (Stores at bytes (content old.slots file) (content new.slots file)))
+  pub torn : let bytes = text.bytes_of (text_of s xs) in
+      IfHonest old (OnErr r (Tears at (length bytes) (content old.slots file) (content new.slots file)))
 
 -- Extents that become clean.
 
@@ -80,24 +88,25 @@ pub record KeepsContents (s : Stored) (old new : Cached) (d e : Disk) : Type 0 w
 
 -- The first dirty extent of a file is written back.
 
--- It begins at a place, and may become clean there: the order has the clean ones and a place for each dirty one, and its
--- pages can be marked.
-pub record MaySettle (f at : ℕ) (es : List Extent) (r : Ranking) (marks : List ℕ) : Type 0 where
-  pub apart : IsApart 0 es
-  pub dirty : IsFirstDirty es at
-  pub ranked : RanksFile r f es
-  pub ready : IsReady r es
-  pub within : AreWithin (length marks) (parts_in (begins_at es at))
-  pub few : HasMarksLeft marks (parts_in (begins_at es at))
+-- The first dirty extent of a file begins at a place, and may become clean there: the order has the clean ones and a place for
+-- each dirty one, and its pages can be marked.
+pub record MaySettle (f at : ℕ) (old : ExtentMap) (r : Ranking) (marks : List ℕ) : Type 0 where
+  pub apart : IsApart 0 old.extents
+  pub dirty : IsFirstDirty old.extents at
+  pub ranked : RanksFile r f old.extents
+  pub ready : IsReady r old.extents
+  pub within : AreWithin (length marks) (parts_in (begins_at old.extents at))
+  pub few : HasMarksLeft marks (parts_in (begins_at old.extents at))
 
--- It is clean where it stands, is marked, and came into the order with the height of a new entry.
-pub record Settles (f at : ℕ) (es fs : List Extent) (r t : Ranking) (marks new : List ℕ) : Type 0 where
-  pub extents : fs ≡ cleaned_at es at
-  pub apart : IsApart 0 fs
-  pub follows : Reindexes f es fs r t marks new
-  pub order : IfSome (dirty_in es) (λ e. t ≡ entered (with_one_given_back r) f e.at (byte_len e.parts) 1)
+-- The first dirty extent of a file is clean where it stands, is marked, and came into the order with the height of a new entry.
+pub record Settles (f at : ℕ) (old new : ExtentMap) (r t : Ranking) (marks marked : List ℕ) : Type 0 where
+  pub extents : new.extents ≡ cleaned_at old.extents at
+  pub apart : IsApart 0 new.extents
+  pub follows : Reindexes f old.extents new.extents r t marks marked
+  pub order : IfSome (dirty_in old.extents) (λ e. t ≡ entered (with_one_given_back r) f e.at (byte_len e.parts) 1)
 
--- it was written, is clean, and stands in the order, where it came in with the height of a new entry
+-- the first dirty extent of a file was written, is clean, and stands in the order, where it came in with the height of a new
+-- entry
 pub record Cleans (s : Stored) (f : ℕ) (old new : Cached) (d e : Disk) : Type 0 where
   pub extent : Extent
   pub first : dirty_in (extents_in old.files f) ≡ Some extent
@@ -137,7 +146,7 @@ StoresFirst s f old new d e (Ok true) = Cleans s f old new d e
 StoresFirst s f old new d e (Ok false) = IsClean f old new d e
 StoresFirst s f old new d e (Err x) = Fails f old new d e × (x ≡ Fault f)
 
--- a file of a sound cache may be written back: no buffer is held 2^61 times
+-- a file of a sound cache may be written back: each buffer is held fewer than 2^61 times
 pub record MaySync (s : Stored) (f : ℕ) (c : Cached) : Type 0 where
   pub sound : IsSound s c
   pub file : is_numbered c.files f ≡ true
@@ -190,3 +199,31 @@ Flushes s old new d e (Ok Nothing) = AllClean (length old.files) old × (new ≡
 Flushes s old new d e (Ok (Wrote f)) = AllClean (f - 1) old × Cleans s f old new d e
 Flushes s old new d e (Err (Fault f)) = AllClean (f - 1) old × Fails f old new d e
 Flushes s old new d e (Err x) = ⊥
+
+-- The calls.
+
+-- The dirty extents of a file were written back, in the order of offsets, and those that were written are clean: all of them, or
+-- those before one at which the store failed, which is told as a fault at the file. Over an honest store each file has the bytes
+-- that it had. The cache is sound.
+pub record WritesAll {A : Type 0} (f : ℕ) (s : Stored) (old new : Cache) (d e : Disk)
+    (r : Result A Refusal) : Type 0 where
+  -- which extents are clean then
+  pub writes : WritesDirty s f (cached_of old) (cached_of new) d e r
+  pub clean : OnOk r (dirty_in (extents_in (cached_of new).files f) ≡ None)
+  pub syncs : Syncs s f (cached_of old) (cached_of new) d e
+  -- what stays
+  pub files : KeepsBytes s (cached_of old) (cached_of new) d e
+  pub mirrors : KeepsStored s (cached_of old) (cached_of new) d e
+  pub sound : IsSound s (cached_of new)
+  -- refusals
+  pub fails : OnErr r (e.failures ≡ raised d.failures)
+  pub succeeds : OnOk r (e.failures ≡ d.failures)
+  pub late : IfErr r (FaultOf f)
+
+-- The dirty extent of least file and offset was written back, if there is one, or the store failed at it. Over an honest store
+-- each file has the bytes that it had. The cache is sound.
+pub record WritesOne (s : Stored) (old new : Cache) (d e : Disk) (r : Result Flushed Refusal) : Type 0 where
+  pub flushes : Flushes s (cached_of old) (cached_of new) d e r
+  pub files : KeepsBytes s (cached_of old) (cached_of new) d e
+  pub mirrors : KeepsStored s (cached_of old) (cached_of new) d e
+  pub sound : IsSound s (cached_of new)

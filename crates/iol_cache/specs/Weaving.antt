@@ -1,10 +1,10 @@
 -- A range of a file: the bytes beside its gaps, which were shared first, and those of its gaps.
-use Rattle.std.specs.Prelude.{◌≡◌, ℕ, ◌+◌, ◌-◌, ◌<◌, ◌≤◌, ◌^◌, All, List, [], ◌∷◌, ◌++◌, take, drop}
+use Rattle.std.specs.Prelude.{◌≡◌, ℕ, ◌+◌, ◌-◌, ◌<◌, ◌≤◌, ◌^◌, All, List, [], ◌∷◌, ◌++◌, take, drop, slice_range}
 use Rattle.iol_extent.specs.Extents.{Extent}
 use Rattle.iol_extent.specs.Spans.{AreInOrder}
 use Rattle.iol_extent.specs.declared.spans.Span.{Span}
 use Rattle.iol_hold.specs.Moves.{Covers}
-use Rattle.iol_hold.specs.Places.{Place, byte_len}
+use Rattle.iol_hold.specs.Places.{Place, byte_len, places}
 use Rattle.iol_hold.specs.Stored.{Stored}
 use Rattle.iol_hold.specs.Texts.{AllReadable, bufs_of}
 use Rattle.iol_hold.specs.declared.slices.Slice.{Slice}
@@ -66,3 +66,11 @@ pub record MayAddPart (s : Stored) (xs ys : List Slice) (from to : ℕ) : Type 0
   pub own_readable : AllReadable s xs
   pub few : CountsBelow s (2 ^ 62)
   pub small : byte_len xs + (to - from) < 2 ^ 32
+
+-- zs has the bytes of xs where they lie, and then those of ys from a place on up to another
+abbrev pub HasPart : (xs ys : List Slice) → (from to : ℕ) → (zs : List Slice) → Type 0
+HasPart xs ys from to zs = places zs ≡ places xs ++ slice_range (places ys) from to
+
+-- zs has the bytes of a range: those of its gaps where extents have them, and those beside these where the bytes of xs lie
+abbrev pub IsWoven : (xs : List Slice) → List Extent → (from to : ℕ) → (gaps : List Span) → (zs : List Slice) → Type 0
+IsWoven xs es from to gaps zs = places zs ≡ woven (places xs) es from to gaps

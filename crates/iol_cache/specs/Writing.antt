@@ -11,6 +11,7 @@ use Rattle.iol_hold.specs.Texts.{bufs_of}
 use Rattle.iol_hold.specs.declared.slices.Slice.{Slice}
 use Rattle.iol_evict.specs.Ranking.{Ranking}
 use Rattle.iol_extent.specs.Extents.{Adds, Extent, ExtentMap, IsApart, unmet}
+use Rattle.iol_extent.specs.declared.spans.Span.{Span}
 use Rattle.iol_cache.specs.Cached.{extents_in, file_in, held, order_in, with_file, with_order, all_parts}
 use Rattle.iol_cache.specs.Cutting.{CutsAround}
 use Rattle.iol_cache.specs.Evicting.{Holding}
@@ -18,59 +19,66 @@ use Rattle.iol_cache.specs.Marks.{HasMarksLeft}
 use Rattle.iol_cache.specs.Replacing.{HasPlaces, Indexing, MayGo, Reindexes, indexing_in, put_some, reordered}
 use Rattle.iol_cache.specs.Sharing.{CountsBelow}
 use Rattle.iol_cache.specs.Sound.{IsLaid, IsSound}
+use Rattle.iol_cache.specs.declared.write.cut.Replacement.{Replacement}
 
 -- the slices of the parts on both sides of a range, and of the new bytes
 abbrev pub parts_put : (left right e : Extent) → List Slice
 parts_put left right e = left.parts ++ (right.parts ++ e.parts)
 
--- In place of what a range of file f meets, the parts on both sides of it and an extent of new bytes may come: they are held
--- beside what stands, they can be marked, and there is room for three.
-pub record MayReplace (f from to : ℕ) (left right e : Extent) (s : Stored) (old : Indexing) : Type 0 where
-  pub cuts : CutsAround old.extents.extents from to left right e
+-- In place of what a range of file f meets, the parts on both sides of it and an extent of new bytes may come: what stands may
+-- go, they are held beside it, they can be marked, and there is room for three extents and their entries.
+pub record MayReplace (f : ℕ) (range : Span) (put : Replacement) (s : Stored) (old : Indexing) : Type 0 where
+  pub cuts : CutsAround old.extents.extents range.from range.to put.left put.right put.bytes
   pub stands : MayGo f s old
-  pub beside : Covers s (bufs_of (all_parts old.extents.extents ++ parts_put left right e))
-  pub few : HasMarksLeft old.marks (parts_put left right e)
+  pub beside : Covers s (bufs_of (all_parts old.extents.extents ++ parts_put put.left put.right put.bytes))
+  pub few : HasMarksLeft old.marks (parts_put put.left put.right put.bytes)
   pub places : HasPlaces 3 old
 
--- they came
-pub record Replaces (f from to : ℕ) (left right e : Extent) (s t : Stored) (old new : Indexing) : Type 0 where
-  pub is : new.extents.extents ≡ put_some (put_some (put_some (unmet old.extents.extents from to) left) right) e
-  pub adds : Adds old.extents.extents e new.extents.extents
-  pub apart : IsApart 0 new.extents.extents
-  pub ranks : new.order ≡ reordered old.order f old.extents.extents from to left right e
-  pub follows : Reindexes f old.extents.extents new.extents.extents old.order new.order old.marks new.marks
-  pub moves : Moves s t (bufs_of (all_parts old.extents.extents ++ parts_put left right e))
-      (bufs_of (all_parts new.extents.extents))
+-- In place of what a range of file f met, the parts on both sides of it and an extent of new bytes came. The order and the marks
+-- follow, and only what was met was released.
+pub record Replaces (f : ℕ) (range : Span) (put : Replacement) (s t : Stored) (es fs : ExtentMap) (r q : Ranking)
+    (marks new : List ℕ) : Type 0 where
+  pub is : fs.extents ≡ put_some (put_some (put_some (unmet es.extents range.from range.to) put.left) put.right) put.bytes
+  pub adds : Adds es.extents put.bytes fs.extents
+  pub apart : IsApart 0 fs.extents
+  pub ranks : q ≡ reordered r f es.extents range.from range.to put.left put.right put.bytes
+  pub follows : Reindexes f es.extents fs.extents r q marks new
+  pub moves : Moves s t (bufs_of (all_parts es.extents ++ parts_put put.left put.right put.bytes))
+      (bufs_of (all_parts fs.extents))
   pub frees : FreesOnly s t
   pub lists : SameLists s t
   pub settles : AllSettled s → AllSettled t
 
--- The same of a file of a cache: the new bytes lie in its pool.
-pub record MayPutOver (f from to : ℕ) (left right e : Extent) (h : Holding) : Type 0 where
+-- In place of what a range of a file of a sound cache meets, the parts on both sides of it and an extent of new bytes may come:
+-- the range ends within what a file may have, the extent lies in the file's pool, all are held beside what the cache holds, few
+-- times, and there is room for three extents and their entries.
+pub record MayPutOver (f : ℕ) (range : Span) (put : Replacement) (h : Holding) : Type 0 where
   pub sound : IsSound h.store h.cache
   pub file : is_numbered h.cache.files f ≡ true
-  pub short : to ≤ MAX_FILE_BYTES
-  pub cuts : CutsAround (extents_in h.cache.files f) from to left right e
-  pub laid : IsLaid h.store (file_in h.cache.files f).pool e
-  pub held : Covers h.store (held h.cache.files ++ bufs_of (parts_put left right e))
+  pub short : range.to ≤ MAX_FILE_BYTES
+  pub cuts : CutsAround (extents_in h.cache.files f) range.from range.to put.left put.right put.bytes
+  pub laid : IsLaid h.store (file_in h.cache.files f).pool put.bytes
+  pub held : Covers h.store (held h.cache.files ++ bufs_of (parts_put put.left put.right put.bytes))
   pub few : CountsBelow h.store (2 ^ 61)
   pub places : HasPlaces 3 (indexing_in h.cache f)
 
 -- In place of what a file's range met came the parts on both sides of it, and an extent of new bytes.
-pub record PutsOver (f from to : ℕ) (left right e : Extent) (old new : Holding) : Type 0 where
+pub record PutsOver (f : ℕ) (range : Span) (put : Replacement) (old new : Holding) : Type 0 where
   pub extents : ExtentMap
   pub order : Ranking
-  pub is : extents.extents ≡ put_some (put_some (put_some (unmet (extents_in old.cache.files f) from to) left) right) e
-  pub adds : Adds (extents_in old.cache.files f) e extents.extents
+  pub is : extents.extents ≡ put_some (put_some (put_some
+      (unmet (extents_in old.cache.files f) range.from range.to) put.left) put.right) put.bytes
+  pub adds : Adds (extents_in old.cache.files f) put.bytes extents.extents
   pub apart : IsApart 0 extents.extents
   pub files : new.cache.files ≡ with_file old.cache.files f
       (record { pool = (file_in old.cache.files f).pool; extents = extents })
   pub orders : new.cache.orders ≡ with_order old.cache.orders (file_in old.cache.files f).pool order
   pub ranks : order ≡ reordered (order_in old.cache.orders (file_in old.cache.files f).pool) f (extents_in old.cache.files f)
-      from to left right e
+      range.from range.to put.left put.right put.bytes
   pub follows : Reindexes f (extents_in old.cache.files f) extents.extents
       (order_in old.cache.orders (file_in old.cache.files f).pool) order old.cache.marks new.cache.marks
-  pub moves : Moves old.store new.store (bufs_of (all_parts (extents_in old.cache.files f) ++ parts_put left right e))
+  pub moves : Moves old.store new.store
+      (bufs_of (all_parts (extents_in old.cache.files f) ++ parts_put put.left put.right put.bytes))
       (bufs_of (all_parts extents.extents))
   pub frees : FreesOnly old.store new.store
   pub lists : SameLists old.store new.store

@@ -1,11 +1,8 @@
 //! The cache of files.
-ghost use Rattle.std.specs.Prelude.{◌≡◌, ℕ, ◌+◌, ◌<◌, ◌≤◌, [], ◌∷◌, ◌++◌, length, false, OnOk, OnErr, IfOk};
-ghost use Rattle.iol_arena.specs.Prelude.{page_count};
-ghost use Rattle.iol_pool.specs.Prelude.{pool_in};
-ghost use Rattle.iol_hold.specs.Prelude.{Stored, IsTidy, IsStill};
+ghost use Rattle.std.specs.Prelude.{◌≡◌, ℕ, ◌<◌, ◌≤◌, length, IfOk};
 ghost use Rattle.iol_extent.specs.Prelude.{last_end};
-ghost use Rattle.iol_cache.specs.Cached.{AddsOrders, dirty_in_all, extents_in, extents_in_all, new_file, order_in};
-ghost use Rattle.iol_cache.specs.Sound.{IsSound};
+ghost use Rattle.iol_cache.specs.Cached.{AddsOrders, dirty_in_all, extents_in, extents_in_all};
+ghost use Rattle.iol_cache.specs.Sound.{AddsFile, HasNoFile};
 
 use crate::files::CachedFile;
 use crate::marks::CleanHolds;
@@ -51,10 +48,7 @@ impl Cache {
 
     /// A cache with no file, over an arena of `pages` pages.
     pub fn new(alloc: Global, pages: usize) -> Result<Cache, AllocError>
-        ensures files { IfOk result (λ c. (cached_of c).files ≡ []) }
-        ensures orders { IfOk result (λ c. (cached_of c).orders ≡ []) }
-        ensures sound { IfOk result (λ c. (s : Stored) → page_count s.arena ≡ pages → IsTidy s →
-            IsStill s.arena → IsSound s (cached_of c)) }
+        ensures { IfOk result (λ c. HasNoFile pages (cached_of c)) }
     {
         Ok(Cache {
             files: Vec::new(alloc),
@@ -66,14 +60,7 @@ impl Cache {
     /// Adds a file of an open pool, in the next slot. Nothing of it is in memory.
     pub fn add_file(&mut self, alloc: Global, pool: PoolId) -> Result<FileId, AllocError>
         requires { length (cached_of self.old).files < MAX_FILES }
-        ensures number { IfOk result (λ f. f ≡ length (cached_of self.old).files + 1) }
-        ensures added { let old = (cached_of self.old).files in
-            OnOk result ((cached_of self.new).files ≡ old ++ new_file pool ∷ []) }
-        ensures err { OnErr result (cached_of self.new ≡ cached_of self.old) }
-        ensures orders { (p : ℕ) → order_in (cached_of self.new).orders p ≡
-            order_in (cached_of self.old).orders p }
-        ensures sound { (s : Stored) → IsSound s (cached_of self.old) →
-            (pool_in s.pools pool).closed ≡ false → IsSound s (cached_of self.new) }
+        ensures { AddsFile pool (cached_of self.old) (cached_of self.new) result }
     {
         self.files.reserve(1)?;
         add_orders(&mut self.orders, alloc, pool.number() as usize)?;

@@ -1,11 +1,8 @@
 //! Eviction of clean extents.
-ghost use Rattle.std.specs.Prelude.{◌≡◌, ◌↔◌, ℕ, ◌+◌, ◌≤◌, length, false, Some, IsTrue};
+ghost use Rattle.std.specs.Prelude.{◌≡◌, ◌↔◌, false, IsTrue};
 ghost use Rattle.iol_pool.specs.Prelude.{pool_in};
-ghost use Rattle.iol_hold.specs.Prelude.{pages_of, free_of};
-ghost use Rattle.iol_cache.specs.Cached.{extents_in, clean_held};
-ghost use Rattle.iol_cache.specs.Cache.{cached_of, holding};
-ghost use Rattle.iol_cache.specs.Evicting.{AllDirty, ArePassed, DropsClean, EvictsAll, EvictsOne, EvictsPools, FindsVictim, GivesUp, IsCleanAt, MakesFree};
-ghost use Rattle.iol_cache.specs.Pinned.{pinned_beside};
+ghost use Rattle.iol_cache.specs.Cache.{EvictsFrom, cached_of, holding};
+ghost use Rattle.iol_cache.specs.Evicting.{ArePassed, DropsAll, DropsClean, FindsVictim, FreesOrKeeps, HasPages, IsCleanAt, MakesFree};
 ghost use Rattle.iol_cache.specs.Sound.{IsSound};
 
 use crate::cache::Cache;
@@ -40,8 +37,7 @@ impl Cache {
     fn evict(&mut self, store: &mut Store, file: FileId, at: u32, passed: &mut Rank)
         requires sound { IsSound store.old (cached_of self.old) }
         requires clean { IsCleanAt self.old.files.items file at }
-        ensures { EvictsOne file at passed.old passed.new (holding store.old self.old)
-            (holding store.new self.new) }
+        ensures { EvictsFrom file at passed.old passed.new store.old self.old store.new self.new }
     {
         let place = file.number() as usize - 1;
         let pool = self.files[place].pool;
@@ -73,9 +69,7 @@ impl Cache {
     fn has_room(&self, store: &Store, pool: PoolId, pages: u32) -> bool
         requires sound { IsSound store.now (cached_of self.now) }
         requires open { (pool_in store.now.pools pool).closed ≡ false }
-        ensures { let clean = clean_held (cached_of self.now).files in
-            IsTrue result ↔
-            (pinned_beside store.now clean pool + pages ≤ length (pages_of store.now pool)) }
+        ensures { IsTrue result ↔ HasPages pool pages (holding store.now self.now) }
     {
         if pages <= store.free_count(pool) {
             return true;
@@ -88,16 +82,8 @@ impl Cache {
     pub fn make_room(&mut self, store: &mut Store, pool: PoolId, pages: u32) -> bool
         requires sound { IsSound store.old (cached_of self.old) }
         requires open { (pool_in store.old.pools pool).closed ≡ false }
-        ensures room { let clean = clean_held (cached_of self.old).files in
-            IsTrue result ↔
-            (pinned_beside store.old clean pool + pages ≤ length (pages_of store.old pool)) }
-        ensures free { IsTrue result → pages ≤ length (free_of store.new pool) }
-        ensures victims { EvictsAll pool (Some pages) (holding store.old self.old)
-            (holding store.new self.new) }
-        ensures gives_up { GivesUp (holding store.old self.old) (holding store.new self.new) }
-        ensures sound { IsSound store.new (cached_of self.new) }
-        ensures refused { result ≡ false →
-            holding store.new self.new ≡ holding store.old self.old }
+        ensures { FreesOrKeeps pool pages (holding store.old self.old) (holding store.new self.new)
+            result }
     {
         if pages == 0 {
             return true;
@@ -122,11 +108,7 @@ impl Cache {
     /// Evicts all clean extents, pool by pool, those that go first before the others.
     pub fn drop_clean(&mut self, store: &mut Store)
         requires { IsSound store.old (cached_of self.old) }
-        ensures none { (f : ℕ) → AllDirty (extents_in (cached_of self.new).files f) }
-        ensures victims { EvictsPools (length (cached_of self.old).orders)
-            (holding store.old self.old) (holding store.new self.new) }
-        ensures gives_up { GivesUp (holding store.old self.old) (holding store.new self.new) }
-        ensures sound { IsSound store.new (cached_of self.new) }
+        ensures { DropsAll (holding store.old self.old) (holding store.new self.new) }
     {
         for i in 0..self.orders.len() {
             self.drop_clean_of(store, PoolId::new(i as u32 + 1));

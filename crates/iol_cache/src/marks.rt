@@ -1,7 +1,7 @@
 //! How often clean extents hold each buffer.
-ghost use Rattle.std.specs.Prelude.{◌≡◌, ◌<◌, length, slice_index, slice_set, replicate, IfOk};
+ghost use Rattle.std.specs.Prelude.{◌≡◌, ◌<◌, length, replicate, IfOk};
 ghost use Rattle.iol_hold.specs.Prelude.{count_of, Covers, bufs_of};
-ghost use Rattle.iol_cache.specs.Marks.{AreWithin, CanTurn, CanTurnAt, Turns, is_held_more, is_in_use, turned};
+ghost use Rattle.iol_cache.specs.Marks.{AreWithin, CanTurn, CanTurnAt, Turns, is_held_more, is_in_use, with_turned};
 
 use iol_hold::{Slice, Store};
 use std::alloc::{AllocError, Global};
@@ -24,8 +24,7 @@ impl Model for CleanHolds {
 // One slice more of the buffer that begins at the page, or one fewer.
 fn turn_one(marks: &mut Vec<u64>, page: usize, is_clean: bool)
     requires { CanTurnAt is_clean marks.old.items page }
-    ensures { marks.new.items ≡
-        slice_set marks.old.items page (turned is_clean (slice_index marks.old.items page)) }
+    ensures { marks.new.items ≡ with_turned is_clean marks.old.items page }
 {
     if is_clean {
         marks[page] += 1;

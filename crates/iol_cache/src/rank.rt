@@ -1,9 +1,8 @@
 //! Extents of a file in the order of its pool: hits that count, and extents that come in.
-ghost use Rattle.std.specs.Prelude.{◌≡◌, ◌≤◌, length};
-ghost use Rattle.iol_extent.specs.Prelude.{IsApart, AreInOrder};
-ghost use Rattle.iol_cache.specs.Entering.{Enters, EntersAll, MayEnter};
-ghost use Rattle.iol_cache.specs.Marks.{HasMarksLeft};
-ghost use Rattle.iol_cache.specs.Reading.{RanksFile, hits_counted, parts_of_spans, AllBeginAt, AllWithin, AreAbsent};
+ghost use Rattle.std.specs.Prelude.{◌≡◌};
+ghost use Rattle.iol_extent.specs.Prelude.{IsApart};
+ghost use Rattle.iol_cache.specs.Entering.{Enters, EntersAll, MayEnter, MayEnterAll};
+ghost use Rattle.iol_cache.specs.Reading.{RanksFile, hits_counted};
 
 use crate::marks::CleanHolds;
 use iol_core::numbers::FileId;
@@ -52,13 +51,7 @@ pub(crate) fn enter_all(
     file: FileId,
     spans: &[Span],
 )
-    requires apart { IsApart 0 extents.now.extents }
-    requires begin { AllBeginAt extents.now.extents spans.now }
-    requires in_order { AreInOrder 0 u32.MAX spans.now }
-    requires absent { AreAbsent order.old file spans.now }
-    requires room { length spans.now ≤ order.old.room }
-    requires within { AllWithin (length marks.old) extents.now.extents }
-    requires few { HasMarksLeft marks.old (parts_of_spans extents.now.extents spans.now) }
+    requires { MayEnterAll file extents.now.extents spans.now order.old marks.old }
     ensures { EntersAll file extents.now.extents spans.now order.old order.new marks.old marks.new }
 {
     for span in spans {

@@ -2,8 +2,7 @@
 ghost use Rattle.std.specs.Prelude.{◌≡◌, true};
 ghost use Rattle.iol_core.specs.Prelude.{is_numbered};
 ghost use Rattle.iol_cache.specs.Cache.{cached_of};
-ghost use Rattle.iol_cache.specs.Cached.{file_in};
-ghost use Rattle.iol_cache.specs.Reserving.{ReservesPlaces};
+ghost use Rattle.iol_cache.specs.Reserving.{HasOrder, ReservesPlaces};
 
 use crate::cache::Cache;
 use iol_core::numbers::FileId;
@@ -13,8 +12,7 @@ impl Cache {
     /// Room for so many extents more of a file, and for their entries.
     pub(crate) fn reserve_places(&mut self, file: FileId, count: usize) -> Result<(), AllocError>
         requires file { is_numbered self.old.files.items file ≡ true }
-        requires order { let p = (file_in self.old.files.items file).pool in
-            is_numbered self.old.orders.items p ≡ true }
+        requires order { HasOrder file (cached_of self.old) }
         ensures { ReservesPlaces file count (cached_of self.old) (cached_of self.new) result }
     {
         let place = file.number() as usize - 1;

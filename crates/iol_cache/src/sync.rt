@@ -1,15 +1,10 @@
 //! Writing back of dirty extents.
-ghost use Rattle.std.specs.Prelude.{◌≡◌, ◌^◌, true, None, IfErr, OnErr, OnOk};
-ghost use Rattle.iol_core.specs.Text as text;
-ghost use Rattle.iol_core.specs.Prelude.{is_numbered, FaultOf};
+ghost use Rattle.std.specs.Prelude.{◌≡◌, ◌^◌, true};
+ghost use Rattle.iol_core.specs.Prelude.{is_numbered};
 ghost use Rattle.iol_cache.specs.Cache.{cached_of};
-ghost use Rattle.iol_cache.specs.Cached.{extents_in};
 ghost use Rattle.iol_cache.specs.Sharing.{CountsBelow};
 ghost use Rattle.iol_cache.specs.Sound.{IsSound};
-ghost use Rattle.iol_cache.specs.Syncing.{Flushes, KeepsBytes, KeepsStored, MaySettle, MaySync, MayWriteBack, Settles, Syncs, WritesBack, WritesDirty, WritesFirst};
-ghost use Rattle.iol_extent.specs.Prelude.{dirty_in};
-ghost use Rattle.iol_back.specs.Prelude.{raised};
-ghost use Rattle.iol_hold.specs.Prelude.{text_of};
+ghost use Rattle.iol_cache.specs.Syncing.{MaySettle, MaySync, MayWriteBack, Settles, WritesAll, WritesBack, WritesFirst, WritesOne};
 
 use crate::cache::Cache;
 use crate::marks::CleanHolds;
@@ -39,8 +34,8 @@ fn write_back<B: Backing>(
     slices: &[Slice],
 ) -> Result<(), StoreFault>
     requires { MayWriteBack store.now at slices.now }
-    ensures { WritesBack file at (text.bytes_of (text_of store.now slices.now))
-        (B.disk backing.old) (B.disk backing.new) result }
+    ensures { WritesBack file at store.now slices.now (B.disk backing.old) (B.disk backing.new)
+        result }
 {
     let mut to = at;
     for slice in slices {
@@ -56,9 +51,8 @@ fn write_back<B: Backing>(
 // The first dirty extent becomes clean where it stands, which begins at a place: it is marked, and enters the order in the place that was
 // kept for it.
 fn settle(order: &mut Order, marks: &mut CleanHolds, extents: &mut Extents, file: FileId, at: u32)
-    requires { MaySettle file at extents.old.extents order.old marks.old }
-    ensures { Settles file at extents.old.extents extents.new.extents order.old order.new marks.old
-        marks.new }
+    requires { MaySettle file at extents.old order.old marks.old }
+    ensures { Settles file at extents.old extents.new order.old order.new marks.old marks.new }
 {
     order.give_back();
     enter_one(order, marks, extents, file, at);
@@ -108,27 +102,8 @@ impl Cache {
         requires sound { IsSound store.now (cached_of self.old) }
         requires file { is_numbered (cached_of self.old).files file ≡ true }
         requires few { CountsBelow store.now (2 ^ 61) }
-        // Which extents are clean then.
-        ensures writes { WritesDirty store.now file (cached_of self.old) (cached_of self.new)
-            (B.disk backing.old) (B.disk backing.new) result }
-        ensures clean { let new = (cached_of self.new).files in
-            OnOk result (dirty_in (extents_in new file) ≡ None) }
-        ensures syncs { Syncs store.now file (cached_of self.old) (cached_of self.new)
-            (B.disk backing.old) (B.disk backing.new) }
-
-        // What stays.
-        ensures files { KeepsBytes store.now (cached_of self.old) (cached_of self.new)
-            (B.disk backing.old) (B.disk backing.new) }
-        ensures mirrors { KeepsStored store.now (cached_of self.old) (cached_of self.new)
-            (B.disk backing.old) (B.disk backing.new) }
-        ensures sound { IsSound store.now (cached_of self.new) }
-
-        // Refusals.
-        ensures fails { OnErr result
-            ((B.disk backing.new).failures ≡ raised (B.disk backing.old).failures) }
-        ensures succeeds { OnOk result
-            ((B.disk backing.new).failures ≡ (B.disk backing.old).failures) }
-        ensures late { IfErr result (FaultOf file) }
+        ensures { WritesAll file store.now self.old self.new (B.disk backing.old)
+            (B.disk backing.new) result }
     {
         let mut more = true;
         while more {
@@ -150,13 +125,8 @@ impl Cache {
     ) -> Result<Flushed, Refusal>
         requires sound { IsSound store.now (cached_of self.old) }
         requires few { CountsBelow store.now (2 ^ 61) }
-        ensures flushes { Flushes store.now (cached_of self.old) (cached_of self.new)
-            (B.disk backing.old) (B.disk backing.new) result }
-        ensures files { KeepsBytes store.now (cached_of self.old) (cached_of self.new)
-            (B.disk backing.old) (B.disk backing.new) }
-        ensures mirrors { KeepsStored store.now (cached_of self.old) (cached_of self.new)
-            (B.disk backing.old) (B.disk backing.new) }
-        ensures sound { IsSound store.now (cached_of self.new) }
+        ensures { WritesOne store.now self.old self.new (B.disk backing.old) (B.disk backing.new)
+            result }
     {
         for i in 0..self.files.len() {
             let file = FileId::new(i as u32 + 1);

@@ -1,14 +1,6 @@
 //! Writing of files.
-ghost use Rattle.std.specs.Prelude.{◌≡◌, ℕ, ◌+◌, ◌<◌, ◌≤◌, ◌^◌, ◌++◌, length, true, Err, IfErr, OnErr, OnOk};
-ghost use Rattle.iol_core.specs.Prelude.{WantOfRoom, is_numbered};
-ghost use Rattle.iol_hold.specs.Prelude.{Covers, Moves, SameLists, byte_len, pages_of, AllSettled, AllReadable, bufs_of};
 ghost use Rattle.iol_cache.specs.Cache.{cached_of, holding};
-ghost use Rattle.iol_cache.specs.Cached.{clean_held, file_in, held};
-ghost use Rattle.iol_cache.specs.Composing.{copied_pages};
-ghost use Rattle.iol_cache.specs.Overwriting.{IsWritten, KeepsFiles, KeepsMirrors, KeepsOthers, LeavesAll, LiesDirty, MakesPlace, MayMakePlace, MayOverwrite, OnlyMakesRoom, OverwritesOrReleases, WritesFile};
-ghost use Rattle.iol_cache.specs.Paging.{FillsLowest};
-ghost use Rattle.iol_cache.specs.Pinned.{pinned_beside};
-ghost use Rattle.iol_cache.specs.Sharing.{CountsBelow};
+ghost use Rattle.iol_cache.specs.Overwriting.{MakesPlace, MayMakePlace, MayOverwrite, MayWrite, OverwritesOrReleases, Writes};
 ghost use Rattle.iol_cache.specs.Sound.{IsSound};
 ghost use Rattle.iol_cache.specs.Writing.{MayPutOver, PutsOver};
 
@@ -23,7 +15,6 @@ use crate::write::cut::Replacement;
 use crate::write::prepare::prepare;
 use crate::write::replace::replace_range;
 use iol_agg::Agg;
-use iol_core::limits::MAX_FILE_BYTES;
 use iol_core::numbers::FileId;
 use iol_core::refusals::Refusal;
 use iol_extent::spans::Span;
@@ -33,10 +24,9 @@ use std::alloc::Global;
 impl Cache {
     // Replaces a range of a file, in room that was made for its parts and the new bytes. No memory is taken.
     fn put_over(&mut self, store: &mut Store, file: FileId, range: Span, put: Replacement)
-        requires { MayPutOver file range.from range.to put.left put.right put.bytes
-            (holding store.old self.old) }
-        ensures puts { PutsOver file range.from range.to put.left put.right put.bytes
-            (holding store.old self.old) (holding store.new self.new) }
+        requires { MayPutOver file range put (holding store.old self.old) }
+        ensures puts { PutsOver file range put (holding store.old self.old)
+            (holding store.new self.new) }
         ensures sound { IsSound store.new (cached_of self.new) }
     {
         let place = file.number() as usize - 1;
@@ -55,9 +45,7 @@ impl Cache {
     // Room for the extents of a write, for their entries and for the pages of the bytes that are copied.
     fn make_place(&mut self, store: &mut Store, file: FileId, source: &Agg) -> Result<(), Refusal>
         requires { MayMakePlace file source.now (holding store.old self.old) }
-        ensures { let p = (file_in self.old.files.items file).pool in
-            MakesPlace file p source.now (holding store.old self.old) (holding store.new self.new)
-            result }
+        ensures { MakesPlace file source.now store.old self.old store.new self.new result }
     {
         let place = file.number() as usize - 1;
         let pool = self.files[place].pool;
@@ -80,9 +68,8 @@ impl Cache {
         source: &Agg,
     ) -> Result<(), Refusal>
         requires { MayOverwrite file at source.now (holding store.old self.old) }
-        ensures over { OverwritesOrReleases file at source.now (holding store.old self.old)
-            (holding store.new self.new) result }
-        ensures same { OnErr result (self.new ≡ self.old) }
+        ensures { OverwritesOrReleases file at source.now store.old self.old store.new self.new
+            result }
     {
         let place = file.number() as usize - 1;
         let pool = self.files[place].pool;
@@ -111,52 +98,8 @@ impl Cache {
         at: u32,
         source: &Agg,
     ) -> Result<(), Refusal>
-        requires sound { IsSound store.old (cached_of self.old) }
-        requires file { is_numbered (cached_of self.old).files file ≡ true }
-        requires short { at + byte_len source.now ≤ MAX_FILE_BYTES }
-        requires held { Covers store.old (held (cached_of self.old).files ++ bufs_of source.now) }
-        requires readable { AllReadable store.old source.now }
-        requires few { CountsBelow store.old (2 ^ 60) }
-
-        // The bytes of files.
-        ensures written { OnOk result (IsWritten file at source.now (holding store.old self.old)
-            (holding store.new self.new)) }
-        ensures others { KeepsOthers file (holding store.old self.old) (holding store.new self.new) }
-        ensures refused { OnErr result
-            (KeepsFiles (holding store.old self.old) (holding store.new self.new)) }
-        ensures mirrors { KeepsMirrors (holding store.old self.old) (holding store.new self.new) }
-
-        // Which extents there are then.
-        ensures lies { OnOk result (LiesDirty file at source.now (cached_of self.new)) }
-        ensures writes { 0 < byte_len source.now → OnOk result
-            (WritesFile file at source.now (holding store.old self.old) (holding store.new self.new)) }
-        ensures evicts { let p = (file_in (cached_of self.old).files file).pool in
-            OnErr result (OnlyMakesRoom p (copied_pages p source.now) (holding store.old self.old)
-            (holding store.new self.new)) }
-        ensures nothing { byte_len source.now ≡ 0 →
-            holding store.new self.new ≡ holding store.old self.old }
-
-        // When it is refused.
-        ensures room { let p = (file_in (cached_of self.old).files file).pool in
-            let clean = clean_held (cached_of self.old).files in
-            OnOk result (pinned_beside store.old clean p + copied_pages p source.now ≤
-            length (pages_of store.old p)) }
-        ensures no_room { let p = (file_in (cached_of self.old).files file).pool in
-            let clean = clean_held (cached_of self.old).files in
-            (q : ℕ) → result ≡ Err (Refusal.NoRoom q) → length (pages_of store.old p) <
-            pinned_beside store.old clean p + copied_pages p source.now }
-        ensures kept { (q : ℕ) → result ≡ Err (Refusal.NoRoom q) →
-            LeavesAll (holding store.old self.old) (holding store.new self.new) }
-        ensures late { IfErr result (WantOfRoom (file_in (cached_of self.old).files file).pool) }
-
-        // Holds come and go with the extents alone, live buffers keep their bytes, and pages are filled as in a read.
-        ensures moves { Moves store.old store.new (held (cached_of self.old).files)
-            (held (cached_of self.new).files) }
-        ensures pages { let p = (file_in (cached_of self.old).files file).pool in
-            FillsLowest p store.old store.new }
-        ensures lists { SameLists store.old store.new }
-        ensures settles { AllSettled store.old → AllSettled store.new }
-        ensures sound { IsSound store.new (cached_of self.new) }
+        requires { MayWrite file at source.now (holding store.old self.old) }
+        ensures { Writes file at source.now store.old self.old store.new self.new result }
     {
         if source.is_empty() {
             return Ok(());

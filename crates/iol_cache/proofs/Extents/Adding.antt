@@ -1,6 +1,6 @@
 -- A cache of no files, and one file more.
 use Rattle.std.proofs.Common.{inl, inr, ◌≡◌, ◌⊎◌, length-append, ℕ, zero, suc, ◌+◌, ◌-◌, ◌<◌, ◌≤◌, ◌^◌, Bool, true, false, cond, eqb, List, [], ◌∷◌, ◌++◌, length, get_or, refl, sym, ap, ◌∙◌, arith, subst}
-use Rattle.std.specs.Prelude.{replicate, flat_map, sum_by}
+use Rattle.std.specs.Prelude.{replicate, flat_map}
 use Rattle.std.proofs.lemmas.Bool.{cases_lt}
 use Rattle.std.proofs.lemmas.Bool.Decides.{nat_tests}
 use Rattle.std.proofs.lemmas.List.{append-nil}
@@ -10,15 +10,15 @@ use Rattle.iol_core.specs.declared.limits.TheConstants.{MAX_FILES}
 use Rattle.iol_core.proofs.Lookups.{numbered_or-push}
 use Rattle.iol_arena.specs.State.{page_count}
 use Rattle.iol_pool.specs.Pools.{pool_in}
-use Rattle.iol_hold.specs.Moves.{tally, Covers}
+use Rattle.iol_hold.specs.Moves.{tally}
 use Rattle.iol_hold.specs.Stored.{Stored, IsTidy, IsStill}
 use Rattle.iol_hold.specs.Texts.{bufs_of}
 use Rattle.iol_hold.proofs.Counting.{tally_none}
 use Rattle.iol_hold.proofs.Rooms.{open_numbered}
 use Rattle.iol_evict.specs.Ranking.{Ranking}
 use Rattle.iol_cache.specs.declared.files.CachedFile.{CachedFile}
-use Rattle.iol_cache.specs.Marks.{Counted, at_page}
-use Rattle.iol_cache.specs.Cached.{AreReady, Cached, dirty_of, file_in, no_file, new_file, order_in, no_order, held, clean_held, all_parts, clean_in, clean_of, clean_at, entries_at}
+use Rattle.iol_cache.specs.Marks.{at_page}
+use Rattle.iol_cache.specs.Cached.{AreReady, Cached, file_in, no_file, new_file, order_in, no_order, held, clean_held, all_parts, clean_in, clean_of, clean_at, entries_at}
 use Rattle.iol_cache.specs.Sound.{IsFiled, IsSound}
 use Rattle.iol_cache.proofs.Evictions.Marking.{at_page-none}
 use Rattle.iol_cache.proofs.Evictions.Ready.{ready_pushed}
@@ -114,23 +114,3 @@ sound_added s c d p sound more is files orders enough no_fewer few marks = recor
       | inl e ↦ ap (λ (x : CachedFile). cond {A = ℕ} (eqb x.pool q) (clean_at at x.extents.extents) 0) e
       | inr e ↦ ap (λ (x : CachedFile). cond {A = ℕ} (eqb x.pool q) (clean_at at x.extents.extents) 0) e.1 ∙ if_none (eqb p q) ∙ sym (ap (λ (x : CachedFile). cond {A = ℕ} (eqb x.pool q) (clean_at at x.extents.extents) 0) e.0 ∙ if_none (eqb 0 q))
     ]
-
--- more orders, which are empty
-pub sound_orders : (s : Stored) (c d : Cached) → IsSound s c → d.files ≡ c.files → ((q : ℕ) → order_in d.orders q ≡ order_in c.orders q) → length c.orders ≤ length d.orders → length d.orders < 2 ^ 32 → d.marks ≡ c.marks → IsSound s d
-sound_orders s c d sound files orders no_fewer few marks = record {
-  files = λ f. subst (λ fs. IsFiled s (file_in fs f)) (sym files) (sound.files f);
-  opened = λ f there. (
-      let o = sound.opened f (ap (λ fs. is_numbered fs f) (sym files) ∙ there) in
-      let q = ap (λ fs. (file_in fs f).pool) files in
-      let ob = numbered_bounds c.orders (file_in c.files f).pool o.ordered in
-      record { is_open = ap (λ k. (pool_in s.pools k).closed) q ∙ o.is_open; ordered = ap (is_numbered d.orders) q ∙ numbered_yes d.orders (file_in c.files f).pool ob.0 (omega (arith, ob.1, no_fewer)) });
-  covered = subst (λ fs. Covers s (held fs)) (sym files) sound.covered;
-  marked = subst (λ fs. Counted d.marks (clean_held fs)) (sym files) (subst (λ ms. Counted ms (clean_held c.files)) (sym marks) sound.marked);
-  pages = ap length marks ∙ sound.pages;
-  ranked = record { each = λ p f at. ap (λ (r : Ranking). entries_at f at r.entries) (orders p) ∙ sound.ranked.each p f at ∙ ap (λ fs. clean_of fs p f at) (sym files) };
-  ready = record { each = λ p. ap (λ (r : Ranking). r.kept) (orders p) ∙ sound.ready.each p ∙ ap (sum_by (dirty_of p)) (sym files) };
-  few_files = omega (arith, ap length files, sound.few_files);
-  few_orders = few;
-  tidy = sound.tidy;
-  still = sound.still;
-}

@@ -121,16 +121,6 @@ sound_beside {s = s} {t = t} taken given c sound covers moves lists pages =
 pub held_still : {s t : Stored} (own : List BufId) → Counts s t [] [] → Covers s own → Covers t own
 held_still own m covers = record { each = λ b. omega (arith, covers.each b, m.each b, tally_none b) }
 
--- a pool was made
-pub sound_with_pool : {s t : Stored} (c : Cached) (x : machine.Pool) → IsSound s c → Moves s t [] [] → map pool_meant t.pools ≡ map pool_meant s.pools ++ x ∷ [] → page_count t.arena ≡ page_count s.arena → IsSound t c
-sound_with_pool {s = s} {t = t} c x sound moves added =
-    sound_moved c sound moves (held_still (held c.files) moves.counts sound.covered) (open_added s t c.files x added (open_all sound))
-
--- a pool was closed, which no file is of
-pub sound_with_closed : {s t : Stored} (c : Cached) (p : ℕ) → IsSound s c → Moves s t [] [] → ((f : ℕ) → is_numbered c.files f ≡ true → (file_in c.files f).pool ≢ p) → map pool_meant t.pools ≡ map pool_meant (with_closed s.pools p) → page_count t.arena ≡ page_count s.arena → IsSound t c
-sound_with_closed {s = s} {t = t} c p sound moves none closed =
-    sound_moved c sound moves (held_still (held c.files) moves.counts sound.covered) (open_closed s t c.files p none closed (open_all sound))
-
 -- Files read as they did.
 
 pub slot_stays : {s t : Stored} (slots : List (List ℕ)) (fs : List CachedFile) (f : ℕ) → ((g : ℕ) → IsFiled s (file_in fs g)) → Stays s t → Covers t (held fs) → bytes_in_slot t slots fs f ≡ bytes_in_slot s slots fs f

@@ -26,10 +26,6 @@ use Rattle.iol_cache.specs.Evicting.{in_use, IsCleanAt}
 use Rattle.iol_cache.proofs.Evictions.Marking.{at_page-live}
 use Rattle.iol_cache.proofs.Extents.Filing.{file_nowhere, IsAdditive, additive_tally, additive_bufs, sum-flat, sum-file_in, sum-without_at, numbered_bounds}
 
-bool_of : (b : Bool) → (b ≡ true → ⊥) → b ≡ false
-bool_of true h = absurd (h refl)
-bool_of false h = refl
-
 none_begins : (fs : List CachedFile) (f at : ℕ) (e : Extent) → file_in fs f ≡ no_file → begins_at (extents_in fs f) at ≡ Some e → ⊥
 none_begins fs f at e none h =
     let g : begins_at (extents_in fs f) at ≡ None = ap (λ (x : CachedFile). begins_at x.extents.extents at) none in

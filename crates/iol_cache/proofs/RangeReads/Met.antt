@@ -15,7 +15,6 @@ use Rattle.iol_cache.specs.Evicting.{HasPages, Holding}
 use Rattle.iol_cache.specs.Gaps.{gap_pages}
 use Rattle.iol_cache.specs.Going.{HasRoom, LacksRoom, Pins}
 use Rattle.iol_cache.specs.Keeping.{SameExtents}
-use Rattle.iol_cache.specs.Overwriting.{OnlyMakesRoom}
 use Rattle.iol_cache.specs.Pinned.{pinned_beside}
 use Rattle.iol_cache.specs.Ranges.{PinsRange}
 use Rattle.iol_cache.specs.Serving.{LeavesRange, RefusesRead, RoomToRead}
@@ -64,11 +63,4 @@ pub refused_met : (f at n : ℕ) (disk : Disk) (old new : Holding) (y : Refusal)
 refused_met f at n disk old new y x = elim (leaves_met f x.range.from x.range.to old new y x.leaves) [
   | inl has ↦ inl (record { range = x.range; room = has })
   | inr same ↦ inr same
-]
-
--- a refused write
-pub unwritten_met : (p n : ℕ) (old new : Holding) → OnlyMakesRoom p n old new → HasPages p n old ⊎ SameExtents old.cache new.cache
-unwritten_met p n old new x = elim x.met [
-  | inl has ↦ inl has
-  | inr all ↦ inr (record { each = all.same.extents })
 ]

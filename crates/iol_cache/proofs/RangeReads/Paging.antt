@@ -1,18 +1,14 @@
 -- What reads and writes do to pages.
-use Rattle.std.proofs.Common.{inl, inr, ◌≡◌, ◌∙◌, ℕ, true, false, List, [], flat_map, ◌+◌, ap, subst, refl, sym}
-use Rattle.std.specs.List.{Contains}
+use Rattle.std.proofs.Common.{inl, inr, ◌≡◌, ◌∙◌, ℕ, true, false, List, [], ◌+◌, ap, subst, refl, sym}
 use Rattle.iol_core.specs.declared.refusals.Refusal.{Refusal}
 use Rattle.iol_core.specs.declared.numbers.BufId.{BufId}
-use Rattle.iol_arena.specs.Chunks.{chunk_pages, usable}
 use Rattle.iol_arena.specs.State.{State}
 use Rattle.iol_arena.proofs.Good.{bool_cases}
-use Rattle.iol_arena.proofs.Members.{In, contains_in, in_contains, in_filter, in_take}
 use Rattle.iol_back.specs.Disk.{Disk}
 use Rattle.iol_pool.specs.Pools.{Pool, pool_in}
 use Rattle.iol_hold.specs.Moves.{Shares}
 use Rattle.iol_hold.specs.Pages.{KeepsPages}
 use Rattle.iol_hold.specs.Releases.{FreesOnly}
-use Rattle.iol_hold.specs.Room.{free_of, pages_of}
 use Rattle.iol_hold.specs.Stored.{Stored}
 use Rattle.iol_hold.specs.declared.slices.Slice.{Slice}
 use Rattle.iol_hold.proofs.Paging.{keeps_pages_frees, keeps_pages_same, same_closed}
@@ -72,11 +68,6 @@ keeps_roomy {a = a} {b = b} {c = c} m n = record {
 
 pub pages_kept : {p : ℕ} {old new : Stored} (x : FillsLowest p old new) → KeepsPages old new (filled_pages x)
 pages_kept x = keeps_roomy x.frees x.pages
-
-pub filled_in : {p : ℕ} {old new : Stored} (x : FillsLowest p old new) (q : ℕ) → (pool_in old.pools p).closed ≡ false → Contains (filled_pages x) q → Contains (pages_of old p) q
-filled_in {p = p} {old = old} x q is there =
-    let pages : pages_of x.roomy p ≡ pages_of old p = ap (λ (y : Pool). flat_map chunk_pages y.chunks) (x.frees.pools p is) in
-    contains_in (pages_of old p) q (subst (λ l. In l q) pages (in_filter (usable x.roomy.arena) (pages_of x.roomy p) q (in_take x.count (free_of x.roomy p) q (in_contains (filled_pages x) q there))))
 
 -- Only pages were freed.
 pub fills_none : (p : ℕ) {s t : Stored} → FreesOnly s t → FillsLowest p s t

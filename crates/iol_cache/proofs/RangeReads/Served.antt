@@ -59,11 +59,6 @@ pub either_told : {A E P : Type 0} (F : A → Type 0) (Q : E → Type 0) (r : Re
 either_told F Q (Ok x) f e g h = g x f
 either_told F Q (Err y) f e g h = h y e
 
--- what holds where there is an error, said of the error
-pub if_err : {A E P : Type 0} (r : Result A E) (Q : E → Type 0) → ((y : E) → P → Q y) → OnErr r P → IfErr r Q
-if_err (Ok x) Q f e = tt
-if_err (Err y) Q f e = f y e
-
 -- what an error leaves that is want of memory
 pub on_memory : {A : Type 0} (r : Result A Refusal) (P : Refusal → Type 0) → IsErrAnd r (λ y. y ≡ refusal.Memory) → P refusal.Memory → IfErr r P
 on_memory (Ok x) P is p = tt

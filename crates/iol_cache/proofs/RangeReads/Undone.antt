@@ -77,14 +77,6 @@ gap_left es es' e from to g adds past = record { each = λ i l m. adds.each i �
 
 -- Extents put in one after another.
 
-pub all_put-none : (es : List Extent) → all_put es [] ≡ es
-unfolding all_put
-all_put-none es = refl
-
-pub all_put-cons : (es : List Extent) (e : Extent) (made : List Extent) → all_put es (e ∷ made) ≡ all_put (put_in es e) made
-unfolding all_put
-all_put-cons es e made = refl
-
 pub all_put-push : (es made : List Extent) (e : Extent) → all_put es (made ++ e ∷ []) ≡ put_in (all_put es made) e
 unfolding all_put
 all_put-push es [] e = refl

@@ -3,7 +3,8 @@ use Rattle.std.proofs.Common.{◌≡◌, ◌∙◌, ℕ, ◌+◌, ◌<◌, ◌�
 use Rattle.std.specs.Prelude.{slice_index}
 use Rattle.iol_core.specs.declared.numbers.BufId.{BufId}
 use Rattle.iol_evict.specs.Ranking.{Ranking}
-use Rattle.iol_extent.specs.Extents.{Adds, Extent, IsApart, IsGap, end_of, unmet}
+use Rattle.iol_extent.specs.Extents.{Adds, Extent, ExtentMap, IsApart, IsGap, end_of, unmet}
+use Rattle.iol_extent.specs.declared.spans.Span.{Span}
 use Rattle.iol_hold.specs.Moves.{Counts, Covers, Moves, tally}
 use Rattle.iol_hold.specs.Releases.{FreesOnly}
 use Rattle.iol_hold.specs.Stored.{Stored, count_of}
@@ -13,8 +14,9 @@ use Rattle.iol_hold.proofs.Releasing.{frees_trans}
 use Rattle.iol_cache.specs.Cached.{all_parts, clean_in}
 use Rattle.iol_cache.specs.Cutting.{CutsAround}
 use Rattle.iol_cache.specs.Marks.{AreWithin, at_page}
-use Rattle.iol_cache.specs.Replacing.{ClearsRange, Indexing, IsIndexed, LetsGo, MayCome, MayGo, PutsIn, Reindexes, put_some}
+use Rattle.iol_cache.specs.Replacing.{ClearsRange, Indexing, IsIndexed, LetsGo, MayCome, MayGo, PutsIn, Reindexes, indexing_of, put_some}
 use Rattle.iol_cache.specs.Writing.{MayReplace, Replaces}
+use Rattle.iol_cache.specs.declared.write.cut.Replacement.{Replacement}
 use Rattle.iol_cache.proofs.Evictions.Ready.{ready_after}
 use Rattle.iol_cache.proofs.Evictions.Reordered.{reordered_is}
 use Rattle.iol_cache.proofs.Extents.Filing.{additive_page}
@@ -54,11 +56,29 @@ gone_on m n counts = record {
 -- What comes in: the part on the left, the one on the right, the new bytes.
 
 -- with a part come no more marks than it has slices
-marks_more : {f : ℕ} {e : Extent} {a b : Indexing} → PutsIn f e a b → (p : ℕ) → slice_index b.marks p ≤ slice_index a.marks p + at_page p (bufs_of e.parts)
-marks_more {e = e} {a = a} puts p =
-    omega (arith, puts.remembers.follows.each p, some-clean (at_page p) (additive_page p) a.extents.extents e, ap (λ xs. at_page p (bufs_of (clean_in xs))) puts.comes.extents)
+marks_more : {f : ℕ} {e : Extent} {es fs : ExtentMap} {r q : Ranking} {marks new : List ℕ} → PutsIn f e es fs r q marks new → (p : ℕ) → slice_index new p ≤ slice_index marks p + at_page p (bufs_of e.parts)
+marks_more {e = e} {es = es} puts p =
+    omega (arith, puts.remembers.follows.each p, some-clean (at_page p) (additive_page p) es.extents e, ap (λ xs. at_page p (bufs_of (clean_in xs))) puts.comes.extents)
 
-module _ {f from to : ℕ} {l r n : Extent} {s t : Stored} {o a : Indexing} (may : MayReplace f from to l r n s o) (clears : ClearsRange f from to s t o a) where
+module _ {f : ℕ} {range : Span} {put : Replacement} {s t : Stored} {o : Indexing} {ax : ExtentMap} {ar : Ranking} {am : List ℕ} (may : MayReplace f range put s o) (clears : ClearsRange f range.from range.to s t o.extents ax o.order ar o.marks am) where
+  abbrev from : ℕ
+  from = range.from
+
+  abbrev to : ℕ
+  to = range.to
+
+  abbrev l : Extent
+  l = put.left
+
+  abbrev r : Extent
+  r = put.right
+
+  abbrev n : Extent
+  n = put.bytes
+
+  abbrev a : Indexing
+  a = indexing_of ax ar am
+
   abbrev es : List Extent
   es = o.extents.extents
 
@@ -88,7 +108,10 @@ module _ {f from to : ℕ} {l r n : Extent} {s t : Stored} {o a : Indexing} (may
     few = record { each = λ p. omega (arith, marks_few p) };
   }
 
-  module _ {b : Indexing} (x : PutsIn f l a b) where
+  module _ {bx : ExtentMap} {br : Ranking} {bm : List ℕ} (x : PutsIn f l ax bx ar br am bm) where
+    abbrev b : Indexing
+    b = indexing_of bx br bm
+
     adds_left : Adds (unmet es from to) l b.extents.extents
     adds_left = subst (λ (xs : List Extent). Adds xs l b.extents.extents) clears.extents x.comes.adds
 
@@ -102,7 +125,10 @@ module _ {f from to : ℕ} {l r n : Extent} {s t : Stored} {o a : Indexing} (may
       few = record { each = λ p. omega (arith, marks_few p, marks_more x p) };
     }
 
-    module _ {c : Indexing} (y : PutsIn f r b c) where
+    module _ {cx : ExtentMap} {cr : Ranking} {cm : List ℕ} (y : PutsIn f r bx cx br cr bm cm) where
+      abbrev c : Indexing
+      c = indexing_of cx cr cm
+
       pub new_may : MayCome f n c
       new_may = record {
         fits = λ some. omega (arith, cuts.ends, cuts.after.begins, cuts.fits);
@@ -114,14 +140,14 @@ module _ {f from to : ℕ} {l r n : Extent} {s t : Stored} {o a : Indexing} (may
         few = record { each = λ p. omega (arith, marks_few p, marks_more x p, marks_more y p) };
       }
 
-      pub replaces : {d : Indexing} → PutsIn f n c d → Replaces f from to l r n s t o d
-      replaces {d} z =
+      pub replaces : {dx : ExtentMap} {dr : Ranking} {dm : List ℕ} → PutsIn f n cx dx cr dr cm dm → Replaces f range put s t o.extents dx o.order dr o.marks dm
+      replaces {dx} {dr} z =
           let m = clears.gone.moves in
           record {
             is = z.comes.extents ∙ ap (λ xs. put_some xs n) (y.comes.extents ∙ ap (λ xs. put_some xs r) (x.comes.extents ∙ ap (λ xs. put_some xs l) clears.extents));
-            adds = replaced es b.extents.extents c.extents.extents d.extents.extents from to l r n apart cuts.some cuts.before cuts.after cuts.begins cuts.ends adds_left y.comes.adds z.comes.adds;
+            adds = replaced es b.extents.extents c.extents.extents dx.extents from to l r n apart cuts.some cuts.before cuts.after cuts.begins cuts.ends adds_left y.comes.adds z.comes.adds;
             apart = z.comes.apart;
-            ranks = reordered_is o.order a.order b.order c.order d.order f es from to l r n clears.order x.remembers.order y.remembers.order z.remembers.order;
+            ranks = reordered_is o.order ar br cr dr f es from to l r n clears.order x.remembers.order y.remembers.order z.remembers.order;
             follows = reindexes_then clears.gone.follows (reindexes_then x.remembers.follows (reindexes_then y.remembers.follows z.remembers.follows));
             moves = record {
               counts = record {

@@ -15,6 +15,7 @@ use Rattle.iol_hold.proofs.Counting.{bufs-append, tally-append, tally_none}
 use Rattle.iol_hold.proofs.Moving.{shares_move, stays_trans}
 use Rattle.iol_hold.proofs.Reading.{bytes_of-labelled, length-text_of, text_stays}
 use Rattle.iol_extent.specs.Extents.{Extent, IsApart, cell_at, cover, end_of, no_place, unmet}
+use Rattle.iol_extent.specs.declared.spans.Span.{Span}
 use Rattle.iol_cache.specs.declared.files.CachedFile.{CachedFile}
 use Rattle.iol_cache.specs.Cached.{extents_in, file_in, held, all_parts}
 use Rattle.iol_cache.specs.Composing.{KeepsOwn}
@@ -25,6 +26,7 @@ use Rattle.iol_cache.specs.Replacing.{put_some}
 use Rattle.iol_cache.specs.Sharing.{place_in, place_over, places_over}
 use Rattle.iol_cache.specs.Sound.{Each, IsLaid, IsSound}
 use Rattle.iol_cache.specs.Writing.{Changes, parts_put}
+use Rattle.iol_cache.specs.declared.write.cut.Replacement.{Replacement}
 use Rattle.iol_cache.proofs.Extents.Changed as changed
 use Rattle.iol_cache.proofs.Evictions.GivenUp.{file_stays, read_stays, stored_stays}
 use Rattle.iol_cache.proofs.RangeWrites.Overlaid.{beside_is, last_end-over, map_over, over_is}
@@ -59,8 +61,14 @@ module _ (old new : Holding) (f at : ℕ) (source : List Slice) (sound : IsSound
   abbrev parts : List Slice
   parts = parts_put w.left w.right e
 
+  abbrev range : Span
+  range = record { from = at; to = at + n }
+
+  abbrev whole : Replacement
+  whole = record { left = w.left; right = w.right; bytes = e }
+
   abbrev change : Changes f parts ready new
-  change = put.changes ready new f at (at + n) w.left w.right e ready_sound there w.puts ready_held
+  change = put.changes ready new f range whole ready_sound there w.puts ready_held
 
   file_is : file_in new.cache.files f ≡ (let x : CachedFile = record { pool = p; extents = w.puts.extents } in x)
   file_is = changed.file_is ready new f parts ready_sound there change ready_held
@@ -90,7 +98,7 @@ module _ (old new : Holding) (f at : ℕ) (source : List Slice) (sound : IsSound
   covers_new = subst (λ (l : List Extent). Covers new.store (bufs_of (all_parts l))) extents_is (covers_file new.cache.files f sound'.covered)
 
   laid_new : Each (IsLaid w.ready p) w.puts.extents.extents
-  laid_new = put.laid_put ready new f at (at + n) w.left w.right e ready_sound there w.puts ready_held (omega (arith, some)) w.prepares.before w.prepares.after (prepared_laid w.prepares)
+  laid_new = put.laid_put ready new f range whole ready_sound there w.puts ready_held (omega (arith, some)) w.prepares.before w.prepares.after (prepared_laid w.prepares)
 
   covers_own : Covers new.store (bufs_of e.parts)
   covers_own = record {

@@ -23,6 +23,7 @@ use Rattle.iol_cache.specs.Preparing.{Prepares}
 use Rattle.iol_cache.specs.Sharing.{CountsBelow}
 use Rattle.iol_cache.specs.Sound.{IsLaid, IsSound}
 use Rattle.iol_cache.specs.Writing.{MayPutOver, parts_put}
+use Rattle.iol_cache.specs.declared.write.cut.Replacement.{Replacement}
 use Rattle.iol_cache.proofs.RangeWrites.Composed.{composed_long}
 use Rattle.iol_cache.proofs.RangeWrites.CutOut.{right_of}
 use Rattle.iol_cache.proofs.RangeReads.Pooled.{pooled_text}
@@ -102,26 +103,27 @@ module _ {s t : Stored} {p : ℕ} {es : List Extent} {at : ℕ} {source : List S
   }
 
 -- it may be put in place
-pub prepared_may : (h : Holding) (t : Stored) (f at : ℕ) (source : List Slice) (left right e : Extent) → MayOverwrite f at source h → Prepares h.store t (file_in h.cache.files f).pool (extents_in h.cache.files f) at source left right e
-    → MayPutOver f at (at + byte_len source) left right e (record { store = t; cache = h.cache })
-prepared_may h t f at source left right e may a =
+pub prepared_may : (h : Holding) (t : Stored) (f at : ℕ) (source : List Slice) (put : Replacement) → MayOverwrite f at source h → Prepares h.store t (file_in h.cache.files f).pool (extents_in h.cache.files f) at source put.left put.right put.bytes
+    → MayPutOver f (record { from = at; to = at + byte_len source }) put (record { store = t; cache = h.cache })
+prepared_may h t f at source put over a =
+    let may = over.may in
     let filed = may.sound.files f in
     record {
       sound = prepared_sound a h.cache may.sound;
       file = may.file;
       short = may.short;
       cuts = record {
-        some = omega (arith, may.some);
+        some = omega (arith, over.some);
         before = a.before;
         after = a.after;
-        fits = omega (arith, right_len (extents_in h.cache.files f) (at + byte_len source) right (omega (arith, may.some)) a.after a.ends filed.short may.short);
+        fits = omega (arith, right_len (extents_in h.cache.files f) (at + byte_len source) put.right (omega (arith, over.some)) a.after a.ends filed.short may.short);
         begins = a.begins;
         ends = prepared_ends a;
       };
       laid = prepared_laid a;
       held = prepared_covers a (held h.cache.files) may.sound.covered;
-      few = prepared_few a may.few may.short may.some filed.short;
-      places = may.places;
+      few = prepared_few a may.few may.short over.some filed.short;
+      places = over.places;
     }
 
 -- Parts that are given up.

@@ -6,7 +6,7 @@ use Rattle.std.proofs.lemmas.List.Sums.{sum_by-cons}
 use Rattle.iol_hold.specs.Places.{byte_len}
 use Rattle.iol_hold.specs.declared.slices.Slice.{Slice}
 use Rattle.iol_evict.specs.Ranking.{Ranking, entered, with_one_given_back}
-use Rattle.iol_extent.specs.Extents.{Extent, IsApart, as_clean, begins_at, cleaned_at, dirty_in, end_of, without_at}
+use Rattle.iol_extent.specs.Extents.{Extent, ExtentMap, IsApart, as_clean, begins_at, cleaned_at, dirty_in, end_of, without_at}
 use Rattle.iol_cache.specs.Cached.{begins_clean, clean_at, parts_in}
 use Rattle.iol_cache.specs.Entering.{Enters, MayEnter}
 use Rattle.iol_cache.specs.Marks.{Marks}
@@ -44,7 +44,10 @@ none_clean low (x ∷ xs) e a h = pick x.dirty refl h (λ k. none_clean (end_of 
         let r = (first_dirty (end_of x) xs e a.2 h).2 in
         omega (arith, sum_by-cons (begins_clean e.at) x xs, ih h, ap (λ b. cond {A = ℕ} (b && not x.dirty) 1 0) (other x.at e.at (omega (arith, r, a.1))))
 
-module _ {f at : ℕ} {es : List Extent} {r : Ranking} {marks : List ℕ} (m : MaySettle f at es r marks) where
+module _ {f at : ℕ} {old : ExtentMap} {r : Ranking} {marks : List ℕ} (m : MaySettle f at old r marks) where
+  abbrev es : List Extent
+  es = old.extents
+
   abbrev first : Extent
   first = m.dirty.extent
 
@@ -64,8 +67,8 @@ module _ {f at : ℕ} {es : List Extent} {r : Ranking} {marks : List ℕ} (m : M
     few = m.few;
   }
 
-  pub settled : (fs : List Extent) (t : Ranking) (new : List ℕ) → fs ≡ cleaned_at es at → IsApart 0 fs → Enters f at es (with_one_given_back r) t marks new → Settles f at es fs r t marks new
-  settled fs t new is apart e =
+  pub settled : (later : ExtentMap) (t : Ranking) (new : List ℕ) → later.extents ≡ cleaned_at es at → IsApart 0 later.extents → Enters f at es (with_one_given_back r) t marks new → Settles f at old later r t marks new
+  settled later t new is apart e =
       let low = with_one_given_back r in
       let parts : parts_in (begins_at es at) ≡ first.parts = ap parts_in begins in
       let order : t ≡ entered low f first.at (byte_len first.parts) 1 = e.order ∙ ap (λ (xs : List Slice). entered low f at (byte_len xs) 1) parts ∙ ap (λ n. entered low f n (byte_len first.parts) 1) (sym m.dirty.begins) in
@@ -74,7 +77,7 @@ module _ {f at : ℕ} {es : List Extent} {r : Ranking} {marks : List ℕ} (m : M
       record {
         extents = is;
         apart = apart;
-        follows = subst (λ (q : Ranking). Reindexes f es fs r q marks new) (sym order)
+        follows = subst (λ (q : Ranking). Reindexes f es later.extents r q marks new) (sym order)
             (subst (λ (l : List Extent). Reindexes f es l r (entered low f first.at (byte_len first.parts) 1) marks new) (cleaned_put at first 0 es m.apart begins ∙ sym is) (reindexes_then goes comes));
         order = is_some (λ y. t ≡ entered low f y.at (byte_len y.parts) 1) (dirty_in es) first m.dirty.is order;
       }

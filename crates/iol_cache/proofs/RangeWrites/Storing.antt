@@ -1,5 +1,5 @@
 -- Bytes of a store that are written, slice after slice.
-use Rattle.std.proofs.Common.{inl, inr, ◌≡◌, ◌∙◌, ℕ, ◌+◌, ◌-◌, ◌<◌, ◌≤◌, List, [], ◌++◌, length, length-append, take, drop, get_or, max, refl, sym, ap, arith}
+use Rattle.std.proofs.Common.{inl, inr, ◌≡◌, ◌∙◌, ℕ, ◌+◌, ◌-◌, ◌<◌, ◌≤◌, List, ◌++◌, length, length-append, take, drop, get_or, max, sym, ap, arith}
 use Rattle.std.proofs.lemmas.Bool.{cases_lt}
 use Rattle.std.proofs.lemmas.List.{get_or-append-add, get_or-drop, get_or-take, get_or_append_left, length-drop, length-take}
 use Rattle.iol_back.specs.Disk.{Tears, Writes, overwritten}
@@ -40,9 +40,6 @@ module _ (at : ℕ) (w xs : List ℕ) (begins : at ≤ length xs) where
       ap (λ z. get_or (first ++ w ++ rest) z 0) (let e : i ≡ length (first ++ w) + k = omega (arith, h, front_long) in e)
       ∙ get_or-append-add (first ++ w) rest k 0 ∙ get_or-drop (at + length w) xs k 0
       ∙ ap (λ z. get_or xs z 0) (let e : at + length w + k ≡ i = omega (arith, h) in e)
-
-pub stores_none : (at : ℕ) (xs : List ℕ) → Stores at [] xs xs
-stores_none at xs = record { beside = λ i o. refl; inside = λ i h. absurd (omega (arith, h)); no_shorter = omega arith; no_longer = omega arith; reaches = λ h. absurd (omega (arith, h)) }
 
 -- one slice more
 pub stores_more : (at n : ℕ) (ws w old mid new : List ℕ) → n ≡ at + length ws → Stores at ws old mid → Writes n w mid new → Stores at (ws ++ w) old new

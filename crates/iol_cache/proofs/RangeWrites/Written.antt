@@ -18,6 +18,7 @@ use Rattle.iol_hold.proofs.Slicing.{length-slice_places}
 use Rattle.std.proofs.lemmas.List.{take_at, drop_at}
 use Rattle.std.proofs.lemmas.List.FromFn.{get_or-map-range_with_len}
 use Rattle.iol_extent.specs.Extents.{Extent, end_of, extent_over, is_over, last_end, meets, put_in, unmet}
+use Rattle.iol_extent.specs.declared.spans.Span.{Span}
 use Rattle.iol_cache.specs.declared.files.CachedFile.{CachedFile}
 use Rattle.iol_cache.specs.Marks.{at_page, Counted, HasMarksLeft}
 use Rattle.iol_cache.specs.Sharing.{CountsBelow}
@@ -28,6 +29,7 @@ use Rattle.iol_cache.specs.Gaps.{all_put}
 use Rattle.iol_cache.specs.Replacing.{HaveClean, indexing_in, put_some}
 use Rattle.iol_cache.specs.Sound.{Each, IsLaid, IsSound}
 use Rattle.iol_cache.specs.Writing.{Changes, MayPutOver, MayReplace, PutsOver, parts_put}
+use Rattle.iol_cache.specs.declared.write.cut.Replacement.{Replacement}
 use Rattle.iol_cache.proofs.Evictions.Ready.{is_ready}
 use Rattle.iol_cache.proofs.Evictions.Roomy.{ranks_file}
 use Rattle.iol_cache.proofs.RangeWrites.Composed.{pools_of}
@@ -155,10 +157,12 @@ covers_put fs f ps c =
 marks_left : (s : Stored) (c : Cached) (l r n : List Slice) → IsSound s c → CountsBelow s (2 ^ 61) → byte_len l < 2 ^ 32 → byte_len r < 2 ^ 32 → byte_len n < 2 ^ 32 → HasMarksLeft c.marks (l ++ (r ++ n))
 marks_left s c l r n sound few hl hr hn = record { each = λ p. omega (arith, mark_few s c (2 ^ 61) p sound few (omega arith), page-three p l r n, page_len p l, page_len p r, page_len p n, hl, hr, hn) }
 
-pub may_replace : (h : Holding) (f from to : ℕ) (left right e : Extent) → MayPutOver f from to left right e h
-    → MayReplace f from to left right e h.store (indexing_in h.cache f)
-may_replace h f from to left right e may =
+pub may_replace : (h : Holding) (f : ℕ) (range : Span) (put : Replacement) → MayPutOver f range put h → MayReplace f range put h.store (indexing_in h.cache f)
+may_replace h f range put may =
     let c = h.cache in
+    let left = put.left in
+    let right = put.right in
+    let e = put.bytes in
     let sound = may.sound in
     let cuts = may.cuts in
     record {
@@ -171,13 +175,28 @@ may_replace h f from to left right e may =
       };
       beside = covers_put c.files f (parts_put left right e) may.held;
       few = marks_left h.store c left.parts right.parts e.parts sound may.few
-          (omega (arith, left_len (extents_in c.files f) from left cuts.before, cuts.some, may.short)) (omega (arith, cuts.fits)) (omega (arith, cuts.begins, cuts.ends, may.short));
+          (omega (arith, left_len (extents_in c.files f) range.from left cuts.before, cuts.some, may.short)) (omega (arith, cuts.fits)) (omega (arith, cuts.begins, cuts.ends, may.short));
       places = may.places;
     }
 
 -- What holds after.
 
-module _ (old new : Holding) (f from to : ℕ) (left right e : Extent) (sound : IsSound old.store old.cache) (there : is_numbered old.cache.files f ≡ true) (puts : PutsOver f from to left right e old new) (held_all : Covers old.store (held old.cache.files ++ bufs_of (parts_put left right e))) where
+module _ (old new : Holding) (f : ℕ) (range : Span) (put : Replacement) (sound : IsSound old.store old.cache) (there : is_numbered old.cache.files f ≡ true) (puts : PutsOver f range put old new) (held_all : Covers old.store (held old.cache.files ++ bufs_of (parts_put put.left put.right put.bytes))) where
+  abbrev from : ℕ
+  from = range.from
+
+  abbrev to : ℕ
+  to = range.to
+
+  abbrev left : Extent
+  left = put.left
+
+  abbrev right : Extent
+  right = put.right
+
+  abbrev e : Extent
+  e = put.bytes
+
   abbrev pool : ℕ
   pool = (file_in old.cache.files f).pool
 
@@ -212,7 +231,7 @@ module _ (old new : Holding) (f from to : ℕ) (left right e : Extent) (sound : 
       let two = some_end (put_some (unmet es from to) left) right MAX_FILE_BYTES one (λ some. (let r = right_of es to right pos cut_right some in omega (arith, r.ends, over_end es (to - 1) r.extent r.over, was))) in
       omega (arith, ap last_end puts.is, some_end _ e MAX_FILE_BYTES two (λ some. omega (arith, ends, small)))
 
-  pub sound_put : MayPutOver f from to left right e old → IsSound new.store new.cache
+  pub sound_put : MayPutOver f range put old → IsSound new.store new.cache
   sound_put may =
       let cuts = may.cuts in
       let pos : 0 < to = omega (arith, cuts.some) in

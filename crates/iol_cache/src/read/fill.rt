@@ -1,5 +1,5 @@
 //! Gaps of a range that are read, and the range that is shared then.
-ghost use Rattle.iol_cache.specs.Reading.{FillsAndWeaves, MayFillRange};
+ghost use Rattle.iol_cache.specs.Reading.{FillsAll, MayFillRange};
 
 use crate::files::{CachedFile, FilePart};
 use crate::read::gaps::{fill_gaps, take_back};
@@ -23,8 +23,8 @@ pub(crate) fn fill_range<B: Backing>(
     gaps: &[Span],
 ) -> Result<Agg, Refusal>
     requires { MayFillRange store.old cached.old part.now.from part.now.to gaps.now beside.now }
-    ensures { FillsAndWeaves store.old store.new cached.old cached.new part.now.file part.now.from
-        part.now.to gaps.now beside.now (B.disk backing.old) (B.disk backing.new) result }
+    ensures { FillsAll part.now gaps.now beside.now (B.disk backing.old) (B.disk backing.new)
+        store.old store.new cached.old cached.new result }
 {
     if let Err(refusal) = fill_gaps(
         alloc,

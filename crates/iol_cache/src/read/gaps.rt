@@ -1,7 +1,7 @@
 //! Gaps that become clean extents.
-ghost use Rattle.std.specs.Prelude.{◌≡◌, ◌-◌, OnOk, IfOk};
-ghost use Rattle.iol_cache.specs.Gaps.{AllBegin, FillsGaps, HasGaps, LoadsSlices, ReadsAllGaps, TakesBack, parts_back};
-ghost use Rattle.iol_cache.specs.Loading.{LoadsOrKeeps, MayLoad};
+ghost use Rattle.std.specs.Prelude.{◌-◌, IfOk};
+ghost use Rattle.iol_cache.specs.Gaps.{AllBegin, FillsGapsOrKeeps, HasGaps, LoadsSlices, TakesBack, parts_back};
+ghost use Rattle.iol_cache.specs.Loading.{Asks, LoadsOrKeeps, MayLoad};
 ghost use Rattle.iol_hold.specs.Prelude.{Covers, bufs_of};
 
 use crate::read::load::load;
@@ -25,10 +25,10 @@ fn gap_agg<B: Backing>(
     gap: Span,
 ) -> Result<Agg, Refusal>
     requires { MayLoad store.old pool gap.from (gap.to - gap.from) }
-    ensures loads { IfOk result (LoadsSlices store.old store.new pool (gap.to - gap.from)
-        (B.disk backing.old) file gap.from) }
-    ensures keeps { LoadsOrKeeps pool (gap.to - gap.from) file (B.disk backing.old)
-        (B.disk backing.new) store.old store.new result }
+    ensures loads { IfOk result
+        (LoadsSlices pool file gap (B.disk backing.old) store.old store.new) }
+    ensures keeps { LoadsOrKeeps pool (gap.to - gap.from) file store.old store.new result }
+    ensures asks { Asks 1 (B.disk backing.old) (B.disk backing.new) result }
 {
     let n = gap.to - gap.from;
     let Ok(slices) = Vec::with_capacity(alloc, (n as usize).div_ceil(PAGE_BYTES)) else {
@@ -66,10 +66,8 @@ pub(crate) fn fill_gaps<B: Backing>(
     gaps: &[Span],
 ) -> Result<(), Refusal>
     requires { HasGaps store.old extents.old pool 0 u32.MAX gaps.now }
-    ensures fills { OnOk result (FillsGaps store.old store.new extents.old extents.new pool
-        gaps.now (B.disk backing.old) file) }
-    ensures reads { ReadsAllGaps pool file gaps.now (extents.new ≡ extents.old)
-        (B.disk backing.old) (B.disk backing.new) store.old store.new result }
+    ensures { FillsGapsOrKeeps pool file gaps.now (B.disk backing.old) (B.disk backing.new)
+        store.old store.new extents.old extents.new result }
 {
     for i in 0..gaps.len() {
         let gap = gaps[i];

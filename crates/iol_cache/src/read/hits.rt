@@ -1,11 +1,10 @@
 //! Reading of files.
-ghost use Rattle.std.specs.Prelude.{◌≡◌, IfOk};
+ghost use Rattle.std.specs.Prelude.{◌≡◌};
 ghost use Rattle.iol_extent.specs.Prelude.{AreInOrder};
 ghost use Rattle.iol_cache.specs.Cache.{holding};
+ghost use Rattle.iol_cache.specs.FileReads.{FillsPart, MayFillPart};
 ghost use Rattle.iol_cache.specs.Gaps.{gap_pages};
-ghost use Rattle.iol_cache.specs.Going.{FillsAllOf};
-ghost use Rattle.iol_cache.specs.Ranges.{MayRead, PinsRange, SharesHits};
-ghost use Rattle.iol_cache.specs.Reading.{MayFill};
+ghost use Rattle.iol_cache.specs.Ranges.{MayRead, SharesHits};
 
 use crate::cache::Cache;
 use crate::files::FilePart;
@@ -43,11 +42,9 @@ impl Cache {
         beside: &Agg,
         gaps: &[Span],
     ) -> Result<Agg, Refusal>
-        requires { MayFill part.now.file part.now.from part.now.to gaps.now beside.now
-            (holding store.old self.old) }
-        ensures { FillsAllOf part.now.file part.now.from part.now.to gaps.now beside.now
-            (B.disk backing.old) (B.disk backing.new) (holding store.old self.old)
-            (holding store.new self.new) result }
+        requires { MayFillPart part.now gaps.now beside.now (holding store.old self.old) }
+        ensures { FillsPart part.now gaps.now beside.now (B.disk backing.old) (B.disk backing.new)
+            store.old self.old store.new self.new result }
     {
         let place = part.file.number() as usize - 1;
         let pool = self.files[place].pool;
@@ -82,9 +79,7 @@ impl Cache {
         part: &FilePart,
     ) -> Result<(Agg, Vec<Span>), AllocError>
         requires { MayRead part.now.file part.now.from part.now.to (holding store.old self.old) }
-        ensures pinned { IfOk result (λ x. PinsRange part.now.file part.now.from part.now.to
-            (holding store.old self.old) (holding store.new self.new) x.0 x.1.items) }
-        ensures shares { SharesHits (holding store.old self.old) (holding store.new self.new)
+        ensures { SharesHits part.now (holding store.old self.old) (holding store.new self.new)
             result }
     {
         let place = part.file.number() as usize - 1;

@@ -1,6 +1,6 @@
 //! Bytes of the store, read into new buffers.
 ghost use Rattle.std.specs.Prelude.{◌<◌, ◌≤◌, length, IfOk};
-ghost use Rattle.iol_cache.specs.Loading.{IsBegunFor, LoadsHolds, LoadsOrKeeps, MayLoad, ReadsInto, ReadsPart, WritesFilling};
+ghost use Rattle.iol_cache.specs.Loading.{Asks, IsBegunFor, IsRead, LoadsHolds, LoadsOrKeeps, MayLoad, ReadsInto, ReadsPart, WritesFilling};
 ghost use Rattle.iol_hold.specs.Prelude.{filling_parts, filling_bytes, IsFilling};
 
 use iol_back::backing::{Backing, StoreFault};
@@ -18,7 +18,8 @@ fn read_part<B: Backing>(
     n: usize,
 ) -> Result<(), StoreFault>
     requires { n ≤ length part.old }
-    ensures { ReadsInto (B.disk backing.old) (B.disk backing.new) file at n part.new result }
+    ensures asks { IsRead (B.disk backing.old) (B.disk backing.new) result }
+    ensures reads { ReadsInto (B.disk backing.old) file at n part.new result }
 {
     let (into, _rest) = part.split_at_mut(n);
     backing.read_at(file, at, into)
@@ -35,8 +36,8 @@ fn fill_part<B: Backing>(
 ) -> Result<u32, StoreFault>
     requires within { i < length (filling_parts filling.old) }
     requires filling { IsFilling filling.old }
-    ensures { ReadsPart filling.old filling.new i left (B.disk backing.old) (B.disk backing.new)
-        file at result }
+    ensures asks { IsRead (B.disk backing.old) (B.disk backing.new) result }
+    ensures reads { ReadsPart filling.old filling.new i left (B.disk backing.old) file at result }
 {
     let part = filling.part_mut(i);
     let here = (left as usize).min(part.len());
@@ -56,8 +57,8 @@ fn fill_parts<B: Backing>(
 ) -> Result<(), StoreFault>
     requires { IsBegunFor filling.old at n }
     ensures writes { WritesFilling filling.old filling.new }
-    ensures reads { ReadsInto (B.disk backing.old) (B.disk backing.new) file at n
-        (filling_bytes filling.new) result }
+    ensures asks { IsRead (B.disk backing.old) (B.disk backing.new) result }
+    ensures reads { ReadsInto (B.disk backing.old) file at n (filling_bytes filling.new) result }
 {
     let mut done = 0;
     for i in 0..filling.part_count() {
@@ -82,8 +83,8 @@ pub(crate) fn load<B: Backing>(
     requires { MayLoad store.old pool at n }
     ensures loads { IfOk result
         (LoadsHolds store.old store.new pool n (B.disk backing.old) file at) }
-    ensures keeps { LoadsOrKeeps pool n file (B.disk backing.old) (B.disk backing.new) store.old
-        store.new result }
+    ensures keeps { LoadsOrKeeps pool n file store.old store.new result }
+    ensures asks { Asks 1 (B.disk backing.old) (B.disk backing.new) result }
 {
     let mut filling = match store.begin(alloc, pool, n) {
         Ok(filling) => filling,

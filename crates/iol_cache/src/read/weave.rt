@@ -1,8 +1,8 @@
 //! A range of a file, put together from what was shared before its gaps were read and from the gaps.
-ghost use Rattle.std.specs.Prelude.{◌≡◌, ◌++◌, [], IfOk, slice_range};
+ghost use Rattle.std.specs.Prelude.{◌≡◌, [], IfOk};
 ghost use Rattle.iol_hold.specs.Prelude.{places};
 ghost use Rattle.iol_cache.specs.Sharing.{SharesOrReleases};
-ghost use Rattle.iol_cache.specs.Weaving.{MayAddPart, MayShareBeside, MayWeave, places_beside, woven};
+ghost use Rattle.iol_cache.specs.Weaving.{HasPart, IsWoven, MayAddPart, MayShareBeside, MayWeave, places_beside};
 
 use crate::share::share_over;
 use iol_agg::Agg;
@@ -48,8 +48,7 @@ fn add_part(
     to: u32,
 ) -> Result<Agg, AllocError>
     requires { MayAddPart store.old so_far other.now from to }
-    ensures places { IfOk result (λ a.
-        places a ≡ places so_far ++ slice_range (places other.now) from to) }
+    ensures places { IfOk result (HasPart so_far other.now from to) }
     ensures shared { SharesOrReleases so_far (λ a. a) store.old store.new result }
 {
     let mut shared = so_far;
@@ -73,8 +72,7 @@ pub(crate) fn weave(
     to: u32,
 ) -> Result<Agg, AllocError>
     requires { MayWeave store.old extents.now.extents from to gaps.now beside.now }
-    ensures places { IfOk result (λ a.
-        places a ≡ woven (places beside.now) extents.now.extents from to gaps.now) }
+    ensures places { IfOk result (IsWoven beside.now extents.now.extents from to gaps.now) }
     ensures shared { SharesOrReleases [] (λ a. a) store.old store.new result }
 {
     let mut shared = Agg::new(alloc);

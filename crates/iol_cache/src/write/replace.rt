@@ -40,8 +40,8 @@ fn take_out(
 )
     requires begins { IsSome (begins_at extents.old.extents at) }
     requires may { MayGo file store.old (indexing_of extents.old order.old marks.old) }
-    ensures { TakesOut file at store.old store.new (indexing_of extents.old order.old marks.old)
-        (indexing_of extents.new order.new marks.new) }
+    ensures { TakesOut file at store.old store.new extents.old extents.new order.old order.new
+        marks.old marks.new }
 {
     forget(order, marks, extents, file, at);
     let agg = extents.remove(at);
@@ -59,9 +59,8 @@ fn clear_range(
     to: u32,
 )
     requires { MayGo file store.old (indexing_of extents.old order.old marks.old) }
-    ensures { ClearsRange file from to store.old store.new
-        (indexing_of extents.old order.old marks.old)
-        (indexing_of extents.new order.new marks.new) }
+    ensures { ClearsRange file from to store.old store.new extents.old extents.new order.old
+        order.new marks.old marks.new }
 {
     while let Some(at) = extents.first_met(from, to) {
         take_out(order, marks, extents, store, file, at);
@@ -77,8 +76,7 @@ pub(crate) fn put_edge(
     edge: Edge,
 )
     requires { MayCome file edge (indexing_of extents.old order.old marks.old) }
-    ensures { PutsIn file edge (indexing_of extents.old order.old marks.old)
-        (indexing_of extents.new order.new marks.new) }
+    ensures { PutsIn file edge extents.old extents.new order.old order.new marks.old marks.new }
 {
     let Edge { at, agg, dirty } = edge;
     if agg.is_empty() {
@@ -105,11 +103,9 @@ pub(crate) fn replace_range(
     range: Span,
     put: Replacement,
 )
-    requires { MayReplace file range.from range.to put.left put.right put.bytes store.old
-        (indexing_of extents.old order.old marks.old) }
-    ensures { Replaces file range.from range.to put.left put.right put.bytes store.old store.new
-        (indexing_of extents.old order.old marks.old)
-        (indexing_of extents.new order.new marks.new) }
+    requires { MayReplace file range put store.old (indexing_of extents.old order.old marks.old) }
+    ensures { Replaces file range put store.old store.new extents.old extents.new order.old
+        order.new marks.old marks.new }
 {
     clear_range(order, marks, extents, store, file, range.from, range.to);
     put_edge(order, marks, extents, file, put.left);

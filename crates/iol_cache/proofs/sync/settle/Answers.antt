@@ -13,4 +13,4 @@ enter_one-requires c = subst (λ (r : Ranking). MayEnter c.args.file c.args.at c
 pub returns : goal.returns
 returns c =
     let entered = subst (λ (r : Ranking). Enters c.args.file c.args.at c.args.extents.now.extents r c.enter_one.new.order c.args.marks.now c.enter_one.new.marks) c.give_back.ensures c.enter_one.ensures in
-    settled c.requires c.clean.new.self.extents c.enter_one.new.order c.enter_one.new.marks c.clean.ensures.extents c.clean.ensures.apart entered
+    settled c.requires c.clean.new.self c.enter_one.new.order c.enter_one.new.marks c.clean.ensures.extents c.clean.ensures.apart entered

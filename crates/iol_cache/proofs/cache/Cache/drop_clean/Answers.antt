@@ -1,4 +1,4 @@
-use Rattle.std.proofs.Common.{inl, inr, ◌∙◌, refl, ap, arith, subst}
+use Rattle.std.proofs.Common.{inl, inr, ◌≡◌, ◌∙◌, length, refl, ap, arith, subst}
 use Rattle.std.proofs.lemmas.Bool.{cases_eq, cases_lt}
 use Rattle.iol_evict.specs.Ranking.{Ranking}
 use Rattle.iol_cache.specs.Cached.{order_in}
@@ -36,14 +36,20 @@ loop-i-preserved c =
       gives_up = gives_up_trans old now next i.gives_up here.gives_up;
     }
 
-pub returns-clause-none : goal.returns-clause-none
-returns-clause-none c =
+pub returns : goal.returns
+returns c =
     let i = c.loop-i.invariant in
     let os = c.loop-i.self.orders.items in
-    all_dirty c.loop-i.store (cached_of c.loop-i.self) i.sound (λ p. elim (cases_lt 0 p) [
-      | inr zero ↦ ap (λ (r : Ranking). r.entries) (order_nowhere os p (λ some. absurd (omega (arith, some, zero))))
-      | inl some ↦ elim (cases_lt c.loop-i.i p) [
-        | inr within ↦ i.none p some within
-        | inl past ↦ ap (λ (r : Ranking). r.entries) (order_nowhere os p (λ h. omega (arith, past, i.len, c.loop-i-test.false, c.len-i-end.ensures, c.args.self.now.orders.ok.0)))
-      ]
-    ])
+    let all : c.loop-i.i ≡ length c.args.self.now.orders.items = omega (arith, c.loop-i-test.false, c.loop-i.auto.i-end, c.len-i-end.ensures) in
+    record {
+      none = all_dirty c.loop-i.store (cached_of c.loop-i.self) i.sound (λ p. elim (cases_lt 0 p) [
+        | inr zero ↦ ap (λ (r : Ranking). r.entries) (order_nowhere os p (λ some. absurd (omega (arith, some, zero))))
+        | inl some ↦ elim (cases_lt c.loop-i.i p) [
+          | inr within ↦ i.none p some within
+          | inl past ↦ ap (λ (r : Ranking). r.entries) (order_nowhere os p (λ h. omega (arith, past, i.len, c.loop-i-test.false, c.len-i-end.ensures, c.args.self.now.orders.ok.0)))
+        ]
+      ]);
+      victims = subst (λ k. EvictsPools k (holding c.args.store.now c.args.self.now) (holding c.loop-i.store c.loop-i.self)) all i.victims;
+      gives_up = i.gives_up;
+      sound = i.sound;
+    }

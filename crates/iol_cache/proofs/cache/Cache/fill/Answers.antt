@@ -96,33 +96,23 @@ fills g c =
 made : (g : Over) (c : In-Ok g) → Made (cached_of c.args.self.now) c.args.part.now.file c.fill_range.new.cached.extents c.args.gaps.now
 made g c = all_made c.requires.sound c.requires.range.in_order c.requires.range.gaps (fills g c) (omega (arith, c.requires.range.end)) c.requires.few
 
-pub enter_all-requires-clause-apart : goal.enter_all-requires-clause-apart
-enter_all-requires-clause-apart g c = subst (λ (y : CachedFile). IsApart 0 y.extents.extents) (sym (file_back _ _ c.number.ensures c.index-2.ensures c.requires.range.file)) c.in-Ok.ensures.fills.fills.apart
-
-pub enter_all-requires-clause-begin : goal.enter_all-requires-clause-begin
-enter_all-requires-clause-begin g c =
-    subst (λ (y : CachedFile). AllBeginAt y.extents.extents c.args.gaps.now) (sym (file_back _ _ c.number.ensures c.index-2.ensures c.requires.range.file)) (made g (goal.at.enter_all-requires-clause-begin g c).In-Ok).begin
-
-pub enter_all-requires-clause-in_order : goal.enter_all-requires-clause-in_order
-enter_all-requires-clause-in_order g c = order_wide c.args.part.now.from c.args.part.now.to 0 4294967295 c.args.gaps.now (omega arith) (omega (arith, c.requires.range.end)) c.requires.range.in_order
-
-pub enter_all-requires-clause-absent : goal.enter_all-requires-clause-absent
-enter_all-requires-clause-absent g c =
-    let o = order_here c.args.part.now.file c.requires.sound c.requires.range.file (file_here _ c.number.ensures c.index.ensures c.requires.range.file) c.number-2.ensures c.index_mut-2.ensures.value in
-    subst (λ (r : Ranking). AreAbsent r c.args.part.now.file c.args.gaps.now) (sym o) (made g (goal.at.enter_all-requires-clause-absent g c).In-Ok).absent
-
-pub enter_all-requires-clause-room : goal.enter_all-requires-clause-room
-enter_all-requires-clause-room g c =
-    let o = order_here c.args.part.now.file c.requires.sound c.requires.range.file (file_here _ c.number.ensures c.index.ensures c.requires.range.file) c.number-2.ensures c.index_mut-2.ensures.value in
-    omega (arith, c.requires.range.entries, ap (λ (r : Ranking). r.room) o)
-
-pub enter_all-requires-clause-within : goal.enter_all-requires-clause-within
-enter_all-requires-clause-within g c =
-    subst (λ (y : CachedFile). AllWithin (length c.args.self.now.marks) y.extents.extents) (sym (file_back _ _ c.number.ensures c.index-2.ensures c.requires.range.file)) (made g (goal.at.enter_all-requires-clause-within g c).In-Ok).within
-
-pub enter_all-requires-clause-few : goal.enter_all-requires-clause-few
-enter_all-requires-clause-few g c =
-    subst (λ (y : CachedFile). HasMarksLeft c.args.self.now.marks (parts_of_spans y.extents.extents c.args.gaps.now)) (sym (file_back _ _ c.number.ensures c.index-2.ensures c.requires.range.file)) (made g (goal.at.enter_all-requires-clause-few g c).In-Ok).few
+pub enter_all-requires : goal.enter_all-requires
+enter_all-requires g c =
+    let part = c.args.part.now in
+    let gaps = c.args.gaps.now in
+    let there = c.requires.range.file in
+    let y = sym (file_back _ _ c.number.ensures c.index-2.ensures there) in
+    let o = order_here part.file c.requires.sound there (file_here _ c.number.ensures c.index.ensures there) c.number-2.ensures c.index_mut-2.ensures.value in
+    let m = made g (goal.at.enter_all-requires g c).In-Ok in
+    record {
+      apart = subst (λ (z : CachedFile). IsApart 0 z.extents.extents) y c.in-Ok.ensures.fills.fills.apart;
+      begin = subst (λ (z : CachedFile). AllBeginAt z.extents.extents gaps) y m.begin;
+      in_order = order_wide part.from part.to 0 4294967295 gaps (omega arith) (omega (arith, c.requires.range.end)) c.requires.range.in_order;
+      absent = subst (λ (r : Ranking). AreAbsent r part.file gaps) (sym o) m.absent;
+      room = omega (arith, c.requires.range.entries, ap (λ (r : Ranking). r.room) o);
+      within = subst (λ (z : CachedFile). AllWithin (length c.args.self.now.marks) z.extents.extents) y m.within;
+      few = subst (λ (z : CachedFile). HasMarksLeft c.args.self.now.marks (parts_of_spans z.extents.extents gaps)) y m.few;
+    }
 
 pub returns : goal.returns
 returns g c =

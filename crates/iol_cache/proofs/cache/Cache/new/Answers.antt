@@ -1,5 +1,9 @@
 use Rattle.iol_cache.proofs.Extents.Adding.{sound_new}
 use Rattle.iol_cache.proofs.cache.Cache.new.Goals as goal
 
-pub returns-clause-sound : goal.returns-clause-sound
-returns-clause-sound c = λ s pages tidy still. sound_new s _ c.args.pages c.new.ensures.items c.new-2.ensures.items c.in_ok-new.ensures pages tidy still
+pub returns : goal.returns
+returns c = record {
+  files = c.new.ensures.items;
+  orders = c.new-2.ensures.items;
+  sound = λ s pages tidy still. sound_new s _ c.args.pages c.new.ensures.items c.new-2.ensures.items c.in_ok-new.ensures pages tidy still;
+}

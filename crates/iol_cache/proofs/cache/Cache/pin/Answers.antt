@@ -42,10 +42,10 @@ module _ (c : After-index-cached) where
   here : c.index-cached.result.now ≡ file_in now.files c.args.part.now.file
   here = file_here _ c.number.ensures c.index-cached.ensures there
 
-pub returns-in_err-reserve_places-clause-shares : goal.returns-in_err-reserve_places-clause-shares
-returns-in_err-reserve_places-clause-shares c =
+pub returns-in_err-reserve_places : goal.returns-in_err-reserve_places
+returns-in_err-reserve_places c =
     let s = c.args.store.now in
-    record { sound = sound_same s (cached_of c.args.self.now) (cached_of c.reserve_places.new.self) c.requires.sound c.reserve_places.ensures.same; same = search (rules); none = search (rules); frees = frees_none s s refl refl refl; lists = refl; settles = λ all. all }
+    record { pinned = search (rules); sound = sound_same s (cached_of c.args.self.now) (cached_of c.reserve_places.new.self) c.requires.sound c.reserve_places.ensures.same; same = search (rules); none = search (rules); frees = frees_none s s refl refl refl; lists = refl; settles = λ all. all }
 
 pub share_beside-requires : goal.share_beside-requires
 share_beside-requires c =
@@ -64,11 +64,11 @@ share_beside-requires c =
       few = record { each = λ b. omega (arith, c.requires.few.each b) };
     }
 
-pub returns-in_err-pins-clause-shares : goal.returns-in_err-pins-clause-shares
-returns-in_err-pins-clause-shares c =
-    let at = (goal.at.returns-in_err-pins-clause-shares c).After-index-cached in
+pub returns-in_err-pins : goal.returns-in_err-pins
+returns-in_err-pins c =
+    let at = (goal.at.returns-in_err-pins c).After-index-cached in
     let w = c.share_beside.ensures.shared in
-    record { sound = sound_to c.args.store.now c.share_beside.new.store (now at) (sound at) c.in_err-pins.ensures.shared.gone w.lists w.frees.count; same = search (rules); none = search (rules); frees = w.frees; lists = w.lists; settles = w.settles }
+    record { pinned = search (rules); sound = sound_to c.args.store.now c.share_beside.new.store (now at) (sound at) c.in_err-pins.ensures.shared.gone w.lists w.frees.count; same = search (rules); none = search (rules); frees = w.frees; lists = w.lists; settles = w.settles }
 
 pub overflow_sub-number : goal.overflow_sub-number
 overflow_sub-number c =
@@ -119,36 +119,38 @@ module _ (c : After-count_hits) where
       ∙ ap (hits_counted (order_in n.orders p) f (extents_in n.files f)) c.deref-2.ensures.value in
       record { files = refl; marks = refl; orders = order_put f sound-n there-n c.count_hits.new.order x c.number-2.ensures ∙ ap (with_order n.orders p) is }
 
-pub returns-clause-pinned : goal.returns-clause-pinned
-returns-clause-pinned c =
-    let at = goal.at.returns-clause-pinned c in
+pub returns : goal.returns
+returns c =
+    let at = goal.at.returns c in
     let f = c.args.part.now.file in
     let found = c.in_ok-found.found in
+    let s = c.args.store.now in
+    let t = c.share_beside.new.store in
     let n = now at.After-index-cached in
     let same = c.reserve_places.ensures.same in
     let hits = counted at.After-count_hits in
-    let lies = c.in_ok-pins.ensures.places ∙ ap (places_beside c.index-cached.result.now.extents.extents c.args.part.now.from c.args.part.now.to) c.deref.ensures.value
-    ∙ ap (λ (es : List Extent). places_beside es c.args.part.now.from c.args.part.now.to found.gaps.items) (ap (λ (y : CachedFile). y.extents.extents) (here at.After-index-cached) ∙ same.extents f) in
-    record {
-      hits = found.hits.items;
-      tile = tile at.After-index-cached;
-      lies = lies;
-      shares = c.in_ok-pins.ensures.shared.shares;
-      reserved = n;
-      rooms = same;
-      counted = hits;
-      space = omega (arith, c.len.ensures, c.in_ok-reserve_places.ensures.extents);
-      entries = hits_entries_left c.args.store.now n (next at.After-count_hits) f (length found.gaps.items) found.hits.items (sound at.After-index-cached) (there at.After-index-cached) hits (omega (arith, c.len.ensures, c.in_ok-reserve_places.ensures.entries, ap (λ p. (order_in n.orders p).room) (same.pools f)));
-    }
-
-pub returns-clause-shares : goal.returns-clause-shares
-returns-clause-shares c =
-    let at = goal.at.returns-clause-shares c in
-    let n = now at.After-index-cached in
-    let s = c.args.store.now in
-    let t = c.share_beside.new.store in
     let w = c.share_beside.ensures.shared in
     let shares = c.in_ok-pins.ensures.shared.shares in
     let sound-n = sound at.After-index-cached in
     let sound-t = sound_on s t n sound-n (shares_move shares) (still_covers sound-n.covered shares) w.lists w.frees.count in
-    record { sound = sound_hits t n (next at.After-count_hits) c.args.part.now.file c.in_ok-found.found.hits.items sound-t (there at.After-index-cached) (counted at.After-count_hits); same = tt; none = tt; frees = w.frees; lists = w.lists; settles = w.settles }
+    let lies = c.in_ok-pins.ensures.places ∙ ap (places_beside c.index-cached.result.now.extents.extents c.args.part.now.from c.args.part.now.to) c.deref.ensures.value
+    ∙ ap (λ (es : List Extent). places_beside es c.args.part.now.from c.args.part.now.to found.gaps.items) (ap (λ (y : CachedFile). y.extents.extents) (here at.After-index-cached) ∙ same.extents f) in
+    record {
+      pinned = record {
+        hits = found.hits.items;
+        tile = tile at.After-index-cached;
+        lies = lies;
+        shares = shares;
+        reserved = n;
+        rooms = same;
+        counted = hits;
+        space = omega (arith, c.len.ensures, c.in_ok-reserve_places.ensures.extents);
+        entries = hits_entries_left s n (next at.After-count_hits) f (length found.gaps.items) found.hits.items sound-n (there at.After-index-cached) hits (omega (arith, c.len.ensures, c.in_ok-reserve_places.ensures.entries, ap (λ p. (order_in n.orders p).room) (same.pools f)));
+      };
+      sound = sound_hits t n (next at.After-count_hits) f found.hits.items sound-t (there at.After-index-cached) hits;
+      same = tt;
+      none = tt;
+      frees = w.frees;
+      lists = w.lists;
+      settles = w.settles;
+    }

@@ -21,13 +21,13 @@ pub replace_range-requires : goal.replace_range-requires
 replace_range-requires c =
     let f = c.args.file in
     let fs = c.args.self.now.files.items in
-    let at = c.args.range in
+    let range = c.args.range in
     let put = c.args.put in
     let x = file_here _ c.number.ensures c.index_mut-2.ensures.value c.requires.file in
     let o = order_here f c.requires.sound c.requires.file (file_here _ c.number.ensures c.index.ensures c.requires.file) c.number-2.ensures c.index_mut.ensures.value in
-    subst (λ (y : CachedFile). MayReplace f at.from at.to put.left put.right put.bytes c.args.store.now (indexing_of y.extents c.index_mut.result.now c.args.self.now.marks)) (sym x)
-    (subst (λ (q : Ranking). MayReplace f at.from at.to put.left put.right put.bytes c.args.store.now (indexing_of (file_in fs f).extents q c.args.self.now.marks)) (sym o)
-    (may_replace (holding c.args.store.now c.args.self.now) f at.from at.to put.left put.right put.bytes c.requires))
+    subst (λ (y : CachedFile). MayReplace f range put c.args.store.now (indexing_of y.extents c.index_mut.result.now c.args.self.now.marks)) (sym x)
+    (subst (λ (q : Ranking). MayReplace f range put c.args.store.now (indexing_of (file_in fs f).extents q c.args.self.now.marks)) (sym o)
+    (may_replace (holding c.args.store.now c.args.self.now) f range put c.requires))
 
 pub returns-clause-puts : goal.returns-clause-puts
 returns-clause-puts c =
@@ -39,10 +39,9 @@ returns-clause-puts c =
     let m = c.replace_range.new.extents in
     let r = c.replace_range.new.order in
     let put = c.args.put in
-    let at = c.args.range in
-    let new = indexing_of m r c.replace_range.new.marks in
-    let e = subst (λ (q : Ranking). Replaces f at.from at.to put.left put.right put.bytes c.args.store.now c.replace_range.new.store (indexing_of (file_in fs f).extents q c.args.self.now.marks) new) o
-    (subst (λ (y : CachedFile). Replaces f at.from at.to put.left put.right put.bytes c.args.store.now c.replace_range.new.store (indexing_of y.extents c.index_mut.result.now c.args.self.now.marks) new) x c.replace_range.ensures) in
+    let range = c.args.range in
+    let e = subst (λ (q : Ranking). Replaces f range put c.args.store.now c.replace_range.new.store (file_in fs f).extents m q r c.args.self.now.marks c.replace_range.new.marks) o
+    (subst (λ (y : CachedFile). Replaces f range put c.args.store.now c.replace_range.new.store y.extents m c.index_mut.result.now r c.args.self.now.marks c.replace_range.new.marks) x c.replace_range.ensures) in
     record {
       extents = m;
       order = r;
@@ -61,5 +60,4 @@ returns-clause-puts c =
 
 pub returns-clause-sound : goal.returns-clause-sound
 returns-clause-sound c =
-    let put = c.args.put in
-    sound_put (holding c.args.store.now c.args.self.now) _ c.args.file c.args.range.from c.args.range.to put.left put.right put.bytes c.requires.sound c.requires.file (returns-clause-puts c) c.requires.held c.requires
+    sound_put (holding c.args.store.now c.args.self.now) _ c.args.file c.args.range c.args.put c.requires.sound c.requires.file (returns-clause-puts c) c.requires.held c.requires

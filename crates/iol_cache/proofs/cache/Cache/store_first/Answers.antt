@@ -47,7 +47,7 @@ module _ (s : Stored) (c : Cached) (f : ℕ) (x : Extent) (sound : IsSound s c) 
     readable = (each-begins (IsLaid s (file_in c.files f).pool) (extents_in c.files f) x.at x (sound.files f).laid begins).readable;
   }
 
-  may_settle : CountsBelow s (2 ^ 61) → MaySettle f x.at (extents_in c.files f) (order_in c.orders (file_in c.files f).pool) c.marks
+  may_settle : CountsBelow s (2 ^ 61) → MaySettle f x.at (file_in c.files f).extents (order_in c.orders (file_in c.files f).pool) c.marks
   may_settle few = record {
     apart = (sound.files f).apart;
     dirty = record { extent = x; is = is; begins = refl };
@@ -118,7 +118,7 @@ settle-requires g c =
     let first = here g (goal.at.settle-requires g c).In-Some in
     let z = file_here _ c.number.ensures c.index_mut-2.ensures.value c.requires.file in
     let o = order_here f c.requires.sound c.requires.file (file_here _ c.number.ensures c.index.ensures c.requires.file) c.number-2.ensures c.index_mut.ensures.value in
-    subst (λ (y : CachedFile). MaySettle f c.in-Some.at y.extents.extents c.index_mut.result.now old.marks) (sym z) (subst (λ (q : Ranking). MaySettle f c.in-Some.at (extents_in old.files f) q old.marks) (sym o) (may_settle c.args.store.now old f _ c.requires.sound first c.requires.few))
+    subst (λ (y : CachedFile). MaySettle f c.in-Some.at y.extents c.index_mut.result.now old.marks) (sym z) (subst (λ (q : Ranking). MaySettle f c.in-Some.at (file_in old.files f).extents q old.marks) (sym o) (may_settle c.args.store.now old f _ c.requires.sound first c.requires.few))
 
 pub returns : goal.returns
 returns g c =
@@ -133,8 +133,8 @@ returns g c =
     let m = c.settle.new.extents in
     let r = c.settle.new.order in
     let kept = order_in c.args.self.now.orders.items (file_in fs f).pool in
-    let s : Settles f at (extents_in fs f) m.extents kept r marks c.settle.new.marks =
-    subst (λ (q : Ranking). Settles f at (extents_in fs f) m.extents q r marks c.settle.new.marks) o (subst (λ (y : CachedFile). Settles f at y.extents.extents m.extents c.index_mut.result.now r marks c.settle.new.marks) z c.settle.ensures) in
+    let s : Settles f at (file_in fs f).extents m kept r marks c.settle.new.marks =
+    subst (λ (q : Ranking). Settles f at (file_in fs f).extents m q r marks c.settle.new.marks) o (subst (λ (y : CachedFile). Settles f at y.extents m c.index_mut.result.now r marks c.settle.new.marks) z c.settle.ensures) in
     let b = c.in_default-write_back.ensures in
     let d = g.B.Backing.disk c.args.backing.now in
     let e = g.B.Backing.disk c.write_back.new.backing in

@@ -1,5 +1,6 @@
 use Rattle.std.proofs.Common.{◌≡◌, ◌∙◌, ℕ, suc, refl, ◌+◌, ◌<◌, Bool, true, false, cond, None, Ok, sym, ap, arith, subst}
-use Rattle.iol_back.specs.Disk.{Disk}
+use Rattle.iol_back.specs.Disk.{Disk, raised}
+use Rattle.iol_core.specs.Meaning.{FaultOf}
 use Rattle.iol_core.specs.Numbered.{is_numbered}
 use Rattle.iol_hold.specs.Stored.{Stored}
 use Rattle.iol_extent.specs.Extents.{dirty_in, dirty_count}
@@ -38,24 +39,38 @@ one_more : (s : Stored) (f : ℕ) (old mid new : Cached) (d m e : Disk) → (n :
 one_more s f old mid new d m e a true w = (suc a.0, (mid, m, a.1, w))
 one_more s f old mid new d m e a false w = (a.0, subst (λ (c : Cached). AreCleaned s f a.0 old c d e) (sym w.same) (subst (AreCleaned s f a.0 old mid d) (sym w.disk) a.1))
 
-pub returns-clause-writes : goal.returns-clause-writes
-returns-clause-writes g c =
+pub returns : goal.returns
+returns g c =
     let v = c.loop-more.invariant in
     let done = v.done c.loop-more-test.false in
-    record { count = v.cleaned.0; mid = cached_of c.loop-more.self; disk = g.B.Backing.disk c.loop-more.backing; each = v.cleaned.1; ends = record { none = done; same = refl; disk = refl } }
+    record {
+      writes = record { count = v.cleaned.0; mid = cached_of c.loop-more.self; disk = g.B.Backing.disk c.loop-more.backing; each = v.cleaned.1; ends = record { none = done; same = refl; disk = refl } };
+      clean = done;
+      syncs = v.syncs;
+      files = v.syncs.contents;
+      mirrors = v.syncs.mirrors;
+      sound = v.sound;
+      fails = tt;
+      succeeds = v.failures;
+      late = tt;
+    }
 
-pub returns-in-Err-clause-writes : goal.returns-in-Err-clause-writes
-returns-in-Err-clause-writes g c =
+pub returns-in-Err : goal.returns-in-Err
+returns-in-Err g c =
     let v = c.loop-more.invariant in
-    record { count = v.cleaned.0; mid = cached_of c.loop-more.self; disk = g.B.Backing.disk c.loop-more.backing; each = v.cleaned.1; ends = c.in-Err.ensures.stores }
-
-pub returns-in-Err-clause-syncs : goal.returns-in-Err-clause-syncs
-returns-in-Err-clause-syncs g c =
-    let v = c.loop-more.invariant in
-    syncs_fail c.args.store.now c.args.file (cached_of c.args.self.now) (cached_of c.loop-more.self) (cached_of c.store_first.new.self) (g.B.Backing.disk c.args.backing.now) (g.B.Backing.disk c.loop-more.backing) (g.B.Backing.disk c.store_first.new.backing) v.sound v.syncs c.in-Err.ensures.stores.0
-
-pub returns-in-Err-clause-files : goal.returns-in-Err-clause-files
-returns-in-Err-clause-files g c = (returns-in-Err-clause-syncs g c).contents
+    let e = c.in-Err.ensures in
+    let syncs = syncs_fail c.args.store.now c.args.file (cached_of c.args.self.now) (cached_of c.loop-more.self) (cached_of c.store_first.new.self) (g.B.Backing.disk c.args.backing.now) (g.B.Backing.disk c.loop-more.backing) (g.B.Backing.disk c.store_first.new.backing) v.sound v.syncs e.stores.0 in
+    record {
+      writes = record { count = v.cleaned.0; mid = cached_of c.loop-more.self; disk = g.B.Backing.disk c.loop-more.backing; each = v.cleaned.1; ends = e.stores };
+      clean = tt;
+      syncs = syncs;
+      files = syncs.contents;
+      mirrors = syncs.mirrors;
+      sound = e.sound;
+      fails = e.stores.0.counts ∙ ap raised v.failures;
+      succeeds = tt;
+      late = subst (FaultOf c.args.file) (sym e.stores.1) refl;
+    }
 
 -- what one step did, after those before it
 step : (g : Over) (c : In-Ok g) → let old = cached_of c.args.self.now in let mid = cached_of c.loop-more.self in let new = cached_of c.store_first.new.self in

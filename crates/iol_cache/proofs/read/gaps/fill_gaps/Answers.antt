@@ -1,4 +1,5 @@
 use Rattle.std.proofs.Common.{false, refl, ◌≡◌, ◌∙◌, ◌+◌, ◌-◌, ◌<◌, ◌∷◌, All, ap, sym, subst, get_or, length, map, take, drop, List, ℕ, arith}
+use Rattle.std.proofs.Math.Seq.{take-length}
 use Rattle.std.proofs.lemmas.List.{take_more, length-drop, length-take}
 use Rattle.std.proofs.lemmas.List.Elements.{All-take, All-tail, All-head}
 use Rattle.iol_arena.specs.State.{pages_for}
@@ -63,16 +64,19 @@ take_back-requires-clause-covered g c = covers_back c.loop-i.invariant.fills.mov
 pages_more : (gaps : List Span) (i : ℕ) → i < length gaps → gap_pages (take (i + 1) gaps) ≡ gap_pages (take i gaps) + pages_for ((get_or gaps i no_span).to - (get_or gaps i no_span).from)
 pages_more gaps i h = ap gap_pages (take_more gaps i no_span h) ∙ gap_pages-push (take i gaps) (get_or gaps i no_span)
 
-pub returns-in-Err-clause-reads : goal.returns-in-Err-clause-reads
-returns-in-Err-clause-reads g c =
+pub returns-in-Err : goal.returns-in-Err
+returns-in-Err g c =
     let v = c.loop-i.invariant in
     let gaps = c.args.gaps.now in
     let i = c.loop-i.i in
     let k = c.in-Err.ensures.keeps in
     let left = placed_some (gap_pages gaps) (gap_pages-take gaps i) v.fills.places k.kept c.take_back.ensures.frees k.pools in
-    taken_back gaps c.in-Err.refusal v.fills (back g (goal.at.returns-in-Err-clause-reads g c).In-Err) k.none (ap (map pool_meant) (k.pools ∙ v.fills.places.pools)) (λ all. k.settles (v.settles all)) c.take_back.ensures left
-    (λ p is. omega (arith, k.no_room p is, ap length v.fills.places.free, length-drop (gap_pages (take i gaps)) (free_of c.args.store.now c.args.pool), v.fills.places.enough, pages_more gaps i c.loop-i-test.true, gap_pages-take gaps (i + 1)))
-    (asks_after (length gaps) (omega (arith, c.loop-i-test.true)) v.honest v.slots v.failures k.asks) k.late
+    record {
+      fills = tt;
+      reads = taken_back gaps c.in-Err.refusal v.fills (back g (goal.at.returns-in-Err g c).In-Err) k.none (ap (map pool_meant) (k.pools ∙ v.fills.places.pools)) (λ all. k.settles (v.settles all)) c.take_back.ensures left
+          (λ p is. omega (arith, k.no_room p is, ap length v.fills.places.free, length-drop (gap_pages (take i gaps)) (free_of c.args.store.now c.args.pool), v.fills.places.enough, pages_more gaps i c.loop-i-test.true, gap_pages-take gaps (i + 1)))
+          (asks_after (length gaps) (omega (arith, c.loop-i-test.true)) v.honest v.slots v.failures c.in-Err.ensures.asks) k.late;
+    }
 
 -- the next gap, and what is left of it
 next_gap : (g : Over) (c : In-Ok g) → (let i = c.loop-i.i in let gap = get_or c.args.gaps.now i no_span in (gap.from < gap.to) × AreInOrder gap.to 4294967295 (drop (i + 1) c.args.gaps.now))
@@ -119,6 +123,7 @@ loop-i-preserved g c =
     let d = g.B.Backing.disk c.loop-i.backing in
     let l = c.in-Ok.ensures.loads in
     let k = c.in-Ok.ensures.keeps in
+    let asks = c.in-Ok.ensures.asks in
     let x : Extent = extent_of gap.from c.in-Ok.agg false in
     let f : FillsGap c.loop-i.store c.gap_agg.new.store c.loop-i.extents c.put.new.self c.args.pool gap d c.args.file = record {
       made = x;
@@ -142,17 +147,23 @@ loop-i-preserved g c =
       left = gaps_left c.loop-i.extents.extents c.put.new.self.extents x 4294967295 (drop (i + 1) gaps) (subst (λ n. AreInOrder n 4294967295 (drop (i + 1) gaps)) (sym (ends g at)) (next_gap g at).1)
           (All-tail (IsGapSpan c.loop-i.extents.extents) gap (drop (i + 1) gaps) (is_left g at)) f.adds;
       settles = λ all. k.settles (v.settles all);
-      honest = k.asks.honest ∙ v.honest;
-      slots = λ y. k.asks.slots (v.honest ∙ y) ∙ v.slots y;
-      failures = k.asks.counts.0 ∙ v.failures;
-      works = λ y. omega (arith, k.asks.counts.1 (omega arith), v.failures);
+      honest = asks.honest ∙ v.honest;
+      slots = λ y. asks.slots (v.honest ∙ y) ∙ v.slots y;
+      failures = asks.counts.0 ∙ v.failures;
+      works = λ y. omega (arith, asks.counts.1 (omega arith), v.failures);
     }
 
-pub returns-clause-reads : goal.returns-clause-reads
-returns-clause-reads g c =
-    let v = c.loop-i.invariant in record {
-      same = tt;
-      leaves = record { none = tt; given_back = tt; lists = ap (map pool_meant) v.fills.places.pools; settles = v.settles; no_room = tt };
-      asks = record { honest = v.honest; slots = v.slots; counts = (v.failures, λ some. v.works (omega (arith, some, c.loop-i-test.false))) };
-      late = tt;
+pub returns : goal.returns
+returns g c =
+    let v = c.loop-i.invariant in
+    let gaps = c.args.gaps.now in
+    let i : c.loop-i.i ≡ length gaps = omega (arith, c.loop-i-test.false, v.within) in
+    record {
+      fills = subst (λ (k : List Span). FillsGaps c.args.store.now c.loop-i.store c.args.extents.now c.loop-i.extents c.args.pool k (g.B.Backing.disk c.args.backing.now) c.args.file) (ap (λ n. take n gaps) i ∙ take-length gaps) v.fills;
+      reads = record {
+        same = tt;
+        leaves = record { none = tt; given_back = tt; lists = ap (map pool_meant) v.fills.places.pools; settles = v.settles; no_room = tt };
+        asks = record { honest = v.honest; slots = v.slots; counts = (v.failures, λ some. v.works (omega (arith, some, c.loop-i-test.false))) };
+        late = tt;
+      };
     }

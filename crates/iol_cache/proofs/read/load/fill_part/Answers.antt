@@ -6,36 +6,39 @@ use Rattle.iol_back.specs.Disk.{Disk, IfHonest, content}
 use Rattle.iol_hold.specs.Filling.{Fill, IsFilling, filling_part, filling_parts, filling_store, with_store}
 use Rattle.iol_hold.specs.Stored.{with_arena}
 use Rattle.iol_hold.proofs.Reserving.{same_fills, same_held}
-use Rattle.iol_cache.specs.Loading.{IsRead, ReadsPart}
+use Rattle.iol_cache.specs.Loading.{ReadsPart}
 use Rattle.iol_cache.proofs.read.load.fill_part.Goals as goal
 
 -- the memory of a part was written
-wrote : {E : Type 0} {d e : Disk} {left file at : ℕ} {r : Result ℕ E} (f : Fill) (i : ℕ) (w : List ℕ) → IsFilling f → length w ≡ part_room (filling_part f i) → length (part_bytes (filling_store f).arena (filling_part f i)) ≡ part_room (filling_part f i)
-    → Grows (filling_store f).arena (with_bytes (filling_store f).arena (filling_part f i).first w) → IsRead d e r → IfOk r (λ n. n ≡ min left (part_room (filling_part f i)))
+wrote : {E : Type 0} {d : Disk} {left file at : ℕ} {r : Result ℕ E} (f : Fill) (i : ℕ) (w : List ℕ) → IsFilling f → length w ≡ part_room (filling_part f i) → length (part_bytes (filling_store f).arena (filling_part f i)) ≡ part_room (filling_part f i)
+    → Grows (filling_store f).arena (with_bytes (filling_store f).arena (filling_part f i).first w) → IfOk r (λ n. n ≡ min left (part_room (filling_part f i)))
     → IfHonest d (IfOk r (λ n. take n w ≡ take n (drop at (content d.slots file)))) → IfHonest d (IfOk r (λ n. at + n ≤ length (content d.slots file)))
-    → ReadsPart f (with_store f (with_arena (filling_store f) (with_bytes (filling_store f).arena (filling_part f i).first w))) i left d e file at r
-wrote f i w filling len was grows asks count read inside = record {
+    → ReadsPart f (with_store f (with_arena (filling_store f) (with_bytes (filling_store f).arena (filling_part f i).first w))) i left d file at r
+wrote f i w filling len was grows count read inside = record {
   writes = record { reserved = refl; same_reference = refl; filling = same_held (filling_store f) f.reserved _ refl refl filling; fills = same_fills (filling_store f) _ (filling_parts f) refl grows; entries = refl };
   written = w;
   len = len;
   there = refl;
   was = was;
-  asks = asks;
   count = count;
   read = read;
   inside = inside;
 }
 
-pub returns-in-Err : goal.returns-in-Err
-returns-in-Err g c =
-    let w = c.read_part.new.part in
-    let lent = c.part_mut-part.ensures in
-    let e = c.in-Err.ensures.asks in
-    wrote c.args.filling.now c.args.i w c.requires.filling (c.read_part.auto.part ∙ lent.len) (sym (ap length lent.value) ∙ lent.len) (lent.keeps.each w (omega (arith, c.read_part.auto.part, lent.len))) (record { honest = e.honest; slots = e.slots; counts = e.counts }) tt (λ y. tt) (λ y. tt)
+pub returns-in-Err-clause-asks : goal.returns-in-Err-clause-asks
+returns-in-Err-clause-asks g c = (let e = c.in-Err.ensures.asks in record { honest = e.honest; slots = e.slots; counts = e.counts })
 
-pub returns-in-Ok : goal.returns-in-Ok
-returns-in-Ok g c =
+pub returns-in-Err-clause-reads : goal.returns-in-Err-clause-reads
+returns-in-Err-clause-reads g c =
     let w = c.read_part.new.part in
-    let lent = c.part_mut-part.ensures in
-    let e = c.in-Ok.ensures.asks in
-    wrote c.args.filling.now c.args.i w c.requires.filling (c.read_part.auto.part ∙ lent.len) (sym (ap length lent.value) ∙ lent.len) (lent.keeps.each w (omega (arith, c.read_part.auto.part, lent.len))) (record { honest = e.honest; slots = e.slots; counts = e.counts }) (search (rules)) c.in-Ok.ensures.read c.in-Ok.ensures.inside
+    let lent = c.part_mut-part.ensures.shows in
+    wrote c.args.filling.now c.args.i w c.requires.filling (c.read_part.auto.part ∙ lent.len) (sym (ap length lent.value) ∙ lent.len) (lent.keeps.each w (omega (arith, c.read_part.auto.part, lent.len))) tt (λ y. tt) (λ y. tt)
+
+pub returns-in-Ok-clause-asks : goal.returns-in-Ok-clause-asks
+returns-in-Ok-clause-asks g c = (let e = c.in-Ok.ensures.asks in record { honest = e.honest; slots = e.slots; counts = e.counts })
+
+pub returns-in-Ok-clause-reads : goal.returns-in-Ok-clause-reads
+returns-in-Ok-clause-reads g c =
+    let w = c.read_part.new.part in
+    let lent = c.part_mut-part.ensures.shows in
+    wrote c.args.filling.now c.args.i w c.requires.filling (c.read_part.auto.part ∙ lent.len) (sym (ap length lent.value) ∙ lent.len) (lent.keeps.each w (omega (arith, c.read_part.auto.part, lent.len))) (search (rules)) c.in-Ok.ensures.reads.read c.in-Ok.ensures.reads.inside

@@ -31,7 +31,7 @@ then_writes {g = g} {h = h} a b = record {
 }
 
 pub returns-in-Err-clause-writes : goal.returns-in-Err-clause-writes
-returns-in-Err-clause-writes g c = then_writes c.loop-i.invariant.writes c.fill_part.ensures.writes
+returns-in-Err-clause-writes g c = then_writes c.loop-i.invariant.writes c.fill_part.ensures.reads.writes
 
 pub loop-i-preserved : goal.loop-i-preserved
 loop-i-preserved g c =
@@ -40,16 +40,17 @@ loop-i-preserved g c =
     let v = c.loop-i.invariant in
     let e = parts_are _ _ v.writes.reserved in
     let h : i < length ps = omega (arith, c.part_count-i-end.ensures, c.loop-i-test.true) in
-    let r = c.in-Ok.ensures in
+    let r = c.in-Ok.ensures.reads in
+    let asks = c.in-Ok.ensures.asks in
     let s = (filling_store c.loop-i.filling).arena in
     let t = (filling_store c.fill_part.new.filling).arena in
     let m = one_more s t ps (filling_parts c.loop-i.filling) i c.args.n c.loop-i.done c.in-Ok.here r.written e c.requires.filling.pages.apart h c.requires.long (some_at 0 ps i c.requires.filling.pages.apart h) (ap (λ (x : Stored). x.arena) r.there) r.len r.was v.whole v.done r.count in
     record {
-      writes = then_writes v.writes c.fill_part.ensures.writes;
-      honest = r.asks.honest ∙ v.honest;
-      slots = λ y. r.asks.slots (v.honest ∙ y) ∙ v.slots y;
-      failures = r.asks.counts.0 ∙ v.failures;
-      works = λ y. omega (arith, r.asks.counts.1, v.failures);
+      writes = then_writes v.writes r.writes;
+      honest = asks.honest ∙ v.honest;
+      slots = λ y. asks.slots (v.honest ∙ y) ∙ v.slots y;
+      failures = asks.counts.0 ∙ v.failures;
+      works = λ y. omega (arith, asks.counts.1, v.failures);
       inside = λ y p. omega (arith, r.inside (v.honest ∙ y), ap (λ (slots : List (List ℕ)). length (content slots c.args.file)) (v.slots y));
       within = omega (arith, h);
       whole = m.3.whole;
@@ -71,6 +72,12 @@ module _ (g : Over) (c : After-loop-i g) where
   parts : filling_parts c.loop-i.filling ≡ take c.loop-i.i ps
   parts = parts_are _ _ c.loop-i.invariant.writes.reserved ∙ sym all
 
+pub returns-clause-asks : goal.returns-clause-asks
+returns-clause-asks g c =
+    let at = (goal.at.returns-clause-asks g c).After-loop-i in
+    let v = c.loop-i.invariant in
+    record { honest = v.honest; slots = v.slots; counts = (v.failures, v.works (omega (arith, c.loop-i-test.false, c.part_count-i-end.ensures, some_parts (ps g at) c.args.n c.requires.some c.requires.long))) }
+
 pub returns-clause-reads : goal.returns-clause-reads
 returns-clause-reads g c =
     let at = (goal.at.returns-clause-reads g c).After-loop-i in
@@ -79,7 +86,6 @@ returns-clause-reads g c =
     let s = (filling_store c.loop-i.filling).arena in
     let bytes = ap (λ (xs : List Part). length (flat_map (part_bytes s) xs)) (parts g at) in
     record {
-      asks = record { honest = v.honest; slots = v.slots; counts = (v.failures, v.works (omega (arith, c.loop-i-test.false, c.part_count-i-end.ensures, some_parts (ps g at) c.args.n c.requires.some c.requires.long))) };
       whole = omega (arith, bytes, v.whole, ap (λ (xs : List Part). length (part_pages xs) * 4096) (all g at), c.requires.long, pages_hold c.args.n);
       read = λ h. ap (λ (xs : List Part). take c.args.n (flat_map (part_bytes s) xs)) (parts g at)
           ∙ ap (λ k. take k (flat_map (part_bytes s) (take c.loop-i.i (ps g at)))) (sym n) ∙ v.read h ∙ ap (λ k. take k (drop c.args.at (content (g.B.Backing.disk c.args.backing.now).slots c.args.file))) n;

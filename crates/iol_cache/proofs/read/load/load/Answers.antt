@@ -24,8 +24,8 @@ fill_parts-requires g c =
     let s = c.args.store.now in record {
       some = c.requires.some;
       fits = c.requires.fits;
-      filling = c.in-Ok.ensures.filling;
-      long = ap length c.in-Ok.ensures.pages ∙ length-take-le (pages_for c.args.n) (free_pages s.arena (pool_in s.pools c.args.pool).chunks) c.in-Ok.ensures.enough;
+      filling = c.in-Ok.ensures.begins.filling;
+      long = ap length c.in-Ok.ensures.begins.pages ∙ length-take-le (pages_for c.args.n) (free_pages s.arena (pool_in s.pools c.args.pool).chunks) c.in-Ok.ensures.begins.enough;
     }
 
 pub returns-in-Err-clause-keeps : goal.returns-in-Err-clause-keeps
@@ -34,8 +34,7 @@ returns-in-Err-clause-keeps g c = record {
   kept = search (rules);
   pools = search (rules);
   settles = search (rules);
-  no_room = λ p is. few_free c.args.store.now c.args.pool c.args.n (c.in-Err.ensures.no_room p (ap (λ x. Err x) is));
-  asks = search (rules);
+  no_room = λ p is. few_free c.args.store.now c.args.pool c.args.n (c.in-Err.ensures.begins.no_room p (ap (λ x. Err x) is));
   late = search (rules);
 }
 
@@ -49,7 +48,7 @@ parts_few low (p ∷ ps) apart = let h = parts_few (p.first + p.count) ps apart.
 pub returns-in-Ok-fill_parts-clause-loads : goal.returns-in-Ok-fill_parts-clause-loads
 returns-in-Ok-fill_parts-clause-loads g c =
     let s = c.args.store.now in
-    let b = c.in-Ok.ensures in
+    let b = c.in-Ok.ensures.begins in
     let w = c.fill_parts.ensures.writes in
     let r = c.in-Ok-fill_parts.ensures.reads in
     let e = c.publish.ensures in
@@ -66,7 +65,7 @@ pub returns-in-Ok-fill_parts-clause-keeps : goal.returns-in-Ok-fill_parts-clause
 returns-in-Ok-fill_parts-clause-keeps g c =
     let s = c.args.store.now in
     let m = (returns-in-Ok-fill_parts-clause-loads g c).placed.pages in
-    record { none = tt; kept = tt; pools = m.pools; settles = λ all. all_settled_placed s _ (pool_in s.pools c.args.pool).chunks (pages_for c.args.n) m.pools m.others all; no_room = tt; asks = search (rules); late = tt }
+    record { none = tt; kept = tt; pools = m.pools; settles = λ all. all_settled_placed s _ (pool_in s.pools c.args.pool).chunks (pages_for c.args.n) m.pools m.others all; no_room = tt; late = tt }
 
 pub returns-in-Err-fill_parts-clause-keeps : goal.returns-in-Err-fill_parts-clause-keeps
 returns-in-Err-fill_parts-clause-keeps g c =
@@ -75,7 +74,7 @@ returns-in-Err-fill_parts-clause-keeps g c =
     let e = c.abandon.ensures in
     let qs = filling_parts c.fill_parts.new.filling in
     let placed = lowest_of s c.args.pool c.args.n in
-    let gone = keeps_abandoned (filling_parts c.in-Ok.filling) qs placed (parts_are _ _ w.reserved) c.in-Ok.ensures.pages c.in-Ok.ensures.fills c.in-Ok.ensures.others w.fills w.entries e.publishes e.unraised e.others e.returned in
+    let gone = keeps_abandoned (filling_parts c.in-Ok.filling) qs placed (parts_are _ _ w.reserved) c.in-Ok.ensures.begins.pages c.in-Ok.ensures.begins.fills c.in-Ok.ensures.begins.others w.fills w.entries e.publishes e.unraised e.others e.returned in
     let P : Stored → Type 0 = λ t. KeepsPages s t [] in
     let Q : Stored → Type 0 = λ t. AllSettled s → AllSettled t in
     let f = λ (d : Stored) (m : KeepsPages s d [] × IsSameBut placed s.arena d.arena × (d.pools ≡ s.pools)) (all : AllSettled s). all_settled_placed s d (pool_in s.pools c.args.pool).chunks (pages_for c.args.n) m.2 m.1 all in
@@ -85,6 +84,5 @@ returns-in-Err-fill_parts-clause-keeps g c =
       pools = search (rules);
       settles = subst Q (search rules) (f _ gone);
       no_room = λ p is. absurd (let other : Fault c.args.file ≡ NoRoom p = is in cc);
-      asks = search (rules);
       late = refl;
     }

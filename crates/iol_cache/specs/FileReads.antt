@@ -1,0 +1,78 @@
+-- What reads of files want and do, and their steps on a part of a file.
+use Rattle.std.specs.Prelude.{◌≡◌, ℕ, ◌≤◌, ◌^◌, true, List, [], length, Result, IfErr, IfOk, OnErr}
+use Rattle.iol_core.specs.Numbered.{is_numbered}
+use Rattle.iol_core.specs.Prelude.{WantOfRoomOrFault}
+use Rattle.iol_core.specs.Text.{labelled}
+use Rattle.iol_core.specs.declared.refusals.Refusal.{Refusal}
+use Rattle.iol_back.specs.Disk.{Disk}
+use Rattle.iol_extent.specs.declared.spans.Span.{Span}
+use Rattle.iol_hold.specs.Places.{byte_len}
+use Rattle.iol_hold.specs.Stored.{Stored}
+use Rattle.iol_hold.specs.Texts.{AllReadable, bufs_of, text_of}
+use Rattle.iol_hold.specs.declared.slices.Slice.{Slice}
+use Rattle.iol_cache.specs.declared.cache.Cache.{Cache}
+use Rattle.iol_cache.specs.declared.files.FilePart.{FilePart}
+use Rattle.iol_cache.specs.Cache.{cached_of, holding}
+use Rattle.iol_cache.specs.Cached.{Cached, file_in}
+use Rattle.iol_cache.specs.Contents.{bytes_in_slot}
+use Rattle.iol_cache.specs.Evicting.{Holding}
+use Rattle.iol_cache.specs.Gaps.{AreOf}
+use Rattle.iol_cache.specs.Going.{FillsAllOf, Goes}
+use Rattle.iol_cache.specs.Paging.{FillsLowest}
+use Rattle.iol_cache.specs.Reading.{MayFill}
+use Rattle.iol_cache.specs.Serving.{FillsPinned, IsBacked, IsEnd, NoRoomToRead, ReadsFile, RefusesRead, RoomToRead, TellsFault, TellsRoom, bytes_read}
+use Rattle.iol_cache.specs.Sharing.{CountsBelow}
+use Rattle.iol_cache.specs.Sound.{IsSound}
+
+-- A part of a file may be filled, or is: its gaps are read, and it is put together with slices that are as long as what lies
+-- beside them. With pins, room is made for the gaps, and they are released after.
+
+abbrev pub MayFillPart : FilePart → (gaps : List Span) → (beside : List Slice) → Holding → Type 0
+MayFillPart part gaps beside h = MayFill part.file part.from part.to gaps beside h
+
+abbrev pub FillsPart : FilePart → (gaps : List Span) → (beside : List Slice) → (disk after : Disk) → Stored → Cache
+    → Stored → Cache → Result (List Slice) Refusal → Type 0
+FillsPart part gaps beside disk after s c t d r =
+    FillsAllOf part.file part.from part.to gaps beside disk after (holding s c) (holding t d) r
+
+abbrev pub FillsPinnedPart : FilePart → (pins : List Slice) → (gaps : List Span) → (disk after : Disk) → Stored → Cache
+    → Stored → Cache → Result (List Slice) Refusal → Type 0
+FillsPinnedPart part pins gaps disk after s c t d r =
+    FillsPinned part.file part.from part.to pins gaps disk after (holding s c) (holding t d) r
+
+-- The calls.
+
+-- a file of a sound cache may be read: each buffer is held fewer than 2^59 times
+pub record MayReadFile (f : ℕ) (h : Holding) : Type 0 where
+  pub sound : IsSound h.store h.cache
+  pub file : is_numbered h.cache.files f ≡ true
+  pub few : CountsBelow h.store (2 ^ 59)
+
+-- At most n bytes of a file were read from `at` on, as far as it goes: where the store backs the cache, the file's own. Or the
+-- read was refused: for want of room where there is none, for want of memory, or by a fault of the store. Either way the cache is
+-- sound, and over an honest store every file has the bytes that it had. Beside extents, only what is given came to be held.
+pub record ServesRead (f at n : ℕ) (disk : Disk) (s : Stored) (c : Cache) (r : Result (List Slice) Refusal) (after : Disk)
+    (t : Stored) (d : Cache) : Type 0 where
+  -- what is read
+  pub text : IsBacked disk (holding s c)
+      → IfOk r (λ a. text_of t a ≡ labelled (file_in (cached_of c).files f).pool (bytes_read s disk.slots (cached_of c) f at n))
+  pub readable : IfOk r (AllReadable t)
+  pub pool : IfOk r (AreOf (file_in (cached_of c).files f).pool)
+  pub short : IfOk r (λ a. byte_len a ≤ n)
+  pub reads : IfOk r (ReadsFile f at n disk (holding s c) (holding t d))
+  -- what stays
+  pub backed : IsBacked disk (holding s c) → IsBacked after (holding t d)
+  pub goes : IfOk r (λ a. Goes disk [] (bufs_of a) (holding s c) (holding t d))
+  pub gone : OnErr r (Goes disk [] [] (holding s c) (holding t d))
+  pub pages : FillsLowest (file_in (cached_of c).files f).pool s t
+  pub sound : IsSound t (cached_of d)
+  -- refusals
+  pub refused : IfErr r (RefusesRead f at n disk (holding s c) (holding t d))
+  pub room : TellsRoom (RoomToRead f at n disk (holding s c)) (NoRoomToRead f at n disk (holding s c)) r
+  pub fault : TellsFault disk after r
+  pub late : IfErr r (WantOfRoomOrFault (file_in (cached_of c).files f).pool f)
+
+-- n is where a read of a file would end now: of a store that backs the cache, the length of the file
+pub record TellsLength (disk : Disk) (c : Cached) (f n : ℕ) : Type 0 where
+  pub end : IsEnd disk c f n
+  pub length : (s : Stored) → IsBacked disk (record { store = s; cache = c }) → n ≡ length (bytes_in_slot s disk.slots c.files f)
