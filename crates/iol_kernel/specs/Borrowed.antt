@@ -66,7 +66,7 @@ pub record RefusesByte {A : Type 0} (s : State) (c max : ℕ) (has_room : Bool) 
   pub room : OnOk r (has_room ≡ true)
   pub no_room : (p : ℕ) → r ≡ Err (NoRoom p) → has_room ≡ false
 
--- So it is refused before anything was read, and at most clean extents have given way by then.
+-- A read is refused as one byte that arrives, before anything was read: at most clean extents have given way by then.
 pub record RefusesArrival {A R : Type 0} (c max : ℕ) (old new : KernelState) (reader after : R)
     (r : Result A Refusal) : Type 0 where
   pub byte : RefusesByte (machine_of [] old) c max (can_fit old (conn_at (machine_of [] old) c).pool 1) r
@@ -105,7 +105,8 @@ pub record DrainsTo (c max : ℕ) (held now : Option (List ℕ)) (old new : Kern
   pub written : Appends held now (take d.taken (bytes_of (conn_at (machine_of [] old) c).outgoing))
   pub left : Leaves (sent_on c d.taken) old new
 
--- It is refused just where there is no such connection. Then the writer is as it was, and so is whatever was asked.
+-- Draining connection c is refused just where there is no such connection. Then the writer is as it was, and so is whatever was
+-- asked.
 pub record RefusesDrain {A S W : Type 0} (s : State) (c : ℕ) (old new : S) (writer after : W)
     (r : Result A Refusal) : Type 0 where
   pub passed : OnOk r (lacks_conn s c ≡ false)

@@ -3,8 +3,8 @@ use Rattle.std.specs.Prelude.{◌≡◌, ℕ, ◌+◌, ◌≤◌, Bool, nat_lt, 
 use Rattle.iol_core.specs.Text.{Text, labelled}
 use Rattle.iol_core.specs.State.{State, is_live, text, descriptor, conn_at, with_conn}
 use Rattle.iol_core.specs.Meaning.{Meaning}
-use Rattle.iol_core.specs.Prelude.{Step, WantOfRoom, first}
-use Rattle.iol_core.specs.Calls.Aggregates.{agg_make, default_pool, lacks_agg, next_agg, show, too_many_aggs, with_agg}
+use Rattle.iol_core.specs.Prelude.{Step, WantOfRoom, first, default_pool, show}
+use Rattle.iol_core.specs.Calls.Aggregates.{agg_make, lacks_agg, next_agg, too_many_aggs, with_agg}
 use Rattle.iol_core.specs.declared.refusals.Refusal.{Refusal}
 use Rattle.iol_core.specs.declared.refusals.Refusal.TheVariants.{NoDomain, BadAgg, BadFd, NoRoom}
 use Rattle.iol_core.specs.State as machine
@@ -47,6 +47,10 @@ Shows d a bytes h = (stored : List (List ℕ))
 abbrev pub ShowsSoMany : (d a n : ℕ) → KernelState → Type 0
 ShowsSoMany d a n h = (stored : List (List ℕ))
     → (first (show (machine_of stored h) d a).refusals ≡ None) × (n ≡ length (show (machine_of stored h) d a).answer)
+
+-- `show` refuses so, whatever is read
+abbrev pub RefusesShow : (d a : ℕ) → Refusal → KernelState → Type 0
+RefusesShow d a x h = (f : Reading) → first (show (read_of f h) d a).refusals ≡ Some x
 
 -- The machine's step whatever is read: of bytes it is the step that the call means; of places it says that the bytes
 -- of its result lie where its meaning says, so that none was copied, and that nothing else moved.

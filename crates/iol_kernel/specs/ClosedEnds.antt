@@ -28,10 +28,11 @@ pub record Becomes (s t : Stored) (old new x : Pipe (List Slice)) : Type 0 where
 abbrev pub with_pipe_in : List (Option (Pipe (List Slice))) → (p : ℕ) → Pipe (List Slice) → List (Option (Pipe (List Slice)))
 with_pipe_in pipes p x = slice_set pipes p (if x.reading || x.writing then Some x else None)
 
--- the pipe p became x, which holds a part of what it held
-pub record ClosesEnd (s t : Stored) (old new : List (Option (Pipe (List Slice)))) (p : ℕ) (x : Pipe (List Slice)) : Type 0 where
-  pub pipes : new ≡ with_pipe_in old p x
-  pub releases : Releases s t (queue_at old p).queue x.queue
+-- An end of the pipe p was closed: the pipe became what `closed` makes of it, and holds a part of what it held.
+pub record ClosesEnd (s t : Stored) (old new : List (Option (Pipe (List Slice)))) (p : ℕ)
+    (closed : Pipe (List Slice) → Pipe (List Slice)) : Type 0 where
+  pub pipes : new ≡ with_pipe_in old p (closed (queue_at old p))
+  pub releases : Releases s t (queue_at old p).queue (closed (queue_at old p)).queue
 
 -- what a domain's numbers were open on: each end is open, and in no other descriptor
 pub record AreTaken (domains : List (Domain (List Slice))) (objects : Objects (List Slice))
@@ -49,18 +50,18 @@ pub record IsLetGo (h : KernelState) (end : Descriptor) : Type 0 where
   pub opened : IsOpenEnd (objects_of h) (Some end)
   pub free : all_ends_on end h.domains ≡ 0
 
--- It is closed. No domain changes, and all other ends stay open.
+-- An end was closed. No domain changed, and all other ends stay open.
 pub record Closes (end : Descriptor) (old new : KernelState) : Type 0 where
   pub closed : Leaves (λ s. closed_on s (Some end)) old new
   pub domains : new.domains ≡ old.domains
   pub others : KeepsEnds end (objects_of old) (objects_of new)
 
--- These ends are all still open, each with no descriptor on it any more.
+-- Ends that were taken from a domain: each is still open, and no descriptor is open on it any more, if it is no file.
 pub record AreLetGo (h : KernelState) (ends : List (Option Descriptor)) : Type 0 where
   pub sound : IsSound h
   pub taken : AreTaken h.domains (objects_of h) ends
 
--- They are closed one after another, and no domain changes.
+-- Ends were closed one after another, and no domain changed.
 pub record ClosesAll (ends : List (Option Descriptor)) (old new : KernelState) : Type 0 where
   pub closed : Leaves (λ s. fold closed_on s ends) old new
   pub domains : new.domains ≡ old.domains

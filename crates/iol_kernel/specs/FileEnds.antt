@@ -1,9 +1,9 @@
 -- Where a file ends, over any store: what the calls that ask for a length say of it, by what the store tells then.
 use Rattle.std.specs.Prelude.{◌≡◌, ℕ, ◌+◌, ◌<◌, ◌≤◌, Bool, true, false, [], length, nat_lt, if◌then◌else◌, Option, Some, None, Result, Ok, Err, OnOk, IfOk, IfErr, OnErr, ⊤}
-use Rattle.iol_core.specs.Prelude.{content, is_live}
+use Rattle.iol_core.specs.Prelude.{content, is_live, open_on}
 use Rattle.iol_core.specs.Meaning.{first}
 use Rattle.iol_core.specs.Numbered.{is_numbered}
-use Rattle.iol_core.specs.Calls.Files.{file_length, open_on}
+use Rattle.iol_core.specs.Calls.Files.{file_length}
 use Rattle.iol_core.specs.declared.descriptors.Descriptor.{Descriptor}
 use Rattle.iol_core.specs.declared.descriptors.Descriptor.TheVariants as on
 use Rattle.iol_core.specs.declared.limits.TheConstants.{MAX_FILES, MAX_FILE_BYTES}
@@ -30,7 +30,7 @@ pub record HasFileFor (h : KernelState) (d f : ℕ) : Type 0 where
   pub file : HasFile h f
   pub live : is_live (machine_of [] h) d ≡ true
 
--- So many bytes a file has: a read of it ends there, and with an honest store they are all.
+-- n is where a read of a file ends now; where the store backs what is in memory, that is the length of the file.
 pub record IsLengthOf (disk : Disk) (h : KernelState) (f n : ℕ) : Type 0 where
   pub is : IsBackedBy disk h → n ≡ length (content (machine_of disk.slots h) f)
   pub end : IsEnd disk h.cache f n
@@ -47,7 +47,7 @@ abbrev pub EndsOn : Option Descriptor → (end : ℕ) → Disk → KernelState �
 EndsOn (Some (on.File f at mode)) end disk h = IsEnd disk h.cache f end
 EndsOn _ end disk h = ⊤
 
--- so of what a live domain's descriptor is open on
+-- the file that a live domain's descriptor is open on ends there for a read of it
 abbrev pub EndsAt : (d fd end : ℕ) → Disk → KernelState → Type 0
 EndsAt d fd end disk h = EndsOn (held_by (machine_of [] h) d fd) end disk h
 
@@ -59,12 +59,12 @@ pub record SeeksTo {A : Type 0} (f at : ℕ) (disk : Disk) (c : Cached) (r : Res
   pub within : OnOk r (at ≤ end)
   pub beyond : r ≡ Err BadRange → end < at
 
--- by what the descriptor is open on
+-- a position was asked for in what a descriptor is open on, where that is a file
 abbrev pub SeeksOn : {A : Type 0} → Option Descriptor → (at : ℕ) → Disk → KernelState → Result A Refusal → Type 0
 SeeksOn (Some (on.File f was mode)) at disk h r = SeeksTo f at disk h.cache r
 SeeksOn _ at disk h r = ⊤
 
--- so of a live domain's descriptor
+-- a position was asked for in what a live domain's descriptor is open on, where that is a file
 abbrev pub SeeksAt : {A : Type 0} → (d fd at : ℕ) → Disk → KernelState → Result A Refusal → Type 0
 SeeksAt d fd at disk h r = SeeksOn (held_by (machine_of [] h) d fd) at disk h r
 
@@ -73,8 +73,8 @@ abbrev pub is_next_long : Disk → KernelState → Bool
 is_next_long disk h = if nat_lt (length h.files) MAX_FILES
     then nat_lt MAX_FILE_BYTES (length_told disk.told (length h.files + 1)) else false
 
--- Whether the next slot has more bytes than a file may have, by what the store tells. Of an honest
--- store that is what it has there, and of any store what some bytes come to.
+-- Asked whether the next slot has more bytes than a file may have: yes where the store tells so of its length, and no past the
+-- last slot. Of an honest store it is so of what it has there, and of any store of some bytes that might be there.
 pub record AsksNext (disk : Disk) (h : KernelState) (more : Bool) : Type 0 where
   pub honest : IfHonest disk ((f : Reading) → f.stored ≡ disk.slots
       → more ≡ nat_lt MAX_FILE_BYTES (length (content (read_of f h) (length (read_of f h).files + 1))))

@@ -2,11 +2,12 @@
 use Rattle.std.specs.Prelude.{◌≡◌, ◌⊎◌, ℕ, ◌+◌, ◌-◌, ◌≤◌, ◌&&◌, Bool, not, min, List, [], ◌∷◌, length, slice_set, Option, Some, None, Result, IfOk, IfErr, OnErr, OnOk, if◌then◌else◌}
 use Rattle.iol_core.specs.State as machine
 use Rattle.iol_core.specs.State.{State, Domain, is_live, descriptor}
-use Rattle.iol_core.specs.Meaning.{◌when◌, WantOfRoomOrFault, first}
+use Rattle.iol_core.specs.Meaning.{◌when◌, first}
 use Rattle.iol_core.specs.Text.{bytes_of}
 use Rattle.iol_core.specs.Calls.Aggregates.{too_many_aggs}
 use Rattle.iol_core.specs.Calls.Descriptors.{denied_by}
 use Rattle.iol_core.specs.Calls.Reading as calls
+use Rattle.iol_core.specs.Prelude.{WantOfRoomOrFault}
 use Rattle.iol_core.specs.declared.descriptors.Mode.{Mode}
 use Rattle.iol_core.specs.declared.descriptors.Descriptor.{Descriptor}
 use Rattle.iol_core.specs.declared.descriptors.Descriptor.TheVariants as on
@@ -52,7 +53,7 @@ pub record FileRead : Type 0 where
 abbrev pub file_read : (d fd f at : ℕ) → Mode → (n : ℕ) → FileRead
 file_read d fd f at mode n = record { domain = d; fd = fd; file = f; at = at; mode = mode; count = n }
 
--- the same of what was found open
+-- a read of n bytes by a domain's descriptor, of what it was found open on
 abbrev pub read_at : (d fd : ℕ) → OpenFile → (n : ℕ) → FileRead
 read_at d fd found n = file_read d fd found.file found.at found.mode n
 

@@ -1,5 +1,5 @@
 -- Files by name, and what opening one means.
-use Rattle.std.specs.Prelude.{◌≡◌, ◌==◌, ℕ, List, [], map, nat_eq}
+use Rattle.std.specs.Prelude.{◌≡◌, ◌==◌, ℕ, ◌+◌, ◌++◌, ◌∷◌, List, [], map, nat_eq, bytes_eq, Option, option_map, position}
 use Rattle.std.specs.List.{list_any}
 use Rattle.std.specs.Global.{Vec}
 use Rattle.iol_core.specs.Calls.Descriptors.{next_fd, opened}
@@ -19,6 +19,14 @@ file_of e = record { name = e.0.items; pool = e.1 }
 
 abbrev pub files_of : List (Vec ℕ × ℕ) → List machine.File
 files_of es = map file_of es
+
+-- the slot of the first file of this name
+abbrev pub slot_called : List machine.File → (name : List ℕ) → Option ℕ
+slot_called files name = option_map (λ i. i + 1) (position (λ f. bytes_eq f.name name) files)
+
+-- with a file of this name and pool in the next slot
+abbrev pub with_named : List machine.File → (name : List ℕ) → (pool : ℕ) → List machine.File
+with_named files name pool = files ++ record { name = name; pool = pool } ∷ []
 
 -- these are the numbers of the files' pools
 pub record AreUsed (files : List machine.File) (used : List ℕ) : Type 0 where

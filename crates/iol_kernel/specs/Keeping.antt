@@ -34,7 +34,7 @@ pub record KeepsUnless (pool : ℕ) (Lacks : Type 0) (old new : Cached) : Type 0
   pub each : (f i : ℕ) (c : Cell) → cover (extents_in old.files f) i ≡ Some c
       → (cover (extents_in new.files f) i ≡ Some c) ⊎ GaveWay pool Lacks old f c
 
--- so does each one that is not of the range
+-- each byte that lies under an extent, and is none of the n of file f from `at` on, lies where it lay, or gave way
 pub record KeepsBeside (f at n pool : ℕ) (Lacks : Type 0) (old new : Cached) : Type 0 where
   pub each : (g i : ℕ) (c : Cell) → (g ≡ f → (i < at) ⊎ (at + n ≤ i)) → cover (extents_in old.files g) i ≡ Some c
       → (cover (extents_in new.files g) i ≡ Some c) ⊎ GaveWay pool Lacks old g c

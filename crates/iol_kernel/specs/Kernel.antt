@@ -3,6 +3,7 @@ use Rattle.std.specs.Prelude.{◌≡◌, ℕ, List, [], Result, IfOk, OnErr}
 use Rattle.iol_core.specs.State.{State}
 use Rattle.iol_core.specs.Text.{Text}
 use Rattle.iol_core.specs.Meaning.{Meaning}
+use Rattle.iol_core.specs.Calls.Files.{file_new}
 use Rattle.iol_core.specs.declared.descriptors.Descriptor.{Descriptor}
 use Rattle.iol_core.specs.declared.refusals.Refusal.{Refusal}
 use Rattle.iol_hold.specs.declared.slices.Slice.{Slice}
@@ -11,14 +12,17 @@ use Rattle.iol_back.specs.Disk.{Disk}
 use Rattle.iol_cache.specs.Cache.{cached_of}
 use Rattle.iol_kernel.specs.Backed as backed
 use Rattle.iol_kernel.specs.Calls as calls
+use Rattle.iol_kernel.specs.Copying as copying
 use Rattle.iol_kernel.specs.MakingRoom as making
 use Rattle.iol_kernel.specs.Opened as opened
 use Rattle.iol_kernel.specs.QueueEnds as ends
 use Rattle.iol_kernel.specs.FileReading as files
-use Rattle.iol_kernel.specs.FileReading.{FileRead}
+use Rattle.iol_kernel.specs.FileReading.{FileRead, read_at}
 use Rattle.iol_kernel.specs.KernelState.{KernelState, read_of, machine_of}
 use Rattle.iol_kernel.specs.Readings.{Reading}
+use Rattle.iol_kernel.specs.WritingBack as back
 use Rattle.iol_kernel.specs.declared.kernel.Kernel.{Kernel}
+use Rattle.iol_kernel.specs.declared.open_file.OpenFile.{OpenFile}
 
 abbrev pub state_of : Kernel → KernelState
 state_of k = record {
@@ -52,9 +56,6 @@ Answers m old a new = calls.Answers m (state_of old) a (state_of new)
 abbrev pub Attempts : {A E : Type 0} → (State → Meaning A) → Kernel → Result A E → Kernel → Type 0
 Attempts m old r new = calls.Attempts m (state_of old) r (state_of new)
 
-abbrev pub AddsFile : {A : Type 0} → (State → Meaning A) → Kernel → A → Kernel → Type 0
-AddsFile m old a new = calls.AddsFile m (state_of old) a (state_of new)
-
 abbrev pub Leaves : (State → State) → Kernel → Kernel → Type 0
 Leaves after old new = calls.Leaves after (state_of old) (state_of new)
 
@@ -64,12 +65,33 @@ Steps m old r new = calls.Steps m (state_of old) r (state_of new)
 abbrev pub Names : {A : Type 0} → Disk → (State → Meaning A) → Kernel → Result A Refusal → Kernel → Type 0
 Names disk m old r new = calls.Names disk m (state_of old) r (state_of new)
 
+-- the next slot of the store under files is given this name and this pool
+abbrev pub NamesNext : Disk → (d : ℕ) → (name : List ℕ) → (p : ℕ) → Kernel → Result ℕ Refusal → Kernel → Type 0
+NamesNext disk d name p old r new = Names disk (λ s. file_new s d name p) old r new
+
 abbrev pub Serves : {A : Type 0} → (State → Meaning A) → (disk : Disk) → Kernel → Result A Refusal
     → (after : Disk) → Kernel → Type 0
 Serves m disk old r after new = backed.Serves m disk (state_of old) r after (state_of new)
 
 abbrev pub LooksUp : {A : Type 0} → (State → Meaning A) → Disk → Kernel → Result A Refusal → Kernel → Type 0
 LooksUp m disk old r new = backed.LooksUp m disk (state_of old) r (state_of new)
+
+-- what comes of a read by copying of what was found open
+abbrev pub CopiesFile : (d fd : ℕ) → OpenFile → (n : ℕ) → Disk → Kernel → Result (List ℕ) Refusal → Disk → Kernel → Type 0
+CopiesFile d fd found n disk old r after new =
+    files.CopiesFromFile (read_at d fd found n) disk (state_of old) r after (state_of new)
+
+abbrev pub ReadsList : (d fd n : ℕ) → Disk → Kernel → Result (List ℕ) Refusal → Disk → Kernel → Type 0
+ReadsList d fd n disk old r after new = copying.ReadsList d fd n disk (state_of old) r after (state_of new)
+
+abbrev pub SyncsBack : (d fd f : ℕ) → Disk → Kernel → Result (Unit {0}) Refusal → Disk → Kernel → Type 0
+SyncsBack d fd f disk old r after new = back.SyncsBack d fd f disk (state_of old) r after (state_of new)
+
+abbrev pub SyncsOpen : (d fd : ℕ) → Disk → Kernel → Result (Unit {0}) Refusal → Disk → Kernel → Type 0
+SyncsOpen d fd disk old r after new = back.SyncsOpen d fd disk (state_of old) r after (state_of new)
+
+abbrev pub FlushesBack : Disk → Kernel → Result (Unit {0}) Refusal → Disk → Kernel → Type 0
+FlushesBack disk old r after new = back.FlushesBack disk (state_of old) r after (state_of new)
 
 abbrev pub IsOpenOn : Kernel → (d fd : ℕ) → Descriptor → Type 0
 IsOpenOn k d fd end = opened.IsOpenOn (state_of k) d fd end
@@ -80,12 +102,6 @@ IsOpenAt k x = files.IsOpenAt (state_of k) x
 abbrev pub TakesFromFile : FileRead → Disk → Kernel → Result ℕ Refusal → Disk → Kernel → Type 0
 TakesFromFile x disk old r after new = files.TakesFromFile x disk (state_of old) r after (state_of new)
 
-abbrev pub CopiesFromFile : FileRead → Disk → Kernel → Result (List ℕ) Refusal → Disk → Kernel → Type 0
-CopiesFromFile x disk old r after new = files.CopiesFromFile x disk (state_of old) r after (state_of new)
-
-abbrev pub CopiesFileAs : FileRead → Disk → Kernel → Result (List ℕ) Refusal → Disk → Kernel → Type 0
-CopiesFileAs x disk old r after new = files.CopiesFileAs x disk (state_of old) r after (state_of new)
-
 abbrev pub Reads : (d fd n : ℕ) → Disk → Kernel → Result ℕ Refusal → Disk → Kernel → Type 0
 Reads d fd n disk old r after new = files.Reads d fd n disk (state_of old) r after (state_of new)
 
@@ -94,9 +110,6 @@ Shows d a bytes k = calls.Shows d a bytes (state_of k)
 
 abbrev pub ShowsSoMany : (d a n : ℕ) → Kernel → Type 0
 ShowsSoMany d a n k = calls.ShowsSoMany d a n (state_of k)
-
-abbrev pub Arrives : (c n : ℕ) → (old new : Kernel) → Type 0
-Arrives c n old new = calls.Arrives c n (state_of old) (state_of new)
 
 abbrev pub Transmits : (c max : ℕ) → Kernel → Result (List ℕ × ℕ) Refusal → Kernel → Type 0
 Transmits c max old r new = calls.Transmits c max (state_of old) r (state_of new)

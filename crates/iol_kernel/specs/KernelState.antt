@@ -37,7 +37,7 @@ pub record KernelState : Type 0 where
   pub files : List machine.File
   pub cache : Cached
 
--- its pipes, connections and files
+-- a system's pipes, connections and files
 abbrev pub objects_of : KernelState → Objects (List Slice)
 objects_of h = record { pipes = h.pipes; conns = h.conns; next_conn = h.next_conn; files = h.files; cached = h.cache.files }
 
@@ -103,12 +103,12 @@ IsOpenEnd objects (Some (on.File f at mode)) = (is_numbered objects.files f ≡ 
 IsOpenEnd objects (Some (on.Connection c)) = ((conn_in objects.conns c).accepted ≡ true)
     × ((conn_in objects.conns c).closed ≡ false)
 
--- its queue is within the limit
+-- a pipe's queue is within the limit
 abbrev pub IsShort : Option (Pipe (List Slice)) → Type 0
 IsShort None = Unit {0}
 IsShort (Some p) = byte_len p.queue ≤ MAX_QUEUE_BYTES
 
--- so are its queues, and only an accepted one was closed
+-- a connection's queues are within the limit, and only an accepted one was closed
 pub record IsConn (e : ℕ × Conn (List Slice)) : Type 0 where
   pub incoming : byte_len e.1.incoming ≤ MAX_QUEUE_BYTES
   pub outgoing : byte_len e.1.outgoing ≤ MAX_QUEUE_BYTES

@@ -54,7 +54,7 @@ pub record AsksRoom (pool pages : ℕ) (old : KernelState) (enough : Bool) (new 
   pub free : IsTrue enough → pages ≤ length (free_of new.store pool)
   pub refused : enough ≡ false → new ≡ old
 
--- The same of so many bytes: it was made just where they fit.
+-- Room was asked for, for so many bytes. It was made just where they fit; else nothing changed.
 pub record AsksToFit (pool n : ℕ) (old : KernelState) (enough : Bool) (new : KernelState) : Type 0 where
   pub made : MakesRoom pool (pages_for n) old new
   pub fits : can_fit old pool n ≡ enough

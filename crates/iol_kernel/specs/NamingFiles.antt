@@ -9,36 +9,40 @@ use Rattle.iol_core.specs.declared.limits.TheConstants.{MAX_FILES}
 use Rattle.iol_arena.specs.State.{page_count}
 use Rattle.iol_pool.specs.Pools.{pool_in}
 use Rattle.iol_hold.specs.Stored.{Stored, IsStill, IsTidy}
-use Rattle.iol_cache.specs.Cached.{Cached, new_file, order_in}
+use Rattle.iol_cache.specs.Cache.{cached_of}
+use Rattle.iol_cache.specs.Cached.{new_file, order_in}
 use Rattle.iol_cache.specs.Sound as cache
 use Rattle.iol_kernel.specs.Calls.{AddsFile}
 use Rattle.iol_kernel.specs.FileEnds.{HasFileFor}
+use Rattle.iol_kernel.specs.Files.{with_named}
 use Rattle.iol_kernel.specs.KernelState.{KernelState, IsSound, machine_of, read_of}
 use Rattle.iol_kernel.specs.Readings.{Reading}
+use Rattle.iol_kernel.specs.declared.files.Files.{Files}
 
--- There is no file, and nothing in memory of any, over so many pages.
-pub record HasNone (pages : ℕ) (files : List machine.File) (c : Cached) : Type 0 where
-  pub none : files ≡ []
-  pub cached : c.files ≡ []
-  pub orders : c.orders ≡ []
-  pub sound : (s : Stored) → page_count s.arena ≡ pages → IsTidy s → IsStill s.arena → cache.IsSound s c
+-- There is no file, nothing in memory of any, and no order of eviction. Over a store of so many pages that is tidy and still
+-- the cache is in order.
+pub record HasNone (pages : ℕ) (x : Files) : Type 0 where
+  pub none : x.table.files ≡ []
+  pub cached : (cached_of x.cache).files ≡ []
+  pub orders : (cached_of x.cache).orders ≡ []
+  pub sound : (s : Stored) → page_count s.arena ≡ pages → IsTidy s → IsStill s.arena → cache.IsSound s (cached_of x.cache)
 
--- A file of this name may come after these: none of them has the name, and a slot is free.
-pub record MayName (name : List ℕ) (files : List machine.File) (c : Cached) : Type 0 where
-  pub unnamed : list_any (λ f. bytes_eq f.name name) files ≡ false
-  pub few : length c.files < MAX_FILES
+-- A file of this name may come after those that there are: none of them has the name, and a slot is free.
+pub record MayName (name : List ℕ) (x : Files) : Type 0 where
+  pub unnamed : list_any (λ f. bytes_eq f.name name) x.table.files ≡ false
+  pub few : length (cached_of x.cache).files < MAX_FILES
 
--- A file of this name and pool came after the files before, and nothing of it is in memory; or memory
--- was wanting, and files and cache are as they were.
-pub record AddsNamed {E : Type 0} (name : List ℕ) (pool : ℕ) (before after : List machine.File) (old new : Cached)
-    (r : Result ℕ E) : Type 0 where
-  pub number : IfOk r (λ n. n ≡ length old.files + 1)
-  pub list : let file : machine.File = record { name = name; pool = pool } in OnOk r (after ≡ before ++ file ∷ [])
-  pub cached : OnOk r (new.files ≡ old.files ++ new_file pool ∷ [])
-  pub orders : (p : ℕ) → order_in new.orders p ≡ order_in old.orders p
-  pub sound : (s : Stored) → cache.IsSound s old → (pool_in s.pools pool).closed ≡ false → cache.IsSound s new
-  pub err_list : OnErr r (after ≡ before)
-  pub err_cache : OnErr r (new ≡ old)
+-- A file of this name and pool came in the next slot, and nothing of it is in memory; refused, files and cache are as they were.
+-- Each order of eviction stays, and so does the cache's order over a store in which the pool is open.
+pub record AddsNamed {E : Type 0} (name : List ℕ) (pool : ℕ) (old : Files) (r : Result ℕ E) (new : Files) : Type 0 where
+  pub number : IfOk r (λ n. n ≡ length (cached_of old.cache).files + 1)
+  pub list : OnOk r (new.table.files ≡ with_named old.table.files name pool)
+  pub cached : OnOk r ((cached_of new.cache).files ≡ (cached_of old.cache).files ++ new_file pool ∷ [])
+  pub orders : (p : ℕ) → order_in (cached_of new.cache).orders p ≡ order_in (cached_of old.cache).orders p
+  pub sound : (s : Stored) → cache.IsSound s (cached_of old.cache) → (pool_in s.pools pool).closed ≡ false
+      → cache.IsSound s (cached_of new.cache)
+  pub err_list : OnErr r (new.table.files ≡ old.table.files)
+  pub err_cache : OnErr r (cached_of new.cache ≡ cached_of old.cache)
 
 -- A file may come in the next slot, under a name that no other has, in a pool that is open.
 pub record MayAddFile (name : List ℕ) (pool : ℕ) (h : KernelState) : Type 0 where
@@ -47,7 +51,7 @@ pub record MayAddFile (name : List ℕ) (pool : ℕ) (h : KernelState) : Type 0 
   pub unnamed : is_some (file_called (machine_of [] h) name) ≡ false
   pub opened : (machine.pool (machine_of [] h) pool).closed ≡ false
 
--- It came; or memory was wanting, and nothing changed.
+-- A file of this name and pool came in the next slot; or memory was wanting, and nothing changed.
 pub record TriesFile {E : Type 0} (d : ℕ) (name : List ℕ) (pool : ℕ) (old : KernelState) (r : Result ℕ E)
     (new : KernelState) : Type 0 where
   pub done : IfOk r (λ n. AddsFile (λ s. file_new s d name pool) old n new)

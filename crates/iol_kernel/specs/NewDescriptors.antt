@@ -5,17 +5,17 @@ use Rattle.iol_core.specs.State.{is_live}
 use Rattle.iol_core.specs.Calls.Descriptors.{too_many_open, waiting}
 use Rattle.iol_core.specs.declared.descriptors.Descriptor.{Descriptor}
 use Rattle.iol_core.specs.declared.limits.TheConstants.{MAX_PIPES}
-use Rattle.iol_kernel.specs.KernelState.{KernelState, IsSound, machine_of}
+use Rattle.iol_kernel.specs.Having.{Lives}
+use Rattle.iol_kernel.specs.KernelState.{KernelState, machine_of}
 use Rattle.iol_kernel.specs.Opened.{IsOpenOn}
 
 -- Between two events: a domain may get both ends of a new pipe.
 pub record MayPipe (d : ℕ) (h : KernelState) : Type 0 where
-  pub sound : IsSound h
-  pub live : is_live (machine_of [] h) d ≡ true
+  pub lives : Lives h d
   pub few : too_many_open (machine_of [] h) d 2 ≡ false
   pub few_pipes : taken (machine_of [] h).pipes < MAX_PIPES
 
--- A domain may give its descriptor, which is open on x, to the domain e.
+-- A domain may give its descriptor, which is open on x, to the domain e, but for what that may read.
 pub record MayGiveFd (d fd e : ℕ) (x : Descriptor) (h : KernelState) : Type 0 where
   pub held : IsOpenOn h d fd x
   pub to : is_live (machine_of [] h) e ≡ true
@@ -23,7 +23,6 @@ pub record MayGiveFd (d fd e : ℕ) (x : Descriptor) (h : KernelState) : Type 0 
 
 -- A domain may accept this connection: it is the first that waits for it.
 pub record MayAccept (d c : ℕ) (h : KernelState) : Type 0 where
-  pub sound : IsSound h
-  pub live : is_live (machine_of [] h) d ≡ true
+  pub lives : Lives h d
   pub few : too_many_open (machine_of [] h) d 1 ≡ false
   pub waits : waiting (machine_of [] h) d ≡ Some c

@@ -16,13 +16,13 @@ pub record IsOpenOn (h : KernelState) (d fd : ℕ) (end : Descriptor) : Type 0 w
   pub live : (f : Reading) → is_live (read_of f h) d ≡ true
   pub from : (f : Reading) → descriptor (read_of f h) d fd ≡ Some end
 
--- It is open on a file that is there, at a position that no file goes beyond.
+-- Between two events: a live domain's descriptor is open on a file that is there, at a position that no file goes beyond.
 pub record IsOnFile (h : KernelState) (d fd f at : ℕ) (mode : Mode) : Type 0 where
   pub held : IsOpenOn h d fd (on.File f at mode)
   pub there : is_numbered h.files f ≡ true
   pub within : at ≤ MAX_FILE_BYTES
 
--- It is open on an end of a pipe or on a connection.
+-- Between two events: a live domain's descriptor is open on an end of a pipe or on a connection.
 pub record IsOnQueue (h : KernelState) (d fd : ℕ) (end : Descriptor) : Type 0 where
   pub held : IsOpenOn h d fd end
   pub no_file : is_file (Some end) ≡ false

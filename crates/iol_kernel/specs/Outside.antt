@@ -14,7 +14,7 @@ pub record HasConn (h : KernelState) (c : ℕ) : Type 0 where
   pub sound : IsSound h
   pub there : lacks_conn (machine_of [] h) c ≡ false
 
--- One connection more may be made, in this pool.
+-- Between two events: one connection more may be made, in this pool, which is open.
 pub record MayConnect (pool : ℕ) (h : KernelState) : Type 0 where
   pub sound : IsSound h
   pub few : length (machine_of [] h).conns < MAX_CONNECTIONS
@@ -26,7 +26,7 @@ pub record TestsArrival (c : ℕ) (bytes : List ℕ) (h : KernelState) (r : Resu
   pub may : IfOk r (λ x. MayArrive c bytes x.0 x.1 h)
   pub refused : IfErr r (λ x. Refuses (λ s. arrive s c bytes) x h)
 
--- A connection that is over was forgotten, and what it held was released: all other ends stay open.
+-- A connection was forgotten where it is over, and what it held was released. No domain changed, and all other ends stay open.
 pub record Settles (c : ℕ) (old new : KernelState) : Type 0 where
   pub left : Leaves (λ s. machine.with_conn s c (machine.conn_at s c)) old new
   pub domains : new.domains ≡ old.domains

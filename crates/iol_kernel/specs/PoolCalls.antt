@@ -1,15 +1,16 @@
 -- Pools are made and used, admit a domain and are closed: what these calls want and do.
-use Rattle.std.specs.Prelude.{◌≡◌, ℕ, ◌+◌, ◌<◌, ◌≤◌, length, true, false, List, [], ◌∷◌, ◌++◌, None, Result, Err, IfOk, IfErr, OnOk, OnErr}
+use Rattle.std.specs.Prelude.{◌≡◌, ℕ, ◌+◌, ◌<◌, ◌≤◌, ◌&&◌, Bool, length, true, false, List, [], ◌∷◌, ◌++◌, None, Result, Err, IfOk, IfErr, OnOk, OnErr}
+use Rattle.std.specs.List.{list_all}
 use Rattle.iol_core.specs.Meaning.{WantOfRoom}
-use Rattle.iol_core.specs.Prelude.{first}
-use Rattle.iol_core.specs.State.{is_live, is_pool, pool}
-use Rattle.iol_core.specs.Calls.Pools.{distinct, has_place, is_busy, pool_create, set_pool}
+use Rattle.iol_core.specs.Prelude.{first, with_numbered}
+use Rattle.iol_core.specs.State.{State, is_live, is_pool, pool}
+use Rattle.iol_core.specs.Calls.Pools.{admitting, distinct, has_place, is_busy, pool_create, set_pool}
 use Rattle.iol_core.specs.declared.limits.TheConstants.{MAX_POOLS}
 use Rattle.iol_core.specs.declared.refusals.Refusal.{Refusal}
 use Rattle.iol_core.specs.declared.refusals.Refusal.TheVariants.{NoRoom}
 use Rattle.iol_arena.specs.Chunks.{free_chunks}
 use Rattle.iol_pool.specs.Pools.{AddsPool}
-use Rattle.iol_kernel.specs.Calls.{Leaves}
+use Rattle.iol_kernel.specs.Calls.{KeepsPlaces, Leaves, Refuses}
 use Rattle.iol_kernel.specs.KernelState.{KernelState, IsSound, machine_of, read_of}
 use Rattle.iol_kernel.specs.Readings.{Reading}
 
@@ -19,11 +20,25 @@ pub record MayUse (d p : ℕ) (h : KernelState) : Type 0 where
   pub live : is_live (machine_of [] h) d ≡ true
   pub there : is_pool (machine_of [] h) p ≡ true
 
+-- Whether a domain may place in the pool, or close it, was tested: it may, or it is refused as `set_pool` is.
+pub record TestsUse {A : Type 0} (d p : ℕ) (h : KernelState) (r : Result A Refusal) : Type 0 where
+  pub may : OnOk r (MayUse d p h)
+  pub refused : IfErr r (λ x. Refuses (λ s. set_pool s d p) x h)
+
+-- whether a domain and all of a list live
+abbrev pub are_all_live : State → (d : ℕ) → List ℕ → Bool
+are_all_live s d list = is_live s d && list_all (λ e. is_live s e) list
+
 -- A domain may make a pool of n chunks for these domains of a list, each once.
 pub record MayCreate (d n : ℕ) (list names : List ℕ) (h : KernelState) : Type 0 where
   pub passed : (f : Reading) → first (pool_create (read_of f h) d n list).refusals ≡ None
   pub few : (f : Reading) → length (read_of f h).pools < MAX_POOLS
   pub each_once : names ≡ distinct list
+
+-- Whether a domain may make a pool of n chunks for a list was tested: for these domains, each once, or why not.
+pub record TestsCreate (d n : ℕ) (list : List ℕ) (h : KernelState) (r : Result (List ℕ) Refusal) : Type 0 where
+  pub may : IfOk r (λ names. MayCreate d n list names h)
+  pub refused : IfErr r (λ x. Refuses (λ s. pool_create s d n list) x h)
 
 -- A pool of n chunks comes, for these domains. It comes only where n chunks are free, and is refused for want of room only
 -- where they are not. A refusal, for want of room or memory alone, changes nothing.
@@ -38,14 +53,31 @@ pub record Creates (n : ℕ) (names : List ℕ) (old : KernelState) (r : Result 
   pub late : IfErr r (λ x. (f : Reading) → WantOfRoom (length (read_of f old).pools + 1) x)
   pub err : OnErr r (new ≡ old)
 
+-- A domain makes a pool of n chunks for the domains of a list: what that means, and which chunks it has. It is done only where
+-- n chunks are free, and refused for want of room only where they are not.
+pub record CreatesPool (d n : ℕ) (list : List ℕ) (old : KernelState) (r : Result ℕ Refusal)
+    (new : KernelState) : Type 0 where
+  pub create : KeepsPlaces (λ s. pool_create s d n list) old r new
+  pub chunks : OnOk r (AddsPool old.store.arena new.store.arena old.store.pools new.store.pools n (distinct list))
+  pub room : OnOk r (n ≤ length (free_chunks old.store.arena))
+  pub no_room : (p : ℕ) → r ≡ Err (NoRoom p) → length (free_chunks old.store.arena) < n
+
 -- Between two events: the pool's list names the domain, or has a place for it.
 pub record MayAdmit (p d : ℕ) (h : KernelState) : Type 0 where
   pub sound : IsSound h
   pub there : is_pool (machine_of [] h) p ≡ true
   pub place : has_place (pool (machine_of [] h) p).domains d ≡ true
 
+-- the state in which a pool's list names the domain, too
+abbrev pub with_pool_admitting : (p d : ℕ) → State → State
+with_pool_admitting p d s = record s { pools = with_numbered s.pools p (admitting (pool s p) d) }
+
 -- Between two events: the pool is there, and no file and no connection is of it.
 pub record IsIdle (h : KernelState) (p : ℕ) : Type 0 where
   pub sound : IsSound h
   pub there : is_pool (machine_of [] h) p ≡ true
   pub idle : (f : Reading) → is_busy (read_of f h) p ≡ false
+
+-- the state in which a pool is closed
+abbrev pub with_pool_closed : (p : ℕ) → State → State
+with_pool_closed p s = record s { pools = with_numbered s.pools p (record (pool s p) { closed = true }) }

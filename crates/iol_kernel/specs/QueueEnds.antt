@@ -3,19 +3,29 @@ use Rattle.std.specs.Prelude.{◌≡◌, ℕ, ◌<◌, true, false, List, [], Op
 use Rattle.std.specs.List.{slice_get}
 use Rattle.iol_core.specs.Text.{Text}
 use Rattle.iol_core.specs.Calls.Aggregates.{too_many_aggs}
-use Rattle.iol_core.specs.Calls.Reading.{can_read, iol_read}
+use Rattle.iol_core.specs.Calls.Reading.{can_read, iol_read, read_denied, unread}
 use Rattle.iol_core.specs.Calls.Writing.{is_file}
 use Rattle.iol_core.specs.declared.descriptors.Descriptor.{Descriptor}
 use Rattle.iol_core.specs.declared.limits.TheConstants.{MAX_AGGREGATES}
+use Rattle.iol_core.specs.declared.refusals.Refusal.TheVariants.{Denied}
 use Rattle.iol_hold.specs.declared.slices.Slice.{Slice}
 use Rattle.iol_desc.specs.Tables.{domain_in, live_aggs_in, with_agg_in}
 use Rattle.iol_kernel.specs.Calls.{Answers}
-use Rattle.iol_kernel.specs.KernelState.{KernelState, objects_of, IsOpenEnd, IsSound, machine_of}
+use Rattle.iol_kernel.specs.KernelState.{KernelState, objects_of, IsOpenEnd, IsSound, machine_of, read_of}
 use Rattle.iol_kernel.specs.Opened.{IsOpenOn}
+use Rattle.iol_kernel.specs.Readings.{Reading, KeepsPools}
 
 -- the pool of a text's first byte
 abbrev pub pool_of_first : Text → Option ℕ
 pool_of_first t = option_map (λ b. b.1) (slice_get t 0)
+
+-- this is the pool of the first byte that waits to be read, or none where none waits
+abbrev pub IsFirstPool : Descriptor → KernelState → Option ℕ → Type 0
+IsFirstPool end h r = (f : Reading) → KeepsPools f → r ≡ pool_of_first (unread (read_of f h) (Some end))
+
+-- this is the pool for which the domain is denied a read of n bytes, or none where it is not denied
+abbrev pub IsBarredPool : (d : ℕ) → Descriptor → (n : ℕ) → KernelState → Option ℕ → Type 0
+IsBarredPool d end n h r = (f : Reading) → KeepsPools f → option_map (λ p. Denied p) r ≡ read_denied (read_of f h) d (Some end) n
 
 -- Between two events: it is open, and a queue is read by it.
 pub record IsSource (h : KernelState) (end : Descriptor) : Type 0 where

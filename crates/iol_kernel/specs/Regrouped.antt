@@ -9,7 +9,7 @@ use Rattle.iol_hold.specs.Releases.{FreesOnly}
 use Rattle.iol_hold.specs.Stored.{Stored, AllSettled}
 use Rattle.iol_hold.specs.Texts.{AllReadable, bufs_of}
 use Rattle.iol_hold.specs.declared.slices.Slice.{Slice}
-use Rattle.iol_desc.specs.Tables.{agg_in, domain_in, with_agg_in, with_domain_in, with_next, without_agg_in}
+use Rattle.iol_desc.specs.Tables.{Row, agg_in, domain_in, domains_of, with_agg_in, with_domain_in, with_next, without_agg_in}
 use Rattle.iol_kernel.specs.Counted.{MayShare, bufs_in}
 use Rattle.iol_kernel.specs.KernelState.{Each, slices_in}
 
@@ -42,12 +42,12 @@ pub record MaySplitIn (s : Stored) (ds : List (Domain (List Slice))) (d a at : �
   pub within : at ≤ byte_len (slices_in ds d a)
   pub shared : MayShare s (slices_in ds d a)
 
--- It is split into the domain's next two. Where there is no memory for that, nothing changes.
-pub record SplitsNext {E : Type 0} (s t : Stored) (old new : List (Domain (List Slice))) (d a at : ℕ)
+-- A domain's aggregate is split into its next two. Refused, it changes nothing.
+pub record SplitsNext {E : Type 0} (s t : Stored) (old new : List (Row (List Slice))) (d a at : ℕ)
     (r : Result (ℕ × ℕ) E) : Type 0 where
-  pub numbers : IfOk r (λ n. n ≡ ((domain_in old d).next_agg, (domain_in old d).next_agg + 1))
-  pub split : OnOk r (SplitsAgg s t old new d a at)
-  pub err : OnErr r (new ≡ old)
+  pub numbers : IfOk r (λ n. n ≡ ((domain_in (domains_of old) d).next_agg, (domain_in (domains_of old) d).next_agg + 1))
+  pub split : OnOk r (SplitsAgg s t (domains_of old) (domains_of new) d a at)
+  pub err : OnErr r (domains_of new ≡ domains_of old)
   pub err_store : OnErr r (t ≡ s)
 
 -- with two of a domain's aggregates joined
@@ -63,7 +63,7 @@ pub record MayJoinIn (ds : List (Domain (List Slice))) (d a b : ℕ) : Type 0 wh
   pub few : (domain_in ds d).next_agg ≤ LAST_AGGREGATE
   pub small : byte_len (slices_in ds d a) + byte_len (slices_in ds d b) < 2 ^ 32
 
--- They are joined to the domain's next one. Where there is no memory for that, nothing changes.
+-- Two of a domain's aggregates are joined to its next one. Refused, it changes nothing.
 pub record JoinsNext {E : Type 0} (old new : List (Domain (List Slice))) (d a b : ℕ)
     (r : Result ℕ E) : Type 0 where
   pub number : IfOk r (λ n. n ≡ (domain_in old d).next_agg)
@@ -77,7 +77,7 @@ pub record MayGiveIn (ds : List (Domain (List Slice))) (d a e : ℕ) : Type 0 wh
   pub there : agg_in ds d a ≢ None
   pub few : (domain_in ds e).next_agg ≤ LAST_AGGREGATE
 
--- It is the receiver's next one. Where there is no memory for that, nothing changes.
+-- A domain's aggregate goes to a domain, as its next one. Refused, it changes nothing.
 pub record GivesNext {E : Type 0} (old new : List (Domain (List Slice))) (d a e : ℕ)
     (r : Result ℕ E) : Type 0 where
   pub number : IfOk r (λ n. n ≡ (domain_in old e).next_agg)

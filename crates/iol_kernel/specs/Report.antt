@@ -18,7 +18,7 @@ chunks_in s p = (pool_in s.pools p).chunks
 abbrev pub stands : Stored → (p : ℕ) → Bool
 stands s p = not (length (chunks_in s p) == 0)
 
--- its pages: all, those that may be used, and those that are retired
+-- a pool's pages: all, those that may be used, and those that are retired
 abbrev pub pool_report : Stored → (p : ℕ) → PoolReport
 pool_report s p = record {
   pool = p;

@@ -27,7 +27,7 @@ pub record Pipe (A : Type 0) : Type 0 where
   pub reading : Bool
   pub writing : Bool
 
--- its queue as the text that g gives
+-- a pipe with its queue as the text that g gives
 abbrev pub pipe_view : {A : Type 0} → (A → Text) → Pipe A → machine.Pipe
 pipe_view g p = record { queue = g p.queue; reading = p.reading; writing = p.writing }
 

@@ -10,13 +10,13 @@ use Rattle.iol_kernel.specs.KernelState.{KernelState, machine_of, read_of}
 use Rattle.iol_kernel.specs.Opened.{IsOpenOn}
 use Rattle.iol_kernel.specs.Readings.{Reading}
 
--- This aggregate may be written to a descriptor that is open on this.
+-- A domain's aggregate may be written to its descriptor, which is open on this.
 pub record MayWriteAgg (d fd a : ℕ) (target : Descriptor) (h : KernelState) : Type 0 where
   pub held : IsOpenOn h d fd target
   pub there : lacks_agg (machine_of [] h) d a ≡ false
   pub passed : (f : Reading) → first (iol_write (read_of f h) d fd a).refusals ≡ None
 
--- A write of it was tested: what it may be written to, or why it is refused.
+-- A write of an aggregate was tested: what it may be written to, or why it is refused.
 pub record TestsAgg (d fd a : ℕ) (h : KernelState) (r : Result Descriptor Refusal) : Type 0 where
   pub may : IfOk r (λ x. MayWriteAgg d fd a x h)
   pub refused : IfErr r (λ x. CarriesOut (λ s. iol_write s d fd a) h (Err x) h)

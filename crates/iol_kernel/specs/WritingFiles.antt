@@ -32,6 +32,7 @@ use Rattle.iol_kernel.specs.Calls.{CarriesOut}
 use Rattle.iol_kernel.specs.Keeping.{KeepsBeside, LacksPages}
 use Rattle.iol_kernel.specs.KernelState.{KernelState, slices_in}
 use Rattle.iol_kernel.specs.MakingRoom.{AfterRoom, can_fit}
+use Rattle.iol_kernel.specs.declared.open_file.OpenFile.{OpenFile}
 
 -- the pool of the file in slot f
 abbrev pub pool_of_file : KernelState → (f : ℕ) → ℕ
@@ -90,8 +91,9 @@ abbrev pub WritesOn : (d fd a : ℕ) → Option Descriptor → (old : KernelStat
 WritesOn d fd a (Some (on.File f at mode)) old r new = WritesOver f at (slices_in old.domains d a) old r new
 WritesOn d fd a _ old r new = CarriesOut (λ s. iol_write s d fd a) old r new
 
--- So many bytes lie over those of a file from `at` on, on the lowest pages of its pool that were free once there was room for
--- them, and other bytes stay as above.
+-- So many bytes were written to a file from `at` on: they filled the lowest pages of the pool that were free once there was room
+-- for them, and no others. Done or refused, every other byte of files that was in memory lies where it lay, but that clean ones
+-- of the pool's files may have given way where more pages were wanted than were free.
 pub record PutsInFile {A : Type 0} (f at pool count : ℕ) (old : KernelState) (r : Result A Refusal)
     (new : KernelState) : Type 0 where
   pub fills : OnOk r (AfterRoom pool count old (λ roomy. KeepsPages roomy.store new.store (lowest_of roomy.store pool count)))
@@ -155,29 +157,29 @@ pub record LaysInFile {A : Type 0} (f at pool : ℕ) (bytes : List ℕ) (old : K
   pub lays : OnOk r (AfterRoom pool (length bytes) old (λ roomy. LaysOver f at pool bytes roomy new))
   pub leaves : IfErr r (LeavesUnlaid pool bytes old new)
 
--- New bytes are written over those of a file, where its pool has room for them: what that means, and
--- where they lie then, and other bytes. It is refused for want of memory alone, and what was placed
--- is gone.
-pub record FillsFile (d fd f at pool : ℕ) (bytes : List ℕ) (old : KernelState) (r : Result ℕ Refusal)
+-- New bytes are written over those of a file that was found open, where its pool has room for them: what that means, and
+-- where they lie then, and other bytes. It is refused for want of memory alone, and what was placed is gone.
+pub record FillsFile (d fd : ℕ) (x : OpenFile) (pool : ℕ) (bytes : List ℕ) (old : KernelState) (r : Result ℕ Refusal)
     (new : KernelState) : Type 0 where
   pub serves : (disk : Disk) → Serves (λ s. write s d fd bytes) disk old r disk new
   pub roomy : (p : ℕ) → r ≡ Err (NoRoom p) → ⊥
   pub late : IfErr r (WantOfRoom pool)
   pub fills : OnOk r (KeepsPages old.store new.store (lowest_of old.store pool (length bytes)))
-  pub beside : KeepsBeside f at (length bytes) pool ⊥ old.cache new.cache
-  pub lays : OnOk r (LaysOver f at pool bytes old new)
-  pub leaves : IfErr r (λ x. (new ≡ old) ⊎ GivesUpNew pool bytes old new)
+  pub beside : KeepsBeside x.file x.at (length bytes) pool ⊥ old.cache new.cache
+  pub lays : OnOk r (LaysOver x.file x.at pool bytes old new)
+  pub leaves : IfErr r (λ y. (new ≡ old) ⊎ GivesUpNew pool bytes old new)
 
--- The same once clean extents of files of the pool gave way: for want of room it is refused just
--- where the bytes do not fit.
-pub record PutsOver (d fd f at pool : ℕ) (bytes : List ℕ) (old : KernelState) (r : Result ℕ Refusal)
+-- New bytes are written over those of a file that was found open, once clean extents of files of the pool gave way: what that
+-- means, and where they lie then, and other bytes. It is refused for want of room only where the bytes do not fit, and done only
+-- where they do; else for want of memory.
+pub record PutsOver (d fd : ℕ) (x : OpenFile) (pool : ℕ) (bytes : List ℕ) (old : KernelState) (r : Result ℕ Refusal)
     (new : KernelState) : Type 0 where
   pub serves : (disk : Disk) → Serves (λ s. write s d fd bytes) disk old r disk new
   pub room : OnOk r (can_fit old pool (length bytes) ≡ true)
   pub no_room : (p : ℕ) → r ≡ Err (NoRoom p) → can_fit old pool (length bytes) ≡ false
   pub late : IfErr r (WantOfRoom pool)
-  pub puts : PutsInFile f at pool (length bytes) old r new
-  pub lays : LaysInFile f at pool bytes old r new
+  pub puts : PutsInFile x.file x.at pool (length bytes) old r new
+  pub lays : LaysInFile x.file x.at pool bytes old r new
 
 -- A write of these bytes by copying, where the descriptor is open on a file.
 abbrev pub LaysOn : Option Descriptor → (pool : ℕ) (bytes : List ℕ) → (old : KernelState) → Result ℕ Refusal

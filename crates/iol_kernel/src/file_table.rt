@@ -1,8 +1,9 @@
 //! The files' names and the pools of their bytes: found by name, by slot, and by pool.
-ghost use Rattle.std.specs.Prelude.{◌≡◌, ◌==◌, ◌+◌, ◌<◌, ◌≤◌, ◌++◌, ◌∷◌, [], length, true, false, bytes_eq, option_map, position, OnOk};
+ghost use Rattle.std.specs.Prelude.{◌≡◌, ◌==◌, ◌<◌, ◌≤◌, [], length, true, false, bytes_eq, OnOk};
 ghost use Rattle.std.specs.List.{list_any};
 ghost use Rattle.iol_core.specs.Prelude.{is_numbered, numbered_or};
 ghost use Rattle.iol_core.specs.State as machine;
+ghost use Rattle.iol_kernel.specs.Files.{slot_called, with_named};
 
 use indexmap::{IndexMap, IndexSet};
 use iol_core::limits::MAX_FILES;
@@ -60,8 +61,7 @@ impl FileTable {
     /// The file of this name.
     pub(crate) fn find(&self, name: &[u8]) -> Option<FileId>
         requires { length self.now.files ≤ MAX_FILES }
-        ensures { result ≡ option_map (λ i. i + 1)
-            (position (λ f. bytes_eq f.name name.now) self.now.files) }
+        ensures { result ≡ slot_called self.now.files name.now }
     {
         let place = self.pools.get_index_of(name)?;
         Some(FileId::new(place as u32 + 1))
@@ -98,8 +98,7 @@ impl FileTable {
     pub(crate) fn add(&mut self, name: Vec<u8>, pool: PoolId)
         requires new { list_any (λ f. bytes_eq f.name name.items) self.old.files ≡ false }
         requires room { 0 < self.old.room }
-        ensures { let file : machine.File = record { name = name.items; pool = pool } in
-            self.new.files ≡ self.old.files ++ file ∷ [] }
+        ensures { self.new.files ≡ with_named self.old.files name.items pool }
     {
         let Ok(_) = self.pools.insert(name, pool) else {
             unreachable!();

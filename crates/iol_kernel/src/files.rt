@@ -1,7 +1,5 @@
 //! The files by slot: their names and pools, and the cache of what is in memory.
 ghost use Rattle.std.specs.Prelude.{IfOk};
-ghost use Rattle.iol_cache.specs.Prelude.{cached_of};
-ghost use Rattle.iol_kernel.specs.NamingFiles.{AddsNamed, HasNone, MayName};
 
 use crate::file_table::FileTable;
 use iol_cache::Cache;
@@ -16,9 +14,11 @@ pub(crate) struct Files {
 }
 
 impl Files {
+    ghost use Rattle.iol_kernel.specs.NamingFiles.{AddsNamed, HasNone, MayName};
+
     /// No files, over so many pages.
     pub(crate) fn new(alloc: Global, pages: usize) -> Result<Files, AllocError>
-        ensures { IfOk result (λ f. HasNone pages f.table.files (cached_of f.cache)) }
+        ensures { IfOk result (λ f. HasNone pages f) }
     {
         let cache = Cache::new(alloc, pages)?;
         Ok(Files {
@@ -34,9 +34,8 @@ impl Files {
         name: &[u8],
         pool: PoolId,
     ) -> Result<FileId, AllocError>
-        requires { MayName name.now self.old.table.files (cached_of self.old.cache) }
-        ensures { AddsNamed name.now pool self.old.table.files self.new.table.files
-            (cached_of self.old.cache) (cached_of self.new.cache) result }
+        requires { MayName name.now self.old }
+        ensures { AddsNamed name.now pool self.old result self.new }
     {
         let mut copy = Vec::with_capacity(alloc, name.len())?;
         copy.extend_from_slice(name)?;

@@ -1,10 +1,9 @@
 //! What a system holds, and the tests that its calls make.
-ghost use Rattle.std.specs.Prelude.{replicate, ◌*◌, ◌⊎◌, ◌↔◌, Err, IfOk, IfErr, OnOk, ◌≡◌, ◌≤◌, ℕ, max, true, false, Option, Some, List, []};
-ghost use Rattle.iol_core.specs.Prelude.{IsInRange, new_state, is_live, may_read, descriptor, too_many_aggs, too_many_open};
-ghost use Rattle.iol_arena.specs.Prelude.{no_entry};
+ghost use Rattle.std.specs.Prelude.{IfOk, IfErr, OnOk, ◌≡◌, ◌≤◌, max, true, Some};
+ghost use Rattle.iol_core.specs.Prelude.{is_live, may_read, descriptor, too_many_aggs, too_many_open};
 ghost use Rattle.iol_kernel.specs.Report.{Reports};
-ghost use Rattle.iol_kernel.specs.KernelState.{machine_of, IsSound};
-ghost use Rattle.iol_kernel.specs.Readings.{Reading, slots_of};
+ghost use Rattle.iol_kernel.specs.KernelState.{IsSound};
+ghost use Rattle.iol_kernel.specs.Readings.{Reading};
 
 use crate::files::Files;
 use crate::pipes::Pipes;
@@ -35,22 +34,12 @@ pub struct Kernel {
 }
 
 impl Kernel {
+    ghost use Rattle.iol_kernel.specs.Founding.{MakesKernel};
     ghost use Rattle.iol_kernel.specs.Kernel.{state_of, machine, as_read, IsFound, IsMissing, IsSoLong, IsUnopened};
 
     /// A kernel with domain 1 and nothing else. A size out of its range is `BadRange`.
     pub fn new(alloc: Global, config: Config) -> Result<Kernel, Refusal>
-        ensures range { (result ≡ Err Refusal.BadRange) ↔ (IsInRange config → ⊥) }
-        ensures errors { IfErr result (λ e. (e ≡ Refusal.BadRange) ⊎ (e ≡ Refusal.Memory)) }
-        ensures new { IfOk result (λ k. (stored : List (List ℕ)) →
-            machine_of stored (state_of k) ≡ new_state (slots_of stored)) }
-        ensures entries { IfOk result (λ k. k.store.arena.entries ≡ replicate (config.chunks *
-            CHUNK_PAGES) no_entry) }
-        ensures taken { IfOk result (λ k. k.store.arena.taken ≡ replicate config.chunks false) }
-        ensures limit { IfOk result (λ k. k.store.arena.limit ≡ config.gen_limit) }
-        ensures sums { IfOk result (λ k. k.sums.entries ≡ []) }
-        ensures sum_limit { IfOk result (λ k. k.sums.limit ≡ config.sums) }
-        ensures orders { IfOk result (λ k. (state_of k).cache.orders ≡ []) }
-        ensures sound { IfOk result (λ k. IsSound (state_of k)) }
+        ensures { MakesKernel config result }
     {
         let store = Store::new(alloc, config)?;
         let mut domains = Table::new(alloc);

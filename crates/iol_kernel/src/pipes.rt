@@ -7,7 +7,7 @@ ghost use Rattle.iol_pool.specs.Prelude.{pool_in};
 ghost use Rattle.iol_kernel.specs.ClosedEnds.{without_reader, without_writer, Becomes, ClosesEnd};
 ghost use Rattle.iol_kernel.specs.Counted.{MayShare};
 ghost use Rattle.iol_kernel.specs.KernelState.{queue_at};
-ghost use Rattle.iol_kernel.specs.Queues.{CopiesFront, FillsIn, GivesFrontIn, IsTakenFrom, PushesIn, SkipsIn};
+ghost use Rattle.iol_kernel.specs.Queues.{CopiesFront, FillsIn, GivesFrontIn, IsTakenFrom, PushesIn, SkipsIn, empty_pipe};
 
 use iol_agg::Agg;
 use iol_core::limits::MAX_QUEUE_BYTES;
@@ -118,12 +118,7 @@ impl Pipes {
     /// Adds an empty pipe whose ends are open, in room that is reserved.
     pub(crate) fn add(&mut self, alloc: Global)
         requires { 0 < self.old.room }
-        ensures { self.new.places ≡ placed self.old.places (lowest self.old.places) (record {
-          queue
-              = [];
-          reading = true;
-          writing = true;
-        }) }
+        ensures { self.new.places ≡ placed self.old.places (lowest self.old.places) empty_pipe }
     {
         self.places.put(Pipe {
             queue: iol_pipe::Pipe::new(alloc),
@@ -253,8 +248,7 @@ impl Pipes {
     #[tactic(auto, using(crate::proofs::Queues::Ends::there_rules))]
     pub(crate) fn close_reader(&mut self, store: &mut Store, p: PipeId)
         requires { IsTakenFrom store.old self.old.places p }
-        ensures { ClosesEnd store.old store.new self.old.places self.new.places p (without_reader
-            (queue_at self.old.places p)) }
+        ensures { ClosesEnd store.old store.new self.old.places self.new.places p without_reader }
     {
         let place = p.number() as usize;
         let stays = self.places.value_mut(place).close_reader(store);
@@ -268,8 +262,7 @@ impl Pipes {
     pub(crate) fn close_writer(&mut self, store: &mut Store, p: PipeId)
         requires covered { Covers store.old (bufs_of (queue_at self.old.places p).queue) }
         requires writing { (queue_at self.old.places p).writing ≡ true }
-        ensures { ClosesEnd store.old store.new self.old.places self.new.places p (without_writer
-            (queue_at self.old.places p)) }
+        ensures { ClosesEnd store.old store.new self.old.places self.new.places p without_writer }
     {
         let place = p.number() as usize;
         let stays = self.places.value_mut(place).close_writer(store);

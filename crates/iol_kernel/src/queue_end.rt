@@ -1,17 +1,16 @@
 //! What a descriptor reads from and writes to. Here alone a pipe and a connection are told apart where bytes are read and
 //! written: each look-up is a word of the copying machine (`iol_core`, `specs/Calls/Reading` and `Writing`), of any descriptor.
-ghost use Rattle.std.specs.Prelude.{◌≡◌, ◌≤◌, false, length, Option, Some, None, option_map};
+ghost use Rattle.std.specs.Prelude.{◌≡◌, ◌≤◌, false, length, Some};
 ghost use Rattle.iol_core.specs.Calls.Reading as reading;
 ghost use Rattle.iol_core.specs.Calls.Writing as writing;
-ghost use Rattle.iol_kernel.specs.QueueEnds.{pool_of_first};
-ghost use Rattle.iol_kernel.specs.Readings.{Reading, KeepsPools};
+ghost use Rattle.iol_kernel.specs.QueueEnds.{IsBarredPool, IsFirstPool};
+ghost use Rattle.iol_kernel.specs.Readings.{Reading};
 
 use crate::kernel::Kernel;
 use crate::open_file::{is_for_writing, may_be_read};
 use iol_core::descriptors::Descriptor;
 use iol_core::limits::{MAX_FILE_BYTES, MAX_QUEUE_BYTES};
 use iol_core::numbers::{DomainId, PoolId};
-use iol_core::refusals::Refusal;
 
 /// Whether a descriptor is open for reading.
 pub(crate) fn can_read(from: &Descriptor) -> bool
@@ -47,7 +46,7 @@ pub(crate) fn is_too_long(to: &Descriptor, count: u32) -> bool
 }
 
 impl Kernel {
-    ghost use Rattle.iol_kernel.specs.Kernel.{as_read};
+    ghost use Rattle.iol_kernel.specs.Kernel.{as_read, state_of};
 
     /// How many bytes wait to be read.
     pub(crate) fn unread(&self, from: &Descriptor) -> u32
@@ -66,8 +65,7 @@ impl Kernel {
 
     /// The pool of the first byte that waits to be read.
     fn first_pool(&self, from: &Descriptor) -> Option<PoolId>
-        ensures { (f : Reading) → KeepsPools f → result ≡ pool_of_first (reading.unread (as_read f
-            self.now) (Some from.now)) }
+        ensures { IsFirstPool from.now (state_of self.now) result }
     {
         match from {
             Descriptor::ReadEnd { pipe } => self.pipes.first_pool(*pipe),
@@ -106,8 +104,7 @@ impl Kernel {
         count: usize,
     ) -> Option<PoolId>
         requires { writing.is_file (Some from.now) ≡ false }
-        ensures { (f : Reading) → KeepsPools f → option_map (λ p. Refusal.Denied p) result ≡
-            reading.read_denied (as_read f self.now) by (Some from.now) count }
+        ensures { IsBarredPool by from.now count (state_of self.now) result }
     {
         if count == 0 {
             return None;

@@ -1,11 +1,11 @@
 //! Effects on the table of domains, whose aggregates are slices of a store. Room is reserved
 //! first, so that a refusal has changed nothing.
-ghost use Rattle.std.specs.Prelude.{◌≡◌, not, [], option_map, find};
+ghost use Rattle.std.specs.Prelude.{◌≡◌, []};
 ghost use Rattle.std.specs.List.{list_all};
-ghost use Rattle.iol_pool.specs.Prelude.{names_in};
 ghost use Rattle.iol_hold.specs.Prelude.{Covers};
 ghost use Rattle.iol_desc.specs.Prelude.{domains_of, domain_in};
 ghost use Rattle.iol_kernel.specs.Counted.{bufs_in};
+ghost use Rattle.iol_kernel.specs.Denying.{pool_hidden};
 ghost use Rattle.iol_kernel.specs.Regrouped.{GivesNext, JoinsNext, MayGiveIn, MayJoinIn, MaySplitIn, ReleasesAll, SplitsNext};
 
 use iol_agg::Agg;
@@ -34,8 +34,7 @@ pub(crate) fn split_agg(
     at: u32,
 ) -> Result<(AggId, AggId), AllocError>
     requires { MaySplitIn store.old (domains_of domains.old) d agg at }
-    ensures { SplitsNext store.old store.new (domains_of domains.old) (domains_of domains.new) d
-        agg at result }
+    ensures { SplitsNext store.old store.new domains.old domains.new d agg at result }
 {
     domains.reserve_aggs(d, 2)?;
     let whole = domains.swap_agg(d, agg, Agg::new(alloc));
@@ -85,8 +84,7 @@ pub(crate) fn join_aggs(
 
 /// The pool of the first slice that the domain may not read.
 pub(crate) fn first_hidden(slices: &[Slice], pools: &Pools, d: DomainId) -> Option<PoolId>
-    ensures { result ≡ option_map (λ x. x.hold.pool) (find (λ x. not (names_in pools.now x.hold.pool
-        d)) slices.now) }
+    ensures { result ≡ pool_hidden pools.now d slices.now }
 {
     let hidden = slices
         .iter()

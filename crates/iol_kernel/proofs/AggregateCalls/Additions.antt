@@ -56,7 +56,7 @@ few_cut {h} {d} may = omega (arith, few_aggs (bytes_over [] h.store) h d 1 0 may
 module _ (h : KernelState) (t : Stored) (ds : List (Domain (List Slice))) (d a from to n : ℕ) (adds : AddsShared h.store t h.domains ds d (slice_range (places (slices_in h.domains d a)) from to)) (may : MayCut d a from to h) (number : n ≡ (domain_in h.domains d).next_agg) where
   cut-sound : IsSound (record h { store = t; domains = ds })
   cut-sound =
-      let sound = may.has.sound in
+      let sound = may.has.lives.sound in
       let xs : List Slice = slices_in h.domains d a in
       added-sound h t ds d _ adds sound (agg_live may.has) (few_cut may)
       (record { each = All-same (IsThere h.store) _ _ adds.is_there (All-take (IsThere h.store) (to - from) (drop from (places xs)) (All-drop (IsThere h.store) from (places xs) (slices_readable h d a sound).each)) })
@@ -82,7 +82,7 @@ module _ (h : KernelState) (t : Stored) (ds : List (Domain (List Slice))) (d a f
       let xs : List Place = places (slices_in h.domains d a) in
       let ys : List Place = places (slices_in h.domains d b) in
       let P : Place → Type 0 = IsThere h.store in
-      let sound = may.other.sound in
+      let sound = may.other.lives.sound in
       let good = (slices_readable h d a sound).each in
       added-sound h t ds d _ adds sound (agg_live may.other) (few_cut may.cuts)
       (record {

@@ -6,10 +6,11 @@ use Rattle.std.proofs.lemmas.List.{map-append}
 use Rattle.iol_core.specs.Text.{Text, barred}
 use Rattle.iol_core.specs.State as machine
 use Rattle.iol_core.specs.State.{State}
-use Rattle.iol_pool.specs.Pools.{Pool, names_in}
+use Rattle.iol_pool.specs.Pools.{names_in}
 use Rattle.iol_hold.specs.Layout as layout
 use Rattle.iol_hold.specs.Places.{Place, place_in, slice_places, places}
 use Rattle.iol_hold.specs.declared.slices.Slice.{Slice}
+use Rattle.iol_kernel.specs.Denying.{pool_hidden}
 use Rattle.iol_kernel.specs.KernelState.{KernelState, read_of}
 use Rattle.iol_kernel.specs.Readings.{Reading, read, KeepsPools}
 use Rattle.iol_kernel.proofs.State.ReadOf.{may_read-read_of}
@@ -55,11 +56,7 @@ module _ (may : ℕ → Bool) (f : Place → ℕ × ℕ) (keeps : layout.KeepsPo
       first true = refl
       first false = refl
 
--- the pool of the first of these slices that the domain may not read
-abbrev pub hidden : List Pool → (d : ℕ) → List Slice → Option ℕ
-hidden ps d xs = option_map (λ x. x.hold.pool) (find (λ x. not (names_in ps x.hold.pool d)) xs)
-
-pub hidden_barred : (f : Reading) → KeepsPools f → (h : KernelState) (to : ℕ) (xs : List Slice) → hidden h.store.pools to xs ≡ barred (machine.may_read (read_of f h) to) (read f xs)
+pub hidden_barred : (f : Reading) → KeepsPools f → (h : KernelState) (to : ℕ) (xs : List Slice) → pool_hidden h.store.pools to xs ≡ barred (machine.may_read (read_of f h) to) (read f xs)
 hidden_barred f keeps h to xs =
     let same : machine.may_read (read_of f h) to ≡ (λ q. names_in h.store.pools q to) = λ i. λ q. may_read-read_of f h to q i in
     sym (ap (λ (may : ℕ → Bool). barred may (read f xs)) same ∙ barred-slices (λ q. names_in h.store.pools q to) f.at keeps xs)

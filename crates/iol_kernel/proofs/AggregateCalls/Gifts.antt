@@ -94,7 +94,7 @@ module _ (h : KernelState) (ds : List (Domain (List Slice))) (d a e : ℕ) (may 
 
   given-sound : IsSound (record h { domains = ds })
   given-sound =
-      let sound = may.has.sound in
+      let sound = may.has.lives.sound in
       let live = agg_live may.has in
       let xs : List Slice = slices_in h.domains d a in
       let rest : List (Domain (List Slice)) = without_agg_in h.domains d a in

@@ -87,7 +87,7 @@ module _ (h : KernelState) (t : Stored) (ds : List (Domain (List Slice))) (d a a
 
   split-sound : MaySplit d a at h → IsSound (record h { store = t; domains = ds })
   split-sound may =
-      let sound = may.has.sound in
+      let sound = may.has.lives.sound in
       let live = agg_live may.has in
       let few : live_aggs_in h.domains < MAX_AGGREGATES = omega (arith, few_aggs (bytes_over [] h.store) h d 2 1 may.few) in
       let x : Domain (List Slice) = domain_in h.domains d in
@@ -165,7 +165,7 @@ module _ (h : KernelState) (ds : List (Domain (List Slice))) (d a b : ℕ) (join
 
   join-sound : MayJoin d a b h → IsSound (record h { domains = ds })
   join-sound may =
-      let sound = may.first.sound in
+      let sound = may.first.lives.sound in
       let live = agg_live may.first in
       let x : Domain (List Slice) = domain_in h.domains d in
       let xs : List Slice = slices_in h.domains d a in

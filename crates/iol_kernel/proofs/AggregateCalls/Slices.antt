@@ -105,15 +105,15 @@ thrice_countable h d a b sound =
 -- what a domain has
 
 pub agg_live : {h : KernelState} {d a : ℕ} → HasAgg h d a → (domain_in h.domains d).live ≡ true
-agg_live {h} {d} has = live_held (bytes_over [] h.store) h d has.live
+agg_live {h} {d} has = live_held (bytes_over [] h.store) h d has.lives.live
 
 pub agg_there : {h : KernelState} {d a : ℕ} → HasAgg h d a → agg_in h.domains d a ≢ None
 agg_there {h} {d} {a} has = there_held (bytes_over [] h.store) h d a has.there
 
 pub agg_shared : {h : KernelState} {d a : ℕ} → HasAgg h d a → MayShare h.store (slices_in h.domains d a)
 agg_shared {h} {d} {a} has = record {
-  covered = agg_covered h.store h.domains (objects_of h) d a (slices_in h.domains d a) has.sound.counted (agg_live has) (found_slices h.domains d a (agg_there has));
-  countable = countable h.store h.domains (objects_of h) (slices_in h.domains d a) has.sound.counted has.sound.limits (slices_small h d a has.sound);
+  covered = agg_covered h.store h.domains (objects_of h) d a (slices_in h.domains d a) has.lives.sound.counted (agg_live has) (found_slices h.domains d a (agg_there has));
+  countable = countable h.store h.domains (objects_of h) (slices_in h.domains d a) has.lives.sound.counted has.lives.sound.limits (slices_small h d a has.lives.sound);
 }
 
 pub ruleset held_rules = (live_held, there_held)

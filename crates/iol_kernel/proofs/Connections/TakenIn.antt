@@ -163,6 +163,3 @@ module _ (c max pool : ℕ) (h k : KernelState) (room : MakesRoom pool (pages_fo
       err = takes_evicted r l roomy fits byte.no_room byte.refused same;
       err_reader = unread;
     }
-
-    pub none_refused : IsRefused (arrive_from_refusals (machine_of [] h) c max) (WantOfRoom (conn_at (machine_of [] h) c).pool) (NoRoom pool)
-    none_refused = late_here (NoRoom pool) (sym in_pool)

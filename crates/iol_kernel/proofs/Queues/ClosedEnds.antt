@@ -52,7 +52,7 @@ pub ruleset same_rules = (moves_same, frees_same)
 pub found_there : (old : Pipes) (n : ℕ) (z : Option (Pipe (List Slice))) (x : Pipe (List Slice)) → n < length old → z ≡ Some x → z ≡ get_or old n z → Some x ≡ in_place old n
 found_there old n z x there is read = sym is ∙ read ∙ get_or_default old n z None there
 
-pub closes_gone : (s t : Stored) (old : Pipes) (n p : ℕ) (x y : Pipe (List Slice)) (after : Pipe (List Slice) → Pipe (List Slice)) → n ≡ p → Some x ≡ in_place old n → y ≡ after x → ((after x).reading || (after x).writing) ≡ false → Releases s t x.queue y.queue → ClosesEnd s t old (slice_set (slice_set old n (Some y)) n None) p (after (queue_at old p))
+pub closes_gone : (s t : Stored) (old : Pipes) (n p : ℕ) (x y : Pipe (List Slice)) (after : Pipe (List Slice) → Pipe (List Slice)) → n ≡ p → Some x ≡ in_place old n → y ≡ after x → ((after x).reading || (after x).writing) ≡ false → Releases s t x.queue y.queue → ClosesEnd s t old (slice_set (slice_set old n (Some y)) n None) p after
 closes_gone s t old n p x y after same there is gone releases =
     let found : queue_at old p ≡ x = ap (queue_at old) (sym same) ∙ ap (λ (o : Option (Pipe (List Slice))). unwrap_or o (record { queue = []; reading = false; writing = false })) (sym there) in
     let become : after (queue_at old p) ≡ y = ap after found ∙ sym is in
@@ -156,13 +156,13 @@ if_kept : (P : Option (Pipe (List Slice)) → Type 0) (b : Bool) (x : Pipe (List
 if_kept P true x none some = some
 if_kept P false x none some = none
 
-module _ (h : KernelState) (t : Stored) (qs : Pipes) (p : ℕ) (x : Pipe (List Slice)) (sound : IsSound h) (there : p < length h.pipes) (closes : ClosesEnd h.store t h.pipes qs p x)
+module _ (h : KernelState) (t : Stored) (qs : Pipes) (p : ℕ) (x : Pipe (List Slice)) (sound : IsSound h) (there : p < length h.pipes) (set : qs ≡ with_pipe_in h.pipes p x) (releases : Releases h.store t (queue_at h.pipes p).queue x.queue)
     (part : (x.queue ≡ []) ⊎ (x.queue ≡ (queue_at h.pipes p).queue)) (empty : (x.reading || x.writing) ≡ false → x.queue ≡ []) where
   abbrev less : Pipes
   less = with_pipe_in h.pipes p x
 
   less_counted : IsCounted t h.domains (record (objects_of h) { pipes = less })
-  less_counted = record { each = λ b. omega (arith, sound.counted.each b, closes.releases.moves.counts.each b, uses-with_pipe b h.pipes p x there empty) }
+  less_counted = record { each = λ b. omega (arith, sound.counted.each b, releases.moves.counts.each b, uses-with_pipe b h.pipes p x there empty) }
 
   queue_good : AllReadable h.store x.queue
   queue_good = elim part [ inl e ↦ subst (AllReadable h.store) (sym e) (readable_none h.store) | inr e ↦ subst (AllReadable h.store) (sym e) (queue_readable h p sound) ]
@@ -188,34 +188,34 @@ module _ (h : KernelState) (t : Stored) (qs : Pipes) (p : ℕ) (x : Pipe (List S
   closed_pipe-read : (f : Reading) → read_of f (record h { store = t; pipes = qs }) ≡ machine.with_pipe (read_of f h) p (pipe_view (read f) x)
   unfolding read_of
   closed_pipe-read f =
-      ap (λ (ys : Pipes). state_view f h.domains t.pools (record (objects_of h) { pipes = ys })) closes.pipes
-      ∙ pools-view f h.domains h.store.pools t.pools (record (objects_of h) { pipes = less }) closes.releases.lists
+      ap (λ (ys : Pipes). state_view f h.domains t.pools (record (objects_of h) { pipes = ys })) set
+      ∙ pools-view f h.domains h.store.pools t.pools (record (objects_of h) { pipes = less }) releases.lists
       ∙ with_pipe_in-view f h.domains h.store.pools (objects_of h) p x
 
   qs_good : AreReadable h.store (record (objects_of h) { pipes = qs })
-  qs_good = subst (λ (ys : Pipes). AreReadable h.store (record (objects_of h) { pipes = ys })) (sym closes.pipes) less_good
+  qs_good = subst (λ (ys : Pipes). AreReadable h.store (record (objects_of h) { pipes = ys })) (sym set) less_good
 
   closed_pipe-sound : (end : Descriptor) → KeepsEnds end (objects_of h) (record (objects_of h) { pipes = less }) → all_ends_on end h.domains ≡ 0 → IsSound (record h { store = t; pipes = qs })
-  closed_pipe-sound end keeps free = subst (λ (ys : Pipes). IsSound (record h { store = t; pipes = ys })) (sym closes.pipes)
-      (moved-sound h.store (record h { store = t; pipes = less }) closes.releases.moves.stays less_counted (closes.releases.moves.tidy sound.tidy) (closes.releases.moves.still sound.still) (closes.releases.settles (queue_readable h p sound) sound.settled) sound.domains less_good
-      (all_ends_kept end (objects_of h) (record (objects_of h) { pipes = less }) keeps h.domains sound.fds free) sound.once less_limits (same_pooled h.store t h.conns h.cache.files closes.releases.lists sound.pooled) sound.sums sound.filed sound.cached (keeps_pages_frees closes.releases.frees).count)
+  closed_pipe-sound end keeps free = subst (λ (ys : Pipes). IsSound (record h { store = t; pipes = ys })) (sym set)
+      (moved-sound h.store (record h { store = t; pipes = less }) releases.moves.stays less_counted (releases.moves.tidy sound.tidy) (releases.moves.still sound.still) (releases.settles (queue_readable h p sound) sound.settled) sound.domains less_good
+      (all_ends_kept end (objects_of h) (record (objects_of h) { pipes = less }) keeps h.domains sound.fds free) sound.once less_limits (same_pooled h.store t h.conns h.cache.files releases.lists sound.pooled) sound.sums sound.filed sound.cached (keeps_pages_frees releases.frees).count)
 
   -- an end of it is closed
   closed_pipe-closes : (end : Descriptor) → KeepsEnds end (objects_of h) (record (objects_of h) { pipes = less }) → all_ends_on end h.domains ≡ 0 → ((f : Reading) → machine.with_pipe (read_of f h) p (pipe_view (read f) x) ≡ fds.closed_on (read_of f h) (Some end)) → Closes end h (record h { store = t; pipes = qs })
   closed_pipe-closes end keeps free means = record {
-    closed = leaves (λ s. fds.closed_on s (Some end)) h (record h { store = t; pipes = qs }) (λ f. closed_pipe-read f ∙ means f) refl refl closes.releases.moves.stays (keeps_pages_frees closes.releases.frees) sound.domains qs_good (closed_pipe-sound end keeps free);
+    closed = leaves (λ s. fds.closed_on s (Some end)) h (record h { store = t; pipes = qs }) (λ f. closed_pipe-read f ∙ means f) refl refl releases.moves.stays (keeps_pages_frees releases.frees) sound.domains qs_good (closed_pipe-sound end keeps free);
     domains = refl;
-    others = subst (λ (ys : Pipes). KeepsEnds end (objects_of h) (record (objects_of h) { pipes = ys })) (sym closes.pipes) keeps;
+    others = subst (λ (ys : Pipes). KeepsEnds end (objects_of h) (record (objects_of h) { pipes = ys })) (sym set) keeps;
   }
 
 -- a read end
 
-module _ (h : KernelState) (t : Stored) (qs : Pipes) (p : ℕ) (free : IsLetGo h (on.ReadEnd p)) (closes : ClosesEnd h.store t h.pipes qs p (without_reader (queue_at h.pipes p))) where
+module _ (h : KernelState) (t : Stored) (qs : Pipes) (p : ℕ) (free : IsLetGo h (on.ReadEnd p)) (closes : ClosesEnd h.store t h.pipes qs p without_reader) where
   reader_there : p < length h.pipes
   reader_there = there_if_open h.pipes p (inl free.opened)
 
   pub reader_closes : Closes (on.ReadEnd p) h (record h { store = t; pipes = qs })
-  reader_closes = closed_pipe-closes h t qs p (without_reader (queue_at h.pipes p)) free.sound reader_there closes (inl refl) (λ e. refl) (on.ReadEnd p) (reader_keeps (objects_of h) p reader_there) free.free (λ f. reader-read f h p)
+  reader_closes = closed_pipe-closes h t qs p (without_reader (queue_at h.pipes p)) free.sound reader_there closes.pipes closes.releases (inl refl) (λ e. refl) (on.ReadEnd p) (reader_keeps (objects_of h) p reader_there) free.free (λ f. reader-read f h p)
 
 -- a write end
 
@@ -227,9 +227,9 @@ none_of : (q : List Slice) (r : Bool) → (r || false) ≡ false → (if r then 
 none_of q true e = absurd (cc)
 none_of q false e = refl
 
-module _ (h : KernelState) (t : Stored) (qs : Pipes) (p : ℕ) (free : IsLetGo h (on.WriteEnd p)) (closes : ClosesEnd h.store t h.pipes qs p (without_writer (queue_at h.pipes p))) where
+module _ (h : KernelState) (t : Stored) (qs : Pipes) (p : ℕ) (free : IsLetGo h (on.WriteEnd p)) (closes : ClosesEnd h.store t h.pipes qs p without_writer) where
   writer_there : p < length h.pipes
   writer_there = there_if_open h.pipes p (inr free.opened)
 
   pub writer_closes : Closes (on.WriteEnd p) h (record h { store = t; pipes = qs })
-  writer_closes = closed_pipe-closes h t qs p (without_writer (queue_at h.pipes p)) free.sound writer_there closes (part_of (queue_at h.pipes p).queue (queue_at h.pipes p).reading) (none_of (queue_at h.pipes p).queue (queue_at h.pipes p).reading) (on.WriteEnd p) (writer_keeps (objects_of h) p writer_there) free.free (λ f. writer-read f h p)
+  writer_closes = closed_pipe-closes h t qs p (without_writer (queue_at h.pipes p)) free.sound writer_there closes.pipes closes.releases (part_of (queue_at h.pipes p).queue (queue_at h.pipes p).reading) (none_of (queue_at h.pipes p).queue (queue_at h.pipes p).reading) (on.WriteEnd p) (writer_keeps (objects_of h) p writer_there) free.free (λ f. writer-read f h p)

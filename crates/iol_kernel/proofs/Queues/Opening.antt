@@ -23,6 +23,7 @@ use Rattle.iol_kernel.specs.KernelState.{KernelState, objects_of, Each, IsOpenEn
 use Rattle.iol_kernel.specs.ClosedEnds.{IsLetGo}
 use Rattle.iol_kernel.specs.NewDescriptors.{MayGiveFd, MayPipe}
 use Rattle.iol_kernel.specs.Opened.{IsOpenOn}
+use Rattle.iol_kernel.specs.Queues.{empty_pipe}
 use Rattle.iol_kernel.specs.Readings.{Reading, bytes_over}
 use Rattle.iol_kernel.proofs.State.Views.{add_pipe-view, lowest-view}
 use Rattle.iol_kernel.proofs.State.Sound.{with_pipes, each-set, each-get, each-weaker, each-placed, ends_open}
@@ -33,9 +34,6 @@ use Rattle.iol_kernel.proofs.State.Rows.{domain_in-with_other, with_domain_in-co
 use Rattle.iol_kernel.proofs.State.ReadOf.{descriptor-read_of, fds-read_of, live_held, lowest-read_of, open_row, taken_pipes-read_of}
 use Rattle.iol_kernel.specs.Calls.{Answers}
 use Rattle.std.specs.Option.{option_map_or}
-
-abbrev pub empty : Pipe (List Slice)
-empty = record { queue = []; reading = true; writing = true }
 
 -- a new pipe, with both ends in a domain
 
@@ -50,11 +48,11 @@ ends-read f h d =
 abbrev piped : State → (d : ℕ) → List (Option Descriptor) → (pipe : ℕ) → State
 piped m d xs n = record (fds.with_fds m d (with_ends xs n)) { pipes = placed m.pipes n new_pipe }
 
-piped-read : (f : Reading) (h : KernelState) (ds : List (Domain (List Slice))) (qs : List (Option (Pipe (List Slice)))) (d : ℕ) → ds ≡ with_fds_in h.domains d (with_ends (domain_in h.domains d).fds (lowest h.pipes)) → qs ≡ placed h.pipes (lowest h.pipes) empty → read_of f (record h { domains = ds; pipes = qs }) ≡ (fds.pipe (read_of f h) d).after
+piped-read : (f : Reading) (h : KernelState) (ds : List (Domain (List Slice))) (qs : List (Option (Pipe (List Slice)))) (d : ℕ) → ds ≡ with_fds_in h.domains d (with_ends (domain_in h.domains d).fds (lowest h.pipes)) → qs ≡ placed h.pipes (lowest h.pipes) empty_pipe → read_of f (record h { domains = ds; pipes = qs }) ≡ (fds.pipe (read_of f h) d).after
 unfolding read_of machine.with_domain
 piped-read f h ds qs d domains' pipes' =
     ap (λ (ys : List (Option (Pipe (List Slice)))). state_view f ds h.store.pools (record (objects_of h) { pipes = ys })) pipes'
-    ∙ add_pipe-view f ds h.store.pools (objects_of h) (lowest h.pipes) empty
+    ∙ add_pipe-view f ds h.store.pools (objects_of h) (lowest h.pipes) empty_pipe
     ∙ ap (λ (x : State). record x { pipes = placed x.pipes (lowest h.pipes) new_pipe }) (fds-changed f h ds d (with_ends (domain_in h.domains d).fds (lowest h.pipes)) domains')
     ∙ ap (λ (xs : List (Option Descriptor)). piped (read_of f h) d xs (lowest h.pipes)) (sym (fds-read_of f h d))
     ∙ ap (λ n. piped (read_of f h) d (machine.domain (read_of f h) d).fds n) (sym (lowest-view f h.domains h.store.pools (objects_of h)))
@@ -84,16 +82,16 @@ once_piped h d sound live =
           omega (arith, total, once, ends-placed e (on.ReadEnd n) xs, ends-placed e (on.WriteEnd n) (with_read_end xs n)));
     }
 
-piped-sound : (h : KernelState) (ds : List (Domain (List Slice))) (qs : List (Option (Pipe (List Slice)))) (d : ℕ) → IsSound h → (domain_in h.domains d).live ≡ true → taken h.pipes < MAX_PIPES → ds ≡ with_fds_in h.domains d (with_ends (domain_in h.domains d).fds (lowest h.pipes)) → qs ≡ placed h.pipes (lowest h.pipes) empty → IsSound (record h { domains = ds; pipes = qs })
+piped-sound : (h : KernelState) (ds : List (Domain (List Slice))) (qs : List (Option (Pipe (List Slice)))) (d : ℕ) → IsSound h → (domain_in h.domains d).live ≡ true → taken h.pipes < MAX_PIPES → ds ≡ with_fds_in h.domains d (with_ends (domain_in h.domains d).fds (lowest h.pipes)) → qs ≡ placed h.pipes (lowest h.pipes) empty_pipe → IsSound (record h { domains = ds; pipes = qs })
 piped-sound h ds qs d sound live few domains' pipes' =
-    let more : List (Option (Pipe (List Slice))) = placed h.pipes (lowest h.pipes) empty in
+    let more : List (Option (Pipe (List Slice))) = placed h.pipes (lowest h.pipes) empty_pipe in
     let k : KernelState = record h { pipes = more } in
     let o : Objects (List Slice) = objects_of k in
     let sound' : IsSound k = record {
       domains = sound.domains;
-      objects = record { pipes = each-placed (IsPipeReadable h.store) h.pipes (lowest h.pipes) empty sound.objects.pipes (readable_none h.store); conns = sound.objects.conns; files = sound.objects.files };
+      objects = record { pipes = each-placed (IsPipeReadable h.store) h.pipes (lowest h.pipes) empty_pipe sound.objects.pipes (readable_none h.store); conns = sound.objects.conns; files = sound.objects.files };
       once = sound.once;
-      counted = record { each = λ b. omega (arith, sound.counted.each b, uses-placed b h.pipes empty, tally_none b) };
+      counted = record { each = λ b. omega (arith, sound.counted.each b, uses-placed b h.pipes empty_pipe, tally_none b) };
       tidy = sound.tidy;
       still = sound.still;
       settled = sound.settled;
@@ -104,19 +102,19 @@ piped-sound h ds qs d sound live few domains' pipes' =
       limits = record {
         aggs = sound.limits.aggs;
         few = sound.limits.few;
-        objects = with_pipes sound.limits.objects (each-placed IsShort h.pipes (lowest h.pipes) empty sound.limits.objects.queues (omega arith)) (length-placed h.pipes empty sound.limits.objects.few_pipes few);
+        objects = with_pipes sound.limits.objects (each-placed IsShort h.pipes (lowest h.pipes) empty_pipe sound.limits.objects.queues (omega arith)) (length-placed h.pipes empty_pipe sound.limits.objects.few_pipes few);
       };
-      fds = each-weaker (λ (x : Domain (List Slice)). Each (IsOpenEnd (objects_of h)) x.fds) (λ (x : Domain (List Slice)). Each (IsOpenEnd o) x.fds) h.domains (λ x e. ends_placed (objects_of h) empty x.fds e) sound.fds;
+      fds = each-weaker (λ (x : Domain (List Slice)). Each (IsOpenEnd (objects_of h)) x.fds) (λ (x : Domain (List Slice)). Each (IsOpenEnd o) x.fds) h.domains (λ x e. ends_placed (objects_of h) empty_pipe x.fds e) sound.fds;
     } in
     let xs : List (Option Descriptor) = (domain_in h.domains d).fds in
-    let first : Each (IsOpenEnd o) (with_read_end xs (lowest h.pipes)) = each-placed (IsOpenEnd o) xs (lowest xs) (on.ReadEnd (lowest h.pipes)) (ends_open k d sound') (new_reading h.pipes empty) in
-    let second : Each (IsOpenEnd o) (with_ends xs (lowest h.pipes)) = each-placed (IsOpenEnd o) (with_read_end xs (lowest h.pipes)) (lowest (with_read_end xs (lowest h.pipes))) (on.WriteEnd (lowest h.pipes)) first (new_writing h.pipes empty) in
+    let first : Each (IsOpenEnd o) (with_read_end xs (lowest h.pipes)) = each-placed (IsOpenEnd o) xs (lowest xs) (on.ReadEnd (lowest h.pipes)) (ends_open k d sound') (new_reading h.pipes empty_pipe) in
+    let second : Each (IsOpenEnd o) (with_ends xs (lowest h.pipes)) = each-placed (IsOpenEnd o) (with_read_end xs (lowest h.pipes)) (lowest (with_read_end xs (lowest h.pipes))) (on.WriteEnd (lowest h.pipes)) first (new_writing h.pipes empty_pipe) in
     subst (λ (ys : List (Option (Pipe (List Slice)))). IsSound (record h { domains = ds; pipes = ys })) (sym pipes') (fds-sound k ds d (with_ends xs (lowest h.pipes)) sound' live domains' second (once_piped h d sound live))
 
-pub piped_answers : (h : KernelState) (ds : List (Domain (List Slice))) (qs : List (Option (Pipe (List Slice)))) (d : ℕ) (r : ℕ × ℕ) → MayPipe d h → r ≡ ends_of (domain_in h.domains d).fds (lowest h.pipes) → ds ≡ with_fds_in h.domains d (with_ends (domain_in h.domains d).fds (lowest h.pipes)) → qs ≡ placed h.pipes (lowest h.pipes) empty → Answers (λ s. fds.pipe s d) h r (record h { domains = ds; pipes = qs })
+pub piped_answers : (h : KernelState) (ds : List (Domain (List Slice))) (qs : List (Option (Pipe (List Slice)))) (d : ℕ) (r : ℕ × ℕ) → MayPipe d h → r ≡ ends_of (domain_in h.domains d).fds (lowest h.pipes) → ds ≡ with_fds_in h.domains d (with_ends (domain_in h.domains d).fds (lowest h.pipes)) → qs ≡ placed h.pipes (lowest h.pipes) empty_pipe → Answers (λ s. fds.pipe s d) h r (record h { domains = ds; pipes = qs })
 piped_answers h ds qs d r may numbers domains' pipes' =
     let f = bytes_over [] h.store in
-    answers_here (λ s. fds.pipe s d) h (record h { domains = ds; pipes = qs }) r (piped-sound h ds qs d may.sound (live_held f h d may.live) (subst (λ n. n < MAX_PIPES) (taken_pipes-read_of f h) may.few_pipes) domains' pipes') refl refl (λ f. numbers ∙ sym (ends-read f h d)) refl (λ f. piped-read f h ds qs d domains' pipes')
+    answers_here (λ s. fds.pipe s d) h (record h { domains = ds; pipes = qs }) r (piped-sound h ds qs d may.lives.sound (live_held f h d may.lives.live) (subst (λ n. n < MAX_PIPES) (taken_pipes-read_of f h) may.few_pipes) domains' pipes') refl refl (λ f. numbers ∙ sym (ends-read f h d)) refl (λ f. piped-read f h ds qs d domains' pipes')
 
 few_open : (n k : ℕ) → nat_lt MAX_OPEN (n + k) ≡ false → n + k ≤ MAX_OPEN
 few_open n k few = grind (arith, nat_tests, few)

@@ -18,12 +18,11 @@ use Rattle.iol_hold.proofs.Moving.{stays_trans}
 use Rattle.iol_hold.proofs.Rooms.{no_pages, room_there}
 use Rattle.iol_cache.specs.Cached.{Cached, clean_held}
 use Rattle.iol_cache.specs.Keeping.{KeepsDirty}
-use Rattle.iol_cache.specs.Paging.{FillsLowest}
 use Rattle.iol_cache.specs.Pinned.{is_pinned, pinned_beside}
 use Rattle.iol_kernel.specs.Backed.{Serves, StepsBeside, with_slots}
 use Rattle.iol_kernel.specs.Calls.{MakesBytes, Steps}
 use Rattle.iol_kernel.specs.KernelState.{KernelState, IsSound, machine_of, read_of}
-use Rattle.iol_kernel.specs.MakingRoom.{AfterRoom, AsksRoom, AsksToFit, IsSame, MakesRoom, MayHaveEvicted, Places, can_fit}
+use Rattle.iol_kernel.specs.MakingRoom.{AfterRoom, AsksRoom, AsksToFit, MakesRoom, Places, can_fit}
 use Rattle.iol_kernel.specs.Putting.{Fills}
 use Rattle.iol_kernel.specs.Readings.{Reading, bytes_over}
 use Rattle.iol_kernel.proofs.State.Serving.{backed_stays, steps_beside, still_serves, with_slots-same}
@@ -220,20 +219,6 @@ none_fit h p n lacks none =
     le_yes : (a b : ℕ) → a ≤ b → nat_le a b ≡ true
     le_yes a b le = grind (arith, nat_tests, le)
 
--- What a caller learns.
-
-pub evicted_same : (pool n : ℕ) (h k : KernelState) (x : Refusal) → MayHaveEvicted pool n h k x → IsSame h k
-evicted_same pool n h k x (inl same) = subst (IsSame h) (sym same) (record { files = λ disk backed. refl; backed = λ disk backed. backed; beside = λ slots. refl })
-evicted_same pool n h k x (inr went) = went.room.same
-
--- room was made, and the lowest free pages were filled
-pub filled_lowest : (put : State → Text → State) (pool n : ℕ) (h l : KernelState) → AfterRoom pool n h (λ roomy. MakesBytes put pool n roomy l) → FillsLowest pool h.store l.store
-filled_lowest put pool n h l x = record { roomy = x.roomy.store; frees = x.room.gives_up.frees; count = pages_for n; pages = x.then.pages }
-
 -- bytes of files lie where they lay, but for clean extents
 pub filled_keeps : (put : State → Text → State) (pool n : ℕ) (h l : KernelState) → AfterRoom pool n h (λ roomy. MakesBytes put pool n roomy l) → KeepsDirty h.cache l.cache
 filled_keeps put pool n h l x = subst (λ (c : Cached). KeepsDirty h.cache c) (sym x.then.cache) x.room.keeps
-
--- where so many pages are free, nothing else changes
-pub filled_alone : (put : State → Text → State) (pool n : ℕ) (h l : KernelState) → pages_for n ≤ length (free_of h.store pool) → AfterRoom pool n h (λ roomy. MakesBytes put pool n roomy l) → MakesBytes put pool n h l
-filled_alone put pool n h l free x = subst (λ (k : KernelState). MakesBytes put pool n k l) (x.room.enough free) x.then

@@ -14,7 +14,7 @@ use Rattle.iol_hold.specs.declared.slices.Slice.{Slice}
 use Rattle.iol_hold.proofs.AtPlaces.{length-read}
 use Rattle.iol_desc.specs.Tables.{domain_in, agg_in}
 use Rattle.iol_kernel.specs.Views.{Objects, pipe_view, state_view}
-use Rattle.iol_kernel.specs.KernelState.{KernelState, objects_of, machine_of, read_of, queue_at, slices_in}
+use Rattle.iol_kernel.specs.KernelState.{KernelState, objects_of, read_of, queue_at, slices_in}
 use Rattle.iol_kernel.specs.Opened.{IsOpenOn}
 use Rattle.iol_kernel.specs.Readings.{Reading, bytes_over, read}
 use Rattle.iol_kernel.proofs.State.Views.{domain-view, pool-view, is_pool-view, aggregate-view, pipe_at-view, lowest-view, taken-view, length_pools-view, busy-view}
@@ -123,6 +123,3 @@ open_row {h} {d} held = live_held (bytes_over [] h.store) h d (held.live (bytes_
 
 pub open_row_kept : {h : KernelState} {d fd : ℕ} {end : Descriptor} {ds : List (Domain (List Slice))} → IsOpenOn h d fd end → ds ≡ h.domains → (domain_in ds d).live ≡ true
 open_row_kept {h} {d} {fd} {end} {ds} held same = ap (λ (ys : List (Domain (List Slice))). (domain_in ys d).live) same ∙ open_row held
-
-pub live_always : (h : KernelState) (d : ℕ) → machine.is_live (machine_of [] h) d ≡ true → (f : Reading) → machine.is_live (read_of f h) d ≡ true
-live_always h d live f = is_live-read_of f h d ∙ live_held (bytes_over [] h.store) h d live

@@ -11,9 +11,8 @@ use Rattle.iol_back.specs.Disk.{Disk}
 use Rattle.iol_hold.specs.Stored.{Stored}
 use Rattle.iol_hold.specs.declared.slices.Slice.{Slice}
 use Rattle.iol_sum.proofs.Keeping.{IsRight-keeps}
-use Rattle.iol_extent.specs.Extents.{Extent, begins_at}
-use Rattle.iol_cache.specs.Cached.{Cached, extents_in, file_in, no_file}
-use Rattle.iol_cache.specs.Evicting.{AreEvicted, EvictsAll, GivesUp, Holding}
+use Rattle.iol_cache.specs.Cached.{Cached, file_in, no_file}
+use Rattle.iol_cache.specs.Evicting.{EvictsAll, GivesUp, Holding}
 use Rattle.iol_cache.specs.Sound as cache
 use Rattle.iol_cache.specs.declared.files.CachedFile.{CachedFile}
 use Rattle.iol_cache.proofs.Extents.Filing.{numbered_bounds, numbered_yes}
@@ -139,20 +138,3 @@ module _ (h : KernelState) (t : Stored) (c : Cached) (sound : IsSound h) (kept :
     same = room_same;
     sound = room_sound;
   }
-
--- Where nothing of files is in memory, nothing goes.
-
-nothing_evicted : (p : ℕ) (w : Option ℕ) (vs : List (ℕ × ℕ)) (old new : Holding) → ((f : ℕ) → extents_in old.cache.files f ≡ []) → AreEvicted p w vs old new → new ≡ old
-nothing_evicted p w [] old new none is = is
-nothing_evicted p w (v ∷ vs) old new none is =
-    let before = nothing_evicted p w vs old is.0 none is.1 in
-    let there = is.2.evicts.there in
-    let empty : extents_in is.0.cache.files v.0 ≡ [] = ap (λ (x : Holding). extents_in x.cache.files v.0) before ∙ none v.0 in
-    absurd (not_there v.1 there.extent (ap (λ (es : List Extent). begins_at es v.1) (sym empty) ∙ there.begins))
-  where
-    not_there : (at : ℕ) (e : Extent) → begins_at [] at ≡ Some e → ⊥
-    not_there at e is = cc
-
-pub none_cached : (pool pages : ℕ) (h k : KernelState) → MakesRoom pool pages h k → ((f : ℕ) → extents_in h.cache.files f ≡ []) → k ≡ h
-none_cached pool pages h k room none =
-    room.rest ∙ ap (λ (x : Holding). record h { store = x.store; cache = x.cache }) (nothing_evicted pool (Some pages) room.victims.places (holding_of h) (holding_of k) none room.victims.each)

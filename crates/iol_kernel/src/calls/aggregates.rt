@@ -1,11 +1,13 @@
 //! Aggregates: made of new bytes or of those that lie there already, shown, and dropped.
-ghost use Rattle.std.specs.Prelude.{◌≡◌, ℕ, ◌<◌, length, true, Option, Some, IfOk, IfErr, Err};
-ghost use Rattle.iol_core.specs.Prelude.{is_live, domain, may_read, first, barred, default_pool};
+ghost use Rattle.std.specs.Prelude.{◌≡◌, ℕ, true, IfOk, IfErr, Err};
+ghost use Rattle.iol_core.specs.Prelude.{is_live, domain};
 ghost use Rattle.iol_core.specs.Calls.Aggregates as calls;
-ghost use Rattle.iol_kernel.specs.Calls.{MakesNext, MayMake, Refuses};
+ghost use Rattle.iol_kernel.specs.Calls.{MakesNext, MayMake, RefusesShow};
+ghost use Rattle.iol_kernel.specs.Denying.{TellsBarred};
 ghost use Rattle.iol_kernel.specs.Having.{HasAgg, MayCut, MayGive, MayJoin, MayReplace, MaySplit};
 ghost use Rattle.iol_kernel.specs.KernelState.{joined, IsSound};
-ghost use Rattle.iol_kernel.specs.Readings.{Reading, read, KeepsPools};
+ghost use Rattle.iol_kernel.specs.NewBytes.{PlacesAgg, TestsMake};
+ghost use Rattle.iol_kernel.specs.Readings.{Reading};
 
 use crate::kernel::Kernel;
 use crate::tables::{first_hidden, join_aggs, move_agg, split_agg};
@@ -17,13 +19,12 @@ use iol_core::refusals::Refusal;
 use std::alloc::AllocError;
 
 impl Kernel {
-    ghost use Rattle.iol_kernel.specs.Kernel.{state_of, machine, as_read, Steps, Shows, ShowsSoMany, Places, CarriesOut, KeepsPlaces, Attempts, Leaves};
+    ghost use Rattle.iol_kernel.specs.Kernel.{state_of, machine, as_read, Steps, Shows, ShowsSoMany, CarriesOut, KeepsPlaces, Attempts, Leaves};
 
     /// Places bytes in the caller's default pool, as its next aggregate. Clean extents of the pool's files give way.
     pub fn agg_make(&mut self, by: DomainId, bytes: &Bytes) -> Result<AggId, Refusal>
         requires { IsSound (state_of self.old) }
-        ensures { Places (λ s. calls.agg_make s by bytes.now) (λ s t. calls.with_agg s by t)
-            (default_pool (machine self.old) by) (length bytes.now) self.old result self.new }
+        ensures { PlacesAgg by bytes.now (state_of self.old) result (state_of self.new) }
     {
         let list = bytes.as_slice();
         let pool = self.pool_to_make(by, list)?;
@@ -36,9 +37,7 @@ impl Kernel {
     /// The pool in which the caller's bytes lie once they are an aggregate. It is refused as `agg_make` is, but for want
     /// of room and of memory.
     fn pool_to_make(&self, by: DomainId, bytes: &[u8]) -> Result<PoolId, Refusal>
-        ensures may { IfOk result (λ p. MayMake by bytes.now p (state_of self.now)) }
-        ensures refused { IfErr result (λ x. Refuses (λ s. calls.agg_make s by bytes.now) x
-            (state_of self.now)) }
+        ensures { TestsMake by bytes.now (state_of self.now) result }
     {
         if !self.is_live(by) {
             return Err(Refusal::NoDomain);
@@ -284,8 +283,7 @@ impl Kernel {
 
     /// The pool of the first byte of an aggregate that the receiver may not read.
     fn first_denied(&self, found: &Agg, to: DomainId) -> Option<PoolId>
-        ensures { (f : Reading) → KeepsPools f → result ≡ barred (may_read (as_read f self.now) to)
-            (read f found.now) }
+        ensures { TellsBarred (state_of self.now) to found.now result }
     {
         first_hidden(found.slices(), self.store.pools(), to)
     }
@@ -313,8 +311,7 @@ impl Kernel {
     pub fn parts(&self, by: DomainId, agg: AggId) -> Result<Parts<'_>, Refusal>
         requires { IsSound (state_of self.now) }
         ensures ok { IfOk result (λ parts. Shows by agg (joined parts) self.now) }
-        ensures err { IfErr result (λ x. (f : Reading) → first (calls.show (as_read f
-            self.now) by agg).refusals ≡ Some x) }
+        ensures err { IfErr result (λ x. RefusesShow by agg x (state_of self.now)) }
     {
         let found = self.find(by, agg)?;
         Ok(found.parts(&self.store))
@@ -324,8 +321,7 @@ impl Kernel {
     pub fn agg_len(&self, by: DomainId, agg: AggId) -> Result<u32, Refusal>
         requires { IsSound (state_of self.now) }
         ensures ok { IfOk result (λ n. ShowsSoMany by agg n self.now) }
-        ensures err { IfErr result (λ x. (f : Reading) → first (calls.show (as_read f
-            self.now) by agg).refusals ≡ Some x) }
+        ensures err { IfErr result (λ x. RefusesShow by agg x (state_of self.now)) }
     {
         self.find_len(by, agg)
     }

@@ -1,9 +1,10 @@
 //! Pipes are made and connections accepted, and descriptors on them are given and closed.
-ghost use Rattle.std.specs.Prelude.{◌≡◌, ◌≢◌, ℕ, true, Option, Some, None, option_map, Err};
+ghost use Rattle.std.specs.Prelude.{◌≡◌, ◌≢◌, ℕ, true, Option, Some, None, Err};
 ghost use Rattle.iol_core.specs.State as state;
 ghost use Rattle.iol_core.specs.Prelude.{conn_at, is_numbered, lookup, taken, closed_on, freed, with_fds};
 ghost use Rattle.iol_core.specs.Calls.Descriptors as calls;
 ghost use Rattle.iol_kernel.specs.ClosedEnds.{Closes, IsLetGo};
+ghost use Rattle.iol_kernel.specs.Denying.{TellsDenied};
 ghost use Rattle.iol_kernel.specs.KernelState.{objects_of, IsOpenEnd, IsSound};
 ghost use Rattle.iol_kernel.specs.NewDescriptors.{MayAccept, MayGiveFd, MayPipe};
 ghost use Rattle.iol_kernel.specs.Readings.{Reading};
@@ -77,9 +78,7 @@ impl Kernel {
     /// The pool of what a descriptor is open on, where a domain has to read it to hold the descriptor and may not.
     fn denied_pool(&self, to: DomainId, given: Descriptor) -> Option<PoolId>
         requires { IsOpenEnd (objects_of (state_of self.now)) (Some given) }
-        ensures { (f : Reading) → option_map (λ p. Refusal.Denied p) result ≡
-            calls.denied_by (as_read f self.now) to
-            (calls.needed_pool (as_read f self.now) (Some given)) }
+        ensures { TellsDenied (state_of self.now) to (λ s. calls.needed_pool s (Some given)) result }
     {
         match given {
             Descriptor::Connection { conn } => self.hidden_pool(to, conn),
@@ -91,9 +90,7 @@ impl Kernel {
     /// The pool of a connection, where a domain may not read it.
     fn hidden_pool(&self, to: DomainId, conn: ConnId) -> Option<PoolId>
         requires { lookup (state_of self.now).conns conn ≢ None }
-        ensures { (f : Reading) → option_map (λ p. Refusal.Denied p) result ≡
-            calls.denied_by (as_read f self.now) to
-            (Some (conn_at (as_read f self.now) conn).pool) }
+        ensures { TellsDenied (state_of self.now) to (λ s. Some (conn_at s conn).pool) result }
     {
         let pool = self.conns.get(conn)?.pool();
         if self.may_read(to, pool) {
@@ -105,9 +102,7 @@ impl Kernel {
     /// The pool of a file, where a domain may not read it.
     pub(crate) fn hidden_file(&self, to: DomainId, file: FileId) -> Option<PoolId>
         requires { is_numbered (state_of self.now).files file ≡ true }
-        ensures { (f : Reading) → option_map (λ p. Refusal.Denied p) result ≡
-            calls.denied_by (as_read f self.now) to
-            (Some (state.file (as_read f self.now) file).pool) }
+        ensures { TellsDenied (state_of self.now) to (λ s. Some (state.file s file).pool) result }
     {
         let pool = self.file_pool(file);
         if self.may_read(to, pool) {

@@ -1,9 +1,9 @@
 //! Domains come and go.
-ghost use Rattle.std.specs.Prelude.{◌≡◌, ℕ, [], length, fold, Option, Err};
-ghost use Rattle.iol_core.specs.Prelude.{domain, with_domain, closed_on, with_fds};
+ghost use Rattle.std.specs.Prelude.{◌≡◌, ℕ, [], length, Option, Err};
 ghost use Rattle.iol_core.specs.Calls.Domains as calls;
 ghost use Rattle.iol_desc.specs.Prelude.{with_aggs_in, with_fds_in};
 ghost use Rattle.iol_kernel.specs.ClosedEnds.{AreLetGo, ClosesAll};
+ghost use Rattle.iol_kernel.specs.Ending.{without_aggs, without_fds};
 ghost use Rattle.iol_kernel.specs.Having.{Lives};
 ghost use Rattle.iol_kernel.specs.KernelState.{IsSound};
 ghost use Rattle.iol_kernel.specs.Readings.{Reading};
@@ -72,8 +72,7 @@ impl Kernel {
     #[tactic(auto, using(crate::proofs::AggregateCalls::Slices::held_rules))]
     fn drop_aggs(&mut self, by: DomainId)
         requires { Lives (state_of self.old) by }
-        ensures dropped { Leaves (λ s. with_domain s by (record (domain s by) { aggs = [] }))
-            self.old self.new }
+        ensures dropped { Leaves (without_aggs by) self.old self.new }
         ensures domains { (state_of self.new).domains ≡ with_aggs_in (state_of self.old).domains by
             [] }
     {
@@ -85,8 +84,7 @@ impl Kernel {
     #[tactic(auto, using(crate::proofs::AggregateCalls::Slices::held_rules))]
     fn close_fds(&mut self, by: DomainId)
         requires { Lives (state_of self.old) by }
-        ensures closed { Leaves (λ s. fold closed_on (with_fds s by []) (domain s by).fds) self.old
-            self.new }
+        ensures closed { Leaves (without_fds by) self.old self.new }
         ensures domains { (state_of self.new).domains ≡ with_fds_in (state_of self.old).domains by
             [] }
     {

@@ -19,7 +19,7 @@ use iol_core::refusals::Refusal;
 use std::alloc::AllocError;
 
 impl Kernel {
-    ghost use Rattle.iol_kernel.specs.Kernel.{state_of, as_read, Attempts, CarriesOut, Names};
+    ghost use Rattle.iol_kernel.specs.Kernel.{state_of, as_read, Attempts, CarriesOut, NamesNext};
 
     /// Gives the next slot of the store under files a name and a pool. The file begins with the bytes that are stored there.
     ///
@@ -33,8 +33,7 @@ impl Kernel {
         pool: PoolId,
     ) -> Result<FileId, Refusal>
         requires { IsSound (state_of self.old) }
-        ensures names { Names (B.disk backing.now) (λ s. calls.file_new s by name.now pool) self.old
-            result self.new }
+        ensures names { NamesNext (B.disk backing.now) by name.now pool self.old result self.new }
         ensures fits { FitsNext (B.disk backing.now) (state_of self.old) result }
     {
         if !self.is_live(by) {

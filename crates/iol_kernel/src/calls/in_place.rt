@@ -1,14 +1,10 @@
 //! Connections that are served from outside in place: what a reader gives comes straight into a page, and a writer takes
 //! bytes from where they lie.
-ghost use Rattle.std.specs.Prelude.{◌≡◌, Ok, IfOk, IfErr, OnErr};
-ghost use Rattle.iol_core.specs.Calls.Outside as outside;
-ghost use Rattle.iol_back.specs.Prelude.{Disk};
-ghost use Rattle.iol_hold.specs.Prelude.{Stays};
-ghost use Rattle.iol_kernel.specs.Outside.{HasConn};
-ghost use Rattle.iol_kernel.specs.Borrowed.{BringsIn, DrainsTo, FailsToRead, MayBringIn, TakesIn, TakesRead};
-ghost use Rattle.iol_kernel.specs.Borrowed.{RefusesArrival, RefusesDrain};
-ghost use Rattle.iol_kernel.specs.Backed.{Serves};
+ghost use Rattle.std.specs.Prelude.{IfOk, IfErr};
+ghost use Rattle.iol_kernel.specs.Borrowed.{FailsToRead, MayBringIn};
+ghost use Rattle.iol_kernel.specs.InPlace.{DrainsToWriter, LendsToWriter, ReadsFromReader, TakesFromReader};
 ghost use Rattle.iol_kernel.specs.KernelState.{IsSound};
+ghost use Rattle.iol_kernel.specs.Outside.{HasConn};
 
 use crate::kernel::Kernel;
 use iol_core::numbers::{ConnId, PoolId};
@@ -17,7 +13,7 @@ use iol_sock::{Arrived, Drained};
 use std::io::{Read, Write};
 
 impl Kernel {
-    ghost use Rattle.iol_kernel.specs.Kernel.{state_of, machine};
+    ghost use Rattle.iol_kernel.specs.Kernel.{state_of};
 
     /// The bytes of one read come in from a connection's peer, straight into a new buffer on the lowest free page of the
     /// connection's pool. At most `max` bytes are asked for, a page of them, and what fits. Clean extents of the pool's
@@ -32,15 +28,7 @@ impl Kernel {
         max: u32,
     ) -> Result<Arrived, Refusal>
         requires { IsSound (state_of self.old) }
-        ensures refuses { RefusesArrival conn max (state_of self.old) (state_of self.new) reader.old
-            reader.new result }
-        ensures brings { IfOk result (BringsIn conn max (R.remaining reader.new) (state_of self.old)
-            (state_of self.new)) }
-        ensures read { IfOk result (λ a. TakesIn (R.remaining reader.old) (R.remaining reader.new)
-            a.taken (λ bytes. (disk : Disk) → Serves (λ s. outside.arrive s conn bytes) disk
-            (state_of self.old) (Ok a.taken) disk (state_of self.new))) }
-        ensures sound { IsSound (state_of self.new) }
-        ensures stays { Stays self.old.store self.new.store }
+        ensures { TakesFromReader conn max R.remaining reader.old reader.new self.old result self.new }
     {
         let pool = self.may_arrive_from(conn, max)?;
         if !self.make_room_for(pool, 1) {
@@ -74,9 +62,7 @@ impl Kernel {
         max: u32,
     ) -> Result<Arrived, Refusal>
         requires { HasConn (state_of self.old) conn }
-        ensures takes { TakesRead conn max (R.remaining reader.old) (R.remaining reader.new)
-            (state_of self.old) result (state_of self.new) }
-        ensures err_reader { OnErr result (reader.new ≡ reader.old) }
+        ensures { ReadsFromReader conn max R.remaining reader.old reader.new self.old result self.new }
     {
         Ok(
             self.conns
@@ -96,12 +82,7 @@ impl Kernel {
         max: u32,
     ) -> Result<Drained, Refusal>
         requires { IsSound (state_of self.old) }
-        ensures refuses { RefusesDrain (machine self.old) conn (state_of self.old) (state_of
-            self.new) writer.old writer.new result }
-        ensures drains { IfOk result (DrainsTo conn max (W.contents writer.old) (W.contents
-            writer.new) (state_of self.old) (state_of self.new)) }
-        ensures sound { IsSound (state_of self.new) }
-        ensures stays { Stays self.old.store self.new.store }
+        ensures { DrainsToWriter conn max W.contents writer.old writer.new self.old result self.new }
     {
         if self.lacks_conn(conn) {
             return Err(Refusal::BadFd);
@@ -112,8 +93,7 @@ impl Kernel {
     /// Lends the first bytes to be sent on a connection that is there, and forgets it where it is over.
     fn lend_out<W: Write>(&mut self, conn: ConnId, writer: &mut W, max: u32) -> Drained
         requires { HasConn (state_of self.old) conn }
-        ensures { DrainsTo conn max (W.contents writer.old) (W.contents writer.new)
-            (state_of self.old) (state_of self.new) result }
+        ensures { LendsToWriter conn max W.contents writer.old writer.new self.old self.new result }
     {
         let drained = self.conns.drain_to(&mut self.store, conn, writer, max);
         if drained.taken == 0 {

@@ -1,5 +1,6 @@
 //! Reading by reference.
 ghost use Rattle.iol_core.specs.Calls.Reading as calls;
+ghost use Rattle.iol_kernel.specs.ByReference.{ReadsByReference};
 ghost use Rattle.iol_kernel.specs.KernelState.{IsSound};
 ghost use Rattle.iol_kernel.specs.Opened.{IsOnQueue};
 ghost use Rattle.iol_kernel.specs.QueueEnds.{MayTake};
@@ -17,7 +18,7 @@ use iol_core::refusals::Refusal;
 use std::alloc::AllocError;
 
 impl Kernel {
-    ghost use Rattle.iol_kernel.specs.Kernel.{state_of, Attempts, CarriesOut, IsSource, Reads, Serves, TakesOff};
+    ghost use Rattle.iol_kernel.specs.Kernel.{state_of, Attempts, CarriesOut, IsSource, TakesOff};
 
     /// Reads up to `count` bytes, as the caller's next aggregate. The store under the files is asked for what of a file is not
     /// in memory.
@@ -29,10 +30,8 @@ impl Kernel {
         count: u32,
     ) -> Result<AggId, Refusal>
         requires { IsSound (state_of self.old) }
-        ensures serves { Serves (λ s. calls.iol_read s by fd count) (B.disk backing.old) self.old
-            result (B.disk backing.new) self.new }
-        ensures reads { Reads by fd count (B.disk backing.old) self.old result
-            (B.disk backing.new) self.new }
+        ensures { ReadsByReference by fd count B.disk backing.old self.old result backing.new
+            self.new }
     {
         let from = self.opened(by, fd)?;
         match OpenFile::of(&from) {

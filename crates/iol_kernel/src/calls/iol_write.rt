@@ -1,11 +1,9 @@
 //! Writing by reference: to pipes and connections here, to files in `iol_write/file`.
 ghost use Rattle.std.specs.Prelude.{◌≡◌, false, Some};
-ghost use Rattle.iol_core.specs.Prelude.{descriptor};
 ghost use Rattle.iol_core.specs.Calls.Writing as calls;
-ghost use Rattle.iol_back.specs.Prelude.{Disk};
+ghost use Rattle.iol_kernel.specs.ByReference.{WritesByReference};
 ghost use Rattle.iol_kernel.specs.KernelState.{IsSound};
 ghost use Rattle.iol_kernel.specs.WritingAggs.{MayWriteAgg, TestsAgg};
-ghost use Rattle.iol_kernel.specs.WritingFiles.{WritesOn};
 
 pub(crate) mod file;
 
@@ -17,7 +15,7 @@ use iol_core::numbers::{AggId, DomainId, Fd};
 use iol_core::refusals::Refusal;
 
 impl Kernel {
-    ghost use Rattle.iol_kernel.specs.Kernel.{state_of, machine, CarriesOut, Serves};
+    ghost use Rattle.iol_kernel.specs.Kernel.{state_of, CarriesOut};
 
     /// Writes an aggregate, which stays. Returns how many of its bytes were taken.
     ///
@@ -25,10 +23,7 @@ impl Kernel {
     /// file's pool are shared; clean extents may go to make room for copies of the others, also where it is refused.
     pub fn iol_write(&mut self, by: DomainId, fd: Fd, agg: AggId) -> Result<u32, Refusal>
         requires { IsSound (state_of self.old) }
-        ensures serves { (disk : Disk) → Serves (λ s. calls.iol_write s by fd agg) disk self.old
-            result disk self.new }
-        ensures writes { WritesOn by fd agg (descriptor (machine self.old) by fd)
-            (state_of self.old) result (state_of self.new) }
+        ensures { WritesByReference by fd agg self.old result self.new }
     {
         let to = match self.end_to_write(by, fd, agg) {
             Ok(to) => to,

@@ -2,10 +2,10 @@
 ghost use Rattle.std.specs.Prelude.{◌≡◌, ◌≢◌, ℕ, length, None, Err};
 ghost use Rattle.iol_core.specs.Prelude.{conn_at, with_conn, lookup, lacks_conn};
 ghost use Rattle.iol_core.specs.Calls.Outside as calls;
-ghost use Rattle.iol_kernel.specs.Calls.{MayArrive, told, with_incoming};
+ghost use Rattle.iol_kernel.specs.Calls.{MayArrive, told};
 ghost use Rattle.iol_kernel.specs.KernelState.{IsSound};
+ghost use Rattle.iol_kernel.specs.NewBytes.{FillsIncoming, PlacesIncoming};
 ghost use Rattle.iol_kernel.specs.Outside.{HasConn, MayConnect, Settles, TestsArrival};
-ghost use Rattle.iol_kernel.specs.Putting.{Fills};
 ghost use Rattle.iol_kernel.specs.Readings.{Reading};
 
 use crate::kernel::Kernel;
@@ -18,7 +18,7 @@ use iol_sock::Segment;
 use std::alloc::AllocError;
 
 impl Kernel {
-    ghost use Rattle.iol_kernel.specs.Kernel.{state_of, machine, as_read, Attempts, CarriesOut, KeepsPlaces, Places, Transmits, Leaves};
+    ghost use Rattle.iol_kernel.specs.Kernel.{state_of, as_read, Attempts, CarriesOut, KeepsPlaces, Transmits, Leaves};
 
     /// Makes a connection that waits to be accepted. What arrives on it will lie in the pool.
     #[tactic(auto, using(crate::proofs::State::Stay::stay_rules))]
@@ -119,9 +119,7 @@ impl Kernel {
     /// connection's pool give way, and the bytes lie in new buffers on its lowest free pages then.
     pub fn arrive(&mut self, conn: ConnId, bytes: &Bytes) -> Result<u32, Refusal>
         requires { IsSound (state_of self.old) }
-        ensures { Places (λ s. calls.arrive s conn bytes.now) (with_incoming conn) (conn_at (machine
-            self.old) conn).pool (calls.arrive (machine self.old) conn bytes.now).answer self.old
-            result self.new }
+        ensures { PlacesIncoming conn bytes.now (state_of self.old) result (state_of self.new) }
     {
         let (pool, count) = self.room_to_arrive(conn, bytes.as_slice())?;
         self.take_in(conn, pool, count, bytes.as_slice())
@@ -150,9 +148,7 @@ impl Kernel {
         bytes: &[u8],
     ) -> Result<u32, Refusal>
         requires { MayArrive conn bytes.now pool count (state_of self.old) }
-        ensures { Places (λ s. calls.arrive s conn bytes.now) (with_incoming conn) (conn_at (machine
-            self.old) conn).pool (calls.arrive (machine self.old) conn bytes.now).answer self.old
-            result self.new }
+        ensures { PlacesIncoming conn bytes.now (state_of self.old) result (state_of self.new) }
     {
         if !self.make_room_for(pool, count) {
             return Err(Refusal::NoRoom { pool });
@@ -163,8 +159,7 @@ impl Kernel {
     /// Bytes come in on a connection that is there, and whose pool has room.
     fn fill_conn(&mut self, conn: ConnId, bytes: &[u8]) -> Result<u32, Refusal>
         requires { HasConn (state_of self.old) conn }
-        ensures { Fills (λ s. calls.arrive s conn bytes.now) (with_incoming conn) (conn_at (machine
-            self.old) conn).pool (state_of self.old) result (state_of self.new) }
+        ensures { FillsIncoming conn bytes.now (state_of self.old) result (state_of self.new) }
     {
         self.conns.arrive(self.alloc, &mut self.store, conn, bytes)
     }

@@ -1,15 +1,13 @@
 //! Pools.
-ghost use Rattle.std.specs.Prelude.{◌≡◌, ◌&&◌, ℕ, ◌<◌, ◌≤◌, length, true, IfOk, IfErr, OnOk, Err};
-ghost use Rattle.std.specs.List.{list_all};
+ghost use Rattle.std.specs.Prelude.{◌≡◌, ℕ, ◌<◌, length, OnOk, Err};
 ghost use Rattle.iol_core.specs.State as state;
-ghost use Rattle.iol_core.specs.Prelude.{is_live, is_pool, with_numbered};
+ghost use Rattle.iol_core.specs.Prelude.{is_pool};
 ghost use Rattle.iol_core.specs.Calls.Pools as calls;
-ghost use Rattle.iol_arena.specs.Prelude.{free_chunks};
-ghost use Rattle.iol_pool.specs.Prelude.{AddsPool};
-ghost use Rattle.iol_kernel.specs.Calls.{Refuses, with_reader};
+ghost use Rattle.iol_kernel.specs.Calls.{with_reader};
 ghost use Rattle.iol_kernel.specs.Having.{Lives};
 ghost use Rattle.iol_kernel.specs.KernelState.{IsSound};
-ghost use Rattle.iol_kernel.specs.PoolCalls.{Creates, IsIdle, MayAdmit, MayCreate, MayUse};
+ghost use Rattle.iol_kernel.specs.PoolCalls.{Creates, CreatesPool, IsIdle, MayAdmit, TestsCreate, TestsUse};
+ghost use Rattle.iol_kernel.specs.PoolCalls.{are_all_live, with_pool_admitting, with_pool_closed};
 ghost use Rattle.iol_kernel.specs.Readings.{Reading};
 
 use crate::kernel::Kernel;
@@ -36,9 +34,7 @@ impl Kernel {
 
     /// Whether a domain may place in a pool, or close it: it is open, and names the domain.
     fn test_pool(&self, by: DomainId, pool: PoolId) -> Result<(), Refusal>
-        ensures may { OnOk result (MayUse by pool (state_of self.now)) }
-        ensures refused { IfErr result (λ x. Refuses (λ s. calls.set_pool s by pool) x (state_of
-            self.now)) }
+        ensures { TestsUse by pool (state_of self.now) result }
     {
         if !self.is_live(by) {
             return Err(Refusal::NoDomain);
@@ -89,13 +85,7 @@ impl Kernel {
         list: &Domains,
     ) -> Result<PoolId, Refusal>
         requires { IsSound (state_of self.old) }
-        ensures create { KeepsPlaces (λ s. calls.pool_create s by chunks list.now) self.old result
-            self.new }
-        ensures chunks { OnOk result (AddsPool self.old.store.arena self.new.store.arena
-            self.old.store.pools self.new.store.pools chunks (calls.distinct list.now)) }
-        ensures room { OnOk result (chunks ≤ length (free_chunks self.old.store.arena)) }
-        ensures no_room { (p : ℕ) → result ≡ Err (Refusal.NoRoom p) → length (free_chunks
-            self.old.store.arena) < chunks }
+        ensures { CreatesPool by chunks list.now (state_of self.old) result (state_of self.new) }
     {
         let names = self.names_for(by, chunks, list.as_slice())?;
         Ok(self.add_pool(chunks, names)?)
@@ -103,10 +93,7 @@ impl Kernel {
 
     /// The domains that a new pool's list names, each once, or why the pool is refused.
     fn names_for(&self, by: DomainId, chunks: u32, list: &[DomainId]) -> Result<Names, Refusal>
-        ensures may { IfOk result (λ names. MayCreate by chunks list.now names (state_of
-            self.now)) }
-        ensures refused { IfErr result (λ x. Refuses (λ s. calls.pool_create s by chunks list.now) x
-            (state_of self.now)) }
+        ensures { TestsCreate by chunks list.now (state_of self.now) result }
     {
         if !self.are_live(by, list) {
             return Err(Refusal::NoDomain);
@@ -125,8 +112,7 @@ impl Kernel {
 
     /// Whether a domain and each of a list are live.
     fn are_live(&self, by: DomainId, list: &[DomainId]) -> bool
-        ensures { (f : Reading) → result ≡ (is_live (as_read f self.now) by && list_all (λ d.
-            is_live (as_read f self.now) d) list.now) }
+        ensures { (f : Reading) → result ≡ are_all_live (as_read f self.now) by list.now }
     {
         self.is_live(by) && are_live(&self.domains, list)
     }
@@ -195,10 +181,7 @@ impl Kernel {
     /// Adds a domain to a pool's list.
     fn add_reader(&mut self, p: PoolId, d: DomainId)
         requires { MayAdmit p d (state_of self.old) }
-        ensures admits { Leaves (λ s. record s {
-          pools = with_numbered s.pools p (calls.admitting (state.pool
-              s p) d);
-        }) self.old self.new }
+        ensures admits { Leaves (with_pool_admitting p d) self.old self.new }
         ensures list { state_of self.new ≡ with_reader (state_of self.old) p d }
     {
         self.store.admit(p, d);
@@ -230,10 +213,7 @@ impl Kernel {
     /// Closes a pool, which no file and no connection is of.
     fn end_pool(&mut self, p: PoolId)
         requires { IsIdle (state_of self.old) p }
-        ensures { Leaves (λ s. record s {
-          pools = with_numbered s.pools p (record (state.pool
-              s p) { closed = true });
-        }) self.old self.new }
+        ensures { Leaves (with_pool_closed p) self.old self.new }
     {
         self.store.close_pool(p);
     }

@@ -1,14 +1,13 @@
 //! Positions of descriptors on files, and lengths of files.
-ghost use Rattle.std.specs.Prelude.{◌≤◌, IfOk};
 ghost use Rattle.iol_core.specs.Calls.Files as calls;
-ghost use Rattle.iol_kernel.specs.FileEnds.{EndsAt, FindsFile, HasFile, IsLengthOf, SeeksAt};
+ghost use Rattle.iol_kernel.specs.FileEnds.{FindsFile, HasFile, IsLengthOf, SeeksAt};
 ghost use Rattle.iol_kernel.specs.KernelState.{IsSound};
+ghost use Rattle.iol_kernel.specs.OpenFiles.{TellsLength};
 
 use crate::kernel::Kernel;
 use crate::open_file::OpenFile;
 use iol_back::backing::Backing;
 use iol_core::descriptors::Descriptor;
-use iol_core::limits::MAX_FILE_BYTES;
 use iol_core::numbers::{DomainId, Fd, FileId};
 use iol_core::refusals::Refusal;
 
@@ -49,11 +48,7 @@ impl Kernel {
     /// file would end now.
     pub fn file_length<B: Backing>(&self, backing: &B, by: DomainId, fd: Fd) -> Result<u32, Refusal>
         requires { IsSound (state_of self.now) }
-        ensures told { LooksUp (λ s. calls.file_length s by fd) (B.disk backing.now) self.now result
-            self.now }
-        ensures short { IfOk result (λ n. n ≤ MAX_FILE_BYTES) }
-        ensures ends { IfOk result
-            (λ n. EndsAt by fd n (B.disk backing.now) (state_of self.now)) }
+        ensures { TellsLength by fd (B.disk backing.now) (state_of self.now) result }
     {
         let found = match self.find_open(by, fd) {
             Ok(found) => found,

@@ -1,6 +1,5 @@
 //! Reading by copying: no aggregate is made of what is read.
-ghost use Rattle.iol_core.specs.Calls.Reading as calls;
-ghost use Rattle.iol_kernel.specs.Copying.{Copies, IsOnNoFile, ReadsOut};
+ghost use Rattle.iol_kernel.specs.Copying.{IsOnNoFile, ReadsOut};
 ghost use Rattle.iol_kernel.specs.KernelState.{IsSound};
 
 mod file;
@@ -13,7 +12,7 @@ use iol_core::numbers::{DomainId, Fd};
 use iol_core::refusals::Refusal;
 
 impl Kernel {
-    ghost use Rattle.iol_kernel.specs.Kernel.{state_of, Serves};
+    ghost use Rattle.iol_kernel.specs.Kernel.{state_of, ReadsList};
 
     /// Reads up to `count` bytes, as a list of their own.
     pub fn read_bytes<B: Backing>(
@@ -24,10 +23,8 @@ impl Kernel {
         count: u32,
     ) -> Result<Bytes, Refusal>
         requires { IsSound (state_of self.old) }
-        ensures serves { Serves (λ s. calls.read s by fd count) (B.disk backing.old) self.old result
-            (B.disk backing.new) self.new }
-        ensures copies { Copies by fd count (B.disk backing.old) (state_of self.old) result
-            (B.disk backing.new) (state_of self.new) }
+        ensures { ReadsList by fd count (B.disk backing.old) self.old result (B.disk backing.new)
+            self.new }
     {
         match self.file_open(by, fd) {
             Some(found) => self.copy_file(backing, by, fd, found, count),

@@ -1,14 +1,6 @@
 //! Writing back of what is dirty, and the going of what is clean.
-ghost use Rattle.std.specs.Prelude.{◌≡◌, ℕ, Ok, [], length};
-ghost use Rattle.iol_core.specs.Prelude.{file_on};
-ghost use Rattle.iol_core.specs.Calls.Files as calls;
-ghost use Rattle.iol_core.specs.Calls.Outside as outside;
-ghost use Rattle.iol_back.specs.Prelude.{Disk};
-ghost use Rattle.iol_hold.specs.Prelude.{KeepsPages};
-ghost use Rattle.iol_cache.specs.Prelude.{extents_in, AllDirty, EvictsPools, KeepsDirty};
-ghost use Rattle.iol_kernel.specs.Backed.{holding_of};
 ghost use Rattle.iol_kernel.specs.KernelState.{IsSound};
-ghost use Rattle.iol_kernel.specs.WritingBack.{FlushesOne, MaySync, SyncsBack, SyncsFile};
+ghost use Rattle.iol_kernel.specs.WritingBack.{DropsClean, MaySync};
 
 use crate::kernel::Kernel;
 use iol_back::backing::Backing;
@@ -16,7 +8,7 @@ use iol_core::numbers::{DomainId, Fd, FileId};
 use iol_core::refusals::Refusal;
 
 impl Kernel {
-    ghost use Rattle.iol_kernel.specs.Kernel.{state_of, machine, Serves};
+    ghost use Rattle.iol_kernel.specs.Kernel.{state_of, FlushesBack, SyncsBack, SyncsOpen};
 
     /// Writes all that is dirty of the file back that a descriptor is open on, in the order of offsets, up to the first at which
     /// the store fails. It takes no memory.
@@ -27,10 +19,8 @@ impl Kernel {
         fd: Fd,
     ) -> Result<(), Refusal>
         requires { IsSound (state_of self.old) }
-        ensures serves { Serves (λ s. calls.fsync s by fd) (B.disk backing.old) self.old result
-            (B.disk backing.new) self.new }
-        ensures syncs { SyncsFile (file_on (machine self.old) by fd) (B.disk backing.old)
-            (state_of self.old) result (B.disk backing.new) (state_of self.new) }
+        ensures { SyncsOpen by fd (B.disk backing.old) self.old result (B.disk backing.new)
+            self.new }
     {
         let found = match self.find_open(by, fd) {
             Ok(found) => found,
@@ -48,8 +38,8 @@ impl Kernel {
         file: FileId,
     ) -> Result<(), Refusal>
         requires { MaySync by fd file (state_of self.old) }
-        ensures { SyncsBack by fd file (B.disk backing.old) (state_of self.old) result
-            (B.disk backing.new) (state_of self.new) }
+        ensures { SyncsBack by fd file (B.disk backing.old) self.old result (B.disk backing.new)
+            self.new }
     {
         self.files.cache.sync(&self.store, backing, file)
     }
@@ -57,10 +47,7 @@ impl Kernel {
     /// Writes the dirty extent of least file and offset back, if one is dirty. It takes no memory.
     pub fn flush<B: Backing>(&mut self, backing: &mut B) -> Result<(), Refusal>
         requires { IsSound (state_of self.old) }
-        ensures serves { Serves outside.flush (B.disk backing.old) self.old result
-            (B.disk backing.new) self.new }
-        ensures flushes { FlushesOne (B.disk backing.old) (state_of self.old) result
-            (B.disk backing.new) (state_of self.new) }
+        ensures { FlushesBack (B.disk backing.old) self.old result (B.disk backing.new) self.new }
     {
         if let Err(refusal) = self.files.cache.flush_one(&self.store, backing) {
             return Err(refusal);
@@ -71,16 +58,7 @@ impl Kernel {
     /// Evicts all clean extents: nothing is in memory of files but what is not written back.
     pub fn drop_clean(&mut self)
         requires { IsSound (state_of self.old) }
-        ensures serves { (disk : Disk) → Serves outside.drop_clean disk self.old (Ok tt) disk self.new }
-        ensures pages { KeepsPages self.old.store self.new.store [] }
-        ensures none { (f : ℕ) → AllDirty (extents_in (state_of self.new).cache.files f) }
-        ensures victims { EvictsPools (length (state_of self.old).cache.orders)
-            (holding_of (state_of self.old)) (holding_of (state_of self.new)) }
-        ensures rest { state_of self.new ≡ record (state_of self.old) {
-          store = (state_of self.new).store;
-          cache = (state_of self.new).cache;
-        } }
-        ensures keeps { KeepsDirty (state_of self.old).cache (state_of self.new).cache }
+        ensures { DropsClean (state_of self.old) (state_of self.new) }
     {
         self.files.cache.drop_clean(&mut self.store);
     }

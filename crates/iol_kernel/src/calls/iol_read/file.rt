@@ -1,9 +1,8 @@
 //! Reading files by reference: what is in memory is shared, and what is not is read into clean extents.
-ghost use Rattle.std.specs.Prelude.{◌≡◌, true, Some, None, IfSome};
-ghost use Rattle.iol_core.specs.Prelude.{is_live, descriptor, open_on};
+ghost use Rattle.iol_kernel.specs.ByReference.{TakesFound};
 ghost use Rattle.iol_kernel.specs.FileEnds.{HasFileFor};
-ghost use Rattle.iol_kernel.specs.FileReading.{TestsRead, held_by, read_at};
-ghost use Rattle.iol_kernel.specs.Readings.{Reading};
+ghost use Rattle.iol_kernel.specs.FileReading.{TestsRead, read_at};
+ghost use Rattle.iol_kernel.specs.OpenFiles.{FindsOpen};
 
 use crate::kernel::Kernel;
 use crate::open_file::{OpenFile, may_be_read};
@@ -13,15 +12,11 @@ use iol_core::numbers::{AggId, DomainId, Fd, FileId};
 use iol_core::refusals::Refusal;
 
 impl Kernel {
-    ghost use Rattle.iol_kernel.specs.Kernel.{state_of, as_read, IsOpenAt, TakesFromFile};
+    ghost use Rattle.iol_kernel.specs.Kernel.{state_of, IsOpenAt};
 
     /// The file that a live domain's descriptor is open on, with its position and mode.
     pub fn file_open(&self, by: DomainId, fd: Fd) -> Option<OpenFile>
-        ensures live { IfSome result (λ x. (f : Reading) → is_live (as_read f self.now) by ≡ true) }
-        ensures from { IfSome result (λ x. (f : Reading) → descriptor (as_read f self.now) by fd ≡ Some
-            (Descriptor.File x.file x.at x.mode)) }
-        ensures none { result ≡ None → (f : Reading) → open_on (held_by (as_read f self.now) by fd) ≡
-            None }
+        ensures { FindsOpen by fd (state_of self.now) result }
     {
         if !self.is_live(by) {
             return None;
@@ -42,8 +37,8 @@ impl Kernel {
         count: u32,
     ) -> Result<AggId, Refusal>
         requires { IsOpenAt self.old (read_at by fd found count) }
-        ensures { TakesFromFile (read_at by fd found count) (B.disk backing.old) self.old result
-            (B.disk backing.new) self.new }
+        ensures { TakesFound by fd found count B.disk backing.old self.old result backing.new
+            self.new }
     {
         self.test_read(by, found.file, found.mode, true)?;
         self.domains.reserve_aggs(by, 1)?;

@@ -1,10 +1,10 @@
 //! Writing by reference to files.
+ghost use Rattle.iol_kernel.specs.OpenFiles.{descriptor_of};
 ghost use Rattle.iol_kernel.specs.WritingAggs.{MayWriteAgg};
 ghost use Rattle.iol_kernel.specs.WritingFiles.{WritesAgg};
 
 use crate::kernel::Kernel;
 use crate::open_file::OpenFile;
-use iol_core::descriptors::Descriptor;
 use iol_core::numbers::{AggId, DomainId, Fd};
 use iol_core::refusals::Refusal;
 
@@ -21,8 +21,7 @@ impl Kernel {
         agg: AggId,
         found: OpenFile,
     ) -> Result<u32, Refusal>
-        requires { MayWriteAgg by fd agg (Descriptor.File found.file found.at found.mode)
-            (state_of self.old) }
+        requires { MayWriteAgg by fd agg (descriptor_of found) (state_of self.old) }
         ensures { WritesAgg by fd agg found.file found.at (state_of self.old) result (state_of
             self.new) }
     {

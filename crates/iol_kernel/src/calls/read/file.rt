@@ -1,13 +1,10 @@
 //! Reading files by copying: no aggregate is made of what is read.
-ghost use Rattle.std.specs.Prelude.{◌≡◌, ◌+◌, ◌≤◌, ◌++◌, length, true, Some, IfOk};
+ghost use Rattle.std.specs.Prelude.{◌≡◌, ◌+◌, ◌≤◌, ◌++◌};
 ghost use Rattle.std.specs.Vec.{vec_len, vec_capacity};
-ghost use Rattle.iol_core.specs.Prelude.{is_live, descriptor, bytes_of};
-ghost use Rattle.iol_core.specs.Calls.Reading as calls;
+ghost use Rattle.iol_core.specs.Prelude.{bytes_of};
 ghost use Rattle.iol_hold.specs.Prelude.{byte_len, AllReadable, text_of};
 ghost use Rattle.iol_kernel.specs.FileEnds.{HasFile};
-ghost use Rattle.iol_kernel.specs.FileReading.{IsReadable, file_read};
-ghost use Rattle.iol_kernel.specs.KernelState.{IsSound};
-ghost use Rattle.iol_kernel.specs.Readings.{Reading};
+ghost use Rattle.iol_kernel.specs.FileReading.{IsReadable};
 
 use crate::kernel::Kernel;
 use crate::open_file::OpenFile;
@@ -20,7 +17,7 @@ use iol_core::refusals::Refusal;
 use iol_hold::Store;
 
 impl Kernel {
-    ghost use Rattle.iol_kernel.specs.Kernel.{state_of, as_read, CopiesFileAs, Serves};
+    ghost use Rattle.iol_kernel.specs.Kernel.{state_of, CopiesFile, IsOpenOn};
 
     /// Copies up to `count` bytes of a file from a descriptor's position on. The position moves past them. The memory of the list
     /// is taken first, so that a read which finds none leaves the cache as it was.
@@ -32,15 +29,9 @@ impl Kernel {
         found: OpenFile,
         count: u32,
     ) -> Result<Bytes, Refusal>
-        requires sound { IsSound (state_of self.old) }
-        requires live { (f : Reading) → is_live (as_read f self.old) by ≡ true }
-        requires from { (f : Reading) → descriptor (as_read f self.old) by fd ≡ Some
-            (Descriptor.File found.file found.at found.mode) }
-        ensures serves { Serves (λ s. calls.read s by fd count) (B.disk backing.old) self.old result
+        requires { IsOpenOn self.old by fd (Descriptor.File found.file found.at found.mode) }
+        ensures { CopiesFile by fd found count (B.disk backing.old) self.old result
             (B.disk backing.new) self.new }
-        ensures copies { CopiesFileAs (file_read by fd found.file found.at found.mode count)
-            (B.disk backing.old) self.old result (B.disk backing.new) self.new }
-        ensures short { IfOk result (λ bytes. length bytes ≤ count) }
     {
         self.test_read(by, found.file, found.mode, false)?;
         let most = self.readable(backing, found.file, found.at, count);

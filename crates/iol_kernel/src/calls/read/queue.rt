@@ -1,11 +1,7 @@
 //! Bytes are copied out of pipes and connections: no aggregate is made of them, and no memory is taken.
-ghost use Rattle.std.specs.Prelude.{◌≡◌, ◌++◌, ℕ, length, min, drop, true, None, Some, IfOk, OnOk, IfErr};
-ghost use Rattle.iol_core.specs.Prelude.{Never, is_live, descriptor, bytes_of, open_on};
+ghost use Rattle.std.specs.Prelude.{ℕ, Some};
 ghost use Rattle.iol_core.specs.Calls.Reading as calls;
-ghost use Rattle.iol_sock.specs.Prelude.{IsPassed, IsRefused};
-ghost use Rattle.iol_kernel.specs.FileReading.{held_by};
-ghost use Rattle.iol_kernel.specs.KernelState.{IsSound};
-ghost use Rattle.iol_kernel.specs.Readings.{Reading, KeepsPools};
+ghost use Rattle.iol_kernel.specs.Copying.{CopiesFrontOf, CountsWaiting, IsOnNoFile, MayTakeInto, TakesInto};
 
 use crate::kernel::Kernel;
 use crate::queue_end::can_read;
@@ -14,21 +10,13 @@ use iol_core::numbers::{DomainId, Fd};
 use iol_core::refusals::Refusal;
 
 impl Kernel {
-    ghost use Rattle.iol_kernel.specs.Kernel.{state_of, machine, as_read, IsSource, Leaves};
+    ghost use Rattle.iol_kernel.specs.Kernel.{state_of, IsSource, Leaves};
 
     /// How many bytes of those that a read of `count` asks for wait on a descriptor that is not open on a file. It is refused as
     /// that read is.
     pub fn waiting(&self, by: DomainId, fd: Fd, count: usize) -> Result<usize, Refusal>
-        requires sound { IsSound (state_of self.now) }
-        requires no_file { (f : Reading) → open_on (held_by (as_read f self.now) by fd) ≡ None }
-        ensures passed { OnOk result (IsPassed (calls.read (machine self.now) by fd count).refusals) }
-        ensures live { OnOk result (is_live (machine self.now) by ≡ true) }
-        ensures readable { OnOk result (calls.can_read (descriptor (machine self.now) by fd) ≡
-            true) }
-        ensures refused { IfErr result (IsRefused (calls.read (machine self.now) by fd
-            count).refusals Never) }
-        ensures some { IfOk result (λ n. (f : Reading) → n ≡ min count (length (calls.unread
-            (as_read f self.now) (descriptor (as_read f self.now) by fd)))) }
+        requires { IsOnNoFile (state_of self.now) by fd }
+        ensures { CountsWaiting by fd count (state_of self.now) result }
     {
         let from = self.opened(by, fd)?;
         if !can_read(&from) {
@@ -46,16 +34,8 @@ impl Kernel {
     /// Reads from a queue by copying: moves the first bytes that wait on a descriptor and that the domain may read, at most
     /// `into.len()`, to the front of `into`. The answer is how many. Never refused: [`Kernel::waiting`] tests the refusals first.
     pub fn take_into(&mut self, by: DomainId, fd: Fd, into: &mut [u8]) -> u32
-        requires sound { IsSound (state_of self.old) }
-        requires live { is_live (machine self.old) by ≡ true }
-        requires no_file { (f : Reading) → open_on (held_by (as_read f self.old) by fd) ≡ None }
-        requires readable { calls.can_read (descriptor (machine self.old) by fd) ≡ true }
-        ensures copied { into.new ≡ (calls.read (machine self.old) by fd (length into.old)).answer ++
-            drop result into.old }
-        ensures count { result ≡ length (calls.read (machine self.old) by fd
-            (length into.old)).answer }
-        ensures left { Leaves (λ s. (calls.read s by fd (length into.old)).after) self.old
-            self.new }
+        requires { MayTakeInto by fd (state_of self.old) }
+        ensures { TakesInto by fd into.old into.new (state_of self.old) result (state_of self.new) }
     {
         let Some(from) = self.descriptor(by, fd) else {
             unreachable!()
@@ -68,10 +48,7 @@ impl Kernel {
     /// Copies the first bytes that wait in a queue and that the domain may read, and tells how many these are. All still wait.
     fn copy_front(&self, by: DomainId, from: &Descriptor, into: &mut [u8]) -> u32
         requires { IsSource self.now from.now }
-        ensures copied { into.new ≡ bytes_of (calls.read_text (machine self.now) by (Some from.now)
-            (length into.old)) ++ drop result into.old }
-        ensures count { (f : Reading) → KeepsPools f → result ≡ length (calls.read_text (as_read f
-            self.now) by (Some from.now) (length into.old)) }
+        ensures { CopiesFrontOf from.now by (state_of self.now) into.old into.new result }
     {
         match from {
             Descriptor::ReadEnd { pipe } => self.pipes.copy_front(&self.store, *pipe, by, into),

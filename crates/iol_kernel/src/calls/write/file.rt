@@ -1,11 +1,10 @@
 //! Bytes are written to files by copying: they are placed in the file's pool, and lie there.
-ghost use Rattle.iol_kernel.specs.Putting.{MayPut};
+ghost use Rattle.iol_kernel.specs.Putting.{MayPutInFile};
 ghost use Rattle.iol_kernel.specs.WritingFiles.{FillsFile, PutsOver};
 
 use crate::kernel::Kernel;
 use crate::open_file::OpenFile;
 use iol_agg::Agg;
-use iol_core::descriptors::Descriptor;
 use iol_core::limits::MAX_FILE_BYTES;
 use iol_core::numbers::{DomainId, Fd, PoolId};
 use iol_core::refusals::Refusal;
@@ -23,10 +22,8 @@ impl Kernel {
         pool: PoolId,
         bytes: &[u8],
     ) -> Result<u32, Refusal>
-        requires { MayPut by fd (Descriptor.File found.file found.at found.mode) pool bytes.now
-            (state_of self.old) }
-        ensures { PutsOver by fd found.file found.at pool bytes.now (state_of self.old) result
-            (state_of self.new) }
+        requires { MayPutInFile by fd found pool bytes.now (state_of self.old) }
+        ensures { PutsOver by fd found pool bytes.now (state_of self.old) result (state_of self.new) }
     {
         let count = bytes.len().min(MAX_FILE_BYTES) as u32;
         if !self.make_room_for(pool, count) {
@@ -44,10 +41,8 @@ impl Kernel {
         pool: PoolId,
         bytes: &[u8],
     ) -> Result<u32, Refusal>
-        requires { MayPut by fd (Descriptor.File found.file found.at found.mode) pool bytes.now
-            (state_of self.old) }
-        ensures { FillsFile by fd found.file found.at pool bytes.now (state_of self.old) result
-            (state_of self.new) }
+        requires { MayPutInFile by fd found pool bytes.now (state_of self.old) }
+        ensures { FillsFile by fd found pool bytes.now (state_of self.old) result (state_of self.new) }
     {
         let Ok(agg) = Agg::fill(self.alloc, &mut self.store, pool, bytes) else {
             return Err(Refusal::Memory);

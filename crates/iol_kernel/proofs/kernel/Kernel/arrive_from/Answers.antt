@@ -9,22 +9,20 @@ read_in-requires g c = record {
   there = still_there c.args.conn c.args.max c.in_ok-pool.pool (state_of c.args.self.now) (state_of c.make_room_for.new.self) c.make_room_for.ensures.made c.in_ok-pool.ensures.may.lands c.in_ok-pool.ensures.may.there;
 }
 
-pub returns-clause-refuses : goal.returns-clause-refuses
-returns-clause-refuses g c =
-    let e = c.read_in.ensures in
+pub returns : goal.returns
+returns g c =
+    let h = state_of c.args.self.now in
+    let k = state_of c.make_room_for.new.self in
+    let l = state_of c.read_in.new.self in
+    let left = g.R.Read.remaining c.args.reader.now in
+    let after = g.R.Read.remaining c.read_in.new.reader in
+    let may = c.in_ok-pool.ensures.may in
     let m = c.make_room_for.ensures in
-    takes_refuses c.args.conn c.args.max c.in_ok-pool.pool (state_of c.args.self.now) (state_of c.make_room_for.new.self) m.made c.in_ok-pool.ensures.may.lands c.in_ok-pool.ensures.may.passed
-    c.args.reader.now c.read_in.new.reader c.read_in.result (state_of c.read_in.new.self) (m.room c.if-not-make_room_for.false) (m.fits ∙ c.if-not-make_room_for.false) e.takes.refuses e.takes.err e.err_reader
-
-pub returns-clause-brings : goal.returns-clause-brings
-returns-clause-brings g c =
-    takes_brought c.args.conn c.args.max c.in_ok-pool.pool (state_of c.args.self.now) (state_of c.make_room_for.new.self) c.make_room_for.ensures.made c.in_ok-pool.ensures.may.lands
-    (g.R.Read.remaining c.args.reader.now) (g.R.Read.remaining c.read_in.new.reader) c.read_in.result (state_of c.read_in.new.self) c.read_in.ensures.takes
-
-pub returns-clause-stays : goal.returns-clause-stays
-returns-clause-stays g c = takes_stays c.args.conn c.args.max c.in_ok-pool.pool (state_of c.args.self.now) (state_of c.make_room_for.new.self) c.make_room_for.ensures.made c.in_ok-pool.ensures.may.lands (state_of c.read_in.new.self) c.read_in.ensures.takes.stays
-
-pub returns-clause-read : goal.returns-clause-read
-returns-clause-read g c =
-    takes_serves c.args.conn c.args.max c.in_ok-pool.pool (state_of c.args.self.now) (state_of c.make_room_for.new.self) c.make_room_for.ensures.made c.in_ok-pool.ensures.may.lands
-    (g.R.Read.remaining c.args.reader.now) (g.R.Read.remaining c.read_in.new.reader) c.read_in.result (state_of c.read_in.new.self) c.read_in.ensures.takes
+    let e = c.read_in.ensures in
+    record {
+      refuses = takes_refuses c.args.conn c.args.max c.in_ok-pool.pool h k m.made may.lands may.passed c.args.reader.now c.read_in.new.reader c.read_in.result l (m.room c.if-not-make_room_for.false) (m.fits ∙ c.if-not-make_room_for.false) e.takes.refuses e.takes.err e.err_reader;
+      brings = takes_brought c.args.conn c.args.max c.in_ok-pool.pool h k m.made may.lands left after c.read_in.result l e.takes;
+      read = takes_serves c.args.conn c.args.max c.in_ok-pool.pool h k m.made may.lands left after c.read_in.result l e.takes;
+      sound = e.takes.sound;
+      stays = takes_stays c.args.conn c.args.max c.in_ok-pool.pool h k m.made may.lands l e.takes.stays;
+    }

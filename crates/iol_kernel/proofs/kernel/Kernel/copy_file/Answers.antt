@@ -57,14 +57,14 @@ returns-in_err-bytes g c =
     let done = subst (λ (r : Result (List ℕ) Refusal). CopiesFromFile x disk h r disk h) is (copies_unmade at disk (read-first at ∙ c.in_ok-test_read.ensures.passed (bytes_over [] h.store))) in
     record { serves = done.serves; copies = done.copies; short = done.short }
 
-pub read-requires-clause-sound : goal.read-requires-clause-sound
-read-requires-clause-sound g c = cache_sound (state_of c.args.self.now) c.requires.sound
-
-pub read-requires-clause-file : goal.read-requires-clause-file
-read-requires-clause-file g c = numbered_here (held g (goal.at.read-requires-clause-file g c).In_ok-test_read)
-
-pub read-requires-clause-few : goal.read-requires-clause-few
-read-requires-clause-few g c = counts_few (state_of c.args.self.now) c.requires.sound
+pub read-requires : goal.read-requires
+read-requires g c =
+    let h = state_of c.args.self.now in
+    record {
+      sound = cache_sound h c.requires.sound;
+      file = numbered_here (held g (goal.at.read-requires g c).In_ok-test_read);
+      few = counts_few h c.requires.sound;
+    }
 
 pub returns-in_err-agg : goal.returns-in_err-agg
 returns-in_err-agg g c =

@@ -11,17 +11,16 @@ use Rattle.iol_kernel.proofs.kernel.Kernel.copy_front.Goals as goal
 pub copy_front-requires-clause-readable : goal.copy_front-requires-clause-readable
 copy_front-requires-clause-readable c = queue_readable (state_of c.args.self.now) c.in-ReadEnd.pipe c.requires.sound
 
-pub returns-in-ReadEnd-clause-copied : goal.returns-in-ReadEnd-clause-copied
-returns-in-ReadEnd-clause-copied c =
+pub returns-in-ReadEnd : goal.returns-in-ReadEnd
+returns-in-ReadEnd c =
     let h = state_of c.args.self.now in
+    let queue = (queue_at h.pipes c.in-ReadEnd.pipe).queue in
     let count = c.copy_front.result in
     let e = c.copy_front.ensures in
-    e.copied ∙ ap (λ (w : List ℕ). w ++ drop count c.args.into.now) (front_bytes h c.args.by (length c.args.into.now) count c.args.from.now (queue_at h.pipes c.in-ReadEnd.pipe).queue c.requires.no_file (λ f. unread-pipe f h c.args.from.now c.in-ReadEnd.pipe c.in-ReadEnd.is) e.count)
-
-pub returns-in-ReadEnd-clause-count : goal.returns-in-ReadEnd-clause-count
-returns-in-ReadEnd-clause-count c =
-    let h = state_of c.args.self.now in
-    front_count h c.args.by (length c.args.into.now) c.copy_front.result c.args.from.now (queue_at h.pipes c.in-ReadEnd.pipe).queue c.requires.no_file (λ f. unread-pipe f h c.args.from.now c.in-ReadEnd.pipe c.in-ReadEnd.is) c.copy_front.ensures.count
+    record {
+      copied = e.copied ∙ ap (λ (w : List ℕ). w ++ drop count c.args.into.now) (front_bytes h c.args.by (length c.args.into.now) count c.args.from.now queue c.requires.no_file (λ f. unread-pipe f h c.args.from.now c.in-ReadEnd.pipe c.in-ReadEnd.is) e.count);
+      count = front_count h c.args.by (length c.args.into.now) count c.args.from.now queue c.requires.no_file (λ f. unread-pipe f h c.args.from.now c.in-ReadEnd.pipe c.in-ReadEnd.is) e.count;
+    }
 
 pub unreachable-requires : goal.unreachable-requires
 unreachable-requires c = source_there (state_of c.args.self.now) c.args.from.now c.in-Connection.conn c.requires c.in-Connection.is (sym c.in_default.ensures)
@@ -29,18 +28,14 @@ unreachable-requires c = source_there (state_of c.args.self.now) c.args.from.now
 pub copy_front-requires-in-Connection : goal.copy_front-requires-in-Connection
 copy_front-requires-in-Connection c = (conn_readable (state_of c.args.self.now) c.in-Connection.conn c.in-Some.found.now c.requires.sound (sym c.in-Some.ensures)).0
 
-pub returns-in-Some-clause-copied : goal.returns-in-Some-clause-copied
-returns-in-Some-clause-copied c =
+pub returns-in-Some : goal.returns-in-Some
+returns-in-Some c =
     let h = state_of c.args.self.now in
     let n = c.in-Connection.conn in
     let found = c.in-Some.found.now in
     let count = c.copy_front-in-Connection.result in
     let e = c.copy_front-in-Connection.ensures in
-    e.copied ∙ ap (λ (w : List ℕ). w ++ drop count c.args.into.now) (front_bytes h c.args.by (length c.args.into.now) count c.args.from.now found.incoming c.requires.no_file (λ f. unread-conn f h c.args.from.now n found c.in-Connection.is (conn_at-there f h n found c.in-Some.ensures)) e.count)
-
-pub returns-in-Some-clause-count : goal.returns-in-Some-clause-count
-returns-in-Some-clause-count c =
-    let h = state_of c.args.self.now in
-    let n = c.in-Connection.conn in
-    let found = c.in-Some.found.now in
-    front_count h c.args.by (length c.args.into.now) c.copy_front-in-Connection.result c.args.from.now found.incoming c.requires.no_file (λ f. unread-conn f h c.args.from.now n found c.in-Connection.is (conn_at-there f h n found c.in-Some.ensures)) c.copy_front-in-Connection.ensures.count
+    record {
+      copied = e.copied ∙ ap (λ (w : List ℕ). w ++ drop count c.args.into.now) (front_bytes h c.args.by (length c.args.into.now) count c.args.from.now found.incoming c.requires.no_file (λ f. unread-conn f h c.args.from.now n found c.in-Connection.is (conn_at-there f h n found c.in-Some.ensures)) e.count);
+      count = front_count h c.args.by (length c.args.into.now) count c.args.from.now found.incoming c.requires.no_file (λ f. unread-conn f h c.args.from.now n found c.in-Connection.is (conn_at-there f h n found c.in-Some.ensures)) e.count;
+    }

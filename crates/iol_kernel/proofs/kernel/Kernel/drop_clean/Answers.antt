@@ -14,19 +14,16 @@ use Rattle.iol_kernel.proofs.kernel.Kernel.drop_clean.Goals as goal
 pub drop_clean-requires : goal.drop_clean-requires
 drop_clean-requires c = cache_sound (state_of c.args.self.now) c.requires
 
-pub returns-clause-serves : goal.returns-clause-serves
-returns-clause-serves c =
+pub returns : goal.returns
+returns c =
     let h = state_of c.args.self.now in
     let new : Holding = record { store = c.drop_clean.new.store; cache = cached_of c.drop_clean.new.self } in
-    given_serves outside.drop_clean h _ new (Ok tt) c.requires c.drop_clean.ensures.gives_up c.drop_clean.ensures.sound (λ stored. (refl, refl, refl)) refl
-
-pub returns-clause-pages : goal.returns-clause-pages
-returns-clause-pages c =
-    let new : Holding = record { store = c.drop_clean.new.store; cache = cached_of c.drop_clean.new.self } in
-    given_up_pages (holding_of (state_of c.args.self.now)) new c.drop_clean.ensures.gives_up
-
-pub returns-clause-keeps : goal.returns-clause-keeps
-returns-clause-keeps c =
-    let h = state_of c.args.self.now in
-    let new : Holding = record { store = c.drop_clean.new.store; cache = cached_of c.drop_clean.new.self } in
-    drop_keeps _ (holding_of h) new c.drop_clean.ensures.victims (files_apart h c.requires)
+    let e = c.drop_clean.ensures in
+    record {
+      serves = given_serves outside.drop_clean h _ new (Ok tt) c.requires e.gives_up e.sound (λ stored. (refl, refl, refl)) refl;
+      pages = given_up_pages (holding_of h) new e.gives_up;
+      none = e.none;
+      victims = e.victims;
+      rest = refl;
+      keeps = drop_keeps _ (holding_of h) new e.victims (files_apart h c.requires);
+    }

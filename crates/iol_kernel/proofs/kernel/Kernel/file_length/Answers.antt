@@ -5,16 +5,23 @@ use Rattle.iol_kernel.proofs.FileCalls.FileEnds.{ends_file}
 use Rattle.iol_kernel.proofs.FileCalls.Seeking.{length_refused, length_told}
 use Rattle.iol_kernel.proofs.kernel.Kernel.file_length.Goals as goal
 
-pub returns-in-Err-clause-told : goal.returns-in-Err-clause-told
-returns-in-Err-clause-told g c =
+pub returns-in-Err : goal.returns-in-Err
+returns-in-Err g c =
     let h = state_of c.args.self.now in
-    length_refused (g.B.Backing.disk c.args.backing.now) h c.args.by c.args.fd c.in-Err.refusal c.requires (c.in-Err.ensures.refused (bytes_over [] h.store))
+    record {
+      told = length_refused (g.B.Backing.disk c.args.backing.now) h c.args.by c.args.fd c.in-Err.refusal c.requires (c.in-Err.ensures.refused (bytes_over [] h.store));
+      short = tt;
+      ends = tt;
+    }
 
-pub returns-clause-told : goal.returns-clause-told
-returns-clause-told g c =
+pub returns : goal.returns
+returns g c =
+    let h = state_of c.args.self.now in
+    let disk = g.B.Backing.disk c.args.backing.now in
     let x = c.in-Ok.found in
-    let told = length_told (g.B.Backing.disk c.args.backing.now) (state_of c.args.self.now) c.args.by c.args.fd x.file x.at c.length_of.result x.mode c.in-Ok.ensures.found.held c.length_of.ensures.is in
-    search (rules, told)
-
-pub returns-clause-ends : goal.returns-clause-ends
-returns-clause-ends g c = let x = c.in-Ok.found in ends_file (g.B.Backing.disk c.args.backing.now) (state_of c.args.self.now) c.args.by c.args.fd x.file x.at x.mode c.in-Ok.ensures.found.held c.length_of.result c.length_of.ensures.end
+    let told = length_told disk h c.args.by c.args.fd x.file x.at c.length_of.result x.mode c.in-Ok.ensures.found.held c.length_of.ensures.is in
+    record {
+      told = search (rules, told);
+      short = c.length_of.ensures.end.short;
+      ends = ends_file disk h c.args.by c.args.fd x.file x.at x.mode c.in-Ok.ensures.found.held c.length_of.result c.length_of.ensures.end;
+    }

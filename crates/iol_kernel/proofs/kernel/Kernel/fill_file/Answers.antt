@@ -32,22 +32,23 @@ returns-in_default c =
       leaves = inl same;
     }
 
-pub write-requires-clause-sound : goal.write-requires-clause-sound
-write-requires-clause-sound c = let e = c.in-Ok.ensures in filled_sound (state_of c.args.self.now) c.fill.new.store c.in-Ok.agg c.requires.sound e.moves e.pools e.grows.count
-
-pub write-requires-clause-file : goal.write-requires-clause-file
-write-requires-clause-file c = held_there (state_of c.args.self.now) c.args.by c.args.fd c.args.found.file c.args.found.at c.args.pool c.args.found.mode c.args.bytes.now c.requires
-
-pub write-requires-clause-held : goal.write-requires-clause-held
-write-requires-clause-held c = let e = c.in-Ok.ensures in filled_covers (state_of c.args.self.now) c.fill.new.store c.in-Ok.agg c.requires.sound e.moves e.pools e.grows.count
-
-pub write-requires-clause-few : goal.write-requires-clause-few
-write-requires-clause-few c =
+pub write-requires : goal.write-requires
+write-requires c =
     let h = state_of c.args.self.now in
+    let x = c.args.found in
     let e = c.in-Ok.ensures in
     let s = c.fill.new.store in
     let xs = c.in-Ok.agg in
-    filled_few h s xs c.requires.sound e.moves e.pools e.grows.count (omega (arith, held_short h c.args.by c.args.fd c.args.found.file c.args.found.at c.args.pool c.args.found.mode c.args.bytes.now c.requires, (filled_len s xs c.args.pool c.args.bytes.now e.text)))
+    let long = filled_len s xs c.args.pool c.args.bytes.now e.text in
+    let short = held_short h c.args.by c.args.fd x.file x.at c.args.pool x.mode c.args.bytes.now c.requires in
+    record {
+      sound = filled_sound h s xs c.requires.sound e.moves e.pools e.grows.count;
+      file = held_there h c.args.by c.args.fd x.file x.at c.args.pool x.mode c.args.bytes.now c.requires;
+      short = omega (arith, short, long);
+      held = filled_covers h s xs c.requires.sound e.moves e.pools e.grows.count;
+      readable = e.readable;
+      few = filled_few h s xs c.requires.sound e.moves e.pools e.grows.count (omega (arith, short, long));
+    }
 
 pub release-requires : goal.release-requires
 release-requires c = let e = c.in-Ok.ensures in still_covers (state_of c.args.self.now) c.fill.new.store c.in-Ok.agg c.requires.sound e.moves e.pools e.grows.count c.in-Err.ensures.moves

@@ -13,20 +13,26 @@ flush_one-requires-clause-sound g c = cache_sound (state_of c.args.self.now) c.r
 pub flush_one-requires-clause-few : goal.flush_one-requires-clause-few
 flush_one-requires-clause-few g c = counts_lower (state_of c.args.self.now) c.requires
 
-pub returns-in-Err-clause-serves : goal.returns-in-Err-clause-serves
-returns-in-Err-clause-serves g c =
+pub returns-in-Err : goal.returns-in-Err
+returns-in-Err g c =
+    let h = state_of c.args.self.now in
+    let k = cached_of c.flush_one.new.self in
+    let disk = g.B.Backing.disk c.args.backing.now in
+    let after = g.B.Backing.disk c.flush_one.new.backing in
     let w = c.flush_one.ensures in
-    flush_serves (state_of c.args.self.now) (cached_of c.flush_one.new.self) (g.B.Backing.disk c.args.backing.now) (g.B.Backing.disk c.flush_one.new.backing) c.flush_one.result (ap done_of c.in-Err.is) w.flushes c.requires w.sound w.files w.mirrors
+    record {
+      serves = flush_serves h k disk after c.flush_one.result (ap done_of c.in-Err.is) w.flushes c.requires w.sound w.files w.mirrors;
+      flushes = flushes_one h k disk after c.flush_one.result (ap done_of c.in-Err.is) w.flushes;
+    }
 
-pub returns-in-Err-clause-flushes : goal.returns-in-Err-clause-flushes
-returns-in-Err-clause-flushes g c =
-    flushes_one (state_of c.args.self.now) (cached_of c.flush_one.new.self) (g.B.Backing.disk c.args.backing.now) (g.B.Backing.disk c.flush_one.new.backing) c.flush_one.result (ap done_of c.in-Err.is) c.flush_one.ensures.flushes
-
-pub returns-clause-serves : goal.returns-clause-serves
-returns-clause-serves g c =
+pub returns : goal.returns
+returns g c =
+    let h = state_of c.args.self.now in
+    let k = cached_of c.flush_one.new.self in
+    let disk = g.B.Backing.disk c.args.backing.now in
+    let after = g.B.Backing.disk c.flush_one.new.backing in
     let w = c.flush_one.ensures in
-    flush_serves (state_of c.args.self.now) (cached_of c.flush_one.new.self) (g.B.Backing.disk c.args.backing.now) (g.B.Backing.disk c.flush_one.new.backing) c.flush_one.result (ap done_of c.in_default.is) w.flushes c.requires w.sound w.files w.mirrors
-
-pub returns-clause-flushes : goal.returns-clause-flushes
-returns-clause-flushes g c =
-    flushes_one (state_of c.args.self.now) (cached_of c.flush_one.new.self) (g.B.Backing.disk c.args.backing.now) (g.B.Backing.disk c.flush_one.new.backing) c.flush_one.result (ap done_of c.in_default.is) c.flush_one.ensures.flushes
+    record {
+      serves = flush_serves h k disk after c.flush_one.result (ap done_of c.in_default.is) w.flushes c.requires w.sound w.files w.mirrors;
+      flushes = flushes_one h k disk after c.flush_one.result (ap done_of c.in_default.is) w.flushes;
+    }

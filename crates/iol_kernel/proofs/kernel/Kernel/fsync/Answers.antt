@@ -10,20 +10,22 @@ use Rattle.iol_kernel.proofs.FileCalls.Faults.{refused_sync}
 use Rattle.iol_kernel.proofs.FileCalls.Seeking.{fsync_refused, no_fault}
 use Rattle.iol_kernel.proofs.kernel.Kernel.fsync.Goals as goal
 
-pub returns-in-Err-clause-serves : goal.returns-in-Err-clause-serves
-returns-in-Err-clause-serves g c =
-    let h = state_of c.args.self.now in
-    fsync_refused (g.B.Backing.disk c.args.backing.now) h c.args.by c.args.fd c.in-Err.refusal c.requires (c.in-Err.ensures.refused (bytes_over [] h.store))
-
-pub returns-in-Err-clause-syncs : goal.returns-in-Err-clause-syncs
-returns-in-Err-clause-syncs g c =
+pub returns-in-Err : goal.returns-in-Err
+returns-in-Err g c =
     let h = state_of c.args.self.now in
     let disk = g.B.Backing.disk c.args.backing.now in
-    refused_sync (file_on (machine_of [] h) c.args.by c.args.fd) disk h c.in-Err.refusal (no_fault disk h c.args.by c.args.fd c.in-Err.refusal c.requires (c.in-Err.ensures.refused (bytes_over [] h.store)))
+    let first = c.in-Err.ensures.refused (bytes_over [] h.store) in
+    record {
+      serves = fsync_refused disk h c.args.by c.args.fd c.in-Err.refusal c.requires first;
+      syncs = refused_sync (file_on (machine_of [] h) c.args.by c.args.fd) disk h c.in-Err.refusal (no_fault disk h c.args.by c.args.fd c.in-Err.refusal c.requires first);
+    }
 
-pub returns-clause-syncs : goal.returns-clause-syncs
-returns-clause-syncs g c =
+pub returns : goal.returns
+returns g c =
     let h = state_of c.args.self.now in
     let x = g.B.Backing.disk c.args.backing.now in
     let y = g.B.Backing.disk c.sync.new.backing in
-    subst (λ n. SyncsFile n x h c.sync.result y (state_of c.sync.new.self)) (sym (ap (λ (o : Option Descriptor). unwrap_or (option_map (λ x. x.0) (open_on o)) 0) (c.in-Ok.ensures.found.held.from (bytes_over [] h.store)))) c.sync.ensures.syncs
+    record {
+      serves = c.sync.ensures.serves;
+      syncs = subst (λ n. SyncsFile n x h c.sync.result y (state_of c.sync.new.self)) (sym (ap (λ (o : Option Descriptor). unwrap_or (option_map (λ x. x.0) (open_on o)) 0) (c.in-Ok.ensures.found.held.from (bytes_over [] h.store)))) c.sync.ensures.syncs;
+    }

@@ -10,15 +10,13 @@ use Rattle.iol_kernel.proofs.kernel.Kernel.iol_read.Given.{Over}
 use Rattle.iol_kernel.proofs.kernel.Kernel.iol_read.Goals as goal
 use Rattle.iol_kernel.proofs.kernel.Kernel.iol_read.Goals.{In-Some, In_ok-from}
 
-pub returns-in_err-from-clause-serves : goal.returns-in_err-from-clause-serves
-returns-in_err-from-clause-serves g c =
-    let kept = serves_unopened (state_of c.args.self.now) c.args.by c.args.fd c.args.count c.in_err-from.field-0.0 c.requires c.in_err-from.ensures.err (g.B.Backing.disk c.args.backing.now) in
-    search (rules, kept)
-
-pub returns-in_err-from-clause-reads : goal.returns-in_err-from-clause-reads
-returns-in_err-from-clause-reads g c =
-    let kept = reads_unopened (state_of c.args.self.now) c.args.by c.args.fd c.args.count c.in_err-from.field-0.0 c.requires c.in_err-from.ensures.err (g.B.Backing.disk c.args.backing.now) in
-    search (rules, kept)
+pub returns-in_err-from : goal.returns-in_err-from
+returns-in_err-from g c =
+    let h = state_of c.args.self.now in
+    let disk = g.B.Backing.disk c.args.backing.now in
+    let serves = serves_unopened h c.args.by c.args.fd c.args.count c.in_err-from.field-0.0 c.requires c.in_err-from.ensures.err disk in
+    let reads = reads_unopened h c.args.by c.args.fd c.args.count c.in_err-from.field-0.0 c.requires c.in_err-from.ensures.err disk in
+    record { serves = search (rules, serves); reads = search (rules, reads) }
 
 -- the descriptor is open
 opened : (g : Over) (c : In_ok-from g) → IsOpenOn (state_of c.args.self.now) c.args.by c.args.fd c.in_ok-from.from
@@ -31,18 +29,22 @@ on_file g c = record { sound = c.requires; live = c.in_ok-from.ensures.live; fro
 pub read_file-requires : goal.read_file-requires
 read_file-requires g c = record { is = on_file g (goal.at.read_file-requires g c).In-Some }
 
-pub returns-in-Some-clause-reads : goal.returns-in-Some-clause-reads
-returns-in-Some-clause-reads g c =
-    reads_file (state_of c.args.self.now) (state_of c.read_file.new.self) c.args.by c.args.fd c.args.count c.in-Some.found c.read_file.result (g.B.Backing.disk c.args.backing.now) (g.B.Backing.disk c.read_file.new.backing)
-    (on_file g (goal.at.returns-in-Some-clause-reads g c).In-Some) c.read_file.ensures
+pub returns-in-Some : goal.returns-in-Some
+returns-in-Some g c = record {
+  serves = c.read_file.ensures.serves;
+  reads = reads_file (state_of c.args.self.now) (state_of c.read_file.new.self) c.args.by c.args.fd c.args.count c.in-Some.found c.read_file.result (g.B.Backing.disk c.args.backing.now) (g.B.Backing.disk c.read_file.new.backing)
+      (on_file g (goal.at.returns-in-Some g c).In-Some) c.read_file.ensures;
+}
 
 pub read_queue-requires : goal.read_queue-requires
 read_queue-requires g c = record { held = opened g (goal.at.read_queue-requires g c).In_ok-from; no_file = search (rules) }
 
-pub returns-in-None-clause-serves : goal.returns-in-None-clause-serves
-returns-in-None-clause-serves g c =
-    carried_serves (λ s. calls.iol_read s c.args.by c.args.fd c.args.count) (state_of c.args.self.now) (state_of c.read_queue.new.self) c.read_queue.result c.requires c.read_queue.ensures (g.B.Backing.disk c.args.backing.now)
-
-pub returns-in-None-clause-reads : goal.returns-in-None-clause-reads
-returns-in-None-clause-reads g c =
-    reads_queue (state_of c.args.self.now) (state_of c.read_queue.new.self) c.args.by c.args.fd c.args.count c.in_ok-from.from c.read_queue.result (g.B.Backing.disk c.args.backing.now) (opened g (goal.at.returns-in-None-clause-reads g c).In_ok-from) (search (rules)) c.read_queue.ensures
+pub returns-in-None : goal.returns-in-None
+returns-in-None g c =
+    let h = state_of c.args.self.now in
+    let k = state_of c.read_queue.new.self in
+    let disk = g.B.Backing.disk c.args.backing.now in
+    record {
+      serves = carried_serves (λ s. calls.iol_read s c.args.by c.args.fd c.args.count) h k c.read_queue.result c.requires c.read_queue.ensures disk;
+      reads = reads_queue h k c.args.by c.args.fd c.args.count c.in_ok-from.from c.read_queue.result disk (opened g (goal.at.returns-in-None g c).In_ok-from) (search (rules)) c.read_queue.ensures;
+    }

@@ -1,4 +1,4 @@
-use Rattle.std.proofs.Common.{[], Err, sym, subst, Option}
+use Rattle.std.proofs.Common.{[], ◌∙◌, Err, ap, sym, subst, Option, Some}
 use Rattle.iol_core.specs.Calls.Writing as calls
 use Rattle.iol_core.specs.declared.descriptors.Descriptor.{Descriptor}
 use Rattle.iol_kernel.specs.Kernel.{state_of}
@@ -11,15 +11,13 @@ use Rattle.iol_kernel.proofs.State.Serving.{carried_serves}
 use Rattle.iol_kernel.proofs.FileCalls.WrittenOver.{queued_on, refused_on}
 use Rattle.iol_kernel.proofs.kernel.Kernel.iol_write.Goals as goal
 
-pub returns-in-Err-clause-serves : goal.returns-in-Err-clause-serves
-returns-in-Err-clause-serves c =
+pub returns-in-Err : goal.returns-in-Err
+returns-in-Err c =
     let h = state_of c.args.self.now in
-    carried_serves (λ s. calls.iol_write s c.args.by c.args.fd c.args.agg) h h (Err c.in-Err.refusal) c.requires c.in-Err.ensures.refused
-
-pub returns-in-Err-clause-writes : goal.returns-in-Err-clause-writes
-returns-in-Err-clause-writes c =
-    let h = state_of c.args.self.now in
-    refused_on c.args.by c.args.fd c.args.agg h c.in-Err.refusal (descriptor (machine_of [] h) c.args.by c.args.fd) c.in-Err.ensures.refused
+    record {
+      serves = carried_serves (λ s. calls.iol_write s c.args.by c.args.fd c.args.agg) h h (Err c.in-Err.refusal) c.requires c.in-Err.ensures.refused;
+      writes = refused_on c.args.by c.args.fd c.args.agg h c.in-Err.refusal (descriptor (machine_of [] h) c.args.by c.args.fd) c.in-Err.ensures.refused;
+    }
 
 pub returns : goal.returns
 returns c =
@@ -29,6 +27,16 @@ returns c =
       serves = carried_serves (λ s. calls.iol_write s c.args.by c.args.fd c.args.agg) h k c.push.result c.requires c.push.ensures;
       writes = subst (λ (o : Option Descriptor). WritesOn c.args.by c.args.fd c.args.agg o h c.push.result k) (sym (c.in-Ok.ensures.may.held.from (bytes_over [] h.store)))
           (queued_on c.args.by c.args.fd c.args.agg h k c.push.result c.in-Ok.to c.in_default.not-File c.push.ensures);
+    }
+
+pub returns-in-File : goal.returns-in-File
+returns-in-File c =
+    let h = state_of c.args.self.now in
+    let k = state_of c.write_over.new.self in
+    let on' = c.in-Ok.ensures.may.held.from (bytes_over [] h.store) ∙ ap (λ (x : Descriptor). Some x) c.in-File.is in
+    record {
+      serves = c.write_over.ensures.serves;
+      writes = subst (λ (o : Option Descriptor). WritesOn c.args.by c.args.fd c.args.agg o h c.write_over.result k) (sym on') c.write_over.ensures.over;
     }
 
 pub write_over-requires : goal.write_over-requires

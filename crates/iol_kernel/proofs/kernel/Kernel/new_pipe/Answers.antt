@@ -5,9 +5,10 @@ use Rattle.iol_desc.specs.Tables.{domains_of, domain_in, with_fds_in, with_ends}
 use Rattle.iol_hold.specs.declared.slices.Slice.{Slice}
 use Rattle.iol_kernel.specs.Views.{Pipe}
 use Rattle.iol_kernel.specs.Kernel.{state_of}
+use Rattle.iol_kernel.specs.Queues.{empty_pipe}
 use Rattle.iol_kernel.specs.Readings.{bytes_over}
 use Rattle.iol_kernel.proofs.State.Answered.{attempted}
-use Rattle.iol_kernel.proofs.Queues.Opening.{empty, ends_of, few_open_held, piped_answers}
+use Rattle.iol_kernel.proofs.Queues.Opening.{ends_of, few_open_held, piped_answers}
 use Rattle.iol_kernel.proofs.State.ReadOf.{taken_pipes-read_of}
 use Rattle.iol_kernel.proofs.kernel.Kernel.new_pipe.Goals as goal
 
@@ -28,4 +29,4 @@ returns c =
     attempted (piped_answers h (domains_of c.add_ends.new.self) c.add.new.self.places d c.in_ok-ends.ends c.requires
     (c.in_ok-ends.ensures.numbers ∙ ap (ends_of xs) next)
     (c.in_ok-ends.ensures.opened ∙ ap (λ n. with_fds_in h.domains d (with_ends xs n)) next)
-    (c.add.ensures ∙ ap (λ (qs : List (Option (Pipe (List Slice)))). placed qs (lowest qs) empty) c.in_ok-reserve.ensures.same))
+    (c.add.ensures ∙ ap (λ (qs : List (Option (Pipe (List Slice)))). placed qs (lowest qs) empty_pipe) c.in_ok-reserve.ensures.same))

@@ -36,14 +36,10 @@ returns-in_err-reserve_aggs g c =
     let done = takes_unmade c.requires (g.B.Backing.disk c.args.backing.now) c.in_err-reserve_aggs.ensures.same (c.in_ok-test_read.ensures.passed (bytes_over [] c.args.self.now.store)) in
     search (rules, done)
 
-pub read-outcome-requires-clause-sound : goal.read-outcome-requires-clause-sound
-read-outcome-requires-clause-sound g c = cache_sound (state_of c.args.self.now) c.requires.is.sound
-
-pub read-outcome-requires-clause-file : goal.read-outcome-requires-clause-file
-read-outcome-requires-clause-file g c = numbered_here c.requires
-
-pub read-outcome-requires-clause-few : goal.read-outcome-requires-clause-few
-read-outcome-requires-clause-few g c = counts_few (state_of c.args.self.now) c.requires.is.sound
+pub read-outcome-requires : goal.read-outcome-requires
+read-outcome-requires g c =
+    let h = state_of c.args.self.now in
+    record { sound = cache_sound h c.requires.is.sound; file = numbered_here c.requires; few = counts_few h c.requires.is.sound }
 
 pub returns-in-Err : goal.returns-in-Err
 returns-in-Err g c =

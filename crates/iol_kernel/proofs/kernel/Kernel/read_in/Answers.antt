@@ -27,27 +27,30 @@ brought g c =
     brought_in h (record h { store = w.store; conns = w.self.conns; next_conn = w.self.next }) c.args.conn c.args.max c.in_ok-arrive_from.field-0.taken (g.R.Read.remaining c.args.reader.now) (g.R.Read.remaining w.reader) c.requires.sound (conn_is h c.args.conn c.requires.there) e.conn.passed e.conn.told.most e.conn.read
     (ap (λ (t : ConnTable). record h { store = w.store; conns = t.conns; next_conn = t.next }) (changed_to {z = record (conn_in h.conns c.args.conn) { incoming = (conn_in w.self.conns c.args.conn).incoming }} e.others e.conn.others))
 
-pub returns-clause-takes : goal.returns-clause-takes
-returns-clause-takes g c =
+pub returns : goal.returns
+returns g c =
     let h = state_of c.args.self.now in
     let there = conn_is h c.args.conn c.requires.there in
     let e = c.in_ok-arrive_from.ensures.conn in
     let told = e.told in
-    let got = brought g (goal.at.returns-clause-takes g c).In_ok-arrive_from in
+    let got = brought g (goal.at.returns g c).In_ok-arrive_from in
     record {
-      refuses = record { passed = read_passed h c.args.conn c.args.max there e.passed; refused = tt; room = read_room h c.args.conn c.args.max there true e.room.room; no_room = λ p is. absurd (cc is) };
-      read = got.takes;
-      made = got.made;
-      told = record { most = got.most; some = told.some; either = told.either; ended = told.ended; failed = told.failed };
-      none = got.none;
-      cache = refl;
-      err = tt;
-      sound = got.sound;
-      stays = e.read.added.moves.stays;
+      takes = record {
+        refuses = record { passed = read_passed h c.args.conn c.args.max there e.passed; refused = tt; room = read_room h c.args.conn c.args.max there true e.room.room; no_room = λ p is. absurd (cc is) };
+        read = got.takes;
+        made = got.made;
+        told = record { most = got.most; some = told.some; either = told.either; ended = told.ended; failed = told.failed };
+        none = got.none;
+        cache = refl;
+        err = tt;
+        sound = got.sound;
+        stays = e.read.added.moves.stays;
+      };
+      err_reader = tt;
     }
 
-pub returns-in_err-arrive_from-clause-takes : goal.returns-in_err-arrive_from-clause-takes
-returns-in_err-arrive_from-clause-takes g c =
+pub returns-in_err-arrive_from : goal.returns-in_err-arrive_from
+returns-in_err-arrive_from g c =
     let h = state_of c.args.self.now in
     let w = c.arrive_from.new in
     let k : KernelState = record h { store = w.store; conns = w.self.conns; next_conn = w.self.next } in
@@ -58,13 +61,16 @@ returns-in_err-arrive_from-clause-takes g c =
     let same : k ≡ h = λ i. record h { store = e.conn.err.1 i; conns = (table i).conns; next_conn = (table i).next } in
     let refused = read_refused h c.args.conn c.args.max there c.in_err-arrive_from.field-0.0 (search (rules, told)) in
     record {
-      refuses = record { passed = search (rules); refused = search (rules, refused); room = search (rules); no_room = λ p is. read_room h c.args.conn c.args.max there false (e.conn.room.no_room p (search (rules, is))) };
-      read = search (rules);
-      made = search (rules);
-      told = search (rules);
-      none = search (rules);
-      cache = refl;
-      err = search (rules, same);
-      sound = subst IsSound (sym same) c.requires.sound;
-      stays = stays_equal h.store w.store e.conn.err.1;
+      takes = record {
+        refuses = record { passed = search (rules); refused = search (rules, refused); room = search (rules); no_room = λ p is. read_room h c.args.conn c.args.max there false (e.conn.room.no_room p (search (rules, is))) };
+        read = search (rules);
+        made = search (rules);
+        told = search (rules);
+        none = search (rules);
+        cache = refl;
+        err = search (rules, same);
+        sound = subst IsSound (sym same) c.requires.sound;
+        stays = stays_equal h.store w.store e.conn.err.1;
+      };
+      err_reader = search (rules);
     }

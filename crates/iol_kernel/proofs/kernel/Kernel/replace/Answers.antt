@@ -32,7 +32,7 @@ replace-requires c =
     let at = goal.at.replace-requires c in
     let xs = whole at.In-Some in
     let ys = inner at.In-Some-agg in
-    let sound = c.requires.other.sound in
+    let sound = c.requires.other.lives.sound in
     record {
       ordered = c.requires.cuts.ordered;
       within = omega (arith, c.requires.cuts.within, length_text-read_of (bytes_over [] h.store) h c.args.by c.args.agg, ap byte_len xs);

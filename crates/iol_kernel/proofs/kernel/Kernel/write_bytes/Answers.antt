@@ -1,5 +1,5 @@
 use Rattle.iol_core.specs.Calls.Writing as calls
-use Rattle.std.proofs.Common.{[], ◌≡◌, ◌∙◌, length, Option, subst, sym}
+use Rattle.std.proofs.Common.{[], inl, ◌≡◌, ◌∙◌, length, Option, refl, subst, sym}
 use Rattle.iol_core.specs.declared.descriptors.Descriptor.{Descriptor}
 use Rattle.iol_core.specs.State.{descriptor}
 use Rattle.iol_core.specs.declared.refusals.Refusal.TheVariants.{NoRoom}
@@ -12,28 +12,21 @@ use Rattle.iol_kernel.proofs.Queues.Put.{left_placing, put_refused}
 use Rattle.iol_kernel.proofs.FileCalls.PutBeside.{laid_queue, laid_refused, puts_queue, puts_refused}
 use Rattle.iol_kernel.proofs.kernel.Kernel.write_bytes.Goals as goal
 
-pub returns-in-Err-clause-serves : goal.returns-in-Err-clause-serves
-returns-in-Err-clause-serves c =
+pub returns-in-Err : goal.returns-in-Err
+returns-in-Err c =
     let h = state_of c.args.self.now in
-    (put_refused (written_to c.args.by c.args.fd) 0 0 c.args.by c.args.fd c.args.bytes.now h c.in-Err.refusal c.requires c.in-Err.ensures.refused).serves
-
-pub returns-in-Err-clause-queue : goal.returns-in-Err-clause-queue
-returns-in-Err-clause-queue c = λ no_file.
-    let h = state_of c.args.self.now in
-    put_refused (written_to c.args.by c.args.fd) _ _ c.args.by c.args.fd c.args.bytes.now h c.in-Err.refusal c.requires c.in-Err.ensures.refused
-
-pub returns-in-Err-clause-no_room : goal.returns-in-Err-clause-no_room
-returns-in-Err-clause-no_room c p e = let is : c.in-Err.refusal ≡ NoRoom p = cc in absurd (c.in-Err.ensures.refused.roomy p is)
-
-pub returns-in-Err-clause-puts : goal.returns-in-Err-clause-puts
-returns-in-Err-clause-puts c =
-    let h = state_of c.args.self.now in
-    puts_refused (descriptor (machine_of [] h) c.args.by c.args.fd) (lands_in c.args.by c.args.fd (machine_of [] h)) (length c.args.bytes.now) h c.in-Err.refusal
-
-pub returns-in-Err-clause-lays : goal.returns-in-Err-clause-lays
-returns-in-Err-clause-lays c =
-    let h = state_of c.args.self.now in
-    laid_refused (descriptor (machine_of [] h) c.args.by c.args.fd) (lands_in c.args.by c.args.fd (machine_of [] h)) c.args.bytes.now h c.in-Err.refusal
+    let o : Option Descriptor = descriptor (machine_of [] h) c.args.by c.args.fd in
+    let pool = lands_in c.args.by c.args.fd (machine_of [] h) in
+    let fails = c.in-Err.ensures.refused in
+    record {
+      serves = (put_refused (written_to c.args.by c.args.fd) 0 0 c.args.by c.args.fd c.args.bytes.now h c.in-Err.refusal c.requires fails).serves;
+      queue = λ no_file. put_refused (written_to c.args.by c.args.fd) _ _ c.args.by c.args.fd c.args.bytes.now h c.in-Err.refusal c.requires fails;
+      room = tt;
+      no_room = λ p e. (let is : c.in-Err.refusal ≡ NoRoom p = cc in absurd (fails.roomy p is));
+      refused = inl refl;
+      puts = puts_refused o pool (length c.args.bytes.now) h c.in-Err.refusal;
+      lays = laid_refused o pool c.args.bytes.now h c.in-Err.refusal;
+    }
 
 pub returns : goal.returns
 returns c =

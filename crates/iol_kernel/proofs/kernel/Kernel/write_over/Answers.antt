@@ -12,26 +12,20 @@ use Rattle.iol_kernel.proofs.State.Sound.{agg_readable}
 use Rattle.iol_kernel.proofs.FileCalls.WrittenOver.{agg_beside, agg_fits, counts_below, in_cache, overwritten, unwritten}
 use Rattle.iol_kernel.proofs.kernel.Kernel.write_over.Goals as goal
 
-pub write-requires-clause-sound : goal.write-requires-clause-sound
-write-requires-clause-sound c = cache_sound (state_of c.args.self.now) c.requires.held.sound
-
-pub write-requires-clause-file : goal.write-requires-clause-file
-write-requires-clause-file c = in_cache (state_of c.args.self.now) c.args.found.file c.requires.held.sound (open_file c.requires.held).there
-
-pub write-requires-clause-held : goal.write-requires-clause-held
-write-requires-clause-held c =
+pub write-requires : goal.write-requires
+write-requires c =
     let h = state_of c.args.self.now in
+    let held = c.requires.held in
     let r = bytes_over [] h.store in
-    agg_beside h c.args.by c.args.agg c.in-Some.source.now c.requires.held.sound (live_held r h c.args.by (c.requires.held.live r)) (sym (ap option_copied c.in-Some.is) ∙ c.agg.ensures)
-
-pub write-requires-clause-readable : goal.write-requires-clause-readable
-write-requires-clause-readable c = agg_readable (state_of c.args.self.now) c.args.by c.args.agg c.in-Some.source.now c.requires.held.sound (sym (ap option_copied c.in-Some.is) ∙ c.agg.ensures)
-
-pub write-requires-clause-few : goal.write-requires-clause-few
-write-requires-clause-few c = counts_below (state_of c.args.self.now) c.requires.held.sound
-
-pub write-requires-clause-short : goal.write-requires-clause-short
-write-requires-clause-short c = agg_fits c.requires (sym (ap option_copied c.in-Some.is) ∙ c.agg.ensures)
+    let xs = c.in-Some.source.now in
+    record {
+      sound = cache_sound h held.sound;
+      file = in_cache h c.args.found.file held.sound (open_file held).there;
+      short = agg_fits c.requires (sym (ap option_copied c.in-Some.is) ∙ c.agg.ensures);
+      held = agg_beside h c.args.by c.args.agg xs held.sound (live_held r h c.args.by (held.live r)) (sym (ap option_copied c.in-Some.is) ∙ c.agg.ensures);
+      readable = agg_readable h c.args.by c.args.agg xs held.sound (sym (ap option_copied c.in-Some.is) ∙ c.agg.ensures);
+      few = counts_below h held.sound;
+    }
 
 pub moved_by-requires : goal.moved_by-requires
 moved_by-requires c = omega (arith, agg_fits c.requires (sym (ap option_copied c.in-Some.is) ∙ c.agg.ensures), c.len-len.ensures)
