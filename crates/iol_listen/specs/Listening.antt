@@ -1,11 +1,13 @@
 -- What serving the connections of a listener is: one after another, each alone.
 use Rattle.std.specs.Prelude.{◌≡◌, ◌≤◌, ◌⊎◌, ℕ, zero, suc, Bool, List}
+use Rattle.iol_back.specs.Disk.{IfHonest}
 use Rattle.iol_core.specs.State.{State}
 use Rattle.iol_core.specs.declared.events.Event.TheVariants as event
 use Rattle.iol_core.specs.declared.events.Reply.{Reply}
 use Rattle.iol_core.specs.declared.events.Reply.TheVariants as reply
+use Rattle.iol_system.specs.Machine.{SystemState}
 use Rattle.iol_proc.specs.Turns.{Account}
-use Rattle.iol_proc.specs.World.{Stage, copying, OutsideStep}
+use Rattle.iol_proc.specs.World.{Stage, copied, copying, OutsideStep}
 use Rattle.iol_serve.specs.Serving.{GoesOn, HasEnded}
 
 module _ {P : Type 0} (turns : Account P) where
@@ -43,3 +45,18 @@ module _ {P : Type 0} (turns : Account P) where
   pub record ServesAll (pool count left : ℕ) (w after : Stage State P) : Type 0 where
     pub some : ServesSome pool count w after
     pub all : (some.count ≡ count) ⊎ (left ≡ 0)
+
+-- How connections of a world are served, as the copying machine has it. That one goes alone, and that some are served, is said
+-- where the store is honest.
+module _ {P : Type 0} (turns : Account P) where
+  abbrev pub GoesAloneIn : (c : ℕ) (w after : Stage SystemState P) → Type 0
+  GoesAloneIn c w after = IfHonest w.machine.disk (GoesAlone turns c (copied w) (copied after))
+
+  abbrev pub ServesNextIn : (pool : ℕ) (w after : Stage SystemState P) → Type 0
+  ServesNextIn pool w after = ServesNext turns pool (copied w) (copied after)
+
+  abbrev pub ServesSomeIn : (pool most : ℕ) (w after : Stage SystemState P) → Type 0
+  ServesSomeIn pool most w after = IfHonest w.machine.disk (ServesSome turns pool most (copied w) (copied after))
+
+  abbrev pub ServesAllIn : (pool count left : ℕ) (w after : Stage SystemState P) → Type 0
+  ServesAllIn pool count left w after = ServesAll turns pool count left (copied w) (copied after)

@@ -64,7 +64,7 @@ impl<'a, W: Write + Drop> Write for Outbox<'a, W> {
         ensures bound { WritesAtMost result buf.now }
         ensures bytes { WriteAppends None None result buf.now }
         ensures takes { IfOk result
-            (λ n. Takes (W.contents self.old.to) (W.contents self.new.to) self.old.bytes.items
+            (λ n. Takes W.contents self.old.to self.new.to self.old.bytes.items
             self.new.bytes.items (take n buf.now)) }
     {
         let room = OUTBOX_BYTES.saturating_sub(self.bytes.len());

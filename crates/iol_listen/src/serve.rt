@@ -1,9 +1,9 @@
 //! The connections of a listener, one after another.
 ghost use Rattle.std.specs.Prelude.{OnOk};
 ghost use Rattle.iol_back.specs.Prelude.{IfHonest};
-ghost use Rattle.iol_listen.specs.Listening.{GoesAlone, ServesAll, ServesNext, ServesSome};
+ghost use Rattle.iol_listen.specs.Listening.{GoesAloneIn, ServesAllIn, ServesNextIn, ServesSomeIn};
 ghost use Rattle.iol_listen.specs.Waiting.{to_come};
-ghost use Rattle.iol_proc.specs.Prelude.{KeepsHonesty, copied};
+ghost use Rattle.iol_proc.specs.Prelude.{KeepsHonesty};
 ghost use Rattle.iol_serve.specs.Prelude.{HasEnded};
 ghost use Rattle.iol_system.specs.Prelude.{tables_of};
 
@@ -31,8 +31,7 @@ pub fn serve_all<B: Backing + Drop, P: Process>(
     count: u32,
 ) -> Result<(), ServeFault>
     ensures honest { KeepsHonesty world.old.machine world.new.machine }
-    ensures serves { IfHonest world.old.machine.disk
-        (ServesSome P.turns pool count (copied world.old) (copied world.new)) }
+    ensures serves { ServesSomeIn P.turns pool count world.old world.new }
 {
     let Ok(mut queue) = Queue::new(alloc, listener, count) else {
         return Err(ServeFault::Memory);
@@ -49,10 +48,9 @@ pub fn serve_queue<B: Backing + Drop, P: Process>(
     count: u32,
 ) -> Result<(), ServeFault>
     ensures honest { KeepsHonesty world.old.machine world.new.machine }
-    ensures serves { IfHonest world.old.machine.disk
-        (ServesSome P.turns pool count (copied world.old) (copied world.new)) }
-    ensures all { IfHonest world.old.machine.disk (OnOk result (ServesAll P.turns pool count
-        (to_come queue.new) (copied world.old) (copied world.new))) }
+    ensures serves { ServesSomeIn P.turns pool count world.old world.new }
+    ensures all { IfHonest world.old.machine.disk (OnOk result
+        (ServesAllIn P.turns pool count (to_come queue.new) world.old world.new)) }
 {
     for _ in 0..count {
         let Some(stream) = queue.next()? else {
@@ -72,10 +70,9 @@ fn serve_next<B: Backing + Drop, P: Process>(
     others: &mut Queue<'_>,
 ) -> Result<(), ServeFault>
     ensures honest { KeepsHonesty world.old.machine world.new.machine }
-    ensures serves { IfHonest world.old.machine.disk
-        (ServesSome P.turns pool 1 (copied world.old) (copied world.new)) }
-    ensures next { IfHonest world.old.machine.disk (OnOk result
-        (ServesNext P.turns pool (copied world.old) (copied world.new))) }
+    ensures serves { ServesSomeIn P.turns pool 1 world.old world.new }
+    ensures next { IfHonest world.old.machine.disk
+        (OnOk result (ServesNextIn P.turns pool world.old world.new)) }
 {
     let talk = Talk::new();
     let Ok(mut writer) = Outbox::new(alloc, stream, &talk) else {
@@ -103,8 +100,7 @@ fn serve_stream<B: Backing + Drop, P: Process>(
 )
     ensures ended { HasEnded (tables_of world.new.machine.kernel) conn }
     ensures honest { KeepsHonesty world.old.machine world.new.machine }
-    ensures alone { IfHonest world.old.machine.disk
-        (GoesAlone P.turns conn (copied world.old) (copied world.new)) }
+    ensures alone { GoesAloneIn P.turns conn world.old world.new }
 {
     let mut reader = Patient::new(stream, talk, others);
     serve_connection(world, conn, &mut reader, writer);

@@ -3,13 +3,19 @@ use Rattle.std.specs.Prelude.{◌≡◌, ◌<◌, ◌≤◌, ◌+◌, ◌%◌, �
 use Rattle.std.specs.List.{list_all}
 use Rattle.iol_core.specs.declared.events.Reply.{Reply}
 use Rattle.iol_proc.specs.Turns.{Machine, Account, is_would_block}
-use Rattle.iol_proc.specs.World.{Stage, PlaceTurn, WorldRun, domains_of}
+use Rattle.iol_system.specs.Machine.{SystemState}
+use Rattle.iol_proc.specs.World.{Stage, PlaceTurn, WorldRun, copied, copying, domains_of, sharing}
 use Rattle.iol_proc.specs.declared.choice.Choice.{Choice}
 use Rattle.iol_proc.specs.declared.choice.Choice.TheVariants as choice
+use Rattle.iol_proc.specs.declared.turn.Outcome.{Outcome}
 
 -- a turn as it went: whether the process yielded, and what it was answered
 abbrev pub Went : Type 0
 Went = Bool × Reply
+
+-- how a turn went, by its outcome
+abbrev pub went : Outcome → Went
+went o = (o.yields, o.reply)
 
 -- one more, up to two
 abbrev pub more_of_two : ℕ → ℕ
@@ -57,3 +63,15 @@ module _ {M P : Type 0} (machine : Machine M) (turns : Account P) where
     pub told : idle ≡ is_idle (yields_of (length w.seats) went)
     pub first : (j : ℕ) → j < length went → is_idle (yields_of (length w.seats) (take j went)) ≡ false
     pub all_taken : idle ≡ false → length went ≡ most
+
+module _ {P : Type 0} (turns : Account P) where
+  -- the process at this place of a world has its turn, which goes so
+  abbrev pub TurnGoes : Stage SystemState P → (place : ℕ) → Outcome → Stage SystemState P → Type 0
+  TurnGoes w place o after = PlaceTurn sharing turns w place o.yields o.reply after
+
+  -- turns in rounds, as a world has them, and as the copying machine does
+  abbrev pub RoundsGo : Stage SystemState P → (most : ℕ) (idle : Bool) → Stage SystemState P → Type 0
+  RoundsGo w most idle after = Idles sharing turns w most idle after
+
+  abbrev pub CopiedIdles : Stage SystemState P → (most : ℕ) (idle : Bool) → Stage SystemState P → Type 0
+  CopiedIdles w most idle after = Idles copying turns (copied w) most idle (copied after)

@@ -2,7 +2,7 @@
 --
 -- The same words are used of two machines: of the one that copies at every call, and of a system with all that it
 -- promises, over any store.
-use Rattle.std.specs.Prelude.{◌≡◌, ◌≢◌, ◌⊎◌, ◌<◌, ◌||◌, ℕ, List, [], ◌∷◌, map, Some, Bool, All, slice_get, slice_set}
+use Rattle.std.specs.Prelude.{◌≡◌, ◌≢◌, ◌⊎◌, ◌<◌, ◌||◌, ℕ, List, [], ◌∷◌, length, map, Some, IfSome, Bool, All, slice_get, slice_set}
 use Rattle.iol_core.specs.State.{State}
 use Rattle.iol_core.specs.Run.{StepsTo}
 use Rattle.iol_core.specs.declared.events.Event.{Event}
@@ -32,6 +32,10 @@ pub record Stage (M P : Type 0) : Type 0 where
   pub seats : List (Seat P)
   pub rough : Bool
 
+-- a system with processes, as a world has them
+abbrev pub staged : {P : Type 0} → SystemState → List (Seat P) → (rough : Bool) → Stage SystemState P
+staged system seats rough = record { machine = system; seats = seats; rough = rough }
+
 -- the same processes over the copying machine
 abbrev pub copied : {P : Type 0} → Stage SystemState P → Stage State P
 copied w = record { machine = machine_of w.machine; seats = w.seats; rough = w.rough }
@@ -49,6 +53,14 @@ abbrev pub IsRising : List ℕ → Type 0
 IsRising [] = Unit {0}
 IsRising (x ∷ []) = Unit {0}
 IsRising (x ∷ y ∷ ys) = (x < y) × IsRising (y ∷ ys)
+
+-- no process is in this domain
+abbrev pub HasNoSeat : {P : Type 0} → List (Seat P) → (by : ℕ) → Type 0
+HasNoSeat seats by = All (λ s. s.by ≢ by) seats
+
+-- the process at this place is in this domain
+abbrev pub SitsAt : {P : Type 0} → List (Seat P) → (by place : ℕ) → Type 0
+SitsAt seats by place = IfSome (slice_get seats place) (λ seat. seat.by ≡ by) × (place < length seats)
 
 -- the process of a domain
 pub record IsSeated {P : Type 0} (seats : List (Seat P)) (by : ℕ) (p : P) : Type 0 where
@@ -70,7 +82,7 @@ module _ {M P : Type 0} (machine : Machine M) (turns : Account P) where
 
   -- no process is in this domain
   pub record Absent (w : Stage M P) (by : ℕ) (r : Reply) (after : Stage M P) : Type 0 where
-    pub nobody : All (λ s. s.by ≢ by) w.seats
+    pub nobody : HasNoSeat w.seats by
     pub answer : r ≡ reply.Refused NoDomain
     pub stays : after ≡ w
 
@@ -102,3 +114,11 @@ module _ {M P : Type 0} (machine : Machine M) (turns : Account P) where
   WorldRun w (c ∷ cs) (r ∷ rs) after = (mid : Stage M P) × WorldStep w c r mid × WorldRun mid cs rs after
   WorldRun w [] (r ∷ rs) after = ⊥
   WorldRun w (c ∷ cs) [] after = ⊥
+
+module _ {P : Type 0} (turns : Account P) where
+  -- An event that no process brings about, and choices one after another, as the copying machine has them.
+  abbrev pub CopiedStep : Stage SystemState P → Event → Reply → Stage SystemState P → Type 0
+  CopiedStep w e r after = OutsideStep copying turns (copied w) e r (copied after)
+
+  abbrev pub CopiedRun : Stage SystemState P → List Choice → List Reply → Stage SystemState P → Type 0
+  CopiedRun w cs rs after = WorldRun copying turns (copied w) cs rs (copied after)

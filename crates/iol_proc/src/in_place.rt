@@ -1,10 +1,9 @@
 //! Connections of a world that are served from outside in place, from readers and to writers.
 ghost use Rattle.std.specs.Prelude.{◌≡◌, IfOk, OnErr};
 ghost use Rattle.iol_back.specs.Prelude.{IfHonest};
-ghost use Rattle.iol_kernel.specs.Prelude.{TakesIn};
-ghost use Rattle.iol_proc.specs.Borrowed.{ArrivesAs, SendsAs};
+ghost use Rattle.iol_proc.specs.Borrowed.{SendsAs, TakenArrive};
 ghost use Rattle.iol_proc.specs.World.{copied};
-ghost use Rattle.iol_system.specs.Prelude.{ServesReader, ServesWriter};
+ghost use Rattle.iol_system.specs.Prelude.{ServesFrom, ServesTo};
 
 use crate::process::Process;
 use crate::world::World;
@@ -24,17 +23,16 @@ impl<B: Backing + Drop, P: Process> World<B, P> {
         reader: &mut R,
         max: u32,
     ) -> Result<Arrived, Refusal>
-        ensures copied { IfHonest self.old.machine.disk (IfOk result (λ a. TakesIn
-            (R.remaining reader.old) (R.remaining reader.new) a.taken
-            (λ bytes. ArrivesAs P.turns conn a.taken bytes (copied self.old) (copied self.new)))) }
+        ensures copied { TakenArrive P.turns conn (R.remaining reader.old)
+            (R.remaining reader.new) self.old self.new result }
         ensures err_copied { IfHonest self.old.machine.disk
             (OnErr result (copied self.new ≡ copied self.old)) }
         ensures seats { self.new.seats ≡ self.old.seats }
         ensures rough { self.new.rough ≡ self.old.rough }
 
         // What it does to the system.
-        ensures system { ServesReader conn max self.old.machine self.new.machine reader.old
-            reader.new (R.remaining reader.old) (R.remaining reader.new) result }
+        ensures system { ServesFrom R.remaining reader.old reader.new conn max self.old.machine
+            self.new.machine result }
     {
         self.system.arrive_from(conn, reader, max)
     }
@@ -53,8 +51,8 @@ impl<B: Backing + Drop, P: Process> World<B, P> {
         ensures rough { self.new.rough ≡ self.old.rough }
 
         // What it does to the system.
-        ensures system { ServesWriter conn max self.old.machine self.new.machine writer.old
-            writer.new (W.contents writer.old) (W.contents writer.new) result }
+        ensures system { ServesTo W.contents writer.old writer.new conn max self.old.machine
+            self.new.machine result }
     {
         self.system.drain_to(conn, writer, max)
     }

@@ -1,6 +1,6 @@
 //! What a process is lent.
 ghost use Rattle.std.specs.Prelude.{◌≡◌, Some, None, MatchOption, length, option_map};
-ghost use Rattle.std.specs.List.{flat_map};
+ghost use Rattle.iol_kernel.specs.Prelude.{joined};
 ghost use Rattle.iol_proc.specs.Looks.{lent};
 
 use iol_agg::Parts;
@@ -26,7 +26,7 @@ impl<'a> Look<'a> {
     /// and no memory is taken.
     pub fn bytes(&self, agg: AggId) -> Option<Parts<'a>>
         ensures { MatchOption result (lent self.now agg ≡ None)
-            (λ parts. lent self.now agg ≡ Some (flat_map (λ w. w) parts)) }
+            (λ parts. lent self.now agg ≡ Some (joined parts)) }
     {
         match self.aggregates.parts(self.by, agg) {
             Ok(parts) => Some(parts),

@@ -1,7 +1,7 @@
 //! Turns in rounds, until nothing is left to do.
 ghost use Rattle.std.specs.Prelude.{◌≡◌, ◌<◌, length, false};
-ghost use Rattle.iol_proc.specs.Idle.{Idles, counted, is_idle};
-ghost use Rattle.iol_proc.specs.World.{sharing, domains_of};
+ghost use Rattle.iol_proc.specs.Idle.{RoundsGo, counted, is_idle, went};
+ghost use Rattle.iol_proc.specs.World.{domains_of, staged};
 
 use crate::process::Process;
 use crate::replies::is_would_block;
@@ -22,8 +22,7 @@ fn all_twice(yields: &[u8]) -> bool
 fn count(yields: &mut Vec<u8>, place: usize, outcome: &Outcome)
     requires { place < length yields.old.items }
     ensures length { length yields.new.items ≡ length yields.old.items }
-    ensures counted { yields.new.items ≡ counted yields.old.items place
-        (outcome.now.yields, outcome.now.reply) }
+    ensures counted { yields.new.items ≡ counted yields.old.items place (went outcome.now) }
 {
     if outcome.yields {
         if yields[place] < 2 {
@@ -46,9 +45,8 @@ pub(crate) fn until_idle<B: Backing + Drop, P: Process>(
     requires { length yields.old.items ≡ length seats.old.items }
     ensures domains { domains_of seats.new.items ≡ domains_of seats.old.items }
     ensures length { length yields.new.items ≡ length seats.new.items }
-    ensures idles { Idles sharing P.turns
-        (record { machine = system.old; seats = seats.old.items; rough = rough.old }) turns result
-        (record { machine = system.new; seats = seats.new.items; rough = rough.new }) }
+    ensures idles { RoundsGo P.turns (staged system.old seats.old.items rough.old) turns result
+        (staged system.new seats.new.items rough.new) }
 {
     yields.fill(0);
     for i in 0..turns {

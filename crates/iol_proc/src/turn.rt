@@ -1,7 +1,8 @@
 //! One turn of one process.
 ghost use Rattle.std.specs.Prelude.{◌≡◌, ◌<◌, length};
+ghost use Rattle.iol_proc.specs.Idle.{TurnGoes};
 ghost use Rattle.iol_proc.specs.Turns.{SeatTurn};
-ghost use Rattle.iol_proc.specs.World.{PlaceTurn, sharing, domains_of};
+ghost use Rattle.iol_proc.specs.World.{sharing, domains_of, staged};
 
 use crate::look::Look;
 use crate::process::{Process, Turn};
@@ -58,10 +59,8 @@ pub(crate) fn place_turn<B: Backing + Drop, P: Process>(
 ) -> Outcome
     requires { place < length seats.old.items }
     ensures domains { domains_of seats.new.items ≡ domains_of seats.old.items }
-    ensures turn { PlaceTurn sharing P.turns
-        (record { machine = system.old; seats = seats.old.items; rough = rough.old }) place
-        result.yields result.reply
-        (record { machine = system.new; seats = seats.new.items; rough = rough.new }) }
+    ensures turn { TurnGoes P.turns (staged system.old seats.old.items rough.old) place result
+        (staged system.new seats.new.items rough.new) }
 {
     let seat = &mut seats[place];
     let outcome = seat_turn(system, seat);

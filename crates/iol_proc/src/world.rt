@@ -1,15 +1,15 @@
 //! A world: a system, and processes in some of its domains.
-ghost use Rattle.std.specs.Prelude.{◌≡◌, ◌≢◌, ◌<◌, length, map, IfOk, OnErr, IfSome, MatchOption, All, slice_get, false, nat_eq};
+ghost use Rattle.std.specs.Prelude.{◌≡◌, length, map, IfOk, OnErr, MatchOption, false, nat_eq};
 ghost use Rattle.std.specs.List.{IsDistinct};
 ghost use Rattle.std.specs.List.Sorted.{IsPermutation};
 ghost use Rattle.iol_back.specs.Prelude.{IfHonest};
 ghost use Rattle.iol_kernel.specs.Prelude.{Reports};
 ghost use Rattle.iol_system.specs.Prelude.{machine_of};
 ghost use Rattle.iol_proc.specs.Prelude.{KeepsHonesty, copied, lent};
-ghost use Rattle.iol_proc.specs.Idle.{Idles};
+ghost use Rattle.iol_proc.specs.Idle.{CopiedIdles, Idles};
 ghost use Rattle.iol_proc.specs.Laws.{HasEvents};
 ghost use Rattle.iol_proc.specs.Lent.{lent_to};
-ghost use Rattle.iol_proc.specs.World.{Stage, copying, sharing, seat_of, domains_of, IsRising, IsSeated, WorldStep, WorldRun, DomainTurn, OutsideStep};
+ghost use Rattle.iol_proc.specs.World.{Stage, sharing, seat_of, domains_of, IsRising, IsSeated, HasNoSeat, SitsAt, WorldStep, WorldRun, DomainTurn, OutsideStep, CopiedStep, CopiedRun};
 
 use crate::choice::Choice;
 use crate::look::Look;
@@ -91,7 +91,7 @@ impl<B: Backing + Drop, P: Process> World<B, P> {
 
     /// The process of a domain.
     pub fn process(&self, by: DomainId) -> Option<&P>
-        ensures { MatchOption result (All (λ s. s.by ≢ by) self.now.seats)
+        ensures { MatchOption result (HasNoSeat self.now.seats by)
             (λ p. IsSeated self.now.seats by p.now) }
     {
         let place = place_of(&self.seats, by)?;
@@ -102,7 +102,7 @@ impl<B: Backing + Drop, P: Process> World<B, P> {
     pub fn step_outside(&mut self, event: Event) -> Reply
         ensures step { OutsideStep sharing P.turns self.old event result self.new }
         ensures copied { IfHonest self.old.machine.disk
-            (OutsideStep copying P.turns (copied self.old) event result (copied self.new)) }
+            (CopiedStep P.turns self.old event result self.new) }
         ensures events { HasEvents self.old.machine self.new.machine }
         ensures honest { KeepsHonesty self.old.machine self.new.machine }
     {
@@ -146,8 +146,8 @@ impl<B: Backing + Drop, P: Process> World<B, P> {
     pub fn run(&mut self, choices: &[Choice]) -> Result<Vec<Reply>, AllocError>
         ensures shared { IfOk result
             (λ replies. WorldRun sharing P.turns self.old choices.now replies.items self.new) }
-        ensures run { IfHonest self.old.machine.disk (IfOk result (λ replies. WorldRun copying
-            P.turns (copied self.old) choices.now replies.items (copied self.new))) }
+        ensures run { IfHonest self.old.machine.disk (IfOk result
+            (λ replies. CopiedRun P.turns self.old choices.now replies.items self.new)) }
         ensures events { HasEvents self.old.machine self.new.machine }
         ensures honest { KeepsHonesty self.old.machine self.new.machine }
         ensures err { OnErr result (self.new ≡ self.old) }
@@ -166,7 +166,7 @@ impl<B: Backing + Drop, P: Process> World<B, P> {
     pub fn until_idle(&mut self, turns: usize) -> bool
         ensures shared { Idles sharing P.turns self.old turns result self.new }
         ensures run { IfHonest self.old.machine.disk
-            (Idles copying P.turns (copied self.old) turns result (copied self.new)) }
+            (CopiedIdles P.turns self.old turns result self.new) }
         ensures events { HasEvents self.old.machine self.new.machine }
         ensures honest { KeepsHonesty self.old.machine self.new.machine }
     {
@@ -228,8 +228,7 @@ fn seats_for<P: Process>(
 
 /// Where the process of a domain sits.
 fn place_of<P: Process>(seats: &[Seat<P>], by: DomainId) -> Option<usize>
-    ensures { MatchOption result (All (λ s. s.by ≢ by) seats.now)
-        (λ k. IfSome (slice_get seats.now k) (λ seat. seat.by ≡ by) × (k < length seats.now)) }
+    ensures { MatchOption result (HasNoSeat seats.now by) (SitsAt seats.now by) }
 {
     seats
         .iter()

@@ -1,5 +1,9 @@
 -- What comes of a round.
-use Rattle.std.specs.Prelude.{Bool, true, false}
+use Rattle.std.specs.Prelude.{ℕ, Bool, true, false, List, Option}
+use Rattle.iol_system.specs.Machine.{SystemState}
+use Rattle.iol_proc.specs.Turns.{Account}
+use Rattle.iol_proc.specs.World.{Stage}
+use Rattle.iol_serve.specs.Serving.{ServesIn}
 use Rattle.iol_serve.specs.declared.ending.Ending.{Ending}
 use Rattle.iol_serve.specs.declared.ending.Ending.TheVariants as ending
 use Rattle.iol_serve.specs.declared.serve.Step.{Step}
@@ -30,3 +34,9 @@ after ending.Over Silent = ending.Silent
 after ending.Over Stalled = ending.Long
 after ending.Over step = ending.Over
 after before step = before
+
+-- A world's connection is served by a round that comes to this.
+abbrev pub ServesBy : {P R W : Type 0} → Account P → (c : ℕ) → Step → (left : R → Option (List ℕ)) (reader rest : R)
+    (held : W → Option (List ℕ)) (writer written : W) (w after : Stage SystemState P) → Type 0
+ServesBy turns c step left reader rest held writer written w after =
+    ServesIn turns c (is_gone step) left reader rest held writer written w after

@@ -2,13 +2,15 @@
 use Rattle.std.specs.Prelude.{◌≡◌, ◌⊎◌, ℕ, Bool, true, false, List, [], ◌∷◌, Option}
 use Rattle.std.specs.List.{list_any}
 use Rattle.std.specs.Io.KnownBytes.{Appends, Consumes}
+use Rattle.iol_back.specs.Disk.{IfHonest}
 use Rattle.iol_core.specs.State.{State, conn_at, is_gone}
 use Rattle.iol_core.specs.Calls.Outside.{lacks_conn}
 use Rattle.iol_core.specs.declared.events.Event.TheVariants as event
 use Rattle.iol_core.specs.declared.events.Reply.{Reply}
+use Rattle.iol_system.specs.Machine.{SystemState}
 use Rattle.iol_proc.specs.Histories.{stream_over, sent_over, drops_with}
 use Rattle.iol_proc.specs.Turns.{Account}
-use Rattle.iol_proc.specs.World.{Stage, copying, WorldRun}
+use Rattle.iol_proc.specs.World.{Stage, copied, copying, WorldRun}
 use Rattle.iol_proc.specs.declared.choice.Choice.{Choice}
 use Rattle.iol_proc.specs.declared.choice.Choice.TheVariants as choice
 use Rattle.iol_serve.specs.declared.ending.Ending.{Ending}
@@ -62,3 +64,24 @@ module _ {P : Type 0} (turns : Account P) where
     pub given : Consumes left rest came
     pub taken : Appends held now sent
     pub goes_on : GoesOn c came sent gone w after
+
+-- How a connection of a world goes on, is sent to, and is served, as the copying machine has it; but for what is sent, where the
+-- store is honest. It is told what a reader has left and what a writer holds, where that is known.
+module _ {P : Type 0} (turns : Account P) where
+  abbrev pub GoesOnIn : (c : ℕ) (came sent : List ℕ) (gone : Bool) (w after : Stage SystemState P) → Type 0
+  GoesOnIn c came sent gone w after = IfHonest w.machine.disk (GoesOn turns c came sent gone (copied w) (copied after))
+
+  abbrev pub SendsIn : {W : Type 0} → (c : ℕ) (held : W → Option (List ℕ)) (writer written : W) (w after : Stage SystemState P)
+      → Type 0
+  SendsIn c held writer written w after = Sends turns c (held writer) (held written) (copied w) (copied after)
+
+  abbrev pub ServesIn : {R W : Type 0} → (c : ℕ) (gone : Bool) (left : R → Option (List ℕ)) (reader rest : R)
+      (held : W → Option (List ℕ)) (writer written : W) (w after : Stage SystemState P) → Type 0
+  ServesIn c gone left reader rest held writer written w after = IfHonest w.machine.disk
+      (Serves turns c gone (left reader) (left rest) (held writer) (held written) (copied w) (copied after))
+
+  -- a connection was served until it came to such an end
+  abbrev pub ServesUntil : {R W : Type 0} → (c : ℕ) → Ending → (left : R → Option (List ℕ)) (reader rest : R)
+      (held : W → Option (List ℕ)) (writer written : W) (w after : Stage SystemState P) → Type 0
+  ServesUntil c ending left reader rest held writer written w after =
+      ServesIn c (hung_up ending) left reader rest held writer written w after

@@ -1,10 +1,9 @@
 //! A connection of a world, served from a reader and to a writer.
 ghost use Rattle.std.specs.Prelude.{◌≡◌, ◌≢◌, ◌||◌, [], true, false};
 ghost use Rattle.std.specs.Io.KnownBytes.{Appends};
-ghost use Rattle.iol_back.specs.Prelude.{IfHonest};
 ghost use Rattle.iol_core.specs.Prelude.{lacks_conn};
 ghost use Rattle.iol_proc.specs.Prelude.{KeepsHonesty, copied};
-ghost use Rattle.iol_serve.specs.Serving.{HasEnded, GoesOn, Sends, Serves, hung_up};
+ghost use Rattle.iol_serve.specs.Serving.{HasEnded, GoesOnIn, SendsIn, ServesIn, ServesUntil, hung_up};
 ghost use Rattle.iol_serve.specs.Rounds as spec;
 ghost use Rattle.iol_system.specs.Prelude.{tables_of, IsSafe};
 
@@ -72,9 +71,8 @@ pub fn serve_connection<B: Backing + Drop, P: Process, R: Read, W: Write>(
     ensures over { result ≡ Ending.Over →
         lacks_conn (tables_of world.new.machine.kernel) conn ≡ true }
     ensures honest { KeepsHonesty world.old.machine world.new.machine }
-    ensures serves { IfHonest world.old.machine.disk
-        (Serves P.turns conn (hung_up result) (R.remaining reader.old) (R.remaining reader.new)
-        (W.contents writer.old) (W.contents writer.new) (copied world.old) (copied world.new)) }
+    ensures serves { ServesUntil P.turns conn result R.remaining reader.old reader.new
+        W.contents writer.old writer.new world.old world.new }
 {
     let mut ending = Ending::Over;
     let mut stalls = 0;
@@ -154,9 +152,8 @@ fn round<B: Backing + Drop, P: Process, R: Read, W: Write>(
     ensures over { result ≡ Step.Over →
         lacks_conn (tables_of world.new.machine.kernel) conn ≡ true }
     ensures honest { KeepsHonesty world.old.machine world.new.machine }
-    ensures serves { IfHonest world.old.machine.disk
-        (Serves P.turns conn (spec.is_gone result) (R.remaining reader.old) (R.remaining reader.new)
-        (W.contents writer.old) (W.contents writer.new) (copied world.old) (copied world.new)) }
+    ensures serves { spec.ServesBy P.turns conn result R.remaining reader.old reader.new
+        W.contents writer.old writer.new world.old world.new }
 {
     let reached = exchange(world, conn, reader, writer);
     let step = bounded(reached, stalls);
@@ -195,8 +192,7 @@ fn tell<B: Backing + Drop, P: Process>(world: &mut World<B, P>, conn: ConnId, st
     ensures over { result ≡ Step.Over →
         lacks_conn (tables_of world.new.machine.kernel) conn ≡ true }
     ensures honest { KeepsHonesty world.old.machine world.new.machine }
-    ensures goes_on { IfHonest world.old.machine.disk
-        (GoesOn P.turns conn [] [] (spec.is_gone result) (copied world.old) (copied world.new)) }
+    ensures goes_on { GoesOnIn P.turns conn [] [] (spec.is_gone result) world.old world.new }
 {
     if hang_up(world, conn) {
         step
@@ -215,9 +211,8 @@ fn exchange<B: Backing + Drop, P: Process, R: Read, W: Write>(
     ensures over { result ≡ Step.Over →
         lacks_conn (tables_of world.new.machine.kernel) conn ≡ true }
     ensures honest { KeepsHonesty world.old.machine world.new.machine }
-    ensures serves { IfHonest world.old.machine.disk
-        (Serves P.turns conn false (R.remaining reader.old) (R.remaining reader.new)
-        (W.contents writer.old) (W.contents writer.new) (copied world.old) (copied world.new)) }
+    ensures serves { ServesIn P.turns conn false R.remaining reader.old reader.new
+        W.contents writer.old writer.new world.old world.new }
 {
     let is_idle = settle(world, conn);
     let step = send(world, conn, writer);
@@ -233,8 +228,7 @@ fn exchange<B: Backing + Drop, P: Process, R: Read, W: Write>(
 // Turns of the processes until all is idle, or many.
 fn settle<B: Backing + Drop, P: Process>(world: &mut World<B, P>, conn: ConnId) -> bool
     ensures honest { KeepsHonesty world.old.machine world.new.machine }
-    ensures goes_on { IfHonest world.old.machine.disk
-        (GoesOn P.turns conn [] [] false (copied world.old) (copied world.new)) }
+    ensures goes_on { GoesOnIn P.turns conn [] [] false world.old world.new }
 {
     let _conn = conn;
     world.until_idle(TURNS)
@@ -249,8 +243,7 @@ fn send<B: Backing + Drop, P: Process, W: Write>(
     ensures over { result ≡ Step.Over →
         lacks_conn (tables_of world.new.machine.kernel) conn ≡ true }
     ensures honest { KeepsHonesty world.old.machine world.new.machine }
-    ensures sends { Sends P.turns conn (W.contents writer.old) (W.contents writer.new)
-        (copied world.old) (copied world.new) }
+    ensures sends { SendsIn P.turns conn W.contents writer.old writer.new world.old world.new }
 {
     let mut has_moved = false;
     for _ in 0..=MAX_QUEUE_BYTES {
@@ -279,8 +272,7 @@ fn send_piece<B: Backing + Drop, P: Process, W: Write>(
     ensures over { result ≡ Step.Over →
         lacks_conn (tables_of world.new.machine.kernel) conn ≡ true }
     ensures honest { KeepsHonesty world.old.machine world.new.machine }
-    ensures sends { Sends P.turns conn (W.contents writer.old) (W.contents writer.new)
-        (copied world.old) (copied world.new) }
+    ensures sends { SendsIn P.turns conn W.contents writer.old writer.new world.old world.new }
 {
     match world.drain_to(conn, writer, PIECE) {
         Ok(drained) => {
@@ -305,9 +297,8 @@ fn receive<B: Backing + Drop, P: Process, R: Read, W: Write>(
 ) -> Step
     ensures goes { result ≢ Step.Over }
     ensures honest { KeepsHonesty world.old.machine world.new.machine }
-    ensures serves { IfHonest world.old.machine.disk
-        (Serves P.turns conn false (R.remaining reader.old) (R.remaining reader.new)
-        (W.contents writer.old) (W.contents writer.new) (copied world.old) (copied world.new)) }
+    ensures serves { ServesIn P.turns conn false R.remaining reader.old reader.new
+        W.contents writer.old writer.new world.old world.new }
 {
     if writer.flush().is_err() {
         return Step::Failed;
@@ -332,8 +323,7 @@ fn receive<B: Backing + Drop, P: Process, R: Read, W: Write>(
 // The peer of a connection sends no more.
 fn close<B: Backing + Drop, P: Process>(world: &mut World<B, P>, conn: ConnId)
     ensures honest { KeepsHonesty world.old.machine world.new.machine }
-    ensures goes_on { IfHonest world.old.machine.disk
-        (GoesOn P.turns conn [] [] false (copied world.old) (copied world.new)) }
+    ensures goes_on { GoesOnIn P.turns conn [] [] false world.old world.new }
 {
     let how = How::Done;
     let _ = world.step_outside(Event::PeerClosed { conn, how });
@@ -345,8 +335,7 @@ fn hang_up<B: Backing + Drop, P: Process>(world: &mut World<B, P>, conn: ConnId)
     ensures lacks { result ≡ false →
         lacks_conn (tables_of world.new.machine.kernel) conn ≡ true }
     ensures honest { KeepsHonesty world.old.machine world.new.machine }
-    ensures goes_on { IfHonest world.old.machine.disk
-        (GoesOn P.turns conn [] [] result (copied world.old) (copied world.new)) }
+    ensures goes_on { GoesOnIn P.turns conn [] [] result world.old world.new }
 {
     if is_there(world, conn) {
         let how = How::Gone;

@@ -1,5 +1,5 @@
 -- What the lines of a script are answered: events by steps of a system, reports by what lies in it.
-use Rattle.std.specs.Prelude.{◌≡◌, ◌*◌, ℕ, true, false, List, [], ◌∷◌, ◌⊎◌, Option, ◌++◌, replicate, unwrap_or}
+use Rattle.std.specs.Prelude.{◌≡◌, ◌*◌, ℕ, true, false, List, [], ◌∷◌, ◌⊎◌, Option, Result, Err, IfErr, IfSome, OnOk, ◌++◌, replicate, unwrap_or}
 use Rattle.std.specs.Io.KnownBytes.{Appends}
 use Rattle.iol_core.specs.State.{new_state}
 use Rattle.iol_core.specs.declared.configuration.TheConstants.Config.{DEFAULT}
@@ -10,13 +10,16 @@ use Rattle.iol_kernel.specs.Readings.{slots_of}
 use Rattle.iol_system.specs.Machine.{SystemState, machine_of}
 use Rattle.iol_kernel.specs.Report.{Counts}
 use Rattle.iol_system.specs.Promises.{Promises}
+use Rattle.iolite.specs.declared.failure.Failure.{Failure}
+use Rattle.iolite.specs.declared.failure.Failure.TheVariants.{Memory}
 use Rattle.iolite.specs.declared.replay.Answer.{Answer}
 use Rattle.iolite.specs.declared.replay.Answer.TheVariants as answer
 use Rattle.iolite.specs.declared.setup.Setup.{Setup}
 use Rattle.iolite.specs.declared.script.Line.{Line}
 use Rattle.iolite.specs.declared.script.Line.TheVariants as line
+use Rattle.iolite.specs.Failure.{status_of}
 use Rattle.iolite.specs.Printed.{answer_text, lines_of, newline}
-use Rattle.iolite.specs.Script.{Asks, AskInOrder, IsJudged, Says, asking, commands, without_blank}
+use Rattle.iolite.specs.Script.{Asks, AskInOrder, HasBadLine, IsBadScript, IsJudged, IsScriptText, Says, asking, commands, lines, without_blank}
 
 -- A new system, as a script sets it up: domain 1 and nothing else, over pages that were never used, of the sizes named or of
 -- the default ones, over a store in memory that has what the script stored. No sum is remembered, and nothing is in memory that
@@ -83,6 +86,29 @@ pub record BegunWhole (given : List ℕ) (old new : Option (List ℕ)) : Type 0 
   pub begun : Begun given old new
   pub whole : begun.left ≡ []
 
+-- The text of a script was replayed. Where it is not to be run, as the status tells, a line is bad, and the output is as it was;
+-- where it failed otherwise the output is as it was, or the script has begun, and for want of memory as a whole; else all was
+-- answered and printed. Of the output it is known what it held and what it holds.
+pub record ReplaysText {W : Type 0} (text : List ℕ) (held holds : Option (List ℕ)) (output printed : W)
+    (r : Result (Unit {0}) Failure) : Type 0 where
+  pub untouched : IfErr r (λ failure. status_of failure ≡ 2 → printed ≡ output)
+  pub bad : IfErr r (λ failure. status_of failure ≡ 2 → HasBadLine (commands text))
+  pub begun : (printed ≡ output) ⊎ Begun text held holds
+  pub whole : r ≡ Err Memory → (printed ≡ output) ⊎ BegunWhole text held holds
+  pub replayed : OnOk r (Replayed text held holds)
+
+-- The script that an input gave was replayed. Where it is not to be run, as the status tells, it is a bad script, if it is known
+-- what the input gave, and the output is as it was; where it failed otherwise the output is as it was, or the script has begun,
+-- and for want of memory as a whole; else it is the text of a script, and all was answered and printed.
+pub record Replays {W : Type 0} (input held holds : Option (List ℕ)) (output printed : W) (r : Result (Unit {0}) Failure)
+    : Type 0 where
+  pub untouched : IfErr r (λ failure. status_of failure ≡ 2 → printed ≡ output)
+  pub ok : OnOk r (IfSome input IsScriptText)
+  pub bad : IfErr r (λ failure. status_of failure ≡ 2 → IfSome input IsBadScript)
+  pub begun : (printed ≡ output) ⊎ IfSome input (λ given. Begun given held holds)
+  pub whole : r ≡ Err Memory → (printed ≡ output) ⊎ IfSome input (λ given. BegunWhole given held holds)
+  pub replayed : OnOk r (IfSome input (λ given. Replayed given held holds))
+
 -- Of lines as they stand, those that ask for something were answered from start on, ending in end, and each answer was
 -- printed or is left to be.
 pub record Answering (ls : List (List ℕ)) (start end : SystemState) (old new : Option (List ℕ)) (left : List ℕ) : Type 0 where
@@ -128,6 +154,11 @@ pub record EndsWanting (ls : List (List ℕ)) (start end : SystemState) (old new
   pub before : SystemState
   pub answering : Answering front start before old new []
   pub lost : LosesFirst rest before end
+
+-- So far the lines of a text came, and each answer was printed; then the next found no memory, or none did before the first.
+abbrev pub EndsWantingIn : {W : Type 0} → (known : W → Option (List ℕ)) (text : List ℕ) (start end : SystemState)
+    (output printed : W) → Type 0
+EndsWantingIn known text start end output printed = EndsWanting (lines text) start end (known output) (known printed)
 
 -- a beginning of the bytes was written, and these are left
 pub record WritesTo (old new : Option (List ℕ)) (bytes left : List ℕ) : Type 0 where

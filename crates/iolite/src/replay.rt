@@ -2,10 +2,10 @@
 ghost use Rattle.std.specs.Prelude.{◌≡◌, ◌≢◌, ◌⊎◌, ◌++◌, [], All, Err, IfOk, IfErr, IfSome, OnOk, OnErr, string_bytes};
 ghost use Rattle.std.specs.Io.KnownBytes.{Appends};
 ghost use Rattle.std.specs.IoError.{error_kind};
-ghost use Rattle.iolite.specs.Answers.{Answering, AnswersLine, Begun, BegunWhole, EndsWanting, EndsWithin, IsAnswer, IsNew, LosesLine, Replayed};
-ghost use Rattle.iolite.specs.Failure.{IsOfAnswers, IsOfInput, status_of};
+ghost use Rattle.iolite.specs.Answers.{Answering, AnswersLine, EndsWantingIn, EndsWithin, IsAnswer, IsNew, LosesLine, Replays, ReplaysText};
+ghost use Rattle.iolite.specs.Failure.{IsOfAnswers, IsOfInput};
 ghost use Rattle.iolite.specs.Printed.{answer_text, newline};
-ghost use Rattle.iolite.specs.Script.{AsksSomething, HasBadLine, IsBadScript, IsScriptText, IsWholeOrTooLong, asking, commands, lines};
+ghost use Rattle.iolite.specs.Script.{AsksSomething, IsScriptText, IsWholeOrTooLong, asking, commands, lines};
 
 use crate::failure::Failure;
 use crate::lines::{Printed, PrintedReport};
@@ -43,17 +43,8 @@ pub fn replay<R: Read, W: Write>(
     input: &mut R,
     output: &mut W,
 ) -> Result<(), Failure>
-    ensures untouched { IfErr result (λ failure. status_of failure ≡ 2 → output.new ≡ output.old) }
-    ensures ok { OnOk result (IfSome (R.remaining input.old) IsScriptText) }
-    ensures bad { IfErr result (λ failure. status_of failure ≡ 2 →
-        IfSome (R.remaining input.old) IsBadScript) }
-    ensures begun { (output.new ≡ output.old) ⊎ IfSome (R.remaining input.old)
-        (λ given. Begun given (W.contents output.old) (W.contents output.new)) }
-    ensures whole { result ≡ Err Failure.Memory →
-        (output.new ≡ output.old) ⊎ IfSome (R.remaining input.old)
-        (λ given. BegunWhole given (W.contents output.old) (W.contents output.new)) }
-    ensures replayed { OnOk result (IfSome (R.remaining input.old)
-        (λ given. Replayed given (W.contents output.old) (W.contents output.new))) }
+    ensures { Replays (R.remaining input.old) (W.contents output.old) (W.contents output.new)
+        output.old output.new result }
 {
     match read_text(alloc, input) {
         Ok(text) => replay_text(alloc, text.as_str(), output),
@@ -63,15 +54,8 @@ pub fn replay<R: Read, W: Write>(
 
 /// Judges a script, and then answers its lines, one after another.
 fn replay_text<W: Write>(alloc: Global, text: &str, output: &mut W) -> Result<(), Failure>
-    ensures untouched { IfErr result (λ failure. status_of failure ≡ 2 → output.new ≡ output.old) }
-    ensures bad { IfErr result (λ failure. status_of failure ≡ 2 →
-        HasBadLine (commands text.now)) }
-    ensures begun { (output.new ≡ output.old) ⊎
-        Begun text.now (W.contents output.old) (W.contents output.new) }
-    ensures whole { result ≡ Err Failure.Memory → (output.new ≡ output.old) ⊎
-        BegunWhole text.now (W.contents output.old) (W.contents output.new) }
-    ensures replayed { OnOk result
-        (Replayed text.now (W.contents output.old) (W.contents output.new)) }
+    ensures { ReplaysText text.now (W.contents output.old) (W.contents output.new)
+        output.old output.new result }
 {
     let setup = judge(alloc, text)?;
     let mut system = system_of(alloc, setup)?;
@@ -151,8 +135,8 @@ fn answer_lines<W: Write>(
         (W.contents output.new) }
     ensures answered { OnOk result (Answering (lines text.now) system.old system.new
         (W.contents output.old) (W.contents output.new) []) }
-    ensures memory { result ≡ Err Failure.Memory → EndsWanting (lines text.now) system.old
-        system.new (W.contents output.old) (W.contents output.new) }
+    ensures memory { result ≡ Err Failure.Memory → EndsWantingIn W.contents text.now system.old
+        system.new output.old output.new }
     ensures error { IfErr result IsOfAnswers }
 {
     let mut pending = match Vec::with_capacity(alloc, BUFFER_BYTES) {
