@@ -34,3 +34,8 @@ gathered query lines = gather None (map (as_text query) lines)
 -- the lines so far and the text that is held, with one line more: whatever follows, the same comes of it
 abbrev pub AddsLine : (lines : List Line) → (held : Option (List ℕ)) → Line → (new : List Line) → (now : Option (List ℕ)) → Type 0
 AddsLine lines held line new now = (rest : List Line) → new ++ gather now rest ≡ lines ++ gather held (line ∷ rest)
+
+-- the lines so far and the text that is held, with one text more, and some text is held then
+abbrev pub AddsText : (lines : List Line) → (held : Option (List ℕ)) → (text : List ℕ) → (new : List Line) → (now : List ℕ)
+    → Type 0
+AddsText lines held text new now = AddsLine lines held (Emit text) new (Some now)

@@ -14,6 +14,7 @@ pub mod Output
 pub mod Script
 pub mod Shown
 pub mod Taking
+pub mod TakingTurns
 pub mod Turns
 pub mod Waiting
 pub mod Wants

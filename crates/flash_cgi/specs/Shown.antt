@@ -3,9 +3,9 @@
 -- Whoever may read these is never denied its output.
 use Rattle.std.specs.Prelude.{◌≡◌, ℕ, Bool, true, false, List, Some}
 use Rattle.iol_core.specs.State.{State, descriptor, file, may_read, pipe_at, text}
-use Rattle.iol_core.specs.Calls.Aggregates.{default_pool}
 use Rattle.iol_core.specs.Calls.Files.{file_called}
 use Rattle.iol_core.specs.Positions.{ArePlaced}
+use Rattle.iol_core.specs.Prelude.{default_pool}
 use Rattle.iol_core.specs.Run.{StepsTo}
 use Rattle.iol_core.specs.declared.descriptors.Descriptor.TheVariants as on
 use Rattle.iol_core.specs.declared.descriptors.Mode.{Mode}

@@ -1,7 +1,6 @@
 //! Consecutive texts of a script, a short query among them, as one text.
-ghost use Rattle.std.specs.Prelude.{◌≡◌, ◌++◌, [], IfOk, Some};
+ghost use Rattle.std.specs.Prelude.{◌≡◌, ◌++◌, [], IfOk};
 ghost use Rattle.flash_cgi.specs.Gathered as spec;
-ghost use Rattle.flash_cgi.specs.declared.line.Line.TheVariants as of;
 
 use crate::line::Line;
 use crate::script::Script;
@@ -44,8 +43,7 @@ fn add_held(lines: &mut Vec<Line>, held: Option<Bytes>) -> Result<(), AllocError
 
 // Joins a text to the one that is held, or holds it in its place.
 fn add_text(lines: &mut Vec<Line>, held: Option<Bytes>, text: Bytes) -> Result<Bytes, AllocError>
-    ensures { IfOk result
-        (λ now. spec.AddsLine lines.old.items held (of.Emit text) lines.new.items (Some now)) }
+    ensures { IfOk result (λ now. spec.AddsText lines.old.items held text lines.new.items now) }
 {
     let Some(held) = held else {
         return Ok(text);

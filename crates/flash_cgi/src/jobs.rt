@@ -1,5 +1,5 @@
 //! What a worker is given to do.
-ghost use Rattle.std.specs.Prelude.{◌≡◌, ◌==◌, ◌≤◌, IfOk, MatchOption, Some, None, length, true};
+ghost use Rattle.std.specs.Prelude.{◌≡◌, ◌==◌, ◌≤◌, IfNone, IfOk, IfSome, Some, None, length, true};
 ghost use Rattle.std.specs.List.{list_all, position};
 ghost use Rattle.std.specs.Char.{is_ascii_digit};
 ghost use Rattle.flash_cgi.specs.Job as spec;
@@ -66,8 +66,8 @@ fn place_of(text: &[u8], byte: u8) -> Option<usize>
 
 // The number before the first byte of this kind, and what stands after that.
 fn number_before(text: &[u8], byte: u8) -> Option<(u32, &[u8])>
-    ensures { MatchOption result (spec.number_before byte text.now ≡ None)
-        (λ r. spec.number_before byte text.now ≡ Some (r.0, r.1.now)) }
+    ensures none { IfNone result (spec.number_before byte text.now ≡ None) }
+    ensures some { IfSome result (λ r. spec.number_before byte text.now ≡ Some (r.0, r.1.now)) }
 {
     let end = place_of(text, byte)?;
     let number = number_of(&text[..end])?;

@@ -1,8 +1,9 @@
 //! A process that runs scripts.
-ghost use Rattle.std.specs.Prelude.{◌≡◌, ◌<◌, true, Some, IfOk, OnErr, length};
+ghost use Rattle.std.specs.Prelude.{◌≡◌, ◌<◌, Some, IfOk, OnErr, length};
 ghost use Rattle.iol_proc.specs.Prelude.{lent, IsQuiet};
+ghost use Rattle.flash_cgi.specs.TakingTurns.{FilesReply, MakesItsCall, StepsOn, TakesText, next_step};
 ghost use Rattle.flash_cgi.specs.Wants as memory;
-ghost use Rattle.flash_cgi.specs.Working as spec;
+ghost use Rattle.flash_cgi.specs.Working.{bytes_at};
 ghost use Rattle.flash_cgi.specs.Works as account;
 
 use crate::calls::call_at;
@@ -45,10 +46,7 @@ impl Worker {
 
     // Makes the call that it is at.
     fn ask(&mut self) -> Result<Turn, AllocError>
-        ensures turn { IfOk result (λ turn. account.asks self.old turn self.new) }
-        ensures quiet { IfOk result IsQuiet }
-        ensures err { OnErr result (self.new ≡ self.old) }
-        ensures wants { OnErr result (memory.has_bytes self.old.job self.old.step ≡ true) }
+        ensures { MakesItsCall self.old result self.new }
     {
         let call = call_at(self.alloc, &self.job, &self.step)?;
         self.standing = Standing::Asked;
@@ -57,11 +55,7 @@ impl Worker {
 
     // Makes the call of a step, which it is at then.
     fn make(&mut self, step: Step) -> Result<Turn, AllocError>
-        ensures turn { IfOk result
-            (λ turn. account.goes_on self.old (Some step) turn self.new) }
-        ensures quiet { IfOk result IsQuiet }
-        ensures err { OnErr result (self.new ≡ self.old) }
-        ensures wants { OnErr result (memory.has_bytes self.old.job step ≡ true) }
+        ensures { StepsOn self.old (Some step) result self.new }
     {
         let call = call_at(self.alloc, &self.job, &step)?;
         self.step = step;
@@ -70,13 +64,7 @@ impl Worker {
 
     // Goes on by the reply, or yields, to make the same call again.
     fn go_on(&mut self, last: &Reply, look: &Look<'_>) -> Result<Turn, AllocError>
-        ensures turn { IfOk result
-            (λ turn. account.goes_on self.old
-            (spec.told self.old.job self.old.step (lent look.now) last.now) turn self.new) }
-        ensures quiet { IfOk result IsQuiet }
-        ensures err { OnErr result (self.new ≡ self.old) }
-        ensures wants { OnErr result (memory.WantsOn self.old.job
-            (spec.told self.old.job self.old.step (lent look.now) last.now)) }
+        ensures { StepsOn self.old (next_step self.old last.now (lent look.now)) result self.new }
     {
         match told(&self.job, self.step, last, look) {
             Some(step) => self.make(step),
@@ -113,11 +101,7 @@ impl Worker {
 
     // Takes what came on its job pipe, and gives up the aggregate.
     fn take(&mut self, agg: AggId, look: &Look<'_>) -> Result<Turn, AllocError>
-        ensures turn { IfOk result
-            (λ turn. account.takes self.old (spec.bytes_at (lent look.now) agg) agg turn self.new) }
-        ensures quiet { IfOk result IsQuiet }
-        ensures err { OnErr result (self.new ≡ self.old) }
-        ensures wants { OnErr result (0 < length (spec.bytes_at (lent look.now) agg)) }
+        ensures { TakesText self.old (bytes_at (lent look.now) agg) agg result self.new }
     {
         let text = text_of(self.alloc, look, agg)?;
         self.take_text(text.as_slice(), agg)?;
@@ -126,12 +110,7 @@ impl Worker {
 
     // Files the reply to its call.
     fn file(&mut self, last: &Reply, look: &Look<'_>) -> Result<Turn, AllocError>
-        ensures turn { IfOk result
-            (λ turn. account.files self.old self.old.step.doing last.now (lent look.now) turn self.new) }
-        ensures quiet { IfOk result IsQuiet }
-        ensures err { OnErr result (self.new ≡ self.old) }
-        ensures wants { OnErr result
-            (memory.WantsToFile self.old self.old.step.doing last.now (lent look.now)) }
+        ensures { FilesReply self.old last.now (lent look.now) result self.new }
     {
         let doing = self.step.doing;
         match (doing, last) {

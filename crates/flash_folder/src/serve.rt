@@ -1,8 +1,7 @@
 //! The server of a folder.
 ghost use Rattle.std.specs.Prelude.{◌≡◌, ◌⊎◌, IfErr, OnOk};
-ghost use Rattle.std.specs.Io.KnownBytes.{Appends};
 ghost use Rattle.flash_folder.specs.Fault.{StopsServing, StopsStart};
-ghost use Rattle.flash_folder.specs.Serving.{Announces, announcement};
+ghost use Rattle.flash_folder.specs.Serving.{Announces, AnnouncesPort};
 
 use crate::fault::{Fault, ended};
 use crate::folder::Host;
@@ -101,8 +100,7 @@ fn announce<W: Write>(listener: &TcpListener, output: &mut W) -> Result<(), Faul
 }
 
 fn print_port<W: Write>(port: u16, output: &mut W) -> io::Result<()>
-    ensures { OnOk result (Appends (W.contents output.old) (W.contents output.new)
-        (announcement port)) }
+    ensures { OnOk result (AnnouncesPort port (W.contents output.old) (W.contents output.new)) }
 {
     writeln!(output, "listening {port}")?;
     output.flush()

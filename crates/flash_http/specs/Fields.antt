@@ -1,5 +1,5 @@
 -- The fields and the method of a head, and what they say.
-use Rattle.std.specs.Prelude.{ℕ, ◌&&◌, ◌||◌, ◌==◌, not, Bool, false, List, [], ◌∷◌, length, map, filter, codes, bytes_eq, Option, Some, None, if◌then◌else◌}
+use Rattle.std.specs.Prelude.{◌≡◌, ℕ, ◌&&◌, ◌||◌, ◌==◌, not, Bool, false, List, [], ◌∷◌, length, map, filter, codes, bytes_eq, Option, Some, None, if◌then◌else◌}
 use Rattle.std.specs.List.{list_all, list_any, slice_split}
 use Rattle.std.specs.Int.{is_in_range}
 use Rattle.std.specs.Str.{str_eq_ignore_ascii_case}
@@ -22,6 +22,10 @@ values_of name fields = map (λ field. field.1) (filter (is_named name) fields)
 -- the same, where the fields lie in a head at these places
 abbrev pub values_at : (name head : List ℕ) → List HeaderSpan → List (List ℕ)
 values_at name head spans = values_of name (map (header_bytes head) spans)
+
+-- of the values of a name in the fields at these places this is the first, and those in the fields at the other places come after
+abbrev pub ComesFirst : (name head : List ℕ) → List HeaderSpan → (value : List ℕ) → (rest : List HeaderSpan) → Type 0
+ComesFirst name head spans value rest = values_at name head spans ≡ value ∷ values_at name head rest
 
 abbrev pub lacks : List ℕ → List Field → Bool
 lacks name fields = length (values_of name fields) == 0

@@ -1,5 +1,5 @@
 -- The words that contracts of other crates cite, passed on from one place. Declares nothing.
 pub use Rattle.flash_http.specs.Range.{selected}
 pub use Rattle.flash_http.specs.Request.{Answer, answer, refuse, serve, wanted}
-pub use Rattle.flash_http.specs.Response.{error_body, head_text}
+pub use Rattle.flash_http.specs.Response.{head_text}
 pub use Rattle.flash_http.specs.Window.{window_in}

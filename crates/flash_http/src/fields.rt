@@ -1,5 +1,5 @@
 //! The fields of a head, and what they say.
-ghost use Rattle.std.specs.Prelude.{◌≡◌, ◌∷◌, [], List, ℕ, All, MatchOption, IfSome, codes, length, map, not, option_map, reverse};
+ghost use Rattle.std.specs.Prelude.{◌≡◌, [], List, ℕ, All, IfNone, IfSome, codes, length, map, not, option_map, reverse};
 ghost use Rattle.std.specs.Iterator.{YieldsFirstRef, item_count};
 ghost use Rattle.std.specs.List.{list_all, list_any};
 ghost use Rattle.std.specs.Str.{str_eq_ignore_ascii_case};
@@ -66,9 +66,9 @@ fn next_value<'a>(
     name: &HeaderName,
 ) -> Option<(&'a [u8], &'a [HeaderSpan])>
     requires { All (IsHeaderWithin (length head.now)) spans.now }
-    ensures value { MatchOption result (spec.values_at name.now head.now spans.now ≡ [])
-        (λ r. spec.values_at name.now head.now spans.now
-        ≡ r.0.now ∷ spec.values_at name.now head.now r.1.now) }
+    ensures none { IfNone result (spec.values_at name.now head.now spans.now ≡ []) }
+    ensures first { IfSome result
+        (λ r. spec.ComesFirst name.now head.now spans.now r.0.now r.1.now) }
     ensures within { IfSome result (λ r. All (IsHeaderWithin (length head.now)) r.1.now) }
 {
     while let [span, rest @ ..] = spans {

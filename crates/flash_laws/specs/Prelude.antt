@@ -2,15 +2,15 @@
 pub use Rattle.flash_laws.specs.Answers.{keeps}
 pub use Rattle.flash_laws.specs.Answers.Scripts.{end_around, frame_of, place_in_frame, script_text}
 pub use Rattle.flash_laws.specs.Client.{Client, new_client}
-pub use Rattle.flash_laws.specs.Client.Wanting.{WantsOn, makes_bytes, needs_memory}
+pub use Rattle.flash_laws.specs.Client.Wanting.{makes_bytes}
 pub use Rattle.flash_laws.specs.Conn.{Conn, IsAwaiting, count_of}
-pub use Rattle.flash_laws.specs.Conn.Policy.{is_bare, is_later}
+pub use Rattle.flash_laws.specs.Conn.Policy.{is_later}
 pub use Rattle.flash_laws.specs.Conn.Wanting.{can_begin, has_bytes}
 pub use Rattle.flash_laws.specs.Run.{is_over, told_part}
 pub use Rattle.flash_laws.specs.Run.Wanting.{makes_any}
-pub use Rattle.flash_laws.specs.Serves.{Server, heard_of, new_server, server_turns}
-pub use Rattle.flash_laws.specs.Serves.Rounds.{goes_in, in_rounds, leaves_off, next_in}
-pub use Rattle.flash_laws.specs.Serves.Wanting.{MayWant, WantsFrom, WantsHere, WantsPlace, server_wants, wants_there}
+pub use Rattle.flash_laws.specs.Serves.{Server, heard_of, new_server}
+pub use Rattle.flash_laws.specs.Serves.Rounds.{goes_in, in_rounds, next_in}
+pub use Rattle.flash_laws.specs.Serves.Wanting.{WantsFrom, WantsPlace, server_wants}
 pub use Rattle.flash_laws.specs.Site.Places.{NoneRuns, runs_scripts}
 pub use Rattle.flash_laws.specs.Site.Tied.{grown, with_at}
 pub use Rattle.flash_laws.specs.Workers.{IsDueOf, IsFreeFor}
@@ -20,4 +20,4 @@ pub use Rattle.flash_laws.specs.World.Done.{IdleIsDone}
 pub use Rattle.flash_laws.specs.World.Host.{HostIsRight}
 pub use Rattle.flash_laws.specs.World.Idle.{actor_settled}
 pub use Rattle.flash_laws.specs.World.Settles.{ActorsSettle}
-pub use Rattle.flash_laws.specs.World.Tie.{Actor, Serving, actor_goes, actor_turns, actor_wants, server_account}
+pub use Rattle.flash_laws.specs.World.Tie.{Actor, Serving, actor_turns, actor_wants, server_account}

@@ -1,13 +1,15 @@
 -- What a client does after a reply to its call, where `t` is what it is by the words, once the reply is filed.
-use Rattle.std.specs.Prelude.{◌≡◌, ℕ, Bool, true, false, not, if◌then◌else◌, List, [], Option, Some, None}
+use Rattle.std.specs.Prelude.{◌≡◌, ◌<◌, ℕ, Bool, true, false, not, if◌then◌else◌, List, [], length, Option, Some, None, Result, IfOk, OnErr}
 use Rattle.iol_core.specs.declared.events.Call.{Call}
 use Rattle.iol_core.specs.declared.events.Call.TheVariants as call
 use Rattle.iol_core.specs.declared.events.Reply.{Reply}
 use Rattle.iol_core.specs.declared.events.Reply.TheVariants as reply
 use Rattle.flash_http.specs.Request.{Answer, serve, refuse}
-use Rattle.flash_laws.specs.Client.{Client, Readies, can_run, kept_if, wants, left_over}
+use Rattle.flash_laws.specs.Client.{Client, Readies, can_run, conn_told, file_told, is_for_script, kept_if, left_over, run_told, run_wants, told, wants}
+use Rattle.flash_laws.specs.Client.Wanting.{WantsOn, needs_memory}
 use Rattle.flash_laws.specs.Site.Tied.{left_by}
 use Rattle.flash_laws.specs.Conn.{most_read, is_head_only}
+use Rattle.flash_laws.specs.Conn.Wanting as wanting
 use Rattle.flash_laws.specs.Serves.Rounds.{leaves_off}
 use Rattle.flash_laws.specs.Run as running
 use Rattle.flash_laws.specs.Run.{is_over}
@@ -60,12 +62,16 @@ abbrev pub whole : (script : Bool) → Doing → Call → Call
 whole true (Reads f) k = call.IolRead f most_read
 whole script d k = k
 
+-- what is kept of a text: all of it, if it is a script that is to run
+abbrev pub kept_script : (head_only : Bool) → List ℕ → List ℕ
+kept_script head_only text = kept_if head_only (can_run text) text
+
 -- the text of a script was read
 abbrev pub text_heard : Client → (file agg : ℕ) → (heard : List ℕ) → Client
 text_heard x f n heard = record {
   conn = record x.conn { doing = Shuts f (Text n (can_run heard)) };
   run = None;
-  script = kept_if (is_head_only x.conn.q) (can_run heard) heard;
+  script = kept_script (is_head_only x.conn.q) heard;
 }
 
 -- ---- its run
@@ -74,6 +80,14 @@ text_heard x f n heard = record {
 abbrev pub run_after : (worker : ℕ) → Answer → Running → Reply → (heard : List ℕ) → Running
 run_after worker (serve w) y r heard = running.told worker w y r heard
 run_after worker (refuse status head_only close) y r heard = y
+
+-- the call of its run, with this text of its script
+abbrev pub call_of_run : (fd : ℕ) → Client → (script : List ℕ) → Running → Call
+call_of_run fd x script y = run_wants fd x.conn.q script y
+
+-- with this run, and this text of its script
+abbrev pub with_run : Client → Running → (script : List ℕ) → Client
+with_run x y script = record { conn = x.conn; run = Some y; script = script }
 
 -- its run is over, and its connection in this phase
 abbrev pub ended : Client → Doing → Client
@@ -127,3 +141,56 @@ worker_of x = by x.run
     by : Option Running → Option ℕ
     by None = None
     by (Some y) = run_worker y
+
+-- ---- it takes a course, or finds no memory
+
+-- A client that is told to be `t` takes a course. Or it finds no memory, where it may want some (`may_want`), and stays as it
+-- was.
+pub record TakesCourse {E : Type 0} (scripts : Bool) (fd : ℕ) (t x : Client) (r : Reply) (may_want : Type 0)
+    (result : Result Course E) (y : Client) : Type 0 where
+  pub course : IfOk result (λ o. IsCourse scripts fd t x r o y)
+  pub err : OnErr result (y ≡ x)
+  pub wants : OnErr result may_want
+
+-- A client takes a course, and may want memory to keep the bytes that it heard, or to go on at once.
+abbrev pub TakesAsTold : {E : Type 0} → (scripts : Bool) → (fd : ℕ) → (t x : Client) → Reply → (heard : List ℕ) → Result Course E
+    → (y : Client) → Type 0
+TakesAsTold scripts fd t x r heard result y = TakesCourse scripts fd t x r (WantsOn scripts t x r heard) result y
+
+-- What a client does after a reply to its call, where `worker` is free.
+abbrev pub GoesOnTold : {E : Type 0} → (scripts : Bool) → (fd worker : ℕ) → (x : Client) → Reply → (heard : List ℕ)
+    → Result Course E → (y : Client) → Type 0
+GoesOnTold scripts fd worker x r heard result y = TakesAsTold scripts fd (told scripts worker x r heard) x r heard result y
+
+-- What a client does after a reply to the call of its run, which is this.
+abbrev pub RunsOn : {E : Type 0} → (scripts : Bool) → (fd worker : ℕ) → Running → (x : Client) → Reply → (heard : List ℕ)
+    → Result Course E → (y : Client) → Type 0
+RunsOn scripts fd worker run x r heard result y =
+    TakesAsTold scripts fd (run_told worker x.conn.q x run r heard) x r heard result y
+
+-- What a client does after a reply to a call for a file, or for a script that does not run yet.
+abbrev pub GoesOnFile : {E : Type 0} → (scripts : Bool) → (fd : ℕ) → (x : Client) → Reply → (heard : List ℕ) → Result Course E
+    → (y : Client) → Type 0
+GoesOnFile scripts fd x r heard result y =
+    TakesAsTold scripts fd (file_told (is_for_script scripts x.conn.q) x r heard) x r heard result y
+
+-- What a client does after a reply that its connection alone is told.
+abbrev pub GoesOnAlone : {E : Type 0} → (scripts : Bool) → (fd : ℕ) → (x : Client) → Reply → (heard : List ℕ) → Result Course E
+    → (y : Client) → Type 0
+GoesOnAlone scripts fd x r heard result y =
+    TakesCourse scripts fd (conn_told x r heard) x r (wanting.WantsOn x.conn r heard) result y
+
+-- What a client does once the text of a script was read: it may want memory where a byte of it came.
+abbrev pub HearsText : {E : Type 0} → (scripts : Bool) → (fd file agg : ℕ) → (x : Client) → (heard : List ℕ) → Result Course E
+    → (y : Client) → Type 0
+HearsText scripts fd file agg x heard result y =
+    TakesCourse scripts fd (text_heard x file agg heard) x reply.Done (0 < length heard) result y
+
+-- What a client does once its run is over, and its connection is in this phase.
+abbrev pub EndsRun : {E : Type 0} → (scripts : Bool) → (fd : ℕ) → Doing → (x : Client) → (may_want : Type 0) → Result Course E
+    → (y : Client) → Type 0
+EndsRun scripts fd d x may_want result y = TakesCourse scripts fd (ended x d) x reply.Done may_want result y
+
+-- once its run is over a client goes on at once, and begins a request or makes a call that has bytes of its own
+abbrev pub WantsToEnd : Client → Doing → Type 0
+WantsToEnd x d = (leaves_off (left_over (ended x d)) reply.Done ≡ false) × (needs_memory (ended x d) ≡ true)

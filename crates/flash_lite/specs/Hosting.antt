@@ -1,12 +1,13 @@
 -- A site that is hosted: set up in a new system, run over choices, and then over turns in rounds.
 use Rattle.std.specs.Prelude.{◌≡◌, ℕ, List, ◌++◌, length, map, false, Bool}
-use Rattle.iol_back.specs.Disk.{Disk}
+use Rattle.iol_back.specs.Disk.{Disk, IfHonest}
 use Rattle.iol_core.specs.State.{State}
 use Rattle.iol_core.specs.declared.configuration.Config.{Config}
 use Rattle.iol_core.specs.declared.events.Reply.{Reply}
 use Rattle.iol_proc.specs.Idle.{Idles, rounds}
 use Rattle.iol_proc.specs.Laws.{HasEvents}
-use Rattle.iol_proc.specs.World.{Stage, copying, sharing, WorldRun, domains_of}
+use Rattle.iol_kernel.specs.Readings.{slots_of}
+use Rattle.iol_proc.specs.World.{Stage, copied, copying, sharing, WorldRun, domains_of}
 use Rattle.iol_proc.specs.declared.choice.Choice.{Choice}
 use Rattle.iol_system.specs.Machine.{SystemState}
 use Rattle.flash_cgi.specs.declared.worker.Worker.{Worker}
@@ -50,6 +51,15 @@ pub record HostsOver (config : Config) (store : Disk) (s : Site) (xs : List Choi
   pub ends : Idles sharing (actor_turns in_rounds worker_turns) mid turns idle after
   pub events : HasEvents starts.begun after.machine
   pub honest : after.machine.disk.honest ≡ store.honest
+
+-- Over an honest store the world of a system, as the copying machine has it, is new over the store's slots before its first turn.
+abbrev pub IsNewIfHonest : (store : Disk) → Site → Stage SystemState (Actor Worker) → Type 0
+IsNewIfHonest store s w = IfHonest store (IsNewWorld s (slots_of store.slots) (copied w))
+
+-- Over an honest store the site is hosted over the store's slots, and this is the system's world after it.
+abbrev pub HostsIfHonest : (store : Disk) → Site → List Choice → List Reply → (turns : ℕ) → (idle : Bool)
+    → (after : Stage SystemState (Actor Worker)) → Type 0
+HostsIfHonest store s xs rs turns idle after = IfHonest store (Hosts s (slots_of store.slots) xs rs turns idle (copied after))
 
 -- What was hosted is right, where calls from outside were mild and no turn was rough.
 abbrev pub HostedIsRight : Type 0

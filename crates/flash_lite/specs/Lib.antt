@@ -8,6 +8,7 @@ pub mod Order
 pub mod Turning
 pub mod Workers
 pub mod Actors
+pub mod Accounts
 pub mod Setup
 pub mod SiteState
 pub mod Shelf

@@ -1,8 +1,12 @@
 -- What a connection does after a reply to its call.
-use Rattle.std.specs.Prelude.{◌≡◌, ℕ, Bool, true, false, List, [], Some}
+use Rattle.std.specs.Prelude.{◌≡◌, ℕ, Bool, true, false, List, [], Some, drop}
 use Rattle.iol_core.specs.declared.events.Reply.{Reply}
-use Rattle.flash_laws.specs.Conn.{Conn, told, wants, Starts, Readies, IsAwaiting}
+use Rattle.iol_core.specs.declared.events.Reply.TheVariants.{Agg}
+use Rattle.flash_http.specs.Request.{Answer}
+use Rattle.flash_http.specs.Window.{window_in}
+use Rattle.flash_laws.specs.Conn.{Conn, begins, told, told_rests, wants, Starts, Readies, IsAwaiting}
 use Rattle.flash_laws.specs.Conn.Policy.{is_later, is_bare, leaves_off}
+use Rattle.flash_laws.specs.Conn.Wanting.{can_begin}
 use Rattle.flash_laws.specs.Site.Tied.{left_over}
 use Rattle.flash_laws.specs.declared.phase.Doing.{Doing}
 use Rattle.flash_laws.specs.declared.phase.Doing.TheVariants.{Rests, Over}
@@ -13,6 +17,18 @@ use Rattle.flash_lite.specs.declared.conn.Onward.TheVariants.{Asks, Leaves}
 abbrev pub is_over : Doing → Bool
 is_over Over = true
 is_over d = false
+
+-- a connection in this phase
+abbrev pub in_doing : Conn → Doing → Conn
+in_doing x d = record x { doing = d }
+
+-- more of its stream was read
+abbrev pub with_heard : Conn → (agg : ℕ) → (heard : List ℕ) → Conn
+with_heard x agg heard = told_rests x.kept x.q (Agg agg) heard
+
+-- a request was begun, whose head ends after so many of the bytes that were kept
+abbrev pub begun_with : (len : ℕ) → Answer → Conn → Conn
+begun_with len q x = record { kept = drop len x.kept; q = q; doing = begins q }
 
 -- a phase in which a connection may be left to others
 pub record CanRest (x : Conn) (d : Doing) : Type 0 where
@@ -43,6 +59,10 @@ Frees fd x (Asks call) y =
     × Starts (record x { doing = Rests }) y
     × (call ≡ wants fd y)
 Frees fd x (Leaves d) y = (d ≡ Rests) × (x.kept ≡ []) × (y ≡ x)
+
+-- a connection that rests has kept something, and a request can begin
+abbrev pub WantsToStart : Conn → Type 0
+WantsToStart x = (is_bare (record x { doing = Rests }) ≡ false) × (can_begin (window_in x.kept) ≡ true)
 
 -- Where something is: it goes on with it, or will.
 abbrev pub GoesWith : (fd : ℕ) → Conn → Reply → Doing → Onward → Conn → Type 0

@@ -1,9 +1,12 @@
--- The numbers of a script's run are small.
+-- The calls of a script's run, and that its numbers are small.
 use Rattle.std.specs.Prelude.{◌≡◌, ◌<◌, ◌==◌, ℕ, Bool, true, false, List, Option, Some, None, if◌then◌else◌}
+use Rattle.iol_core.specs.declared.events.Call.{Call}
+use Rattle.iol_core.specs.declared.events.Reply.{Reply}
 use Rattle.flash_cgi.specs.Job.{job_text}
 use Rattle.flash_http.specs.Request.{Wanted}
 use Rattle.flash_laws.specs.Conn.{Following}
-use Rattle.flash_laws.specs.Run.{is_left, hearing}
+use Rattle.flash_laws.specs.Conn as conn
+use Rattle.flash_laws.specs.Run.{is_left, hearing, in_phase, step_wants, wants}
 use Rattle.flash_laws.specs.declared.phase.Doing.{Doing}
 use Rattle.flash_laws.specs.declared.script_run.TheConstants.{CHUNK_BYTES}
 use Rattle.flash_laws.specs.declared.script_run.Run.{Run}
@@ -56,6 +59,22 @@ run_worker y = None
 -- the text of the job for a request
 abbrev pub job_for : Wanted → (script : List ℕ) → (fd : ℕ) → List ℕ
 job_for w script fd = job_text fd w.query script
+
+-- the call of a run for a request whose script has this text
+abbrev pub call_for : Wanted → (script : List ℕ) → (fd : ℕ) → Running → Call
+call_for w script fd y = wants (job_for w script) fd w y
+
+-- the call of a step of such a run
+abbrev pub step_call : Wanted → (script : List ℕ) → (fd : ℕ) → Run → Step → Call
+step_call w script fd run step = step_wants (job_for w script) fd w run step
+
+-- the call of a part of the response, as a connection in this phase makes it
+abbrev pub part_call_for : (fd : ℕ) → Wanted → Doing → Call
+part_call_for fd w d = conn.wants fd (in_phase w d)
+
+-- the phase after the reply to a part of the response
+abbrev pub told_left : Wanted → Doing → Reply → (heard : List ℕ) → Doing
+told_left w d r heard = (conn.told (in_phase w d) r heard).doing
 
 -- output was read, so many bytes, or its end was seen
 abbrev pub reading : (broken chunked : Bool) → (held : Following) → (frame : Option ℕ) → (agg len : ℕ) → Step

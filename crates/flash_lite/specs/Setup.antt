@@ -1,5 +1,5 @@
 -- What a site is set up by.
-use Rattle.std.specs.Prelude.{◌≡◌, ◌⊎◌, ℕ, ◌+◌, ◌&&◌, ◌||◌, not, nat_le, nat_lt, Bool, List, [], ◌∷◌, ◌++◌, length, map, Option, Some, None, if◌then◌else◌}
+use Rattle.std.specs.Prelude.{◌≡◌, ◌⊎◌, ℕ, ◌+◌, ◌&&◌, ◌||◌, not, nat_le, nat_lt, Bool, true, List, [], ◌∷◌, ◌++◌, length, map, Option, Some, None, if◌then◌else◌}
 use Rattle.std.specs.List.{range_with_len, list_any, flat_map, slice_get}
 use Rattle.iol_core.specs.State.{State}
 use Rattle.iol_core.specs.Run.{Run}
@@ -62,6 +62,10 @@ file_named guest f =
     if f.private then call_by guest (call.FileNew f.name.items 4)
     else call_by 1 (call.FileNew f.name.items 1)
 
+-- the calls that name the files, in their order
+abbrev pub files_named : (guest : ℕ) → List SiteFile → List Event
+files_named guest files = map (λ f. file_named guest f) files
+
 -- each worker gets the read end of a pipe, as its descriptor 0
 abbrev pub pipe_given : (k : ℕ) → List Event
 pipe_given k = call_by 1 call.Pipe ∷ call_by 1 (call.GiveFd 0 (2 + k)) ∷ []
@@ -74,7 +78,7 @@ calls s =
     ((((domains_made (s.workers + s.guests))
     ++ pools_made s)
     ++ defaults_set (1 + (s.workers + s.guests)))
-    ++ map (λ f. file_named (2 + s.workers) f) s.files.items)
+    ++ files_named (2 + s.workers) s.files.items)
     ++ pipes_made s.workers
 
 -- ---- what comes of them
@@ -106,6 +110,10 @@ pub record IsRefused (s : Site) (x : Refusal) (old new : SystemState) : Type 0 w
 -- so it is, or memory was wanting before the first call
 abbrev pub WhyRefused : Site → Refusal → (old new : SystemState) → Type 0
 WhyRefused s x old new = ((x ≡ Memory) × (new ≡ old)) ⊎ IsRefused s x old new
+
+-- why setting up a site within its limits was refused
+abbrev pub WhyRefusedWithin : Site → Refusal → (old new : SystemState) → Type 0
+WhyRefusedWithin s x old new = is_in_range s ≡ true → WhyRefused s x old new
 
 -- ---- its processes
 

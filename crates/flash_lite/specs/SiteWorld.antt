@@ -1,8 +1,10 @@
 -- The world of a site that was set up in a new machine, with scripts or without, before its first turn.
 use Rattle.std.specs.Prelude.{◌≡◌, ◌≤◌, ℕ, true, List, length}
+use Rattle.iol_back.specs.Disk.{IfHonest}
 use Rattle.iol_core.specs.State.{State, new_state}
 use Rattle.iol_core.specs.declared.limits.TheConstants.{MAX_FILES}
 use Rattle.iol_proc.specs.World.{Stage}
+use Rattle.iol_system.specs.Machine.{SystemState, machine_of}
 use Rattle.flash_cgi.specs.declared.worker.Worker.{Worker}
 use Rattle.flash_laws.specs.World.Tie.{Actor}
 use Rattle.flash_laws.specs.World.{IsNew}
@@ -17,11 +19,23 @@ abbrev pub IsNewFor : Site → (old : State) → Stage State (Actor Worker) → 
 IsNewFor s old w = (slots : List (List ℕ)) → old ≡ new_state slots → MAX_FILES ≤ length slots
     → IsNew (library_of s slots) (crew_of s) w
 
--- so is each world of the site's processes on this machine
+-- each world of the site's processes on this machine is new, with what the slots had, if the machine was new and had slots enough
 abbrev pub IsNewAt : Site → (old new : State) → Type 0
 IsNewAt s old new = (w : Stage State (Actor Worker)) → w.machine ≡ new → AreSeated s w.seats → IsNewFor s old w
 
--- So it is for a site within its limits whose calls were made, and none refused, once its processes are seated.
+-- A system is set up for a site: its machine makes the site's calls, the slots stay as they are, and each world of the site's
+-- processes on it is new, if the machine was new and had slots enough.
+pub record SetsUpWorld (s : Site) (before after : SystemState) : Type 0 where
+  pub set_up : SetsUp s (machine_of before) (machine_of after)
+  pub slots : (machine_of after).slots ≡ (machine_of before).slots
+  pub new : IsNewAt s (machine_of before) (machine_of after)
+
+-- a system over an honest store is set up for a site
+abbrev pub SetsUpIfHonest : Site → (old new : SystemState) → Type 0
+SetsUpIfHonest s old new = IfHonest old.disk (SetsUpWorld s old new)
+
+-- The world of a site within its limits is new, if the machine was new and had slots enough, once the site's calls were made, and
+-- none refused, and its processes are seated.
 abbrev pub SetUpIsANewWorld : Type 0
 SetUpIsANewWorld = (s : Site) (old : State) (w : Stage State (Actor Worker)) → is_in_range s ≡ true → SetsUp s old w.machine
     → AreSeated s w.seats → IsNewFor s old w

@@ -1,11 +1,11 @@
--- The numbers of a phase are small.
-use Rattle.std.specs.Prelude.{ℕ, ◌+◌, ◌-◌, ◌≤◌, ◌^◌, Some, None}
+-- The calls of a phase, and that its numbers are small.
+use Rattle.std.specs.Prelude.{ℕ, ◌+◌, ◌-◌, ◌≤◌, ◌^◌, Some, None, if◌then◌else◌}
 use Rattle.iol_core.specs.declared.descriptors.Mode.TheVariants as modes
 use Rattle.iol_core.specs.declared.events.Call.{Call}
 use Rattle.iol_core.specs.declared.events.Call.TheVariants as call
 use Rattle.iol_core.specs.declared.limits.TheConstants.{MAX_AGGREGATE_BYTES}
 use Rattle.flash_http.specs.Request.{Answer, serve, refuse}
-use Rattle.flash_laws.specs.Conn.{Following, text_of}
+use Rattle.flash_laws.specs.Conn.{Following, is_head_only, most_read, text_of}
 use Rattle.flash_laws.specs.declared.phase.Content.TheVariants.{Error}
 use Rattle.flash_laws.specs.declared.phase.Doing.{Doing}
 use Rattle.flash_laws.specs.declared.phase.Doing.TheVariants.{Joins, Sends, Cuts, Offers, Swaps, Sent}
@@ -31,3 +31,7 @@ IsSmall d = reach d ≤ 2 ^ 40
 abbrev pub first_call : Answer → Call
 first_call (serve w) = call.OpenFile w.name modes.Read
 first_call (refuse status head_only close) = call.AggMake (text_of (refuse status head_only close) (Error status))
+
+-- a file is read, or its length asked for where only the head is wanted
+abbrev pub read_call : Answer → (file : ℕ) → Call
+read_call q file = if is_head_only q then call.Length file else call.IolRead file most_read

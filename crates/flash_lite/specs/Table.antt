@@ -1,10 +1,11 @@
 -- What the server keeps: its clients, which call is out, and which of its workers are free.
-use Rattle.std.specs.Prelude.{◌≡◌, ◌<◌, ◌≤◌, ℕ, Bool, false, List, length, get_or, Option}
+use Rattle.std.specs.Prelude.{◌≡◌, ◌<◌, ◌≤◌, ℕ, Bool, true, false, List, [], length, get_or, replicate, Option}
 use Rattle.flash_laws.specs.Client.{Client}
 use Rattle.flash_laws.specs.Site.Places.{NoneRuns, is_free}
 use Rattle.flash_laws.specs.Serves.{Server}
 use Rattle.flash_laws.specs.Workers.Sharing.{IsShared}
 use Rattle.flash_laws.specs.declared.phase.Flight.{Flight}
+use Rattle.flash_laws.specs.declared.phase.Flight.TheVariants.{Nothing}
 use Rattle.flash_lite.specs.Few.{IsFew}
 use Rattle.flash_lite.specs.declared.site.TheConstants.{MAX_WORKERS}
 
@@ -14,6 +15,10 @@ pub record Table : Type 0 where
   pub workers : ℕ
   -- of each number that a worker may have, whether it is free
   pub free : List Bool
+
+-- without clients, and with so many workers, each of them free
+abbrev pub new_table : (workers : ℕ) → Table
+new_table workers = record { clients = []; flight = Nothing; workers = workers; free = replicate 8 true }
 
 -- the server that it is
 abbrev pub serving : Table → Server

@@ -1,5 +1,5 @@
 -- A turn of the server, as its code makes it.
-use Rattle.std.specs.Prelude.{◌≡◌, ℕ, ◌<◌, ◌≤◌, ◌+◌, ◌==◌, ◌||◌, ◌&&◌, not, Bool, true, false, nat_lt, List, length, get_or, take, Option, Some, None, slice_set, if◌then◌else◌}
+use Rattle.std.specs.Prelude.{◌≡◌, ℕ, ◌<◌, ◌≤◌, ◌+◌, ◌==◌, ◌||◌, ◌&&◌, not, Bool, true, false, nat_lt, List, length, get_or, take, Option, Some, None, slice_set, if◌then◌else◌, Result, IfOk, OnErr, MatchOption}
 use Rattle.std.specs.List.{position_or_len}
 use Rattle.iol_core.specs.Numbered.{in_place, taken}
 use Rattle.iol_core.specs.declared.events.Call.{Call}
@@ -8,8 +8,9 @@ use Rattle.iol_core.specs.declared.events.Reply.{Reply}
 use Rattle.iol_proc.specs.declared.process.Turn.{Turn}
 use Rattle.iol_proc.specs.declared.process.Turn.TheVariants as turn
 use Rattle.flash_laws.specs.Client.{Client, told, wants, Readies}
-use Rattle.flash_laws.specs.Site.Places.{filed}
+use Rattle.flash_laws.specs.Site.Places.{filed, runs_scripts}
 use Rattle.flash_laws.specs.Serves.Rounds.{in_rounds, next_in}
+use Rattle.flash_laws.specs.Serves.Wanting.{MayWant, WantsFrom, WantsHere, wants_there}
 use Rattle.flash_laws.specs.Serves.{Picks}
 use Rattle.flash_laws.specs.declared.phase.Doing.TheVariants.{Over}
 use Rattle.flash_laws.specs.declared.phase.Flight.{Flight}
@@ -142,3 +143,45 @@ pub record Turns (s : Table) (r : Reply) (heard : List ℕ) (made : Turn) (t : T
   pub picks : Picks s.workers (filed_by s r heard) t.flight made t.clients
   pub hired : t.workers ≡ s.workers
   pub tells : TellsFree t.free t.clients
+
+-- ---- parts of a turn, or they find no memory
+
+-- The client in a place goes on after a reply, if one is there. Or it finds no memory, where it may want some, and all clients
+-- stay as they were.
+pub record GoesOnAt {E : Type 0} (scripts : Bool) (worker : ℕ) (clients : List (Option Client)) (fd : ℕ) (r : Reply)
+    (heard : List ℕ) (result : Result (Option Course) E) (after : List (Option Client)) : Type 0 where
+  pub course : IfOk result (λ o. CourseIn scripts worker clients fd r heard o after)
+  pub err : OnErr result (after ≡ clients)
+  pub wants : OnErr result (WantsHere scripts worker (in_place clients fd) r heard)
+
+-- The call of the client in a place is made, if one is there. Or there is no memory for its bytes, where it has some.
+pub record MakesCallAt {E : Type 0} (scripts : Bool) (clients : List (Option Client)) (place : ℕ)
+    (result : Result (Option Call) E) : Type 0 where
+  pub call : IfOk result (λ found. MatchOption found (in_place clients place ≡ None) (λ k. CallAt scripts clients place k))
+  pub wants : OnErr result (wants_there (in_place clients place) ≡ true)
+
+-- The first client from a place on that may have its turn is picked; or past all of them one is accepted, or the round is over,
+-- and nothing else changes but which call is out. Or there is no memory for a call that has bytes of its own, and all stays as it
+-- was.
+pub record PicksNext {E : Type 0} (from : ℕ) (s : Table) (result : Result Turn E) (t : Table) : Type 0 where
+  pub picks : IfOk result
+      (λ made. PicksFrom (runs_scripts s.workers) (has_in s.workers s.free) s.clients from MAX_CONNS t.flight made)
+  pub same : IfOk result (λ made. t ≡ record { clients = s.clients; flight = t.flight; workers = s.workers; free = s.free })
+  pub err : OnErr result (t ≡ s)
+  pub wants : OnErr result (WantsFrom (has_in s.workers s.free) s.clients from)
+
+-- The client in a place is left to others, `free` tells which workers are free then, and the first client behind that place that
+-- may have its turn is picked; or past all of them one is accepted, or the round is over; a client whose connection is over makes
+-- room for one more. Or there is no memory for a call that has bytes of its own, and all stays as it was.
+pub record LeavesPlace {E : Type 0} (fd : ℕ) (l : Left) (free : List Bool) (s : Table) (result : Result Turn E)
+    (t : Table) : Type 0 where
+  pub picks : IfOk result
+      (λ made. PicksFrom (runs_scripts s.workers) (has_in s.workers free) s.clients (fd + 1) (most_with l) t.flight made)
+  pub left : IfOk result
+      (λ made. t ≡ record { clients = left_at s.clients fd l; flight = t.flight; workers = s.workers; free = free })
+  pub err : OnErr result (t ≡ s)
+  pub wants : OnErr result (WantsFrom (has_in s.workers free) s.clients (fd + 1))
+
+-- when a turn may want memory, after a reply to the call that is out
+abbrev pub WantsAt : Table → Flight → Reply → (heard : List ℕ) → Type 0
+WantsAt s flight r heard = MayWant s.workers s.clients flight r heard

@@ -2,7 +2,8 @@
 ghost use Rattle.std.specs.Prelude.{◌≡◌, IfOk, OnErr};
 ghost use Rattle.iol_proc.specs.Prelude.{lent, IsQuiet};
 ghost use Rattle.flash_cgi.specs.Prelude.{IsNew};
-ghost use Rattle.flash_laws.specs.Prelude.{in_rounds, actor_goes, actor_turns, actor_wants};
+ghost use Rattle.flash_laws.specs.Prelude.{in_rounds, actor_turns, actor_wants};
+ghost use Rattle.flash_lite.specs.Accounts.{acts, works};
 ghost use Rattle.flash_lite.specs.Workers.{worker_turns};
 
 use crate::laws::connections_do_not_meet;
@@ -47,7 +48,7 @@ impl Process for Worker {
 
     fn next(&mut self, last: &Reply, look: &Look<'_>) -> Result<Turn, AllocError>
         ensures turn { IfOk result
-            (λ turn. worker_turns.goes self.old last.now (lent look.now) turn self.new) }
+            (λ turn. works self.old last.now (lent look.now) turn self.new) }
         ensures quiet { IfOk result IsQuiet }
         ensures err { OnErr result (self.new ≡ self.old) }
 
@@ -106,8 +107,7 @@ impl Process for Actor {
     ghost turns = { actor_turns in_rounds worker_turns };
 
     fn next(&mut self, last: &Reply, look: &Look<'_>) -> Result<Turn, AllocError>
-        ensures turn { IfOk result (λ turn. actor_goes in_rounds worker_turns self.old last.now
-            (lent look.now) turn self.new) }
+        ensures turn { IfOk result (λ turn. acts self.old last.now (lent look.now) turn self.new) }
         ensures quiet { IfOk result IsQuiet }
         ensures err { OnErr result (self.new ≡ self.old) }
 

@@ -1,9 +1,10 @@
 //! The bytes of answers that the server makes itself.
-ghost use Rattle.std.specs.Prelude.{◌≡◌, ◌++◌, IfOk};
-ghost use Rattle.flash_http.specs.Prelude.{wanted, answer, serve, error_body, head_text};
+ghost use Rattle.std.specs.Prelude.{◌≡◌, ◌++◌, IfOk, OnOk};
+ghost use Rattle.flash_http.specs.Prelude.{wanted, answer, head_text};
 ghost use Rattle.flash_lite.specs.Texts as texts;
 ghost use Rattle.flash_laws.specs.Answers as spec;
 ghost use Rattle.flash_laws.specs.Conn as conn;
+ghost use Rattle.flash_laws.specs.declared.phase.Content.TheVariants.{Bare};
 
 use crate::run::texts::script_text;
 use flash_http::{Asked, MediaType, Request, ResponseHead, error_body, select};
@@ -44,8 +45,7 @@ fn add_body(
     status: StatusCode,
     head_only: bool,
 ) -> Result<(), AllocError>
-    ensures { IfOk result (λ _. bytes.new.items
-        ≡ bytes.old.items ++ spec.body_unless head_only (error_body status)) }
+    ensures { OnOk result (bytes.new.items ≡ bytes.old.items ++ texts.refusal_body head_only status) }
 {
     if !head_only {
         let body = error_body(alloc, status)?;
@@ -73,8 +73,7 @@ fn error_text(
 // All of an answer for a file of which nothing is sent.
 #[tactic(auto, unfolding(flash_laws::specs::Answers::unsatisfiable))]
 fn bare_text(alloc: Global, request: &Request, len: u32) -> Result<Vec<u8>, AllocError>
-    ensures { IfOk result (λ bytes. bytes.items ≡ spec.file_text (wanted request.now) len
-        ++ spec.body_unless (wanted request.now).head_only spec.unsatisfiable) }
+    ensures { IfOk result (λ bytes. bytes.items ≡ texts.text_for (wanted request.now) (Bare len)) }
 {
     let mut bytes = file_text(alloc, request, u64::from(len))?;
     let status = StatusCode::RANGE_NOT_SATISFIABLE;
@@ -89,7 +88,7 @@ pub(crate) fn served_text(
     content: &Content,
 ) -> Result<Vec<u8>, AllocError>
     ensures { IfOk result
-        (λ bytes. bytes.items ≡ conn.text_of (serve (wanted request.now)) content.now) }
+        (λ bytes. bytes.items ≡ texts.text_for (wanted request.now) content.now) }
 {
     match *content {
         Content::Body {

@@ -1,14 +1,13 @@
 //! One client: its connection, and the script that runs for the request in progress.
 //!
 //! A script is found as any file; then its run has the connection until all is sent.
-ghost use Rattle.std.specs.Prelude.{◌≡◌, ◌≢◌, ◌<◌, [], IfOk, IfSome, OnErr, None, Some, false, length, true};
-ghost use Rattle.iol_core.specs.declared.events.Reply.TheVariants as reply;
+ghost use Rattle.std.specs.Prelude.{◌≡◌, ◌≢◌, ◌<◌, [], IfOk, IfSome, OnErr, None, Some, false, true};
 ghost use Rattle.flash_laws.specs.Client as spec;
-ghost use Rattle.flash_laws.specs.Prelude.{WantsOn, makes_bytes, needs_memory, leaves_off, makes_any, is_over};
+ghost use Rattle.flash_laws.specs.Prelude.{has_bytes, makes_bytes, makes_any, is_over};
 ghost use Rattle.flash_laws.specs.Conn as conn;
-ghost use Rattle.flash_laws.specs.Conn.Wanting as wanting;
 ghost use Rattle.flash_laws.specs.declared.phase.Doing.TheVariants.{Rests, Over};
-ghost use Rattle.flash_lite.specs.Course.{CanRest, IsCourse, ended, left_with, run_after, text_heard, worker_of};
+ghost use Rattle.flash_lite.specs.Course.{CanRest, EndsRun, GoesOnAlone, GoesOnFile, GoesOnTold, HearsText, RunsOn, WantsToEnd};
+ghost use Rattle.flash_lite.specs.Course.{call_of_run, left_with, run_after, with_run, worker_of};
 ghost use Rattle.flash_lite.specs.Heard.{heard};
 ghost use Rattle.flash_lite.specs.Runs.{IsSmallRunning};
 ghost use Rattle.flash_lite.specs.Small.{IsSmall};
@@ -109,11 +108,7 @@ impl Client {
         parts: Option<Parts<'_>>,
     ) -> Result<Course, AllocError>
         requires { self.old.run ≡ None }
-        ensures course { IfOk result (λ o. IsCourse scripts fd
-            (spec.conn_told self.old last.now (heard parts.entry)) self.old last.now o self.new) }
-        ensures err { OnErr result (self.new ≡ self.old) }
-        ensures wants { OnErr result
-            (wanting.WantsOn self.old.conn last.now (heard parts.entry)) }
+        ensures { GoesOnAlone scripts fd self.old last.now (heard parts.entry) result self.new }
     {
         match self.conn.go_on(fd, last, parts)? {
             Onward::Asks(call) => Ok(Course::Asks(self.file_call(scripts, fd, call))),
@@ -132,10 +127,7 @@ impl Client {
         parts: Option<Parts<'_>>,
     ) -> Result<Course, AllocError>
         requires { self.old.run ≡ None }
-        ensures course { IfOk result (λ o. IsCourse scripts fd
-            (text_heard self.old file agg (heard parts.entry)) self.old reply.Done o self.new) }
-        ensures err { OnErr result (self.new ≡ self.old) }
-        ensures wants { OnErr result (0 < length (heard parts.entry)) }
+        ensures { HearsText scripts fd file agg self.old (heard parts.entry) result self.new }
     {
         let head_only = is_head_only(self.conn.asked());
         let (runs, text) = heard_text(self.alloc, head_only, parts)?;
@@ -155,13 +147,7 @@ impl Client {
         parts: Option<Parts<'_>>,
     ) -> Result<Course, AllocError>
         requires { self.old.run ≡ None }
-        ensures course { IfOk result (λ o. IsCourse scripts fd
-            (spec.file_told (spec.is_for_script scripts self.old.conn.q) self.old last.now
-            (heard parts.entry)) self.old last.now o self.new) }
-        ensures err { OnErr result (self.new ≡ self.old) }
-        ensures wants { OnErr result (WantsOn scripts
-            (spec.file_told (spec.is_for_script scripts self.old.conn.q) self.old last.now
-            (heard parts.entry)) self.old last.now (heard parts.entry)) }
+        ensures { GoesOnFile scripts fd self.old last.now (heard parts.entry) result self.new }
     {
         let asked = self.conn.asked();
         let script = is_for_script(scripts, asked);
@@ -206,7 +192,7 @@ impl Client {
     fn run_call(&self, fd: Fd, script: &[u8], running: &Running) -> Result<Call, AllocError>
         requires { IsSmallRunning running.now × (is_over running.now ≡ false) }
         ensures call { IfOk result
-            (λ call. call ≡ spec.run_wants fd self.now.conn.q script.now running.now) }
+            (λ call. call ≡ call_of_run fd self.now script.now running.now) }
         ensures wants { OnErr result (makes_any running.now ≡ true) }
     {
         match self.conn.asked() {
@@ -222,10 +208,9 @@ impl Client {
     // Its run goes on with this, and its text is kept.
     fn run_with(&mut self, fd: Fd, next: Running) -> Result<Call, AllocError>
         requires { IsSmallRunning next × (is_over next ≡ false) }
-        ensures on { IfOk result (λ _. self.new
-            ≡ record { conn = self.old.conn; run = Some next; script = self.old.script }) }
+        ensures on { IfOk result (λ _. self.new ≡ with_run self.old next self.old.script) }
         ensures call { IfOk result
-            (λ call. call ≡ spec.run_wants fd self.old.conn.q self.old.script next) }
+            (λ call. call ≡ call_of_run fd self.old self.old.script next) }
         ensures err { OnErr result (self.new ≡ self.old) }
         ensures wants { OnErr result (makes_any next ≡ true) }
     {
@@ -237,9 +222,8 @@ impl Client {
     // Its run goes on with this, and its text is kept no more, nor the memory that it took.
     fn run_without(&mut self, fd: Fd, next: Running) -> Result<Call, AllocError>
         requires { IsSmallRunning next × (is_over next ≡ false) }
-        ensures on { IfOk result
-            (λ _. self.new ≡ record { conn = self.old.conn; run = Some next; script = [] }) }
-        ensures call { IfOk result (λ call. call ≡ spec.run_wants fd self.old.conn.q [] next) }
+        ensures on { IfOk result (λ _. self.new ≡ with_run self.old next []) }
+        ensures call { IfOk result (λ call. call ≡ call_of_run fd self.old [] next) }
         ensures err { OnErr result (self.new ≡ self.old) }
         ensures wants { OnErr result (makes_any next ≡ true) }
     {
@@ -255,7 +239,7 @@ impl Client {
         ensures on { IfOk result
             (λ _. self.new ≡ spec.goes_on false false self.old was.now next) }
         ensures call { IfOk result
-            (λ call. call ≡ spec.run_wants fd self.new.conn.q self.new.script next) }
+            (λ call. call ≡ call_of_run fd self.new self.new.script next) }
         ensures err { OnErr result (self.new ≡ self.old) }
         ensures wants { OnErr result (makes_any next ≡ true) }
     {
@@ -271,12 +255,7 @@ impl Client {
     // Its run is over, and all is sent: what is kept of its stream goes on.
     #[tactic(auto, using(crate::proofs::Answering::Clients::rest_rules))]
     fn end_free(&mut self, scripts: bool, fd: Fd) -> Result<Course, AllocError>
-        ensures course { IfOk result (λ o. IsCourse scripts fd (ended self.old Rests) self.old
-            reply.Done o self.new) }
-        ensures err { OnErr result (self.new ≡ self.old) }
-        ensures wants { OnErr result
-            ((leaves_off (spec.left_over (ended self.old Rests)) reply.Done ≡ false)
-            × (needs_memory (ended self.old Rests) ≡ true)) }
+        ensures { EndsRun scripts fd Rests self.old (WantsToEnd self.old Rests) result self.new }
     {
         match self.conn.go_on_free(fd)? {
             Onward::Asks(call) => {
@@ -292,10 +271,7 @@ impl Client {
     #[tactic(auto, using(crate::proofs::Answering::Clients::ends_asks, crate::proofs::Answering::Clients::ends_wants))]
     fn end_with(&mut self, scripts: bool, fd: Fd, doing: Doing) -> Result<Course, AllocError>
         requires { (doing ≢ Rests) × (doing ≢ Over) × IsSmall doing }
-        ensures course { IfOk result (λ o. IsCourse scripts fd (ended self.old doing) self.old
-            reply.Done o self.new) }
-        ensures err { OnErr result (self.new ≡ self.old) }
-        ensures wants { OnErr result (wanting.has_bytes doing ≡ true) }
+        ensures { EndsRun scripts fd doing self.old (has_bytes doing ≡ true) result self.new }
     {
         let call = self.conn.proceed(fd, doing)?;
         self.run = None;
@@ -307,12 +283,7 @@ impl Client {
     #[tactic(auto, using(crate::proofs::Answering::Clients::over_leaves, crate::proofs::Answering::Clients::ends_wants))]
     fn end(&mut self, scripts: bool, fd: Fd, doing: Doing) -> Result<Course, AllocError>
         requires { IsSmall doing }
-        ensures course { IfOk result (λ o. IsCourse scripts fd (ended self.old doing) self.old
-            reply.Done o self.new) }
-        ensures err { OnErr result (self.new ≡ self.old) }
-        ensures wants { OnErr result
-            ((leaves_off (spec.left_over (ended self.old doing)) reply.Done ≡ false)
-            × (needs_memory (ended self.old doing) ≡ true)) }
+        ensures { EndsRun scripts fd doing self.old (WantsToEnd self.old doing) result self.new }
     {
         match doing {
             Doing::Rests => {
@@ -341,13 +312,7 @@ impl Client {
         requires worker { worker < MAX_WORKERS }
         requires runs { self.old.run ≡ Some running }
         requires goes { IsSmallRunning running × (is_over running ≡ false) }
-        ensures course { IfOk result (λ o. IsCourse scripts fd
-            (spec.run_told worker self.old.conn.q self.old running last.now (heard parts.entry))
-            self.old last.now o self.new) }
-        ensures err { OnErr result (self.new ≡ self.old) }
-        ensures wants { OnErr result (WantsOn scripts
-            (spec.run_told worker self.old.conn.q self.old running last.now (heard parts.entry))
-            self.old last.now (heard parts.entry)) }
+        ensures { RunsOn scripts fd worker running self.old last.now (heard parts.entry) result self.new }
     {
         if is_later(last) {
             return Ok(Course::Leaves(Left::Stays));
@@ -381,13 +346,7 @@ impl Client {
         parts: Option<Parts<'_>>,
     ) -> Result<Course, AllocError>
         requires { worker < MAX_WORKERS }
-        ensures course { IfOk result (λ o. IsCourse scripts fd
-            (spec.told scripts worker self.old last.now (heard parts.entry)) self.old last.now o
-            self.new) }
-        ensures err { OnErr result (self.new ≡ self.old) }
-        ensures wants { OnErr result (WantsOn scripts
-            (spec.told scripts worker self.old last.now (heard parts.entry)) self.old last.now
-            (heard parts.entry)) }
+        ensures { GoesOnTold scripts fd worker self.old last.now (heard parts.entry) result self.new }
     {
         match self.run {
             Some(running) => {

@@ -1,14 +1,13 @@
 //! One connection.
 ghost use Rattle.std.specs.Prelude.{◌≡◌, ◌≢◌, ◌<◌, ◌-◌, IfOk, OnErr, drop, length, true, false};
-ghost use Rattle.iol_core.specs.declared.events.Reply.TheVariants.{Agg};
 ghost use Rattle.iol_core.specs.declared.events.Call.TheVariants.{IolRead};
 ghost use Rattle.flash_http.specs.Prelude.{answer, refuse, window_in};
 ghost use Rattle.flash_laws.specs.Conn as spec;
-ghost use Rattle.flash_laws.specs.Prelude.{is_later, is_bare, can_begin, has_bytes};
+ghost use Rattle.flash_laws.specs.Prelude.{is_later, can_begin, has_bytes};
 ghost use Rattle.flash_laws.specs.Conn.Wanting.{WantsOn};
-ghost use Rattle.flash_laws.specs.declared.phase.Doing.TheVariants.{Rests, Over};
+ghost use Rattle.flash_laws.specs.declared.phase.Doing.TheVariants.{Rests};
 ghost use Rattle.flash_lite.specs.Heard.{heard};
-ghost use Rattle.flash_lite.specs.Onward.{IsOnward, Frees, GoesWith, CanRest, is_over};
+ghost use Rattle.flash_lite.specs.Onward.{IsOnward, Frees, GoesWith, CanRest, WantsToStart, begun_with, in_doing, is_over, with_heard};
 ghost use Rattle.flash_lite.specs.Small.{IsSmall};
 
 use crate::find::{begins, told_got, told_opens, told_picks, told_reads, told_shuts, told_spares};
@@ -128,8 +127,7 @@ impl Conn {
     #[tactic(auto, using(crate::proofs::Answering::Begun::rests_heard))]
     fn hear(&mut self, fd: Fd, agg: AggId, parts: Option<Parts<'_>>) -> Result<Call, AllocError>
         ensures told { IfOk result
-            (λ _. self.new
-            ≡ spec.told_rests self.old.kept self.old.q (Agg agg) (heard parts.entry)) }
+            (λ _. self.new ≡ with_heard self.old agg (heard parts.entry)) }
         ensures call { IfOk result (λ call. call ≡ spec.wants fd self.new) }
         ensures stays { IfOk result (λ _. is_over self.new.doing ≡ false) }
         ensures err { OnErr result (self.new ≡ self.old) }
@@ -148,8 +146,7 @@ impl Conn {
     // What follows the reply to the call of a phase in which something is in progress.
     fn next_doing(&self, last: &Reply, parts: Option<Parts<'_>>) -> Doing
         requires { self.now.doing ≢ Rests }
-        ensures told { spec.told self.now last.now (heard parts.entry)
-            ≡ record self.now { doing = result } }
+        ensures told { spec.told self.now last.now (heard parts.entry) ≡ in_doing self.now result }
         ensures small { IsSmall result }
     {
         match self.doing {
@@ -187,11 +184,7 @@ impl Conn {
     // A request begins, after so many bytes: its first call.
     #[tactic(auto, using(crate::proofs::Answering::Begun::first_wants))]
     fn begin(&mut self, fd: Fd, asked: Asked, len: usize) -> Result<Call, AllocError>
-        ensures begun { IfOk result (λ _. self.new ≡ record {
-          kept = drop len self.old.kept;
-          q = answer asked;
-          doing = spec.begins (answer asked);
-        }) }
+        ensures begun { IfOk result (λ _. self.new ≡ begun_with len (answer asked) self.old) }
         ensures call { IfOk result (λ call. call ≡ spec.wants fd self.new) }
         ensures err { OnErr result (self.new ≡ self.old) }
     {
@@ -297,8 +290,7 @@ impl Conn {
     pub(crate) fn go_on_free(&mut self, fd: Fd) -> Result<Onward, AllocError>
         ensures asks { IfOk result (λ o. Frees fd self.old o self.new) }
         ensures err { OnErr result (self.new ≡ self.old) }
-        ensures wants { OnErr result ((is_bare (record self.old { doing = Rests }) ≡ false)
-            × (can_begin (window_in self.old.kept) ≡ true)) }
+        ensures wants { OnErr result (WantsToStart self.old) }
     {
         if self.kept.is_empty() {
             return Ok(Onward::Leaves(Doing::Rests));

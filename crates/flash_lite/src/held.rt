@@ -1,13 +1,13 @@
 //! The clients, each in the place of its descriptor. Which of them may have its turn is found in a
 //! few steps, however many places there are.
-ghost use Rattle.std.specs.Prelude.{◌≡◌, ◌<◌, ◌≤◌, ◌+◌, ◌^◌, [], IfOk, IfSome, MatchOption};
-ghost use Rattle.std.specs.Prelude.{None, OnErr, Some, length, true, false};
+ghost use Rattle.std.specs.Prelude.{◌≡◌, ◌<◌, ◌≤◌, ◌+◌, ◌^◌, [], IfOk, IfSome, OnOk};
+ghost use Rattle.std.specs.Prelude.{OnErr, Some, length, true, false};
 ghost use Rattle.std.specs.Vec.{vec_capacity};
 ghost use Rattle.iol_core.specs.Prelude.{in_place, taken};
-ghost use Rattle.flash_laws.specs.Prelude.{new_client, goes_in, next_in, grown, with_at, WantsHere, wants_there};
+ghost use Rattle.flash_laws.specs.Prelude.{new_client, goes_in, next_in, grown, with_at};
 ghost use Rattle.flash_lite.specs.Heard.{heard};
 ghost use Rattle.flash_lite.specs.Order.{CanNote, goers};
-ghost use Rattle.flash_lite.specs.Turning.{CallAt, CourseIn, MayRest, left_at, worker_at};
+ghost use Rattle.flash_lite.specs.Turning.{MakesCallAt, GoesOnAt, MayRest, left_at, worker_at};
 ghost use Rattle.flash_lite.specs.declared.site.TheConstants.{MAX_WORKERS};
 
 use crate::client::{Client, Course, Left};
@@ -78,8 +78,8 @@ fn reach(clients: &mut Vec<Option<Client>>, place: u32) -> Result<(), AllocError
 // With a new client in a place.
 fn admit(alloc: Global, clients: &mut Vec<Option<Client>>, place: u32) -> Result<(), AllocError>
     requires { length clients.old.items ≤ 2 ^ 32 }
-    ensures ok { IfOk result
-        (λ _. clients.new.items ≡ with_at clients.old.items place (Some new_client)) }
+    ensures ok { OnOk result
+        (clients.new.items ≡ with_at clients.old.items place (Some new_client)) }
     ensures err { OnErr result (clients.new.items ≡ clients.old.items) }
     ensures wants { OnErr result (vec_capacity clients.old ≤ place) }
     ensures length { length clients.new.items ≤ 2 ^ 32 }
@@ -114,11 +114,8 @@ fn go_on_at(
     parts: Option<Parts<'_>>,
 ) -> Result<Option<Course>, AllocError>
     requires { worker < MAX_WORKERS }
-    ensures course { IfOk result (λ o. CourseIn scripts worker clients.old.items fd last.now
-        (heard parts.entry) o clients.new.items) }
-    ensures err { OnErr result (clients.new.items ≡ clients.old.items) }
-    ensures wants { OnErr result
-        (WantsHere scripts worker (in_place clients.old.items fd) last.now (heard parts.entry)) }
+    ensures goes { GoesOnAt scripts worker clients.old.items fd last.now (heard parts.entry) result
+        clients.new.items }
     ensures length { length clients.new.items ≡ length clients.old.items }
 {
     let at = fd as usize;
@@ -156,9 +153,7 @@ fn call_at(
     place: u32,
 ) -> Result<Option<Call>, AllocError>
     requires { place < length clients.now }
-    ensures call { IfOk result (λ found. MatchOption found (in_place clients.now place ≡ None)
-        (λ call. CallAt scripts clients.now place call)) }
-    ensures wants { OnErr result (wants_there (in_place clients.now place) ≡ true) }
+    ensures { MakesCallAt scripts clients.now place result }
 {
     match &clients[place as usize] {
         Some(client) => {
@@ -258,9 +253,7 @@ impl Clients {
     /// The next call of the client in a place.
     pub(crate) fn call_at(&self, scripts: bool, place: u32) -> Result<Option<Call>, AllocError>
         requires { place < length self.now }
-        ensures call { IfOk result (λ found. MatchOption found (in_place self.now place ≡ None)
-            (λ call. CallAt scripts self.now place call)) }
-        ensures wants { OnErr result (wants_there (in_place self.now place) ≡ true) }
+        ensures { MakesCallAt scripts self.now place result }
     {
         call_at(scripts, self.places.as_slice(), place)
     }
@@ -303,11 +296,7 @@ impl Clients {
         parts: Option<Parts<'_>>,
     ) -> Result<Option<Course>, AllocError>
         requires { worker < MAX_WORKERS }
-        ensures course { IfOk result (λ o. CourseIn scripts worker self.old fd last.now
-            (heard parts.entry) o self.new) }
-        ensures err { OnErr result (self.new ≡ self.old) }
-        ensures wants { OnErr result
-            (WantsHere scripts worker (in_place self.old fd) last.now (heard parts.entry)) }
+        ensures { GoesOnAt scripts worker self.old fd last.now (heard parts.entry) result self.new }
     {
         let was = noted(self.places.as_slice(), fd);
         match go_on_at(scripts, worker, &mut self.places, fd, last, parts)? {

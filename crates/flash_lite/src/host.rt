@@ -1,10 +1,7 @@
 //! Hosting a site: a system of its own, and its processes in turns.
 ghost use Rattle.std.specs.Prelude.{◌≡◌, true, false, Err, IfErr, IfOk, OnOk};
-ghost use Rattle.iol_back.specs.Prelude.{IfHonest};
 ghost use Rattle.iol_core.specs.Prelude.{IsInRange};
-ghost use Rattle.iol_kernel.specs.Prelude.{slots_of};
-ghost use Rattle.iol_proc.specs.Prelude.{copied};
-ghost use Rattle.flash_lite.specs.Hosting.{Hosts, HostsOver, IsNewWorld};
+ghost use Rattle.flash_lite.specs.Hosting.{HostsIfHonest, HostsOver, IsNewIfHonest};
 ghost use Rattle.flash_lite.specs.Setup as spec;
 ghost use Rattle.flash_lite.specs.Starting.{Starts, WhyNone};
 
@@ -58,9 +55,8 @@ pub fn host<B: Backing + Drop>(
     // Over an honest one it is that of the site, and its run one over the copying machine.
     ensures shared { IfOk result (λ h. HostsOver config (B.disk backing) site.now choices.now
         h.replies.items turns h.idle h.world) }
-    ensures hosts { IfHonest (B.disk backing) (IfOk result (λ h. Hosts site.now
-        (slots_of (B.disk backing).slots) choices.now h.replies.items turns h.idle
-        (copied h.world))) }
+    ensures hosts { IfOk result (λ h. HostsIfHonest (B.disk backing) site.now choices.now
+        h.replies.items turns h.idle h.world) }
 {
     let mut world = new_world(alloc, config, backing, site)?;
     let replies = match world.run(choices) {
@@ -91,8 +87,7 @@ fn new_world<B: Backing + Drop>(
     ensures refused { IfErr result (WhyNone config (B.disk backing) site.now) }
     ensures starts { IfOk result (λ w. Starts config (B.disk backing) site.now w) }
     ensures honest { IfOk result (λ w. w.machine.disk.honest ≡ (B.disk backing).honest) }
-    ensures new { IfHonest (B.disk backing) (IfOk result
-        (λ w. IsNewWorld site.now (slots_of (B.disk backing).slots) (copied w))) }
+    ensures new { IfOk result (λ w. IsNewIfHonest (B.disk backing) site.now w) }
 {
     if !is_in_range(site) {
         return Err(Refusal::BadRange);

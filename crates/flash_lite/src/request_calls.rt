@@ -1,10 +1,10 @@
 //! Calls for a request: its file is opened and read, and the head of its answer is made.
-ghost use Rattle.std.specs.Prelude.{◌≡◌, IfOk, if◌then◌else◌};
+ghost use Rattle.std.specs.Prelude.{◌≡◌, IfOk};
 ghost use Rattle.iol_core.specs.declared.descriptors.Mode.TheVariants as modes;
-ghost use Rattle.iol_core.specs.declared.events.Call.TheVariants.{Length, IolRead, OpenFile, AggMake, AggCut, AggJoin};
+ghost use Rattle.iol_core.specs.declared.events.Call.TheVariants.{OpenFile, AggMake, AggCut, AggJoin};
 ghost use Rattle.flash_http.specs.Prelude.{answer};
 ghost use Rattle.flash_laws.specs.Conn as spec;
-ghost use Rattle.flash_lite.specs.Small.{first_call};
+ghost use Rattle.flash_lite.specs.Small.{first_call, read_call};
 
 use crate::answers::text_of;
 use flash_http::Asked;
@@ -52,8 +52,7 @@ pub(crate) fn is_head_only(asked: &Asked) -> bool
 
 /// It is read, or its length asked for where only the head is wanted.
 pub(crate) fn read_call(asked: &Asked, file: Fd) -> Call
-    ensures { result ≡ (if spec.is_head_only (answer asked.now) then (Length file)
-        else (IolRead file spec.most_read)) }
+    ensures { result ≡ read_call (answer asked.now) file }
 {
     if is_head_only(asked) {
         Call::Length { fd: file }

@@ -2,13 +2,13 @@
 //!
 //! Each phase has a function, in the file of its subject: a run is started, output is heard, chunks
 //! are made of it and sent, and it ends.
-ghost use Rattle.std.specs.Prelude.{◌≡◌, ◌<◌, IfOk, IfSome, MatchOption, OnErr, false, true};
+ghost use Rattle.std.specs.Prelude.{◌≡◌, ◌<◌, IfNone, IfOk, IfSome, OnErr, OnSome, false, true};
 ghost use Rattle.flash_http.specs.Prelude.{wanted};
 ghost use Rattle.flash_laws.specs.Client as client;
 ghost use Rattle.flash_laws.specs.Prelude.{makes_any};
 ghost use Rattle.flash_laws.specs.Run as spec;
 ghost use Rattle.flash_lite.specs.Heard.{heard};
-ghost use Rattle.flash_lite.specs.Runs.{IsSmallRun, IsSmallStep, IsSmallRunning, job_for, run_worker, waits};
+ghost use Rattle.flash_lite.specs.Runs.{IsSmallRun, IsSmallStep, IsSmallRunning, call_for, run_worker, waits};
 ghost use Rattle.flash_lite.specs.Small.{IsSmall};
 ghost use Rattle.flash_lite.specs.declared.site.TheConstants.{MAX_WORKERS};
 
@@ -136,8 +136,8 @@ pub(crate) fn next_call(
 ) -> Result<Call, AllocError>
     requires small { IsSmallRunning running }
     requires going { spec.is_over running ≡ false }
-    ensures call { IfOk result (λ call. call
-        ≡ spec.wants (job_for (wanted request.now) script.now) fd (wanted request.now) running) }
+    ensures call { IfOk result
+        (λ call. call ≡ call_for (wanted request.now) script.now fd running) }
     ensures wants { OnErr result (makes_any running ≡ true) }
 {
     match running {
@@ -168,9 +168,10 @@ fn is_left(doing: &Doing) -> bool
 /// Where the connection is once the run is over, if it is.
 pub(crate) fn after_run(running: &Running) -> Option<Doing>
     requires { IsSmallRunning running.now }
-    ensures { MatchOption result (spec.is_over running.now ≡ false) (λ doing.
-        (spec.is_over running.now ≡ true) × (doing ≡ client.after_run running.now)
-        × IsSmall doing) }
+    ensures none { IfNone result (spec.is_over running.now ≡ false) }
+    ensures over { OnSome result (spec.is_over running.now ≡ true) }
+    ensures after { IfSome result (λ doing. doing ≡ client.after_run running.now) }
+    ensures small { IfSome result IsSmall }
 {
     match *running {
         Running::Leaves { doing } => { if is_left(&doing) { None } else { Some(doing) } }

@@ -1,6 +1,6 @@
 //! A script is found: it is opened, read and closed as any file, but read whole for HEAD too, and
 //! its text is kept until the job is made.
-ghost use Rattle.std.specs.Prelude.{◌≡◌, ◌<◌, IfOk, MatchOption, OnErr, length};
+ghost use Rattle.std.specs.Prelude.{◌≡◌, ◌<◌, IfNone, IfOk, IfSome, OnErr, length};
 ghost use Rattle.std.specs.List.{concat};
 ghost use Rattle.flash_http.specs.MediaType as names;
 ghost use Rattle.flash_http.specs.Prelude.{answer};
@@ -119,8 +119,8 @@ pub(crate) fn whole(script: bool, doing: Doing, call: Call) -> Call
 
 // The bytes of these parts, if they are no more than so many.
 fn gather_all(alloc: Global, parts: Parts<'_>, most: usize) -> Result<Option<Vec<u8>>, AllocError>
-    ensures bytes { IfOk result (λ o. MatchOption o (most < length (concat parts.entry))
-        (λ bytes. bytes.items ≡ concat parts.entry)) }
+    ensures long { IfOk result (λ o. IfNone o (most < length (concat parts.entry))) }
+    ensures bytes { IfOk result (λ o. IfSome o (λ bytes. bytes.items ≡ concat parts.entry)) }
     ensures wants { OnErr result (0 < length (concat parts.entry)) }
 {
     let mut bytes = Vec::new(alloc);
@@ -139,8 +139,8 @@ fn gather(
     parts: Option<Parts<'_>>,
     most: usize,
 ) -> Result<Option<Vec<u8>>, AllocError>
-    ensures bytes { IfOk result (λ o. MatchOption o (most < length (heard parts.entry))
-        (λ bytes. bytes.items ≡ heard parts.entry)) }
+    ensures long { IfOk result (λ o. IfNone o (most < length (heard parts.entry))) }
+    ensures bytes { IfOk result (λ o. IfSome o (λ bytes. bytes.items ≡ heard parts.entry)) }
     ensures wants { OnErr result (0 < length (heard parts.entry)) }
 {
     match parts {
@@ -182,8 +182,8 @@ pub(crate) fn heard_text(
     parts: Option<Parts<'_>>,
 ) -> Result<(bool, Vec<u8>), AllocError>
     ensures runs { IfOk result (λ r. r.0 ≡ spec.can_run (heard parts.entry)) }
-    ensures kept { IfOk result (λ r. r.1.items
-        ≡ spec.kept_if head_only (spec.can_run (heard parts.entry)) (heard parts.entry)) }
+    ensures kept { IfOk result
+        (λ r. r.1.items ≡ course.kept_script head_only (heard parts.entry)) }
     ensures wants { OnErr result (0 < length (heard parts.entry)) }
 {
     match gather(alloc, parts, MAX_SCRIPT_BYTES)? {

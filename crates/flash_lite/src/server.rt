@@ -1,7 +1,8 @@
 //! The server: all clients, by one call a turn.
 ghost use Rattle.std.specs.Prelude.{◌≡◌, IfOk, OnErr, OnOk, min};
 ghost use Rattle.iol_proc.specs.Prelude.{lent, IsQuiet};
-ghost use Rattle.flash_laws.specs.Prelude.{NoneRuns, in_rounds, new_server, heard_of, server_turns, IsShared, server_account, server_wants};
+ghost use Rattle.flash_laws.specs.Prelude.{NoneRuns, in_rounds, new_server, heard_of, IsShared, server_account, server_wants};
+ghost use Rattle.flash_lite.specs.Accounts.{serves};
 ghost use Rattle.flash_lite.specs.Few.{IsFew};
 ghost use Rattle.flash_lite.specs.Heard.{heard};
 ghost use Rattle.flash_lite.specs.Offering.{OffersNext};
@@ -72,7 +73,7 @@ impl Process for Server {
 
     fn next(&mut self, last: &Reply, look: &Look<'_>) -> Result<Turn, AllocError>
         ensures turn { IfOk result
-            (λ turn. server_turns in_rounds self.old last.now (lent look.now) turn self.new) }
+            (λ turn. serves self.old last.now (lent look.now) turn self.new) }
         ensures quiet { IfOk result IsQuiet }
         ensures err { OnErr result (self.new ≡ self.old) }
 

@@ -1,10 +1,9 @@
 //! Setting a site up.
 ghost use Rattle.std.specs.Prelude.{◌≡◌, ◌<◌, ◌≤◌, ◌+◌, ◌++◌, true, false, Err, IfErr, IfOk, OnOk, map, nat_eq};
 ghost use Rattle.std.specs.List.{IsDistinct, range_with_len};
-ghost use Rattle.iol_back.specs.Prelude.{IfHonest};
 ghost use Rattle.iol_system.specs.Prelude.{machine_of};
 ghost use Rattle.flash_laws.specs.Prelude.{Serving};
-ghost use Rattle.flash_lite.specs.SiteWorld.{IsNewAt};
+ghost use Rattle.flash_lite.specs.SiteWorld.{SetsUpIfHonest};
 ghost use Rattle.flash_lite.specs.Setup as spec;
 ghost use Rattle.flash_lite.specs.SiteState.{LeavesSite};
 
@@ -121,8 +120,8 @@ fn add_files(
     files: &[SiteFile],
     guest: u32,
 ) -> Result<(), AllocError>
-    ensures { OnOk result (events.new.items ≡ events.old.items
-        ++ map (λ f. spec.file_named guest f) files.now) }
+    ensures { OnOk result
+        (events.new.items ≡ events.old.items ++ spec.files_named guest files.now) }
 {
     for file in files {
         let event = file_call(alloc, file, guest)?;
@@ -183,21 +182,16 @@ pub fn setup<B: Backing + Drop>(
     ensures range { spec.is_in_range site.now ≡ false → result ≡ Err Refusal.BadRange }
     ensures in_range { OnOk result (spec.is_in_range site.now ≡ true) }
     ensures unchanged { spec.is_in_range site.now ≡ false → system.new ≡ system.old }
-    ensures refused { IfErr result (λ x. spec.is_in_range site.now ≡ true →
-        spec.WhyRefused site.now x system.old system.new) }
+    ensures refused { IfErr result
+        (λ x. spec.WhyRefusedWithin site.now x system.old system.new) }
     ensures made { OnOk result (spec.IsMade site.now system.old system.new) }
-    ensures set_up { IfHonest system.old.disk (OnOk result
-        (spec.SetsUp site.now (machine_of system.old) (machine_of system.new))) }
     ensures honest { system.new.disk.honest ≡ system.old.disk.honest }
 
     // In a new system the machine is then that of the site, over any store. An honest one keeps
     // what it has, and a world of these processes is new.
     ensures leaves { OnOk result
         (LeavesSite site.now (machine_of system.old) (machine_of system.new)) }
-    ensures slots { IfHonest system.old.disk (OnOk result
-        ((machine_of system.new).slots ≡ (machine_of system.old).slots)) }
-    ensures new { IfHonest system.old.disk (OnOk result
-        (IsNewAt site.now (machine_of system.old) (machine_of system.new))) }
+    ensures over_honest { OnOk result (SetsUpIfHonest site.now system.old system.new) }
     ensures actors { IfOk result (λ actors. spec.AreActors site.now actors.items) }
     ensures apart { IfOk result
         (λ actors. IsDistinct nat_eq (map (λ p. p.0) actors.items)) }

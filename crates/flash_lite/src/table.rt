@@ -1,13 +1,11 @@
 //! What the server keeps: its clients, which call is out, and which of its workers are free.
-ghost use Rattle.std.specs.Prelude.{◌≡◌, ◌<◌, ◌≤◌, ◌+◌, [], IfOk};
-ghost use Rattle.std.specs.Prelude.{OnErr, Some, length, min, replicate, true};
+ghost use Rattle.std.specs.Prelude.{◌≡◌, ◌<◌, ◌≤◌, [], IfOk, OnErr, length, min};
 ghost use Rattle.iol_core.specs.Prelude.{in_place};
-ghost use Rattle.flash_laws.specs.Prelude.{runs_scripts, MayWant, WantsFrom, WantsPlace};
-ghost use Rattle.flash_laws.specs.declared.phase.Flight.TheVariants.{Nothing, Accepting, At};
+ghost use Rattle.flash_laws.specs.Prelude.{runs_scripts, WantsPlace};
+ghost use Rattle.flash_laws.specs.declared.phase.Flight.TheVariants.{Accepting, At};
 ghost use Rattle.flash_lite.specs.Heard.{heard};
-ghost use Rattle.flash_lite.specs.Table.{IsKept};
-ghost use Rattle.flash_lite.specs.Turning.{MayRest, PicksFrom, Turns, first_in};
-ghost use Rattle.flash_lite.specs.Turning.{has_in, left_at, most_with, worker_at};
+ghost use Rattle.flash_lite.specs.Table.{IsKept, new_table};
+ghost use Rattle.flash_lite.specs.Turning.{LeavesPlace, MayRest, PicksNext, Turns, WantsAt, first_in, has_in};
 ghost use Rattle.flash_lite.specs.declared.site.TheConstants.{MAX_WORKERS};
 
 use crate::client::{Course, Left};
@@ -54,8 +52,7 @@ impl Table {
     /// Without clients, and with so many workers, of which none runs a script.
     pub(crate) fn new(alloc: Global, workers: u32) -> Table
         requires { workers ≤ MAX_WORKERS }
-        ensures { result
-            ≡ record { clients = []; flight = Nothing; workers = workers; free = replicate 8 true } }
+        ensures { result ≡ new_table workers }
     {
         Table {
             clients: Clients::new(alloc),
@@ -89,18 +86,7 @@ impl Table {
 
     // The first client from a place on is picked.
     fn pick_from(&mut self, from: usize) -> Result<Turn, AllocError>
-        ensures picks { IfOk result (λ turn. PicksFrom (runs_scripts self.old.workers)
-            (has_in self.old.workers self.old.free) self.old.clients from MAX_CONNS self.new.flight
-            turn) }
-        ensures same { IfOk result (λ _. self.new ≡ record {
-          clients = self.old.clients;
-          flight = self.new.flight;
-          workers = self.old.workers;
-          free = self.old.free;
-        }) }
-        ensures err { OnErr result (self.new ≡ self.old) }
-        ensures wants { OnErr result
-            (WantsFrom (has_in self.old.workers self.old.free) self.old.clients from) }
+        ensures { PicksNext from self.old result self.new }
     {
         let free = self.free;
         let (scripts, has_free) = (self.scripts(), self.has_free(&free));
@@ -140,18 +126,7 @@ impl Table {
     fn leave(&mut self, fd: u32, left: Left, free: [bool; 8]) -> Result<Turn, AllocError>
         requires within { fd < length self.old.clients }
         requires rests { MayRest (in_place self.old.clients fd) left }
-        ensures picks { IfOk result (λ turn. PicksFrom (runs_scripts self.old.workers)
-            (has_in self.old.workers free) self.old.clients (fd + 1) (most_with left)
-            self.new.flight turn) }
-        ensures left { IfOk result (λ _. self.new ≡ record {
-          clients = left_at self.old.clients fd left;
-          flight = self.new.flight;
-          workers = self.old.workers;
-          free = free;
-        }) }
-        ensures err { OnErr result (self.new ≡ self.old) }
-        ensures wants { OnErr result
-            (WantsFrom (has_in self.old.workers free) self.old.clients (fd + 1)) }
+        ensures { LeavesPlace fd left free self.old result self.new }
     {
         let (scripts, has_free) = (self.scripts(), self.has_free(&free));
         let (from, most) = (fd as usize + 1, most_with(&left));
@@ -175,8 +150,7 @@ impl Table {
         ensures turn { IfOk result
             (λ turn. Turns self.old last.now (heard parts.entry) turn self.new) }
         ensures err { OnErr result (self.new ≡ self.old) }
-        ensures wants { OnErr result (MayWant self.old.workers self.old.clients (At fd) last.now
-            (heard parts.entry)) }
+        ensures wants { OnErr result (WantsAt self.old (At fd) last.now (heard parts.entry)) }
     {
         let was = self.clients.worker_at(fd);
         let (scripts, worker) = (self.scripts(), self.worker());
@@ -206,8 +180,8 @@ impl Table {
         ensures turn { IfOk result
             (λ turn. Turns self.old last.now (heard parts.entry) turn self.new) }
         ensures err { OnErr result (self.new ≡ self.old) }
-        ensures wants { OnErr result (MayWant self.old.workers self.old.clients self.old.flight
-            last.now (heard parts.entry)) }
+        ensures wants { OnErr result
+            (WantsAt self.old self.old.flight last.now (heard parts.entry)) }
     {
         match self.flight {
             Flight::Nothing => self.pick_from(0),

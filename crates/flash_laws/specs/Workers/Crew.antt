@@ -1,8 +1,8 @@
 -- The workers of a site, as the law over a world has them, and what stays as it is while a world runs.
 use Rattle.std.specs.Prelude.{◌≡◌, ◌<◌, ℕ, Bool, true, List}
 use Rattle.iol_core.specs.Access.{HasAccess}
-use Rattle.iol_core.specs.Calls.Aggregates.{default_pool}
 use Rattle.iol_core.specs.Positions.{ArePlaced}
+use Rattle.iol_core.specs.Prelude.{default_pool}
 use Rattle.iol_core.specs.State.{State}
 use Rattle.iol_laws.specs.Opening.{AreLow}
 use Rattle.iol_laws.specs.Sources.{MayReadAll}

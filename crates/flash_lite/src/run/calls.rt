@@ -6,7 +6,7 @@ ghost use Rattle.flash_laws.specs.Run.Wanting.{makes_bytes};
 ghost use Rattle.flash_laws.specs.Run as spec;
 ghost use Rattle.flash_laws.specs.Prelude.{script_text, frame_of, end_around, place_in_frame};
 ghost use Rattle.flash_laws.specs.declared.script_run.TheConstants.{CHUNK_BYTES};
-ghost use Rattle.flash_lite.specs.Runs.{IsPiece, IsSmallRun, IsSmallStep, job_for};
+ghost use Rattle.flash_lite.specs.Runs.{IsPiece, IsSmallRun, IsSmallStep, job_for, step_call};
 
 use crate::request_calls::join_call;
 use crate::run::parts::part_call;
@@ -116,8 +116,8 @@ pub(crate) fn step_call(
     step: Step,
 ) -> Result<Call, AllocError>
     requires { IsSmallRun run × IsSmallStep step }
-    ensures call { IfOk result (λ call. call
-        ≡ spec.step_wants (job_for (wanted request.now) script.now) fd (wanted request.now) run step) }
+    ensures call { IfOk result
+        (λ call. call ≡ step_call (wanted request.now) script.now fd run step) }
     ensures wants { OnErr result (makes_bytes step ≡ true) }
 {
     Ok(match step {

@@ -8,8 +8,9 @@ ghost use Rattle.flash_laws.specs.Run as spec;
 ghost use Rattle.flash_laws.specs.Prelude.{has_bytes};
 ghost use Rattle.flash_laws.specs.declared.phase.Doing.TheVariants.{Sent};
 ghost use Rattle.flash_lite.specs.Heard.{heard};
-ghost use Rattle.flash_lite.specs.Runs.{IsGoing, IsSmallRun, IsSmallRunning};
+ghost use Rattle.flash_lite.specs.Runs.{IsGoing, IsSmallRun, IsSmallRunning, part_call_for, told_left};
 ghost use Rattle.flash_lite.specs.Small.{IsSmall};
+ghost use Rattle.flash_lite.specs.Texts.{text_for};
 
 use crate::answers::served_text;
 use crate::conn::piece_end;
@@ -87,8 +88,7 @@ pub(crate) fn told_left(
     parts: Option<Parts<'_>>,
 ) -> Doing
     requires { IsGoing doing }
-    ensures told { result
-        ≡ (conn.told (spec.in_phase (wanted request.now) doing) last.now (heard parts.entry)).doing }
+    ensures told { result ≡ told_left (wanted request.now) doing last.now (heard parts.entry) }
     ensures small { IsSmall result }
 {
     match doing {
@@ -102,7 +102,7 @@ pub(crate) fn told_left(
 // The head is made, with the body where that is no file's.
 fn make_call(alloc: Global, request: &Request, content: &Content) -> Result<Call, AllocError>
     ensures { IfOk result
-        (λ call. call ≡ AggMake (conn.text_of (serve (wanted request.now)) content.now)) }
+        (λ call. call ≡ AggMake (text_for (wanted request.now) content.now)) }
 {
     let text = served_text(alloc, request, content)?;
     Ok(Call::AggMake {
@@ -119,7 +119,7 @@ pub(crate) fn part_call(
 ) -> Result<Call, AllocError>
     requires { spec.is_left doing ≡ true }
     ensures call { IfOk result
-        (λ call. call ≡ conn.wants fd (spec.in_phase (wanted request.now) doing)) }
+        (λ call. call ≡ part_call_for fd (wanted request.now) doing) }
     ensures wants { OnErr result (has_bytes doing ≡ true) }
 {
     Ok(match doing {

@@ -6,10 +6,14 @@ use Rattle.flash_lite.specs.declared.conn.Onward.{Onward}
 use Rattle.flash_lite.proofs.Answering.Clients.{asks_alone}
 use Rattle.flash_lite.proofs.client.Client.go_on_alone.Goals as goal
 
-pub returns-in-Asks-clause-course : goal.returns-in-Asks-clause-course
-returns-in-Asks-clause-course c =
+pub returns-in-Asks : goal.returns-in-Asks
+returns-in-Asks c =
     let y : Client = record { conn = c.go_on.new.self; run = c.self.inside.run; script = c.self.inside.script.items } in
     let onward = subst (λ (o : Onward). IsOnward c.args.fd c.self.inside.conn c.args.last.now (heard c.args.parts) o c.go_on.new.self) c.in-Asks.is c.in_ok-call.ensures.onward in
     let goes = subst (λ (s : Client). GoesOn s.conn c.args.last.now (heard c.args.parts) c.go_on.new.self) c.self.view_is onward.0 in
-    asks_alone c.args.scripts c.args.fd c.args.self.now y c.args.last.now (heard c.args.parts) c.file_call.result c.requires goes
-    (ap (λ (s : Client). s.run) c.self.view_is ∙ c.requires) (ap (λ (s : Client). s.script) c.self.view_is) c.file_call.ensures
+    record {
+      course = asks_alone c.args.scripts c.args.fd c.args.self.now y c.args.last.now (heard c.args.parts) c.file_call.result c.requires goes
+          (ap (λ (s : Client). s.run) c.self.view_is ∙ c.requires) (ap (λ (s : Client). s.script) c.self.view_is) c.file_call.ensures;
+      err = tt;
+      wants = tt;
+    }

@@ -1,0 +1,40 @@
+-- How a worker takes a turn, or finds no memory: whichever part of its account it goes by.
+use Rattle.std.specs.Prelude.{◌≡◌, ◌<◌, ℕ, true, List, length, Option, IfOk, OnErr, Result}
+use Rattle.iol_core.specs.declared.events.Reply.{Reply}
+use Rattle.iol_proc.specs.Quiet.{IsQuiet}
+use Rattle.iol_proc.specs.declared.process.Turn.{Turn}
+use Rattle.flash_cgi.specs.Wants.{WantsOn, WantsToFile, has_bytes}
+use Rattle.flash_cgi.specs.Working.{told}
+use Rattle.flash_cgi.specs.Works.{asks, files, goes_on, takes}
+use Rattle.flash_cgi.specs.declared.phase.Step.{Step}
+use Rattle.flash_cgi.specs.declared.worker.Worker.{Worker}
+
+-- A worker takes such a turn, which makes no call that is answered by a copy of bytes. Or it finds no memory, where it may want
+-- some (`may_want`), and stays as it was.
+pub record TakesTurn {E : Type 0} (goes : Turn → Worker → Type 0) (may_want : Type 0) (old : Worker) (result : Result Turn E)
+    (new : Worker) : Type 0 where
+  pub turn : IfOk result (λ made. goes made new)
+  pub quiet : IfOk result IsQuiet
+  pub err : OnErr result (new ≡ old)
+  pub wants : OnErr result may_want
+
+-- it makes the call that it is at
+abbrev pub MakesItsCall : {E : Type 0} → (old : Worker) → Result Turn E → (new : Worker) → Type 0
+MakesItsCall old result new = TakesTurn (asks old) (has_bytes old.job old.step ≡ true) old result new
+
+-- it goes on with a step, or makes its call again
+abbrev pub StepsOn : {E : Type 0} → (old : Worker) → Option Step → Result Turn E → (new : Worker) → Type 0
+StepsOn old next result new = TakesTurn (goes_on old next) (WantsOn old.job next) old result new
+
+-- the step that it is at after the reply to its call; none where the call is to be made again
+abbrev pub next_step : Worker → Reply → (ℕ → Option (List ℕ)) → Option Step
+next_step w last lent = told w.job w.step lent last
+
+-- it takes this text, which came on its job pipe under this number
+abbrev pub TakesText : {E : Type 0} → (old : Worker) → (text : List ℕ) → (agg : ℕ) → Result Turn E → (new : Worker) → Type 0
+TakesText old text agg result new = TakesTurn (takes old text agg) (0 < length text) old result new
+
+-- it files the reply to its call
+abbrev pub FilesReply : {E : Type 0} → (old : Worker) → Reply → (ℕ → Option (List ℕ)) → Result Turn E → (new : Worker) → Type 0
+FilesReply old last lent result new =
+    TakesTurn (files old old.step.doing last lent) (WantsToFile old old.step.doing last lent) old result new
