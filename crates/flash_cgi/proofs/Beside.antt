@@ -9,7 +9,7 @@ use Rattle.iol_core.specs.State.{State, Pipe, File, aggregate, content, descript
 use Rattle.iol_core.specs.declared.descriptors.Descriptor.TheVariants as on
 use Rattle.iol_core.specs.declared.descriptors.Mode.TheVariants.{Read}
 use Rattle.iol_core.specs.Positions.{ArePlaced}
-use Rattle.iol_core.specs.Calls.Writing.{is_file}
+use Rattle.iol_core.specs.Calls.Writes.{is_file}
 use Rattle.iol_core.specs.Run.{StepsTo}
 use Rattle.iol_core.specs.Values.{ValuesStay, gives_up}
 use Rattle.iol_core.specs.declared.events.Call.TheVariants as call
@@ -25,9 +25,9 @@ use Rattle.iol_proc.specs.declared.seat.Seat.{Seat}
 use Rattle.flash_cgi.specs.Job.{Task}
 use Rattle.flash_cgi.specs.Output.{Outcome, Found, output}
 use Rattle.flash_cgi.specs.Outcomes.{AreFiles, outcomes_in, to_come, to_come_doing, ReadsNamed}
-use Rattle.flash_cgi.specs.Working.{bytes_at, told_doing}
+use Rattle.flash_cgi.specs.WorkerSteps.{bytes_at, told_doing}
 use Rattle.flash_cgi.specs.Feeds.{rest_of, still, still_doing, HasBytes, IsFileOpen, Needs, Feeds}
-use Rattle.flash_cgi.specs.Taking.{HasJob, Begins}
+use Rattle.flash_cgi.specs.JobStart.{HasJob, Begins}
 use Rattle.flash_cgi.specs.Turns.{IsFree, RunsJob, or_again, filed_step}
 use Rattle.flash_cgi.specs.Beside.{LeavesWorker, LeavesFiles, LeavesJobs, Hears, is_call_of}
 use Rattle.flash_cgi.specs.declared.line.Line.{Line}
@@ -38,8 +38,8 @@ use Rattle.flash_cgi.specs.declared.phase.Standing.{Standing}
 use Rattle.flash_cgi.specs.declared.phase.Standing.TheVariants as standing
 use Rattle.flash_cgi.specs.declared.phase.Step.{Step}
 use Rattle.flash_cgi.specs.declared.worker.Worker.{Worker}
-use Rattle.flash_cgi.proofs.Feeding.{bytes-append}
-use Rattle.flash_cgi.proofs.Taking.{awaits_still}
+use Rattle.flash_cgi.proofs.OutputByCall.{bytes-append}
+use Rattle.flash_cgi.proofs.JobStart.{awaits_still}
 use Rattle.flash_cgi.proofs.Truly.{content-same, same_outcome, same_outcomes}
 
 some-inj : {A : Type 0} (x y : A) → Some x ≡ Some y → x ≡ y

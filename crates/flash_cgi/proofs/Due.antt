@@ -18,10 +18,10 @@ use Rattle.flash_cgi.specs.Beside.{is_call_of, LeavesFiles, LeavesJobs, LeavesWo
 use Rattle.flash_cgi.specs.Due.{HasDesk, HasRest, IsDue, IsWritten, GaveFront, ScriptsPutOut}
 use Rattle.flash_cgi.specs.Feeds.{Needs}
 use Rattle.flash_cgi.specs.Free.{HasNoJob}
-use Rattle.flash_cgi.specs.Leaving.{LeavesAllBut, WorkersAreQuiet}
+use Rattle.flash_cgi.specs.Frame.{LeavesAllBut, WorkersAreQuiet}
 use Rattle.flash_cgi.specs.Outcomes.{AreFiles, outcomes_in}
 use Rattle.flash_cgi.specs.Output.{Outcome, output}
-use Rattle.flash_cgi.specs.Taking.{HasJob}
+use Rattle.flash_cgi.specs.JobStart.{HasJob}
 use Rattle.flash_cgi.specs.Turns.{IsFree, is_given, step_of, Awaits, RunsJob, outcomes_to_come, ReadsItsFile, GoesOn, IsOver, TurnsFeed}
 use Rattle.flash_cgi.specs.Works.{worker_turns}
 use Rattle.flash_cgi.specs.declared.line.Line.{Line}
@@ -31,7 +31,7 @@ use Rattle.flash_cgi.specs.declared.phase.Standing.TheVariants as standing
 use Rattle.flash_cgi.specs.declared.worker.Worker.{Worker}
 use Rattle.flash_cgi.proofs.Beside.{free_still}
 use Rattle.flash_cgi.proofs.Free.{FreeTurn, free_turn}
-use Rattle.flash_cgi.proofs.Taking.{all_taken}
+use Rattle.flash_cgi.proofs.JobStart.{all_taken}
 
 begins : (m : State) (j p fd : ℕ) (seat : Seat Worker) (query script : List ℕ) (lines : List Line) → IsFree m seat → HasJob m seat.by j p fd query script lines
     → (pipe_at m j).writing ≡ true → IsDue m j p seat (bytes_of (pipe_at m p).queue ++ output query lines (outcomes_in m seat.by lines))

@@ -18,8 +18,8 @@ use Rattle.iol_proc.specs.declared.seat.Seat.{Seat}
 use Rattle.flash_cgi.specs.Free.{HasNoJob, WorkersStayFree}
 use Rattle.flash_cgi.specs.Job.{Task, job_of}
 use Rattle.flash_cgi.specs.Turns.{IsFree, is_given, or_again, filed_step}
-use Rattle.flash_cgi.specs.Waiting.{is_over}
-use Rattle.flash_cgi.specs.Working.{call_at, doing_call, told, told_doing, bytes_at}
+use Rattle.flash_cgi.specs.Standstill.{is_over}
+use Rattle.flash_cgi.specs.WorkerSteps.{call_at, doing_call, told, told_doing, bytes_at}
 use Rattle.flash_cgi.specs.Works.{IsNew, works, works_as, files, goes_on, takes, with_job, with_text, worker_turns}
 use Rattle.flash_cgi.specs.declared.phase.Doing.{Doing}
 use Rattle.flash_cgi.specs.declared.phase.Doing.TheVariants as doing
@@ -28,7 +28,7 @@ use Rattle.flash_cgi.specs.declared.phase.Standing.TheVariants as standing
 use Rattle.flash_cgi.specs.declared.phase.Step.{Step}
 use Rattle.flash_cgi.specs.declared.worker.Worker.{Worker}
 use Rattle.flash_cgi.proofs.Beside.{free_still}
-use Rattle.flash_cgi.proofs.Turning.{seat_at, lent-live}
+use Rattle.flash_cgi.proofs.OutputByTurn.{seat_at, lent-live}
 
 new_is_free : (m : State) (d : ℕ) (w : Worker) → IsNew w → IsFree m (seat_of (d, w))
 new_is_free m d w new = record {

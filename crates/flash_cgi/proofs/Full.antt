@@ -25,8 +25,8 @@ use Rattle.flash_cgi.specs.Full.{RunningIsFull}
 use Rattle.flash_cgi.specs.Job.{Task, job_of}
 use Rattle.flash_cgi.specs.Output.{Outcome}
 use Rattle.flash_cgi.specs.Turns.{Awaits, filed_step, or_again}
-use Rattle.flash_cgi.specs.Waiting.{IsBlocked, IsStuck, is_over}
-use Rattle.flash_cgi.specs.Working.{doing_call, next_call, told, told_doing}
+use Rattle.flash_cgi.specs.Standstill.{IsBlocked, IsStuck, is_over}
+use Rattle.flash_cgi.specs.WorkerSteps.{doing_call, next_call, told, told_doing}
 use Rattle.flash_cgi.specs.declared.line.Line.{Line}
 use Rattle.flash_cgi.specs.declared.line.Line.TheVariants as line
 use Rattle.flash_cgi.specs.declared.phase.Doing.{Doing}
@@ -35,7 +35,7 @@ use Rattle.flash_cgi.specs.declared.phase.Standing.{Standing}
 use Rattle.flash_cgi.specs.declared.phase.Standing.TheVariants as standing
 use Rattle.flash_cgi.specs.declared.phase.Step.{Step}
 use Rattle.flash_cgi.specs.declared.worker.Worker.{Worker}
-use Rattle.flash_cgi.proofs.Taking.{waits_as_job}
+use Rattle.flash_cgi.proofs.JobStart.{waits_as_job}
 
 -- no call that begins a line blocks
 line_goes : (job : Task) (l : Option Line) → may_wait (next_call job l) ≡ true → ⊥

@@ -3,11 +3,11 @@ use Rattle.std.proofs.Common.{◌≡◌, ℕ, ◌≤◌, ◌<◌, Bool, true, fa
 use Rattle.std.specs.Prelude.{if◌then◌else◌, nat_le}
 use Rattle.std.proofs.lemmas.Bool.Decides.{nat_tests}
 use Rattle.iol_core.specs.State.{State}
-use Rattle.flash_cgi.specs.Gathered.{as_text, joined, fits, gather}
+use Rattle.flash_cgi.specs.JoinedLines.{as_text, joined, fits, gather}
 use Rattle.flash_cgi.specs.Laws.{GatheringKeeps}
 use Rattle.flash_cgi.specs.Outcomes.{outcome_in, outcomes_in}
 use Rattle.flash_cgi.specs.Output.{Outcome, output, cat_of, wc_of}
-use Rattle.flash_cgi.specs.Working.{line_text}
+use Rattle.flash_cgi.specs.WorkerSteps.{line_text}
 use Rattle.flash_cgi.specs.declared.gather.TheConstants.{MAX_QUERY_BYTES, MAX_TEXT_BYTES}
 use Rattle.flash_cgi.specs.declared.line.Line.{Line}
 use Rattle.flash_cgi.specs.declared.line.Line.TheVariants as line

@@ -4,9 +4,9 @@ use Rattle.std.specs.Prelude.{slice_get, unwrap_or}
 use Rattle.std.specs.List.{list_any}
 use Rattle.std.proofs.lemmas.List.{take_all}
 use Rattle.iol_core.specs.State.{State, File, content, file, may_read}
-use Rattle.iol_core.specs.Numbered.{numbered_or}
+use Rattle.iol_core.specs.NumberedLists.{numbered_or}
 use Rattle.iol_core.specs.Calls.Files.{file_called}
-use Rattle.iol_core.specs.Calls.Writing.{is_file}
+use Rattle.iol_core.specs.Calls.Writes.{is_file}
 use Rattle.iol_core.specs.Positions.{ArePlaced}
 use Rattle.iol_core.specs.Run.{StepsTo}
 use Rattle.iol_core.specs.declared.descriptors.Descriptor.{Descriptor}
@@ -25,7 +25,7 @@ use Rattle.iol_laws.specs.Frame.{EachStepLeavesTheRest, Leaves, changes_files, a
 use Rattle.iol_laws.specs.Order.{IsOrderly}
 use Rattle.flash_cgi.specs.Job.{Task}
 use Rattle.flash_cgi.specs.Output.{Outcome, Found, Failed}
-use Rattle.flash_cgi.specs.Working.{call_at, told, told_next, told_made, told_opened, told_written, told_read, told_cut, next_call, bytes_at}
+use Rattle.flash_cgi.specs.WorkerSteps.{call_at, told, told_next, told_made, told_opened, told_written, told_read, told_cut, next_call, bytes_at}
 use Rattle.flash_cgi.specs.Feeds.{Feeds, settled, settled_open, failed}
 use Rattle.flash_cgi.specs.Outcomes.{outcome_of, outcome_in, outcomes_in, to_come, IsReading, ReadsNamed, SettlesTruly, AreFiles, OutcomesAreTrue}
 use Rattle.flash_cgi.specs.declared.line.Line.{Line}
@@ -35,7 +35,7 @@ use Rattle.flash_cgi.specs.declared.phase.Purpose.TheVariants as purpose
 use Rattle.flash_cgi.specs.declared.phase.Doing.{Doing}
 use Rattle.flash_cgi.specs.declared.phase.Doing.TheVariants as doing
 use Rattle.flash_cgi.specs.declared.phase.Step.{Step}
-use Rattle.flash_cgi.proofs.Feeding.{rest-cons, rest-nil, at_step, file-same}
+use Rattle.flash_cgi.proofs.OutputByCall.{rest-cons, rest-nil, at_step, file-same}
 
 pub content-same : (m n : State) (k : ℕ) → n.slots ≡ m.slots → content n k ≡ content m k
 unfolding content

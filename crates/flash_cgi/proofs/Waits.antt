@@ -10,14 +10,14 @@ use Rattle.iol_core.specs.declared.events.Reply.{Reply}
 use Rattle.iol_core.specs.declared.events.Reply.TheVariants as reply
 use Rattle.iol_core.specs.declared.refusals.Refusal.TheVariants.{WouldBlock}
 use Rattle.iol_laws.specs.Reasons.{RefusalsTellWhy}
-use Rattle.iol_proc.specs.Lent.{lent_to}
-use Rattle.iol_proc.specs.Settled.{Settles}
+use Rattle.iol_proc.specs.LentBytes.{lent_to}
+use Rattle.iol_proc.specs.Settlement.{Settles}
 use Rattle.iol_proc.specs.Idle.{more_of_two}
 use Rattle.iol_proc.specs.declared.process.Turn.TheVariants as turn
 use Rattle.flash_cgi.specs.Job.{Task, job_of}
-use Rattle.flash_cgi.specs.Working.{call_at, doing_call, told, bytes_at}
+use Rattle.flash_cgi.specs.WorkerSteps.{call_at, doing_call, told, bytes_at}
 use Rattle.flash_cgi.specs.Works.{works, works_as, files, goes_on, takes, with_job, worker_turns}
-use Rattle.flash_cgi.specs.Waiting.{IsStuck, IsRefused, HasWaited, WaitingIsEmpty, is_over}
+use Rattle.flash_cgi.specs.Standstill.{IsStuck, IsRefused, HasWaited, WaitingIsEmpty, is_over}
 use Rattle.flash_cgi.specs.declared.phase.Doing.{Doing}
 use Rattle.flash_cgi.specs.declared.phase.Doing.TheVariants as doing
 use Rattle.flash_cgi.specs.declared.phase.Standing.{Standing}

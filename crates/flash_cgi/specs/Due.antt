@@ -19,7 +19,7 @@ use Rattle.flash_cgi.specs.Beside.{is_call_of, LeavesFiles}
 use Rattle.flash_cgi.specs.Free.{HasNoJob}
 use Rattle.flash_cgi.specs.Outcomes.{AreFiles, outcomes_in}
 use Rattle.flash_cgi.specs.Output.{Outcome, output}
-use Rattle.flash_cgi.specs.Taking.{HasJob}
+use Rattle.flash_cgi.specs.JobStart.{HasJob}
 use Rattle.flash_cgi.specs.Turns.{IsFree, RunsJob, outcomes_to_come, ReadsItsFile}
 use Rattle.flash_cgi.specs.Works.{worker_turns}
 use Rattle.flash_cgi.specs.declared.line.Line.{Line}

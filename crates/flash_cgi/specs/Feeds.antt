@@ -12,7 +12,7 @@ use Rattle.iol_laws.specs.Caller.{lent_at, ClosesWriteEnd}
 use Rattle.iol_laws.specs.Order.{IsOrderly}
 use Rattle.flash_cgi.specs.Job.{Task}
 use Rattle.flash_cgi.specs.Output.{Outcome, Found, Failed, output, by_first, cat_of, wc_of}
-use Rattle.flash_cgi.specs.Working.{said_text, bytes_at, call_at, told}
+use Rattle.flash_cgi.specs.WorkerSteps.{said_text, bytes_at, call_at, told}
 use Rattle.flash_cgi.specs.declared.line.Line.{Line}
 use Rattle.flash_cgi.specs.declared.line.Line.TheVariants as line
 use Rattle.flash_cgi.specs.declared.phase.Purpose.{Purpose}

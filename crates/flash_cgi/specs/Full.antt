@@ -7,7 +7,7 @@ use Rattle.iol_laws.specs.Order.{IsOrderly}
 use Rattle.iol_proc.specs.declared.seat.Seat.{Seat}
 use Rattle.flash_cgi.specs.Output.{Outcome}
 use Rattle.flash_cgi.specs.Turns.{RunsJob}
-use Rattle.flash_cgi.specs.Waiting.{HasWaited}
+use Rattle.flash_cgi.specs.Standstill.{HasWaited}
 use Rattle.flash_cgi.specs.declared.worker.Worker.{Worker}
 
 -- It waits for nothing else: a job that it has not read would be read, and of its calls a write to the pipe alone may block.

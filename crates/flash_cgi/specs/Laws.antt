@@ -2,26 +2,26 @@
 use Rattle.std.specs.Prelude.{◌≡◌, ℕ, ◌<◌, ◌^◌, List, ◌∷◌, ◌++◌, length}
 use Rattle.iol_core.specs.State.{State}
 use Rattle.flash_cgi.specs.Script.{script_of}
-use Rattle.flash_cgi.specs.Gathered.{gathered}
+use Rattle.flash_cgi.specs.JoinedLines.{gathered}
 use Rattle.flash_cgi.specs.Job.{job_text, job_of, task_of}
 use Rattle.flash_cgi.specs.Output.{Outcome, output}
-use Rattle.flash_cgi.specs.Working.{line_text}
+use Rattle.flash_cgi.specs.WorkerSteps.{line_text}
 use Rattle.flash_cgi.specs.declared.gather.TheConstants.{MAX_TEXT_BYTES}
 use Rattle.flash_cgi.specs.declared.line.Line.{Line}
 use Rattle.flash_cgi.specs.declared.line.Line.TheVariants.{Emit}
 pub use Rattle.flash_cgi.specs.Beside.{OthersHear}
 pub use Rattle.flash_cgi.specs.Due.{ScriptsPutOut}
-pub use Rattle.flash_cgi.specs.Ending.{WorkersStop}
+pub use Rattle.flash_cgi.specs.PipeEnd.{WorkersStop}
 pub use Rattle.flash_cgi.specs.Feeds.{FeedsOn}
 pub use Rattle.flash_cgi.specs.Free.{WorkersStayFree}
 pub use Rattle.flash_cgi.specs.Full.{RunningIsFull}
-pub use Rattle.flash_cgi.specs.Having.{WorkersKeepNothing}
-pub use Rattle.flash_cgi.specs.Leaving.{WorkersAreQuiet}
+pub use Rattle.flash_cgi.specs.Uses.{WorkersKeepNothing}
+pub use Rattle.flash_cgi.specs.Frame.{WorkersAreQuiet}
 pub use Rattle.flash_cgi.specs.Outcomes.{OutcomesAreTrue, outcomes_in}
-pub use Rattle.flash_cgi.specs.Shown.{OutputsAreShown}
-pub use Rattle.flash_cgi.specs.Taking.{JobsAreTaken}
+pub use Rattle.flash_cgi.specs.OutputPools.{OutputsAreShown}
+pub use Rattle.flash_cgi.specs.JobStart.{JobsAreTaken}
 pub use Rattle.flash_cgi.specs.Turns.{TurnsFeed}
-pub use Rattle.flash_cgi.specs.Waiting.{WaitingIsEmpty}
+pub use Rattle.flash_cgi.specs.Standstill.{WaitingIsEmpty}
 
 -- a job's text is read as that job
 abbrev pub JobsAreRead : Type 0

@@ -2,7 +2,7 @@
 use Rattle.std.specs.Prelude.{◌≡◌, ℕ, ◌-◌, ◌≤◌, true, false, List, [], ◌∷◌, ◌++◌, length, drop, Option, Some, None, if◌then◌else◌}
 use Rattle.iol_core.specs.State.{State, descriptor, file, content, may_read, is_pool}
 use Rattle.iol_core.specs.Calls.Files.{file_called}
-use Rattle.iol_core.specs.Numbered.{is_numbered}
+use Rattle.iol_core.specs.NumberedLists.{is_numbered}
 use Rattle.iol_core.specs.Positions.{ArePlaced}
 use Rattle.iol_core.specs.Run.{StepsTo}
 use Rattle.iol_core.specs.declared.limits.TheConstants.{MAX_FILE_BYTES}
@@ -15,7 +15,7 @@ use Rattle.iol_laws.specs.Caller.{lent_at, is_rough}
 use Rattle.iol_laws.specs.Order.{IsOrderly}
 use Rattle.flash_cgi.specs.Job.{Task}
 use Rattle.flash_cgi.specs.Output.{Outcome, Found, Failed}
-use Rattle.flash_cgi.specs.Working.{call_at, told}
+use Rattle.flash_cgi.specs.WorkerSteps.{call_at, told}
 use Rattle.flash_cgi.specs.Feeds.{Feeds, settled}
 use Rattle.flash_cgi.specs.declared.line.Line.{Line}
 use Rattle.flash_cgi.specs.declared.line.Line.TheVariants as line

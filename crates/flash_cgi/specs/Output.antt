@@ -4,7 +4,7 @@ use Rattle.iol_core.specs.declared.refusals.Refusal.{Refusal}
 use Rattle.flash_cgi.specs.declared.line.Line.{Line}
 use Rattle.flash_cgi.specs.declared.line.Line.TheVariants.{Emit, Query, Cat, Wc, Pause}
 use Rattle.flash_cgi.specs.declared.counts.Said.TheVariants.{Refused, Counted}
-use Rattle.flash_cgi.specs.Working.{line_text, said_text, counts_of}
+use Rattle.flash_cgi.specs.WorkerSteps.{line_text, said_text, counts_of}
 
 -- what comes of opening and reading a file: its bytes, or why it was refused
 pub data Outcome : Type 0 where

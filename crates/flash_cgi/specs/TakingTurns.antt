@@ -4,7 +4,7 @@ use Rattle.iol_core.specs.declared.events.Reply.{Reply}
 use Rattle.iol_proc.specs.Quiet.{IsQuiet}
 use Rattle.iol_proc.specs.declared.process.Turn.{Turn}
 use Rattle.flash_cgi.specs.Wants.{WantsOn, WantsToFile, has_bytes}
-use Rattle.flash_cgi.specs.Working.{told}
+use Rattle.flash_cgi.specs.WorkerSteps.{told}
 use Rattle.flash_cgi.specs.Works.{asks, files, goes_on, takes}
 use Rattle.flash_cgi.specs.declared.phase.Step.{Step}
 use Rattle.flash_cgi.specs.declared.worker.Worker.{Worker}

@@ -14,11 +14,11 @@ use Rattle.iol_proc.specs.declared.seat.Seat.{Seat}
 use Rattle.flash_cgi.specs.Job.{Task}
 use Rattle.flash_cgi.specs.Output.{Outcome, output}
 use Rattle.flash_cgi.specs.Outcomes.{AreFiles, outcomes_in, to_come, ReadsNamed}
-use Rattle.flash_cgi.specs.Working.{told}
+use Rattle.flash_cgi.specs.WorkerSteps.{told}
 use Rattle.flash_cgi.specs.Works.{worker_turns}
-use Rattle.flash_cgi.specs.Waiting.{is_over}
+use Rattle.flash_cgi.specs.Standstill.{is_over}
 use Rattle.flash_cgi.specs.Feeds.{Feeds, Ends}
-use Rattle.flash_cgi.specs.Taking.{HasJob, Begins}
+use Rattle.flash_cgi.specs.JobStart.{HasJob, Begins}
 use Rattle.flash_cgi.specs.declared.line.Line.{Line}
 use Rattle.flash_cgi.specs.declared.phase.Doing.{Doing}
 use Rattle.flash_cgi.specs.declared.phase.Doing.TheVariants as doing

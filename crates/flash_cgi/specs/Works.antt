@@ -8,7 +8,7 @@ use Rattle.iol_proc.specs.declared.process.Turn.{Turn}
 use Rattle.iol_proc.specs.declared.process.Turn.TheVariants as turn
 use Rattle.flash_cgi.specs.Job.{Task, no_task, job_of}
 use Rattle.flash_cgi.specs.Wants.{Wants}
-use Rattle.flash_cgi.specs.Working.{call_at, told, bytes_at}
+use Rattle.flash_cgi.specs.WorkerSteps.{call_at, told, bytes_at}
 use Rattle.flash_cgi.specs.declared.phase.Doing.{Doing}
 use Rattle.flash_cgi.specs.declared.phase.Doing.TheVariants as doing
 use Rattle.flash_cgi.specs.declared.phase.Standing.{Standing}

@@ -2,7 +2,7 @@
 ghost use Rattle.std.specs.Prelude.{◌≡◌, true, IfOk, OnErr};
 ghost use Rattle.std.specs.List.{slice_get};
 ghost use Rattle.flash_cgi.specs.Wants.{has_bytes, line_has_bytes, next_has_bytes};
-ghost use Rattle.flash_cgi.specs.Working as spec;
+ghost use Rattle.flash_cgi.specs.WorkerSteps as spec;
 
 use crate::jobs::Job;
 use crate::line::Line;

@@ -1,6 +1,6 @@
 //! What is said of a file in place of its bytes.
 ghost use Rattle.std.specs.Prelude.{◌≡◌, IfOk};
-ghost use Rattle.flash_cgi.specs.Working as spec;
+ghost use Rattle.flash_cgi.specs.WorkerSteps as spec;
 
 use iol_core::lists::Bytes;
 use iol_core::refusals::Refusal;

@@ -2,7 +2,7 @@
 ghost use Rattle.std.specs.Prelude.{◌≡◌, ◌<◌, count_by, length, IfOk, OnErr};
 ghost use Rattle.std.specs.List.{concat};
 ghost use Rattle.iol_proc.specs.Prelude.{lent};
-ghost use Rattle.flash_cgi.specs.Working as spec;
+ghost use Rattle.flash_cgi.specs.WorkerSteps as spec;
 
 use crate::counts::Counts;
 use iol_agg::Parts;

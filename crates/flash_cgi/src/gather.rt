@@ -1,6 +1,6 @@
 //! Consecutive texts of a script, a short query among them, as one text.
 ghost use Rattle.std.specs.Prelude.{◌≡◌, ◌++◌, [], IfOk};
-ghost use Rattle.flash_cgi.specs.Gathered as spec;
+ghost use Rattle.flash_cgi.specs.JoinedLines as spec;
 
 use crate::line::Line;
 use crate::script::Script;

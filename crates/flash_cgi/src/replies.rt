@@ -1,7 +1,7 @@
 //! What a worker is at after the reply to its call.
 ghost use Rattle.std.specs.Prelude.{◌≡◌};
 ghost use Rattle.iol_proc.specs.Prelude.{lent};
-ghost use Rattle.flash_cgi.specs.Working as spec;
+ghost use Rattle.flash_cgi.specs.WorkerSteps as spec;
 
 use crate::counts::Said;
 use crate::feeds::{counts, len_of};

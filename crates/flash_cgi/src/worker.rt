@@ -3,7 +3,7 @@ ghost use Rattle.std.specs.Prelude.{◌≡◌, ◌<◌, Some, IfOk, OnErr, lengt
 ghost use Rattle.iol_proc.specs.Prelude.{lent, IsQuiet};
 ghost use Rattle.flash_cgi.specs.TakingTurns.{FilesReply, MakesItsCall, StepsOn, TakesText, next_step};
 ghost use Rattle.flash_cgi.specs.Wants as memory;
-ghost use Rattle.flash_cgi.specs.Working.{bytes_at};
+ghost use Rattle.flash_cgi.specs.WorkerSteps.{bytes_at};
 ghost use Rattle.flash_cgi.specs.Works as account;
 
 use crate::calls::call_at;
@@ -141,7 +141,7 @@ impl Process for Worker {
 }
 
 impl Settling for Worker {
-    ghost use Rattle.flash_cgi.specs.Waiting.{HasWaited};
+    ghost use Rattle.flash_cgi.specs.Standstill.{HasWaited};
 
     ghost settled = { HasWaited };
 

@@ -1,1 +1,1 @@
-pub mod Filed
+pub mod FileList

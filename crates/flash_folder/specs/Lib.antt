@@ -1,3 +1,3 @@
 pub mod Fault
 pub mod Folder
-pub mod Serving
+pub mod Announcement

@@ -1,7 +1,7 @@
 //! The server of a folder.
 ghost use Rattle.std.specs.Prelude.{◌≡◌, ◌⊎◌, IfErr, OnOk};
 ghost use Rattle.flash_folder.specs.Fault.{StopsServing, StopsStart};
-ghost use Rattle.flash_folder.specs.Serving.{Announces, AnnouncesPort};
+ghost use Rattle.flash_folder.specs.Announcement.{Announces, AnnouncesPort};
 
 use crate::fault::{Fault, ended};
 use crate::folder::Host;

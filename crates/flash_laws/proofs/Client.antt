@@ -1,8 +1,8 @@
 pub mod Phases
-pub mod Moving
-pub mod Nearing
-pub mod Staying
-pub mod Taking
+pub mod DoneCalls
+pub mod Progress
+pub mod Frame
+pub mod TakenBytes
 pub mod Alone
-pub mod Offering
-pub mod Keeping
+pub mod OfferedBytes
+pub mod Holdings

@@ -11,7 +11,7 @@ use Rattle.iol_core.specs.declared.refusals.Refusal.TheVariants as refuse
 use Rattle.iol_core.specs.declared.events.Call.TheVariants as call
 use Rattle.iol_core.specs.declared.events.Event.TheVariants as event
 use Rattle.iol_core.specs.declared.events.Reply.TheVariants as reply
-use Rattle.iol_core.proofs.Passing.{passed}
+use Rattle.iol_core.proofs.TestedLists.{passed}
 use Rattle.flash_laws.specs.Conn.{count_of}
 
 pub counted : (bytes : List ℕ) → length bytes ≤ 16777216 → count_of bytes ≡ length bytes

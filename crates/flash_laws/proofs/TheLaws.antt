@@ -10,7 +10,7 @@ use Rattle.iol_laws.specs.Frame.{EachStepLeavesTheRest}
 use Rattle.iol_laws.specs.Order.{EachStepKeepsOrder}
 use Rattle.iol_laws.specs.Others.{OthersLeaveConnections}
 use Rattle.iol_laws.specs.Reasons.{RefusalsTellWhy}
-use Rattle.flash_laws.proofs.Conn.Answering.{WindowLaws}
+use Rattle.flash_laws.proofs.Conn.Responses.{WindowLaws}
 
 pub record TheLaws : Type 0 where
   pub windows : WindowLaws

@@ -5,7 +5,7 @@ use Rattle.std.proofs.lemmas.Bool.Decides.{nat_tests}
 use Rattle.std.proofs.lemmas.Grind.{common_steps}
 use Rattle.std.proofs.lemmas.List.{length-replicate}
 use Rattle.iol_core.specs.Access.{HasAccess}
-use Rattle.iol_core.specs.Numbered.{is_numbered}
+use Rattle.iol_core.specs.NumberedLists.{is_numbered}
 use Rattle.iol_core.specs.Positions.{ArePlaced}
 use Rattle.iol_core.specs.State.{State, File, new_state, domain, pool, file, content, conn_at, is_pool, may_read, with_domain, with_conn, with_content}
 use Rattle.iol_core.specs.Run.{meaning, StepsTo}
@@ -16,9 +16,9 @@ use Rattle.iol_core.specs.declared.events.Reply.{Reply}
 use Rattle.iol_core.specs.declared.events.Reply.TheVariants as reply
 use Rattle.iol_core.specs.declared.limits.TheConstants.{MAX_FILES, MAX_FILE_BYTES}
 use Rattle.iol_core.specs.declared.refusals.Refusal.TheVariants as refusal
-use Rattle.iol_laws.specs.Opening.{DescriptorsComeByReplies, AreLow}
+use Rattle.iol_laws.specs.DescriptorNumbers.{DescriptorsComeByReplies, AreLow}
 use Rattle.iol_laws.specs.Order.{IsOrderly, EachStepKeepsOrder}
-use Rattle.iol_proc.specs.Settled.{Claim}
+use Rattle.iol_proc.specs.Settlement.{Claim}
 use Rattle.iol_proc.specs.Turns.{Account}
 use Rattle.iol_proc.specs.World.{Stage}
 use Rattle.iol_proc.specs.declared.choice.Choice.{Choice}

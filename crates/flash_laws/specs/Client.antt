@@ -2,11 +2,11 @@
 --
 -- A server that has workers answers a request for a name that ends in `.cgi` with what the script puts out. The script is
 -- opened and read as any file; then its run has the connection until all is sent.
-pub mod Known
+pub mod ResponseState
 pub mod Fits
-pub mod Offering
-pub mod Keeping
-pub mod Wanting
+pub mod OfferedBytes
+pub mod Holdings
+pub mod Wants
 use Rattle.std.specs.Prelude.{◌≡◌, ℕ, ◌&&◌, Bool, true, false, List, [], Option, Some, None, is_some}
 use Rattle.iol_core.specs.declared.events.Call.{Call}
 use Rattle.iol_core.specs.declared.events.Call.TheVariants as call
@@ -21,7 +21,7 @@ use Rattle.flash_laws.specs.Conn.{Conn, new_connection, most_read, is_head_only}
 use Rattle.flash_laws.specs.Conn.Policy as policy
 use Rattle.flash_laws.specs.Run as running
 use Rattle.flash_laws.specs.Run.{is_over}
-use Rattle.flash_laws.specs.Site.Tied.{left_by}
+use Rattle.flash_laws.specs.Site.OtherConns.{left_by}
 use Rattle.flash_laws.specs.declared.phase.Learnt.TheVariants.{Text}
 use Rattle.flash_laws.specs.declared.phase.Content.TheVariants.{Script}
 use Rattle.flash_laws.specs.declared.phase.Doing.{Doing}

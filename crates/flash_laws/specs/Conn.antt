@@ -1,10 +1,10 @@
 -- One connection as the server sees it: what is kept of it, the call that is wanted next, and what it is after the reply.
 pub mod Fits
-pub mod Offering
-pub mod Nearing
-pub mod Keeping
+pub mod OfferedBytes
+pub mod Progress
+pub mod Holdings
 pub mod Policy
-pub mod Wanting
+pub mod Wants
 use Rattle.std.specs.Prelude.{◌≡◌, ℕ, ◌+◌, ◌-◌, ◌==◌, ◌||◌, ◌⊎◌, min, nat_lt, nat_le, Bool, true, false, not, List, [], ◌∷◌, ◌++◌, length, Option, Some, None, if◌then◌else◌}
 use Rattle.iol_core.specs.declared.limits.TheConstants.{MAX_AGGREGATE_BYTES, MAX_QUEUE_BYTES}
 use Rattle.iol_core.specs.declared.descriptors.Mode.TheVariants as modes

@@ -2,19 +2,19 @@
 pub use Rattle.flash_laws.specs.Answers.{keeps}
 pub use Rattle.flash_laws.specs.Answers.Scripts.{end_around, frame_of, place_in_frame, script_text}
 pub use Rattle.flash_laws.specs.Client.{Client, new_client}
-pub use Rattle.flash_laws.specs.Client.Wanting.{makes_bytes}
+pub use Rattle.flash_laws.specs.Client.Wants.{makes_bytes}
 pub use Rattle.flash_laws.specs.Conn.{Conn, IsAwaiting, count_of}
 pub use Rattle.flash_laws.specs.Conn.Policy.{is_later}
-pub use Rattle.flash_laws.specs.Conn.Wanting.{can_begin, has_bytes}
+pub use Rattle.flash_laws.specs.Conn.Wants.{can_begin, has_bytes}
 pub use Rattle.flash_laws.specs.Run.{is_over, told_part}
-pub use Rattle.flash_laws.specs.Run.Wanting.{makes_any}
+pub use Rattle.flash_laws.specs.Run.Wants.{makes_any}
 pub use Rattle.flash_laws.specs.Serves.{Server, heard_of, new_server}
 pub use Rattle.flash_laws.specs.Serves.Rounds.{goes_in, in_rounds, next_in}
-pub use Rattle.flash_laws.specs.Serves.Wanting.{WantsFrom, WantsPlace, server_wants}
+pub use Rattle.flash_laws.specs.Serves.Wants.{WantsFrom, WantsPlace, server_wants}
 pub use Rattle.flash_laws.specs.Site.Places.{NoneRuns, runs_scripts}
-pub use Rattle.flash_laws.specs.Site.Tied.{grown, with_at}
+pub use Rattle.flash_laws.specs.Site.OtherConns.{grown, with_at}
 pub use Rattle.flash_laws.specs.Workers.{IsDueOf, IsFreeFor}
-pub use Rattle.flash_laws.specs.Workers.Sharing.{IsShared}
+pub use Rattle.flash_laws.specs.Workers.OwnWorkers.{IsShared}
 pub use Rattle.flash_laws.specs.World.{RunKeepsTie, StepKeepsTie, TiedAtFirst, TiedIsAnswered, TiedIsWhole}
 pub use Rattle.flash_laws.specs.World.Done.{IdleIsDone}
 pub use Rattle.flash_laws.specs.World.Host.{HostIsRight}

@@ -3,9 +3,9 @@
 -- It begins once the text of the script is read, and is the answer to a request that is served and is no HEAD. `job` is the
 -- text of the job, which names the descriptor at which the worker has the pipe's write end.
 pub mod Fits
-pub mod Offering
-pub mod Keeping
-pub mod Wanting
+pub mod OfferedBytes
+pub mod Holdings
+pub mod Wants
 pub mod Stages
 use Rattle.std.specs.Prelude.{ℕ, min, ◌+◌, ◌-◌, ◌==◌, ◌&&◌, ◌||◌, nat_lt, not, Bool, true, false, List, [], ◌∷◌, Option, Some, None, if◌then◌else◌}
 use Rattle.iol_core.specs.declared.refusals.Refusal.{Refusal}

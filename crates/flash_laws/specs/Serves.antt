@@ -1,9 +1,9 @@
 -- A turn of the server: the reply to the call that is out is filed, a client is picked, and its next call is made.
 pub mod Rounds
 pub mod GoesRound
-pub mod Wanting
+pub mod Wants
 use Rattle.std.specs.Prelude.{◌≡◌, ℕ, true, List, [], Option, Some, unwrap_or}
-use Rattle.iol_core.specs.Numbered.{in_place}
+use Rattle.iol_core.specs.NumberedLists.{in_place}
 use Rattle.iol_core.specs.State.{State}
 use Rattle.iol_core.specs.Run.{StepsTo}
 use Rattle.iol_core.specs.declared.events.Call.TheVariants as call
@@ -15,7 +15,7 @@ use Rattle.iol_proc.specs.declared.process.Turn.TheVariants as turn
 use Rattle.flash_laws.specs.Client.{Client, wants, Readies}
 use Rattle.flash_laws.specs.Site.Places.{has_free, may_go, runs_scripts, filed}
 use Rattle.flash_laws.specs.Site.{server}
-use Rattle.flash_laws.specs.Site.Tied.{with_at}
+use Rattle.flash_laws.specs.Site.OtherConns.{with_at}
 use Rattle.flash_laws.specs.declared.phase.Flight.{Flight}
 use Rattle.flash_laws.specs.declared.phase.Flight.TheVariants.{Nothing, Accepting, At}
 

@@ -1,8 +1,8 @@
 -- The files of a site, and who may read them: what a list of outcomes by name stands for, and what leaves it so.
 pub mod Past
-pub mod Tied
+pub mod OtherConns
 pub mod Places
-pub mod Served
+pub mod ClientTies
 use Rattle.std.specs.Prelude.{◌≡◌, ◌≢◌, ◌≤◌, ℕ, true, false, List, length, Option, Some, None, if◌then◌else◌}
 use Rattle.iol_core.specs.State.{State, content, file, may_read, is_live}
 use Rattle.iol_core.specs.Calls.Files.{file_called}

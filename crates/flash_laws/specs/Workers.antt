@@ -4,7 +4,7 @@
 pub mod Crew
 pub mod Crews
 pub mod PutsOut
-pub mod Sharing
+pub mod OwnWorkers
 use Rattle.std.specs.Prelude.{◌≡◌, ◌⊎◌, ◌≤◌, ℕ, Bool, true, false, List, ◌++◌, length, Some}
 use Rattle.iol_core.specs.Access.{HasAccess}
 use Rattle.iol_core.specs.Text.{bytes_of}
@@ -21,18 +21,18 @@ use Rattle.iol_laws.specs.Caller.{is_rough, ClosesWriteEnd}
 use Rattle.iol_laws.specs.Order.{IsOrderly}
 use Rattle.iol_laws.specs.Others.{GoesFromFront}
 use Rattle.iol_laws.specs.Sources.{lie_in}
-use Rattle.iol_proc.specs.Settled.{Claim}
+use Rattle.iol_proc.specs.Settlement.{Claim}
 use Rattle.iol_proc.specs.Turns.{Account, SeatTurn}
 use Rattle.iol_proc.specs.World.{copying}
 use Rattle.iol_proc.specs.declared.seat.Seat.{Seat}
 use Rattle.flash_cgi.specs.Beside.{is_call_of, LeavesFiles}
 use Rattle.flash_cgi.specs.Due.{IsDue}
 use Rattle.flash_cgi.specs.Free.{HasNoJob}
-use Rattle.flash_cgi.specs.Leaving.{LeavesAllBut}
+use Rattle.flash_cgi.specs.Frame.{LeavesAllBut}
 use Rattle.flash_cgi.specs.Outcomes.{AreFiles, outcomes_in}
 use Rattle.flash_cgi.specs.Output.{output}
-use Rattle.flash_cgi.specs.Shown.{HoldFiles, IsShown}
-use Rattle.flash_cgi.specs.Taking.{HasJob}
+use Rattle.flash_cgi.specs.OutputPools.{HoldFiles, IsShown}
+use Rattle.flash_cgi.specs.JobStart.{HasJob}
 use Rattle.flash_cgi.specs.Turns.{IsFree}
 use Rattle.flash_cgi.specs.declared.line.Line.{Line}
 use Rattle.flash_cgi.specs.declared.worker.Worker.{Worker}

@@ -24,7 +24,7 @@ use Rattle.flash_laws.specs.Conn.Fits.{Names}
 use Rattle.flash_laws.specs.Site.Past.{Past}
 use Rattle.flash_laws.specs.Site.Places.{filed}
 use Rattle.flash_laws.specs.Serves.Rounds.{in_rounds}
-use Rattle.flash_laws.specs.Site.Served.{AreAtDesks, AllFit, AreOwned}
+use Rattle.flash_laws.specs.Site.ClientTies.{AreAtDesks, AllFit, AreOwned}
 use Rattle.flash_laws.specs.Serves.{Server, new_server, Policy}
 use Rattle.flash_laws.specs.Shelf.{Shelf, Begins, IsAnswer}
 use Rattle.flash_laws.specs.Site.{server}

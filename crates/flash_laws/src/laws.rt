@@ -1,8 +1,8 @@
 //! Laws of the server's calls and turns. The functions do nothing; their contracts are the laws.
 ghost use Rattle.flash_laws.specs.Serves.GoesRound.{TurnsGoRound};
-ghost use Rattle.flash_laws.specs.Conn.Keeping.{KeepsNothing};
-ghost use Rattle.flash_laws.specs.Conn.Offering.{OffersTheResponse};
-ghost use Rattle.flash_laws.specs.Workers.Sharing.{WorkersAreShared};
+ghost use Rattle.flash_laws.specs.Conn.Holdings.{KeepsNothing};
+ghost use Rattle.flash_laws.specs.Conn.OfferedBytes.{OffersTheResponse};
+ghost use Rattle.flash_laws.specs.Workers.OwnWorkers.{WorkersAreShared};
 ghost use Rattle.flash_laws.specs.Site.{SiteStays};
 
 use iol_laws::laws;

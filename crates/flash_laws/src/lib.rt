@@ -3,7 +3,7 @@
 //! There is no code here but the phases of a connection ([`phase`]), and the steps of a script's
 //! run ([`script_run`]). What the server does in a turn is a relation (`specs/Serves`,
 //! `server_turns`): the last reply is filed, a client is picked, and its next call is made; when it
-//! may want memory is said beside it (`specs/Serves/Wanting`). A client is a connection, and the run of
+//! may want memory is said beside it (`specs/Serves/Wants`). A client is a connection, and the run of
 //! a script while that has it (`specs/Client`). What is said of each call for a client stands in
 //! [`run_laws`]; that turns go round and each script has a worker of its own, in [`laws`]; what a
 //! worker and the files give, in [`worker_laws`]. The law ([`world_law`]) is about every process

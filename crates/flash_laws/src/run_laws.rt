@@ -1,9 +1,9 @@
 //! The laws of a script's run, and of a client for whose requests scripts run. The functions do
 //! nothing; their contracts are the laws.
-ghost use Rattle.flash_laws.specs.Client.Keeping.{ClientsLeaveNothing};
-ghost use Rattle.flash_laws.specs.Client.Offering.{ClientsAreOfferedTheResponse};
-ghost use Rattle.flash_laws.specs.Run.Keeping.{RunsKeepNothing};
-ghost use Rattle.flash_laws.specs.Run.Offering.{RunsOfferTheResponse};
+ghost use Rattle.flash_laws.specs.Client.Holdings.{ClientsLeaveNothing};
+ghost use Rattle.flash_laws.specs.Client.OfferedBytes.{ClientsAreOfferedTheResponse};
+ghost use Rattle.flash_laws.specs.Run.Holdings.{RunsKeepNothing};
+ghost use Rattle.flash_laws.specs.Run.OfferedBytes.{RunsOfferTheResponse};
 
 use iol_laws::laws;
 

@@ -1,7 +1,7 @@
-pub mod Refused
-pub mod Passing
-pub mod Making
-pub mod Filing
-pub mod Piping
-pub mod Leading
+pub mod FirstRefusal
+pub mod PassedRuns
+pub mod DomainsAndPools
+pub mod FileCalls
+pub mod JobPipes
+pub mod Outcome
 pub mod AnyStore

@@ -2,7 +2,7 @@
 use Rattle.std.proofs.Common.{◌≡◌, ℕ, zero, suc, ◌+◌, ◌-◌, ◌≤◌, List, [], ◌∷◌, ◌++◌, length, replicate, refl, sym, subst, ap, arith, Option, Some, None, Bool, true, false, if◌then◌else◌}
 use Rattle.std.specs.Prelude.{slice_set, nat_lt}
 use Rattle.std.proofs.lemmas.Bool.Decides.{nat_tests}
-use Rattle.iol_core.specs.Numbered.{in_place, taken}
+use Rattle.iol_core.specs.NumberedLists.{in_place, taken}
 use Rattle.iol_core.specs.declared.events.Reply.{Reply}
 use Rattle.iol_core.specs.declared.events.Reply.TheVariants as reply
 use Rattle.iol_proc.specs.declared.process.Turn.{Turn}
@@ -11,7 +11,7 @@ use Rattle.flash_laws.specs.Site.Places.{first_free, runs_scripts, told_at, file
 use Rattle.flash_laws.specs.Conn.Policy.{door, flight_to, most_conns}
 use Rattle.flash_laws.specs.Serves.Rounds.{next_flight, next_place, place_after}
 use Rattle.flash_laws.specs.Serves.{Picks}
-use Rattle.flash_laws.specs.Site.Tied.{with_at}
+use Rattle.flash_laws.specs.Site.OtherConns.{with_at}
 use Rattle.flash_laws.specs.declared.phase.Flight.{Flight}
 use Rattle.flash_laws.specs.declared.phase.Flight.TheVariants.{Nothing, Accepting, At}
 use Rattle.flash_lite.specs.Few.{most_in, IsFew}

@@ -1,6 +1,6 @@
 -- No more places are taken than there are.
 use Rattle.std.proofs.Common.{◌≤◌, List, [], ◌∷◌, length, Option, Some, None, arith}
-use Rattle.iol_core.specs.Numbered.{taken}
+use Rattle.iol_core.specs.NumberedLists.{taken}
 
 pub taken_few : {A : Type 0} (places : List (Option A)) → taken places ≤ length places
 taken_few [] = omega arith

@@ -1,4 +1,4 @@
-pub mod Gathered
+pub mod GatheredLists
 pub mod Places
 pub mod Marks
 pub mod Order
@@ -6,5 +6,5 @@ pub mod Few
 pub mod Fewer
 pub mod Calls
 pub mod World
-pub mod Answering
+pub mod Responses
 pub mod Turns

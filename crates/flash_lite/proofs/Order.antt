@@ -5,14 +5,14 @@ use Rattle.std.specs.List.Sorted.{IsStrictlyIncreasing}
 use Rattle.std.proofs.lemmas.Bool.Decides.{nat_tests}
 use Rattle.std.proofs.lemmas.List.{get_or-set_same, length-replicate, length-set}
 use Rattle.std.proofs.lemmas.List.Elements.{filter_agree}
-use Rattle.iol_core.specs.Numbered.{in_place, taken}
+use Rattle.iol_core.specs.NumberedLists.{in_place, taken}
 use Rattle.flash_laws.specs.Client.{Client}
 use Rattle.flash_laws.specs.Serves.Rounds.{goes_in, next_in}
-use Rattle.flash_laws.specs.Site.Tied.{grown, with_at}
+use Rattle.flash_laws.specs.Site.OtherConns.{grown, with_at}
 use Rattle.flash_lite.specs.Order.{CanNote, goers, marked, places_from}
 use Rattle.flash_lite.proofs.Marks.{all_fail, all_pass}
 use Rattle.flash_lite.proofs.Fewer.{taken_few}
-use Rattle.flash_lite.proofs.Calls.Filing.{position-here, position-past}
+use Rattle.flash_lite.proofs.Calls.FileCalls.{position-here, position-past}
 use Rattle.flash_lite.proofs.Places.{found_in, within}
 
 -- ---- the places of those that pass a test

@@ -5,7 +5,7 @@ use Rattle.std.specs.List.{position_or_len}
 use Rattle.std.proofs.lemmas.Bool.Decides.{nat_tests}
 use Rattle.std.proofs.lemmas.List.Sums.{passes_at_first}
 use Rattle.std.proofs.lemmas.List.{get_or-drop, get_or-set_other, set-set, length-set}
-use Rattle.iol_core.specs.Numbered.{in_place, taken}
+use Rattle.iol_core.specs.NumberedLists.{in_place, taken}
 use Rattle.iol_core.specs.declared.events.Call.{Call}
 use Rattle.iol_core.specs.declared.events.Reply.{Reply}
 use Rattle.iol_proc.specs.declared.process.Turn.{Turn}
@@ -16,16 +16,16 @@ use Rattle.flash_laws.specs.Conn.Policy.{door, flight_to, most_conns}
 use Rattle.flash_laws.specs.Serves.Rounds.{goes_in, leaves_off, flight_from, place_after}
 use Rattle.flash_laws.specs.Serves.Rounds.{next_in}
 use Rattle.flash_laws.specs.Serves.{Picks}
-use Rattle.flash_laws.specs.Site.Tied.{with_at, left_by}
+use Rattle.flash_laws.specs.Site.OtherConns.{with_at, left_by}
 use Rattle.flash_laws.specs.declared.phase.Doing.{Doing}
 use Rattle.flash_laws.specs.declared.phase.Doing.TheVariants.{Rests, Got, Opens, Reads, Shuts, Picks as Picking, Spares, Heads, Joins, Sends, Cuts, Offers, Swaps, Sent, Breaks, Drops, Closes, Over}
 use Rattle.flash_laws.specs.declared.phase.Flight.{Flight}
 use Rattle.flash_laws.specs.declared.phase.Flight.TheVariants.{Nothing, Accepting, At}
 use Rattle.flash_lite.specs.Course.{left_with, remains}
-use Rattle.flash_lite.specs.Turning.{AtDoor, Makes, PicksFrom, door_to, ends, flight_by, left_as, left_at, most_with}
+use Rattle.flash_lite.specs.ServerTurn.{AtDoor, Makes, PicksFrom, door_to, ends, flight_by, left_as, left_at, most_with}
 use Rattle.flash_lite.specs.declared.client.Left.{Left}
 use Rattle.flash_lite.specs.declared.client.Left.TheVariants as left
-use Rattle.flash_lite.proofs.Calls.Filing.{position-here}
+use Rattle.flash_lite.proofs.Calls.FileCalls.{position-here}
 
 -- ---- lists with a place set
 

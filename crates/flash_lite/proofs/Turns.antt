@@ -1,6 +1,6 @@
-pub mod Turned
-pub mod Kept
-pub mod Wanting
-pub mod Freed
+pub mod TurnParts
+pub mod Invariant
+pub mod Wants
+pub mod FreeWorkers
 pub mod Firsts
 pub mod Quiet

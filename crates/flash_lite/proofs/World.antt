@@ -1,11 +1,11 @@
 pub mod Apart
-pub mod Seated
+pub mod Seats
 pub mod Desks
-pub mod Standing
+pub mod FixedMachine
 pub mod NewSite
-pub mod SiteFixed
+pub mod FixedSite
 pub mod SiteSeats
 pub mod SiteWorld
-pub mod Starting
+pub mod SiteStart
 pub mod HostedWorld
 pub mod Harmless

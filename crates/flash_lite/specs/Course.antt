@@ -6,10 +6,10 @@ use Rattle.iol_core.specs.declared.events.Reply.{Reply}
 use Rattle.iol_core.specs.declared.events.Reply.TheVariants as reply
 use Rattle.flash_http.specs.Request.{Answer, serve, refuse}
 use Rattle.flash_laws.specs.Client.{Client, Readies, can_run, conn_told, file_told, is_for_script, kept_if, left_over, run_told, run_wants, told, wants}
-use Rattle.flash_laws.specs.Client.Wanting.{WantsOn, needs_memory}
-use Rattle.flash_laws.specs.Site.Tied.{left_by}
+use Rattle.flash_laws.specs.Client.Wants.{WantsOn, needs_memory}
+use Rattle.flash_laws.specs.Site.OtherConns.{left_by}
 use Rattle.flash_laws.specs.Conn.{most_read, is_head_only}
-use Rattle.flash_laws.specs.Conn.Wanting as wanting
+use Rattle.flash_laws.specs.Conn.Wants as wanting
 use Rattle.flash_laws.specs.Serves.Rounds.{leaves_off}
 use Rattle.flash_laws.specs.Run as running
 use Rattle.flash_laws.specs.Run.{is_over}

@@ -1,6 +1,6 @@
 -- How many connections the server holds.
 use Rattle.std.specs.Prelude.{ℕ, ◌≤◌, List, Option}
-use Rattle.iol_core.specs.Numbered.{taken}
+use Rattle.iol_core.specs.NumberedLists.{taken}
 use Rattle.flash_laws.specs.declared.phase.Flight.{Flight}
 use Rattle.flash_laws.specs.declared.phase.Flight.TheVariants.{Nothing, Accepting, At}
 

@@ -16,7 +16,7 @@ use Rattle.flash_laws.specs.Site.{server}
 use Rattle.flash_laws.specs.World.Tie.{Actor, actor_turns}
 use Rattle.flash_laws.specs.World.Host.{IsRight}
 use Rattle.flash_lite.specs.Crew.{crew_of}
-use Rattle.flash_lite.specs.Hosting.{Hosts}
+use Rattle.flash_lite.specs.HostedSite.{Hosts}
 use Rattle.flash_lite.specs.Library.{library_of}
 use Rattle.flash_lite.specs.Setup.{workers_used}
 use Rattle.flash_lite.specs.Workers.{worker_turns}

@@ -1,11 +1,11 @@
 pub mod Table
 pub mod Few
-pub mod Heard
+pub mod HeardBytes
 pub mod Small
 pub mod Texts
 pub mod Onward
 pub mod Order
-pub mod Turning
+pub mod ServerTurn
 pub mod Workers
 pub mod Actors
 pub mod Accounts
@@ -16,10 +16,10 @@ pub mod NewWorld
 pub mod Library
 pub mod Crew
 pub mod SiteWorld
-pub mod Starting
-pub mod Hosting
+pub mod SiteStart
+pub mod HostedSite
 pub mod Harmless
-pub mod Offering
+pub mod Offers
 pub mod Runs
 pub mod Course
 pub mod Prelude

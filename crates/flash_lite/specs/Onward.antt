@@ -6,8 +6,8 @@ use Rattle.flash_http.specs.Request.{Answer}
 use Rattle.flash_http.specs.Window.{window_in}
 use Rattle.flash_laws.specs.Conn.{Conn, begins, told, told_rests, wants, Starts, Readies, IsAwaiting}
 use Rattle.flash_laws.specs.Conn.Policy.{is_later, is_bare, leaves_off}
-use Rattle.flash_laws.specs.Conn.Wanting.{can_begin}
-use Rattle.flash_laws.specs.Site.Tied.{left_over}
+use Rattle.flash_laws.specs.Conn.Wants.{can_begin}
+use Rattle.flash_laws.specs.Site.OtherConns.{left_over}
 use Rattle.flash_laws.specs.declared.phase.Doing.{Doing}
 use Rattle.flash_laws.specs.declared.phase.Doing.TheVariants.{Rests, Over}
 use Rattle.flash_lite.specs.Small.{IsSmall}

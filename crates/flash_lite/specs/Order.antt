@@ -2,7 +2,7 @@
 use Rattle.std.specs.Prelude.{◌≡◌, ℕ, ◌+◌, ◌≤◌, Bool, true, false, List, [], ◌∷◌, ◌++◌, Option}
 use Rattle.std.specs.Prelude.{filter, length, if◌then◌else◌, nat_lt}
 use Rattle.std.specs.List.Sorted.{IsStrictlyIncreasing}
-use Rattle.iol_core.specs.Numbered.{in_place}
+use Rattle.iol_core.specs.NumberedLists.{in_place}
 use Rattle.flash_laws.specs.Client.{Client}
 use Rattle.flash_laws.specs.Serves.Rounds.{goes_in}
 

@@ -3,7 +3,7 @@ use Rattle.std.specs.Prelude.{◌≡◌, ◌<◌, ◌≤◌, ℕ, Bool, true, fa
 use Rattle.flash_laws.specs.Client.{Client}
 use Rattle.flash_laws.specs.Site.Places.{NoneRuns, is_free}
 use Rattle.flash_laws.specs.Serves.{Server}
-use Rattle.flash_laws.specs.Workers.Sharing.{IsShared}
+use Rattle.flash_laws.specs.Workers.OwnWorkers.{IsShared}
 use Rattle.flash_laws.specs.declared.phase.Flight.{Flight}
 use Rattle.flash_laws.specs.declared.phase.Flight.TheVariants.{Nothing}
 use Rattle.flash_lite.specs.Few.{IsFew}

@@ -30,7 +30,7 @@ fn head_for(request: &Request, len: u64) -> ResponseHead
 }
 
 // The same, as bytes.
-#[tactic(auto, using(crate::proofs::Answering::Texts::file_text_is))]
+#[tactic(auto, using(crate::proofs::Responses::Texts::file_text_is))]
 fn file_text(alloc: Global, request: &Request, len: u64) -> Result<Vec<u8>, AllocError>
     ensures { IfOk result (λ bytes. bytes.items ≡ spec.file_text (wanted request.now) len) }
 {
@@ -55,7 +55,7 @@ fn add_body(
 }
 
 // All of an answer that is the status of a refusal.
-#[tactic(auto, using(crate::proofs::Answering::Texts::error_text_is))]
+#[tactic(auto, using(crate::proofs::Responses::Texts::error_text_is))]
 fn error_text(
     alloc: Global,
     status: StatusCode,

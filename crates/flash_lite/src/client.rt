@@ -8,7 +8,7 @@ ghost use Rattle.flash_laws.specs.Conn as conn;
 ghost use Rattle.flash_laws.specs.declared.phase.Doing.TheVariants.{Rests, Over};
 ghost use Rattle.flash_lite.specs.Course.{CanRest, EndsRun, GoesOnAlone, GoesOnFile, GoesOnTold, HearsText, RunsOn, WantsToEnd};
 ghost use Rattle.flash_lite.specs.Course.{call_of_run, left_with, run_after, with_run, worker_of};
-ghost use Rattle.flash_lite.specs.Heard.{heard};
+ghost use Rattle.flash_lite.specs.HeardBytes.{heard};
 ghost use Rattle.flash_lite.specs.Runs.{IsSmallRunning};
 ghost use Rattle.flash_lite.specs.Small.{IsSmall};
 ghost use Rattle.flash_lite.specs.declared.site.TheConstants.{MAX_WORKERS};
@@ -88,7 +88,7 @@ impl Client {
     }
 
     // Its call where no script runs, if its connection wants this one.
-    #[tactic(auto, using(crate::proofs::Answering::Clients::whole_wants))]
+    #[tactic(auto, using(crate::proofs::Responses::Clients::whole_wants))]
     fn file_call(&self, scripts: bool, fd: Fd, call: Call) -> Call
         requires { call ≡ conn.wants fd self.now.conn }
         ensures { result ≡ spec.conn_wants (spec.is_for_script scripts self.now.conn.q) fd
@@ -99,7 +99,7 @@ impl Client {
     }
 
     // What its connection does, where no script runs.
-    #[tactic(auto, using(crate::proofs::Answering::Clients::asks_alone, crate::proofs::Answering::Clients::leaves_alone))]
+    #[tactic(auto, using(crate::proofs::Responses::Clients::asks_alone, crate::proofs::Responses::Clients::leaves_alone))]
     fn go_on_alone(
         &mut self,
         scripts: bool,
@@ -117,7 +117,7 @@ impl Client {
     }
 
     // The text of a script was read: it is kept, if it is to run, and the file is closed.
-    #[tactic(auto, using(crate::proofs::Answering::Clients::heard_goes))]
+    #[tactic(auto, using(crate::proofs::Responses::Clients::heard_goes))]
     fn hear(
         &mut self,
         scripts: bool,
@@ -138,7 +138,7 @@ impl Client {
     }
 
     // No script runs for it: what it does after the reply to a call for a file, or a script's text.
-    #[tactic(auto, using(crate::proofs::Answering::Clients::file_rules))]
+    #[tactic(auto, using(crate::proofs::Responses::Clients::file_rules))]
     fn go_on_file(
         &mut self,
         scripts: bool,
@@ -253,7 +253,7 @@ impl Client {
     }
 
     // Its run is over, and all is sent: what is kept of its stream goes on.
-    #[tactic(auto, using(crate::proofs::Answering::Clients::rest_rules))]
+    #[tactic(auto, using(crate::proofs::Responses::Clients::rest_rules))]
     fn end_free(&mut self, scripts: bool, fd: Fd) -> Result<Course, AllocError>
         ensures { EndsRun scripts fd Rests self.old (WantsToEnd self.old Rests) result self.new }
     {
@@ -268,7 +268,7 @@ impl Client {
     }
 
     // Its run is over, and its connection goes on with this.
-    #[tactic(auto, using(crate::proofs::Answering::Clients::ends_asks, crate::proofs::Answering::Clients::ends_wants))]
+    #[tactic(auto, using(crate::proofs::Responses::Clients::ends_asks, crate::proofs::Responses::Clients::ends_wants))]
     fn end_with(&mut self, scripts: bool, fd: Fd, doing: Doing) -> Result<Course, AllocError>
         requires { (doing ≢ Rests) × (doing ≢ Over) × IsSmall doing }
         ensures { EndsRun scripts fd doing self.old (has_bytes doing ≡ true) result self.new }
@@ -280,7 +280,7 @@ impl Client {
     }
 
     // Its run is over.
-    #[tactic(auto, using(crate::proofs::Answering::Clients::over_leaves, crate::proofs::Answering::Clients::ends_wants))]
+    #[tactic(auto, using(crate::proofs::Responses::Clients::over_leaves, crate::proofs::Responses::Clients::ends_wants))]
     fn end(&mut self, scripts: bool, fd: Fd, doing: Doing) -> Result<Course, AllocError>
         requires { IsSmall doing }
         ensures { EndsRun scripts fd doing self.old (WantsToEnd self.old doing) result self.new }
@@ -299,7 +299,7 @@ impl Client {
     }
 
     // What it does after the reply to the call of its run.
-    #[tactic(auto, using(crate::proofs::Answering::RunsOn::run_rules))]
+    #[tactic(auto, using(crate::proofs::Responses::RunsOn::run_rules))]
     fn go_on_running(
         &mut self,
         scripts: bool,
@@ -404,7 +404,7 @@ impl Client {
     }
 
     /// Its next call.
-    #[tactic(auto, using(crate::proofs::Answering::Clients::ready_alone))]
+    #[tactic(auto, using(crate::proofs::Responses::Clients::ready_alone))]
     pub fn next_call(&self, scripts: bool, fd: Fd) -> Result<Call, AllocError>
         ensures call { IfOk result (λ call. call ≡ spec.wants scripts fd self.now) }
         ensures ready { spec.Readies self.now self.now }

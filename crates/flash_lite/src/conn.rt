@@ -4,9 +4,9 @@ ghost use Rattle.iol_core.specs.declared.events.Call.TheVariants.{IolRead};
 ghost use Rattle.flash_http.specs.Prelude.{answer, refuse, window_in};
 ghost use Rattle.flash_laws.specs.Conn as spec;
 ghost use Rattle.flash_laws.specs.Prelude.{is_later, can_begin, has_bytes};
-ghost use Rattle.flash_laws.specs.Conn.Wanting.{WantsOn};
+ghost use Rattle.flash_laws.specs.Conn.Wants.{WantsOn};
 ghost use Rattle.flash_laws.specs.declared.phase.Doing.TheVariants.{Rests};
-ghost use Rattle.flash_lite.specs.Heard.{heard};
+ghost use Rattle.flash_lite.specs.HeardBytes.{heard};
 ghost use Rattle.flash_lite.specs.Onward.{IsOnward, Frees, GoesWith, CanRest, WantsToStart, begun_with, in_doing, is_over, with_heard};
 ghost use Rattle.flash_lite.specs.Small.{IsSmall};
 
@@ -124,7 +124,7 @@ impl Conn {
     }
 
     // More of the stream was read. Where nothing came it is at its end.
-    #[tactic(auto, using(crate::proofs::Answering::Begun::rests_heard))]
+    #[tactic(auto, using(crate::proofs::Responses::FirstCall::rests_heard))]
     fn hear(&mut self, fd: Fd, agg: AggId, parts: Option<Parts<'_>>) -> Result<Call, AllocError>
         ensures told { IfOk result
             (λ _. self.new ≡ with_heard self.old agg (heard parts.entry)) }
@@ -182,7 +182,7 @@ impl Conn {
     }
 
     // A request begins, after so many bytes: its first call.
-    #[tactic(auto, using(crate::proofs::Answering::Begun::first_wants))]
+    #[tactic(auto, using(crate::proofs::Responses::FirstCall::first_wants))]
     fn begin(&mut self, fd: Fd, asked: Asked, len: usize) -> Result<Call, AllocError>
         ensures begun { IfOk result (λ _. self.new ≡ begun_with len (answer asked) self.old) }
         ensures call { IfOk result (λ call. call ≡ spec.wants fd self.new) }
@@ -258,7 +258,7 @@ impl Conn {
     }
 
     /// Goes on with a phase in which something is in progress.
-    #[tactic(auto, using(crate::proofs::Answering::Waiting::busy_awaits))]
+    #[tactic(auto, using(crate::proofs::Responses::Waits::busy_awaits))]
     pub(crate) fn proceed(&mut self, fd: Fd, doing: Doing) -> Result<Call, AllocError>
         requires { (doing ≢ Rests) × IsSmall doing }
         ensures doing { IfOk result (λ _. self.new ≡ record self.old { doing = doing }) }
@@ -378,7 +378,7 @@ impl Conn {
     }
 
     /// Its next call.
-    #[tactic(auto, using(crate::proofs::Answering::Waiting::awaits_ready))]
+    #[tactic(auto, using(crate::proofs::Responses::Waits::awaits_ready))]
     pub fn next_call(&self, fd: Fd) -> Result<Call, AllocError>
         ensures call { IfOk result (λ call. call ≡ spec.wants fd self.now) }
         ensures ready { spec.Readies self.now self.now }

@@ -3,7 +3,7 @@
 ghost use Rattle.std.specs.Prelude.{◌≡◌};
 ghost use Rattle.flash_http.specs.Prelude.{wanted, answer, selected};
 ghost use Rattle.flash_laws.specs.Conn as spec;
-ghost use Rattle.flash_lite.specs.Heard.{heard};
+ghost use Rattle.flash_lite.specs.HeardBytes.{heard};
 ghost use Rattle.flash_lite.specs.Small.{IsSmall};
 
 use crate::heard::count;

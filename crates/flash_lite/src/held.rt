@@ -5,9 +5,9 @@ ghost use Rattle.std.specs.Prelude.{OnErr, Some, length, true, false};
 ghost use Rattle.std.specs.Vec.{vec_capacity};
 ghost use Rattle.iol_core.specs.Prelude.{in_place, taken};
 ghost use Rattle.flash_laws.specs.Prelude.{new_client, goes_in, next_in, grown, with_at};
-ghost use Rattle.flash_lite.specs.Heard.{heard};
+ghost use Rattle.flash_lite.specs.HeardBytes.{heard};
 ghost use Rattle.flash_lite.specs.Order.{CanNote, goers};
-ghost use Rattle.flash_lite.specs.Turning.{MakesCallAt, GoesOnAt, MayRest, left_at, worker_at};
+ghost use Rattle.flash_lite.specs.ServerTurn.{MakesCallAt, GoesOnAt, MayRest, left_at, worker_at};
 ghost use Rattle.flash_lite.specs.declared.site.TheConstants.{MAX_WORKERS};
 
 use crate::client::{Client, Course, Left};

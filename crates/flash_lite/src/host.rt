@@ -1,9 +1,9 @@
 //! Hosting a site: a system of its own, and its processes in turns.
 ghost use Rattle.std.specs.Prelude.{◌≡◌, true, false, Err, IfErr, IfOk, OnOk};
 ghost use Rattle.iol_core.specs.Prelude.{IsInRange};
-ghost use Rattle.flash_lite.specs.Hosting.{HostsIfHonest, HostsOver, IsNewIfHonest};
+ghost use Rattle.flash_lite.specs.HostedSite.{HostsIfHonest, HostsOver, IsNewIfHonest};
 ghost use Rattle.flash_lite.specs.Setup as spec;
-ghost use Rattle.flash_lite.specs.Starting.{Starts, WhyNone};
+ghost use Rattle.flash_lite.specs.SiteStart.{Starts, WhyNone};
 
 use crate::actor::Actor;
 use crate::setup::{is_in_range, setup};

@@ -2,7 +2,7 @@
 ghost use Rattle.flash_laws.specs.Prelude.{ActorsSettle, in_rounds, RunKeepsTie, StepKeepsTie, TiedAtFirst, TiedIsAnswered, TiedIsWhole, IdleIsDone, HostIsRight};
 ghost use Rattle.flash_lite.specs.Crew.{crew_of};
 ghost use Rattle.flash_lite.specs.Harmless.{HarmlessIsMild, HarmlessIsRight};
-ghost use Rattle.flash_lite.specs.Hosting.{HostedIsRight};
+ghost use Rattle.flash_lite.specs.HostedSite.{HostedIsRight};
 ghost use Rattle.flash_lite.specs.SiteWorld.{SetUpIsANewWorld};
 ghost use Rattle.flash_lite.specs.Workers.{worker_turns, worker_settled};
 ghost use Rattle.flash_lite.specs.declared.site.Site.{Site};

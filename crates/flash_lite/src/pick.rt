@@ -2,7 +2,7 @@
 //! places one is accepted.
 ghost use Rattle.std.specs.Prelude.{◌≡◌, ◌<◌, ◌+◌, IfOk, None, OnErr};
 ghost use Rattle.flash_laws.specs.Prelude.{WantsFrom};
-ghost use Rattle.flash_lite.specs.Turning.{AtDoor, PicksFrom, door_to, ends, most_with};
+ghost use Rattle.flash_lite.specs.ServerTurn.{AtDoor, PicksFrom, door_to, ends, most_with};
 
 use crate::client::Left;
 use crate::held::Clients;

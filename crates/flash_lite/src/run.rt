@@ -7,7 +7,7 @@ ghost use Rattle.flash_http.specs.Prelude.{wanted};
 ghost use Rattle.flash_laws.specs.Client as client;
 ghost use Rattle.flash_laws.specs.Prelude.{makes_any};
 ghost use Rattle.flash_laws.specs.Run as spec;
-ghost use Rattle.flash_lite.specs.Heard.{heard};
+ghost use Rattle.flash_lite.specs.HeardBytes.{heard};
 ghost use Rattle.flash_lite.specs.Runs.{IsSmallRun, IsSmallStep, IsSmallRunning, call_for, run_worker, waits};
 ghost use Rattle.flash_lite.specs.Small.{IsSmall};
 ghost use Rattle.flash_lite.specs.declared.site.TheConstants.{MAX_WORKERS};

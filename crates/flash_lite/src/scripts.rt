@@ -6,7 +6,7 @@ ghost use Rattle.flash_http.specs.MediaType as names;
 ghost use Rattle.flash_http.specs.Prelude.{answer};
 ghost use Rattle.flash_laws.specs.Client as spec;
 ghost use Rattle.flash_lite.specs.Course as course;
-ghost use Rattle.flash_lite.specs.Heard.{heard};
+ghost use Rattle.flash_lite.specs.HeardBytes.{heard};
 
 use crate::request_calls::MAX_READ_BYTES;
 use flash_cgi::script::{MAX_SCRIPT_BYTES, Script};
@@ -150,7 +150,7 @@ fn gather(
 }
 
 // Whether a text is a script. No text is one, without a line.
-#[tactic(auto, using(crate::proofs::Answering::Clients::empty_runs))]
+#[tactic(auto, using(crate::proofs::Responses::Clients::empty_runs))]
 fn can_run(alloc: Global, text: &[u8]) -> Result<bool, AllocError>
     ensures runs { IfOk result (λ runs. runs ≡ spec.can_run text.now) }
     ensures wants { OnErr result (0 < length text.now) }
@@ -175,7 +175,7 @@ fn kept_if(alloc: Global, head_only: bool, runs: bool, text: Vec<u8>) -> Vec<u8>
 
 /// Whether the text that was read is a script, and what is kept of it. One that is too long for a
 /// script is not gathered, and no text takes no memory.
-#[tactic(auto, using(crate::proofs::Answering::Clients::long_runs, crate::proofs::Answering::Clients::long_kept))]
+#[tactic(auto, using(crate::proofs::Responses::Clients::long_runs, crate::proofs::Responses::Clients::long_kept))]
 pub(crate) fn heard_text(
     alloc: Global,
     head_only: bool,

@@ -7,7 +7,7 @@ ghost use Rattle.flash_http.specs.Prelude.{Answer, answer};
 ghost use Rattle.flash_laws.specs.Prelude.{keeps, told_part};
 ghost use Rattle.flash_laws.specs.Conn as spec;
 ghost use Rattle.flash_laws.specs.declared.phase.Doing.TheVariants.{Joins, Sends, Sent};
-ghost use Rattle.flash_lite.specs.Heard.{heard};
+ghost use Rattle.flash_lite.specs.HeardBytes.{heard};
 ghost use Rattle.flash_lite.specs.Runs.{IsGoing};
 ghost use Rattle.flash_lite.specs.Small.{IsSmall, size_of};
 

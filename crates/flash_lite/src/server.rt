@@ -4,8 +4,8 @@ ghost use Rattle.iol_proc.specs.Prelude.{lent, IsQuiet};
 ghost use Rattle.flash_laws.specs.Prelude.{NoneRuns, in_rounds, new_server, heard_of, IsShared, server_account, server_wants};
 ghost use Rattle.flash_lite.specs.Accounts.{serves};
 ghost use Rattle.flash_lite.specs.Few.{IsFew};
-ghost use Rattle.flash_lite.specs.Heard.{heard};
-ghost use Rattle.flash_lite.specs.Offering.{OffersNext};
+ghost use Rattle.flash_lite.specs.HeardBytes.{heard};
+ghost use Rattle.flash_lite.specs.Offers.{OffersNext};
 ghost use Rattle.flash_lite.specs.declared.site.TheConstants.{MAX_WORKERS};
 
 use crate::site::MAX_WORKERS;

@@ -3,9 +3,9 @@ ghost use Rattle.std.specs.Prelude.{◌≡◌, ◌<◌, ◌≤◌, [], IfOk, OnE
 ghost use Rattle.iol_core.specs.Prelude.{in_place};
 ghost use Rattle.flash_laws.specs.Prelude.{runs_scripts, WantsPlace};
 ghost use Rattle.flash_laws.specs.declared.phase.Flight.TheVariants.{Accepting, At};
-ghost use Rattle.flash_lite.specs.Heard.{heard};
+ghost use Rattle.flash_lite.specs.HeardBytes.{heard};
 ghost use Rattle.flash_lite.specs.Table.{IsKept, new_table};
-ghost use Rattle.flash_lite.specs.Turning.{LeavesPlace, MayRest, PicksNext, Turns, WantsAt, first_in, has_in};
+ghost use Rattle.flash_lite.specs.ServerTurn.{LeavesPlace, MayRest, PicksNext, Turns, WantsAt, first_in, has_in};
 ghost use Rattle.flash_lite.specs.declared.site.TheConstants.{MAX_WORKERS};
 
 use crate::client::{Course, Left};
@@ -96,7 +96,7 @@ impl Table {
     }
 
     // After the reply to `accept`: the next one is accepted, or where none waits the round is over.
-    #[tactic(auto, using(crate::proofs::Turns::Turned::accepted_turns, crate::proofs::Turns::Turned::over_turns))]
+    #[tactic(auto, using(crate::proofs::Turns::TurnParts::accepted_turns, crate::proofs::Turns::TurnParts::over_turns))]
     fn go_on_accepting(&mut self, last: &Reply) -> Result<Turn, AllocError>
         requires accepts { self.old.flight ≡ Accepting }
         requires kept { IsKept self.old }
@@ -138,7 +138,7 @@ impl Table {
     }
 
     // What follows the reply to the call of the client in a place.
-    #[tactic(auto, using(crate::proofs::Turns::Turned::place_rules, crate::proofs::Turns::Wanting::place_rules))]
+    #[tactic(auto, using(crate::proofs::Turns::TurnParts::place_rules, crate::proofs::Turns::Wants::place_rules))]
     fn go_on_at(
         &mut self,
         fd: u32,
@@ -170,7 +170,7 @@ impl Table {
     }
 
     /// What follows the reply to the call that is out, and the next call.
-    #[tactic(auto, using(crate::proofs::Turns::Turned::silent_rules, crate::proofs::Turns::Wanting::nothing_wants))]
+    #[tactic(auto, using(crate::proofs::Turns::TurnParts::silent_rules, crate::proofs::Turns::Wants::nothing_wants))]
     pub(crate) fn go_on(
         &mut self,
         last: &Reply,

@@ -1,6 +1,6 @@
 //! The workers of the server, by their numbers: which of them are free.
 ghost use Rattle.std.specs.Prelude.{◌≡◌, ◌<◌, ◌≤◌, IfSome, position, true};
-ghost use Rattle.flash_lite.specs.Turning.{TurnsFree, first_in, worker_left};
+ghost use Rattle.flash_lite.specs.ServerTurn.{TurnsFree, first_in, worker_left};
 ghost use Rattle.flash_lite.specs.declared.site.TheConstants.{MAX_WORKERS};
 
 use crate::client::Left;

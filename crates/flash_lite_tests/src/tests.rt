@@ -4,7 +4,7 @@ mod crowds;
 mod ends;
 mod heads;
 mod host;
-mod hosted;
+mod hosted_site;
 mod outputs;
 mod ranges;
 mod refusals;

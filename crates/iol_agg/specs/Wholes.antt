@@ -13,7 +13,7 @@ use Rattle.iol_arena.specs.Pages.{IsSameBut, MadeOn}
 use Rattle.iol_pool.specs.Pools.{pool_in}
 use Rattle.iol_hold.specs.Moves.{Moves}
 use Rattle.iol_hold.specs.Room.{has_room, lowest_of, others_of}
-use Rattle.iol_hold.specs.Stored.{Stored, Buffer, AllSettled, held_bufs}
+use Rattle.iol_hold.specs.StoreState.{Stored, Buffer, AllSettled, held_bufs}
 use Rattle.iol_hold.specs.Texts.{AllReadable, IsFilled, bufs_of, text_of}
 use Rattle.iol_hold.specs.declared.slices.Slice.{Slice}
 use Rattle.iol_agg.specs.Parts.{whole_texts}

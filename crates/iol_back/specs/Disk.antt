@@ -1,6 +1,6 @@
 -- What a contract sees of a backing store.
 use Rattle.std.specs.Prelude.{◌≡◌, ◌≢◌, ℕ, ◌+◌, ◌<◌, ◌≤◌, ◌^◌, ◌-◌, ◌⊎◌, Bool, true, List, [], ◌++◌, length, map, take, drop, min, max, slice_index, Result, Ok, Err, OnOk, OnErr}
-use Rattle.iol_core.specs.Numbered.{numbered_or}
+use Rattle.iol_core.specs.NumberedLists.{numbered_or}
 use Rattle.iol_core.specs.declared.limits.TheConstants.{MAX_FILES}
 
 -- The bytes of each file, how often the store failed, whether it is honest, and how many bytes it

@@ -1,10 +1,10 @@
 -- The fields of a cache, as what contracts see of it.
 use Rattle.std.specs.Prelude.{ℕ}
 use Rattle.iol_evict.specs.declared.entry.Rank.{Rank}
-use Rattle.iol_hold.specs.Stored.{Stored}
+use Rattle.iol_hold.specs.StoreState.{Stored}
 use Rattle.iol_cache.specs.declared.cache.Cache.{Cache}
-use Rattle.iol_cache.specs.Cached.{Cached}
-use Rattle.iol_cache.specs.Evicting.{EvictsOne, Holding}
+use Rattle.iol_cache.specs.CacheState.{Cached}
+use Rattle.iol_cache.specs.Evictions.{EvictsOne, Holding}
 
 abbrev pub cached_of : Cache → Cached
 cached_of c = record { files = c.files.items; orders = c.orders.items; marks = c.marks }

@@ -3,11 +3,11 @@ use Rattle.std.specs.Prelude.{◌≡◌, ℕ, ◌<◌, max, false, List, map, le
 use Rattle.std.specs.List.{range_with_len}
 use Rattle.iol_back.specs.Disk.{content}
 use Rattle.iol_hold.specs.Places.{Place}
-use Rattle.iol_hold.specs.Stored.{Stored}
+use Rattle.iol_hold.specs.StoreState.{Stored}
 use Rattle.iol_hold.specs.Texts.{byte_at}
 use Rattle.iol_extent.specs.Extents.{Extent, Cell, cover, last_end}
 use Rattle.iol_cache.specs.declared.files.CachedFile.{CachedFile}
-use Rattle.iol_cache.specs.Cached.{extents_in}
+use Rattle.iol_cache.specs.CacheState.{extents_in}
 
 -- what g reads at the place that lies there, or else what is stored
 abbrev pub read_or : (g : Place → ℕ) → (stored : ℕ) → Option Cell → ℕ

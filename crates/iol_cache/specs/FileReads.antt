@@ -1,27 +1,27 @@
 -- What reads of files want and do, and their steps on a part of a file.
 use Rattle.std.specs.Prelude.{◌≡◌, ℕ, ◌≤◌, ◌^◌, true, List, [], length, Result, IfErr, IfOk, OnErr}
-use Rattle.iol_core.specs.Numbered.{is_numbered}
+use Rattle.iol_core.specs.NumberedLists.{is_numbered}
 use Rattle.iol_core.specs.Prelude.{WantOfRoomOrFault}
 use Rattle.iol_core.specs.Text.{labelled}
 use Rattle.iol_core.specs.declared.refusals.Refusal.{Refusal}
 use Rattle.iol_back.specs.Disk.{Disk}
 use Rattle.iol_extent.specs.declared.spans.Span.{Span}
 use Rattle.iol_hold.specs.Places.{byte_len}
-use Rattle.iol_hold.specs.Stored.{Stored}
+use Rattle.iol_hold.specs.StoreState.{Stored}
 use Rattle.iol_hold.specs.Texts.{AllReadable, bufs_of, text_of}
 use Rattle.iol_hold.specs.declared.slices.Slice.{Slice}
 use Rattle.iol_cache.specs.declared.cache.Cache.{Cache}
 use Rattle.iol_cache.specs.declared.files.FilePart.{FilePart}
 use Rattle.iol_cache.specs.Cache.{cached_of, holding}
-use Rattle.iol_cache.specs.Cached.{Cached, file_in}
+use Rattle.iol_cache.specs.CacheState.{Cached, file_in}
 use Rattle.iol_cache.specs.Contents.{bytes_in_slot}
-use Rattle.iol_cache.specs.Evicting.{Holding}
+use Rattle.iol_cache.specs.Evictions.{Holding}
 use Rattle.iol_cache.specs.Gaps.{AreOf}
-use Rattle.iol_cache.specs.Going.{FillsAllOf, Goes}
-use Rattle.iol_cache.specs.Paging.{FillsLowest}
-use Rattle.iol_cache.specs.Reading.{MayFill}
-use Rattle.iol_cache.specs.Serving.{FillsPinned, IsBacked, IsEnd, NoRoomToRead, ReadsFile, RefusesRead, RoomToRead, TellsFault, TellsRoom, bytes_read}
-use Rattle.iol_cache.specs.Sharing.{CountsBelow}
+use Rattle.iol_cache.specs.ReadSteps.{FillsAllOf, Goes}
+use Rattle.iol_cache.specs.PageChanges.{FillsLowest}
+use Rattle.iol_cache.specs.RangeReads.{MayFill}
+use Rattle.iol_cache.specs.ReadResults.{FillsPinned, IsBacked, IsEnd, NoRoomToRead, ReadsFile, RefusesRead, RoomToRead, TellsFault, TellsRoom, bytes_read}
+use Rattle.iol_cache.specs.SharedBytes.{CountsBelow}
 use Rattle.iol_cache.specs.Sound.{IsSound}
 
 -- A part of a file may be filled, or is: its gaps are read, and it is put together with slices that are as long as what lies

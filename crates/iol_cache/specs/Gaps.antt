@@ -8,15 +8,15 @@ use Rattle.iol_arena.specs.Adds.{IsNew}
 use Rattle.iol_arena.specs.State.{pages_for}
 use Rattle.iol_arena.specs.Buffers.{Grows}
 use Rattle.iol_back.specs.Disk.{Disk, IfHonest, content}
-use Rattle.iol_cache.specs.Cached.{all_parts, parts_in}
-use Rattle.iol_cache.specs.Loading.{Asks, PlacesBuffers, PlacesOrReleases, PlacesPages}
+use Rattle.iol_cache.specs.CacheState.{all_parts, parts_in}
+use Rattle.iol_cache.specs.Loads.{Asks, PlacesBuffers, PlacesOrReleases, PlacesPages}
 use Rattle.iol_extent.specs.Extents.{Adds, Extent, ExtentMap, IsApart, begins_at, end_of, put_in, without_at}
 use Rattle.iol_extent.specs.Spans.{AreInOrder, IsGapSpan}
 use Rattle.iol_extent.specs.declared.spans.Span.{Span}
 use Rattle.iol_hold.specs.Moves.{Moves, SameLists}
 use Rattle.iol_hold.specs.Places.{byte_len}
 use Rattle.iol_hold.specs.Releases.{FreesOnly}
-use Rattle.iol_hold.specs.Stored.{AllSettled, Stored}
+use Rattle.iol_hold.specs.StoreState.{AllSettled, Stored}
 use Rattle.iol_hold.specs.Texts.{text_of, bufs_of, AllReadable}
 use Rattle.iol_hold.specs.declared.slices.Slice.{Slice}
 use Rattle.iol_pool.specs.Pools.{pool_in}

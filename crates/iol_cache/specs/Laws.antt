@@ -1,11 +1,11 @@
 -- What the words of the contracts determine.
 use Rattle.std.specs.Prelude.{◌≡◌, ℕ}
 use Rattle.iol_back.specs.Disk.{Disk}
-use Rattle.iol_hold.specs.Stored.{Stored}
-use Rattle.iol_cache.specs.Cached.{Cached}
-use Rattle.iol_cache.specs.Evicting.{Holding}
-use Rattle.iol_cache.specs.Going.{HasRoom, LacksRoom, Pins, wanted_pages}
-use Rattle.iol_cache.specs.Serving.{IsEnd, NoRoomToRead, RoomToRead}
+use Rattle.iol_hold.specs.StoreState.{Stored}
+use Rattle.iol_cache.specs.CacheState.{Cached}
+use Rattle.iol_cache.specs.Evictions.{Holding}
+use Rattle.iol_cache.specs.ReadSteps.{HasRoom, LacksRoom, Pins, wanted_pages}
+use Rattle.iol_cache.specs.ReadResults.{IsEnd, NoRoomToRead, RoomToRead}
 use Rattle.iol_cache.specs.Sound.{IsSound}
 
 -- in whichever slices the hits of a range are held, as many pages are pinned and wanted

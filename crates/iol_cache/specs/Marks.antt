@@ -2,7 +2,7 @@
 use Rattle.std.specs.Prelude.{◌≡◌, ℕ, ◌+◌, ◌-◌, ◌<◌, ◌≤◌, ◌^◌, eqb, cond, Bool, true, false, nat_lt, List, [], ◌∷◌, length, slice_index, slice_set}
 use Rattle.std.specs.List.{All, list_any}
 use Rattle.iol_core.specs.declared.numbers.BufId.{BufId}
-use Rattle.iol_hold.specs.Stored.{Stored, count_of}
+use Rattle.iol_hold.specs.StoreState.{Stored, count_of}
 use Rattle.iol_hold.specs.Moves.{tally}
 use Rattle.iol_hold.specs.Texts.{bufs_of}
 use Rattle.iol_hold.specs.declared.slices.Slice.{Slice}

@@ -1,7 +1,7 @@
 -- A range of a file that is read, step by step.
 use Rattle.std.specs.Prelude.{◌≡◌, ◌⊎◌, ℕ, ◌≤◌, ◌^◌, true, false, List, [], length, All, Some, Result, IfOk, OnErr}
 use Rattle.std.specs.Global.{Vec}
-use Rattle.iol_core.specs.Numbered.{is_numbered}
+use Rattle.iol_core.specs.NumberedLists.{is_numbered}
 use Rattle.iol_core.specs.declared.refusals.Refusal.{Refusal}
 use Rattle.iol_core.specs.declared.refusals.Refusal.TheVariants.{NoRoom}
 use Rattle.iol_back.specs.Disk.{Disk}
@@ -11,19 +11,19 @@ use Rattle.iol_extent.specs.declared.spans.Span.{Span}
 use Rattle.iol_hold.specs.Moves.{Moves, SameLists, Shares}
 use Rattle.iol_hold.specs.Places.{places}
 use Rattle.iol_hold.specs.Releases.{FreesOnly}
-use Rattle.iol_hold.specs.Stored.{AllSettled}
+use Rattle.iol_hold.specs.StoreState.{AllSettled}
 use Rattle.iol_hold.specs.Texts.{bufs_of}
 use Rattle.iol_hold.specs.declared.slices.Slice.{Slice}
 use Rattle.iol_cache.specs.declared.files.FilePart.{FilePart}
-use Rattle.iol_cache.specs.Cached.{Cached, file_in, extents_in, order_in}
-use Rattle.iol_cache.specs.Evicting.{Holding, EvictsAll, GivesUp, HasPages}
+use Rattle.iol_cache.specs.CacheState.{Cached, file_in, extents_in, order_in}
+use Rattle.iol_cache.specs.Evictions.{Holding, EvictsAll, GivesUp, HasPages}
 use Rattle.iol_cache.specs.Gaps.{gap_pages}
-use Rattle.iol_cache.specs.Going.{CountsHits, FillsFile}
-use Rattle.iol_cache.specs.Loading.{PlacesSome}
-use Rattle.iol_cache.specs.Reading.{SameButRoom}
-use Rattle.iol_cache.specs.Sharing.{CountsBelow}
+use Rattle.iol_cache.specs.ReadSteps.{CountsHits, FillsFile}
+use Rattle.iol_cache.specs.Loads.{PlacesSome}
+use Rattle.iol_cache.specs.RangeReads.{SameButRoom}
+use Rattle.iol_cache.specs.SharedBytes.{CountsBelow}
 use Rattle.iol_cache.specs.Sound.{IsSound}
-use Rattle.iol_cache.specs.Weaving.{places_beside}
+use Rattle.iol_cache.specs.Weave.{places_beside}
 
 -- a range of a file of a sound cache may be read
 pub record MayRead (f from to : ℕ) (h : Holding) : Type 0 where

@@ -1,18 +1,18 @@
 -- What holds between any two calls of a cache.
 use Rattle.std.specs.Prelude.{◌≡◌, ℕ, ◌+◌, ◌≤◌, ◌<◌, ◌^◌, true, false, List, [], ◌∷◌, ◌++◌, length, Result, IfOk, OnErr, OnOk}
 use Rattle.std.specs.List.{All}
-use Rattle.iol_core.specs.Numbered.{is_numbered}
+use Rattle.iol_core.specs.NumberedLists.{is_numbered}
 use Rattle.iol_core.specs.declared.limits.TheConstants.{MAX_FILES, MAX_FILE_BYTES}
 use Rattle.iol_arena.specs.State.{page_count}
 use Rattle.iol_pool.specs.Pools.{pool_in}
-use Rattle.iol_hold.specs.Stored.{Stored, IsTidy, IsStill}
+use Rattle.iol_hold.specs.StoreState.{Stored, IsTidy, IsStill}
 use Rattle.iol_hold.specs.Moves.{Covers}
 use Rattle.iol_hold.specs.Texts.{AllReadable}
 use Rattle.iol_hold.specs.declared.slices.Slice.{Slice}
 use Rattle.iol_extent.specs.Extents.{Extent, IsApart, last_end}
 use Rattle.iol_cache.specs.declared.files.CachedFile.{CachedFile}
 use Rattle.iol_cache.specs.Marks.{Counted}
-use Rattle.iol_cache.specs.Cached.{Cached, file_in, held, clean_held, new_file, order_in, AreRanked, AreReady}
+use Rattle.iol_cache.specs.CacheState.{Cached, file_in, held, clean_held, new_file, order_in, AreRanked, AreReady}
 
 -- P holds of each of a list
 abbrev pub Each : {A : Type 0} → (A → Type 0) → List A → Type 0

@@ -1,7 +1,7 @@
 -- What is asked of the users of extents.
 use Rattle.std.specs.Prelude.{ℕ, Bool}
 use Rattle.iol_cache.specs.declared.users.Users.{Users}
-use Rattle.iol_cache.specs.Evicting.{in_use, IsCleanAt}
+use Rattle.iol_cache.specs.Evictions.{in_use, IsCleanAt}
 use Rattle.iol_cache.specs.Sound.{IsUsable}
 
 abbrev pub is_used : Users → (f at : ℕ) → Bool

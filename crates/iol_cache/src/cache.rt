@@ -1,7 +1,7 @@
 //! The cache of files.
 ghost use Rattle.std.specs.Prelude.{◌≡◌, ℕ, ◌<◌, ◌≤◌, length, IfOk};
 ghost use Rattle.iol_extent.specs.Prelude.{last_end};
-ghost use Rattle.iol_cache.specs.Cached.{AddsOrders, dirty_in_all, extents_in, extents_in_all};
+ghost use Rattle.iol_cache.specs.CacheState.{AddsOrders, dirty_in_all, extents_in, extents_in_all};
 ghost use Rattle.iol_cache.specs.Sound.{AddsFile, HasNoFile};
 
 use crate::files::CachedFile;

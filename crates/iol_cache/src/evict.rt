@@ -2,7 +2,7 @@
 ghost use Rattle.std.specs.Prelude.{◌≡◌, ◌↔◌, false, IsTrue};
 ghost use Rattle.iol_pool.specs.Prelude.{pool_in};
 ghost use Rattle.iol_cache.specs.Cache.{EvictsFrom, cached_of, holding};
-ghost use Rattle.iol_cache.specs.Evicting.{ArePassed, DropsAll, DropsClean, FindsVictim, FreesOrKeeps, HasPages, IsCleanAt, MakesFree};
+ghost use Rattle.iol_cache.specs.Evictions.{ArePassed, DropsAll, DropsClean, FindsVictim, FreesOrKeeps, HasPages, IsCleanAt, MakesFree};
 ghost use Rattle.iol_cache.specs.Sound.{IsSound};
 
 use crate::cache::Cache;

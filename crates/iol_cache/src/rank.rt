@@ -1,8 +1,8 @@
 //! Extents of a file in the order of its pool: hits that count, and extents that come in.
 ghost use Rattle.std.specs.Prelude.{◌≡◌};
 ghost use Rattle.iol_extent.specs.Prelude.{IsApart};
-ghost use Rattle.iol_cache.specs.Entering.{Enters, EntersAll, MayEnter, MayEnterAll};
-ghost use Rattle.iol_cache.specs.Reading.{RanksFile, hits_counted};
+ghost use Rattle.iol_cache.specs.Entries.{Enters, EntersAll, MayEnter, MayEnterAll};
+ghost use Rattle.iol_cache.specs.RangeReads.{RanksFile, hits_counted};
 
 use crate::marks::CleanHolds;
 use iol_core::numbers::FileId;

@@ -2,10 +2,10 @@
 ghost use Rattle.std.specs.Prelude.{◌≡◌, ◌≤◌, true};
 ghost use Rattle.iol_core.specs.Prelude.{is_numbered};
 ghost use Rattle.iol_extent.specs.Prelude.{last_end};
-ghost use Rattle.iol_cache.specs.Cached.{extents_in};
+ghost use Rattle.iol_cache.specs.CacheState.{extents_in};
 ghost use Rattle.iol_cache.specs.Cache.{cached_of, holding};
 ghost use Rattle.iol_cache.specs.FileReads.{FillsPinnedPart, MayFillPart, MayReadFile, ServesRead, TellsLength};
-ghost use Rattle.iol_cache.specs.Serving.{IsEnd};
+ghost use Rattle.iol_cache.specs.ReadResults.{IsEnd};
 
 mod fill;
 mod gaps;

@@ -2,7 +2,7 @@
 ghost use Rattle.std.specs.Prelude.{◌≡◌, true};
 ghost use Rattle.iol_core.specs.Prelude.{is_numbered};
 ghost use Rattle.iol_cache.specs.Cache.{cached_of};
-ghost use Rattle.iol_cache.specs.Reserving.{HasOrder, ReservesPlaces};
+ghost use Rattle.iol_cache.specs.Reservations.{HasOrder, ReservesPlaces};
 
 use crate::cache::Cache;
 use iol_core::numbers::FileId;

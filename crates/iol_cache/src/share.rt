@@ -1,5 +1,5 @@
 //! Bytes of a file, shared from the extents over them.
-ghost use Rattle.iol_cache.specs.Sharing.{MayShare, SharesOver};
+ghost use Rattle.iol_cache.specs.SharedBytes.{MayShare, SharesOver};
 
 use iol_agg::Agg;
 use iol_extent::extents::Extents;

@@ -2,9 +2,9 @@
 ghost use Rattle.std.specs.Prelude.{◌≡◌, ◌^◌, true};
 ghost use Rattle.iol_core.specs.Prelude.{is_numbered};
 ghost use Rattle.iol_cache.specs.Cache.{cached_of};
-ghost use Rattle.iol_cache.specs.Sharing.{CountsBelow};
+ghost use Rattle.iol_cache.specs.SharedBytes.{CountsBelow};
 ghost use Rattle.iol_cache.specs.Sound.{IsSound};
-ghost use Rattle.iol_cache.specs.Syncing.{MaySettle, MaySync, MayWriteBack, Settles, WritesAll, WritesBack, WritesFirst, WritesOne};
+ghost use Rattle.iol_cache.specs.WriteBack.{MaySettle, MaySync, MayWriteBack, Settles, WritesAll, WritesBack, WritesFirst, WritesOne};
 
 use crate::cache::Cache;
 use crate::marks::CleanHolds;

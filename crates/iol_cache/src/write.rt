@@ -1,8 +1,8 @@
 //! Writing of files.
 ghost use Rattle.iol_cache.specs.Cache.{cached_of, holding};
-ghost use Rattle.iol_cache.specs.Overwriting.{MakesPlace, MayMakePlace, MayOverwrite, MayWrite, OverwritesOrReleases, Writes};
+ghost use Rattle.iol_cache.specs.Overwrites.{MakesPlace, MayMakePlace, MayOverwrite, MayWrite, OverwritesOrReleases, Writes};
 ghost use Rattle.iol_cache.specs.Sound.{IsSound};
-ghost use Rattle.iol_cache.specs.Writing.{MayPutOver, PutsOver};
+ghost use Rattle.iol_cache.specs.Writes.{MayPutOver, PutsOver};
 
 mod copies;
 mod cut;

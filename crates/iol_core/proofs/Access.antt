@@ -3,7 +3,7 @@ use Rattle.std.proofs.Common.{inl, inr, ◌≡◌, ℕ, ◌+◌, ◌-◌, ◌==�
 use Rattle.std.specs.Prelude.{fold, if◌then◌else◌, option_map, unwrap_or, is_none, Result, Ok, Err}
 use Rattle.std.specs.Option.{option_map_or}
 use Rattle.iol_core.specs.Text.{Text, labelled, bytes_of, part}
-use Rattle.iol_core.specs.Numbered.{without, in_place, lowest, placed}
+use Rattle.iol_core.specs.NumberedLists.{without, in_place, lowest, placed}
 use Rattle.iol_core.specs.State.{State, Domain, Connection, domain, may_read, descriptor, file, content, pipe_at, conn_at, new_domain, no_domain, with_domain, with_pipe, with_conn, with_content, text, new_state}
 use Rattle.iol_core.specs.Meaning.{Meaning, Step, first}
 use Rattle.iol_core.specs.Access.{may_see, MaySeeAll, MayReadFiles, HasAccess}
@@ -13,8 +13,8 @@ use Rattle.iol_core.specs.Calls.Aggregates as aggs
 use Rattle.iol_core.specs.Calls.Descriptors as fds
 use Rattle.iol_core.specs.Calls.Files as files
 use Rattle.iol_core.specs.Calls.Outside.{conn_new, closed_by, flush, drop_clean}
-use Rattle.iol_core.specs.Calls.Reading as reading
-use Rattle.iol_core.specs.Calls.Writing as writing
+use Rattle.iol_core.specs.Calls.Reads as reading
+use Rattle.iol_core.specs.Calls.Writes as writing
 use Rattle.iol_core.specs.Run.{called, meaning, StepsTo, Run, outcome}
 use Rattle.iol_core.specs.declared.refusals.Refusal.{Refusal}
 use Rattle.iol_core.specs.declared.refusals.Refusal.TheVariants.{Denied, NoPool}
@@ -27,8 +27,8 @@ use Rattle.iol_core.specs.declared.events.Event.{Event}
 use Rattle.iol_core.specs.declared.events.Event.TheVariants as event
 use Rattle.iol_core.specs.declared.events.Reply.{Reply}
 use Rattle.iol_core.proofs.Lookups.{domain-same, domain-push, domain-new_state, may_read-push, may_read-closed, may_read-admitted, may_read-same, file-push}
-use Rattle.iol_core.proofs.Passing.{list_all-weaker, list_all-take, list_all-drop, list_all-without, list_all-both, list_all-pair, list_all-barred, list_all-take_while, list_all-labelled, passed, when-none, when-not}
-use Rattle.iol_core.proofs.Kept.{IsAllowed, allowed, KeepsReaders, files_same, access_after, access_same, access_domain, access_pipe, access_conn, access_content, access_fds, access_with_new, access_with_agg, access_without_agg, may_see-text, MayHave, may_read_files-closed_on, may_read_files-opened, may_read-freed, may_read-placed, access_opened, access_moved, may_have-file, may_have-open, access_closed_on, access_all_closed}
+use Rattle.iol_core.proofs.TestedLists.{list_all-weaker, list_all-take, list_all-drop, list_all-without, list_all-both, list_all-pair, list_all-barred, list_all-take_while, list_all-labelled, passed, when-none, when-not}
+use Rattle.iol_core.proofs.KeptAccess.{IsAllowed, allowed, KeepsReaders, files_same, access_after, access_same, access_domain, access_pipe, access_conn, access_content, access_fds, access_with_new, access_with_agg, access_without_agg, may_see-text, MayHave, may_read_files-closed_on, may_read_files-opened, may_read-freed, may_read-placed, access_opened, access_moved, may_have-file, may_have-open, access_closed_on, access_all_closed}
 
 -- a call after which all have what they may, where it is not refused
 abbrev pub KeepsAccess : {A : Type 0} → State → Meaning A → Type 0

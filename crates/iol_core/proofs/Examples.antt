@@ -5,7 +5,7 @@ pub mod Pools
 pub mod Aggregates
 pub mod Descriptors
 pub mod Files
-pub mod Reading
-pub mod Writing
+pub mod Reads
+pub mod Writes
 pub mod Outside
-pub mod Sharing
+pub mod SharingCalls

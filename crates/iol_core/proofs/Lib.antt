@@ -1,8 +1,8 @@
 pub mod Examples
 pub mod Lookups
 pub mod Places
-pub mod Passing
-pub mod Kept
+pub mod TestedLists
+pub mod KeptAccess
 pub mod Access
 pub mod Values
 pub mod Positions

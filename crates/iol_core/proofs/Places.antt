@@ -4,7 +4,7 @@ use Rattle.std.specs.Prelude.{slice_set, nat_lt, if◌then◌else◌}
 use Rattle.std.proofs.lemmas.Bool.{cases_eq}
 use Rattle.std.proofs.lemmas.Bool.Decides.{nat_tests}
 use Rattle.std.proofs.lemmas.Grind.{common_steps}
-use Rattle.iol_core.specs.Numbered.{in_place, placed}
+use Rattle.iol_core.specs.NumberedLists.{in_place, placed}
 
 pub place-set_other : {A : Type 0} (xs : List (Option A)) (n m : ℕ) (o : Option A) → n ≢ m → in_place (slice_set xs n o) m ≡ in_place xs m
 place-set_other xs n m o differ = grind (arith, nat_tests, common_steps, differ)

@@ -6,7 +6,7 @@ use Rattle.std.proofs.lemmas.List.Quantifiers.{position-Some}
 use Rattle.std.proofs.lemmas.Bool.Decides.{nat_tests}
 use Rattle.std.proofs.lemmas.Grind.{common_steps}
 use Rattle.iol_core.specs.Text.{Text, labelled, bytes_of}
-use Rattle.iol_core.specs.Numbered.{numbered_or, is_numbered, with_numbered, in_place, lowest, placed, without}
+use Rattle.iol_core.specs.NumberedLists.{numbered_or, is_numbered, with_numbered, in_place, lowest, placed, without}
 use Rattle.iol_core.specs.State.{State, Domain, File, Pipe, Connection, domain, descriptor, content, file, pipe_at, conn_at, new_domain, no_domain, no_file, with_domain, with_pipe, with_conn, with_content, text, new_state}
 use Rattle.iol_core.specs.Meaning.{Meaning, Step, first}
 use Rattle.iol_core.specs.Positions.{ArePlaced, IsPlace}
@@ -17,8 +17,8 @@ use Rattle.iol_core.specs.Calls.Aggregates as aggs
 use Rattle.iol_core.specs.Calls.Descriptors as fds
 use Rattle.iol_core.specs.Calls.Files as files
 use Rattle.iol_core.specs.Calls.Outside.{conn_new, closed_by}
-use Rattle.iol_core.specs.Calls.Reading as reading
-use Rattle.iol_core.specs.Calls.Writing as writing
+use Rattle.iol_core.specs.Calls.Reads as reading
+use Rattle.iol_core.specs.Calls.Writes as writing
 use Rattle.iol_core.specs.Run.{called, meaning, StepsTo, Run, outcome}
 use Rattle.iol_core.specs.declared.refusals.Refusal.{Refusal}
 use Rattle.iol_core.specs.declared.refusals.Refusal.TheVariants.{BadRange, NoFile, TooMany}
@@ -32,7 +32,7 @@ use Rattle.iol_core.specs.declared.events.Event.TheVariants as event
 use Rattle.iol_core.specs.declared.events.Reply.{Reply}
 use Rattle.iol_core.proofs.Lookups.{domain-with_domain, domain-same, domain-push, domain-new_state, numbered_or-with}
 use Rattle.iol_core.proofs.Places.{place-set, place-freed, place-placed}
-use Rattle.iol_core.proofs.Passing.{passed, when-none}
+use Rattle.iol_core.proofs.TestedLists.{passed, when-none}
 
 -- what is open lies within
 abbrev IsWithin : State → Descriptor → Type 0

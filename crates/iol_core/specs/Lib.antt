@@ -2,7 +2,7 @@ pub mod Configuration
 pub mod Refusals
 pub mod Text
 pub mod Checksum
-pub mod Numbered
+pub mod NumberedLists
 pub mod State
 pub mod Meaning
 pub mod Calls
@@ -10,5 +10,5 @@ pub mod Run
 pub mod Access
 pub mod Positions
 pub mod Values
-pub mod Sharing
+pub mod SharingCalls
 pub mod Prelude

@@ -8,8 +8,8 @@ use Rattle.iol_core.specs.Calls.Aggregates.{agg_make, agg_dup, agg_cut, agg_spli
 use Rattle.iol_core.specs.Calls.Descriptors.{pipe, give_fd, close, accept}
 use Rattle.iol_core.specs.Calls.Files.{file_new, open_file, seek, file_length, fsync}
 use Rattle.iol_core.specs.Calls.Outside.{conn_new, arrive, peer_closed, transmit, flush, drop_clean}
-use Rattle.iol_core.specs.Calls.Reading.{iol_read, read}
-use Rattle.iol_core.specs.Calls.Writing.{iol_write, write}
+use Rattle.iol_core.specs.Calls.Reads.{iol_read, read}
+use Rattle.iol_core.specs.Calls.Writes.{iol_write, write}
 use Rattle.iol_core.specs.declared.refusals.Refusal.{Refusal}
 use Rattle.iol_core.specs.declared.events.Call.{Call}
 use Rattle.iol_core.specs.declared.events.Call.TheVariants as call

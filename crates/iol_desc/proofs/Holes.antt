@@ -3,11 +3,11 @@ use Rattle.std.proofs.Common.{◌≡◌, ◌≢◌, ℕ, zero, suc, ◌+◌, ◌
 use Rattle.std.specs.Prelude.{slice_set, is_some}
 use Rattle.std.proofs.lemmas.Bool.{cases_eq}
 use Rattle.std.proofs.lemmas.Bool.Decides.{nat_tests}
-use Rattle.iol_core.specs.Numbered.{lookup, without, changed}
+use Rattle.iol_core.specs.NumberedLists.{lookup, without, changed}
 use Rattle.iol_desc.specs.Tables.{place_in, exchanged}
-use Rattle.iol_desc.specs.Listed.{there, DropsHole, Rises, IsRising, IsListed}
-use Rattle.iol_desc.proofs.Rising.{rises-lower, rises-set, rises-push}
-use Rattle.iol_desc.proofs.Counted.{length-without}
+use Rattle.iol_desc.specs.EntryLists.{there, DropsHole, Rises, IsRising, IsListed}
+use Rattle.iol_desc.proofs.RisingNumbers.{rises-lower, rises-set, rises-push}
+use Rattle.iol_desc.proofs.LiveCounts.{length-without}
 
 -- what is in the entry at a place, or nothing past the end
 abbrev pub held_at : {A : Type 0} → List (ℕ × Option A) → (i : ℕ) → Option A

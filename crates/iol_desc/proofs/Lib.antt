@@ -1,5 +1,5 @@
-pub mod Taken
+pub mod TakenPlaces
 pub mod Rows
-pub mod Counted
-pub mod Rising
+pub mod LiveCounts
+pub mod RisingNumbers
 pub mod Holes

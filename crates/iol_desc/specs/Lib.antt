@@ -1,5 +1,5 @@
 pub mod Tables
-pub mod Listed
+pub mod EntryLists
 pub mod Lowest
-pub mod Lending
+pub mod Loans
 pub mod Prelude

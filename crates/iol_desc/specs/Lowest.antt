@@ -1,7 +1,7 @@
 -- Values in the lowest free places.
 use Rattle.std.specs.Prelude.{◌≡◌, ◌<◌, ◌≤◌, ℕ, ◌+◌, ◌-◌, List, length, Option, None, slice_set, vec_len, vec_capacity, Result, OnOk, OnErr}
 use Rattle.std.specs.Global.{Vec}
-use Rattle.iol_core.specs.Numbered.{lowest, placed, taken}
+use Rattle.iol_core.specs.NumberedLists.{lowest, placed, taken}
 use Rattle.iol_desc.specs.Tables.{Slots}
 
 -- n is the lowest free place, which may be the first past the end

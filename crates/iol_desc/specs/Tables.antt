@@ -2,7 +2,7 @@
 use Rattle.std.specs.Prelude.{◌≡◌, ◌≢◌, ◌<◌, ◌≤◌, ◌^◌, ℕ, ◌+◌, ◌==◌, ◌||◌, Bool, nat_lt, List, [], ◌∷◌, ◌++◌, length, Option, Some, None, map, sum_by, slice_set, Result, IfOk, OnOk, OnErr}
 use Rattle.std.specs.List.{AllByRecursion, position_or_len}
 use Rattle.iol_core.specs.State.{Domain, no_domain}
-use Rattle.iol_core.specs.Numbered.{numbered_or, with_numbered, lookup, without, lowest, placed, taken}
+use Rattle.iol_core.specs.NumberedLists.{numbered_or, with_numbered, lookup, without, lowest, placed, taken}
 use Rattle.iol_core.specs.Calls.Descriptors.{with_read_end}
 use Rattle.iol_core.specs.declared.descriptors.Descriptor.{Descriptor}
 use Rattle.iol_core.specs.declared.descriptors.Descriptor.TheVariants as on

@@ -4,8 +4,8 @@ ghost use Rattle.std.specs.Option.{option_copied, option_to_list};
 ghost use Rattle.std.specs.Borrow.{sem};
 ghost use Rattle.iol_core.specs.Prelude.{lookup};
 ghost use Rattle.iol_desc.specs.Tables.{place_in};
-ghost use Rattle.iol_desc.specs.Lending.{LendsEntry};
-ghost use Rattle.iol_desc.specs.Listed.{there, AddsEntry, DropsHole, IsRising, Replaces, ReservesEntries, Rises, SwapsEntry, TakesEntry};
+ghost use Rattle.iol_desc.specs.Loans.{LendsEntry};
+ghost use Rattle.iol_desc.specs.EntryLists.{there, AddsEntry, DropsHole, IsRising, Replaces, ReservesEntries, Rises, SwapsEntry, TakesEntry};
 
 use crate::places::occupant;
 use iol_core::numbers::AggId;
@@ -99,7 +99,7 @@ pub struct Entries<A> {
 
 impl<A> Model for Entries<A> {
     ghost use Rattle.std.specs.Prelude.{◌-◌, vec_len, vec_capacity};
-    ghost use Rattle.iol_desc.specs.Listed as listed;
+    ghost use Rattle.iol_desc.specs.EntryLists as listed;
 
     ghost Value = { listed.Listed A };
 
@@ -290,7 +290,7 @@ pub struct Taken<A> {
 
 impl<A> Model for Taken<A> {
     ghost use Rattle.std.specs.Prelude.{ℕ, List};
-    ghost use Rattle.iol_desc.specs.Listed.{there};
+    ghost use Rattle.iol_desc.specs.EntryLists.{there};
 
     ghost Value = { List (ℕ × A) };
 

@@ -2,7 +2,7 @@
 ghost use Rattle.std.specs.Prelude.{◌≡◌, ◌≢◌, ◌<◌, ◌≤◌, length, [], None, Some, slice_set, vec_len, vec_capacity};
 ghost use Rattle.std.specs.Option.{option_copied};
 ghost use Rattle.std.specs.Borrow.{sem};
-ghost use Rattle.iol_desc.specs.Lending.{LendsPlace, LendsValue};
+ghost use Rattle.iol_desc.specs.Loans.{LendsPlace, LendsValue};
 ghost use Rattle.iol_core.specs.Prelude.{in_place, lowest, taken};
 ghost use Rattle.iol_desc.specs.Lowest.{CanLower, IsLowest, MovesLower, PutsAt, PutsLowest, PutsLower, ReservesPlaces, SetsPlace};
 
@@ -11,7 +11,7 @@ use std::marker::Model;
 use std::mem;
 
 /// The lowest free place, which may be the first past the end.
-#[tactic(auto, using(crate::proofs::Taken::lowest_rules))]
+#[tactic(auto, using(crate::proofs::TakenPlaces::lowest_rules))]
 pub fn lowest_place<T>(places: &[Option<T>]) -> usize
     ensures { IsLowest places.now result }
 {
@@ -24,7 +24,7 @@ pub fn lowest_place<T>(places: &[Option<T>]) -> usize
 }
 
 /// Puts a value in a free place, or in the first past the end.
-#[tactic(auto, using(crate::proofs::Taken::put_rules))]
+#[tactic(auto, using(crate::proofs::TakenPlaces::put_rules))]
 pub fn put<T: Drop>(places: &mut Vec<Option<T>>, place: usize, value: T)
     requires place { place ≤ length places.old.items }
     requires room { vec_len places.old < vec_capacity places.old }
@@ -38,7 +38,7 @@ pub fn put<T: Drop>(places: &mut Vec<Option<T>>, place: usize, value: T)
 }
 
 /// The lowest free place, where none below a given one is free.
-#[tactic(auto, using(crate::proofs::Taken::from_rules))]
+#[tactic(auto, using(crate::proofs::TakenPlaces::from_rules))]
 fn lowest_from<T>(places: &[Option<T>], from: usize) -> usize
     requires { from ≤ lowest places.now }
     ensures { IsLowest places.now result }
@@ -64,7 +64,7 @@ fn set_taken<T: Drop>(places: &mut Vec<Option<T>>, place: usize, value: T)
 }
 
 /// Leaves a place free, and puts a value in the lowest.
-#[tactic(auto, using(crate::proofs::Taken::lower_rules))]
+#[tactic(auto, using(crate::proofs::TakenPlaces::lower_rules))]
 fn set_lower<T: Drop>(places: &mut Vec<Option<T>>, place: usize, from: usize, value: T) -> usize
     requires { CanLower places.old.items place from }
     ensures { MovesLower places.old places.new place value result }
@@ -131,7 +131,7 @@ impl<T: Drop> Places<T> {
     }
 
     /// The value in a place that is taken, for writing.
-    #[tactic(auto, using(crate::proofs::Taken::lent_rules))]
+    #[tactic(auto, using(crate::proofs::TakenPlaces::lent_rules))]
     pub fn value_mut(&mut self, place: usize) -> &mut T
         requires { in_place self.old.places place ≢ None }
         ensures* writes_back { sem 𝓛 (LendsPlace T.row self.entry place result) }
@@ -163,7 +163,7 @@ impl<T: Drop> Places<T> {
     }
 
     /// Puts a value in the lowest free place, in room that is reserved.
-    #[tactic(auto, using(crate::proofs::Taken::method_rules))]
+    #[tactic(auto, using(crate::proofs::TakenPlaces::method_rules))]
     pub fn put(&mut self, value: T) -> usize
         requires { 0 < self.old.room }
         ensures { PutsLowest self.old self.new value result }
@@ -176,7 +176,7 @@ impl<T: Drop> Places<T> {
     }
 
     /// Frees a place that is taken.
-    #[tactic(auto, using(crate::proofs::Taken::free_rules))]
+    #[tactic(auto, using(crate::proofs::TakenPlaces::free_rules))]
     pub fn free(&mut self, place: usize)
         requires { in_place self.old.places place ≢ None }
         ensures freed { self.new.places ≡ slice_set self.old.places place None }
@@ -188,7 +188,7 @@ impl<T: Drop> Places<T> {
     }
 
     /// Frees a place that is taken, and puts a value in the lowest that is free then.
-    #[tactic(auto, using(crate::proofs::Taken::moved_rules))]
+    #[tactic(auto, using(crate::proofs::TakenPlaces::moved_rules))]
     pub fn put_lower(&mut self, place: usize, value: T) -> usize
         requires { in_place self.old.places place ≢ None }
         ensures { PutsLower self.old self.new place value result }

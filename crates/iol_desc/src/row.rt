@@ -111,7 +111,7 @@ impl<A: Drop> Domain<A> {
     }
 
     /// Takes the aggregate of this number.
-    #[tactic(auto, using(crate::proofs::Counted::counted_rules))]
+    #[tactic(auto, using(crate::proofs::LiveCounts::counted_rules))]
     pub(crate) fn take_agg(&mut self, agg: AggId) -> A
         requires { lookup self.old.domain.aggs agg ≢ None }
         ensures { TakesAgg self.old self.new agg result }

@@ -1,5 +1,5 @@
 //! The table of domains.
-#![tactic(auto, using(crate::proofs::Rows::row_rules, crate::proofs::Counted::counted_rules), unfolding(crate::specs::Tables::domain_in, crate::specs::Tables::with_domain_in, crate::specs::Tables::row_in))]
+#![tactic(auto, using(crate::proofs::Rows::row_rules, crate::proofs::LiveCounts::counted_rules), unfolding(crate::specs::Tables::domain_in, crate::specs::Tables::with_domain_in, crate::specs::Tables::row_in))]
 
 ghost use Rattle.std.specs.Prelude.{◌≡◌, ◌≢◌, ◌+◌, ◌<◌, ◌≤◌, length, true, None, [], ◌∷◌, ◌++◌, OnOk, OnErr, nat_lt};
 ghost use Rattle.std.specs.Option.{option_copied};
@@ -130,7 +130,7 @@ impl<A: Drop> Table<A> {
     }
 
     /// Adds an aggregate under the domain's next number, in room that is reserved.
-    #[tactic(auto, using(std::proofs::lemmas::Grind::common_steps, crate::proofs::Rows::row_rules, crate::proofs::Counted::counted_rules), unfolding(crate::specs::Tables::domain_in, crate::specs::Tables::with_domain_in, crate::specs::Tables::row_in))]
+    #[tactic(auto, using(std::proofs::lemmas::Grind::common_steps, crate::proofs::Rows::row_rules, crate::proofs::LiveCounts::counted_rules), unfolding(crate::specs::Tables::domain_in, crate::specs::Tables::with_domain_in, crate::specs::Tables::row_in))]
     pub fn add_agg(&mut self, d: DomainId, agg: A) -> AggId
         requires live { (domain_in (domains_of self.old) d).live ≡ true }
         requires few { (domain_in (domains_of self.old) d).next_agg ≤ LAST_AGGREGATE }
@@ -145,7 +145,7 @@ impl<A: Drop> Table<A> {
     }
 
     /// Takes an aggregate from its domain.
-    #[tactic(auto, using(std::proofs::lemmas::Grind::common_steps, crate::proofs::Rows::row_rules, crate::proofs::Counted::counted_rules), unfolding(crate::specs::Tables::domain_in, crate::specs::Tables::with_domain_in, crate::specs::Tables::row_in))]
+    #[tactic(auto, using(std::proofs::lemmas::Grind::common_steps, crate::proofs::Rows::row_rules, crate::proofs::LiveCounts::counted_rules), unfolding(crate::specs::Tables::domain_in, crate::specs::Tables::with_domain_in, crate::specs::Tables::row_in))]
     pub fn take_agg(&mut self, d: DomainId, agg: AggId) -> A
         requires live { (domain_in (domains_of self.old) d).live ≡ true }
         requires there { agg_in (domains_of self.old) d agg ≢ None }
@@ -159,7 +159,7 @@ impl<A: Drop> Table<A> {
     }
 
     /// Puts another aggregate under the number of one, and gives that.
-    #[tactic(auto, using(std::proofs::lemmas::Grind::common_steps, crate::proofs::Rows::row_rules, crate::proofs::Counted::counted_rules), unfolding(crate::specs::Tables::domain_in, crate::specs::Tables::with_domain_in, crate::specs::Tables::row_in))]
+    #[tactic(auto, using(std::proofs::lemmas::Grind::common_steps, crate::proofs::Rows::row_rules, crate::proofs::LiveCounts::counted_rules), unfolding(crate::specs::Tables::domain_in, crate::specs::Tables::with_domain_in, crate::specs::Tables::row_in))]
     pub fn swap_agg(&mut self, d: DomainId, agg: AggId, other: A) -> A
         requires live { (domain_in (domains_of self.old) d).live ≡ true }
         requires there { agg_in (domains_of self.old) d agg ≢ None }

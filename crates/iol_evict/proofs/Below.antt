@@ -7,14 +7,14 @@ use Rattle.slab.specs.Slab.{Slab}
 use Rattle.iol_evict.specs.declared.entry.Entry.{Entry}
 use Rattle.iol_evict.specs.declared.entry.Rank.{Rank}
 use Rattle.iol_evict.specs.declared.entry.By.TheVariants.{Height}
-use Rattle.iol_evict.specs.Ranking.{no_entry, is_at, without}
+use Rattle.iol_evict.specs.Order.{no_entry, is_at, without}
 use Rattle.iol_evict.specs.Ranks.{rank_by, least_rank, RankLt, RankLe}
 use Rattle.iol_evict.specs.Indexes.{entry_of, rank_at, IsRising, IsIndexed}
 use Rattle.iol_evict.specs.Victims.{AreUsedBelow, is_used, KeysUsedBelow}
-use Rattle.iol_evict.proofs.Comparing.{lt_not_le, le_refl}
+use Rattle.iol_evict.proofs.RankOrder.{lt_not_le, le_refl}
 use Rattle.iol_evict.proofs.Places.{all_from}
 use Rattle.iol_evict.proofs.Times.{each-same, same-sym}
-use Rattle.iol_evict.proofs.Indexing.{entries_of, read}
+use Rattle.iol_evict.proofs.Indexes.{entries_of, read}
 
 -- whether one is in use, if it lies below a rank
 abbrev UsedBelow : (used : ℕ → ℕ → Bool) → Rank → Entry → Type 0

@@ -1,6 +1,6 @@
 -- The definitions, computed: three entries, and L past 2^62.
 use Rattle.std.proofs.Common.{◌≡◌, ◌-◌, ◌^◌, [], ◌∷◌, refl}
-use Rattle.iol_evict.specs.Ranking.{Ranking, entry_or, entered, hit_at, left_at, evicted_at}
+use Rattle.iol_evict.specs.Order.{Ranking, entry_or, entered, hit_at, left_at, evicted_at}
 
 abbrev three : Ranking
 three = entered (entered (entered (record { low = 0; entries = []; room = 3; kept = 0 }) 1 8192 8192 1) 2 0 4096 3) 1 0 4096 1

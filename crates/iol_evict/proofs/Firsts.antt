@@ -6,12 +6,12 @@ use Rattle.std.proofs.lemmas.List.Elements.{All-get_or, All-from_get_or, Contain
 use Rattle.slab.specs.Slab.{Slab}
 use Rattle.iol_evict.specs.declared.entry.Entry.{Entry}
 use Rattle.iol_evict.specs.declared.entry.By.TheVariants.{Height}
-use Rattle.iol_evict.specs.Ranking.{no_entry}
+use Rattle.iol_evict.specs.Order.{no_entry}
 use Rattle.iol_evict.specs.Ranks.{rank_by, RankLt}
 use Rattle.iol_evict.specs.Indexes.{entry_of, IsRising, IsIndexed}
 use Rattle.iol_evict.specs.Victims.{KeyLe, Precedes, IsVictim, CanAskOf, is_used, GoesFirst}
 use Rattle.iol_evict.proofs.Times.{stands-same, same-sym, each-same}
-use Rattle.iol_evict.proofs.Indexing.{entries_of, read}
+use Rattle.iol_evict.proofs.Indexes.{entries_of, read}
 
 key-lt : (a b : Entry) → RankLt (rank_by Height a) (rank_by Height b) → KeyLe a b
 key-lt a b lt = record { height = lt.height; file = lt.file; at = λ h f. (let less = lt.at h f in omega (arith, less)) }

@@ -1,12 +1,12 @@
-pub mod Comparing
+pub mod RankOrder
 pub mod Places
 pub mod Edits
 pub mod Times
-pub mod Rising
-pub mod Listed
-pub mod Indexing
-pub mod Changing
-pub mod Lowered
+pub mod KeptOrder
+pub mod EntryList
+pub mod Indexes
+pub mod Changes
+pub mod Heights
 pub mod Firsts
 pub mod Below
 mod Examples

@@ -9,7 +9,7 @@ use Rattle.iol_evict.specs.declared.entry.Rank.{Rank}
 use Rattle.iol_evict.specs.declared.entry.By.{By}
 use Rattle.iol_evict.specs.Ranks.{RankLt, RankLe}
 use Rattle.iol_evict.specs.Indexes.{rank_at, IsRising, IsPlace, HasRank, Finds, Takes}
-use Rattle.iol_evict.proofs.Comparing.{lt_trans, le_lt, lt_le, lt_not_le, le_refl}
+use Rattle.iol_evict.proofs.RankOrder.{lt_trans, le_lt, lt_le, lt_not_le, le_refl}
 
 -- all up to one that lies below
 pub all_below : (by : By) (s : Slab Entry) (keys : List ℕ) (rank : Rank) (m i : ℕ) → IsRising by s keys → m < length keys → RankLt (rank_at by s keys m) rank → i < m + 1 → RankLt (rank_at by s keys i) rank

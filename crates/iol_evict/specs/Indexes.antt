@@ -9,7 +9,7 @@ use Rattle.iol_evict.specs.declared.entry.Rank.{Rank}
 use Rattle.iol_evict.specs.declared.entry.By.{By}
 use Rattle.iol_evict.specs.declared.entry.By.TheVariants.{Place, Height}
 use Rattle.iol_evict.specs.Ranks.{rank_by, RankLt, RankLe}
-use Rattle.iol_evict.specs.Ranking.{no_entry, lowered_by}
+use Rattle.iol_evict.specs.Order.{no_entry, lowered_by}
 
 abbrev pub entry_of : Slab Entry → (key : ℕ) → Entry
 entry_of s key = unwrap_or (get s key) no_entry

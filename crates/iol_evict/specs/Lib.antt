@@ -1,4 +1,4 @@
 pub mod Ranks
-pub mod Ranking
+pub mod Order
 pub mod Victims
 pub mod Indexes

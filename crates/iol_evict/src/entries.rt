@@ -3,7 +3,7 @@ ghost use Rattle.std.specs.Prelude.{◌≡◌, ◌≢◌, ◌+◌, ◌-◌, ◌<
 ghost use Rattle.std.specs.VecDeque.{deque_len, deque_capacity};
 ghost use Rattle.slab.specs.Slab.{get, HasRoomFor};
 ghost use Rattle.iol_evict.specs.Indexes.{entry_of, IsIndexed, ReservesEntries, ReservesKeys};
-ghost use Rattle.iol_evict.specs.Ranking.{MayPut, Reserves, Table, entry_at, entry_or, lowered_by, with_entry, with_height_at, without_entry};
+ghost use Rattle.iol_evict.specs.Order.{MayPut, Reserves, Table, entry_at, entry_or, lowered_by, with_entry, with_height_at, without_entry};
 ghost use Rattle.iol_evict.specs.Victims.{AreUsedBelow, FindsFirst};
 
 use crate::entry::{By, Entry, Rank};
@@ -33,7 +33,7 @@ impl Model for Entries {
     ghost use Rattle.std.specs.Prelude.{◌≡◌, ◌+◌, ◌≤◌, map};
     ghost use Rattle.std.specs.VecDeque.{deque_len, deque_capacity};
     ghost use Rattle.slab.specs.Slab.{HasRoomFor};
-    ghost use Rattle.iol_evict.specs.Ranking.{Table};
+    ghost use Rattle.iol_evict.specs.Order.{Table};
     ghost use Rattle.iol_evict.specs.Indexes.{entry_of, IsIndexed};
 
     ghost Value = { Table };

@@ -3,7 +3,7 @@
 //! An [`Order`](order::Order) holds entries for parts of files. Each has a height: L plus its cost divided by its size,
 //! where L is the height of the last entry that was evicted. The least of those that are not in use goes first. A
 //! contract sees L, the entries in the order of file and place, the room for more, and how many places are kept
-//! beside it for entries to come (`specs/Ranking`, `specs/Victims`). Who is in use is told by an
+//! beside it for entries to come (`specs/Order`, `specs/Victims`). Who is in use is told by an
 //! [`InUse`](users::InUse): `least` asks it from the least entry on, up to the first that is not in use. That it asks
 //! no further is not proved. Several searches in a row share a rank below which all are in use, and each begins there.
 //!

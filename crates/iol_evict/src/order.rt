@@ -1,6 +1,6 @@
 //! The order in which parts of files are evicted.
 ghost use Rattle.std.specs.Prelude.{◌≡◌, ◌≢◌, ◌+◌, ◌-◌, ◌*◌, ◌/◌, ◌^◌, ◌<◌, ◌≤◌, [], All, None, OnOk};
-ghost use Rattle.iol_evict.specs.Ranking.{KeepsRoom, Ranking, worth, entry_at, entry_or, entered, hit_at, left_at, evicted_at, with_one_kept, with_one_given_back};
+ghost use Rattle.iol_evict.specs.Order.{KeepsRoom, Ranking, worth, entry_at, entry_or, entered, hit_at, left_at, evicted_at, with_one_kept, with_one_given_back};
 ghost use Rattle.iol_evict.specs.Victims.{AreUsedBelow, FindsFirst, KeepsUsedBelow};
 
 use crate::entries::Entries;
@@ -25,7 +25,7 @@ pub struct Order {
 
 impl Model for Order {
     ghost use Rattle.std.specs.Prelude.{◌-◌, ◌≤◌};
-    ghost use Rattle.iol_evict.specs.Ranking.{Ranking};
+    ghost use Rattle.iol_evict.specs.Order.{Ranking};
     ghost use Rattle.iol_evict.specs.declared.entry.TheConstants.{MAX_LOW};
 
     ghost Value = { Ranking };

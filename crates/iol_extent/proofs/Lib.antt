@@ -1,9 +1,9 @@
 pub mod Cover
 pub mod Words
-pub mod Tiling
-pub mod Meeting
+pub mod AddedSpans
+pub mod RangeExtents
 pub mod Alone
 pub mod Counts
 pub mod Every
-pub mod Clearing
+pub mod CleanExtents
 pub mod Keys

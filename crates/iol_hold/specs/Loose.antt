@@ -5,7 +5,7 @@ use Rattle.iol_arena.specs.State.{entry_at, generation_at}
 use Rattle.iol_arena.specs.Chunks.{chunk_pages}
 use Rattle.iol_arena.specs.Firsts.{first_on}
 use Rattle.iol_pool.specs.Pools.{pool_in}
-use Rattle.iol_hold.specs.Stored.{Stored}
+use Rattle.iol_hold.specs.StoreState.{Stored}
 
 -- the buffer that begins there is held by those that are spared alone
 abbrev pub is_spared : Stored → (spared : List ℕ) → Option ℕ → Bool

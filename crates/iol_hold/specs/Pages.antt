@@ -6,7 +6,7 @@ use Rattle.iol_arena.specs.Pages.{Raises}
 use Rattle.iol_arena.specs.declared.pages.PageKind.TheVariants.{Free}
 use Rattle.iol_pool.specs.Pools.{pool_in}
 use Rattle.iol_hold.specs.Releases.{HasAllOrNone}
-use Rattle.iol_hold.specs.Stored.{Stored}
+use Rattle.iol_hold.specs.StoreState.{Stored}
 
 -- Buffers were made on these pages (in most steps on none): each of them was raised by one, and no other page was. What
 -- stands on all others stands there still, or they are free. An open pool keeps its chunks, and a closed one keeps all of them or

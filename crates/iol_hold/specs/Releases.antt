@@ -6,7 +6,7 @@ use Rattle.iol_arena.specs.declared.pages.PageKind as kind
 use Rattle.iol_arena.specs.declared.pages.PageKind.TheVariants.{Free, Pending, Head, Tail}
 use Rattle.iol_pool.specs.Pools.{pool_in}
 use Rattle.iol_hold.specs.Moves.{Moves, SameLists}
-use Rattle.iol_hold.specs.Stored.{Stored, Buffer, AllSettled, AllSettledBut, IsHome, IsSettled, IsTidy, count_of}
+use Rattle.iol_hold.specs.StoreState.{Stored, Buffer, AllSettled, AllSettledBut, IsHome, IsSettled, IsTidy, count_of}
 use Rattle.iol_hold.specs.Texts.{AllReadable, bufs_of}
 use Rattle.iol_hold.specs.declared.slices.Slice.{Slice}
 

@@ -19,9 +19,9 @@ pub struct Slice {
 }
 
 impl Slice {
-    ghost use Rattle.iol_hold.specs.Stored.{count_of};
+    ghost use Rattle.iol_hold.specs.StoreState.{count_of};
     ghost use Rattle.iol_hold.specs.Releases.{ReleasesHold};
-    ghost use Rattle.iol_hold.specs.Slicing.{IsCut, IsWhole, SharesSlice};
+    ghost use Rattle.iol_hold.specs.Slices.{IsCut, IsWhole, SharesSlice};
     ghost use Rattle.iol_hold.specs.Texts.{slice_bytes, IsFilled, IsReadable};
 
     /// All bytes of a buffer.

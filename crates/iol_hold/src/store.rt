@@ -1,10 +1,10 @@
 //! The store: pages, pools, and how often each buffer is held.
 ghost use Rattle.std.specs.Prelude.{◌≡◌, ◌<◌, ◌^◌, length, slice_range};
 ghost use Rattle.iol_arena.specs.Prelude.{HasRange, IsLive, SharesNoPage, bytes_of, live_pages};
-ghost use Rattle.iol_hold.specs.Founding.{MakesStore};
+ghost use Rattle.iol_hold.specs.StoreAndPools.{MakesStore};
 ghost use Rattle.iol_hold.specs.Moves.{SharesHold};
 ghost use Rattle.iol_hold.specs.Releases.{FreesBuffer, ReleasesHold, Settles};
-ghost use Rattle.iol_hold.specs.Stored.{SetsCount, count_of};
+ghost use Rattle.iol_hold.specs.StoreState.{SetsCount, count_of};
 
 use crate::holds::Hold;
 use iol_arena::arena::Arena;
@@ -27,7 +27,7 @@ pub struct Store {
 }
 
 impl Model for Store {
-    ghost use Rattle.iol_hold.specs.Stored.{Stored};
+    ghost use Rattle.iol_hold.specs.StoreState.{Stored};
 
     ghost Value = { Stored };
 

@@ -1,8 +1,8 @@
-pub mod Making
-pub mod GivenUp
+pub mod NewAggregates
+pub mod DomainEnd
 pub mod Slices
 pub mod Additions
-pub mod Exchanging
-pub mod Regrouping
-pub mod Barring
+pub mod Exchanges
+pub mod SliceMoves
+pub mod BarredBytes
 pub mod Gifts

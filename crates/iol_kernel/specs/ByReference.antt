@@ -1,13 +1,13 @@
 -- Reading and writing by reference, by what a descriptor is open on.
 use Rattle.std.specs.Prelude.{ℕ, Result}
 use Rattle.iol_core.specs.State.{descriptor}
-use Rattle.iol_core.specs.Calls.Reading.{iol_read}
-use Rattle.iol_core.specs.Calls.Writing.{iol_write}
+use Rattle.iol_core.specs.Calls.Reads.{iol_read}
+use Rattle.iol_core.specs.Calls.Writes.{iol_write}
 use Rattle.iol_core.specs.declared.refusals.Refusal.{Refusal}
 use Rattle.iol_back.specs.Disk.{Disk}
-use Rattle.iol_kernel.specs.FileReading.{read_at}
+use Rattle.iol_kernel.specs.FileReads.{read_at}
 use Rattle.iol_kernel.specs.Kernel.{Reads, Serves, TakesFromFile, machine, state_of}
-use Rattle.iol_kernel.specs.WritingFiles.{WritesOn}
+use Rattle.iol_kernel.specs.FileWrites.{WritesOn}
 use Rattle.iol_kernel.specs.declared.kernel.Kernel.{Kernel}
 use Rattle.iol_kernel.specs.declared.open_file.OpenFile.{OpenFile}
 

@@ -12,20 +12,20 @@ use Rattle.iol_core.specs.declared.limits.TheConstants.{MAX_AGGREGATE_BYTES, MAX
 use Rattle.iol_back.specs.Disk.{Disk, IfHonest, content}
 use Rattle.iol_arena.specs.Pages.{MadeOn}
 use Rattle.iol_hold.specs.Moves.{Stays}
-use Rattle.iol_hold.specs.Stored.{with_pools}
+use Rattle.iol_hold.specs.StoreState.{with_pools}
 use Rattle.iol_hold.specs.Pages.{KeepsPages}
 use Rattle.iol_hold.specs.Room.{TellsRoom, has_room, lowest_of}
 use Rattle.iol_hold.specs.Texts.{bufs_of}
 use Rattle.iol_hold.specs.declared.slices.Slice.{Slice}
-use Rattle.iol_cache.specs.Cached.{Cached, new_file, order_in}
-use Rattle.iol_cache.specs.Keeping.{KeepsCover}
+use Rattle.iol_cache.specs.CacheState.{Cached, new_file, order_in}
+use Rattle.iol_cache.specs.KeptCover.{KeepsCover}
 use Rattle.iol_desc.specs.Tables.{agg_in}
 use Rattle.iol_pool.specs.Pools.{pool_in, with_admitted}
 use Rattle.iol_sock.specs.declared.outgoing.Segment.{Segment}
-use Rattle.iol_sock.specs.Sent.{UsesSent}
+use Rattle.iol_sock.specs.SentBytes.{UsesSent}
 use Rattle.iol_sock.specs.Table.{conn_in}
 use Rattle.iol_core.specs.Calls.Outside.{arrive, transmit}
-use Rattle.iol_kernel.specs.Backed.{IsBackedBy, StepsBeside}
+use Rattle.iol_kernel.specs.FileCalls.{IsBackedBy, StepsBeside}
 use Rattle.iol_kernel.specs.KernelState.{KernelState, read_of, machine_of, IsSound}
 use Rattle.iol_kernel.specs.Readings.{Reading, read, KeepsPools}
 

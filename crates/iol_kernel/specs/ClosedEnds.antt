@@ -4,11 +4,11 @@ use Rattle.iol_core.specs.State.{Domain}
 use Rattle.iol_core.specs.Calls.Descriptors.{closed_on}
 use Rattle.iol_core.specs.declared.descriptors.Descriptor.{Descriptor}
 use Rattle.iol_hold.specs.Releases.{Releases}
-use Rattle.iol_hold.specs.Stored.{Stored}
+use Rattle.iol_hold.specs.StoreState.{Stored}
 use Rattle.iol_hold.specs.declared.slices.Slice.{Slice}
 use Rattle.iol_kernel.specs.Views.{Pipe, Objects}
 use Rattle.iol_kernel.specs.Calls.{Leaves}
-use Rattle.iol_kernel.specs.Ends.{same_end, ends_on, all_ends_on}
+use Rattle.iol_kernel.specs.EndCounts.{same_end, ends_on, all_ends_on}
 use Rattle.iol_kernel.specs.KernelState.{KernelState, objects_of, queue_at, Each, IsOpenEnd, IsSound}
 
 -- a pipe whose read end is closed: nothing waits any more

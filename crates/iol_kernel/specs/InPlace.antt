@@ -6,7 +6,7 @@ use Rattle.iol_back.specs.Disk.{Disk}
 use Rattle.iol_hold.specs.Moves.{Stays}
 use Rattle.iol_pipe.specs.declared.arrive.Arrived.{Arrived}
 use Rattle.iol_sock.specs.declared.drain_to.Drained.{Drained}
-use Rattle.iol_kernel.specs.Borrowed.{BringsIn, DrainsTo, RefusesArrival, RefusesDrain, TakesIn, TakesRead}
+use Rattle.iol_kernel.specs.Streams.{BringsIn, DrainsTo, RefusesArrival, RefusesDrain, TakesIn, TakesRead}
 use Rattle.iol_kernel.specs.Kernel.{Serves, machine, state_of}
 use Rattle.iol_kernel.specs.KernelState.{IsSound}
 use Rattle.iol_kernel.specs.declared.kernel.Kernel.{Kernel}

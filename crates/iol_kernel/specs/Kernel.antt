@@ -10,17 +10,17 @@ use Rattle.iol_hold.specs.declared.slices.Slice.{Slice}
 use Rattle.iol_desc.specs.Tables.{domains_of}
 use Rattle.iol_back.specs.Disk.{Disk}
 use Rattle.iol_cache.specs.Cache.{cached_of}
-use Rattle.iol_kernel.specs.Backed as backed
+use Rattle.iol_kernel.specs.FileCalls as backed
 use Rattle.iol_kernel.specs.Calls as calls
-use Rattle.iol_kernel.specs.Copying as copying
-use Rattle.iol_kernel.specs.MakingRoom as making
-use Rattle.iol_kernel.specs.Opened as opened
+use Rattle.iol_kernel.specs.ReadsByCopy as copying
+use Rattle.iol_kernel.specs.Room as making
+use Rattle.iol_kernel.specs.OpenDescriptors as opened
 use Rattle.iol_kernel.specs.QueueEnds as ends
-use Rattle.iol_kernel.specs.FileReading as files
-use Rattle.iol_kernel.specs.FileReading.{FileRead, read_at}
+use Rattle.iol_kernel.specs.FileReads as files
+use Rattle.iol_kernel.specs.FileReads.{FileRead, read_at}
 use Rattle.iol_kernel.specs.KernelState.{KernelState, read_of, machine_of}
 use Rattle.iol_kernel.specs.Readings.{Reading}
-use Rattle.iol_kernel.specs.WritingBack as back
+use Rattle.iol_kernel.specs.WriteBack as back
 use Rattle.iol_kernel.specs.declared.kernel.Kernel.{Kernel}
 use Rattle.iol_kernel.specs.declared.open_file.OpenFile.{OpenFile}
 

@@ -1,29 +1,29 @@
 -- What a system holds, and the state of the copying machine that it stands for.
 use Rattle.std.specs.Prelude.{◌≡◌, ℕ, ◌+◌, ◌≤◌, true, false, length, List, [], ◌∷◌, flat_map, map, Option, Some, None, unwrap_or}
-use Rattle.iol_core.specs.Numbered.{is_numbered}
+use Rattle.iol_core.specs.NumberedLists.{is_numbered}
 use Rattle.iol_core.specs.State as machine
 use Rattle.iol_core.specs.declared.descriptors.Descriptor.{Descriptor}
 use Rattle.iol_core.specs.declared.descriptors.Descriptor.TheVariants as on
 use Rattle.iol_core.specs.declared.limits.TheConstants.{MAX_AGGREGATE_BYTES, MAX_AGGREGATES, MAX_QUEUE_BYTES, MAX_FILES, MAX_FILE_BYTES, MAX_PIPES, MAX_POOLS, MAX_CONNECTIONS, LAST_CONNECTION}
-use Rattle.iol_hold.specs.Stored.{Stored, IsTidy, IsStill, AllSettled}
+use Rattle.iol_hold.specs.StoreState.{Stored, IsTidy, IsStill, AllSettled}
 use Rattle.iol_hold.specs.Places.{byte_len}
 use Rattle.iol_hold.specs.Layout.{number_at}
 use Rattle.iol_hold.specs.Texts.{AllReadable}
 use Rattle.iol_hold.specs.declared.slices.Slice.{Slice}
 use Rattle.iol_pool.specs.Pools.{Pool, pool_in}
-use Rattle.iol_desc.specs.Listed.{Rises}
+use Rattle.iol_desc.specs.EntryLists.{Rises}
 use Rattle.iol_desc.specs.Tables.{agg_in, live_aggs_in}
 use Rattle.iol_sum.specs.Sums.{Sums, IsRight}
 use Rattle.iol_sock.specs.Connections.{Conn}
 use Rattle.iol_sock.specs.Table.{conn_in}
 use Rattle.iol_extent.specs.Extents.{IsApart, last_end}
-use Rattle.iol_cache.specs.Cached.{Cached, file_in, extents_in}
+use Rattle.iol_cache.specs.CacheState.{Cached, file_in, extents_in}
 use Rattle.iol_cache.specs.Sound as cache
 use Rattle.iol_cache.specs.declared.files.CachedFile.{CachedFile}
 use Rattle.iol_kernel.specs.Readings.{Reading, bytes_over}
 use Rattle.iol_kernel.specs.Views.{Pipe, Objects, pipe_in, state_view}
-use Rattle.iol_kernel.specs.Counted.{IsCounted}
-use Rattle.iol_kernel.specs.Ends.{IsOpenOnce}
+use Rattle.iol_kernel.specs.HoldCounts.{IsCounted}
+use Rattle.iol_kernel.specs.EndCounts.{IsOpenOnce}
 
 -- the layers' values: an aggregate and a queue are lists of slices of the store's buffers, sums are remembered, and parts of
 -- files are in a cache

@@ -7,8 +7,8 @@ use Rattle.iol_core.specs.Prelude.{default_pool}
 use Rattle.iol_core.specs.declared.refusals.Refusal.{Refusal}
 use Rattle.iol_kernel.specs.Calls.{MayMake, Refuses, with_incoming}
 use Rattle.iol_kernel.specs.KernelState.{KernelState, machine_of}
-use Rattle.iol_kernel.specs.MakingRoom.{Places}
-use Rattle.iol_kernel.specs.Putting.{Fills}
+use Rattle.iol_kernel.specs.Room.{Places}
+use Rattle.iol_kernel.specs.WritesByCopy.{Fills}
 
 -- Whether bytes may become a domain's next aggregate was tested: the pool in which they would lie, or why not.
 pub record TestsMake (by : ℕ) (bytes : List ℕ) (h : KernelState) (r : Result ℕ Refusal) : Type 0 where

@@ -1,13 +1,13 @@
 -- Descriptors that a domain is to get: on a new pipe, of another domain, or on a connection that waits.
 use Rattle.std.specs.Prelude.{◌≡◌, ℕ, ◌<◌, ◌==◌, ◌&&◌, not, true, false, [], Some}
-use Rattle.iol_core.specs.Numbered.{taken}
+use Rattle.iol_core.specs.NumberedLists.{taken}
 use Rattle.iol_core.specs.State.{is_live}
 use Rattle.iol_core.specs.Calls.Descriptors.{too_many_open, waiting}
 use Rattle.iol_core.specs.declared.descriptors.Descriptor.{Descriptor}
 use Rattle.iol_core.specs.declared.limits.TheConstants.{MAX_PIPES}
-use Rattle.iol_kernel.specs.Having.{Lives}
+use Rattle.iol_kernel.specs.DomainAggregates.{Lives}
 use Rattle.iol_kernel.specs.KernelState.{KernelState, machine_of}
-use Rattle.iol_kernel.specs.Opened.{IsOpenOn}
+use Rattle.iol_kernel.specs.OpenDescriptors.{IsOpenOn}
 
 -- Between two events: a domain may get both ends of a new pipe.
 pub record MayPipe (d : ℕ) (h : KernelState) : Type 0 where

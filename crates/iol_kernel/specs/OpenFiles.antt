@@ -8,9 +8,9 @@ use Rattle.iol_core.specs.declared.descriptors.Descriptor.TheVariants as on
 use Rattle.iol_core.specs.declared.limits.TheConstants.{MAX_FILE_BYTES}
 use Rattle.iol_core.specs.declared.refusals.Refusal.{Refusal}
 use Rattle.iol_back.specs.Disk.{Disk}
-use Rattle.iol_kernel.specs.Backed.{LooksUp}
-use Rattle.iol_kernel.specs.FileEnds.{EndsAt}
-use Rattle.iol_kernel.specs.FileReading.{held_by}
+use Rattle.iol_kernel.specs.FileCalls.{LooksUp}
+use Rattle.iol_kernel.specs.FileLengths.{EndsAt}
+use Rattle.iol_kernel.specs.FileReads.{held_by}
 use Rattle.iol_kernel.specs.KernelState.{KernelState, read_of}
 use Rattle.iol_kernel.specs.Readings.{Reading}
 use Rattle.iol_kernel.specs.declared.open_file.OpenFile.{OpenFile}

@@ -1,8 +1,8 @@
 -- The words that contracts of other crates cite, passed on from one place. Declares nothing.
-pub use Rattle.iol_kernel.specs.Borrowed.{BringsIn, DrainsTo, RefusesArrival, RefusesDrain, TakesIn}
-pub use Rattle.iol_kernel.specs.Copying.{Copies, IsOnNoFile, ReadsOut}
+pub use Rattle.iol_kernel.specs.Streams.{BringsIn, DrainsTo, RefusesArrival, RefusesDrain, TakesIn}
+pub use Rattle.iol_kernel.specs.ReadsByCopy.{Copies, IsOnNoFile, ReadsOut}
 pub use Rattle.iol_kernel.specs.Kernel.{ReadsList, Serves, state_of}
 pub use Rattle.iol_kernel.specs.KernelState.{IsSound, joined}
-pub use Rattle.iol_kernel.specs.Putting.{WritesBytes}
+pub use Rattle.iol_kernel.specs.WritesByCopy.{WritesBytes}
 pub use Rattle.iol_kernel.specs.Readings.{slots_of}
 pub use Rattle.iol_kernel.specs.Report.{Reports}

@@ -3,8 +3,8 @@ use Rattle.std.specs.Prelude.{◌≡◌, ℕ, ◌<◌, true, false, List, [], Op
 use Rattle.std.specs.List.{slice_get}
 use Rattle.iol_core.specs.Text.{Text}
 use Rattle.iol_core.specs.Calls.Aggregates.{too_many_aggs}
-use Rattle.iol_core.specs.Calls.Reading.{can_read, iol_read, read_denied, unread}
-use Rattle.iol_core.specs.Calls.Writing.{is_file}
+use Rattle.iol_core.specs.Calls.Reads.{can_read, iol_read, read_denied, unread}
+use Rattle.iol_core.specs.Calls.Writes.{is_file}
 use Rattle.iol_core.specs.declared.descriptors.Descriptor.{Descriptor}
 use Rattle.iol_core.specs.declared.limits.TheConstants.{MAX_AGGREGATES}
 use Rattle.iol_core.specs.declared.refusals.Refusal.TheVariants.{Denied}
@@ -12,7 +12,7 @@ use Rattle.iol_hold.specs.declared.slices.Slice.{Slice}
 use Rattle.iol_desc.specs.Tables.{domain_in, live_aggs_in, with_agg_in}
 use Rattle.iol_kernel.specs.Calls.{Answers}
 use Rattle.iol_kernel.specs.KernelState.{KernelState, objects_of, IsOpenEnd, IsSound, machine_of, read_of}
-use Rattle.iol_kernel.specs.Opened.{IsOpenOn}
+use Rattle.iol_kernel.specs.OpenDescriptors.{IsOpenOn}
 use Rattle.iol_kernel.specs.Readings.{Reading, KeepsPools}
 
 -- the pool of a text's first byte

@@ -7,10 +7,10 @@ use Rattle.iol_hold.specs.Moves.{Covers}
 use Rattle.iol_hold.specs.Places.{places}
 use Rattle.iol_hold.specs.Releases.{Releases}
 use Rattle.iol_hold.specs.Room.{TellsRoom, has_room}
-use Rattle.iol_hold.specs.Stored.{Stored}
+use Rattle.iol_hold.specs.StoreState.{Stored}
 use Rattle.iol_hold.specs.Texts.{bufs_of, text_of}
 use Rattle.iol_hold.specs.declared.slices.Slice.{Slice}
-use Rattle.iol_pipe.specs.Adding.{AddsFitting, SharesFitting}
+use Rattle.iol_pipe.specs.NewBytes.{AddsFitting, SharesFitting}
 use Rattle.iol_pipe.specs.Queue.{GivesFirst, fitting, may_see}
 use Rattle.iol_kernel.specs.Views.{Pipe}
 use Rattle.iol_kernel.specs.KernelState.{queue_at}

@@ -6,10 +6,10 @@ use Rattle.iol_core.specs.declared.limits.TheConstants.{MAX_FILES}
 use Rattle.iol_back.specs.Disk.{content}
 use Rattle.iol_hold.specs.Layout as places
 use Rattle.iol_hold.specs.Places.{Place}
-use Rattle.iol_hold.specs.Stored.{Stored}
+use Rattle.iol_hold.specs.StoreState.{Stored}
 use Rattle.iol_hold.specs.Texts.{byte_at}
 use Rattle.iol_hold.specs.declared.slices.Slice.{Slice}
-use Rattle.iol_cache.specs.Cached.{extents_in}
+use Rattle.iol_cache.specs.CacheState.{extents_in}
 use Rattle.iol_cache.specs.Contents.{file_bytes}
 use Rattle.iol_cache.specs.declared.files.CachedFile.{CachedFile}
 

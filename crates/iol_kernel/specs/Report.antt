@@ -5,8 +5,8 @@ use Rattle.iol_arena.specs.Buffers.{SharesNoPage, live_pages}
 use Rattle.iol_arena.specs.Chunks.{free_pages, retired_pages}
 use Rattle.iol_pool.specs.Pools.{pool_in}
 use Rattle.iol_pool.specs.declared.report.PoolReport.{PoolReport}
-use Rattle.iol_hold.specs.Stored.{Stored}
-use Rattle.iol_cache.specs.Cached.{dirty_in_all, extents_in_all}
+use Rattle.iol_hold.specs.StoreState.{Stored}
+use Rattle.iol_cache.specs.CacheState.{dirty_in_all, extents_in_all}
 use Rattle.iol_kernel.specs.KernelState.{KernelState}
 use Rattle.iol_kernel.specs.declared.report.Report.{Report}
 

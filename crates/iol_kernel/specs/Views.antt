@@ -1,7 +1,7 @@
 -- The state of the copying machine that a system's tables stand for.
 use Rattle.std.specs.Prelude.{ℕ, Bool, false, List, Option, option_map, map, unwrap_or}
 use Rattle.iol_core.specs.Text.{Text}
-use Rattle.iol_core.specs.Numbered.{in_place}
+use Rattle.iol_core.specs.NumberedLists.{in_place}
 use Rattle.iol_core.specs.State as machine
 use Rattle.iol_core.specs.State.{State, Domain}
 use Rattle.iol_pool.specs.Pools.{Pool}

@@ -14,7 +14,7 @@ pub(crate) struct Files {
 }
 
 impl Files {
-    ghost use Rattle.iol_kernel.specs.NamingFiles.{AddsNamed, HasNone, MayName};
+    ghost use Rattle.iol_kernel.specs.FileNames.{AddsNamed, HasNone, MayName};
 
     /// No files, over so many pages.
     pub(crate) fn new(alloc: Global, pages: usize) -> Result<Files, AllocError>

@@ -34,7 +34,7 @@ pub struct Kernel {
 }
 
 impl Kernel {
-    ghost use Rattle.iol_kernel.specs.Founding.{MakesKernel};
+    ghost use Rattle.iol_kernel.specs.NewKernel.{MakesKernel};
     ghost use Rattle.iol_kernel.specs.Kernel.{state_of, machine, as_read, IsFound, IsMissing, IsSoLong, IsUnopened};
 
     /// A kernel with domain 1 and nothing else. A size out of its range is `BadRange`.

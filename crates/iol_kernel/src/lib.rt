@@ -9,10 +9,10 @@
 //! - `CarriesOut`: the machine's step, whatever is read at the places of bytes. Of bytes it is what
 //!   the call means, of places it says that nothing was copied. No page and no pool changes.
 //! - `KeepsPlaces`: the same of a call that frees pages or takes chunks, or has a pool's list grow. No page is raised.
-//! - `Names`, `LooksUp` (`specs/Calls`, `specs/Backed`): the step of a call that asks the store under
+//! - `Names`, `LooksUp` (`specs/Calls`, `specs/FileCalls`): the step of a call that asks the store under
 //!   the files for a length, where that is honest. Over any store it is the step for some bytes of files, and where these end
-//!   is said by what the store tells (`specs/FileEnds`).
-//! - `Places` (`specs/MakingRoom`): the step of a call that places new bytes, as `agg_make` and `arrive`.
+//!   is said by what the store tells (`specs/FileLengths`).
+//! - `Places` (`specs/Room`): the step of a call that places new bytes, as `agg_make` and `arrive`.
 //!   Clean extents of files give way to them, and they lie on the lowest free pages of the pool then.
 //!
 //! A refused call changes nothing of what the system means; where it wants pages, and has room, clean

@@ -1,7 +1,7 @@
 //! What a descriptor on a file says: which file, where it reads and writes on, and how it was opened.
 ghost use Rattle.std.specs.Prelude.{◌≡◌, ◌+◌, ◌≤◌, false, IfSome, None, Some};
-ghost use Rattle.iol_core.specs.Calls.Reading as reading;
-ghost use Rattle.iol_core.specs.Calls.Writing as writing;
+ghost use Rattle.iol_core.specs.Calls.Reads as reading;
+ghost use Rattle.iol_core.specs.Calls.Writes as writing;
 
 use iol_core::descriptors::{Descriptor, Mode};
 use iol_core::limits::MAX_FILE_BYTES;

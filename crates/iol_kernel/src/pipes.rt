@@ -5,7 +5,7 @@ ghost use Rattle.iol_hold.specs.Prelude.{Covers, byte_len, bufs_of, AllReadable}
 ghost use Rattle.iol_pipe.specs.Prelude.{first_pool};
 ghost use Rattle.iol_pool.specs.Prelude.{pool_in};
 ghost use Rattle.iol_kernel.specs.ClosedEnds.{without_reader, without_writer, Becomes, ClosesEnd};
-ghost use Rattle.iol_kernel.specs.Counted.{MayShare};
+ghost use Rattle.iol_kernel.specs.HoldCounts.{MayShare};
 ghost use Rattle.iol_kernel.specs.KernelState.{queue_at};
 ghost use Rattle.iol_kernel.specs.Queues.{CopiesFront, FillsIn, GivesFrontIn, IsTakenFrom, PushesIn, SkipsIn, empty_pipe};
 
@@ -166,7 +166,7 @@ impl Pipes {
     }
 
     /// Adds the longest prefix that fits to a pipe's queue. Returns how many bytes that is.
-    #[tactic(auto, using(crate::proofs::Queues::Ends::there_rules))]
+    #[tactic(auto, using(crate::proofs::Queues::EndCounts::there_rules))]
     pub(crate) fn push(
         &mut self,
         store: &mut Store,
@@ -183,7 +183,7 @@ impl Pipes {
 
     /// Adds new bytes of an open pool to a pipe's queue, as many as fit, and tells how many that is. They lie in new buffers
     /// on the lowest free pages of the pool.
-    #[tactic(auto, using(crate::proofs::Queues::Ends::there_rules))]
+    #[tactic(auto, using(crate::proofs::Queues::EndCounts::there_rules))]
     pub(crate) fn fill(
         &mut self,
         alloc: Global,
@@ -202,7 +202,7 @@ impl Pipes {
     }
 
     /// Takes off the longest prefix of a pipe's first `n` bytes whose pools all name the domain.
-    #[tactic(auto, using(crate::proofs::Queues::Ends::there_rules))]
+    #[tactic(auto, using(crate::proofs::Queues::EndCounts::there_rules))]
     pub(crate) fn front(
         &mut self,
         alloc: Global,
@@ -233,7 +233,7 @@ impl Pipes {
     }
 
     /// Releases the first `n` bytes that wait in a pipe, or all where fewer wait.
-    #[tactic(auto, using(crate::proofs::Queues::Ends::there_rules))]
+    #[tactic(auto, using(crate::proofs::Queues::EndCounts::there_rules))]
     pub(crate) fn skip(&mut self, store: &mut Store, p: PipeId, n: u32)
         requires { IsTakenFrom store.old self.old.places p }
         ensures { SkipsIn store.old store.new self.old.places self.new.places p n }
@@ -245,7 +245,7 @@ impl Pipes {
     }
 
     /// Closes the read end of a pipe, which goes where its write end is closed.
-    #[tactic(auto, using(crate::proofs::Queues::Ends::there_rules))]
+    #[tactic(auto, using(crate::proofs::Queues::EndCounts::there_rules))]
     pub(crate) fn close_reader(&mut self, store: &mut Store, p: PipeId)
         requires { IsTakenFrom store.old self.old.places p }
         ensures { ClosesEnd store.old store.new self.old.places self.new.places p without_reader }
@@ -258,7 +258,7 @@ impl Pipes {
     }
 
     /// Closes the write end of a pipe, which goes where its read end is closed.
-    #[tactic(auto, using(crate::proofs::Queues::Ends::there_rules))]
+    #[tactic(auto, using(crate::proofs::Queues::EndCounts::there_rules))]
     pub(crate) fn close_writer(&mut self, store: &mut Store, p: PipeId)
         requires covered { Covers store.old (bufs_of (queue_at self.old.places p).queue) }
         requires writing { (queue_at self.old.places p).writing ≡ true }

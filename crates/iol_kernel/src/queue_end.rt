@@ -1,8 +1,8 @@
 //! What a descriptor reads from and writes to. Here alone a pipe and a connection are told apart where bytes are read and
-//! written: each look-up is a word of the copying machine (`iol_core`, `specs/Calls/Reading` and `Writing`), of any descriptor.
+//! written: each look-up is a word of the copying machine (`iol_core`, `specs/Calls/Reads` and `Writes`), of any descriptor.
 ghost use Rattle.std.specs.Prelude.{◌≡◌, ◌≤◌, false, length, Some};
-ghost use Rattle.iol_core.specs.Calls.Reading as reading;
-ghost use Rattle.iol_core.specs.Calls.Writing as writing;
+ghost use Rattle.iol_core.specs.Calls.Reads as reading;
+ghost use Rattle.iol_core.specs.Calls.Writes as writing;
 ghost use Rattle.iol_kernel.specs.QueueEnds.{IsBarredPool, IsFirstPool};
 ghost use Rattle.iol_kernel.specs.Readings.{Reading};
 

@@ -1,7 +1,7 @@
 //! Clean extents of files give way to new bytes.
 ghost use Rattle.std.specs.Prelude.{◌≡◌};
 ghost use Rattle.iol_arena.specs.Prelude.{pages_for};
-ghost use Rattle.iol_kernel.specs.MakingRoom.{AsksRoom, AsksToFit, MayPlaceIn};
+ghost use Rattle.iol_kernel.specs.Room.{AsksRoom, AsksToFit, MayPlaceIn};
 
 use crate::kernel::Kernel;
 use iol_arena::pages::count_pages;

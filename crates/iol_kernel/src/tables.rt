@@ -4,9 +4,9 @@ ghost use Rattle.std.specs.Prelude.{◌≡◌, []};
 ghost use Rattle.std.specs.List.{list_all};
 ghost use Rattle.iol_hold.specs.Prelude.{Covers};
 ghost use Rattle.iol_desc.specs.Prelude.{domains_of, domain_in};
-ghost use Rattle.iol_kernel.specs.Counted.{bufs_in};
-ghost use Rattle.iol_kernel.specs.Denying.{pool_hidden};
-ghost use Rattle.iol_kernel.specs.Regrouped.{GivesNext, JoinsNext, MayGiveIn, MayJoinIn, MaySplitIn, ReleasesAll, SplitsNext};
+ghost use Rattle.iol_kernel.specs.HoldCounts.{bufs_in};
+ghost use Rattle.iol_kernel.specs.Denials.{pool_hidden};
+ghost use Rattle.iol_kernel.specs.AggregateCalls.{GivesNext, JoinsNext, MayGiveIn, MayJoinIn, MaySplitIn, ReleasesAll, SplitsNext};
 
 use iol_agg::Agg;
 use iol_core::numbers::{AggId, DomainId, PoolId};
@@ -24,7 +24,7 @@ pub(crate) fn are_live(domains: &Table<Agg>, list: &[DomainId]) -> bool
 }
 
 /// Splits a domain's aggregate into its next two.
-#[tactic(auto, using(crate::proofs::AggregateCalls::Exchanging::table_rules))]
+#[tactic(auto, using(crate::proofs::AggregateCalls::Exchanges::table_rules))]
 pub(crate) fn split_agg(
     alloc: Global,
     store: &mut Store,
@@ -53,7 +53,7 @@ pub(crate) fn split_agg(
 }
 
 /// Joins two aggregates of a domain to its next one.
-#[tactic(auto, using(crate::proofs::AggregateCalls::Exchanging::table_rules))]
+#[tactic(auto, using(crate::proofs::AggregateCalls::Exchanges::table_rules))]
 pub(crate) fn join_aggs(
     alloc: Global,
     domains: &mut Table<Agg>,

@@ -3,14 +3,14 @@ use Rattle.std.proofs.Common.{inl, inr, ◌≡◌, ℕ, ◌+◌, List, [], ◌�
 use Rattle.std.specs.Prelude.{unwrap_or, fold, slice_set}
 use Rattle.std.specs.Option.{option_map_or}
 use Rattle.iol_core.specs.Text.{Text, labelled, part}
-use Rattle.iol_core.specs.Numbered.{without, lowest, placed}
+use Rattle.iol_core.specs.NumberedLists.{without, lowest, placed}
 use Rattle.iol_core.specs.State.{State, Domain, domain, text, descriptor, new_domain, no_domain, with_domain, with_conn, with_content}
 use Rattle.iol_core.specs.Run.{called, meaning}
 use Rattle.iol_core.specs.Calls.Domains.{domain_new}
 use Rattle.iol_core.specs.Calls.Aggregates as aggs
 use Rattle.iol_core.specs.Calls.Descriptors as fds
-use Rattle.iol_core.specs.Calls.Reading as reading
-use Rattle.iol_core.specs.Calls.Writing as writing
+use Rattle.iol_core.specs.Calls.Reads as reading
+use Rattle.iol_core.specs.Calls.Writes as writing
 use Rattle.iol_core.specs.declared.descriptors.Descriptor.{Descriptor}
 use Rattle.iol_core.specs.declared.descriptors.Descriptor.TheVariants as on
 use Rattle.iol_core.specs.declared.events.Call.{Call}

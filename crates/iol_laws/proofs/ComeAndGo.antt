@@ -4,7 +4,7 @@ use Rattle.std.specs.Prelude.{option_map, not, is_none, fold, ◌&&◌, ◌||◌
 use Rattle.std.proofs.lemmas.Bool.Decides.{nat_tests}
 use Rattle.std.proofs.lemmas.Grind.{common_steps}
 use Rattle.iol_core.specs.Text.{Text, bytes_of}
-use Rattle.iol_core.specs.Numbered.{lookup, without}
+use Rattle.iol_core.specs.NumberedLists.{lookup, without}
 use Rattle.iol_core.specs.State.{State, Domain, domain, is_live, aggregate, text, no_domain, with_domain}
 use Rattle.iol_core.specs.Meaning.{first}
 use Rattle.iol_core.specs.Run.{called, meaning, StepsTo}
@@ -19,7 +19,7 @@ use Rattle.iol_core.specs.declared.events.Event.TheVariants as event
 use Rattle.iol_core.specs.declared.events.Reply.{Reply}
 use Rattle.iol_core.specs.declared.events.Reply.TheVariants as reply
 use Rattle.iol_core.proofs.Lookups.{domain-same}
-use Rattle.iol_core.proofs.Passing.{passed, when-none}
+use Rattle.iol_core.proofs.TestedLists.{passed, when-none}
 use Rattle.iol_laws.proofs.Gives.{agg_given}
 use Rattle.iol_laws.specs.Order.{IsOrderly, Once}
 use Rattle.iol_laws.specs.Caller.{lent_at}

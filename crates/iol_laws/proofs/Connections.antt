@@ -5,7 +5,7 @@ use Rattle.std.proofs.lemmas.Bool.{cases_eq}
 use Rattle.std.proofs.lemmas.Bool.Decides.{nat_tests}
 use Rattle.std.proofs.lemmas.Grind.{common_steps}
 use Rattle.iol_core.specs.Text.{Text}
-use Rattle.iol_core.specs.Numbered.{lookup, without, changed}
+use Rattle.iol_core.specs.NumberedLists.{lookup, without, changed}
 use Rattle.iol_core.specs.State.{State, Pipe, Connection, conn_at, no_conn, new_conn, is_over, with_domain, with_pipe, with_conn}
 use Rattle.iol_core.specs.Calls.Aggregates as aggs
 use Rattle.iol_core.specs.Calls.Descriptors as fds

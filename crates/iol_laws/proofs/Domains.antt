@@ -6,7 +6,7 @@ use Rattle.std.proofs.lemmas.Bool.Decides.{nat_tests}
 use Rattle.std.proofs.lemmas.Grind.{common_steps}
 use Rattle.std.proofs.lemmas.List.{get_or_past, set-set}
 use Rattle.iol_core.specs.Text.{Text}
-use Rattle.iol_core.specs.Numbered.{numbered_or, with_numbered, in_place}
+use Rattle.iol_core.specs.NumberedLists.{numbered_or, with_numbered, in_place}
 use Rattle.iol_core.specs.State.{State, Domain, Pipe, Connection, domain, descriptor, no_domain, is_live, with_domain, with_pipe, with_conn}
 use Rattle.iol_core.specs.Meaning.{first, ◌when◌}
 use Rattle.iol_core.specs.Calls.Descriptors as fds
@@ -15,7 +15,7 @@ use Rattle.iol_core.specs.declared.refusals.Refusal.TheVariants as refuse
 use Rattle.iol_core.specs.declared.descriptors.Descriptor.{Descriptor}
 use Rattle.iol_core.specs.declared.descriptors.Descriptor.TheVariants as on
 use Rattle.iol_core.proofs.Lookups.{domain-with_domain}
-use Rattle.iol_core.proofs.Passing.{passed, when-not}
+use Rattle.iol_core.proofs.TestedLists.{passed, when-not}
 
 pub domains-with_pipe : (s : State) (p : ℕ) (x : Pipe) → (with_pipe s p x).domains ≡ s.domains
 unfolding with_pipe

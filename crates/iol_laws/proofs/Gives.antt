@@ -1,7 +1,7 @@
 -- What is given to a domain comes to itself or to another: what holds in both cases holds.
 use Rattle.std.proofs.Common.{◌≡◌, ℕ, true, false, Bool, refl}
 use Rattle.std.specs.Prelude.{◌==◌, if◌then◌else◌}
-use Rattle.iol_core.specs.Numbered.{without, lowest, placed}
+use Rattle.iol_core.specs.NumberedLists.{without, lowest, placed}
 use Rattle.iol_core.specs.State.{State, domain, text}
 use Rattle.iol_core.specs.Calls.Aggregates as aggs
 use Rattle.iol_core.specs.Calls.Descriptors as fds

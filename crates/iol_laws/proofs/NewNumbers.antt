@@ -2,11 +2,11 @@
 use Rattle.std.proofs.Common.{◌≡◌, ℕ, ◌+◌, ◌==◌, List, length, drop, ap, ◌∙◌, refl, sym, arith, Option, Some, None, true, false}
 use Rattle.std.specs.Prelude.{option_map, slice_set}
 use Rattle.iol_core.specs.Text.{Text, bytes_of}
-use Rattle.iol_core.specs.Numbered.{lookup, without}
+use Rattle.iol_core.specs.NumberedLists.{lookup, without}
 use Rattle.iol_core.specs.State.{State, Domain, domain, descriptor, pipe_at, conn_at, is_live, with_pipe, with_conn}
 use Rattle.iol_core.specs.Run.{StepsTo}
 use Rattle.iol_core.specs.Calls.Aggregates as aggs
-use Rattle.iol_core.specs.Calls.Reading as reading
+use Rattle.iol_core.specs.Calls.Reads as reading
 use Rattle.iol_core.specs.declared.descriptors.Descriptor.{Descriptor}
 use Rattle.iol_core.specs.declared.descriptors.Descriptor.TheVariants as on
 use Rattle.iol_core.specs.declared.events.Call.{Call}

@@ -2,7 +2,7 @@
 use Rattle.std.proofs.Common.{◌≡◌, ℕ, List, [], ap, ◌∙◌, refl, sym, Option, Some, None, true, false}
 use Rattle.std.specs.Prelude.{option_map, unwrap_or, is_none}
 use Rattle.iol_core.specs.Text.{Text, bytes_of}
-use Rattle.iol_core.specs.Numbered.{lookup, in_place}
+use Rattle.iol_core.specs.NumberedLists.{lookup, in_place}
 use Rattle.iol_core.specs.State.{State, Domain, domain, aggregate, text, descriptor, is_live}
 use Rattle.iol_core.specs.Calls.Aggregates as aggs
 use Rattle.iol_core.specs.Calls.Descriptors as fds

@@ -4,7 +4,7 @@ use Rattle.std.specs.Prelude.{slice_set}
 use Rattle.std.proofs.lemmas.Bool.{cases_eq, cases_lt}
 use Rattle.std.proofs.lemmas.Bool.Decides.{nat_tests}
 use Rattle.std.proofs.lemmas.Grind.{common_steps}
-use Rattle.iol_core.specs.Numbered.{lookup, without, changed, in_place, lowest, placed}
+use Rattle.iol_core.specs.NumberedLists.{lookup, without, changed, in_place, lowest, placed}
 use Rattle.iol_core.proofs.Places.{place-set_other}
 
 pub lookup-changed : {A : Type 0} (es : List (ℕ × A)) (m n : ℕ) (x : A) → m ≢ n → lookup (changed es m x) n ≡ lookup es n

@@ -1,7 +1,7 @@
-pub mod Refusing
+pub mod Rest
 pub mod Reasons
-pub mod Left
-pub mod Blocking
+pub mod Calls
+pub mod Waits
 pub mod OfFiles
 pub mod OfPools
 pub mod FromOutside

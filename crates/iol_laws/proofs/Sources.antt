@@ -1,3 +1,3 @@
-pub mod Made
+pub mod NewAggregates
 pub mod Queues
-pub mod Undenied
+pub mod PipeReads

@@ -4,8 +4,8 @@ use Rattle.std.specs.Prelude.{◌≡◌, ℕ, ◌+◌, ◌<◌, true, false, Lis
 use Rattle.iol_core.specs.Text.{Text, bytes_of, admitted}
 use Rattle.iol_core.specs.State.{State, descriptor, content, file, may_read, conn_at, pipe_at, is_live}
 use Rattle.iol_core.specs.Positions.{ArePlaced}
-use Rattle.iol_core.specs.Calls.Reading.{reads}
-use Rattle.iol_core.specs.Calls.Writing.{writes}
+use Rattle.iol_core.specs.Calls.Reads.{reads}
+use Rattle.iol_core.specs.Calls.Writes.{writes}
 use Rattle.iol_core.specs.Run.{StepsTo}
 use Rattle.iol_core.specs.declared.descriptors.Mode.{Mode}
 use Rattle.iol_core.specs.declared.descriptors.Descriptor.TheVariants as on

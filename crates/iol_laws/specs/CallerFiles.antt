@@ -1,12 +1,12 @@
 -- What calls on files do for the domain that makes them. The domain is a live one, and knows which file its descriptor is
 -- open on, at which position: so each word says which refusals may come, too.
 use Rattle.std.specs.Prelude.{◌≡◌, ℕ, ◌+◌, ◌<◌, ◌≤◌, true, false, List, ◌++◌, length, take, drop, Some, None}
-use Rattle.iol_core.specs.Numbered.{is_numbered}
+use Rattle.iol_core.specs.NumberedLists.{is_numbered}
 use Rattle.iol_core.specs.State.{State, descriptor, content, file, may_read, is_live}
 use Rattle.iol_core.specs.Positions.{ArePlaced}
 use Rattle.iol_core.specs.Calls.Files.{file_called}
-use Rattle.iol_core.specs.Calls.Reading.{reads}
-use Rattle.iol_core.specs.Calls.Writing.{writes}
+use Rattle.iol_core.specs.Calls.Reads.{reads}
+use Rattle.iol_core.specs.Calls.Writes.{writes}
 use Rattle.iol_core.specs.Run.{StepsTo}
 use Rattle.iol_core.specs.declared.limits.TheConstants.{MAX_FILE_BYTES}
 use Rattle.iol_core.specs.declared.descriptors.Mode.{Mode}

@@ -1,11 +1,11 @@
 -- What a step leaves as it was: connections, pipes, descriptors, files, pools and domains that the event does not touch.
 use Rattle.std.specs.Prelude.{◌≡◌, ℕ, ◌≤◌, ◌==◌, ◌&&◌, ◌||◌, Bool, true, false, List, [], ◌∷◌, ◌++◌, length, Option, Some, unwrap_or}
 use Rattle.std.specs.List.{list_any}
-use Rattle.iol_core.specs.Numbered.{lowest, is_numbered}
+use Rattle.iol_core.specs.NumberedLists.{lowest, is_numbered}
 use Rattle.iol_core.specs.State.{State, domain, is_live, pool, is_pool, may_read, descriptor, file, content, pipe_at, conn_at}
 use Rattle.iol_core.specs.Calls.Descriptors.{waiting}
 use Rattle.iol_core.specs.Calls.Files.{file_called}
-use Rattle.iol_core.specs.Calls.Writing.{is_file}
+use Rattle.iol_core.specs.Calls.Writes.{is_file}
 use Rattle.iol_core.specs.declared.descriptors.Descriptor.{Descriptor}
 use Rattle.iol_core.specs.declared.descriptors.Descriptor.TheVariants as on
 use Rattle.iol_core.specs.declared.events.Call.TheVariants as call

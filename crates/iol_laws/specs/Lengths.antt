@@ -2,7 +2,7 @@
 use Rattle.std.specs.Prelude.{◌≡◌, ℕ, ◌≤◌, ◌&&◌, Bool, true, List, length, Some, nat_le}
 use Rattle.std.specs.List.{list_all}
 use Rattle.iol_core.specs.Text.{Text}
-use Rattle.iol_core.specs.Numbered.{is_numbered}
+use Rattle.iol_core.specs.NumberedLists.{is_numbered}
 use Rattle.iol_core.specs.State.{State, Connection, domain, content, pipe_at, conn_at, new_state}
 use Rattle.iol_core.specs.Positions.{ArePlaced}
 use Rattle.iol_core.specs.Run.{StepsTo, Run}

@@ -7,11 +7,11 @@ pub mod CallerDomains
 pub mod Reasons
 pub mod Others
 pub mod History
-pub mod Rising
+pub mod ConnNumbers
 pub mod RefusalsLeft
 pub mod Aggregates
 pub mod Lengths
 pub mod Labels
 pub mod Sources
-pub mod Opening
+pub mod DescriptorNumbers
 pub mod Prelude

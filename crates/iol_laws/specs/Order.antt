@@ -2,12 +2,12 @@
 -- stands is open; numbers that are still to come are not used yet, nothing is left of a domain that ended, and lists of pools are
 -- short.
 use Rattle.std.specs.Prelude.{◌≡◌, ℕ, ◌≤◌, ◌&&◌, ◌||◌, Bool, true, false, not, List, [], ◌∷◌, length, Some, None}
-use Rattle.iol_core.specs.Numbered.{lookup, in_place}
+use Rattle.iol_core.specs.NumberedLists.{lookup, in_place}
 use Rattle.iol_core.specs.State.{State, Pipe, domain, is_live, pool, aggregate, descriptor, conn_at, pipe_at, new_state, no_domain}
 use Rattle.iol_core.specs.Access.{HasAccess}
 use Rattle.iol_core.specs.Positions.{ArePlaced}
 use Rattle.iol_core.specs.declared.limits.TheConstants.{MAX_FILES, MAX_LISTED}
-use Rattle.iol_core.specs.Calls.Writing.{is_file}
+use Rattle.iol_core.specs.Calls.Writes.{is_file}
 use Rattle.iol_core.specs.Run.{StepsTo}
 use Rattle.iol_core.specs.declared.descriptors.Descriptor.{Descriptor}
 use Rattle.iol_core.specs.declared.descriptors.Descriptor.TheVariants as on

@@ -8,8 +8,8 @@ use Rattle.iol_core.specs.Run.{StepsTo}
 use Rattle.iol_core.specs.Calls.Files.{file_called}
 use Rattle.iol_core.specs.Calls.Outside.{lacks_conn}
 use Rattle.iol_core.specs.Calls.Pools.{has_place, is_busy}
-use Rattle.iol_core.specs.Calls.Reading.{can_read, reads}
-use Rattle.iol_core.specs.Calls.Writing.{can_write, is_file, writes}
+use Rattle.iol_core.specs.Calls.Reads.{can_read, reads}
+use Rattle.iol_core.specs.Calls.Writes.{can_write, is_file, writes}
 use Rattle.iol_core.specs.declared.limits.TheConstants.{MAX_AGGREGATE_BYTES, MAX_CHUNKS, MAX_FILE_BYTES, MAX_NAME_BYTES}
 use Rattle.iol_core.specs.declared.descriptors.Descriptor.{Descriptor}
 use Rattle.iol_core.specs.declared.descriptors.Descriptor.TheVariants as on

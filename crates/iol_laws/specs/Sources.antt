@@ -4,7 +4,7 @@ use Rattle.std.specs.List.{list_all}
 use Rattle.iol_core.specs.Text.{Text, labelled, admitted}
 use Rattle.iol_core.specs.State.{State, text, descriptor, file, content, may_read, pipe_at}
 use Rattle.iol_core.specs.Calls.Aggregates.{default_pool}
-use Rattle.iol_core.specs.Calls.Reading.{unread}
+use Rattle.iol_core.specs.Calls.Reads.{unread}
 use Rattle.iol_core.specs.Run.{StepsTo}
 use Rattle.iol_core.specs.declared.descriptors.Descriptor.{Descriptor}
 use Rattle.iol_core.specs.declared.descriptors.Descriptor.TheVariants as on

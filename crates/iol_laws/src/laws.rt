@@ -8,12 +8,12 @@ ghost use Rattle.iol_laws.specs.Frame.{EachStepLeavesTheRest};
 ghost use Rattle.iol_laws.specs.History.{HistoriesAddUp};
 ghost use Rattle.iol_laws.specs.Labels.{ArrivalsLieInTheirPool};
 ghost use Rattle.iol_laws.specs.Lengths.{LengthsStayBounded};
-ghost use Rattle.iol_laws.specs.Opening.{DescriptorsComeByReplies};
+ghost use Rattle.iol_laws.specs.DescriptorNumbers.{DescriptorsComeByReplies};
 ghost use Rattle.iol_laws.specs.Order.{EachStepKeepsOrder};
 ghost use Rattle.iol_laws.specs.Others.{OthersLeaveConnections, OthersLeavePipes};
 ghost use Rattle.iol_laws.specs.Reasons.{RefusalsTellWhy};
 ghost use Rattle.iol_laws.specs.RefusalsLeft.{RefusalsThatAreLeft};
-ghost use Rattle.iol_laws.specs.Rising.{ConnectionNumbersRise};
+ghost use Rattle.iol_laws.specs.ConnNumbers.{ConnectionNumbersRise};
 ghost use Rattle.iol_laws.specs.Sources.{LabelsFollow};
 
 /// Each step leaves what its event does not touch: connections, pipes, descriptors, files, pools, which domains live and where

@@ -1,3 +1,3 @@
-pub mod Listening
-pub mod Sending
-pub mod Waiting
+pub mod Service
+pub mod Outbox
+pub mod Backlog

@@ -2,7 +2,7 @@
 ghost use Rattle.std.specs.Prelude.{◌≡◌, [], None, IfOk, OnOk, take};
 ghost use Rattle.std.specs.Io.{WritesAtMost};
 ghost use Rattle.std.specs.Io.KnownBytes.{Appends, Keeps, WriteAppends};
-ghost use Rattle.iol_listen.specs.Sending.{Takes};
+ghost use Rattle.iol_listen.specs.Outbox.{Takes};
 
 use crate::bounds::OUTBOX_BYTES;
 use std::alloc::{AllocError, Global};

@@ -1,6 +1,6 @@
 //! Connections that were accepted and are served once they have asked.
 ghost use Rattle.std.specs.Prelude.{◌≡◌, ◌≤◌, ◌<◌, ◌+◌, ◌++◌, ◌∷◌, [], ◌-◌, IfOk, IfSome, IsNone, OnOk, OnErr, filter, length, nat_lt, true, vec_capacity};
-ghost use Rattle.iol_listen.specs.Waiting.{to_come, Joined, Gives, not_too_long};
+ghost use Rattle.iol_listen.specs.Backlog.{to_come, Joined, Gives, not_too_long};
 ghost use Rattle.iol_listen.specs.declared.bounds.TheConstants.{MAX_LOOKS, MAX_WAITING};
 
 use crate::bounds::{MAX_LOOKS, MAX_WAITING};
@@ -47,7 +47,7 @@ pub struct Queue<'a> {
 impl<'a> Model for Queue<'a> {
     ghost use Rattle.std.specs.Prelude.{◌≤◌, length, map};
     ghost use Rattle.std.specs.Vec.{vec_capacity};
-    ghost use Rattle.iol_listen.specs.Waiting.{Awaited};
+    ghost use Rattle.iol_listen.specs.Backlog.{Awaited};
     ghost use Rattle.iol_listen.specs.declared.bounds.TheConstants.{MAX_WAITING};
 
     ghost Value = { Awaited };

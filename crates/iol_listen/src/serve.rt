@@ -1,8 +1,8 @@
 //! The connections of a listener, one after another.
 ghost use Rattle.std.specs.Prelude.{OnOk};
 ghost use Rattle.iol_back.specs.Prelude.{IfHonest};
-ghost use Rattle.iol_listen.specs.Listening.{GoesAloneIn, ServesAllIn, ServesNextIn, ServesSomeIn};
-ghost use Rattle.iol_listen.specs.Waiting.{to_come};
+ghost use Rattle.iol_listen.specs.Service.{GoesAloneIn, ServesAllIn, ServesNextIn, ServesSomeIn};
+ghost use Rattle.iol_listen.specs.Backlog.{to_come};
 ghost use Rattle.iol_proc.specs.Prelude.{KeepsHonesty};
 ghost use Rattle.iol_serve.specs.Prelude.{HasEnded};
 ghost use Rattle.iol_system.specs.Prelude.{tables_of};

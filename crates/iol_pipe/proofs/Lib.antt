@@ -1,10 +1,10 @@
-pub mod Copied
-pub mod Given
-pub mod Holding
+pub mod Copies
+pub mod FrontBytes
+pub mod KnownHolds
 pub mod Parts
 pub mod Prefixes
 pub mod ReadIn
-pub mod Shared
-pub mod Skipping
+pub mod SharedHolds
+pub mod FrontReleases
 pub mod Texts
 pub mod Wholes

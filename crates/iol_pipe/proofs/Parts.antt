@@ -5,14 +5,14 @@ use Rattle.std.proofs.lemmas.Bool.{false≢true}
 use Rattle.std.proofs.lemmas.List.{take_all, map-append, take-append-drop, append_cancel_left}
 use Rattle.std.proofs.lemmas.List.Sums.{take_while-cons}
 use Rattle.iol_hold.specs.Moves.{Shares}
-use Rattle.iol_hold.specs.Stored.{Stored}
+use Rattle.iol_hold.specs.StoreState.{Stored}
 use Rattle.iol_hold.specs.Texts.{bufs_of}
 use Rattle.iol_hold.specs.declared.slices.Slice.{Slice}
 use Rattle.iol_hold.specs.Places.{Place, slice_places, places}
-use Rattle.iol_hold.proofs.Slicing.{length-slice_places, places-push}
+use Rattle.iol_hold.proofs.SlicePlaces.{length-slice_places, places-push}
 use Rattle.iol_pipe.specs.Queue.{TakesFirst, first_parts, names_given}
 use Rattle.iol_pipe.proofs.Prefixes.{take-append, take_while_step, take_while_none}
-use Rattle.iol_pipe.proofs.Shared.{shares_start, shares_moved}
+use Rattle.iol_pipe.proofs.SharedHolds.{shares_start, shares_moved}
 
 -- lists one after another
 joined : {A : Type 0} → List (List A) → List A

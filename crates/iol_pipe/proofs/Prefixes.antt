@@ -6,7 +6,7 @@ use Rattle.std.proofs.lemmas.List.{take-append-drop, take_all, at_drop_more, len
 use Rattle.std.proofs.lemmas.List.Sums.{take_while-cons}
 use Rattle.iol_hold.specs.declared.slices.Slice.{Slice}
 use Rattle.iol_hold.specs.Places.{Place, place_in, slice_places, places}
-use Rattle.iol_hold.proofs.Slicing.{row, length-slice_places}
+use Rattle.iol_hold.proofs.SlicePlaces.{row, length-slice_places}
 use Rattle.iol_pipe.specs.Queue.{first_pool}
 
 -- the places of a slice begin with its first

@@ -12,27 +12,27 @@ use Rattle.iol_arena.specs.declared.pages.Entry.{Entry}
 use Rattle.iol_arena.specs.declared.pages.PageKind as kind
 use Rattle.iol_arena.specs.declared.pages.PageKind.TheVariants.{Free, Pending, Head, Tail}
 use Rattle.iol_arena.proofs.Grows.{grows_trans}
-use Rattle.iol_arena.proofs.Made.{made_since, made_none, same_but_trans, same_but_entries}
+use Rattle.iol_arena.proofs.NewBuffers.{made_since, made_none, same_but_trans, same_but_entries}
 use Rattle.iol_arena.proofs.Members.{in_or_out, in_contains, contains_in}
 use Rattle.iol_arena.proofs.Over.{over_from-there}
 use Rattle.iol_pool.specs.Pools.{Pool, pool_in}
-use Rattle.iol_hold.specs.Stored.{Stored, Buffer, IsTidy, held_bufs, with_arena}
+use Rattle.iol_hold.specs.StoreState.{Stored, Buffer, IsTidy, held_bufs, with_arena}
 use Rattle.iol_hold.specs.Moves.{Moves}
 use Rattle.iol_hold.specs.Pages.{KeepsPages}
 use Rattle.iol_hold.specs.Room.{has_room, free_of, lowest_of, pages_of, pinned}
 use Rattle.iol_hold.specs.Texts.{IsFilled}
-use Rattle.iol_hold.specs.Waiting.{Fills, Publishes}
-use Rattle.iol_hold.proofs.Emptied.{all_settled_placed}
-use Rattle.iol_hold.proofs.Paging.{keeps_pages_made}
-use Rattle.iol_hold.proofs.Reserving.{fill_publish, fills_trans, same_fills}
+use Rattle.iol_hold.specs.PendingPages.{Fills, Publishes}
+use Rattle.iol_hold.proofs.EmptyPools.{all_settled_placed}
+use Rattle.iol_hold.proofs.PageChanges.{keeps_pages_made}
+use Rattle.iol_hold.proofs.Reservations.{fill_publish, fills_trans, same_fills}
 use Rattle.iol_hold.proofs.Rooms.{no_pages}
 use Rattle.iol_hold.specs.Places.{byte_len}
 use Rattle.iol_hold.specs.declared.slices.Slice.{Slice}
-use Rattle.iol_hold.proofs.Reading.{readable_none}
+use Rattle.iol_hold.proofs.ReadSlices.{readable_none}
 use Rattle.iol_core.specs.Text as text
 use Rattle.iol_agg.proofs.Wholes.{whole_texts-one}
-use Rattle.iol_pipe.specs.Adding.{AddsWhole}
-use Rattle.iol_pipe.specs.Arriving.{listed, IsOneRead, MakesRead, MayRead, ReadsIn, ReadsOnce}
+use Rattle.iol_pipe.specs.NewBytes.{AddsWhole}
+use Rattle.iol_pipe.specs.Arrivals.{listed, IsOneRead, MakesRead, MayRead, ReadsIn, ReadsOnce}
 use Rattle.iol_pipe.specs.declared.arrive.Arrived.{Arrived}
 use Rattle.iol_pipe.proofs.Wholes.{length_added}
 

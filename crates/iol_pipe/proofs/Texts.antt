@@ -4,14 +4,14 @@ use Rattle.std.specs.List.{take_while, prefix_len, slice_get}
 use Rattle.std.specs.Option.{option_map}
 use Rattle.std.proofs.lemmas.List.Elements.{All-append, All-take, All-same}
 use Rattle.iol_core.specs.Text.{admitted}
-use Rattle.iol_hold.specs.Stored.{Stored}
+use Rattle.iol_hold.specs.StoreState.{Stored}
 use Rattle.iol_pool.specs.Pools.{Pool, names_in}
 use Rattle.iol_hold.specs.declared.slices.Slice.{Slice}
 use Rattle.iol_hold.specs.Places.{places, byte_len}
 use Rattle.iol_hold.specs.Texts.{byte_at, text_of, IsThere, AllReadable}
 use Rattle.iol_hold.proofs.AtPlaces.{read_pushed, keeps_bytes}
 use Rattle.iol_pipe.specs.Queue.{first_pool, may_see}
-use Rattle.iol_pipe.proofs.Given.{read_given, read_left, first_pool-read}
+use Rattle.iol_pipe.proofs.FrontBytes.{read_given, read_left, first_pool-read}
 
 pub readable_pushed : {s : Stored} (new old from : List Slice) (n : ℕ) → places new ≡ places old ++ take n (places from) → AllReadable s old → AllReadable s from → AllReadable s new
 readable_pushed {s} new old from n e h k = record {

@@ -7,21 +7,21 @@ use Rattle.iol_core.specs.Text as text
 use Rattle.iol_arena.specs.Buffers.{Grows, bytes_of, bytes_in}
 use Rattle.iol_arena.specs.Pages.{IsSameBut, MadeOn}
 use Rattle.iol_arena.proofs.Grows.{grows_none}
-use Rattle.iol_arena.proofs.Made.{made_none, same_but_entries}
+use Rattle.iol_arena.proofs.NewBuffers.{made_none, same_but_entries}
 use Rattle.iol_hold.specs.Moves.{Moves}
 use Rattle.iol_hold.specs.Places.{byte_len}
 use Rattle.iol_hold.specs.Room.{free_of, lowest_of}
-use Rattle.iol_hold.specs.Stored.{Stored, Buffer, AllSettled, held_bufs}
+use Rattle.iol_hold.specs.StoreState.{Stored, Buffer, AllSettled, held_bufs}
 use Rattle.iol_hold.specs.Texts.{text_of, bufs_of, AllReadable, IsFilled}
 use Rattle.iol_hold.specs.declared.slices.Slice.{Slice}
-use Rattle.iol_hold.proofs.Counting.{bufs-push}
-use Rattle.iol_hold.proofs.Moving.{moves_none}
-use Rattle.iol_hold.proofs.Paging.{keeps_pages_made}
-use Rattle.iol_hold.proofs.Reading.{readable_none, readable_push, length-text_of}
-use Rattle.iol_hold.proofs.Slicing.{byte_len-append}
+use Rattle.iol_hold.proofs.Counts.{bufs-push}
+use Rattle.iol_hold.proofs.Moves.{moves_none}
+use Rattle.iol_hold.proofs.PageChanges.{keeps_pages_made}
+use Rattle.iol_hold.proofs.ReadSlices.{readable_none, readable_push, length-text_of}
+use Rattle.iol_hold.proofs.SlicePlaces.{byte_len-append}
 use Rattle.iol_agg.specs.Parts.{whole_texts}
 use Rattle.iol_agg.proofs.Wholes.{whole_readable, text_whole, whole_texts-one}
-use Rattle.iol_pipe.specs.Adding.{AddsBytes, AddsWhole}
+use Rattle.iol_pipe.specs.NewBytes.{AddsBytes, AddsWhole}
 
 -- some of the buffers have their slices, and these are left
 pub record WholeSoFar (s : Stored) (old now : List Slice) (left all : List Buffer) : Type 0 where

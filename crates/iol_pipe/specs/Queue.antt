@@ -9,7 +9,7 @@ use Rattle.iol_pool.specs.Pools.{Pool, names_in}
 use Rattle.iol_hold.specs.declared.slices.Slice.{Slice}
 use Rattle.iol_hold.specs.Moves.{Shares, same, tally}
 use Rattle.iol_hold.specs.Places.{Place, slice_places, places, byte_len}
-use Rattle.iol_hold.specs.Stored.{Stored}
+use Rattle.iol_hold.specs.StoreState.{Stored}
 use Rattle.iol_hold.specs.Texts.{bufs_of}
 use Rattle.iol_agg.specs.Pours.{AreShareable}
 

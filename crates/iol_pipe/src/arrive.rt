@@ -2,7 +2,7 @@
 ghost use Rattle.std.specs.Prelude.{◌≡◌, ◌+◌, ◌<◌, ◌≤◌, length, false, OnErr};
 ghost use Rattle.iol_pool.specs.Prelude.{pool_in};
 ghost use Rattle.iol_hold.specs.Prelude.{byte_len};
-ghost use Rattle.iol_pipe.specs.Arriving.{FillsFrom, MayRead, ReadsOnce, ReadsSome};
+ghost use Rattle.iol_pipe.specs.Arrivals.{FillsFrom, MayRead, ReadsOnce, ReadsSome};
 
 use crate::Pipe;
 use crate::fill::add_whole;

@@ -5,7 +5,7 @@ ghost use Rattle.std.specs.VecDeque.{deque_len, deque_capacity};
 ghost use Rattle.iol_core.specs.Prelude.{WantOfRoom};
 ghost use Rattle.iol_pool.specs.Prelude.{pool_in};
 ghost use Rattle.iol_hold.specs.Prelude.{TellsRoom, has_room, IsFilled};
-ghost use Rattle.iol_pipe.specs.Adding.{AddsFitting, AddsWhole};
+ghost use Rattle.iol_pipe.specs.NewBytes.{AddsFitting, AddsWhole};
 ghost use Rattle.iol_pipe.specs.Queue.{fitting};
 
 use crate::Pipe;

@@ -7,7 +7,7 @@
 //! pool; `room`, `late`), `fill_from` (`read`, `told`: those of one read, in place). Off: `front` (`gives`: the longest
 //! prefix of at most n bytes whose pools all name the domain), `take` (`cuts`: the first n bytes, slice by slice), `skip`
 //! and `clear` (`releases`). Where one is refused, nothing has changed (`err`). And `len`, `is_empty`, `first_pool`,
-//! `slice`. The words are in `specs/Queue`, `specs/Adding`, `specs/Arriving` and iol_hold's.
+//! `slice`. The words are in `specs/Queue`, `specs/NewBytes`, `specs/Arrivals` and iol_hold's.
 //!
 //! ```
 //! let taken = pipe.push(&mut store, &agg)?;
@@ -19,7 +19,7 @@ ghost use Rattle.std.specs.Prelude.{◌≡◌, ◌+◌, ◌≤◌, ◌↔◌, mi
 ghost use Rattle.std.specs.VecDeque.{deque_len, deque_capacity};
 ghost use Rattle.iol_hold.specs.Prelude.{Covers, IsCountable, Releases, byte_len, bufs_of};
 ghost use Rattle.iol_agg.specs.Prelude.{AreShareable};
-ghost use Rattle.iol_pipe.specs.Adding.{SharesFitting, SharesPrefix};
+ghost use Rattle.iol_pipe.specs.NewBytes.{SharesFitting, SharesPrefix};
 ghost use Rattle.iol_pipe.specs.Queue.{GivesFirst, IsEmptyFor, MayTakeFirst, TakesFirst, TakesOff, TakesSlice, first_pool, fitting, names_given};
 
 mod arrive;

@@ -1,4 +1,4 @@
 pub mod Distinct
-pub mod Admitting
+pub mod Admission
 pub mod Counts
-pub mod Owning
+pub mod Owners

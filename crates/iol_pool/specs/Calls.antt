@@ -4,7 +4,7 @@ use Rattle.iol_core.specs.declared.limits.TheConstants.{CHUNK_PAGES}
 use Rattle.iol_arena.specs.Prelude.{State, free_chunks, free_pages, retired_pages}
 use Rattle.iol_arena.specs.declared.pages.Unfilled.{Unfilled}
 use Rattle.iol_arena.specs.declared.pages.Unfilled.TheVariants.{NoRoom}
-use Rattle.iol_pool.specs.Owned.{AreOwned}
+use Rattle.iol_pool.specs.Owners.{AreOwned}
 use Rattle.iol_pool.specs.Pools.{AddsPool, Pool, pool_in, settled, settled_arena}
 use Rattle.iol_pool.specs.declared.report.PoolReport.{PoolReport}
 

@@ -1,5 +1,5 @@
 pub mod Pools
 pub mod Names
-pub mod Owned
+pub mod Owners
 pub mod Calls
 pub mod Prelude

@@ -1,7 +1,7 @@
 -- Pools: who may read their bytes, and the chunks in which these lie.
 use Rattle.std.specs.Prelude.{◌≡◌, ℕ, ◌==◌, ◌&&◌, Bool, true, false, not, if◌then◌else◌, List, [], ◌∷◌, ◌++◌, length, flat_map, map, slice_index_or}
 use Rattle.std.specs.List.{filter, list_any, list_all, range_with_len}
-use Rattle.iol_core.specs.Numbered.{numbered_or, with_numbered}
+use Rattle.iol_core.specs.NumberedLists.{numbered_or, with_numbered}
 use Rattle.iol_core.specs.Calls.Pools.{with_name}
 use Rattle.iol_arena.specs.State.{State}
 use Rattle.iol_arena.specs.Chunks.{chunk_pages, is_unused, spent, usable, TakesChunks}

@@ -10,7 +10,7 @@
 //! `settle` (`pools`, `arena`: chunks are returned exactly when their pool is closed and nothing stands on them), and on
 //! `create`, `close` and `settle` `owned`: a chunk that is taken has just one pool. Questions: `is_pool`, `is_closed`,
 //! `names`, `has_place`, `admits` (`first`: the first pool that does not name the domain), `chunks`, `free_count`, `report`.
-//! The words are in `specs/Names`, `specs/Pools`, `specs/Owned` and `specs/Calls`.
+//! The words are in `specs/Names`, `specs/Pools`, `specs/Owners` and `specs/Calls`.
 //!
 //! ```
 //! let names = Names::of(&[producer, consumer])?;

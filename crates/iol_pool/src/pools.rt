@@ -5,7 +5,7 @@ ghost use Rattle.std.specs.List.{All, list_all};
 ghost use Rattle.iol_core.specs.Prelude.{is_numbered, has_place};
 ghost use Rattle.iol_arena.specs.Prelude.{chunk_count, free_pages, is_unused};
 ghost use Rattle.iol_pool.specs.Pools.{counted_pages, goes_back, names_in, no_pool, pool_in, with_admitted, with_closed, with_emptied, with_returned};
-ghost use Rattle.iol_pool.specs.Owned.{AreChunksOf, AreOwned};
+ghost use Rattle.iol_pool.specs.Owners.{AreChunksOf, AreOwned};
 ghost use Rattle.iol_pool.specs.Calls.{CreatesPool, ReportsPool, SettlesPool};
 
 use crate::names::Names;

@@ -1,7 +1,7 @@
 //! Reading by copying.
 ghost use Rattle.std.specs.Prelude.{◌≡◌, ◌<◌, ◌≤◌, ◌^◌, ◌++◌, length, drop};
 ghost use Rattle.iol_kernel.specs.Prelude.{state_of, IsOnNoFile, IsSound, ReadsList};
-ghost use Rattle.iol_posix.specs.Copying.{ReadsInto, TakesOut};
+ghost use Rattle.iol_posix.specs.Reads.{ReadsInto, TakesOut};
 
 use iol_back::backing::Backing;
 use iol_core::lists::Bytes;

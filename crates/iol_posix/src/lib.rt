@@ -9,7 +9,7 @@
 //! do), and so is [`read_bytes`], `ReadsList` (`serves`, `copies`: the same, as a list of their own), and [`write`],
 //! `WritesBytes` (`serves`; `queue`: the bytes that a queue takes, on the lowest free pages of the caller's default pool,
 //! once clean extents gave way; `lays`, `puts`: what becomes of a file; `room`, `no_room`; `refused`: where it is refused and
-//! neither room nor memory was wanting, nothing has changed). The words are in `specs/Copying` and iol_kernel's.
+//! neither room nor memory was wanting, nothing has changed). The words are in `specs/Reads` and iol_kernel's.
 //!
 //! ```text
 //! let taken = write(&mut kernel, by, to, b"hello")?;

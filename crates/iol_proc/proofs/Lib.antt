@@ -1,11 +1,11 @@
-pub mod Borrowing
-pub mod Chained
-pub mod Copied
+pub mod StreamEvents
+pub mod Chains
+pub mod MachineRuns
 pub mod InRounds
-pub mod Lending
+pub mod LentBytes
 pub mod Plain
 pub mod Runs
-pub mod Seating
-pub mod Settling
+pub mod Seats
+pub mod Settlement
 pub mod Smooth
 pub mod Streams

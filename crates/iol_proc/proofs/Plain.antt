@@ -7,7 +7,7 @@ use Rattle.iol_core.specs.declared.events.Call.TheVariants as call
 use Rattle.iol_core.specs.declared.events.Event.TheVariants as event
 use Rattle.iol_core.specs.declared.events.Reply.{Reply}
 use Rattle.iol_core.specs.declared.events.Reply.TheVariants as reply
-use Rattle.iol_kernel.specs.Backed.{with_slots}
+use Rattle.iol_kernel.specs.FileCalls.{with_slots}
 use Rattle.iol_system.specs.Machine.{SystemState}
 use Rattle.iol_system.specs.Promises.{Promises}
 use Rattle.iol_proc.specs.Quiet.{IsQuietCall, IsPlain}

@@ -13,7 +13,7 @@ use Rattle.iol_laws.specs.History.{stream_of, sent_of, drops_unsent, came_by, se
 use Rattle.iol_laws.specs.Order.{IsOrderly}
 use Rattle.iol_laws.proofs.Runs.{Tells, told-append, told-more}
 use Rattle.iol_laws.proofs.Streams.Histories.{stream-append, sent-append, unread_run, unsent_run}
-use Rattle.iol_laws.proofs.Streams.Pending.{waiting_run}
+use Rattle.iol_laws.proofs.Streams.Backlog.{waiting_run}
 use Rattle.iol_proc.specs.Histories.{came_with, sent_with, stream_over, sent_over, drops_with, may_be_no_call, RunsAs, GoesOn}
 use Rattle.iol_proc.specs.Turns.{Machine, Account, Comes, SeatTurn}
 use Rattle.iol_proc.specs.World.{Stage, copying, DomainTurn, WorldStep, WorldRun}

@@ -1,11 +1,11 @@
-pub mod Borrowed
+pub mod Streams
 pub mod Histories
 pub mod Idle
 pub mod Laws
-pub mod Lent
+pub mod LentBytes
 pub mod Looks
 pub mod Quiet
-pub mod Settled
+pub mod Settlement
 pub mod Smooth
 pub mod Turns
 pub mod World

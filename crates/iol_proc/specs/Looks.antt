@@ -1,7 +1,7 @@
 -- What a look lends.
 use Rattle.std.specs.Prelude.{ℕ, List, Option}
 use Rattle.iol_system.specs.Machine.{tables_of}
-use Rattle.iol_proc.specs.Lent.{lent_to}
+use Rattle.iol_proc.specs.LentBytes.{lent_to}
 use Rattle.iol_proc.specs.declared.look.Look.{Look}
 
 -- the bytes of each aggregate of its domain

@@ -12,7 +12,7 @@ use Rattle.iol_core.specs.declared.refusals.Refusal.TheVariants.{NoDomain}
 use Rattle.iol_laws.specs.Caller.{is_rough}
 use Rattle.iol_system.specs.Machine.{SystemState, machine_of}
 use Rattle.iol_system.specs.Promises.{Promises}
-use Rattle.iol_proc.specs.Lent.{lent_to}
+use Rattle.iol_proc.specs.LentBytes.{lent_to}
 use Rattle.iol_proc.specs.Turns.{Machine, Account, SeatTurn}
 use Rattle.iol_proc.specs.declared.choice.Choice.{Choice}
 use Rattle.iol_proc.specs.declared.choice.Choice.TheVariants as choice

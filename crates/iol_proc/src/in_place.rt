@@ -1,7 +1,7 @@
 //! Connections of a world that are served from outside in place, from readers and to writers.
 ghost use Rattle.std.specs.Prelude.{◌≡◌, IfOk, OnErr};
 ghost use Rattle.iol_back.specs.Prelude.{IfHonest};
-ghost use Rattle.iol_proc.specs.Borrowed.{SendsAs, TakenArrive};
+ghost use Rattle.iol_proc.specs.Streams.{SendsAs, TakenArrive};
 ghost use Rattle.iol_proc.specs.World.{copied};
 ghost use Rattle.iol_system.specs.Prelude.{ServesFrom, ServesTo};
 

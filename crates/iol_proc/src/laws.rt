@@ -1,6 +1,6 @@
 //! Laws of worlds, for the proofs of what runs in them. The functions do nothing; their contracts are the laws.
 ghost use Rattle.iol_proc.specs.Histories.{HistoriesOfChoices};
-ghost use Rattle.iol_proc.specs.Settled.{IdleIsSettled};
+ghost use Rattle.iol_proc.specs.Settlement.{IdleIsSettled};
 ghost use Rattle.iol_proc.specs.Smooth.{SmoothRuns};
 
 use crate::idle::Settling;

@@ -8,7 +8,7 @@ ghost use Rattle.iol_system.specs.Prelude.{machine_of};
 ghost use Rattle.iol_proc.specs.Prelude.{KeepsHonesty, copied, lent};
 ghost use Rattle.iol_proc.specs.Idle.{CopiedIdles, Idles};
 ghost use Rattle.iol_proc.specs.Laws.{HasEvents};
-ghost use Rattle.iol_proc.specs.Lent.{lent_to};
+ghost use Rattle.iol_proc.specs.LentBytes.{lent_to};
 ghost use Rattle.iol_proc.specs.World.{Stage, sharing, seat_of, domains_of, IsRising, IsSeated, HasNoSeat, SitsAt, WorldStep, WorldRun, DomainTurn, OutsideStep, CopiedStep, CopiedRun};
 
 use crate::choice::Choice;

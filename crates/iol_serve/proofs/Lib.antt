@@ -1,5 +1,5 @@
-pub mod Drained
-pub mod Ended
+pub mod Drains
+pub mod ConnEnd
 pub mod Rounds
 pub mod Steps
 pub mod Whole

@@ -3,7 +3,7 @@ use Rattle.std.proofs.Common.{◌≡◌, ℕ, Bool, true, ◌||◌, inl, refl}
 use Rattle.iol_core.specs.Calls.Outside.{lacks_conn}
 use Rattle.iol_core.specs.State.{State}
 use Rattle.iol_serve.specs.Rounds.{after, is_gone, is_last}
-use Rattle.iol_serve.specs.Serving.{HasEnded, hung_up}
+use Rattle.iol_serve.specs.Service.{HasEnded, hung_up}
 use Rattle.iol_serve.specs.declared.ending.Ending.{Ending}
 use Rattle.iol_serve.specs.declared.ending.Ending.TheVariants as ending
 use Rattle.iol_serve.specs.declared.serve.Step.{Step}

@@ -11,9 +11,9 @@ use Rattle.iol_core.specs.declared.events.Event.{Event}
 use Rattle.iol_core.specs.declared.events.Event.TheVariants as event
 use Rattle.iol_core.specs.declared.events.Reply.{Reply}
 use Rattle.iol_core.specs.declared.events.Reply.TheVariants as reply
-use Rattle.iol_kernel.specs.Borrowed.{TakesIn}
+use Rattle.iol_kernel.specs.Streams.{TakesIn}
 use Rattle.iol_laws.specs.History.{came_by, sent_by, drops_unsent}
-use Rattle.iol_proc.specs.Borrowed.{ArrivesAs, SendsAs}
+use Rattle.iol_proc.specs.Streams.{ArrivesAs, SendsAs}
 use Rattle.iol_proc.specs.Histories.{stream_over, sent_over, drops_with}
 use Rattle.iol_proc.specs.Idle.{rounds}
 use Rattle.iol_proc.specs.Turns.{Account}
@@ -21,7 +21,7 @@ use Rattle.iol_proc.specs.World.{Stage, copying, OutsideStep, WorldRun}
 use Rattle.iol_proc.specs.declared.choice.Choice.{Choice}
 use Rattle.iol_proc.specs.declared.choice.Choice.TheVariants as choice
 use Rattle.iol_proc.proofs.Streams.{runs_follow, stream_over-append, sent_over-append}
-use Rattle.iol_serve.specs.Serving.{IsOn, AreOn, GoesOn, Sends, Serves}
+use Rattle.iol_serve.specs.Service.{IsOn, AreOn, GoesOn, Sends, Serves}
 
 -- Known bytes.
 

@@ -1,7 +1,7 @@
 -- A connection that is over was sent whole.
 use Rattle.std.proofs.Common.{◌≡◌, ℕ, true, List, [], Option, None, Some, refl, ap, subst, is_none, unwrap_or}
 use Rattle.iol_core.specs.Calls.Outside.{lacks_conn}
-use Rattle.iol_core.specs.Numbered.{lookup}
+use Rattle.iol_core.specs.NumberedLists.{lookup}
 use Rattle.iol_core.specs.State.{State, Connection, conn_at, no_conn}
 use Rattle.iol_core.specs.Text.{bytes_of}
 use Rattle.iol_laws.specs.History.{GoesFirst}

@@ -7,7 +7,7 @@ use Rattle.iol_laws.specs.History.{GoesFirst}
 use Rattle.iol_laws.specs.Order.{IsOrderly}
 use Rattle.iol_proc.specs.Turns.{Account}
 use Rattle.iol_proc.specs.World.{Stage}
-use Rattle.iol_serve.specs.Serving.{Serves}
+use Rattle.iol_serve.specs.Service.{Serves}
 
 -- Where its peer was never told to be gone, and it is not there any more, all was sent, in order: what waited to be sent, and
 -- what was written since. Nothing is left of it.

@@ -1,4 +1,4 @@
 pub mod Laws
 pub mod Rounds
-pub mod Serving
+pub mod Service
 pub mod Prelude

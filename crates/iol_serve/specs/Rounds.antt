@@ -3,7 +3,7 @@ use Rattle.std.specs.Prelude.{ℕ, Bool, true, false, List, Option}
 use Rattle.iol_system.specs.Machine.{SystemState}
 use Rattle.iol_proc.specs.Turns.{Account}
 use Rattle.iol_proc.specs.World.{Stage}
-use Rattle.iol_serve.specs.Serving.{ServesIn}
+use Rattle.iol_serve.specs.Service.{ServesIn}
 use Rattle.iol_serve.specs.declared.ending.Ending.{Ending}
 use Rattle.iol_serve.specs.declared.ending.Ending.TheVariants as ending
 use Rattle.iol_serve.specs.declared.serve.Step.{Step}

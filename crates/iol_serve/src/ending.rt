@@ -1,6 +1,6 @@
 //! How the serving of a connection ends.
 ghost use Rattle.std.specs.Prelude.{◌≡◌};
-ghost use Rattle.iol_serve.specs.Serving.{hung_up};
+ghost use Rattle.iol_serve.specs.Service.{hung_up};
 
 /// How the serving of a connection ended. All but the first are a peer that was told to be gone: what was not sent by then is
 /// dropped, and never will be.

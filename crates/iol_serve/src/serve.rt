@@ -3,7 +3,7 @@ ghost use Rattle.std.specs.Prelude.{◌≡◌, ◌≢◌, ◌||◌, [], true, fa
 ghost use Rattle.std.specs.Io.KnownBytes.{Appends};
 ghost use Rattle.iol_core.specs.Prelude.{lacks_conn};
 ghost use Rattle.iol_proc.specs.Prelude.{KeepsHonesty, copied};
-ghost use Rattle.iol_serve.specs.Serving.{HasEnded, GoesOnIn, SendsIn, ServesIn, ServesUntil, hung_up};
+ghost use Rattle.iol_serve.specs.Service.{HasEnded, GoesOnIn, SendsIn, ServesIn, ServesUntil, hung_up};
 ghost use Rattle.iol_serve.specs.Rounds as spec;
 ghost use Rattle.iol_system.specs.Prelude.{tables_of, IsSafe};
 

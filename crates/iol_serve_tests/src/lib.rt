@@ -2,6 +2,6 @@
 #![tactic(auto)]
 
 #[cfg(test)]
-mod echoing;
+mod echo_world;
 #[cfg(test)]
-mod serving;
+mod service;

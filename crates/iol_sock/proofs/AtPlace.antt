@@ -1,11 +1,11 @@
 -- A call on one connection of a table, by its number.
 use Rattle.std.proofs.Common.{◌≡◌, ℕ, List, Some, sym, ap, subst, ◌∙◌}
-use Rattle.iol_core.specs.Numbered.{lookup, changed}
+use Rattle.iol_core.specs.NumberedLists.{lookup, changed}
 use Rattle.iol_hold.specs.declared.slices.Slice.{Slice}
-use Rattle.iol_desc.specs.Listed.{Rises}
+use Rattle.iol_desc.specs.EntryLists.{Rises}
 use Rattle.iol_sock.specs.Connections.{Conn}
 use Rattle.iol_sock.specs.Table.{ChangesOne, ConnTable, IsAmong, conn_in, with_conn}
-use Rattle.iol_sock.proofs.Waiting.{some-none, conn_in-there, lookup-changed, changed-same}
+use Rattle.iol_sock.proofs.WaitingList.{some-none, conn_in-there, lookup-changed, changed-same}
 
 -- From the table t to u a call went, on the connection of that number alone, from x to y. What the call says of x and y,
 -- the tables say of their connections.

@@ -1,7 +1,7 @@
 pub mod AtPlace
-pub mod Ending
-pub mod Meaning
-pub mod Sending
-pub mod Waiting
-pub mod Writing
+pub mod QueueEnds
+pub mod MachineConns
+pub mod Sends
+pub mod WaitingList
+pub mod Writes
 pub mod OfPools

@@ -9,15 +9,15 @@ use Rattle.iol_core.specs.declared.refusals.Refusal.TheVariants.{Memory}
 use Rattle.iol_hold.specs.Prelude.{AllReadable, AllSettled, FreesOnly, Moves, Releases, SameLists, Stored, TellsRoom}
 use Rattle.iol_hold.specs.Prelude.{bufs_of, byte_len, has_room, places, text_of}
 use Rattle.iol_hold.specs.declared.slices.Slice.{Slice}
-use Rattle.iol_pipe.specs.Arriving.{ReadsIn}
+use Rattle.iol_pipe.specs.Arrivals.{ReadsIn}
 use Rattle.iol_pipe.specs.Prelude.{AddsFitting, GivesFirst, IsOneRead, SharesFitting, fitting, may_see}
 use Rattle.iol_pipe.specs.declared.arrive.Arrived.{Arrived}
 use Rattle.iol_sum.specs.Prelude.{IsRight}
 use Rattle.iol_sum.specs.Sums.{Sums}
 use Rattle.iol_sock.specs.Connections.{Conn, closed_by}
-use Rattle.iol_sock.specs.Refused.{IsPassed, IsRefused, arrive_late, arrive_refusals, queue_refusals}
-use Rattle.iol_sock.specs.Refused.{read_refusals, segment_refusals}
-use Rattle.iol_sock.specs.Sent.{IsSent, Writes}
+use Rattle.iol_sock.specs.Refusals.{IsPassed, IsRefused, arrive_late, arrive_refusals, queue_refusals}
+use Rattle.iol_sock.specs.Refusals.{read_refusals, segment_refusals}
+use Rattle.iol_sock.specs.SentBytes.{IsSent, Writes}
 use Rattle.iol_sock.specs.declared.drain_to.Drained.{Drained}
 use Rattle.iol_sock.specs.declared.outgoing.Segment.{Segment}
 

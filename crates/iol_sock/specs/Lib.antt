@@ -1,6 +1,6 @@
 pub mod Calls
 pub mod Connections
-pub mod Meant
-pub mod Refused
-pub mod Sent
+pub mod Meanings
+pub mod Refusals
+pub mod SentBytes
 pub mod Table

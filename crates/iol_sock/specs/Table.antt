@@ -4,12 +4,12 @@ use Rattle.std.specs.Prelude.{Option, Some, None, option_map, unwrap_or}
 use Rattle.std.specs.Global.{Global}
 use Rattle.std.specs.VecDeque.{deque_len, deque_capacity}
 use Rattle.std.specs.declared.collections.VecDeque.{VecDeque}
-use Rattle.iol_core.specs.Numbered.{lookup, without}
+use Rattle.iol_core.specs.NumberedLists.{lookup, without}
 use Rattle.iol_core.specs.Prelude.{changed}
 use Rattle.iol_core.specs.declared.descriptors.How.TheVariants.{Gone}
 use Rattle.iol_pool.specs.Pools.{Pool, names_in}
 use Rattle.iol_hold.specs.declared.slices.Slice.{Slice}
-use Rattle.iol_desc.specs.Listed.{Rises}
+use Rattle.iol_desc.specs.EntryLists.{Rises}
 use Rattle.iol_sock.specs.Connections.{Conn}
 
 -- the live connections by rising number, the number of the next, and how many more can be added without asking for

@@ -31,7 +31,7 @@ impl Connection {
 
 impl Connections {
     /// Releases the first `n` bytes that came in on a connection, or all where fewer wait. It takes no memory.
-    #[tactic(auto, using(crate::proofs::Waiting::passing_rules))]
+    #[tactic(auto, using(crate::proofs::WaitingList::passing_rules))]
     pub fn skip(&mut self, store: &mut Store, c: ConnId, n: u32)
         requires there { lookup self.old.conns c ≢ None }
         requires covered { Covers store.old (bufs_of (conn_in self.old.conns c).incoming) }

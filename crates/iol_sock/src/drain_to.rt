@@ -3,7 +3,7 @@ ghost use Rattle.std.specs.Prelude.{◌≤◌, length, take};
 ghost use Rattle.std.specs.Io.KnownBytes.{Appends};
 ghost use Rattle.iol_hold.specs.Prelude.{Covers, bufs_of, AllReadable};
 ghost use Rattle.iol_sock.specs.Calls.{Drains};
-ghost use Rattle.iol_sock.specs.Sent.{Writes};
+ghost use Rattle.iol_sock.specs.SentBytes.{Writes};
 
 use crate::connections::Connection;
 use iol_hold::Store;

@@ -4,7 +4,7 @@ ghost use Rattle.iol_core.specs.Prelude.{first};
 ghost use Rattle.iol_pool.specs.Prelude.{pool_in};
 ghost use Rattle.iol_hold.specs.Prelude.{Covers, IsCountable, bufs_of};
 ghost use Rattle.iol_sock.specs.Calls.{Arrives, GivesFront};
-ghost use Rattle.iol_sock.specs.Refused.{arrive_refusals, IsPassed};
+ghost use Rattle.iol_sock.specs.Refusals.{arrive_refusals, IsPassed};
 
 use crate::connections::Connection;
 use iol_agg::Agg;

@@ -5,8 +5,8 @@ ghost use Rattle.iol_core.specs.Prelude.{first, bytes_of};
 ghost use Rattle.iol_hold.specs.Prelude.{Covers, IsCountable, byte_len, text_of, bufs_of, AllReadable};
 ghost use Rattle.iol_pool.specs.Prelude.{pool_in};
 ghost use Rattle.iol_sock.specs.Calls.{QueuesNew, QueuesShared, Segments};
-ghost use Rattle.iol_sock.specs.Refused.{queue_refusals, IsPassed};
-ghost use Rattle.iol_sock.specs.Sent.{MaySend, Sends};
+ghost use Rattle.iol_sock.specs.Refusals.{queue_refusals, IsPassed};
+ghost use Rattle.iol_sock.specs.SentBytes.{MaySend, Sends};
 
 use crate::connections::Connection;
 use iol_agg::Agg;

@@ -22,7 +22,7 @@ impl Connections {
     /// lowest free pages of its pool, which is open.
     ///
     /// It is refused as [`Connection::arrive`] is.
-    #[tactic(auto, using(crate::proofs::Waiting::passing_rules))]
+    #[tactic(auto, using(crate::proofs::WaitingList::passing_rules))]
     pub fn arrive(
         &mut self,
         alloc: Global,
@@ -42,7 +42,7 @@ impl Connections {
     /// pool, which is open.
     ///
     /// It is refused as [`Connection::arrive_from`] is.
-    #[tactic(auto, using(crate::proofs::Waiting::passing_rules))]
+    #[tactic(auto, using(crate::proofs::WaitingList::passing_rules))]
     pub fn arrive_from<R: Read>(
         &mut self,
         alloc: Global,
@@ -60,7 +60,7 @@ impl Connections {
     }
 
     /// Takes off the longest prefix of at most `n` bytes that came in on a connection, whose pools all name the domain.
-    #[tactic(auto, using(crate::proofs::Waiting::passing_rules))]
+    #[tactic(auto, using(crate::proofs::WaitingList::passing_rules))]
     pub fn front(
         &mut self,
         alloc: Global,
@@ -79,7 +79,7 @@ impl Connections {
     }
 
     /// The domain closes a connection. What came in is dropped, and what is to be sent stays.
-    #[tactic(auto, using(crate::proofs::Waiting::passing_rules))]
+    #[tactic(auto, using(crate::proofs::WaitingList::passing_rules))]
     pub fn close(&mut self, store: &mut Store, c: ConnId)
         requires there { lookup self.old.conns c ≢ None }
         requires covered { Covers store.old (bufs_of (conn_in self.old.conns c).incoming) }

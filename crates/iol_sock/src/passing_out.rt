@@ -25,7 +25,7 @@ impl Connections {
     /// stays.
     ///
     /// It is refused as [`Connection::queue`] is.
-    #[tactic(auto, using(crate::proofs::Waiting::passing_rules))]
+    #[tactic(auto, using(crate::proofs::WaitingList::passing_rules))]
     pub fn queue(&mut self, store: &mut Store, c: ConnId, from: &Agg) -> Result<u32, Refusal>
         requires there { lookup self.old.conns c ≢ None }
         requires covered { Covers store.old (bufs_of from.now) }
@@ -40,7 +40,7 @@ impl Connections {
     /// buffers on the lowest free pages of the pool.
     ///
     /// It is refused as [`Connection::write`] is.
-    #[tactic(auto, using(crate::proofs::Waiting::passing_rules))]
+    #[tactic(auto, using(crate::proofs::WaitingList::passing_rules))]
     pub fn write(
         &mut self,
         alloc: Global,
@@ -60,7 +60,7 @@ impl Connections {
     /// Sends the first `max` bytes of a connection, or all where fewer wait, with the checksum of these alone.
     ///
     /// It is refused as [`Connection::segment`] is.
-    #[tactic(auto, using(crate::proofs::Waiting::passing_rules))]
+    #[tactic(auto, using(crate::proofs::WaitingList::passing_rules))]
     pub fn segment(
         &mut self,
         alloc: Global,
@@ -81,7 +81,7 @@ impl Connections {
     }
 
     /// Lends the first bytes to be sent on a connection to a writer, at most `max` in all, and takes off what it took.
-    #[tactic(auto, using(crate::proofs::Waiting::passing_rules))]
+    #[tactic(auto, using(crate::proofs::WaitingList::passing_rules))]
     pub fn drain_to<W: Write>(
         &mut self,
         store: &mut Store,
@@ -100,7 +100,7 @@ impl Connections {
 
     /// The peer of a connection sends no more, or also takes no more. What was to be sent to a peer that is gone is
     /// dropped.
-    #[tactic(auto, using(crate::proofs::Waiting::passing_rules))]
+    #[tactic(auto, using(crate::proofs::WaitingList::passing_rules))]
     pub fn peer_closed(&mut self, store: &mut Store, c: ConnId, how: How)
         requires there { lookup self.old.conns c ≢ None }
         requires covered { Covers store.old (bufs_of (conn_in self.old.conns c).outgoing) }

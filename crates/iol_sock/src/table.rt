@@ -51,7 +51,7 @@ impl Model for Connections {
 }
 
 /// Takes the connection of this number off the list of those that wait.
-#[tactic(auto, using(crate::proofs::Waiting::list_rules))]
+#[tactic(auto, using(crate::proofs::WaitingList::list_rules))]
 fn unlist(waiting: &mut VecDeque<(u64, PoolId)>, number: u64)
     requires rising { IsRising waiting.old.items }
     requires there { lookup waiting.old.items number ≢ None }
@@ -130,7 +130,7 @@ impl Connections {
     }
 
     /// Adds a connection that waits to be accepted, in room that is reserved. What arrives on it will lie in the pool.
-    #[tactic(auto, using(crate::proofs::Waiting::table_rules))]
+    #[tactic(auto, using(crate::proofs::WaitingList::table_rules))]
     pub fn add(&mut self, alloc: Global, pool: PoolId) -> ConnId
         requires few { self.old.next ≤ LAST_CONNECTION }
         requires room { 0 < self.old.room }
@@ -152,7 +152,7 @@ impl Connections {
     }
 
     /// The first that no domain accepted and whose pool names this one.
-    #[tactic(auto, using(crate::proofs::Waiting::table_rules))]
+    #[tactic(auto, using(crate::proofs::WaitingList::table_rules))]
     pub fn first_waiting(&self, store: &Store, d: DomainId) -> Option<ConnId>
         ensures { result ≡ first_waiting store.now.pools d self.now.conns }
     {
@@ -162,7 +162,7 @@ impl Connections {
     }
 
     /// A domain accepts a connection that waits.
-    #[tactic(auto, using(crate::proofs::Waiting::table_rules))]
+    #[tactic(auto, using(crate::proofs::WaitingList::table_rules))]
     pub fn accept(&mut self, c: ConnId)
         requires there { lookup self.old.conns c ≢ None }
         requires waits { (conn_in self.old.conns c).accepted ≡ false }
@@ -177,7 +177,7 @@ impl Connections {
     }
 
     /// Forgets a connection, and gives it out for its caller to release.
-    #[tactic(auto, using(crate::proofs::Waiting::table_rules))]
+    #[tactic(auto, using(crate::proofs::WaitingList::table_rules))]
     pub fn forget(&mut self, c: ConnId) -> Connection
         requires { lookup self.old.conns c ≢ None }
         ensures given { Some result ≡ lookup self.old.conns c }

@@ -8,7 +8,7 @@ mod order;
 mod pipes;
 mod pools;
 mod refusals;
-mod remembered;
+mod slice_sums;
 mod stores;
 mod sums;
 mod tables;

@@ -1,8 +1,8 @@
 pub mod Examples
-pub mod Folding
-pub mod Joining
-pub mod Chunked
-pub mod Keyed
-pub mod Using
-pub mod Keeping
-pub mod Pieced
+pub mod Folds
+pub mod TwoPieces
+pub mod EightBytes
+pub mod KeyedLists
+pub mod SumUse
+pub mod KeptSums
+pub mod PieceSums

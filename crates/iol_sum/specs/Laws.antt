@@ -1,7 +1,7 @@
 -- Remembered sums stay right as the store goes on.
 use Rattle.iol_arena.specs.State.{State}
 use Rattle.iol_arena.specs.Buffers.{Keeps, Grows}
-use Rattle.iol_hold.specs.Stored.{Stored}
+use Rattle.iol_hold.specs.StoreState.{Stored}
 use Rattle.iol_hold.specs.Moves.{Stays}
 use Rattle.iol_sum.specs.Sums.{Sums, IsRight}
 

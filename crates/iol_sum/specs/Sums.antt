@@ -6,7 +6,7 @@ use Rattle.iol_core.specs.Checksum.{word_sum, folded}
 use Rattle.iol_core.specs.declared.numbers.BufId.{BufId}
 use Rattle.iol_arena.specs.State.{State, generation_at}
 use Rattle.iol_arena.specs.Buffers.{IsLive, bytes_of}
-use Rattle.iol_hold.specs.Stored.{Stored}
+use Rattle.iol_hold.specs.StoreState.{Stored}
 use Rattle.iol_hold.specs.Texts.{slice_bytes}
 use Rattle.iol_hold.specs.declared.slices.Slice.{Slice}
 use Rattle.iol_sum.specs.declared.keys.Key.{Key}

@@ -3,16 +3,16 @@ use Rattle.std.proofs.Common.{◌≡◌, ◌∙◌, ℕ, List, [], refl, sym, ap
 use Rattle.iol_core.specs.Access.{HasAccess}
 use Rattle.iol_core.specs.Run.{meaning, outcome}
 use Rattle.iol_core.specs.State.{Domain, aggregate}
-use Rattle.iol_core.specs.Numbered.{lookup}
+use Rattle.iol_core.specs.NumberedLists.{lookup}
 use Rattle.iol_core.specs.Text.{Text}
 use Rattle.iol_core.specs.Values.{ValuesStay}
 use Rattle.iol_core.specs.declared.events.Event.{Event}
 use Rattle.iol_core.specs.declared.events.Reply.{Reply}
 use Rattle.iol_core.proofs.Access.{access_step}
-use Rattle.iol_core.proofs.Kept.{access_same}
+use Rattle.iol_core.proofs.KeptAccess.{access_same}
 use Rattle.iol_core.proofs.Lookups.{domain-same}
 use Rattle.iol_core.proofs.Values.{values_step}
-use Rattle.iol_kernel.specs.Backed.{with_slots, StepsBeside}
+use Rattle.iol_kernel.specs.FileCalls.{with_slots, StepsBeside}
 use Rattle.iol_kernel.specs.KernelState as held
 use Rattle.iol_kernel.specs.KernelState.{KernelState, read_of}
 use Rattle.iol_kernel.specs.Views.{state_view}

@@ -7,7 +7,7 @@ use Rattle.std.proofs.lemmas.Bool.{true≢false}
 use Rattle.iol_core.specs.declared.events.Event.{Event}
 use Rattle.iol_core.specs.declared.events.Reply.{Reply}
 use Rattle.iol_hold.specs.Moves.{Stays}
-use Rattle.iol_hold.proofs.Moving.{stays_trans}
+use Rattle.iol_hold.proofs.Moves.{stays_trans}
 use Rattle.iol_core.specs.State.{aggregate}
 use Rattle.iol_core.specs.Text.{Text}
 use Rattle.iol_core.specs.Values.{gives_up}

@@ -6,10 +6,10 @@ use Rattle.std.proofs.lemmas.List.FromFn.{length-map-range_with_len}
 use Rattle.iol_core.specs.State as machine
 use Rattle.iol_core.specs.declared.limits.TheConstants.{MAX_FILES}
 use Rattle.iol_back.specs.Disk.{Disk, content}
-use Rattle.iol_cache.specs.Cached.{extents_in, file_in, no_file}
+use Rattle.iol_cache.specs.CacheState.{extents_in, file_in, no_file}
 use Rattle.iol_cache.specs.Contents.{IsStored}
 use Rattle.iol_cache.specs.declared.files.CachedFile.{CachedFile}
-use Rattle.iol_kernel.specs.Backed.{IsBackedBy}
+use Rattle.iol_kernel.specs.FileCalls.{IsBackedBy}
 use Rattle.iol_kernel.specs.KernelState.{KernelState, IsSound, machine_of, read_of}
 use Rattle.iol_kernel.specs.Views.{state_view}
 use Rattle.iol_extent.specs.Extents.{cover}

@@ -2,14 +2,14 @@
 use Rattle.std.proofs.Common.{inl, inr, ◌≡◌, ◌∙◌, ℕ, ◌<◌, Bool, true, false, cond, List, [], ◌∷◌, length, Option, Some, None, refl, sym, ap, arith, subst}
 use Rattle.std.specs.Prelude.{option_map, unwrap_or, ◌+◌}
 use Rattle.std.proofs.lemmas.Bool.{cases_eq, cases_lt}
-use Rattle.iol_evict.specs.Ranking.{Ranking, entry_at, entry_or, hit_at, is_at, no_entry, with_height, worth}
+use Rattle.iol_evict.specs.Order.{Ranking, entry_at, entry_or, hit_at, is_at, no_entry, with_height, worth}
 use Rattle.iol_evict.specs.declared.entry.Entry.{Entry}
-use Rattle.iol_evict.proofs.Listed.{is_at-at, is_at-file}
+use Rattle.iol_evict.proofs.EntryList.{is_at-at, is_at-file}
 use Rattle.iol_extent.specs.Extents.{Extent, extent_over}
 use Rattle.iol_extent.specs.declared.spans.Span.{Span}
-use Rattle.iol_cache.specs.Cached.{order_in, with_order}
-use Rattle.iol_cache.specs.Reading.{hit_counted, hits_counted}
-use Rattle.iol_cache.proofs.Extents.Filing.{length-with_order, order_nowhere, order_other, order_same}
+use Rattle.iol_cache.specs.CacheState.{order_in, with_order}
+use Rattle.iol_cache.specs.RangeReads.{hit_counted, hits_counted}
+use Rattle.iol_cache.proofs.Extents.FileEntries.{length-with_order, order_nowhere, order_other, order_same}
 use Rattle.iol_system.specs.Laws.{IsSameOrHit, hit_above}
 
 abbrev raised_to : (h : ℕ) → Entry → Entry

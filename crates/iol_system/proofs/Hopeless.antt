@@ -2,7 +2,7 @@
 use Rattle.std.proofs.Common.{inl, inr, ◌≡◌, ◌⊎◌, ◌+◌, ◌<◌, ℕ, ◌≤◌, arith, true, false, List, Option, Some, length, refl, ap, subst, sym}
 use Rattle.iol_back.specs.Disk.{Disk}
 use Rattle.iol_core.specs.State.{descriptor}
-use Rattle.iol_core.specs.Calls.Writing.{fitting}
+use Rattle.iol_core.specs.Calls.Writes.{fitting}
 use Rattle.iol_core.specs.declared.descriptors.Descriptor.{Descriptor}
 use Rattle.iol_core.specs.declared.descriptors.Descriptor.TheVariants as on
 use Rattle.iol_core.specs.declared.descriptors.Mode.{Mode}
@@ -14,23 +14,23 @@ use Rattle.iol_core.specs.declared.events.Reply.{Reply}
 use Rattle.iol_core.specs.declared.events.Reply.TheVariants as reply
 use Rattle.iol_core.specs.declared.refusals.Refusal.{Refusal}
 use Rattle.iol_hold.specs.Room.{pages_of}
-use Rattle.iol_hold.specs.Stored.{Stored}
+use Rattle.iol_hold.specs.StoreState.{Stored}
 use Rattle.iol_hold.specs.declared.slices.Slice.{Slice}
-use Rattle.iol_cache.specs.Going.{HasRoom}
-use Rattle.iol_cache.specs.Keeping.{SameExtents}
-use Rattle.iol_cache.specs.Serving.{LeavesRange, RoomToRead}
-use Rattle.iol_cache.proofs.RangeReads.Met.{has_hit}
-use Rattle.iol_kernel.specs.Backed.{holding_of}
-use Rattle.iol_kernel.specs.FileReading.{FileRead, LeavesAtRefusal, file_read}
+use Rattle.iol_cache.specs.ReadSteps.{HasRoom}
+use Rattle.iol_cache.specs.KeptCover.{SameExtents}
+use Rattle.iol_cache.specs.ReadResults.{LeavesRange, RoomToRead}
+use Rattle.iol_cache.proofs.RangeReads.LackOfPages.{has_hit}
+use Rattle.iol_kernel.specs.FileCalls.{holding_of}
+use Rattle.iol_kernel.specs.FileReads.{FileRead, LeavesAtRefusal, file_read}
 use Rattle.iol_kernel.specs.KernelState.{KernelState}
-use Rattle.iol_kernel.specs.MakingRoom.{MayHaveEvicted, can_fit}
-use Rattle.iol_kernel.specs.WritingFiles.{LeavesUnlaid, LeavesUnwritten, pages_to_write, pool_of_file}
-use Rattle.iol_system.specs.Asking.{uses_cache}
+use Rattle.iol_kernel.specs.Room.{MayHaveEvicted, can_fit}
+use Rattle.iol_kernel.specs.FileWrites.{LeavesUnlaid, LeavesUnwritten, pages_to_write, pool_of_file}
+use Rattle.iol_system.specs.StoreCalls.{uses_cache}
 use Rattle.iol_system.specs.Late.{CallLeaves, CopyLeaves, LeavesLate, PutLeaves, ReadLeaves, WriteLeaves}
 use Rattle.iol_system.specs.InPlace.{IsInRange}
 use Rattle.iol_system.specs.Laws.{EvictsNothing, IsRead, RefusedWithoutRoomEvictsNothing}
 use Rattle.iol_system.specs.Machine.{SystemState, tables_of}
-use Rattle.iol_system.proofs.Lacking.{only_hit, only_reserved, same_cache}
+use Rattle.iol_system.proofs.LackOfRoom.{only_hit, only_reserved, same_cache}
 use Rattle.iol_system.specs.Room.{CallHasRoom, HasRoomFor, HasRoomToRead, HasRoomToWrite, IsRefused}
 use Rattle.iol_system.specs.Wants.{Fits, Wants, for_written}
 

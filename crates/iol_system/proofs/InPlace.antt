@@ -15,24 +15,24 @@ use Rattle.iol_core.specs.declared.refusals.Refusal.{Refusal}
 use Rattle.iol_core.specs.declared.refusals.Refusal.TheVariants.{NoDomain, BadFd, BadAgg, NoPool, NoFile, WrongMode, BadRange, TooLong, TooMany, Denied, PoolClosed, PoolBusy, BrokenPipe, WouldBlock, NoRoom, Fault, Memory}
 use Rattle.iol_arena.specs.State.{pages_for}
 use Rattle.iol_extent.specs.Extents.{Cell, Extent, cell_at, cover, is_over}
-use Rattle.iol_cache.specs.Cached.{Cached, extents_in, file_in}
-use Rattle.iol_cache.specs.Keeping.{KeepsCover, KeepsDirty}
-use Rattle.iol_cache.specs.Syncing.{Flushes, Syncs, first_cleaned}
+use Rattle.iol_cache.specs.CacheState.{Cached, extents_in, file_in}
+use Rattle.iol_cache.specs.KeptCover.{KeepsCover, KeepsDirty}
+use Rattle.iol_cache.specs.WriteBack.{Flushes, Syncs, first_cleaned}
 use Rattle.iol_extent.specs.Extents.{as_clean, cleaned_at}
 use Rattle.iol_cache.specs.declared.files.CachedFile.{CachedFile}
 use Rattle.iol_cache.specs.declared.sync.Flushed.{Flushed}
 use Rattle.iol_cache.specs.declared.sync.Flushed.TheVariants.{Nothing, Wrote}
 use Rattle.iol_kernel.specs.Calls.{MakesBytes}
-use Rattle.iol_kernel.specs.WritingBack.{FlushesOne}
-use Rattle.iol_kernel.proofs.FileCalls.Named.{cache_sound}
-use Rattle.iol_kernel.specs.Keeping.{KeepsBeside, KeepsUnless, LacksPages}
+use Rattle.iol_kernel.specs.WriteBack.{FlushesOne}
+use Rattle.iol_kernel.proofs.FileCalls.FileNames.{cache_sound}
+use Rattle.iol_kernel.specs.KeptCover.{KeepsBeside, KeepsUnless, LacksPages}
 use Rattle.iol_kernel.specs.KernelState.{KernelState, IsSound}
-use Rattle.iol_kernel.specs.MakingRoom.{AfterRoom, MayHaveEvicted, Places}
-use Rattle.iol_kernel.proofs.FileCalls.Kept.{keeps_same, room_keeps}
+use Rattle.iol_kernel.specs.Room.{AfterRoom, MayHaveEvicted, Places}
+use Rattle.iol_kernel.proofs.FileCalls.KeptCover.{keeps_same, room_keeps}
 use Rattle.iol_system.specs.InPlace.{IsThereOrClean, IsWritten, KeepsInPlace, LiesStill, MayLetGo, SharesFile}
 use Rattle.iol_system.specs.Machine.{SystemState, system_of}
-use Rattle.iol_system.specs.WrittenBack.{CleansFirst}
-use Rattle.iol_system.proofs.WrittenBack.{cleans_first}
+use Rattle.iol_system.specs.WriteBack.{CleansFirst}
+use Rattle.iol_system.proofs.WriteBack.{cleans_first}
 
 -- Whatever the event.
 

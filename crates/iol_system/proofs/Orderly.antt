@@ -4,11 +4,11 @@ use Rattle.iol_core.specs.Run.{meaning, outcome}
 use Rattle.iol_core.specs.State.{State}
 use Rattle.iol_core.specs.declared.events.Event.{Event}
 use Rattle.iol_core.specs.declared.events.Reply.{Reply}
-use Rattle.iol_kernel.specs.Backed.{with_slots, StepsBeside}
+use Rattle.iol_kernel.specs.FileCalls.{with_slots, StepsBeside}
 use Rattle.iol_kernel.specs.KernelState as held
 use Rattle.iol_kernel.specs.KernelState.{KernelState}
 use Rattle.iol_laws.specs.Order.{IsOrderly}
-use Rattle.iol_laws.proofs.Order.Ordered.{orderly_step, orderly-slots}
+use Rattle.iol_laws.proofs.Order.Steps.{orderly_step, orderly-slots}
 use Rattle.iol_system.specs.Laws.{RunsStayOrderly}
 use Rattle.iol_system.specs.Machine.{SystemState, machine_of}
 use Rattle.iol_system.proofs.Beside.{with_slots-machine}

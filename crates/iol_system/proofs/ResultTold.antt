@@ -2,7 +2,7 @@
 use Rattle.std.proofs.Common.{◌≡◌, ◌∙◌, ℕ, List, refl, sym, ap, subst, inl, inr}
 use Rattle.std.specs.Prelude.{◌⊎◌, Result, Ok, Err, IfErr, OnErr, OnOk}
 use Rattle.iol_back.specs.Disk.{Disk}
-use Rattle.iol_cache.specs.Serving.{FaultCounts, TellsRoom}
+use Rattle.iol_cache.specs.ReadResults.{FaultCounts, TellsRoom}
 use Rattle.iol_core.specs.State.{State, Domain}
 use Rattle.iol_core.specs.Meaning.{FaultIn, WantOfRoom, WantOfRoomOrFault}
 use Rattle.iol_core.specs.Run.{outcome}
@@ -11,12 +11,12 @@ use Rattle.iol_core.specs.declared.events.Reply.TheVariants as reply
 use Rattle.iol_core.specs.declared.refusals.Refusal.{Refusal}
 use Rattle.iol_core.specs.declared.refusals.Refusal.TheVariants.{NoRoom, Fault, Memory}
 use Rattle.iol_hold.specs.declared.slices.Slice.{Slice}
-use Rattle.iol_kernel.specs.FileReading.{IsBeforeRoom}
+use Rattle.iol_kernel.specs.FileReads.{IsBeforeRoom}
 use Rattle.iol_kernel.specs.KernelState.{KernelState}
 use Rattle.iol_system.specs.Late.{IfRefused, SameTables}
 use Rattle.iol_system.specs.Replies.{told}
 use Rattle.iol_system.specs.Room.{IsDone, IsEarly, IsFault, IsNoRoom, IsRefused}
-use Rattle.iol_system.proofs.Telling.{Tells, answered, early_refused, room_refused, unrefused}
+use Rattle.iol_system.proofs.ReplyAnswers.{Tells, answered, early_refused, room_refused, unrefused}
 
 -- what a result tells, the reply tells
 

@@ -14,11 +14,11 @@ use Rattle.iol_core.specs.declared.events.Event.TheVariants as event
 use Rattle.iol_core.specs.declared.limits.TheConstants.{MAX_FILES}
 use Rattle.iol_core.specs.declared.events.Reply.{Reply}
 use Rattle.iol_core.proofs.Access.{access_new}
-use Rattle.iol_kernel.specs.Backed.{IsBackedBy}
+use Rattle.iol_kernel.specs.FileCalls.{IsBackedBy}
 use Rattle.iol_kernel.specs.KernelState.{KernelState, IsSound}
 use Rattle.iol_system.specs.Machine.{SystemState, machine_of, tables_of, system_of}
-use Rattle.iol_system.specs.Asking.{asks_store, uses_cache}
-use Rattle.iol_system.specs.Doing.{Does}
+use Rattle.iol_system.specs.StoreCalls.{asks_store, uses_cache}
+use Rattle.iol_system.specs.Effects.{Does}
 use Rattle.iol_system.specs.Promises.{Promises}
 use Rattle.iol_system.specs.Room.{IsRefused}
 use Rattle.iol_system.specs.Safe.{IsSafe}

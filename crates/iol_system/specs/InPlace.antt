@@ -13,17 +13,17 @@ use Rattle.iol_arena.specs.State.{pages_for}
 use Rattle.iol_extent.specs.Extents.{Cell, cover}
 use Rattle.iol_hold.specs.Places.{byte_len}
 use Rattle.iol_hold.specs.Releases.{FreesOnly}
-use Rattle.iol_hold.specs.Stored.{Stored}
+use Rattle.iol_hold.specs.StoreState.{Stored}
 use Rattle.iol_hold.specs.declared.slices.Slice.{Slice}
-use Rattle.iol_cache.specs.Cached.{extents_in, file_in}
-use Rattle.iol_cache.specs.Composing.{copied_pages}
-use Rattle.iol_cache.specs.Overwriting.{LiesDirty, WritesFile}
-use Rattle.iol_kernel.specs.Backed.{holding_of}
-use Rattle.iol_kernel.specs.FileReading.{GivesCopy, GivesRead, file_read, held_by}
-use Rattle.iol_kernel.specs.Keeping.{LacksPages, LacksPagesToRead}
+use Rattle.iol_cache.specs.CacheState.{extents_in, file_in}
+use Rattle.iol_cache.specs.Composition.{copied_pages}
+use Rattle.iol_cache.specs.Overwrites.{LiesDirty, WritesFile}
+use Rattle.iol_kernel.specs.FileCalls.{holding_of}
+use Rattle.iol_kernel.specs.FileReads.{GivesCopy, GivesRead, file_read, held_by}
+use Rattle.iol_kernel.specs.KeptCover.{LacksPages, LacksPagesToRead}
 use Rattle.iol_kernel.specs.KernelState.{KernelState, slices_in}
-use Rattle.iol_kernel.specs.MakingRoom.{AfterRoom}
-use Rattle.iol_kernel.specs.WritingFiles.{LaysOver, OnlyMoves, pool_of_file}
+use Rattle.iol_kernel.specs.Room.{AfterRoom}
+use Rattle.iol_kernel.specs.FileWrites.{LaysOver, OnlyMoves, pool_of_file}
 use Rattle.iol_system.specs.Machine.{SystemState, tables_of}
 use Rattle.iol_system.specs.Wants.{Wants, for_arrived, for_made, for_written}
 

@@ -13,12 +13,12 @@ use Rattle.iol_core.specs.declared.events.Reply.TheVariants as reply
 use Rattle.iol_core.specs.declared.refusals.Refusal.{Refusal}
 use Rattle.iol_hold.specs.Moves.{SameLists}
 use Rattle.iol_hold.specs.Releases.{FreesOnly}
-use Rattle.iol_hold.specs.Stored.{Stored}
+use Rattle.iol_hold.specs.StoreState.{Stored}
 use Rattle.iol_hold.specs.declared.slices.Slice.{Slice}
-use Rattle.iol_kernel.specs.FileReading.{LeavesAtRefusal, file_read, held_by}
+use Rattle.iol_kernel.specs.FileReads.{LeavesAtRefusal, file_read, held_by}
 use Rattle.iol_kernel.specs.KernelState.{KernelState, slices_in}
-use Rattle.iol_kernel.specs.MakingRoom.{MayHaveEvicted}
-use Rattle.iol_kernel.specs.WritingFiles.{LeavesUnlaid, LeavesUnwritten}
+use Rattle.iol_kernel.specs.Room.{MayHaveEvicted}
+use Rattle.iol_kernel.specs.FileWrites.{LeavesUnlaid, LeavesUnwritten}
 use Rattle.iol_system.specs.Machine.{SystemState, tables_of}
 use Rattle.iol_system.specs.Wants.{Wants, for_arrived, for_made, for_written}
 

@@ -2,7 +2,7 @@
 use Rattle.std.specs.Prelude.{◌≡◌, ◌⊎◌, ◌+◌, ◌<◌, ℕ, true, false, List, [], ◌∷◌, ◌++◌, Option, Some, option_map}
 use Rattle.iol_core.specs.State.{State}
 use Rattle.iol_core.specs.Run.{Run}
-use Rattle.iol_core.specs.Sharing.{is_sharing}
+use Rattle.iol_core.specs.SharingCalls.{is_sharing}
 use Rattle.iol_core.specs.declared.numbers.BufId.{BufId}
 use Rattle.iol_core.specs.declared.events.Call.TheVariants as call
 use Rattle.iol_core.specs.declared.events.Event.{Event}
@@ -17,16 +17,16 @@ use Rattle.iol_arena.specs.State as arena
 use Rattle.iol_pool.specs.Pools.{pool_in}
 use Rattle.iol_hold.specs.Moves.{Stays}
 use Rattle.iol_hold.specs.Releases.{HasAllOrNone}
-use Rattle.iol_hold.specs.Stored.{Stored, IsHome, count_of}
+use Rattle.iol_hold.specs.StoreState.{Stored, IsHome, count_of}
 use Rattle.iol_back.specs.Disk.{IfHonest}
-use Rattle.iol_evict.specs.Ranking.{entry_at, worth}
+use Rattle.iol_evict.specs.Order.{entry_at, worth}
 use Rattle.iol_evict.specs.declared.entry.Entry.{Entry}
 use Rattle.iol_extent.specs.Extents.{Extent, extent_over}
-use Rattle.iol_cache.specs.Cached.{Cached, extents_in, order_in}
-use Rattle.iol_kernel.specs.FileReading.{held_by}
+use Rattle.iol_cache.specs.CacheState.{Cached, extents_in, order_in}
+use Rattle.iol_kernel.specs.FileReads.{held_by}
 use Rattle.iol_kernel.specs.KernelState.{layout_of}
 use Rattle.iol_laws.specs.Order.{IsOrderly}
-use Rattle.iol_system.specs.Freed.{IsAllFree, IsLeft}
+use Rattle.iol_system.specs.NobodyLeft.{IsAllFree, IsLeft}
 use Rattle.iol_system.specs.InPlace.{IsInRange}
 use Rattle.iol_system.specs.Machine.{SystemState, machine_of, tables_of}
 use Rattle.iol_system.specs.Promises.{Promises, Chain}

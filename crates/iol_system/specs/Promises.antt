@@ -4,27 +4,27 @@
 -- bytes lie. A chain has at each link all that `System::step` promises, so nothing that holds of a step is lost in a run.
 use Rattle.std.specs.Prelude.{◌≡◌, ◌⊎◌, true, false, List, [], ◌∷◌}
 use Rattle.iol_back.specs.Disk.{IfHonest}
-use Rattle.iol_cache.specs.Keeping.{SameExtents}
-use Rattle.iol_cache.specs.Serving.{FaultCounts}
+use Rattle.iol_cache.specs.KeptCover.{SameExtents}
+use Rattle.iol_cache.specs.ReadResults.{FaultCounts}
 use Rattle.iol_core.specs.Run.{meaning, outcome, StepsTo}
-use Rattle.iol_core.specs.Sharing.{is_sharing, LaysOut}
+use Rattle.iol_core.specs.SharingCalls.{is_sharing, LaysOut}
 use Rattle.iol_core.specs.Values.{ValuesStay}
 use Rattle.iol_core.specs.declared.events.Event.{Event}
 use Rattle.iol_core.specs.declared.events.Reply.{Reply}
 use Rattle.iol_hold.specs.Moves.{Stays}
-use Rattle.iol_kernel.specs.Backed.{StepsBeside}
+use Rattle.iol_kernel.specs.FileCalls.{StepsBeside}
 use Rattle.iol_kernel.specs.KernelState.{layout_of}
-use Rattle.iol_system.specs.Asking.{asks_store, makes_file, uses_cache, writes_store}
-use Rattle.iol_system.specs.FileEnds.{TellsEnd}
+use Rattle.iol_system.specs.StoreCalls.{asks_store, makes_file, uses_cache, writes_store}
+use Rattle.iol_system.specs.FileLengths.{TellsEnd}
 use Rattle.iol_system.specs.InPlace.{KeepsInPlace, SharesFile}
 use Rattle.iol_system.specs.Late.{LeavesLate}
 use Rattle.iol_system.specs.Machine.{SystemState, machine_of, tables_of}
-use Rattle.iol_system.specs.Placed.{Creates, Publishes, SamePages}
-use Rattle.iol_system.specs.Remembered.{Remembers}
+use Rattle.iol_system.specs.PagesAndChunks.{Creates, Publishes, SamePages}
+use Rattle.iol_system.specs.Sums.{Remembers}
 use Rattle.iol_system.specs.Room.{HasRoomFor, LacksRoomFor, IsDone, IsEarly, IsFault, IsNoRoom, IsRefused}
 use Rattle.iol_system.specs.Safe.{IsSafe}
 use Rattle.iol_system.specs.Still.{is_still, keeps_store, only_looks, takes_out}
-use Rattle.iol_system.specs.WrittenBack.{IsDropped, IsFlushed, IsKept, IsSynced, StoresBack}
+use Rattle.iol_system.specs.WriteBack.{IsDropped, IsFlushed, IsKept, IsSynced, StoresBack}
 
 -- What one event promises, from old to new, with this reply.
 pub record Promises (old : SystemState) (e : Event) (r : Reply) (new : SystemState) : Type 0 where

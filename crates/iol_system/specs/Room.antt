@@ -11,13 +11,13 @@ use Rattle.iol_core.specs.declared.events.Reply.{Reply}
 use Rattle.iol_core.specs.declared.events.Reply.TheVariants as reply
 use Rattle.iol_core.specs.declared.refusals.Refusal.TheVariants.{NoRoom, Fault, Memory}
 use Rattle.iol_arena.specs.Chunks.{free_chunks}
-use Rattle.iol_cache.specs.Serving.{RoomToRead, NoRoomToRead}
-use Rattle.iol_kernel.specs.Backed.{holding_of}
+use Rattle.iol_cache.specs.ReadResults.{RoomToRead, NoRoomToRead}
+use Rattle.iol_kernel.specs.FileCalls.{holding_of}
 use Rattle.iol_hold.specs.Room.{pages_of}
 use Rattle.iol_hold.specs.declared.slices.Slice.{Slice}
-use Rattle.iol_kernel.specs.FileReading.{held_by}
+use Rattle.iol_kernel.specs.FileReads.{held_by}
 use Rattle.iol_kernel.specs.KernelState.{KernelState, slices_in}
-use Rattle.iol_kernel.specs.WritingFiles.{pages_to_write, pool_of_file}
+use Rattle.iol_kernel.specs.FileWrites.{pages_to_write, pool_of_file}
 use Rattle.iol_system.specs.Machine.{SystemState, tables_of}
 use Rattle.iol_system.specs.Wants.{Fits, FitsNot, for_arrived, for_made, for_written}
 

@@ -2,7 +2,7 @@
 use Rattle.iol_core.specs.Access.{HasAccess}
 use Rattle.iol_core.specs.Positions.{ArePlaced}
 use Rattle.iol_back.specs.Disk.{IfHonest}
-use Rattle.iol_kernel.specs.Backed.{IsBackedBy}
+use Rattle.iol_kernel.specs.FileCalls.{IsBackedBy}
 use Rattle.iol_kernel.specs.KernelState.{IsSound}
 use Rattle.iol_system.specs.Machine.{SystemState, machine_of}
 

@@ -1,11 +1,11 @@
 -- Events that neither place bytes nor hand them on, those that take bytes out, and those that change nothing.
 use Rattle.std.specs.Prelude.{Bool, true, false, not}
 use Rattle.iol_core.specs.State.{State}
-use Rattle.iol_core.specs.Calls.Writing.{is_file}
+use Rattle.iol_core.specs.Calls.Writes.{is_file}
 use Rattle.iol_core.specs.declared.events.Call.TheVariants as call
 use Rattle.iol_core.specs.declared.events.Event.{Event}
 use Rattle.iol_core.specs.declared.events.Event.TheVariants as event
-use Rattle.iol_kernel.specs.FileReading.{held_by}
+use Rattle.iol_kernel.specs.FileReads.{held_by}
 
 -- Whether the event is about domains, pools, descriptors or what is given up, and not about bytes: whatever it leaves lies
 -- where it lay. What a file has may lie in the store alone, so calls that ask how long one is are not among these.

@@ -6,7 +6,7 @@ use Rattle.iol_arena.specs.State.{State, entry_at}
 use Rattle.iol_arena.specs.Buffers.{IsLive, LiesOn}
 use Rattle.iol_arena.specs.declared.pages.PageKind.TheVariants.{Free}
 use Rattle.iol_pool.specs.Pools.{pool_in}
-use Rattle.iol_hold.specs.Stored.{Stored}
+use Rattle.iol_hold.specs.StoreState.{Stored}
 
 -- nothing stands on page q: no live buffer has it
 pub record IsUnused (s : State) (q : ℕ) : Type 0 where

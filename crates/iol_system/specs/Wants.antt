@@ -2,10 +2,10 @@
 use Rattle.std.specs.Prelude.{◌≡◌, ℕ, true, false, List, length}
 use Rattle.iol_core.specs.State.{conn_at, descriptor}
 use Rattle.iol_core.specs.Calls.Outside.{arrive}
-use Rattle.iol_core.specs.Calls.Writing.{pool_for, write}
+use Rattle.iol_core.specs.Calls.Writes.{pool_for, write}
 use Rattle.iol_core.specs.Prelude.{default_pool}
 use Rattle.iol_kernel.specs.KernelState.{KernelState}
-use Rattle.iol_kernel.specs.MakingRoom.{can_fit}
+use Rattle.iol_kernel.specs.Room.{can_fit}
 use Rattle.iol_system.specs.Machine.{tables_of}
 
 -- so many new bytes, in a pool

@@ -1,7 +1,7 @@
 //! The aggregates of all domains, lent.
 ghost use Rattle.std.specs.Prelude.{◌≡◌};
 ghost use Rattle.iol_kernel.specs.Prelude.{state_of, IsSound};
-ghost use Rattle.iol_system.specs.Lent.{LendsParts, TellsLength};
+ghost use Rattle.iol_system.specs.LentBytes.{LendsParts, TellsLength};
 ghost use Rattle.iol_system.specs.Machine.{tables_of};
 
 use iol_agg::Parts;

@@ -1,6 +1,6 @@
 //! The calls of domains: to each the kernel's function that carries it out.
 ghost use Rattle.iol_kernel.specs.Prelude.{state_of, IsSound};
-ghost use Rattle.iol_system.specs.Doing.{DoesCall};
+ghost use Rattle.iol_system.specs.Effects.{DoesCall};
 
 use crate::replies;
 use iol_back::backing::Backing;

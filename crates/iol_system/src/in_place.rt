@@ -1,5 +1,5 @@
 //! Connections that are served from outside in place, from readers and to writers.
-ghost use Rattle.iol_system.specs.Served.{ServesFrom, ServesTo};
+ghost use Rattle.iol_system.specs.Streams.{ServesFrom, ServesTo};
 
 use crate::system::System;
 use iol_back::backing::Backing;

@@ -1,4 +1,4 @@
-pub mod Joined
-pub mod Shifting
-pub mod Filling
-pub mod Turning
+pub mod JoinedKeys
+pub mod Shifts
+pub mod BlockKeys
+pub mod EmptyBlocks

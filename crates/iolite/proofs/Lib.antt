@@ -1,8 +1,8 @@
-pub mod Answered
-pub mod Appending
-pub mod Asking
-pub mod Named
-pub mod Reading
-pub mod Said
+pub mod ScriptAnswers
+pub mod Appends
+pub mod Requests
+pub mod CallNames
+pub mod ReadTexts
+pub mod ScriptWords
 pub mod ScriptText
-pub mod Worded
+pub mod FourWords

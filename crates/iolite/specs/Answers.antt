@@ -18,7 +18,7 @@ use Rattle.iolite.specs.declared.setup.Setup.{Setup}
 use Rattle.iolite.specs.declared.script.Line.{Line}
 use Rattle.iolite.specs.declared.script.Line.TheVariants as line
 use Rattle.iolite.specs.Failure.{status_of}
-use Rattle.iolite.specs.Printed.{answer_text, lines_of, newline}
+use Rattle.iolite.specs.PrintedText.{answer_text, lines_of, newline}
 use Rattle.iolite.specs.Script.{Asks, AskInOrder, HasBadLine, IsBadScript, IsJudged, IsScriptText, Says, asking, commands, lines, without_blank}
 
 -- A new system, as a script sets it up: domain 1 and nothing else, over pages that were never used, of the sizes named or of

@@ -3,7 +3,7 @@ pub mod Calls
 pub mod Commands
 pub mod Failure
 pub mod Outside
-pub mod Printed
+pub mod PrintedText
 pub mod Reads
 pub mod Script
 pub mod Setup

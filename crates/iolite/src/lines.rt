@@ -1,6 +1,6 @@
-//! The lines that replies and reports are printed as. What each prints stands in `specs/Printed`.
+//! The lines that replies and reports are printed as. What each prints stands in `specs/PrintedText`.
 ghost use Rattle.std.specs.Prelude.{Some};
-ghost use Rattle.iolite.specs.Printed.{bytes_text, four_digits, refusal_text, reply_text, report_text};
+ghost use Rattle.iolite.specs.PrintedText.{bytes_text, four_digits, refusal_text, reply_text, report_text};
 
 use iol_core::events::Reply;
 use iol_core::refusals::Refusal;

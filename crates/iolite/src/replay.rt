@@ -4,7 +4,7 @@ ghost use Rattle.std.specs.Io.KnownBytes.{Appends};
 ghost use Rattle.std.specs.IoError.{error_kind};
 ghost use Rattle.iolite.specs.Answers.{Answering, AnswersLine, EndsWantingIn, EndsWithin, IsAnswer, IsNew, LosesLine, Replays, ReplaysText};
 ghost use Rattle.iolite.specs.Failure.{IsOfAnswers, IsOfInput};
-ghost use Rattle.iolite.specs.Printed.{answer_text, newline};
+ghost use Rattle.iolite.specs.PrintedText.{answer_text, newline};
 ghost use Rattle.iolite.specs.Script.{AsksSomething, IsScriptText, IsWholeOrTooLong, asking, commands, lines};
 
 use crate::failure::Failure;

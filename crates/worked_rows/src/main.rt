@@ -17,12 +17,11 @@
 //! What finds no memory from there on, the site or what comes from outside, is made again.
 #![tactic(auto)]
 
-mod borrowed;
 mod host;
+mod streams;
 mod turns;
 
 use anyhow::Context;
-use borrowed::{Deed, Step, Streams, carry_out_all};
 use host::{Beginning, File, Host, Plan, connect};
 use iol_core::refusals::Refusal;
 use iol_serve::ending::Ending;
@@ -30,6 +29,7 @@ use iol_serve::serve::serve_connection;
 use std::alloc::{AllocError, Global};
 use std::io::{Read, Write};
 use std::{env, io};
+use streams::{Deed, Step, Streams, carry_out_all};
 use test_parts::streams::{Sink, Source};
 use test_parts::texts::repeated;
 use test_parts::words::{number, word};

@@ -19,7 +19,7 @@ use Rattle.iol_laws.specs.Order.{IsOrderly}
 use Rattle.flash_http.specs.Request.{Answer, serve, refuse, Wanted}
 use Rattle.flash_laws.specs.Answers.{Outcome, Failed, script_text}
 use Rattle.flash_laws.specs.Client.{Client, is_for_script, conn_wants, can_run, kept_if, told_spares, conn_told, file_told}
-use Rattle.flash_laws.specs.Client.Offering.{ConnLearns}
+use Rattle.flash_laws.specs.Client.OfferedBytes.{ConnLearns}
 use Rattle.flash_laws.specs.Conn as conn
 use Rattle.flash_laws.specs.Conn.{Conn, most_read, status_of}
 use Rattle.flash_laws.specs.declared.phase.Learnt.TheVariants.{Text as TextOf}
@@ -27,16 +27,16 @@ use Rattle.flash_laws.specs.declared.phase.Content.TheVariants.{Script}
 use Rattle.flash_laws.specs.declared.phase.Doing.{Doing}
 use Rattle.flash_laws.specs.declared.phase.Doing.TheVariants.{Rests, Got, Opens, Reads as Reading, Shuts, Spares, Heads, Breaks, Drops, Closes}
 use Rattle.flash_laws.specs.Conn.Fits.{IsFile, Has, is_closing, Names}
-use Rattle.flash_laws.specs.Client.Known as known
-use Rattle.flash_laws.specs.Client.Known.{Known, OfFile, OfScript, is_read, is_silent, IsAfter, ReadsOn, HasNoRun, HasFile, HasKnown}
-use Rattle.flash_laws.specs.Conn.Offering as single
+use Rattle.flash_laws.specs.Client.ResponseState as known
+use Rattle.flash_laws.specs.Client.ResponseState.{Known, OfFile, OfScript, is_read, is_silent, IsAfter, ReadsOn, HasNoRun, HasFile, HasKnown}
+use Rattle.flash_laws.specs.Conn.OfferedBytes as single
 use Rattle.flash_laws.specs.Run.Fits.{Progress, nothing_yet}
 use Rattle.flash_laws.specs.Site.{server}
 use Rattle.flash_laws.proofs.Forms.{at, of as client}
 use Rattle.flash_laws.proofs.Client.Phases as phases
 use Rattle.flash_laws.proofs.Client.Phases.{asks-told, unread-told, read-told}
 use Rattle.flash_laws.proofs.Lists.{clash}
-use Rattle.flash_laws.proofs.Conn.Offering as offering
+use Rattle.flash_laws.proofs.Conn.OfferedBytes as offering
 use Rattle.flash_laws.proofs.Run.Ends.{all-taken}
 
 untrue : (b : Bool) → (b ≡ true → ⊥) → b ≡ false

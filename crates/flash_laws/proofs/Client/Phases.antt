@@ -29,11 +29,11 @@ use Rattle.flash_laws.specs.declared.phase.Learnt.TheVariants.{File, Text as Tex
 use Rattle.flash_laws.specs.declared.phase.Doing.{Doing}
 use Rattle.flash_laws.specs.declared.phase.Doing.TheVariants.{Rests, Got, Opens, Reads as Reading, Shuts, Picks, Spares, Heads, Joins, Sends, Cuts, Offers, Swaps, Sent, Breaks, Drops, Closes, Over}
 use Rattle.flash_laws.specs.Conn.Fits.{Has, is_closing, Names}
-use Rattle.flash_laws.specs.Client.Known.{is_read, is_opening}
-use Rattle.flash_laws.specs.Conn.Offering.{taken_of}
+use Rattle.flash_laws.specs.Client.ResponseState.{is_read, is_opening}
+use Rattle.flash_laws.specs.Conn.OfferedBytes.{taken_of}
 use Rattle.flash_laws.specs.Site.{server}
 use Rattle.flash_laws.proofs.Forms.{at}
-use Rattle.flash_laws.proofs.Conn.Having as having
+use Rattle.flash_laws.proofs.Conn.AnswerParts as having
 
 -- ---- what the machine has after a call, but for those that open and read
 

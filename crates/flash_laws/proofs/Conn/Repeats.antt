@@ -8,7 +8,7 @@ use Rattle.iol_core.specs.declared.events.Call.TheVariants as call
 use Rattle.iol_core.specs.declared.events.Event.TheVariants as event
 use Rattle.iol_core.specs.declared.events.Reply.{Reply}
 use Rattle.iol_core.specs.declared.events.Reply.TheVariants as reply
-use Rattle.flash_laws.specs.Conn.Offering.{may_repeat}
+use Rattle.flash_laws.specs.Conn.OfferedBytes.{may_repeat}
 use Rattle.flash_laws.specs.Site.{server}
 use Rattle.flash_laws.specs.declared.phase.Doing.{Doing}
 

@@ -2,9 +2,9 @@
 use Rattle.std.proofs.Common.{◌≡◌, ℕ, ◌-◌, ◌==◌, List, [], ◌∷◌, ap, ◌∙◌, refl, sym, subst, Option, Some, None, true, false, Bool}
 use Rattle.std.specs.Prelude.{◌||◌, ◌&&◌}
 use Rattle.std.specs.List.{list_any}
-use Rattle.iol_core.specs.Numbered.{lowest}
+use Rattle.iol_core.specs.NumberedLists.{lowest}
 use Rattle.iol_core.specs.State.{State, descriptor}
-use Rattle.iol_core.specs.Calls.Writing.{is_file}
+use Rattle.iol_core.specs.Calls.Writes.{is_file}
 use Rattle.iol_core.specs.Run.{StepsTo}
 use Rattle.iol_core.specs.Values.{gives_up}
 use Rattle.iol_core.specs.declared.descriptors.Descriptor.{Descriptor}
@@ -18,7 +18,7 @@ use Rattle.flash_http.specs.Request.{serve, Wanted}
 use Rattle.flash_laws.specs.Conn as conn
 use Rattle.flash_laws.specs.Conn.{has_followed, piece_end}
 use Rattle.flash_laws.specs.Run.Fits.{Progress, IsSending, HasRun}
-use Rattle.flash_laws.specs.Run.Keeping.{has_end, may_make, MayTouch, KeepsToItself}
+use Rattle.flash_laws.specs.Run.Holdings.{has_end, may_make, MayTouch, KeepsToItself}
 use Rattle.flash_laws.specs.Run.{worker_domain, job_pipe, has_frame, uses_agg, held_size, in_phase, step_wants, wants, told, is_left, is_over}
 use Rattle.flash_laws.specs.Answers.Scripts.{script_text, frame_of, place_in_frame, end_around}
 use Rattle.flash_laws.specs.Site.{server}
@@ -32,7 +32,7 @@ use Rattle.flash_laws.specs.declared.script_run.Step.TheVariants.{Gives, Makes, 
 use Rattle.flash_laws.specs.declared.script_run.Running.{Running}
 use Rattle.flash_laws.specs.declared.script_run.Running.TheVariants.{Awaits, Runs, Leaves, Closes}
 use Rattle.flash_laws.proofs.Lists.{clash, later_of, bare, former_of, not-false}
-use Rattle.flash_laws.proofs.Run.Left.{is-rest, part-sends}
+use Rattle.flash_laws.proofs.Run.Rest.{is-rest, part-sends}
 use Rattle.flash_laws.proofs.Run.Parts.{no-position}
 use Rattle.flash_laws.proofs.Conn.Uses.{same-number}
 

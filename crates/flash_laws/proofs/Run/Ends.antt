@@ -8,7 +8,7 @@ use Rattle.flash_http.specs.Request.{Wanted}
 use Rattle.flash_laws.specs.Client.{job_of, keeps_text, after_run}
 use Rattle.flash_laws.specs.Conn.{Following, count_of}
 use Rattle.iol_core.specs.State.{State}
-use Rattle.flash_laws.specs.Client.Known.{IsTaken, IsAfter}
+use Rattle.flash_laws.specs.Client.ResponseState.{IsTaken, IsAfter}
 use Rattle.flash_laws.specs.Run.Fits.{Progress, Broken, IsLeft, HasNone, HasLeft, HasRun}
 use Rattle.flash_laws.specs.Run.{is_again, is_left, is_over, wants, told, told_step, holding, hearing, filled, finishing, both}
 use Rattle.flash_laws.specs.declared.phase.Doing.{Doing}

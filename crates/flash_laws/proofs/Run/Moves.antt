@@ -10,7 +10,7 @@ use Rattle.flash_http.specs.Request.{serve, Wanted}
 use Rattle.flash_laws.specs.Conn as conn
 use Rattle.flash_laws.specs.Conn.{Following, count_of, piece_end}
 use Rattle.flash_laws.specs.Run.Fits.{Progress, sent_agg, IsPart, IsSending, HasRun}
-use Rattle.flash_laws.specs.Conn.Offering.{taken_of, may_repeat}
+use Rattle.flash_laws.specs.Conn.OfferedBytes.{taken_of, may_repeat}
 use Rattle.flash_laws.specs.Run.{both, worker_domain, job_pipe, held_size, in_phase, step_wants, wants, told_gives, told_makes, told_hands, told_lets, told_heads, told_sending, told_spills, told_gathers, told_frames, told_wraps, told_trims, told_ended, told_unholds, told_wraps_last, told_trims_last, told_returns, told_lapses, told_hears, told_stops, told_unframes, told_lasts, told_unwraps, told_fails, filled, holding, hearing, finishing, stopped, ending, told_step, told, is_left, is_over}
 use Rattle.flash_laws.specs.Answers.Scripts.{script_text, frame_of, place_in_frame, end_around}
 use Rattle.flash_laws.specs.Site.{server}
@@ -24,7 +24,7 @@ use Rattle.flash_laws.specs.declared.script_run.Step.TheVariants.{Gives, Makes, 
 use Rattle.flash_laws.specs.declared.script_run.Running.{Running}
 use Rattle.flash_laws.specs.declared.script_run.Running.TheVariants.{Awaits, Runs, Leaves, Closes}
 use Rattle.flash_laws.proofs.Conn.Repeats.{either, drops, closes, makes, cuts, joins, replaces, reads, gives, writes, pipes}
-use Rattle.flash_laws.proofs.Run.Left.{is-rest}
+use Rattle.flash_laws.proofs.Run.Rest.{is-rest}
 use Rattle.flash_laws.proofs.Lists.{not-false}
 
 -- the phase of what is sent

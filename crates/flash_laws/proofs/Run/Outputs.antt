@@ -7,7 +7,7 @@ use Rattle.flash_http.specs.Chunk.{chunk_head, chunk_end, chunk, last_chunk}
 use Rattle.flash_http.specs.Request.{Wanted}
 use Rattle.flash_laws.specs.declared.script_run.TheConstants.{CHUNK_BYTES}
 use Rattle.flash_laws.specs.Run.Fits.{Progress, Ran, Broken, HoldsBack, Continues, IsLeft, Goes, Ends}
-use Rattle.flash_laws.specs.Run.Offering.{hears_on}
+use Rattle.flash_laws.specs.Run.OfferedBytes.{hears_on}
 use Rattle.flash_laws.specs.Answers.Scripts.{script_body, script_response}
 use Rattle.flash_laws.proofs.Run.Pieces.{chunk_more, last_body}
 

@@ -4,7 +4,7 @@ use Rattle.std.specs.Prelude.{◌||◌, ◌&&◌, min, nat_lt, slice_range}
 use Rattle.std.proofs.lemmas.Bool.{or_parts, or_from}
 use Rattle.std.proofs.lemmas.Bool.Decides.{nat_tests}
 use Rattle.iol_core.specs.State.{State, descriptor}
-use Rattle.iol_core.specs.Calls.Writing.{is_file}
+use Rattle.iol_core.specs.Calls.Writes.{is_file}
 use Rattle.iol_core.specs.Run.{StepsTo}
 use Rattle.iol_core.specs.Values.{gives_up}
 use Rattle.iol_core.specs.declared.descriptors.Descriptor.{Descriptor}
@@ -23,7 +23,7 @@ use Rattle.flash_http.specs.Request.{Wanted}
 use Rattle.flash_laws.specs.Conn as conn
 use Rattle.flash_laws.specs.Conn.{piece_end}
 use Rattle.flash_laws.specs.Run.Fits.{Progress, Ran, HoldsBack, Continues, Goes, HasFrame, HasHeard, sends_frame, HasPart}
-use Rattle.flash_laws.specs.Run.Offering.{takes_on}
+use Rattle.flash_laws.specs.Run.OfferedBytes.{takes_on}
 use Rattle.flash_laws.specs.Run.{has_frame}
 use Rattle.flash_laws.specs.Answers.Scripts.{frame_of}
 use Rattle.flash_laws.specs.Site.{server}
@@ -31,10 +31,10 @@ use Rattle.flash_laws.specs.declared.phase.Doing.{Doing}
 use Rattle.flash_laws.specs.declared.phase.Doing.TheVariants as doing
 use Rattle.flash_laws.specs.declared.script_run.TheConstants.{CHUNK_BYTES}
 use Rattle.flash_laws.specs.declared.script_run.Run.{Run}
-use Rattle.flash_laws.proofs.Conn.Lent.{lent-stays, new-other}
+use Rattle.flash_laws.proofs.Conn.LentBytes.{lent-stays, new-other}
 use Rattle.flash_laws.proofs.Lists.{not-equal, turned}
-use Rattle.flash_laws.proofs.Run.Left as left
-use Rattle.flash_laws.proofs.Run.Left.{SendsAll}
+use Rattle.flash_laws.proofs.Run.Rest as left
+use Rattle.flash_laws.proofs.Run.Rest.{SendsAll}
 use Rattle.flash_laws.proofs.Run.Stays.{frame-on, reading-on}
 
 -- another number than one that is used is not used

@@ -6,7 +6,7 @@ use Rattle.iol_core.specs.declared.events.Reply.{Reply}
 use Rattle.iol_core.specs.declared.events.Reply.TheVariants as reply
 use Rattle.flash_http.specs.Request.{Wanted}
 use Rattle.flash_laws.specs.Conn.{Following, count_of}
-use Rattle.flash_laws.specs.Run.Offering.{taken_by, breaks_off, is_failing, is_handing, ComesAfter}
+use Rattle.flash_laws.specs.Run.OfferedBytes.{taken_by, breaks_off, is_failing, is_handing, ComesAfter}
 use Rattle.flash_laws.specs.Run.{both, is_again, told_gives, told_makes, told_hands, told_lets, told_heads, told_spills, told_gathers, told_frames, told_wraps, told_trims, told_ended, told_unholds, told_wraps_last, told_trims_last, told_returns, told_lapses, told_hears, told_stops, told_unframes, told_lasts, told_unwraps, told_fails, filled, holding, hearing, finishing, told_step}
 use Rattle.flash_laws.specs.declared.script_run.TheConstants.{CHUNK_BYTES}
 use Rattle.flash_laws.specs.declared.script_run.Run.{Run}

@@ -24,7 +24,7 @@ use Rattle.flash_http.specs.Request.{Wanted}
 use Rattle.flash_laws.specs.Conn.{Following, has_followed, count_of}
 use Rattle.flash_laws.specs.Conn.Fits.{HoldsRest, Names}
 use Rattle.flash_laws.specs.Run.Fits.{Progress, Broken, nothing_yet, HoldsBack, Continues, Goes, HasJobPipe, IsReading, IsHeld, HasFrame, meets, HasOutput, HasHeard, sends_frame, HasChunk, HasStep, HasRun}
-use Rattle.flash_laws.specs.Run.Offering.{hears_on, Learns}
+use Rattle.flash_laws.specs.Run.OfferedBytes.{hears_on, Learns}
 use Rattle.flash_laws.specs.Run.{both, worker_domain, job_pipe, has_frame, step_agg, uses_fd, held_size, is_again, broken, told_awaits, told_gives, told_makes, told_hands, told_heads, filled, holding, hearing, unread, told_hears, told_gathers, told_frames, told_wraps}
 use Rattle.flash_laws.specs.Answers.Scripts.{script_text, frame_of, place_in_frame}
 use Rattle.flash_laws.specs.Site.{server}
@@ -35,9 +35,9 @@ use Rattle.flash_laws.specs.declared.script_run.Step.{Step}
 use Rattle.flash_laws.specs.declared.script_run.Step.TheVariants.{Gives, Makes, Hands, Heads, Hears, Gathers, Frames, Wraps, Returns, Lapses}
 use Rattle.flash_laws.specs.declared.script_run.Running.{Running}
 use Rattle.flash_laws.specs.declared.script_run.Running.TheVariants.{Awaits, Runs}
-use Rattle.flash_laws.proofs.Conn.Answering.{some-inj}
+use Rattle.flash_laws.proofs.Conn.Responses.{some-inj}
 use Rattle.flash_laws.proofs.Counts.{counted, made-short}
-use Rattle.flash_laws.proofs.Conn.Lent.{lent-stays, new-other}
+use Rattle.flash_laws.proofs.Conn.LentBytes.{lent-stays, new-other}
 use Rattle.flash_laws.proofs.Lists.{not-equal, turned}
 use Rattle.flash_laws.proofs.Run.Outputs.{short-output, short-chunk, hears-more, hears-end, plain-part, chunk-part}
 use Rattle.flash_laws.proofs.Run.Pieces.{set_between}

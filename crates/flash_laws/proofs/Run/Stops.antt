@@ -21,7 +21,7 @@ use Rattle.flash_laws.specs.Answers.{error_text}
 use Rattle.flash_laws.specs.Conn.{Following, has_followed, count_of}
 use Rattle.flash_laws.specs.Conn.Fits.{Names}
 use Rattle.flash_laws.specs.Run.Fits.{Progress, Ran, Broken, NotRun, IsLeft, Ends, HasJobPipe, IsReading, IsHeld, meets, HasAll, HasStep, HasNone, HasRun}
-use Rattle.flash_laws.specs.Run.Offering.{Learns}
+use Rattle.flash_laws.specs.Run.OfferedBytes.{Learns}
 use Rattle.flash_laws.specs.Run.{job_pipe, step_agg, uses_fd, finishing, stopped, told_stops, told_unframes, ending, told_lasts, told_wraps_last, told_unwraps, told_returns, told_fails}
 use Rattle.flash_laws.specs.Answers.Scripts.{script_body, place_in_frame, end_around}
 use Rattle.flash_laws.specs.Site.{server}
@@ -32,9 +32,9 @@ use Rattle.flash_laws.specs.declared.script_run.Step.{Step}
 use Rattle.flash_laws.specs.declared.script_run.Step.TheVariants.{Stops, Unframes, Lasts, WrapsLast, Unwraps, Returns, Fails}
 use Rattle.flash_laws.specs.declared.script_run.Running.{Running}
 use Rattle.flash_laws.specs.declared.script_run.Running.TheVariants.{Runs, Leaves, Closes}
-use Rattle.flash_laws.proofs.Conn.Answering.{some-inj}
+use Rattle.flash_laws.proofs.Conn.Responses.{some-inj}
 use Rattle.flash_laws.proofs.Counts.{counted, made-short}
-use Rattle.flash_laws.proofs.Conn.Lent.{new-other}
+use Rattle.flash_laws.proofs.Conn.LentBytes.{new-other}
 use Rattle.flash_laws.proofs.Lists.{turned}
 use Rattle.flash_laws.proofs.Run.Outputs.{short-chunk, last-left}
 use Rattle.flash_laws.proofs.Run.Pieces.{set_between}

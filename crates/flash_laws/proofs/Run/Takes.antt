@@ -23,8 +23,8 @@ use Rattle.flash_http.specs.Request.{serve, Wanted}
 use Rattle.flash_laws.specs.Conn as conn
 use Rattle.flash_laws.specs.Conn.{Following}
 use Rattle.flash_laws.specs.Run.Fits.{Progress, Ran, Broken, NotRun, IsLeft, Continues, HasPart, HasRest, HasStep, HasRun}
-use Rattle.flash_laws.specs.Conn.Offering.{taken_of, newly_taken, is_dropping}
-use Rattle.flash_laws.specs.Run.Offering.{hears_on, takes_on, PartLearns, StepLearns, Learns, taken_by, past_of, breaks_off, IsCutOff, is_failing, IsLost, ComesAfter}
+use Rattle.flash_laws.specs.Conn.OfferedBytes.{taken_of, newly_taken, is_dropping}
+use Rattle.flash_laws.specs.Run.OfferedBytes.{hears_on, takes_on, PartLearns, StepLearns, Learns, taken_by, past_of, breaks_off, IsCutOff, is_failing, IsLost, ComesAfter}
 use Rattle.flash_laws.specs.Run.{worker_domain, job_pipe, held_size, in_phase, step_wants, wants, is_again, told_gives, told_hands, told_sending, told_step, told, is_left, is_over}
 use Rattle.flash_laws.specs.Site.{server}
 use Rattle.flash_laws.specs.declared.phase.Content.TheVariants.{Error}
@@ -36,10 +36,10 @@ use Rattle.flash_laws.specs.declared.script_run.Step.{Step}
 use Rattle.flash_laws.specs.declared.script_run.Step.TheVariants.{Gives, Hands, Sending, Hears, Returns, Lapses, Fails}
 use Rattle.flash_laws.specs.declared.script_run.Running.{Running}
 use Rattle.flash_laws.specs.declared.script_run.Running.TheVariants.{Awaits, Runs, Leaves, Closes}
-use Rattle.flash_laws.proofs.Conn.Answering.{some-inj}
+use Rattle.flash_laws.proofs.Conn.Responses.{some-inj}
 use Rattle.flash_laws.proofs.Lists.{clash, not-equal, not-false}
-use Rattle.flash_laws.proofs.Run.Left as left
-use Rattle.flash_laws.proofs.Run.Left.{SendsAll, is_sent, is-rest, whole-taken}
+use Rattle.flash_laws.proofs.Run.Rest as left
+use Rattle.flash_laws.proofs.Run.Rest.{SendsAll, is_sent, is-rest, whole-taken}
 use Rattle.flash_laws.proofs.Run.Quiet.{is_part, Bars, quiet}
 
 -- ---- how much was taken before

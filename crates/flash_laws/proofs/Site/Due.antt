@@ -12,7 +12,7 @@ use Rattle.flash_cgi.specs.declared.line.Line.TheVariants as line
 use Rattle.flash_laws.specs.Answers.{Outcome, Found, Failed, Shelf, due_to}
 use Rattle.flash_laws.specs.Client.{is_for_script}
 use Rattle.flash_laws.specs.Shelf.Due.{DueMayCome, Seen, due, due_if, due_of_run, due_of_script, due_of_text, outcomes_by}
-use Rattle.flash_laws.specs.Client.Known.{Known, OfFile, OfScript, of_text, MayAnswer, MayPutOut}
+use Rattle.flash_laws.specs.Client.ResponseState.{Known, OfFile, OfScript, of_text, MayAnswer, MayPutOut}
 use Rattle.flash_laws.specs.Run.Fits.{Ran, Follows, nothing_yet}
 use Rattle.flash_laws.specs.Answers.Scripts.{script_response}
 

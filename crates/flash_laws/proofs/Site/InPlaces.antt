@@ -3,11 +3,11 @@ use Rattle.std.proofs.Common.{◌≡◌, ◌≢◌, ℕ, zero, suc, ◌+◌, ◌
 use Rattle.std.specs.Prelude.{option_map}
 use Rattle.std.proofs.lemmas.Bool.Decides.{nat_tests}
 use Rattle.std.proofs.lemmas.Grind.{common_steps}
-use Rattle.iol_core.specs.Numbered.{in_place}
-use Rattle.flash_laws.specs.Site.Tied.{with_at, left_by}
+use Rattle.iol_core.specs.NumberedLists.{in_place}
+use Rattle.flash_laws.specs.Site.OtherConns.{with_at, left_by}
 use Rattle.flash_laws.specs.declared.phase.Doing.{Doing}
 use Rattle.flash_laws.specs.declared.phase.Doing.TheVariants.{Over}
-use Rattle.flash_laws.proofs.Conn.Answering.{some-inj}
+use Rattle.flash_laws.proofs.Conn.Responses.{some-inj}
 
 -- ---- with one place changed
 

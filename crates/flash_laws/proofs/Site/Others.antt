@@ -16,7 +16,7 @@ use Rattle.iol_core.specs.declared.events.Reply.{Reply}
 use Rattle.flash_laws.specs.Answers.{Shelf, Found, Failed}
 use Rattle.flash_laws.specs.Conn.{most_read}
 use Rattle.flash_laws.specs.Site.{server, net_pool, found_in, outcome_in, IsFixed, KeepsSite}
-use Rattle.flash_laws.proofs.Conn.Lent.{file-same, content-same}
+use Rattle.flash_laws.proofs.Conn.LentBytes.{file-same, content-same}
 
 -- a call of another domain gives up nothing of the server's, and moves none of its descriptors
 pub other-gives : (d : ℕ) (k : Call) (a : ℕ) → d ≢ server → gives_up (event.Call d k) server a ≡ false

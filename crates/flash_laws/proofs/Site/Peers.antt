@@ -2,7 +2,7 @@
 use Rattle.std.proofs.Common.{inl, inr, ◌≡◌, ℕ, ◌==◌, ◌⊎◌, List, [], ◌∷◌, ap, ◌∙◌, refl, sym, subst, Option, Some, None, true, false, Bool, if◌then◌else◌, length}
 use Rattle.std.specs.Prelude.{◌||◌, ◌&&◌, not, Result, Ok, Err}
 use Rattle.std.proofs.lemmas.Bool.{cases_eq}
-use Rattle.iol_core.specs.Numbered.{lookup}
+use Rattle.iol_core.specs.NumberedLists.{lookup}
 use Rattle.iol_core.specs.State.{State, Connection, no_conn, conn_at, is_gone, is_over, with_conn}
 use Rattle.iol_core.specs.Meaning.{Meaning, Step}
 use Rattle.iol_core.specs.Run.{StepsTo, called, meaning, outcome}
@@ -14,7 +14,7 @@ use Rattle.iol_core.specs.declared.events.Event.TheVariants as event
 use Rattle.iol_core.specs.declared.events.Reply.{Reply}
 use Rattle.iol_core.specs.declared.events.Reply.TheVariants as reply
 use Rattle.iol_laws.specs.Order.{Once, IsOrderly}
-use Rattle.iol_laws.proofs.Changing.{Change, Closes, changed_by, turned, all_turned, changes, conns_turned, once_turned}
+use Rattle.iol_laws.proofs.ConnChanges.{Change, Closes, changed_by, turned, all_turned, changes, conns_turned, once_turned}
 use Rattle.iol_laws.proofs.Connections.{conn-unmade, conn-over, conn-there, conns_conn, conns_same, after-with_conn, nothing-left}
 
 -- if it is open, and its peer is gone, this is so

@@ -22,13 +22,13 @@ use Rattle.flash_cgi.specs.Beside.{is_call_of, LeavesFiles, OthersHear}
 use Rattle.flash_cgi.specs.Due.{IsDue, IsWritten, ScriptsPutOut}
 use Rattle.flash_cgi.specs.Free.{HasNoJob, WorkersStayFree}
 use Rattle.flash_cgi.specs.Full.{RunningIsFull}
-use Rattle.flash_cgi.specs.Leaving.{LeavesAllBut, WorkersAreQuiet}
+use Rattle.flash_cgi.specs.Frame.{LeavesAllBut, WorkersAreQuiet}
 use Rattle.flash_cgi.specs.Outcomes.{AreFiles, outcomes_in}
 use Rattle.flash_cgi.specs.Output.{Outcome, output}
-use Rattle.flash_cgi.specs.Shown.{HoldFiles, IsShown, OutputsAreShown}
-use Rattle.flash_cgi.specs.Taking.{HasJob}
+use Rattle.flash_cgi.specs.OutputPools.{HoldFiles, IsShown, OutputsAreShown}
+use Rattle.flash_cgi.specs.JobStart.{HasJob}
 use Rattle.flash_cgi.specs.Turns.{RunsJob}
-use Rattle.flash_cgi.specs.Waiting.{HasWaited}
+use Rattle.flash_cgi.specs.Standstill.{HasWaited}
 use Rattle.flash_cgi.specs.Works.{worker_turns}
 use Rattle.flash_cgi.specs.declared.line.Line.{Line}
 use Rattle.flash_cgi.specs.declared.worker.Worker.{Worker}

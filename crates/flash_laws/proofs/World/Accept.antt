@@ -2,7 +2,7 @@
 use Rattle.std.proofs.Common.{inl, inr, ◌≡◌, ◌≢◌, ℕ, ◌⊎◌, List, [], ◌++◌, ap, ◌∙◌, refl, sym, subst, arith, Option, Some, None, true, false, Bool, append-nil, slice_get}
 use Rattle.std.proofs.lemmas.Bool.{cases_eq}
 use Rattle.iol_core.specs.Text.{bytes_of}
-use Rattle.iol_core.specs.Numbered.{in_place}
+use Rattle.iol_core.specs.NumberedLists.{in_place}
 use Rattle.iol_core.specs.State.{State, Connection, descriptor, conn_at}
 use Rattle.iol_core.specs.Run.{StepsTo}
 use Rattle.iol_core.specs.declared.descriptors.Descriptor.TheVariants as on
@@ -18,32 +18,32 @@ use Rattle.iol_proc.specs.declared.seat.Seat.{Seat}
 use Rattle.flash_http.specs.Request.{Answer}
 use Rattle.flash_laws.specs.Client.{Client, new_client, uses_agg, Readies}
 use Rattle.flash_laws.specs.Client.Fits.{FitsBy, Fits}
-use Rattle.flash_laws.specs.Client.Keeping.{has_fd}
+use Rattle.flash_laws.specs.Client.Holdings.{has_fd}
 use Rattle.flash_laws.specs.Conn as conn
 use Rattle.flash_laws.specs.Conn.{Conn, begins}
 use Rattle.flash_laws.specs.Workers.Crew.{Crew, IsFixedFor}
 use Rattle.flash_laws.specs.Site.Past.{Past}
 use Rattle.flash_laws.specs.Site.Places.{EachHasItsOwn, is_run_by, is_free, accepted}
 use Rattle.flash_laws.specs.Run.{worker_domain, job_pipe}
-use Rattle.flash_laws.specs.Site.Served.{Held, Ended, Aside, AreAtDesks, FitsAt, AllFit}
+use Rattle.flash_laws.specs.Site.ClientTies.{Held, Ended, Aside, AreAtDesks, FitsAt, AllFit}
 use Rattle.flash_laws.specs.Shelf.{Shelf}
 use Rattle.flash_laws.specs.Site.{server, KeepsSite}
-use Rattle.flash_laws.specs.Site.Tied.{with_at, Waits}
+use Rattle.flash_laws.specs.Site.OtherConns.{with_at, Waits}
 use Rattle.flash_laws.specs.declared.phase.Doing.{Doing}
 use Rattle.flash_laws.specs.declared.phase.Doing.TheVariants as doing
 use Rattle.flash_laws.specs.declared.script_run.Running.{Running}
 use Rattle.flash_laws.proofs.Forms.{of}
-use Rattle.flash_laws.proofs.Conn.Answering.{some-inj}
+use Rattle.flash_laws.proofs.Conn.Responses.{some-inj}
 use Rattle.flash_laws.proofs.Site.InPlaces.{at-same}
 use Rattle.flash_laws.proofs.Lists.{clash}
 use Rattle.flash_laws.proofs.Site.Others.{site-stays}
 use Rattle.flash_laws.proofs.Site.Peers.{told-call}
-use Rattle.flash_laws.proofs.Site.Sharing.{free-runs, ready-runs}
-use Rattle.flash_laws.proofs.Site.Standing.{not-waiting}
+use Rattle.flash_laws.proofs.Site.OwnWorkers.{free-runs, ready-runs}
+use Rattle.flash_laws.proofs.Site.OpenDescriptors.{not-waiting}
 use Rattle.flash_laws.proofs.Conn.Uses.{begins-none, begins-no_fd}
 use Rattle.flash_laws.proofs.World.AllLaws.{AllLaws}
 use Rattle.flash_laws.proofs.World.Calls.{opens-on}
-use Rattle.flash_laws.proofs.World.Leaving.{fits_beside}
+use Rattle.flash_laws.proofs.World.ClientFrame.{fits_beside}
 use Rattle.flash_laws.proofs.World.OwnAlone.{alone_readies}
 use Rattle.flash_laws.proofs.World.Turn.{replaced, held-on, free-unless, own-call}
 use Rattle.flash_laws.proofs.World.TurnLeaves.{conn-left}

@@ -1,6 +1,6 @@
 -- The laws that the proofs about a world rest on, together.
 use Rattle.iol_laws.specs.Aggregates.{AggregatesComeAndGo}
-use Rattle.iol_laws.specs.Opening.{DescriptorsComeByReplies}
+use Rattle.iol_laws.specs.DescriptorNumbers.{DescriptorsComeByReplies}
 use Rattle.iol_laws.specs.Others.{OthersLeavePipes}
 use Rattle.iol_laws.specs.RefusalsLeft.{RefusalsThatAreLeft}
 use Rattle.iol_laws.specs.Sources.{LabelsFollow}
@@ -9,8 +9,8 @@ use Rattle.flash_http.specs.Request.{ClosesWithoutChunks, QueriesFit}
 use Rattle.flash_laws.specs.Workers.Crew.{Crew}
 use Rattle.flash_laws.specs.Shelf.Due.{DueMayCome}
 use Rattle.flash_laws.specs.Workers.PutsOut.{TextsArePutOut}
-use Rattle.flash_laws.specs.Run.Keeping.{RunsKeepNothing}
-use Rattle.flash_laws.specs.Run.Offering.{RunsOfferTheResponse}
+use Rattle.flash_laws.specs.Run.Holdings.{RunsKeepNothing}
+use Rattle.flash_laws.specs.Run.OfferedBytes.{RunsOfferTheResponse}
 use Rattle.flash_laws.specs.Workers.{WorkersRun}
 use Rattle.flash_laws.specs.World.{DesksAreApart}
 use Rattle.flash_laws.proofs.TheLaws.{TheLaws}

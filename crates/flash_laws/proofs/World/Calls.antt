@@ -3,7 +3,7 @@ use Rattle.std.proofs.Common.{inl, inr, ◌≡◌, ◌⊎◌, ℕ, ◌==◌, Lis
 use Rattle.std.specs.Prelude.{◌||◌, ◌&&◌}
 use Rattle.std.specs.List.{list_any}
 use Rattle.iol_core.specs.State.{State, descriptor}
-use Rattle.iol_core.specs.Calls.Writing.{is_file}
+use Rattle.iol_core.specs.Calls.Writes.{is_file}
 use Rattle.iol_core.specs.Values.{gives_up}
 use Rattle.iol_core.specs.declared.descriptors.Descriptor.{Descriptor}
 use Rattle.iol_core.specs.declared.descriptors.Descriptor.TheVariants as on
@@ -15,12 +15,12 @@ use Rattle.iol_laws.specs.Frame.{is_conn, is_end, touches_conn, touches_pipe, to
 use Rattle.flash_http.specs.Request.{Answer}
 use Rattle.flash_laws.specs.Client.{Client, is_for_script, conn_wants, job_of, wants, uses_agg}
 use Rattle.flash_laws.specs.Client.Fits.{due_in, Fits}
-use Rattle.flash_laws.specs.Client.Keeping.{has_fd}
+use Rattle.flash_laws.specs.Client.Holdings.{has_fd}
 use Rattle.flash_laws.specs.Conn as conn
 use Rattle.flash_laws.specs.Conn.{Conn, is_head_only, most_read}
 use Rattle.flash_laws.specs.Workers.Crew.{Crew}
 use Rattle.flash_laws.specs.Conn.Fits.{IsLent, Has}
-use Rattle.flash_laws.specs.Run.Keeping.{may_make, MayTouch, KeepsToItself}
+use Rattle.flash_laws.specs.Run.Holdings.{may_make, MayTouch, KeepsToItself}
 use Rattle.flash_laws.specs.Run as running
 use Rattle.flash_laws.specs.Shelf.{Shelf}
 use Rattle.flash_laws.specs.Site.{server}
@@ -30,7 +30,7 @@ use Rattle.flash_laws.specs.declared.script_run.Running.{Running}
 use Rattle.iol_proc.specs.declared.seat.Seat.{Seat}
 use Rattle.flash_laws.proofs.Forms.{at, of}
 use Rattle.flash_laws.proofs.Lists.{clash}
-use Rattle.flash_laws.proofs.Conn.Touching.{fds-wants, conns-wants, pipes-wants, files-wants}
+use Rattle.flash_laws.proofs.Conn.Touches.{fds-wants, conns-wants, pipes-wants, files-wants}
 use Rattle.flash_laws.proofs.Conn.Uses.{gives-wants, has-agg, has-fd}
 use Rattle.flash_laws.proofs.World.AllLaws.{AllLaws}
 use Rattle.flash_laws.proofs.World.OwnRun.{wants-run}

@@ -1,10 +1,10 @@
 pub mod Texts
-pub mod Leaving
+pub mod Frame
 pub mod After
 pub mod Calls
 pub mod Fresh
 pub mod Reads
 pub mod Stops
 pub mod OfRun
-pub mod Turning
+pub mod WorkerTurn
 pub mod Jobs

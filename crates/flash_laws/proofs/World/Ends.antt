@@ -10,12 +10,12 @@ use Rattle.iol_proc.specs.declared.seat.Seat.{Seat}
 use Rattle.flash_http.specs.Request.{Wanted}
 use Rattle.flash_laws.specs.Client.{uses_fd, job_of, wants}
 use Rattle.flash_laws.specs.Client.Fits.{due_in, output_of, FitsRun, Fits}
-use Rattle.flash_laws.specs.Client.Keeping.{has_fd}
+use Rattle.flash_laws.specs.Client.Holdings.{has_fd}
 use Rattle.flash_laws.specs.Conn as conn
 use Rattle.flash_laws.specs.Conn.{Conn}
 use Rattle.flash_laws.specs.Workers.Crew.{Crew}
 use Rattle.flash_laws.specs.Run.Fits.{Progress, HasStep, HasLeft}
-use Rattle.flash_laws.specs.Run.Keeping.{has_end}
+use Rattle.flash_laws.specs.Run.Holdings.{has_end}
 use Rattle.flash_laws.specs.Run.{job_pipe, is_reading, step_fd, ends_of, step_wants}
 use Rattle.flash_laws.specs.Run as running
 use Rattle.flash_laws.specs.Shelf.{Shelf}
@@ -29,7 +29,7 @@ use Rattle.flash_laws.specs.declared.script_run.Step.TheVariants.{Gives, Sending
 use Rattle.flash_laws.specs.declared.script_run.Running.{Running}
 use Rattle.flash_laws.specs.declared.script_run.Running.TheVariants.{Runs, Leaves}
 use Rattle.flash_laws.proofs.Forms.{of}
-use Rattle.flash_laws.proofs.Conn.Answering.{some-inj}
+use Rattle.flash_laws.proofs.Conn.Responses.{some-inj}
 use Rattle.flash_laws.proofs.Lists.{self}
 use Rattle.flash_laws.proofs.Conn.Uses.{same-number, has-fd, one-of}
 use Rattle.flash_laws.proofs.World.OwnRun.{wants-run}

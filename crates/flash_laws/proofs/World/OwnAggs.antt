@@ -18,20 +18,20 @@ use Rattle.flash_laws.specs.Site.Past.{Past}
 use Rattle.flash_laws.specs.Site.Places.{first_free}
 use Rattle.flash_laws.specs.Run as running
 use Rattle.flash_laws.specs.Run.{is_over}
-use Rattle.flash_laws.specs.Site.Served.{FitsAt, IsUsed, AreOwned}
+use Rattle.flash_laws.specs.Site.ClientTies.{FitsAt, IsUsed, AreOwned}
 use Rattle.flash_laws.specs.Shelf.{Shelf}
 use Rattle.flash_laws.specs.Site.{server}
-use Rattle.flash_laws.specs.Site.Tied.{with_at, left_by}
+use Rattle.flash_laws.specs.Site.OtherConns.{with_at, left_by}
 use Rattle.flash_laws.specs.declared.phase.Doing.{Doing}
 use Rattle.flash_laws.specs.declared.phase.Doing.TheVariants as doing
 use Rattle.flash_laws.specs.declared.script_run.Running.{Running}
 use Rattle.flash_laws.proofs.Forms.{of}
-use Rattle.flash_laws.proofs.Client.Keeping.{script-uses, on-uses, conn-brought, conn-left}
-use Rattle.flash_laws.proofs.Site.Sharing.{left-over-is}
+use Rattle.flash_laws.proofs.Client.Holdings.{script-uses, on-uses, conn-brought, conn-left}
+use Rattle.flash_laws.proofs.Site.OwnWorkers.{left-over-is}
 use Rattle.flash_laws.proofs.World.AllLaws.{AllLaws}
 use Rattle.flash_laws.proofs.World.OwnRun.{wants-run, told-run}
 use Rattle.flash_laws.proofs.World.OwnTurn.{IsOwnTurn}
-use Rattle.flash_laws.proofs.World.Owning.{used-here, used-on}
+use Rattle.flash_laws.proofs.World.Owners.{used-here, used-on}
 
 -- one that is forgotten uses nothing
 left-none : (c : Conn) (run : Option Running) (script : List ℕ) (a : ℕ) → left_over (of c run script) ≡ None → uses_agg (of c run script) a ≡ true → ⊥

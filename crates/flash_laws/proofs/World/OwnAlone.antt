@@ -10,7 +10,7 @@ use Rattle.iol_core.specs.declared.events.Reply.{Reply}
 use Rattle.iol_core.specs.declared.events.Reply.TheVariants as reply
 use Rattle.iol_laws.specs.Caller.{is_rough}
 use Rattle.iol_laws.specs.Order.{IsOrderly}
-use Rattle.iol_laws.proofs.Streams.Remaining.{closed-then}
+use Rattle.iol_laws.proofs.Streams.Remains.{closed-then}
 use Rattle.iol_proc.specs.declared.seat.Seat.{Seat}
 use Rattle.flash_http.specs.declared.windows.Window.{Window}
 use Rattle.flash_http.specs.declared.windows.Window.TheVariants.{Wait, Head, TooLarge}
@@ -28,11 +28,11 @@ use Rattle.flash_laws.specs.Site.{server}
 use Rattle.flash_laws.specs.declared.phase.Doing.{Doing}
 use Rattle.flash_laws.specs.declared.phase.Doing.TheVariants as doing
 use Rattle.flash_laws.specs.declared.script_run.Running.{Running}
-use Rattle.flash_laws.proofs.Conn.Answering.{reads-more}
+use Rattle.flash_laws.proofs.Conn.Responses.{reads-more}
 use Rattle.flash_laws.proofs.World.AllLaws.{AllLaws}
 use Rattle.flash_laws.proofs.World.Alone.Phases.{alone_phase}
 use Rattle.flash_laws.proofs.World.Alone.Ties.{alone, part_of}
-use Rattle.flash_laws.proofs.World.Answering.{begins-append, begins-tie, finished-whole}
+use Rattle.flash_laws.proofs.World.Responses.{begins-append, begins-tie, finished-whole}
 
 abbrev with_run : Client → Option Running → Client
 with_run x run = record { conn = x.conn; run = run; script = x.script }

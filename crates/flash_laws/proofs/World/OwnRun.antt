@@ -19,11 +19,11 @@ use Rattle.flash_laws.specs.Workers.Crew.{Crew, IsFixedFor}
 use Rattle.flash_laws.specs.Conn.Fits.{Has, Names}
 use Rattle.flash_laws.specs.Site.Places.{has_worker, is_run_by}
 use Rattle.flash_laws.specs.Run.Fits.{Progress, HasRun}
-use Rattle.flash_laws.specs.Run.Keeping.{KeepsToItself}
-use Rattle.flash_laws.specs.Run.Offering.{Learns}
+use Rattle.flash_laws.specs.Run.Holdings.{KeepsToItself}
+use Rattle.flash_laws.specs.Run.OfferedBytes.{Learns}
 use Rattle.flash_laws.specs.Run as running
 use Rattle.flash_laws.specs.Run.{is_over}
-use Rattle.flash_laws.specs.Site.Served.{AreAtDesks}
+use Rattle.flash_laws.specs.Site.ClientTies.{AreAtDesks}
 use Rattle.flash_laws.specs.Shelf.{Shelf}
 use Rattle.flash_laws.specs.Site.{server}
 use Rattle.flash_laws.specs.declared.phase.Doing.{Doing}
@@ -31,9 +31,9 @@ use Rattle.flash_laws.specs.declared.phase.Doing.TheVariants as doing
 use Rattle.flash_laws.specs.declared.script_run.Running.{Running}
 use Rattle.flash_laws.specs.declared.script_run.Running.TheVariants.{Awaits, Leaves, Closes}
 use Rattle.flash_laws.proofs.Forms.{of}
-use Rattle.flash_laws.proofs.Conn.Answering.{some-inj}
+use Rattle.flash_laws.proofs.Conn.Responses.{some-inj}
 use Rattle.flash_laws.proofs.Run.Ends.{keeps-back, wants-text}
-use Rattle.flash_laws.proofs.Site.Standing.{no-true}
+use Rattle.flash_laws.proofs.Site.OpenDescriptors.{no-true}
 use Rattle.flash_laws.proofs.World.AllLaws.{AllLaws}
 use Rattle.flash_laws.proofs.World.Desk.OfRun.{DeskAfter, desk_step}
 use Rattle.flash_laws.proofs.World.RunTie.{TieAfter, tie_step}

@@ -2,7 +2,7 @@
 use Rattle.std.proofs.Common.{inl, inr, ◌≡◌, ◌≢◌, ◌<◌, ℕ, ◌==◌, ◌⊎◌, List, [], ap, ◌∙◌, refl, sym, subst, Option, Some, None, true, false, Bool, append-nil, slice_get}
 use Rattle.std.proofs.lemmas.Bool.{cases_eq}
 use Rattle.iol_core.specs.Text.{bytes_of}
-use Rattle.iol_core.specs.Numbered.{in_place}
+use Rattle.iol_core.specs.NumberedLists.{in_place}
 use Rattle.iol_core.specs.State.{State, Connection, descriptor, conn_at, pipe_at}
 use Rattle.iol_core.specs.Run.{StepsTo}
 use Rattle.iol_core.specs.Values.{gives_up}
@@ -21,17 +21,17 @@ use Rattle.iol_proc.specs.declared.seat.Seat.{Seat}
 use Rattle.flash_http.specs.Request.{serve, Wanted}
 use Rattle.flash_laws.specs.Client.{Client, uses_agg, uses_fd, is_for_script, conn_wants, wants, IsAwaiting, awaits, file_told, told, left_over}
 use Rattle.flash_laws.specs.Client.Fits.{due_in, FitsAlone, FitsBy, Fits}
-use Rattle.flash_laws.specs.Client.Keeping.{has_fd}
+use Rattle.flash_laws.specs.Client.Holdings.{has_fd}
 use Rattle.flash_laws.specs.Conn.{Conn, told_closes}
 use Rattle.flash_laws.specs.Workers.Crew.{Crew, IsFixedFor}
 use Rattle.flash_laws.specs.Conn.Fits.{Has, Names, is_closing}
 use Rattle.flash_laws.specs.Site.Past.{Past}
 use Rattle.flash_laws.specs.Site.Places.{EachHasItsOwn, is_run_by, is_free, has_free, first_free, may_go, told_at}
 use Rattle.flash_laws.specs.Run.{worker_domain, job_pipe, is_over}
-use Rattle.flash_laws.specs.Site.Served.{Held, Ended, Aside, AreAtDesks, FitsAt, AllFit}
+use Rattle.flash_laws.specs.Site.ClientTies.{Held, Ended, Aside, AreAtDesks, FitsAt, AllFit}
 use Rattle.flash_laws.specs.Shelf.{Shelf}
 use Rattle.flash_laws.specs.Site.{server, KeepsSite}
-use Rattle.flash_laws.specs.Site.Tied.{with_at, left_by, Waits}
+use Rattle.flash_laws.specs.Site.OtherConns.{with_at, left_by, Waits}
 use Rattle.flash_laws.specs.declared.phase.Flight.TheVariants.{At}
 use Rattle.flash_laws.specs.declared.phase.Doing.{Doing}
 use Rattle.flash_laws.specs.declared.phase.Doing.TheVariants as doing
@@ -41,22 +41,22 @@ use Rattle.flash_laws.specs.declared.script_run.Step.TheVariants.{Hands, Returns
 use Rattle.flash_laws.specs.declared.script_run.Running.{Running}
 use Rattle.flash_laws.specs.declared.script_run.Running.TheVariants.{Awaits, Runs}
 use Rattle.flash_laws.proofs.Forms.{of}
-use Rattle.flash_laws.proofs.Conn.Answering.{some-inj}
+use Rattle.flash_laws.proofs.Conn.Responses.{some-inj}
 use Rattle.flash_laws.proofs.Site.InPlaces.{at-same, at-other}
 use Rattle.flash_laws.proofs.Lists.{clash, self, must}
 use Rattle.flash_laws.proofs.Site.Others.{site-stays}
 use Rattle.flash_laws.proofs.Site.Peers.{IsTold, told-call}
-use Rattle.flash_laws.proofs.Site.Sharing.{free-runs, first-free, runs-for, left-over-is, workers_shared}
-use Rattle.flash_laws.proofs.Site.Standing.{no-true, held-open, not-waiting, not-closed, conn-same}
+use Rattle.flash_laws.proofs.Site.OwnWorkers.{free-runs, first-free, runs-for, left-over-is, workers_shared}
+use Rattle.flash_laws.proofs.Site.OpenDescriptors.{no-true, held-open, not-waiting, not-closed, conn-same}
 use Rattle.flash_laws.proofs.World.AllLaws.{AllLaws}
 use Rattle.flash_laws.proofs.World.Calls.{CallsAlone, MayTouchPipe, kind-admits, opens-on, calls-alone, there-agg, there-fd}
 use Rattle.flash_laws.proofs.World.Ends.{no-returns, no-desk, uses-or-desk, has-from, touches-from}
-use Rattle.flash_laws.proofs.World.Leaving.{fits_beside}
-use Rattle.flash_laws.proofs.World.Desk.Leaving.{LeavesOne}
+use Rattle.flash_laws.proofs.World.ClientFrame.{fits_beside}
+use Rattle.flash_laws.proofs.World.Desk.Frame.{LeavesOne}
 use Rattle.flash_laws.proofs.World.OwnAlone.{alone_step, alone_closes}
 use Rattle.flash_laws.proofs.World.OwnRun.{run_step}
 use Rattle.flash_laws.proofs.World.RunUses.{is_fds}
-use Rattle.flash_laws.proofs.World.Told.{client-uses, client-fds, agg-new, fd-new}
+use Rattle.flash_laws.proofs.World.ReplyUse.{client-uses, client-fds, agg-new, fd-new}
 use Rattle.flash_laws.proofs.World.Turn.{replaced, held-on, own-call, no-reader-there, own-desk}
 use Rattle.flash_laws.proofs.World.TurnLeaves.{conn-left}
 

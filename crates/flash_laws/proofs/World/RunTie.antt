@@ -20,9 +20,9 @@ use Rattle.flash_laws.specs.Client.{Client, after_run}
 use Rattle.flash_laws.specs.Client.Fits.{IsProper, Answers, IsLeftAlone, TieAlone, TieRun}
 use Rattle.flash_laws.specs.Workers.Crew.{Crew}
 use Rattle.flash_laws.specs.Conn.Fits.{Names}
-use Rattle.flash_laws.specs.Conn.Offering.{newly_taken}
+use Rattle.flash_laws.specs.Conn.OfferedBytes.{newly_taken}
 use Rattle.flash_laws.specs.Run.Fits.{Progress, Ran, Broken, NotRun, Follows, IsLeft, HasNone, HasLeft, HasRun, MayAnswer}
-use Rattle.flash_laws.specs.Run.Offering.{Learns, taken_by, past_of, IsNextOf, breaks_off}
+use Rattle.flash_laws.specs.Run.OfferedBytes.{Learns, taken_by, past_of, IsNextOf, breaks_off}
 use Rattle.flash_laws.specs.Run.{wants, told, is_over}
 use Rattle.flash_laws.specs.Answers.Scripts.{script_response}
 use Rattle.flash_laws.specs.Shelf.{Shelf, due_to, responses}
@@ -31,10 +31,10 @@ use Rattle.flash_laws.specs.declared.phase.Doing.{Doing}
 use Rattle.flash_laws.specs.declared.phase.Doing.TheVariants as doing
 use Rattle.flash_laws.specs.declared.script_run.Running.{Running}
 use Rattle.flash_laws.specs.declared.script_run.Running.TheVariants.{Leaves, Closes}
-use Rattle.flash_laws.proofs.Conn.Answering.{all-more, order-more, last-more}
+use Rattle.flash_laws.proofs.Conn.Responses.{all-more, order-more, last-more}
 use Rattle.flash_laws.proofs.Lists.{bytes-append, clash, next-front, self, take-plus}
 use Rattle.flash_laws.proofs.World.AllLaws.{AllLaws}
-use Rattle.flash_laws.proofs.World.Answering.{responses-more, begins-part}
+use Rattle.flash_laws.proofs.World.Responses.{responses-more, begins-part}
 
 -- a client whose run ended: its connection goes on where that left off
 abbrev pub past_run : (kept : List ℕ) → Wanted → Running → Client

@@ -11,7 +11,7 @@ use Rattle.iol_core.specs.declared.refusals.Refusal.TheVariants as no
 use Rattle.iol_laws.specs.Caller.{is_rough}
 use Rattle.iol_laws.specs.Frame.{EachStepLeavesTheRest, changes_files, admits_to, ends, sets_default}
 use Rattle.iol_laws.specs.Order.{IsOrderly}
-use Rattle.iol_proc.specs.Lent.{lent_to}
+use Rattle.iol_proc.specs.LentBytes.{lent_to}
 use Rattle.iol_proc.specs.Smooth.{AreSmooth}
 use Rattle.iol_proc.specs.Turns.{Comes, SeatTurn}
 use Rattle.iol_proc.specs.World.{Stage, copying, PlaceTurn, WorldStep, WorldRun}
@@ -27,22 +27,22 @@ use Rattle.flash_laws.specs.Conn.Fits.{Names}
 use Rattle.flash_laws.specs.Site.Past.{Past, and_then, IsAct}
 use Rattle.flash_laws.specs.Site.Places.{filed}
 use Rattle.flash_laws.specs.Run.{worker_domain}
-use Rattle.flash_laws.specs.Site.Served.{AllFit, AreOwned}
+use Rattle.flash_laws.specs.Site.ClientTies.{AllFit, AreOwned}
 use Rattle.flash_laws.specs.Serves.{Policy, Made}
 use Rattle.flash_laws.specs.Shelf.{Shelf}
 use Rattle.flash_laws.specs.Site.{server, KeepsSite}
 use Rattle.flash_laws.specs.World.Tie.{past_of, Actor, Serving, Working, actor_goes, actor_turns}
 use Rattle.flash_laws.specs.World.{as_actor, AreSeated, Tied}
-use Rattle.flash_laws.proofs.Conn.Answering.{some-inj}
-use Rattle.flash_laws.proofs.Conn.Lent.{lent-stays}
+use Rattle.flash_laws.proofs.Conn.Responses.{some-inj}
+use Rattle.flash_laws.proofs.Conn.LentBytes.{lent-stays}
 use Rattle.flash_laws.proofs.Lists.{clash}
 use Rattle.flash_laws.proofs.Site.Others.{other-gives, other-ends, site-stays}
 use Rattle.flash_laws.proofs.Site.Pasts.{past-called, past-outside, past-turn, even-more}
 use Rattle.flash_laws.proofs.World.AllLaws.{AllLaws}
-use Rattle.flash_laws.proofs.World.Fixed.{Goes, other-default, fixed-on, order-on}
+use Rattle.flash_laws.proofs.World.FixedState.{Goes, other-default, fixed-on, order-on}
 use Rattle.flash_laws.proofs.World.Outside.Whole.{others_call, acts}
-use Rattle.flash_laws.proofs.World.Owning.{fit-called, call-brings, act-brings, owned-outside, owned-same}
-use Rattle.flash_laws.proofs.World.Serving.{server_turn}
+use Rattle.flash_laws.proofs.World.Owners.{fit-called, call-brings, act-brings, owned-outside, owned-same}
+use Rattle.flash_laws.proofs.World.ServerTurn.{server_turn}
 use Rattle.flash_laws.proofs.World.TurnLeaves.{IsCallOf, what-came, keeps-site}
 use Rattle.flash_laws.proofs.World.WorkerTurn.{IsQuiet, worker_turn}
 

@@ -7,13 +7,13 @@ use Rattle.flash_http.specs.Request.{serve, Wanted}
 use Rattle.flash_laws.specs.Client.{Client}
 use Rattle.flash_laws.specs.Client.Fits.{is_at_rest, Answers, IsLeftAlone, given_of, IsFinished, TieAlone, TieRun}
 use Rattle.flash_laws.specs.Conn.Fits.{asked}
-use Rattle.flash_laws.specs.Conn.Offering.{taken_of}
+use Rattle.flash_laws.specs.Conn.OfferedBytes.{taken_of}
 use Rattle.flash_laws.specs.Run.Fits.{Progress}
-use Rattle.flash_laws.specs.Run.Offering.{past_of, taken_by}
+use Rattle.flash_laws.specs.Run.OfferedBytes.{past_of, taken_by}
 use Rattle.flash_laws.specs.Shelf.{Shelf, due_to, Begins}
 use Rattle.flash_laws.specs.declared.phase.Doing.{Doing}
 use Rattle.flash_laws.specs.declared.script_run.Running.{Running}
-use Rattle.flash_laws.proofs.World.Answering.{begins-less, begins-tie, begins-run}
+use Rattle.flash_laws.proofs.World.Responses.{begins-less, begins-tie, begins-run}
 
 -- ---- what was sent and is to be sent stays, and so does the peer, unless it closes
 

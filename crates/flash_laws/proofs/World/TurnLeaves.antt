@@ -2,7 +2,7 @@
 use Rattle.std.proofs.Common.{inl, inr, ◌≡◌, ◌≢◌, ◌<◌, ◌⊎◌, ℕ, zero, suc, ◌==◌, List, [], ◌∷◌, ◌++◌, ap, ◌∙◌, refl, sym, subst, arith, Option, Some, None, true, false, Bool, append-nil, slice_get, slice_set}
 use Rattle.std.specs.Prelude.{is_none}
 use Rattle.std.specs.List.{list_any}
-use Rattle.iol_core.specs.Numbered.{in_place}
+use Rattle.iol_core.specs.NumberedLists.{in_place}
 use Rattle.iol_core.specs.Text.{bytes_of}
 use Rattle.iol_core.specs.State.{State, Pool, Connection, descriptor, is_pool, may_read, file, conn_at, is_gone}
 use Rattle.iol_core.specs.Run.{StepsTo}
@@ -17,18 +17,18 @@ use Rattle.iol_proc.specs.World.{copying}
 use Rattle.iol_proc.specs.declared.process.Turn.{Turn}
 use Rattle.iol_proc.specs.declared.process.Turn.TheVariants as turn
 use Rattle.iol_proc.specs.declared.seat.Seat.{Seat}
-use Rattle.flash_cgi.specs.Leaving.{LeavesAllBut}
+use Rattle.flash_cgi.specs.Frame.{LeavesAllBut}
 use Rattle.flash_laws.specs.Answers.{Outcome}
 use Rattle.flash_laws.specs.Client.{Client}
 use Rattle.flash_laws.specs.Client.Fits.{Fits, output_of}
-use Rattle.flash_laws.specs.Client.Keeping.{has_fd}
+use Rattle.flash_laws.specs.Client.Holdings.{has_fd}
 use Rattle.flash_laws.specs.Conn.{Conn}
 use Rattle.flash_laws.specs.Workers.Crew.{Crew, IsFixedFor}
 use Rattle.flash_laws.specs.Site.Past.{Past}
 use Rattle.flash_laws.specs.Site.Places.{has_worker, is_run_by}
 use Rattle.flash_laws.specs.Run.Fits.{Progress}
 use Rattle.flash_laws.specs.Run.{worker_domain}
-use Rattle.flash_laws.specs.Site.Served.{FitsAt, AllFit}
+use Rattle.flash_laws.specs.Site.ClientTies.{FitsAt, AllFit}
 use Rattle.flash_laws.specs.Shelf.{Shelf}
 use Rattle.flash_laws.specs.Site.{server, net_pool, IsFixed, KeepsSite}
 use Rattle.flash_laws.specs.Run.Stages.{HasWorkerAt}
@@ -39,8 +39,8 @@ use Rattle.flash_laws.specs.declared.script_run.Running.TheVariants.{Runs}
 use Rattle.flash_laws.proofs.Forms.{of}
 use Rattle.flash_laws.proofs.Lists.{clash, not-equal, differ}
 use Rattle.flash_laws.proofs.World.AllLaws.{AllLaws}
-use Rattle.flash_laws.proofs.World.Desk.Leaving.{LeavesOne, none-given, none-touched}
-use Rattle.flash_laws.proofs.World.Leaving.{Changes, fits_beside}
+use Rattle.flash_laws.proofs.World.Desk.Frame.{LeavesOne, none-given, none-touched}
+use Rattle.flash_laws.proofs.World.ClientFrame.{Changes, fits_beside}
 use Rattle.flash_laws.proofs.Site.Others.{none-listed}
 
 -- ---- seats

@@ -1,6 +1,6 @@
 -- A new world with workers is tied, and where the tie holds each connection is answered.
 use Rattle.std.proofs.Common.{inl, inr, ◌≡◌, ℕ, ◌⊎◌, List, [], ◌++◌, ap, refl, sym, subst, Option, Some, None, true, false}
-use Rattle.iol_core.specs.Numbered.{in_place}
+use Rattle.iol_core.specs.NumberedLists.{in_place}
 use Rattle.iol_core.specs.Text.{bytes_of}
 use Rattle.iol_core.specs.State.{State, Connection, descriptor, conn_at}
 use Rattle.iol_core.specs.declared.descriptors.Descriptor.TheVariants as on
@@ -16,18 +16,18 @@ use Rattle.flash_laws.specs.Client.Fits.{FitsBy}
 use Rattle.flash_laws.specs.Workers.Crew.{Crew}
 use Rattle.flash_laws.specs.Site.Past.{Past}
 use Rattle.flash_laws.specs.Site.Places.{filed}
-use Rattle.flash_laws.specs.Site.Served.{Held, Aside, AllFit, AreAnswered}
+use Rattle.flash_laws.specs.Site.ClientTies.{Held, Aside, AllFit, AreAnswered}
 use Rattle.flash_laws.specs.Shelf.{Shelf, Begins, IsAnswer}
 use Rattle.flash_laws.specs.Site.{server}
 use Rattle.flash_laws.specs.World.Tie.{tells_over, made_over, gone_over, given_over, past_of, Actor}
 use Rattle.flash_laws.specs.World.{server_with, Tied, IsNew, AllAnswered, ClosedAreWhole}
 use Rattle.flash_laws.specs.declared.script_run.Running.{Running}
-use Rattle.flash_laws.proofs.Conn.Answering.{WindowLaws}
+use Rattle.flash_laws.proofs.Conn.Responses.{WindowLaws}
 use Rattle.flash_laws.proofs.Lists.{clash}
 use Rattle.flash_laws.proofs.Site.Peers.{told-none}
-use Rattle.flash_laws.proofs.Site.Sharing.{workers_shared}
-use Rattle.flash_laws.proofs.Site.Standing.{not-closed, conn-same}
-use Rattle.flash_laws.proofs.World.Answering.{begins-none, begins-append, begins-tie, begins-run}
+use Rattle.flash_laws.proofs.Site.OwnWorkers.{workers_shared}
+use Rattle.flash_laws.proofs.Site.OpenDescriptors.{not-closed, conn-same}
+use Rattle.flash_laws.proofs.World.Responses.{begins-none, begins-append, begins-tie, begins-run}
 
 -- A new world is tied.
 pub first_tied : (shelf : Shelf) (crew : Crew) (w : Stage State (Actor crew.Worker)) → IsNew shelf crew w → Tied shelf crew [] [] w

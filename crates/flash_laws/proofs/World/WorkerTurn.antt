@@ -1,7 +1,7 @@
 -- A worker's turn leaves all clients tied.
 use Rattle.std.proofs.Common.{inl, inr, ◌≡◌, ◌≢◌, ◌<◌, ◌⊎◌, ◌≤◌, ℕ, List, ap, ◌∙◌, refl, sym, subst, arith, Option, Some, true, false, Bool, slice_get, slice_set}
 use Rattle.std.proofs.lemmas.Bool.{cases_eq}
-use Rattle.iol_core.specs.Numbered.{in_place}
+use Rattle.iol_core.specs.NumberedLists.{in_place}
 use Rattle.iol_core.specs.State.{State, Connection, descriptor, conn_at, is_gone}
 use Rattle.iol_core.specs.declared.events.Event.TheVariants as event
 use Rattle.iol_core.specs.declared.events.Reply.{Reply}
@@ -10,19 +10,19 @@ use Rattle.iol_laws.specs.Order.{IsOrderly}
 use Rattle.iol_proc.specs.Turns.{SeatTurn}
 use Rattle.iol_proc.specs.World.{copying}
 use Rattle.iol_proc.specs.declared.seat.Seat.{Seat}
-use Rattle.flash_cgi.specs.Leaving.{LeavesAllBut}
+use Rattle.flash_cgi.specs.Frame.{LeavesAllBut}
 use Rattle.flash_laws.specs.Client.{Client}
 use Rattle.flash_laws.specs.Workers.Crew.{Crew, IsFixedFor}
 use Rattle.flash_laws.specs.Site.Past.{Past}
 use Rattle.flash_laws.specs.Site.Places.{is_run_by, is_free}
 use Rattle.flash_laws.specs.Run.{worker_domain, job_pipe}
-use Rattle.flash_laws.specs.Site.Served.{Held, Aside, AreAtDesks, FitsAt, AllFit}
+use Rattle.flash_laws.specs.Site.ClientTies.{Held, Aside, AreAtDesks, FitsAt, AllFit}
 use Rattle.flash_laws.specs.Shelf.{Shelf}
 use Rattle.flash_laws.specs.Site.{server}
-use Rattle.flash_laws.proofs.Conn.Answering.{some-inj}
+use Rattle.flash_laws.proofs.Conn.Responses.{some-inj}
 use Rattle.flash_laws.proofs.World.AllLaws.{AllLaws}
-use Rattle.flash_laws.proofs.Site.Sharing.{runs-for}
-use Rattle.flash_laws.proofs.World.Desk.Turning.{rests, client-touches, own-fits}
+use Rattle.flash_laws.proofs.Site.OwnWorkers.{runs-for}
+use Rattle.flash_laws.proofs.World.Desk.WorkerTurn.{rests, client-touches, own-fits}
 use Rattle.flash_laws.proofs.World.TurnLeaves.{IsCallOf, what-came, IsTurn, IsItsOwn, Touches, set-same, set-other, sits-in, not-server, other-worker, beside-fits}
 
 -- it changes nothing, or leaves all but its own and one pipe

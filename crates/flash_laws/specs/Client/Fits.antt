@@ -18,11 +18,11 @@ use Rattle.flash_laws.specs.Conn.{most_kept, most_read, name_of, text_of, is_hea
 use Rattle.flash_laws.specs.Workers.Crew.{Crew}
 use Rattle.flash_laws.specs.Shelf.Due.{outcomes_by}
 use Rattle.flash_laws.specs.Conn.Fits.{Has, quits, asked}
-use Rattle.flash_laws.specs.Client.Known.{is_read}
-use Rattle.flash_laws.specs.Conn.Offering.{taken_of}
+use Rattle.flash_laws.specs.Client.ResponseState.{is_read}
+use Rattle.flash_laws.specs.Conn.OfferedBytes.{taken_of}
 use Rattle.flash_laws.specs.Run.Fits as run
 use Rattle.flash_laws.specs.Run.Fits.{Progress, HasRun}
-use Rattle.flash_laws.specs.Run.Offering.{past_of, taken_by, breaks_off}
+use Rattle.flash_laws.specs.Run.OfferedBytes.{past_of, taken_by, breaks_off}
 use Rattle.flash_laws.specs.Run.{is_over}
 use Rattle.flash_laws.specs.Shelf.{Shelf, due_to, responses, Begins}
 use Rattle.flash_laws.specs.Site.{server}

@@ -3,7 +3,7 @@
 -- A round goes over the places of the connections, then accepts those that wait, and ends with a yield. A connection goes on
 -- until its call is to be made again later, or nothing is left to do for it but to read more.
 use Rattle.std.specs.Prelude.{ℕ, ◌==◌, ◌||◌, Bool, true, false, if◌then◌else◌, nat_lt, List, length, Option, Some, None}
-use Rattle.iol_core.specs.Numbered.{taken}
+use Rattle.iol_core.specs.NumberedLists.{taken}
 use Rattle.iol_core.specs.declared.refusals.Refusal.TheVariants.{WouldBlock, TooMany, NoRoom, Memory}
 use Rattle.iol_core.specs.declared.events.Reply.{Reply}
 use Rattle.iol_core.specs.declared.events.Reply.TheVariants as reply

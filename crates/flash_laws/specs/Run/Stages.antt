@@ -7,7 +7,7 @@ use Rattle.iol_proc.specs.declared.seat.Seat.{Seat}
 use Rattle.flash_laws.specs.Workers.Crew.{Crew}
 use Rattle.flash_laws.specs.Workers.PutsOut as puts
 use Rattle.flash_laws.specs.Run.Fits.{Progress, Ran, Broken, NotRun}
-use Rattle.flash_laws.specs.Run.Offering.{is_stopping}
+use Rattle.flash_laws.specs.Run.OfferedBytes.{is_stopping}
 use Rattle.flash_laws.specs.Site.{server}
 use Rattle.flash_laws.specs.declared.script_run.Run.{Run}
 use Rattle.flash_laws.specs.declared.script_run.Step.{Step}

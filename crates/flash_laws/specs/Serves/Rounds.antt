@@ -4,7 +4,7 @@
 -- its call is to be made again later, or nothing is left to do for it but to read more, or it has to wait for a worker. One that
 -- waits for a worker is passed over while none is free; one that comes free goes to the first that waits behind.
 use Rattle.std.specs.Prelude.{◌≡◌, ℕ, ◌+◌, ◌||◌, Bool, true, false, if◌then◌else◌, List, drop, position, Option, Some, None, option_map}
-use Rattle.iol_core.specs.Numbered.{in_place}
+use Rattle.iol_core.specs.NumberedLists.{in_place}
 use Rattle.iol_core.specs.declared.events.Reply.{Reply}
 use Rattle.flash_laws.specs.Client.{Client, is_bare, awaits}
 use Rattle.flash_laws.specs.Site.Places.{has_free, may_go}

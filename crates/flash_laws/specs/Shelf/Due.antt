@@ -10,7 +10,7 @@ use Rattle.flash_cgi.specs.declared.line.Line.{Line}
 use Rattle.flash_cgi.specs.declared.line.Line.TheVariants as line
 use Rattle.flash_laws.specs.Answers.{Outcome, Found, Failed, Shelf, response, due_to, script_text}
 use Rattle.flash_laws.specs.Client.{is_for_script}
-use Rattle.flash_laws.specs.Client.Known.{OfFile, OfScript, of_text, MayAnswer}
+use Rattle.flash_laws.specs.Client.ResponseState.{OfFile, OfScript, of_text, MayAnswer}
 use Rattle.flash_laws.specs.Run.Fits.{Ran, Follows}
 use Rattle.flash_laws.specs.Answers.Scripts.{script_response}
 

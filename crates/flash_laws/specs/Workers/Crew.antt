@@ -4,13 +4,13 @@ use Rattle.iol_core.specs.Access.{HasAccess}
 use Rattle.iol_core.specs.Positions.{ArePlaced}
 use Rattle.iol_core.specs.Prelude.{default_pool}
 use Rattle.iol_core.specs.State.{State}
-use Rattle.iol_laws.specs.Opening.{AreLow}
+use Rattle.iol_laws.specs.DescriptorNumbers.{AreLow}
 use Rattle.iol_laws.specs.Sources.{MayReadAll}
-use Rattle.iol_proc.specs.Settled.{Claim}
+use Rattle.iol_proc.specs.Settlement.{Claim}
 use Rattle.iol_proc.specs.Turns.{Account}
 use Rattle.iol_proc.specs.declared.seat.Seat.{Seat}
 use Rattle.flash_cgi.specs.Outcomes.{AreFiles, outcome_in}
-use Rattle.flash_cgi.specs.Shown.{HoldFiles}
+use Rattle.flash_cgi.specs.OutputPools.{HoldFiles}
 use Rattle.flash_laws.specs.Site.Places.{runs_scripts}
 use Rattle.flash_laws.specs.Run.{worker_domain}
 use Rattle.flash_laws.specs.Shelf.{Shelf}

@@ -1,7 +1,7 @@
 -- Crews of workers of one kind, and what the law says of each.
 use Rattle.std.specs.Prelude.{ℕ, Bool, List}
 use Rattle.iol_core.specs.State.{State}
-use Rattle.iol_proc.specs.Settled.{Claim}
+use Rattle.iol_proc.specs.Settlement.{Claim}
 use Rattle.iol_proc.specs.Turns.{Account}
 use Rattle.iol_proc.specs.declared.seat.Seat.{Seat}
 use Rattle.flash_laws.specs.Workers.Crew.{Crew}

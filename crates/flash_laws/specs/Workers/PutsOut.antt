@@ -19,7 +19,7 @@ use Rattle.iol_proc.specs.World.{copying}
 use Rattle.iol_proc.specs.declared.seat.Seat.{Seat}
 use Rattle.flash_cgi.specs.Beside.{is_call_of, LeavesFiles}
 use Rattle.flash_cgi.specs.Outcomes.{AreFiles}
-use Rattle.flash_cgi.specs.Shown.{HoldFiles}
+use Rattle.flash_cgi.specs.OutputPools.{HoldFiles}
 
 -- Free and Due are those of `WorkersRun`.
 module _ {W : Type 0} (works : Account W) (pools : ℕ → Bool) (Free : State → (j : ℕ) → Seat W → Type 0)

@@ -1,6 +1,6 @@
 -- What holds where all is idle: nothing is left to do but where a peer takes nothing.
 use Rattle.std.specs.Prelude.{◌≡◌, ◌<◌, ◌≤◌, ◌⊎◌, ℕ, true, false, List, [], ◌++◌, length, Option, Some, None}
-use Rattle.iol_core.specs.Numbered.{in_place}
+use Rattle.iol_core.specs.NumberedLists.{in_place}
 use Rattle.iol_core.specs.Text.{bytes_of}
 use Rattle.iol_core.specs.State.{State, descriptor, conn_at}
 use Rattle.iol_core.specs.declared.descriptors.Descriptor.TheVariants as on
@@ -17,7 +17,7 @@ use Rattle.flash_laws.specs.World.Settles.{ActorsAreSettled}
 use Rattle.flash_laws.specs.Site.Past.{Past}
 use Rattle.flash_laws.specs.Site.Places.{is_run_by}
 use Rattle.flash_laws.specs.Serves.Rounds.{in_rounds}
-use Rattle.flash_laws.specs.Site.Served.{IsUsed}
+use Rattle.flash_laws.specs.Site.ClientTies.{IsUsed}
 use Rattle.flash_laws.specs.Shelf.{Shelf, IsAnswer}
 use Rattle.flash_laws.specs.Site.{server}
 use Rattle.flash_laws.specs.World.Tie.{past_of, Actor, actor_turns}

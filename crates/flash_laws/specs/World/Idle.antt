@@ -1,6 +1,6 @@
 -- What the server declares of the moments at which all is idle.
 use Rattle.std.specs.Prelude.{◌≡◌, ◌≤◌, ℕ, zero, suc, ◌⊎◌, false, nat_lt, List, Option, Some}
-use Rattle.iol_core.specs.Numbered.{in_place, taken}
+use Rattle.iol_core.specs.NumberedLists.{in_place, taken}
 use Rattle.iol_core.specs.State.{State}
 use Rattle.iol_core.specs.Run.{StepsTo}
 use Rattle.iol_core.specs.declared.refusals.Refusal.TheVariants as no
@@ -9,7 +9,7 @@ use Rattle.iol_core.specs.declared.events.Call.TheVariants as call
 use Rattle.iol_core.specs.declared.events.Event.TheVariants as event
 use Rattle.iol_core.specs.declared.events.Reply.{Reply}
 use Rattle.iol_core.specs.declared.events.Reply.TheVariants as reply
-use Rattle.iol_proc.specs.Settled.{Claim}
+use Rattle.iol_proc.specs.Settlement.{Claim}
 use Rattle.flash_laws.specs.Client.{Client, wants, IsAwaiting}
 use Rattle.flash_laws.specs.Site.Places.{has_free, may_go, runs_scripts}
 use Rattle.flash_laws.specs.declared.phase.Flight.{Flight}

@@ -1,7 +1,7 @@
 -- Where all is idle nothing is left to do.
 use Rattle.std.specs.Prelude.{◌≡◌, ℕ, true, false, nat_lt, List, [], ◌∷◌, ◌++◌, Option, Some}
 use Rattle.std.specs.List.{list_all}
-use Rattle.iol_core.specs.Numbered.{in_place, taken}
+use Rattle.iol_core.specs.NumberedLists.{in_place, taken}
 use Rattle.iol_core.specs.State.{State, descriptor}
 use Rattle.iol_core.specs.declared.descriptors.Descriptor.TheVariants as on
 use Rattle.flash_http.specs.declared.windows.Window.TheVariants.{Wait}

@@ -1,5 +1,5 @@
 -- A whole run: choices, and then turns in rounds until all is idle.
-use Rattle.iol_proc.specs.Settled.{Claim, Settles, IdleIsSettled}
+use Rattle.iol_proc.specs.Settlement.{Claim, Settles, IdleIsSettled}
 use Rattle.iol_proc.specs.Turns.{Account}
 use Rattle.flash_laws.specs.World.Idle.{actor_settled}
 use Rattle.flash_laws.specs.Serves.Rounds.{in_rounds}

@@ -9,7 +9,7 @@ use Rattle.iol_proc.specs.declared.choice.Choice.TheVariants as choice
 use Rattle.iol_proc.specs.declared.process.Turn.{Turn}
 use Rattle.flash_laws.specs.Site.Past.{Past, made_by, gone_by, given_by}
 use Rattle.flash_laws.specs.Serves.{Server, Policy, server_turns}
-use Rattle.flash_laws.specs.Serves.Wanting.{server_wants}
+use Rattle.flash_laws.specs.Serves.Wants.{server_wants}
 
 -- ---- the past of choices and their replies
 

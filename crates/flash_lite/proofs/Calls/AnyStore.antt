@@ -7,7 +7,7 @@ use Rattle.iol_core.specs.Run.{meaning}
 use Rattle.iol_core.specs.State.{State, new_state}
 use Rattle.iol_core.specs.declared.events.Event.{Event}
 use Rattle.iol_core.specs.declared.events.Reply.{Reply}
-use Rattle.iol_kernel.specs.Backed.{with_slots}
+use Rattle.iol_kernel.specs.FileCalls.{with_slots}
 use Rattle.iol_kernel.proofs.State.Beside.{with_slots-own}
 use Rattle.iol_system.specs.Machine.{SystemState, machine_of}
 use Rattle.iol_system.specs.Promises.{Chain}
@@ -15,8 +15,8 @@ use Rattle.flash_lite.specs.Setup.{IsMade, calls, first_refusal, is_in_range}
 use Rattle.flash_lite.specs.SiteState.{HasDesk, LeavesSite, state_of}
 use Rattle.flash_lite.specs.declared.site.Site.{Site}
 use Rattle.flash_lite.proofs.World.Desks.{has_desk}
-use Rattle.flash_lite.proofs.Calls.Leading.{led}
-use Rattle.flash_lite.proofs.Calls.Passing.{Passes, over, first_passed}
+use Rattle.flash_lite.proofs.Calls.Outcome.{led}
+use Rattle.flash_lite.proofs.Calls.PassedRuns.{Passes, over, first_passed}
 
 -- any bytes
 abbrev Any : List (List ℕ) → Type 0

@@ -5,7 +5,7 @@ use Rattle.std.specs.List.{position_or_len}
 use Rattle.std.proofs.lemmas.Bool.Decides.{nat_tests}
 use Rattle.std.proofs.lemmas.List.{length-take-le}
 use Rattle.std.proofs.lemmas.List.Sums.{prefix_len-le-length}
-use Rattle.flash_lite.specs.Turning.{first_in}
+use Rattle.flash_lite.specs.ServerTurn.{first_in}
 
 place-is : (xs : List Bool) (k : ℕ) → position (λ b. b) xs ≡ Some k → k ≡ position_or_len (λ b. b) xs
 place-is xs k is = by (nat_lt (position_or_len (λ b. b) xs) (length xs)) is

@@ -22,7 +22,7 @@ use Rattle.flash_laws.specs.declared.script_run.Step.{Step}
 use Rattle.flash_laws.specs.declared.script_run.Step.TheVariants as act
 use Rattle.flash_laws.specs.declared.script_run.Running.{Running}
 use Rattle.flash_laws.specs.declared.script_run.Running.TheVariants.{Awaits, Runs, Leaves, Closes as Finished}
-use Rattle.flash_lite.specs.Turning.{Turns, filed_by}
+use Rattle.flash_lite.specs.ServerTurn.{Turns, filed_by}
 use Rattle.flash_lite.specs.Table.{Table}
 
 reading : (head_only : Bool) (f : ℕ) → IsQuietCall (if head_only then call.Length f else call.IolRead f most_read)

@@ -4,14 +4,14 @@ use Rattle.std.specs.Prelude.{unwrap_or}
 use Rattle.std.specs.List.{range_with_len}
 use Rattle.std.proofs.lemmas.List.{get_or_append_left, get_or-replicate}
 use Rattle.std.proofs.lemmas.List.FromFn.{get_or-map-range_with_len, length-map-range_with_len}
-use Rattle.iol_core.specs.Numbered.{in_place, numbered_or}
+use Rattle.iol_core.specs.NumberedLists.{in_place, numbered_or}
 use Rattle.iol_core.specs.State.{Domain, Pipe, domain, pipe_at, new_pipe, no_domain, no_pipe}
 use Rattle.iol_core.specs.Text.{Text}
 use Rattle.iol_core.specs.declared.descriptors.Descriptor.{Descriptor}
 use Rattle.iol_core.specs.declared.descriptors.Descriptor.TheVariants as on
 use Rattle.flash_lite.specs.SiteState.{HasDesk, domains_of, guest, server_of, state_of, worker_of}
 use Rattle.flash_lite.specs.declared.site.Site.{Site}
-use Rattle.flash_lite.proofs.World.Standing.{nth}
+use Rattle.flash_lite.proofs.World.FixedMachine.{nth}
 
 module _ (s : Site) (slots : List (List ℕ)) (k : ℕ) (within : k < s.workers) where
   -- the worker's domain

@@ -19,14 +19,14 @@ use Rattle.flash_laws.specs.World.Calm.{IsNobody, IsMild, AreMild}
 use Rattle.flash_laws.specs.Workers.Crew.{Crew}
 use Rattle.flash_laws.specs.Site.Past.{Past}
 use Rattle.flash_laws.specs.Serves.Rounds.{in_rounds}
-use Rattle.flash_laws.specs.Site.Served.{AreAnswered}
+use Rattle.flash_laws.specs.Site.ClientTies.{AreAnswered}
 use Rattle.flash_laws.specs.Shelf.{Shelf, IsAnswer}
 use Rattle.flash_laws.specs.Site.{server, SiteStays}
 use Rattle.flash_laws.specs.World.Tie.{past_of, Actor, Serving, actor_turns}
 use Rattle.flash_laws.specs.World.{Tied, IsServing, as_actor, StepKeepsTie}
 use Rattle.flash_laws.specs.World.Done.{IsDone}
 use Rattle.flash_laws.specs.World.Host.{IsRight}
-use Rattle.flash_laws.proofs.Conn.Answering.{some-inj}
+use Rattle.flash_laws.proofs.Conn.Responses.{some-inj}
 use Rattle.flash_laws.proofs.Site.Pasts.{past-turn, even-more}
 use Rattle.flash_lite.specs.Harmless.{IsHarmless, leaves_site}
 

@@ -10,13 +10,13 @@ use Rattle.iol_system.specs.Machine.{SystemState, machine_of}
 use Rattle.flash_cgi.specs.declared.worker.Worker.{Worker}
 use Rattle.flash_laws.specs.Serves.Rounds.{in_rounds}
 use Rattle.flash_laws.specs.World.Tie.{Actor, actor_turns}
-use Rattle.flash_lite.specs.Hosting.{Hosts, IsNewWorld}
+use Rattle.flash_lite.specs.HostedSite.{Hosts, IsNewWorld}
 use Rattle.flash_lite.specs.Setup.{AreActors}
 use Rattle.flash_lite.specs.SiteState.{LeavesSite, state_of}
 use Rattle.flash_lite.specs.SiteWorld.{IsNewAt}
 use Rattle.flash_lite.specs.Workers.{worker_turns}
 use Rattle.flash_lite.specs.declared.site.Site.{Site}
-use Rattle.flash_lite.proofs.World.Seated.{seated_by}
+use Rattle.flash_lite.proofs.World.Seats.{seated_by}
 
 pub world_new : (s : Site) (slots : List (List ℕ)) (old sys : SystemState) (w : Stage SystemState (Actor Worker))
     (ps : List (ℕ × Actor Worker)) → machine_of old ≡ new_state slots → ArePlaced (machine_of old)

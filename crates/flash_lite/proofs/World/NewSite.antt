@@ -1,6 +1,6 @@
 -- A site that was set up in a new machine: its world is new.
 use Rattle.std.proofs.Common.{◌≡◌, ◌≤◌, ◌<◌, ℕ, ◌+◌, List, [], length, refl, subst, ap, None, true}
-use Rattle.iol_core.specs.Numbered.{numbered_or}
+use Rattle.iol_core.specs.NumberedLists.{numbered_or}
 use Rattle.iol_core.specs.Run.{Run}
 use Rattle.iol_core.specs.State.{State, new_state, content}
 use Rattle.iol_core.specs.declared.events.Event.{Event}
@@ -9,9 +9,9 @@ use Rattle.iol_core.specs.declared.limits.TheConstants.{MAX_FILE_BYTES}
 use Rattle.flash_lite.specs.Setup.{SetsUp, calls, first_refusal, is_in_range}
 use Rattle.flash_lite.specs.SiteState.{state_of}
 use Rattle.flash_lite.specs.declared.site.Site.{Site}
-use Rattle.flash_lite.proofs.Calls.Filing.{IsShort}
-use Rattle.flash_lite.proofs.Calls.Leading.{Led, led, calls_plain}
-use Rattle.flash_lite.proofs.Calls.Passing.{Passes, run_passes, slots_stay}
+use Rattle.flash_lite.proofs.Calls.FileCalls.{IsShort}
+use Rattle.flash_lite.proofs.Calls.Outcome.{Led, led, calls_plain}
+use Rattle.flash_lite.proofs.Calls.PassedRuns.{Passes, run_passes, slots_stay}
 
 -- these bytes, and no others
 abbrev pub Just : List (List ℕ) → List (List ℕ) → Type 0

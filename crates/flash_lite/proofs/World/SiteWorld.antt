@@ -7,7 +7,7 @@ use Rattle.iol_core.specs.Run.{Run}
 use Rattle.iol_core.specs.State.{Domain, Pipe, State, conn_at, domain, new_state}
 use Rattle.iol_core.specs.Text.{Text}
 use Rattle.iol_laws.specs.Caller.{lent_at}
-use Rattle.iol_laws.specs.Opening.{AreLow, DescriptorsComeByReplies}
+use Rattle.iol_laws.specs.DescriptorNumbers.{AreLow, DescriptorsComeByReplies}
 use Rattle.iol_laws.specs.Order.{IsOrderly, EachStepKeepsOrder}
 use Rattle.iol_laws.proofs.Runs.{run_keeps}
 use Rattle.iol_proc.specs.declared.seat.Seat.{Seat}
@@ -25,9 +25,9 @@ use Rattle.flash_lite.specs.SiteState.{state_of}
 use Rattle.flash_lite.specs.SiteWorld.{SetUpIsANewWorld}
 use Rattle.flash_lite.specs.declared.site.Site.{Site}
 use Rattle.flash_lite.proofs.World.Desks.{has_desk, worker_there}
-use Rattle.flash_lite.proofs.Calls.Leading.{Led}
+use Rattle.flash_lite.proofs.Calls.Outcome.{Led}
 use Rattle.flash_lite.proofs.World.NewSite.{Just, led_by, shorts}
-use Rattle.flash_lite.proofs.World.SiteFixed.{fixed_for, used_within}
+use Rattle.flash_lite.proofs.World.FixedSite.{fixed_for, used_within}
 use Rattle.flash_lite.proofs.World.SiteSeats.{HasCrew, SitsNew, has_crew}
 
 module _ (orders : EachStepKeepsOrder) (descriptors : DescriptorsComeByReplies) (stay_free : WorkersStayFree) where

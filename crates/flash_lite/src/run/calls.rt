@@ -2,7 +2,7 @@
 ghost use Rattle.std.specs.Prelude.{◌≡◌, ◌-◌, ◌<◌, IfOk, OnErr, true};
 ghost use Rattle.iol_core.specs.declared.events.Call.TheVariants.{AggMake, AggReplace, GiveFd, IolWrite};
 ghost use Rattle.flash_http.specs.Prelude.{wanted};
-ghost use Rattle.flash_laws.specs.Run.Wanting.{makes_bytes};
+ghost use Rattle.flash_laws.specs.Run.Wants.{makes_bytes};
 ghost use Rattle.flash_laws.specs.Run as spec;
 ghost use Rattle.flash_laws.specs.Prelude.{script_text, frame_of, end_around, place_in_frame};
 ghost use Rattle.flash_laws.specs.declared.script_run.TheConstants.{CHUNK_BYTES};

@@ -2,7 +2,7 @@
 ghost use Rattle.std.specs.Prelude.{◌≡◌, ◌<◌, Some, false, true};
 ghost use Rattle.flash_http.specs.Prelude.{wanted};
 ghost use Rattle.flash_laws.specs.Run as spec;
-ghost use Rattle.flash_lite.specs.Heard.{heard};
+ghost use Rattle.flash_lite.specs.HeardBytes.{heard};
 ghost use Rattle.flash_lite.specs.Runs.{IsPiece, IsSmallRun, IsSmallStep, IsSmallRunning, reading};
 
 use crate::heard::count;
@@ -105,7 +105,7 @@ fn unread(held: Following, frame: Option<AggId>) -> Step
 }
 
 /// After the reply to the reading of output.
-#[tactic(auto, using(crate::proofs::Answering::Output::hears_read))]
+#[tactic(auto, using(crate::proofs::Responses::Output::hears_read))]
 pub(crate) fn told_hears(
     request: &Request,
     run: Run,

@@ -9,7 +9,7 @@ use flash_http::{CHUNK_END, LAST_CHUNK, Request, ResponseHead, chunk_head};
 use std::alloc::{AllocError, Global};
 
 /// The head of the response.
-#[tactic(auto, using(crate::proofs::Answering::Texts::script_text_is))]
+#[tactic(auto, using(crate::proofs::Responses::Texts::script_text_is))]
 pub(crate) fn script_text(alloc: Global, request: &Request) -> Result<Vec<u8>, AllocError>
     ensures { IfOk result (λ bytes. bytes.items ≡ spec.script_text (wanted request.now)) }
 {
@@ -30,7 +30,7 @@ pub(crate) fn frame_text(alloc: Global, size: u32) -> Result<Vec<u8>, AllocError
 }
 
 /// Where they stand in it: behind their number, and two bytes that end its line.
-#[tactic(auto, using(crate::proofs::Answering::Frames::place_by_digits))]
+#[tactic(auto, using(crate::proofs::Responses::Frames::place_by_digits))]
 pub(crate) fn place_in_frame(size: u32) -> u32
     requires { 0 < size }
     ensures { result ≡ spec.place_in_frame size }

@@ -11,21 +11,21 @@ use Rattle.iol_core.specs.declared.numbers.BufId.{BufId}
 use Rattle.iol_arena.specs.State.{State, HasRuns, entry_at}
 use Rattle.iol_arena.specs.Buffers.{IsLive, LiesOn, kind_len}
 use Rattle.iol_arena.proofs.Members.{In, chunk_in, contains_in}
-use Rattle.iol_pool.specs.Owned.{AreOwned}
+use Rattle.iol_pool.specs.Owners.{AreOwned}
 use Rattle.iol_pool.specs.Pools.{pool_in}
 use Rattle.iol_hold.specs.Moves.{tally, same}
 use Rattle.iol_hold.specs.Room.{pages_of}
-use Rattle.iol_hold.specs.Stored.{Stored, IsHome}
+use Rattle.iol_hold.specs.StoreState.{Stored, IsHome}
 use Rattle.iol_hold.specs.Texts.{bufs_of, AllReadable}
 use Rattle.iol_hold.specs.declared.slices.Slice.{Slice}
-use Rattle.iol_hold.proofs.Counting.{tally-append, tally_none, other_page, bufs-append}
-use Rattle.iol_hold.proofs.Reading.{readable_first, readable_later}
+use Rattle.iol_hold.proofs.Counts.{tally-append, tally_none, other_page, bufs-append}
+use Rattle.iol_hold.proofs.ReadSlices.{readable_first, readable_later}
 use Rattle.iol_extent.specs.Extents.{Extent}
 use Rattle.iol_cache.specs.declared.files.CachedFile.{CachedFile}
-use Rattle.iol_cache.specs.Cached.{Cached, file_in, no_file, order_in, clean_in, clean_parts, clean_held, clean_at, begins_clean, entries_at}
+use Rattle.iol_cache.specs.CacheState.{Cached, file_in, no_file, order_in, clean_in, clean_parts, clean_held, clean_at, begins_clean, entries_at}
 use Rattle.iol_cache.specs.Sound.{Each, IsLaid, IsSound}
-use Rattle.iol_cache.proofs.Extents.Filing.{additive_tally, sum-flat}
-use Rattle.iol_cache.proofs.Evictions.Rooming.{IsBeside}
+use Rattle.iol_cache.proofs.Extents.FileEntries.{additive_tally, sum-flat}
+use Rattle.iol_cache.proofs.Evictions.FreePages.{IsBeside}
 
 tally_cons : (b c : BufId) (bs : List BufId) → same b c ≡ 0 → tally b bs ≡ 0 → tally b (c ∷ bs) ≡ 0
 unfolding tally

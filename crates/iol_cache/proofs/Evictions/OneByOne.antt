@@ -2,12 +2,12 @@
 use Rattle.std.proofs.Common.{◌≡◌, ℕ, ◌<◌, length, Option, Some}
 use Rattle.iol_evict.specs.declared.entry.Rank.{Rank}
 use Rattle.iol_evict.specs.Ranks.{least_rank}
-use Rattle.iol_cache.specs.Cached.{file_in, order_in}
+use Rattle.iol_cache.specs.CacheState.{file_in, order_in}
 use Rattle.iol_cache.specs.Sound.{IsSound}
-use Rattle.iol_cache.specs.Evicting.{Holding, in_use, ArePassed, Evicts, EvictsAll, EvictsOne, FindsVictim, GivesUp, IsCleanAt, IsWanted}
-use Rattle.iol_cache.proofs.Evictions.Choosing.{evicts_fewer, none_evicted, one_more, victim_clean}
-use Rattle.iol_cache.proofs.Evictions.GivenUp.{gives_up_more, gives_up_none}
-use Rattle.iol_cache.proofs.Evictions.Passed.{passed_least, passed_pool}
+use Rattle.iol_cache.specs.Evictions.{Holding, in_use, ArePassed, Evicts, EvictsAll, EvictsOne, FindsVictim, GivesUp, IsCleanAt, IsWanted}
+use Rattle.iol_cache.proofs.Evictions.Victims.{evicts_fewer, none_evicted, one_more, victim_clean}
+use Rattle.iol_cache.proofs.Evictions.Files.{gives_up_more, gives_up_none}
+use Rattle.iol_cache.proofs.Evictions.PassedExtents.{passed_least, passed_pool}
 
 -- so far
 pub record EvictsOn (pool : ℕ) (wanted : Option ℕ) (old now : Holding) (passed : Rank) : Type 0 where

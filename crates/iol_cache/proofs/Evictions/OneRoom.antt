@@ -10,24 +10,24 @@ use Rattle.iol_arena.specs.Chunks.{chunk_pages}
 use Rattle.iol_back.specs.Disk.{Disk}
 use Rattle.iol_extent.proofs.Alone.{gaps_alone}
 use Rattle.iol_pool.specs.Pools.{Pool, pool_in}
-use Rattle.iol_hold.specs.Stored.{Stored, count_of}
+use Rattle.iol_hold.specs.StoreState.{Stored, count_of}
 use Rattle.iol_hold.specs.Moves.{Covers, Shares, same, tally}
 use Rattle.iol_hold.specs.Places.{Place, place_in, places, slice_places}
 use Rattle.iol_hold.specs.Releases.{buf_at, first_page}
 use Rattle.iol_hold.specs.Room.{pages_of}
 use Rattle.iol_hold.specs.Texts.{bufs_of}
 use Rattle.iol_hold.specs.declared.slices.Slice.{Slice}
-use Rattle.iol_hold.proofs.Counting.{tally-append, tally_none}
-use Rattle.iol_cache.specs.Cached.{Cached, clean_held, extents_in, file_in}
-use Rattle.iol_cache.specs.Evicting.{Holding}
+use Rattle.iol_hold.proofs.Counts.{tally-append, tally_none}
+use Rattle.iol_cache.specs.CacheState.{Cached, clean_held, extents_in, file_in}
+use Rattle.iol_cache.specs.Evictions.{Holding}
 use Rattle.iol_cache.specs.Gaps.{gap_pages}
-use Rattle.iol_cache.specs.Going.{HasRoom, LacksRoom, Pins, wanted_pages}
+use Rattle.iol_cache.specs.ReadSteps.{HasRoom, LacksRoom, Pins, wanted_pages}
 use Rattle.iol_cache.specs.Marks.{is_held_beside}
-use Rattle.iol_cache.specs.Pinned.{is_begun, is_pinned, pinned_beside}
-use Rattle.iol_cache.specs.Serving.{IsEnd, NoRoomToRead, RoomToRead}
+use Rattle.iol_cache.specs.PinnedPages.{is_begun, is_pinned, pinned_beside}
+use Rattle.iol_cache.specs.ReadResults.{IsEnd, NoRoomToRead, RoomToRead}
 use Rattle.iol_cache.specs.Sound.{IsSound}
-use Rattle.iol_cache.specs.Weaving.{places_beside}
-use Rattle.iol_cache.proofs.Extents.Using.{covers_all}
+use Rattle.iol_cache.specs.Weave.{places_beside}
+use Rattle.iol_cache.proofs.Extents.HeldSlices.{covers_all}
 
 -- the buffers of places
 abbrev bufs_at : List Place → List BufId

@@ -5,19 +5,19 @@ use Rattle.std.specs.List.{AllZip}
 use Rattle.std.proofs.lemmas.Bool.{cases_eq}
 use Rattle.std.proofs.lemmas.Bool.Decides.{nat_tests}
 use Rattle.std.proofs.lemmas.List.Sums.{sum_by-append, sum_by-cons}
-use Rattle.iol_hold.specs.Stored.{Stored}
+use Rattle.iol_hold.specs.StoreState.{Stored}
 use Rattle.iol_hold.specs.Places.{byte_len}
 use Rattle.iol_extent.specs.Extents.{Extent, begins_at, extent_over, without_at, dirty_count, one_dirty}
 use Rattle.iol_extent.specs.declared.spans.Span.{Span}
-use Rattle.iol_evict.specs.Ranking.{Ranking, entered, entry_or, evicted_at, hit_at, left_at, lowered, lowered_by}
+use Rattle.iol_evict.specs.Order.{Ranking, entered, entry_or, evicted_at, hit_at, left_at, lowered, lowered_by}
 use Rattle.iol_evict.specs.declared.entry.TheConstants.{MAX_LOW}
 use Rattle.iol_cache.specs.declared.files.CachedFile.{CachedFile}
-use Rattle.iol_cache.specs.Cached.{AreReady, Cached, dirty_of, extents_in, file_in, lacking, new_file, no_file, order_in, with_evicted, with_file, with_order, without_extent}
+use Rattle.iol_cache.specs.CacheState.{AreReady, Cached, dirty_of, extents_in, file_in, lacking, new_file, no_file, order_in, with_evicted, with_file, with_order, without_extent}
 use Rattle.iol_cache.specs.Gaps.{IsMade, all_put}
-use Rattle.iol_cache.specs.Reading.{SameButRoom, all_entered, hit_counted, hits_counted, parts_from}
-use Rattle.iol_cache.specs.Replacing.{Reindexes, IsReady}
-use Rattle.iol_cache.proofs.Extents.Filing.{order_other, order_same, sum-file_in, sum-with_file, sum-without_at}
-use Rattle.iol_cache.proofs.RangeReads.Putting.{sum-all_put}
+use Rattle.iol_cache.specs.RangeReads.{SameButRoom, all_entered, hit_counted, hits_counted, parts_from}
+use Rattle.iol_cache.specs.Replacement.{Reindexes, IsReady}
+use Rattle.iol_cache.proofs.Extents.FileEntries.{order_other, order_same, sum-file_in, sum-with_file, sum-without_at}
+use Rattle.iol_cache.proofs.RangeReads.PutExtents.{sum-all_put}
 
 -- What hits, entries and evictions leave kept.
 

@@ -5,25 +5,25 @@ use Rattle.std.proofs.lemmas.Bool.{cases_eq}
 use Rattle.std.proofs.lemmas.Bool.Decides.{nat_tests}
 use Rattle.std.proofs.lemmas.List.Concat.{flat_map-cons}
 use Rattle.iol_arena.specs.State.{pages_for}
-use Rattle.iol_core.specs.Numbered.{is_numbered, numbered_or, with_numbered}
+use Rattle.iol_core.specs.NumberedLists.{is_numbered, numbered_or, with_numbered}
 use Rattle.iol_core.specs.declared.numbers.BufId.{BufId}
 use Rattle.iol_pool.specs.Pools.{pool_in}
 use Rattle.iol_hold.specs.Moves.{Covers}
-use Rattle.iol_hold.specs.Stored.{Stored}
+use Rattle.iol_hold.specs.StoreState.{Stored}
 use Rattle.iol_hold.specs.Texts.{bufs_of}
 use Rattle.iol_extent.specs.Extents.{Extent, IsApart, last_end, extent_over}
 use Rattle.iol_extent.specs.Spans.{AreInOrder}
 use Rattle.iol_extent.specs.declared.spans.Span.{Span}
-use Rattle.iol_evict.specs.Ranking.{Ranking, hit_at}
+use Rattle.iol_evict.specs.Order.{Ranking, hit_at}
 use Rattle.iol_cache.specs.declared.files.CachedFile.{CachedFile}
-use Rattle.iol_cache.specs.Cached.{AreReady, Cached, file_in, with_file, no_file, order_in, with_order, extents_in, all_parts, clean_in, held, clean_held, clean_of, clean_at, entries_at}
+use Rattle.iol_cache.specs.CacheState.{AreReady, Cached, file_in, with_file, no_file, order_in, with_order, extents_in, all_parts, clean_in, held, clean_held, clean_of, clean_at, entries_at}
 use Rattle.iol_cache.specs.Gaps.{gap_pages}
-use Rattle.iol_cache.specs.Going.{CountsHits}
+use Rattle.iol_cache.specs.ReadSteps.{CountsHits}
 use Rattle.iol_cache.specs.Marks.{Counted}
-use Rattle.iol_cache.specs.Reading.{SameButRoom, RanksFile, hit_counted, hits_counted}
+use Rattle.iol_cache.specs.RangeReads.{SameButRoom, RanksFile, hit_counted, hits_counted}
 use Rattle.iol_cache.specs.Sound.{Each, IsLaid, IsFiled, IsSound}
-use Rattle.iol_cache.proofs.Extents.Filing.{file_same, file_other, order_same, order_other, length-with_file, length-with_order, numbered_bounds, numbered_yes}
-use Rattle.iol_cache.proofs.Evictions.Entering.{hit_entries}
+use Rattle.iol_cache.proofs.Extents.FileEntries.{file_same, file_other, order_same, order_other, length-with_file, length-with_order, numbered_bounds, numbered_yes}
+use Rattle.iol_cache.proofs.Evictions.Entries.{hit_entries}
 use Rattle.iol_cache.proofs.Evictions.Ready.{hits_kept, ready_hits, ready_same}
 
 -- gaps want no more pages than they have bytes

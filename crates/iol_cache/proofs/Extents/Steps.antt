@@ -4,21 +4,21 @@ use Rattle.iol_arena.specs.State.{page_count}
 use Rattle.iol_back.specs.Disk.{Disk, content}
 use Rattle.iol_core.specs.declared.numbers.BufId.{BufId}
 use Rattle.iol_hold.specs.Moves.{tally, Moves, Covers, SameLists}
-use Rattle.iol_hold.specs.Stored.{Stored, AllSettled}
-use Rattle.iol_hold.proofs.Counting.{tally-append}
-use Rattle.iol_hold.proofs.Moving.{stays_trans, moves_none}
-use Rattle.iol_cache.specs.Cached.{Cached, file_in, extents_in, order_in, held}
+use Rattle.iol_hold.specs.StoreState.{Stored, AllSettled}
+use Rattle.iol_hold.proofs.Counts.{tally-append}
+use Rattle.iol_hold.proofs.Moves.{stays_trans, moves_none}
+use Rattle.iol_cache.specs.CacheState.{Cached, file_in, extents_in, order_in, held}
 use Rattle.iol_cache.specs.Contents.{AreStored, file_bytes, byte_in}
-use Rattle.iol_cache.specs.Evicting.{Holding, GivesUp}
-use Rattle.iol_cache.specs.Going.{Goes, CountsHits}
-use Rattle.iol_core.specs.Numbered.{is_numbered}
+use Rattle.iol_cache.specs.Evictions.{Holding, GivesUp}
+use Rattle.iol_cache.specs.ReadSteps.{Goes, CountsHits}
+use Rattle.iol_core.specs.NumberedLists.{is_numbered}
 use Rattle.iol_extent.specs.declared.spans.Span.{Span}
-use Rattle.iol_evict.specs.Ranking.{Ranking}
-use Rattle.iol_cache.specs.Reading.{SameButRoom, hits_counted}
+use Rattle.iol_evict.specs.Order.{Ranking}
+use Rattle.iol_cache.specs.RangeReads.{SameButRoom, hits_counted}
 use Rattle.iol_cache.proofs.Evictions.Ready.{hits_same}
-use Rattle.iol_cache.proofs.Extents.Filing.{order_same, numbered_bounds, numbered_yes}
+use Rattle.iol_cache.proofs.Extents.FileEntries.{order_same, numbered_bounds, numbered_yes}
 use Rattle.iol_cache.specs.Sound.{IsSound}
-use Rattle.iol_cache.proofs.Extents.Staying.{files_stay, mirrors_stay}
+use Rattle.iol_cache.proofs.Extents.OtherCalls.{files_stay, mirrors_stay}
 
 pub goes_trans : (d : Disk) (xs ys zs : List BufId) (a b c : Holding) → Goes d xs ys a b → Goes d ys zs b c → Goes d xs zs a c
 goes_trans d xs ys zs a b c m n = record {

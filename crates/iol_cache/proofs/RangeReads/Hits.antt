@@ -4,7 +4,7 @@ use Rattle.std.specs.List.{All}
 use Rattle.std.proofs.lemmas.List.Elements.{All-append}
 use Rattle.std.proofs.lemmas.Result.{IfOk-weaker, on_err_weaker}
 use Rattle.iol_core.specs.Meaning.{WantOfRoomOrFault}
-use Rattle.iol_core.specs.Numbered.{is_numbered}
+use Rattle.iol_core.specs.NumberedLists.{is_numbered}
 use Rattle.iol_core.specs.declared.limits.TheConstants.{MAX_FILE_BYTES}
 use Rattle.iol_core.specs.declared.refusals.Refusal.{Refusal}
 use Rattle.iol_arena.specs.State.{page_count}
@@ -15,32 +15,32 @@ use Rattle.iol_extent.specs.declared.spans.Span.{Span}
 use Rattle.iol_hold.specs.Moves.{Covers, pool_meant, tally}
 use Rattle.iol_hold.specs.Places.{byte_len, places}
 use Rattle.iol_hold.specs.Room.{pages_of}
-use Rattle.iol_hold.specs.Stored.{Stored}
+use Rattle.iol_hold.specs.StoreState.{Stored}
 use Rattle.iol_hold.specs.Texts.{AllReadable, IsThere, bufs_of}
 use Rattle.iol_hold.specs.declared.slices.Slice.{Slice}
-use Rattle.iol_hold.proofs.Counting.{tally-append, tally_none}
-use Rattle.iol_hold.proofs.Moving.{shares_move}
+use Rattle.iol_hold.proofs.Counts.{tally-append, tally_none}
+use Rattle.iol_hold.proofs.Moves.{shares_move}
 use Rattle.iol_cache.specs.declared.files.CachedFile.{CachedFile}
-use Rattle.iol_cache.specs.Cached.{Cached, clean_held, extents_in, file_in, held, all_parts}
-use Rattle.iol_cache.specs.Evicting.{Holding}
+use Rattle.iol_cache.specs.CacheState.{Cached, clean_held, extents_in, file_in, held, all_parts}
+use Rattle.iol_cache.specs.Evictions.{Holding}
 use Rattle.iol_cache.specs.Gaps.{gap_pages}
-use Rattle.iol_cache.specs.Going.{Goes}
-use Rattle.iol_cache.specs.Pinned.{pinned_beside}
+use Rattle.iol_cache.specs.ReadSteps.{Goes}
+use Rattle.iol_cache.specs.PinnedPages.{pinned_beside}
 use Rattle.iol_cache.specs.Ranges.{CompletesRange, FillsAfter, PinsRange}
-use Rattle.iol_cache.specs.Reading.{CanFill, MayFill}
-use Rattle.iol_cache.specs.Serving.{FillsPinned, NoRoomToRead, Range, ReadsFile, RefusesRead, RoomToRead, TellsRoom}
-use Rattle.iol_cache.specs.Sharing.{CountsBelow, places_over}
+use Rattle.iol_cache.specs.RangeReads.{CanFill, MayFill}
+use Rattle.iol_cache.specs.ReadResults.{FillsPinned, NoRoomToRead, Range, ReadsFile, RefusesRead, RoomToRead, TellsRoom}
+use Rattle.iol_cache.specs.SharedBytes.{CountsBelow, places_over}
 use Rattle.iol_cache.specs.Sound.{IsSound}
-use Rattle.iol_cache.specs.Weaving.{IsCoveredBeside, len_beside, places_beside, places_read, woven}
-use Rattle.iol_cache.proofs.Extents.Filing.{numbered_bounds, numbered_yes}
-use Rattle.iol_cache.proofs.Evictions.Rooming.{at_most}
-use Rattle.iol_cache.proofs.RangeReads.Met.{has_hit, lacks_hit}
-use Rattle.iol_cache.proofs.RangeReads.Ranged.{laid_readable, tally_len}
-use Rattle.iol_cache.proofs.RangeReads.Served.{asks_ok, extents_filled, ok_both, some_lacked, tells_more, told_late}
-use Rattle.iol_cache.proofs.RangeReads.Shared.{over_there, readable_of, readable_same, settles_shares}
+use Rattle.iol_cache.specs.Weave.{IsCoveredBeside, len_beside, places_beside, places_read, woven}
+use Rattle.iol_cache.proofs.Extents.FileEntries.{numbered_bounds, numbered_yes}
+use Rattle.iol_cache.proofs.Evictions.FreePages.{at_most}
+use Rattle.iol_cache.proofs.RangeReads.LackOfPages.{has_hit, lacks_hit}
+use Rattle.iol_cache.proofs.RangeReads.WholeRange.{laid_readable, tally_len}
+use Rattle.iol_cache.proofs.RangeReads.RangeHolds.{asks_ok, extents_filled, ok_both, some_lacked, tells_more, told_late}
+use Rattle.iol_cache.proofs.RangeReads.SharedBytes.{over_there, readable_of, readable_same, settles_shares}
 use Rattle.iol_cache.proofs.Extents.Steps.{goes_cache, goes_store, goes_trans, numbered_same}
-use Rattle.iol_cache.proofs.RangeReads.Tiled.{tile_beside}
-use Rattle.iol_cache.proofs.RangeReads.Woven.{beside_few, length-places_beside, still_covers, woven-beside}
+use Rattle.iol_cache.proofs.RangeReads.CoveredBytes.{tile_beside}
+use Rattle.iol_cache.proofs.RangeReads.Weave.{beside_few, length-places_beside, still_covers, woven-beside}
 
 beside_there : {s : Stored} (es : List Extent) (at to : ℕ) (gs : List Span) → IsCoveredBeside es at to gs → AllReadable s (all_parts es) → All (IsThere s) (places_beside es at to gs)
 beside_there {s = s} es at to [] covered all = over_there {s = s} es at to covered all

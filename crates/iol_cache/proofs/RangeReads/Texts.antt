@@ -6,7 +6,7 @@ use Rattle.std.proofs.lemmas.Bool.{cases_lt}
 use Rattle.std.proofs.lemmas.List.{drop_at, map-append, take_at}
 use Rattle.std.proofs.lemmas.List.Elements.{All-append, All-drop, All-head, All-nil, All-same, All-tail, All-take, All-weaker}
 use Rattle.std.proofs.lemmas.List.FromFn.{get_or-map-range_with_len, length-map-range_with_len}
-use Rattle.iol_core.specs.Numbered.{is_numbered}
+use Rattle.iol_core.specs.NumberedLists.{is_numbered}
 use Rattle.iol_core.specs.Text as text
 use Rattle.iol_back.specs.Disk.{Disk, content}
 use Rattle.iol_extent.proofs.Alone.{ends_high}
@@ -15,28 +15,28 @@ use Rattle.iol_extent.specs.Spans.{AreInOrder}
 use Rattle.iol_extent.specs.declared.spans.Span.{Span}
 use Rattle.iol_hold.specs.Moves.{Stays}
 use Rattle.iol_hold.specs.Places.{Place, byte_len, place_in, places, slice_places}
-use Rattle.iol_hold.specs.Stored.{Stored}
+use Rattle.iol_hold.specs.StoreState.{Stored}
 use Rattle.iol_hold.specs.Texts.{AllReadable, IsThere, bufs_of, byte_at, text_of}
 use Rattle.iol_hold.specs.declared.slices.Slice.{Slice}
-use Rattle.iol_hold.proofs.Moving.{bytes_stay}
-use Rattle.iol_hold.proofs.Slicing.{length-slice_places, range_with_len_split}
-use Rattle.iol_cache.specs.Cached.{extents_in, file_in}
+use Rattle.iol_hold.proofs.Moves.{bytes_stay}
+use Rattle.iol_hold.proofs.SlicePlaces.{length-slice_places, range_with_len_split}
+use Rattle.iol_cache.specs.CacheState.{extents_in, file_in}
 use Rattle.iol_cache.specs.Contents.{byte_in, file_byte, file_bytes, file_len, read_or}
-use Rattle.iol_cache.specs.Evicting.{Holding}
+use Rattle.iol_cache.specs.Evictions.{Holding}
 use Rattle.iol_cache.specs.Gaps.{AreOf}
-use Rattle.iol_cache.specs.Going.{Goes}
+use Rattle.iol_cache.specs.ReadSteps.{Goes}
 use Rattle.iol_cache.specs.Ranges.{IsCleanSpan, CompletesRange}
-use Rattle.iol_cache.specs.Serving.{IsBacked, ReadsFile, bytes_read}
-use Rattle.iol_cache.specs.Sharing.{IsCovered, IsCoveredSpan, place_over, places_over}
-use Rattle.iol_cache.specs.Sharing as sharing
+use Rattle.iol_cache.specs.ReadResults.{IsBacked, ReadsFile, bytes_read}
+use Rattle.iol_cache.specs.SharedBytes.{IsCovered, IsCoveredSpan, place_over, places_over}
+use Rattle.iol_cache.specs.SharedBytes as sharing
 use Rattle.iol_cache.specs.Sound.{Each, IsLaid, IsSound}
-use Rattle.iol_cache.specs.Weaving.{IsCoveredBeside, places_read}
-use Rattle.iol_cache.proofs.Extents.Extending.{over_of}
-use Rattle.iol_cache.proofs.RangeReads.Pooled.{pooled_places}
-use Rattle.iol_cache.proofs.RangeReads.Ranged.{laid_readable}
-use Rattle.iol_cache.proofs.RangeReads.Served.{covered_span, span_cover}
-use Rattle.iol_cache.proofs.RangeReads.Shared.{length-places_over, over_there}
-use Rattle.iol_cache.proofs.RangeReads.Tiled.{tile_beside}
+use Rattle.iol_cache.specs.Weave.{IsCoveredBeside, places_read}
+use Rattle.iol_cache.proofs.Extents.FewerExtents.{over_of}
+use Rattle.iol_cache.proofs.RangeReads.OnePool.{pooled_places}
+use Rattle.iol_cache.proofs.RangeReads.WholeRange.{laid_readable}
+use Rattle.iol_cache.proofs.RangeReads.RangeHolds.{covered_span, span_cover}
+use Rattle.iol_cache.proofs.RangeReads.SharedBytes.{length-places_over, over_there}
+use Rattle.iol_cache.proofs.RangeReads.CoveredBytes.{tile_beside}
 
 -- Pools of places.
 

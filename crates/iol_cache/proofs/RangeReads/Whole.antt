@@ -1,7 +1,7 @@
 -- What follows of a file that was read.
 use Rattle.std.proofs.Common.{◌≡◌, ◌∙◌, ℕ, ◌+◌, ◌-◌, ◌≤◌, min, true, List, [], length, Result, IfErr, IfOk, OnErr, sym, ap, arith, subst}
 use Rattle.std.proofs.lemmas.Result.{IfOk-weaker}
-use Rattle.iol_core.specs.Numbered.{is_numbered}
+use Rattle.iol_core.specs.NumberedLists.{is_numbered}
 use Rattle.iol_core.specs.Text as text
 use Rattle.iol_core.specs.declared.numbers.BufId.{BufId}
 use Rattle.iol_core.specs.declared.refusals.Refusal.{Refusal}
@@ -9,17 +9,17 @@ use Rattle.iol_back.specs.Disk.{Disk, IfHonest, content}
 use Rattle.iol_hold.specs.Places.{byte_len}
 use Rattle.iol_hold.specs.Texts.{AllReadable, bufs_of, text_of}
 use Rattle.iol_hold.specs.declared.slices.Slice.{Slice}
-use Rattle.iol_cache.specs.Cached.{Cached, file_in}
+use Rattle.iol_cache.specs.CacheState.{Cached, file_in}
 use Rattle.iol_cache.specs.Contents.{Mirrors}
-use Rattle.iol_cache.specs.Evicting.{Holding}
+use Rattle.iol_cache.specs.Evictions.{Holding}
 use Rattle.iol_cache.specs.Gaps.{AreOf}
-use Rattle.iol_cache.specs.Going.{Goes}
-use Rattle.iol_cache.specs.Paging.{FillsLowest}
-use Rattle.iol_cache.specs.Serving.{IsBacked, IsEnd, Range, ReadsFile, RefusesRead, bytes_read}
+use Rattle.iol_cache.specs.ReadSteps.{Goes}
+use Rattle.iol_cache.specs.PageChanges.{FillsLowest}
+use Rattle.iol_cache.specs.ReadResults.{IsBacked, IsEnd, Range, ReadsFile, RefusesRead, bytes_read}
 use Rattle.iol_cache.specs.Sound.{IsSound}
-use Rattle.iol_cache.proofs.Extents.Filing.{numbered_bounds, numbered_yes}
-use Rattle.iol_cache.proofs.RangeReads.Paging.{read_pages, refused_pages}
-use Rattle.iol_cache.proofs.RangeReads.Served.{either_told, either_way, ok_both}
+use Rattle.iol_cache.proofs.Extents.FileEntries.{numbered_bounds, numbered_yes}
+use Rattle.iol_cache.proofs.RangeReads.PageChanges.{read_pages, refused_pages}
+use Rattle.iol_cache.proofs.RangeReads.RangeHolds.{either_told, either_way, ok_both}
 use Rattle.iol_cache.proofs.RangeReads.Texts.{long_read, pooled_read, text_read}
 
 -- the range that the code computes

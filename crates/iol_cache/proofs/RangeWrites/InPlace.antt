@@ -2,27 +2,27 @@
 use Rattle.std.proofs.Common.{◌≡◌, ◌∙◌, ℕ, ◌+◌, ◌<◌, ◌≤◌, ◌^◌, List, [], length, sym, ap, arith, subst}
 use Rattle.std.specs.Prelude.{slice_index}
 use Rattle.iol_core.specs.declared.numbers.BufId.{BufId}
-use Rattle.iol_evict.specs.Ranking.{Ranking}
+use Rattle.iol_evict.specs.Order.{Ranking}
 use Rattle.iol_extent.specs.Extents.{Adds, Extent, ExtentMap, IsApart, IsGap, end_of, unmet}
 use Rattle.iol_extent.specs.declared.spans.Span.{Span}
 use Rattle.iol_hold.specs.Moves.{Counts, Covers, Moves, tally}
 use Rattle.iol_hold.specs.Releases.{FreesOnly}
-use Rattle.iol_hold.specs.Stored.{Stored, count_of}
+use Rattle.iol_hold.specs.StoreState.{Stored, count_of}
 use Rattle.iol_hold.specs.Texts.{AllReadable, bufs_of}
-use Rattle.iol_hold.proofs.Reading.{readable_stays}
-use Rattle.iol_hold.proofs.Releasing.{frees_trans}
-use Rattle.iol_cache.specs.Cached.{all_parts, clean_in}
-use Rattle.iol_cache.specs.Cutting.{CutsAround}
+use Rattle.iol_hold.proofs.ReadSlices.{readable_stays}
+use Rattle.iol_hold.proofs.Releases.{frees_trans}
+use Rattle.iol_cache.specs.CacheState.{all_parts, clean_in}
+use Rattle.iol_cache.specs.Cuts.{CutsAround}
 use Rattle.iol_cache.specs.Marks.{AreWithin, at_page}
-use Rattle.iol_cache.specs.Replacing.{ClearsRange, Indexing, IsIndexed, LetsGo, MayCome, MayGo, PutsIn, Reindexes, indexing_of, put_some}
-use Rattle.iol_cache.specs.Writing.{MayReplace, Replaces}
+use Rattle.iol_cache.specs.Replacement.{ClearsRange, Indexing, IsIndexed, LetsGo, MayCome, MayGo, PutsIn, Reindexes, indexing_of, put_some}
+use Rattle.iol_cache.specs.Writes.{MayReplace, Replaces}
 use Rattle.iol_cache.specs.declared.write.cut.Replacement.{Replacement}
 use Rattle.iol_cache.proofs.Evictions.Ready.{ready_after}
-use Rattle.iol_cache.proofs.Evictions.Reordered.{reordered_is}
-use Rattle.iol_cache.proofs.Extents.Filing.{additive_page}
-use Rattle.iol_cache.proofs.Extents.Using.{are_within}
-use Rattle.iol_cache.proofs.RangeWrites.CutOut.{left_gap, left_of, new_gap, replaced, right_gap}
-use Rattle.iol_cache.proofs.RangeWrites.Replaced.{covers_moved, marked_after, moves_on, page-three, reindexes_then, some-clean, some-parts, tally-four, unmet-clean}
+use Rattle.iol_cache.proofs.Evictions.Orders.{reordered_is}
+use Rattle.iol_cache.proofs.Extents.FileEntries.{additive_page}
+use Rattle.iol_cache.proofs.Extents.HeldSlices.{are_within}
+use Rattle.iol_cache.proofs.RangeWrites.Cuts.{left_gap, left_of, new_gap, replaced, right_gap}
+use Rattle.iol_cache.proofs.RangeWrites.Replacement.{covers_moved, marked_after, moves_on, page-three, reindexes_then, some-clean, some-parts, tally-four, unmet-clean}
 
 -- What goes.
 

@@ -1,5 +1,5 @@
 //! Gaps of a range that are read, and the range that is shared then.
-ghost use Rattle.iol_cache.specs.Reading.{FillsAll, MayFillRange};
+ghost use Rattle.iol_cache.specs.RangeReads.{FillsAll, MayFillRange};
 
 use crate::files::{CachedFile, FilePart};
 use crate::read::gaps::{fill_gaps, take_back};

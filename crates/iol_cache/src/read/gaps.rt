@@ -1,7 +1,7 @@
 //! Gaps that become clean extents.
 ghost use Rattle.std.specs.Prelude.{◌-◌, IfOk};
 ghost use Rattle.iol_cache.specs.Gaps.{AllBegin, FillsGapsOrKeeps, HasGaps, LoadsSlices, TakesBack, parts_back};
-ghost use Rattle.iol_cache.specs.Loading.{Asks, LoadsOrKeeps, MayLoad};
+ghost use Rattle.iol_cache.specs.Loads.{Asks, LoadsOrKeeps, MayLoad};
 ghost use Rattle.iol_hold.specs.Prelude.{Covers, bufs_of};
 
 use crate::read::load::load;

@@ -1,6 +1,6 @@
 //! Bytes of the store, read into new buffers.
 ghost use Rattle.std.specs.Prelude.{◌<◌, ◌≤◌, length, IfOk};
-ghost use Rattle.iol_cache.specs.Loading.{Asks, IsBegunFor, IsRead, LoadsHolds, LoadsOrKeeps, MayLoad, ReadsInto, ReadsPart, WritesFilling};
+ghost use Rattle.iol_cache.specs.Loads.{Asks, IsBegunFor, IsRead, LoadsHolds, LoadsOrKeeps, MayLoad, ReadsInto, ReadsPart, WritesFilling};
 ghost use Rattle.iol_hold.specs.Prelude.{filling_parts, filling_bytes, IsFilling};
 
 use iol_back::backing::{Backing, StoreFault};

@@ -1,8 +1,8 @@
 //! A range of a file, put together from what was shared before its gaps were read and from the gaps.
 ghost use Rattle.std.specs.Prelude.{◌≡◌, [], IfOk};
 ghost use Rattle.iol_hold.specs.Prelude.{places};
-ghost use Rattle.iol_cache.specs.Sharing.{SharesOrReleases};
-ghost use Rattle.iol_cache.specs.Weaving.{HasPart, IsWoven, MayAddPart, MayShareBeside, MayWeave, places_beside};
+ghost use Rattle.iol_cache.specs.SharedBytes.{SharesOrReleases};
+ghost use Rattle.iol_cache.specs.Weave.{HasPart, IsWoven, MayAddPart, MayShareBeside, MayWeave, places_beside};
 
 use crate::share::share_over;
 use iol_agg::Agg;

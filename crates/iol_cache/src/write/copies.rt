@@ -1,6 +1,6 @@
 //! The bytes of a write, as an aggregate of the file's pool: its own are shared, and each run of others is copied.
 ghost use Rattle.std.specs.Prelude.{◌≡◌, ◌+◌, ◌<◌, ◌≤◌, ◌^◌, IfOk};
-ghost use Rattle.iol_cache.specs.Composing.{ComposesOrReleases, ComposesRunOrKeeps, CopiesOrKeeps, IsFirstRun, IsSliceAt, MayCompose, MayCopy, copied_pages};
+ghost use Rattle.iol_cache.specs.Composition.{ComposesOrReleases, ComposesRunOrKeeps, CopiesOrKeeps, IsFirstRun, IsSliceAt, MayCompose, MayCopy, copied_pages};
 ghost use Rattle.iol_core.specs.Text as text;
 ghost use Rattle.iol_hold.specs.Prelude.{byte_len, AllReadable, text_of};
 

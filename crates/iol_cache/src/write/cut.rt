@@ -1,6 +1,6 @@
 //! What a write cuts: the parts of extents on both sides of its range.
 ghost use Rattle.std.specs.Prelude.{◌<◌};
-ghost use Rattle.iol_cache.specs.Cutting.{CutsLeft, CutsRight, MayCut, SharesPart};
+ghost use Rattle.iol_cache.specs.Cuts.{CutsLeft, CutsRight, MayCut, SharesPart};
 
 use iol_agg::Agg;
 use iol_extent::extents::Extents;

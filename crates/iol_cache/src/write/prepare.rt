@@ -1,5 +1,5 @@
 //! What a write puts in place of a range: its bytes in the file's pool, and the parts of extents on both sides.
-ghost use Rattle.iol_cache.specs.Preparing.{MayPrepare, PreparesOrReleases};
+ghost use Rattle.iol_cache.specs.Preparation.{MayPrepare, PreparesOrReleases};
 
 use crate::write::copies::compose;
 use crate::write::cut::{Edge, Replacement, cut_left, cut_right};

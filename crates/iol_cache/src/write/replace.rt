@@ -1,7 +1,7 @@
 //! A range of a file that is replaced: what it meets goes, and its parts and the new bytes come in. No memory is taken.
 ghost use Rattle.std.specs.Prelude.{IsSome};
-ghost use Rattle.iol_cache.specs.Replacing.{ClearsRange, Forgets, MayCome, MayForget, MayGo, PutsIn, TakesOut, indexing_of};
-ghost use Rattle.iol_cache.specs.Writing.{MayReplace, Replaces};
+ghost use Rattle.iol_cache.specs.Replacement.{ClearsRange, Forgets, MayCome, MayForget, MayGo, PutsIn, TakesOut, indexing_of};
+ghost use Rattle.iol_cache.specs.Writes.{MayReplace, Replaces};
 ghost use Rattle.iol_extent.specs.Prelude.{begins_at};
 
 use crate::marks::CleanHolds;

@@ -9,21 +9,21 @@ use Rattle.iol_core.specs.State.{State, Domain}
 use Rattle.iol_core.specs.Calls.Aggregates as aggs
 use Rattle.iol_pool.specs.Pools.{Pool}
 use Rattle.iol_arena.specs.State.{page_count}
-use Rattle.iol_hold.specs.Stored.{Stored}
+use Rattle.iol_hold.specs.StoreState.{Stored}
 use Rattle.iol_hold.specs.Places.{Place, places, byte_len}
 use Rattle.iol_kernel.specs.Readings.{Reading, read, bytes_over}
 use Rattle.iol_hold.specs.Texts.{AllReadable, IsThere}
 use Rattle.iol_hold.specs.declared.slices.Slice.{Slice}
 use Rattle.iol_hold.proofs.AtPlaces.{read_cut, read_replaced}
-use Rattle.iol_hold.proofs.Emptied.{all_settled_same}
-use Rattle.iol_hold.proofs.Moving.{shares_move, covers_given}
-use Rattle.iol_hold.proofs.Reading.{readable_stays}
+use Rattle.iol_hold.proofs.EmptyPools.{all_settled_same}
+use Rattle.iol_hold.proofs.Moves.{shares_move, covers_given}
+use Rattle.iol_hold.proofs.ReadSlices.{readable_stays}
 use Rattle.iol_desc.specs.Tables.{domain_in, live_aggs_in}
 use Rattle.iol_kernel.specs.Views.{state_view}
-use Rattle.iol_kernel.specs.Adding.{replaced, AddsShared}
-use Rattle.iol_kernel.specs.Having.{MayCut, MayReplace}
+use Rattle.iol_kernel.specs.NewAggregates.{replaced, AddsShared}
+use Rattle.iol_kernel.specs.DomainAggregates.{MayCut, MayReplace}
 use Rattle.iol_kernel.specs.KernelState.{KernelState, objects_of, machine_of, IsSound, slices_in, read_of}
-use Rattle.iol_kernel.proofs.State.Answered.{answers_as, answers_shared}
+use Rattle.iol_kernel.proofs.State.TableCalls.{answers_as, answers_shared}
 use Rattle.iol_kernel.proofs.State.Views.{with_agg-view}
 use Rattle.iol_kernel.proofs.State.Effects.{few_aggs, gained-sound}
 use Rattle.iol_kernel.proofs.State.ReadOf.{text-read_of, length_text-read_of, next_agg-read_of}

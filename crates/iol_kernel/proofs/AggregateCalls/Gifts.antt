@@ -4,7 +4,7 @@ use Rattle.std.specs.Prelude.{if◌then◌else◌}
 use Rattle.std.proofs.lemmas.Bool.{cases_eq}
 use Rattle.std.proofs.lemmas.Bool.Decides.{nat_tests}
 use Rattle.iol_core.specs.Text.{Text}
-use Rattle.iol_core.specs.Numbered.{numbered_or, without}
+use Rattle.iol_core.specs.NumberedLists.{numbered_or, without}
 use Rattle.iol_core.specs.State as machine
 use Rattle.iol_core.specs.State.{State, Domain, no_domain}
 use Rattle.iol_core.specs.Calls.Aggregates as aggs
@@ -13,10 +13,10 @@ use Rattle.iol_hold.specs.declared.slices.Slice.{Slice}
 use Rattle.iol_desc.specs.Tables.{domain_in, with_domain_in, agg_in, with_agg_in, without_agg_in, live_aggs_in, with_next}
 use Rattle.iol_kernel.specs.Views.{state_view}
 use Rattle.iol_kernel.specs.KernelState.{KernelState, objects_of, IsSound, slices_in, read_of}
-use Rattle.iol_kernel.specs.Having.{MayGive}
-use Rattle.iol_kernel.specs.Regrouped.{MayGiveIn}
+use Rattle.iol_kernel.specs.DomainAggregates.{MayGive}
+use Rattle.iol_kernel.specs.AggregateCalls.{MayGiveIn}
 use Rattle.iol_kernel.specs.Readings.{Reading, bytes_over, read}
-use Rattle.iol_kernel.proofs.State.Answered.{answers_here}
+use Rattle.iol_kernel.proofs.State.TableCalls.{answers_here}
 use Rattle.iol_kernel.proofs.State.Views.{with_agg-view, without_agg-view}
 use Rattle.iol_kernel.proofs.State.Uses.{uses-with_agg, uses-without_agg, sum-with_domain, length-without}
 use Rattle.iol_kernel.proofs.State.Sound.{agg_readable, agg_small, drop_readable, add_readable, fds_stay, limits_agg, limits_drop}

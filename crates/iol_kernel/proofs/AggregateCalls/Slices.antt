@@ -9,12 +9,12 @@ use Rattle.iol_hold.specs.Moves.{IsCountable}
 use Rattle.iol_hold.specs.Places.{byte_len}
 use Rattle.iol_hold.specs.Texts.{bufs_of, AllReadable}
 use Rattle.iol_hold.specs.declared.slices.Slice.{Slice}
-use Rattle.iol_hold.proofs.Counting.{tally-append}
-use Rattle.iol_hold.proofs.Reading.{readable_none}
+use Rattle.iol_hold.proofs.Counts.{tally-append}
+use Rattle.iol_hold.proofs.ReadSlices.{readable_none}
 use Rattle.iol_desc.specs.Tables.{domain_in, agg_in}
 use Rattle.iol_kernel.specs.KernelState.{KernelState, objects_of, IsSound, slices_in, read_of}
-use Rattle.iol_kernel.specs.Counted.{MayShare}
-use Rattle.iol_kernel.specs.Having.{HasAgg}
+use Rattle.iol_kernel.specs.HoldCounts.{MayShare}
+use Rattle.iol_kernel.specs.DomainAggregates.{HasAgg}
 use Rattle.iol_kernel.specs.Readings.{Reading, bytes_over, read}
 use Rattle.iol_kernel.proofs.State.Views.{aggregate-view}
 use Rattle.iol_kernel.proofs.State.Sound.{agg_readable, agg_small}

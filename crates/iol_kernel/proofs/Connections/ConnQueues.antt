@@ -1,7 +1,7 @@
 -- A connection on which a descriptor is open, as the machine sees it.
 use Rattle.std.proofs.Common.{[], ◌≡◌, ◌≢◌, ℕ, ◌&&◌, ◌||◌, Bool, not, List, ap, ◌∙◌, refl, sym, Option, Some, None, true, false}
 use Rattle.std.specs.Prelude.{◌==◌, unwrap_or, option_map, length}
-use Rattle.iol_core.specs.Numbered.{lookup, changed}
+use Rattle.iol_core.specs.NumberedLists.{lookup, changed}
 use Rattle.iol_core.specs.State as machine
 use Rattle.iol_core.specs.State.{State, Connection}
 use Rattle.iol_core.specs.declared.descriptors.Descriptor.TheVariants as on
@@ -11,9 +11,9 @@ use Rattle.iol_sock.specs.Table.{conn_in, no_conn}
 use Rattle.iol_kernel.specs.Views.{state_view}
 use Rattle.iol_kernel.specs.KernelState.{KernelState, IsSound, read_of}
 use Rattle.iol_kernel.specs.Readings.{Reading, read, bytes_over}
-use Rattle.iol_kernel.proofs.Connections.Arriving.{changed_on}
-use Rattle.iol_kernel.proofs.Connections.Connecting.{Conns, IsOpenConn, conn_in-found, open_conn-there}
-use Rattle.iol_kernel.proofs.Queues.Opening.{end_held}
+use Rattle.iol_kernel.proofs.Connections.Arrivals.{changed_on}
+use Rattle.iol_kernel.proofs.Connections.OneConnection.{Conns, IsOpenConn, conn_in-found, open_conn-there}
+use Rattle.iol_kernel.proofs.Queues.PipeEnds.{end_held}
 use Rattle.iol_kernel.proofs.State.Views.{lookup-map}
 
 -- as the machine sees it, also where there is none

@@ -1,7 +1,7 @@
 -- What the store's faults mean for calls that write back.
 use Rattle.std.proofs.Common.{◌≡◌, ℕ, List, length, ap, sym, refl, subst, arith, true, inr, Option, None}
 use Rattle.std.specs.Prelude.{Result, Ok, Err, OnOk, OnErr, IfErr, MatchOption}
-use Rattle.iol_core.specs.Numbered.{is_numbered}
+use Rattle.iol_core.specs.NumberedLists.{is_numbered}
 use Rattle.iol_core.specs.State.{State}
 use Rattle.iol_core.specs.Meaning.{Step, first, FaultOf}
 use Rattle.iol_core.specs.Calls.Files as calls
@@ -10,21 +10,21 @@ use Rattle.iol_core.specs.Calls.Outside as outside
 use Rattle.iol_core.specs.declared.refusals.Refusal.{Refusal}
 use Rattle.iol_core.specs.declared.refusals.Refusal.TheVariants.{Fault}
 use Rattle.iol_back.specs.Disk.{Disk, raised}
-use Rattle.iol_hold.specs.Stored.{Stored}
-use Rattle.iol_cache.specs.Cached.{Cached}
-use Rattle.iol_cache.specs.Serving.{FaultCounts}
+use Rattle.iol_hold.specs.StoreState.{Stored}
+use Rattle.iol_cache.specs.CacheState.{Cached}
+use Rattle.iol_cache.specs.ReadResults.{FaultCounts}
 use Rattle.iol_cache.specs.Sound as cache
-use Rattle.iol_cache.specs.Syncing.{Flushes, KeepsBytes, KeepsStored}
+use Rattle.iol_cache.specs.WriteBack.{Flushes, KeepsBytes, KeepsStored}
 use Rattle.iol_cache.specs.declared.sync.Flushed.{Flushed}
 use Rattle.iol_cache.specs.declared.sync.Flushed.TheVariants.{Nothing, Wrote}
-use Rattle.iol_cache.proofs.Extents.Filing.{numbered_bounds, numbered_yes}
-use Rattle.iol_cache.proofs.RangeWrites.Synced.{syncs_none}
-use Rattle.iol_kernel.specs.Backed.{Serves}
+use Rattle.iol_cache.proofs.Extents.FileEntries.{numbered_bounds, numbered_yes}
+use Rattle.iol_cache.proofs.RangeWrites.WriteBack.{syncs_none}
+use Rattle.iol_kernel.specs.FileCalls.{Serves}
 use Rattle.iol_kernel.specs.KernelState.{KernelState, IsSound, machine_of}
 use Rattle.iol_kernel.specs.Readings.{bytes_over}
-use Rattle.iol_kernel.specs.WritingBack.{FlushesOne, SyncsFile, done_of}
-use Rattle.iol_kernel.proofs.FileCalls.Named.{as_many, cache_sound, files-read_of}
-use Rattle.iol_kernel.proofs.FileCalls.WrittenBack.{back_serves, dirty_there, flush_parts}
+use Rattle.iol_kernel.specs.WriteBack.{FlushesOne, SyncsFile, done_of}
+use Rattle.iol_kernel.proofs.FileCalls.FileNames.{as_many, cache_sound, files-read_of}
+use Rattle.iol_kernel.proofs.FileCalls.WriteBack.{back_serves, dirty_there, flush_parts}
 
 -- of one file
 

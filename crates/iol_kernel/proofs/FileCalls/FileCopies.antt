@@ -5,35 +5,35 @@ use Rattle.std.proofs.lemmas.List.{length-map}
 use Rattle.iol_core.specs.Text.{bytes_of, labelled}
 use Rattle.iol_core.specs.State.{Domain}
 use Rattle.iol_core.specs.Meaning.{first}
-use Rattle.iol_core.specs.Calls.Reading as reading
+use Rattle.iol_core.specs.Calls.Reads as reading
 use Rattle.iol_core.specs.declared.limits.TheConstants.{MAX_FILE_BYTES}
 use Rattle.iol_core.specs.declared.refusals.Refusal.{Refusal}
 use Rattle.iol_core.specs.declared.refusals.Refusal.TheVariants.{Memory}
 use Rattle.iol_back.specs.Disk.{Disk}
 use Rattle.iol_hold.specs.Moves.{Covers, Moves, SameLists}
 use Rattle.iol_hold.specs.Releases.{FreesOnly}
-use Rattle.iol_hold.specs.Stored.{Stored, AllSettled}
+use Rattle.iol_hold.specs.StoreState.{Stored, AllSettled}
 use Rattle.iol_hold.specs.Places.{byte_len}
 use Rattle.iol_hold.specs.Texts.{bufs_of, text_of}
-use Rattle.iol_hold.proofs.Reading.{bytes_of-labelled, length-text_of}
+use Rattle.iol_hold.proofs.ReadSlices.{bytes_of-labelled, length-text_of}
 use Rattle.iol_hold.specs.declared.slices.Slice.{Slice}
-use Rattle.iol_hold.proofs.Counting.{tally-append, tally_none}
-use Rattle.iol_hold.proofs.Releasing.{frees_none}
-use Rattle.iol_cache.specs.Cached as cached
-use Rattle.iol_cache.specs.Cached.{Cached}
-use Rattle.iol_cache.specs.Going.{Goes}
-use Rattle.iol_cache.specs.Serving.{IsBacked, bytes_read}
+use Rattle.iol_hold.proofs.Counts.{tally-append, tally_none}
+use Rattle.iol_hold.proofs.Releases.{frees_none}
+use Rattle.iol_cache.specs.CacheState as cached
+use Rattle.iol_cache.specs.CacheState.{Cached}
+use Rattle.iol_cache.specs.ReadSteps.{Goes}
+use Rattle.iol_cache.specs.ReadResults.{IsBacked, bytes_read}
 use Rattle.iol_cache.specs.Sound as cache
-use Rattle.iol_cache.proofs.Extents.Staying.{mirrors_stay, sound_beside}
+use Rattle.iol_cache.proofs.Extents.OtherCalls.{mirrors_stay, sound_beside}
 use Rattle.iol_cache.proofs.Extents.Steps.{covers_right, goes_covers, goes_store, goes_trans}
-use Rattle.iol_kernel.specs.Backed.{IsBackedBy, Serves, holding_of}
-use Rattle.iol_kernel.specs.FileReading.{CopiesFromFile, FileRead, IsBeforeRoom, IsOpenAt, moved_on, pool_read, read_tests}
+use Rattle.iol_kernel.specs.FileCalls.{IsBackedBy, Serves, holding_of}
+use Rattle.iol_kernel.specs.FileReads.{CopiesFromFile, FileRead, IsBeforeRoom, IsOpenAt, moved_on, pool_read, read_tests}
 use Rattle.iol_kernel.specs.KernelState.{KernelState, machine_of}
 use Rattle.iol_kernel.proofs.FileCalls.FileReads.{copied_serves, untouched_read}
-use Rattle.iol_kernel.proofs.FileCalls.FileServed.{copies_nothing}
+use Rattle.iol_kernel.proofs.FileCalls.ReadEffects.{copies_nothing}
 use Rattle.iol_kernel.proofs.FileCalls.FileTests.{read-first, refuses_read}
-use Rattle.iol_kernel.proofs.FileCalls.Named.{cache_sound}
-use Rattle.iol_kernel.proofs.FileCalls.Refilled.{over}
+use Rattle.iol_kernel.proofs.FileCalls.FileNames.{cache_sound}
+use Rattle.iol_kernel.proofs.FileCalls.StoreSteps.{over}
 
 abbrev Domains : Type 0
 Domains = List (Domain (List Slice))

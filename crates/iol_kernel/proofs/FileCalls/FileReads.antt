@@ -8,14 +8,14 @@ use Rattle.std.proofs.lemmas.List.{get_or_past, length-map, length-replicate, ta
 use Rattle.std.proofs.lemmas.List.Elements.{All-weaker}
 use Rattle.std.proofs.lemmas.List.FromFn.{get_or-map-range_with_len}
 use Rattle.std.proofs.lemmas.List.Sums.{sum_by-set}
-use Rattle.iol_core.specs.Numbered.{in_place, is_numbered, numbered_or}
+use Rattle.iol_core.specs.NumberedLists.{in_place, is_numbered, numbered_or}
 use Rattle.iol_core.specs.Text.{Text, bytes_of, labelled}
 use Rattle.iol_core.specs.State as machine
 use Rattle.iol_core.specs.State.{State, Domain}
 use Rattle.iol_core.specs.Meaning.{Meaning, Step, first, WantOfRoomOrFault}
 use Rattle.iol_core.specs.Calls.Aggregates as aggs
 use Rattle.iol_core.specs.Calls.Descriptors as fds
-use Rattle.iol_core.specs.Calls.Reading as reading
+use Rattle.iol_core.specs.Calls.Reads as reading
 use Rattle.iol_core.specs.declared.descriptors.Descriptor.{Descriptor}
 use Rattle.iol_core.specs.declared.descriptors.Descriptor.TheVariants as on
 use Rattle.iol_core.specs.declared.descriptors.Mode.{Mode}
@@ -23,37 +23,37 @@ use Rattle.iol_core.specs.declared.limits.TheConstants.{MAX_AGGREGATES, MAX_FILE
 use Rattle.iol_core.specs.declared.refusals.Refusal.{Refusal}
 use Rattle.iol_back.specs.Disk.{Disk}
 use Rattle.iol_hold.specs.Places.{byte_len, places}
-use Rattle.iol_hold.specs.Stored.{Stored}
+use Rattle.iol_hold.specs.StoreState.{Stored}
 use Rattle.iol_hold.specs.Texts.{AllReadable, bufs_of, text_of}
 use Rattle.iol_hold.specs.declared.slices.Slice.{Slice}
 use Rattle.iol_hold.specs.Moves.{Stays}
-use Rattle.iol_hold.proofs.Reading.{bytes_of-labelled, length-text_of}
+use Rattle.iol_hold.proofs.ReadSlices.{bytes_of-labelled, length-text_of}
 use Rattle.iol_desc.specs.Tables.{domain_in, fds_in, live_aggs_in, with_agg_in, with_fds_in}
-use Rattle.iol_cache.specs.Cached as cached
-use Rattle.iol_cache.specs.Cached.{Cached, file_in}
+use Rattle.iol_cache.specs.CacheState as cached
+use Rattle.iol_cache.specs.CacheState.{Cached, file_in}
 use Rattle.iol_cache.specs.Contents.{bytes_in_slot}
 use Rattle.iol_cache.specs.Gaps.{AreOf}
-use Rattle.iol_cache.specs.Going.{Goes}
-use Rattle.iol_cache.specs.Serving.{IsBacked, bytes_read}
+use Rattle.iol_cache.specs.ReadSteps.{Goes}
+use Rattle.iol_cache.specs.ReadResults.{IsBacked, bytes_read}
 use Rattle.iol_cache.specs.Sound as cache
 use Rattle.iol_cache.specs.declared.files.CachedFile.{CachedFile}
-use Rattle.iol_cache.proofs.RangeWrites.Composed.{own_places, own_text}
-use Rattle.iol_cache.proofs.Extents.Filing.{numbered_bounds, numbered_yes}
-use Rattle.iol_kernel.specs.Backed.{IsBackedBy, Serves, holding_of, with_slots}
-use Rattle.iol_kernel.specs.Ends.{ends_on, on_end, same_end}
-use Rattle.iol_kernel.specs.FileEnds.{HasFileFor}
-use Rattle.iol_kernel.specs.FileReading.{FileRead, IsOpenAt, moved_on, pool_read, read_at}
+use Rattle.iol_cache.proofs.RangeWrites.Composition.{own_places, own_text}
+use Rattle.iol_cache.proofs.Extents.FileEntries.{numbered_bounds, numbered_yes}
+use Rattle.iol_kernel.specs.FileCalls.{IsBackedBy, Serves, holding_of, with_slots}
+use Rattle.iol_kernel.specs.EndCounts.{ends_on, on_end, same_end}
+use Rattle.iol_kernel.specs.FileLengths.{HasFileFor}
+use Rattle.iol_kernel.specs.FileReads.{FileRead, IsOpenAt, moved_on, pool_read, read_at}
 use Rattle.iol_kernel.specs.KernelState.{KernelState, objects_of, AreFiled, IsOpenEnd, IsSound, machine_of, read_of}
 use Rattle.iol_kernel.specs.Readings.{Reading, bytes_over, slot_read, slots_read}
 use Rattle.iol_kernel.specs.Views.{state_view}
 use Rattle.iol_kernel.specs.declared.open_file.OpenFile.{OpenFile}
 use Rattle.iol_kernel.proofs.State.Effects.{fds-sound}
-use Rattle.iol_kernel.proofs.FileCalls.Named.{as_many, cache_sound}
+use Rattle.iol_kernel.proofs.FileCalls.FileNames.{as_many, cache_sound}
 use Rattle.iol_kernel.proofs.State.Once.{once_fewer}
 use Rattle.iol_kernel.proofs.State.ReadOf.{descriptor-read_of, fds-read_of, next_agg-read_of, open_row, open_row_kept}
-use Rattle.iol_kernel.proofs.FileCalls.Refilled.{over, agg-with_slots, fds-with_slots, gained_sound, machine-refilled, refilled, still_sound, with_slots-refilled}
+use Rattle.iol_kernel.proofs.FileCalls.StoreSteps.{over, agg-with_slots, fds-with_slots, gained_sound, machine-refilled, refilled, still_sound, with_slots-refilled}
 use Rattle.iol_kernel.proofs.State.Rows.{domain_in-with_same}
-use Rattle.iol_kernel.proofs.State.Serving.{still_serves, with_slots-same}
+use Rattle.iol_kernel.proofs.State.CacheUntouched.{still_serves, with_slots-same}
 use Rattle.iol_kernel.proofs.State.Stay.{stays_here}
 use Rattle.iol_kernel.proofs.State.Sound.{each-get, each-set, ends_open}
 use Rattle.iol_kernel.proofs.State.Uses.{sum-with_domain}

@@ -7,15 +7,15 @@ use Rattle.iol_core.specs.Meaning.{Meaning, first, ◌when◌}
 use Rattle.iol_core.specs.Calls.Aggregates as aggs
 use Rattle.iol_core.specs.Calls.Descriptors as fds
 use Rattle.iol_core.specs.Calls.Files.{open_on}
-use Rattle.iol_core.specs.Calls.Reading as reading
+use Rattle.iol_core.specs.Calls.Reads as reading
 use Rattle.iol_core.specs.declared.descriptors.Descriptor.{Descriptor}
 use Rattle.iol_core.specs.declared.descriptors.Descriptor.TheVariants as on
 use Rattle.iol_core.specs.declared.descriptors.Mode.{Mode}
 use Rattle.iol_core.specs.declared.refusals.Refusal.{Refusal}
 use Rattle.iol_core.specs.declared.refusals.Refusal.TheVariants.{BadFd, NoDomain, TooMany, WouldBlock, WrongMode}
 use Rattle.iol_back.specs.Disk.{Disk}
-use Rattle.iol_kernel.specs.Backed.{Serves, with_slots}
-use Rattle.iol_kernel.specs.FileReading.{FileRead, IsOpenAt, held_by, read_tests}
+use Rattle.iol_kernel.specs.FileCalls.{Serves, with_slots}
+use Rattle.iol_kernel.specs.FileReads.{FileRead, IsOpenAt, held_by, read_tests}
 use Rattle.iol_kernel.specs.KernelState.{KernelState, IsSound, machine_of, read_of}
 use Rattle.iol_kernel.specs.Readings.{Reading, bytes_over}
 use Rattle.iol_kernel.proofs.FileCalls.FileReads.{iol_read-tests, read-tests, refuses}

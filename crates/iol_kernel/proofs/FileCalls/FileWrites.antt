@@ -3,34 +3,34 @@ use Rattle.std.proofs.Common.{inl, inr, ◌≡◌, ℕ, ◌+◌, ◌<◌, ◌≤
 use Rattle.std.specs.Prelude.{MatchOption, Ok, Err}
 use Rattle.std.proofs.lemmas.Bool.{cases_eq}
 use Rattle.iol_core.specs.Text.{Text, bytes_of}
-use Rattle.iol_core.specs.Numbered.{in_place, is_numbered, with_numbered}
+use Rattle.iol_core.specs.NumberedLists.{in_place, is_numbered, with_numbered}
 use Rattle.iol_core.specs.Meaning.{Meaning, first}
 use Rattle.iol_core.specs.Positions.{ArePlaced}
 use Rattle.iol_core.specs.State as machine
 use Rattle.iol_core.specs.State.{State}
-use Rattle.iol_core.specs.Calls.Writing as writing
+use Rattle.iol_core.specs.Calls.Writes as writing
 use Rattle.iol_core.specs.declared.refusals.Refusal.{Refusal}
 use Rattle.iol_core.specs.declared.descriptors.Mode.{Mode}
 use Rattle.iol_core.specs.declared.descriptors.Descriptor.TheVariants as on
 use Rattle.iol_core.specs.declared.limits.TheConstants.{MAX_FILES, MAX_FILE_BYTES}
 use Rattle.iol_back.specs.Disk.{Disk, overwritten}
-use Rattle.iol_hold.specs.Stored.{Stored}
+use Rattle.iol_hold.specs.StoreState.{Stored}
 use Rattle.iol_hold.specs.declared.slices.Slice.{Slice}
 use Rattle.iol_desc.specs.Tables.{domain_in, with_fds_in}
-use Rattle.iol_cache.specs.Cached.{Cached, file_in, with_file}
+use Rattle.iol_cache.specs.CacheState.{Cached, file_in, with_file}
 use Rattle.iol_cache.specs.Contents.{Mirrors}
-use Rattle.iol_cache.specs.Evicting.{Holding}
-use Rattle.iol_cache.specs.Overwriting.{KeepsFiles, KeepsMirrors, KeepsOthers, MakesRoom, OnlyMakesRoom, WritesFile, bytes_in}
-use Rattle.iol_cache.specs.Serving.{IsBacked}
+use Rattle.iol_cache.specs.Evictions.{Holding}
+use Rattle.iol_cache.specs.Overwrites.{KeepsFiles, KeepsMirrors, KeepsOthers, MakesRoom, OnlyMakesRoom, WritesFile, bytes_in}
+use Rattle.iol_cache.specs.ReadResults.{IsBacked}
 use Rattle.iol_cache.specs.declared.files.CachedFile.{CachedFile}
-use Rattle.iol_cache.proofs.Extents.Filing.{file_other, file_same, length-with_file, numbered_bounds, numbered_yes}
-use Rattle.iol_kernel.specs.Backed.{Serves, holding_of, with_slots}
+use Rattle.iol_cache.proofs.Extents.FileEntries.{file_other, file_same, length-with_file, numbered_bounds, numbered_yes}
+use Rattle.iol_kernel.specs.FileCalls.{Serves, holding_of, with_slots}
 use Rattle.iol_kernel.specs.KernelState.{KernelState, IsSound, machine_of}
 use Rattle.iol_kernel.specs.Readings.{bytes_over, slot_read, slots_read}
-use Rattle.iol_kernel.proofs.FileCalls.Moved.{content_is, file_there, moved_sound, moved_written, repositioned, slots_kept, slots_set}
-use Rattle.iol_kernel.proofs.FileCalls.Named.{as_many}
+use Rattle.iol_kernel.proofs.FileCalls.WritesAtPosition.{content_is, file_there, moved_sound, moved_written, repositioned, slots_kept, slots_set}
+use Rattle.iol_kernel.proofs.FileCalls.FileNames.{as_many}
 use Rattle.iol_kernel.proofs.State.ReadOf.{descriptor-read_of}
-use Rattle.iol_kernel.proofs.FileCalls.Recached.{Recaches, machine-slots, recached_beside, recached_same, recached_sound}
+use Rattle.iol_kernel.proofs.FileCalls.ExtentChanges.{Recaches, machine-slots, recached_beside, recached_same, recached_sound}
 
 -- Files and their pools are as they were.
 

@@ -3,7 +3,7 @@
 use Rattle.std.proofs.Common.{inl, inr, ◌≡◌, ℕ, ◌<◌, ◌≤◌, ◌++◌, ◌^◌, List, [], length, map, refl, sym, ap, ◌∙◌, subst, arith, true}
 use Rattle.std.proofs.lemmas.Bool.{cases_lt}
 use Rattle.iol_core.specs.Text.{Text, bytes_of}
-use Rattle.iol_core.specs.Numbered.{is_numbered}
+use Rattle.iol_core.specs.NumberedLists.{is_numbered}
 use Rattle.iol_core.specs.declared.limits.TheConstants.{MAX_AGGREGATE_BYTES}
 use Rattle.iol_core.specs.declared.numbers.BufId.{BufId}
 use Rattle.iol_arena.specs.State.{page_count}
@@ -11,29 +11,29 @@ use Rattle.iol_back.specs.Disk.{overwritten}
 use Rattle.iol_hold.specs.Moves.{Covers, Moves, SameLists, pool_meant}
 use Rattle.iol_hold.specs.Places.{byte_len}
 use Rattle.iol_hold.specs.Releases.{FreesOnly}
-use Rattle.iol_hold.specs.Stored.{Stored, AllSettled}
+use Rattle.iol_hold.specs.StoreState.{Stored, AllSettled}
 use Rattle.iol_hold.specs.Texts.{AllReadable, bufs_of, text_of}
 use Rattle.iol_hold.specs.declared.slices.Slice.{Slice}
-use Rattle.iol_hold.proofs.Counting.{tally-append, tally_none}
-use Rattle.iol_hold.proofs.Moving.{stays_trans}
-use Rattle.iol_hold.proofs.Paging.{keeps_pages_frees}
-use Rattle.iol_hold.proofs.Reading.{readable_stays}
-use Rattle.iol_cache.specs.Cached.{Cached, held}
-use Rattle.iol_cache.specs.Composing.{copied_pages}
+use Rattle.iol_hold.proofs.Counts.{tally-append, tally_none}
+use Rattle.iol_hold.proofs.Moves.{stays_trans}
+use Rattle.iol_hold.proofs.PageChanges.{keeps_pages_frees}
+use Rattle.iol_hold.proofs.ReadSlices.{readable_stays}
+use Rattle.iol_cache.specs.CacheState.{Cached, held}
+use Rattle.iol_cache.specs.Composition.{copied_pages}
 use Rattle.iol_cache.specs.Contents.{Mirrors, bytes_in_slot}
-use Rattle.iol_cache.specs.Evicting.{Holding}
-use Rattle.iol_cache.specs.Overwriting.{IsWritten, KeepsFiles, KeepsMirrors, KeepsOthers, OnlyMakesRoom, WritesFile}
-use Rattle.iol_cache.specs.Paging.{FillsLowest}
-use Rattle.iol_cache.specs.Sharing.{CountsBelow}
+use Rattle.iol_cache.specs.Evictions.{Holding}
+use Rattle.iol_cache.specs.Overwrites.{IsWritten, KeepsFiles, KeepsMirrors, KeepsOthers, OnlyMakesRoom, WritesFile}
+use Rattle.iol_cache.specs.PageChanges.{FillsLowest}
+use Rattle.iol_cache.specs.SharedBytes.{CountsBelow}
 use Rattle.iol_cache.specs.Sound as cache
-use Rattle.iol_cache.proofs.RangeReads.Paging.{pages_kept}
-use Rattle.iol_cache.proofs.Extents.Staying.{mirrors_stay, slot_stays, sound_beside}
-use Rattle.iol_kernel.specs.Backed.{holding_of}
+use Rattle.iol_cache.proofs.RangeReads.PageChanges.{pages_kept}
+use Rattle.iol_cache.proofs.Extents.OtherCalls.{mirrors_stay, slot_stays, sound_beside}
+use Rattle.iol_kernel.specs.FileCalls.{holding_of}
 use Rattle.iol_kernel.specs.KernelState.{KernelState, IsSound, objects_of}
-use Rattle.iol_kernel.specs.WritingFiles.{pool_of_file}
+use Rattle.iol_kernel.specs.FileWrites.{pool_of_file}
 use Rattle.iol_kernel.proofs.FileCalls.FileWrites.{Puts, SamePools, unwritten_pools, written_pools}
-use Rattle.iol_kernel.proofs.FileCalls.Named.{cache_sound}
-use Rattle.iol_kernel.proofs.FileCalls.Recached.{Recaches}
+use Rattle.iol_kernel.proofs.FileCalls.FileNames.{cache_sound}
+use Rattle.iol_kernel.proofs.FileCalls.ExtentChanges.{Recaches}
 use Rattle.iol_kernel.proofs.State.Slots.{uses_few}
 use Rattle.iol_kernel.proofs.State.Uses.{all_few}
 

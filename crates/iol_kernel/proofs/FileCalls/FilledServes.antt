@@ -3,12 +3,12 @@ use Rattle.std.proofs.Common.{◌≡◌, ℕ, ◌+◌, ◌≤◌, true, List, []
 use Rattle.std.specs.Prelude.{Result, Ok, Err, MatchOption, OnOk}
 use Rattle.std.proofs.lemmas.List.{length-map, take_all}
 use Rattle.iol_core.specs.Text.{bytes_of, labelled}
-use Rattle.iol_core.specs.Numbered.{in_place, is_numbered}
+use Rattle.iol_core.specs.NumberedLists.{in_place, is_numbered}
 use Rattle.iol_core.specs.Meaning.{Meaning, Step, first}
 use Rattle.iol_core.specs.State as machine
 use Rattle.iol_core.specs.State.{State}
 use Rattle.iol_core.specs.Positions.{ArePlaced}
-use Rattle.iol_core.specs.Calls.Writing as writing
+use Rattle.iol_core.specs.Calls.Writes as writing
 use Rattle.iol_core.specs.declared.refusals.Refusal.{Refusal}
 use Rattle.iol_core.specs.declared.refusals.Refusal.TheVariants.{Memory}
 use Rattle.iol_core.specs.declared.descriptors.Mode.{Mode}
@@ -17,27 +17,27 @@ use Rattle.iol_core.specs.declared.descriptors.Descriptor.TheVariants as on
 use Rattle.iol_core.specs.declared.limits.TheConstants.{MAX_FILE_BYTES}
 use Rattle.iol_back.specs.Disk.{Disk}
 use Rattle.iol_hold.specs.Places.{byte_len}
-use Rattle.iol_hold.specs.Stored.{Stored}
+use Rattle.iol_hold.specs.StoreState.{Stored}
 use Rattle.iol_hold.specs.Texts.{text_of}
 use Rattle.iol_hold.specs.declared.slices.Slice.{Slice}
 use Rattle.iol_hold.proofs.AtPlaces.{length-read}
-use Rattle.iol_hold.proofs.Moving.{stays_trans}
+use Rattle.iol_hold.proofs.Moves.{stays_trans}
 use Rattle.iol_desc.specs.Tables.{domain_in, with_fds_in}
-use Rattle.iol_cache.specs.Cached.{Cached}
-use Rattle.iol_cache.specs.Overwriting.{KeepsFiles, KeepsMirrors}
-use Rattle.iol_kernel.specs.Backed.{Serves, holding_of, with_slots}
+use Rattle.iol_cache.specs.CacheState.{Cached}
+use Rattle.iol_cache.specs.Overwrites.{KeepsFiles, KeepsMirrors}
+use Rattle.iol_kernel.specs.FileCalls.{Serves, holding_of, with_slots}
 use Rattle.iol_kernel.specs.KernelState.{KernelState, machine_of, read_of}
-use Rattle.iol_kernel.specs.MakingRoom.{MakesRoom}
-use Rattle.iol_kernel.specs.Putting.{MayPut}
+use Rattle.iol_kernel.specs.Room.{MakesRoom}
+use Rattle.iol_kernel.specs.WritesByCopy.{MayPut}
 use Rattle.iol_kernel.specs.Readings.{Reading, bytes_over}
 use Rattle.iol_kernel.proofs.FileCalls.FileWrites.{Puts, late_serves, write_serves}
-use Rattle.iol_kernel.proofs.FileCalls.Moved.{repositioned}
-use Rattle.iol_kernel.proofs.FileCalls.WrittenOver.{in_cache}
-use Rattle.iol_kernel.proofs.Queues.Opening.{end_held}
+use Rattle.iol_kernel.proofs.FileCalls.WritesAtPosition.{repositioned}
+use Rattle.iol_kernel.proofs.FileCalls.Overwrites.{in_cache}
+use Rattle.iol_kernel.proofs.Queues.PipeEnds.{end_held}
 use Rattle.iol_kernel.proofs.State.ReadOf.{descriptor-read_of, live_held}
-use Rattle.iol_kernel.proofs.FileCalls.Recached.{Recaches}
-use Rattle.iol_kernel.proofs.Queues.Passed.{passed_live, passed_short}
-use Rattle.iol_kernel.proofs.State.Serving.{still_serves}
+use Rattle.iol_kernel.proofs.FileCalls.ExtentChanges.{Recaches}
+use Rattle.iol_kernel.proofs.Queues.PassedTests.{passed_live, passed_short}
+use Rattle.iol_kernel.proofs.State.CacheUntouched.{still_serves}
 use Rattle.iol_kernel.proofs.State.Stay.{stays_here}
 
 pub filled_len : (s : Stored) (xs : List Slice) (pool : ℕ) (bytes : List ℕ) → text_of s xs ≡ labelled pool bytes → byte_len xs ≡ length bytes

@@ -11,15 +11,15 @@ use Rattle.iol_core.specs.declared.limits.TheConstants.{MAX_FILES, MAX_FILE_BYTE
 use Rattle.iol_core.specs.declared.refusals.Refusal.{Refusal}
 use Rattle.iol_core.specs.declared.refusals.Refusal.TheVariants.{NoDomain, NoPool, WrongMode, BadRange, TooLong, TooMany, Denied, PoolClosed, NoRoom, Memory}
 use Rattle.iol_back.specs.Disk.{Disk, IfHonest, content}
-use Rattle.iol_hold.specs.Stored.{Stored}
+use Rattle.iol_hold.specs.StoreState.{Stored}
 use Rattle.iol_hold.proofs.AtPlaces.{keeps_bytes}
 use Rattle.iol_kernel.specs.Calls.{AddsFile, Names, TellsNext}
-use Rattle.iol_kernel.specs.FileEnds.{AsksNext}
+use Rattle.iol_kernel.specs.FileLengths.{AsksNext}
 use Rattle.iol_kernel.specs.KernelState.{KernelState, AreFiled, IsSound, read_of, machine_of}
 use Rattle.iol_kernel.specs.Readings.{Reading, bytes_over}
 use Rattle.iol_kernel.proofs.State.Beside.{even, length-even}
-use Rattle.iol_kernel.proofs.FileCalls.Named.{files-read_of, last-slot, next-slot}
-use Rattle.iol_kernel.proofs.State.Serving.{steps_beside}
+use Rattle.iol_kernel.proofs.FileCalls.FileNames.{files-read_of, last-slot, next-slot}
+use Rattle.iol_kernel.proofs.State.CacheUntouched.{steps_beside}
 
 -- Whether the next slot has more bytes than a file may have is told of some bytes there.
 

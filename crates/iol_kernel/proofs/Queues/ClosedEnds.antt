@@ -5,36 +5,36 @@ use Rattle.std.proofs.lemmas.Bool.{cases_eq}
 use Rattle.std.proofs.lemmas.Bool.Decides.{nat_tests}
 use Rattle.std.proofs.lemmas.List.{set-set, get_or-set_same, get_or-set_other, get_or_default}
 use Rattle.std.proofs.lemmas.List.Sums.{sum_by-set, sum_by-cons}
-use Rattle.iol_core.specs.Numbered.{in_place}
+use Rattle.iol_core.specs.NumberedLists.{in_place}
 use Rattle.iol_core.specs.State as machine
 use Rattle.iol_core.specs.State.{Domain}
 use Rattle.iol_core.specs.Calls.Descriptors as fds
 use Rattle.iol_core.specs.declared.descriptors.Descriptor.{Descriptor}
 use Rattle.iol_core.specs.declared.descriptors.Descriptor.TheVariants as on
 use Rattle.iol_core.specs.declared.numbers.BufId.{BufId}
-use Rattle.iol_hold.specs.Stored.{Stored}
+use Rattle.iol_hold.specs.StoreState.{Stored}
 use Rattle.iol_hold.specs.Moves.{Moves}
 use Rattle.iol_hold.specs.Places.{byte_len}
 use Rattle.iol_hold.specs.Texts.{AllReadable}
 use Rattle.iol_hold.specs.declared.slices.Slice.{Slice}
-use Rattle.iol_hold.proofs.Counting.{tally_none}
+use Rattle.iol_hold.proofs.Counts.{tally_none}
 use Rattle.iol_hold.specs.Releases.{FreesOnly, Releases}
-use Rattle.iol_hold.proofs.Paging.{keeps_pages_frees}
-use Rattle.iol_hold.proofs.Releasing.{frees_none}
-use Rattle.iol_hold.proofs.Moving.{moves_none}
-use Rattle.iol_hold.proofs.Reading.{readable_none}
+use Rattle.iol_hold.proofs.PageChanges.{keeps_pages_frees}
+use Rattle.iol_hold.proofs.Releases.{frees_none}
+use Rattle.iol_hold.proofs.Moves.{moves_none}
+use Rattle.iol_hold.proofs.ReadSlices.{readable_none}
 use Rattle.iol_kernel.specs.Views.{Pipe, Objects, pipe_view, state_view}
-use Rattle.iol_kernel.specs.Counted.{uses, pipe_uses, IsCounted}
-use Rattle.iol_kernel.specs.Ends.{same_end, on_end, ends_on, all_ends_on}
+use Rattle.iol_kernel.specs.HoldCounts.{uses, pipe_uses, IsCounted}
+use Rattle.iol_kernel.specs.EndCounts.{same_end, on_end, ends_on, all_ends_on}
 use Rattle.iol_kernel.specs.KernelState.{KernelState, objects_of, Each, IsOpenEnd, IsPipeReadable, AreReadable, IsShort, IsLimited, IsSound, queue_at, read_of}
 use Rattle.iol_kernel.specs.Readings.{Reading, read}
 use Rattle.iol_kernel.specs.ClosedEnds.{without_reader, without_writer, with_pipe_in, Closes, ClosesEnd, IsLetGo, KeepsEnds}
 use Rattle.iol_kernel.proofs.State.Uses.{uses-set_pipe, uses_at, Pipes}
 use Rattle.iol_kernel.proofs.State.Sound.{each-set, with_pipes}
-use Rattle.iol_kernel.proofs.Queues.Ends.{there_if_open, closed_pipe}
-use Rattle.iol_kernel.proofs.State.Pooling.{same_pooled}
+use Rattle.iol_kernel.proofs.Queues.EndCounts.{there_if_open, closed_pipe}
+use Rattle.iol_kernel.proofs.State.Pools.{same_pooled}
 use Rattle.iol_kernel.proofs.State.Effects.{moved-sound, leaves}
-use Rattle.iol_kernel.proofs.Queues.Queueing.{queue_readable, queue_short}
+use Rattle.iol_kernel.proofs.Queues.SoundPipes.{queue_readable, queue_short}
 use Rattle.iol_kernel.proofs.State.ReadOf.{pipe_at-read_of}
 use Rattle.iol_kernel.proofs.State.Views.{with_pipe_in-view, pools-view}
 

@@ -2,12 +2,12 @@
 use Rattle.std.proofs.Common.{◌≡◌, ℕ, ◌-◌, ◌<◌, List, [], ◌∷◌, length, take, ap, ◌∙◌, refl, sym, arith, Option, Some, None, true, false, cond}
 use Rattle.std.specs.Prelude.{min, not, option_map, option_and_then, if◌then◌else◌}
 use Rattle.iol_core.specs.Text.{Text, barred}
-use Rattle.iol_core.specs.Numbered.{lookup}
+use Rattle.iol_core.specs.NumberedLists.{lookup}
 use Rattle.iol_core.specs.State as machine
 use Rattle.iol_core.specs.State.{State, Connection}
 use Rattle.iol_core.specs.Calls.Files.{open_on}
-use Rattle.iol_core.specs.Calls.Reading as reading
-use Rattle.iol_core.specs.Calls.Writing as writing
+use Rattle.iol_core.specs.Calls.Reads as reading
+use Rattle.iol_core.specs.Calls.Writes as writing
 use Rattle.iol_core.specs.declared.descriptors.Mode.{Mode}
 use Rattle.iol_core.specs.declared.descriptors.Descriptor.{Descriptor}
 use Rattle.iol_core.specs.declared.descriptors.Descriptor.TheVariants as on
@@ -17,17 +17,17 @@ use Rattle.iol_hold.specs.Places.{byte_len}
 use Rattle.iol_hold.specs.declared.slices.Slice.{Slice}
 use Rattle.iol_hold.proofs.AtPlaces.{length-read}
 use Rattle.iol_pipe.specs.Queue.{first_pool}
-use Rattle.iol_pipe.proofs.Given.{first_pool-read}
+use Rattle.iol_pipe.proofs.FrontBytes.{first_pool-read}
 use Rattle.iol_sock.specs.Connections.{Conn, conn_view}
 use Rattle.iol_sock.specs.Table.{no_conn}
-use Rattle.iol_kernel.specs.FileReading.{held_by}
+use Rattle.iol_kernel.specs.FileReads.{held_by}
 use Rattle.iol_kernel.specs.KernelState.{KernelState, IsSound, machine_of, read_of, queue_at}
 use Rattle.iol_kernel.specs.QueueEnds.{IsSource, pool_of_first}
 use Rattle.iol_kernel.specs.Readings.{Reading, bytes_over, read, KeepsPools}
-use Rattle.iol_kernel.proofs.Connections.Connecting.{conn_in-is}
+use Rattle.iol_kernel.proofs.Connections.OneConnection.{conn_in-is}
 use Rattle.iol_kernel.proofs.Connections.ConnQueues.{conn_at-read_of, conn_in-none}
 use Rattle.iol_kernel.proofs.FileCalls.FileTests.{no_queue}
-use Rattle.iol_kernel.proofs.Queues.Opening.{end_held}
+use Rattle.iol_kernel.proofs.Queues.PipeEnds.{end_held}
 use Rattle.iol_kernel.proofs.State.ReadOf.{queue-read_of}
 
 -- A connection that is there, and one that is not.

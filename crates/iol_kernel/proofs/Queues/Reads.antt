@@ -4,22 +4,22 @@ use Rattle.std.specs.Prelude.{Result, Err, is_none, not, if◌then◌else◌}
 use Rattle.iol_core.specs.Meaning.{◌when◌, first}
 use Rattle.iol_core.specs.State.{State, is_live, descriptor}
 use Rattle.iol_core.specs.Calls.Aggregates.{too_many_aggs}
-use Rattle.iol_core.specs.Calls.Reading as reading
-use Rattle.iol_core.specs.Calls.Writing.{is_file}
+use Rattle.iol_core.specs.Calls.Reads as reading
+use Rattle.iol_core.specs.Calls.Writes.{is_file}
 use Rattle.iol_core.specs.declared.descriptors.Descriptor.{Descriptor}
 use Rattle.iol_core.specs.declared.descriptors.Descriptor.TheVariants as on
 use Rattle.iol_core.specs.declared.refusals.Refusal.{Refusal}
 use Rattle.iol_core.specs.declared.refusals.Refusal.TheVariants.{BadFd, NoDomain, NoRoom, TooMany, WouldBlock, WrongMode}
 use Rattle.iol_back.specs.Disk.{Disk}
-use Rattle.iol_kernel.specs.Backed.{Serves}
+use Rattle.iol_kernel.specs.FileCalls.{Serves}
 use Rattle.iol_kernel.specs.Calls.{CarriesOut, IsUnopened}
-use Rattle.iol_kernel.specs.FileReading.{Reads, ReadsOn, TakesFromFile, held_by, read_at}
+use Rattle.iol_kernel.specs.FileReads.{Reads, ReadsOn, TakesFromFile, held_by, read_at}
 use Rattle.iol_kernel.specs.KernelState.{KernelState, IsSound, machine_of, read_of}
-use Rattle.iol_kernel.specs.Opened.{IsOpenOn}
+use Rattle.iol_kernel.specs.OpenDescriptors.{IsOpenOn}
 use Rattle.iol_kernel.specs.Readings.{Reading, bytes_over}
 use Rattle.iol_kernel.specs.declared.open_file.OpenFile.{OpenFile}
 use Rattle.iol_kernel.proofs.FileCalls.FileTests.{refuses_iol_read}
-use Rattle.iol_kernel.proofs.State.Carried.{carried_refused}
+use Rattle.iol_kernel.proofs.State.Refinement.{carried_refused}
 
 -- what a live domain's descriptor is open on
 held_is : (live : Bool) (o p : Option Descriptor) → live ≡ true → o ≡ p → (if live then o else None) ≡ p

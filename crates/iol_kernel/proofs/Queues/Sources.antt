@@ -1,6 +1,6 @@
 -- A connection that is read by a descriptor.
 use Rattle.std.proofs.Common.{◌≡◌, ◌≢◌, ℕ, Some, None, subst}
-use Rattle.iol_core.specs.Numbered.{lookup}
+use Rattle.iol_core.specs.NumberedLists.{lookup}
 use Rattle.iol_core.specs.declared.descriptors.Descriptor.{Descriptor}
 use Rattle.iol_core.specs.declared.descriptors.Descriptor.TheVariants as on
 use Rattle.iol_hold.specs.Moves.{Covers}
@@ -8,7 +8,7 @@ use Rattle.iol_hold.specs.Texts.{bufs_of}
 use Rattle.iol_sock.specs.Table.{conn_in}
 use Rattle.iol_kernel.specs.KernelState.{KernelState, IsOpenEnd, objects_of}
 use Rattle.iol_kernel.specs.QueueEnds.{IsSource}
-use Rattle.iol_kernel.proofs.Connections.Connecting.{IsOpenConn, conn_in-found, incoming_covered, open_conn-there}
+use Rattle.iol_kernel.proofs.Connections.OneConnection.{IsOpenConn, conn_in-found, incoming_covered, open_conn-there}
 
 module _ (h : KernelState) (x : Descriptor) (c : ℕ) (source : IsSource h x) (is : x ≡ on.Connection c) where
   pub source_open : IsOpenConn (conn_in h.conns c)

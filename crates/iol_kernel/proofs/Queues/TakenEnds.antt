@@ -4,10 +4,10 @@ use Rattle.std.proofs.Math.Seq.{drop-cons}
 use Rattle.std.proofs.lemmas.List.Sums.{sum_by-cons}
 use Rattle.iol_core.specs.declared.descriptors.Descriptor.{Descriptor}
 use Rattle.iol_desc.specs.Tables.{domain_in, with_fds_in}
-use Rattle.iol_kernel.specs.Ends.{same_end, on_end, ends_on, all_ends_on}
+use Rattle.iol_kernel.specs.EndCounts.{same_end, on_end, ends_on, all_ends_on}
 use Rattle.iol_kernel.specs.KernelState.{KernelState, objects_of, Each, IsOpenEnd, IsSound}
 use Rattle.iol_kernel.specs.ClosedEnds.{AreLetGo, AreTaken, KeepsEnds}
-use Rattle.iol_kernel.specs.Having.{Lives}
+use Rattle.iol_kernel.specs.DomainAggregates.{Lives}
 use Rattle.iol_kernel.specs.Readings.{bytes_over}
 use Rattle.iol_kernel.proofs.State.Once.{end_alone, ends-with_domain, once_fewer}
 use Rattle.iol_kernel.proofs.State.Sound.{ends_open}

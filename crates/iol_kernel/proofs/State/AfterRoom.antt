@@ -14,18 +14,18 @@ use Rattle.iol_core.specs.declared.refusals.Refusal.TheVariants as refusal
 use Rattle.iol_back.specs.Disk.{Disk}
 use Rattle.iol_hold.specs.Moves.{Stays}
 use Rattle.iol_hold.specs.Room.{free_of, has_room, pages_of}
-use Rattle.iol_hold.proofs.Moving.{stays_trans}
+use Rattle.iol_hold.proofs.Moves.{stays_trans}
 use Rattle.iol_hold.proofs.Rooms.{no_pages, room_there}
-use Rattle.iol_cache.specs.Cached.{Cached, clean_held}
-use Rattle.iol_cache.specs.Keeping.{KeepsDirty}
-use Rattle.iol_cache.specs.Pinned.{is_pinned, pinned_beside}
-use Rattle.iol_kernel.specs.Backed.{Serves, StepsBeside, with_slots}
+use Rattle.iol_cache.specs.CacheState.{Cached, clean_held}
+use Rattle.iol_cache.specs.KeptCover.{KeepsDirty}
+use Rattle.iol_cache.specs.PinnedPages.{is_pinned, pinned_beside}
+use Rattle.iol_kernel.specs.FileCalls.{Serves, StepsBeside, with_slots}
 use Rattle.iol_kernel.specs.Calls.{MakesBytes, Steps}
 use Rattle.iol_kernel.specs.KernelState.{KernelState, IsSound, machine_of, read_of}
-use Rattle.iol_kernel.specs.MakingRoom.{AfterRoom, AsksRoom, AsksToFit, MakesRoom, Places, can_fit}
-use Rattle.iol_kernel.specs.Putting.{Fills}
+use Rattle.iol_kernel.specs.Room.{AfterRoom, AsksRoom, AsksToFit, MakesRoom, Places, can_fit}
+use Rattle.iol_kernel.specs.WritesByCopy.{Fills}
 use Rattle.iol_kernel.specs.Readings.{Reading, bytes_over}
-use Rattle.iol_kernel.proofs.State.Serving.{backed_stays, steps_beside, still_serves, with_slots-same}
+use Rattle.iol_kernel.proofs.State.CacheUntouched.{backed_stays, steps_beside, still_serves, with_slots-same}
 use Rattle.iol_kernel.proofs.State.Stay.{stays_here}
 
 -- Whether there is room.

@@ -4,7 +4,7 @@ use Rattle.std.specs.Prelude.{Err, Result}
 use Rattle.std.proofs.lemmas.Bool.Decides.{nat_tests}
 use Rattle.std.proofs.lemmas.List.{get_or-replicate, length-replicate}
 use Rattle.std.proofs.lemmas.List.FromFn.{get_or-map-range_with_len}
-use Rattle.iol_core.specs.Numbered.{numbered_or}
+use Rattle.iol_core.specs.NumberedLists.{numbered_or}
 use Rattle.iol_core.specs.State as machine
 use Rattle.iol_core.specs.State.{State, Domain}
 use Rattle.iol_core.specs.Meaning.{Meaning, Step}
@@ -15,7 +15,7 @@ use Rattle.iol_core.specs.declared.refusals.Refusal.{Refusal}
 use Rattle.iol_back.specs.Disk.{Disk}
 use Rattle.iol_hold.specs.declared.slices.Slice.{Slice}
 use Rattle.iol_cache.specs.Contents.{bytes_in_slot}
-use Rattle.iol_kernel.specs.Backed.{IsBackedBy, Serves, with_slots}
+use Rattle.iol_kernel.specs.FileCalls.{IsBackedBy, Serves, with_slots}
 use Rattle.iol_kernel.specs.KernelState.{KernelState, IsSound, machine_of, read_of}
 use Rattle.iol_kernel.specs.Readings.{bytes_over, slot_read, slots_read}
 use Rattle.iol_kernel.specs.Views.{state_view}

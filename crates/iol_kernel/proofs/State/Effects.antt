@@ -6,31 +6,31 @@ use Rattle.iol_core.specs.declared.descriptors.Descriptor.{Descriptor}
 use Rattle.iol_core.specs.Meaning.{Meaning, first}
 use Rattle.iol_core.specs.declared.refusals.Refusal.{Refusal}
 use Rattle.iol_core.specs.Text.{Text}
-use Rattle.iol_core.specs.Numbered.{with_numbered}
+use Rattle.iol_core.specs.NumberedLists.{with_numbered}
 use Rattle.iol_core.specs.State as machine
 use Rattle.iol_core.specs.State.{State, Domain, new_domain}
 use Rattle.iol_core.specs.Calls.Aggregates as aggs
 use Rattle.iol_core.specs.Calls.Descriptors as fds
 use Rattle.iol_core.specs.Calls.Pools as pools
 use Rattle.iol_pool.specs.Pools.{Pool, with_closed}
-use Rattle.iol_hold.specs.Stored.{Stored, IsTidy, IsStill, AllSettled}
+use Rattle.iol_hold.specs.StoreState.{Stored, IsTidy, IsStill, AllSettled}
 use Rattle.iol_hold.specs.Moves.{Stays, Moves, SameLists, pool_meant}
 use Rattle.iol_hold.specs.Texts.{text_of, bufs_of, AllReadable}
 use Rattle.iol_hold.specs.declared.slices.Slice.{Slice}
 use Rattle.iol_hold.specs.Pages.{KeepsPages}
 use Rattle.iol_hold.specs.Releases.{FreesOnly}
 use Rattle.iol_hold.specs.Room.{lowest_of}
-use Rattle.iol_hold.proofs.Paging.{keeps_pages_frees, keeps_pages_trans}
-use Rattle.iol_hold.proofs.Counting.{tally_none}
+use Rattle.iol_hold.proofs.PageChanges.{keeps_pages_frees, keeps_pages_trans}
+use Rattle.iol_hold.proofs.Counts.{tally_none}
 use Rattle.iol_hold.specs.Places.{byte_len}
-use Rattle.iol_hold.proofs.Reading.{length-text_of}
+use Rattle.iol_hold.proofs.ReadSlices.{length-text_of}
 use Rattle.iol_desc.specs.Tables.{domain_in, with_domain_in, with_next, agg_in, with_agg_in, without_agg_in, live_aggs_in, with_fds_in}
 use Rattle.iol_kernel.specs.Views.{Objects, state_view}
-use Rattle.iol_kernel.specs.Counted.{IsCounted, domain_uses}
-use Rattle.iol_kernel.specs.Ends.{IsOpenOnce, ends_on}
+use Rattle.iol_kernel.specs.HoldCounts.{IsCounted, domain_uses}
+use Rattle.iol_kernel.specs.EndCounts.{IsOpenOnce, ends_on}
 use Rattle.iol_kernel.specs.KernelState.{KernelState, objects_of, machine_of, Each, IsDomainReadable, AreReadable, IsOpenEnd, ArePooled, AreFiled, IsCached, IsSound, IsLimited, read_of}
 use Rattle.iol_kernel.specs.Readings.{Reading, read, bytes_over}
-use Rattle.iol_kernel.proofs.State.Answered.{answers_here}
+use Rattle.iol_kernel.proofs.State.TableCalls.{answers_here}
 use Rattle.iol_kernel.proofs.State.Views.{pools-view, closed-view, added_pool-view, add_domain-view, with_agg-view, without_agg-view, with_fds-view, with_domain-view, domain-view, live_aggs-view}
 use Rattle.iol_kernel.proofs.State.Uses.{uses-with_agg, uses-without_agg}
 use Rattle.iol_kernel.proofs.State.Once.{once_same}
@@ -38,15 +38,15 @@ use Rattle.iol_arena.specs.State.{page_count}
 use Rattle.iol_kernel.proofs.State.Slots.{cache_stays}
 use Rattle.iol_kernel.proofs.State.Sound.{AreHeld, counted_held, domains_stay, files_held, objects_stay, view-stays, sound_with, sound_fds, ends_open, limits_agg, limits_drop, drop_readable, add_readable, fds_stay, each-push, agg_readable}
 use Rattle.iol_core.specs.declared.limits.TheConstants.{MAX_AGGREGATES, MAX_AGGREGATE_BYTES, MAX_POOLS}
-use Rattle.iol_hold.proofs.Moving.{stays_trans}
+use Rattle.iol_hold.proofs.Moves.{stays_trans}
 use Rattle.iol_kernel.proofs.State.ReadOf.{next_agg-read_of}
 use Rattle.iol_kernel.proofs.State.Stay.{stays_here, pages_here}
-use Rattle.iol_kernel.proofs.State.Pooling.{same_pooled, pools_pooled, one_more_pool, one_closed}
+use Rattle.iol_kernel.proofs.State.Pools.{same_pooled, pools_pooled, one_more_pool, one_closed}
 use Rattle.iol_sum.specs.Sums.{IsRight}
-use Rattle.iol_sum.proofs.Keeping.{IsRight-keeps}
+use Rattle.iol_sum.proofs.KeptSums.{IsRight-keeps}
 use Rattle.std.specs.Prelude.{◌==◌}
 use Rattle.std.specs.List.{list_any}
-use Rattle.iol_kernel.specs.Adding.{AddsText}
+use Rattle.iol_kernel.specs.NewAggregates.{AddsText}
 use Rattle.iol_kernel.specs.Calls.{MakesAgg, Answers, Leaves, KeepsPlaces}
 use Rattle.std.proofs.lemmas.List.Sums.{sum_by_push}
 

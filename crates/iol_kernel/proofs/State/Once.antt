@@ -5,14 +5,14 @@ use Rattle.std.proofs.lemmas.Bool.{cases_lt, cases_eq}
 use Rattle.std.proofs.lemmas.Bool.Decides.{nat_tests}
 use Rattle.std.proofs.lemmas.List.{get_or_past}
 use Rattle.std.proofs.lemmas.List.Sums.{sum_by-set, sum_by_push, sum_by-cons}
-use Rattle.iol_core.specs.Numbered.{in_place, placed, lowest}
+use Rattle.iol_core.specs.NumberedLists.{in_place, placed, lowest}
 use Rattle.iol_core.specs.State.{Domain}
 use Rattle.iol_core.specs.declared.descriptors.Mode.{Mode}
 use Rattle.iol_core.specs.declared.descriptors.Descriptor.{Descriptor}
 use Rattle.iol_core.specs.declared.descriptors.Descriptor.TheVariants as on
 use Rattle.iol_hold.specs.declared.slices.Slice.{Slice}
 use Rattle.iol_desc.specs.Tables.{domain_in, with_domain_in, with_fds_in}
-use Rattle.iol_kernel.specs.Ends.{same_end, on_end, ends_on, all_ends_on, IsOpenOnce}
+use Rattle.iol_kernel.specs.EndCounts.{same_end, on_end, ends_on, all_ends_on, IsOpenOnce}
 use Rattle.iol_kernel.specs.KernelState.{Each, IsOpenEnd}
 use Rattle.iol_kernel.specs.Views.{Objects}
 use Rattle.iol_kernel.proofs.State.Uses.{sum-with_domain, Domains}

@@ -3,7 +3,7 @@ use Rattle.std.proofs.Common.{◌≡◌, ℕ, ◌==◌, List, [], length, ap, �
 use Rattle.std.specs.Prelude.{unwrap_or, option_map, Bool, ◌||◌}
 use Rattle.std.specs.List.{list_any, list_all}
 use Rattle.iol_core.specs.Text.{Text}
-use Rattle.iol_core.specs.Numbered.{in_place, is_numbered, lowest, taken}
+use Rattle.iol_core.specs.NumberedLists.{in_place, is_numbered, lowest, taken}
 use Rattle.iol_core.specs.State as machine
 use Rattle.iol_core.specs.State.{State, Domain}
 use Rattle.iol_core.specs.Calls.Pools as pools
@@ -15,7 +15,7 @@ use Rattle.iol_hold.proofs.AtPlaces.{length-read}
 use Rattle.iol_desc.specs.Tables.{domain_in, agg_in}
 use Rattle.iol_kernel.specs.Views.{Objects, pipe_view, state_view}
 use Rattle.iol_kernel.specs.KernelState.{KernelState, objects_of, read_of, queue_at, slices_in}
-use Rattle.iol_kernel.specs.Opened.{IsOpenOn}
+use Rattle.iol_kernel.specs.OpenDescriptors.{IsOpenOn}
 use Rattle.iol_kernel.specs.Readings.{Reading, bytes_over, read}
 use Rattle.iol_kernel.proofs.State.Views.{domain-view, pool-view, is_pool-view, aggregate-view, pipe_at-view, lowest-view, taken-view, length_pools-view, busy-view}
 

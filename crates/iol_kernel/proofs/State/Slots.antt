@@ -8,30 +8,30 @@ use Rattle.std.proofs.lemmas.List.FromFn.{get_or-map-range_with_len, length-map-
 use Rattle.std.proofs.lemmas.List.Concat.{flat_map-cons}
 use Rattle.std.proofs.lemmas.List.Sums.{sum_by-cons}
 use Rattle.std.specs.List.{range_with_len}
-use Rattle.iol_core.specs.Numbered.{is_numbered}
+use Rattle.iol_core.specs.NumberedLists.{is_numbered}
 use Rattle.iol_core.specs.declared.limits.TheConstants.{MAX_FILES, MAX_FILE_BYTES}
 use Rattle.iol_core.specs.declared.numbers.BufId.{BufId}
 use Rattle.iol_arena.specs.State.{page_count}
 use Rattle.iol_pool.specs.Pools.{pool_in}
 use Rattle.iol_back.specs.Disk.{content}
-use Rattle.iol_hold.specs.Stored.{Stored, IsTidy, IsStill}
+use Rattle.iol_hold.specs.StoreState.{Stored, IsTidy, IsStill}
 use Rattle.iol_hold.specs.Moves.{Stays, Covers, tally}
 use Rattle.iol_hold.specs.Places.{Place, byte_len}
 use Rattle.iol_hold.specs.Texts.{bufs_of}
 use Rattle.iol_hold.specs.declared.slices.Slice.{Slice}
-use Rattle.iol_hold.proofs.Counting.{same_few, tally-append, bufs-append}
-use Rattle.iol_hold.proofs.Slicing.{byte_len-cons}
+use Rattle.iol_hold.proofs.Counts.{same_few, tally-append, bufs-append}
+use Rattle.iol_hold.proofs.SlicePlaces.{byte_len-cons}
 use Rattle.iol_extent.specs.Extents.{Extent, IsApart, last_end, end_of}
-use Rattle.iol_cache.specs.Cached.{Cached, file_in, no_file, extents_in, all_parts, held}
+use Rattle.iol_cache.specs.CacheState.{Cached, file_in, no_file, extents_in, all_parts, held}
 use Rattle.iol_cache.specs.Contents.{byte_in, file_bytes, file_len}
 use Rattle.iol_cache.specs.Sound as cache
 use Rattle.iol_cache.specs.declared.files.CachedFile.{CachedFile}
-use Rattle.iol_cache.proofs.Extents.Extending.{laid_stays}
-use Rattle.iol_cache.proofs.Evictions.GivenUp.{bytes_same, read_stays}
-use Rattle.iol_cache.proofs.Extents.Filing.{numbered_bounds, additive_tally, sum-flat}
-use Rattle.iol_cache.proofs.Extents.Staying.{sound_stays}
-use Rattle.iol_cache.proofs.Extents.Using.{covers_file}
-use Rattle.iol_kernel.specs.Counted.{uses}
+use Rattle.iol_cache.proofs.Extents.FewerExtents.{laid_stays}
+use Rattle.iol_cache.proofs.Evictions.Files.{bytes_same, read_stays}
+use Rattle.iol_cache.proofs.Extents.FileEntries.{numbered_bounds, additive_tally, sum-flat}
+use Rattle.iol_cache.proofs.Extents.OtherCalls.{sound_stays}
+use Rattle.iol_cache.proofs.Extents.HeldSlices.{covers_file}
+use Rattle.iol_kernel.specs.HoldCounts.{uses}
 use Rattle.iol_kernel.specs.KernelState.{Each, IsFile, IsFileReadable, IsCached}
 use Rattle.iol_kernel.specs.Readings.{Reading, bytes_over, slot_read, slots_of, slots_read}
 

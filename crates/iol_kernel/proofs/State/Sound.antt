@@ -5,24 +5,24 @@ use Rattle.std.proofs.lemmas.Bool.{cases_lt, cases_eq}
 use Rattle.std.proofs.lemmas.Bool.Decides.{nat_tests}
 use Rattle.std.proofs.lemmas.List.Sums.{sum_by-cons}
 use Rattle.iol_core.specs.Text.{Text}
-use Rattle.iol_core.specs.Numbered.{lookup, without, numbered_or, with_numbered, placed}
+use Rattle.iol_core.specs.NumberedLists.{lookup, without, numbered_or, with_numbered, placed}
 use Rattle.iol_core.specs.State as machine
 use Rattle.iol_core.specs.State.{Domain, no_domain}
 use Rattle.iol_core.specs.declared.descriptors.Descriptor.{Descriptor}
 use Rattle.iol_core.specs.declared.numbers.BufId.{BufId}
 use Rattle.iol_pool.specs.Pools.{Pool}
-use Rattle.iol_hold.specs.Stored.{Stored, count_of}
+use Rattle.iol_hold.specs.StoreState.{Stored, count_of}
 use Rattle.iol_hold.specs.Moves.{Stays, Covers}
 use Rattle.iol_hold.specs.Places.{byte_len}
 use Rattle.iol_hold.specs.Texts.{text_of, bufs_of, AllReadable}
 use Rattle.iol_hold.specs.declared.slices.Slice.{Slice}
-use Rattle.iol_hold.proofs.Reading.{readable_stays, text_stays}
+use Rattle.iol_hold.proofs.ReadSlices.{readable_stays, text_stays}
 use Rattle.iol_desc.specs.Tables.{domain_in, with_domain_in, agg_in, with_agg_in, without_agg_in, live_aggs_in, with_fds_in}
 use Rattle.iol_sock.specs.Connections.{Conn, conn_view}
 use Rattle.iol_kernel.specs.Views.{domain_view, Pipe, Objects, pipe_view, state_view}
-use Rattle.iol_kernel.specs.Counted.{uses, domain_uses, pipe_uses, conn_uses, all_uses, IsCounted}
-use Rattle.iol_kernel.specs.Ends.{IsOpenOnce}
-use Rattle.iol_cache.specs.Cached as cached
+use Rattle.iol_kernel.specs.HoldCounts.{uses, domain_uses, pipe_uses, conn_uses, all_uses, IsCounted}
+use Rattle.iol_kernel.specs.EndCounts.{IsOpenOnce}
+use Rattle.iol_cache.specs.CacheState as cached
 use Rattle.iol_kernel.specs.KernelState.{KernelState, objects_of, Each, IsDomainReadable, IsPipeReadable, IsConnReadable, AreReadable, IsOpenEnd, IsSound, IsShort, AreLimited, IsLimited}
 use Rattle.iol_kernel.specs.Readings.{bytes_over, slots_read}
 use Rattle.iol_kernel.proofs.State.Slots.{file_stays, slots_stay}

@@ -1,10 +1,10 @@
 -- Buffers that are live before and after a call stay as they were.
 use Rattle.std.proofs.Common.{◌≡◌, [], refl, subst, sym}
-use Rattle.iol_hold.specs.Stored.{Stored}
+use Rattle.iol_hold.specs.StoreState.{Stored}
 use Rattle.iol_hold.specs.Moves.{Stays}
 use Rattle.iol_hold.specs.Pages.{KeepsPages}
-use Rattle.iol_hold.proofs.Moving.{moves_none}
-use Rattle.iol_hold.proofs.Paging.{keeps_pages_same}
+use Rattle.iol_hold.proofs.Moves.{moves_none}
+use Rattle.iol_hold.proofs.PageChanges.{keeps_pages_same}
 
 pub stays_here : (s : Stored) → Stays s s
 stays_here s = (moves_none s).stays

@@ -4,10 +4,10 @@ use Rattle.std.specs.Prelude.{slice_set, sum_by, unwrap_or}
 use Rattle.std.proofs.lemmas.Bool.{cases_lt, cases_eq}
 use Rattle.std.proofs.lemmas.Bool.Decides.{nat_tests}
 use Rattle.std.proofs.lemmas.List.Sums.{sum_by-set, sum_by_push, sum_by-cons, get_or-le-sum_by}
-use Rattle.iol_core.specs.Numbered.{lookup, without, numbered_or, with_numbered, placed, lowest, in_place}
+use Rattle.iol_core.specs.NumberedLists.{lookup, without, numbered_or, with_numbered, placed, lowest, in_place}
 use Rattle.iol_core.specs.State.{Domain, no_domain}
 use Rattle.iol_core.specs.declared.numbers.BufId.{BufId}
-use Rattle.iol_hold.specs.Stored.{Stored}
+use Rattle.iol_hold.specs.StoreState.{Stored}
 use Rattle.iol_hold.specs.Moves.{tally, Covers, IsCountable}
 use Rattle.iol_hold.specs.Places.{byte_len}
 use Rattle.iol_hold.specs.Texts.{bufs_of}
@@ -15,7 +15,7 @@ use Rattle.iol_hold.specs.declared.slices.Slice.{Slice}
 use Rattle.iol_desc.specs.Tables.{domain_in, with_domain_in, agg_in, with_agg_in, without_agg_in, live_aggs_in}
 use Rattle.iol_sock.specs.Connections.{Conn}
 use Rattle.iol_kernel.specs.Views.{Pipe, Objects}
-use Rattle.iol_kernel.specs.Counted.{uses, domain_uses, pipe_uses, conn_uses, all_uses, IsCounted}
+use Rattle.iol_kernel.specs.HoldCounts.{uses, domain_uses, pipe_uses, conn_uses, all_uses, IsCounted}
 use Rattle.iol_kernel.specs.KernelState.{Each, IsLimited, IsShort, IsConn, queue_at}
 use Rattle.iol_kernel.proofs.State.Rows.{live_numbered}
 use Rattle.iol_kernel.proofs.State.Slots.{uses_few, files_few}

@@ -9,7 +9,7 @@ use Rattle.std.proofs.lemmas.List.Sums.{sum_by-cons}
 use Rattle.std.proofs.lemmas.Bool.{cases_lt, cases_eq}
 use Rattle.std.proofs.lemmas.Bool.Decides.{nat_tests}
 use Rattle.iol_core.specs.Text.{Text}
-use Rattle.iol_core.specs.Numbered.{lookup, without, numbered_or, with_numbered, in_place, lowest, placed, taken, is_numbered}
+use Rattle.iol_core.specs.NumberedLists.{lookup, without, numbered_or, with_numbered, in_place, lowest, placed, taken, is_numbered}
 use Rattle.iol_core.specs.State as machine
 use Rattle.iol_core.specs.State.{Domain, new_domain, no_domain}
 use Rattle.iol_core.specs.Calls.Aggregates as aggs

@@ -4,7 +4,7 @@ ghost use Rattle.iol_core.specs.State as state;
 ghost use Rattle.iol_core.specs.Prelude.{conn_at, is_numbered, lookup, taken, closed_on, freed, with_fds};
 ghost use Rattle.iol_core.specs.Calls.Descriptors as calls;
 ghost use Rattle.iol_kernel.specs.ClosedEnds.{Closes, IsLetGo};
-ghost use Rattle.iol_kernel.specs.Denying.{TellsDenied};
+ghost use Rattle.iol_kernel.specs.Denials.{TellsDenied};
 ghost use Rattle.iol_kernel.specs.KernelState.{objects_of, IsOpenEnd, IsSound};
 ghost use Rattle.iol_kernel.specs.NewDescriptors.{MayAccept, MayGiveFd, MayPipe};
 ghost use Rattle.iol_kernel.specs.Readings.{Reading};

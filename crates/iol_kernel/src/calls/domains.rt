@@ -3,8 +3,8 @@ ghost use Rattle.std.specs.Prelude.{◌≡◌, ℕ, [], length, Option, Err};
 ghost use Rattle.iol_core.specs.Calls.Domains as calls;
 ghost use Rattle.iol_desc.specs.Prelude.{with_aggs_in, with_fds_in};
 ghost use Rattle.iol_kernel.specs.ClosedEnds.{AreLetGo, ClosesAll};
-ghost use Rattle.iol_kernel.specs.Ending.{without_aggs, without_fds};
-ghost use Rattle.iol_kernel.specs.Having.{Lives};
+ghost use Rattle.iol_kernel.specs.DomainEnd.{without_aggs, without_fds};
+ghost use Rattle.iol_kernel.specs.DomainAggregates.{Lives};
 ghost use Rattle.iol_kernel.specs.KernelState.{IsSound};
 ghost use Rattle.iol_kernel.specs.Readings.{Reading};
 

@@ -3,10 +3,10 @@ ghost use Rattle.std.specs.Prelude.{◌≡◌, length, true, is_some};
 ghost use Rattle.iol_core.specs.State as state;
 ghost use Rattle.iol_core.specs.Prelude.{is_numbered, file_called};
 ghost use Rattle.iol_core.specs.Calls.Files as calls;
-ghost use Rattle.iol_kernel.specs.FileEnds.{AsksNext, FitsNext};
+ghost use Rattle.iol_kernel.specs.FileLengths.{AsksNext, FitsNext};
 ghost use Rattle.iol_kernel.specs.Files.{opens};
 ghost use Rattle.iol_kernel.specs.KernelState.{IsSound};
-ghost use Rattle.iol_kernel.specs.NamingFiles.{FindsNamed, MayAddFile, MayOpenFile, TriesFile};
+ghost use Rattle.iol_kernel.specs.FileNames.{FindsNamed, MayAddFile, MayOpenFile, TriesFile};
 ghost use Rattle.iol_kernel.specs.Readings.{Reading};
 
 use crate::kernel::Kernel;
@@ -65,7 +65,7 @@ impl Kernel {
     }
 
     /// Whether a file has this name.
-    #[tactic(auto, using(crate::proofs::FileCalls::Named::file_rules))]
+    #[tactic(auto, using(crate::proofs::FileCalls::FileNames::file_rules))]
     fn is_named(&self, name: &Bytes) -> bool
         ensures { (f : Reading) → result ≡ is_some (file_called (as_read f self.now) name.now) }
     {
@@ -121,7 +121,7 @@ impl Kernel {
     }
 
     /// How many files there are.
-    #[tactic(auto, using(crate::proofs::FileCalls::Named::file_rules))]
+    #[tactic(auto, using(crate::proofs::FileCalls::FileNames::file_rules))]
     fn file_count(&self) -> usize
         ensures { (f : Reading) → result ≡ length (as_read f self.now).files }
     {

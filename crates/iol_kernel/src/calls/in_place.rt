@@ -1,7 +1,7 @@
 //! Connections that are served from outside in place: what a reader gives comes straight into a page, and a writer takes
 //! bytes from where they lie.
 ghost use Rattle.std.specs.Prelude.{IfOk, IfErr};
-ghost use Rattle.iol_kernel.specs.Borrowed.{FailsToRead, MayBringIn};
+ghost use Rattle.iol_kernel.specs.Streams.{FailsToRead, MayBringIn};
 ghost use Rattle.iol_kernel.specs.InPlace.{DrainsToWriter, LendsToWriter, ReadsFromReader, TakesFromReader};
 ghost use Rattle.iol_kernel.specs.KernelState.{IsSound};
 ghost use Rattle.iol_kernel.specs.Outside.{HasConn};

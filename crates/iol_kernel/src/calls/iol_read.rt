@@ -1,8 +1,8 @@
 //! Reading by reference.
-ghost use Rattle.iol_core.specs.Calls.Reading as calls;
+ghost use Rattle.iol_core.specs.Calls.Reads as calls;
 ghost use Rattle.iol_kernel.specs.ByReference.{ReadsByReference};
 ghost use Rattle.iol_kernel.specs.KernelState.{IsSound};
-ghost use Rattle.iol_kernel.specs.Opened.{IsOnQueue};
+ghost use Rattle.iol_kernel.specs.OpenDescriptors.{IsOnQueue};
 ghost use Rattle.iol_kernel.specs.QueueEnds.{MayTake};
 
 pub(crate) mod file;

@@ -1,9 +1,9 @@
 //! Writing by reference: to pipes and connections here, to files in `iol_write/file`.
 ghost use Rattle.std.specs.Prelude.{◌≡◌, false, Some};
-ghost use Rattle.iol_core.specs.Calls.Writing as calls;
+ghost use Rattle.iol_core.specs.Calls.Writes as calls;
 ghost use Rattle.iol_kernel.specs.ByReference.{WritesByReference};
 ghost use Rattle.iol_kernel.specs.KernelState.{IsSound};
-ghost use Rattle.iol_kernel.specs.WritingAggs.{MayWriteAgg, TestsAgg};
+ghost use Rattle.iol_kernel.specs.AggregateWrites.{MayWriteAgg, TestsAgg};
 
 pub(crate) mod file;
 

@@ -39,7 +39,7 @@ impl Kernel {
     }
 
     /// How many connections are live.
-    #[tactic(auto, using(crate::proofs::Connections::Connecting::conn_rules))]
+    #[tactic(auto, using(crate::proofs::Connections::OneConnection::conn_rules))]
     fn conn_count(&self) -> usize
         ensures { (f : Reading) → result ≡ length (as_read f self.now).conns }
     {
@@ -47,7 +47,7 @@ impl Kernel {
     }
 
     /// The number of the next connection.
-    #[tactic(auto, using(crate::proofs::Connections::Connecting::conn_rules))]
+    #[tactic(auto, using(crate::proofs::Connections::OneConnection::conn_rules))]
     fn next_conn(&self) -> ConnId
         ensures { (f : Reading) → result ≡ (as_read f self.now).next_conn }
     {
@@ -64,7 +64,7 @@ impl Kernel {
     }
 
     /// Whether there is no live connection of this number.
-    #[tactic(auto, using(crate::proofs::Connections::Connecting::there_rules))]
+    #[tactic(auto, using(crate::proofs::Connections::OneConnection::there_rules))]
     pub(crate) fn lacks_conn(&self, conn: ConnId) -> bool
         ensures { (f : Reading) → result ≡ lacks_conn (as_read f self.now) conn }
     {

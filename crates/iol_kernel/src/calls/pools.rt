@@ -4,7 +4,7 @@ ghost use Rattle.iol_core.specs.State as state;
 ghost use Rattle.iol_core.specs.Prelude.{is_pool};
 ghost use Rattle.iol_core.specs.Calls.Pools as calls;
 ghost use Rattle.iol_kernel.specs.Calls.{with_reader};
-ghost use Rattle.iol_kernel.specs.Having.{Lives};
+ghost use Rattle.iol_kernel.specs.DomainAggregates.{Lives};
 ghost use Rattle.iol_kernel.specs.KernelState.{IsSound};
 ghost use Rattle.iol_kernel.specs.PoolCalls.{Creates, CreatesPool, IsIdle, MayAdmit, TestsCreate, TestsUse};
 ghost use Rattle.iol_kernel.specs.PoolCalls.{are_all_live, with_pool_admitting, with_pool_closed};

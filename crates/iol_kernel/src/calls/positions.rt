@@ -1,6 +1,6 @@
 //! Positions of descriptors on files, and lengths of files.
 ghost use Rattle.iol_core.specs.Calls.Files as calls;
-ghost use Rattle.iol_kernel.specs.FileEnds.{FindsFile, HasFile, IsLengthOf, SeeksAt};
+ghost use Rattle.iol_kernel.specs.FileLengths.{FindsFile, HasFile, IsLengthOf, SeeksAt};
 ghost use Rattle.iol_kernel.specs.KernelState.{IsSound};
 ghost use Rattle.iol_kernel.specs.OpenFiles.{TellsLength};
 

@@ -1,5 +1,5 @@
 //! Reading by copying: no aggregate is made of what is read.
-ghost use Rattle.iol_kernel.specs.Copying.{IsOnNoFile, ReadsOut};
+ghost use Rattle.iol_kernel.specs.ReadsByCopy.{IsOnNoFile, ReadsOut};
 ghost use Rattle.iol_kernel.specs.KernelState.{IsSound};
 
 mod file;

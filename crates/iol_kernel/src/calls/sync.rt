@@ -1,6 +1,6 @@
 //! Writing back of what is dirty, and the going of what is clean.
 ghost use Rattle.iol_kernel.specs.KernelState.{IsSound};
-ghost use Rattle.iol_kernel.specs.WritingBack.{DropsClean, MaySync};
+ghost use Rattle.iol_kernel.specs.WriteBack.{DropsClean, MaySync};
 
 use crate::kernel::Kernel;
 use iol_back::backing::Backing;

@@ -1,6 +1,6 @@
 //! Writing by copying: no aggregate is made of what is written.
 ghost use Rattle.iol_kernel.specs.KernelState.{IsSound};
-ghost use Rattle.iol_kernel.specs.Putting.{WritesBytes};
+ghost use Rattle.iol_kernel.specs.WritesByCopy.{WritesBytes};
 
 mod file;
 mod queue;

@@ -6,14 +6,14 @@ use Rattle.std.proofs.lemmas.Bool.Decides.{nat_tests}
 use Rattle.std.proofs.lemmas.Grind.{common_steps}
 use Rattle.std.proofs.lemmas.List.{length-take-le}
 use Rattle.iol_core.specs.Text.{Text, bytes_of, labelled}
-use Rattle.iol_core.specs.Numbered.{is_numbered, numbered_or}
+use Rattle.iol_core.specs.NumberedLists.{is_numbered, numbered_or}
 use Rattle.iol_core.specs.State.{State, File, content, descriptor, text, pipe_at, conn_at, with_content, with_domain, new_state}
 use Rattle.iol_core.specs.Positions.{ArePlaced}
 use Rattle.iol_core.specs.Meaning.{first}
 use Rattle.iol_core.specs.Run.{meaning, Run, StepsTo}
 use Rattle.iol_core.specs.Calls.Files as files
-use Rattle.iol_core.specs.Calls.Writing as writing
-use Rattle.iol_core.specs.Calls.Writing.{is_too_long}
+use Rattle.iol_core.specs.Calls.Writes as writing
+use Rattle.iol_core.specs.Calls.Writes.{is_too_long}
 use Rattle.iol_core.specs.declared.limits.TheConstants.{MAX_AGGREGATE_BYTES, MAX_FILES, MAX_FILE_BYTES, MAX_QUEUE_BYTES}
 use Rattle.iol_core.specs.declared.refusals.Refusal.TheVariants as refuse
 use Rattle.iol_core.specs.declared.descriptors.Descriptor.{Descriptor}
@@ -25,12 +25,12 @@ use Rattle.iol_core.specs.declared.events.Event.TheVariants as event
 use Rattle.iol_core.specs.declared.events.Reply.{Reply}
 use Rattle.iol_core.specs.declared.events.Reply.TheVariants as reply
 use Rattle.iol_core.proofs.Lookups.{numbered_or-with}
-use Rattle.iol_core.proofs.Passing.{passed, when-none}
+use Rattle.iol_core.proofs.TestedLists.{passed, when-none}
 use Rattle.iol_core.proofs.Positions.{placed_new, placed_step}
 use Rattle.iol_laws.proofs.Runs.{run_keeps}
 use Rattle.iol_laws.specs.Caller.{lent_at}
 use Rattle.iol_laws.specs.Lengths.{AreShort}
-use Rattle.iol_laws.proofs.Left.Files.{files_written, store_meant}
+use Rattle.iol_laws.proofs.Frame.Files.{files_written, store_meant}
 use Rattle.iol_laws.proofs.Numbers.{text-of}
 use Rattle.iol_laws.proofs.Bounds.ShortAggregates.{fit_meant, fit_new_state, is-short, taken-less, text-fits}
 use Rattle.iol_laws.proofs.Bounds.ShortQueues.{conn-fits, linked_meant, piped_meant, piped_new_state, queue-short}

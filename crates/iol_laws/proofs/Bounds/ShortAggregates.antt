@@ -5,13 +5,13 @@ use Rattle.std.specs.List.{list_all}
 use Rattle.std.proofs.lemmas.Bool.Decides.{nat_tests}
 use Rattle.std.proofs.lemmas.List.{length-take}
 use Rattle.iol_core.specs.Text.{Text, labelled, part, admitted}
-use Rattle.iol_core.specs.Numbered.{placed}
+use Rattle.iol_core.specs.NumberedLists.{placed}
 use Rattle.iol_core.specs.State.{State, Domain, domain, content, descriptor, text, file, may_read, pipe_at, conn_at, new_state}
 use Rattle.iol_core.specs.Positions.{ArePlaced}
 use Rattle.iol_core.specs.Meaning.{first}
 use Rattle.iol_core.specs.Run.{called, meaning}
 use Rattle.iol_core.specs.Calls.Aggregates as aggs
-use Rattle.iol_core.specs.Calls.Reading as reading
+use Rattle.iol_core.specs.Calls.Reads as reading
 use Rattle.iol_core.specs.declared.limits.TheConstants.{MAX_AGGREGATE_BYTES}
 use Rattle.iol_core.specs.declared.refusals.Refusal.TheVariants as refuse
 use Rattle.iol_core.specs.declared.descriptors.Descriptor.{Descriptor}
@@ -21,7 +21,7 @@ use Rattle.iol_core.specs.declared.events.Call.TheVariants as call
 use Rattle.iol_core.specs.declared.events.Event.{Event}
 use Rattle.iol_core.specs.declared.events.Event.TheVariants as event
 use Rattle.iol_core.proofs.Lookups.{domain-new_state}
-use Rattle.iol_core.proofs.Passing.{list_all-lookup, list_all-push, list_all-without, passed, when-none}
+use Rattle.iol_core.proofs.TestedLists.{list_all-lookup, list_all-push, list_all-without, passed, when-none}
 use Rattle.iol_laws.specs.Lengths.{AreShort, fits_aggregate, fits_queue, both_fit}
 use Rattle.iol_laws.proofs.AggsOfEach.{Brings, BringsIn, IsOfAggs, of_meant}
 use Rattle.iol_laws.proofs.Tests.{both-true}

@@ -7,13 +7,13 @@ use Rattle.std.proofs.lemmas.Bool.Decides.{nat_tests}
 use Rattle.std.proofs.lemmas.Grind.{common_steps}
 use Rattle.std.proofs.lemmas.List.{length-take}
 use Rattle.iol_core.specs.Text.{Text, labelled}
-use Rattle.iol_core.specs.Numbered.{without, changed, lowest}
+use Rattle.iol_core.specs.NumberedLists.{without, changed, lowest}
 use Rattle.iol_core.specs.State.{State, Domain, Pipe, Connection, domain, descriptor, text, pipe_at, conn_at, no_pipe, new_pipe, new_conn, no_domain, is_over, new_state, with_domain, with_pipe, with_conn, with_content}
 use Rattle.iol_core.specs.Run.{called, meaning}
 use Rattle.iol_core.specs.Calls.Descriptors as fds
 use Rattle.iol_core.specs.Calls.Outside.{closed_by}
-use Rattle.iol_core.specs.Calls.Reading as reading
-use Rattle.iol_core.specs.Calls.Writing as writing
+use Rattle.iol_core.specs.Calls.Reads as reading
+use Rattle.iol_core.specs.Calls.Writes as writing
 use Rattle.iol_core.specs.declared.limits.TheConstants.{MAX_QUEUE_BYTES}
 use Rattle.iol_core.specs.declared.descriptors.Descriptor.{Descriptor}
 use Rattle.iol_core.specs.declared.descriptors.Descriptor.TheVariants as on
@@ -23,11 +23,11 @@ use Rattle.iol_core.specs.declared.events.Call.{Call}
 use Rattle.iol_core.specs.declared.events.Call.TheVariants as call
 use Rattle.iol_core.specs.declared.events.Event.{Event}
 use Rattle.iol_core.specs.declared.events.Event.TheVariants as event
-use Rattle.iol_core.proofs.Passing.{list_all-lookup, list_all-push, list_all-without}
+use Rattle.iol_core.proofs.TestedLists.{list_all-lookup, list_all-push, list_all-without}
 use Rattle.iol_laws.specs.Lengths.{fits_queue, both_fit}
-use Rattle.iol_laws.proofs.Changing.{Change, Reads, Writes, Closes, Takes, turned, all_turned, on_conn, closings, changes, conns_turned}
-use Rattle.iol_laws.proofs.Order.Held.{pipe-either}
-use Rattle.iol_laws.proofs.Left.Pipes.{pipes_meant, pipes_pipe, pipes_same, pipes-with_conn, pipe-new}
+use Rattle.iol_laws.proofs.ConnChanges.{Change, Reads, Writes, Closes, Takes, turned, all_turned, on_conn, closings, changes, conns_turned}
+use Rattle.iol_laws.proofs.Order.OpenConns.{pipe-either}
+use Rattle.iol_laws.proofs.Frame.Pipes.{pipes_meant, pipes_pipe, pipes_same, pipes-with_conn, pipe-new}
 use Rattle.iol_laws.proofs.Places.{place-new}
 use Rattle.iol_laws.proofs.Bounds.ShortAggregates.{dropped-less}
 use Rattle.iol_laws.proofs.Tests.{both-true}

@@ -2,7 +2,7 @@
 use Rattle.std.proofs.Common.{◌≡◌, ℕ, ◌+◌, ◌-◌, ◌≤◌, List, [], ◌∷◌, ◌++◌, take, drop, ap, ◌∙◌, subst, arith, Option, Some, None, true, append_assoc}
 use Rattle.std.specs.Prelude.{option_map, slice_range}
 use Rattle.iol_core.specs.Text.{Text, bytes_of, labelled, part}
-use Rattle.iol_core.specs.Numbered.{lookup, without}
+use Rattle.iol_core.specs.NumberedLists.{lookup, without}
 use Rattle.iol_core.specs.State.{State, Domain, domain, text, is_live}
 use Rattle.iol_core.specs.Run.{StepsTo}
 use Rattle.iol_core.specs.Calls.Aggregates as aggs

@@ -4,15 +4,15 @@ use Rattle.std.specs.Prelude.{option_map, slice_set, not, is_none, min, nat_lt, 
 use Rattle.std.proofs.lemmas.Bool.Decides.{nat_tests}
 use Rattle.std.proofs.lemmas.List.{take_all}
 use Rattle.iol_core.specs.Text.{Text, bytes_of, labelled}
-use Rattle.iol_core.specs.Numbered.{lookup}
+use Rattle.iol_core.specs.NumberedLists.{lookup}
 use Rattle.iol_core.specs.State.{State, Domain, Pipe, Connection, domain, pool, descriptor, content, file, may_read, conn_at, pipe_at, is_live, with_conn, with_content, with_pipe}
 use Rattle.iol_core.specs.Positions.{ArePlaced}
 use Rattle.iol_core.specs.Meaning.{first, ◌when◌, WantOfRoom}
 use Rattle.iol_core.specs.Run.{StepsTo}
 use Rattle.iol_core.specs.Calls.Aggregates.{default_pool}
 use Rattle.iol_core.specs.Calls.Descriptors as fds
-use Rattle.iol_core.specs.Calls.Reading as reading
-use Rattle.iol_core.specs.Calls.Writing as writing
+use Rattle.iol_core.specs.Calls.Reads as reading
+use Rattle.iol_core.specs.Calls.Writes as writing
 use Rattle.iol_core.specs.declared.limits.TheConstants.{MAX_FILE_BYTES}
 use Rattle.iol_core.specs.declared.refusals.Refusal.TheVariants as refuse
 use Rattle.iol_core.specs.declared.descriptors.Mode.{Mode}
@@ -36,10 +36,10 @@ use Rattle.iol_laws.proofs.Connections.{conn-with_same, not-over}
 use Rattle.iol_laws.proofs.Domains.{domain-with_same, domains-with_conn, domains-with_pipe}
 use Rattle.iol_laws.proofs.Order.Ends.{pipe-with_same}
 use Rattle.iol_laws.proofs.Numbers.{number}
-use Rattle.iol_laws.proofs.Refusals.Refusing.{past-live}
+use Rattle.iol_laws.proofs.Refusals.Rest.{past-live}
 use Rattle.iol_laws.proofs.Tests.{left-true}
 use Rattle.iol_laws.proofs.Texts.{bytes-labelled, length-labelled}
-use Rattle.iol_laws.proofs.Streams.Waiting.{opened-conn}
+use Rattle.iol_laws.proofs.Streams.WaitingConn.{opened-conn}
 
 -- the bytes of a reply
 abbrev told : Reply → List ℕ

@@ -2,12 +2,12 @@
 use Rattle.std.proofs.Common.{◌≡◌, ℕ, List, [], ◌++◌, length, take, drop, ap, ◌∙◌, refl, sym, arith, Some, true, false}
 use Rattle.std.specs.Prelude.{◌-◌, unwrap_or, is_none}
 use Rattle.iol_core.specs.Text.{Text}
-use Rattle.iol_core.specs.Numbered.{in_place, lowest, placed}
+use Rattle.iol_core.specs.NumberedLists.{in_place, lowest, placed}
 use Rattle.iol_core.specs.State.{State, Domain, Connection, domain, text, descriptor, may_read, conn_at, is_live, is_gone, with_conn}
 use Rattle.iol_core.specs.Run.{StepsTo}
 use Rattle.iol_core.specs.Calls.Aggregates as aggs
 use Rattle.iol_core.specs.Calls.Descriptors as fds
-use Rattle.iol_core.specs.Calls.Reading as reading
+use Rattle.iol_core.specs.Calls.Reads as reading
 use Rattle.iol_core.specs.declared.limits.TheConstants.{MAX_QUEUE_BYTES}
 use Rattle.iol_core.specs.declared.refusals.Refusal.TheVariants as refuse
 use Rattle.iol_core.specs.declared.descriptors.Descriptor.TheVariants as on
@@ -16,7 +16,7 @@ use Rattle.iol_core.specs.declared.events.Event.TheVariants as event
 use Rattle.iol_core.specs.declared.events.Reply.{Reply}
 use Rattle.iol_core.specs.declared.events.Reply.TheVariants as reply
 use Rattle.iol_core.proofs.Lookups.{domain-same}
-use Rattle.iol_core.proofs.Passing.{passed, when-none}
+use Rattle.iol_core.proofs.TestedLists.{passed, when-none}
 use Rattle.iol_laws.specs.Order.{IsOrderly}
 use Rattle.iol_laws.specs.Caller.{lent_at, Puts, ReadsConn, WritesConn, Closes, ClosesConn, Accepts}
 use Rattle.iol_laws.proofs.Caller.Queues.{FitsIn, fits_in, front, read_passes, takes_front, wrote_agg}
@@ -25,7 +25,7 @@ use Rattle.iol_laws.proofs.Domains.{domain-with_same, domains-closed_on, domains
 use Rattle.iol_laws.proofs.Numbers.{got-agg, new-fd, number, text-of}
 use Rattle.iol_laws.proofs.Places.{lowest-free, place-set_free}
 use Rattle.iol_laws.proofs.Tests.{is_some-or}
-use Rattle.iol_laws.proofs.Streams.Waiting.{opened-conn, waiting-is}
+use Rattle.iol_laws.proofs.Streams.WaitingConn.{opened-conn, waiting-is}
 
 -- a text goes behind what is to be sent
 pub puts_conn : (s t : State) (d fd c : ℕ) (bytes : List ℕ) (k : ℕ) (x : Text) → IsOrderly s → descriptor s d fd ≡ Some (on.Connection c) → FitsIn bytes (MAX_QUEUE_BYTES - length (conn_at s c).outgoing) k x → is_gone (conn_at s c).peer ≡ false

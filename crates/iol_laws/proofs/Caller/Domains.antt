@@ -7,7 +7,7 @@ use Rattle.std.proofs.lemmas.Grind.{common_steps}
 use Rattle.std.proofs.lemmas.List.{set-get_or}
 use Rattle.std.proofs.lemmas.List.Folds.{list_any-append}
 use Rattle.iol_core.specs.Text.{Text}
-use Rattle.iol_core.specs.Numbered.{numbered_or, with_numbered, is_numbered}
+use Rattle.iol_core.specs.NumberedLists.{numbered_or, with_numbered, is_numbered}
 use Rattle.iol_core.specs.State.{State, Domain, Pipe, Pool, domain, new_domain, no_domain, no_pool, is_live, pool, is_pool, may_read, pipe_at, conn_at, with_domain}
 use Rattle.iol_core.specs.Meaning.{first, ◌when◌, Never, WantOfMemory}
 use Rattle.iol_core.specs.Run.{StepsTo}
@@ -23,15 +23,15 @@ use Rattle.iol_core.specs.declared.events.Event.TheVariants as event
 use Rattle.iol_core.specs.declared.events.Reply.{Reply}
 use Rattle.iol_core.specs.declared.events.Reply.TheVariants as reply
 use Rattle.iol_core.proofs.Lookups.{domain-same, numbered_or-with}
-use Rattle.iol_core.proofs.Passing.{passed, when-none, when-not}
+use Rattle.iol_core.proofs.TestedLists.{passed, when-none, when-not}
 use Rattle.iol_laws.specs.Order.{IsOrderly}
 use Rattle.iol_laws.specs.Caller.{is_rough}
 use Rattle.iol_laws.specs.CallerDomains.{MakesDomain, Exits, MakesPool, ClosesPool, Admits, SetsPool}
 use Rattle.iol_laws.proofs.Connections.{conns_same}
 use Rattle.iol_laws.proofs.Domains.{domain-with_other, domain-with_same, domains-all_closed, live-first}
-use Rattle.iol_laws.proofs.Order.Ending.{conn_ended, ended_remains, read_end_ended, read_end_shut, unread_ended, write_end_ended, write_end_shut}
-use Rattle.iol_laws.proofs.Left.Pipes.{pipes_same}
-use Rattle.iol_laws.proofs.Refusals.Refusing.{past-live}
+use Rattle.iol_laws.proofs.Order.Closes.{conn_ended, ended_remains, read_end_ended, read_end_shut, unread_ended, write_end_ended, write_end_shut}
+use Rattle.iol_laws.proofs.Frame.Pipes.{pipes_same}
+use Rattle.iol_laws.proofs.Refusals.Rest.{past-live}
 use Rattle.iol_laws.proofs.Tests.{both-true}
 
 -- the number of a domain or a pool in a reply

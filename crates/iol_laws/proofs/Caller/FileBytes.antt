@@ -5,15 +5,15 @@ use Rattle.std.proofs.lemmas.Bool.Decides.{nat_tests}
 use Rattle.std.proofs.lemmas.Grind.{common_steps}
 use Rattle.std.proofs.lemmas.List.{take_all}
 use Rattle.iol_core.specs.Text.{Text, bytes_of, labelled}
-use Rattle.iol_core.specs.Numbered.{lookup, numbered_or, with_numbered, is_numbered, in_place}
+use Rattle.iol_core.specs.NumberedLists.{lookup, numbered_or, with_numbered, is_numbered, in_place}
 use Rattle.iol_core.specs.State.{State, Domain, domain, text, aggregate, descriptor, content, file, may_read, is_live, with_domain, with_content}
 use Rattle.iol_core.specs.Positions.{ArePlaced}
 use Rattle.iol_core.specs.Meaning.{first, ◌when◌, WantOfRoom}
 use Rattle.iol_core.specs.Run.{StepsTo}
 use Rattle.iol_core.specs.Calls.Aggregates as aggs
 use Rattle.iol_core.specs.Calls.Descriptors as fds
-use Rattle.iol_core.specs.Calls.Reading as reading
-use Rattle.iol_core.specs.Calls.Writing as writing
+use Rattle.iol_core.specs.Calls.Reads as reading
+use Rattle.iol_core.specs.Calls.Writes as writing
 use Rattle.iol_core.specs.declared.limits.TheConstants.{MAX_FILE_BYTES}
 use Rattle.iol_core.specs.declared.refusals.Refusal.{Refusal}
 use Rattle.iol_core.specs.declared.refusals.Refusal.TheVariants as refuse
@@ -31,7 +31,7 @@ use Rattle.iol_laws.specs.CallerFiles.{ReadsFile, WritesFile, laid_over}
 use Rattle.iol_laws.proofs.Caller.Files.{moved-fd}
 use Rattle.iol_laws.proofs.Domains.{domain-with_same}
 use Rattle.iol_laws.proofs.Numbers.{agg-there, lent-made, number, text-of}
-use Rattle.iol_laws.proofs.Refusals.Refusing.{past, past-live}
+use Rattle.iol_laws.proofs.Refusals.Rest.{past, past-live}
 use Rattle.iol_laws.proofs.Texts.{bytes-labelled, length-bytes, length-labelled}
 
 -- Reading.

@@ -4,7 +4,7 @@ use Rattle.std.specs.Prelude.{option_map, slice_set, unwrap_or, not, is_none, is
 use Rattle.std.proofs.lemmas.Bool.Decides.{nat_tests}
 use Rattle.std.proofs.lemmas.Grind.{common_steps}
 use Rattle.std.proofs.lemmas.Slice.Eq.{bytes_eq-Decides}
-use Rattle.iol_core.specs.Numbered.{numbered_or, is_numbered, in_place}
+use Rattle.iol_core.specs.NumberedLists.{numbered_or, is_numbered, in_place}
 use Rattle.iol_core.specs.State.{State, Domain, File, domain, descriptor, content, file, no_file, may_read, is_live}
 use Rattle.iol_core.specs.Meaning.{first, ◌when◌, Never, FaultOf, WantOfMemory}
 use Rattle.iol_core.specs.Run.{StepsTo}
@@ -20,13 +20,13 @@ use Rattle.iol_core.specs.declared.events.Call.TheVariants as call
 use Rattle.iol_core.specs.declared.events.Event.TheVariants as event
 use Rattle.iol_core.specs.declared.events.Reply.{Reply}
 use Rattle.iol_core.specs.declared.events.Reply.TheVariants as reply
-use Rattle.iol_core.proofs.Passing.{passed, when-none, when-not}
+use Rattle.iol_core.proofs.TestedLists.{passed, when-none, when-not}
 use Rattle.iol_laws.specs.Caller.{is_rough}
 use Rattle.iol_laws.specs.CallerFiles.{MakesFile, Opening, Seeks, Tells, Syncs}
 use Rattle.iol_laws.proofs.Domains.{domain-with_same}
 use Rattle.iol_laws.proofs.Numbers.{new-fd, number}
 use Rattle.iol_laws.proofs.Places.{lowest-free, place-set_there}
-use Rattle.iol_laws.proofs.Refusals.Refusing.{past-live, past-file}
+use Rattle.iol_laws.proofs.Refusals.Rest.{past-live, past-file}
 use Rattle.iol_laws.proofs.Tests.{is_some-or}
 
 -- a descriptor that is open is set

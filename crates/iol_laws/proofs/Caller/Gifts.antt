@@ -4,7 +4,7 @@ use Rattle.std.specs.Prelude.{option_map, not, ◌||◌, if◌then◌else◌}
 use Rattle.std.specs.Option.{option_map_or}
 use Rattle.std.proofs.lemmas.Bool.Decides.{nat_tests}
 use Rattle.iol_core.specs.Text.{Text, bytes_of}
-use Rattle.iol_core.specs.Numbered.{lookup, without, in_place, lowest, placed}
+use Rattle.iol_core.specs.NumberedLists.{lookup, without, in_place, lowest, placed}
 use Rattle.iol_core.specs.State.{State, Domain, domain, text, descriptor, is_live}
 use Rattle.iol_core.specs.Meaning.{first, ◌when◌}
 use Rattle.iol_core.specs.Run.{StepsTo}
@@ -17,7 +17,7 @@ use Rattle.iol_core.specs.declared.events.Call.TheVariants as call
 use Rattle.iol_core.specs.declared.events.Event.TheVariants as event
 use Rattle.iol_core.specs.declared.events.Reply.{Reply}
 use Rattle.iol_core.specs.declared.events.Reply.TheVariants as reply
-use Rattle.iol_core.proofs.Passing.{passed}
+use Rattle.iol_core.proofs.TestedLists.{passed}
 use Rattle.iol_laws.specs.Order.{IsOrderly}
 use Rattle.iol_laws.specs.Caller.{lent_at, HandsOn, GivesFd, GivesAgg}
 use Rattle.iol_laws.proofs.Domains.{domain-with_other, domain-with_same}

@@ -3,12 +3,12 @@ use Rattle.std.proofs.Common.{◌≡◌, ℕ, List, [], ◌++◌, length, take, 
 use Rattle.iol_core.specs.declared.limits.TheConstants.{MAX_QUEUE_BYTES}
 use Rattle.std.specs.Prelude.{◌-◌, slice_set, unwrap_or, not, ◌||◌, if◌then◌else◌}
 use Rattle.iol_core.specs.Text.{Text}
-use Rattle.iol_core.specs.Numbered.{in_place, lowest, placed}
+use Rattle.iol_core.specs.NumberedLists.{in_place, lowest, placed}
 use Rattle.iol_core.specs.State.{State, Domain, Pipe, domain, text, descriptor, may_read, pipe_at, no_pipe, new_pipe, is_live, with_domain, with_pipe}
 use Rattle.iol_core.specs.Run.{StepsTo}
 use Rattle.iol_core.specs.Calls.Aggregates as aggs
 use Rattle.iol_core.specs.Calls.Descriptors as fds
-use Rattle.iol_core.specs.Calls.Reading as reading
+use Rattle.iol_core.specs.Calls.Reads as reading
 use Rattle.iol_core.specs.declared.descriptors.Descriptor.{Descriptor}
 use Rattle.iol_core.specs.declared.descriptors.Descriptor.TheVariants as on
 use Rattle.iol_core.specs.declared.events.Call.TheVariants as call
@@ -22,7 +22,7 @@ use Rattle.iol_laws.proofs.Caller.Queues.{FitsIn, fits_in, front, read_passes, t
 use Rattle.iol_laws.proofs.Domains.{domain-with_same, domains-with_pipe, live-first}
 use Rattle.iol_laws.proofs.Order.Ends.{pipe-with_same}
 use Rattle.iol_laws.proofs.Order.EndsOfCalls.{pipe-there, pipe-twice}
-use Rattle.iol_laws.proofs.Left.Pipes.{pipes_same}
+use Rattle.iol_laws.proofs.Frame.Pipes.{pipes_same}
 use Rattle.iol_laws.proofs.Numbers.{got-agg, new-fd, number, text-of}
 use Rattle.iol_laws.proofs.Places.{lowest-free, place-placed, place-set_free}
 use Rattle.iol_laws.proofs.Tests.{left-true, right-true}

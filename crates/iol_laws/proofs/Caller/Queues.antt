@@ -5,15 +5,15 @@ use Rattle.iol_core.specs.Text.{Text, admitted, barred, bytes_of, labelled}
 use Rattle.iol_core.specs.State.{State, descriptor, text}
 use Rattle.iol_core.specs.Meaning.{first}
 use Rattle.iol_core.specs.Run.{StepsTo}
-use Rattle.iol_core.specs.Calls.Reading as reading
-use Rattle.iol_core.specs.Calls.Writing as writing
+use Rattle.iol_core.specs.Calls.Reads as reading
+use Rattle.iol_core.specs.Calls.Writes as writing
 use Rattle.iol_core.specs.declared.refusals.Refusal.TheVariants as refuse
 use Rattle.iol_core.specs.declared.descriptors.Descriptor.{Descriptor}
 use Rattle.iol_core.specs.declared.events.Call.TheVariants as call
 use Rattle.iol_core.specs.declared.events.Event.TheVariants as event
 use Rattle.iol_core.specs.declared.events.Reply.TheVariants as reply
-use Rattle.iol_core.proofs.Passing.{passed, when-none}
-use Rattle.iol_laws.proofs.Ended.{none-admitted, none-comes}
+use Rattle.iol_core.proofs.TestedLists.{passed, when-none}
+use Rattle.iol_laws.proofs.StreamEnd.{none-admitted, none-comes}
 use Rattle.iol_laws.proofs.Numbers.{number}
 use Rattle.iol_laws.proofs.Texts.{admitted-rest, bytes-take, length-bytes}
 

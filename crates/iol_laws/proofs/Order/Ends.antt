@@ -3,17 +3,17 @@ use Rattle.std.proofs.Common.{inl, inr, zero, suc, ◌≡◌, ◌≢◌, ℕ, �
 use Rattle.std.specs.Prelude.{slice_set, unwrap_or, not, ◌&&◌, ◌||◌, if◌then◌else◌}
 use Rattle.std.proofs.lemmas.Bool.{cases_eq}
 use Rattle.iol_core.specs.Text.{Text}
-use Rattle.iol_core.specs.Numbered.{in_place, placed}
+use Rattle.iol_core.specs.NumberedLists.{in_place, placed}
 use Rattle.iol_core.specs.State.{State, Domain, Pipe, Connection, domain, descriptor, pipe_at, conn_at, no_pipe, with_domain, with_pipe, with_conn}
 use Rattle.iol_core.specs.Calls.Descriptors as fds
-use Rattle.iol_core.specs.Calls.Writing.{is_file}
+use Rattle.iol_core.specs.Calls.Writes.{is_file}
 use Rattle.iol_core.specs.declared.descriptors.Descriptor.{Descriptor}
 use Rattle.iol_core.specs.declared.descriptors.Descriptor.TheVariants as on
 use Rattle.iol_core.proofs.Lookups.{domain-same}
 use Rattle.iol_laws.specs.Order.{stands}
 use Rattle.iol_laws.proofs.Connections.{conns_conn, conns_same}
 use Rattle.iol_laws.proofs.Domains.{domains-closed_on, found-with}
-use Rattle.iol_laws.proofs.Left.Pipes.{pipes_pipe, pipes_same}
+use Rattle.iol_laws.proofs.Frame.Pipes.{pipes_pipe, pipes_same}
 use Rattle.iol_laws.proofs.Places.{place-old, place-set_none}
 use Rattle.iol_laws.proofs.Tests.{apart, left-true, right-true}
 

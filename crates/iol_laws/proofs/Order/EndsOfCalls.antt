@@ -4,7 +4,7 @@ use Rattle.std.specs.Prelude.{option_map, unwrap_or, not, is_none, ◌&&◌}
 use Rattle.std.specs.Option.{option_map_or}
 use Rattle.std.proofs.lemmas.Bool.{cases_eq}
 use Rattle.iol_core.specs.Text.{Text, bytes_of}
-use Rattle.iol_core.specs.Numbered.{in_place, lowest, placed}
+use Rattle.iol_core.specs.NumberedLists.{in_place, lowest, placed}
 use Rattle.iol_core.specs.State.{State, Domain, Pipe, Connection, domain, text, descriptor, content, pipe_at, conn_at, no_pipe, new_pipe, new_domain, is_live, with_domain, with_conn, with_content}
 use Rattle.iol_core.specs.Meaning.{first}
 use Rattle.iol_core.specs.Run.{called, meaning}
@@ -13,9 +13,9 @@ use Rattle.iol_core.specs.Calls.Aggregates as aggs
 use Rattle.iol_core.specs.Calls.Descriptors as fds
 use Rattle.iol_core.specs.Calls.Files.{open_on}
 use Rattle.iol_core.specs.Calls.Outside.{conn_new}
-use Rattle.iol_core.specs.Calls.Reading as reading
-use Rattle.iol_core.specs.Calls.Writing as writing
-use Rattle.iol_core.specs.Calls.Writing.{is_file}
+use Rattle.iol_core.specs.Calls.Reads as reading
+use Rattle.iol_core.specs.Calls.Writes as writing
+use Rattle.iol_core.specs.Calls.Writes.{is_file}
 use Rattle.iol_core.specs.declared.refusals.Refusal.TheVariants as refuse
 use Rattle.iol_core.specs.declared.descriptors.How.TheVariants as ways
 use Rattle.iol_core.specs.declared.descriptors.Descriptor.{Descriptor}
@@ -25,17 +25,17 @@ use Rattle.iol_core.specs.declared.events.Call.TheVariants as call
 use Rattle.iol_core.specs.declared.events.Event.{Event}
 use Rattle.iol_core.specs.declared.events.Event.TheVariants as event
 use Rattle.iol_core.proofs.Lookups.{domain-same, domain-push}
-use Rattle.iol_core.proofs.Passing.{passed, when-none}
+use Rattle.iol_core.proofs.TestedLists.{passed, when-none}
 use Rattle.iol_laws.proofs.Gives.{agg_given}
 use Rattle.iol_laws.specs.Order.{stands, IsOrderly}
 use Rattle.iol_laws.proofs.Connections.{conn-push, conn-unmade, conn-with_same, conns_conn, conns_same, not-over}
 use Rattle.iol_laws.proofs.Domains.{domain-with_same, domains-with_conn, found-with, live-first, with_domain-twice}
 use Rattle.iol_laws.proofs.Order.Ends.{IsSole, sole_closed, sole_less, sole_opened, sole_same, stands-same}
-use Rattle.iol_laws.proofs.Order.EndsKept.{sole_conn, sole_exit, sole_file, sole_file_opened, sole_freed, sole_given, sole_kept, sole_pipe}
-use Rattle.iol_laws.proofs.Left.Pipes.{pipes_same}
+use Rattle.iol_laws.proofs.Order.OpenEnds.{sole_conn, sole_exit, sole_file, sole_file_opened, sole_freed, sole_given, sole_kept, sole_pipe}
+use Rattle.iol_laws.proofs.Frame.Pipes.{pipes_same}
 use Rattle.iol_laws.proofs.Places.{lowest-free, place-new, place-old, place-placed_other}
 use Rattle.iol_laws.proofs.Tests.{is_some-or}
-use Rattle.iol_laws.proofs.Streams.Waiting.{waiting-is}
+use Rattle.iol_laws.proofs.Streams.WaitingConn.{waiting-is}
 
 pub sole_of : (s : State) → IsOrderly s → IsSole s
 sole_of s order = record { one = order.one; all_stand = order.all_stand }

@@ -4,7 +4,7 @@ use Rattle.std.specs.Prelude.{option_map, unwrap_or, not, is_none, ◌&&◌}
 use Rattle.std.specs.Option.{option_map_or}
 use Rattle.std.proofs.lemmas.Bool.{cases_eq}
 use Rattle.iol_core.specs.Text.{Text, bytes_of}
-use Rattle.iol_core.specs.Numbered.{in_place, lowest, placed}
+use Rattle.iol_core.specs.NumberedLists.{in_place, lowest, placed}
 use Rattle.iol_core.specs.State.{State, Domain, Pipe, Connection, is_live, text, descriptor, content, conn_at, new_pipe, new_domain, with_domain, with_conn, with_content}
 use Rattle.iol_core.specs.Meaning.{first}
 use Rattle.iol_core.specs.Run.{called, meaning}
@@ -13,9 +13,9 @@ use Rattle.iol_core.specs.Calls.Aggregates as aggs
 use Rattle.iol_core.specs.Calls.Descriptors as fds
 use Rattle.iol_core.specs.Calls.Files.{open_on}
 use Rattle.iol_core.specs.Calls.Outside.{conn_new}
-use Rattle.iol_core.specs.Calls.Reading as reading
-use Rattle.iol_core.specs.Calls.Writing as writing
-use Rattle.iol_core.specs.Calls.Writing.{is_file}
+use Rattle.iol_core.specs.Calls.Reads as reading
+use Rattle.iol_core.specs.Calls.Writes as writing
+use Rattle.iol_core.specs.Calls.Writes.{is_file}
 use Rattle.iol_core.specs.declared.refusals.Refusal.TheVariants as refuse
 use Rattle.iol_core.specs.declared.descriptors.How.TheVariants as ways
 use Rattle.iol_core.specs.declared.descriptors.Descriptor.{Descriptor}
@@ -25,17 +25,17 @@ use Rattle.iol_core.specs.declared.events.Call.TheVariants as call
 use Rattle.iol_core.specs.declared.events.Event.{Event}
 use Rattle.iol_core.specs.declared.events.Event.TheVariants as event
 use Rattle.iol_core.proofs.Lookups.{domain-same, domain-push}
-use Rattle.iol_core.proofs.Passing.{passed, when-none}
+use Rattle.iol_core.proofs.TestedLists.{passed, when-none}
 use Rattle.iol_laws.proofs.Gives.{agg_given}
 use Rattle.iol_laws.specs.Order.{stands, IsOrderly, IsOpen}
 use Rattle.iol_laws.proofs.Connections.{conn-made, conn-push, conns_same}
 use Rattle.iol_laws.proofs.Domains.{domains-with_conn, live-first}
 use Rattle.iol_laws.proofs.Order.Ends.{stands-same}
 use Rattle.iol_laws.proofs.Order.EndsOfCalls.{pipe-other, pipe-twice}
-use Rattle.iol_laws.proofs.Order.Gone.{AllGone, both-live, live-with}
-use Rattle.iol_laws.proofs.Order.Held.{AllHeld, HasOpen, held_closes, held_conn, held_exit, held_file, held_given, held_kept, held_opened, held_pipe, held_rest, held_same, open-new, open-opened, open-same, stood-other}
-use Rattle.iol_laws.proofs.Left.Domains.{standing_read_on}
-use Rattle.iol_laws.proofs.Left.Pipes.{pipes_same}
+use Rattle.iol_laws.proofs.Order.DomainEnd.{AllGone, both-live, live-with}
+use Rattle.iol_laws.proofs.Order.OpenConns.{AllHeld, HasOpen, held_closes, held_conn, held_exit, held_file, held_given, held_kept, held_opened, held_pipe, held_rest, held_same, open-new, open-opened, open-same, stood-other}
+use Rattle.iol_laws.proofs.Frame.Domains.{standing_read_on}
+use Rattle.iol_laws.proofs.Frame.Pipes.{pipes_same}
 
 pub held_of : (s : State) → IsOrderly s → AllHeld s
 held_of s order = record { each = λ y end is. (let it = order.held y end is in (it.by, it.fd, it.there)) }

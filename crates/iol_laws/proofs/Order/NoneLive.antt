@@ -2,9 +2,9 @@
 -- that is left was closed, or nobody accepted it.
 use Rattle.std.proofs.Common.{◌≡◌, ◌∙◌, ℕ, ap, refl, Option, Some, None, true, false, Bool}
 use Rattle.std.specs.Prelude.{unwrap_or, ◌||◌}
-use Rattle.iol_core.specs.Numbered.{in_place}
+use Rattle.iol_core.specs.NumberedLists.{in_place}
 use Rattle.iol_core.specs.State.{State, Pipe, domain, is_live, pipe_at, no_domain, no_pipe}
-use Rattle.iol_core.specs.Calls.Writing.{is_file}
+use Rattle.iol_core.specs.Calls.Writes.{is_file}
 use Rattle.iol_core.specs.declared.descriptors.Descriptor.{Descriptor}
 use Rattle.iol_core.specs.declared.descriptors.Descriptor.TheVariants as on
 use Rattle.iol_laws.specs.Order.{IsOrderly, stands}

@@ -1,7 +1,7 @@
 -- Each aggregate of a domain has a number of its own, below the next.
 use Rattle.std.proofs.Common.{◌≡◌, ℕ, ◌≤◌, List, ◌∙◌, refl, arith, None}
 use Rattle.iol_core.specs.Text.{Text}
-use Rattle.iol_core.specs.Numbered.{lookup}
+use Rattle.iol_core.specs.NumberedLists.{lookup}
 use Rattle.iol_core.specs.State.{State, domain}
 use Rattle.iol_core.specs.Run.{meaning}
 use Rattle.iol_core.specs.declared.events.Call.{Call}

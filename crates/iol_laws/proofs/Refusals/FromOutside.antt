@@ -14,7 +14,7 @@ use Rattle.iol_core.specs.declared.events.Event.TheVariants as event
 use Rattle.iol_core.specs.declared.events.Reply.TheVariants as reply
 use Rattle.iol_laws.specs.RefusalsLeft.{CannotPutOrLacksRoom, HasNothingToSend, LacksNumbers}
 use Rattle.iol_laws.proofs.Refusals.Reasons.{broken-said, other, said, when-differs}
-use Rattle.iol_laws.proofs.Refusals.Left.{left, may, not-so, of-memory, of-room}
+use Rattle.iol_laws.proofs.Refusals.Calls.{left, may, not-so, of-memory, of-room}
 
 pub left_connect : (s t : State) (p : ℕ) (x : Refusal) → is_pool s p ≡ true → (pool s p).closed ≡ false → StepsTo s (event.ConnNew p) (reply.Refused x) t → LacksNumbers x
 left_connect s t p x there open_yet step =

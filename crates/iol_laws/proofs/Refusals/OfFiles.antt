@@ -3,15 +3,15 @@ use Rattle.std.proofs.Common.{◌≡◌, ◌<◌, ◌≤◌, ℕ, ◌+◌, ◌==
 use Rattle.std.specs.Prelude.{⊤, option_map, unwrap_or, not, is_none, is_some, nat_lt, ◌&&◌, ◌||◌, MatchOption}
 use Rattle.std.proofs.lemmas.Bool.Decides.{nat_tests}
 use Rattle.std.proofs.lemmas.Grind.{common_steps}
-use Rattle.iol_core.specs.Numbered.{numbered_or}
+use Rattle.iol_core.specs.NumberedLists.{numbered_or}
 use Rattle.iol_core.specs.State.{State, Pool, is_live, is_pool, no_pool, content, descriptor, text, may_read, pool, file}
 use Rattle.iol_core.specs.Meaning.{Never, WantOfMemory, WantOfRoom, WantOfRoomOrFault, FaultOf}
 use Rattle.iol_core.specs.Run.{StepsTo, called}
 use Rattle.iol_core.specs.Calls.Aggregates as aggs
 use Rattle.iol_core.specs.Calls.Files as files
 use Rattle.iol_core.specs.Calls.Files.{file_called}
-use Rattle.iol_core.specs.Calls.Reading as reading
-use Rattle.iol_core.specs.Calls.Writing as writing
+use Rattle.iol_core.specs.Calls.Reads as reading
+use Rattle.iol_core.specs.Calls.Writes as writing
 use Rattle.iol_core.specs.declared.limits.TheConstants.{MAX_FILE_BYTES, MAX_NAME_BYTES}
 use Rattle.iol_core.specs.declared.refusals.Refusal.{Refusal}
 use Rattle.iol_core.specs.declared.refusals.Refusal.TheVariants as refuse
@@ -24,7 +24,7 @@ use Rattle.iol_core.specs.declared.events.Reply.TheVariants as reply
 use Rattle.iol_laws.specs.Caller.{lent_at}
 use Rattle.iol_laws.specs.RefusalsLeft.{LacksNumbers, CannotLoad, CannotFetch, LacksRoom}
 use Rattle.iol_laws.proofs.Numbers.{agg-there}
-use Rattle.iol_laws.proofs.Refusals.Left.{left, may, not-so, of-memory, of-room, alive, long, open-fd}
+use Rattle.iol_laws.proofs.Refusals.Calls.{left, may, not-so, of-memory, of-room, alive, long, open-fd}
 
 -- late ones
 

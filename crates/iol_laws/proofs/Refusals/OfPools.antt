@@ -19,7 +19,7 @@ use Rattle.iol_core.specs.declared.events.Reply.TheVariants as reply
 use Rattle.iol_laws.specs.Caller.{lent_at}
 use Rattle.iol_laws.specs.RefusalsLeft.{LacksNumbers, LacksNumbersOrRoom, IsInUse, HasNoPlace}
 use Rattle.iol_laws.proofs.Numbers.{agg-there, text-of}
-use Rattle.iol_laws.proofs.Refusals.Left.{left, may, not-so, of-memory, of-room, alive, long, open-fd}
+use Rattle.iol_laws.proofs.Refusals.Calls.{left, may, not-so, of-memory, of-room, alive, long, open-fd}
 use Rattle.iol_laws.proofs.Refusals.OfFiles.{pool-there}
 use Rattle.iol_laws.proofs.Texts.{bytes-append, bytes-drop, bytes-take, length-bytes}
 

@@ -5,13 +5,13 @@ use Rattle.std.proofs.lemmas.Bool.{cases_eq}
 use Rattle.std.proofs.lemmas.Bool.Decides.{nat_tests}
 use Rattle.std.proofs.lemmas.Grind.{common_steps}
 use Rattle.iol_core.specs.Text.{Text, barred}
-use Rattle.iol_core.specs.Numbered.{lookup}
+use Rattle.iol_core.specs.NumberedLists.{lookup}
 use Rattle.iol_core.specs.State.{State, Connection, aggregate, is_live, descriptor, text, may_read, conn_at, pipe_at, is_gone}
 use Rattle.iol_core.specs.Meaning.{first, ◌when◌, Never}
 use Rattle.iol_core.specs.Run.{StepsTo}
 use Rattle.iol_core.specs.Calls.Descriptors as fds
-use Rattle.iol_core.specs.Calls.Reading as reading
-use Rattle.iol_core.specs.Calls.Writing as writing
+use Rattle.iol_core.specs.Calls.Reads as reading
+use Rattle.iol_core.specs.Calls.Writes as writing
 use Rattle.iol_core.specs.declared.limits.TheConstants.{MAX_QUEUE_BYTES}
 use Rattle.iol_core.specs.declared.refusals.Refusal.{Refusal}
 use Rattle.iol_core.specs.declared.refusals.Refusal.TheVariants as refuse
@@ -25,7 +25,7 @@ use Rattle.iol_laws.specs.Caller.{lent_at}
 use Rattle.iol_laws.specs.Reasons.{IsHidden}
 use Rattle.iol_laws.proofs.Connections.{conn-found, conn-unmade}
 use Rattle.iol_laws.proofs.Numbers.{agg-there}
-use Rattle.iol_laws.proofs.Refusals.Refusing.{past, past-live}
+use Rattle.iol_laws.proofs.Refusals.Rest.{past, past-live}
 
 -- a refusal that is no late one is the first that holds
 pub said : (o : Option Refusal) (x : Refusal) → MatchOption o ⊥ (λ y. x ≡ y) → o ≡ Some x

@@ -4,13 +4,13 @@ use Rattle.std.specs.Prelude.{fold}
 use Rattle.std.proofs.lemmas.Bool.{cases_eq}
 use Rattle.std.proofs.lemmas.Bool.Decides.{nat_tests}
 use Rattle.iol_core.specs.Text.{Text, labelled}
-use Rattle.iol_core.specs.Numbered.{lowest}
+use Rattle.iol_core.specs.NumberedLists.{lowest}
 use Rattle.iol_core.specs.State.{State, Domain, Pipe, domain, descriptor, text, pipe_at, no_domain, with_domain, with_pipe, with_content}
 use Rattle.iol_core.specs.Run.{called, meaning, StepsTo}
 use Rattle.iol_core.specs.Calls.Aggregates.{default_pool}
 use Rattle.iol_core.specs.Calls.Descriptors as fds
-use Rattle.iol_core.specs.Calls.Reading as reading
-use Rattle.iol_core.specs.Calls.Writing as writing
+use Rattle.iol_core.specs.Calls.Reads as reading
+use Rattle.iol_core.specs.Calls.Writes as writing
 use Rattle.iol_core.specs.declared.descriptors.Descriptor.{Descriptor}
 use Rattle.iol_core.specs.declared.descriptors.Descriptor.TheVariants as on
 use Rattle.iol_core.specs.declared.events.Call.{Call}
@@ -21,9 +21,9 @@ use Rattle.iol_core.specs.declared.events.Reply.{Reply}
 use Rattle.iol_core.specs.declared.events.Reply.TheVariants as reply
 use Rattle.iol_laws.specs.Sources.{is_write_end, taken_from, writes_pipe}
 use Rattle.iol_laws.proofs.Bounds.ShortQueues.{pipe-made}
-use Rattle.iol_laws.proofs.Left.Pipes.{pipes_meant, pipes_pipe, pipes_same, pipes-with_conn, pipe-new}
-use Rattle.iol_laws.proofs.Order.Held.{pipe-either}
-use Rattle.iol_laws.proofs.Sources.Made.{Lie, lie-both, lie-dropped, lie-labelled, lie-taken}
+use Rattle.iol_laws.proofs.Frame.Pipes.{pipes_meant, pipes_pipe, pipes_same, pipes-with_conn, pipe-new}
+use Rattle.iol_laws.proofs.Order.OpenConns.{pipe-either}
+use Rattle.iol_laws.proofs.Sources.NewAggregates.{Lie, lie-both, lie-dropped, lie-labelled, lie-taken}
 
 module _ (pools : ℕ → Bool) (p : ℕ) where
   abbrev LieIn : State → Type 0

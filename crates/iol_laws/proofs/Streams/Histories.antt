@@ -18,13 +18,13 @@ use Rattle.iol_laws.specs.Order.{IsOrderly}
 use Rattle.iol_laws.proofs.Runs.{told-append, run-even}
 use Rattle.iol_laws.specs.Others.{ComesIn}
 use Rattle.iol_laws.specs.History.{came_by, sent_by, stream_of, sent_of, drops_unsent, IsEndOf, GoesFirst}
-use Rattle.iol_laws.proofs.Left.Leaving.{leaves_step}
+use Rattle.iol_laws.proofs.Frame.Steps.{leaves_step}
 use Rattle.iol_laws.proofs.Streams.Outside.{does_arrive, does_transmit}
-use Rattle.iol_laws.proofs.Streams.Remaining.{Went, went-out}
-use Rattle.iol_laws.proofs.Order.Ordered.{orderly_step}
+use Rattle.iol_laws.proofs.Streams.Remains.{Went, went-out}
+use Rattle.iol_laws.proofs.Order.Steps.{orderly_step}
 use Rattle.iol_laws.proofs.Texts.{bytes-append}
-use Rattle.iol_laws.proofs.Streams.Unsent.{IsLonger, longer_same, longer_meant}
-use Rattle.iol_laws.proofs.Streams.Unread.{IsRest, rest_same, rest_meant}
+use Rattle.iol_laws.proofs.Streams.UnsentBytes.{IsLonger, longer_same, longer_meant}
+use Rattle.iol_laws.proofs.Streams.UnreadBytes.{IsRest, rest_same, rest_meant}
 
 -- In parts.
 

@@ -8,7 +8,7 @@ use Rattle.iol_core.specs.Text.{Text, barred, labelled}
 use Rattle.iol_core.specs.State.{State, Connection, descriptor, may_read, conn_at, new_conn, new_state, with_conn}
 use Rattle.iol_core.specs.Run.{called, meaning, Run, StepsTo}
 use Rattle.iol_core.specs.Calls.Outside.{closed_by}
-use Rattle.iol_core.specs.Calls.Reading as reading
+use Rattle.iol_core.specs.Calls.Reads as reading
 use Rattle.iol_core.specs.declared.limits.TheConstants.{MAX_QUEUE_BYTES}
 use Rattle.iol_core.specs.declared.refusals.Refusal.{Refusal}
 use Rattle.iol_core.specs.declared.refusals.Refusal.TheVariants as refuse
@@ -22,11 +22,11 @@ use Rattle.iol_core.specs.declared.events.Event.{Event}
 use Rattle.iol_core.specs.declared.events.Event.TheVariants as event
 use Rattle.iol_core.specs.declared.events.Reply.{Reply}
 use Rattle.iol_core.specs.declared.events.Reply.TheVariants as reply
-use Rattle.iol_core.proofs.Passing.{list_all-both, list_all-drop, list_all-labelled, list_all-lookup, list_all-push, list_all-take, list_all-weaker}
+use Rattle.iol_core.proofs.TestedLists.{list_all-both, list_all-drop, list_all-labelled, list_all-lookup, list_all-push, list_all-take, list_all-weaker}
 use Rattle.iol_laws.proofs.Runs.{run_keeps}
 use Rattle.iol_laws.specs.Labels.{AreAtHome, lies_in}
-use Rattle.iol_laws.proofs.Changing.{Change, Reads, Closes, all_turned, changed_by, changes, conns_turned, turned}
-use Rattle.iol_laws.proofs.Refusals.Left.{left, may}
+use Rattle.iol_laws.proofs.ConnChanges.{Change, Reads, Closes, all_turned, changed_by, changes, conns_turned, turned}
+use Rattle.iol_laws.proofs.Refusals.Calls.{left, may}
 use Rattle.iol_laws.proofs.Bounds.ShortQueues.{list_all-with_conn}
 
 abbrev is_home : Connection → Bool

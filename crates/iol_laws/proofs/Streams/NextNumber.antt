@@ -9,7 +9,7 @@ use Rattle.iol_core.specs.declared.events.Call.{Call}
 use Rattle.iol_core.specs.declared.events.Event.{Event}
 use Rattle.iol_core.specs.declared.events.Event.TheVariants as event
 use Rattle.iol_core.specs.declared.events.Reply.{Reply}
-use Rattle.iol_laws.proofs.Changing.{Change, changed_by, turned, all_turned, changes, conns_turned}
+use Rattle.iol_laws.proofs.ConnChanges.{Change, changed_by, turned, all_turned, changes, conns_turned}
 use Rattle.iol_laws.proofs.Connections.{next-with_conn}
 
 next_turned : (s : State) (es : List (ℕ × Change)) → (all_turned s es).next_conn ≡ s.next_conn

@@ -5,7 +5,7 @@ use Rattle.std.specs.List.{list_any}
 use Rattle.std.proofs.lemmas.Bool.{cases_eq}
 use Rattle.std.proofs.lemmas.Bool.Decides.{nat_tests}
 use Rattle.std.proofs.lemmas.Grind.{common_steps}
-use Rattle.iol_core.specs.Numbered.{in_place}
+use Rattle.iol_core.specs.NumberedLists.{in_place}
 use Rattle.iol_core.specs.State.{State, Connection, domain, descriptor, may_read, conn_at}
 use Rattle.iol_core.specs.Run.{called, StepsTo, outcome}
 use Rattle.iol_core.specs.Calls.Descriptors as fds
@@ -17,15 +17,15 @@ use Rattle.iol_core.specs.declared.events.Call.TheVariants as call
 use Rattle.iol_core.specs.declared.events.Event.TheVariants as event
 use Rattle.iol_core.specs.declared.events.Reply.{Reply}
 use Rattle.iol_core.specs.declared.events.Reply.TheVariants as reply
-use Rattle.iol_core.proofs.Passing.{passed, when-none}
+use Rattle.iol_core.proofs.TestedLists.{passed, when-none}
 use Rattle.iol_laws.specs.Frame.{operands, is_conn}
 use Rattle.iol_laws.specs.Order.{IsOrderly}
 use Rattle.iol_laws.specs.Caller.{Accepts}
-use Rattle.iol_laws.proofs.Streams.Accepted.{accepted_called, accepted_outcome}
+use Rattle.iol_laws.proofs.Streams.Accept.{accepted_called, accepted_outcome}
 use Rattle.iol_laws.proofs.Caller.Descriptors.{does_accept}
-use Rattle.iol_laws.proofs.Left.Leaving.{leaves_step}
+use Rattle.iol_laws.proofs.Frame.Steps.{leaves_step}
 use Rattle.iol_laws.proofs.Tests.{both-false, is_some-or}
-use Rattle.iol_laws.proofs.Streams.Waiting.{waiting-is}
+use Rattle.iol_laws.proofs.Streams.WaitingConn.{waiting-is}
 
 not-on : (c : ℕ) (o : Option Descriptor) → (o ≡ Some (on.Connection c) → ⊥) → is_conn c o ≡ false
 not-on c (Some (on.Connection e)) never = elim (cases_eq e c) [ inl same ↦ absurd (never (ap (λ n. Some (on.Connection n)) same)) | inr differ ↦ grind (arith, nat_tests, differ) ]

@@ -7,13 +7,13 @@ use Rattle.std.proofs.lemmas.Bool.Decides.{nat_tests}
 use Rattle.std.proofs.lemmas.Grind.{common_steps}
 use Rattle.std.proofs.lemmas.List.{append-nil, take-append-drop}
 use Rattle.iol_core.specs.Text.{Text}
-use Rattle.iol_core.specs.Numbered.{in_place, lowest}
+use Rattle.iol_core.specs.NumberedLists.{in_place, lowest}
 use Rattle.iol_core.specs.State.{State, Domain, Pipe, domain, descriptor, pipe_at, no_pipe, no_domain, with_domain, with_pipe}
 use Rattle.iol_core.specs.Meaning.{Meaning, Step}
 use Rattle.iol_core.specs.Run.{called, StepsTo, outcome}
 use Rattle.iol_core.specs.Calls.Descriptors as fds
-use Rattle.iol_core.specs.Calls.Reading as reading
-use Rattle.iol_core.specs.Calls.Writing as writing
+use Rattle.iol_core.specs.Calls.Reads as reading
+use Rattle.iol_core.specs.Calls.Writes as writing
 use Rattle.iol_core.specs.declared.refusals.Refusal.{Refusal}
 use Rattle.iol_core.specs.declared.descriptors.Descriptor.{Descriptor}
 use Rattle.iol_core.specs.declared.descriptors.Descriptor.TheVariants as on
@@ -23,10 +23,10 @@ use Rattle.iol_core.specs.declared.events.Event.TheVariants as event
 use Rattle.iol_core.specs.declared.events.Reply.{Reply}
 use Rattle.iol_laws.specs.Frame.{is_end, touches_pipe}
 use Rattle.iol_laws.specs.Others.{HasNotEnd, StaysUnread, GoesFromFront}
-use Rattle.iol_laws.proofs.Order.Ending.{MayShut, all_shut, may_shut, none-open, none-reading, none-writing, not-reading, not-writing}
+use Rattle.iol_laws.proofs.Order.Closes.{MayShut, all_shut, may_shut, none-open, none-reading, none-writing, not-reading, not-writing}
 use Rattle.iol_laws.proofs.Order.Ends.{pipe-with_same}
-use Rattle.iol_laws.proofs.Left.Leaving.{leaves_step}
-use Rattle.iol_laws.proofs.Left.Pipes.{pipes_meant, pipes_read_on, pipes_same, pipes_written}
+use Rattle.iol_laws.proofs.Frame.Steps.{leaves_step}
+use Rattle.iol_laws.proofs.Frame.Pipes.{pipes_meant, pipes_read_on, pipes_same, pipes_written}
 use Rattle.iol_laws.proofs.Places.{lowest-free}
 use Rattle.iol_laws.proofs.Tests.{left-true, right-true}
 

@@ -4,7 +4,7 @@ use Rattle.std.specs.Prelude.{min, not, is_none, is_some, ◌&&◌, ◌||◌, �
 use Rattle.std.proofs.lemmas.List.{length-take}
 use Rattle.iol_core.specs.Text.{Text, bytes_of, labelled}
 use Rattle.iol_core.specs.Checksum.{checksum}
-use Rattle.iol_core.specs.Numbered.{lookup}
+use Rattle.iol_core.specs.NumberedLists.{lookup}
 use Rattle.iol_core.specs.State.{State, Connection, pool, conn_at, is_gone, with_conn}
 use Rattle.iol_core.specs.Meaning.{first, ◌when◌}
 use Rattle.iol_core.specs.Run.{StepsTo}
@@ -17,7 +17,7 @@ use Rattle.iol_core.specs.declared.descriptors.How.{How}
 use Rattle.iol_core.specs.declared.events.Event.TheVariants as event
 use Rattle.iol_core.specs.declared.events.Reply.{Reply}
 use Rattle.iol_core.specs.declared.events.Reply.TheVariants as reply
-use Rattle.iol_core.proofs.Passing.{passed, when-none}
+use Rattle.iol_core.proofs.TestedLists.{passed, when-none}
 use Rattle.iol_laws.specs.Order.{IsOrderly}
 use Rattle.iol_laws.specs.Others.{MakesConn, Arrives, Transmits, PeerCloses}
 use Rattle.iol_laws.proofs.Connections.{conn-made, conn-remains, conn-unmade, conn-there, conn-with_same}

@@ -2,9 +2,9 @@ use Rattle.std.proofs.Common.{◌-◌, ◌+◌, ◌++◌, take, drop, arith, ap,
 use Rattle.std.proofs.lemmas.Grind.{common_steps}
 use Rattle.iol_hold.specs.Places.{slice_places, places}
 use Rattle.iol_hold.specs.Texts.{bufs_of}
-use Rattle.iol_hold.proofs.Slicing.{places-push}
+use Rattle.iol_hold.proofs.SlicePlaces.{places-push}
 use Rattle.iol_pipe.proofs.Prefixes.{take_step, cut_first}
-use Rattle.iol_pipe.proofs.Shared.{next_held, next_countable, shares_next, bufs_next, shares_into}
+use Rattle.iol_pipe.proofs.SharedHolds.{next_held, next_countable, shares_next, bufs_next, shares_into}
 use Rattle.iol_pipe.proofs.add_prefix.Goals as goal
 
 pub returns-then-left-eq0 : goal.returns-then-left-eq0

@@ -1,7 +1,7 @@
 use Rattle.std.specs.VecDeque.{deque_len}
 use Rattle.iol_hold.specs.Moves.{Moves, SameLists}
 use Rattle.iol_hold.specs.Releases.{FreesOnly}
-use Rattle.iol_hold.specs.Stored.{AllSettled}
+use Rattle.iol_hold.specs.StoreState.{AllSettled}
 use Rattle.iol_hold.specs.Texts.{bufs_of, AllReadable}
 use Rattle.iol_pipe.proofs.release_all.Given as goal
 

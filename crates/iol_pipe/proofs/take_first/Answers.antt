@@ -3,11 +3,11 @@ use Rattle.iol_hold.specs.Moves.{Shares}
 use Rattle.iol_hold.specs.Places.{slice_places, places}
 use Rattle.iol_hold.specs.Texts.{bufs_of}
 use Rattle.iol_hold.specs.declared.slices.Slice.{Slice}
-use Rattle.iol_hold.proofs.Moving.{shares_none}
+use Rattle.iol_hold.proofs.Moves.{shares_none}
 use Rattle.iol_pipe.specs.Queue.{first_parts}
 use Rattle.iol_pipe.proofs.Parts.{first_parts-whole, first_parts-cut}
 use Rattle.iol_pipe.proofs.Prefixes.{split_first, cut_first, cut_rest}
-use Rattle.iol_pipe.proofs.Shared.{first_tally, first_held, shares_as, shares_split}
+use Rattle.iol_pipe.proofs.SharedHolds.{first_tally, first_held, shares_as, shares_split}
 use Rattle.iol_pipe.proofs.take_first.Goals as goal
 
 pub returns-then-first-most : goal.returns-then-first-most

@@ -3,7 +3,7 @@ use Rattle.iol_pool.specs.Pools.{Pool}
 use Rattle.iol_hold.specs.declared.slices.Slice.{Slice}
 use Rattle.iol_pipe.specs.Queue.{names_given}
 use Rattle.iol_pipe.proofs.Parts.{taken_none, taken_all, taken_barred, taken_more}
-use Rattle.iol_pipe.proofs.Shared.{none_tally, fewer_moved, rest_shared}
+use Rattle.iol_pipe.proofs.SharedHolds.{none_tally, fewer_moved, rest_shared}
 use Rattle.iol_pipe.proofs.take_prefix.Goals as goal
 
 -- what was asked of the pools now holds of those before

@@ -86,7 +86,7 @@ fn fill_two<R: Abort>(rt: &R, alloc: Global, store: &mut Store, pool: PoolId, te
 }
 
 // Begins buffers of 70,000 bytes, writes to them and publishes them.
-#[tactic(auto, using(iol_hold::proofs::Moving::covers_given))]
+#[tactic(auto, using(iol_hold::proofs::Moves::covers_given))]
 fn publish_two<R: Abort>(rt: &R, alloc: Global, store: &mut Store, pool: PoolId) -> bool {
     assert!(rt; !store.pools().is_closed(pool));
     let mut filling = store.begin(alloc, pool, 70_000).expect(rt, "room");

@@ -1,5 +1,5 @@
 //! A process that waits for connections, and what it says of itself.
-ghost use Rattle.iol_tests.specs.Watching.{Watches, HasWatched};
+ghost use Rattle.iol_tests.specs.Watcher.{Watches, HasWatched};
 
 use iol_core::events::{Call, Reply};
 use iol_proc::idle::Settling;

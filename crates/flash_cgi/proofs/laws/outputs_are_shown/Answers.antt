@@ -1,4 +1,4 @@
-use Rattle.flash_cgi.proofs.Shown.{outputs_are_shown}
+use Rattle.flash_cgi.proofs.OutputPools.{outputs_are_shown}
 use Rattle.flash_cgi.proofs.laws.outputs_are_shown.Goals as goal
 
 pub returns : goal.returns

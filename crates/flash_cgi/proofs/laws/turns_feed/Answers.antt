@@ -1,4 +1,4 @@
-use Rattle.flash_cgi.proofs.Turning.{turn_feeds}
+use Rattle.flash_cgi.proofs.OutputByTurn.{turn_feeds}
 use Rattle.flash_cgi.proofs.laws.turns_feed.Goals as goal
 
 pub returns : goal.returns

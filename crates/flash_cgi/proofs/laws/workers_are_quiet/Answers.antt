@@ -1,4 +1,4 @@
-use Rattle.flash_cgi.proofs.Leaving.{workers_are_quiet}
+use Rattle.flash_cgi.proofs.Frame.{workers_are_quiet}
 use Rattle.flash_cgi.proofs.laws.workers_are_quiet.Goals as goal
 
 pub returns : goal.returns

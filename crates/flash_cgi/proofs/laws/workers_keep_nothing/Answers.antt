@@ -1,4 +1,4 @@
-use Rattle.flash_cgi.proofs.Keeping.{workers_keep_nothing}
+use Rattle.flash_cgi.proofs.UsesByTurn.{workers_keep_nothing}
 use Rattle.flash_cgi.proofs.laws.workers_keep_nothing.Goals as goal
 
 pub returns : goal.returns

@@ -1,4 +1,4 @@
-use Rattle.flash_cgi.proofs.Ended.{workers_stop}
+use Rattle.flash_cgi.proofs.PipeEnd.{workers_stop}
 use Rattle.flash_cgi.proofs.laws.workers_stop.Goals as goal
 
 pub returns : goal.returns

@@ -6,7 +6,7 @@ use Rattle.std.proofs.lemmas.List.{take_all}
 use Rattle.iol_core.specs.Text.{bytes_of}
 use Rattle.iol_core.specs.State.{State, Connection, File as FileEntry, descriptor, content, conn_at, may_read, file}
 use Rattle.iol_core.specs.Calls.Files.{file_called}
-use Rattle.iol_core.specs.Calls.Writing.{is_file}
+use Rattle.iol_core.specs.Calls.Writes.{is_file}
 use Rattle.iol_core.specs.Run.{StepsTo}
 use Rattle.iol_core.specs.declared.descriptors.Descriptor.{Descriptor}
 use Rattle.iol_core.specs.declared.descriptors.Descriptor.TheVariants as on
@@ -30,8 +30,8 @@ use Rattle.flash_laws.specs.Conn as conn
 use Rattle.flash_laws.specs.Conn.{Conn, most_read, name_of, count_of, text_of}
 use Rattle.flash_laws.specs.Workers.Crew.{Crew}
 use Rattle.flash_laws.specs.Conn.Fits.{Has, is_closing, Names}
-use Rattle.flash_laws.specs.Client.Known as known
-use Rattle.flash_laws.specs.Client.Known.{OfFile, OfScript, is_read, is_opening}
+use Rattle.flash_laws.specs.Client.ResponseState as known
+use Rattle.flash_laws.specs.Client.ResponseState.{OfFile, OfScript, is_read, is_opening}
 use Rattle.flash_laws.specs.Run.Fits.{nothing_yet}
 use Rattle.flash_laws.specs.Shelf.{Shelf, due_to}
 use Rattle.flash_laws.specs.Site.{server, found_in, IsFixed}
@@ -39,11 +39,11 @@ use Rattle.flash_laws.specs.declared.phase.Learnt.TheVariants.{File, Length, Tex
 use Rattle.flash_laws.specs.declared.phase.Content.TheVariants.{Error, Script}
 use Rattle.flash_laws.specs.declared.phase.Doing.{Doing}
 use Rattle.flash_laws.specs.declared.phase.Doing.TheVariants.{Opens, Reads as Reading, Shuts, Spares, Heads}
-use Rattle.flash_laws.proofs.Conn.Answering.{some-inj}
+use Rattle.flash_laws.proofs.Conn.Responses.{some-inj}
 use Rattle.flash_laws.proofs.Forms.{at}
 use Rattle.flash_laws.proofs.Client.Phases as phases
 use Rattle.flash_laws.proofs.Counts.{counted}
-use Rattle.flash_laws.proofs.Conn.Lent.{file-same, content-same}
+use Rattle.flash_laws.proofs.Conn.LentBytes.{file-same, content-same}
 use Rattle.flash_laws.proofs.Lists.{not-equal, clash}
 use Rattle.flash_laws.proofs.World.AllLaws.{AllLaws}
 use Rattle.flash_laws.proofs.World.Alone.Ties.{alone, FitsAt, Stands, TiesOn, tie_on}

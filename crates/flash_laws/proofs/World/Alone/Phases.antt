@@ -32,8 +32,8 @@ use Rattle.flash_laws.specs.Conn as conn
 use Rattle.flash_laws.specs.Conn.{Following, Conn, piece_end, count_of, text_of, sends_of, settled, told_shuts, told_picks, told_spares, following, headed, told_heads, told_joins, told_cuts, told_swaps, goes_on, told_sent, told_breaks, drops_next, told_drops, told_got}
 use Rattle.flash_laws.specs.Workers.Crew.{Crew}
 use Rattle.flash_laws.specs.Conn.Fits.{Has, quits, is_closing, HoldsMore, Names}
-use Rattle.flash_laws.specs.Client.Known as known
-use Rattle.flash_laws.specs.Client.Known.{OfFile, OfScript, MayPutOut, is_read, is_opening}
+use Rattle.flash_laws.specs.Client.ResponseState as known
+use Rattle.flash_laws.specs.Client.ResponseState.{OfFile, OfScript, MayPutOut, is_read, is_opening}
 use Rattle.flash_laws.specs.Run.Fits.{nothing_yet}
 use Rattle.flash_laws.specs.Shelf.{Shelf, due_to}
 use Rattle.flash_laws.specs.Site.{server, IsFixed}
@@ -45,7 +45,7 @@ use Rattle.flash_laws.specs.declared.phase.Doing.{Doing}
 use Rattle.flash_laws.specs.declared.phase.Doing.TheVariants.{Rests, Got, Opens, Reads as Reading, Shuts, Picks, Spares, Heads, Joins, Sends, Cuts, Offers, Swaps, Sent, Breaks, Drops, Closes, Over}
 use Rattle.flash_laws.specs.declared.script_run.Running.TheVariants.{Awaits}
 use Rattle.flash_laws.proofs.Forms.{at}
-use Rattle.flash_laws.proofs.Conn.Having as having
+use Rattle.flash_laws.proofs.Conn.AnswerParts as having
 use Rattle.flash_laws.proofs.Lists.{clash}
 use Rattle.flash_laws.proofs.World.AllLaws.{AllLaws}
 use Rattle.flash_laws.proofs.World.Alone.Files as files

@@ -4,7 +4,7 @@ use Rattle.std.specs.Prelude.{min, nat_lt, ◌&&◌, slice_range}
 use Rattle.std.proofs.lemmas.Bool.Decides.{nat_tests}
 use Rattle.iol_core.specs.Text.{Text, bytes_of}
 use Rattle.iol_core.specs.State.{State, Connection, descriptor, conn_at, is_gone}
-use Rattle.iol_core.specs.Calls.Writing.{is_file}
+use Rattle.iol_core.specs.Calls.Writes.{is_file}
 use Rattle.iol_core.specs.Run.{StepsTo}
 use Rattle.iol_core.specs.declared.descriptors.Descriptor.TheVariants as on
 use Rattle.iol_core.specs.declared.refusals.Refusal.TheVariants as no
@@ -31,11 +31,11 @@ use Rattle.flash_laws.specs.Shelf.{Shelf, due_to, responses}
 use Rattle.flash_laws.specs.Site.{server}
 use Rattle.flash_laws.specs.declared.phase.Doing.{Doing}
 use Rattle.flash_laws.specs.declared.phase.Doing.TheVariants.{Rests, Got, Sends, Cuts, Offers, Sent, Breaks, Drops}
-use Rattle.flash_laws.proofs.Conn.Answering.{some-inj, order-all, reads-append}
+use Rattle.flash_laws.proofs.Conn.Responses.{some-inj, order-all, reads-append}
 use Rattle.flash_laws.proofs.Lists.{clash, bytes-append, none-bytes, take-plus, next-front, take-slice, few-taken}
 use Rattle.flash_laws.proofs.TheLaws.{TheLaws}
 use Rattle.flash_laws.proofs.World.Alone.Ties.{alone, FitsAt, part_of, Stands}
-use Rattle.flash_laws.proofs.World.Answering.{begins-append, begins-tie}
+use Rattle.flash_laws.proofs.World.Responses.{begins-append, begins-tie}
 
 module _ (shelf : Shelf) (the : TheLaws) (m n : State) (came sent : List ℕ) (fd c : ℕ) (kept script : List ℕ) (order : IsOrderly m) where
   abbrev Fitting : State → Answer → Doing → Type 0

@@ -8,13 +8,13 @@ use Rattle.flash_laws.specs.Answers.{keeps, Reads}
 use Rattle.flash_laws.specs.Client.{Client}
 use Rattle.flash_laws.specs.Client.Fits.{FitsAlone, TieAlone, is_at_rest, given_of}
 use Rattle.flash_laws.specs.Conn.Fits.{asked, quits}
-use Rattle.flash_laws.specs.Conn.Offering.{taken_of}
+use Rattle.flash_laws.specs.Conn.OfferedBytes.{taken_of}
 use Rattle.flash_laws.specs.Shelf.{Shelf, due_to, responses}
 use Rattle.flash_laws.specs.declared.phase.Doing.{Doing}
 use Rattle.flash_laws.specs.declared.phase.Doing.TheVariants.{Rests, Sent, Closes}
-use Rattle.flash_laws.proofs.Conn.Answering.{all-more, order-more, last-more}
+use Rattle.flash_laws.proofs.Conn.Responses.{all-more, order-more, last-more}
 use Rattle.flash_laws.proofs.Lists.{clash}
-use Rattle.flash_laws.proofs.World.Answering.{responses-more, begins-tie}
+use Rattle.flash_laws.proofs.World.Responses.{responses-more, begins-tie}
 
 abbrev pub alone : (kept script : List ℕ) → Answer → Doing → Client
 alone kept script q d = record { conn = record { kept = kept; q = q; doing = d }; run = None; script = script }

@@ -7,7 +7,7 @@ use Rattle.flash_http.specs.Request.{serve, Wanted}
 use Rattle.flash_laws.specs.Workers.Crew.{Crew}
 use Rattle.flash_laws.specs.Site.Places.{has_worker}
 use Rattle.flash_laws.specs.Run.Fits.{Progress, MayAnswer}
-use Rattle.flash_laws.specs.Run.Offering.{breaks_off}
+use Rattle.flash_laws.specs.Run.OfferedBytes.{breaks_off}
 use Rattle.flash_laws.specs.Shelf.{Shelf, due_to}
 use Rattle.flash_laws.specs.Run.Stages.{HasWorkerAt, Stage}
 use Rattle.flash_laws.specs.declared.script_run.Run.{Run}

@@ -16,9 +16,9 @@ use Rattle.iol_proc.specs.declared.seat.Seat.{Seat}
 use Rattle.flash_cgi.specs.Beside.{is_call_of, LeavesFiles, LeavesWorker}
 use Rattle.flash_laws.specs.Workers.Crew.{Crew, IsFixedFor}
 use Rattle.flash_laws.specs.Run.Fits.{Progress}
-use Rattle.flash_laws.specs.Run.Keeping.{may_make, KeepsToItself}
+use Rattle.flash_laws.specs.Run.Holdings.{may_make, KeepsToItself}
 use Rattle.flash_laws.specs.Run.{worker_domain}
-use Rattle.flash_laws.specs.Site.Served.{AreAtDesks}
+use Rattle.flash_laws.specs.Site.ClientTies.{AreAtDesks}
 use Rattle.flash_laws.specs.Shelf.{Shelf}
 use Rattle.flash_laws.specs.Site.{server}
 use Rattle.flash_laws.specs.Run.Stages.{IsReadyFor, IsGiven, IsPuttingOut, HasPutOut, IsToCome}

@@ -7,7 +7,7 @@ use Rattle.std.specs.List.{slice_split}
 use Rattle.std.proofs.lemmas.Bool.Decides.{nat_tests}
 use Rattle.std.proofs.lemmas.Fmt.{length-decimal-le}
 use Rattle.std.proofs.lemmas.List.{take_all, length-map}
-use Rattle.iol_core.specs.Numbered.{lowest, in_place}
+use Rattle.iol_core.specs.NumberedLists.{lowest, in_place}
 use Rattle.iol_core.specs.Text.{Text, bytes_of}
 use Rattle.iol_core.specs.State.{State, Pipe, descriptor, is_live, may_read, text, pipe_at, no_pipe}
 use Rattle.iol_core.specs.Calls.Aggregates.{default_pool}
@@ -28,17 +28,17 @@ use Rattle.flash_cgi.specs.Job.{job_text}
 use Rattle.flash_cgi.specs.Output.{output}
 use Rattle.flash_cgi.specs.Outcomes.{outcome_in, outcomes_in}
 use Rattle.flash_cgi.specs.Script.{script_of, lines_in, is_line_feed}
-use Rattle.flash_cgi.specs.Taking.{HasJob}
+use Rattle.flash_cgi.specs.JobStart.{HasJob}
 use Rattle.flash_cgi.specs.declared.line.Line.{Line}
 use Rattle.flash_cgi.specs.declared.script.TheConstants.{MAX_SCRIPT_BYTES}
-use Rattle.flash_cgi.proofs.Written.{length-job_text}
+use Rattle.flash_cgi.proofs.JobText.{length-job_text}
 use Rattle.flash_laws.specs.Client.{Client, job_of}
 use Rattle.flash_laws.specs.Client.Fits.{IsScript, output_of}
 use Rattle.flash_laws.specs.Workers.Crew.{Crew}
 use Rattle.flash_laws.specs.Run.Fits.{Progress, nothing_yet, HasPipe}
-use Rattle.flash_laws.specs.Run.Offering.{is_failing, IsLost}
+use Rattle.flash_laws.specs.Run.OfferedBytes.{is_failing, IsLost}
 use Rattle.flash_laws.specs.Run.{worker_domain, job_pipe, is_again, told_awaits, told_gives, told_makes, told_hands}
-use Rattle.flash_laws.specs.Site.Served.{AreAtDesks}
+use Rattle.flash_laws.specs.Site.ClientTies.{AreAtDesks}
 use Rattle.flash_laws.specs.Shelf.{Shelf}
 use Rattle.flash_laws.specs.Site.{server}
 use Rattle.flash_laws.specs.Run.Stages.{IsReadyFor, IsGiven, IsPuttingOut}

@@ -11,7 +11,7 @@ use Rattle.flash_laws.specs.Site.Past.{Past}
 use Rattle.flash_laws.specs.Site.Places.{is_run_by, is_free}
 use Rattle.flash_laws.specs.Workers.PutsOut.{PutsOut}
 use Rattle.flash_laws.specs.Run.Fits.{Progress}
-use Rattle.flash_laws.specs.Site.Served.{AllFit}
+use Rattle.flash_laws.specs.Site.ClientTies.{AllFit}
 use Rattle.flash_laws.specs.Shelf.{Shelf}
 use Rattle.flash_laws.specs.Run.Stages.{IsPuttingOut, Stage}
 use Rattle.flash_laws.specs.declared.script_run.Run.{Run}
@@ -20,10 +20,10 @@ use Rattle.flash_laws.specs.declared.script_run.Step.TheVariants.{Makes, Hands, 
 use Rattle.flash_laws.specs.declared.script_run.Running.{Running}
 use Rattle.flash_laws.specs.declared.script_run.Running.TheVariants.{Runs}
 use Rattle.flash_laws.proofs.Forms.{of}
-use Rattle.flash_laws.proofs.Conn.Answering.{some-inj}
+use Rattle.flash_laws.proofs.Conn.Responses.{some-inj}
 use Rattle.flash_laws.proofs.Conn.Uses.{same-number}
 use Rattle.flash_laws.proofs.World.AllLaws.{AllLaws}
-use Rattle.flash_laws.proofs.Site.Sharing.{runs-for}
+use Rattle.flash_laws.proofs.Site.OwnWorkers.{runs-for}
 
 module _ (crew : Crew) (laws : AllLaws crew) where
   free-reads : (m : State) (j : ℕ) (seat : Seat crew.Worker) → crew.Free m j seat → descriptor m seat.by 0 ≡ Some (on.ReadEnd j)

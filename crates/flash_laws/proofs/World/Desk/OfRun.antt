@@ -15,9 +15,9 @@ use Rattle.flash_laws.specs.Client.Fits.{IsScript, output_of}
 use Rattle.flash_laws.specs.Workers.Crew.{Crew, IsFixedFor}
 use Rattle.flash_laws.specs.Conn.Fits.{Names}
 use Rattle.flash_laws.specs.Run.Fits.{Progress, HasRun}
-use Rattle.flash_laws.specs.Run.Offering.{Learns, is_failing}
+use Rattle.flash_laws.specs.Run.OfferedBytes.{Learns, is_failing}
 use Rattle.flash_laws.specs.Run.{job_pipe, step_wants, wants, told, told_step, is_over}
-use Rattle.flash_laws.specs.Site.Served.{AreAtDesks}
+use Rattle.flash_laws.specs.Site.ClientTies.{AreAtDesks}
 use Rattle.flash_laws.specs.Shelf.{Shelf}
 use Rattle.flash_laws.specs.Site.{server}
 use Rattle.flash_laws.specs.Run.Stages.{HasWorkerAt, AtDesk, IsPuttingOut, HasPutOut, IsToCome}
@@ -26,7 +26,7 @@ use Rattle.flash_laws.specs.declared.script_run.Step.{Step}
 use Rattle.flash_laws.specs.declared.script_run.Step.TheVariants.{Gives, Makes, Hands, Sending, Hears, Ended, Unholds, Stops, Unframes, Lasts, WrapsLast, TrimsLast, Unwraps, Returns, Lapses, Fails}
 use Rattle.flash_laws.specs.declared.script_run.Running.{Running}
 use Rattle.flash_laws.specs.declared.script_run.Running.TheVariants.{Awaits, Runs, Leaves as Left, Closes}
-use Rattle.flash_laws.proofs.Run.Left.{part-sends}
+use Rattle.flash_laws.proofs.Run.Rest.{part-sends}
 use Rattle.flash_laws.proofs.Run.Parts.{no-position}
 use Rattle.flash_laws.proofs.World.AllLaws.{AllLaws}
 pub use Rattle.flash_laws.proofs.World.Desk.After.{DeskAfter}

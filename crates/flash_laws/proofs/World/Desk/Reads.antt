@@ -21,11 +21,11 @@ use Rattle.flash_laws.specs.Conn as conn
 use Rattle.flash_laws.specs.Conn.{Following, count_of}
 use Rattle.flash_laws.specs.Workers.Crew.{Crew}
 use Rattle.flash_laws.specs.Conn.Fits.{Names}
-use Rattle.flash_laws.specs.Client.Known.{MayPutOut}
-use Rattle.flash_laws.specs.Conn.Offering.{is_dropping}
+use Rattle.flash_laws.specs.Client.ResponseState.{MayPutOut}
+use Rattle.flash_laws.specs.Conn.OfferedBytes.{is_dropping}
 use Rattle.flash_laws.specs.Workers.PutsOut.{PutsOut}
 use Rattle.flash_laws.specs.Run.Fits.{Progress, Ran, Broken, NotRun, Follows, MayAnswer, IsSending}
-use Rattle.flash_laws.specs.Run.Offering.{hears_on, takes_on, PartLearns, StepLearns, IsCutOff}
+use Rattle.flash_laws.specs.Run.OfferedBytes.{hears_on, takes_on, PartLearns, StepLearns, IsCutOff}
 use Rattle.flash_laws.specs.Run.{in_phase, held_size, broken, both, told_part, told_sending, told_hears, told_step, filled, holding, hearing}
 use Rattle.flash_laws.specs.Shelf.{Shelf, due_to}
 use Rattle.flash_laws.specs.Site.{server}

@@ -15,7 +15,7 @@ use Rattle.flash_laws.specs.Conn as conn
 use Rattle.flash_laws.specs.Conn.{Following, count_of}
 use Rattle.flash_laws.specs.Workers.Crew.{Crew}
 use Rattle.flash_laws.specs.Run.Fits.{Progress}
-use Rattle.flash_laws.specs.Run.Offering.{PartLearns, breaks_off}
+use Rattle.flash_laws.specs.Run.OfferedBytes.{PartLearns, breaks_off}
 use Rattle.flash_laws.specs.Run.{in_phase, told_step, finishing, ending}
 use Rattle.flash_laws.specs.Shelf.{Shelf, due_to}
 use Rattle.flash_laws.specs.Site.{server}

@@ -14,14 +14,14 @@ use Rattle.iol_core.specs.declared.events.Reply.TheVariants as reply
 use Rattle.iol_laws.specs.Caller.{CallsServeTheirDomain, ClosesWriteEnd, TakesFromPipe, is_rough, lent_at}
 use Rattle.iol_laws.specs.Order.{IsOrderly}
 use Rattle.iol_laws.specs.Sources.{LabelsFollow, MayReadAll, lie_in}
-use Rattle.iol_proc.specs.Settled.{Claim}
+use Rattle.iol_proc.specs.Settlement.{Claim}
 use Rattle.iol_proc.specs.Turns.{Account, SeatTurn}
 use Rattle.iol_proc.specs.World.{copying}
 use Rattle.iol_proc.specs.declared.seat.Seat.{Seat}
 use Rattle.flash_cgi.specs.Beside.{is_call_of, LeavesFiles, OthersHear}
 use Rattle.flash_cgi.specs.Outcomes.{AreFiles}
-use Rattle.flash_cgi.specs.Shown.{HoldFiles}
-use Rattle.flash_cgi.proofs.Feeding.{bytes-append}
+use Rattle.flash_cgi.specs.OutputPools.{HoldFiles}
+use Rattle.flash_cgi.proofs.OutputByCall.{bytes-append}
 use Rattle.flash_laws.specs.Workers.PutsOut.{HasRead, IsAllThere, PutsOut, TextsArePutOut}
 use Rattle.flash_laws.specs.Workers.{WorkersRun, Wrote}
 

@@ -16,7 +16,7 @@ use Rattle.flash_laws.specs.World.Idle.{WouldWait}
 use Rattle.flash_laws.specs.Run.Fits.{Progress, IsPart, sent_agg, HasStep, HasRun}
 use Rattle.flash_laws.specs.Run.{worker_domain, job_pipe, in_phase, held_size, step_wants, wants, is_over}
 use Rattle.flash_laws.specs.Answers.Scripts.{script_text, frame_of, place_in_frame, end_around}
-use Rattle.flash_laws.specs.Site.Served.{AreAtDesks}
+use Rattle.flash_laws.specs.Site.ClientTies.{AreAtDesks}
 use Rattle.flash_laws.specs.Shelf.{Shelf}
 use Rattle.flash_laws.specs.Site.{server}
 use Rattle.flash_laws.specs.Run.Stages.{HasWorkerAt, AtDesk}

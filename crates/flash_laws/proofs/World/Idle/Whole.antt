@@ -4,7 +4,7 @@ use Rattle.std.specs.Prelude.{option_map, ◌&&◌}
 use Rattle.std.proofs.lemmas.Bool.Decides.{nat_tests}
 use Rattle.std.proofs.lemmas.List.{take-append-drop}
 use Rattle.std.proofs.lemmas.Option.{slice_get-map}
-use Rattle.iol_core.specs.Numbered.{in_place}
+use Rattle.iol_core.specs.NumberedLists.{in_place}
 use Rattle.iol_core.specs.Text.{bytes_of}
 use Rattle.iol_core.specs.State.{State, descriptor, conn_at, may_read}
 use Rattle.iol_core.specs.declared.descriptors.Descriptor.TheVariants as on
@@ -24,10 +24,10 @@ use Rattle.flash_laws.specs.World.Idle.{WouldWait, Blocks, AllBlock, server_sett
 use Rattle.flash_laws.specs.Site.Past.{Past}
 use Rattle.flash_laws.specs.Site.Places.{is_run_by, has_free, may_go, runs_scripts, filed}
 use Rattle.flash_laws.specs.Run.Fits.{Progress}
-use Rattle.flash_laws.specs.Run.Offering.{past_of as past_taken, taken_by}
-use Rattle.flash_laws.specs.Site.Served.{Held, Aside, AllFit, IsUsed, AreOwned}
+use Rattle.flash_laws.specs.Run.OfferedBytes.{past_of as past_taken, taken_by}
+use Rattle.flash_laws.specs.Site.ClientTies.{Held, Aside, AllFit, IsUsed, AreOwned}
 use Rattle.flash_laws.specs.Shelf.{Shelf, IsAnswer, due_to}
-use Rattle.flash_laws.specs.Workers.Sharing.{RunsForAnother}
+use Rattle.flash_laws.specs.Workers.OwnWorkers.{RunsForAnother}
 use Rattle.flash_laws.specs.Site.{server}
 use Rattle.flash_laws.specs.World.Tie.{past_of, Actor, Serving}
 use Rattle.flash_laws.specs.World.{as_actor}
@@ -35,11 +35,11 @@ use Rattle.flash_laws.specs.World.Done.{IsHeldUp, IsHeldUpAt, AsksForScript, Run
 use Rattle.flash_laws.specs.declared.script_run.Running.{Running}
 use Rattle.flash_laws.specs.declared.script_run.Running.TheVariants.{Awaits}
 use Rattle.flash_laws.proofs.Forms.{of}
-use Rattle.flash_laws.proofs.Conn.Answering.{reads-append}
+use Rattle.flash_laws.proofs.Conn.Responses.{reads-append}
 use Rattle.flash_laws.proofs.Lists.{clash, never_passed}
-use Rattle.flash_laws.proofs.Site.Settling.{filed-same}
-use Rattle.flash_laws.proofs.Site.Sharing.{workers_shared}
-use Rattle.flash_laws.proofs.Site.Standing.{held-open, conn-same}
+use Rattle.flash_laws.proofs.Site.IdleMoments.{filed-same}
+use Rattle.flash_laws.proofs.Site.OwnWorkers.{workers_shared}
+use Rattle.flash_laws.proofs.Site.OpenDescriptors.{held-open, conn-same}
 use Rattle.flash_laws.proofs.World.AllLaws.{AllLaws}
 use Rattle.flash_laws.proofs.World.Idle.Clients.{IsAnsweredSoFar, alone-left}
 use Rattle.flash_laws.proofs.World.Idle.Runs.{WorkersAreSettled, run-left}

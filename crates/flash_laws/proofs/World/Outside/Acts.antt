@@ -11,15 +11,15 @@ use Rattle.iol_core.specs.declared.events.Reply.TheVariants as reply
 use Rattle.iol_laws.specs.Frame.{Leaves as Leaving}
 use Rattle.iol_laws.specs.Order.{IsOrderly}
 use Rattle.iol_laws.specs.Others as o
-use Rattle.iol_laws.proofs.Streams.Remaining.{Went, went-out}
+use Rattle.iol_laws.proofs.Streams.Remains.{Went, went-out}
 use Rattle.iol_proc.specs.declared.seat.Seat.{Seat}
 use Rattle.flash_laws.specs.Client.{Client}
 use Rattle.flash_laws.specs.Workers.Crew.{Crew, IsFixedFor}
 use Rattle.flash_laws.specs.Site.Past.{Past, and_then}
-use Rattle.flash_laws.specs.Site.Served.{Aside, AllFit}
+use Rattle.flash_laws.specs.Site.ClientTies.{Aside, AllFit}
 use Rattle.flash_laws.specs.Shelf.{Shelf, Begins, IsAnswer}
 use Rattle.flash_laws.specs.Site.{net_pool, KeepsSite}
-use Rattle.flash_laws.specs.Site.Tied.{Waits}
+use Rattle.flash_laws.specs.Site.OtherConns.{Waits}
 use Rattle.flash_laws.proofs.Lists.{not-equal, self, former_of}
 use Rattle.flash_laws.proofs.Site.Pasts.{or-false}
 use Rattle.flash_laws.proofs.Site.Peers.{IsTold}

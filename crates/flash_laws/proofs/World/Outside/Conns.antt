@@ -15,16 +15,16 @@ use Rattle.flash_laws.specs.Client.Fits.{FitsBy, Fits}
 use Rattle.flash_laws.specs.Workers.Crew.{Crew, IsFixedFor}
 use Rattle.flash_laws.specs.Site.Past.{Past}
 use Rattle.flash_laws.specs.Run.{worker_domain}
-use Rattle.flash_laws.specs.Site.Served.{Held, Aside, FitsAt, AllFit}
+use Rattle.flash_laws.specs.Site.ClientTies.{Held, Aside, FitsAt, AllFit}
 use Rattle.flash_laws.specs.Shelf.{Shelf, Begins, IsAnswer}
 use Rattle.flash_laws.specs.Site.{server, KeepsSite}
 use Rattle.flash_laws.specs.declared.script_run.Running.{Running}
 use Rattle.flash_laws.proofs.Site.Peers.{IsTold}
 use Rattle.flash_laws.proofs.World.AllLaws.{AllLaws}
-use Rattle.flash_laws.proofs.World.Desk.Leaving.{none-touched}
-use Rattle.flash_laws.proofs.World.Leaving.{Changes, fits_beside}
+use Rattle.flash_laws.proofs.World.Desk.Frame.{none-touched}
+use Rattle.flash_laws.proofs.World.ClientFrame.{Changes, fits_beside}
 use Rattle.flash_laws.proofs.World.Outside.Desks.{one-left, free-left, desks-left}
-use Rattle.flash_laws.proofs.Site.Standing.{held-open}
+use Rattle.flash_laws.proofs.Site.OpenDescriptors.{held-open}
 
 -- how the connection of a client goes on
 pub record Goes (m n : State) (p q : Past) (c : ℕ) : Type 0 where

@@ -19,9 +19,9 @@ use Rattle.flash_laws.specs.Site.Past.{Past}
 use Rattle.flash_laws.specs.Site.Places.{is_free}
 use Rattle.flash_laws.specs.Workers.PutsOut.{PutsOut}
 use Rattle.flash_laws.specs.Run.Fits.{Progress, HasPipe, HasStep}
-use Rattle.flash_laws.specs.Run.Offering.{is_stopping}
+use Rattle.flash_laws.specs.Run.OfferedBytes.{is_stopping}
 use Rattle.flash_laws.specs.Run.{worker_domain, job_pipe}
-use Rattle.flash_laws.specs.Site.Served.{FitsAt, AreAtDesks, AllFit}
+use Rattle.flash_laws.specs.Site.ClientTies.{FitsAt, AreAtDesks, AllFit}
 use Rattle.flash_laws.specs.Shelf.{Shelf}
 use Rattle.flash_laws.specs.Site.{server, KeepsSite}
 use Rattle.flash_laws.specs.Run.Stages.{HasPipeOf, IsGiven, IsPuttingOut, Stage}
@@ -33,7 +33,7 @@ use Rattle.flash_laws.specs.declared.script_run.Running.TheVariants.{Runs}
 use Rattle.flash_laws.proofs.Lists.{clash, self, later_of, former_of}
 use Rattle.flash_laws.proofs.World.AllLaws.{AllLaws}
 use Rattle.flash_laws.proofs.World.Desk.Jobs.{reads-jobs}
-use Rattle.flash_laws.proofs.World.Desk.Leaving.{LeavesOne, none-given, none-touched}
+use Rattle.flash_laws.proofs.World.Desk.Frame.{LeavesOne, none-given, none-touched}
 
 -- an end names one pipe
 read-one : (p q : ℕ) → Some (on.ReadEnd p) ≡ Some (on.ReadEnd q) → p ≡ q

@@ -11,21 +11,21 @@ use Rattle.iol_core.specs.declared.events.Event.TheVariants as event
 use Rattle.iol_core.specs.declared.events.Reply.TheVariants as reply
 use Rattle.iol_laws.specs.Frame.{Leaves as Leaving}
 use Rattle.iol_laws.specs.Order.{IsOrderly}
-use Rattle.iol_laws.proofs.Streams.Remaining.{LeavesPeer, peer-left}
+use Rattle.iol_laws.proofs.Streams.Remains.{LeavesPeer, peer-left}
 use Rattle.iol_proc.specs.declared.seat.Seat.{Seat}
 use Rattle.flash_laws.specs.Client.{Client}
 use Rattle.flash_laws.specs.Workers.Crew.{Crew, IsFixedFor}
 use Rattle.flash_laws.specs.Site.Past.{Past, gone_by}
-use Rattle.flash_laws.specs.Site.Served.{Ended, Aside, AllFit}
+use Rattle.flash_laws.specs.Site.ClientTies.{Ended, Aside, AllFit}
 use Rattle.flash_laws.specs.Shelf.{Shelf, Begins, IsAnswer}
 use Rattle.flash_laws.specs.Site.{KeepsSite}
-use Rattle.flash_laws.specs.Site.Tied.{Waits, Foreign}
+use Rattle.flash_laws.specs.Site.OtherConns.{Waits, Foreign}
 use Rattle.flash_laws.proofs.Lists.{not-equal, self, later_of, former_of}
 use Rattle.flash_laws.proofs.Site.Pasts.{or-false, peer_told}
 use Rattle.flash_laws.proofs.Site.Peers.{IsTold, peer-done, over-done}
 use Rattle.flash_laws.proofs.World.AllLaws.{AllLaws}
-use Rattle.flash_laws.proofs.World.Leaving.{Changes}
-use Rattle.flash_laws.proofs.World.Answering.{begins-less, begins-none}
+use Rattle.flash_laws.proofs.World.ClientFrame.{Changes}
+use Rattle.flash_laws.proofs.World.Responses.{begins-less, begins-none}
 use Rattle.flash_laws.proofs.World.Outside.Acts.{was-accepted}
 use Rattle.flash_laws.proofs.World.Outside.Conns.{Goes, outside}
 

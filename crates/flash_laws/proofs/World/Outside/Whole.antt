@@ -18,10 +18,10 @@ use Rattle.flash_laws.specs.Client.{Client}
 use Rattle.flash_laws.specs.Workers.Crew.{Crew, IsFixedFor}
 use Rattle.flash_laws.specs.Site.Past.{Past, and_then, IsAct}
 use Rattle.flash_laws.specs.Run.{worker_domain}
-use Rattle.flash_laws.specs.Site.Served.{Ended, Aside, AllFit}
+use Rattle.flash_laws.specs.Site.ClientTies.{Ended, Aside, AllFit}
 use Rattle.flash_laws.specs.Shelf.{Shelf}
 use Rattle.flash_laws.specs.Site.{server, KeepsSite}
-use Rattle.flash_laws.specs.Site.Tied.{Waits}
+use Rattle.flash_laws.specs.Site.OtherConns.{Waits}
 use Rattle.flash_laws.proofs.Lists.{not-equal}
 use Rattle.flash_laws.proofs.Site.Pasts.{past-same, none-told, past-told}
 use Rattle.flash_laws.proofs.Site.Peers.{told-call}
@@ -29,7 +29,7 @@ use Rattle.flash_laws.proofs.World.AllLaws.{AllLaws}
 use Rattle.flash_laws.proofs.World.Outside.Acts.{was-accepted, arrives, transmits, connects}
 use Rattle.flash_laws.proofs.World.Outside.Conns.{Goes, goes-same, all_on}
 use Rattle.flash_laws.proofs.World.Outside.Peers.{peer_closes}
-use Rattle.flash_laws.proofs.Site.Standing.{held-open}
+use Rattle.flash_laws.proofs.Site.OpenDescriptors.{held-open}
 
 -- what changes nothing, and is told nowhere
 nothing : (shelf : Shelf) (crew : Crew) (m n : State) (p : Past) (clients : List (Option Client)) (seats : List (Seat crew.Worker)) (e : Event) (r : Reply) → n ≡ m

@@ -1,4 +1,4 @@
-use Rattle.flash_laws.proofs.Conn.Keeping.{keeps_nothing}
+use Rattle.flash_laws.proofs.Conn.Holdings.{keeps_nothing}
 use Rattle.flash_laws.proofs.laws.keeping_law.Goals as goal
 
 pub returns : goal.returns

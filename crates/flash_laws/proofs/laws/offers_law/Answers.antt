@@ -1,4 +1,4 @@
-use Rattle.flash_laws.proofs.Conn.Offering.{offers_the_response}
+use Rattle.flash_laws.proofs.Conn.OfferedBytes.{offers_the_response}
 use Rattle.flash_laws.proofs.laws.offers_law.Goals as goal
 
 pub returns : goal.returns

@@ -1,4 +1,4 @@
-use Rattle.flash_laws.proofs.Site.Rounding.{turns_go_round}
+use Rattle.flash_laws.proofs.Site.Rounds.{turns_go_round}
 use Rattle.flash_laws.proofs.laws.rounds_law.Goals as goal
 
 pub returns : goal.returns

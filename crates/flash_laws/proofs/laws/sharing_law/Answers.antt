@@ -1,4 +1,4 @@
-use Rattle.flash_laws.proofs.Site.Sharing.{workers_shared}
+use Rattle.flash_laws.proofs.Site.OwnWorkers.{workers_shared}
 use Rattle.flash_laws.proofs.laws.sharing_law.Goals as goal
 
 pub returns : goal.returns

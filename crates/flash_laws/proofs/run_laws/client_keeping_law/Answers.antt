@@ -1,4 +1,4 @@
-use Rattle.flash_laws.proofs.Client.Keeping.{clients_leave}
+use Rattle.flash_laws.proofs.Client.Holdings.{clients_leave}
 use Rattle.flash_laws.proofs.run_laws.client_keeping_law.Goals as goal
 
 pub returns : goal.returns

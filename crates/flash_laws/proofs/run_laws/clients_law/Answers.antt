@@ -1,4 +1,4 @@
-use Rattle.flash_laws.proofs.Client.Offering.{clients_offered}
+use Rattle.flash_laws.proofs.Client.OfferedBytes.{clients_offered}
 use Rattle.flash_laws.proofs.run_laws.clients_law.Goals as goal
 
 pub returns : goal.returns

@@ -1,4 +1,4 @@
-use Rattle.flash_laws.proofs.Run.Brought.{runs_keep}
+use Rattle.flash_laws.proofs.Run.ReplyUse.{runs_keep}
 use Rattle.flash_laws.proofs.run_laws.run_keeping_law.Goals as goal
 
 pub returns : goal.returns

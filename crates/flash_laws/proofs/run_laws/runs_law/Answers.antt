@@ -1,4 +1,4 @@
-use Rattle.flash_laws.proofs.Run.Offering.{runs_offer}
+use Rattle.flash_laws.proofs.Run.OfferedBytes.{runs_offer}
 use Rattle.flash_laws.proofs.run_laws.runs_law.Goals as goal
 
 pub returns : goal.returns

@@ -1,4 +1,4 @@
-use Rattle.flash_cgi.specs.Waiting.{HasWaited}
+use Rattle.flash_cgi.specs.Standstill.{HasWaited}
 use Rattle.flash_cgi.specs.Works.{worker_turns}
 use Rattle.flash_laws.specs.Workers.{IsDueOf, IsFreeFor}
 use Rattle.flash_laws.proofs.World.Desk.Texts.{texts_are_put_out}

@@ -9,9 +9,9 @@ use Rattle.flash_laws.specs.Serves.{any}
 use Rattle.flash_laws.specs.World.Tie.{actor_turns}
 use Rattle.flash_laws.specs.World.{DesksAreApart}
 use Rattle.flash_laws.specs.World.Host.{HostIsRight}
-use Rattle.flash_laws.proofs.Conn.Answering.{WindowLaws}
-use Rattle.flash_laws.proofs.Site.Hosting.{rounds-mild}
-use Rattle.flash_laws.proofs.Site.Settling.{actor_settles}
+use Rattle.flash_laws.proofs.Conn.Responses.{WindowLaws}
+use Rattle.flash_laws.proofs.Site.MildTurns.{rounds-mild}
+use Rattle.flash_laws.proofs.Site.IdleMoments.{actor_settles}
 use Rattle.flash_laws.proofs.TheLaws.{TheLaws}
 use Rattle.flash_laws.proofs.World.AllLaws.{AllLaws}
 use Rattle.flash_laws.proofs.World.Desk.Texts.{texts_are_put_out}

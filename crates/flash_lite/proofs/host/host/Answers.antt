@@ -2,7 +2,7 @@ use Rattle.std.proofs.Common.{◌∙◌}
 use Rattle.iol_kernel.specs.Readings.{slots_of}
 use Rattle.iol_proc.specs.World.{copied}
 use Rattle.flash_lite.proofs.World.HostedWorld.{hosted}
-use Rattle.flash_lite.proofs.World.Starting.{hosted_over}
+use Rattle.flash_lite.proofs.World.SiteStart.{hosted_over}
 use Rattle.flash_lite.proofs.host.host.Goals as goal
 
 pub returns-clause-shared : goal.returns-clause-shared

@@ -4,7 +4,7 @@ use Rattle.iol_core.specs.State.{new_state}
 use Rattle.iol_kernel.specs.Readings.{slots_of}
 use Rattle.flash_lite.specs.Setup.{is_in_range}
 use Rattle.flash_lite.proofs.World.HostedWorld.{world_new}
-use Rattle.flash_lite.proofs.World.Starting.{begun_by, none_of_setup, starts_by}
+use Rattle.flash_lite.proofs.World.SiteStart.{begun_by, none_of_setup, starts_by}
 use Rattle.flash_lite.proofs.host.new_world.Goals as goal
 
 pub returns-in-Err-clause-refused : goal.returns-in-Err-clause-refused

@@ -1,5 +1,5 @@
 use Rattle.std.proofs.Common.{◌<◌, ◌∙◌, length, sym, arith}
-use Rattle.flash_lite.proofs.Calls.Refused.{refused_at, none_more, not_refused}
+use Rattle.flash_lite.proofs.Calls.FirstRefusal.{refused_at, none_more, not_refused}
 use Rattle.flash_lite.proofs.setup.refusal_in.Goals as goal
 
 pub returns-in-Refused : goal.returns-in-Refused

@@ -1,6 +1,6 @@
 use Rattle.std.proofs.Common.{◌∙◌, ap, arith, length, length-append, [], ◌∷◌, ◌++◌}
-use Rattle.iol_cache.specs.Cached.{order_in, no_order}
-use Rattle.iol_cache.proofs.Extents.Adding.{order_push}
+use Rattle.iol_cache.specs.CacheState.{order_in, no_order}
+use Rattle.iol_cache.proofs.Extents.NewFiles.{order_push}
 use Rattle.iol_cache.proofs.cache.add_orders.Goals as goal
 
 pub loop-alloc-preserved : goal.loop-alloc-preserved

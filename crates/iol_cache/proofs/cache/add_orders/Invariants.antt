@@ -1,5 +1,5 @@
 use Rattle.std.proofs.Common.{◌≡◌, ◌-◌, ◌≤◌, ℕ, max, length, vec_len, vec_capacity}
-use Rattle.iol_cache.specs.Cached.{order_in}
+use Rattle.iol_cache.specs.CacheState.{order_in}
 use Rattle.iol_cache.proofs.cache.add_orders.Given as goal
 
 abbrev pub invariant-loop-alloc : goal.invariant-loop-alloc

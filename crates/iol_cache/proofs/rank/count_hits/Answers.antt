@@ -1,4 +1,4 @@
-use Rattle.iol_cache.proofs.Evictions.Entering.{hit_there}
+use Rattle.iol_cache.proofs.Evictions.Entries.{hit_there}
 use Rattle.iol_cache.proofs.rank.count_hits.Goals as goal
 
 pub hit-requires : goal.hit-requires

@@ -1,5 +1,5 @@
 use Rattle.std.proofs.Common.{◌≡◌, drop}
-use Rattle.iol_cache.specs.Reading.{RanksFile, hits_counted}
+use Rattle.iol_cache.specs.RangeReads.{RanksFile, hits_counted}
 use Rattle.iol_cache.proofs.rank.count_hits.Given as goal
 
 abbrev pub invariant-loop-hit : goal.invariant-loop-hit

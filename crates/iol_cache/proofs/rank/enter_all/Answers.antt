@@ -3,10 +3,10 @@ use Rattle.std.proofs.lemmas.List.{drop_more}
 use Rattle.iol_extent.specs.Spans.{AreInOrder}
 use Rattle.iol_extent.specs.declared.spans.Span.{Span}
 use Rattle.iol_hold.specs.declared.slices.Slice.{Slice}
-use Rattle.iol_evict.specs.Ranking.{Ranking}
+use Rattle.iol_evict.specs.Order.{Ranking}
 use Rattle.iol_cache.specs.Marks.{Marks, AreWithin}
-use Rattle.iol_cache.specs.Reading.{parts_from, parts_of_spans, all_entered, AllBeginAt, AreAbsent}
-use Rattle.iol_cache.proofs.Evictions.Entering.{marks_nothing, marks_then, parts-take_more, few_left, order_lower, absent_after}
+use Rattle.iol_cache.specs.RangeReads.{parts_from, parts_of_spans, all_entered, AllBeginAt, AreAbsent}
+use Rattle.iol_cache.proofs.Evictions.Entries.{marks_nothing, marks_then, parts-take_more, few_left, order_lower, absent_after}
 use Rattle.iol_cache.proofs.rank.enter_all.Goals as goal
 
 abbrev none : Span

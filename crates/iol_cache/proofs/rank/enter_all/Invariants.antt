@@ -1,7 +1,7 @@
 use Rattle.std.proofs.Common.{◌≡◌, ◌≤◌, drop, take, length}
 use Rattle.iol_extent.specs.Spans.{AreInOrder}
 use Rattle.iol_cache.specs.Marks.{Marks}
-use Rattle.iol_cache.specs.Reading.{parts_of_spans, all_entered, AllBeginAt, AreAbsent}
+use Rattle.iol_cache.specs.RangeReads.{parts_of_spans, all_entered, AllBeginAt, AreAbsent}
 use Rattle.iol_cache.proofs.rank.enter_all.Given as goal
 
 abbrev pub invariant-loop-span : goal.invariant-loop-span

@@ -1,10 +1,10 @@
 use Rattle.std.proofs.Common.{◌∙◌, ap, sym, subst, arith, List, length}
 use Rattle.iol_hold.specs.Places.{byte_len}
 use Rattle.iol_hold.specs.declared.slices.Slice.{Slice}
-use Rattle.iol_evict.specs.Ranking.{entered}
+use Rattle.iol_evict.specs.Order.{entered}
 use Rattle.iol_cache.specs.Marks.{Marks, AreWithin, HasMarksLeft}
-use Rattle.iol_cache.proofs.Evictions.Ranked.{entry_absent}
-use Rattle.iol_cache.proofs.Evictions.Entering.{begin_is, begin_not, begin_some}
+use Rattle.iol_cache.proofs.Evictions.RankedEntries.{entry_absent}
+use Rattle.iol_cache.proofs.Evictions.Entries.{begin_is, begin_not, begin_some}
 use Rattle.iol_cache.proofs.rank.enter_one.Goals as goal
 
 pub returns-in_default : goal.returns-in_default

@@ -1,18 +1,18 @@
 use Rattle.std.proofs.lemmas.List.{append-nil}
 use Rattle.std.proofs.Common.{◌≡◌, ◌∙◌, ◌+◌, ◌-◌, ◌<◌, ◌≤◌, ◌++◌, Option, None, Some, IsSome, ap, sym, subst, refl, length, List, ℕ, arith, append_assoc, length-append}
 use Rattle.iol_core.specs.declared.numbers.BufId.{BufId}
-use Rattle.iol_agg.proofs.Holding.{tally-few}
-use Rattle.iol_agg.proofs.Poured.{shares_then}
+use Rattle.iol_agg.proofs.KnownHolds.{tally-few}
+use Rattle.iol_agg.proofs.Pours.{shares_then}
 use Rattle.iol_extent.specs.Extents.{Extent, end_of, extent_of, extent_over}
 use Rattle.iol_hold.specs.Moves.{Shares}
 use Rattle.iol_hold.specs.Places.{byte_len, places}
-use Rattle.iol_hold.specs.Stored.{Stored}
+use Rattle.iol_hold.specs.StoreState.{Stored}
 use Rattle.iol_hold.specs.Texts.{AllReadable, bufs_of}
 use Rattle.iol_hold.specs.declared.slices.Slice.{Slice}
-use Rattle.iol_hold.proofs.Counting.{tally-append}
-use Rattle.iol_cache.specs.Cached.{all_parts}
-use Rattle.iol_cache.specs.Sharing.{IsCovered, places_over}
-use Rattle.iol_cache.proofs.RangeReads.Shared.{all_shared, covered_over, length-places_over, over_at, over_join, over_none, over_tally, over_there, readable_on, readable_places, released_then, run_over}
+use Rattle.iol_hold.proofs.Counts.{tally-append}
+use Rattle.iol_cache.specs.CacheState.{all_parts}
+use Rattle.iol_cache.specs.SharedBytes.{IsCovered, places_over}
+use Rattle.iol_cache.proofs.RangeReads.SharedBytes.{all_shared, covered_over, length-places_over, over_at, over_join, over_none, over_tally, over_there, readable_on, readable_places, released_then, run_over}
 use Rattle.iol_cache.proofs.share.share_over.Goals.{In-Err, In-Some}
 use Rattle.iol_cache.proofs.share.share_over.Goals as goal
 

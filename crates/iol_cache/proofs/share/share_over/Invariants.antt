@@ -2,7 +2,7 @@ use Rattle.std.proofs.Common.{◌≡◌, ◌-◌, ◌≤◌, ◌++◌}
 use Rattle.iol_hold.specs.Moves.{Shares}
 use Rattle.iol_hold.specs.Places.{places}
 use Rattle.iol_hold.specs.Texts.{bufs_of}
-use Rattle.iol_cache.specs.Sharing.{places_over}
+use Rattle.iol_cache.specs.SharedBytes.{places_over}
 use Rattle.iol_cache.proofs.share.share_over.Given as goal
 
 abbrev pub invariant-loop-at : goal.invariant-loop-at

@@ -1,7 +1,7 @@
 use Rattle.std.proofs.Common.{sym, subst}
-use Rattle.iol_evict.specs.Ranking.{Ranking}
-use Rattle.iol_cache.specs.Entering.{Enters, MayEnter}
-use Rattle.iol_cache.proofs.RangeWrites.Settled.{may_enter, place_kept, settled}
+use Rattle.iol_evict.specs.Order.{Ranking}
+use Rattle.iol_cache.specs.Entries.{Enters, MayEnter}
+use Rattle.iol_cache.proofs.RangeWrites.FirstExtent.{may_enter, place_kept, settled}
 use Rattle.iol_cache.proofs.sync.settle.Goals as goal
 
 pub give_back-requires : goal.give_back-requires

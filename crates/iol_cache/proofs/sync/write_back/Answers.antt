@@ -3,14 +3,14 @@ use Rattle.std.proofs.lemmas.List.{length-map}
 use Rattle.iol_back.specs.Disk.{Tears, Writes, content, raised}
 use Rattle.iol_core.specs.Text as text
 use Rattle.iol_hold.specs.Places.{byte_len}
-use Rattle.iol_hold.specs.Stored.{Stored}
+use Rattle.iol_hold.specs.StoreState.{Stored}
 use Rattle.iol_hold.specs.Texts.{AllReadable, slice_bytes, text_of}
 use Rattle.iol_hold.specs.declared.slices.Slice.{Slice}
-use Rattle.iol_hold.proofs.Reading.{length-text_of}
-use Rattle.iol_hold.proofs.Slicing.{byte_len-take-le, byte_len-take_more}
-use Rattle.iol_cache.specs.Syncing.{Stores}
-use Rattle.iol_cache.proofs.RangeWrites.Composed.{bytes_more, readable_at}
-use Rattle.iol_cache.proofs.RangeWrites.Storing.{stores_more, tears_more}
+use Rattle.iol_hold.proofs.ReadSlices.{length-text_of}
+use Rattle.iol_hold.proofs.SlicePlaces.{byte_len-take-le, byte_len-take_more}
+use Rattle.iol_cache.specs.WriteBack.{Stores}
+use Rattle.iol_cache.proofs.RangeWrites.Composition.{bytes_more, readable_at}
+use Rattle.iol_cache.proofs.RangeWrites.StoredBytes.{stores_more, tears_more}
 use Rattle.iol_cache.proofs.sync.write_back.Goals as goal
 
 abbrev bytes_in : Stored → List Slice → List ℕ

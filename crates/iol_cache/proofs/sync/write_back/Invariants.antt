@@ -3,7 +3,7 @@ use Rattle.iol_back.specs.Disk.{OthersStay, content, last_failure}
 use Rattle.iol_core.specs.Text as text
 use Rattle.iol_hold.specs.Places.{byte_len}
 use Rattle.iol_hold.specs.Texts.{text_of}
-use Rattle.iol_cache.specs.Syncing.{Stores}
+use Rattle.iol_cache.specs.WriteBack.{Stores}
 use Rattle.iol_cache.proofs.sync.write_back.Given as goal
 
 abbrev pub invariant-loop-slice : goal.invariant-loop-slice

@@ -1,6 +1,6 @@
 use Rattle.std.proofs.Common.{Ok, Err, rules}
 use Rattle.std.proofs.lemmas.List.Sorted.{answers_always}
-use Rattle.iol_desc.proofs.Rising.{searched_any}
+use Rattle.iol_desc.proofs.RisingNumbers.{searched_any}
 use Rattle.iol_desc.proofs.entries.place_of.Goals as goal
 
 pub returns-in-Ok : goal.returns-in-Ok

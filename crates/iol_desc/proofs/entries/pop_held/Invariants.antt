@@ -1,5 +1,5 @@
 use Rattle.std.proofs.Common.{◌≡◌, vec_len}
-use Rattle.iol_desc.specs.Listed.{there}
+use Rattle.iol_desc.specs.EntryLists.{there}
 use Rattle.iol_desc.proofs.entries.pop_held.Given as goal
 
 -- only holes were popped

@@ -1,5 +1,5 @@
 use Rattle.std.proofs.Common.{◌≡◌, ◌+◌, drop}
-use Rattle.iol_core.specs.Numbered.{lowest}
+use Rattle.iol_core.specs.NumberedLists.{lowest}
 use Rattle.iol_desc.proofs.places.lowest_place.Given as goal
 
 abbrev pub invariant-loop-i : goal.invariant-loop-i

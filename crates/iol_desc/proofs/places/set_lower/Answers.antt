@@ -1,6 +1,6 @@
 use Rattle.std.proofs.Common.{◌≡◌, ◌∙◌, ap, arith, refl, Option, List, slice_set, None}
-use Rattle.iol_core.specs.Numbered.{lowest}
-use Rattle.iol_desc.proofs.Taken.{lowest_freed, placed_at}
+use Rattle.iol_core.specs.NumberedLists.{lowest}
+use Rattle.iol_desc.proofs.TakenPlaces.{lowest_freed, placed_at}
 use Rattle.iol_desc.proofs.places.set_lower.Goals as goal
 
 pub set_taken-requires : goal.set_taken-requires

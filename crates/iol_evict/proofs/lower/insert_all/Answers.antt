@@ -2,7 +2,7 @@ use Rattle.std.proofs.Common.{ℕ, ◌<◌, length, subst, arith}
 use Rattle.iol_evict.specs.declared.entry.By.TheVariants.{Height}
 use Rattle.iol_evict.specs.Indexes.{Adds}
 use Rattle.iol_evict.proofs.Places.{read-key}
-use Rattle.iol_evict.proofs.Lowered.{live-first, rising-next, same-next}
+use Rattle.iol_evict.proofs.Heights.{live-first, rising-next, same-next}
 use Rattle.iol_evict.proofs.lower.insert_all.Goals as goal
 
 pub insert_key-requires-clause-index : goal.insert_key-requires-clause-index

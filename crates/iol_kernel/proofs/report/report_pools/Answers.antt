@@ -1,6 +1,6 @@
 use Rattle.std.proofs.Common.{ℕ, ◌+◌, ◌*◌, [], ◌∷◌, ◌++◌, length, sym, ap, ◌∙◌, arith}
 use Rattle.iol_arena.specs.Chunks.{free_pages, retired_pages}
-use Rattle.iol_hold.specs.Stored.{Stored}
+use Rattle.iol_hold.specs.StoreState.{Stored}
 use Rattle.iol_kernel.specs.Report.{chunks_in, reports_of}
 use Rattle.iol_kernel.proofs.State.Reports.{reports-more, reports-same, same_report, some_pages, no_pages}
 use Rattle.iol_kernel.proofs.report.report_pools.Goals as goal

@@ -3,8 +3,8 @@ use Rattle.iol_core.specs.State.{Domain}
 use Rattle.iol_hold.specs.declared.slices.Slice.{Slice}
 use Rattle.iol_desc.specs.Tables.{domains_of, domain_in, with_domain_in}
 use Rattle.iol_kernel.specs.KernelState.{slices_in}
-use Rattle.iol_kernel.specs.Regrouped.{joined_in, with_one}
-use Rattle.iol_kernel.proofs.AggregateCalls.Exchanging.{other_found, join_table, both_back, table_rules}
+use Rattle.iol_kernel.specs.AggregateCalls.{joined_in, with_one}
+use Rattle.iol_kernel.proofs.AggregateCalls.Exchanges.{other_found, join_table, both_back, table_rules}
 use Rattle.iol_kernel.proofs.AggregateCalls.Slices.{slices_found}
 use Rattle.iol_kernel.proofs.tables.join_aggs.Goals as goal
 

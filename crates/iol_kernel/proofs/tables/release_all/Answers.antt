@@ -1,7 +1,7 @@
 use Rattle.std.proofs.Common.{◌∙◌}
-use Rattle.iol_hold.proofs.Releasing.{frees_trans}
-use Rattle.iol_kernel.specs.Counted.{bufs_in}
-use Rattle.iol_kernel.proofs.AggregateCalls.GivenUp.{front_readable, last_covered, last_readable, last_released}
+use Rattle.iol_hold.proofs.Releases.{frees_trans}
+use Rattle.iol_kernel.specs.HoldCounts.{bufs_in}
+use Rattle.iol_kernel.proofs.AggregateCalls.DomainEnd.{front_readable, last_covered, last_readable, last_released}
 use Rattle.iol_kernel.proofs.tables.release_all.Goals as goal
 
 pub release-requires : goal.release-requires

@@ -1,6 +1,6 @@
 use Rattle.std.proofs.Common.{length}
-use Rattle.iol_kernel.specs.Regrouped.{ReleasesAll}
-use Rattle.iol_kernel.proofs.AggregateCalls.GivenUp.{AreReadable}
+use Rattle.iol_kernel.specs.AggregateCalls.{ReleasesAll}
+use Rattle.iol_kernel.proofs.AggregateCalls.DomainEnd.{AreReadable}
 use Rattle.iol_kernel.proofs.tables.release_all.Given as goal
 
 abbrev pub invariant-loop-agg : goal.invariant-loop-agg

@@ -6,8 +6,8 @@ use Rattle.iol_hold.specs.declared.slices.Slice.{Slice}
 use Rattle.iol_core.specs.State.{Domain}
 use Rattle.iol_desc.specs.Tables.{domains_of, domain_in, with_domain_in}
 use Rattle.iol_kernel.specs.KernelState.{slices_in}
-use Rattle.iol_kernel.specs.Regrouped.{with_two, SplitsAgg}
-use Rattle.iol_kernel.proofs.AggregateCalls.Exchanging.{taken_out, split_table, put_back, table_rules}
+use Rattle.iol_kernel.specs.AggregateCalls.{with_two, SplitsAgg}
+use Rattle.iol_kernel.proofs.AggregateCalls.Exchanges.{taken_out, split_table, put_back, table_rules}
 use Rattle.iol_kernel.proofs.AggregateCalls.Slices.{slices_found}
 use Rattle.iol_kernel.proofs.tables.split_agg.Goals as goal
 

@@ -1,7 +1,7 @@
 //! Reading files by reference: what is in memory is shared, and what is not is read into clean extents.
 ghost use Rattle.iol_kernel.specs.ByReference.{TakesFound};
-ghost use Rattle.iol_kernel.specs.FileEnds.{HasFileFor};
-ghost use Rattle.iol_kernel.specs.FileReading.{TestsRead, read_at};
+ghost use Rattle.iol_kernel.specs.FileLengths.{HasFileFor};
+ghost use Rattle.iol_kernel.specs.FileReads.{TestsRead, read_at};
 ghost use Rattle.iol_kernel.specs.OpenFiles.{FindsOpen};
 
 use crate::kernel::Kernel;

@@ -1,7 +1,7 @@
 //! Writing by reference to files.
 ghost use Rattle.iol_kernel.specs.OpenFiles.{descriptor_of};
-ghost use Rattle.iol_kernel.specs.WritingAggs.{MayWriteAgg};
-ghost use Rattle.iol_kernel.specs.WritingFiles.{WritesAgg};
+ghost use Rattle.iol_kernel.specs.AggregateWrites.{MayWriteAgg};
+ghost use Rattle.iol_kernel.specs.FileWrites.{WritesAgg};
 
 use crate::kernel::Kernel;
 use crate::open_file::OpenFile;

@@ -3,8 +3,8 @@ ghost use Rattle.std.specs.Prelude.{◌≡◌, ◌+◌, ◌≤◌, ◌++◌};
 ghost use Rattle.std.specs.Vec.{vec_len, vec_capacity};
 ghost use Rattle.iol_core.specs.Prelude.{bytes_of};
 ghost use Rattle.iol_hold.specs.Prelude.{byte_len, AllReadable, text_of};
-ghost use Rattle.iol_kernel.specs.FileEnds.{HasFile};
-ghost use Rattle.iol_kernel.specs.FileReading.{IsReadable};
+ghost use Rattle.iol_kernel.specs.FileLengths.{HasFile};
+ghost use Rattle.iol_kernel.specs.FileReads.{IsReadable};
 
 use crate::kernel::Kernel;
 use crate::open_file::OpenFile;

@@ -1,7 +1,7 @@
 //! Bytes are copied out of pipes and connections: no aggregate is made of them, and no memory is taken.
 ghost use Rattle.std.specs.Prelude.{ℕ, Some};
-ghost use Rattle.iol_core.specs.Calls.Reading as calls;
-ghost use Rattle.iol_kernel.specs.Copying.{CopiesFrontOf, CountsWaiting, IsOnNoFile, MayTakeInto, TakesInto};
+ghost use Rattle.iol_core.specs.Calls.Reads as calls;
+ghost use Rattle.iol_kernel.specs.ReadsByCopy.{CopiesFrontOf, CountsWaiting, IsOnNoFile, MayTakeInto, TakesInto};
 
 use crate::kernel::Kernel;
 use crate::queue_end::can_read;

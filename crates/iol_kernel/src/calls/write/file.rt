@@ -1,6 +1,6 @@
 //! Bytes are written to files by copying: they are placed in the file's pool, and lie there.
-ghost use Rattle.iol_kernel.specs.Putting.{MayPutInFile};
-ghost use Rattle.iol_kernel.specs.WritingFiles.{FillsFile, PutsOver};
+ghost use Rattle.iol_kernel.specs.WritesByCopy.{MayPutInFile};
+ghost use Rattle.iol_kernel.specs.FileWrites.{FillsFile, PutsOver};
 
 use crate::kernel::Kernel;
 use crate::open_file::OpenFile;

@@ -1,9 +1,9 @@
 //! Bytes are written to pipes and connections by copying: they lie in new buffers.
 ghost use Rattle.std.specs.Prelude.{◌≡◌, false, Some};
-ghost use Rattle.iol_core.specs.Calls.Writing as calls;
+ghost use Rattle.iol_core.specs.Calls.Writes as calls;
 ghost use Rattle.iol_kernel.specs.KernelState.{IsSound};
-ghost use Rattle.iol_kernel.specs.Opened.{IsOnFile, IsOnQueue};
-ghost use Rattle.iol_kernel.specs.Putting.{MayPut, PlacesInQueue, TestsWrite};
+ghost use Rattle.iol_kernel.specs.OpenDescriptors.{IsOnFile, IsOnQueue};
+ghost use Rattle.iol_kernel.specs.WritesByCopy.{MayPut, PlacesInQueue, TestsWrite};
 
 use crate::kernel::Kernel;
 use crate::open_file::is_for_writing;

@@ -1,6 +1,6 @@
 use Rattle.iol_core.proofs.Access.{access_new, access_step}
 use Rattle.iol_core.proofs.Positions.{placed_new, placed_step}
-use Rattle.iol_laws.proofs.Order.Ordered.{orderly_new, orderly_step}
+use Rattle.iol_laws.proofs.Order.Steps.{orderly_new, orderly_step}
 use Rattle.iol_laws.proofs.laws.each_step_keeps_order.Goals as goal
 
 pub returns : goal.returns

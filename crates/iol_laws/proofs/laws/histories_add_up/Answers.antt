@@ -1,5 +1,5 @@
 use Rattle.iol_laws.proofs.Streams.Histories.{stream-append, sent-append, unread_run, unsent_run}
-use Rattle.iol_laws.proofs.Streams.Pending.{waiting_run}
+use Rattle.iol_laws.proofs.Streams.Backlog.{waiting_run}
 use Rattle.iol_laws.proofs.laws.histories_add_up.Goals as goal
 
 pub returns : goal.returns

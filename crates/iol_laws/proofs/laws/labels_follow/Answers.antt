@@ -1,6 +1,6 @@
-use Rattle.iol_laws.proofs.Sources.Made.{lie_step, lie-both, lie-fresh}
+use Rattle.iol_laws.proofs.Sources.NewAggregates.{lie_step, lie-both, lie-fresh}
 use Rattle.iol_laws.proofs.Sources.Queues.{queued_step}
-use Rattle.iol_laws.proofs.Sources.Undenied.{pipe_reads, pipe_copies, pipe_whole}
+use Rattle.iol_laws.proofs.Sources.PipeReads.{pipe_reads, pipe_copies, pipe_whole}
 use Rattle.iol_laws.proofs.laws.labels_follow.Goals as goal
 
 pub returns : goal.returns

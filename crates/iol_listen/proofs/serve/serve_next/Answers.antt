@@ -1,5 +1,5 @@
 use Rattle.std.proofs.Common.{◌∙◌}
-use Rattle.iol_listen.proofs.Served.{next_served, serves_one, ended_so}
+use Rattle.iol_listen.proofs.Service.{next_served, serves_one, ended_so}
 use Rattle.iol_listen.proofs.serve.serve_next.Goals as goal
 
 pub returns-in-Conn-clause-next : goal.returns-in-Conn-clause-next

@@ -1,5 +1,5 @@
 use Rattle.std.proofs.Common.{◌∙◌, inl, arith}
-use Rattle.iol_listen.proofs.Served.{each_then, serves_all, some_then}
+use Rattle.iol_listen.proofs.Service.{each_then, serves_all, some_then}
 use Rattle.iol_listen.proofs.serve.serve_queue.Goals as goal
 
 pub loop-preserved : goal.loop-preserved

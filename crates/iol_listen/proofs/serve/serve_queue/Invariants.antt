@@ -1,7 +1,7 @@
 use Rattle.iol_back.specs.Disk.{IfHonest}
 use Rattle.iol_proc.specs.Laws.{KeepsHonesty}
 use Rattle.iol_proc.specs.World.{copied}
-use Rattle.iol_listen.specs.Listening.{ServesEach}
+use Rattle.iol_listen.specs.Service.{ServesEach}
 use Rattle.iol_listen.proofs.serve.serve_queue.Given as goal
 
 abbrev pub invariant-loop : goal.invariant-loop

@@ -1,7 +1,7 @@
 use Rattle.std.proofs.Common.{rules, ◌≡◌, ◌+◌, ◌-◌, ◌<◌, ◌++◌, ◌∙◌, min, length, take, drop, refl, ap, arith, true, false}
 use Rattle.std.proofs.lemmas.List.{length-take}
 use Rattle.iol_pool.specs.Pools.{names_in}
-use Rattle.iol_pipe.proofs.Copied.{seen, readable-item, length-slice_bytes, seen_barred, seen_more, copied_full, copied_more}
+use Rattle.iol_pipe.proofs.Copies.{seen, readable-item, length-slice_bytes, seen_barred, seen_more, copied_full, copied_more}
 use Rattle.iol_pipe.proofs.Pipe.copy_front.Goals as goal
 
 pub returns-then-not-names-clause-count : goal.returns-then-not-names-clause-count

@@ -2,7 +2,7 @@ use Rattle.std.proofs.Common.{◌≡◌, ◌+◌, ◌≤◌, ◌-◌, ◌++◌, 
 use Rattle.std.specs.List.{take_while}
 use Rattle.iol_hold.specs.Places.{places, byte_len}
 use Rattle.iol_pipe.specs.Queue.{may_see}
-use Rattle.iol_pipe.proofs.Copied.{seen, all_bytes}
+use Rattle.iol_pipe.proofs.Copies.{seen, all_bytes}
 use Rattle.iol_pipe.proofs.Pipe.copy_front.Given as goal
 
 abbrev pub invariant-loop-at : goal.invariant-loop-at

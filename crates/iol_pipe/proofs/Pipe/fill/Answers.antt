@@ -4,7 +4,7 @@ use Rattle.iol_arena.specs.State.{pages_for}
 use Rattle.iol_hold.specs.Places.{byte_len}
 use Rattle.iol_hold.specs.Room.{has_room}
 use Rattle.iol_hold.proofs.Rooms.{room_for_none}
-use Rattle.iol_pipe.specs.Adding.{AddsBytes}
+use Rattle.iol_pipe.specs.NewBytes.{AddsBytes}
 use Rattle.iol_pipe.specs.Queue.{fitting}
 use Rattle.iol_pipe.proofs.Wholes.{length_added, bytes_added, none_added}
 use Rattle.iol_pipe.proofs.Pipe.fill.Goals as goal

@@ -1,8 +1,8 @@
 use Rattle.std.proofs.Common.{◌≡◌, List, Option, sym, ap, ◌∙◌, subst, arith, rules}
 use Rattle.iol_hold.specs.Places.{byte_len}
-use Rattle.iol_hold.specs.Stored.{Buffer}
+use Rattle.iol_hold.specs.StoreState.{Buffer}
 use Rattle.iol_hold.specs.declared.slices.Slice.{Slice}
-use Rattle.iol_pipe.specs.Arriving.{listed, MakesRead, ReadsIn}
+use Rattle.iol_pipe.specs.Arrivals.{listed, MakesRead, ReadsIn}
 use Rattle.iol_pipe.proofs.ReadIn.{length_read, read_added, nothing_added}
 use Rattle.iol_pipe.proofs.Pipe.fill_from.Goals as goal
 

@@ -1,7 +1,7 @@
 use Rattle.std.proofs.Common.{◌≡◌, min, List, ℕ, [], ◌∷◌, length, arith, rules}
 use Rattle.iol_hold.specs.Places.{byte_len}
 use Rattle.iol_hold.specs.declared.slices.Slice.{Slice}
-use Rattle.iol_hold.proofs.Slicing.{byte_len-cons}
+use Rattle.iol_hold.proofs.SlicePlaces.{byte_len-cons}
 use Rattle.iol_pipe.proofs.Pipe.take_off.Goals as goal
 
 -- where no byte is asked for, or none waits, no slice is wanted

@@ -1,9 +1,9 @@
 use Rattle.std.proofs.Common.{subst, ◌∙◌}
 use Rattle.iol_hold.specs.Moves.{Covers, Moves}
 use Rattle.iol_hold.specs.Texts.{bufs_of, AllReadable}
-use Rattle.iol_hold.proofs.Moving.{covers_first, covers_less}
-use Rattle.iol_hold.proofs.Releasing.{frees_trans}
-use Rattle.iol_pipe.proofs.Skipping.{drop_first, drop_part, moves_first, readable_rest}
+use Rattle.iol_hold.proofs.Moves.{covers_first, covers_less}
+use Rattle.iol_hold.proofs.Releases.{frees_trans}
+use Rattle.iol_pipe.proofs.FrontReleases.{drop_first, drop_part, moves_first, readable_rest}
 use Rattle.iol_pipe.proofs.take.skip_bytes.Goals as goal
 
 pub returns-then-len-left-clause-rest : goal.returns-then-len-left-clause-rest

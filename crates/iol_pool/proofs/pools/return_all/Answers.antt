@@ -1,7 +1,7 @@
 use Rattle.std.proofs.Common.{◌≡◌, ◌+◌, ◌∙◌, sym, ap, arith, subst, drop, false, set, length, length-set, List, Bool}
 use Rattle.iol_arena.specs.State.{State}
 use Rattle.iol_pool.specs.Pools.{all_returned}
-use Rattle.iol_pool.proofs.Owning.{returned_last, returned_on}
+use Rattle.iol_pool.proofs.Owners.{returned_last, returned_on}
 use Rattle.iol_pool.proofs.pools.return_all.Goals as goal
 
 pub loop-chunk-preserved : goal.loop-chunk-preserved

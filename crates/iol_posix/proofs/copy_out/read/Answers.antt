@@ -3,7 +3,7 @@ use Rattle.std.proofs.lemmas.Grind.{common_steps}
 use Rattle.std.proofs.lemmas.Result.{err_from_is_err_and}
 use Rattle.iol_kernel.specs.Kernel.{state_of}
 use Rattle.iol_kernel.specs.Readings.{bytes_over}
-use Rattle.iol_kernel.proofs.Queues.Listing.{front_is}
+use Rattle.iol_kernel.proofs.Queues.CopiedBytes.{front_is}
 use Rattle.iol_posix.proofs.copy_out.read.Given.{Over}
 use Rattle.iol_posix.proofs.copy_out.read.Goals.{After-drop-bytes-inside}
 use Rattle.iol_posix.proofs.copy_out.read.Goals as goal

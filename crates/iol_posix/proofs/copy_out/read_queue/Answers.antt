@@ -1,9 +1,9 @@
 use Rattle.std.proofs.Common.{rules, arith, [], length, drop, refl}
 use Rattle.std.proofs.lemmas.Grind.{common_steps}
-use Rattle.iol_core.specs.Calls.Reading.{read}
+use Rattle.iol_core.specs.Calls.Reads.{read}
 use Rattle.iol_kernel.specs.Kernel.{state_of}
 use Rattle.iol_kernel.specs.KernelState.{machine_of}
-use Rattle.iol_kernel.proofs.Queues.Listing.{front_is, on_no_file, read_refused, taken_out}
+use Rattle.iol_kernel.proofs.Queues.CopiedBytes.{front_is, on_no_file, read_refused, taken_out}
 use Rattle.iol_posix.proofs.copy_out.read_queue.Goals as goal
 
 pub returns-in_err-waiting : goal.returns-in_err-waiting

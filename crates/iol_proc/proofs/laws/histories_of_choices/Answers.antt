@@ -1,5 +1,5 @@
 use Rattle.iol_proc.specs.World.{copying}
-use Rattle.iol_proc.proofs.Chained.{system_as}
+use Rattle.iol_proc.proofs.Chains.{system_as}
 use Rattle.iol_proc.proofs.Streams.{machine_as, history_goes_on, runs_follow, stream_over-append, sent_over-append, stream_over-more, sent_over-more, unread_over, unsent_over, waiting_over}
 use Rattle.iol_proc.proofs.laws.histories_of_choices.Goals as goal
 

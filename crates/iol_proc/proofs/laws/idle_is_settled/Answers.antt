@@ -1,4 +1,4 @@
-use Rattle.iol_proc.proofs.Settling.{settled_idle, each_settled}
+use Rattle.iol_proc.proofs.Settlement.{settled_idle, each_settled}
 use Rattle.iol_proc.proofs.laws.idle_is_settled.Goals as goal
 
 pub returns : goal.returns

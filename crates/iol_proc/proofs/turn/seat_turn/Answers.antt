@@ -1,5 +1,5 @@
 use Rattle.std.proofs.Common.{◌∙◌}
-use Rattle.iol_proc.proofs.Lending.{starves_turn, yields_turn, calls_turn}
+use Rattle.iol_proc.proofs.LentBytes.{starves_turn, yields_turn, calls_turn}
 use Rattle.iol_proc.proofs.turn.seat_turn.Goals as goal
 
 pub returns-in-Err-clause-turn : goal.returns-in-Err-clause-turn

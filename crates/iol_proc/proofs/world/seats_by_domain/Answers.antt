@@ -2,7 +2,7 @@ use Rattle.std.proofs.Common.{map, rules}
 use Rattle.std.specs.List.Sorted.{IsPermutation}
 use Rattle.std.proofs.lemmas.List.Sorted.{IsNonDecreasingBy-from_sort_by_key}
 use Rattle.iol_proc.specs.World.{seat_of}
-use Rattle.iol_proc.proofs.Seating.{seated_rise}
+use Rattle.iol_proc.proofs.Seats.{seated_rise}
 use Rattle.iol_proc.proofs.world.seats_by_domain.Goals as goal
 
 pub returns-clause-rising : goal.returns-clause-rising

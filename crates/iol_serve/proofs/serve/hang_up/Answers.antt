@@ -1,5 +1,5 @@
 use Rattle.std.proofs.Common.{[], ◌∙◌}
-use Rattle.iol_serve.proofs.Ended.{ended_beside}
+use Rattle.iol_serve.proofs.ConnEnd.{ended_beside}
 use Rattle.iol_serve.proofs.Steps.{goes_none, goes_hung_up, goes_then}
 use Rattle.iol_serve.proofs.serve.hang_up.Goals as goal
 

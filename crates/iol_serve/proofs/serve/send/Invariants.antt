@@ -1,6 +1,6 @@
 use Rattle.iol_proc.specs.Laws.{KeepsHonesty}
 use Rattle.iol_proc.specs.World.{copied}
-use Rattle.iol_serve.specs.Serving.{Sends}
+use Rattle.iol_serve.specs.Service.{Sends}
 use Rattle.iol_serve.proofs.serve.send.Given as goal
 
 abbrev pub invariant-loop : goal.invariant-loop

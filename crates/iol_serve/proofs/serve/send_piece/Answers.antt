@@ -1,5 +1,5 @@
 use Rattle.std.proofs.Common.{ap}
-use Rattle.iol_serve.proofs.Drained.{sends_drained, sends_refused}
+use Rattle.iol_serve.proofs.Drains.{sends_drained, sends_refused}
 use Rattle.iol_serve.proofs.serve.send_piece.Goals as goal
 
 pub returns-then-drained-clause-sends : goal.returns-then-drained-clause-sends

@@ -1,7 +1,7 @@
 use Rattle.std.proofs.Common.{◌∙◌, refl, sym, ap}
 use Rattle.iol_serve.proofs.Rounds.{ended_last, hung_up-after, over_last}
 use Rattle.iol_serve.proofs.Steps.{appends_none, serves_alone, serves_as, serves_kept, serves_none, serves_then}
-use Rattle.iol_serve.specs.Serving.{hung_up}
+use Rattle.iol_serve.specs.Service.{hung_up}
 use Rattle.iol_serve.proofs.serve.serve_connection.Goals as goal
 
 pub loop-init : goal.loop-init

@@ -1,7 +1,7 @@
 use Rattle.iol_back.specs.Disk.{IfHonest}
 use Rattle.iol_proc.specs.Laws.{KeepsHonesty}
 use Rattle.iol_proc.specs.World.{copied}
-use Rattle.iol_serve.specs.Serving.{Serves, hung_up}
+use Rattle.iol_serve.specs.Service.{Serves, hung_up}
 use Rattle.iol_serve.proofs.serve.serve_connection.Given as goal
 
 abbrev pub invariant-loop : goal.invariant-loop

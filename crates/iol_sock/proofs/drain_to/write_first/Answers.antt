@@ -1,8 +1,8 @@
 use Rattle.std.proofs.Common.{refl, ap, length, arith}
 use Rattle.std.proofs.lemmas.List.{length-take}
-use Rattle.iol_hold.proofs.Slicing.{byte_len-take-le}
-use Rattle.iol_sum.proofs.Pieced.{readable-item, length-slice_bytes}
-use Rattle.iol_sock.proofs.Writing.{Takes, takes}
+use Rattle.iol_hold.proofs.SlicePlaces.{byte_len-take-le}
+use Rattle.iol_sum.proofs.PieceSums.{readable-item, length-slice_bytes}
+use Rattle.iol_sock.proofs.Writes.{Takes, takes}
 use Rattle.iol_sock.proofs.drain_to.write_first.Given.{Over}
 use Rattle.iol_sock.proofs.drain_to.write_first.Goals.{After-write_some-written}
 use Rattle.iol_sock.proofs.drain_to.write_first.Goals as goal

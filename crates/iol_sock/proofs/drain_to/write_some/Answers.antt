@@ -2,7 +2,7 @@ use Rattle.std.proofs.Common.{◌-◌, ◌≤◌, length, take, drop, sym, subst
 use Rattle.std.proofs.KnownBytes.{Appends-trans}
 use Rattle.std.proofs.lemmas.List.{length-take}
 use Rattle.std.specs.Io.KnownBytes.{Appends}
-use Rattle.iol_sock.proofs.Writing.{more_of}
+use Rattle.iol_sock.proofs.Writes.{more_of}
 use Rattle.iol_sock.proofs.drain_to.write_some.Goals as goal
 
 pub loop-at-preserved : goal.loop-at-preserved

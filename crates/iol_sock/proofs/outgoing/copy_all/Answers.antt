@@ -1,9 +1,9 @@
 use Rattle.std.proofs.Common.{◌++◌, length, ap, ◌∙◌, arith}
 use Rattle.std.specs.List.{flat_map}
 use Rattle.iol_hold.specs.Texts.{text_of}
-use Rattle.iol_hold.proofs.Reading.{length-text_of}
+use Rattle.iol_hold.proofs.ReadSlices.{length-text_of}
 use Rattle.iol_agg.proofs.Partwise.{flat_map-parts_of}
-use Rattle.iol_sock.proofs.Sending.{length-bytes_of}
+use Rattle.iol_sock.proofs.Sends.{length-bytes_of}
 use Rattle.iol_sock.proofs.outgoing.copy_all.Goals as goal
 
 pub loop-part-init : goal.loop-part-init

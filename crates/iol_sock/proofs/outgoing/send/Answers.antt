@@ -4,11 +4,11 @@ use Rattle.iol_arena.specs.State.{State}
 use Rattle.iol_pool.specs.Pools.{Pool}
 use Rattle.iol_hold.specs.Moves.{pool_meant}
 use Rattle.iol_hold.specs.Texts.{text_of, bufs_of, AllReadable}
-use Rattle.iol_hold.proofs.Emptied.{all_settled_same}
-use Rattle.iol_hold.proofs.Releasing.{frees_none, frees_trans}
+use Rattle.iol_hold.proofs.EmptyPools.{all_settled_same}
+use Rattle.iol_hold.proofs.Releases.{frees_none, frees_trans}
 use Rattle.iol_sum.specs.Sums.{UsesEach}
-use Rattle.iol_sum.proofs.Keeping.{IsRight-keeps}
-use Rattle.iol_sock.proofs.Sending.{sent_readable, sent_covers, sent_moves, text_sent, uses_same}
+use Rattle.iol_sum.proofs.KeptSums.{IsRight-keeps}
+use Rattle.iol_sock.proofs.Sends.{sent_readable, sent_covers, sent_moves, text_sent, uses_same}
 use Rattle.iol_sock.proofs.outgoing.send.Goals as goal
 
 pub copy_all-requires-clause-readable : goal.copy_all-requires-clause-readable

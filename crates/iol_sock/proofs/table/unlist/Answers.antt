@@ -3,8 +3,8 @@ use Rattle.std.specs.List.{remove}
 use Rattle.std.specs.VecDeque.{deque_len}
 use Rattle.std.proofs.lemmas.List.Sorted.{answers_always}
 use Rattle.iol_desc.specs.Tables.{place_in}
-use Rattle.iol_desc.proofs.Rising.{searched_any}
-use Rattle.iol_sock.proofs.Waiting.{remove-place}
+use Rattle.iol_desc.proofs.RisingNumbers.{searched_any}
+use Rattle.iol_sock.proofs.WaitingList.{remove-place}
 use Rattle.iol_sock.proofs.table.unlist.Goals as goal
 
 pub returns-in-Ok : goal.returns-in-Ok

@@ -2,7 +2,7 @@ use Rattle.std.proofs.Common.{◌≡◌, ◌+◌, ◌*◌, ◌/◌, ◌≤◌, �
 use Rattle.std.specs.Int.{w64, from_le_bytes}
 use Rattle.std.proofs.lemmas.List.{drop-drop, length-drop}
 use Rattle.iol_core.specs.Checksum.{word_sum, folded}
-use Rattle.iol_sum.proofs.Chunked.{folded-eight, first_chunks-at}
+use Rattle.iol_sum.proofs.EightBytes.{folded-eight, first_chunks-at}
 use Rattle.iol_sum.proofs.bytes.sum_of.Goals as goal
 
 pub loop-chunk-preserved : goal.loop-chunk-preserved

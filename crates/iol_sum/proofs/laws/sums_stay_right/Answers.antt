@@ -1,4 +1,4 @@
-use Rattle.iol_sum.proofs.Keeping.{IsRight-keeps}
+use Rattle.iol_sum.proofs.KeptSums.{IsRight-keeps}
 use Rattle.iol_sum.proofs.laws.sums_stay_right.Goals as goal
 
 pub returns-clause-kept : goal.returns-clause-kept

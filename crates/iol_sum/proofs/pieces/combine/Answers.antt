@@ -1,6 +1,6 @@
 use Rattle.std.proofs.Common.{◌≡◌, ◌∙◌, rules}
 use Rattle.iol_sum.specs.Pieces.{joined}
-use Rattle.iol_sum.proofs.Joining.{joined-append}
+use Rattle.iol_sum.proofs.TwoPieces.{joined-append}
 use Rattle.iol_sum.proofs.pieces.combine.Goals as goal
 
 pub returns-clause-law : goal.returns-clause-law

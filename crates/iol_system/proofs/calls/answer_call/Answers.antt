@@ -9,14 +9,14 @@ use Rattle.iol_core.specs.declared.events.Call.TheVariants as call
 use Rattle.iol_core.specs.declared.events.Event.TheVariants as event
 use Rattle.iol_core.specs.declared.events.Reply.TheVariants as reply
 use Rattle.iol_kernel.specs.Kernel.{state_of}
-use Rattle.iol_system.specs.Doing.{Does}
+use Rattle.iol_system.specs.Effects.{Does}
 use Rattle.iol_system.specs.Replies.{told}
 use Rattle.iol_system.specs.Wants.{for_made}
-use Rattle.iol_system.proofs.Doing.{as_call, carried_does, kept_does, domain_admitted, looks_does, names_does, never, file_created, shown}
-use Rattle.iol_system.proofs.Telling.{done, told_step}
-use Rattle.iol_system.proofs.FileDoing.{copies_does, puts_does, places_does, reads_does, writes_does}
-use Rattle.iol_system.proofs.FileEnds.{length_ends, new_ends, seek_ends}
-use Rattle.iol_system.proofs.BackDoing.{syncs_does, creates_does}
+use Rattle.iol_system.proofs.Effects.{as_call, carried_does, kept_does, domain_admitted, looks_does, names_does, never, file_created, shown}
+use Rattle.iol_system.proofs.ReplyAnswers.{done, told_step}
+use Rattle.iol_system.proofs.FileEffects.{copies_does, puts_does, places_does, reads_does, writes_does}
+use Rattle.iol_system.proofs.FileLengths.{length_ends, new_ends, seek_ends}
+use Rattle.iol_system.proofs.BackEffects.{syncs_does, creates_does}
 use Rattle.iol_system.proofs.calls.answer_call.Goals as goal
 
 pub returns-in-DomainNew : goal.returns-in-DomainNew

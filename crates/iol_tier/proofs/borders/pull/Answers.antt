@@ -1,4 +1,4 @@
-use Rattle.iol_tier.proofs.Shifting.{pull_step}
+use Rattle.iol_tier.proofs.Shifts.{pull_step}
 use Rattle.iol_tier.proofs.borders.pull.Goals as goal
 
 pub returns : goal.returns

@@ -1,4 +1,4 @@
-use Rattle.iol_tier.proofs.Shifting.{push_step}
+use Rattle.iol_tier.proofs.Shifts.{push_step}
 use Rattle.iol_tier.proofs.borders.push.Goals as goal
 
 pub returns : goal.returns

@@ -1,6 +1,6 @@
 use Rattle.std.proofs.Common.{◌≡◌, ◌≤◌, List, [], ◌∷◌, ◌++◌, ap, ◌∙◌, subst, sym, arith, length, length-append}
 use Rattle.iol_tier.specs.Blocks.{Block, AreWide, Grows}
-use Rattle.iol_tier.proofs.Turning.{grows_more, wide_more}
+use Rattle.iol_tier.proofs.EmptyBlocks.{grows_more, wide_more}
 use Rattle.iol_tier.proofs.ends.add_blocks.Goals as goal
 
 pub loop-alloc-preserved : goal.loop-alloc-preserved

@@ -1,4 +1,4 @@
-use Rattle.iol_tier.proofs.Turning.{turned_left}
+use Rattle.iol_tier.proofs.EmptyBlocks.{turned_left}
 use Rattle.iol_tier.proofs.ends.turn_left.Goals as goal
 
 pub returns-in-Some : goal.returns-in-Some

@@ -1,4 +1,4 @@
-use Rattle.iol_tier.proofs.Turning.{turned_right}
+use Rattle.iol_tier.proofs.EmptyBlocks.{turned_right}
 use Rattle.iol_tier.proofs.ends.turn_right.Goals as goal
 
 pub returns-in-Some : goal.returns-in-Some

@@ -1,6 +1,6 @@
 use Rattle.std.proofs.Common.{◌<◌, length, set, arith}
 use Rattle.iol_tier.specs.Blocks.{Widens}
-use Rattle.iol_tier.proofs.Turning.{widened, widened_here, widened_width}
+use Rattle.iol_tier.proofs.EmptyBlocks.{widened, widened_here, widened_width}
 use Rattle.iol_tier.proofs.ends.widen_blocks.Goals.{After-widen}
 use Rattle.iol_tier.proofs.ends.widen_blocks.Goals as goal
 

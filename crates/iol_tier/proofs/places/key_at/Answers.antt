@@ -1,6 +1,6 @@
 use Rattle.std.proofs.Common.{◌+◌, ◌/◌, length, arith, refl, sym}
 use Rattle.iol_tier.specs.Blocks.{joined}
-use Rattle.iol_tier.proofs.Joined.{key_read}
+use Rattle.iol_tier.proofs.JoinedKeys.{key_read}
 use Rattle.iol_tier.proofs.places.key_at.Goals as goal
 
 pub returns : goal.returns

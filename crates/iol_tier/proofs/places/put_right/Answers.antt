@@ -1,5 +1,5 @@
 use Rattle.std.proofs.Common.{◌+◌, ◌/◌, arith, sym}
-use Rattle.iol_tier.proofs.Filling.{put_right_becomes}
+use Rattle.iol_tier.proofs.BlockKeys.{put_right_becomes}
 use Rattle.iol_tier.proofs.places.put_right.Goals as goal
 
 pub returns : goal.returns

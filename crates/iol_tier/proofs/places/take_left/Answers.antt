@@ -1,7 +1,7 @@
 use Rattle.std.proofs.Common.{◌+◌, ◌/◌, length, arith, refl, sym}
 use Rattle.iol_tier.specs.Blocks.{joined}
-use Rattle.iol_tier.proofs.Filling.{take_left_becomes}
-use Rattle.iol_tier.proofs.Joined.{key_read}
+use Rattle.iol_tier.proofs.BlockKeys.{take_left_becomes}
+use Rattle.iol_tier.proofs.JoinedKeys.{key_read}
 use Rattle.iol_tier.proofs.places.take_left.Goals as goal
 
 pub returns-clause-key : goal.returns-clause-key

@@ -1,7 +1,7 @@
 use Rattle.std.proofs.Common.{map, string_bytes, subst, sym}
 use Rattle.iolite.specs.Commands.{IsCommand}
 use Rattle.iolite.specs.Reads.{Reads}
-use Rattle.iolite.proofs.Worded.{four}
+use Rattle.iolite.proofs.FourWords.{four}
 use Rattle.iolite.proofs.commands.read_command.Goals as goal
 
 pub returns-in-len4 : goal.returns-in-len4

@@ -1,8 +1,8 @@
 use Rattle.std.proofs.Common.{◌≡◌, ◌∙◌, ◌++◌, List, [], ℕ, refl, subst}
 use Rattle.std.specs.Io.KnownBytes.{Appends}
 use Rattle.iolite.specs.Answers.{WritesTo}
-use Rattle.iolite.proofs.Answered.{then_on_ok}
-use Rattle.iolite.proofs.Appending.{WritesTo-all, WritesTo-before, WritesTo-behind}
+use Rattle.iolite.proofs.ScriptAnswers.{then_on_ok}
+use Rattle.iolite.proofs.Appends.{WritesTo-all, WritesTo-before, WritesTo-behind}
 use Rattle.iolite.proofs.output.gather.Goals as goal
 
 pub returns-in_err-write_out-clause-some : goal.returns-in_err-write_out-clause-some

@@ -1,5 +1,5 @@
 use Rattle.std.proofs.Common.{arith}
-use Rattle.iolite.proofs.Appending.{WritesTo-kept, WritesTo-sliced}
+use Rattle.iolite.proofs.Appends.{WritesTo-kept, WritesTo-sliced}
 use Rattle.iolite.proofs.output.write_out.Goals.{in-Ok, in-Err}
 use Rattle.iolite.proofs.output.write_out.Goals as goal
 

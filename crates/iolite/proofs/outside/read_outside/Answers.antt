@@ -1,5 +1,5 @@
 use Rattle.std.proofs.Common.{refl, rules}
-use Rattle.iolite.proofs.Named.{peer_closed_alone}
+use Rattle.iolite.proofs.CallNames.{peer_closed_alone}
 use Rattle.iolite.proofs.outside.read_outside.Goals as goal
 
 pub returns-in_err-event-in-peer_closed : goal.returns-in_err-event-in-peer_closed

@@ -1,5 +1,5 @@
 use Rattle.std.proofs.Common.{◌++◌, inr, refl}
-use Rattle.iolite.specs.Printed.{answer_text, newline}
+use Rattle.iolite.specs.PrintedText.{answer_text, newline}
 use Rattle.iolite.proofs.replay.answer_line.Goals as goal
 
 pub unreachable-requires : goal.unreachable-requires

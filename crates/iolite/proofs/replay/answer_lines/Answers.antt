@@ -8,9 +8,9 @@ use Rattle.std.proofs.lemmas.List.{append-nil, map-append}
 use Rattle.iol_system.specs.Machine.{SystemState}
 use Rattle.iolite.specs.Answers.{Answering, EndsWithin, WritesTo}
 use Rattle.iolite.specs.Script.{is_asking, lines}
-use Rattle.iolite.proofs.Answered.{Answering-line, Answering-none, Answering-written, EndsWanting-here, EndsWithin-here, LosesFirst-none, asks_at, then_on_ok}
-use Rattle.iolite.proofs.Appending.{WritesTo-all}
-use Rattle.iolite.proofs.Said.{split_at_turn}
+use Rattle.iolite.proofs.ScriptAnswers.{Answering-line, Answering-none, Answering-written, EndsWanting-here, EndsWithin-here, LosesFirst-none, asks_at, then_on_ok}
+use Rattle.iolite.proofs.Appends.{WritesTo-all}
+use Rattle.iolite.proofs.ScriptWords.{split_at_turn}
 use Rattle.iolite.proofs.replay.answer_lines.Given.{Over}
 use Rattle.iolite.proofs.replay.answer_lines.Goals.{In-Some, In-None}
 use Rattle.iolite.proofs.replay.answer_lines.Goals as goal

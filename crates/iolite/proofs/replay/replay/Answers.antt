@@ -1,7 +1,7 @@
 use Rattle.std.proofs.Common.{inl, inr, ℕ, List, rules, subst, string_bytes}
 use Rattle.std.specs.Prelude.{OnOk}
 use Rattle.iolite.specs.Answers.{Begun, BegunWhole, Replayed}
-use Rattle.iolite.proofs.Answered.{bad_given, bad_input, bad_text, of_given, on_given}
+use Rattle.iolite.proofs.ScriptAnswers.{bad_given, bad_input, bad_text, of_given, on_given}
 use Rattle.iolite.proofs.replay.replay.Goals as goal
 
 pub returns-in-Err : goal.returns-in-Err

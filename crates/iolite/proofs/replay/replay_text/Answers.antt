@@ -1,5 +1,5 @@
 use Rattle.std.proofs.Common.{inr}
-use Rattle.iolite.proofs.Answered.{begun_by, never_bad, replayed_by, whole_by}
+use Rattle.iolite.proofs.ScriptAnswers.{begun_by, never_bad, replayed_by, whole_by}
 use Rattle.iolite.proofs.replay.replay_text.Goals as goal
 
 pub returns : goal.returns

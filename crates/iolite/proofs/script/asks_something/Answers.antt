@@ -1,6 +1,6 @@
 use Rattle.std.proofs.Common.{◌≡◌, ◌↔◌, Bool, subst, sym, true}
 use Rattle.iolite.specs.Script.{AsksSomething}
-use Rattle.iolite.proofs.Asking.{asks_if_read}
+use Rattle.iolite.proofs.Requests.{asks_if_read}
 use Rattle.iolite.proofs.script.asks_something.Goals as goal
 
 pub returns : goal.returns

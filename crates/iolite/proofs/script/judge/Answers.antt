@@ -4,7 +4,7 @@ use Rattle.std.proofs.lemmas.List.{map-append}
 use Rattle.std.proofs.lemmas.Iterator.Consumers.{YieldsList-at, YieldsList-from_enumerate, YieldsList-so_far, YieldsList-turn, YieldsList-end}
 use Rattle.std.proofs.lemmas.Iterator.Splits.{YieldsList-from_str_split}
 use Rattle.iolite.specs.Script.{IsJudged, is_blank, lines, without_blank}
-use Rattle.iolite.proofs.Said.{Judging-none, Judging-read, Judging-bad, map-enumerate, turn_of_enumeration}
+use Rattle.iolite.proofs.ScriptWords.{Judging-none, Judging-read, Judging-bad, map-enumerate, turn_of_enumeration}
 use Rattle.iolite.proofs.script.judge.Goals as goal
 
 pub loop-place-init : goal.loop-place-init

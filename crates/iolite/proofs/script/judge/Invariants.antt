@@ -1,5 +1,5 @@
 use Rattle.std.proofs.Common.{map}
-use Rattle.iolite.proofs.Said.{Judging}
+use Rattle.iolite.proofs.ScriptWords.{Judging}
 use Rattle.iolite.proofs.script.judge.Given as goal
 
 abbrev pub invariant-loop-place : goal.invariant-loop-place

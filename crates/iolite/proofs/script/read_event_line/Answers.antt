@@ -1,6 +1,6 @@
 use Rattle.std.proofs.Common.{refl}
 use Rattle.iolite.specs.Outside.{event_of}
-use Rattle.iolite.proofs.Asking.{event_here, event_there}
+use Rattle.iolite.proofs.Requests.{event_here, event_there}
 use Rattle.iolite.proofs.script.read_event_line.Goals as goal
 
 pub returns-in-Some : goal.returns-in-Some

@@ -1,5 +1,5 @@
 use Rattle.std.proofs.Common.{refl}
-use Rattle.iolite.proofs.Reading.{reads_second}
+use Rattle.iolite.proofs.ReadTexts.{reads_second}
 use Rattle.iolite.proofs.script.read_line.Goals as goal
 
 pub returns-in-None : goal.returns-in-None

@@ -1,6 +1,6 @@
 use Rattle.std.proofs.Common.{◌≡◌, ◌∷◌, [], ◌++◌, List, length, map, refl, sym, ap, ◌∙◌, arith}
 use Rattle.std.specs.Vec.Iter.{into_iter_items}
-use Rattle.flash_cgi.specs.Gathered.{as_text, gather, gathered}
+use Rattle.flash_cgi.specs.JoinedLines.{as_text, gather, gathered}
 use Rattle.flash_cgi.specs.declared.line.Line.{Line}
 use Rattle.flash_cgi.proofs.script.Script.gathered.Goals as goal
 

@@ -1,6 +1,6 @@
 use Rattle.std.proofs.Common.{◌≡◌, ◌++◌, length, map}
 use Rattle.std.specs.Vec.Iter.{into_iter_items, into_iter_len}
-use Rattle.flash_cgi.specs.Gathered.{as_text, gather, gathered}
+use Rattle.flash_cgi.specs.JoinedLines.{as_text, gather, gathered}
 use Rattle.flash_cgi.proofs.script.Script.gathered.Given as goal
 
 abbrev pub invariant-loop-line : goal.invariant-loop-line

@@ -1,7 +1,7 @@
 use Rattle.std.proofs.Common.{ℕ, List, ap, ◌∙◌}
 use Rattle.flash_laws.specs.Client.{Client}
 use Rattle.flash_laws.specs.Conn.{Conn}
-use Rattle.flash_lite.proofs.Answering.Clients.{plain, ends_asks}
+use Rattle.flash_lite.proofs.Responses.Clients.{plain, ends_asks}
 use Rattle.flash_lite.proofs.client.Client.end_with.Goals as goal
 
 pub returns : goal.returns

@@ -1,9 +1,9 @@
 use Rattle.std.proofs.Common.{ap, subst, ◌∙◌}
 use Rattle.flash_laws.specs.Client.{Client}
-use Rattle.flash_lite.specs.Heard.{heard}
+use Rattle.flash_lite.specs.HeardBytes.{heard}
 use Rattle.flash_lite.specs.Onward.{IsOnward, GoesOn}
 use Rattle.flash_lite.specs.declared.conn.Onward.{Onward}
-use Rattle.flash_lite.proofs.Answering.Clients.{asks_alone}
+use Rattle.flash_lite.proofs.Responses.Clients.{asks_alone}
 use Rattle.flash_lite.proofs.client.Client.go_on_alone.Goals as goal
 
 pub returns-in-Asks : goal.returns-in-Asks

@@ -1,6 +1,6 @@
 use Rattle.std.proofs.Common.{rules, sym, ◌∙◌}
-use Rattle.flash_lite.specs.Heard.{heard}
-use Rattle.flash_lite.proofs.Answering.RunsOn.{on_err, run_stays, run_waits, run_wants_on, goes_wants}
+use Rattle.flash_lite.specs.HeardBytes.{heard}
+use Rattle.flash_lite.proofs.Responses.RunsOn.{on_err, run_stays, run_waits, run_wants_on, goes_wants}
 use Rattle.flash_lite.proofs.client.Client.go_on_running.Goals as goal
 
 pub returns-then-is_later : goal.returns-then-is_later

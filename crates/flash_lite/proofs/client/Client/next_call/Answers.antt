@@ -1,7 +1,7 @@
 use Rattle.std.proofs.Common.{subst}
 use Rattle.flash_laws.specs.Client.{Client}
 use Rattle.flash_laws.specs.Conn as conn
-use Rattle.flash_lite.proofs.Answering.Clients.{ready_alone}
+use Rattle.flash_lite.proofs.Responses.Clients.{ready_alone}
 use Rattle.flash_lite.proofs.client.Client.next_call.Goals as goal
 
 pub returns-in_err-call-in-None-clause-ready : goal.returns-in_err-call-in-None-clause-ready

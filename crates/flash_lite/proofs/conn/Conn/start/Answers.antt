@@ -5,7 +5,7 @@ use Rattle.flash_http.specs.Window.{window_in}
 use Rattle.flash_http.specs.Request.{answer, IsAnswerTo}
 use Rattle.flash_laws.specs.Conn.{Conn}
 use Rattle.flash_laws.specs.declared.phase.Doing.TheVariants.{Rests}
-use Rattle.flash_lite.proofs.Answering.Begun.{starts_head}
+use Rattle.flash_lite.proofs.Responses.FirstCall.{starts_head}
 use Rattle.flash_lite.proofs.conn.Conn.start.Goals as goal
 
 pub returns-in_ok-asked-in-Head-clause-starts : goal.returns-in_ok-asked-in-Head-clause-starts

@@ -1,6 +1,6 @@
 use Rattle.std.proofs.Common.{◌≡◌, ◌∙◌, vec_capacity, Some, true, false, arith}
 use Rattle.flash_laws.specs.Client.{new_client}
-use Rattle.flash_laws.specs.Site.Tied.{with_at}
+use Rattle.flash_laws.specs.Site.OtherConns.{with_at}
 use Rattle.flash_lite.proofs.Order.{can_note, is_added, long_added}
 use Rattle.flash_lite.proofs.held.Clients.admit.Goals as goal
 

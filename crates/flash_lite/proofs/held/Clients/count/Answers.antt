@@ -1,5 +1,5 @@
 use Rattle.std.proofs.Common.{◌≡◌, ◌∙◌, ap, length, List, ℕ, rules}
-use Rattle.iol_core.specs.Numbered.{taken}
+use Rattle.iol_core.specs.NumberedLists.{taken}
 use Rattle.flash_lite.proofs.Order.{as_held}
 use Rattle.flash_lite.proofs.held.Clients.count.Goals as goal
 

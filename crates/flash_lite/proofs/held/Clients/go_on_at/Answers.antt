@@ -1,7 +1,7 @@
 use Rattle.std.proofs.Common.{◌≡◌, ◌∙◌, ap, length, vec_capacity, List, Option, Some, true, false, arith, rules}
 use Rattle.flash_laws.specs.Client.{Client}
-use Rattle.flash_lite.specs.Heard.{heard}
-use Rattle.flash_lite.specs.Turning.{CourseAt}
+use Rattle.flash_lite.specs.HeardBytes.{heard}
+use Rattle.flash_lite.specs.ServerTurn.{CourseAt}
 use Rattle.flash_lite.proofs.Order.{can_note, is_set}
 use Rattle.flash_lite.proofs.held.Clients.go_on_at.Goals as goal
 

@@ -1,7 +1,7 @@
 use Rattle.std.proofs.Common.{◌≡◌, ◌∙◌, ◌<◌, ap, length, subst, sym, vec_capacity, List, Option, true, false, arith}
-use Rattle.iol_core.specs.Numbered.{in_place}
+use Rattle.iol_core.specs.NumberedLists.{in_place}
 use Rattle.flash_laws.specs.Client.{Client}
-use Rattle.flash_lite.specs.Turning.{left_as}
+use Rattle.flash_lite.specs.ServerTurn.{left_as}
 use Rattle.flash_lite.proofs.Order.{can_note, is_set}
 use Rattle.flash_lite.proofs.held.Clients.leave_at.Goals as goal
 

@@ -1,11 +1,11 @@
 use Rattle.std.proofs.Common.{ap, ◌∙◌}
 use Rattle.iol_proc.specs.Looks.{lent}
 use Rattle.flash_laws.specs.Serves.{Server}
-use Rattle.flash_lite.specs.Heard.{heard}
+use Rattle.flash_lite.specs.HeardBytes.{heard}
 use Rattle.flash_lite.specs.Table.{serving}
-use Rattle.flash_lite.specs.Turning.{filed_by}
-use Rattle.flash_lite.proofs.Turns.Kept.{kept_turn}
-use Rattle.flash_lite.proofs.Answering.Offering.{offers_next}
+use Rattle.flash_lite.specs.ServerTurn.{filed_by}
+use Rattle.flash_lite.proofs.Turns.Invariant.{kept_turn}
+use Rattle.flash_lite.proofs.Responses.Offers.{offers_next}
 use Rattle.flash_lite.proofs.Turns.Quiet.{quiet_turn}
 use Rattle.flash_lite.proofs.server.ServerProcess.next.Goals as goal
 

@@ -1,11 +1,11 @@
 use Rattle.std.proofs.Common.{◌≡◌, ◌∙◌, [], Some, ap, refl, subst, sym, rules}
 use Rattle.iol_core.specs.declared.events.Reply.TheVariants as reply
 use Rattle.flash_laws.specs.Client.{new_client}
-use Rattle.flash_laws.specs.Site.Tied.{with_at}
+use Rattle.flash_laws.specs.Site.OtherConns.{with_at}
 use Rattle.flash_lite.specs.Table.{Table, IsKept}
-use Rattle.flash_lite.specs.Turning.{Turns, door_to, worker_at}
+use Rattle.flash_lite.specs.ServerTurn.{Turns, door_to, worker_at}
 use Rattle.flash_lite.specs.declared.server.TheConstants.{MAX_CONNS}
-use Rattle.flash_lite.proofs.Turns.Turned.{accepted_turns, table}
+use Rattle.flash_lite.proofs.Turns.TurnParts.{accepted_turns, table}
 use Rattle.flash_lite.proofs.table.Table.go_on_accepting.Goals as goal
 
 pub returns-in_ok-admit-in-Fd-clause-turn : goal.returns-in_ok-admit-in-Fd-clause-turn

@@ -1,15 +1,15 @@
 use Rattle.std.proofs.Common.{◌≡◌, ◌∙◌, ap, subst, sym, rules, min}
 use Rattle.iol_proc.specs.declared.process.Turn.TheVariants as turn
 use Rattle.flash_laws.specs.Site.Places.{runs_scripts}
-use Rattle.flash_laws.specs.Serves.Wanting.{MayWant}
+use Rattle.flash_laws.specs.Serves.Wants.{MayWant}
 use Rattle.flash_laws.specs.declared.phase.Flight.TheVariants.{At}
-use Rattle.flash_lite.specs.Heard.{heard}
+use Rattle.flash_lite.specs.HeardBytes.{heard}
 use Rattle.flash_lite.specs.Table.{Table, IsKept}
-use Rattle.flash_lite.specs.Turning.{CourseAt, Turns, first_in, worker_at}
+use Rattle.flash_lite.specs.ServerTurn.{CourseAt, Turns, first_in, worker_at}
 use Rattle.flash_lite.specs.declared.client.Course.TheVariants.{Asks, Leaves}
-use Rattle.flash_lite.proofs.Answering.RunsOn.{on_err}
-use Rattle.flash_lite.proofs.Turns.Turned.{asks_turns, leaves_turns, table}
-use Rattle.flash_lite.proofs.Turns.Wanting.{left_wants}
+use Rattle.flash_lite.proofs.Responses.RunsOn.{on_err}
+use Rattle.flash_lite.proofs.Turns.TurnParts.{asks_turns, leaves_turns, table}
+use Rattle.flash_lite.proofs.Turns.Wants.{left_wants}
 use Rattle.flash_lite.proofs.table.Table.go_on_at.Goals as goal
 
 pub returns-in-Some-Asks-clause-turn : goal.returns-in-Some-Asks-clause-turn

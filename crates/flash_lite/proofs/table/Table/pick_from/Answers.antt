@@ -1,7 +1,7 @@
 use Rattle.std.proofs.Common.{rules, ◌≡◌, ◌∙◌, ap, subst}
 use Rattle.flash_laws.specs.Site.Places.{runs_scripts}
 use Rattle.flash_lite.specs.Table.{Table}
-use Rattle.flash_lite.specs.Turning.{PicksFrom, has_in}
+use Rattle.flash_lite.specs.ServerTurn.{PicksFrom, has_in}
 use Rattle.flash_lite.specs.declared.server.TheConstants.{MAX_CONNS}
 use Rattle.flash_lite.proofs.table.Table.pick_from.Goals as goal
 

@@ -1,4 +1,4 @@
-use Rattle.iol_agg.proofs.Holding.{moved_covers}
+use Rattle.iol_agg.proofs.KnownHolds.{moved_covers}
 use Rattle.flash_tests.proofs.tests.windows.window_in_store.Goals as goal
 
 pub release-requires : goal.release-requires

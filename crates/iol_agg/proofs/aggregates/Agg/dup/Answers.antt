@@ -3,7 +3,7 @@ use Rattle.std.proofs.lemmas.List.{take_all}
 use Rattle.iol_hold.specs.Places.{places, byte_len}
 use Rattle.iol_hold.specs.Texts.{bufs_of}
 use Rattle.iol_agg.specs.Pours.{SharesPlaces}
-use Rattle.iol_agg.proofs.Meeting.{meeting-all}
+use Rattle.iol_agg.proofs.RangeSlices.{meeting-all}
 use Rattle.iol_agg.proofs.aggregates.Agg.dup.Goals as goal
 
 pub returns : goal.returns

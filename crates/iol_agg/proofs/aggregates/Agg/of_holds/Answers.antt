@@ -1,5 +1,5 @@
 use Rattle.std.proofs.Common.{length, arith, ap}
-use Rattle.iol_hold.proofs.Reading.{length-text_of}
+use Rattle.iol_hold.proofs.ReadSlices.{length-text_of}
 use Rattle.iol_agg.proofs.aggregates.Agg.of_holds.Goals as goal
 
 pub from_slices-requires : goal.from_slices-requires

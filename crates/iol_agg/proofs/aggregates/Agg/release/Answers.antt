@@ -1,9 +1,9 @@
 use Rattle.std.proofs.Common.{◌∙◌, subst, rules}
 use Rattle.iol_hold.specs.Moves.{Moves}
 use Rattle.iol_hold.specs.Texts.{bufs_of, AllReadable}
-use Rattle.iol_hold.proofs.Reading.{bufs_of-push, home_stays, readable_last}
-use Rattle.iol_hold.proofs.Releasing.{frees_trans}
-use Rattle.iol_hold.proofs.Moving.{moves_less, last_held}
+use Rattle.iol_hold.proofs.ReadSlices.{bufs_of-push, home_stays, readable_last}
+use Rattle.iol_hold.proofs.Releases.{frees_trans}
+use Rattle.iol_hold.proofs.Moves.{moves_less, last_held}
 use Rattle.iol_agg.proofs.aggregates.Agg.release.Goals as goal
 
 pub release-requires : goal.release-requires

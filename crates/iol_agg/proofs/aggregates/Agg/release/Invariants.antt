@@ -1,7 +1,7 @@
 use Rattle.std.proofs.Common.{vec_len}
 use Rattle.iol_hold.specs.Moves.{Moves, SameLists}
 use Rattle.iol_hold.specs.Releases.{FreesOnly}
-use Rattle.iol_hold.specs.Stored.{AllSettled}
+use Rattle.iol_hold.specs.StoreState.{AllSettled}
 use Rattle.iol_hold.specs.Texts.{bufs_of, AllReadable}
 use Rattle.iol_agg.proofs.aggregates.Agg.release.Given as goal
 

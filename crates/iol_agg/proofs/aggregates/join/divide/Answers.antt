@@ -1,7 +1,7 @@
 use Rattle.std.proofs.Common.{ap, ◌∙◌, arith}
 use Rattle.std.proofs.lemmas.Grind.{common_steps}
 use Rattle.iol_hold.specs.Places.{slice_places}
-use Rattle.iol_agg.proofs.Dividing.{tail-cut}
+use Rattle.iol_agg.proofs.Division.{tail-cut}
 use Rattle.iol_agg.proofs.aggregates.join.divide.Goals as goal
 
 pub returns : goal.returns

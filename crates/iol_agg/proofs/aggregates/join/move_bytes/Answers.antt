@@ -1,8 +1,8 @@
 use Rattle.std.proofs.Common.{◌≡◌, ◌≤◌, get_or, ap, ◌∙◌, arith}
 use Rattle.iol_hold.specs.Places.{places}
-use Rattle.iol_hold.specs.Stored.{Buffer}
+use Rattle.iol_hold.specs.StoreState.{Buffer}
 use Rattle.iol_hold.specs.declared.slices.Slice.{Slice}
-use Rattle.iol_agg.proofs.Dividing.{covers_at, places-given, places-left, shares-given}
+use Rattle.iol_agg.proofs.Division.{covers_at, places-given, places-left, shares-given}
 use Rattle.iol_agg.proofs.aggregates.join.move_bytes.Goals as goal
 
 pub divide-part-requires : goal.divide-part-requires

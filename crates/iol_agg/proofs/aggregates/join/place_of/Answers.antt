@@ -1,5 +1,5 @@
 use Rattle.std.proofs.Common.{arith}
-use Rattle.iol_hold.proofs.Slicing.{byte_len-take_more}
+use Rattle.iol_hold.proofs.SlicePlaces.{byte_len-take_more}
 use Rattle.iol_agg.proofs.aggregates.join.place_of.Goals as goal
 
 pub loop-slice-preserved : goal.loop-slice-preserved

@@ -2,14 +2,14 @@ use Rattle.std.proofs.Common.{◌≡◌, ℕ, ◌+◌, ◌-◌, ◌<◌, ◌++�
 use Rattle.std.proofs.lemmas.Grind.{common_steps}
 use Rattle.std.proofs.lemmas.List.{take_rest, drop_all, length-drop, get_or-drop}
 use Rattle.iol_hold.specs.Places.{places}
-use Rattle.iol_hold.specs.Stored.{Stored, Buffer}
+use Rattle.iol_hold.specs.StoreState.{Stored, Buffer}
 use Rattle.iol_hold.specs.Texts.{bufs_of}
 use Rattle.iol_hold.specs.declared.slices.Slice.{Slice}
 use Rattle.iol_agg.specs.Pours.{AreShareable, Pours, meeting}
-use Rattle.iol_agg.proofs.Cutting.{cut_more}
-use Rattle.iol_agg.proofs.Dividing.{drop-halves}
-use Rattle.iol_agg.proofs.Meeting.{meeting-drop, meeting-empty, meeting-nil, meeting_more, meeting_done}
-use Rattle.iol_agg.proofs.Poured.{shareable_drop, pours_rest, pours_within, pours_more, pours_one, next_live, next_few}
+use Rattle.iol_agg.proofs.Cuts.{cut_more}
+use Rattle.iol_agg.proofs.Division.{drop-halves}
+use Rattle.iol_agg.proofs.RangeSlices.{meeting-drop, meeting-empty, meeting-nil, meeting_more, meeting_done}
+use Rattle.iol_agg.proofs.Pours.{shareable_drop, pours_rest, pours_within, pours_more, pours_one, next_live, next_few}
 use Rattle.iol_agg.proofs.aggregates.pour.pour.Goals as goal
 
 -- the slices from the k-th on

@@ -1,6 +1,6 @@
 use Rattle.std.proofs.Common.{subst}
 use Rattle.iol_hold.specs.Texts.{AllReadable}
-use Rattle.iol_hold.proofs.Reading.{readable_first, readable_later}
+use Rattle.iol_hold.proofs.ReadSlices.{readable_first, readable_later}
 use Rattle.iol_agg.proofs.parts.PartsIterator.next.Goals as goal
 
 pub bytes-requires : goal.bytes-requires

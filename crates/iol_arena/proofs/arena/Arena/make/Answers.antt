@@ -1,4 +1,4 @@
-use Rattle.iol_arena.proofs.Counted.{new_sound}
+use Rattle.iol_arena.proofs.FreeCounts.{new_sound}
 use Rattle.iol_arena.proofs.arena.Arena.make.Goals as goal
 
 pub invariant_of-result : goal.invariant_of-result

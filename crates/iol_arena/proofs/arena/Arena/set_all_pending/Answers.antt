@@ -2,11 +2,11 @@ use Rattle.std.proofs.Common.{arith, subst, List, ap, ◌∙◌, not}
 use Rattle.std.proofs.lemmas.List.{take_all}
 use Rattle.iol_arena.specs.State.{State}
 use Rattle.iol_arena.specs.Parts.{part_pages}
-use Rattle.iol_arena.specs.Written.{reserved_kind}
+use Rattle.iol_arena.specs.WriteSteps.{reserved_kind}
 use Rattle.iol_arena.specs.declared.pages.Part.{Part}
 use Rattle.iol_arena.proofs.Keeps.{spares_trans}
 use Rattle.iol_arena.proofs.Grows.{grows_trans}
-use Rattle.iol_arena.proofs.Marked.{AreMarked, still_all, marked_more, all_marked, others-marked, unraised-marked}
+use Rattle.iol_arena.proofs.MarkedParts.{AreMarked, still_all, marked_more, all_marked, others-marked, unraised-marked}
 use Rattle.iol_arena.proofs.arena.Arena.set_all_pending.Goals as goal
 
 pub set_pending-requires : goal.set_pending-requires

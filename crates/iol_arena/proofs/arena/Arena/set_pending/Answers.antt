@@ -1,6 +1,6 @@
 use Rattle.std.proofs.Common.{◌≡◌, ℕ, arith, ap, sym, subst, ◌^◌, ◌<◌, ◌∙◌, Bool, true, false, not, refl}
 use Rattle.iol_arena.specs.State.{State, CanMark, with_marked, kind_head}
-use Rattle.iol_arena.specs.Written.{reserved_kind}
+use Rattle.iol_arena.specs.WriteSteps.{reserved_kind}
 use Rattle.iol_arena.specs.Buffers.{Grows}
 use Rattle.iol_arena.specs.declared.pages.PageKind.TheVariants.{Head, Tail}
 use Rattle.iol_arena.proofs.Marks.{sound_runs, can_mark}

@@ -1,7 +1,7 @@
 use Rattle.std.proofs.Common.{◌≡◌, ℕ, List, arith, refl, ◌∙◌, get_or, subst}
 use Rattle.std.proofs.lemmas.List.{take_all, get_or_default}
 use Rattle.iol_arena.specs.Chunks.{AreTaken}
-use Rattle.iol_arena.proofs.Taking.{one_taken}
+use Rattle.iol_arena.proofs.GivenChunks.{one_taken}
 use Rattle.iol_arena.proofs.arena.chunks.mark_taken.Goals as goal
 
 pub loop-chunk-init : goal.loop-chunk-init

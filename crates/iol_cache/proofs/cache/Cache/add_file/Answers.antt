@@ -1,9 +1,9 @@
 use Rattle.std.proofs.Common.{◌≡◌, ◌∙◌, ◌∷◌, ◌++◌, List, [], ℕ, ap, refl, arith, rules}
 use Rattle.iol_extent.specs.Extents.{ExtentMap}
 use Rattle.iol_cache.specs.declared.files.CachedFile.{CachedFile}
-use Rattle.iol_cache.specs.Cached.{new_file}
+use Rattle.iol_cache.specs.CacheState.{new_file}
 use Rattle.iol_cache.specs.Cache.{cached_of}
-use Rattle.iol_cache.proofs.Extents.Adding.{sound_added}
+use Rattle.iol_cache.proofs.Extents.NewFiles.{sound_added}
 use Rattle.iol_cache.proofs.cache.Cache.add_file.Goals as goal
 
 pushed : (fs gs : List CachedFile) (p : ℕ) (m : ExtentMap) → gs ≡ fs ++ record { pool = p; extents = m } ∷ [] → m ≡ record { extents = []; room = 0 } → gs ≡ fs ++ new_file p ∷ []

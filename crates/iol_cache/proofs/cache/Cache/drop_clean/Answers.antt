@@ -1,12 +1,12 @@
 use Rattle.std.proofs.Common.{inl, inr, ◌≡◌, ◌∙◌, length, refl, ap, arith, subst}
 use Rattle.std.proofs.lemmas.Bool.{cases_eq, cases_lt}
-use Rattle.iol_evict.specs.Ranking.{Ranking}
-use Rattle.iol_cache.specs.Cached.{order_in}
+use Rattle.iol_evict.specs.Order.{Ranking}
+use Rattle.iol_cache.specs.CacheState.{order_in}
 use Rattle.iol_cache.specs.Cache.{cached_of, holding}
-use Rattle.iol_cache.specs.Evicting.{EvictsPools}
-use Rattle.iol_cache.proofs.Extents.Filing.{order_nowhere}
-use Rattle.iol_cache.proofs.Evictions.GivenUp.{gives_up_none, gives_up_trans}
-use Rattle.iol_cache.proofs.Evictions.Choosing.{pools_more, all_dirty}
+use Rattle.iol_cache.specs.Evictions.{EvictsPools}
+use Rattle.iol_cache.proofs.Extents.FileEntries.{order_nowhere}
+use Rattle.iol_cache.proofs.Evictions.Files.{gives_up_none, gives_up_trans}
+use Rattle.iol_cache.proofs.Evictions.Victims.{pools_more, all_dirty}
 use Rattle.iol_cache.proofs.cache.Cache.drop_clean.Goals as goal
 
 pub loop-i-init : goal.loop-i-init

@@ -1,7 +1,7 @@
 use Rattle.std.proofs.Common.{◌≡◌, ◌<◌, ◌≤◌, [], ℕ, length}
-use Rattle.iol_cache.specs.Cached.{order_in}
+use Rattle.iol_cache.specs.CacheState.{order_in}
 use Rattle.iol_cache.specs.Cache.{cached_of, holding}
-use Rattle.iol_cache.specs.Evicting.{EvictsPools, GivesUp}
+use Rattle.iol_cache.specs.Evictions.{EvictsPools, GivesUp}
 use Rattle.iol_cache.specs.Sound.{IsSound}
 use Rattle.iol_cache.proofs.cache.Cache.drop_clean.Given as goal
 

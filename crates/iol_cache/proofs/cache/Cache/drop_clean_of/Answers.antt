@@ -1,6 +1,6 @@
 use Rattle.std.proofs.Common.{◌∙◌, None, refl}
 use Rattle.iol_cache.specs.Cache.{holding}
-use Rattle.iol_cache.proofs.Evictions.Choosing.{evicts_others, evicts_len}
+use Rattle.iol_cache.proofs.Evictions.Victims.{evicts_others, evicts_len}
 use Rattle.iol_cache.proofs.Evictions.OneByOne.{next_clean, next_fewer, on_more, on_none}
 use Rattle.iol_cache.proofs.cache.Cache.drop_clean_of.Goals as goal
 

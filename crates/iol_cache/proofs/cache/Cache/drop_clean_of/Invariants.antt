@@ -1,5 +1,5 @@
 use Rattle.std.proofs.Common.{◌≡◌, ◌≢◌, ℕ, None, length}
-use Rattle.iol_cache.specs.Cached.{order_in}
+use Rattle.iol_cache.specs.CacheState.{order_in}
 use Rattle.iol_cache.specs.Cache.{holding}
 use Rattle.iol_cache.proofs.Evictions.OneByOne.{EvictsOn}
 use Rattle.iol_cache.proofs.cache.Cache.drop_clean_of.Given as goal

@@ -1,23 +1,23 @@
 use Rattle.std.proofs.Common.{◌≡◌, ℕ, ◌<◌, ◌≤◌, ◌∙◌, Bool, List, [], length, Some, IsSome, refl, sym, ap, arith, subst}
 use Rattle.iol_hold.specs.Moves.{Covers, Moves}
-use Rattle.iol_hold.specs.Stored.{Stored}
+use Rattle.iol_hold.specs.StoreState.{Stored}
 use Rattle.iol_hold.specs.Texts.{bufs_of, AllReadable}
 use Rattle.iol_hold.specs.declared.slices.Slice.{Slice}
 use Rattle.iol_extent.specs.Extents.{Extent, begins_at}
-use Rattle.iol_evict.specs.Ranking.{Ranking, entry_at, evicted_at}
+use Rattle.iol_evict.specs.Order.{Ranking, entry_at, evicted_at}
 use Rattle.iol_evict.specs.Victims.{AreUsedBelow}
 use Rattle.iol_evict.specs.declared.entry.Rank.{Rank}
 use Rattle.iol_cache.specs.declared.files.CachedFile.{CachedFile}
 use Rattle.iol_cache.specs.Marks.{HaveMarks, Unmarks}
-use Rattle.iol_cache.specs.Cached.{Cached, file_in, order_in, extents_in, parts_at, parts_in}
+use Rattle.iol_cache.specs.CacheState.{Cached, file_in, order_in, extents_in, parts_at, parts_in}
 use Rattle.iol_cache.specs.Cache.{cached_of, holding}
 use Rattle.iol_cache.specs.Sound.{IsSound, IsLaid}
-use Rattle.iol_cache.specs.Evicting.{Evicts, EvictsOne, Holding, IsCleanAt}
-use Rattle.iol_cache.proofs.Extents.Filing.{file_at_number, order_at_number, numbered_bounds, numbered_yes, additive_page, each-begins}
-use Rattle.iol_cache.proofs.Extents.Using.{clean_numbered, are_within, covers_at, sum-clean_at}
-use Rattle.iol_cache.proofs.Evictions.Ranked.{clean_ranked, entry_there}
-use Rattle.iol_cache.proofs.Evictions.Evicted.{given_is, begins_in, files_are, orders_are, sound_evicted}
-use Rattle.iol_cache.proofs.Evictions.Passed.{passed_evicted}
+use Rattle.iol_cache.specs.Evictions.{Evicts, EvictsOne, Holding, IsCleanAt}
+use Rattle.iol_cache.proofs.Extents.FileEntries.{file_at_number, order_at_number, numbered_bounds, numbered_yes, additive_page, each-begins}
+use Rattle.iol_cache.proofs.Extents.HeldSlices.{clean_numbered, are_within, covers_at, sum-clean_at}
+use Rattle.iol_cache.proofs.Evictions.RankedEntries.{clean_ranked, entry_there}
+use Rattle.iol_cache.proofs.Evictions.AfterEviction.{given_is, begins_in, files_are, orders_are, sound_evicted}
+use Rattle.iol_cache.proofs.Evictions.PassedExtents.{passed_evicted}
 use Rattle.iol_cache.proofs.cache.Cache.evict.Goals.{After-index_mut-2}
 use Rattle.iol_cache.proofs.cache.Cache.evict.Goals as goal
 

@@ -2,9 +2,9 @@ use Rattle.std.proofs.Common.{◌≡◌, ◌∙◌, ◌<◌, ◌≤◌, Bool, tr
 use Rattle.iol_pool.specs.Pools.{Pool}
 use Rattle.iol_hold.specs.Room.{free_of}
 use Rattle.iol_hold.proofs.Rooms.{open_numbered}
-use Rattle.iol_cache.specs.Cached.{clean_held}
+use Rattle.iol_cache.specs.CacheState.{clean_held}
 use Rattle.iol_cache.specs.Cache.{cached_of, holding}
-use Rattle.iol_cache.proofs.Evictions.Rooming.{room_at_most, no_room_left, same_pages}
+use Rattle.iol_cache.proofs.Evictions.FreePages.{room_at_most, no_room_left, same_pages}
 use Rattle.iol_cache.proofs.Evictions.NoneLeft.{none_beside}
 use Rattle.iol_cache.proofs.Evictions.OneByOne.{next_clean, next_fewer, on_more, on_none}
 use Rattle.iol_cache.proofs.cache.Cache.evict_for.Goals as goal

@@ -1,8 +1,8 @@
 use Rattle.std.proofs.Common.{◌≡◌, ap, ◌∙◌, arith}
 use Rattle.iol_extent.specs.Extents.{last_end}
 use Rattle.iol_cache.specs.declared.files.CachedFile.{CachedFile}
-use Rattle.iol_cache.specs.Cached.{extents_in}
-use Rattle.iol_cache.proofs.Extents.Filing.{file_at_number, numbered_bounds}
+use Rattle.iol_cache.specs.CacheState.{extents_in}
+use Rattle.iol_cache.proofs.Extents.FileEntries.{file_at_number, numbered_bounds}
 use Rattle.iol_cache.proofs.cache.Cache.file_end.Goals as goal
 
 pub returns : goal.returns

@@ -1,33 +1,33 @@
 use Rattle.std.proofs.Common.{◌≡◌, ◌∙◌, ℕ, ◌-◌, ◌<◌, ◌^◌, List, length, set, refl, sym, ap, arith, subst}
 use Rattle.std.specs.List.{All}
 use Rattle.iol_hold.specs.Places.{Place, places}
-use Rattle.iol_hold.specs.Stored.{Stored}
+use Rattle.iol_hold.specs.StoreState.{Stored}
 use Rattle.iol_hold.specs.Texts.{bufs_of}
 use Rattle.iol_extent.specs.Extents.{Extent, ExtentMap, IsApart}
 use Rattle.iol_extent.specs.Spans.{AreInOrder, IsGapSpan}
 use Rattle.iol_extent.specs.declared.spans.Span.{Span}
 use Rattle.iol_back.specs.Disk.{Disk}
-use Rattle.iol_evict.specs.Ranking.{Ranking}
+use Rattle.iol_evict.specs.Order.{Ranking}
 use Rattle.iol_hold.specs.declared.slices.Slice.{Slice}
 use Rattle.iol_cache.specs.declared.files.CachedFile.{CachedFile}
 use Rattle.iol_cache.specs.Marks.{HasMarksLeft, Marks, at_page}
-use Rattle.iol_cache.specs.Cached.{Cached, file_in, with_file, extents_in, order_in, with_order, all_parts}
+use Rattle.iol_cache.specs.CacheState.{Cached, file_in, with_file, extents_in, order_in, with_order, all_parts}
 use Rattle.iol_cache.specs.Cache.{cached_of, holding}
-use Rattle.iol_cache.specs.Evicting.{Holding}
-use Rattle.iol_cache.specs.Going.{FillsFile}
-use Rattle.iol_cache.specs.Reading.{FillsRange, MayFillRange, AllBeginAt, AllWithin, AreAbsent, all_entered, parts_of_spans}
-use Rattle.iol_cache.specs.Sharing.{CountsBelow}
+use Rattle.iol_cache.specs.Evictions.{Holding}
+use Rattle.iol_cache.specs.ReadSteps.{FillsFile}
+use Rattle.iol_cache.specs.RangeReads.{FillsRange, MayFillRange, AllBeginAt, AllWithin, AreAbsent, all_entered, parts_of_spans}
+use Rattle.iol_cache.specs.SharedBytes.{CountsBelow}
 use Rattle.iol_cache.specs.Sound.{IsSound}
-use Rattle.iol_cache.proofs.Extents.Filing.{numbered_bounds}
-use Rattle.iol_cache.proofs.Extents.Finding.{file_back, file_here, file_put, order_here, order_put, pool_bounds}
-use Rattle.iol_cache.proofs.Extents.Using.{covers_file}
-use Rattle.iol_cache.proofs.RangeReads.Undone.{none_gaps}
-use Rattle.iol_cache.proofs.RangeReads.Filled.{order_wide, reads_as}
-use Rattle.iol_cache.proofs.RangeReads.Putting.{begins_made, zip_begins, absent_gaps}
-use Rattle.iol_cache.proofs.RangeReads.Ranged.{made_len, may_fill_range, range_held}
+use Rattle.iol_cache.proofs.Extents.FileEntries.{numbered_bounds}
+use Rattle.iol_cache.proofs.Extents.Lookups.{file_back, file_here, file_put, order_here, order_put, pool_bounds}
+use Rattle.iol_cache.proofs.Extents.HeldSlices.{covers_file}
+use Rattle.iol_cache.proofs.RangeReads.TakenBack.{none_gaps}
+use Rattle.iol_cache.proofs.RangeReads.FilledGaps.{order_wide, reads_as}
+use Rattle.iol_cache.proofs.RangeReads.PutExtents.{begins_made, zip_begins, absent_gaps}
+use Rattle.iol_cache.proofs.RangeReads.WholeRange.{made_len, may_fill_range, range_held}
 use Rattle.iol_cache.proofs.Evictions.Roomy.{ranks_file, same_room, sound_same}
-use Rattle.iol_cache.proofs.Extents.Stepping.{sound_to, all_within, page_len, mark_few}
-use Rattle.iol_cache.proofs.RangeReads.Completed.{sound_filled}
+use Rattle.iol_cache.proofs.Extents.StoreSteps.{sound_to, all_within, page_len, mark_few}
+use Rattle.iol_cache.proofs.RangeReads.CompleteFile.{sound_filled}
 use Rattle.iol_cache.proofs.cache.Cache.fill.Given.{Over}
 use Rattle.iol_cache.proofs.cache.Cache.fill.Goals.{In-Ok}
 use Rattle.iol_cache.proofs.cache.Cache.fill.Goals as goal

@@ -1,18 +1,18 @@
 use Rattle.std.proofs.Common.{inl, inr, ◌≡◌, ◌∙◌, ◌+◌, ℕ, Bool, true, false, length, refl, ap, arith, subst}
 use Rattle.std.proofs.lemmas.Bool.{cases_lt}
 use Rattle.iol_hold.specs.Room.{pages_of}
-use Rattle.iol_hold.proofs.Moving.{moves_none}
+use Rattle.iol_hold.proofs.Moves.{moves_none}
 use Rattle.iol_cache.specs.declared.files.CachedFile.{CachedFile}
-use Rattle.iol_cache.specs.Cached.{clean_held, file_in}
+use Rattle.iol_cache.specs.CacheState.{clean_held, file_in}
 use Rattle.iol_cache.specs.Cache.{holding}
 use Rattle.iol_pool.specs.Pools.{pool_in}
-use Rattle.iol_cache.specs.Evicting.{Holding, MakesFree}
+use Rattle.iol_cache.specs.Evictions.{Holding, MakesFree}
 use Rattle.iol_cache.specs.Gaps.{gap_pages}
-use Rattle.iol_cache.specs.Pinned.{pinned_beside}
-use Rattle.iol_cache.specs.Serving.{LacksPages}
-use Rattle.iol_cache.proofs.Extents.Finding.{file_here}
-use Rattle.iol_cache.proofs.RangeReads.Filled.{order_wide}
-use Rattle.iol_cache.proofs.RangeReads.Served.{goes_out, may_left, pinned_filled, pins_held, pins_left, places_none, same_none, sound_out, went, went_none}
+use Rattle.iol_cache.specs.PinnedPages.{pinned_beside}
+use Rattle.iol_cache.specs.ReadResults.{LacksPages}
+use Rattle.iol_cache.proofs.Extents.Lookups.{file_here}
+use Rattle.iol_cache.proofs.RangeReads.FilledGaps.{order_wide}
+use Rattle.iol_cache.proofs.RangeReads.RangeHolds.{goes_out, may_left, pinned_filled, pins_held, pins_left, places_none, same_none, sound_out, went, went_none}
 use Rattle.iol_cache.proofs.cache.Cache.fill_pinned.Given.{Over}
 use Rattle.iol_cache.proofs.cache.Cache.fill_pinned.Goals.{After-make_room}
 use Rattle.iol_cache.proofs.cache.Cache.fill_pinned.Goals as goal

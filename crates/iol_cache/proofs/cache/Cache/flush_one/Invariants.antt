@@ -1,7 +1,7 @@
 use Rattle.std.proofs.Common.{◌≡◌}
 use Rattle.iol_cache.specs.Cache.{cached_of}
 use Rattle.iol_cache.specs.Sound.{IsSound}
-use Rattle.iol_cache.specs.Syncing.{AllClean}
+use Rattle.iol_cache.specs.WriteBack.{AllClean}
 use Rattle.iol_cache.proofs.cache.Cache.flush_one.Given as goal
 
 abbrev pub invariant-loop-i : goal.invariant-loop-i

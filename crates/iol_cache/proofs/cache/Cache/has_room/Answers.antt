@@ -2,7 +2,7 @@ use Rattle.std.proofs.Common.{List, ℕ, length, refl, ap, arith}
 use Rattle.iol_hold.specs.Loose.{loose_pages}
 use Rattle.iol_hold.proofs.Rooms.{open_numbered}
 use Rattle.iol_cache.specs.Cache.{cached_of}
-use Rattle.iol_cache.proofs.Evictions.Loosened.{free_fits, loose_count}
+use Rattle.iol_cache.proofs.Evictions.LoosePages.{free_fits, loose_count}
 use Rattle.iol_cache.proofs.cache.Cache.has_room.Goals as goal
 
 pub free_count-requires : goal.free_count-requires

@@ -2,17 +2,17 @@ use Rattle.std.proofs.Common.{inl, inr, true, false, ◌≡◌, ◌∙◌, ◌+�
 use Rattle.std.proofs.lemmas.Bool.{cases_lt}
 use Rattle.iol_pool.specs.Pools.{pool_in}
 use Rattle.iol_hold.specs.Room.{free_of, pages_of}
-use Rattle.iol_hold.specs.Stored.{Stored}
+use Rattle.iol_hold.specs.StoreState.{Stored}
 use Rattle.iol_cache.specs.declared.files.CachedFile.{CachedFile}
 use Rattle.iol_cache.specs.Cache.{cached_of, holding}
-use Rattle.iol_cache.specs.Cached.{Cached, clean_held}
-use Rattle.iol_cache.specs.Composing.{copied_pages}
-use Rattle.iol_cache.specs.Evicting.{EvictsAll, HasPages, Holding}
-use Rattle.iol_cache.specs.Overwriting.{LeavesAll, MakesRoom, pages_copied, pool_of}
-use Rattle.iol_cache.specs.Pinned.{pinned_beside}
-use Rattle.iol_cache.specs.Reading.{SameButRoom}
-use Rattle.iol_cache.specs.Serving.{LacksPages}
-use Rattle.iol_cache.proofs.Extents.Finding.{file_here}
+use Rattle.iol_cache.specs.CacheState.{Cached, clean_held}
+use Rattle.iol_cache.specs.Composition.{copied_pages}
+use Rattle.iol_cache.specs.Evictions.{EvictsAll, HasPages, Holding}
+use Rattle.iol_cache.specs.Overwrites.{LeavesAll, MakesRoom, pages_copied, pool_of}
+use Rattle.iol_cache.specs.PinnedPages.{pinned_beside}
+use Rattle.iol_cache.specs.RangeReads.{SameButRoom}
+use Rattle.iol_cache.specs.ReadResults.{LacksPages}
+use Rattle.iol_cache.proofs.Extents.Lookups.{file_here}
 use Rattle.iol_cache.proofs.Evictions.Roomy.{sound_same}
 use Rattle.iol_cache.proofs.cache.Cache.make_place.Goals.{After-make_room}
 use Rattle.iol_cache.proofs.cache.Cache.make_place.Goals as goal

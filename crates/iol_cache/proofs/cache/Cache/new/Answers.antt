@@ -1,4 +1,4 @@
-use Rattle.iol_cache.proofs.Extents.Adding.{sound_new}
+use Rattle.iol_cache.proofs.Extents.NewFiles.{sound_new}
 use Rattle.iol_cache.proofs.cache.Cache.new.Goals as goal
 
 pub returns : goal.returns

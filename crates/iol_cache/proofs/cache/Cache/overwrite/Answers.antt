@@ -4,16 +4,16 @@ use Rattle.iol_pool.specs.Pools.{pool_in}
 use Rattle.iol_hold.specs.Texts.{bufs_of}
 use Rattle.iol_cache.specs.declared.files.CachedFile.{CachedFile}
 use Rattle.iol_cache.specs.Cache.{cached_of, holding}
-use Rattle.iol_cache.specs.Cached.{extents_in, file_in, held}
-use Rattle.iol_cache.specs.Composing.{copied_pages}
-use Rattle.iol_cache.specs.Preparing.{Prepares}
-use Rattle.iol_cache.specs.Sharing.{AreHeld}
-use Rattle.iol_cache.specs.Writing.{MayPutOver, PutsOver}
-use Rattle.iol_cache.proofs.Extents.Finding.{file_here}
-use Rattle.iol_cache.proofs.RangeWrites.Prepared.{prepared_may}
-use Rattle.iol_cache.proofs.RangeReads.Filled.{leaves_as}
-use Rattle.iol_cache.proofs.RangeReads.Ranged.{file_held}
-use Rattle.iol_cache.proofs.Extents.Stepping.{sound_to}
+use Rattle.iol_cache.specs.CacheState.{extents_in, file_in, held}
+use Rattle.iol_cache.specs.Composition.{copied_pages}
+use Rattle.iol_cache.specs.Preparation.{Prepares}
+use Rattle.iol_cache.specs.SharedBytes.{AreHeld}
+use Rattle.iol_cache.specs.Writes.{MayPutOver, PutsOver}
+use Rattle.iol_cache.proofs.Extents.Lookups.{file_here}
+use Rattle.iol_cache.proofs.RangeWrites.Preparation.{prepared_may}
+use Rattle.iol_cache.proofs.RangeReads.FilledGaps.{leaves_as}
+use Rattle.iol_cache.proofs.RangeReads.WholeRange.{file_held}
+use Rattle.iol_cache.proofs.Extents.StoreSteps.{sound_to}
 use Rattle.iol_cache.proofs.Extents.Steps.{covers_right}
 use Rattle.iol_cache.proofs.cache.Cache.overwrite.Goals.{In-Ok}
 use Rattle.iol_cache.proofs.cache.Cache.overwrite.Goals as goal

@@ -1,25 +1,25 @@
 use Rattle.std.proofs.Common.{◌≡◌, ◌∙◌, ◌-◌, List, true, length, set, refl, sym, ap, arith, rules, subst}
-use Rattle.iol_core.specs.Numbered.{is_numbered}
-use Rattle.iol_hold.proofs.Moving.{shares_move}
-use Rattle.iol_hold.proofs.Releasing.{frees_none}
-use Rattle.iol_evict.specs.Ranking.{Ranking}
+use Rattle.iol_core.specs.NumberedLists.{is_numbered}
+use Rattle.iol_hold.proofs.Moves.{shares_move}
+use Rattle.iol_hold.proofs.Releases.{frees_none}
+use Rattle.iol_evict.specs.Order.{Ranking}
 use Rattle.iol_extent.specs.Extents.{Extent, IsApart}
 use Rattle.iol_extent.specs.Spans.{AreInOrder, Tile}
 use Rattle.iol_cache.specs.declared.files.CachedFile.{CachedFile}
-use Rattle.iol_cache.specs.Cached.{Cached, extents_in, file_in, order_in, with_order}
+use Rattle.iol_cache.specs.CacheState.{Cached, extents_in, file_in, order_in, with_order}
 use Rattle.iol_cache.specs.Cache.{cached_of}
-use Rattle.iol_cache.specs.Going.{CountsHits}
-use Rattle.iol_cache.specs.Reading.{RanksFile, hits_counted}
-use Rattle.iol_cache.specs.Sharing.{AreHeld}
+use Rattle.iol_cache.specs.ReadSteps.{CountsHits}
+use Rattle.iol_cache.specs.RangeReads.{RanksFile, hits_counted}
+use Rattle.iol_cache.specs.SharedBytes.{AreHeld}
 use Rattle.iol_cache.specs.Sound.{IsSound}
-use Rattle.iol_cache.specs.Weaving.{IsCoveredBeside, places_beside}
-use Rattle.iol_cache.proofs.Extents.Finding.{file_here, order_here, order_put, pool_bounds}
-use Rattle.iol_cache.proofs.Extents.Stepping.{sound_on, sound_to}
+use Rattle.iol_cache.specs.Weave.{IsCoveredBeside, places_beside}
+use Rattle.iol_cache.proofs.Extents.Lookups.{file_here, order_here, order_put, pool_bounds}
+use Rattle.iol_cache.proofs.Extents.StoreSteps.{sound_on, sound_to}
 use Rattle.iol_cache.proofs.Extents.Steps.{hits_entries_left, numbered_same}
 use Rattle.iol_cache.proofs.Evictions.Roomy.{ranks_file, sound_hits, sound_same}
-use Rattle.iol_cache.proofs.RangeReads.Ranged.{file_held}
-use Rattle.iol_cache.proofs.RangeReads.Tiled.{tile_beside}
-use Rattle.iol_cache.proofs.RangeReads.Woven.{still_covers}
+use Rattle.iol_cache.proofs.RangeReads.WholeRange.{file_held}
+use Rattle.iol_cache.proofs.RangeReads.CoveredBytes.{tile_beside}
+use Rattle.iol_cache.proofs.RangeReads.Weave.{still_covers}
 use Rattle.iol_cache.proofs.cache.Cache.pin.Goals.{After-count_hits, After-index-cached}
 use Rattle.iol_cache.proofs.cache.Cache.pin.Goals as goal
 

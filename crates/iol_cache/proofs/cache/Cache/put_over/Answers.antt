@@ -1,12 +1,12 @@
 use Rattle.std.proofs.Common.{◌∙◌, sym, ap, arith, subst}
-use Rattle.iol_evict.specs.Ranking.{Ranking}
+use Rattle.iol_evict.specs.Order.{Ranking}
 use Rattle.iol_cache.specs.declared.files.CachedFile.{CachedFile}
-use Rattle.iol_cache.specs.Cached.{file_in, with_file}
+use Rattle.iol_cache.specs.CacheState.{file_in, with_file}
 use Rattle.iol_cache.specs.Cache.{holding}
-use Rattle.iol_cache.specs.Replacing.{indexing_of}
-use Rattle.iol_cache.specs.Writing.{MayReplace, Replaces}
-use Rattle.iol_cache.proofs.Extents.Finding.{file_here, file_put, order_here, order_put, pool_bounds}
-use Rattle.iol_cache.proofs.RangeWrites.Written.{may_replace, sound_put}
+use Rattle.iol_cache.specs.Replacement.{indexing_of}
+use Rattle.iol_cache.specs.Writes.{MayReplace, Replaces}
+use Rattle.iol_cache.proofs.Extents.Lookups.{file_here, file_put, order_here, order_put, pool_bounds}
+use Rattle.iol_cache.proofs.RangeWrites.ReplacedRange.{may_replace, sound_put}
 use Rattle.iol_cache.proofs.cache.Cache.put_over.Goals as goal
 
 pub overflow_sub-number : goal.overflow_sub-number

@@ -10,16 +10,16 @@ use Rattle.iol_back.specs.Disk.{Disk}
 use Rattle.iol_extent.specs.declared.spans.Span.{Span}
 use Rattle.iol_hold.specs.Places.{byte_len}
 use Rattle.iol_hold.specs.Texts.{AllReadable, bufs_of, text_of}
-use Rattle.iol_cache.specs.Cached.{file_in}
+use Rattle.iol_cache.specs.CacheState.{file_in}
 use Rattle.iol_cache.specs.Cache.{cached_of, holding}
-use Rattle.iol_cache.specs.Evicting.{Holding}
+use Rattle.iol_cache.specs.Evictions.{Holding}
 use Rattle.iol_cache.specs.Gaps.{AreOf}
-use Rattle.iol_cache.specs.Going.{Goes}
+use Rattle.iol_cache.specs.ReadSteps.{Goes}
 use Rattle.iol_cache.specs.Ranges.{PinsRange}
-use Rattle.iol_cache.specs.Serving.{FaultCounts, Range, ReadsFile, RefusesRead, TellsRoom, bytes_read}
+use Rattle.iol_cache.specs.ReadResults.{FaultCounts, Range, ReadsFile, RefusesRead, TellsRoom, bytes_read}
 use Rattle.iol_cache.proofs.RangeReads.Hits.{HitsShared, fits_hit, goes_filled, goes_hit, gone_filled, late_filled, may_fill, readable_hit, reads_filled, reads_hit, refused_filled, room_hit}
-use Rattle.iol_cache.proofs.RangeReads.Paging.{fills_none}
-use Rattle.iol_cache.proofs.RangeReads.Served.{always_err, goes_reserved, on_memory, tells_fault}
+use Rattle.iol_cache.proofs.RangeReads.PageChanges.{fills_none}
+use Rattle.iol_cache.proofs.RangeReads.RangeHolds.{always_err, goes_reserved, on_memory, tells_fault}
 use Rattle.iol_cache.proofs.RangeReads.Whole.{file_backed, file_pages, file_pool, file_short, file_text, range_of}
 use Rattle.iol_cache.proofs.cache.Cache.read.Given.{Over}
 use Rattle.iol_cache.proofs.cache.Cache.read.Goals.{After-pin, In_ok-pins}

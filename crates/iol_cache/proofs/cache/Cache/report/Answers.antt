@@ -2,8 +2,8 @@ use Rattle.std.proofs.Common.{◌≡◌, ◌∙◌, ℕ, ◌+◌, ◌<◌, ◌�
 use Rattle.std.specs.Prelude.{sum_by}
 use Rattle.iol_extent.specs.Extents.{dirty_count, last_end}
 use Rattle.iol_cache.specs.declared.files.CachedFile.{CachedFile}
-use Rattle.iol_cache.specs.Cached.{extents_in}
-use Rattle.iol_cache.proofs.Extents.Bounded.{file_index, sum_next}
+use Rattle.iol_cache.specs.CacheState.{extents_in}
+use Rattle.iol_cache.proofs.Extents.Sums.{file_index, sum_next}
 use Rattle.iol_cache.proofs.cache.Cache.report.Goals as goal
 
 -- one file more

@@ -1,5 +1,5 @@
 use Rattle.std.proofs.Common.{◌≡◌, ◌≤◌, ◌*◌, take}
-use Rattle.iol_cache.specs.Cached.{dirty_in_all, extents_in_all}
+use Rattle.iol_cache.specs.CacheState.{dirty_in_all, extents_in_all}
 use Rattle.iol_cache.proofs.cache.Cache.report.Given as goal
 
 abbrev pub invariant-loop-file : goal.invariant-loop-file

@@ -1,12 +1,12 @@
 use Rattle.std.proofs.Common.{◌≡◌, ◌∙◌, ℕ, ◌-◌, ◌<◌, ◌≤◌, List, length, set, refl, ap, arith, rules}
 use Rattle.iol_extent.specs.Extents.{ExtentMap}
-use Rattle.iol_evict.specs.Ranking.{Ranking}
+use Rattle.iol_evict.specs.Order.{Ranking}
 use Rattle.iol_cache.specs.declared.files.CachedFile.{CachedFile}
-use Rattle.iol_cache.specs.Reading.{SameButRoom}
-use Rattle.iol_cache.specs.Cached.{Cached, file_in, order_in, with_order}
+use Rattle.iol_cache.specs.RangeReads.{SameButRoom}
+use Rattle.iol_cache.specs.CacheState.{Cached, file_in, order_in, with_order}
 use Rattle.iol_cache.specs.Cache.{cached_of}
-use Rattle.iol_cache.proofs.Extents.Filing.{file_set, file_same, order_at_number, order_set, order_same, numbered_bounds, length-with_order}
-use Rattle.iol_cache.proofs.Extents.Finding.{file_here, file_put}
+use Rattle.iol_cache.proofs.Extents.FileEntries.{file_set, file_same, order_at_number, order_set, order_same, numbered_bounds, length-with_order}
+use Rattle.iol_cache.proofs.Extents.Lookups.{file_here, file_put}
 use Rattle.iol_cache.proofs.Evictions.Roomy.{same_room, order_room, order_kept, order_low}
 use Rattle.iol_cache.proofs.cache.Cache.reserve_places.Goals.{After-reserve-2}
 use Rattle.iol_cache.proofs.cache.Cache.reserve_places.Goals as goal

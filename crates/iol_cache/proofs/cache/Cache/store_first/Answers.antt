@@ -1,33 +1,33 @@
 use Rattle.std.proofs.Common.{◌≡◌, ◌∙◌, ℕ, ◌≤◌, ◌^◌, true, List, length, Ok, Err, Some, refl, sym, ap, arith, subst}
 use Rattle.iol_back.specs.Disk.{Disk, Tears, content}
-use Rattle.iol_core.specs.Numbered.{is_numbered}
+use Rattle.iol_core.specs.NumberedLists.{is_numbered}
 use Rattle.iol_core.specs.Text as text
 use Rattle.iol_core.specs.declared.limits.TheConstants.{MAX_FILE_BYTES}
 use Rattle.iol_core.specs.declared.refusals.Refusal.TheVariants.{Fault}
 use Rattle.iol_hold.specs.Places.{byte_len}
-use Rattle.iol_hold.specs.Stored.{Stored}
+use Rattle.iol_hold.specs.StoreState.{Stored}
 use Rattle.iol_hold.specs.Texts.{text_of}
 use Rattle.iol_hold.specs.declared.slices.Slice.{Slice}
-use Rattle.iol_evict.specs.Ranking.{Ranking, entered, with_one_given_back}
+use Rattle.iol_evict.specs.Order.{Ranking, entered, with_one_given_back}
 use Rattle.iol_extent.specs.Extents.{Extent, begins_at, dirty_in, end_of, extent_of}
 use Rattle.iol_cache.specs.declared.files.CachedFile.{CachedFile}
 use Rattle.iol_cache.specs.Cache.{cached_of}
-use Rattle.iol_cache.specs.Cached.{Cached, extents_in, file_in, order_in, with_file, parts_in}
+use Rattle.iol_cache.specs.CacheState.{Cached, extents_in, file_in, order_in, with_file, parts_in}
 use Rattle.iol_cache.specs.Marks.{AreWithin, HasMarksLeft}
-use Rattle.iol_cache.specs.Sharing.{CountsBelow}
+use Rattle.iol_cache.specs.SharedBytes.{CountsBelow}
 use Rattle.iol_cache.specs.Sound.{IsLaid, IsSound}
-use Rattle.iol_cache.specs.Syncing.{Cleans, Fails, MaySettle, MayWriteBack, Settles, Stores, WritesFirst}
-use Rattle.iol_cache.proofs.RangeWrites.Cleaned.{dirty_some, first_dirty}
-use Rattle.iol_cache.proofs.RangeWrites.Composed.{length-bytes}
-use Rattle.iol_cache.proofs.Extents.Extending.{last_end-without_at}
-use Rattle.iol_cache.proofs.Extents.Filing.{each-begins}
-use Rattle.iol_cache.proofs.Extents.Finding.{file_here, file_put, order_here, order_put, pool_bounds}
+use Rattle.iol_cache.specs.WriteBack.{Cleans, Fails, MaySettle, MayWriteBack, Settles, Stores, WritesFirst}
+use Rattle.iol_cache.proofs.RangeWrites.CleanExtents.{dirty_some, first_dirty}
+use Rattle.iol_cache.proofs.RangeWrites.Composition.{length-bytes}
+use Rattle.iol_cache.proofs.Extents.FewerExtents.{last_end-without_at}
+use Rattle.iol_cache.proofs.Extents.FileEntries.{each-begins}
+use Rattle.iol_cache.proofs.Extents.Lookups.{file_here, file_put, order_here, order_put, pool_bounds}
 use Rattle.iol_cache.proofs.Evictions.Ready.{is_ready}
-use Rattle.iol_cache.proofs.Evictions.Reordered.{some_is}
+use Rattle.iol_cache.proofs.Evictions.Orders.{some_is}
 use Rattle.iol_cache.proofs.Evictions.Roomy.{ranks_file}
-use Rattle.iol_cache.proofs.Extents.Stepping.{mark_few, page_len}
-use Rattle.iol_cache.proofs.RangeWrites.Synced.{clean_bytes, clean_mirrors, cleaned_sound, fail_bytes, fail_stored}
-use Rattle.iol_cache.proofs.Extents.Using.{are_within, covers_at}
+use Rattle.iol_cache.proofs.Extents.StoreSteps.{mark_few, page_len}
+use Rattle.iol_cache.proofs.RangeWrites.WriteBack.{clean_bytes, clean_mirrors, cleaned_sound, fail_bytes, fail_stored}
+use Rattle.iol_cache.proofs.Extents.HeldSlices.{are_within, covers_at}
 use Rattle.iol_cache.proofs.cache.Cache.store_first.Given.{Over}
 use Rattle.iol_cache.proofs.cache.Cache.store_first.Goals.{In-Some}
 use Rattle.iol_cache.proofs.cache.Cache.store_first.Goals as goal

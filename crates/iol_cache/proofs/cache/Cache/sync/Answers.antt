@@ -1,15 +1,15 @@
 use Rattle.std.proofs.Common.{◌≡◌, ◌∙◌, ℕ, suc, refl, ◌+◌, ◌<◌, Bool, true, false, cond, None, Ok, sym, ap, arith, subst}
 use Rattle.iol_back.specs.Disk.{Disk, raised}
 use Rattle.iol_core.specs.Meaning.{FaultOf}
-use Rattle.iol_core.specs.Numbered.{is_numbered}
-use Rattle.iol_hold.specs.Stored.{Stored}
+use Rattle.iol_core.specs.NumberedLists.{is_numbered}
+use Rattle.iol_hold.specs.StoreState.{Stored}
 use Rattle.iol_extent.specs.Extents.{dirty_in, dirty_count}
 use Rattle.iol_cache.specs.Cache.{cached_of}
-use Rattle.iol_cache.specs.Cached.{Cached, extents_in}
+use Rattle.iol_cache.specs.CacheState.{Cached, extents_in}
 use Rattle.iol_cache.specs.Sound.{IsSound}
-use Rattle.iol_cache.specs.Syncing.{AreCleaned, StoresFirst, Syncs}
-use Rattle.iol_cache.proofs.Extents.Filing.{numbered_bounds, numbered_yes}
-use Rattle.iol_cache.proofs.RangeWrites.Synced.{clean_fewer, syncs_fail, syncs_more}
+use Rattle.iol_cache.specs.WriteBack.{AreCleaned, StoresFirst, Syncs}
+use Rattle.iol_cache.proofs.Extents.FileEntries.{numbered_bounds, numbered_yes}
+use Rattle.iol_cache.proofs.RangeWrites.WriteBack.{clean_fewer, syncs_fail, syncs_more}
 use Rattle.iol_cache.proofs.cache.Cache.sync.Given.{Over}
 use Rattle.iol_cache.proofs.cache.Cache.sync.Goals.{In-Ok}
 use Rattle.iol_cache.proofs.cache.Cache.sync.Goals as goal

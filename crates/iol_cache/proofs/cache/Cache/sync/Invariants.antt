@@ -1,9 +1,9 @@
 use Rattle.std.proofs.Common.{◌≡◌, ℕ, ◌+◌, false, None, cond}
 use Rattle.iol_extent.specs.Extents.{dirty_in, dirty_count}
 use Rattle.iol_cache.specs.Cache.{cached_of}
-use Rattle.iol_cache.specs.Cached.{extents_in}
+use Rattle.iol_cache.specs.CacheState.{extents_in}
 use Rattle.iol_cache.specs.Sound.{IsSound}
-use Rattle.iol_cache.specs.Syncing.{AreCleaned, Syncs}
+use Rattle.iol_cache.specs.WriteBack.{AreCleaned, Syncs}
 use Rattle.iol_cache.proofs.cache.Cache.sync.Given as goal
 
 abbrev pub invariant-loop-more : goal.invariant-loop-more

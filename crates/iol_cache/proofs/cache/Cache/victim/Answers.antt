@@ -1,17 +1,17 @@
 use Rattle.std.proofs.Common.{◌≡◌, ℕ, ◌<◌, ◌≤◌, List, [], length, get_or, MatchOption, Option, sym, ap, arith, subst}
-use Rattle.iol_hold.specs.Stored.{Stored}
-use Rattle.iol_evict.specs.Ranking.{Ranking}
+use Rattle.iol_hold.specs.StoreState.{Stored}
+use Rattle.iol_evict.specs.Order.{Ranking}
 use Rattle.iol_evict.specs.Victims.{AreUsedBelow, IsVictim}
 use Rattle.iol_evict.specs.declared.entry.Entry.{Entry}
 use Rattle.iol_evict.specs.declared.entry.Rank.{Rank}
 use Rattle.iol_cache.specs.declared.files.CachedFile.{CachedFile}
-use Rattle.iol_cache.specs.Cached.{Cached, order_in, entries_at}
+use Rattle.iol_cache.specs.CacheState.{Cached, order_in, entries_at}
 use Rattle.iol_cache.specs.Cache.{cached_of}
-use Rattle.iol_cache.specs.Evicting.{in_use, IsCleanAt}
+use Rattle.iol_cache.specs.Evictions.{in_use, IsCleanAt}
 use Rattle.iol_cache.specs.Sound.{IsSound, IsUsable}
-use Rattle.iol_cache.proofs.Extents.Filing.{order_nowhere, order_at_number}
-use Rattle.iol_cache.proofs.Evictions.Ranked.{entry_counts, ranked_clean}
-use Rattle.iol_cache.proofs.Evictions.Evicted.{usable_of}
+use Rattle.iol_cache.proofs.Extents.FileEntries.{order_nowhere, order_at_number}
+use Rattle.iol_cache.proofs.Evictions.RankedEntries.{entry_counts, ranked_clean}
+use Rattle.iol_cache.proofs.Evictions.AfterEviction.{usable_of}
 use Rattle.iol_cache.proofs.cache.Cache.victim.Goals as goal
 
 pub returns-then-number-eq0 : goal.returns-then-number-eq0

@@ -7,27 +7,27 @@ use Rattle.std.proofs.lemmas.List.Filters.{length-filter_both}
 use Rattle.iol_back.specs.Disk.{overwritten}
 use Rattle.iol_hold.specs.Places.{byte_len}
 use Rattle.iol_hold.specs.Room.{free_of, pages_of}
-use Rattle.iol_hold.specs.Stored.{Stored}
+use Rattle.iol_hold.specs.StoreState.{Stored}
 use Rattle.iol_hold.specs.declared.slices.Slice.{Slice}
-use Rattle.iol_hold.proofs.Moving.{moves_none, shares_none}
-use Rattle.iol_hold.proofs.Slicing.{byte_len-cons}
+use Rattle.iol_hold.proofs.Moves.{moves_none, shares_none}
+use Rattle.iol_hold.proofs.SlicePlaces.{byte_len-cons}
 use Rattle.iol_core.specs.Meaning.{WantOfRoom}
 use Rattle.iol_core.specs.declared.numbers.BufId.{BufId}
 use Rattle.iol_core.specs.declared.refusals.Refusal.{Refusal}
 use Rattle.iol_core.specs.declared.refusals.Refusal.TheVariants.{NoRoom}
 use Rattle.iol_cache.specs.declared.cache.Cache.{Cache}
 use Rattle.iol_cache.specs.Cache.{cached_of, holding}
-use Rattle.iol_cache.specs.Cached.{Cached, clean_held, extents_in}
-use Rattle.iol_cache.specs.Composing.{copied_pages}
-use Rattle.iol_cache.specs.Evicting.{Holding}
-use Rattle.iol_cache.specs.Overwriting.{IsWritten, LiesDirty, OnlyMakesRoom, WritesFile, bytes_in, pages_copied, pool_of}
-use Rattle.iol_cache.specs.Pinned.{is_pinned, pinned_beside}
-use Rattle.iol_cache.proofs.RangeWrites.Composed.{pages_for-zero}
-use Rattle.iol_cache.proofs.RangeReads.Filled.{leaves_as}
-use Rattle.iol_cache.proofs.RangeReads.Paging.{fills_none, frees_shares, unwritten_pages, write_pages}
-use Rattle.iol_cache.proofs.RangeReads.Served.{places_none}
-use Rattle.iol_cache.proofs.RangeReads.Shared.{length-places_over}
-use Rattle.iol_cache.proofs.RangeWrites.Placed.{KeepsAll, Wrote, all_wrote, goes_all, goes_refused, goes_room, room_held, room_numbered, room_readable}
+use Rattle.iol_cache.specs.CacheState.{Cached, clean_held, extents_in}
+use Rattle.iol_cache.specs.Composition.{copied_pages}
+use Rattle.iol_cache.specs.Evictions.{Holding}
+use Rattle.iol_cache.specs.Overwrites.{IsWritten, LiesDirty, OnlyMakesRoom, WritesFile, bytes_in, pages_copied, pool_of}
+use Rattle.iol_cache.specs.PinnedPages.{is_pinned, pinned_beside}
+use Rattle.iol_cache.proofs.RangeWrites.Composition.{pages_for-zero}
+use Rattle.iol_cache.proofs.RangeReads.FilledGaps.{leaves_as}
+use Rattle.iol_cache.proofs.RangeReads.PageChanges.{fills_none, frees_shares, unwritten_pages, write_pages}
+use Rattle.iol_cache.proofs.RangeReads.RangeHolds.{places_none}
+use Rattle.iol_cache.proofs.RangeReads.SharedBytes.{length-places_over}
+use Rattle.iol_cache.proofs.RangeWrites.WriteAfterRoom.{KeepsAll, Wrote, all_wrote, goes_all, goes_refused, goes_room, room_held, room_numbered, room_readable}
 use Rattle.iol_cache.proofs.cache.Cache.write.Goals as goal
 
 pages_none : (p : ℕ) (xs : List Slice) → byte_len xs ≡ 0 → copied_pages p xs ≡ 0

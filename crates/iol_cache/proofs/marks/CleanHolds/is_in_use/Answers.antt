@@ -1,5 +1,5 @@
 use Rattle.std.proofs.Common.{arith, ap, length}
-use Rattle.iol_cache.proofs.Evictions.Marking.{within_at, held_at}
+use Rattle.iol_cache.proofs.Evictions.Marks.{within_at, held_at}
 use Rattle.iol_cache.proofs.marks.CleanHolds.is_in_use.Goals as goal
 
 pub is_held_more-requires-clause-within : goal.is_held_more-requires-clause-within

@@ -1,7 +1,7 @@
 use Rattle.std.proofs.Common.{arith, ap, ◌∙◌, sym, subst, length, ℕ, List, get_or, set, take}
 use Rattle.iol_core.specs.declared.numbers.BufId.{BufId}
 use Rattle.iol_cache.specs.Marks.{CanTurn, turned}
-use Rattle.iol_cache.proofs.Evictions.Marking.{few_at, some_at, turn_long, turn_more, turn_none, within_at}
+use Rattle.iol_cache.proofs.Evictions.Marks.{few_at, some_at, turn_long, turn_more, turn_none, within_at}
 use Rattle.iol_cache.proofs.marks.CleanHolds.set_clean.Goals as goal
 
 pub loop-slice-init : goal.loop-slice-init

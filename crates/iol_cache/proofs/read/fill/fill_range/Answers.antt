@@ -1,15 +1,15 @@
 use Rattle.std.proofs.Common.{◌≡◌, ◌∙◌, refl, ap, arith}
 use Rattle.iol_core.specs.declared.refusals.Refusal.TheVariants.{Memory, NoRoom}
 use Rattle.iol_hold.specs.Texts.{bufs_of}
-use Rattle.iol_hold.proofs.Paging.{keeps_pages_same}
-use Rattle.iol_hold.proofs.Reading.{readable_stays}
-use Rattle.iol_hold.proofs.Releasing.{frees_trans}
+use Rattle.iol_hold.proofs.PageChanges.{keeps_pages_same}
+use Rattle.iol_hold.proofs.ReadSlices.{readable_stays}
+use Rattle.iol_hold.proofs.Releases.{frees_trans}
 use Rattle.iol_extent.specs.Extents.{ExtentMap}
-use Rattle.iol_cache.specs.Cached.{all_parts}
+use Rattle.iol_cache.specs.CacheState.{all_parts}
 use Rattle.iol_cache.specs.Gaps.{gap_pages}
 use Rattle.iol_cache.specs.declared.files.CachedFile.{CachedFile}
-use Rattle.iol_cache.proofs.RangeReads.Filled.{CanTakeBack, can_take_back, covers_back, order_wide, placed_some, reads_as, reads_refused, taken_back}
-use Rattle.iol_cache.proofs.RangeReads.Ranged.{range_held, range_few, range_covered, range_readable, range_still}
+use Rattle.iol_cache.proofs.RangeReads.FilledGaps.{CanTakeBack, can_take_back, covers_back, order_wide, placed_some, reads_as, reads_refused, taken_back}
+use Rattle.iol_cache.proofs.RangeReads.WholeRange.{range_held, range_few, range_covered, range_readable, range_still}
 use Rattle.iol_cache.proofs.read.fill.fill_range.Given.{Over}
 use Rattle.iol_cache.proofs.read.fill.fill_range.Goals.{In_default-weave}
 use Rattle.iol_cache.proofs.read.fill.fill_range.Goals as goal

@@ -15,8 +15,8 @@ use Rattle.iol_extent.specs.Extents.{Extent, IsGap, extent_of}
 use Rattle.iol_extent.specs.Spans.{AreInOrder, IsGapSpan}
 use Rattle.iol_extent.specs.declared.spans.Span.{Span}
 use Rattle.iol_cache.specs.Gaps.{FillsGap, FillsGaps, gap_pages}
-use Rattle.iol_cache.proofs.RangeReads.Filled.{CanTakeBack, asks_after, can_take_back, covers_back, fills_more, fills_none, gap_pages-push, gap_pages-take, gaps_left, order_drop, order_take, placed_some, span_next, taken_back}
-use Rattle.iol_cache.specs.Cached.{all_parts}
+use Rattle.iol_cache.proofs.RangeReads.FilledGaps.{CanTakeBack, asks_after, can_take_back, covers_back, fills_more, fills_none, gap_pages-push, gap_pages-take, gaps_left, order_drop, order_take, placed_some, span_next, taken_back}
+use Rattle.iol_cache.specs.CacheState.{all_parts}
 use Rattle.iol_cache.proofs.read.gaps.fill_gaps.Given.{Over}
 use Rattle.iol_cache.proofs.read.gaps.fill_gaps.Goals.{In-Err, In-Ok}
 use Rattle.iol_cache.proofs.read.gaps.fill_gaps.Goals as goal

@@ -1,7 +1,7 @@
 use Rattle.std.proofs.Common.{◌≡◌, ◌<◌, ◌≤◌, true, All, length, take, drop}
 use Rattle.iol_back.specs.Disk.{last_failure}
 use Rattle.iol_extent.specs.Spans.{IsGapSpan}
-use Rattle.iol_hold.specs.Stored.{AllSettled}
+use Rattle.iol_hold.specs.StoreState.{AllSettled}
 use Rattle.iol_cache.specs.Gaps.{FillsGaps}
 use Rattle.iol_cache.proofs.read.gaps.fill_gaps.Given as goal
 

@@ -3,14 +3,14 @@ use Rattle.iol_core.specs.Text as text
 use Rattle.iol_core.specs.declared.numbers.BufId.{BufId}
 use Rattle.iol_arena.specs.State.{pages_for}
 use Rattle.iol_arena.specs.Buffers.{bytes_in}
-use Rattle.iol_hold.specs.Stored.{Stored, Buffer, held_bufs}
+use Rattle.iol_hold.specs.StoreState.{Stored, Buffer, held_bufs}
 use Rattle.iol_hold.specs.Texts.{text_of}
 use Rattle.iol_hold.specs.declared.slices.Slice.{Slice}
-use Rattle.iol_hold.proofs.Reading.{length-text_of}
+use Rattle.iol_hold.proofs.ReadSlices.{length-text_of}
 use Rattle.iol_agg.specs.Parts.{whole_texts}
 use Rattle.iol_agg.proofs.Wholes.{whole_texts-one}
-use Rattle.iol_cache.specs.Loading.{PlacesBuffers}
-use Rattle.iol_cache.proofs.RangeReads.Pooled.{length-labelled, pooled_text}
+use Rattle.iol_cache.specs.Loads.{PlacesBuffers}
+use Rattle.iol_cache.proofs.RangeReads.OnePool.{length-labelled, pooled_text}
 use Rattle.iol_cache.proofs.read.gaps.gap_agg.Goals as goal
 
 texts : (t : Stored) (xs : List Slice) (hs : List Buffer) (p : ℕ) → text_of t xs ≡ whole_texts t hs → All (λ (h : Buffer). h.pool ≡ p) hs → text_of t xs ≡ text.labelled p (bytes_in t.arena (held_bufs hs))

@@ -1,17 +1,17 @@
 use Rattle.std.proofs.Common.{◌≡◌, ◌∙◌, ◌-◌, ◌++◌, [], Some, IsSome, IfSome, ap, sym, subst, refl, get_or, drop, List, Option, ℕ, arith}
 use Rattle.iol_hold.specs.Moves.{Covers, Moves, tally}
-use Rattle.iol_hold.specs.Stored.{Stored}
+use Rattle.iol_hold.specs.StoreState.{Stored}
 use Rattle.iol_hold.specs.Texts.{AllReadable, bufs_of}
 use Rattle.iol_hold.specs.declared.slices.Slice.{Slice}
-use Rattle.iol_hold.proofs.Counting.{tally-append, tally_none}
-use Rattle.iol_hold.proofs.Moving.{moves_trans}
-use Rattle.iol_hold.proofs.Reading.{readable_stays}
-use Rattle.iol_hold.proofs.Releasing.{frees_trans}
+use Rattle.iol_hold.proofs.Counts.{tally-append, tally_none}
+use Rattle.iol_hold.proofs.Moves.{moves_trans}
+use Rattle.iol_hold.proofs.ReadSlices.{readable_stays}
+use Rattle.iol_hold.proofs.Releases.{frees_trans}
 use Rattle.iol_extent.specs.Extents.{Extent, begins_at}
 use Rattle.iol_extent.specs.declared.spans.Span.{Span}
 use Rattle.iol_cache.specs.Gaps.{parts_back}
-use Rattle.iol_cache.proofs.RangeReads.Undone.{next_back, back_fewer, readable_back, readable_here}
-use Rattle.iol_cache.specs.Cached.{parts_in}
+use Rattle.iol_cache.proofs.RangeReads.TakenBack.{next_back, back_fewer, readable_back, readable_here}
+use Rattle.iol_cache.specs.CacheState.{parts_in}
 use Rattle.iol_cache.proofs.read.gaps.take_back.Goals as goal
 
 abbrev no_span : Span

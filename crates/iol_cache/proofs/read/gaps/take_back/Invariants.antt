@@ -1,7 +1,7 @@
 use Rattle.std.proofs.Common.{◌≡◌, ◌+◌, ◌≤◌, [], length, drop}
 use Rattle.iol_hold.specs.Moves.{Moves, SameLists}
 use Rattle.iol_hold.specs.Releases.{FreesOnly}
-use Rattle.iol_hold.specs.Stored.{AllSettled}
+use Rattle.iol_hold.specs.StoreState.{AllSettled}
 use Rattle.iol_hold.specs.Texts.{AllReadable, bufs_of}
 use Rattle.iol_cache.specs.Gaps.{parts_back, without_spans}
 use Rattle.iol_cache.proofs.read.gaps.take_back.Given as goal

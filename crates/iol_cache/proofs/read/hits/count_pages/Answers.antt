@@ -5,7 +5,7 @@ use Rattle.iol_arena.specs.State.{pages_for}
 use Rattle.iol_extent.specs.Spans.{AreInOrder}
 use Rattle.iol_extent.specs.declared.spans.Span.{Span}
 use Rattle.iol_cache.specs.Gaps.{gap_pages}
-use Rattle.iol_cache.proofs.Evictions.Entering.{order_lower}
+use Rattle.iol_cache.proofs.Evictions.Entries.{order_lower}
 use Rattle.iol_cache.proofs.Evictions.Roomy.{gap_few}
 use Rattle.iol_cache.proofs.read.hits.count_pages.Goals as goal
 

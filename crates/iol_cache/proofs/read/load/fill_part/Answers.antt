@@ -3,10 +3,10 @@ use Rattle.iol_arena.specs.Buffers.{Grows}
 use Rattle.iol_arena.specs.Parts.{part_bytes, part_room}
 use Rattle.iol_arena.specs.State.{with_bytes}
 use Rattle.iol_back.specs.Disk.{Disk, IfHonest, content}
-use Rattle.iol_hold.specs.Filling.{Fill, IsFilling, filling_part, filling_parts, filling_store, with_store}
-use Rattle.iol_hold.specs.Stored.{with_arena}
-use Rattle.iol_hold.proofs.Reserving.{same_fills, same_held}
-use Rattle.iol_cache.specs.Loading.{ReadsPart}
+use Rattle.iol_hold.specs.Fillings.{Fill, IsFilling, filling_part, filling_parts, filling_store, with_store}
+use Rattle.iol_hold.specs.StoreState.{with_arena}
+use Rattle.iol_hold.proofs.Reservations.{same_fills, same_held}
+use Rattle.iol_cache.specs.Loads.{ReadsPart}
 use Rattle.iol_cache.proofs.read.load.fill_part.Goals as goal
 
 -- the memory of a part was written

@@ -3,16 +3,16 @@ use Rattle.std.proofs.lemmas.List.{drop-drop}
 use Rattle.std.proofs.Math.Seq.{take-length}
 use Rattle.iol_arena.specs.Parts.{part_bytes, part_pages}
 use Rattle.iol_arena.specs.declared.pages.Part.{Part}
-use Rattle.iol_hold.specs.Stored.{Stored}
-use Rattle.iol_hold.specs.Filling.{Fill, filling_store, filling_parts}
-use Rattle.iol_hold.specs.Waiting.{Fills}
+use Rattle.iol_hold.specs.StoreState.{Stored}
+use Rattle.iol_hold.specs.Fillings.{Fill, filling_store, filling_parts}
+use Rattle.iol_hold.specs.PendingPages.{Fills}
 use Rattle.iol_hold.specs.declared.parts.Reserved.{Reserved}
 use Rattle.iol_arena.proofs.Steps.{some_at}
 use Rattle.iol_arena.proofs.Marks.{pages_hold}
 use Rattle.iol_back.specs.Disk.{content}
-use Rattle.iol_hold.proofs.Reserving.{fills_trans}
-use Rattle.iol_cache.specs.Loading.{WritesFilling}
-use Rattle.iol_cache.proofs.RangeReads.Loaded.{one_more, read_more, some_parts}
+use Rattle.iol_hold.proofs.Reservations.{fills_trans}
+use Rattle.iol_cache.specs.Loads.{WritesFilling}
+use Rattle.iol_cache.proofs.RangeReads.LoadedParts.{one_more, read_more, some_parts}
 use Rattle.iol_cache.proofs.read.load.fill_parts.Given.{Over}
 use Rattle.iol_cache.proofs.read.load.fill_parts.Goals.{After-loop-i}
 use Rattle.iol_cache.proofs.read.load.fill_parts.Goals as goal

@@ -1,8 +1,8 @@
 use Rattle.std.proofs.Common.{◌≡◌, ◌+◌, ◌*◌, ◌<◌, ◌≤◌, true, length, take, drop, min, flat_map}
 use Rattle.iol_arena.specs.Parts.{part_pages, part_bytes}
-use Rattle.iol_hold.specs.Filling.{filling_store, filling_parts}
+use Rattle.iol_hold.specs.Fillings.{filling_store, filling_parts}
 use Rattle.iol_back.specs.Disk.{content, last_failure}
-use Rattle.iol_cache.specs.Loading.{WritesFilling}
+use Rattle.iol_cache.specs.Loads.{WritesFilling}
 use Rattle.iol_cache.proofs.read.load.fill_parts.Given as goal
 
 abbrev pub invariant-loop-i : goal.invariant-loop-i

@@ -9,14 +9,14 @@ use Rattle.iol_arena.specs.State.{pages_for}
 use Rattle.iol_arena.specs.declared.pages.Part.{Part}
 use Rattle.iol_core.specs.declared.refusals.Refusal.TheVariants.{Fault, NoRoom}
 use Rattle.iol_pool.specs.Pools.{pool_in}
-use Rattle.iol_hold.specs.Filling.{filling_bytes, filling_parts}
+use Rattle.iol_hold.specs.Fillings.{filling_bytes, filling_parts}
 use Rattle.iol_hold.specs.Pages.{KeepsPages}
 use Rattle.iol_hold.specs.Room.{lowest_of}
-use Rattle.iol_hold.specs.Stored.{AllSettled, Buffer, Stored}
+use Rattle.iol_hold.specs.StoreState.{AllSettled, Buffer, Stored}
 use Rattle.iol_hold.specs.declared.parts.Reserved.{Reserved}
-use Rattle.iol_hold.proofs.Emptied.{all_settled_placed}
-use Rattle.iol_cache.specs.Loading.{LoadsHolds}
-use Rattle.iol_cache.proofs.RangeReads.Paged.{few_free, keeps_abandoned, loaded, placed_all}
+use Rattle.iol_hold.proofs.EmptyPools.{all_settled_placed}
+use Rattle.iol_cache.specs.Loads.{LoadsHolds}
+use Rattle.iol_cache.proofs.RangeReads.PageSteps.{few_free, keeps_abandoned, loaded, placed_all}
 use Rattle.iol_cache.proofs.read.load.load.Goals as goal
 
 pub fill_parts-requires : goal.fill_parts-requires

@@ -1,14 +1,14 @@
 use Rattle.std.proofs.Common.{◌+◌, ap, subst, drop, get_or, length, arith, length-append}
 use Rattle.std.proofs.lemmas.List.{drop_all, drop_more}
-use Rattle.iol_agg.proofs.Poured.{shares_then}
+use Rattle.iol_agg.proofs.Pours.{shares_then}
 use Rattle.iol_extent.proofs.Alone.{ends_high}
 use Rattle.iol_extent.specs.Spans.{AreInOrder}
 use Rattle.iol_extent.specs.declared.spans.Span.{Span}
 use Rattle.iol_hold.specs.Places.{places}
-use Rattle.iol_cache.specs.Sharing.{places_over}
-use Rattle.iol_cache.specs.Weaving.{IsCoveredBeside}
-use Rattle.iol_cache.proofs.RangeReads.Shared.{all_shared, length-places_over, may_share, over_there, readable_places, refused_then}
-use Rattle.iol_cache.proofs.RangeReads.Woven.{beside_more}
+use Rattle.iol_cache.specs.SharedBytes.{places_over}
+use Rattle.iol_cache.specs.Weave.{IsCoveredBeside}
+use Rattle.iol_cache.proofs.RangeReads.SharedBytes.{all_shared, length-places_over, may_share, over_there, readable_places, refused_then}
+use Rattle.iol_cache.proofs.RangeReads.Weave.{beside_more}
 use Rattle.iol_cache.proofs.read.weave.share_beside.Goals as goal
 
 abbrev no_span : Span

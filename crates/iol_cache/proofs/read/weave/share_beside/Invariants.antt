@@ -3,7 +3,7 @@ use Rattle.iol_hold.specs.Moves.{Shares}
 use Rattle.iol_hold.specs.Places.{places, byte_len}
 use Rattle.iol_hold.specs.Texts.{bufs_of, AllReadable}
 use Rattle.iol_extent.specs.Spans.{AreInOrder}
-use Rattle.iol_cache.specs.Weaving.{IsCoveredBeside, places_beside}
+use Rattle.iol_cache.specs.Weave.{IsCoveredBeside, places_beside}
 use Rattle.iol_cache.proofs.read.weave.share_beside.Given as goal
 
 abbrev pub invariant-loop-gap : goal.invariant-loop-gap

@@ -2,15 +2,15 @@ use Rattle.std.proofs.Common.{◌≡◌, ◌∙◌, ◌+◌, ◌-◌, ◌++◌, 
 use Rattle.std.proofs.lemmas.List.{drop_more, drop-drop, length-take}
 use Rattle.std.proofs.Math.Seq.{drop-length}
 use Rattle.std.proofs.lemmas.List.Elements.{All-head, All-tail}
-use Rattle.iol_agg.proofs.Poured.{shares_then}
+use Rattle.iol_agg.proofs.Pours.{shares_then}
 use Rattle.iol_extent.proofs.Alone.{ends_high}
 use Rattle.iol_extent.specs.Spans.{AreInOrder}
 use Rattle.iol_extent.specs.declared.spans.Span.{Span}
 use Rattle.iol_hold.specs.Places.{Place, places}
-use Rattle.iol_cache.specs.Sharing.{IsCoveredSpan, places_over}
-use Rattle.iol_cache.specs.Weaving.{len_beside, woven}
-use Rattle.iol_cache.proofs.RangeReads.Shared.{all_shared, length-places_over, may_share, over_there, readable_places, refused_then}
-use Rattle.iol_cache.proofs.RangeReads.Woven.{beside_few, may_add_part, readable_more}
+use Rattle.iol_cache.specs.SharedBytes.{IsCoveredSpan, places_over}
+use Rattle.iol_cache.specs.Weave.{len_beside, woven}
+use Rattle.iol_cache.proofs.RangeReads.SharedBytes.{all_shared, length-places_over, may_share, over_there, readable_places, refused_then}
+use Rattle.iol_cache.proofs.RangeReads.Weave.{beside_few, may_add_part, readable_more}
 use Rattle.iol_cache.proofs.read.weave.weave.Goals as goal
 
 abbrev no_span : Span

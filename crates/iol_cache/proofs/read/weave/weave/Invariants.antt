@@ -3,8 +3,8 @@ use Rattle.iol_hold.specs.Moves.{Shares}
 use Rattle.iol_hold.specs.Places.{places, byte_len}
 use Rattle.iol_hold.specs.Texts.{bufs_of, AllReadable}
 use Rattle.iol_extent.specs.Spans.{AreInOrder}
-use Rattle.iol_cache.specs.Sharing.{IsCoveredSpan}
-use Rattle.iol_cache.specs.Weaving.{len_beside, woven}
+use Rattle.iol_cache.specs.SharedBytes.{IsCoveredSpan}
+use Rattle.iol_cache.specs.Weave.{len_beside, woven}
 use Rattle.iol_cache.proofs.read.weave.weave.Given as goal
 
 abbrev pub invariant-loop-gap : goal.invariant-loop-gap

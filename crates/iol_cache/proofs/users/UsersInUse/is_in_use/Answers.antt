@@ -2,9 +2,9 @@ use Rattle.std.proofs.Common.{◌≡◌, ◌-◌, ap, sym, ◌∙◌, arith, get
 use Rattle.iol_hold.specs.Moves.{Covers}
 use Rattle.iol_hold.specs.Texts.{bufs_of}
 use Rattle.iol_extent.specs.Extents.{Extent}
-use Rattle.iol_cache.specs.Cached.{file_in}
-use Rattle.iol_cache.proofs.Extents.Filing.{file_at_number}
-use Rattle.iol_cache.proofs.Extents.Using.{clean_numbered, found_is, not_found, used_is, are_within, covers_at}
+use Rattle.iol_cache.specs.CacheState.{file_in}
+use Rattle.iol_cache.proofs.Extents.FileEntries.{file_at_number}
+use Rattle.iol_cache.proofs.Extents.HeldSlices.{clean_numbered, found_is, not_found, used_is, are_within, covers_at}
 use Rattle.iol_cache.proofs.users.UsersInUse.is_in_use.Goals.{After-index-self-number, After-slices}
 use Rattle.iol_cache.proofs.users.UsersInUse.is_in_use.Goals as goal
 

@@ -1,7 +1,7 @@
 use Rattle.std.proofs.Common.{take, ◌∙◌, ◌++◌, sym, ap}
 use Rattle.iol_hold.specs.Texts.{IsReadable, text_of}
 use Rattle.iol_core.specs.Text as text
-use Rattle.iol_cache.proofs.RangeWrites.Composed.{bytes_more, readable_at}
+use Rattle.iol_cache.proofs.RangeWrites.Composition.{bytes_more, readable_at}
 use Rattle.iol_cache.proofs.write.copies.bytes_of.Goals as goal
 
 pub bytes-requires : goal.bytes-requires

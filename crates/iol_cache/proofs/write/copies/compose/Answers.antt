@@ -1,18 +1,18 @@
 use Rattle.std.proofs.Common.{Err, [], List, length, drop, refl, sym, ap, subst, arith, rules}
-use Rattle.iol_cache.specs.Composing.{copied_pages}
+use Rattle.iol_cache.specs.Composition.{copied_pages}
 use Rattle.std.proofs.lemmas.List.{drop_all, length-drop}
 use Rattle.iol_hold.specs.Moves.{Covers, Moves}
 use Rattle.iol_hold.specs.Room.{free_of}
-use Rattle.iol_hold.specs.Stored.{Stored}
+use Rattle.iol_hold.specs.StoreState.{Stored}
 use Rattle.iol_hold.specs.Texts.{AllReadable, bufs_of}
 use Rattle.iol_hold.specs.declared.slices.Slice.{Slice}
-use Rattle.iol_hold.proofs.Moving.{covers_given, moves_none}
-use Rattle.iol_hold.proofs.Paging.{keeps_pages_same}
-use Rattle.iol_hold.proofs.Reading.{readable_stays}
-use Rattle.iol_hold.proofs.Releasing.{frees_trans}
-use Rattle.iol_cache.specs.Composing.{ComposesRun}
-use Rattle.iol_cache.proofs.RangeWrites.Composed.{composed, covers_first, covers_second, covers_source, gone_both, may_go_on, run_all, run_none, run_then}
-use Rattle.iol_cache.proofs.RangeReads.Filled.{moved_back, placed_some, places_then}
+use Rattle.iol_hold.proofs.Moves.{covers_given, moves_none}
+use Rattle.iol_hold.proofs.PageChanges.{keeps_pages_same}
+use Rattle.iol_hold.proofs.ReadSlices.{readable_stays}
+use Rattle.iol_hold.proofs.Releases.{frees_trans}
+use Rattle.iol_cache.specs.Composition.{ComposesRun}
+use Rattle.iol_cache.proofs.RangeWrites.Composition.{composed, covers_first, covers_second, covers_source, gone_both, may_go_on, run_all, run_none, run_then}
+use Rattle.iol_cache.proofs.RangeReads.FilledGaps.{moved_back, placed_some, places_then}
 use Rattle.iol_cache.proofs.write.copies.compose.Goals as goal
 
 pub loop-i-init : goal.loop-i-init

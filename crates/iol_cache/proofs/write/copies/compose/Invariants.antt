@@ -1,6 +1,6 @@
 use Rattle.std.proofs.Common.{◌≡◌, ◌-◌, ◌≤◌, length, take, drop}
 use Rattle.iol_hold.specs.Places.{byte_len}
-use Rattle.iol_cache.specs.Composing.{ComposesRun}
+use Rattle.iol_cache.specs.Composition.{ComposesRun}
 use Rattle.iol_cache.proofs.write.copies.compose.Given as goal
 
 abbrev pub invariant-loop-i : goal.invariant-loop-i

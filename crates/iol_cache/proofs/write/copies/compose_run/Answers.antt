@@ -1,12 +1,12 @@
 use Rattle.std.proofs.Common.{Ok, Err, ◌≡◌, ◌∙◌, ◌+◌, ◌-◌, ◌==◌, Bool, true, false, All, List, ℕ, take, drop, slice_range, refl, sym, ap, subst, arith}
-use Rattle.iol_agg.proofs.Holding.{tally-few}
+use Rattle.iol_agg.proofs.KnownHolds.{tally-few}
 use Rattle.iol_arena.specs.State.{pages_for}
 use Rattle.iol_core.specs.declared.refusals.Refusal.TheVariants.{NoRoom}
 use Rattle.iol_hold.specs.Places.{byte_len, places}
-use Rattle.iol_hold.specs.Stored.{Stored}
+use Rattle.iol_hold.specs.StoreState.{Stored}
 use Rattle.iol_hold.specs.declared.slices.Slice.{Slice}
-use Rattle.iol_cache.specs.Composing.{Composes, ComposesRunOrKeeps, MayCopy, copied_pages}
-use Rattle.iol_cache.proofs.RangeWrites.Composed.{IsRun, all_rest, byte_len-drop-le, composes_shared, eq_no, eq_yes, is_run, may_copy, other_run, own_run, readable_drop, readable_take, run_places, run_splits}
+use Rattle.iol_cache.specs.Composition.{Composes, ComposesRunOrKeeps, MayCopy, copied_pages}
+use Rattle.iol_cache.proofs.RangeWrites.Composition.{IsRun, all_rest, byte_len-drop-le, composes_shared, eq_no, eq_yes, is_run, may_copy, other_run, own_run, readable_drop, readable_take, run_places, run_splits}
 use Rattle.iol_cache.proofs.write.copies.compose_run.Goals.{After-run_of-count, Else-own}
 use Rattle.iol_cache.proofs.write.copies.compose_run.Goals as goal
 

@@ -2,8 +2,8 @@ use Rattle.std.proofs.Common.{◌<◌, ◌∙◌, ap, subst, length}
 use Rattle.iol_core.specs.Text as text
 use Rattle.iol_arena.specs.State.{pages_for}
 use Rattle.iol_hold.specs.Room.{free_of}
-use Rattle.iol_cache.proofs.RangeReads.Paged.{few_free}
-use Rattle.iol_cache.proofs.RangeWrites.Composed.{composes_copied, length-bytes}
+use Rattle.iol_cache.proofs.RangeReads.PageSteps.{few_free}
+use Rattle.iol_cache.proofs.RangeWrites.Composition.{composes_copied, length-bytes}
 use Rattle.iol_cache.proofs.write.copies.copy_run.Goals as goal
 
 pub returns-in-Err : goal.returns-in-Err

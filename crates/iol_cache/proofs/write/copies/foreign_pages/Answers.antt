@@ -1,9 +1,9 @@
 use Rattle.std.proofs.Common.{◌≡◌, ◌∙◌, ◌+◌, ◌==◌, drop, ap, sym, arith}
 use Rattle.std.proofs.lemmas.List.{drop_all}
 use Rattle.iol_hold.specs.Places.{byte_len}
-use Rattle.iol_hold.proofs.Slicing.{byte_len-take_more, byte_len-take-le}
-use Rattle.iol_cache.specs.Composing.{pages_after}
-use Rattle.iol_cache.proofs.RangeWrites.Composed.{eq_no, eq_yes, after_other, after_own, pages_for-few, pages_for-is, slice_next}
+use Rattle.iol_hold.proofs.SlicePlaces.{byte_len-take_more, byte_len-take-le}
+use Rattle.iol_cache.specs.Composition.{pages_after}
+use Rattle.iol_cache.proofs.RangeWrites.Composition.{eq_no, eq_yes, after_other, after_own, pages_for-few, pages_for-is, slice_next}
 use Rattle.iol_cache.proofs.write.copies.foreign_pages.Goals as goal
 use Rattle.iol_cache.proofs.write.copies.foreign_pages.Goals.{then-number, else-number}
 

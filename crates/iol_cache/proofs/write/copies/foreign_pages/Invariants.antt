@@ -1,6 +1,6 @@
 use Rattle.std.proofs.Common.{◌≡◌, ◌+◌, ◌≤◌, take, drop}
 use Rattle.iol_hold.specs.Places.{byte_len}
-use Rattle.iol_cache.specs.Composing.{copied_pages, pages_after}
+use Rattle.iol_cache.specs.Composition.{copied_pages, pages_after}
 use Rattle.iol_cache.proofs.write.copies.foreign_pages.Given as goal
 
 abbrev pub invariant-loop-slice : goal.invariant-loop-slice

@@ -2,7 +2,7 @@ use Rattle.std.proofs.Common.{refl, ◌≡◌, ◌∙◌, ◌+◌, ◌==◌, Boo
 use Rattle.std.proofs.lemmas.List.Elements.{All-more}
 use mathlib.Core.Bool.{beq, not}
 use Rattle.iol_hold.specs.declared.slices.Slice.{Slice}
-use Rattle.iol_hold.proofs.Slicing.{byte_len-take_more, byte_len-take-le}
+use Rattle.iol_hold.proofs.SlicePlaces.{byte_len-take_more, byte_len-take-le}
 use Rattle.iol_cache.proofs.write.copies.run_of.Goals as goal
 
 same_bool : (a b : Bool) → not (beq a b) ≡ false → a ≡ b

@@ -1,6 +1,6 @@
 use Rattle.std.proofs.Common.{arith}
 use Rattle.iol_extent.specs.Extents.{extent_of}
-use Rattle.iol_cache.proofs.RangeReads.Shared.{over_at, over_tally}
+use Rattle.iol_cache.proofs.RangeReads.SharedBytes.{over_at, over_tally}
 use Rattle.iol_cache.proofs.write.cut.cut_left.Goals as goal
 
 pub overflow_sub-from : goal.overflow_sub-from

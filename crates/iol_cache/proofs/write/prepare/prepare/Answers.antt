@@ -1,23 +1,23 @@
 use Rattle.std.proofs.Common.{List, ◌∙◌, ◌+◌, [], refl, sym, ap, arith, subst, rules}
-use Rattle.iol_cache.specs.Composing.{copied_pages}
+use Rattle.iol_cache.specs.Composition.{copied_pages}
 use Rattle.iol_hold.specs.Moves.{Covers, Moves, Shares}
-use Rattle.iol_hold.specs.Stored.{Stored}
+use Rattle.iol_hold.specs.StoreState.{Stored}
 use Rattle.iol_hold.specs.Texts.{AllReadable, bufs_of}
 use Rattle.iol_hold.specs.declared.slices.Slice.{Slice}
-use Rattle.iol_hold.proofs.Moving.{covers_given, shares_move, shares_trans}
-use Rattle.iol_hold.proofs.Paging.{keeps_pages_same, keeps_pages_shares}
-use Rattle.iol_hold.proofs.Reading.{readable_stays}
-use Rattle.iol_hold.proofs.Releasing.{frees_trans}
+use Rattle.iol_hold.proofs.Moves.{covers_given, shares_move, shares_trans}
+use Rattle.iol_hold.proofs.PageChanges.{keeps_pages_same, keeps_pages_shares}
+use Rattle.iol_hold.proofs.ReadSlices.{readable_stays}
+use Rattle.iol_hold.proofs.Releases.{frees_trans}
 use Rattle.iol_extent.specs.Extents.{Extent}
-use Rattle.iol_cache.specs.Cutting.{CutsRight}
-use Rattle.iol_cache.specs.Cached.{all_parts}
-use Rattle.iol_cache.proofs.RangeWrites.Composed.{composed_long, covers_source}
-use Rattle.iol_cache.proofs.RangeReads.Filled.{moved_back, placed_some}
-use Rattle.iol_cache.proofs.RangeWrites.Prepared.{composed_few, cut_few, few_more, held_after, left_readable, still_held}
-use Rattle.iol_cache.proofs.RangeWrites.Replaced.{moves_on}
-use Rattle.iol_cache.proofs.RangeReads.Shared.{settles_shares}
-use Rattle.iol_cache.proofs.RangeReads.Woven.{still_covers}
-use Rattle.iol_cache.proofs.RangeWrites.Written.{left_len}
+use Rattle.iol_cache.specs.Cuts.{CutsRight}
+use Rattle.iol_cache.specs.CacheState.{all_parts}
+use Rattle.iol_cache.proofs.RangeWrites.Composition.{composed_long, covers_source}
+use Rattle.iol_cache.proofs.RangeReads.FilledGaps.{moved_back, placed_some}
+use Rattle.iol_cache.proofs.RangeWrites.Preparation.{composed_few, cut_few, few_more, held_after, left_readable, still_held}
+use Rattle.iol_cache.proofs.RangeWrites.Replacement.{moves_on}
+use Rattle.iol_cache.proofs.RangeReads.SharedBytes.{settles_shares}
+use Rattle.iol_cache.proofs.RangeReads.Weave.{still_covers}
+use Rattle.iol_cache.proofs.RangeWrites.ReplacedRange.{left_len}
 use Rattle.iol_cache.proofs.write.prepare.prepare.Goals.{In_default-cut_right}
 use Rattle.iol_cache.proofs.write.prepare.prepare.Goals as goal
 

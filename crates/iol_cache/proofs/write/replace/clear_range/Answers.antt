@@ -1,14 +1,14 @@
 use Rattle.std.proofs.Common.{◌∙◌, ◌<◌, IsSome, sym, ap, subst, refl, length, List}
 use Rattle.std.specs.List.{filter}
 use Rattle.iol_extent.specs.Extents.{Extent, meets, unmet}
-use Rattle.iol_extent.proofs.Meeting.{unmet_none}
+use Rattle.iol_extent.proofs.RangeExtents.{unmet_none}
 use Rattle.iol_hold.specs.Texts.{bufs_of}
 use Rattle.iol_hold.specs.Moves.{Counts}
-use Rattle.iol_cache.specs.Cached.{all_parts}
+use Rattle.iol_cache.specs.CacheState.{all_parts}
 use Rattle.iol_cache.proofs.RangeWrites.InPlace.{gone_on}
-use Rattle.iol_cache.proofs.RangeWrites.Replaced.{counts_part, fewer, met_begins_at, met_less}
-use Rattle.iol_cache.specs.Replacing.{all_forgotten, forgotten_at}
-use Rattle.iol_cache.proofs.Evictions.Reordered.{forgot_first, met_none}
+use Rattle.iol_cache.proofs.RangeWrites.Replacement.{counts_part, fewer, met_begins_at, met_less}
+use Rattle.iol_cache.specs.Replacement.{all_forgotten, forgotten_at}
+use Rattle.iol_cache.proofs.Evictions.Orders.{forgot_first, met_none}
 use Rattle.iol_cache.proofs.write.replace.clear_range.Goals as goal
 
 pub take_out-requires-clause-begins : goal.take_out-requires-clause-begins

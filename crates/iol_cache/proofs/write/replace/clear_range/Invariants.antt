@@ -1,7 +1,7 @@
 use Rattle.std.proofs.Common.{◌≡◌, length}
 use Rattle.std.specs.List.{filter}
 use Rattle.iol_extent.specs.Extents.{meets, unmet}
-use Rattle.iol_cache.specs.Replacing.{LetsGo, all_forgotten, indexing_of}
+use Rattle.iol_cache.specs.Replacement.{LetsGo, all_forgotten, indexing_of}
 use Rattle.iol_cache.proofs.write.replace.clear_range.Given as goal
 
 abbrev pub invariant-loop-at : goal.invariant-loop-at

@@ -1,14 +1,14 @@
 use Rattle.std.proofs.Common.{◌≡◌, ◌∙◌, ◌<◌, true, Some, sym, ap, subst, arith, length, List}
 use Rattle.iol_hold.specs.declared.slices.Slice.{Slice}
-use Rattle.iol_evict.specs.Ranking.{Ranking}
+use Rattle.iol_evict.specs.Order.{Ranking}
 use Rattle.iol_extent.specs.Extents.{Extent, begins_at, extent_of, without_at}
-use Rattle.iol_cache.specs.Cached.{parts_in}
+use Rattle.iol_cache.specs.CacheState.{parts_in}
 use Rattle.iol_cache.specs.Marks.{AreWithin, HaveMarks, Unmarks}
-use Rattle.iol_cache.specs.Replacing.{Reindexes, forgotten_at}
-use Rattle.iol_cache.proofs.RangeWrites.Replaced.{begins_over, clean_goes, dirty_goes, entry_some, marks_of, nothing_begins}
+use Rattle.iol_cache.specs.Replacement.{Reindexes, forgotten_at}
+use Rattle.iol_cache.proofs.RangeWrites.Replacement.{begins_over, clean_goes, dirty_goes, entry_some, marks_of, nothing_begins}
 use Rattle.iol_cache.proofs.Evictions.Ready.{some_kept}
-use Rattle.iol_cache.proofs.Extents.Extending.{begins_above}
-use Rattle.iol_cache.proofs.Evictions.Reordered.{forgot_clean, forgot_dirty}
+use Rattle.iol_cache.proofs.Extents.FewerExtents.{begins_above}
+use Rattle.iol_cache.proofs.Evictions.Orders.{forgot_clean, forgot_dirty}
 use Rattle.iol_cache.proofs.write.replace.forget.Goals.{In-Some}
 use Rattle.iol_cache.proofs.write.replace.forget.Goals as goal
 

@@ -1,12 +1,12 @@
 use Rattle.std.proofs.Common.{true, false, ℕ, ◌≡◌, ◌<◌, ◌∙◌, refl, sym, ap, subst, arith, rules, List}
 use Rattle.std.proofs.lemmas.Bool.Decides.{nat_tests}
 use Rattle.iol_hold.specs.Places.{byte_len}
-use Rattle.iol_evict.specs.Ranking.{Ranking, entered, entry_at}
+use Rattle.iol_evict.specs.Order.{Ranking, entered, entry_at}
 use Rattle.iol_extent.specs.Extents.{Extent, end_of, extent_of, put_in}
 use Rattle.iol_cache.specs.Marks.{Marks}
-use Rattle.iol_cache.specs.Replacing.{Reindexes, remembered}
-use Rattle.iol_cache.proofs.Evictions.Reordered.{remembered_clean, remembered_dirty, remembered_none}
-use Rattle.iol_cache.proofs.RangeWrites.Replaced.{absent_gap, clean_comes, dirty_comes}
+use Rattle.iol_cache.specs.Replacement.{Reindexes, remembered}
+use Rattle.iol_cache.proofs.Evictions.Orders.{remembered_clean, remembered_dirty, remembered_none}
+use Rattle.iol_cache.proofs.RangeWrites.Replacement.{absent_gap, clean_comes, dirty_comes}
 use Rattle.iol_cache.proofs.write.replace.put_edge.Goals as goal
 
 -- what the code has of the edge

@@ -4,13 +4,13 @@ use Rattle.iol_extent.proofs.Cover.{some_begins}
 use Rattle.iol_hold.specs.Moves.{Covers, Moves}
 use Rattle.iol_hold.specs.Texts.{AllReadable, bufs_of}
 use Rattle.iol_hold.specs.declared.slices.Slice.{Slice}
-use Rattle.iol_cache.specs.Cached.{parts_in, all_parts}
+use Rattle.iol_cache.specs.CacheState.{parts_in, all_parts}
 use Rattle.iol_cache.specs.Marks.{AreWithin}
-use Rattle.iol_cache.specs.Replacing.{Reindexes}
-use Rattle.iol_cache.proofs.Evictions.Evicted.{given_is}
+use Rattle.iol_cache.specs.Replacement.{Reindexes}
+use Rattle.iol_cache.proofs.Evictions.AfterEviction.{given_is}
 use Rattle.iol_cache.proofs.RangeWrites.InPlace.{may_go_on}
-use Rattle.iol_cache.proofs.RangeWrites.Replaced.{covers_part, moves_part, readable_less, readable_part}
-use Rattle.iol_cache.proofs.Extents.Using.{are_within}
+use Rattle.iol_cache.proofs.RangeWrites.Replacement.{covers_part, moves_part, readable_less, readable_part}
+use Rattle.iol_cache.proofs.Extents.HeldSlices.{are_within}
 use Rattle.iol_cache.proofs.write.replace.take_out.Goals as goal
 
 pub forget-requires : goal.forget-requires

@@ -1,7 +1,7 @@
 use Rattle.std.proofs.Common.{ℕ, List, Option, ap, arith, length, ◌∙◌}
 use Rattle.std.proofs.lemmas.List.Sums.{length-filter, count_by-le-length}
 use Rattle.std.specs.Prelude.{is_some}
-use Rattle.iol_desc.specs.Listed.{there, Listed}
+use Rattle.iol_desc.specs.EntryLists.{there, Listed}
 use Rattle.iol_desc.proofs.Holes.{listed-held, there-held}
 use Rattle.iol_desc.proofs.entries.Entries.compact.Goals as goal
 

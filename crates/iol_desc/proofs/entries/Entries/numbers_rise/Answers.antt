@@ -1,5 +1,5 @@
 use Rattle.std.proofs.Common.{subst}
-use Rattle.iol_desc.specs.Listed.{Listed, Rises}
+use Rattle.iol_desc.specs.EntryLists.{Listed, Rises}
 use Rattle.iol_desc.proofs.Holes.{there_rises}
 use Rattle.iol_desc.proofs.entries.Entries.numbers_rise.Goals as goal
 

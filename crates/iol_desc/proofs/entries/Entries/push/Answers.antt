@@ -1,5 +1,5 @@
 use Rattle.std.proofs.Common.{ℕ, ◌+◌, ◌∙◌, List, [], ◌∷◌, ◌++◌, Option, ap, arith}
-use Rattle.iol_desc.specs.Listed.{there, IsListed, Listed}
+use Rattle.iol_desc.specs.EntryLists.{there, IsListed, Listed}
 use Rattle.iol_desc.proofs.Holes.{listed-push, there-push}
 use Rattle.iol_desc.proofs.entries.Entries.push.Goals as goal
 

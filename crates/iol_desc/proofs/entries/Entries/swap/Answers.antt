@@ -1,7 +1,7 @@
 use Rattle.std.proofs.Common.{◌≢◌, ℕ, List, Option, None, ap, arith, ◌∙◌, sym, subst}
-use Rattle.iol_core.specs.Numbered.{lookup}
+use Rattle.iol_core.specs.NumberedLists.{lookup}
 use Rattle.iol_desc.specs.Tables.{exchanged}
-use Rattle.iol_desc.specs.Listed.{there, Listed}
+use Rattle.iol_desc.specs.EntryLists.{there, Listed}
 use Rattle.iol_desc.proofs.Holes.{listed-exchanged, exchanged_held}
 use Rattle.iol_desc.proofs.entries.Entries.swap.Goals as goal
 

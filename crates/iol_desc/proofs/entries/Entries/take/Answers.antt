@@ -1,6 +1,6 @@
 use Rattle.std.proofs.Common.{◌≢◌, ℕ, List, Option, None, ap, arith, ◌∙◌, sym, subst}
-use Rattle.iol_core.specs.Numbered.{lookup, without}
-use Rattle.iol_desc.specs.Listed.{there, Listed}
+use Rattle.iol_core.specs.NumberedLists.{lookup, without}
+use Rattle.iol_desc.specs.EntryLists.{there, Listed}
 use Rattle.iol_desc.proofs.Holes.{listed-taken, taken_held}
 use Rattle.iol_desc.proofs.entries.Entries.take.Goals as goal
 

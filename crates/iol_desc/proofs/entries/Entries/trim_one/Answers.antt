@@ -1,5 +1,5 @@
 use Rattle.std.proofs.Common.{ap, ◌∙◌}
-use Rattle.iol_desc.specs.Listed.{Listed}
+use Rattle.iol_desc.specs.EntryLists.{Listed}
 use Rattle.iol_desc.proofs.Holes.{listed_without_hole}
 use Rattle.iol_desc.proofs.entries.Entries.trim_one.Goals as goal
 

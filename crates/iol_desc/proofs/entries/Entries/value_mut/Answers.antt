@@ -1,8 +1,8 @@
 use Rattle.std.proofs.Common.{◌≡◌, ◌≢◌, ◌-◌, ℕ, List, Option, None, ap, ◌∙◌, sym, subst, refl, vec_len, vec_capacity}
-use Rattle.iol_core.specs.Numbered.{lookup}
+use Rattle.iol_core.specs.NumberedLists.{lookup}
 use Rattle.iol_desc.specs.Tables.{place_in}
-use Rattle.iol_desc.specs.Listed.{Listed}
-use Rattle.iol_desc.specs.Lending.{with_entry}
+use Rattle.iol_desc.specs.EntryLists.{Listed}
+use Rattle.iol_desc.specs.Loans.{with_entry}
 use Rattle.iol_desc.proofs.Holes.{lent_entry, lookup_entry}
 use Rattle.iol_desc.proofs.entries.Entries.value_mut.Goals as goal
 

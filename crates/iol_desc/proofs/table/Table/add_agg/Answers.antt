@@ -1,5 +1,5 @@
 use Rattle.std.proofs.Common.{arith}
-use Rattle.iol_desc.proofs.Counted.{counted-set, counted_rules}
+use Rattle.iol_desc.proofs.LiveCounts.{counted-set, counted_rules}
 use Rattle.iol_desc.proofs.Rows.{row_rules}
 use Rattle.iol_desc.proofs.table.Table.add_agg.Goals as goal
 

@@ -1,4 +1,4 @@
-use Rattle.iol_desc.proofs.Counted.{counted_kept}
+use Rattle.iol_desc.proofs.LiveCounts.{counted_kept}
 use Rattle.iol_desc.proofs.table.Table.reserve_aggs.Goals as goal
 
 pub invariant_of-self : goal.invariant_of-self

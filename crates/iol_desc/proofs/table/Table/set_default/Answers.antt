@@ -1,6 +1,6 @@
 use Rattle.std.proofs.Common.{ap, length}
 use Rattle.iol_desc.specs.Tables.{Row}
-use Rattle.iol_desc.proofs.Counted.{counted_kept}
+use Rattle.iol_desc.proofs.LiveCounts.{counted_kept}
 use Rattle.iol_desc.proofs.table.Table.set_default.Goals as goal
 
 pub invariant_of-self : goal.invariant_of-self

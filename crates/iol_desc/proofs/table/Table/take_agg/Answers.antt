@@ -1,5 +1,5 @@
 use Rattle.std.proofs.Common.{arith}
-use Rattle.iol_desc.proofs.Counted.{counted_fewer}
+use Rattle.iol_desc.proofs.LiveCounts.{counted_fewer}
 use Rattle.iol_desc.proofs.table.Table.take_agg.Goals as goal
 
 pub invariant_of-self : goal.invariant_of-self

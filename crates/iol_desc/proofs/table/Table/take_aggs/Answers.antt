@@ -1,6 +1,6 @@
 use Rattle.std.proofs.Common.{ap, arith, length}
 use Rattle.iol_core.specs.State.{Domain}
-use Rattle.iol_desc.proofs.Counted.{counted_fewer}
+use Rattle.iol_desc.proofs.LiveCounts.{counted_fewer}
 use Rattle.iol_desc.proofs.table.Table.take_aggs.Goals as goal
 
 pub invariant_of-self : goal.invariant_of-self

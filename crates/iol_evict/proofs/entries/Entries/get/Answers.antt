@@ -1,9 +1,9 @@
 use Rattle.std.proofs.Common.{◌∙◌, ap, sym, subst}
 use Rattle.iol_evict.specs.declared.entry.Rank.{Rank}
 use Rattle.iol_evict.specs.declared.entry.By.TheVariants.{Place}
-use Rattle.iol_evict.specs.Ranking.{Table, entry_or}
+use Rattle.iol_evict.specs.Order.{Table, entry_or}
 use Rattle.iol_evict.specs.Indexes.{Finds}
-use Rattle.iol_evict.proofs.Indexing.{place-there, found-entry}
+use Rattle.iol_evict.proofs.Indexes.{place-there, found-entry}
 use Rattle.iol_evict.proofs.entries.Entries.get.Goals as goal
 
 pub find_key-key-requires-clause-there : goal.find_key-key-requires-clause-there

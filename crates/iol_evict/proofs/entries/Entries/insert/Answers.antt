@@ -1,10 +1,10 @@
 use Rattle.std.proofs.Common.{◌≡◌, ◌-◌, ◌∙◌, ap, sym, subst, arith, Option, None, unwrap_or}
 use Rattle.iol_evict.specs.declared.entry.Entry.{Entry}
 use Rattle.iol_evict.specs.declared.entry.By.TheVariants.{Place, Height}
-use Rattle.iol_evict.specs.Ranking.{Table, no_entry, entry_at, put_in}
-use Rattle.iol_evict.proofs.Rising.{index-same}
-use Rattle.iol_evict.proofs.Indexing.{entries-put_in}
-use Rattle.iol_evict.proofs.Changing.{index-places, index-heights, fresh-places, fresh-heights, indexed-insert, table-is}
+use Rattle.iol_evict.specs.Order.{Table, no_entry, entry_at, put_in}
+use Rattle.iol_evict.proofs.KeptOrder.{index-same}
+use Rattle.iol_evict.proofs.Indexes.{entries-put_in}
+use Rattle.iol_evict.proofs.Changes.{index-places, index-heights, fresh-places, fresh-heights, indexed-insert, table-is}
 use Rattle.iol_evict.proofs.entries.Entries.insert.Goals as goal
 
 pub insert_key-requires-clause-index : goal.insert_key-requires-clause-index

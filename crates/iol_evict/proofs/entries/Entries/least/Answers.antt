@@ -1,8 +1,8 @@
 use Rattle.std.proofs.Common.{sym, subst, All}
-use Rattle.iol_evict.specs.Ranking.{Table}
+use Rattle.iol_evict.specs.Order.{Table}
 use Rattle.iol_evict.specs.Victims.{AreUsedBelow, FindsFirst}
 use Rattle.iol_evict.proofs.Below.{keys-below, below-keys}
-use Rattle.iol_evict.proofs.Changing.{index-heights}
+use Rattle.iol_evict.proofs.Changes.{index-heights}
 use Rattle.iol_evict.proofs.Firsts.{victim-first, entries-none, ask-heights, match-map}
 use Rattle.iol_evict.proofs.entries.Entries.least.Goals as goal
 

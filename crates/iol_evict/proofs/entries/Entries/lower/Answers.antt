@@ -1,7 +1,7 @@
 use Rattle.std.proofs.Common.{◌∙◌, ap, arith, map}
-use Rattle.iol_evict.specs.Ranking.{Table, lowered_by}
-use Rattle.iol_evict.proofs.Lowered.{rising-lowered, indexed-lowered, entries-lowered}
-use Rattle.iol_evict.proofs.Changing.{table-is}
+use Rattle.iol_evict.specs.Order.{Table, lowered_by}
+use Rattle.iol_evict.proofs.Heights.{rising-lowered, indexed-lowered, entries-lowered}
+use Rattle.iol_evict.proofs.Changes.{table-is}
 use Rattle.iol_evict.proofs.entries.Entries.lower.Goals as goal
 
 pub insert_all-requires-clause-index : goal.insert_all-requires-clause-index

@@ -1,12 +1,12 @@
 use Rattle.std.proofs.Common.{◌+◌, ◌∙◌, ap, sym, subst, arith}
 use Rattle.iol_evict.specs.declared.entry.Rank.{Rank}
 use Rattle.iol_evict.specs.declared.entry.By.TheVariants.{Place, Height}
-use Rattle.iol_evict.specs.Ranking.{Table, entry_or, without}
+use Rattle.iol_evict.specs.Order.{Table, entry_or, without}
 use Rattle.iol_evict.specs.Ranks.{rank_by}
 use Rattle.iol_evict.specs.Indexes.{HasRank, Takes}
-use Rattle.iol_evict.proofs.Rising.{same-others}
-use Rattle.iol_evict.proofs.Indexing.{place-there, found-entry, entries-without, taken-gone}
-use Rattle.iol_evict.proofs.Changing.{index-heights, stands-taken, indexed-remove, table-is, finds-taken}
+use Rattle.iol_evict.proofs.KeptOrder.{same-others}
+use Rattle.iol_evict.proofs.Indexes.{place-there, found-entry, entries-without, taken-gone}
+use Rattle.iol_evict.proofs.Changes.{index-heights, stands-taken, indexed-remove, table-is, finds-taken}
 use Rattle.iol_evict.proofs.entries.Entries.remove.Goals as goal
 
 pub remove_key-key-requires-clause-there : goal.remove_key-key-requires-clause-there

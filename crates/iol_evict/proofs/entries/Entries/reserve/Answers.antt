@@ -1,6 +1,6 @@
 use Rattle.std.proofs.Common.{List, ℕ, sym, subst, arith}
 use Rattle.iol_evict.specs.Indexes.{IsIndexed}
-use Rattle.iol_evict.proofs.Changing.{indexed-same}
+use Rattle.iol_evict.proofs.Changes.{indexed-same}
 use Rattle.iol_evict.proofs.entries.Entries.reserve.Goals as goal
 
 pub invariant_of-self : goal.invariant_of-self

@@ -2,12 +2,12 @@ use Rattle.std.proofs.Common.{◌∙◌, ap, sym, subst, arith}
 use Rattle.iol_evict.specs.declared.entry.Entry.{Entry}
 use Rattle.iol_evict.specs.declared.entry.Rank.{Rank}
 use Rattle.iol_evict.specs.declared.entry.By.TheVariants.{Place, Height}
-use Rattle.iol_evict.specs.Ranking.{Table, with_height}
+use Rattle.iol_evict.specs.Order.{Table, with_height}
 use Rattle.iol_evict.specs.Ranks.{rank_by}
 use Rattle.iol_evict.specs.Indexes.{HasRank, Finds, Takes}
-use Rattle.iol_evict.proofs.Rising.{index-same}
-use Rattle.iol_evict.proofs.Indexing.{place-there, entries-with_height}
-use Rattle.iol_evict.proofs.Changing.{index-heights, index-left, stands-found, same-left, indexed-height, same-height, table-is}
+use Rattle.iol_evict.proofs.KeptOrder.{index-same}
+use Rattle.iol_evict.proofs.Indexes.{place-there, entries-with_height}
+use Rattle.iol_evict.proofs.Changes.{index-heights, index-left, stands-found, same-left, indexed-height, same-height, table-is}
 use Rattle.iol_evict.proofs.entries.Entries.set_height.Goals as goal
 
 pub find_key-key-requires-clause-there : goal.find_key-key-requires-clause-there

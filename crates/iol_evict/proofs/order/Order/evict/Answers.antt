@@ -1,5 +1,5 @@
 use Rattle.std.proofs.Common.{sym, subst}
-use Rattle.iol_evict.specs.Ranking.{Ranking, Table}
+use Rattle.iol_evict.specs.Order.{Ranking, Table}
 use Rattle.iol_evict.specs.Victims.{AreUsedBelow}
 use Rattle.iol_evict.proofs.Below.{below-without}
 use Rattle.iol_evict.proofs.order.Order.evict.Goals as goal

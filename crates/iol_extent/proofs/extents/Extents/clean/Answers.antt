@@ -1,6 +1,6 @@
 use Rattle.std.proofs.Common.{◌≡◌, ◌<◌, ◌+◌, Some, length, get_or, ap, sym, ◌∙◌, subst, arith}
 use Rattle.iol_extent.specs.Extents.{AreCleanBefore, ExtentMap, Extent, IsApart, cleaned_at, dirty_count, dirty_in}
-use Rattle.iol_extent.proofs.Clearing.{clean_lower, cleaned_apart, cleaned_before, cleaned_count, first_found, set_cleaned}
+use Rattle.iol_extent.proofs.CleanExtents.{clean_lower, cleaned_apart, cleaned_before, cleaned_count, first_found, set_cleaned}
 use Rattle.iol_extent.proofs.extents.Extents.clean.Goals.{After-count_before-found, After-clean}
 use Rattle.iol_extent.proofs.extents.Extents.clean.Goals as goal
 

@@ -4,7 +4,7 @@ use Rattle.std.proofs.lemmas.List.Elements.{All-push}
 use Rattle.iol_extent.specs.declared.spans.Span.{Span}
 use Rattle.iol_extent.specs.Extents.{IsGap}
 use Rattle.iol_extent.specs.Spans.{AreInOrder, LiesIn, IsHit, IsGapSpan, IsWhole}
-use Rattle.iol_extent.proofs.Tiling.{order_more, order_push, lies_old, lies_new}
+use Rattle.iol_extent.proofs.AddedSpans.{order_more, order_push, lies_old, lies_new}
 use Rattle.iol_extent.proofs.extents.Extents.find.Goals as goal
 
 pub loop-at-preserved-then-hit : goal.loop-at-preserved-then-hit

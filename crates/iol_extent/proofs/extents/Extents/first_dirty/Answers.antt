@@ -1,6 +1,6 @@
 use Rattle.std.proofs.Common.{◌∙◌, List, [], false, drop, ap, sym, arith}
 use Rattle.iol_extent.specs.Extents.{Extent, ExtentMap, dirty_in, extent_of}
-use Rattle.iol_extent.proofs.Clearing.{none_dirty, search_on}
+use Rattle.iol_extent.proofs.CleanExtents.{none_dirty, search_on}
 use Rattle.iol_extent.proofs.extents.Extents.first_dirty.Goals as goal
 
 pub returns-then-self-eq0 : goal.returns-then-self-eq0

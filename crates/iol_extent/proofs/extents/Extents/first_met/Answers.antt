@@ -1,6 +1,6 @@
 use Rattle.std.proofs.Common.{Some, ◌≡◌, get_or, ap, sym, ◌∙◌, arith}
 use Rattle.iol_extent.specs.Extents.{ExtentMap, Extent}
-use Rattle.iol_extent.proofs.Meeting.{met_found, met_missed, met_past}
+use Rattle.iol_extent.proofs.RangeExtents.{met_found, met_missed, met_past}
 use Rattle.iol_extent.proofs.extents.Extents.first_met.Goals as goal
 
 pub returns-then-found-len : goal.returns-then-found-len

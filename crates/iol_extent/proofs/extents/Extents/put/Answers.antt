@@ -1,7 +1,7 @@
 use Rattle.std.proofs.Common.{◌≡◌, insert, ap, sym, ◌∙◌, subst, arith}
 use Rattle.iol_extent.specs.Extents.{AreCleanBefore, dirty_count, ExtentMap, Extent, extent_of, end_of, IsApart, IsGap, put_in}
 use Rattle.iol_extent.proofs.Cover.{put_apart, adds_insert, last_end_insert}
-use Rattle.iol_extent.proofs.Clearing.{clean_insert, clean_lower, dirty_insert}
+use Rattle.iol_extent.proofs.CleanExtents.{clean_insert, clean_lower, dirty_insert}
 use Rattle.iol_extent.proofs.Counts.{dirty_few, one_few}
 use Rattle.iol_extent.proofs.Words.{put_insert}
 use Rattle.iol_extent.proofs.extents.Extents.put.Goals.{After-insert}

@@ -2,7 +2,7 @@ use Rattle.std.proofs.Common.{◌≡◌, ℕ, ◌<◌, ◌≤◌, List, length, 
 use Rattle.std.proofs.lemmas.List.{get_or_read}
 use Rattle.iol_extent.specs.Extents.{AreCleanBefore, dirty_count, one_dirty, ExtentMap, Extent, end_of, IsApart, Lacks, last_end, begins_at, without_at}
 use Rattle.iol_extent.proofs.Cover.{begins_is, lacks_remove, last_end_remove, remove_apart, some_begins}
-use Rattle.iol_extent.proofs.Clearing.{clean_remove, dirty_remove}
+use Rattle.iol_extent.proofs.CleanExtents.{clean_remove, dirty_remove}
 use Rattle.iol_extent.proofs.Words.{remove-without_at}
 use Rattle.iol_extent.proofs.extents.Extents.remove.Goals as goal
 

@@ -1,9 +1,9 @@
 use Rattle.std.proofs.Common.{◌≡◌, true, List, sym, subst}
-use Rattle.iol_core.specs.Numbered.{is_numbered}
+use Rattle.iol_core.specs.NumberedLists.{is_numbered}
 use Rattle.iol_pool.specs.Pools.{Pool}
-use Rattle.iol_hold.specs.Stored.{Stored, IsTidy, with_pools}
+use Rattle.iol_hold.specs.StoreState.{Stored, IsTidy, with_pools}
 use Rattle.iol_hold.specs.View.{stored}
-use Rattle.iol_hold.proofs.Admitting.{admitted_moves}
+use Rattle.iol_hold.proofs.Admission.{admitted_moves}
 use Rattle.iol_hold.proofs.store.Store.admit.Goals as goal
 
 pub invariant_of-self : goal.invariant_of-self

@@ -2,14 +2,14 @@ use Rattle.std.proofs.Common.{◌≡◌, [], ◌∷◌, arith, refl, sym, ap, �
 use Rattle.iol_core.specs.declared.numbers.BufId.{BufId}
 use Rattle.iol_arena.specs.State.{State, HasRuns, page_count}
 use Rattle.iol_arena.specs.Buffers.{IsLive, Keeps, Frees, with_freed}
-use Rattle.iol_hold.specs.Stored.{Stored, count_of, AllSettledBut, IsTidy, with_arena}
-use Rattle.iol_hold.proofs.Emptied.{settled_freed}
+use Rattle.iol_hold.specs.StoreState.{Stored, count_of, AllSettledBut, IsTidy, with_arena}
+use Rattle.iol_hold.proofs.EmptyPools.{settled_freed}
 use Rattle.iol_hold.specs.Moves.{Moves}
 use Rattle.iol_hold.specs.View.{stored}
-use Rattle.iol_hold.proofs.Counting.{live_of}
-use Rattle.iol_hold.proofs.Freeing.{freed_moves, freed_tidy, length-with_freed}
+use Rattle.iol_hold.proofs.Counts.{live_of}
+use Rattle.iol_hold.proofs.LastHolds.{freed_moves, freed_tidy, length-with_freed}
 use Rattle.iol_hold.specs.Releases.{FreesBuffer, FreesOnly}
-use Rattle.iol_hold.proofs.Releasing.{frees_one}
+use Rattle.iol_hold.proofs.Releases.{frees_one}
 use Rattle.iol_hold.proofs.store.Store.free.Goals as goal
 
 pub free-requires : goal.free-requires

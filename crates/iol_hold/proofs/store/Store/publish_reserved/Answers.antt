@@ -7,17 +7,17 @@ use Rattle.iol_arena.specs.State.{pages_for}
 use Rattle.iol_arena.specs.Pages.{MadeOn}
 use Rattle.iol_arena.specs.Parts.{needed_pages, part_pages}
 use Rattle.iol_arena.specs.declared.pages.PageKind.TheVariants.{Pending}
-use Rattle.iol_arena.proofs.Marked.{page_all}
-use Rattle.iol_arena.proofs.Made.{new_places}
+use Rattle.iol_arena.proofs.MarkedParts.{page_all}
+use Rattle.iol_arena.proofs.NewBuffers.{new_places}
 use Rattle.iol_arena.proofs.Members.{In, in_either, in_contains, contains_in}
-use Rattle.iol_hold.specs.Filling.{IsHeld}
-use Rattle.iol_hold.specs.Made.{PublishesFirst}
-use Rattle.iol_hold.specs.Stored.{Stored, Buffer, IsTidy}
+use Rattle.iol_hold.specs.Fillings.{IsHeld}
+use Rattle.iol_hold.specs.NewBuffers.{PublishesFirst}
+use Rattle.iol_hold.specs.StoreState.{Stored, Buffer, IsTidy}
 use Rattle.iol_hold.specs.View.{stored}
-use Rattle.iol_hold.specs.Waiting.{Publishes, all_held}
-use Rattle.iol_pool.proofs.Owning.{owned_stays}
-use Rattle.iol_hold.proofs.Placing.{holds_all, tidy_of}
-use Rattle.iol_hold.proofs.Publishing.{Makes, held_filled, held_named, held_pool, made_holds, made_publishes, made_usable, length-all_held}
+use Rattle.iol_hold.specs.PendingPages.{Publishes, all_held}
+use Rattle.iol_pool.proofs.Owners.{owned_stays}
+use Rattle.iol_hold.proofs.LiveBuffers.{holds_all, tidy_of}
+use Rattle.iol_hold.proofs.Publication.{Makes, held_filled, held_named, held_pool, made_holds, made_publishes, made_usable, length-all_held}
 use Rattle.std.proofs.lemmas.List.{length-map, take-append-drop, take_all}
 use Rattle.iol_hold.proofs.store.Store.publish_reserved.Goals as goal
 

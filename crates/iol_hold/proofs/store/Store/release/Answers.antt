@@ -1,12 +1,12 @@
 use Rattle.std.proofs.Common.{◌≡◌, ℕ, ◌+◌, ◌-◌, ◌<◌, [], ◌∷◌, map, arith, refl, sym, ap, ◌∙◌, subst}
 use Rattle.iol_core.specs.declared.numbers.BufId.{BufId}
-use Rattle.iol_hold.specs.Stored.{Stored, AllSettledBut, IsHome, IsSettled, count_of, with_count}
-use Rattle.iol_hold.proofs.Emptied.{all_settled_same}
+use Rattle.iol_hold.specs.StoreState.{Stored, AllSettledBut, IsHome, IsSettled, count_of, with_count}
+use Rattle.iol_hold.proofs.EmptyPools.{all_settled_same}
 use Rattle.iol_hold.specs.Moves.{Moves, pool_meant}
-use Rattle.iol_hold.proofs.Counting.{one_less}
-use Rattle.iol_hold.proofs.Moving.{shares_move, moves_trans}
-use Rattle.iol_hold.proofs.Placing.{tidy_count}
-use Rattle.iol_hold.proofs.Releasing.{frees_none, frees_trans}
+use Rattle.iol_hold.proofs.Counts.{one_less}
+use Rattle.iol_hold.proofs.Moves.{shares_move, moves_trans}
+use Rattle.iol_hold.proofs.LiveBuffers.{tidy_count}
+use Rattle.iol_hold.proofs.Releases.{frees_none, frees_trans}
 use Rattle.iol_hold.proofs.store.Store.release.Goals as goal
 
 pub returns-then-count-gt1 : goal.returns-then-count-gt1

@@ -1,14 +1,14 @@
 use Rattle.std.proofs.Common.{◌≡◌, ℕ, ◌∙◌, sym, ap, subst, refl, map, [], List}
 use Rattle.iol_arena.specs.State.{State, page_count}
 use Rattle.iol_pool.specs.Pools.{settled, settled_arena, Pool, pool_in}
-use Rattle.iol_hold.specs.Stored.{Stored, IsSettled}
-use Rattle.iol_hold.proofs.Emptied.{settled_then}
-use Rattle.iol_pool.proofs.Owning.{map-settled}
+use Rattle.iol_hold.specs.StoreState.{Stored, IsSettled}
+use Rattle.iol_hold.proofs.EmptyPools.{settled_then}
+use Rattle.iol_pool.proofs.Owners.{map-settled}
 use Rattle.iol_hold.specs.Moves.{Moves, pool_meant}
 use Rattle.iol_hold.specs.View.{stored}
-use Rattle.iol_hold.proofs.Settling.{moves_both, with_both, settled_moves, settled_settled, length-settled_arena}
+use Rattle.iol_hold.proofs.ChunkReturns.{moves_both, with_both, settled_moves, settled_settled, length-settled_arena}
 use Rattle.iol_hold.specs.Releases.{HasAllOrNone, Settles}
-use Rattle.iol_hold.proofs.Releasing.{chunks_settled, frees_chunks, settled_entries, settled_limit, open_settled}
+use Rattle.iol_hold.proofs.Releases.{chunks_settled, frees_chunks, settled_entries, settled_limit, open_settled}
 use Rattle.iol_hold.proofs.store.Store.settle.Goals as goal
 
 moves : (s : Stored) (p : ℕ) (a : State) (ps : List Pool) → a ≡ settled_arena s.arena s.pools p → ps ≡ settled s.arena s.pools p → Moves s (with_both s a ps) [] []

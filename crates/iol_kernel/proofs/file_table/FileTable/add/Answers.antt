@@ -6,7 +6,7 @@ use Rattle.indexmap.specs.IndexSet.{insert_key}
 use Rattle.indexmap.proofs.CallerLemmas.{insert_entry-new}
 use Rattle.iol_core.specs.State as machine
 use Rattle.iol_kernel.specs.Files.{AreUsed, NamedFiles, file_of, files_of}
-use Rattle.iol_kernel.proofs.FileCalls.Filed.{has_name, new_name, used-push}
+use Rattle.iol_kernel.proofs.FileCalls.FileTable.{has_name, new_name, used-push}
 use Rattle.iol_kernel.proofs.file_table.FileTable.add.Goals as goal
 
 pub invariant_of-self : goal.invariant_of-self

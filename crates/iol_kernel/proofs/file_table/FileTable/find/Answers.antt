@@ -2,7 +2,7 @@ use Rattle.std.proofs.Common.{rules, ◌≡◌, ◌+◌, ◌∙◌, ℕ, ap, sym
 use Rattle.std.specs.Prelude.{bytes_eq, option_map, position}
 use Rattle.iol_core.specs.State as machine
 use Rattle.iol_kernel.specs.Files.{NamedFiles}
-use Rattle.iol_kernel.proofs.FileCalls.Filed.{position-named}
+use Rattle.iol_kernel.proofs.FileCalls.FileTable.{position-named}
 use Rattle.iol_kernel.proofs.file_table.FileTable.find.Goals as goal
 
 pub returns-in_err-place : goal.returns-in_err-place

@@ -3,7 +3,7 @@ use Rattle.std.specs.Prelude.{bytes_eq}
 use Rattle.std.specs.List.{list_any}
 use Rattle.iol_core.specs.State as machine
 use Rattle.iol_kernel.specs.Files.{NamedFiles}
-use Rattle.iol_kernel.proofs.FileCalls.Filed.{has-named}
+use Rattle.iol_kernel.proofs.FileCalls.FileTable.{has-named}
 use Rattle.iol_kernel.proofs.file_table.FileTable.has.Goals as goal
 
 pub returns : goal.returns

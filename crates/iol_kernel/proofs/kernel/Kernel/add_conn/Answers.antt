@@ -2,7 +2,7 @@ use Rattle.std.proofs.Common.{◌∙◌, ◌<◌, ◌≤◌, ◌+◌, ◌++◌, 
 use Rattle.iol_sock.specs.Connections.{new_conn}
 use Rattle.iol_kernel.specs.Kernel.{state_of}
 use Rattle.iol_kernel.specs.Readings.{bytes_over}
-use Rattle.iol_kernel.proofs.Connections.Connecting.{Conns, joined_as, length_conns-read_of, next_conn-read_of}
+use Rattle.iol_kernel.proofs.Connections.OneConnection.{Conns, joined_as, length_conns-read_of, next_conn-read_of}
 use Rattle.iol_kernel.proofs.State.ReadOf.{closed-read_of}
 use Rattle.iol_kernel.proofs.kernel.Kernel.add_conn.Goals as goal
 

@@ -3,7 +3,7 @@ use Rattle.std.specs.Prelude.{slice_range}
 use Rattle.std.specs.Option.{option_copied}
 use Rattle.iol_core.specs.State.{Domain}
 use Rattle.iol_hold.specs.Places.{places, byte_len}
-use Rattle.iol_kernel.specs.Counted.{MayShare}
+use Rattle.iol_kernel.specs.HoldCounts.{MayShare}
 use Rattle.iol_hold.specs.declared.slices.Slice.{Slice}
 use Rattle.iol_desc.specs.Tables.{domains_of, domain_in, with_agg_in}
 use Rattle.iol_kernel.specs.Kernel.{state_of}
@@ -11,7 +11,7 @@ use Rattle.iol_kernel.specs.KernelState.{slices_in}
 use Rattle.iol_kernel.specs.Readings.{bytes_over}
 use Rattle.iol_kernel.proofs.AggregateCalls.Additions.{cut_answers}
 use Rattle.iol_kernel.proofs.AggregateCalls.Slices.{agg_shared, slices_kept}
-use Rattle.iol_kernel.proofs.State.Answered.{attempted}
+use Rattle.iol_kernel.proofs.State.TableCalls.{attempted}
 use Rattle.iol_kernel.proofs.State.Effects.{few_kept}
 use Rattle.iol_kernel.proofs.State.ReadOf.{length_text-read_of}
 use Rattle.iol_kernel.proofs.kernel.Kernel.add_cut.Goals as goal

@@ -5,7 +5,7 @@ use Rattle.iol_core.specs.State as machine
 use Rattle.iol_cache.specs.Cache.{cached_of}
 use Rattle.iol_kernel.specs.Kernel.{state_of}
 use Rattle.iol_kernel.specs.Readings.{bytes_over}
-use Rattle.iol_kernel.proofs.FileCalls.Named.{as_many, cache_sound, files-read_of, has-file_called, named_as}
+use Rattle.iol_kernel.proofs.FileCalls.FileNames.{as_many, cache_sound, files-read_of, has-file_called, named_as}
 use Rattle.iol_kernel.proofs.State.ReadOf.{closed-read_of}
 use Rattle.iol_kernel.proofs.kernel.Kernel.add_file.Goals as goal
 

@@ -1,12 +1,12 @@
 use Rattle.std.proofs.Common.{◌≡◌, true, ◌∙◌, ap, sym, subst}
 use Rattle.iol_core.specs.Calls.Pools.{admitting, has_place}
-use Rattle.iol_core.specs.Numbered.{is_numbered, with_numbered}
+use Rattle.iol_core.specs.NumberedLists.{is_numbered, with_numbered}
 use Rattle.iol_core.specs.State as machine
 use Rattle.iol_core.specs.State.{State}
-use Rattle.iol_hold.specs.Stored.{Stored}
+use Rattle.iol_hold.specs.StoreState.{Stored}
 use Rattle.iol_kernel.specs.Kernel.{state_of}
 use Rattle.iol_kernel.specs.Calls.{Leaves}
-use Rattle.iol_kernel.proofs.State.Admitting.{admitted}
+use Rattle.iol_kernel.proofs.State.Admission.{admitted}
 use Rattle.iol_kernel.proofs.State.ReadOf.{is_pool-read_of, list-read_of}
 use Rattle.iol_kernel.proofs.kernel.Kernel.add_reader.Goals as goal
 

@@ -5,9 +5,9 @@ use Rattle.iol_core.specs.Calls.Aggregates.{agg_make, default_pool, with_agg}
 use Rattle.iol_core.specs.declared.refusals.Refusal.{Refusal}
 use Rattle.iol_core.specs.declared.refusals.Refusal.TheVariants.{NoRoom}
 use Rattle.iol_kernel.specs.Kernel.{state_of, machine}
-use Rattle.iol_kernel.specs.MakingRoom.{Places}
+use Rattle.iol_kernel.specs.Room.{Places}
 use Rattle.iol_kernel.specs.Readings.{bytes_over}
-use Rattle.iol_kernel.proofs.AggregateCalls.Making.{may_after, make_none, make_places}
+use Rattle.iol_kernel.proofs.AggregateCalls.NewAggregates.{may_after, make_none, make_places}
 use Rattle.iol_kernel.proofs.State.AfterRoom.{places_refused}
 use Rattle.iol_kernel.proofs.State.ReadOf.{closed-read_of}
 use Rattle.iol_kernel.proofs.kernel.Kernel.agg_make.Goals as goal

@@ -6,7 +6,7 @@ use Rattle.iol_core.specs.declared.refusals.Refusal.{Refusal}
 use Rattle.iol_kernel.specs.Calls.{with_incoming}
 use Rattle.iol_kernel.specs.Kernel.{state_of, machine}
 use Rattle.iol_kernel.specs.KernelState.{KernelState, machine_of}
-use Rattle.iol_kernel.specs.MakingRoom.{Places}
+use Rattle.iol_kernel.specs.Room.{Places}
 use Rattle.iol_kernel.proofs.State.AfterRoom.{places_refused}
 use Rattle.iol_kernel.proofs.kernel.Kernel.arrive.Goals as goal
 

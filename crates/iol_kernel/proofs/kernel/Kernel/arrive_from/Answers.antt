@@ -1,6 +1,6 @@
 use Rattle.std.proofs.Common.{◌∙◌}
 use Rattle.iol_kernel.specs.Kernel.{state_of}
-use Rattle.iol_kernel.proofs.Connections.TakenIn.{still_there, takes_brought, takes_refuses, takes_serves, takes_stays}
+use Rattle.iol_kernel.proofs.Connections.StreamsAfterRoom.{still_there, takes_brought, takes_refuses, takes_serves, takes_stays}
 use Rattle.iol_kernel.proofs.kernel.Kernel.arrive_from.Goals as goal
 
 pub read_in-requires : goal.read_in-requires

@@ -4,8 +4,8 @@ use Rattle.iol_core.specs.declared.descriptors.Descriptor.TheVariants as on
 use Rattle.iol_sock.specs.Table.{ConnTable, conn_in}
 use Rattle.iol_sock.proofs.AtPlace.{changed_to}
 use Rattle.iol_kernel.specs.Kernel.{state_of}
-use Rattle.iol_kernel.proofs.Connections.Connecting.{IsChanged, conn_in-found, incoming_covered, open_conn-there}
-use Rattle.iol_kernel.proofs.Connections.Hanging.{hung_changed, hung_closes}
+use Rattle.iol_kernel.proofs.Connections.OneConnection.{IsChanged, conn_in-found, incoming_covered, open_conn-there}
+use Rattle.iol_kernel.proofs.Connections.Close.{hung_changed, hung_closes}
 use Rattle.iol_kernel.proofs.kernel.Kernel.close_conn.Goals as goal
 use Rattle.iol_kernel.proofs.kernel.Kernel.close_conn.Goals.{After-close}
 

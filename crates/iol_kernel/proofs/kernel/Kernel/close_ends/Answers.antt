@@ -4,7 +4,7 @@ use Rattle.std.proofs.lemmas.List.Sums.{fold_more}
 use Rattle.iol_core.specs.Calls.Descriptors.{closed_on}
 use Rattle.iol_core.specs.declared.descriptors.Descriptor.{Descriptor}
 use Rattle.iol_kernel.specs.Kernel.{state_of}
-use Rattle.iol_kernel.specs.Ends.{all_ends_on}
+use Rattle.iol_kernel.specs.EndCounts.{all_ends_on}
 use Rattle.iol_kernel.specs.KernelState.{objects_of, read_of, IsOpenEnd}
 use Rattle.iol_kernel.proofs.Queues.CloseAll.{pools-fold}
 use Rattle.iol_kernel.proofs.State.Effects.{leaves_as, leaves_then}

@@ -8,7 +8,7 @@ use Rattle.iol_kernel.specs.Kernel.{state_of}
 use Rattle.iol_kernel.specs.KernelState.{read_of}
 use Rattle.iol_kernel.proofs.Queues.CloseAll.{closed_on-with_fds, pools-with_domain}
 use Rattle.iol_kernel.proofs.State.Effects.{fds-changed, leaves_here, leaves_then, leaves_as}
-use Rattle.iol_kernel.proofs.Queues.Opening.{freed-read_of, let_go, not_none, open_in}
+use Rattle.iol_kernel.proofs.Queues.PipeEnds.{freed-read_of, let_go, not_none, open_in}
 use Rattle.iol_kernel.proofs.State.ReadOf.{open_row}
 use Rattle.iol_kernel.proofs.kernel.Kernel.close_fd.Goals as goal
 

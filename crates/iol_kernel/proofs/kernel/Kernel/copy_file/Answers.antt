@@ -7,20 +7,20 @@ use Rattle.iol_core.specs.declared.refusals.Refusal.TheVariants.{Memory}
 use Rattle.iol_hold.specs.Texts.{text_of}
 use Rattle.iol_hold.specs.Places.{byte_len}
 use Rattle.iol_hold.specs.declared.slices.Slice.{Slice}
-use Rattle.iol_hold.proofs.Reading.{length-text_of}
+use Rattle.iol_hold.proofs.ReadSlices.{length-text_of}
 use Rattle.iol_desc.specs.Tables.{domains_of}
 use Rattle.iol_cache.specs.Cache.{cached_of}
-use Rattle.iol_kernel.specs.Backed.{holding_of}
-use Rattle.iol_kernel.specs.FileReading.{CopiesFromFile, IsOpenAt, moved_on, pool_read, read_at}
+use Rattle.iol_kernel.specs.FileCalls.{holding_of}
+use Rattle.iol_kernel.specs.FileReads.{CopiesFromFile, IsOpenAt, moved_on, pool_read, read_at}
 use Rattle.iol_kernel.specs.Kernel.{state_of}
 use Rattle.iol_kernel.specs.KernelState.{KernelState}
 use Rattle.iol_kernel.specs.Readings.{bytes_over}
 use Rattle.iol_kernel.proofs.FileCalls.FileCopies.{copied_as, copies_refused, copies_unmade, covers_read, frees_here}
 use Rattle.iol_kernel.proofs.FileCalls.FileReads.{file_for, numbered_here, open_at, open_there, refused_read, row_live, set_to}
-use Rattle.iol_kernel.proofs.FileCalls.FileServed.{counts_few, read_fits, reads_done, reads_refused}
+use Rattle.iol_kernel.proofs.FileCalls.ReadEffects.{counts_few, read_fits, reads_done, reads_refused}
 use Rattle.iol_kernel.proofs.FileCalls.FileTests.{read-first}
-use Rattle.iol_kernel.proofs.FileCalls.Named.{cache_sound}
-use Rattle.iol_kernel.proofs.FileCalls.Shortened.{bytes_more, reads_more, refuses_more, room_more, tells_room}
+use Rattle.iol_kernel.proofs.FileCalls.FileNames.{cache_sound}
+use Rattle.iol_kernel.proofs.FileCalls.ShortReads.{bytes_more, reads_more, refuses_more, room_more, tells_room}
 use Rattle.iol_kernel.proofs.kernel.Kernel.copy_file.Given.{Over}
 use Rattle.iol_kernel.proofs.kernel.Kernel.copy_file.Goals as goal
 use Rattle.iol_kernel.proofs.kernel.Kernel.copy_file.Goals.{In_ok-test_read}

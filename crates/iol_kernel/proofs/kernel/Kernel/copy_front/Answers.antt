@@ -1,10 +1,10 @@
 use Rattle.std.proofs.Common.{◌∙◌, ◌++◌, ℕ, List, ap, sym, length, drop}
 use Rattle.iol_kernel.specs.Kernel.{state_of}
 use Rattle.iol_kernel.specs.KernelState.{queue_at}
-use Rattle.iol_kernel.proofs.Connections.Connecting.{conn_readable}
+use Rattle.iol_kernel.proofs.Connections.OneConnection.{conn_readable}
 use Rattle.iol_kernel.proofs.Queues.LookUps.{conn_at-there, unread-conn, unread-pipe}
-use Rattle.iol_kernel.proofs.Queues.Queueing.{queue_readable}
-use Rattle.iol_kernel.proofs.Queues.Skipped.{front_bytes, front_count}
+use Rattle.iol_kernel.proofs.Queues.SoundPipes.{queue_readable}
+use Rattle.iol_kernel.proofs.Queues.TakenBytes.{front_bytes, front_count}
 use Rattle.iol_kernel.proofs.Queues.Sources.{source_there}
 use Rattle.iol_kernel.proofs.kernel.Kernel.copy_front.Goals as goal
 

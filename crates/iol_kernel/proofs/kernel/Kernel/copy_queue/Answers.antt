@@ -1,9 +1,9 @@
 use Rattle.std.proofs.Common.{rules, [], ◌≡◌, ◌∙◌, ap, arith, length, take, drop, refl}
 use Rattle.std.proofs.lemmas.List.{take_at}
-use Rattle.iol_core.specs.Calls.Reading.{read}
+use Rattle.iol_core.specs.Calls.Reads.{read}
 use Rattle.iol_kernel.specs.Kernel.{state_of}
 use Rattle.iol_kernel.specs.KernelState.{machine_of}
-use Rattle.iol_kernel.proofs.Queues.Listing.{front_is, listed, on_no_file, read_refused, read_unlisted}
+use Rattle.iol_kernel.proofs.Queues.CopiedBytes.{front_is, listed, on_no_file, read_refused, read_unlisted}
 use Rattle.iol_kernel.proofs.kernel.Kernel.copy_queue.Goals as goal
 
 pub returns-in_err-most : goal.returns-in_err-most

@@ -2,7 +2,7 @@ use Rattle.std.proofs.Common.{Some, subst}
 use Rattle.iol_core.specs.declared.descriptors.Descriptor.{Descriptor}
 use Rattle.iol_kernel.specs.Kernel.{state_of}
 use Rattle.iol_kernel.specs.KernelState.{objects_of, IsOpenEnd}
-use Rattle.iol_kernel.proofs.Connections.Connecting.{open_conn-there}
+use Rattle.iol_kernel.proofs.Connections.OneConnection.{open_conn-there}
 use Rattle.iol_kernel.proofs.kernel.Kernel.denied_pool.Goals as goal
 
 pub hidden_pool-requires : goal.hidden_pool-requires

@@ -1,6 +1,6 @@
 use Rattle.iol_desc.specs.Tables.{domains_of}
 use Rattle.iol_kernel.specs.Kernel.{state_of}
-use Rattle.iol_kernel.proofs.AggregateCalls.GivenUp.{all_covered, aggs_dropped}
+use Rattle.iol_kernel.proofs.AggregateCalls.DomainEnd.{all_covered, aggs_dropped}
 use Rattle.iol_kernel.proofs.State.ReadOf.{live_held}
 use Rattle.iol_kernel.proofs.kernel.Kernel.drop_aggs.Goals as goal
 

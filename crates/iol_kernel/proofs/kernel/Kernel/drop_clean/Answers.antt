@@ -1,14 +1,14 @@
 use Rattle.std.proofs.Common.{Ok, refl}
 use Rattle.iol_core.specs.Calls.Outside as outside
 use Rattle.iol_cache.specs.Cache.{cached_of}
-use Rattle.iol_cache.specs.Evicting.{Holding}
-use Rattle.iol_cache.proofs.RangeReads.Paging.{given_up_pages}
-use Rattle.iol_kernel.specs.Backed.{holding_of}
+use Rattle.iol_cache.specs.Evictions.{Holding}
+use Rattle.iol_cache.proofs.RangeReads.PageChanges.{given_up_pages}
+use Rattle.iol_kernel.specs.FileCalls.{holding_of}
 use Rattle.iol_kernel.specs.Kernel.{state_of}
-use Rattle.iol_kernel.proofs.FileCalls.Kept.{drop_keeps}
-use Rattle.iol_kernel.proofs.FileCalls.Named.{cache_sound}
-use Rattle.iol_kernel.proofs.FileCalls.PutBeside.{files_apart}
-use Rattle.iol_kernel.proofs.FileCalls.WrittenBack.{given_serves}
+use Rattle.iol_kernel.proofs.FileCalls.KeptCover.{drop_keeps}
+use Rattle.iol_kernel.proofs.FileCalls.FileNames.{cache_sound}
+use Rattle.iol_kernel.proofs.FileCalls.CopyingWrites.{files_apart}
+use Rattle.iol_kernel.proofs.FileCalls.WriteBack.{given_serves}
 use Rattle.iol_kernel.proofs.kernel.Kernel.drop_clean.Goals as goal
 
 pub drop_clean-requires : goal.drop_clean-requires

@@ -1,6 +1,6 @@
 use Rattle.std.proofs.Common.{◌≡◌, ℕ, ◌∙◌, ap, List, []}
 use Rattle.std.specs.Prelude.{fold, true}
-use Rattle.iol_core.specs.Numbered.{taken}
+use Rattle.iol_core.specs.NumberedLists.{taken}
 use Rattle.iol_core.specs.State as machine
 use Rattle.iol_core.specs.State.{State, Domain, no_domain}
 use Rattle.iol_core.specs.Calls.Descriptors.{closed_on, with_fds}
@@ -11,7 +11,7 @@ use Rattle.iol_kernel.specs.Kernel.{state_of}
 use Rattle.iol_kernel.proofs.State.Effects.{leaves_as, leaves_then, dropped}
 use Rattle.iol_kernel.proofs.State.ReadOf.{live_held, is_live-read_of}
 use Rattle.iol_kernel.proofs.Queues.CloseAll.{ended_all, pools-fold, pools-with_domain}
-use Rattle.iol_kernel.proofs.AggregateCalls.GivenUp.{domain_ended}
+use Rattle.iol_kernel.proofs.AggregateCalls.DomainEnd.{domain_ended}
 use Rattle.iol_kernel.proofs.State.Rows.{domain_in-changed}
 use Rattle.iol_kernel.proofs.kernel.Kernel.end.Goals as goal
 

@@ -4,8 +4,8 @@ use Rattle.iol_core.specs.Calls.Outside.{closed_by}
 use Rattle.iol_sock.specs.Table.{ConnTable, conn_in}
 use Rattle.iol_sock.proofs.AtPlace.{changed_to}
 use Rattle.iol_kernel.specs.Kernel.{state_of}
-use Rattle.iol_kernel.proofs.Connections.Connecting.{IsChanged, conn_is, found_conn, outgoing_covered}
-use Rattle.iol_kernel.proofs.Connections.PeerClosed.{peer_changed}
+use Rattle.iol_kernel.proofs.Connections.OneConnection.{IsChanged, conn_is, found_conn, outgoing_covered}
+use Rattle.iol_kernel.proofs.Connections.PeerClose.{peer_changed}
 use Rattle.iol_kernel.proofs.kernel.Kernel.end_peer.Goals as goal
 use Rattle.iol_kernel.proofs.kernel.Kernel.end_peer.Goals.{After-peer_closed}
 

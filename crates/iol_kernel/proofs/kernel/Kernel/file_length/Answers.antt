@@ -1,8 +1,8 @@
 use Rattle.std.proofs.Common.{[], rules}
 use Rattle.iol_kernel.specs.Kernel.{state_of}
 use Rattle.iol_kernel.specs.Readings.{bytes_over}
-use Rattle.iol_kernel.proofs.FileCalls.FileEnds.{ends_file}
-use Rattle.iol_kernel.proofs.FileCalls.Seeking.{length_refused, length_told}
+use Rattle.iol_kernel.proofs.FileCalls.FileLengths.{ends_file}
+use Rattle.iol_kernel.proofs.FileCalls.Positions.{length_refused, length_told}
 use Rattle.iol_kernel.proofs.kernel.Kernel.file_length.Goals as goal
 
 pub returns-in-Err : goal.returns-in-Err

@@ -4,9 +4,9 @@ use Rattle.iol_core.specs.State.{Domain}
 use Rattle.iol_core.specs.Text.{labelled}
 use Rattle.iol_hold.specs.Room.{lowest_of}
 use Rattle.iol_hold.specs.declared.slices.Slice.{Slice}
-use Rattle.iol_hold.proofs.Paging.{keeps_pages_made}
+use Rattle.iol_hold.proofs.PageChanges.{keeps_pages_made}
 use Rattle.iol_desc.specs.Tables.{domains_of, domain_in, with_agg_in}
-use Rattle.iol_kernel.specs.Adding.{AddsText}
+use Rattle.iol_kernel.specs.NewAggregates.{AddsText}
 use Rattle.iol_kernel.specs.Kernel.{state_of}
 use Rattle.iol_kernel.specs.Readings.{bytes_over}
 use Rattle.iol_kernel.proofs.State.Effects.{few_aggs, few_kept, placed-machine, placed_alone, placed-sound}

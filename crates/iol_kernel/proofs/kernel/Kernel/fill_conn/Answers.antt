@@ -3,9 +3,9 @@ use Rattle.iol_sock.specs.Table.{ConnTable, conn_in}
 use Rattle.iol_sock.proofs.AtPlace.{changed_to}
 use Rattle.iol_kernel.specs.Kernel.{state_of}
 use Rattle.iol_kernel.specs.KernelState.{KernelState}
-use Rattle.iol_kernel.proofs.Connections.Arriving.{arrives}
-use Rattle.iol_kernel.proofs.Connections.Connecting.{conn_is, conn_open, found_conn}
-use Rattle.iol_kernel.proofs.Connections.Grown.{kept_table}
+use Rattle.iol_kernel.proofs.Connections.Arrivals.{arrives}
+use Rattle.iol_kernel.proofs.Connections.OneConnection.{conn_is, conn_open, found_conn}
+use Rattle.iol_kernel.proofs.Connections.GrownQueue.{kept_table}
 use Rattle.iol_kernel.proofs.kernel.Kernel.fill_conn.Goals as goal
 
 pub arrive-requires-clause-there : goal.arrive-requires-clause-there

@@ -1,17 +1,17 @@
 use Rattle.std.proofs.Common.{inl, inr, ◌∙◌, ◌+◌, ap, refl, arith, length, map}
 use Rattle.iol_core.specs.declared.descriptors.Descriptor.TheVariants as on
-use Rattle.iol_hold.specs.Stored.{Stored}
+use Rattle.iol_hold.specs.StoreState.{Stored}
 use Rattle.iol_hold.specs.Moves.{pool_meant}
-use Rattle.iol_hold.proofs.Paging.{keeps_pages_frees, keeps_pages_made}
+use Rattle.iol_hold.proofs.PageChanges.{keeps_pages_frees, keeps_pages_made}
 use Rattle.iol_cache.specs.Cache.{cached_of}
 use Rattle.iol_kernel.specs.Kernel.{state_of}
 use Rattle.iol_kernel.specs.KernelState.{KernelState}
 use Rattle.iol_kernel.proofs.FileCalls.FileReads.{set_to}
 use Rattle.iol_kernel.proofs.FileCalls.FilledOver.{filled_covers, filled_few, filled_sound, put_pools, still_covers, through, through_files, through_mirrors, through_puts, unput_pools}
 use Rattle.iol_kernel.proofs.FileCalls.FilledServes.{filled_len, filled_serves, held_file, held_live, held_short, held_there, unfilled_serves, unplaced_serves}
-use Rattle.iol_kernel.proofs.Queues.Queued.{may_place}
-use Rattle.iol_kernel.proofs.FileCalls.PutBeside.{files_apart, own_pool, put_beside, put_pages, put_released, room_alone, unput_beside}
-use Rattle.iol_kernel.proofs.FileCalls.Kept.{beside_same}
+use Rattle.iol_kernel.proofs.Queues.WritesAfterRoom.{may_place}
+use Rattle.iol_kernel.proofs.FileCalls.CopyingWrites.{files_apart, own_pool, put_beside, put_pages, put_released, room_alone, unput_beside}
+use Rattle.iol_kernel.proofs.FileCalls.KeptCover.{beside_same}
 use Rattle.iol_kernel.proofs.kernel.Kernel.fill_file.Goals as goal
 
 pub fill-requires-clause-open : goal.fill-requires-clause-open

@@ -3,7 +3,7 @@ use Rattle.std.specs.Prelude.{bytes_eq, option_map, position}
 use Rattle.iol_core.specs.Calls.Files.{file_called}
 use Rattle.iol_kernel.specs.Kernel.{as_read, state_of}
 use Rattle.iol_kernel.specs.Readings.{Reading}
-use Rattle.iol_kernel.proofs.FileCalls.Called.{file_called-read_of}
+use Rattle.iol_kernel.proofs.FileCalls.Opens.{file_called-read_of}
 use Rattle.iol_kernel.proofs.kernel.Kernel.find_file.Goals as goal
 
 pub returns : goal.returns

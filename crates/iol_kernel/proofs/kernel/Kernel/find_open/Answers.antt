@@ -1,7 +1,7 @@
 use Rattle.std.proofs.Common.{Some, ap, rules, ◌∙◌}
 use Rattle.iol_core.specs.declared.descriptors.Descriptor.{Descriptor}
 use Rattle.iol_kernel.specs.Kernel.{as_read}
-use Rattle.iol_kernel.proofs.FileCalls.Seeking.{open_file, wrong_kind}
+use Rattle.iol_kernel.proofs.FileCalls.Positions.{open_file, wrong_kind}
 use Rattle.iol_kernel.proofs.kernel.Kernel.find_open.Goals as goal
 
 pub returns-in_default : goal.returns-in_default

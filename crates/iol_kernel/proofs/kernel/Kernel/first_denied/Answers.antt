@@ -1,9 +1,9 @@
 use Rattle.std.proofs.Common.{◌∙◌, ap, List}
 use Rattle.iol_hold.specs.declared.slices.Slice.{Slice}
 use Rattle.iol_pool.specs.Pools.{Pool}
-use Rattle.iol_kernel.specs.Denying.{pool_hidden}
+use Rattle.iol_kernel.specs.Denials.{pool_hidden}
 use Rattle.iol_kernel.specs.Kernel.{state_of}
-use Rattle.iol_kernel.proofs.AggregateCalls.Barring.{hidden_barred}
+use Rattle.iol_kernel.proofs.AggregateCalls.BarredBytes.{hidden_barred}
 use Rattle.iol_kernel.proofs.kernel.Kernel.first_denied.Goals as goal
 
 pub returns : goal.returns

@@ -1,6 +1,6 @@
 use Rattle.std.proofs.Common.{◌∙◌, sym}
 use Rattle.iol_kernel.specs.Kernel.{state_of}
-use Rattle.iol_kernel.proofs.Connections.Accepting.{waiting-read_of}
+use Rattle.iol_kernel.proofs.Connections.Accept.{waiting-read_of}
 use Rattle.iol_kernel.proofs.kernel.Kernel.first_waiting.Goals as goal
 
 pub returns : goal.returns

@@ -1,10 +1,10 @@
 use Rattle.std.proofs.Common.{ap}
 use Rattle.iol_cache.specs.Cache.{cached_of}
 use Rattle.iol_kernel.specs.Kernel.{state_of}
-use Rattle.iol_kernel.specs.WritingBack.{done_of}
+use Rattle.iol_kernel.specs.WriteBack.{done_of}
 use Rattle.iol_kernel.proofs.FileCalls.Faults.{flush_serves, flushes_one}
-use Rattle.iol_kernel.proofs.FileCalls.Named.{cache_sound}
-use Rattle.iol_kernel.proofs.FileCalls.WrittenOver.{counts_lower}
+use Rattle.iol_kernel.proofs.FileCalls.FileNames.{cache_sound}
+use Rattle.iol_kernel.proofs.FileCalls.Overwrites.{counts_lower}
 use Rattle.iol_kernel.proofs.kernel.Kernel.flush.Goals as goal
 
 pub flush_one-requires-clause-sound : goal.flush_one-requires-clause-sound

@@ -5,10 +5,10 @@ use Rattle.iol_sock.proofs.AtPlace.{changed_to}
 use Rattle.iol_kernel.specs.Kernel.{state_of}
 use Rattle.iol_kernel.specs.KernelState.{KernelState, IsOpenEnd, objects_of, queue_at}
 use Rattle.iol_kernel.specs.QueueEnds.{GivesFront}
-use Rattle.iol_kernel.proofs.Connections.Connecting.{conn_limit}
-use Rattle.iol_kernel.proofs.Connections.Incoming.{conn_front}
+use Rattle.iol_kernel.proofs.Connections.OneConnection.{conn_limit}
+use Rattle.iol_kernel.proofs.Connections.Reads.{conn_front}
 use Rattle.iol_kernel.proofs.Queues.Sources.{source_covered, source_found, source_there}
-use Rattle.iol_kernel.proofs.Queues.Queueing.{pipe_front, queue_short, reading_covered}
+use Rattle.iol_kernel.proofs.Queues.SoundPipes.{pipe_front, queue_short, reading_covered}
 use Rattle.iol_kernel.proofs.State.Uses.{countable}
 use Rattle.iol_kernel.proofs.kernel.Kernel.front.Goals as goal
 

@@ -5,9 +5,9 @@ use Rattle.iol_core.specs.declared.descriptors.Descriptor.{Descriptor}
 use Rattle.iol_kernel.specs.Kernel.{state_of}
 use Rattle.iol_kernel.specs.KernelState.{machine_of}
 use Rattle.iol_kernel.specs.Readings.{bytes_over}
-use Rattle.iol_kernel.specs.WritingBack.{SyncsFile}
+use Rattle.iol_kernel.specs.WriteBack.{SyncsFile}
 use Rattle.iol_kernel.proofs.FileCalls.Faults.{refused_sync}
-use Rattle.iol_kernel.proofs.FileCalls.Seeking.{fsync_refused, no_fault}
+use Rattle.iol_kernel.proofs.FileCalls.Positions.{fsync_refused, no_fault}
 use Rattle.iol_kernel.proofs.kernel.Kernel.fsync.Goals as goal
 
 pub returns-in-Err : goal.returns-in-Err

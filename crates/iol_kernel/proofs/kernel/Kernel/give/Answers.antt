@@ -1,6 +1,6 @@
 use Rattle.iol_desc.specs.Tables.{domains_of}
 use Rattle.iol_kernel.specs.Kernel.{state_of}
-use Rattle.iol_kernel.proofs.State.Answered.{attempted}
+use Rattle.iol_kernel.proofs.State.TableCalls.{attempted}
 use Rattle.iol_kernel.proofs.AggregateCalls.Gifts.{give_in, given_answers}
 use Rattle.iol_kernel.proofs.kernel.Kernel.give.Goals as goal
 

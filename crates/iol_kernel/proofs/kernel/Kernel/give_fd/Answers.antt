@@ -1,7 +1,7 @@
 use Rattle.std.proofs.Common.{[], ◌∙◌, sym}
 use Rattle.iol_kernel.specs.Kernel.{state_of}
 use Rattle.iol_kernel.specs.Readings.{bytes_over}
-use Rattle.iol_kernel.proofs.Queues.Opening.{end_held}
+use Rattle.iol_kernel.proofs.Queues.PipeEnds.{end_held}
 use Rattle.iol_kernel.proofs.kernel.Kernel.give_fd.Goals as goal
 
 pub denied_pool-requires : goal.denied_pool-requires

@@ -2,7 +2,7 @@ use Rattle.std.proofs.Common.{◌∙◌, ap, sym, not}
 use Rattle.iol_core.specs.Meaning.{◌when◌}
 use Rattle.iol_core.specs.declared.refusals.Refusal.TheVariants.{Denied}
 use Rattle.iol_kernel.specs.Kernel.{state_of}
-use Rattle.iol_kernel.proofs.Connections.Connecting.{denied-read_of}
+use Rattle.iol_kernel.proofs.Connections.OneConnection.{denied-read_of}
 use Rattle.iol_kernel.proofs.kernel.Kernel.hidden_pool.Goals as goal
 
 pub returns-then-may_read : goal.returns-then-may_read

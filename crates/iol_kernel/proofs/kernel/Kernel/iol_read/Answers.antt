@@ -1,11 +1,11 @@
 use Rattle.std.proofs.Common.{◌∙◌, ap, rules, Some}
-use Rattle.iol_core.specs.Calls.Reading as calls
+use Rattle.iol_core.specs.Calls.Reads as calls
 use Rattle.iol_core.specs.declared.descriptors.Descriptor.{Descriptor}
 use Rattle.iol_core.specs.declared.descriptors.Descriptor.TheVariants as on
 use Rattle.iol_kernel.specs.Kernel.{state_of}
-use Rattle.iol_kernel.specs.Opened.{IsOpenOn}
+use Rattle.iol_kernel.specs.OpenDescriptors.{IsOpenOn}
 use Rattle.iol_kernel.proofs.Queues.Reads.{reads_file, reads_queue, reads_unopened, serves_unopened}
-use Rattle.iol_kernel.proofs.State.Serving.{carried_serves}
+use Rattle.iol_kernel.proofs.State.CacheUntouched.{carried_serves}
 use Rattle.iol_kernel.proofs.kernel.Kernel.iol_read.Given.{Over}
 use Rattle.iol_kernel.proofs.kernel.Kernel.iol_read.Goals as goal
 use Rattle.iol_kernel.proofs.kernel.Kernel.iol_read.Goals.{In-Some, In_ok-from}

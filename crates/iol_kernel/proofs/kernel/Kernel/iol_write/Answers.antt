@@ -1,14 +1,14 @@
 use Rattle.std.proofs.Common.{[], ◌∙◌, Err, ap, sym, subst, Option, Some}
-use Rattle.iol_core.specs.Calls.Writing as calls
+use Rattle.iol_core.specs.Calls.Writes as calls
 use Rattle.iol_core.specs.declared.descriptors.Descriptor.{Descriptor}
 use Rattle.iol_kernel.specs.Kernel.{state_of}
 use Rattle.iol_kernel.specs.Readings.{bytes_over}
-use Rattle.iol_kernel.specs.WritingAggs.{MayWriteAgg}
-use Rattle.iol_kernel.specs.WritingFiles.{WritesOn}
+use Rattle.iol_kernel.specs.AggregateWrites.{MayWriteAgg}
+use Rattle.iol_kernel.specs.FileWrites.{WritesOn}
 use Rattle.iol_core.specs.State.{descriptor}
 use Rattle.iol_kernel.specs.KernelState.{machine_of}
-use Rattle.iol_kernel.proofs.State.Serving.{carried_serves}
-use Rattle.iol_kernel.proofs.FileCalls.WrittenOver.{queued_on, refused_on}
+use Rattle.iol_kernel.proofs.State.CacheUntouched.{carried_serves}
+use Rattle.iol_kernel.proofs.FileCalls.Overwrites.{queued_on, refused_on}
 use Rattle.iol_kernel.proofs.kernel.Kernel.iol_write.Goals as goal
 
 pub returns-in-Err : goal.returns-in-Err

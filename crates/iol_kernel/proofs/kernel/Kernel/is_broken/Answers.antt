@@ -1,6 +1,6 @@
 use Rattle.std.proofs.Common.{◌∙◌, Some, ap, sym}
 use Rattle.std.specs.Prelude.{not}
-use Rattle.iol_core.specs.Calls.Writing.{is_broken}
+use Rattle.iol_core.specs.Calls.Writes.{is_broken}
 use Rattle.iol_core.specs.State.{Connection, is_gone}
 use Rattle.iol_core.specs.declared.descriptors.Descriptor.{Descriptor}
 use Rattle.iol_kernel.specs.Kernel.{as_read, state_of}

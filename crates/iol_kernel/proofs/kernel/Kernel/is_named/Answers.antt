@@ -1,6 +1,6 @@
 use Rattle.std.proofs.Common.{rules}
 use Rattle.iol_kernel.specs.Kernel.{state_of}
-use Rattle.iol_kernel.proofs.FileCalls.Named.{has-file_called}
+use Rattle.iol_kernel.proofs.FileCalls.FileNames.{has-file_called}
 use Rattle.iol_kernel.proofs.kernel.Kernel.is_named.Goals as goal
 
 pub returns : goal.returns

@@ -2,10 +2,10 @@ use Rattle.std.proofs.Common.{◌≡◌, ◌+◌, rules, false, arith, length}
 use Rattle.std.specs.Prelude.{min, nat_lt}
 use Rattle.iol_core.specs.declared.limits.TheConstants.{MAX_FILE_BYTES}
 use Rattle.iol_back.specs.Disk.{IfHonest, content, length_told}
-use Rattle.iol_kernel.specs.FileEnds.{AsksNext}
+use Rattle.iol_kernel.specs.FileLengths.{AsksNext}
 use Rattle.iol_kernel.specs.Kernel.{state_of}
-use Rattle.iol_kernel.proofs.FileCalls.FileEnds.{next_long, no_next}
-use Rattle.iol_kernel.proofs.FileCalls.Named.{last_not_too_long, next_too_long}
+use Rattle.iol_kernel.proofs.FileCalls.FileLengths.{next_long, no_next}
+use Rattle.iol_kernel.proofs.FileCalls.FileNames.{last_not_too_long, next_too_long}
 use Rattle.iol_kernel.proofs.FileCalls.NewFiles.{tells_next}
 use Rattle.iol_kernel.proofs.kernel.Kernel.is_next_too_long.Goals as goal
 

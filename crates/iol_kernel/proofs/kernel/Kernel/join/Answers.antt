@@ -1,7 +1,7 @@
 use Rattle.iol_desc.specs.Tables.{domains_of}
 use Rattle.iol_kernel.specs.Kernel.{state_of}
-use Rattle.iol_kernel.proofs.State.Answered.{attempted}
-use Rattle.iol_kernel.proofs.AggregateCalls.Regrouping.{join_answers, join_in}
+use Rattle.iol_kernel.proofs.State.TableCalls.{attempted}
+use Rattle.iol_kernel.proofs.AggregateCalls.SliceMoves.{join_answers, join_in}
 use Rattle.iol_kernel.proofs.kernel.Kernel.join.Goals as goal
 
 pub join_aggs-requires : goal.join_aggs-requires

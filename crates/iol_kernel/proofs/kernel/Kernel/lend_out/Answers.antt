@@ -2,8 +2,8 @@ use Rattle.std.proofs.Common.{ap, arith}
 use Rattle.iol_sock.specs.Table.{ConnTable, conn_in}
 use Rattle.iol_sock.proofs.AtPlace.{changed_to}
 use Rattle.iol_kernel.specs.Kernel.{state_of}
-use Rattle.iol_kernel.proofs.Connections.Borrowing.{Lent, drains_to, lent_out}
-use Rattle.iol_kernel.proofs.Connections.Connecting.{conn_is, conn_readable, found_conn, outgoing_covered}
+use Rattle.iol_kernel.proofs.Connections.Streams.{Lent, drains_to, lent_out}
+use Rattle.iol_kernel.proofs.Connections.OneConnection.{conn_is, conn_readable, found_conn, outgoing_covered}
 use Rattle.iol_kernel.proofs.kernel.Kernel.lend_out.Given.{Over}
 use Rattle.iol_kernel.proofs.kernel.Kernel.lend_out.Goals as goal
 use Rattle.iol_kernel.proofs.kernel.Kernel.lend_out.Goals.{After-drain_to-drained}

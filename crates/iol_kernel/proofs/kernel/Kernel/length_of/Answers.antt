@@ -1,5 +1,5 @@
 use Rattle.iol_kernel.specs.Kernel.{state_of}
-use Rattle.iol_kernel.proofs.FileCalls.Seeking.{extents_short, length_is}
+use Rattle.iol_kernel.proofs.FileCalls.Positions.{extents_short, length_is}
 use Rattle.iol_kernel.proofs.kernel.Kernel.length_of.Goals as goal
 
 pub file_length-requires-clause-short : goal.file_length-requires-clause-short

@@ -1,9 +1,9 @@
 use Rattle.std.proofs.Common.{ap}
-use Rattle.iol_cache.specs.Evicting.{Holding}
+use Rattle.iol_cache.specs.Evictions.{Holding}
 use Rattle.iol_cache.specs.Cache.{cached_of}
 use Rattle.iol_kernel.specs.Kernel.{state_of}
-use Rattle.iol_kernel.proofs.FileCalls.Named.{cache_sound}
-use Rattle.iol_kernel.proofs.State.RoomMade.{room_made}
+use Rattle.iol_kernel.proofs.FileCalls.FileNames.{cache_sound}
+use Rattle.iol_kernel.proofs.State.Room.{room_made}
 use Rattle.iol_kernel.proofs.kernel.Kernel.make_room.Goals as goal
 
 pub make_room-requires-clause-sound : goal.make_room-requires-clause-sound

@@ -2,13 +2,13 @@ use Rattle.std.proofs.Common.{[], ◌≡◌, ◌∙◌, ◌==◌, Some, None, ru
 use Rattle.std.proofs.lemmas.Bool.Decides.{nat_tests}
 use Rattle.iol_core.specs.Meaning.{first}
 use Rattle.iol_pool.specs.Pools.{pool_in}
-use Rattle.iol_sock.specs.Refused.{arrive_refusals}
-use Rattle.iol_kernel.specs.Borrowed.{FailsToRead}
+use Rattle.iol_sock.specs.Refusals.{arrive_refusals}
+use Rattle.iol_kernel.specs.Streams.{FailsToRead}
 use Rattle.iol_kernel.specs.Kernel.{state_of}
 use Rattle.iol_kernel.specs.Readings.{bytes_over}
-use Rattle.iol_kernel.proofs.Connections.Arrived.{arrive_in}
-use Rattle.iol_kernel.proofs.Connections.Connecting.{conn_open, conn_there}
-use Rattle.iol_kernel.proofs.Connections.TakenIn.{read_missing, read_none_asked, read_some_asked}
+use Rattle.iol_kernel.proofs.Connections.ArrivalAfterRoom.{arrive_in}
+use Rattle.iol_kernel.proofs.Connections.OneConnection.{conn_open, conn_there}
+use Rattle.iol_kernel.proofs.Connections.StreamsAfterRoom.{read_missing, read_none_asked, read_some_asked}
 use Rattle.iol_kernel.proofs.kernel.Kernel.may_arrive_from.Goals as goal
 
 pub returns-in_default-clause-refused : goal.returns-in_default-clause-refused

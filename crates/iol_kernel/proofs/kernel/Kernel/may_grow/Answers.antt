@@ -1,6 +1,6 @@
 use Rattle.std.proofs.Common.{◌∙◌, Some, ap, sym}
 use Rattle.std.specs.Prelude.{is_none}
-use Rattle.iol_core.specs.Calls.Reading.{may_grow}
+use Rattle.iol_core.specs.Calls.Reads.{may_grow}
 use Rattle.iol_core.specs.State.{Connection}
 use Rattle.iol_core.specs.declared.descriptors.Descriptor.{Descriptor}
 use Rattle.iol_kernel.specs.Kernel.{as_read, state_of}

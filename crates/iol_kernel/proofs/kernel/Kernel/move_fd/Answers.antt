@@ -4,8 +4,8 @@ use Rattle.iol_core.specs.declared.descriptors.Descriptor.{Descriptor}
 use Rattle.iol_desc.specs.Tables.{domains_of}
 use Rattle.iol_kernel.specs.Kernel.{state_of}
 use Rattle.iol_kernel.specs.Readings.{bytes_over}
-use Rattle.iol_kernel.proofs.Queues.Opening.{open_in, not_none, few_to, other_live, other_fds, moved_within, moved_across}
-use Rattle.iol_kernel.proofs.State.Answered.{attempted}
+use Rattle.iol_kernel.proofs.Queues.PipeEnds.{open_in, not_none, few_to, other_live, other_fds, moved_within, moved_across}
+use Rattle.iol_kernel.proofs.State.TableCalls.{attempted}
 use Rattle.iol_kernel.proofs.State.ReadOf.{open_row}
 use Rattle.iol_kernel.proofs.kernel.Kernel.move_fd.Goals as goal
 

@@ -8,10 +8,10 @@ use Rattle.iol_core.specs.State.{new_domain}
 use Rattle.iol_hold.specs.declared.slices.Slice.{Slice}
 use Rattle.iol_desc.specs.Tables.{Row, domains_of}
 use Rattle.iol_cache.specs.Cache.{cached_of}
-use Rattle.iol_kernel.specs.Founding.{MakesKernel}
+use Rattle.iol_kernel.specs.NewKernel.{MakesKernel}
 use Rattle.iol_kernel.specs.KernelState.{KernelState}
 use Rattle.iol_kernel.specs.declared.kernel.Kernel.{Kernel}
-use Rattle.iol_kernel.proofs.State.Beginning.{new-machine, new-sound, none_of, some_sums}
+use Rattle.iol_kernel.proofs.State.NewKernel.{new-machine, new-sound, none_of, some_sums}
 use Rattle.iol_kernel.proofs.kernel.Kernel.new.Goals as goal
 
 pub new-requires-2 : goal.new-requires-2

@@ -1,14 +1,14 @@
 use Rattle.std.proofs.Common.{[], ◌≡◌, ◌∙◌, ap, arith, List}
 use Rattle.std.specs.Prelude.{Option}
-use Rattle.iol_core.specs.Numbered.{lowest, placed, taken}
+use Rattle.iol_core.specs.NumberedLists.{lowest, placed, taken}
 use Rattle.iol_desc.specs.Tables.{domains_of, domain_in, with_fds_in, with_ends}
 use Rattle.iol_hold.specs.declared.slices.Slice.{Slice}
 use Rattle.iol_kernel.specs.Views.{Pipe}
 use Rattle.iol_kernel.specs.Kernel.{state_of}
 use Rattle.iol_kernel.specs.Queues.{empty_pipe}
 use Rattle.iol_kernel.specs.Readings.{bytes_over}
-use Rattle.iol_kernel.proofs.State.Answered.{attempted}
-use Rattle.iol_kernel.proofs.Queues.Opening.{ends_of, few_open_held, piped_answers}
+use Rattle.iol_kernel.proofs.State.TableCalls.{attempted}
+use Rattle.iol_kernel.proofs.Queues.PipeEnds.{ends_of, few_open_held, piped_answers}
 use Rattle.iol_kernel.proofs.State.ReadOf.{taken_pipes-read_of}
 use Rattle.iol_kernel.proofs.kernel.Kernel.new_pipe.Goals as goal
 

@@ -2,8 +2,8 @@ use Rattle.std.proofs.Common.{[], arith}
 use Rattle.iol_desc.specs.Tables.{domains_of}
 use Rattle.iol_kernel.specs.Kernel.{state_of}
 use Rattle.iol_kernel.specs.Readings.{bytes_over}
-use Rattle.iol_kernel.proofs.FileCalls.Called.{opened_answers}
-use Rattle.iol_kernel.proofs.Queues.Opening.{few_open_held}
+use Rattle.iol_kernel.proofs.FileCalls.Opens.{opened_answers}
+use Rattle.iol_kernel.proofs.Queues.PipeEnds.{few_open_held}
 use Rattle.iol_kernel.proofs.State.ReadOf.{live_held}
 use Rattle.iol_kernel.proofs.kernel.Kernel.open_at_start.Goals as goal
 

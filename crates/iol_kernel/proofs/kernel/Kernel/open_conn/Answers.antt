@@ -2,9 +2,9 @@ use Rattle.std.proofs.Common.{[], arith}
 use Rattle.iol_desc.specs.Tables.{domains_of}
 use Rattle.iol_kernel.specs.Kernel.{state_of}
 use Rattle.iol_kernel.specs.Readings.{bytes_over}
-use Rattle.iol_kernel.proofs.Connections.Accepting.{waiter_there, waiter_waits, accepted_answers}
-use Rattle.iol_kernel.proofs.State.Answered.{attempted}
-use Rattle.iol_kernel.proofs.Queues.Opening.{few_open_held}
+use Rattle.iol_kernel.proofs.Connections.Accept.{waiter_there, waiter_waits, accepted_answers}
+use Rattle.iol_kernel.proofs.State.TableCalls.{attempted}
+use Rattle.iol_kernel.proofs.Queues.PipeEnds.{few_open_held}
 use Rattle.iol_kernel.proofs.State.ReadOf.{live_held}
 use Rattle.iol_kernel.proofs.kernel.Kernel.open_conn.Goals as goal
 

@@ -8,7 +8,7 @@ use Rattle.iol_core.specs.declared.refusals.Refusal.{Refusal}
 use Rattle.iol_core.specs.declared.refusals.Refusal.TheVariants.{Denied, NoDomain, NoPool, PoolBusy, PoolClosed}
 use Rattle.iol_kernel.specs.Kernel.{as_read, state_of}
 use Rattle.iol_kernel.specs.Readings.{Reading, bytes_over}
-use Rattle.iol_kernel.proofs.State.Carried.{kept_refused}
+use Rattle.iol_kernel.proofs.State.Refinement.{kept_refused}
 use Rattle.iol_kernel.proofs.kernel.Kernel.pool_close.Goals as goal
 
 -- after the tests of a default pool comes one more

@@ -1,6 +1,6 @@
 use Rattle.std.proofs.Common.{◌∙◌, ap, Some}
 use Rattle.iol_core.specs.declared.descriptors.Descriptor.{Descriptor}
-use Rattle.iol_kernel.proofs.FileCalls.Seeking.{open_file}
+use Rattle.iol_kernel.proofs.FileCalls.Positions.{open_file}
 use Rattle.iol_kernel.proofs.kernel.Kernel.pool_to_write.Goals as goal
 
 pub test_file-requires : goal.test_file-requires

@@ -1,7 +1,7 @@
 use Rattle.std.proofs.Common.{[], ◌≡◌, ◌≤◌, ◌+◌, ◌-◌, ◌∙◌, Some, ap, length, length-append, take, arith, ℕ, rules}
 use Rattle.std.specs.Prelude.{min}
 use Rattle.std.proofs.lemmas.List.{length-take}
-use Rattle.iol_core.specs.Calls.Writing.{iol_write}
+use Rattle.iol_core.specs.Calls.Writes.{iol_write}
 use Rattle.iol_core.specs.declared.descriptors.Descriptor.{Descriptor}
 use Rattle.iol_core.specs.declared.limits.TheConstants.{MAX_QUEUE_BYTES}
 use Rattle.iol_hold.specs.Moves.{Covers, IsCountable}
@@ -13,9 +13,9 @@ use Rattle.iol_kernel.specs.Kernel.{state_of}
 use Rattle.iol_kernel.specs.Readings.{bytes_over}
 use Rattle.iol_kernel.specs.KernelState.{KernelState, objects_of, queue_at}
 use Rattle.iol_kernel.proofs.Connections.ConnQueues.{conn_there_held}
-use Rattle.iol_kernel.proofs.Connections.Outgoing.{queue_refused, queued_answers}
-use Rattle.iol_kernel.proofs.Queues.Queueing.{writing_held, queue_short, pushed_answers}
-use Rattle.iol_kernel.proofs.State.Carried.{carried_done}
+use Rattle.iol_kernel.proofs.Connections.Writes.{queue_refused, queued_answers}
+use Rattle.iol_kernel.proofs.Queues.SoundPipes.{writing_held, queue_short, pushed_answers}
+use Rattle.iol_kernel.proofs.State.Refinement.{carried_done}
 use Rattle.iol_kernel.proofs.State.ReadOf.{open_row}
 use Rattle.iol_kernel.proofs.State.Sound.{agg_small}
 use Rattle.iol_kernel.proofs.State.Uses.{agg_covered, countable}

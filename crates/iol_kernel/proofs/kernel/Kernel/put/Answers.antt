@@ -1,18 +1,18 @@
 use Rattle.std.proofs.Common.{[], ◌≡◌, ◌∙◌, Option, ap, length, subst, sym}
-use Rattle.iol_core.specs.Calls.Writing.{fitting, write}
+use Rattle.iol_core.specs.Calls.Writes.{fitting, write}
 use Rattle.iol_core.specs.declared.descriptors.Descriptor.{Descriptor}
 use Rattle.iol_core.specs.declared.descriptors.Descriptor.TheVariants as on
 use Rattle.iol_sock.specs.Table.{ConnTable}
 use Rattle.iol_sock.proofs.AtPlace.{changed_to}
 use Rattle.iol_kernel.specs.Kernel.{state_of}
 use Rattle.iol_kernel.specs.KernelState.{KernelState, read_of}
-use Rattle.iol_kernel.specs.Putting.{MayPut}
+use Rattle.iol_kernel.specs.WritesByCopy.{MayPut}
 use Rattle.iol_kernel.specs.Readings.{Reading, bytes_over}
 use Rattle.iol_kernel.proofs.Connections.ConnQueues.{conn_there_held}
-use Rattle.iol_kernel.proofs.Connections.Grown.{kept_table}
-use Rattle.iol_kernel.proofs.Queues.Queued.{may_place, may_still, write_none, write_places}
-use Rattle.iol_kernel.proofs.Queues.Queueing.{writing_held}
-use Rattle.iol_kernel.proofs.Queues.Written.{fills, kept_pipes, sends}
+use Rattle.iol_kernel.proofs.Connections.GrownQueue.{kept_table}
+use Rattle.iol_kernel.proofs.Queues.WritesAfterRoom.{may_place, may_still, write_none, write_places}
+use Rattle.iol_kernel.proofs.Queues.SoundPipes.{writing_held}
+use Rattle.iol_kernel.proofs.Queues.NewBytes.{fills, kept_pipes, sends}
 use Rattle.iol_kernel.proofs.kernel.Kernel.put.Goals as goal
 use Rattle.iol_kernel.proofs.kernel.Kernel.put.Goals.{After-fitting-count, In-Connection, In-WriteEnd}
 

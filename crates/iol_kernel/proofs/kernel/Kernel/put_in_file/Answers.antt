@@ -1,12 +1,12 @@
 use Rattle.std.proofs.Common.{◌≡◌, ◌∙◌, ap, refl, sym, arith, length}
 use Rattle.iol_arena.specs.State.{pages_for}
-use Rattle.iol_core.specs.Calls.Writing as writing
+use Rattle.iol_core.specs.Calls.Writes as writing
 use Rattle.iol_core.specs.declared.descriptors.Descriptor.TheVariants as on
 use Rattle.iol_kernel.specs.Kernel.{state_of}
-use Rattle.iol_kernel.specs.MakingRoom.{can_fit}
+use Rattle.iol_kernel.specs.Room.{can_fit}
 use Rattle.iol_kernel.proofs.FileCalls.FilledServes.{file_count, held_short, on_ok, roomed_serves}
-use Rattle.iol_kernel.proofs.FileCalls.PutBeside.{laid_none, laid_roomed, puts_none, puts_roomed}
-use Rattle.iol_kernel.proofs.Queues.Queued.{may_place, may_still, write_none}
+use Rattle.iol_kernel.proofs.FileCalls.CopyingWrites.{laid_none, laid_roomed, puts_none, puts_roomed}
+use Rattle.iol_kernel.proofs.Queues.WritesAfterRoom.{may_place, may_still, write_none}
 use Rattle.iol_kernel.proofs.kernel.Kernel.put_in_file.Goals as goal
 use Rattle.iol_kernel.proofs.kernel.Kernel.put_in_file.Goals.{After-min-count}
 

@@ -4,14 +4,14 @@ use Rattle.iol_core.specs.declared.refusals.Refusal.{Refusal}
 use Rattle.iol_hold.specs.declared.slices.Slice.{Slice}
 use Rattle.iol_desc.specs.Tables.{domains_of}
 use Rattle.iol_cache.specs.Cache.{cached_of}
-use Rattle.iol_kernel.specs.FileReading.{TakesFromFile, moved_on, read_at}
+use Rattle.iol_kernel.specs.FileReads.{TakesFromFile, moved_on, read_at}
 use Rattle.iol_kernel.specs.Kernel.{state_of, machine}
 use Rattle.iol_kernel.specs.Readings.{bytes_over}
 use Rattle.iol_kernel.proofs.State.Effects.{few_aggs, few_numbers}
 use Rattle.iol_kernel.proofs.FileCalls.FileReads.{agg_added, file_for, given_as, live_moved, live_there, next_moved, numbered_here, open_there, refused_iol_read, row_live, set_to}
-use Rattle.iol_kernel.proofs.FileCalls.FileServed.{counts_few, read_fits, reads_done, reads_refused, takes_nothing, takes_unmade}
+use Rattle.iol_kernel.proofs.FileCalls.ReadEffects.{counts_few, read_fits, reads_done, reads_refused, takes_nothing, takes_unmade}
 use Rattle.iol_kernel.proofs.FileCalls.FileTests.{iol_read-first, read_few}
-use Rattle.iol_kernel.proofs.FileCalls.Named.{cache_sound}
+use Rattle.iol_kernel.proofs.FileCalls.FileNames.{cache_sound}
 use Rattle.iol_kernel.proofs.kernel.Kernel.read_file.Given.{Over}
 use Rattle.iol_kernel.proofs.kernel.Kernel.read_file.Goals as goal
 use Rattle.iol_kernel.proofs.kernel.Kernel.read_file.Goals.{After-set_fd}

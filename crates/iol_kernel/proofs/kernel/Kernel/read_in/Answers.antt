@@ -3,8 +3,8 @@ use Rattle.iol_sock.specs.Table.{ConnTable, conn_in}
 use Rattle.iol_sock.proofs.AtPlace.{changed_to}
 use Rattle.iol_kernel.specs.Kernel.{state_of}
 use Rattle.iol_kernel.specs.KernelState.{KernelState, IsSound}
-use Rattle.iol_kernel.proofs.Connections.Borrowing.{BroughtIn, brought_in, read_passed, read_refused, read_room}
-use Rattle.iol_kernel.proofs.Connections.Connecting.{conn_is, conn_open, found_conn}
+use Rattle.iol_kernel.proofs.Connections.Streams.{BroughtIn, brought_in, read_passed, read_refused, read_room}
+use Rattle.iol_kernel.proofs.Connections.OneConnection.{conn_is, conn_open, found_conn}
 use Rattle.iol_kernel.proofs.State.Stay.{stays_equal}
 use Rattle.iol_kernel.proofs.kernel.Kernel.read_in.Given.{Over}
 use Rattle.iol_kernel.proofs.kernel.Kernel.read_in.Goals as goal

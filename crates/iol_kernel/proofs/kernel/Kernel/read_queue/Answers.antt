@@ -1,8 +1,8 @@
 use Rattle.std.proofs.Common.{[], ◌≡◌, rules, Some, true}
-use Rattle.iol_core.specs.Calls.Reading.{can_read}
+use Rattle.iol_core.specs.Calls.Reads.{can_read}
 use Rattle.iol_kernel.specs.Kernel.{state_of}
 use Rattle.iol_kernel.specs.Readings.{bytes_over}
-use Rattle.iol_kernel.proofs.Queues.Opening.{end_held}
+use Rattle.iol_kernel.proofs.Queues.PipeEnds.{end_held}
 use Rattle.iol_kernel.proofs.kernel.Kernel.read_queue.Goals as goal
 
 pub take-requires : goal.take-requires

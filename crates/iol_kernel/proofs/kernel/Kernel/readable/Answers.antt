@@ -1,6 +1,6 @@
 use Rattle.iol_kernel.specs.Kernel.{state_of}
-use Rattle.iol_kernel.proofs.FileCalls.Seeking.{extents_short}
-use Rattle.iol_kernel.proofs.FileCalls.WrittenOver.{in_cache}
+use Rattle.iol_kernel.proofs.FileCalls.Positions.{extents_short}
+use Rattle.iol_kernel.proofs.FileCalls.Overwrites.{in_cache}
 use Rattle.iol_kernel.proofs.kernel.Kernel.readable.Goals as goal
 
 pub file_length-end-requires-clause-file : goal.file_length-end-requires-clause-file

@@ -6,13 +6,13 @@ use Rattle.iol_hold.specs.Places.{places, byte_len}
 use Rattle.iol_hold.specs.Texts.{bufs_of}
 use Rattle.iol_hold.specs.declared.slices.Slice.{Slice}
 use Rattle.iol_desc.specs.Tables.{domains_of, domain_in, with_agg_in}
-use Rattle.iol_kernel.specs.Adding.{replaced}
+use Rattle.iol_kernel.specs.NewAggregates.{replaced}
 use Rattle.iol_kernel.specs.Kernel.{state_of}
 use Rattle.iol_kernel.specs.KernelState.{slices_in}
 use Rattle.iol_kernel.specs.Readings.{bytes_over}
 use Rattle.iol_kernel.proofs.AggregateCalls.Additions.{replaced_answers}
 use Rattle.iol_kernel.proofs.AggregateCalls.Slices.{agg_shared, slices_kept, slices_small, thrice_countable}
-use Rattle.iol_kernel.proofs.State.Answered.{attempted}
+use Rattle.iol_kernel.proofs.State.TableCalls.{attempted}
 use Rattle.iol_kernel.proofs.State.Effects.{few_kept}
 use Rattle.iol_kernel.proofs.State.ReadOf.{length_text-read_of}
 use Rattle.iol_kernel.proofs.kernel.Kernel.replace.Goals as goal

@@ -1,5 +1,5 @@
 use Rattle.iol_kernel.specs.Kernel.{state_of}
-use Rattle.iol_kernel.proofs.FileCalls.Named.{cache_sound}
+use Rattle.iol_kernel.proofs.FileCalls.FileNames.{cache_sound}
 use Rattle.iol_kernel.proofs.kernel.Kernel.report.Goals as goal
 
 pub report-cached-requires-clause-short : goal.report-cached-requires-clause-short

@@ -1,11 +1,11 @@
 use Rattle.std.proofs.Common.{◌≡◌, ◌∙◌, length, rules, Some, None, ap, sym, arith}
 use Rattle.iol_pool.specs.Pools.{pool_in}
 use Rattle.iol_pipe.specs.Queue.{fitting}
-use Rattle.iol_sock.specs.Refused.{arrive_refusals}
+use Rattle.iol_sock.specs.Refusals.{arrive_refusals}
 use Rattle.iol_core.specs.Meaning.{first}
 use Rattle.iol_kernel.specs.Kernel.{state_of}
-use Rattle.iol_kernel.proofs.Connections.Arrived.{arrive_first, arrive_fits, arrive_in, arrive_missing}
-use Rattle.iol_kernel.proofs.Connections.Connecting.{conn_open}
+use Rattle.iol_kernel.proofs.Connections.ArrivalAfterRoom.{arrive_first, arrive_fits, arrive_in, arrive_missing}
+use Rattle.iol_kernel.proofs.Connections.OneConnection.{conn_open}
 use Rattle.iol_kernel.proofs.kernel.Kernel.room_to_arrive.Goals as goal
 
 pub returns-in_default : goal.returns-in_default

@@ -2,10 +2,10 @@ use Rattle.std.proofs.Common.{[], arith, rules, sym}
 use Rattle.iol_desc.specs.Tables.{domains_of}
 use Rattle.iol_kernel.specs.Kernel.{state_of}
 use Rattle.iol_kernel.specs.Readings.{bytes_over}
-use Rattle.iol_kernel.proofs.Queues.Opening.{not_none}
+use Rattle.iol_kernel.proofs.Queues.PipeEnds.{not_none}
 use Rattle.iol_kernel.proofs.State.ReadOf.{descriptor-read_of, open_row}
-use Rattle.iol_kernel.proofs.FileCalls.FileEnds.{seeks_file, seeks_nothing}
-use Rattle.iol_kernel.proofs.FileCalls.Seeking.{moved-places, seek_beyond, seek_refused, sought}
+use Rattle.iol_kernel.proofs.FileCalls.FileLengths.{seeks_file, seeks_nothing}
+use Rattle.iol_kernel.proofs.FileCalls.Positions.{moved-places, seek_beyond, seek_refused, sought}
 use Rattle.iol_kernel.proofs.kernel.Kernel.seek.Goals as goal
 
 pub returns-in-Err-clause-looks : goal.returns-in-Err-clause-looks

@@ -3,8 +3,8 @@ use Rattle.iol_sock.specs.Table.{ConnTable, conn_in}
 use Rattle.iol_sock.proofs.AtPlace.{changed_to}
 use Rattle.iol_kernel.specs.Kernel.{state_of}
 use Rattle.iol_kernel.specs.KernelState.{KernelState, objects_of}
-use Rattle.iol_kernel.proofs.Connections.Connecting.{conn_is, conn_limit, conn_readable, found_conn, outgoing_covered}
-use Rattle.iol_kernel.proofs.Connections.Transmitting.{mid_sound, mid_there, transmitted, send_kept, uses_kept}
+use Rattle.iol_kernel.proofs.Connections.OneConnection.{conn_is, conn_limit, conn_readable, found_conn, outgoing_covered}
+use Rattle.iol_kernel.proofs.Connections.Transmissions.{mid_sound, mid_there, transmitted, send_kept, uses_kept}
 use Rattle.iol_kernel.proofs.State.Uses.{countable}
 use Rattle.iol_kernel.proofs.kernel.Kernel.send.Goals as goal
 

@@ -1,7 +1,7 @@
 use Rattle.std.proofs.Common.{rules}
 use Rattle.iol_core.specs.Calls.Pools as calls
 use Rattle.iol_kernel.specs.Kernel.{state_of}
-use Rattle.iol_kernel.proofs.State.Carried.{carried_done, carried_refused}
+use Rattle.iol_kernel.proofs.State.Refinement.{carried_done, carried_refused}
 use Rattle.iol_kernel.proofs.kernel.Kernel.set_pool.Goals as goal
 
 pub returns-in_err-test_pool : goal.returns-in_err-test_pool

@@ -1,10 +1,10 @@
 use Rattle.std.proofs.Common.{◌≡◌, ◌∙◌, List, refl, sym, subst, rules, true}
 use Rattle.iol_core.specs.declared.descriptors.Descriptor.TheVariants as on
 use Rattle.iol_hold.specs.declared.slices.Slice.{Slice}
-use Rattle.iol_hold.proofs.Reading.{readable_joined}
+use Rattle.iol_hold.proofs.ReadSlices.{readable_joined}
 use Rattle.iol_sock.specs.Connections.{Conn, is_over}
 use Rattle.iol_kernel.specs.Kernel.{state_of}
-use Rattle.iol_kernel.proofs.Connections.Connecting.{some_same, conn_covered, conn_readable, settled_stays, settled_as, gone_keeps}
+use Rattle.iol_kernel.proofs.Connections.OneConnection.{some_same, conn_covered, conn_readable, settled_stays, settled_as, gone_keeps}
 use Rattle.iol_kernel.proofs.kernel.Kernel.settle.Goals as goal
 use Rattle.iol_kernel.proofs.kernel.Kernel.settle.Goals.{After-forget-over}
 

@@ -1,5 +1,5 @@
 use Rattle.std.proofs.Common.{◌≡◌, Some, ap, subst, sym, true}
-use Rattle.iol_core.specs.Calls.Reading.{read_on}
+use Rattle.iol_core.specs.Calls.Reads.{read_on}
 use Rattle.iol_core.specs.declared.descriptors.Descriptor.{Descriptor}
 use Rattle.iol_sock.specs.Table.{ConnTable}
 use Rattle.iol_sock.proofs.AtPlace.{changed_to}
@@ -7,7 +7,7 @@ use Rattle.iol_kernel.specs.Calls.{Leaves}
 use Rattle.iol_kernel.specs.Kernel.{state_of}
 use Rattle.iol_kernel.specs.KernelState.{KernelState, IsOpenEnd, objects_of, queue_at}
 use Rattle.iol_kernel.proofs.Queues.Sources.{source_covered, source_open, source_there}
-use Rattle.iol_kernel.proofs.Queues.Skipped.{conn_skipped, pipe_skipped}
+use Rattle.iol_kernel.proofs.Queues.TakenBytes.{conn_skipped, pipe_skipped}
 use Rattle.iol_kernel.proofs.kernel.Kernel.skip.Goals as goal
 use Rattle.iol_kernel.proofs.kernel.Kernel.skip.Goals.{In-ReadEnd}
 

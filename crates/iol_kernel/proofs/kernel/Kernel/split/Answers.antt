@@ -1,7 +1,7 @@
 use Rattle.iol_desc.specs.Tables.{domains_of}
 use Rattle.iol_kernel.specs.Kernel.{state_of}
-use Rattle.iol_kernel.proofs.State.Answered.{attempted}
-use Rattle.iol_kernel.proofs.AggregateCalls.Regrouping.{split_answers, split_in}
+use Rattle.iol_kernel.proofs.State.TableCalls.{attempted}
+use Rattle.iol_kernel.proofs.AggregateCalls.SliceMoves.{split_answers, split_in}
 use Rattle.iol_kernel.proofs.kernel.Kernel.split.Goals as goal
 
 pub split_agg-requires : goal.split_agg-requires

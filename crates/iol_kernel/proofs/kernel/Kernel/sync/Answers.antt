@@ -4,9 +4,9 @@ use Rattle.iol_cache.specs.Cache.{cached_of}
 use Rattle.iol_kernel.specs.Kernel.{state_of}
 use Rattle.iol_kernel.specs.Readings.{bytes_over}
 use Rattle.iol_kernel.proofs.FileCalls.Faults.{fault_counted, sync_steps}
-use Rattle.iol_kernel.proofs.FileCalls.Named.{cache_sound}
-use Rattle.iol_kernel.proofs.FileCalls.WrittenBack.{back_serves, synced_parts}
-use Rattle.iol_kernel.proofs.FileCalls.WrittenOver.{counts_lower, in_cache}
+use Rattle.iol_kernel.proofs.FileCalls.FileNames.{cache_sound}
+use Rattle.iol_kernel.proofs.FileCalls.WriteBack.{back_serves, synced_parts}
+use Rattle.iol_kernel.proofs.FileCalls.Overwrites.{counts_lower, in_cache}
 use Rattle.iol_kernel.proofs.kernel.Kernel.sync.Goals as goal
 
 pub sync-requires-clause-sound : goal.sync-requires-clause-sound

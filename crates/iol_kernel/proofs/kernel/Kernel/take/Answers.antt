@@ -6,7 +6,7 @@ use Rattle.iol_kernel.specs.Kernel.{state_of}
 use Rattle.iol_kernel.specs.KernelState.{KernelState}
 use Rattle.iol_kernel.specs.Readings.{bytes_over}
 use Rattle.iol_kernel.proofs.State.Effects.{few_aggs, few_kept}
-use Rattle.iol_kernel.proofs.Queues.Queueing.{front_added}
+use Rattle.iol_kernel.proofs.Queues.SoundPipes.{front_added}
 use Rattle.iol_kernel.proofs.kernel.Kernel.take.Goals as goal
 
 pub add_agg-requires-clause-few : goal.add_agg-requires-clause-few

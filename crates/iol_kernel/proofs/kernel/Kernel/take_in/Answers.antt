@@ -1,6 +1,6 @@
 use Rattle.std.proofs.Common.{◌∙◌}
 use Rattle.iol_kernel.specs.Kernel.{state_of}
-use Rattle.iol_kernel.proofs.Connections.Arrived.{arrive_none, arrive_places, conn_now}
+use Rattle.iol_kernel.proofs.Connections.ArrivalAfterRoom.{arrive_none, arrive_places, conn_now}
 use Rattle.iol_kernel.proofs.kernel.Kernel.take_in.Goals as goal
 
 pub make_room_for-requires : goal.make_room_for-requires

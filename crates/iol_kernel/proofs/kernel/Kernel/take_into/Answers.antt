@@ -2,14 +2,14 @@ use Rattle.std.proofs.Common.{◌≡◌, ◌∙◌, ◌++◌, ℕ, [], Option, S
 use Rattle.std.proofs.lemmas.List.{length-map}
 use Rattle.iol_core.specs.State.{descriptor}
 use Rattle.iol_core.specs.Text.{bytes_of}
-use Rattle.iol_core.specs.Calls.Reading.{can_read, read_text}
+use Rattle.iol_core.specs.Calls.Reads.{can_read, read_text}
 use Rattle.iol_core.specs.declared.descriptors.Descriptor.{Descriptor}
 use Rattle.iol_hold.proofs.AtPlaces.{keeps_bytes}
 use Rattle.iol_kernel.specs.Kernel.{state_of}
 use Rattle.iol_kernel.specs.KernelState.{machine_of, read_of}
 use Rattle.iol_kernel.specs.Readings.{Reading, bytes_over}
 use Rattle.iol_kernel.proofs.Queues.LookUps.{source_held}
-use Rattle.iol_kernel.proofs.Queues.Skipped.{copied_left}
+use Rattle.iol_kernel.proofs.Queues.TakenBytes.{copied_left}
 use Rattle.iol_kernel.proofs.kernel.Kernel.take_into.Goals as goal
 
 pub copy_front-count-requires : goal.copy_front-count-requires

@@ -1,12 +1,12 @@
 use Rattle.std.proofs.Common.{[], ◌∙◌, ap, rules, sym}
-use Rattle.iol_core.specs.Calls.Writing.{pool_for}
+use Rattle.iol_core.specs.Calls.Writes.{pool_for}
 use Rattle.iol_pool.specs.Pools.{pool_in}
 use Rattle.iol_kernel.specs.Kernel.{state_of}
 use Rattle.iol_kernel.specs.KernelState.{read_of}
-use Rattle.iol_kernel.specs.Putting.{PassesTests}
+use Rattle.iol_kernel.specs.WritesByCopy.{PassesTests}
 use Rattle.iol_kernel.specs.Readings.{bytes_over}
 use Rattle.iol_kernel.proofs.State.ReadOf.{closed-read_of}
-use Rattle.iol_kernel.proofs.FileCalls.WrittenOver.{in_cache, pool-file}
+use Rattle.iol_kernel.proofs.FileCalls.Overwrites.{in_cache, pool-file}
 use Rattle.iol_kernel.proofs.kernel.Kernel.test_file.Goals as goal
 
 pub returns : goal.returns

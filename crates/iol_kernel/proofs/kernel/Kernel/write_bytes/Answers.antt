@@ -1,15 +1,15 @@
-use Rattle.iol_core.specs.Calls.Writing as calls
+use Rattle.iol_core.specs.Calls.Writes as calls
 use Rattle.std.proofs.Common.{[], inl, ◌≡◌, ◌∙◌, length, Option, refl, subst, sym}
 use Rattle.iol_core.specs.declared.descriptors.Descriptor.{Descriptor}
 use Rattle.iol_core.specs.State.{descriptor}
 use Rattle.iol_core.specs.declared.refusals.Refusal.TheVariants.{NoRoom}
 use Rattle.iol_kernel.specs.Kernel.{state_of}
 use Rattle.iol_kernel.specs.KernelState.{machine_of}
-use Rattle.iol_kernel.specs.Putting.{lands_in, written_to}
+use Rattle.iol_kernel.specs.WritesByCopy.{lands_in, written_to}
 use Rattle.iol_kernel.specs.Readings.{bytes_over}
-use Rattle.iol_kernel.specs.WritingFiles.{LaysOn, PutsOn}
-use Rattle.iol_kernel.proofs.Queues.Put.{left_placing, put_refused}
-use Rattle.iol_kernel.proofs.FileCalls.PutBeside.{laid_queue, laid_refused, puts_queue, puts_refused}
+use Rattle.iol_kernel.specs.FileWrites.{LaysOn, PutsOn}
+use Rattle.iol_kernel.proofs.Queues.CopyingWrites.{left_placing, put_refused}
+use Rattle.iol_kernel.proofs.FileCalls.CopyingWrites.{laid_queue, laid_refused, puts_queue, puts_refused}
 use Rattle.iol_kernel.proofs.kernel.Kernel.write_bytes.Goals as goal
 
 pub returns-in-Err : goal.returns-in-Err

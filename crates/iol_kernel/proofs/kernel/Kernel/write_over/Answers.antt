@@ -5,11 +5,11 @@ use Rattle.iol_cache.specs.Cache.{cached_of}
 use Rattle.iol_kernel.specs.Kernel.{state_of}
 use Rattle.iol_kernel.specs.Readings.{bytes_over}
 use Rattle.iol_kernel.proofs.FileCalls.FileReads.{set_to}
-use Rattle.iol_kernel.proofs.FileCalls.Named.{cache_sound}
-use Rattle.iol_kernel.proofs.FileCalls.Seeking.{open_file}
+use Rattle.iol_kernel.proofs.FileCalls.FileNames.{cache_sound}
+use Rattle.iol_kernel.proofs.FileCalls.Positions.{open_file}
 use Rattle.iol_kernel.proofs.State.ReadOf.{descriptor-read_of, live_held}
 use Rattle.iol_kernel.proofs.State.Sound.{agg_readable}
-use Rattle.iol_kernel.proofs.FileCalls.WrittenOver.{agg_beside, agg_fits, counts_below, in_cache, overwritten, unwritten}
+use Rattle.iol_kernel.proofs.FileCalls.Overwrites.{agg_beside, agg_fits, counts_below, in_cache, overwritten, unwritten}
 use Rattle.iol_kernel.proofs.kernel.Kernel.write_over.Goals as goal
 
 pub write-requires : goal.write-requires

@@ -3,7 +3,7 @@ use Rattle.iol_hold.specs.declared.slices.Slice.{Slice}
 use Rattle.iol_desc.specs.Tables.{Slots}
 use Rattle.iol_kernel.specs.KernelState.{queue_at}
 use Rattle.iol_kernel.specs.Views.{Pipe}
-use Rattle.iol_kernel.proofs.Queues.Written.{lent_was, lent_is, lent_set}
+use Rattle.iol_kernel.proofs.Queues.NewBytes.{lent_was, lent_is, lent_set}
 use Rattle.iol_kernel.proofs.pipes.Pipes.fill.Goals as goal
 
 pub returns : goal.returns

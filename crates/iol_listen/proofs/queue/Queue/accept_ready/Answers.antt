@@ -1,4 +1,4 @@
-use Rattle.iol_listen.proofs.Waited.{joined_kept}
+use Rattle.iol_listen.proofs.Backlog.{joined_kept}
 use Rattle.iol_listen.proofs.queue.Queue.accept_ready.Goals as goal
 
 pub loop-preserved : goal.loop-preserved

@@ -1,4 +1,4 @@
-use Rattle.iol_listen.specs.Waiting.{Joined}
+use Rattle.iol_listen.specs.Backlog.{Joined}
 use Rattle.iol_listen.proofs.queue.Queue.accept_ready.Given as goal
 
 abbrev pub invariant-loop : goal.invariant-loop

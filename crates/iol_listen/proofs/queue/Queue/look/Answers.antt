@@ -1,7 +1,7 @@
 use Rattle.std.proofs.Common.{ap, ◌∙◌, ◌-◌, List, map}
 use Rattle.std.specs.Prelude.{nat_lt}
-use Rattle.iol_listen.proofs.Waited.{filter-since, looked_fewer}
-use Rattle.iol_listen.specs.Waiting.{Awaited, not_too_long}
+use Rattle.iol_listen.proofs.Backlog.{filter-since, looked_fewer}
+use Rattle.iol_listen.specs.Backlog.{Awaited, not_too_long}
 use Rattle.iol_listen.specs.declared.bounds.TheConstants.{MAX_LOOKS}
 use Rattle.iol_listen.specs.declared.queue.Waiting.{Waiting}
 use Rattle.iol_listen.proofs.queue.Queue.look.Goals as goal

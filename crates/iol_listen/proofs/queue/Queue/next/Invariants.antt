@@ -1,5 +1,5 @@
 use Rattle.std.proofs.Common.{◌≤◌}
-use Rattle.iol_listen.specs.Waiting.{to_come}
+use Rattle.iol_listen.specs.Backlog.{to_come}
 use Rattle.iol_listen.proofs.queue.Queue.next.Given as goal
 
 abbrev pub invariant-loop : goal.invariant-loop

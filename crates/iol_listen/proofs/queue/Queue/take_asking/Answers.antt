@@ -1,6 +1,6 @@
 use Rattle.std.proofs.Common.{ap, arith, ◌∙◌, ◌+◌, ◌++◌, List, map, take, drop}
-use Rattle.iol_listen.proofs.Waited.{gives_one, gives_fewer, joined_few, since-remove}
-use Rattle.iol_listen.specs.Waiting.{Awaited}
+use Rattle.iol_listen.proofs.Backlog.{gives_one, gives_fewer, joined_few, since-remove}
+use Rattle.iol_listen.specs.Backlog.{Awaited}
 use Rattle.iol_listen.specs.declared.queue.Waiting.{Waiting}
 use Rattle.iol_listen.proofs.queue.Queue.take_asking.Goals as goal
 

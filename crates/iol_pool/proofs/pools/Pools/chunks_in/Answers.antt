@@ -1,6 +1,6 @@
 use Rattle.std.proofs.Common.{◌∙◌}
 use Rattle.iol_pool.proofs.Counts.{few_chunks}
-use Rattle.iol_pool.proofs.Owning.{within_chunks}
+use Rattle.iol_pool.proofs.Owners.{within_chunks}
 use Rattle.iol_pool.proofs.pools.Pools.chunks_in.Goals as goal
 
 pub returns : goal.returns

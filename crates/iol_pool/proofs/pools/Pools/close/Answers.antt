@@ -1,7 +1,7 @@
 use Rattle.std.proofs.Common.{sym, ◌∙◌, ap, subst, List}
 use Rattle.iol_pool.specs.Pools.{Pool, with_closed}
-use Rattle.iol_pool.specs.Owned.{AreOwned}
-use Rattle.iol_pool.proofs.Owning.{owned_closed}
+use Rattle.iol_pool.specs.Owners.{AreOwned}
+use Rattle.iol_pool.proofs.Owners.{owned_closed}
 use Rattle.iol_pool.proofs.pools.Pools.close.Goals as goal
 
 pub settle-requires : goal.settle-requires

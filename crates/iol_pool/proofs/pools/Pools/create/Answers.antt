@@ -1,7 +1,7 @@
 use Rattle.std.proofs.Common.{◌++◌, ◌∷◌, [], sym, ◌∙◌, ap, subst, List, false, rules}
 use Rattle.iol_pool.specs.Pools.{Pool}
-use Rattle.iol_pool.specs.Owned.{AreOwned}
-use Rattle.iol_pool.proofs.Owning.{owned_added}
+use Rattle.iol_pool.specs.Owners.{AreOwned}
+use Rattle.iol_pool.proofs.Owners.{owned_added}
 use Rattle.iol_pool.proofs.pools.Pools.create.Goals as goal
 
 pub returns : goal.returns

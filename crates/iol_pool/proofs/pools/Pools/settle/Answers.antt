@@ -1,8 +1,8 @@
 use Rattle.std.proofs.Common.{sym, ◌∙◌, ap, subst, List}
 use Rattle.iol_arena.specs.State.{State}
 use Rattle.iol_pool.specs.Pools.{Pool, pool_in, with_emptied, with_returned}
-use Rattle.iol_pool.specs.Owned.{AreOwned}
-use Rattle.iol_pool.proofs.Owning.{owned_settled, settled-no, settled-nowhere, settled-yes, settled_arena-no, settled_arena-nowhere, settled_arena-yes}
+use Rattle.iol_pool.specs.Owners.{AreOwned}
+use Rattle.iol_pool.proofs.Owners.{owned_settled, settled-no, settled-nowhere, settled-yes, settled_arena-no, settled_arena-nowhere, settled_arena-yes}
 use Rattle.iol_pool.proofs.pools.Pools.settle.Goals as goal
 
 pub returns-then-not-is_pool : goal.returns-then-not-is_pool

@@ -1,5 +1,5 @@
 use Rattle.std.proofs.Common.{refl}
-use Rattle.iol_proc.proofs.Borrowing.{arrived_copied, refused_copied}
+use Rattle.iol_proc.proofs.StreamEvents.{arrived_copied, refused_copied}
 use Rattle.iol_proc.proofs.world.World.arrive_from.Goals as goal
 
 -- the bytes that came in arrive

@@ -1,5 +1,5 @@
 use Rattle.std.proofs.Common.{refl}
-use Rattle.iol_proc.proofs.Borrowing.{drained_copied}
+use Rattle.iol_proc.proofs.StreamEvents.{drained_copied}
 use Rattle.iol_proc.proofs.world.World.drain_to.Goals as goal
 
 -- the bytes that were taken are sent

@@ -1,5 +1,5 @@
 use Rattle.std.proofs.Common.{◌∙◌, ap}
-use Rattle.iol_proc.proofs.Lending.{lent-look}
+use Rattle.iol_proc.proofs.LentBytes.{lent-look}
 use Rattle.iol_proc.proofs.world.World.look.Goals as goal
 
 pub returns : goal.returns

@@ -1,8 +1,8 @@
 use Rattle.std.proofs.Common.{[], arith, refl}
 use Rattle.std.proofs.lemmas.List.{take_all}
 use Rattle.iol_proc.specs.World.{sharing}
-use Rattle.iol_proc.proofs.Chained.{honesty_kept, run_chained}
-use Rattle.iol_proc.proofs.Copied.{run_copied}
+use Rattle.iol_proc.proofs.Chains.{honesty_kept, run_chained}
+use Rattle.iol_proc.proofs.MachineRuns.{run_copied}
 use Rattle.iol_proc.proofs.Runs.{run_at}
 use Rattle.iol_proc.proofs.world.World.run.Goals as goal
 

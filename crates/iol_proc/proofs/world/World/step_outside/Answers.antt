@@ -1,5 +1,5 @@
-use Rattle.iol_proc.proofs.Chained.{outside_chained, honesty_kept}
-use Rattle.iol_proc.proofs.Copied.{outside_copied}
+use Rattle.iol_proc.proofs.Chains.{outside_chained, honesty_kept}
+use Rattle.iol_proc.proofs.MachineRuns.{outside_copied}
 use Rattle.iol_proc.proofs.world.World.step_outside.Goals as goal
 
 pub returns-clause-copied : goal.returns-clause-copied

@@ -1,5 +1,5 @@
-use Rattle.iol_proc.proofs.Chained.{run_chained, honesty_kept}
-use Rattle.iol_proc.proofs.Copied.{idles_copied}
+use Rattle.iol_proc.proofs.Chains.{run_chained, honesty_kept}
+use Rattle.iol_proc.proofs.MachineRuns.{idles_copied}
 use Rattle.iol_proc.proofs.world.World.until_idle.Goals as goal
 
 pub returns-clause-run : goal.returns-clause-run

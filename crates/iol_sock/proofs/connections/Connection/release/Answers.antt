@@ -4,7 +4,7 @@ use Rattle.iol_hold.specs.Texts.{bufs_of}
 use Rattle.iol_hold.specs.declared.slices.Slice.{Slice}
 use Rattle.iol_sock.specs.Calls.{ReleasesBoth}
 use Rattle.iol_sock.specs.Connections.{Conn, held_by}
-use Rattle.iol_sock.proofs.Ending.{both_released, covers_front, covers_rest}
+use Rattle.iol_sock.proofs.QueueEnds.{both_released, covers_front, covers_rest}
 use Rattle.iol_sock.proofs.connections.Connection.release.Goals as goal
 
 pub clear-requires : goal.clear-requires

@@ -1,9 +1,9 @@
 use Rattle.std.proofs.Common.{◌≡◌, ◌≢◌, List, None, false, true, ap, ◌∙◌, sym, subst}
-use Rattle.iol_core.specs.Numbered.{lookup, changed}
+use Rattle.iol_core.specs.NumberedLists.{lookup, changed}
 use Rattle.iol_hold.specs.declared.slices.Slice.{Slice}
 use Rattle.iol_sock.specs.Connections.{Conn}
 use Rattle.iol_sock.specs.Table.{ConnTable, conn_in}
-use Rattle.iol_sock.proofs.Waiting.{accepts, waiting-rising, accepted-there}
+use Rattle.iol_sock.proofs.WaitingList.{accepts, waiting-rising, accepted-there}
 use Rattle.iol_sock.proofs.table.Connections.accept.Goals as goal
 
 pub unlist-requires-clause-rising : goal.unlist-requires-clause-rising

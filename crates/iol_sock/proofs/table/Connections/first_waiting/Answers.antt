@@ -1,7 +1,7 @@
 use Rattle.std.proofs.Common.{◌≡◌, ◌&&◌, ◌∙◌, ℕ, not, find, option_map, Some, refl, sym, ap, subst, arith}
 use Rattle.iol_pool.specs.Pools.{names_in}
 use Rattle.iol_sock.specs.Table.{ConnTable}
-use Rattle.iol_sock.proofs.Waiting.{first_as, first-below}
+use Rattle.iol_sock.proofs.WaitingList.{first_as, first-below}
 use Rattle.iol_sock.proofs.table.Connections.first_waiting.Goals as goal
 
 pub returns-in_err-number : goal.returns-in_err-number

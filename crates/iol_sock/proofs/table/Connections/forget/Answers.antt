@@ -1,6 +1,6 @@
 use Rattle.std.proofs.Common.{◌≡◌, false, true, ◌∙◌, sym, ap}
 use Rattle.iol_sock.specs.Table.{waiting_in}
-use Rattle.iol_sock.proofs.Waiting.{Conns, forgets, waiting-gone, waiting-rising}
+use Rattle.iol_sock.proofs.WaitingList.{Conns, forgets, waiting-gone, waiting-rising}
 use Rattle.iol_sock.proofs.table.Connections.forget.Goals as goal
 
 pub unlist-requires-clause-rising : goal.unlist-requires-clause-rising

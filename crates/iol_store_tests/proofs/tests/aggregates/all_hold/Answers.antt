@@ -1,4 +1,4 @@
-use Rattle.iol_agg.proofs.Holding.{held_moves}
+use Rattle.iol_agg.proofs.KnownHolds.{held_moves}
 use Rattle.iol_store_tests.proofs.tests.aggregates.all_hold.Goals as goal
 
 pub copy_all-copied-requires : goal.copy_all-copied-requires

@@ -1,7 +1,7 @@
 use Rattle.std.proofs.Common.{[], arith}
 use Rattle.iol_hold.specs.Moves.{Shares}
 use Rattle.iol_hold.specs.Texts.{bufs_of}
-use Rattle.iol_agg.proofs.Holding.{of_ok, held_thrice, made_covers}
+use Rattle.iol_agg.proofs.KnownHolds.{of_ok, held_thrice, made_covers}
 use Rattle.iol_store_tests.proofs.tests.aggregates.replace_half.Goals as goal
 
 pub replace-requires-clause-countable : goal.replace-requires-clause-countable

@@ -1,4 +1,4 @@
-use Rattle.iol_agg.proofs.Holding.{moved_covers}
+use Rattle.iol_agg.proofs.KnownHolds.{moved_covers}
 use Rattle.iol_store_tests.proofs.tests.aggregates.round.Goals as goal
 
 pub release-requires : goal.release-requires

@@ -1,5 +1,5 @@
 use Rattle.std.proofs.Common.{arith}
-use Rattle.iol_agg.proofs.Holding.{held_countable}
+use Rattle.iol_agg.proofs.KnownHolds.{held_countable}
 use Rattle.iol_store_tests.proofs.tests.aggregates.split_and_join.Goals as goal
 
 pub split-requires-clause-countable : goal.split-requires-clause-countable

@@ -3,7 +3,7 @@ use Rattle.std.specs.Result.{IfOk}
 use Rattle.std.specs.Option.{MatchOption}
 use Rattle.std.specs.List.{All}
 use Rattle.iol_core.specs.declared.refusals.Refusal.{Refusal}
-use Rattle.iol_hold.specs.Stored.{Stored, Buffer}
+use Rattle.iol_hold.specs.StoreState.{Stored, Buffer}
 use Rattle.iol_hold.specs.Texts.{IsFilled}
 use Rattle.iol_store_tests.proofs.tests.holds.fill_one.Goals as goal
 

@@ -1,9 +1,9 @@
 use Rattle.std.proofs.Common.{◌≡◌, List, [], Result, Ok, subst, map}
 use Rattle.std.specs.Result.{IfOk}
 use Rattle.iol_core.specs.declared.refusals.Refusal.{Refusal}
-use Rattle.iol_hold.specs.Stored.{Stored, Buffer}
+use Rattle.iol_hold.specs.StoreState.{Stored, Buffer}
 use Rattle.iol_hold.specs.Moves.{Moves, Covers}
-use Rattle.iol_hold.proofs.Moving.{covers_given}
+use Rattle.iol_hold.proofs.Moves.{covers_given}
 use Rattle.iol_store_tests.proofs.tests.holds.fill_two.Goals as goal
 
 made : (s t : Stored) (r : Result (List Buffer) Refusal) (holds : List Buffer) → IfOk r (λ xs. Moves s t [] (map (λ h. h.buf) xs)) → r ≡ Ok holds → Covers t (map (λ h. h.buf) holds)

@@ -1,8 +1,8 @@
 use Rattle.std.proofs.Common.{◌≡◌, List, ◌∷◌, [], Option, Some, subst, map}
 use Rattle.std.specs.Option.{MatchOption}
-use Rattle.iol_hold.specs.Stored.{Stored, Buffer}
+use Rattle.iol_hold.specs.StoreState.{Stored, Buffer}
 use Rattle.iol_hold.specs.Moves.{Covers}
-use Rattle.iol_hold.proofs.Moving.{covers_first, covers_less}
+use Rattle.iol_hold.proofs.Moves.{covers_first, covers_less}
 use Rattle.iol_store_tests.proofs.tests.holds.release_two.Goals as goal
 
 taken : (s : Stored) (o : Option Buffer) (holds rest : List Buffer) (h : Buffer) → Covers s (map (λ x. x.buf) holds)

@@ -1,8 +1,8 @@
 use Rattle.std.proofs.Common.{◌≡◌, ◌<◌, ◌∙◌, sym, ap, subst, [], ◌∷◌}
 use Rattle.iol_core.specs.declared.numbers.BufId.{BufId}
-use Rattle.iol_hold.specs.Stored.{Stored, Buffer, count_of}
+use Rattle.iol_hold.specs.StoreState.{Stored, Buffer, count_of}
 use Rattle.iol_hold.specs.Moves.{Shares}
-use Rattle.iol_hold.proofs.Moving.{covers_first, covers_given}
+use Rattle.iol_hold.proofs.Moves.{covers_first, covers_given}
 use Rattle.iol_store_tests.proofs.tests.holds.share_and_cut.Goals as goal
 
 shared : (s t : Stored) (b d : BufId) → Shares s t [] (b ∷ []) → d ≡ b → 0 < count_of t d

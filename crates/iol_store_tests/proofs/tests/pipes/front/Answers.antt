@@ -1,8 +1,8 @@
 use Rattle.std.proofs.Common.{arith}
 use Rattle.iol_hold.specs.Texts.{bufs_of}
-use Rattle.iol_agg.proofs.Holding.{of_ok, held_countable}
+use Rattle.iol_agg.proofs.KnownHolds.{of_ok, held_countable}
 use Rattle.iol_pipe.specs.Queue.{GivesFirst}
-use Rattle.iol_pipe.proofs.Holding.{given_covers, held_given}
+use Rattle.iol_pipe.proofs.KnownHolds.{given_covers, held_given}
 use Rattle.iol_store_tests.proofs.tests.pipes.front.Given.{Over}
 use Rattle.iol_store_tests.proofs.tests.pipes.front.Goals as goal
 use Rattle.iol_store_tests.proofs.tests.pipes.front.Goals.{After-expect-given}

@@ -1,7 +1,7 @@
 use Rattle.std.proofs.Common.{arith}
-use Rattle.iol_agg.proofs.Holding.{of_ok, moved_covers}
-use Rattle.iol_pipe.specs.Adding.{SharesFitting}
-use Rattle.iol_pipe.proofs.Holding.{beside_countable, beside_covers, held_pushed}
+use Rattle.iol_agg.proofs.KnownHolds.{of_ok, moved_covers}
+use Rattle.iol_pipe.specs.NewBytes.{SharesFitting}
+use Rattle.iol_pipe.proofs.KnownHolds.{beside_countable, beside_covers, held_pushed}
 use Rattle.iol_store_tests.proofs.tests.pipes.push.Given.{Over}
 use Rattle.iol_store_tests.proofs.tests.pipes.push.Goals as goal
 use Rattle.iol_store_tests.proofs.tests.pipes.push.Goals.{After-expect-taken}

@@ -1,11 +1,11 @@
 use Rattle.std.proofs.Common.{sym, subst, List}
-use Rattle.iol_arena.specs.Founding.{IsAllFree}
+use Rattle.iol_arena.specs.NewArena.{IsAllFree}
 use Rattle.iol_arena.specs.State.{State}
 use Rattle.iol_pool.specs.Pools.{Pool}
-use Rattle.iol_pool.specs.Owned.{AreOwned}
-use Rattle.iol_pool.proofs.Owning.{owned_none}
-use Rattle.iol_hold.proofs.Making.{none_taken}
-use Rattle.iol_agg.proofs.Holding.{of_ok}
+use Rattle.iol_pool.specs.Owners.{AreOwned}
+use Rattle.iol_pool.proofs.Owners.{owned_none}
+use Rattle.iol_hold.proofs.NewStore.{none_taken}
+use Rattle.iol_agg.proofs.KnownHolds.{of_ok}
 use Rattle.iol_store_tests.proofs.tests.pools.all_hold.Goals as goal
 
 pub create-requires-clause-owned : goal.create-requires-clause-owned

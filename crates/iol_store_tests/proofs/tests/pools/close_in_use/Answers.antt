@@ -1,10 +1,10 @@
 use Rattle.std.proofs.Common.{◌≡◌, ◌<◌, sym, ◌∙◌, ap, subst, List, ℕ, true}
 use Rattle.std.specs.List.{All}
-use Rattle.iol_core.specs.Numbered.{is_numbered}
+use Rattle.iol_core.specs.NumberedLists.{is_numbered}
 use Rattle.iol_arena.specs.State.{State, chunk_count}
 use Rattle.iol_arena.specs.Buffers.{IsLive}
 use Rattle.iol_pool.specs.Pools.{Pool, settled, with_closed}
-use Rattle.iol_pool.proofs.Owning.{all_owned, owned_stays, is_numbered-closed, is_numbered-settled, live-settled}
+use Rattle.iol_pool.proofs.Owners.{all_owned, owned_stays, is_numbered-closed, is_numbered-settled, live-settled}
 use Rattle.iol_store_tests.proofs.tests.pools.close_in_use.Goals as goal
 
 numbered_still : (s : State) (ps qs : List Pool) (p : ℕ) → is_numbered ps p ≡ true → qs ≡ settled s (with_closed ps p) p → is_numbered qs p ≡ true

@@ -1,4 +1,4 @@
-use Rattle.iol_agg.proofs.Holding.{on_ok, held_on}
+use Rattle.iol_agg.proofs.KnownHolds.{on_ok, held_on}
 use Rattle.iol_store_tests.proofs.tests.stores.add_pool.Goals as goal
 
 pub returns : goal.returns

@@ -1,7 +1,7 @@
 use Rattle.std.proofs.Common.{◌*◌}
-use Rattle.iol_arena.specs.Founding.{IsAllFree}
-use Rattle.iol_hold.specs.Stored.{Stored}
-use Rattle.iol_agg.proofs.Holding.{held_none, of_ok}
+use Rattle.iol_arena.specs.NewArena.{IsAllFree}
+use Rattle.iol_hold.specs.StoreState.{Stored}
+use Rattle.iol_agg.proofs.KnownHolds.{held_none, of_ok}
 use Rattle.iol_store_tests.proofs.tests.stores.new_store.Goals as goal
 
 pub returns : goal.returns

@@ -1,11 +1,11 @@
 use Rattle.std.proofs.Common.{rules, ◌≡◌, ℕ, Option, Some, None, IfSome, sym, ap, ◌∙◌}
 use Rattle.std.specs.Map.{lookup}
 use Rattle.iol_core.specs.Checksum.{word_sum, folded}
-use Rattle.iol_hold.specs.Stored.{Stored}
+use Rattle.iol_hold.specs.StoreState.{Stored}
 use Rattle.iol_hold.specs.Texts.{slice_bytes, IsReadable}
 use Rattle.iol_hold.specs.declared.slices.Slice.{Slice}
 use Rattle.iol_sum.specs.Sums.{Sums, key_of, same, sum_kept, IsRight}
-use Rattle.iol_sum.proofs.Using.{sums_of, right-sum}
+use Rattle.iol_sum.proofs.SumUse.{sums_of, right-sum}
 use Rattle.iol_sum.proofs.cache.SumCache.remembered.Goals as goal
 
 -- a sum that is remembered of a slice is that of its bytes

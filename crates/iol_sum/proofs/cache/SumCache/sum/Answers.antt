@@ -2,7 +2,7 @@ use Rattle.std.proofs.Common.{◌≡◌, ℕ, Option, Some, None, refl, sym, ap,
 use Rattle.std.specs.Map.{lookup}
 use Rattle.iol_core.specs.Checksum.{word_sum, folded}
 use Rattle.iol_sum.specs.Sums.{key_of, same, IsRight, IsRightSum, Uses}
-use Rattle.iol_sum.proofs.Using.{sums_of, Uses-found, Uses-put, Uses-right, right-sum, unpromoted}
+use Rattle.iol_sum.proofs.SumUse.{sums_of, Uses-found, Uses-put, Uses-right, right-sum, unpromoted}
 use Rattle.iol_sum.proofs.cache.SumCache.sum.Goals as goal
 
 found : (c : goal.In-Some) → lookup (same c.of-key.result) c.self.inside.sums.entries ≡ Some c.in-Some.sum

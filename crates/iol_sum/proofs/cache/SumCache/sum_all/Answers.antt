@@ -4,7 +4,7 @@ use Rattle.iol_core.specs.Checksum.{word_sum, folded}
 use Rattle.iol_hold.specs.Texts.{text_of, slice_bytes, IsReadable}
 use Rattle.iol_sum.specs.Pieces.{is_odd}
 use Rattle.iol_sum.specs.Sums.{key_of, Uses, UsesEach}
-use Rattle.iol_sum.proofs.Pieced.{UsesEach-none, UsesEach-push, odd-flips, odd-stays, readable-item, length-slice_bytes, take-item, bytes-item}
+use Rattle.iol_sum.proofs.PieceSums.{UsesEach-none, UsesEach-push, odd-flips, odd-stays, readable-item, length-slice_bytes, take-item, bytes-item}
 use Rattle.iol_sum.proofs.cache.SumCache.sum_all.Goals as goal
 use Rattle.iol_sum.proofs.cache.SumCache.sum_all.Goals.{then-slice-eq1, else-slice-eq1}
 

@@ -1,8 +1,8 @@
 use Rattle.std.proofs.Common.{refl, subst}
 use Rattle.iol_kernel.specs.Kernel.{state_of}
 use Rattle.iol_system.specs.Machine.{SystemState, system_of}
-use Rattle.iol_system.specs.Served.{ServesReader}
-use Rattle.iol_system.proofs.Served.{arrived_comes, arrived_safe, refused_stays}
+use Rattle.iol_system.specs.Streams.{ServesReader}
+use Rattle.iol_system.proofs.Streams.{arrived_comes, arrived_safe, refused_stays}
 use Rattle.iol_system.proofs.system.System.arrive_from.Goals as goal
 
 pub invariant_of-self : goal.invariant_of-self

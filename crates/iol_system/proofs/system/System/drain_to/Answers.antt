@@ -1,8 +1,8 @@
 use Rattle.std.proofs.Common.{refl, subst}
 use Rattle.iol_kernel.specs.Kernel.{state_of}
 use Rattle.iol_system.specs.Machine.{SystemState, system_of}
-use Rattle.iol_system.specs.Served.{ServesWriter}
-use Rattle.iol_system.proofs.Served.{drained_safe, refuses_same}
+use Rattle.iol_system.specs.Streams.{ServesWriter}
+use Rattle.iol_system.proofs.Streams.{drained_safe, refuses_same}
 use Rattle.iol_system.proofs.system.System.drain_to.Goals as goal
 
 pub invariant_of-self : goal.invariant_of-self

@@ -6,12 +6,12 @@ use Rattle.iol_core.specs.declared.events.Reply.TheVariants as reply
 use Rattle.iol_kernel.specs.Calls as calls
 use Rattle.iol_kernel.specs.Calls.{with_incoming}
 use Rattle.iol_kernel.specs.Kernel.{state_of}
-use Rattle.iol_system.specs.Doing.{Does}
+use Rattle.iol_system.specs.Effects.{Does}
 use Rattle.iol_system.specs.Wants.{for_arrived}
-use Rattle.iol_system.proofs.Doing.{as_event, carried_does, kept_does}
-use Rattle.iol_system.proofs.Telling.{done, told_step}
-use Rattle.iol_system.proofs.FileDoing.{places_does}
-use Rattle.iol_system.proofs.BackDoing.{flushes_does, drops_does, sends_does}
+use Rattle.iol_system.proofs.Effects.{as_event, carried_does, kept_does}
+use Rattle.iol_system.proofs.ReplyAnswers.{done, told_step}
+use Rattle.iol_system.proofs.FileEffects.{places_does}
+use Rattle.iol_system.proofs.BackEffects.{flushes_does, drops_does, sends_does}
 use Rattle.iol_system.proofs.Safe.{promises_kept}
 use Rattle.iol_system.proofs.system.System.step_ref.Goals as goal
 

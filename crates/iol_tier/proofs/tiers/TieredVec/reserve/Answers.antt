@@ -1,6 +1,6 @@
 use Rattle.std.proofs.Common.{◌+◌, ◌-◌, min, arith}
 use Rattle.iol_tier.specs.Blocks.{AreLaid, Grows}
-use Rattle.iol_tier.proofs.Turning.{grows_laid, grows_then, wide_less}
+use Rattle.iol_tier.proofs.EmptyBlocks.{grows_laid, grows_then, wide_less}
 use Rattle.iol_tier.proofs.tiers.TieredVec.reserve.Goals.{After-widen_blocks}
 use Rattle.iol_tier.proofs.tiers.TieredVec.reserve.Goals as goal
 

@@ -1,7 +1,7 @@
 use Rattle.std.proofs.Common.{take}
 use Rattle.std.specs.Fmt.{HasWritten, IsPlainFormatter}
 use Rattle.std.specs.List.{flat_map}
-use Rattle.iolite.specs.Printed.{pool_line}
+use Rattle.iolite.specs.PrintedText.{pool_line}
 use Rattle.iolite.proofs.lines.PrintedReportDisplay.fmt.Given as goal
 
 abbrev pub invariant-loop-of : goal.invariant-loop-of

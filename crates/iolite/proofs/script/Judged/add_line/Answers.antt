@@ -1,5 +1,5 @@
 use Rattle.std.proofs.Common.{◌≡◌, true, sym, ◌∙◌}
-use Rattle.iolite.proofs.Asking.{bad_header}
+use Rattle.iolite.proofs.Requests.{bad_header}
 use Rattle.iolite.proofs.script.Judged.add_line.Goals as goal
 
 pub returns-then-is_header-clause-bad : goal.returns-then-is_header-clause-bad

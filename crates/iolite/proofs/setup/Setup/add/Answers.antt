@@ -1,6 +1,6 @@
 use Rattle.std.proofs.Common.{inl, inr}
-use Rattle.iolite.proofs.Named.{config_alone, fault_alone}
-use Rattle.iolite.proofs.Reading.{takes_as}
+use Rattle.iolite.proofs.CallNames.{config_alone, fault_alone}
+use Rattle.iolite.proofs.ReadTexts.{takes_as}
 use Rattle.iolite.proofs.setup.Setup.add.Goals as goal
 
 pub returns-in-config : goal.returns-in-config

@@ -2,7 +2,7 @@ use Rattle.std.proofs.Common.{◌++◌, ℕ, length, ap, ◌∙◌, arith}
 use Rattle.std.specs.List.{flat_map}
 use Rattle.std.proofs.lemmas.List.{length-map}
 use Rattle.iol_hold.specs.Texts.{text_of}
-use Rattle.iol_hold.proofs.Reading.{length-text_of}
+use Rattle.iol_hold.proofs.ReadSlices.{length-text_of}
 use Rattle.iol_agg.proofs.Partwise.{flat_map-parts_of}
 use Rattle.iol_kernel.proofs.calls.read.file.copy_out.Goals as goal
 

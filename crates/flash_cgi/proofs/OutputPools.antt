@@ -1,0 +1,395 @@
+-- What a worker writes lies in the pools of what it reads, and in its default pool.
+use Rattle.std.proofs.Common.{inl, inr, ◌≡◌, ℕ, ◌+◌, ◌==◌, List, [], ap, ◌∙◌, refl, sym, subst, arith, Option, Some, None, true, false, Bool, if◌then◌else◌}
+use Rattle.std.specs.Prelude.{option_map, slice_get, unwrap_or, ◌&&◌}
+use Rattle.std.proofs.lemmas.Bool.Decides.{nat_tests}
+use Rattle.iol_core.specs.Text.{Text, bytes_of}
+use Rattle.iol_core.specs.NumberedLists.{numbered_or}
+use Rattle.iol_core.specs.State.{State, File, aggregate, descriptor, file, no_file, pipe_at, text, is_live}
+use Rattle.iol_core.specs.Calls.Aggregates.{default_pool}
+use Rattle.iol_core.specs.Positions.{ArePlaced}
+use Rattle.iol_core.specs.Run.{StepsTo}
+use Rattle.iol_core.specs.declared.refusals.Refusal.TheVariants as not_so
+use Rattle.iol_core.specs.declared.descriptors.Descriptor.{Descriptor}
+use Rattle.iol_core.specs.declared.descriptors.Descriptor.TheVariants as on
+use Rattle.iol_core.specs.declared.descriptors.Mode.{Mode}
+use Rattle.iol_core.specs.declared.descriptors.Mode.TheVariants.{Read}
+use Rattle.iol_core.specs.declared.events.Call.{Call}
+use Rattle.iol_core.specs.declared.events.Call.TheVariants as call
+use Rattle.iol_core.specs.declared.events.Event.{Event}
+use Rattle.iol_core.specs.declared.events.Event.TheVariants as event
+use Rattle.iol_core.specs.declared.events.Reply.{Reply}
+use Rattle.iol_core.specs.declared.events.Reply.TheVariants as reply
+use Rattle.iol_laws.specs.Aggregates.{brings}
+use Rattle.iol_laws.specs.Caller.{lent_at}
+use Rattle.iol_laws.specs.CallerDomains as own_pools
+use Rattle.iol_laws.specs.CallerDomains.{DomainsAndPoolsComeAndGo}
+use Rattle.iol_laws.specs.CallerFiles as own_files
+use Rattle.iol_laws.specs.CallerFiles.{FileCallsServeTheirDomain}
+use Rattle.iol_laws.specs.Frame.{EachStepLeavesTheRest, sets_default}
+use Rattle.iol_laws.specs.Order.{IsOrderly}
+use Rattle.iol_laws.specs.Sources.{LabelsFollow, is_write_end, lie_in, read_from, taken_from, writes_pipe}
+use Rattle.iol_proc.specs.Turns.{Comes as ComesOf, SeatTurn}
+use Rattle.iol_proc.specs.World.{copying}
+use Rattle.iol_proc.specs.declared.process.Turn.{Turn}
+use Rattle.iol_proc.specs.declared.process.Turn.TheVariants as turn
+use Rattle.iol_proc.specs.declared.seat.Seat.{Seat}
+use Rattle.flash_cgi.specs.Beside.{is_call_of}
+use Rattle.flash_cgi.specs.Feeds.{HasBytes, IsFileOpen, Needs}
+use Rattle.flash_cgi.specs.Job.{Task, job_of}
+use Rattle.flash_cgi.specs.Output.{Outcome}
+use Rattle.flash_cgi.specs.OutputPools.{HoldFiles, IsShown, LiesIn, OutputsAreShown}
+use Rattle.flash_cgi.specs.Turns.{RunsJob, filed_step, is_given, or_again, step_of}
+use Rattle.flash_cgi.specs.Standstill.{is_over}
+use Rattle.flash_cgi.specs.Works.{goes_on, with_job, works, works_as, worker_turns}
+use Rattle.flash_cgi.specs.Works.{files as files_reply}
+use Rattle.flash_cgi.specs.WorkerSteps.{bytes_at, call_at, doing_call, next_call, told, told_cut, told_doing, told_made, told_next, told_opened, told_read, told_written}
+use Rattle.flash_cgi.specs.declared.line.Line.{Line}
+use Rattle.flash_cgi.specs.declared.line.Line.TheVariants as line
+use Rattle.flash_cgi.specs.declared.phase.Purpose.{Purpose}
+use Rattle.flash_cgi.specs.declared.phase.Purpose.TheVariants as purpose
+use Rattle.flash_cgi.specs.declared.phase.Doing.{Doing}
+use Rattle.flash_cgi.specs.declared.phase.Doing.TheVariants as doing
+use Rattle.flash_cgi.specs.declared.phase.Standing.{Standing}
+use Rattle.flash_cgi.specs.declared.phase.Standing.TheVariants as standing
+use Rattle.flash_cgi.specs.declared.phase.Step.{Step}
+use Rattle.flash_cgi.specs.declared.worker.Worker.{Worker}
+use Rattle.flash_cgi.proofs.Beside.{filed_stays, free_still, no_gift, others_leave}
+use Rattle.flash_cgi.proofs.Frame.{makes_call, run_is_not_given}
+use Rattle.flash_cgi.proofs.Due.{writing}
+use Rattle.flash_cgi.proofs.OutputByCall.{at_step}
+use Rattle.flash_cgi.proofs.OutputByTurn.{has_life, lent-live, seat_at, text_taken}
+
+file-same : (m n : State) (f : ℕ) → n.files ≡ m.files → file n f ≡ file m f
+unfolding file
+file-same m n f same = ap (λ (fs : List File). numbered_or fs f no_file) same
+
+module _ (labels : LabelsFollow) (steps : EachStepLeavesTheRest) (files : FileCallsServeTheirDomain) (pools_come : DomainsAndPoolsComeAndGo)
+    (pools : ℕ → Bool) (m n : State) (d : ℕ) (order : IsOrderly m) (live : is_live m d ≡ true) (holds : HoldFiles pools m d) (default : pools (default_pool m d) ≡ true) where
+  abbrev Lie : Text → Type 0
+  Lie t = lie_in pools t ≡ true
+
+  -- what its call takes bytes from lies in the pools
+  abbrev FromThere : Call → Type 0
+  FromThere k = Lie (taken_from m (event.Call d k))
+
+  -- one that was there
+  kept : (k : Call) (r : Reply) (a : ℕ) → FromThere k → StepsTo m (event.Call d k) r n → Lie (text m d a) → Lie (text n d a)
+  kept k r a from step lies = labels.aggs pools m n (event.Call d k) r d a order step (λ is. from) (λ un. lies)
+
+  -- a new one
+  new : (k : Call) (r : Reply) (a : ℕ) → FromThere k → StepsTo m (event.Call d k) r n → brings (event.Call d k) r d a ≡ true → Lie (text n d a)
+  new k r a from step is = labels.aggs pools m n (event.Call d k) r d a order step (λ one. from) (λ un. absurd (let e = sym is ∙ un in cc (e)))
+
+  brought : (a : ℕ) → ((d == d) && (a == a)) ≡ true
+  brought a = grind (arith, nat_tests)
+
+  made_here : (bytes : List ℕ) → FromThere (call.AggMake bytes)
+  made_here bytes = labels.fresh pools (default_pool m d) bytes default
+
+  -- ---- call by call
+
+  abbrev LiesAfter : Option Step → (x : Doing) → Type 0
+  LiesAfter o x = LiesIn pools n d (or_again o (at_step x 0)).doing
+
+  after_made : (x : Doing) (bytes : List ℕ) (begun : ℕ) (r : Reply) → LiesIn pools n d x → StepsTo m (event.Call d (call.AggMake bytes)) r n → LiesAfter (told_made begun r) x
+  after_made x bytes begun (reply.Agg a) still step = new (call.AggMake bytes) (reply.Agg a) a (made_here bytes) step (brought a)
+  after_made x bytes begun r still step = still
+
+  opened_file : (name : List ℕ) (fd : ℕ) → own_files.OpensFile m d name Read fd n → n.files ≡ m.files → LiesIn pools n d (doing.Reads fd purpose.Cat)
+  opened_file name fd h same f at mode is =
+      let number : f ≡ h.file_is = same_file f at mode h.file_is (sym is ∙ h.open_on) in
+      ap (λ k. pools (file n k).pool) number ∙ (ap (λ (x : File). pools x.pool) (file-same m n h.file_is same) ∙ holds.files name h.file_is h.found h.may)
+    where
+      same_file : (f at : ℕ) (mode : Mode) (g : ℕ) → Some (on.File f at mode) ≡ Some (on.File g 0 Read) → f ≡ g
+      same_file f at mode g e = cc
+
+  after_opened : (u : Purpose) (name : List ℕ) (begun : ℕ) (r : Reply) → StepsTo m (event.Call d (call.OpenFile name Read)) r n → LiesAfter (told_opened u begun r) doing.Runs
+  after_opened u name begun (reply.Fd fd) step =
+      opened_file name fd (files.opens m n d name Read (reply.Fd fd) live step) ((steps.leaves m n (event.Call d (call.OpenFile name Read)) (reply.Fd fd) step).files refl).0
+  after_opened u name begun (reply.Refused x) step = tt
+  after_opened u name begun r step = tt
+
+  after_line : (job : Task) (begun : ℕ) (l : Option Line) (r : Reply) → StepsTo m (event.Call d (next_call job l)) r n → LiesAfter (told_next l begun r) doing.Runs
+  after_line job begun (Some (line.Emit bytes)) r step = after_made doing.Runs _ (begun + 1) r tt step
+  after_line job begun (Some line.Query) r step = after_made doing.Runs _ (begun + 1) r tt step
+  after_line job begun (Some (line.Cat name)) r step = after_opened purpose.Cat name (begun + 1) r step
+  after_line job begun (Some (line.Wc name)) r step = after_opened purpose.Wc name (begun + 1) r step
+  after_line job begun o r step = tt
+
+  file_there : (fd f at : ℕ) (mode : Mode) → descriptor m d fd ≡ Some (on.File f at mode) → pools (file m f).pool ≡ true → FromThere (call.IolRead fd 16777216)
+  file_there fd f at mode opened is = subst (λ (o : Option Descriptor). Lie (read_from m o)) (sym opened) (labels.fresh pools (file m f).pool _ is)
+
+  after_read : (fd : ℕ) (u : Purpose) (begun : ℕ) (r : Reply) → FromThere (call.IolRead fd 16777216) → StepsTo m (event.Call d (call.IolRead fd 16777216)) r n
+      → LiesAfter (told_read (lent_at n d) fd u begun r) (doing.Reads fd u)
+  after_read fd purpose.Cat begun (reply.Agg a) from step = new (call.IolRead fd 16777216) (reply.Agg a) a from step (brought a)
+  after_read fd purpose.Wc begun (reply.Agg a) from step = tt
+  after_read fd u begun (reply.Refused x) from step = tt
+  after_read fd u begun r from step = (let e = step.1 in absurd (cc (e)))
+
+  after_written : (fd a len begun : ℕ) (r : Reply) → Lie (text m d a) → StepsTo m (event.Call d (call.IolWrite fd a)) r n → LiesAfter (told_written a len begun r) (doing.Writes a)
+  after_written fd a len begun (reply.Count k) lies step = by (k == len)
+    where
+      by : (b : Bool) → LiesIn pools n d (if b then doing.Drops a else doing.Cuts a k len)
+      by true = tt
+      by false = kept (call.IolWrite fd a) (reply.Count k) a lies step lies
+  after_written fd a len begun (reply.Refused not_so.BrokenPipe) lies step = tt
+  after_written fd a len begun r lies step = kept (call.IolWrite fd a) r a lies step lies
+
+  after_cut : (a from to begun : ℕ) (r : Reply) → Lie (text m d a) → StepsTo m (event.Call d (call.AggCut a from to)) r n → LiesAfter (told_cut a begun r) (doing.Cuts a from to)
+  after_cut a from to begun (reply.Agg rest) lies step = new (call.AggCut a from to) (reply.Agg rest) rest lies step (brought rest)
+  after_cut a from to begun r lies step = kept (call.AggCut a from to) r a lies step lies
+
+  -- the file that it reads is open
+  abbrev FileOpen : Doing → Type 0
+  FileOpen (doing.Reads fd u) = IsFileOpen m d fd
+  FileOpen x = Unit {0}
+
+  -- what lies there of a step lies there after its call, the reply taken as filed
+  after : (job : Task) (begun : ℕ) (x : Doing) (r : Reply) → FileOpen x → LiesIn pools m d x → StepsTo m (event.Call d (doing_call job begun x)) r n
+      → LiesAfter (told_doing (lent_at n d) job begun x r) x
+  after job begun doing.Runs r h lies step = after_line job begun (slice_get job.lines begun) r step
+  after job begun (doing.Reads fd u) r h lies step = after_read fd u begun r (file_there fd h.0 h.1 Read h.2 (lies h.0 h.1 Read h.2)) step
+  after job begun (doing.Says s) r h lies step = after_made (doing.Says s) _ begun r tt step
+  after job begun (doing.Writes a) r h lies step = after_written job.fd a _ begun r lies step
+  after job begun (doing.Cuts a from to) r h lies step = after_cut a from to begun r lies step
+  after job begun (doing.Swaps a rest) r h lies step = kept (call.AggDrop a) r rest refl step lies
+  after job begun (doing.Shuts fd a) r h lies step = kept (call.Close fd) r a refl step lies
+  after job begun x r h lies step = tt
+
+  -- ---- its default pool
+
+  default_kept : (k : Call) (r : Reply) → sets_default (event.Call d k) d ≡ false → StepsTo m (event.Call d k) r n → pools (default_pool n d) ≡ true
+  default_kept k r un step = subst (λ (o : Option ℕ). pools (unwrap_or o 0) ≡ true) (sym ((steps.leaves m n (event.Call d k) r step).defaults d live un)) default
+
+  default_set : (r : Reply) → StepsTo m (event.Call d (call.SetPool 3)) r n → pools (default_pool n d) ≡ true
+  default_set r step = by r (pools_come.sets_pool m n d 3 r step)
+    where
+      by : (r : Reply) → own_pools.SetsPool m d 3 r n → pools (default_pool n d) ≡ true
+      by reply.Done set = subst (λ (o : Option ℕ). pools (unwrap_or o 0) ≡ true) (sym set.default_is) holds.pauses
+      by (reply.Refused x) same = subst (λ (u : State). pools (default_pool u d) ≡ true) (sym same) default
+      by r set = absurd set
+
+  default_line : (job : Task) (l : Option Line) (r : Reply) → StepsTo m (event.Call d (next_call job l)) r n → pools (default_pool n d) ≡ true
+  default_line job None r step = default_kept (next_call job None) r refl step
+  default_line job (Some (line.Emit bytes)) r step = default_kept (next_call job (Some (line.Emit bytes))) r refl step
+  default_line job (Some line.Query) r step = default_kept (next_call job (Some line.Query)) r refl step
+  default_line job (Some (line.Cat name)) r step = default_kept (next_call job (Some (line.Cat name))) r refl step
+  default_line job (Some (line.Wc name)) r step = default_kept (next_call job (Some (line.Wc name))) r refl step
+  default_line job (Some line.Pause) r step = default_set r step
+
+  default_after : (job : Task) (begun : ℕ) (x : Doing) (r : Reply) → StepsTo m (event.Call d (doing_call job begun x)) r n → pools (default_pool n d) ≡ true
+  default_after job begun doing.Runs r step = default_line job (slice_get job.lines begun) r step
+  default_after job begun x r step = default_kept (doing_call job begun x) r refl step
+
+  -- ---- what it wrote
+
+  line_written : (p : ℕ) (job : Task) (l : Option Line) → writes_pipe m (event.Call d (next_call job l)) p ≡ false
+  line_written p job (Some (line.Emit bytes)) = refl
+  line_written p job o = refl
+
+  from_there : (p : ℕ) (job : Task) (begun : ℕ) (x : Doing) → LiesIn pools m d x → writes_pipe m (event.Call d (doing_call job begun x)) p ≡ true → FromThere (doing_call job begun x)
+  from_there p job begun doing.Runs lies is = absurd (let e = line_written p job (slice_get job.lines begun) in cc (e, is))
+  from_there p job begun (doing.Writes a) lies is = lies
+  from_there p job begun x lies is = absurd (cc (is))
+
+  output_after : (p : ℕ) (job : Task) (begun : ℕ) (x : Doing) (r : Reply) → LiesIn pools m d x → Lie (pipe_at m p).queue → StepsTo m (event.Call d (doing_call job begun x)) r n → Lie (pipe_at n p).queue
+  output_after p job begun x r lies was step = labels.pipes pools m n (event.Call d (doing_call job begun x)) r p step (from_there p job begun x lies) was
+
+  -- ---- the worker after its call
+
+  told_step : (o : Option Step) (step : Step) → (or_again o step).doing ≡ (or_again o (at_step step.doing 0)).doing
+  told_step None step = refl
+  told_step (Some next) step = refl
+
+  filed_after : (v : Worker) (r : Reply) (job : Task) (step : Step) → v.job ≡ job → v.step ≡ step → v.standing ≡ standing.Asked
+      → filed_step v.standing v (lent_at n d) r ≡ or_again (told job step (lent_at n d) r) step
+  filed_after v r job step job_is step_is asked =
+      ap (λ (s : Standing). filed_step s v (lent_at n d) r) asked
+      ∙ (ap (λ (j : Task). or_again (told j v.step (lent_at n d) r) v.step) job_is ∙ ap (λ (s : Step). or_again (told job s (lent_at n d) r) s) step_is)
+
+  shown_after : (p : ℕ) (v : Worker) (r : Reply) (job : Task) (step : Step) (k : Call) → v.job ≡ job → v.step ≡ step → v.standing ≡ standing.Asked
+      → k ≡ call_at job step → FileOpen step.doing → LiesIn pools m d step.doing → Lie (pipe_at m p).queue → StepsTo m (event.Call d k) r n
+      → IsShown pools n p (seat_at d v r)
+  shown_after p v r job step k job_is step_is asked k_is opened lies was made =
+      let goes = subst (λ (c : Call). StepsTo m (event.Call d c) r n) k_is made in
+      let next = filed_after v r job step job_is step_is asked in
+      record {
+        default = default_after job step.begun step.doing r goes;
+        output = output_after p job step.begun step.doing r lies was goes;
+        lies = subst (λ (x : Doing). LiesIn pools n d x) (sym (ap (λ (s : Step). s.doing) next ∙ told_step (told job step (lent_at n d) r) step))
+            (after job step.begun step.doing r opened lies goes);
+      }
+
+-- ---- a turn
+
+file_open : (labels : LabelsFollow) (steps : EachStepLeavesTheRest) (files : FileCallsServeTheirDomain) (pools_come : DomainsAndPoolsComeAndGo)
+    (pools : ℕ → Bool) (m n : State) (d : ℕ) (order : IsOrderly m) (live : is_live m d ≡ true) (holds : HoldFiles pools m d) (default : pools (default_pool m d) ≡ true)
+    (x : Doing) → Needs m d x → FileOpen labels steps files pools_come pools m n d order live holds default x
+file_open labels steps files pools_come pools m n d order live holds default (doing.Reads fd u) h = (h.number, h.place, h.open_on)
+file_open labels steps files pools_come pools m n d order live holds default x h = tt
+
+-- a yield leaves it at its step
+yields_at : (w v : Worker) (l : Reply) (lent : ℕ → Option (List ℕ)) (s : Standing) → is_over s ≡ false → (s ≡ standing.Asked → is_given w.step.doing l ≡ false)
+    → works_as s w l lent turn.Yield v → (v.step ≡ filed_step s w lent l) × (v.standing ≡ standing.Asks)
+yields_at w v l lent standing.Over goes un did = absurd (cc (goes))
+yields_at w v l lent standing.Asks goes un did = (let e = did.0 in absurd (cc (e)))
+yields_at w v l lent standing.Asked goes un did = filed w.step.doing l (un refl) did
+  where
+    on : (o : Option Step) → goes_on w o turn.Yield v → (v.step ≡ or_again o w.step) × (v.standing ≡ standing.Asks)
+    on (Some step) did = (let e = did.0 in absurd (cc (e)))
+    on None did = (ap (λ (y : Worker). y.step) did.1, ap (λ (y : Worker). y.standing) did.1)
+
+    filed : (x : Doing) (y : Reply) → is_given x y ≡ false → files_reply w x y lent turn.Yield v → (v.step ≡ or_again (told w.job w.step lent y) w.step) × (v.standing ≡ standing.Asks)
+    filed doing.Waits (reply.Agg a) given did = absurd (cc (given))
+    filed x y given did = on (told w.job w.step lent y) did
+
+module _ (labels : LabelsFollow) (steps : EachStepLeavesTheRest) (files : FileCallsServeTheirDomain) (pools_come : DomainsAndPoolsComeAndGo)
+    (pools : ℕ → Bool) (m n : State) (p d : ℕ) (w : Worker) (last : Reply) (order : IsOrderly m) (live : is_live m d ≡ true) (holds : HoldFiles pools m d)
+    (shown : IsShown pools m p (seat_at d w last)) (v : Worker) (r : Reply) (yields : Bool) where
+  abbrev Open : Doing → Type 0
+  Open x = FileOpen labels steps files pools_come pools m n d order live holds shown.default x
+
+  abbrev now : Step
+  now = filed_step w.standing w (lent_at m d) last
+
+  -- one that goes on at its step
+  moves : (t : Turn) → is_over w.standing ≡ false → (w.standing ≡ standing.Asked → is_given w.step.doing last ≡ false) → Open now.doing
+      → works_as w.standing w last (lent_at m d) t v → ComesOf copying worker_turns m d t yields r n → IsShown pools n p (seat_at d v r)
+  moves turn.Yield goes un opened did comes =
+      let y = yields_at w v last (lent_at m d) w.standing goes un did in
+      let step_is : filed_step v.standing v (lent_at n d) r ≡ now = ap (λ (s : Standing). filed_step s v (lent_at n d) r) y.1 ∙ y.0 in
+      record {
+        default = subst (λ (u : State). pools (default_pool u d) ≡ true) (sym comes.2) shown.default;
+        output = subst (λ (u : State). lie_in pools (pipe_at u p).queue ≡ true) (sym comes.2) shown.output;
+        lies = subst (λ (x : Step). LiesIn pools n d x.doing) (sym step_is) (subst (λ (u : State). LiesIn pools u d now.doing) (sym comes.2) shown.lies);
+      }
+  moves (turn.Make k) goes un opened did comes =
+      let made = makes_call w v k last (lent_at m d) w.standing refl goes un did in
+      shown_after labels steps files pools_come pools m n d order live holds shown.default p v r w.job now k made.job_is made.step_is made.asked made.call_is opened shown.lies shown.output comes.1
+
+  -- one that takes its job
+  takes_job : (t : Turn) (job : Task) (a : ℕ) → w.standing ≡ standing.Asked → t ≡ turn.Make (call.AggDrop a) → v ≡ with_job w (Some job) a
+      → ComesOf copying worker_turns m d t yields r n → IsShown pools n p (seat_at d v r)
+  takes_job t job a asked is v_is comes =
+      let step : Step = record { doing = doing.Drops a; begun = 0 } in
+      shown_after labels steps files pools_come pools m n d order live holds shown.default p v r job step (call.AggDrop a)
+      (ap (λ (y : Worker). y.job) v_is) (ap (λ (y : Worker). y.step) v_is) (ap (λ (y : Worker). y.standing) v_is ∙ asked) refl tt tt shown.output
+      (subst (λ (u : Turn). ComesOf copying worker_turns m d u yields r n) is comes).1
+
+turns : LabelsFollow → EachStepLeavesTheRest → FileCallsServeTheirDomain → DomainsAndPoolsComeAndGo → (pools : ℕ → Bool) (m n : State) (p : ℕ) (seat next : Seat Worker) (yields : Bool) (r : Reply)
+    (unseen : List Outcome → List ℕ) → IsOrderly m → HoldFiles pools m seat.by → RunsJob m p seat unseen → IsShown pools m p seat → SeatTurn copying worker_turns m seat yields r n next → IsShown pools n p next
+turns labels steps files pools_come pools m n p seat next yields r unseen order holds job shown (inl starved) =
+    subst (λ (u : State). IsShown pools u p next) (sym starved.machine_stays) (subst (λ (x : Seat Worker). IsShown pools m p x) (sym starved.seat_stays) shown)
+turns labels steps files pools_come pools m n p seat next yields r unseen order holds job shown (inr did) = subst (λ (x : Seat Worker). IsShown pools n p x) same (by job goes)
+  where
+    live : is_live m seat.by ≡ true
+    live = has_life m p seat unseen job
+
+    w : Worker
+    w = seat.process
+
+    goes : works w seat.last (lent_at m seat.by) did.turn next.process
+    goes = subst (λ (l : ℕ → Option (List ℕ)). works w seat.last l did.turn next.process) (lent-live m seat.by live) did.goes_on
+
+    same : seat_at seat.by next.process r ≡ next
+    same = ap (λ (x : ℕ). seat_at x next.process r) (sym did.domain_stays) ∙ ap (λ (l : Reply). seat_at next.by next.process l) (sym did.told)
+
+    by : RunsJob m p seat unseen → works w seat.last (lent_at m seat.by) did.turn next.process → IsShown pools n p (seat_at seat.by next.process r)
+    by (inl h) goes = moves labels steps files pools_come pools m n p seat.by w seat.last order live holds shown next.process r yields did.turn h.free.not_over h.free.not_given
+        (subst (λ (x : Doing). FileOpen labels steps files pools_come pools m n seat.by order live holds shown.default x) (sym h.free.waits) tt) goes did.comes
+    by (inr (inl h)) goes =
+        let filed = subst (λ (s : Standing). works_as s w seat.last (lent_at m seat.by) did.turn next.process) h.asked goes in
+        let took = subst (λ (l : Reply). files_reply w doing.Waits l (lent_at m seat.by) did.turn next.process) h.last
+        (subst (λ (x : Doing). files_reply w x seat.last (lent_at m seat.by) did.turn next.process) h.waits filed) in
+        let is_job : job_of (bytes_at (lent_at m seat.by) h.agg) ≡ Some h.job = ap (λ (l : Option (List ℕ)). job_of (unwrap_or l [])) h.begins.lends ∙ h.begins.is_job in
+        takes_job labels steps files pools_come pools m n p seat.by w seat.last order live holds shown next.process r yields did.turn h.job h.agg h.asked took.0
+        (took.1 ∙ text_taken w (bytes_at (lent_at m seat.by) h.agg) h.agg h.job is_job) did.comes
+    by (inr (inr i)) goes = moves labels steps files pools_come pools m n p seat.by w seat.last order live holds shown next.process r yields did.turn i.not_over
+        (λ asked. run_is_not_given m seat.by w seat.last (lent_at m seat.by) w.standing asked i.feeds.needs)
+        (file_open labels steps files pools_come pools m n seat.by order live holds shown.default (step_of m seat).doing i.feeds.needs) goes did.comes
+
+-- ---- what others do
+
+module _ (labels : LabelsFollow) (steps : EachStepLeavesTheRest) (pools : ℕ → Bool) (m n : State) (d : ℕ) (e : Event) (r : Reply)
+    (placed : ArePlaced m) (step : StepsTo m e r n) (other : is_call_of e d ≡ false) where
+  text_stays : (a : ℕ) → HasBytes m d a → text n d a ≡ text m d a
+  text_stays a h = by (aggregate m d a) refl
+    where
+      by : (o : Option Text) → aggregate m d a ≡ o → text n d a ≡ text m d a
+      by None none = (let l = ap (λ (o : Option Text). option_map bytes_of o) none in let k = h.1 in absurd (cc (l, k)))
+      by (Some t) is = ap (λ (o : Option Text). unwrap_or o []) ((steps.values m n e r step).each d a t is (no_gift e d a other) ∙ sym is)
+
+  lies_still : (a : ℕ) → HasBytes m d a → lie_in pools (text m d a) ≡ true → lie_in pools (text n d a) ≡ true
+  lies_still a h lies = subst (λ (t : Text). lie_in pools t ≡ true) (sym (text_stays a h)) lies
+
+  file_still : (fd : ℕ) → IsFileOpen m d fd → LiesIn pools m d (doing.Reads fd purpose.Cat) → LiesIn pools n d (doing.Reads fd purpose.Cat)
+  file_still fd h lies f at mode is =
+      let left = others_leave steps m n d e r placed step other in
+      let number : f ≡ h.0 = same_file f at mode h.0 h.1 (sym is ∙ left.fds fd (on.File h.0 h.1 Read) h.2) in
+      let there = (placed.each d fd h.0 h.1 Read h.2).0 in
+      ap (λ k. pools (file n k).pool) number ∙ (ap (λ (x : File). pools x.pool) ((steps.leaves m n e r step).known h.0 there) ∙ lies h.0 h.1 Read h.2)
+    where
+      same_file : (f at : ℕ) (mode : Mode) (g to : ℕ) → Some (on.File f at mode) ≡ Some (on.File g to Read) → f ≡ g
+      same_file f at mode g to e = cc
+
+  lies_stay : (x : Doing) → Needs m d x → LiesIn pools m d x → LiesIn pools n d x
+  lies_stay (doing.Reads fd u) h lies = file_still fd (h.number, h.place, h.open_on) lies
+  lies_stay (doing.Shuts fd a) h lies = lies_still a h.1 lies
+  lies_stay (doing.Writes a) h lies = lies_still a h lies
+  lies_stay (doing.Cuts a from to) h lies = lies_still a (h.0, h.1) lies
+  lies_stay (doing.Swaps a rest) h lies = lies_still rest h.0 lies
+  lies_stay x h lies = tt
+
+-- a worker without a step of its own has nothing there
+nothing_lies : (pools : ℕ → Bool) (n : State) (d : ℕ) (x : Doing) → x ≡ doing.Waits → LiesIn pools n d x
+nothing_lies pools n d x is = subst (λ (y : Doing). LiesIn pools n d y) (sym is) tt
+
+given_at : (n : State) (d : ℕ) (w : Worker) (last : Reply) → w.standing ≡ standing.Asked → w.step.doing ≡ doing.Waits → (filed_step w.standing w (lent_at n d) last).doing ≡ doing.Waits
+given_at n d w last asked waits =
+    ap (λ (s : Standing). (filed_step s w (lent_at n d) last).doing) asked
+    ∙ (ap (λ (x : Doing). (or_again (told_doing (lent_at n d) w.job w.step.begun x last) w.step).doing) waits ∙ waits)
+
+no_exit : (e : Event) (d : ℕ) → is_call_of e d ≡ false → sets_default e d ≡ false
+no_exit (event.Call by call.Exit) d other = other
+no_exit (event.Call by (call.SetPool q)) d other = other
+no_exit e d other = refl
+
+-- it alone has the write end of the pipe
+end_of : (m : State) (d p fd by f : ℕ) → IsOrderly m → descriptor m d fd ≡ Some (on.WriteEnd p) → (by == d) ≡ false → is_write_end p (descriptor m by f) ≡ true → ⊥
+end_of m d p fd by f order opened other is = at_end (descriptor m by f) refl is
+  where
+    at_end : (o : Option Descriptor) → descriptor m by f ≡ o → is_write_end p o ≡ true → ⊥
+    at_end (Some (on.WriteEnd q)) here one =
+        let same : q ≡ p = grind (arith, nat_tests, one) in
+        let both : by ≡ d = (order.one by d f fd (on.WriteEnd p) refl (here ∙ ap (λ k. Some (on.WriteEnd k)) same) opened).0 in
+        grind (arith, nat_tests, other, both)
+    at_end o here one = cc (one)
+
+not_written : (m : State) (d p fd : ℕ) (e : Event) → IsOrderly m → descriptor m d fd ≡ Some (on.WriteEnd p) → is_call_of e d ≡ false → writes_pipe m e p ≡ true → ⊥
+not_written m d p fd (event.Call by (call.IolWrite f a)) order opened other is = end_of m d p fd by f order opened other is
+not_written m d p fd (event.Call by (call.Write f bytes)) order opened other is = end_of m d p fd by f order opened other is
+not_written m d p fd e order opened other is = cc (is)
+
+others : LabelsFollow → EachStepLeavesTheRest → (pools : ℕ → Bool) (m n : State) (p : ℕ) (seat : Seat Worker) (e : Event) (r : Reply) (unseen : List Outcome → List ℕ) → IsOrderly m → ArePlaced m
+    → RunsJob m p seat unseen → IsShown pools m p seat → StepsTo m e r n → is_call_of e seat.by ≡ false → IsShown pools n p seat
+others labels steps pools m n p seat e r unseen order placed job shown step other = record {
+  default = subst (λ (o : Option ℕ). pools (unwrap_or o 0) ≡ true) (sym ((steps.leaves m n e r step).defaults seat.by (has_life m p seat unseen job) (no_exit e seat.by other))) shown.default;
+  output = labels.pipes pools m n e r p step (λ is. absurd (let w = writing m p seat unseen job in not_written m seat.by p w.0 e order w.1 other is)) shown.output;
+  lies = by job;
+}
+  where
+    by : RunsJob m p seat unseen → LiesIn pools n seat.by (step_of n seat).doing
+    by (inl h) = nothing_lies pools n seat.by (step_of n seat).doing (free_still m n seat h.free).waits
+    by (inr (inl h)) = nothing_lies pools n seat.by (step_of n seat).doing (given_at n seat.by seat.process seat.last h.asked h.waits)
+    by (inr (inr i)) =
+        let left = others_leave steps m n seat.by e r placed step other in
+        let same = filed_stays m n seat.by left seat.process.standing seat.process seat.last i.feeds.needs in
+        subst (λ (s : Step). LiesIn pools n seat.by s.doing) (sym same)
+        (lies_stay labels steps pools m n seat.by e r placed step other (step_of m seat).doing i.feeds.needs shown.lies)
+
+pub outputs_are_shown : LabelsFollow → EachStepLeavesTheRest → FileCallsServeTheirDomain → DomainsAndPoolsComeAndGo → OutputsAreShown
+outputs_are_shown labels steps files pools_come = record {
+  free = λ pools m p seat free default output. record { default = default; output = output; lies = nothing_lies pools m seat.by (step_of m seat).doing free.waits };
+  turns = turns labels steps files pools_come;
+  others = others labels steps;
+}

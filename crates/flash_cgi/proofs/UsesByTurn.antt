@@ -1,0 +1,192 @@
+-- A worker's turn leaves it with what it uses then, and nothing else.
+use Rattle.std.proofs.Common.{inl, inr, ◌≡◌, ℕ, ◌+◌, ◌==◌, List, [], ◌∷◌, ap, ◌∙◌, refl, sym, subst, Option, Some, None, true, false, Bool}
+use Rattle.std.specs.Prelude.{◌&&◌, not, slice_get}
+use Rattle.iol_core.specs.State.{State, descriptor, is_live}
+use Rattle.iol_core.specs.Run.{StepsTo}
+use Rattle.iol_core.specs.declared.events.Call.TheVariants as call
+use Rattle.iol_core.specs.declared.events.Event.TheVariants as event
+use Rattle.iol_core.specs.declared.events.Reply.{Reply}
+use Rattle.iol_core.specs.declared.events.Reply.TheVariants as reply
+use Rattle.iol_laws.specs.Aggregates.{AggregatesComeAndGo}
+use Rattle.iol_laws.specs.Caller.{CallsServeTheirDomain, lent_at}
+use Rattle.iol_laws.specs.Order.{IsOrderly}
+use Rattle.iol_laws.specs.Reasons.{RefusalsTellWhy}
+use Rattle.iol_proc.specs.Turns.{Comes as ComesOf, SeatTurn}
+use Rattle.iol_proc.specs.World.{copying}
+use Rattle.iol_proc.specs.declared.process.Turn.{Turn}
+use Rattle.iol_proc.specs.declared.process.Turn.TheVariants as turn
+use Rattle.iol_proc.specs.declared.seat.Seat.{Seat}
+use Rattle.flash_cgi.specs.Job.{Task, job_of}
+use Rattle.flash_cgi.specs.WorkerSteps.{call_at, doing_call, told, told_doing, told_next, told_made, told_opened, told_written, told_read, told_cut, next_call, open_call, bytes_at}
+use Rattle.flash_cgi.specs.Works.{works, works_as, files, goes_on, takes, with_job, worker_turns}
+use Rattle.flash_cgi.specs.Turns.{is_given, or_again, filed_step}
+use Rattle.flash_cgi.specs.Uses.{uses_fd, HasJust, held_doing, KeepsJust, WorkersKeepNothing}
+use Rattle.flash_cgi.specs.declared.line.Line.{Line}
+use Rattle.flash_cgi.specs.declared.line.Line.TheVariants as line
+use Rattle.flash_cgi.specs.declared.phase.Purpose.{Purpose}
+use Rattle.flash_cgi.specs.declared.phase.Doing.{Doing}
+use Rattle.flash_cgi.specs.declared.phase.Doing.TheVariants as doing
+use Rattle.flash_cgi.specs.declared.phase.Standing.{Standing}
+use Rattle.flash_cgi.specs.declared.phase.Standing.TheVariants as standing
+use Rattle.flash_cgi.specs.declared.phase.Step.{Step}
+use Rattle.flash_cgi.specs.declared.worker.Worker.{Worker}
+use Rattle.flash_cgi.proofs.OutputByCall.{at_step}
+use Rattle.flash_cgi.proofs.UsesByCall.{both_false, same_number, call_keeps, absent, drops}
+use Rattle.flash_cgi.proofs.OutputByTurn.{seat_at, lent-live}
+use Rattle.flash_cgi.proofs.NotOpen.{free_read}
+
+-- ---- a reply after which the call is to be made again changed nothing
+
+module _ (m n : State) (d : ℕ) where
+  made_again : (bytes : List ℕ) (begun : ℕ) (r : Reply) → StepsTo m (event.Call d (call.AggMake bytes)) r n → told_made begun r ≡ None → n ≡ m
+  made_again bytes begun (reply.Agg a) step none = absurd (cc (none))
+  made_again bytes begun (reply.Refused x) step none = step.1
+  made_again bytes begun r step none = (let e = step.1 in absurd (cc (e)))
+
+  opened_again : (u : Purpose) (name : List ℕ) (begun : ℕ) (r : Reply) → StepsTo m (event.Call d (open_call name)) r n → told_opened u begun r ≡ None → n ≡ m
+  opened_again u name begun (reply.Fd g) step none = absurd (cc (none))
+  opened_again u name begun (reply.Refused x) step none = step.1
+  opened_again u name begun r step none = (let e = step.1 in absurd (cc (e)))
+
+  read_again : (lent : ℕ → Option (List ℕ)) (file : ℕ) (u : Purpose) (begun : ℕ) (r : Reply) → StepsTo m (event.Call d (call.IolRead file 16777216)) r n
+      → told_read lent file u begun r ≡ None → n ≡ m
+  read_again lent file u begun (reply.Agg a) step none = absurd (cc (none))
+  read_again lent file u begun (reply.Refused x) step none = step.1
+  read_again lent file u begun r step none = (let e = step.1 in absurd (cc (e)))
+
+  written_again : (fd a len begun : ℕ) (r : Reply) → StepsTo m (event.Call d (call.IolWrite fd a)) r n → told_written a len begun r ≡ None → n ≡ m
+  written_again fd a len begun (reply.Count k) step none = absurd (cc (none))
+  written_again fd a len begun (reply.Refused x) step none = step.1
+  written_again fd a len begun r step none = (let e = step.1 in absurd (cc (e)))
+
+  cut_again : (a from to begun : ℕ) (r : Reply) → StepsTo m (event.Call d (call.AggCut a from to)) r n → told_cut a begun r ≡ None → n ≡ m
+  cut_again a from to begun (reply.Agg c) step none = absurd (cc (none))
+  cut_again a from to begun (reply.Refused x) step none = step.1
+  cut_again a from to begun r step none = (let e = step.1 in absurd (cc (e)))
+
+  job_again : (r : Reply) → StepsTo m (event.Call d (call.IolRead 0 65536)) r n → is_given doing.Waits r ≡ false → n ≡ m
+  job_again (reply.Agg a) step un = absurd (cc (un))
+  job_again (reply.Refused x) step un = step.1
+  job_again r step un = (let e = step.1 in absurd (cc (e)))
+
+  begun_again : (job : Task) (begun : ℕ) (l : Option Line) (r : Reply) → StepsTo m (event.Call d (next_call job l)) r n → told_next l begun r ≡ None → n ≡ m
+  begun_again job begun (Some (line.Emit text)) r step none = made_again _ (begun + 1) r step none
+  begun_again job begun (Some line.Query) r step none = made_again _ (begun + 1) r step none
+  begun_again job begun (Some (line.Cat name)) r step none = opened_again _ name (begun + 1) r step none
+  begun_again job begun (Some (line.Wc name)) r step none = opened_again _ name (begun + 1) r step none
+  begun_again job begun o r step none = absurd (cc (none))
+
+  same_again : (lent : ℕ → Option (List ℕ)) (job : Task) (begun : ℕ) (x : Doing) (r : Reply) → StepsTo m (event.Call d (doing_call job begun x)) r n
+      → is_given x r ≡ false → told_doing lent job begun x r ≡ None → n ≡ m
+  same_again lent job begun doing.Waits r step un none = job_again r step un
+  same_again lent job begun doing.Runs r step un none = begun_again job begun (slice_get job.lines begun) r step none
+  same_again lent job begun (doing.Reads file u) r step un none = read_again lent file u begun r step none
+  same_again lent job begun (doing.Says s) r step un none = made_again _ begun r step none
+  same_again lent job begun (doing.Writes a) r step un none = written_again job.fd a _ begun r step none
+  same_again lent job begun (doing.Cuts a from to) r step un none = cut_again a from to begun r step none
+  same_again lent job begun x r step un none = absurd (cc (none))
+
+module _ (own : CallsServeTheirDomain) (why : RefusalsTellWhy) (come : AggregatesComeAndGo)
+    (m n : State) (d : ℕ) (fds aggs : ℕ → Bool) (order : IsOrderly m) (live : is_live m d ≡ true) where
+  -- ---- its call is made
+
+  abbrev Held : (job : Task) → (begun : ℕ) → Doing → Reply → Type 0
+  Held job begun x r = HasJust n d fds aggs job (held_doing standing.Asked x r (or_again (told_doing (lent_at n d) job begun x r) (at_step x begun)))
+
+  -- of a call that is no read of a job, or gives none
+  went : (job : Task) (begun : ℕ) (x : Doing) (r : Reply) → is_given x r ≡ false → HasJust m d fds aggs job x → StepsTo m (event.Call d (doing_call job begun x)) r n
+      → HasJust n d fds aggs job (or_again (told_doing (lent_at n d) job begun x r) (at_step x begun)).doing
+  went job begun x r un h step = by (told_doing (lent_at n d) job begun x r) refl
+    where
+      by : (o : Option Step) → told_doing (lent_at n d) job begun x r ≡ o → HasJust n d fds aggs job (or_again o (at_step x begun)).doing
+      by (Some next) is = call_keeps own why come m n d fds aggs job (at_step x begun) next r order live h step is
+      by None is = subst (λ (s : State). HasJust s d fds aggs job x) (sym (same_again m n d (lent_at n d) job begun x r step un is)) h
+
+  after : (job : Task) (begun : ℕ) (x : Doing) (r : Reply) → HasJust m d fds aggs job x → StepsTo m (event.Call d (doing_call job begun x)) r n → Held job begun x r
+  after job begun doing.Waits (reply.Agg a) h step = record {
+    no_fd = λ f given un. free_read m n d 0 f 65536 (reply.Agg a) step (h.no_fd f given refl);
+    no_agg = λ b given un. absent own why come m n d fds aggs job order live (call.IolRead 0 65536) (reply.Agg a) b step (both_false (d == d) (a == b) un) (h.no_agg b given refl);
+  }
+  after job begun x r h step = went job begun x r refl h step
+
+  called : (x : Worker) (r : Reply) → x.standing ≡ standing.Asked → HasJust m d fds aggs x.job x.step.doing → StepsTo m (event.Call d (call_at x.job x.step)) r n → KeepsJust n fds aggs (seat_at d x r)
+  called x r asked h step =
+      subst (λ (s : Standing). HasJust n d fds aggs x.job (held_doing s x.step.doing r (filed_step s x (lent_at n d) r))) (sym asked) (after x.job x.step.begun x.step.doing r h step)
+
+  -- one that has not asked has what it uses for the call that it is at
+  rests : (x : Worker) (r : Reply) → x.standing ≡ standing.Asks → HasJust n d fds aggs x.job x.step.doing → KeepsJust n fds aggs (seat_at d x r)
+  rests x r is h = subst (λ (s : Standing). HasJust n d fds aggs x.job (held_doing s x.step.doing r (filed_step s x (lent_at n d) r))) (sym is) h
+
+  ended : (x : Worker) (r : Reply) → x.standing ≡ standing.Over → HasJust n d fds aggs x.job x.step.doing → KeepsJust n fds aggs (seat_at d x r)
+  ended x r is h = subst (λ (s : Standing). HasJust n d fds aggs x.job (held_doing s x.step.doing r (filed_step s x (lent_at n d) r))) (sym is) h
+
+  module _ (v : Worker) (r : Reply) (t : Turn) (yields : Bool) (comes : ComesOf copying worker_turns m d t yields r n) where
+    abbrev Keeps : Worker → Type 0
+    Keeps x = KeepsJust n fds aggs (seat_at d x r)
+
+    makes : (x : Worker) → v ≡ x → t ≡ turn.Make (call_at x.job x.step) → x.standing ≡ standing.Asked → HasJust m d fds aggs x.job x.step.doing → Keeps v
+    makes x v_is is asked h = subst (λ (y : Worker). Keeps y) (sym v_is)
+        (called x r asked h (subst (λ (u : Turn). ComesOf copying worker_turns m d u yields r n) is comes).1)
+
+    yielded : t ≡ turn.Yield → n ≡ m
+    yielded is = (subst (λ (u : Turn). ComesOf copying worker_turns m d u yields r n) is comes).2
+
+    still : (job : Task) (x : Doing) → t ≡ turn.Yield → HasJust m d fds aggs job x → HasJust n d fds aggs job x
+    still job x is h = subst (λ (s : State). HasJust s d fds aggs job x) (sym (yielded is)) h
+
+    -- it goes on, or yields
+    on : (w : Worker) (o : Option Step) → w.standing ≡ standing.Asked → HasJust m d fds aggs w.job (or_again o w.step).doing → goes_on w o t v → Keeps v
+    on w (Some next) asked h did = makes (record w { step = next }) did.1 did.0 asked h
+    on w None asked h did = subst (λ (y : Worker). Keeps y) (sym did.1) (rests (record w { standing = standing.Asks }) r refl (still w.job w.step.doing did.0 h))
+
+    -- it was given a text
+    text : (w : Worker) (bytes : List ℕ) (a : ℕ) → w.standing ≡ standing.Asked → w.step.doing ≡ doing.Waits → HasJust m d fds aggs w.job (doing.Skips a) → takes w bytes a t v → Keeps v
+    text w [] a asked at h did = subst (λ (y : Worker). Keeps y) (sym did.1) (ended (record w { standing = standing.Over }) r refl
+        (subst (λ (x : Doing). HasJust n d fds aggs w.job x) (sym at)
+        (drops own why come m n d fds aggs w.job order live (doing.Skips a) doing.Waits a r (λ f un. refl) (λ b differ un. differ) h
+        (subst (λ (u : Turn). ComesOf copying worker_turns m d u yields r n) did.0 comes).1)))
+    text w (b ∷ bs) a asked at h did = by (job_of (b ∷ bs)) did.0 did.1
+      where
+        by : (o : Option Task) → t ≡ turn.Make (call.AggDrop a) → v ≡ with_job w o a → Keeps v
+        by (Some job) is v_is = makes (with_job w (Some job) a) v_is is asked (record { no_fd = λ f given un. h.no_fd f given refl; no_agg = λ c given un. h.no_agg c given un })
+        by None is v_is = makes (with_job w None a) v_is is asked h
+
+    filed : (w : Worker) (x : Doing) (l : Reply) → w.step.doing ≡ x → w.standing ≡ standing.Asked
+        → HasJust m d fds aggs w.job (held_doing standing.Asked x l (or_again (told w.job w.step (lent_at m d) l) w.step)) → files w x l (lent_at m d) t v → Keeps v
+    filed w doing.Waits (reply.Agg a) at asked h did = text w (bytes_at (lent_at m d) a) a asked at h did
+    filed w x l at asked h did = on w (told w.job w.step (lent_at m d) l) asked h did
+
+    moves : (w : Worker) (last : Reply) (s : Standing) → w.standing ≡ s → HasJust m d fds aggs w.job (held_doing s w.step.doing last (filed_step s w (lent_at m d) last))
+        → works_as s w last (lent_at m d) t v → Keeps v
+    moves w last standing.Asks is h did = makes (record w { standing = standing.Asked }) did.1 did.0 refl h
+    moves w last standing.Asked is h did = filed w w.step.doing last refl is h did
+    moves w last standing.Over is h did = subst (λ (y : Worker). Keeps y) (sym did.1) (ended w r is (still w.job w.step.doing did.0 h))
+
+turn_keeps : CallsServeTheirDomain → RefusalsTellWhy → AggregatesComeAndGo → (m n : State) (fds aggs : ℕ → Bool) (seat next : Seat Worker) (yields : Bool) (r : Reply) → IsOrderly m
+    → is_live m seat.by ≡ true → KeepsJust m fds aggs seat → SeatTurn copying worker_turns m seat yields r n next → KeepsJust n fds aggs next
+turn_keeps own why come m n fds aggs seat next yields r order live h (inl starved) =
+    subst (λ (s : State). KeepsJust s fds aggs next) (sym starved.machine_stays) (subst (λ (x : Seat Worker). KeepsJust m fds aggs x) (sym starved.seat_stays) h)
+turn_keeps own why come m n fds aggs seat next yields r order live h (inr did) =
+    let goes = subst (λ (l : ℕ → Option (List ℕ)). works seat.process seat.last l did.turn next.process) (lent-live m seat.by live) did.goes_on in
+    let same : seat_at seat.by next.process r ≡ next = ap (λ (x : ℕ). seat_at x next.process r) (sym did.domain_stays) ∙ ap (λ (l : Reply). seat_at next.by next.process l) (sym did.told) in
+    subst (λ (x : Seat Worker). KeepsJust n fds aggs x) same
+    (moves own why come m n seat.by fds aggs order live next.process r did.turn yields did.comes seat.process seat.last seat.process.standing refl h goes)
+
+-- what takes the output is the job's own
+output_own : (m : State) (d : ℕ) (fds aggs : ℕ → Bool) (job : Task) (x : Doing) → uses_fd job x job.fd ≡ true → HasJust m d fds aggs job x
+    → HasJust m d (λ fd. fds fd && not (job.fd == fd)) aggs job x
+output_own m d fds aggs job x uses h = record { no_fd = λ f given un. by f (job.fd == f) refl (fds f) refl given un; no_agg = h.no_agg }
+  where
+    by : (f : ℕ) (t : Bool) → (job.fd == f) ≡ t → (u : Bool) → fds f ≡ u → (fds f && not (job.fd == f)) ≡ false → uses_fd job x f ≡ false → descriptor m d f ≡ None
+    by f true test u is given un =
+        let used : uses_fd job x f ≡ true = subst (λ k. uses_fd job x k ≡ true) (same_number job.fd f test) uses in
+        absurd (cc (used, un))
+    by f false test false is given un = h.no_fd f is un
+    by f false test true is given un = (let e : (true && not false) ≡ false = ap (λ b. b && not false) (sym is) ∙ (ap (λ b. fds f && not b) (sym test) ∙ given) in absurd (cc (e)))
+
+pub workers_keep_nothing : CallsServeTheirDomain → RefusalsTellWhy → AggregatesComeAndGo → WorkersKeepNothing
+workers_keep_nothing own why come = record {
+  calls = call_keeps own why come;
+  turns = turn_keeps own why come;
+  output = output_own;
+}

@@ -1,0 +1,80 @@
+-- What a worker has: what it uses for the call that it is at, and nothing else.
+use Rattle.std.specs.Prelude.{◌≡◌, ℕ, ◌==◌, ◌||◌, ◌&&◌, not, Bool, true, false, Some, None}
+use Rattle.iol_core.specs.State.{State, descriptor, is_live}
+use Rattle.iol_core.specs.Run.{StepsTo}
+use Rattle.iol_core.specs.declared.events.Event.TheVariants as event
+use Rattle.iol_core.specs.declared.events.Reply.{Reply}
+use Rattle.iol_core.specs.declared.events.Reply.TheVariants as reply
+use Rattle.iol_laws.specs.Caller.{lent_at}
+use Rattle.iol_laws.specs.Order.{IsOrderly}
+use Rattle.iol_proc.specs.Turns.{SeatTurn}
+use Rattle.iol_proc.specs.World.{copying}
+use Rattle.iol_proc.specs.declared.seat.Seat.{Seat}
+use Rattle.flash_cgi.specs.Job.{Task}
+use Rattle.flash_cgi.specs.Turns.{step_of}
+use Rattle.flash_cgi.specs.WorkerSteps.{call_at, told}
+use Rattle.flash_cgi.specs.Works.{worker_turns}
+use Rattle.flash_cgi.specs.declared.phase.Doing.{Doing}
+use Rattle.flash_cgi.specs.declared.phase.Doing.TheVariants as doing
+use Rattle.flash_cgi.specs.declared.phase.Standing.{Standing}
+use Rattle.flash_cgi.specs.declared.phase.Standing.TheVariants as standing
+use Rattle.flash_cgi.specs.declared.phase.Step.{Step}
+use Rattle.flash_cgi.specs.declared.worker.Worker.{Worker}
+
+-- whether it uses this descriptor: the one that takes its output, while it has a job, and a file that is open
+abbrev pub uses_fd : Task → Doing → (fd : ℕ) → Bool
+uses_fd job doing.Waits fd = false
+uses_fd job (doing.Skips agg) fd = false
+uses_fd job (doing.Reads file p) fd = (job.fd == fd) || (file == fd)
+uses_fd job (doing.Counted file agg s) fd = (job.fd == fd) || (file == fd)
+uses_fd job (doing.Shuts file agg) fd = (job.fd == fd) || (file == fd)
+uses_fd job (doing.ShutsToSay file s) fd = (job.fd == fd) || (file == fd)
+uses_fd job x fd = job.fd == fd
+
+-- whether it uses this aggregate
+abbrev pub uses_agg : Doing → (agg : ℕ) → Bool
+uses_agg doing.Waits a = false
+uses_agg doing.Runs a = false
+uses_agg (doing.Reads file p) a = false
+uses_agg (doing.ShutsToSay file s) a = false
+uses_agg (doing.Says s) a = false
+uses_agg (doing.Skips agg) a = agg == a
+uses_agg (doing.Counted file agg s) a = agg == a
+uses_agg (doing.Shuts file agg) a = agg == a
+uses_agg (doing.Writes agg) a = agg == a
+uses_agg (doing.Cuts agg from to) a = agg == a
+uses_agg (doing.Drops agg) a = agg == a
+uses_agg (doing.Breaks agg) a = agg == a
+uses_agg (doing.Swaps agg rest) a = (agg == a) || (rest == a)
+
+-- beside the descriptors and aggregates of these numbers it has those that it uses alone
+pub record HasJust (m : State) (d : ℕ) (fds aggs : ℕ → Bool) (job : Task) (x : Doing) : Type 0 where
+  pub no_fd : (fd : ℕ) → fds fd ≡ false → uses_fd job x fd ≡ false → descriptor m d fd ≡ None
+  pub no_agg : (a : ℕ) → aggs a ≡ false → uses_agg x a ≡ false → lent_at m d a ≡ None
+
+-- ---- as it sits between two turns
+
+-- what it is at, as far as what it has goes, once its last reply is filed: a text that it was given is no job of its own yet
+abbrev pub held_doing : Standing → Doing → Reply → Step → Doing
+held_doing standing.Asked doing.Waits (reply.Agg agg) step = doing.Skips agg
+held_doing s x r step = step.doing
+
+abbrev pub KeepsJust : State → (fds aggs : ℕ → Bool) → Seat Worker → Type 0
+KeepsJust m fds aggs seat = HasJust m seat.by fds aggs seat.process.job
+    (held_doing seat.process.standing seat.process.step.doing seat.last (step_of m seat))
+
+-- A worker has what it uses, and nothing else. So where its script has ended, and it waits, it has what it had without a job:
+-- of its own nothing but its job pipe.
+pub record WorkersKeepNothing : Type 0 where
+  -- its call leaves it with what it uses then
+  pub calls : (m n : State) (d : ℕ) (fds aggs : ℕ → Bool) (job : Task) (step next : Step) (r : Reply) → IsOrderly m
+      → is_live m d ≡ true → HasJust m d fds aggs job step.doing → StepsTo m (event.Call d (call_at job step)) r n
+      → told job step (lent_at n d) r ≡ Some next → HasJust n d fds aggs job next.doing
+  -- and so does each of its turns, those in which it reads a job or finds none among them
+  pub turns : (m n : State) (fds aggs : ℕ → Bool) (seat next : Seat Worker) (yields : Bool) (r : Reply) → IsOrderly m
+      → is_live m seat.by ≡ true → KeepsJust m fds aggs seat → SeatTurn copying worker_turns m seat yields r n next
+      → KeepsJust n fds aggs next
+  -- what takes its output is its job's own, though others gave it: so it has that no more once its script has ended
+  pub output : (m : State) (d : ℕ) (fds aggs : ℕ → Bool) (job : Task) (x : Doing) → uses_fd job x job.fd ≡ true
+      → HasJust m d fds aggs job x
+      → HasJust m d (λ fd. fds fd && not (job.fd == fd)) aggs job x

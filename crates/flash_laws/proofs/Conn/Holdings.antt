@@ -1,0 +1,332 @@
+-- What a call brings the server is used by its connection, and what that uses no more is given up.
+use Rattle.std.proofs.Common.{◌≡◌, ℕ, ◌+◌, ◌-◌, ◌==◌, List, [], ◌∷◌, ◌++◌, ap, ◌∙◌, refl, sym, Some, None, true, false, Bool, if◌then◌else◌, length, take, drop}
+use Rattle.std.specs.Prelude.{nat_lt, nat_le, ◌||◌, slice_range}
+use Rattle.iol_core.specs.Access.{HasAccess}
+use Rattle.iol_core.specs.State.{State, descriptor, is_live, content}
+use Rattle.iol_core.specs.Run.{StepsTo}
+use Rattle.iol_core.specs.Values.{gives_up}
+use Rattle.iol_core.specs.declared.limits.TheConstants.{MAX_AGGREGATE_BYTES}
+use Rattle.iol_core.specs.declared.descriptors.Descriptor.TheVariants as on
+use Rattle.iol_core.specs.declared.descriptors.Mode.TheVariants as modes
+use Rattle.iol_core.specs.declared.refusals.Refusal.{Refusal}
+use Rattle.iol_core.specs.declared.refusals.Refusal.TheVariants as no
+use Rattle.iol_core.specs.declared.events.Call.{Call}
+use Rattle.iol_core.specs.declared.events.Call.TheVariants as call
+use Rattle.iol_core.specs.declared.events.Event.{Event}
+use Rattle.iol_core.specs.declared.events.Event.TheVariants as event
+use Rattle.iol_core.specs.declared.events.Reply.{Reply}
+use Rattle.iol_core.specs.declared.events.Reply.TheVariants as reply
+use Rattle.iol_laws.specs.Aggregates.{AggregatesComeAndGo, brings, is_refusal}
+use Rattle.iol_laws.specs.Caller.{CallsServeTheirDomain, lent_at}
+use Rattle.iol_laws.specs.Caller as o
+use Rattle.iol_laws.specs.CallerFiles.{FileCallsServeTheirDomain}
+use Rattle.iol_laws.specs.CallerFiles as of
+use Rattle.iol_laws.specs.Order.{IsOrderly}
+use Rattle.flash_http.specs.declared.ranges.Selection.{Selection}
+use Rattle.flash_http.specs.declared.ranges.Selection.TheVariants.{Unsatisfiable}
+use Rattle.flash_http.specs.Range.{selected}
+use Rattle.flash_http.specs.Request.{Answer, serve, refuse}
+use Rattle.flash_laws.specs.Answers.{response}
+use Rattle.flash_laws.specs.Conn.{Following, Conn, has_followed, learnt_agg, content_agg, uses_agg, uses_fd, name_of, text_of, is_head_only, most_kept, most_read, piece_end, count_of, wants, sends_of, put_out, settled, following, headed, goes_on, drops_next, told_rests, told}
+use Rattle.flash_laws.specs.declared.phase.Learnt.{Learnt}
+use Rattle.flash_laws.specs.declared.phase.Learnt.TheVariants.{File, Length, Fails, Text as TextOf}
+use Rattle.flash_laws.specs.declared.phase.Content.{Content}
+use Rattle.flash_laws.specs.declared.phase.Content.TheVariants.{Body}
+use Rattle.flash_laws.specs.declared.phase.Doing.{Doing}
+use Rattle.flash_laws.specs.declared.phase.Doing.TheVariants.{Rests, Got, Opens, Reads as Reading, Shuts, Picks, Spares, Heads, Joins, Sends, Cuts, Offers, Swaps, Sent, Breaks, Drops, Closes, Over}
+use Rattle.flash_laws.specs.Conn.Fits.{Has}
+use Rattle.flash_laws.specs.Conn.Holdings.{KeepsNothing}
+use Rattle.flash_laws.specs.Site.{server}
+use Rattle.flash_laws.proofs.Forms.{at}
+use Rattle.flash_laws.proofs.Lists.{clash, later_of, former_by, former_of}
+use Rattle.flash_laws.proofs.Conn.DoneCalls.{conn-opened}
+use Rattle.flash_laws.proofs.Conn.Touches.{fds-wants, conns-wants, pipes-wants, files-wants, admits-wants}
+use Rattle.flash_laws.proofs.Conn.Uses.{same-number, gives-wants}
+
+-- ---- what is used no more is given up
+
+abbrev Leaves : (fd : ℕ) → Conn → Reply → Doing → (a : ℕ) → Type 0
+Leaves fd x r after a = uses_agg x.doing a ≡ true → uses_agg after a ≡ false
+    → (gives_up (event.Call server (wants fd x)) server a ≡ true) × (is_refusal r ≡ false)
+
+settled-uses : (q : Answer) (k : Learnt) (a : ℕ) → learnt_agg k a ≡ true → uses_agg (settled q k) a ≡ true
+settled-uses (serve w) (File b len) a u = by (selected w.range len)
+  where
+    by : (sel : Selection) → uses_agg (sends_of sel b len) a ≡ true
+    by Unsatisfiable = former_of (b == a) false u
+    by x = u
+settled-uses (refuse status head_only close) (File b len) a u = u
+settled-uses q (Length len) a u = absurd (cc (u))
+settled-uses q (Fails status) a u = absurd (cc (u))
+settled-uses x (TextOf b runs) a u = former_of (b == a) (content_agg (put_out runs) a) u
+
+following-uses : (k : Content) (a : ℕ) → content_agg k a ≡ true → has_followed (following k) a ≡ true
+following-uses (Body b size len) a u = u
+following-uses k a u = absurd (cc (u))
+
+headed-more : (n size : ℕ) (more : Following) (a : ℕ) → has_followed more a ≡ true → uses_agg (headed n size more) a ≡ true
+headed-more n size None a u = absurd (cc (u))
+headed-more n size (Some x) a u = by (nat_le (size + x.1) MAX_AGGREGATE_BYTES)
+  where
+    by : (t : Bool) → uses_agg (if t then Joins n size x.0 x.1 else Sends n size 0 (Some x)) a ≡ true
+    by true = later_of (n == a) (x.0 == a) u
+    by false = later_of (n == a) (x.0 == a) u
+
+goes_on-more : (q : Answer) (taken : ℕ) (more : Following) (a : ℕ) → uses_agg (goes_on q taken more) a ≡ false
+    → has_followed more a ≡ false
+goes_on-more q taken (Some x) a unused = by (x.0 == a) unused
+  where
+    by : (t : Bool) → (t || false) ≡ false → t ≡ false
+    by true unused = absurd (cc (unused))
+    by false unused = refl
+goes_on-more q taken None a unused = refl
+
+drops-more : (more : Following) (a : ℕ) → uses_agg (drops_next more) a ≡ false → has_followed more a ≡ false
+drops-more (Some x) a unused = by (x.0 == a) unused
+  where
+    by : (t : Bool) → (t || false) ≡ false → t ≡ false
+    by true unused = absurd (cc (unused))
+    by false unused = refl
+drops-more None a unused = refl
+
+leaves-sends : (fd : ℕ) (kept : List ℕ) (q : Answer) (b len taken k : ℕ) (more : Following) (a : ℕ) (t : Bool)
+    → ((b == a) || has_followed more a) ≡ true
+    → uses_agg (if t then Cuts b k len (taken + k) more else Sent b (taken + len) more) a ≡ false → ⊥
+leaves-sends fd kept q b len taken k more a true u unused = clash ((b == a) || has_followed more a) u unused
+leaves-sends fd kept q b len taken k more a false u unused = clash ((b == a) || has_followed more a) u unused
+
+swaps-more : (b from len taken : ℕ) (more : Following) (a : ℕ) (t : Bool)
+    → uses_agg (if t then Cuts b from len taken more else Sent b taken more) a ≡ false
+    → ((b == a) || has_followed more a) ≡ false
+swaps-more b from len taken more a true unused = unused
+swaps-more b from len taken more a false unused = unused
+
+pub leaves-told : (fd : ℕ) (kept : List ℕ) (q : Answer) (d : Doing) (r : Reply) (heard : List ℕ) (a : ℕ)
+    → Leaves fd (at kept q d) r (told (at kept q d) r heard).doing a
+leaves-told fd kept q (Got b) reply.Done heard a u unused = (u, refl)
+leaves-told fd kept q (Got b) r heard a u unused = absurd (clash (b == a) u unused)
+leaves-told fd kept q (Shuts f k) reply.Done heard a u unused = absurd (clash (uses_agg (settled q k) a) (settled-uses q k a u) unused)
+leaves-told fd kept q (Shuts f k) r heard a u unused = absurd (clash (learnt_agg k a) u unused)
+leaves-told fd kept q (Picks b first last len) (reply.Agg n) heard a u unused = absurd (clash ((b == a) || (n == a)) (former_of (b == a) (n == a) u) unused)
+leaves-told fd kept q (Picks b first last len) r heard a u unused = absurd (clash (b == a) u unused)
+leaves-told fd kept q (Spares b k) reply.Done heard a u unused = (former_by (b == a) (content_agg k a) u unused, refl)
+leaves-told fd kept q (Spares b k) r heard a u unused = absurd (clash ((b == a) || content_agg k a) u unused)
+leaves-told fd kept q (Heads k) (reply.Agg n) heard a u unused = absurd (clash (uses_agg (headed n (count_of heard) (following k)) a) (headed-more n (count_of heard) (following k) a (following-uses k a u)) unused)
+leaves-told fd kept q (Heads k) r heard a u unused = absurd (clash (content_agg k a) u unused)
+leaves-told fd kept q (Joins b size body len) (reply.Agg n) heard a u unused = (u, refl)
+leaves-told fd kept q (Joins b size body len) r heard a u unused = absurd (clash ((b == a) || (body == a)) u unused)
+leaves-told fd kept q (Sends b len taken more) (reply.Count k) heard a u unused = absurd (leaves-sends fd kept q b len taken k more a (nat_lt k len) u unused)
+leaves-told fd kept q (Sends b len taken more) (reply.Refused no.BrokenPipe) heard a u unused = absurd (clash ((b == a) || has_followed more a) u unused)
+leaves-told fd kept q (Sends b len taken more) r heard a u unused = absurd (clash ((b == a) || has_followed more a) u unused)
+leaves-told fd kept q (Cuts b from len taken more) (reply.Agg n) heard a u unused = absurd (clash ((n == a) || ((b == a) || has_followed more a)) (later_of (n == a) ((b == a) || has_followed more a) u) unused)
+leaves-told fd kept q (Cuts b from len taken more) r heard a u unused = absurd (clash ((b == a) || has_followed more a) u unused)
+leaves-told fd kept q (Offers b from len piece taken more) (reply.Count k) heard a u unused = absurd (clash ((piece == a) || ((b == a) || has_followed more a)) u unused)
+leaves-told fd kept q (Offers b from len piece taken more) (reply.Refused no.BrokenPipe) heard a u unused = absurd (clash ((piece == a) || ((b == a) || has_followed more a)) u unused)
+leaves-told fd kept q (Offers b from len piece taken more) r heard a u unused = absurd (clash ((piece == a) || ((b == a) || has_followed more a)) u unused)
+leaves-told fd kept q (Swaps b from len piece taken more) reply.Done heard a u unused = (former_by (piece == a) ((b == a) || has_followed more a) u (swaps-more b from len taken more a (nat_lt from len) unused), refl)
+leaves-told fd kept q (Swaps b from len piece taken more) r heard a u unused = absurd (clash ((piece == a) || ((b == a) || has_followed more a)) u unused)
+leaves-told fd kept q (Sent b taken more) reply.Done heard a u unused = (former_by (b == a) (has_followed more a) u (goes_on-more q taken more a unused), refl)
+leaves-told fd kept q (Sent b taken more) r heard a u unused = absurd (clash ((b == a) || has_followed more a) u unused)
+leaves-told fd kept q (Breaks piece b more) reply.Done heard a u unused = (former_by (piece == a) ((b == a) || has_followed more a) u unused, refl)
+leaves-told fd kept q (Breaks piece b more) r heard a u unused = absurd (clash ((piece == a) || ((b == a) || has_followed more a)) u unused)
+leaves-told fd kept q (Drops b more) reply.Done heard a u unused = (former_by (b == a) (has_followed more a) u (drops-more more a unused), refl)
+leaves-told fd kept q (Drops b more) r heard a u unused = absurd (clash ((b == a) || has_followed more a) u unused)
+leaves-told fd kept q d r heard a u unused = absurd (cc (u))
+
+-- ---- the descriptor of a file that is used no more is closed
+
+pub shuts : (own : CallsServeTheirDomain) (m n : State) (fd : ℕ) (kept : List ℕ) (q : Answer) (d : Doing) (r : Reply) (heard : List ℕ) (g : ℕ)
+    → StepsTo m (event.Call server (wants fd (at kept q d))) r n
+    → uses_fd d g ≡ true → uses_fd (told (at kept q d) r heard).doing g ≡ false → descriptor n server g ≡ None
+shuts own m n fd kept q (Reading f) r heard g step u unused = absurd (by r u unused)
+  where
+    by : (r : Reply) → (f == g) ≡ true → uses_fd (told (at kept q (Reading f)) r heard).doing g ≡ false → ⊥
+    by (reply.Agg k) u unused = clash (f == g) u unused
+    by (reply.Count k) u unused = clash (f == g) u unused
+    by (reply.Refused no.WouldBlock) u unused = clash (f == g) u unused
+    by (reply.Refused x) u unused = clash (f == g) u unused
+    by r u unused = clash (f == g) u unused
+shuts own m n fd kept q (Shuts f k) r heard g step u unused = by r (own.closes m n server f r step) unused
+  where
+    by : (r : Reply) → o.Closes m server f r n → uses_fd (told (at kept q (Shuts f k)) r heard).doing g ≡ false
+        → descriptor n server g ≡ None
+    by reply.Done did unused = ap (λ z. descriptor n server z) (sym (same-number f g u)) ∙ did
+    by (reply.Refused x) did unused = absurd (clash (f == g) u unused)
+    by r did unused = absurd did
+shuts own m n fd kept q d r heard g step u unused = absurd (cc (u))
+
+-- ---- what comes is used
+
+pub headed-first : (n size : ℕ) (more : Following) (a : ℕ) → (n == a) ≡ true → uses_agg (headed n size more) a ≡ true
+headed-first n size None a is = former_of (n == a) false is
+headed-first n size (Some x) a is = by (nat_le (size + x.1) MAX_AGGREGATE_BYTES)
+  where
+    by : (t : Bool) → uses_agg (if t then Joins n size x.0 x.1 else Sends n size 0 (Some x)) a ≡ true
+    by true = former_of (n == a) (x.0 == a) is
+    by false = former_of (n == a) (x.0 == a) is
+
+-- whether a reply names aggregates
+abbrev names_some : Reply → Bool
+names_some (reply.Agg x) = true
+names_some (reply.Aggs x y) = true
+names_some r = false
+
+module _ (come : AggregatesComeAndGo) (own : CallsServeTheirDomain) (m n : State) (order : IsOrderly m)
+    (a : ℕ) (bytes : List ℕ) (before : lent_at m server a ≡ None) (after : lent_at n server a ≡ Some bytes) where
+  -- the reply names what comes
+  pub named : (e : Event) (r : Reply) → StepsTo m e r n → brings e r server a ≡ true
+  named e r step = by (brings e r server a) refl
+    where
+      by : (b : Bool) → brings e r server a ≡ b → brings e r server a ≡ true
+      by true is = is
+      by false is = (let none = come.none m n e r server a step before is in absurd (cc (none, after)))
+
+  -- nothing comes by a reply that names no aggregate
+  pub unnamed : (k : Call) (Word : Reply → Type 0) (r : Reply) → StepsTo m (event.Call server k) r n → Word r
+      → ((x : ℕ) → Word (reply.Agg x) → ⊥) → ((x y : ℕ) → Word (reply.Aggs x y) → ⊥) → ⊥
+  unnamed k Word r step did no_agg no_aggs = by r did (named-so k r (named (event.Call server k) r step))
+    where
+      named-so : (k : Call) (r : Reply) → brings (event.Call server k) r server a ≡ true → names_some r ≡ true
+      named-so (call.AggGive b to) (reply.Agg x) is = refl
+      named-so k (reply.Agg x) is = refl
+      named-so k (reply.Aggs x y) is = refl
+      named-so k r is = absurd (cc (is))
+
+      by : (r : Reply) → Word r → names_some r ≡ true → ⊥
+      by (reply.Agg x) did is = no_agg x did
+      by (reply.Aggs x y) did is = no_aggs x y did
+      by r did is = cc (is)
+
+  -- so to drop an aggregate brings none, nor does it to close, or to write
+  pub dropped : (b : ℕ) (r : Reply) → StepsTo m (event.Call server (call.AggDrop b)) r n → ⊥
+  dropped b r step = unnamed (call.AggDrop b) (λ x. o.Drops m server b x n) r step (own.drops m n server b r order step) (λ x bad. bad) (λ x y bad. bad)
+
+  pub closed : (g : ℕ) (r : Reply) → StepsTo m (event.Call server (call.Close g)) r n → ⊥
+  closed g r step = unnamed (call.Close g) (λ x. o.Closes m server g x n) r step (own.closes m n server g r step) (λ x bad. bad) (λ x y bad. bad)
+
+  pub written : (fd c b : ℕ) (sent : List ℕ) (r : Reply) → descriptor m server fd ≡ Some (on.Connection c)
+      → lent_at m server b ≡ Some sent → StepsTo m (event.Call server (call.IolWrite fd b)) r n → ⊥
+  written fd c b sent r open_on lends step =
+      unnamed (call.IolWrite fd b) (λ x. o.WritesConn m c sent x n) r step (own.write_conn m n server fd c b sent r order open_on lends step) (λ x bad. bad) (λ x y bad. bad)
+
+  -- what is made is named by the reply
+  pub made : (k : Call) (it : List ℕ) (uses : Reply → Bool) (r : Reply) → StepsTo m (event.Call server k) r n → o.Makes m server it r n
+      → ((x : ℕ) → brings (event.Call server k) (reply.Agg x) server a ≡ true → (x == a) ≡ true)
+      → ((x : Refusal) → brings (event.Call server k) (reply.Refused x) server a ≡ true → ⊥)
+      → ((x : ℕ) → (x == a) ≡ true → uses (reply.Agg x) ≡ true) → uses r ≡ true
+  made k it uses r step did number refused new = by r did (named (event.Call server k) r step)
+    where
+      by : (r : Reply) → o.Makes m server it r n → brings (event.Call server k) r server a ≡ true → uses r ≡ true
+      by (reply.Agg x) did is = new x (number x is)
+      by (reply.Refused x) did is = absurd (refused x is)
+      by r did is = absurd did
+
+  module _ (files : FileCallsServeTheirDomain) (kept : List ℕ) where
+    opened-nothing : (name : List ℕ) (r : Reply) → is_live m server ≡ true
+        → StepsTo m (event.Call server (call.OpenFile name modes.Read)) r n → ⊥
+    opened-nothing name r lives step = by r (files.opens m n server name modes.Read r lives step) (named (event.Call server (call.OpenFile name modes.Read)) r step)
+      where
+        by : (r : Reply) → of.Opening m server name modes.Read r n
+            → brings (event.Call server (call.OpenFile name modes.Read)) r server a ≡ true → ⊥
+        by (reply.Fd g) did is = cc (is)
+        by (reply.Refused x) did is = cc (is)
+        by r did is = did
+
+    rests : (fd c count : ℕ) (q : Answer) (r : Reply) (heard : List ℕ) → descriptor m server fd ≡ Some (on.Connection c)
+        → StepsTo m (event.Call server (call.IolRead fd count)) r n → uses_agg (told_rests kept q r heard).doing a ≡ true
+    rests fd c count q r heard open_on step = by r heard (own.read_conn m n server fd c count r order open_on step) (named (event.Call server (call.IolRead fd count)) r step)
+      where
+        by : (r : Reply) (heard : List ℕ) → o.ReadsConn m server c count r n
+            → brings (event.Call server (call.IolRead fd count)) r server a ≡ true
+            → uses_agg (told_rests kept q r heard).doing a ≡ true
+        by (reply.Agg k) [] did is = former_of (k == a) false is
+        by (reply.Agg k) (b ∷ heard) did is = is
+        by (reply.Refused x) heard did is = absurd (cc (is))
+        by r heard did is = absurd did
+
+    pub reads : (q : Answer) (g i pos : ℕ) (r : Reply) (heard : List ℕ) → HasAccess m → is_live m server ≡ true
+        → descriptor m server g ≡ Some (on.File i pos modes.Read) → (b : Bool)
+        → StepsTo m (event.Call server (if b then call.Length g else call.IolRead g most_read)) r n
+        → uses_agg (told (at kept q (Reading g)) r heard).doing a ≡ true
+    reads q g i pos r heard access lives opened true step = absurd (by r (files.measures m n server g i pos modes.Read r lives opened step) (named (event.Call server (call.Length g)) r step))
+      where
+        by : (r : Reply) → of.Tells m (length (content m i)) r n → brings (event.Call server (call.Length g)) r server a ≡ true → ⊥
+        by (reply.Count k) did is = cc (is)
+        by r did is = did
+    reads q g i pos r heard access lives opened false step = by r (files.reads_file m n server g i pos most_read modes.Read r order lives (access.fds server g i pos modes.Read opened) refl opened step) (named (event.Call server (call.IolRead g most_read)) r step)
+      where
+        by : (r : Reply) → of.ReadsFile m server g i pos modes.Read (take most_read (drop pos (content m i))) r n
+            → brings (event.Call server (call.IolRead g most_read)) r server a ≡ true
+            → uses_agg (told (at kept q (Reading g)) r heard).doing a ≡ true
+        by (reply.Agg k) did is = is
+        by (reply.Refused x) did is = absurd (cc (is))
+        by r did is = absurd did
+
+    picks : (b first last len : ℕ) (q : Answer) (part : List ℕ) (r : Reply) (heard : List ℕ) → lent_at m server b ≡ Some part
+        → StepsTo m (event.Call server (call.AggCut b first last)) r n
+        → uses_agg (told (at kept q (Picks b first last len)) r heard).doing a ≡ true
+    picks b first last len q part r heard lends step =
+        made (call.AggCut b first last) (slice_range part first last) (λ z. uses_agg (told (at kept q (Picks b first last len)) z heard).doing a) r step
+        (own.cut m n server b first last part r order lends step) (λ x is. is) (λ x is. cc (is)) (λ x is. later_of (b == a) (x == a) is)
+
+    heads : (fd : ℕ) (q : Answer) (k : Content) (r : Reply) (heard : List ℕ)
+        → StepsTo m (event.Call server (call.AggMake (text_of q k))) r n
+        → uses_agg (told (at kept q (Heads k)) r heard).doing a ≡ true
+    heads fd q k r heard step =
+        made (call.AggMake (text_of q k)) (text_of q k) (λ z. uses_agg (told (at kept q (Heads k)) z heard).doing a) r step
+        (own.make m n server (text_of q k) r order step) (λ x is. is) (λ x is. cc (is)) (λ x is. headed-first x (count_of heard) (following k) a is)
+
+    joins : (b size body len : ℕ) (q : Answer) (xs ys : List ℕ) (r : Reply) (heard : List ℕ) → lent_at m server b ≡ Some xs
+        → lent_at m server body ≡ Some ys → StepsTo m (event.Call server (call.AggJoin b body)) r n
+        → uses_agg (told (at kept q (Joins b size body len)) r heard).doing a ≡ true
+    joins b size body len q xs ys r heard lends more step =
+        made (call.AggJoin b body) (xs ++ ys) (λ z. uses_agg (told (at kept q (Joins b size body len)) z heard).doing a) r step
+        (own.join m n server b body xs ys r order lends more step) (λ x is. is) (λ x is. cc (is)) (λ x is. former_of (x == a) false is)
+
+    cuts : (b from len taken : ℕ) (more : Following) (q : Answer) (whole : List ℕ) (r : Reply) (heard : List ℕ)
+        → lent_at m server b ≡ Some whole
+        → StepsTo m (event.Call server (call.AggCut b from (piece_end from len))) r n
+        → uses_agg (told (at kept q (Cuts b from len taken more)) r heard).doing a ≡ true
+    cuts b from len taken more q whole r heard lends step =
+        made (call.AggCut b from (piece_end from len)) (slice_range whole from (piece_end from len)) (λ z. uses_agg (told (at kept q (Cuts b from len taken more)) z heard).doing a) r step
+        (own.cut m n server b from (piece_end from len) whole r order lends step) (λ x is. is) (λ x is. cc (is)) (λ x is. former_of (x == a) ((b == a) || has_followed more a) is)
+
+    pub brought : (fd c : ℕ) (q : Answer) (d : Doing) (due : List ℕ) (r : Reply) (heard : List ℕ) → HasAccess m → is_live m server ≡ true
+        → descriptor m server fd ≡ Some (on.Connection c) → Has m q due d
+        → StepsTo m (event.Call server (wants fd (at kept q d))) r n → uses_agg (told (at kept q d) r heard).doing a ≡ true
+    brought fd c q Rests due r heard access lives open_on has step = rests fd c (most_kept - length kept) q r heard open_on step
+    brought fd c q (Got b) due r heard access lives open_on has step = absurd (dropped b r step)
+    brought fd c q Opens due r heard access lives open_on has step = absurd (opened-nothing (name_of q) r lives step)
+    brought fd c q (Reading g) due r heard access lives open_on has step = reads q g has.1.0 has.1.1 r heard access lives has.1.2 (is_head_only q) step
+    brought fd c q (Shuts g k) due r heard access lives open_on has step = absurd (closed g r step)
+    brought fd c q (Picks b first last len) due r heard access lives open_on has step = picks b first last len q has.bytes r heard has.lends step
+    brought fd c q (Spares b k) due r heard access lives open_on has step = absurd (dropped b r step)
+    brought fd c q (Heads k) due r heard access lives open_on has step = heads fd q k r heard step
+    brought fd c q (Joins b size body len) due r heard access lives open_on has step = joins b size body len q has.0.bytes has.0.after r heard has.0.lends has.0.follows.0 step
+    brought fd c q (Sends b len taken more) due r heard access lives open_on has step = absurd (written fd c b has.bytes r open_on has.lends step)
+    brought fd c q (Cuts b from len taken more) due r heard access lives open_on has step = cuts b from len taken more q has.0.bytes r heard has.0.lends step
+    brought fd c q (Offers b from len piece taken more) due r heard access lives open_on has step = absurd (written fd c piece (slice_range has.whole.bytes from (piece_end from len)) r open_on has.lends step)
+    brought fd c q (Swaps b from len piece taken more) due r heard access lives open_on has step = absurd (dropped piece r step)
+    brought fd c q (Sent b taken more) due r heard access lives open_on has step = absurd (dropped b r step)
+    brought fd c q (Breaks piece b more) due r heard access lives open_on has step = absurd (dropped piece r step)
+    brought fd c q (Drops b more) due r heard access lives open_on has step = absurd (dropped b r step)
+    brought fd c q Closes due r heard access lives open_on has step = absurd (closed fd r step)
+    brought fd c q Over due r heard access lives open_on has step = absurd has
+
+pub keeps_nothing : AggregatesComeAndGo → CallsServeTheirDomain → FileCallsServeTheirDomain → KeepsNothing
+keeps_nothing come own files = record {
+  brought = λ m n fd c x o r heard bytes a order access lives open_on has step before after. brought come own m n order a bytes before after files x.kept fd c x.q x.doing (response x.q o) r heard access lives open_on has step;
+  opened = conn-opened;
+  left = λ m n fd x r heard a order step u unused.
+      let gives = leaves-told fd x.kept x.q x.doing r heard a u unused in
+      come.gone m n (event.Call server (wants fd x)) r server a order step gives.0 gives.1;
+  shut = λ m n fd x r heard g step u unused. shuts own m n fd x.kept x.q x.doing r heard g step u unused;
+  alone = λ m fd c x o is has. record {
+    aggs = λ a u. gives-wants fd x.kept x.q x.doing a u;
+    fds = λ g t. fds-wants m fd c x.kept x.q x.doing g is t;
+    conns = λ e t. conns-wants m fd c x.kept x.q (response x.q o) x.doing e is has t;
+    pipes = λ p. pipes-wants m fd c x.kept x.q (response x.q o) x.doing p is has;
+    files = files-wants m fd c x.kept x.q x.doing is;
+    pools = λ p. admits-wants fd x.kept x.q x.doing p;
+  };
+}

@@ -1,0 +1,254 @@
+-- What of a file's response counts as taken, when it is broken off, and the last call of a connection.
+use Rattle.std.proofs.Common.{◌≡◌, ℕ, ◌+◌, ◌-◌, ◌==◌, ◌≤◌, List, [], ◌∷◌, length, ap, ◌∙◌, refl, sym, arith, Some, None, true, false, Bool, if◌then◌else◌}
+use Rattle.std.specs.Prelude.{nat_lt, nat_le, slice_range}
+use Rattle.std.proofs.lemmas.Bool.Decides.{nat_tests}
+use Rattle.iol_core.specs.State.{State, descriptor, is_live, is_gone, conn_at}
+use Rattle.iol_core.specs.Run.{StepsTo}
+use Rattle.iol_core.specs.declared.limits.TheConstants.{MAX_AGGREGATE_BYTES}
+use Rattle.iol_core.specs.declared.descriptors.Descriptor.TheVariants as on
+use Rattle.iol_core.specs.declared.refusals.Refusal.TheVariants as no
+use Rattle.iol_core.specs.declared.events.Call.TheVariants as call
+use Rattle.iol_core.specs.declared.events.Event.TheVariants as event
+use Rattle.iol_core.specs.declared.events.Reply.{Reply}
+use Rattle.iol_core.specs.declared.events.Reply.TheVariants as reply
+use Rattle.iol_laws.specs.Caller as caller
+use Rattle.iol_laws.specs.Caller.{CallsServeTheirDomain}
+use Rattle.iol_laws.specs.Order.{IsOrderly}
+use Rattle.iol_laws.specs.Reasons.{RefusalsTellWhy}
+use Rattle.iol_laws.specs.RefusalsLeft.{RefusalsThatAreLeft}
+use Rattle.iol_laws.proofs.Streams.Remains.{closed-then}
+use Rattle.flash_http.specs.declared.ranges.Selection.{Selection}
+use Rattle.flash_http.specs.declared.ranges.Selection.TheVariants.{Bytes}
+use Rattle.flash_http.specs.Range.{selected}
+use Rattle.flash_http.specs.Request.{Answer, serve, refuse}
+use Rattle.flash_laws.specs.Answers.{keeps}
+use Rattle.flash_laws.specs.Conn.{Following, is_head_only, most_kept, most_read, piece_end, count_of, wants, sends_of, settled, following, headed, told_rests, told_sends, told_cuts, told_offers, told_swaps, told_sent, told}
+use Rattle.flash_laws.specs.Conn.Fits.{Has}
+use Rattle.flash_laws.specs.Conn.Progress.{is_busy}
+use Rattle.flash_laws.specs.Conn.OfferedBytes.{taken_of, newly_taken, is_dropping}
+use Rattle.flash_laws.specs.Site.{server}
+use Rattle.flash_laws.specs.declared.phase.Learnt.{Learnt}
+use Rattle.flash_laws.specs.declared.phase.Learnt.TheVariants.{File}
+use Rattle.flash_laws.specs.declared.phase.Doing.{Doing}
+use Rattle.flash_laws.specs.declared.phase.Doing.TheVariants.{Rests, Got, Opens, Reads as Reading, Shuts, Picks, Spares, Heads, Joins, Sends, Cuts, Offers, Swaps, Sent, Breaks, Drops, Closes, Over}
+use Rattle.flash_laws.proofs.Forms.{at}
+use Rattle.flash_laws.proofs.Lists.{clash, self, few-taken}
+
+-- ---- before anything is sent nothing is taken
+
+-- a phase in which nothing of the response is taken, nor dropped
+abbrev IsBegun : Doing → Type 0
+IsBegun d = (taken_of d ≡ 0) × (is_dropping d ≡ false)
+
+abbrev is_begun : Doing → Bool
+is_begun (Got a) = true
+is_begun Opens = true
+is_begun (Reading f) = true
+is_begun (Shuts f k) = true
+is_begun (Picks a first last len) = true
+is_begun (Spares a k) = true
+is_begun (Heads k) = true
+is_begun (Joins a size body len) = true
+is_begun Closes = true
+is_begun Over = true
+is_begun d = false
+
+settled-begun : (q : Answer) (k : Learnt) → IsBegun (settled q k)
+settled-begun (serve w) (File a len) = by (selected w.range len)
+  where
+    by : (sel : Selection) → IsBegun (sends_of sel a len)
+    by (Bytes first last) = (refl, refl)
+    by x = (refl, refl)
+settled-begun (refuse status head_only close) (File a len) = (refl, refl)
+settled-begun q k = (refl, refl)
+
+headed-begun : (a size : ℕ) (more : Following) → IsBegun (headed a size more)
+headed-begun a size None = (refl, refl)
+headed-begun a size (Some x) = by (nat_le (size + x.1) MAX_AGGREGATE_BYTES)
+  where
+    by : (b : Bool) → IsBegun (if b then Joins a size x.0 x.1 else Sends a size 0 (Some x))
+    by true = (refl, refl)
+    by false = (refl, refl)
+
+begun : (kept : List ℕ) (q : Answer) (d : Doing) (r : Reply) (heard : List ℕ) → is_begun d ≡ true → IsBegun (told (at kept q d) r heard).doing
+begun kept q (Got a) reply.Done heard is = (refl, refl)
+begun kept q (Got a) r heard is = (refl, refl)
+begun kept q Opens (reply.Fd f) heard is = (refl, refl)
+begun kept q Opens (reply.Refused no.WouldBlock) heard is = (refl, refl)
+begun kept q Opens (reply.Refused z) heard is = (refl, refl)
+begun kept q Opens r heard is = (refl, refl)
+begun kept q (Reading f) (reply.Agg k) heard is = (refl, refl)
+begun kept q (Reading f) (reply.Count k) heard is = (refl, refl)
+begun kept q (Reading f) (reply.Refused no.WouldBlock) heard is = (refl, refl)
+begun kept q (Reading f) (reply.Refused z) heard is = (refl, refl)
+begun kept q (Reading f) r heard is = (refl, refl)
+begun kept q (Shuts f k) reply.Done heard is = settled-begun q k
+begun kept q (Shuts f k) r heard is = (refl, refl)
+begun kept q (Picks a first last len) (reply.Agg k) heard is = (refl, refl)
+begun kept q (Picks a first last len) r heard is = (refl, refl)
+begun kept q (Spares a k) reply.Done heard is = (refl, refl)
+begun kept q (Spares a k) r heard is = (refl, refl)
+begun kept q (Heads k) (reply.Agg a) heard is = headed-begun a (count_of heard) (following k)
+begun kept q (Heads k) r heard is = (refl, refl)
+begun kept q (Joins a size body len) (reply.Agg k) heard is = (refl, refl)
+begun kept q (Joins a size body len) r heard is = (refl, refl)
+begun kept q Closes reply.Done heard is = (refl, refl)
+begun kept q Closes r heard is = (refl, refl)
+begun kept q Over r heard is = (refl, refl)
+begun kept q d r heard is = absurd (cc (is))
+
+none-taken : (d : Doing) → is_begun d ≡ true → taken_of d ≡ 0
+none-taken (Sends a len taken more) is = absurd (cc (is))
+none-taken (Cuts a from len taken more) is = absurd (cc (is))
+none-taken (Offers a from len piece taken more) is = absurd (cc (is))
+none-taken (Swaps a from len piece taken more) is = absurd (cc (is))
+none-taken (Sent a taken more) is = absurd (cc (is))
+none-taken d is = refl
+
+none-newly : (fd : ℕ) (kept : List ℕ) (q : Answer) (d : Doing) (r : Reply) → is_begun d ≡ true → newly_taken fd (wants fd (at kept q d)) r ≡ 0
+none-newly fd kept q (Sends a len taken more) r is = absurd (cc (is))
+none-newly fd kept q (Offers a from len piece taken more) r is = absurd (cc (is))
+none-newly fd kept q (Reading f) r is = by (is_head_only q)
+  where
+    by : (b : Bool) → newly_taken fd (if b then call.Length f else call.IolRead f most_read) r ≡ 0
+    by true = refl
+    by false = refl
+none-newly fd kept q d r is = refl
+
+-- ---- what counts as taken
+
+all-newly : (fd k : ℕ) → (if fd == fd then k else 0) ≡ k
+all-newly fd k = ap (λ b. if b then k else 0) (self fd)
+
+module _ (own : CallsServeTheirDomain) (m n : State) (order : IsOrderly m) (fd c : ℕ) (open_on : descriptor m server fd ≡ Some (on.Connection c)) (q : Answer) (due : List ℕ) where
+  sends : (a len taken : ℕ) (more : Following) (r : Reply) → Has m q due (Sends a len taken more) → StepsTo m (event.Call server (call.IolWrite fd a)) r n
+      → is_dropping (told_sends a len taken more r) ≡ false → taken_of (told_sends a len taken more r) ≡ taken + newly_taken fd (call.IolWrite fd a) r
+  sends a len taken more r has step on = by r (own.write_conn m n server fd c a has.bytes r order open_on has.lends step) on
+    where
+      by : (r : Reply) → caller.WritesConn m c has.bytes r n → is_dropping (told_sends a len taken more r) ≡ false
+          → taken_of (told_sends a len taken more r) ≡ taken + newly_taken fd (call.IolWrite fd a) r
+      by (reply.Count k) puts on = all (nat_lt k len) refl
+        where
+          all : (b : Bool) → nat_lt k len ≡ b → taken_of (if b then Cuts a k len (taken + k) more else Sent a (taken + len) more) ≡ taken + (if fd == fd then k else 0)
+          all true is = ap (λ z. taken + z) (sym (all-newly fd k))
+          all false is = (let size = has.size in let within = puts.within in let new = all-newly fd k in let le : len ≤ k = grind (arith, nat_tests, is) in omega (arith, new, size, within, le))
+      by (reply.Refused no.BrokenPipe) did on = absurd (cc (on))
+      by (reply.Refused y) did on = omega arith
+      by r did on = absurd did
+
+  offers : (a from len piece taken : ℕ) (more : Following) (r : Reply) → Has m q due (Offers a from len piece taken more) → StepsTo m (event.Call server (call.IolWrite fd piece)) r n
+      → is_dropping (told_offers a from len piece taken more r) ≡ false → taken_of (told_offers a from len piece taken more r) ≡ taken + newly_taken fd (call.IolWrite fd piece) r
+  offers a from len piece taken more r has step on =
+      by r (own.write_conn m n server fd c piece (slice_range has.whole.bytes from (piece_end from len)) r order open_on has.lends step) on
+    where
+      by : (r : Reply) → caller.WritesConn m c (slice_range has.whole.bytes from (piece_end from len)) r n → is_dropping (told_offers a from len piece taken more r) ≡ false
+          → taken_of (told_offers a from len piece taken more r) ≡ taken + newly_taken fd (call.IolWrite fd piece) r
+      by (reply.Count k) puts on = ap (λ z. taken + z) ((few-taken k from len has.whole.bytes has.whole.size puts.within).1 ∙ sym (all-newly fd k))
+      by (reply.Refused no.BrokenPipe) did on = absurd (cc (on))
+      by (reply.Refused y) did on = omega arith
+      by r did on = absurd did
+
+  swaps : (a from len piece taken : ℕ) (more : Following) (r : Reply) → taken_of (told_swaps a from len piece taken more r) ≡ taken + newly_taken fd (call.AggDrop piece) r
+  swaps a from len piece taken more reply.Done = by (nat_lt from len)
+    where
+      by : (b : Bool) → taken_of (if b then Cuts a from len taken more else Sent a taken more) ≡ taken + newly_taken fd (call.AggDrop piece) reply.Done
+      by true = omega arith
+      by false = omega arith
+  swaps a from len piece taken more r = omega arith
+
+  cuts : (a from len taken : ℕ) (more : Following) (r : Reply) → taken_of (told_cuts a from len taken more r) ≡ taken + newly_taken fd (call.AggCut a from (piece_end from len)) r
+  cuts a from len taken more (reply.Agg k) = omega arith
+  cuts a from len taken more r = omega arith
+
+  sent : (a taken : ℕ) (more : Following) (r : Reply) → is_busy (told_sent q a taken more r) ≡ true → taken_of (told_sent q a taken more r) ≡ taken + newly_taken fd (call.AggDrop a) r
+  sent a taken (Some x) reply.Done busy = omega arith
+  sent a taken None reply.Done busy = absurd (by (keeps q) busy)
+    where
+      by : (b : Bool) → is_busy (if b then Rests else Closes) ≡ true → ⊥
+      by true busy = cc (busy)
+      by false busy = cc (busy)
+  sent a taken more r busy = omega arith
+
+  rests : (kept : List ℕ) (r : Reply) (heard : List ℕ) → is_dropping (told_rests kept q r heard).doing ≡ false → is_busy (told_rests kept q r heard).doing ≡ true
+      → taken_of (told_rests kept q r heard).doing ≡ newly_taken fd (call.IolRead fd (most_kept - length kept)) r
+  rests kept (reply.Agg k) [] on busy = absurd (cc (on))
+  rests kept (reply.Agg k) (b ∷ heard) on busy = refl
+  rests kept r heard on busy = absurd (cc (busy))
+
+  pub takes : (kept : List ℕ) (d : Doing) (r : Reply) (heard : List ℕ) → Has m q due d → StepsTo m (event.Call server (wants fd (at kept q d))) r n → is_dropping d ≡ false
+      → is_dropping (told (at kept q d) r heard).doing ≡ false → is_busy (told (at kept q d) r heard).doing ≡ true
+      → taken_of (told (at kept q d) r heard).doing ≡ taken_of d + newly_taken fd (wants fd (at kept q d)) r
+  takes kept d r heard has step at_is on busy = by (is_begun d) refl
+    where
+      by : (b : Bool) → is_begun d ≡ b → taken_of (told (at kept q d) r heard).doing ≡ taken_of d + newly_taken fd (wants fd (at kept q d)) r
+      by true is =
+          let new = (begun kept q d r heard is).0 in
+          let was = none-taken d is in
+          let none = none-newly fd kept q d r is in
+          omega (arith, new, was, none)
+      by false is = sending d has step at_is on busy is
+        where
+          sending : (d : Doing) → Has m q due d → StepsTo m (event.Call server (wants fd (at kept q d))) r n → is_dropping d ≡ false
+              → is_dropping (told (at kept q d) r heard).doing ≡ false → is_busy (told (at kept q d) r heard).doing ≡ true → is_begun d ≡ false
+              → taken_of (told (at kept q d) r heard).doing ≡ taken_of d + newly_taken fd (wants fd (at kept q d)) r
+          sending Rests has step at_is on busy is = (let e = rests kept r heard on busy in omega (arith, e))
+          sending (Sends a len taken more) has step at_is on busy is = sends a len taken more r has step on
+          sending (Cuts a from len taken more) has step at_is on busy is = cuts a from len taken more r
+          sending (Offers a from len piece taken more) has step at_is on busy is = offers a from len piece taken more r has step on
+          sending (Swaps a from len piece taken more) has step at_is on busy is = swaps a from len piece taken more r
+          sending (Sent a taken more) has step at_is on busy is = sent a taken more r busy
+          sending (Breaks piece a more) has step at_is on busy is = absurd (cc (at_is))
+          sending (Drops a more) has step at_is on busy is = absurd (cc (at_is))
+          sending d has step at_is on busy is = absurd (cc (is))
+
+-- ---- where it is broken off
+
+module _ (why : RefusalsTellWhy) (m n : State) (fd c : ℕ) (open_on : descriptor m server fd ≡ Some (on.Connection c)) (kept : List ℕ) (q : Answer) (heard : List ℕ) where
+  pub breaks : (d : Doing) (r : Reply) → is_busy d ≡ true → StepsTo m (event.Call server (wants fd (at kept q d))) r n → is_dropping d ≡ false
+      → is_dropping (told (at kept q d) r heard).doing ≡ true → is_gone (conn_at m c).peer ≡ true
+  breaks (Sends a len taken more) (reply.Refused no.BrokenPipe) busy step at_is off = why.peer_is_gone m n server fd c a open_on step
+  breaks (Sends a len taken more) (reply.Count k) busy step at_is off = absurd (by (nat_lt k len) off)
+    where
+      by : (b : Bool) → is_dropping (if b then Cuts a k len (taken + k) more else Sent a (taken + len) more) ≡ true → ⊥
+      by true off = cc (off)
+      by false off = cc (off)
+  breaks (Sends a len taken more) r busy step at_is off = absurd (cc (off))
+  breaks (Cuts a from len taken more) (reply.Agg k) busy step at_is off = absurd (cc (off))
+  breaks (Cuts a from len taken more) r busy step at_is off = absurd (cc (off))
+  breaks (Offers a from len piece taken more) (reply.Refused no.BrokenPipe) busy step at_is off = why.peer_is_gone m n server fd c piece open_on step
+  breaks (Offers a from len piece taken more) (reply.Count k) busy step at_is off = absurd (cc (off))
+  breaks (Offers a from len piece taken more) r busy step at_is off = absurd (cc (off))
+  breaks (Swaps a from len piece taken more) reply.Done busy step at_is off = absurd (by (nat_lt from len) off)
+    where
+      by : (b : Bool) → is_dropping (if b then Cuts a from len taken more else Sent a taken more) ≡ true → ⊥
+      by true off = cc (off)
+      by false off = cc (off)
+  breaks (Swaps a from len piece taken more) r busy step at_is off = absurd (cc (off))
+  breaks (Sent a taken (Some x)) reply.Done busy step at_is off = absurd (cc (off))
+  breaks (Sent a taken None) reply.Done busy step at_is off = absurd (by (keeps q) off)
+    where
+      by : (b : Bool) → is_dropping (if b then Rests else Closes) ≡ true → ⊥
+      by true off = cc (off)
+      by false off = cc (off)
+  breaks (Sent a taken more) r busy step at_is off = absurd (cc (off))
+  breaks (Breaks piece a more) r busy step at_is off = absurd (cc (at_is))
+  breaks (Drops a more) r busy step at_is off = absurd (cc (at_is))
+  breaks Rests r busy step at_is off = absurd (cc (busy))
+  breaks d r busy step at_is off = absurd (begun-on d (begun kept q d r heard refl) off)
+    where
+      begun-on : (d : Doing) → IsBegun (told (at kept q d) r heard).doing → is_dropping (told (at kept q d) r heard).doing ≡ true → ⊥
+      begun-on d is off = clash (is_dropping (told (at kept q d) r heard).doing) off is.1
+
+-- ---- the last call
+
+pub closes : CallsServeTheirDomain → RefusalsThatAreLeft → (m n : State) (fd c : ℕ) (kept : List ℕ) (q : Answer) (d : Doing) (r : Reply) (heard : List ℕ) → IsOrderly m → is_live m server ≡ true
+    → descriptor m server fd ≡ Some (on.Connection c) → d ≡ Closes → StepsTo m (event.Call server (wants fd (at kept q d))) r n
+    → (r ≡ reply.Done) × ((told (at kept q d) r heard).doing ≡ Over) × ((conn_at n c).closed ≡ true)
+closes own may m n fd c kept q Closes r heard order lives open_on is step = by r (own.closes_conn m n server fd c r order open_on step) step
+  where
+    by : (r : Reply) → caller.ClosesConn m c r n → StepsTo m (event.Call server (call.Close fd)) r n
+        → (r ≡ reply.Done) × ((told (at kept q Closes) r heard).doing ≡ Over) × ((conn_at n c).closed ≡ true)
+    by reply.Done did step = (refl, refl, (closed-then m n c did).0)
+    by (reply.Refused z) did step = absurd (may.closes m n server fd (on.Connection c) z lives open_on step)
+    by r did step = absurd did
+closes own may m n fd c kept q d r heard order lives open_on is step = absurd (cc (is))

@@ -1,0 +1,383 @@
+-- What a run uses no more is given up.
+use Rattle.std.proofs.Common.{◌≡◌, ℕ, ◌==◌, List, [], ◌∷◌, ap, ◌∙◌, refl, sym, arith, Option, Some, None, true, false, Bool, if◌then◌else◌, length}
+use Rattle.std.specs.Prelude.{◌||◌, nat_lt}
+use Rattle.iol_core.specs.State.{State, descriptor}
+use Rattle.iol_core.specs.Run.{StepsTo}
+use Rattle.iol_core.specs.Values.{gives_up}
+use Rattle.iol_core.specs.declared.descriptors.Descriptor.TheVariants as on
+use Rattle.iol_core.specs.declared.refusals.Refusal.{Refusal}
+use Rattle.iol_core.specs.declared.refusals.Refusal.TheVariants as no
+use Rattle.iol_core.specs.declared.events.Call.{Call}
+use Rattle.iol_core.specs.declared.events.Call.TheVariants as call
+use Rattle.iol_core.specs.declared.events.Event.TheVariants as event
+use Rattle.iol_core.specs.declared.events.Reply.{Reply}
+use Rattle.iol_core.specs.declared.events.Reply.TheVariants as reply
+use Rattle.iol_laws.specs.Aggregates.{AggregatesComeAndGo, is_refusal}
+use Rattle.iol_laws.specs.Caller as caller
+use Rattle.iol_laws.specs.Caller.{CallsServeTheirDomain, lent_at}
+use Rattle.iol_laws.specs.Order.{IsOrderly}
+use Rattle.flash_http.specs.Request.{serve, Wanted}
+use Rattle.flash_laws.specs.Conn as conn
+use Rattle.flash_laws.specs.Conn.{Following, has_followed, count_of}
+use Rattle.flash_laws.specs.Run.Fits.{Progress, Goes, Ends, IsHeld, HasHeard, HasAll, HasPart, HasStep, HasRun}
+use Rattle.flash_laws.specs.Run.Holdings.{has_end}
+use Rattle.flash_laws.specs.Run.{both, worker_domain, has_frame, step_agg, ends_of, uses_agg, step_wants, wants, is_again, told_gives, told_sending, told_hears, filled, holding, hearing, unread, finishing, told_step, told}
+use Rattle.flash_laws.specs.Site.{server}
+use Rattle.flash_laws.specs.declared.phase.Doing.{Doing}
+use Rattle.flash_laws.specs.declared.phase.Doing.TheVariants as doing
+use Rattle.flash_laws.specs.declared.script_run.TheConstants.{CHUNK_BYTES}
+use Rattle.flash_laws.specs.declared.script_run.Run.{Run}
+use Rattle.flash_laws.specs.declared.script_run.Step.{Step}
+use Rattle.flash_laws.specs.declared.script_run.Step.TheVariants.{Gives, Makes, Hands, Lets, Heads, Sending, Hears, Spills, Gathers, Frames, Wraps, Trims, Ended, Unholds, Stops, Unframes, Lasts, WrapsLast, TrimsLast, Unwraps, Returns, Lapses, Fails}
+use Rattle.flash_laws.specs.declared.script_run.Running.{Running}
+use Rattle.flash_laws.specs.declared.script_run.Running.TheVariants.{Runs, Leaves}
+use Rattle.flash_laws.proofs.Conn.Holdings.{leaves-told}
+use Rattle.flash_laws.proofs.Lists.{clash, later_of, amid, bare, bare-none, former_by, former_of, swapped}
+use Rattle.flash_laws.proofs.Conn.Uses.{same-number}
+
+later_by : (a b : Bool) → (a || b) ≡ true → a ≡ false → b ≡ true
+later_by true b is unused = absurd (cc (unused))
+later_by false b is unused = is
+
+swapped-none : (a b : Bool) → (b || a) ≡ false → (a || b) ≡ false
+swapped-none true true is = is
+swapped-none true false is = is
+swapped-none false b is = bare-none b is
+
+plain : (a b : Bool) → ((a || false) || b) ≡ false → (a || b) ≡ false
+plain true b is = is
+plain false b is = is
+
+-- nothing is held where nobody takes it, or where chunks are not made
+held-none : (m : State) (w : Wanted) (held : Following) (bytes : List ℕ) → IsHeld m w held bytes → bytes ≡ [] → held ≡ None
+held-none m w None bytes has none = refl
+held-none m w (Some x) bytes has none = let c = has.count in let s = has.some in let e = ap (λ (l : List ℕ). length l) none in absurd (omega (arith, c, s, e))
+
+held-plain : (m : State) (w : Wanted) (held : Following) (bytes : List ℕ) → IsHeld m w held bytes → w.chunked ≡ false → held ≡ None
+held-plain m w None bytes has plain = refl
+held-plain m w (Some x) bytes has plain = let c = has.chunked in absurd (cc (c, plain))
+
+unheld : (held : Following) (a : ℕ) → held ≡ None → has_followed held a ≡ false
+unheld held a none = ap (λ (h : Following). has_followed h a) none
+
+-- ---- what is used no more is given up
+
+abbrev Gone : Call → Reply → (a : ℕ) → Type 0
+Gone k r a = (gives_up (event.Call server k) server a ≡ true) × (is_refusal r ≡ false)
+
+holding-frame : (n size : ℕ) (frame : Option ℕ) (a : ℕ) → has_frame frame a ≡ true → step_agg (holding n size frame) a ≡ true
+holding-frame n size frame a u = by (nat_lt size CHUNK_BYTES)
+  where
+    set : (frame : Option ℕ) → has_frame frame a ≡ true → step_agg (filled n frame) a ≡ true
+    set None u = absurd (cc (u))
+    set (Some f) u = later_of (n == a) (f == a) u
+
+    by : (b : Bool) → step_agg (if b then Hears (Some (n, size)) frame else filled n frame) a ≡ true
+    by true = later_of (n == a) (has_frame frame a) u
+    by false = set frame u
+
+pub holding-new : (n size : ℕ) (frame : Option ℕ) (a : ℕ) → (n == a) ≡ true → step_agg (holding n size frame) a ≡ true
+holding-new n size frame a u = by (nat_lt size CHUNK_BYTES)
+  where
+    set : (frame : Option ℕ) → step_agg (filled n frame) a ≡ true
+    set None = u
+    set (Some f) = former_of (n == a) (f == a) u
+
+    by : (b : Bool) → step_agg (if b then Hears (Some (n, size)) frame else filled n frame) a ≡ true
+    by true = former_of (n == a) (has_frame frame a) u
+    by false = set frame
+
+-- what was used when output is read is used then
+hearing-uses : (m : State) (w : Wanted) (o : Progress) (c d : Bool) (held : Following) (frame : Option ℕ) (n len : ℕ) (bytes : List ℕ) (a : ℕ)
+    → IsHeld m w held bytes → Goes c w o bytes → w.chunked ≡ d → (has_followed held a || has_frame frame a) ≡ true
+    → step_agg (hearing c d held frame n len) a ≡ true
+hearing-uses m w o true d held frame n len bytes a holds goes is u =
+    later_of (n == a) (has_frame frame a) (later_by (has_followed held a) (has_frame frame a) u (unheld held a (held-none m w held bytes holds goes.1)))
+hearing-uses m w o false false held frame n len bytes a holds goes is u =
+    later_of ((n == a) || false) (has_frame frame a) (later_by (has_followed held a) (has_frame frame a) u (unheld held a (held-plain m w held bytes holds is)))
+hearing-uses m w o false true None frame n len bytes a holds goes is u = holding-frame n len frame a u
+hearing-uses m w o false true (Some x) frame n len bytes a holds goes is u = by (x.0 == a) u
+  where
+    by : (b : Bool) → (b || has_frame frame a) ≡ true → (b || ((n == a) || has_frame frame a)) ≡ true
+    by true u = refl
+    by false u = later_of (n == a) (has_frame frame a) u
+
+-- and so is what is read
+pub hearing-new : (c d : Bool) (held : Following) (frame : Option ℕ) (n len a : ℕ) → (n == a) ≡ true → step_agg (hearing c d held frame n len) a ≡ true
+hearing-new true d held frame n len a u = former_of (n == a) (has_frame frame a) u
+hearing-new false false held frame n len a u = former_of ((n == a) || false) (has_frame frame a) (former_of (n == a) false u)
+hearing-new false true None frame n len a u = holding-new n len frame a u
+hearing-new false true (Some x) frame n len a u = later_of (x.0 == a) ((n == a) || has_frame frame a) (former_of (n == a) (has_frame frame a) u)
+
+unread-uses : (held : Following) (frame : Option ℕ) (a : ℕ) → (has_followed held a || has_frame frame a) ≡ true → step_agg (unread held frame) a ≡ true
+unread-uses None frame a u = u
+unread-uses (Some x) frame a u = u
+
+-- what is held is used to the end
+finishing-uses : (m : State) (w : Wanted) (o : Progress) (run : Run) (b c : Bool) (held : Following) (bytes : List ℕ) (a : ℕ) → IsHeld m w held bytes
+    → Ends b w o bytes → w.chunked ≡ c → uses_agg (finishing b c run held) a ≡ false → has_followed held a ≡ false
+finishing-uses m w o run false true held bytes a holds ends is unused = unused
+finishing-uses m w o run false false held bytes a holds ends is unused = unheld held a (held-plain m w held bytes holds is)
+finishing-uses m w o run true c held bytes a holds ends is unused = unheld held a (held-none m w held bytes holds ends.1)
+
+-- of two that are used, the frame stays
+apart : {A : Type 0} (x y f : Bool) → (x || f) ≡ true → (y || f) ≡ false → (x ≡ true → y ≡ false → A) → A
+apart x y true u unused leaves = absurd (clash (y || true) (later_of y true refl) unused)
+apart x y false u unused leaves = leaves (former_by x false u refl) (bare-none y unused)
+
+module _ (job : ℕ → List ℕ) (m : State) (fd : ℕ) (w : Wanted) (o : Progress) (run : Run) (a : ℕ) where
+  abbrev LeavesAt : Step → Reply → Running → Type 0
+  LeavesAt s r y = step_agg s a ≡ true → uses_agg y a ≡ false → Gone (step_wants job fd w run s) r a
+
+  sending : (d : Doing) (frame : Option ℕ) (r : Reply) → HasPart m w o run d frame → LeavesAt (Sending d frame) r (told_sending run d frame r)
+  sending (doing.Sent b taken None) frame reply.Done h u unused = apart ((b == a) || false) false (has_frame frame a) u unused (λ x y. (bare (b == a) x, refl))
+  sending (doing.Sent b taken None) frame r h u unused = absurd (clash (step_agg (Sending (doing.Sent b taken None) frame) a) u unused)
+  sending (doing.Drops b None) frame reply.Done h u unused = apart ((b == a) || false) false (has_frame frame a) u unused (λ x y. (bare (b == a) x, refl))
+  sending (doing.Drops b None) frame r h u unused = absurd (clash (step_agg (Sending (doing.Drops b None) frame) a) u unused)
+  sending (doing.Sends b len taken None) frame r h u unused = apart (conn.uses_agg (doing.Sends b len taken None) a) (conn.uses_agg (conn.told_sends b len taken None r) a) (has_frame frame a) u unused
+      (leaves-told fd [] (serve w) (doing.Sends b len taken None) r [] a)
+  sending (doing.Cuts b from len taken None) frame r h u unused = apart (conn.uses_agg (doing.Cuts b from len taken None) a) (conn.uses_agg (conn.told_cuts b from len taken None r) a) (has_frame frame a) u unused
+      (leaves-told fd [] (serve w) (doing.Cuts b from len taken None) r [] a)
+  sending (doing.Offers b from len piece taken None) frame r h u unused = apart (conn.uses_agg (doing.Offers b from len piece taken None) a) (conn.uses_agg (conn.told_offers b from len piece taken None r) a) (has_frame frame a) u unused
+      (leaves-told fd [] (serve w) (doing.Offers b from len piece taken None) r [] a)
+  sending (doing.Swaps b from len piece taken None) frame r h u unused = apart (conn.uses_agg (doing.Swaps b from len piece taken None) a) (conn.uses_agg (conn.told_swaps b from len piece taken None r) a) (has_frame frame a) u unused
+      (leaves-told fd [] (serve w) (doing.Swaps b from len piece taken None) r [] a)
+  sending (doing.Breaks piece b None) frame r h u unused = apart (conn.uses_agg (doing.Breaks piece b None) a) (conn.uses_agg (conn.told_breaks piece b None r) a) (has_frame frame a) u unused
+      (leaves-told fd [] (serve w) (doing.Breaks piece b None) r [] a)
+  sending d frame r h u unused = absurd h.is_part
+
+  hears : (held : Following) (frame : Option ℕ) (r : Reply) (heard : List ℕ) → HasHeard m w o run held frame
+      → LeavesAt (Hears held frame) r (told_hears w run held frame r heard)
+  hears held frame (reply.Agg n) [] h u unused = absurd (clash (step_agg (Ended n held frame) a) (later_of (n == a) (has_followed held a || has_frame frame a) u) unused)
+  hears held frame (reply.Agg n) (b ∷ heard) h u unused = absurd (clash (step_agg (hearing run.broken w.chunked held frame n (count_of (b ∷ heard))) a)
+      (hearing-uses m w o run.broken w.chunked held frame n (count_of (b ∷ heard)) h.bytes a h.has.holds h.goes refl u) unused)
+  hears held frame (reply.Refused (no.Denied p)) heard h u unused = absurd (clash (step_agg (unread held frame) a) (unread-uses held frame a u) unused)
+  hears held frame r heard h u unused = absurd (clash (step_agg (Hears held frame) a) u unused)
+
+  stops : (held : Following) (frame : Option ℕ) (r : Reply) (heard : List ℕ) → HasAll m w o run held frame
+      → LeavesAt (Stops held frame) r (told_step w run (Stops held frame) r heard)
+  stops held None reply.Done heard h u unused = absurd (clash (has_followed held a) (bare (has_followed held a) u) (finishing-uses m w o run run.broken w.chunked held h.bytes a h.has.holds h.ends refl unused))
+  stops held (Some f) reply.Done heard h u unused = absurd (clash (step_agg (Unframes f held) a) (swapped (has_followed held a) (f == a) u) unused)
+  stops held frame r heard h u unused = absurd (clash (step_agg (Stops held frame) a) u unused)
+
+  unframes : (f : ℕ) (held : Following) (r : Reply) (heard : List ℕ) → HasAll m w o run held (Some f)
+      → LeavesAt (Unframes f held) r (told_step w run (Unframes f held) r heard)
+  unframes f held reply.Done heard h u unused = (former_by (f == a) (has_followed held a) u (finishing-uses m w o run run.broken w.chunked held h.bytes a h.has.holds h.ends refl unused), refl)
+  unframes f held r heard h u unused = absurd (clash (step_agg (Unframes f held) a) u unused)
+
+  lasts : (held : Following) (r : Reply) (heard : List ℕ) → LeavesAt (Lasts held) r (told_step w run (Lasts held) r heard)
+  lasts None r heard u unused = absurd (cc (u))
+  lasts (Some x) (reply.Agg n) heard u unused = absurd (clash (step_agg (WrapsLast x.0 x.1 n) a) (former_of (x.0 == a) (n == a) u) unused)
+  lasts (Some x) r heard u unused = absurd (clash (step_agg (Lasts (Some x)) a) u unused)
+
+  gathers : (held size piece len : ℕ) (frame : Option ℕ) (r : Reply) (heard : List ℕ) → LeavesAt (Gathers held size piece len frame) r (told_step w run (Gathers held size piece len frame) r heard)
+  gathers held size piece len frame (reply.Agg n) heard u unused = (by (has_frame frame a) refl (held == a) (piece == a) u, refl)
+    where
+      by : (f : Bool) → has_frame frame a ≡ f → (x y : Bool) → (x || (y || f)) ≡ true → (x || y) ≡ true
+      by true is x y u = absurd (clash (step_agg (holding n (both size len) frame) a) (holding-frame n (both size len) frame a is) unused)
+      by false is true y u = refl
+      by false is false y u = bare y u
+  gathers held size piece len frame r heard u unused = absurd (clash (step_agg (Gathers held size piece len frame) a) u unused)
+
+  hands : (j f : ℕ) (r : Reply) (heard : List ℕ) → LeavesAt (Hands j f) r (told_step w run (Hands j f) r heard)
+  hands j f (reply.Count n) heard u unused = absurd (clash (j == a) u unused)
+  hands j f (reply.Refused x) heard u unused = absurd (by (is_again x) unused)
+    where
+      by : (b : Bool) → step_agg (if b then Hands j f else Lapses j) a ≡ false → ⊥
+      by true unused = clash (j == a) u unused
+      by false unused = clash (j == a) u unused
+  hands j f r heard u unused = absurd (clash (j == a) u unused)
+
+  step-leaves : (s : Step) (r : Reply) (heard : List ℕ) → HasStep job m w o run s → LeavesAt s r (told_step w run s r heard)
+  step-leaves (Hands j f) r heard has u unused = hands j f r heard u unused
+  step-leaves (Lets j) reply.Done heard has u unused = (u, refl)
+  step-leaves (Lets j) r heard has u unused = absurd (clash (j == a) u unused)
+  step-leaves (Sending d frame) r heard has u unused = sending d frame r has u unused
+  step-leaves (Hears held frame) r heard has u unused = hears held frame r heard has u unused
+  step-leaves (Spills b frame) reply.Done heard has u unused = (former_by (b == a) (has_frame frame a) u unused, refl)
+  step-leaves (Spills b frame) r heard has u unused = absurd (clash (step_agg (Spills b frame) a) u unused)
+  step-leaves (Gathers held size piece len frame) r heard has u unused = gathers held size piece len frame r heard u unused
+  step-leaves (Frames held) (reply.Agg n) heard has u unused = absurd (clash (step_agg (Wraps held n) a) (former_of (held == a) (n == a) u) unused)
+  step-leaves (Frames held) r heard has u unused = absurd (clash (held == a) u unused)
+  step-leaves (Wraps held frame) (reply.Agg n) heard has u unused = absurd (clash (step_agg (Trims held n (count_of heard) frame) a) (amid (held == a) (n == a) (frame == a) u) unused)
+  step-leaves (Wraps held frame) r heard has u unused = absurd (clash (step_agg (Wraps held frame) a) u unused)
+  step-leaves (Trims held chunk len frame) reply.Done heard has u unused = (former_by (held == a) ((chunk == a) || (frame == a)) u (plain (chunk == a) (frame == a) unused), refl)
+  step-leaves (Trims held chunk len frame) r heard has u unused = absurd (clash (step_agg (Trims held chunk len frame) a) u unused)
+  step-leaves (Ended b held frame) reply.Done heard has u unused = (former_by (b == a) (has_followed held a || has_frame frame a) u unused, refl)
+  step-leaves (Ended b held frame) r heard has u unused = absurd (clash (step_agg (Ended b held frame) a) u unused)
+  step-leaves (Unholds held frame) reply.Done heard has u unused = (former_by (held == a) (has_frame frame a) u unused, refl)
+  step-leaves (Unholds held frame) r heard has u unused = absurd (clash (step_agg (Unholds held frame) a) u unused)
+  step-leaves (Stops held frame) r heard has u unused = stops held frame r heard has.1 u unused
+  step-leaves (Unframes f held) r heard has u unused = unframes f held r heard has u unused
+  step-leaves (Lasts held) r heard has u unused = lasts held r heard u unused
+  step-leaves (WrapsLast held size frame) (reply.Agg n) heard has u unused = absurd (clash (step_agg (TrimsLast held n (count_of heard) frame) a) (amid (held == a) (n == a) (frame == a) u) unused)
+  step-leaves (WrapsLast held size frame) r heard has u unused = absurd (clash (step_agg (WrapsLast held size frame) a) u unused)
+  step-leaves (TrimsLast held chunk len frame) reply.Done heard has u unused = (former_by (held == a) ((chunk == a) || (frame == a)) u (swapped-none (chunk == a) (frame == a) unused), refl)
+  step-leaves (TrimsLast held chunk len frame) r heard has u unused = absurd (clash (step_agg (TrimsLast held chunk len frame) a) u unused)
+  step-leaves (Unwraps frame chunk len) reply.Done heard has u unused = (former_by (frame == a) (chunk == a) u (bare-none (chunk == a) unused), refl)
+  step-leaves (Unwraps frame chunk len) r heard has u unused = absurd (clash (step_agg (Unwraps frame chunk len) a) u unused)
+  step-leaves (Lapses j) reply.Done heard has u unused = (u, refl)
+  step-leaves (Lapses j) r heard has u unused = absurd (clash (j == a) u unused)
+  step-leaves s r heard has u unused = absurd (cc (u))
+
+pub left : (come : AggregatesComeAndGo) (job : ℕ → List ℕ) (m n : State) (fd worker : ℕ) (w : Wanted) (x : Running) (o : Progress) (r : Reply) (heard : List ℕ) (a : ℕ)
+    → IsOrderly m → HasRun job m w o x → StepsTo m (event.Call server (wants job fd w x)) r n
+    → uses_agg x a ≡ true → uses_agg (told worker w x r heard) a ≡ false → lent_at n server a ≡ None
+left come job m n fd worker w (Runs run s) o r heard a order has step u unused =
+    let gives = step-leaves job m fd w o run a s r heard has.1 u unused in
+    come.gone m n (event.Call server (wants job fd w (Runs run s))) r server a order step gives.0 gives.1
+left come job m n fd worker w (Leaves d) o r heard a order has step u unused =
+    let gives = leaves-told fd [] (serve w) d r heard a u unused in
+    come.gone m n (event.Call server (wants job fd w (Leaves d))) r server a order step gives.0 gives.1
+left come job m n fd worker w x o r heard a order has step u unused = absurd (cc (u))
+
+-- ---- an end of the pipe that it has no more is closed, or given away
+
+module _ (own : CallsServeTheirDomain) (job : ℕ → List ℕ) (m n : State) (fd : ℕ) (w : Wanted) (o : Progress) (run : Run) (g : ℕ) where
+  abbrev ShutsAt : Step → Reply → Running → Type 0
+  ShutsAt s r y = StepsTo m (event.Call server (step_wants job fd w run s)) r n → ends_of run s g ≡ true → has_end y g ≡ false → descriptor n server g ≡ None
+
+  -- one that is closed
+  closed : (f : ℕ) (s : Step) (r : Reply) (y : Reply → Running) → StepsTo m (event.Call server (call.Close f)) r n
+      → ((x : Refusal) → has_end (y (reply.Refused x)) g ≡ ends_of run s g) → (has_end (y reply.Done) g ≡ false → (f == g) ≡ true)
+      → ends_of run s g ≡ true → has_end (y r) g ≡ false → descriptor n server g ≡ None
+  closed f s r y step same which u unused = by r (own.closes m n server f r step) unused
+    where
+      by : (r : Reply) → caller.Closes m server f r n → has_end (y r) g ≡ false → descriptor n server g ≡ None
+      by reply.Done did unused = ap (λ z. descriptor n server z) (sym (same-number f g (which unused))) ∙ did
+      by (reply.Refused x) did unused = absurd (clash (ends_of run s g) u (sym (same x) ∙ unused))
+      by r did unused = absurd did
+
+  gives : (write : ℕ) (r : Reply) (heard : List ℕ) → HasStep job m w o run (Gives write) → ShutsAt (Gives write) r (told_step w run (Gives write) r heard)
+  gives write r heard has step u unused = by r (own.gives_fd m n server write (worker_domain run.worker) (on.WriteEnd has.0.pipe) r has.0.write_end step) unused
+    where
+      again : (b : Bool) → has_end (Runs run (if b then Gives write else Returns write)) g ≡ false → ⊥
+      again true unused = clash (ends_of run (Gives write) g) u unused
+      again false unused = clash (ends_of run (Gives write) g) u unused
+
+      other : server ≡ worker_domain run.worker → ⊥
+      other is = absurd (omega (arith, is))
+
+      by : (r : Reply) → caller.GivesFd m server write (worker_domain run.worker) (on.WriteEnd has.0.pipe) r n → has_end (Runs run (told_gives write r)) g ≡ false → descriptor n server g ≡ None
+      by (reply.Fd f) did unused = ap (λ z. descriptor n server z) (sym (same-number write g (later_by (run.from == g) (write == g) u (none (run.from == g) unused)))) ∙ did.left other
+        where
+          none : (b : Bool) → (b || false) ≡ false → b ≡ false
+          none true is = is
+          none false is = refl
+      by (reply.Refused y) did unused = absurd (again (is_again y) unused)
+      by r did unused = absurd did
+
+  holding-ends : (held size : ℕ) (frame : Option ℕ) → has_end (Runs run (holding held size frame)) g ≡ ((run.from == g) || false)
+  holding-ends held size frame = by (nat_lt size CHUNK_BYTES) frame
+    where
+      by : (b : Bool) (frame : Option ℕ) → has_end (Runs run (if b then Hears (Some (held, size)) frame else filled held frame)) g ≡ ((run.from == g) || false)
+      by true frame = refl
+      by false None = refl
+      by false (Some f) = refl
+
+  hearing-ends : (c d : Bool) (held : Following) (frame : Option ℕ) (k len : ℕ) → has_end (Runs run (hearing c d held frame k len)) g ≡ ((run.from == g) || false)
+  hearing-ends true d held frame k len = refl
+  hearing-ends false false held frame k len = refl
+  hearing-ends false true None frame k len = holding-ends k len frame
+  hearing-ends false true (Some x) frame k len = refl
+
+  sending-ends : (d : Doing) (frame : Option ℕ) (r : Reply) → has_end (told_sending run d frame r) g ≡ ((run.from == g) || false)
+  sending-ends (doing.Sent b taken None) frame reply.Done = refl
+  sending-ends (doing.Drops b None) frame reply.Done = refl
+  sending-ends d frame r = refl
+
+  hears-ends : (held : Following) (frame : Option ℕ) (r : Reply) (heard : List ℕ) → has_end (told_hears w run held frame r heard) g ≡ ((run.from == g) || false)
+  hears-ends held frame (reply.Agg k) [] = refl
+  hears-ends held frame (reply.Agg k) (b ∷ heard) = hearing-ends run.broken w.chunked held frame k (count_of (b ∷ heard))
+  hears-ends None frame (reply.Refused (no.Denied p)) heard = refl
+  hears-ends (Some x) frame (reply.Refused (no.Denied p)) heard = refl
+  hears-ends held frame r heard = refl
+
+  hands-ends : (j f : ℕ) (r : Reply) (heard : List ℕ) → has_end (told_step w run (Hands j f) r heard) g ≡ ((run.from == g) || false)
+  hands-ends j f (reply.Count k) heard = refl
+  hands-ends j f (reply.Refused x) heard = by (is_again x)
+    where
+      by : (b : Bool) → has_end (Runs run (if b then Hands j f else Lapses j)) g ≡ ((run.from == g) || false)
+      by true = refl
+      by false = refl
+  hands-ends j f r heard = refl
+
+  abbrev Stays : Step → Reply → List ℕ → Type 0
+  Stays s r heard = has_end (told_step w run s r heard) g ≡ ((run.from == g) || false)
+
+  makes-ends : (f : ℕ) (r : Reply) (heard : List ℕ) → Stays (Makes f) r heard
+  makes-ends f (reply.Agg k) heard = refl
+  makes-ends f r heard = refl
+
+  lets-ends : (j : ℕ) (r : Reply) (heard : List ℕ) → Stays (Lets j) r heard
+  lets-ends j reply.Done heard = refl
+  lets-ends j r heard = refl
+
+  heads-ends : (r : Reply) (heard : List ℕ) → Stays Heads r heard
+  heads-ends (reply.Agg k) heard = refl
+  heads-ends r heard = refl
+
+  spills-ends : (b : ℕ) (frame : Option ℕ) (r : Reply) (heard : List ℕ) → Stays (Spills b frame) r heard
+  spills-ends b frame reply.Done heard = refl
+  spills-ends b frame r heard = refl
+
+  gathers-ends : (held size piece len : ℕ) (frame : Option ℕ) (r : Reply) (heard : List ℕ) → Stays (Gathers held size piece len frame) r heard
+  gathers-ends held size piece len frame (reply.Agg k) heard = holding-ends k (both size len) frame
+  gathers-ends held size piece len frame r heard = refl
+
+  frames-ends : (held : ℕ) (r : Reply) (heard : List ℕ) → Stays (Frames held) r heard
+  frames-ends held (reply.Agg k) heard = refl
+  frames-ends held r heard = refl
+
+  wraps-ends : (held frame : ℕ) (r : Reply) (heard : List ℕ) → Stays (Wraps held frame) r heard
+  wraps-ends held frame (reply.Agg k) heard = refl
+  wraps-ends held frame r heard = refl
+
+  trims-ends : (held chunk len frame : ℕ) (r : Reply) (heard : List ℕ) → Stays (Trims held chunk len frame) r heard
+  trims-ends held chunk len frame reply.Done heard = refl
+  trims-ends held chunk len frame r heard = refl
+
+  ended-ends : (b : ℕ) (held : Following) (frame : Option ℕ) (r : Reply) (heard : List ℕ) → Stays (Ended b held frame) r heard
+  ended-ends b held frame reply.Done heard = refl
+  ended-ends b held frame r heard = refl
+
+  unholds-ends : (held : ℕ) (frame : Option ℕ) (r : Reply) (heard : List ℕ) → Stays (Unholds held frame) r heard
+  unholds-ends held frame reply.Done heard = refl
+  unholds-ends held frame r heard = refl
+
+  lapses-ends : (j : ℕ) (r : Reply) (heard : List ℕ) → Stays (Lapses j) r heard
+  lapses-ends j reply.Done heard = refl
+  lapses-ends j r heard = refl
+
+  kept : (s : Step) (r : Reply) (heard : List ℕ) → ends_of run s g ≡ true → has_end (told_step w run s r heard) g ≡ ends_of run s g
+      → has_end (told_step w run s r heard) g ≡ false → descriptor n server g ≡ None
+  kept s r heard u same unused = absurd (clash (ends_of run s g) u (sym same ∙ unused))
+
+  step-shuts : (s : Step) (r : Reply) (heard : List ℕ) → HasStep job m w o run s → ShutsAt s r (told_step w run s r heard)
+  step-shuts (Gives write) r heard has step u unused = gives write r heard has step u unused
+  step-shuts (Returns write) r heard has step u unused = closed write (Returns write) r (λ k. told_step w run (Returns write) k heard) step (λ x. refl)
+      (λ none. later_by (run.from == g) (write == g) u (bare-none (run.from == g) none)) u unused
+  step-shuts (Stops held frame) r heard has step u unused = closed run.from (Stops held frame) r (λ k. told_step w run (Stops held frame) k heard) step (λ x. refl)
+      (λ none. bare (run.from == g) u) u unused
+  step-shuts Fails r heard has step u unused = closed run.from Fails r (λ k. told_step w run Fails k heard) step (λ x. refl) (λ none. bare (run.from == g) u) u unused
+  step-shuts (Makes f) r heard has step u unused = kept (Makes f) r heard u (makes-ends f r heard) unused
+  step-shuts (Hands j f) r heard has step u unused = kept (Hands j f) r heard u (hands-ends j f r heard) unused
+  step-shuts (Lets j) r heard has step u unused = kept (Lets j) r heard u (lets-ends j r heard) unused
+  step-shuts Heads r heard has step u unused = kept Heads r heard u (heads-ends r heard) unused
+  step-shuts (Sending d frame) r heard has step u unused = kept (Sending d frame) r heard u (sending-ends d frame r) unused
+  step-shuts (Hears held frame) r heard has step u unused = kept (Hears held frame) r heard u (hears-ends held frame r heard) unused
+  step-shuts (Spills b frame) r heard has step u unused = kept (Spills b frame) r heard u (spills-ends b frame r heard) unused
+  step-shuts (Gathers held size piece len frame) r heard has step u unused = kept (Gathers held size piece len frame) r heard u (gathers-ends held size piece len frame r heard) unused
+  step-shuts (Frames held) r heard has step u unused = kept (Frames held) r heard u (frames-ends held r heard) unused
+  step-shuts (Wraps held frame) r heard has step u unused = kept (Wraps held frame) r heard u (wraps-ends held frame r heard) unused
+  step-shuts (Trims held chunk len frame) r heard has step u unused = kept (Trims held chunk len frame) r heard u (trims-ends held chunk len frame r heard) unused
+  step-shuts (Ended b held frame) r heard has step u unused = kept (Ended b held frame) r heard u (ended-ends b held frame r heard) unused
+  step-shuts (Unholds held frame) r heard has step u unused = kept (Unholds held frame) r heard u (unholds-ends held frame r heard) unused
+  step-shuts (Lapses j) r heard has step u unused = kept (Lapses j) r heard u (lapses-ends j r heard) unused
+  step-shuts s r heard has step u unused = absurd (cc (u))
+
+pub shut : (own : CallsServeTheirDomain) (job : ℕ → List ℕ) (m n : State) (fd worker : ℕ) (w : Wanted) (x : Running) (o : Progress) (r : Reply) (heard : List ℕ) (g : ℕ)
+    → HasRun job m w o x → StepsTo m (event.Call server (wants job fd w x)) r n
+    → has_end x g ≡ true → has_end (told worker w x r heard) g ≡ false → descriptor n server g ≡ None
+shut own job m n fd worker w (Runs run s) o r heard g has step u unused = step-shuts own job m n fd w o run g s r heard has.1 step u unused
+shut own job m n fd worker w x o r heard g has step u unused = absurd (cc (u))

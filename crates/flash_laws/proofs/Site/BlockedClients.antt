@@ -1,0 +1,187 @@
+-- A client whose call would block is as it was.
+use Rattle.std.proofs.Common.{inl, inr, ◌≡◌, ℕ, zero, suc, ◌+◌, ◌-◌, ◌<◌, ◌≤◌, ◌⊎◌, List, [], ◌∷◌, ◌++◌, length, ap, ◌∙◌, refl, sym, subst, arith, Option, Some, None, true, false, Bool, append-nil, slice_set}
+use Rattle.std.specs.Prelude.{replicate}
+use Rattle.std.proofs.lemmas.Bool.{cases_lt}
+use Rattle.std.proofs.lemmas.Bool.Decides.{nat_tests}
+use Rattle.std.proofs.lemmas.Grind.{common_steps}
+use Rattle.iol_core.specs.NumberedLists.{in_place}
+use Rattle.iol_core.specs.State.{State}
+use Rattle.iol_core.specs.declared.refusals.Refusal.TheVariants as no
+use Rattle.iol_core.specs.declared.descriptors.Mode.TheVariants as modes
+use Rattle.iol_core.specs.declared.events.Call.{Call}
+use Rattle.iol_core.specs.declared.events.Call.TheVariants as call
+use Rattle.iol_core.specs.declared.events.Event.TheVariants as event
+use Rattle.iol_core.specs.declared.events.Reply.TheVariants as reply
+use Rattle.iol_core.specs.Run.{StepsTo}
+use Rattle.iol_laws.specs.RefusalsLeft.{may_wait}
+use Rattle.flash_http.specs.Request.{Answer, serve, refuse, Wanted}
+use Rattle.flash_laws.specs.Client.{Client, is_for_script, conn_wants, wants, Readies, IsAwaiting, kept_text, told_spares, file_told, keeps_text, text_on, goes_on, run_told, told, left_over}
+use Rattle.flash_laws.specs.Conn as conn
+use Rattle.flash_laws.specs.Conn.{Conn, is_head_only, text_of, begins, Starts}
+use Rattle.flash_laws.specs.World.Idle.{WouldWait, Blocks, BlocksAt}
+use Rattle.flash_laws.specs.Site.Places.{first_free, has_free, runs_scripts, told_at}
+use Rattle.flash_laws.specs.Run as running
+use Rattle.flash_laws.specs.Run.{is_over, told_sending}
+use Rattle.flash_laws.specs.Site.OtherConns.{with_at, left_by}
+use Rattle.flash_laws.specs.declared.phase.Content.TheVariants.{Error, Script}
+use Rattle.flash_laws.specs.declared.phase.Doing.{Doing}
+use Rattle.flash_laws.specs.declared.phase.Doing.TheVariants.{Rests, Reads as Reading, Spares, Sent, Drops, Over}
+use Rattle.flash_laws.specs.declared.script_run.Run.{Run}
+use Rattle.flash_laws.specs.declared.script_run.Step.{Step}
+use Rattle.flash_laws.specs.declared.script_run.Step.TheVariants as act
+use Rattle.flash_laws.specs.declared.script_run.Running.{Running}
+use Rattle.flash_laws.specs.declared.script_run.Running.TheVariants.{Runs, Leaves}
+use Rattle.flash_laws.proofs.Forms.{at, of}
+use Rattle.flash_laws.proofs.Lists.{never_passed}
+
+-- which calls may be told to wait
+abbrev pub WaitLaw : Type 0
+WaitLaw = (s t : State) (d : ℕ) (k : Call) → StepsTo s (event.Call d k) (reply.Refused no.WouldBlock) t → may_wait k ≡ true
+
+-- Places.
+
+pub none-in : (clients : List (Option Client)) (i : ℕ) → length clients ≤ i → in_place clients i ≡ None
+none-in clients i past = grind (arith, nat_tests, common_steps, past)
+
+grown-none : (clients : List (Option Client)) (fd : ℕ) → fd < length clients
+    → clients ++ replicate (fd + 1 - length clients) None ≡ clients
+grown-none clients fd lt = (let e : fd + 1 - length clients ≡ 0 = omega (arith, lt) in ap (λ k. clients ++ replicate k None) e ∙ append-nil clients)
+
+set-there : (clients : List (Option Client)) (fd : ℕ) (x : Client) → in_place clients fd ≡ Some x
+    → slice_set clients fd (Some x) ≡ clients
+set-there [] fd x is = absurd (cc)
+set-there (y ∷ clients) zero x is = ap (λ (z : Option Client). z ∷ clients) (sym is)
+set-there (y ∷ clients) (suc fd) x is = ap (λ (l : List (Option Client)). y ∷ l) (set-there clients fd x is)
+
+within : (clients : List (Option Client)) (fd : ℕ) (x : Client) → in_place clients fd ≡ Some x → fd < length clients
+within clients fd x is = elim (cases_lt fd (length clients)) [ inl lt ↦ lt | inr past ↦ (let none = none-in clients fd past in absurd (cc (none, is))) ]
+
+-- the same client in its place changes nothing
+pub same-there : (clients : List (Option Client)) (fd : ℕ) (x : Client) → in_place clients fd ≡ Some x
+    → with_at clients fd (Some x) ≡ clients
+same-there clients fd x is = ap (λ (l : List (Option Client)). slice_set l fd (Some x)) (grown-none clients fd (within clients fd x is)) ∙ set-there clients fd x is
+
+-- A connection that would block is as it was.
+
+conn-blocked : (kept : List ℕ) (q : Answer) (d : Doing) (heard : List ℕ) → conn.told (at kept q d) (reply.Refused no.WouldBlock) heard ≡ at kept q d
+conn-blocked kept q Rests heard = refl
+conn-blocked kept q d heard = refl
+
+-- so is a run
+
+part-blocked : (run : Run) (d : Doing) (frame : Option ℕ) → told_sending run d frame (reply.Refused no.WouldBlock) ≡ Runs run (act.Sending d frame)
+part-blocked run (Sent a taken None) frame = refl
+part-blocked run (Drops a None) frame = refl
+part-blocked run d frame = refl
+
+step-blocked : (w : Wanted) (run : Run) (s : Step) (heard : List ℕ) → running.told_step w run s (reply.Refused no.WouldBlock) heard ≡ Runs run s
+step-blocked w run (act.Sending d frame) heard = part-blocked run d frame
+step-blocked w run s heard = refl
+
+run-blocked : (worker : ℕ) (w : Wanted) (y : Running) (heard : List ℕ) → running.told worker w y (reply.Refused no.WouldBlock) heard ≡ y
+run-blocked worker w (Runs run s) heard = step-blocked w run s heard
+run-blocked worker w (Leaves d) heard = ap (λ (x : Conn). Leaves x.doing) (conn-blocked [] (serve w) d heard)
+run-blocked worker w x heard = refl
+
+-- one that stands still is neither over now, nor is its text kept no more
+same-text : (k : Bool) (text : List ℕ) → text_on k k text ≡ text
+same-text true text = refl
+same-text false text = refl
+
+stands : (x : Client) (y : Running) (over : Bool) → x.run ≡ Some y → goes_on over over x y y ≡ x
+stands x y over run_is =
+    same over
+    ∙ (ap (λ (l : List ℕ). record { conn = x.conn; run = Some y; script = l }) (same-text (keeps_text y) x.script)
+    ∙ ap (λ (o : Option Running). record { conn = x.conn; run = o; script = x.script }) (sym run_is))
+  where
+    same : (b : Bool) → goes_on b b x y y ≡ record { conn = x.conn; run = Some y; script = text_on (keeps_text y) (keeps_text y) x.script }
+    same true = refl
+    same false = refl
+
+-- A client that would block is as it was.
+
+script-blocked : (kept : List ℕ) (q : Answer) (d : Doing) (script heard : List ℕ) → file_told true (of (at kept q d) None script) (reply.Refused no.WouldBlock) heard ≡ of (at kept q d) None script
+script-blocked kept q (Reading f) script heard = by (is_head_only q)
+  where
+    by : (h : Bool) → of (at kept q (Reading f)) None (kept_text h script (reply.Refused no.WouldBlock) heard) ≡ of (at kept q (Reading f)) None script
+    by true = refl
+    by false = refl
+script-blocked kept q (Spares a Script) script heard = by (is_head_only q)
+  where
+    by : (h : Bool) → of (at kept q (Spares a Script)) (told_spares h (reply.Refused no.WouldBlock)) script ≡ of (at kept q (Spares a Script)) None script
+    by true = refl
+    by false = refl
+script-blocked kept q d script heard = refl
+
+pub told-blocked : (scripts : Bool) (worker : ℕ) (c : Conn) (run : Option Running) (script heard : List ℕ)
+    → told scripts worker (of c run script) (reply.Refused no.WouldBlock) heard ≡ of c run script
+told-blocked scripts worker c None script heard = by (is_for_script scripts c.q)
+  where
+    by : (b : Bool) → file_told b (of c None script) (reply.Refused no.WouldBlock) heard ≡ of c None script
+    by true = script-blocked c.kept c.q c.doing script heard
+    by false = ap (λ (z : Conn). of z None script) (conn-blocked c.kept c.q c.doing heard)
+told-blocked scripts worker c (Some y) script heard = by c.q
+  where
+    by : (q : Answer) → run_told worker q (of c (Some y) script) y (reply.Refused no.WouldBlock) heard ≡ of c (Some y) script
+    by (serve w) = ap (λ (z : Running). goes_on (is_over y) (is_over z) (of c (Some y) script) y z) (run-blocked worker w y heard) ∙ stands (of c (Some y) script) y (is_over y) refl
+    by (refuse status head_only close) = refl
+
+-- and it is not over
+doing-blocked : WaitLaw → (m : State) (by fd : ℕ) (b : Bool) (kept : List ℕ) (q : Answer) (d : Doing) (x : Client) → WouldWait m by (conn_wants b fd (at kept q d)) → left_by d x ≡ Some x
+doing-blocked waits m by fd true kept q Over x step = absurd (let may = waits m m by (call.Close fd) step in cc (may))
+doing-blocked waits m by fd false kept q Over x step = absurd (let may = waits m m by (call.Close fd) step in cc (may))
+doing-blocked waits m by fd b kept q d x step = refl
+
+left-blocked : WaitLaw → (m : State) (by workers fd : ℕ) (clients : List (Option Client)) (c : Conn) (run : Option Running) (script : List ℕ)
+    → Blocks m by workers clients fd (of c run script) → left_over (of c run script) ≡ Some (of c run script)
+left-blocked waits m by workers fd clients c (Some y) script blocks = refl
+left-blocked waits m by workers fd clients c None script blocks = elim blocks.1 [
+  | inl passed ↦ absurd (never_passed (has_free workers clients) passed)
+  | inr step ↦ doing-blocked waits m by fd (is_for_script (runs_scripts workers) c.q) c.kept c.q c.doing (of c None script) step
+]
+
+pub filed-at : WaitLaw → (m : State) (by workers fd : ℕ) (clients : List (Option Client)) (heard : List ℕ)
+    → BlocksAt m by workers clients fd
+    → told_at workers clients fd (in_place clients fd) (reply.Refused no.WouldBlock) heard ≡ clients
+filed-at waits m by workers fd clients heard blocked = at_place (in_place clients fd) refl
+  where
+    at_place : (o : Option Client) → in_place clients fd ≡ o → told_at workers clients fd o (reply.Refused no.WouldBlock) heard ≡ clients
+    at_place None is = refl
+    at_place (Some x) is =
+        ap (λ (y : Client). with_at clients fd (left_over y)) (told-blocked (runs_scripts workers) (first_free workers clients) x.conn x.run x.script heard)
+        ∙ (ap (λ (o : Option Client). with_at clients fd o) (left-blocked waits m by workers fd clients x.conn x.run x.script (blocked x is)) ∙ same-there clients fd x is)
+
+-- What is made ready is what stood there, or begins.
+
+abbrev Stands : Conn → Conn → Type 0
+Stands x y = (y ≡ x) × conn.IsAwaiting y
+
+abbrev Begins : Conn → Type 0
+Begins y = (p : Answer) × (rest : List ℕ) × (y ≡ at rest p (begins p))
+
+pub conn-ready : (kept : List ℕ) (q : Answer) (d : Doing) (y : Conn) → conn.Readies (at kept q d) y → Stands (at kept q d) y ⊎ Begins y
+conn-ready kept q Rests y ready = by ready
+  where
+    by : Starts (at kept q Rests) y → Stands (at kept q Rests) y ⊎ Begins y
+    by (inl waits) = inl (waits.1, subst (λ (x : Conn). conn.IsAwaiting x) (sym waits.1) waits.0)
+    by (inr some) = inr (some.0, some.1, some.3)
+conn-ready kept q d y ready = inl (ready, subst (λ (x : Conn). conn.IsAwaiting x) (sym ready) tt)
+
+-- a request that begins does not block
+never-waits : WaitLaw → (m : State) (by fd : ℕ) (b : Bool) (rest : List ℕ) (p : Answer) → WouldWait m by (conn_wants b fd (at rest p (begins p))) → ⊥
+never-waits waits m by fd true rest (serve w) step = (let may = waits m m by (call.OpenFile w.name modes.Read) step in cc (may))
+never-waits waits m by fd false rest (serve w) step = (let may = waits m m by (call.OpenFile w.name modes.Read) step in cc (may))
+never-waits waits m by fd true rest (refuse status head_only close) step = (let may = waits m m by (call.AggMake (text_of (refuse status head_only close) (Error status))) step in cc (may))
+never-waits waits m by fd false rest (refuse status head_only close) step = (let may = waits m m by (call.AggMake (text_of (refuse status head_only close) (Error status))) step in cc (may))
+
+-- what stood is what is ready, where its call would block
+pub ready-blocked : WaitLaw → (m : State) (by fd : ℕ) (scripts : Bool) (c : Conn) (run : Option Running) (script : List ℕ) (y : Client)
+    → Readies (of c run script) y → WouldWait m by (wants scripts fd y) → (y ≡ of c run script) × IsAwaiting y
+ready-blocked waits m by fd scripts c (Some z) script y ready step = (ready, subst (λ (x : Client). IsAwaiting x) (sym ready) tt)
+ready-blocked waits m by fd scripts c None script y ready step = elim (conn-ready c.kept c.q c.doing ready.0 ready.1) [
+  | inl stands ↦ (
+    ready.2 ∙ ap (λ (x : Conn). of x None script) stands.0,
+    subst (λ (x : Client). IsAwaiting x) (sym ready.2) stands.1,
+  )
+  | inr begun ↦ absurd (never-waits waits m by fd (is_for_script scripts begun.0) begun.1 begun.0 (subst (λ (x : Client). WouldWait m by (wants scripts fd x)) (ready.2 ∙ ap (λ (x : Conn). of x None script) begun.2) step))
+]

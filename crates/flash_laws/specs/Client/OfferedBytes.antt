@@ -1,0 +1,202 @@
+-- What the server offers a client for a request, be it for a file or for a script, is the next bytes of the response.
+--
+-- It is said of each step, calm or not: what the machine has of a response it goes on having, unless somebody gives up or moves
+-- what the client uses. That over a whole run nobody does is not said here.
+use Rattle.std.specs.Prelude.{◌≡◌, ◌⊎◌, ℕ, ◌+◌, Bool, true, false, not, List, [], ◌++◌, Option, Some, None}
+use Rattle.iol_core.specs.Access.{HasAccess}
+use Rattle.iol_core.specs.State.{State, descriptor, is_live}
+use Rattle.iol_core.specs.Run.{StepsTo}
+use Rattle.iol_core.specs.Values.{gives_up}
+use Rattle.iol_core.specs.declared.descriptors.Descriptor.TheVariants as on
+use Rattle.iol_core.specs.declared.events.Call.TheVariants as call
+use Rattle.iol_core.specs.declared.events.Event.{Event}
+use Rattle.iol_core.specs.declared.events.Event.TheVariants as event
+use Rattle.iol_core.specs.declared.events.Reply.{Reply}
+use Rattle.iol_core.specs.declared.events.Reply.TheVariants as reply
+use Rattle.iol_laws.specs.Frame.{touches_fd}
+use Rattle.iol_laws.specs.Order.{IsOrderly}
+use Rattle.flash_http.specs.Request.{Answer, serve, Wanted}
+use Rattle.flash_laws.specs.Answers.{Outcome}
+use Rattle.flash_laws.specs.Client.{Client, uses_agg, uses_fd, job_of, wants, is_for_script, awaits, after_run, told}
+use Rattle.flash_laws.specs.Conn as conn
+use Rattle.flash_laws.specs.Conn.{begins, most_read}
+use Rattle.flash_laws.specs.Conn.Fits.{Names, is_closing}
+use Rattle.flash_laws.specs.Client.ResponseState.{Known, OfFile, OfScript, of_text, taken_before, IsNextOf, HasKnown}
+use Rattle.flash_laws.specs.Conn.Progress.{Rank, Nears, CanMake, is_busy}
+use Rattle.flash_laws.specs.Conn.OfferedBytes as file
+use Rattle.flash_laws.specs.Conn.OfferedBytes.{FirstCall, newly_taken, is_dropping, may_repeat}
+use Rattle.flash_laws.specs.Run.Fits.{Progress, HasJobPipe, HasRun}
+use Rattle.flash_laws.specs.Run.OfferedBytes as run
+use Rattle.flash_laws.specs.Run as running
+use Rattle.flash_laws.specs.Run.{job_pipe, is_over}
+use Rattle.flash_laws.specs.Site.{server}
+use Rattle.flash_laws.specs.declared.phase.Doing.{Doing}
+use Rattle.flash_laws.specs.declared.phase.Doing.TheVariants as doing
+use Rattle.flash_laws.specs.declared.script_run.Step.TheVariants.{Hands}
+use Rattle.flash_laws.specs.declared.script_run.Running.{Running}
+use Rattle.flash_laws.specs.declared.script_run.Running.TheVariants.{Runs}
+
+-- one for which this request begins
+abbrev pub begun : (kept : List ℕ) → Answer → Client
+begun kept q = record { conn = record { kept = kept; q = q; doing = begins q }; run = None; script = [] }
+
+-- whether nothing is left to do for it but to close its connection
+abbrev pub is_ending : Client → Bool
+is_ending x = by x.run
+  where
+    by : Option Running → Bool
+    by None = is_closing x.conn.doing
+    by (Some y) = is_over y
+
+-- What the calls for a file or for the text of a script gave, after the reply to one.
+abbrev pub ConnLearns : (script : Bool) → Doing → Reply → (heard : List ℕ) → (before after : Known) → Type 0
+ConnLearns true (doing.Reads f) (reply.Agg n) heard before after = after ≡ of_text heard
+ConnLearns script d r heard (OfFile o) after = (p : Outcome) × file.Learns d r heard o p × (after ≡ OfFile p)
+ConnLearns script d r heard (OfScript text o) after = after ≡ OfScript text o
+
+-- what those of a run gave
+abbrev pub RunLearns : State → Running → Reply → (heard : List ℕ) → (before after : Known) → Type 0
+RunLearns m y r heard (OfScript text o) after = (p : Progress) × run.Learns m y r heard o p × (after ≡ OfScript text p)
+RunLearns m y r heard (OfFile o) after = ⊥
+
+abbrev pub Learns : (scripts : Bool) → State → Client → Reply → (heard : List ℕ) → (before after : Known) → Type 0
+Learns scripts m x r heard before after = by x.run
+  where
+    by : Option Running → Type 0
+    by None = ConnLearns (is_for_script scripts x.conn.q) x.conn.doing r heard before after
+    by (Some y) = RunLearns m y r heard before after
+
+-- how many bytes are taken of what is being sent
+abbrev pub taken_by : Client → ℕ
+taken_by x = by x.run
+  where
+    by : Option Running → ℕ
+    by None = file.taken_of x.conn.doing
+    by (Some y) = run.taken_by y
+
+-- it writes its job into the pipe of its worker
+abbrev pub HandsJob : Client → (fd a : ℕ) → Type 0
+HandsJob x fd a = by x.run
+  where
+    by : Option Running → Type 0
+    by (Some (Runs y (Hands j f))) = (fd ≡ job_pipe y.worker) × (a ≡ j)
+    by y = ⊥
+
+-- whether something is in progress for it that ends
+abbrev pub is_working : Client → Bool
+is_working x = by x.run
+  where
+    by : Option Running → Bool
+    by None = is_busy x.conn.doing
+    by (Some y) = not (is_over y)
+
+-- more of its script's output was read
+abbrev pub HearsMore : Client → Reply → (heard : List ℕ) → Type 0
+HearsMore x r heard = by x.run
+  where
+    by : Option Running → Type 0
+    by None = ⊥
+    by (Some y) = run.HearsMore y r heard
+
+-- whether what was to be sent for it is dropped
+abbrev pub drops_rest : Client → Bool
+drops_rest x = by x.run
+  where
+    by : Option Running → Bool
+    by None = is_dropping x.conn.doing
+    by (Some y) = run.breaks_off y
+
+-- what is kept of the stream after a reply: what was, and after it what is heard of the stream, where that is read
+abbrev pub kept_by : Client → Reply → (heard : List ℕ) → List ℕ
+kept_by x r heard = by x.run x.conn.doing r
+  where
+    by : Option Running → Doing → Reply → List ℕ
+    by None doing.Rests (reply.Agg n) = x.conn.kept ++ heard
+    by y d r = x.conn.kept
+
+-- The client goes on as its run does, with its connection as it was; once that is over, the connection goes on where it left off.
+pub record GoesOnAs (x : Client) (z : Running) (after : Client) : Type 0 where
+  pub going : is_over z ≡ false → (after.run ≡ Some z) × (after.conn ≡ x.conn)
+  pub ended : is_over z ≡ true
+      → after ≡ record { conn = record x.conn { doing = after_run z }; run = None; script = [] }
+
+-- A client with a run wants, uses and has what that does, and goes on as it does; so what is said of runs
+-- (`Run/OfferedBytes`) is said of it.
+pub record IsAsItsRun (scripts : Bool) (m : State) (x : Client) (w : Wanted) (y : Running) (text : List ℕ)
+    (o : Progress) : Type 0 where
+  pub has : HasRun (job_of w text) m w o y
+  pub asks : (fd : ℕ) → wants scripts fd x ≡ running.wants (job_of w text) fd w y
+  pub aggs : (a : ℕ) → uses_agg x a ≡ running.uses_agg y a
+  pub fds : (g : ℕ) → uses_fd x g ≡ running.uses_fd y g
+  pub tells : (worker : ℕ) (r : Reply) (heard : List ℕ)
+      → GoesOnAs x (running.told worker w y r heard) (told scripts worker x r heard)
+
+-- A client for whose request no script is run wants, uses and has what its connection does, and is told what that is told; so
+-- what is said of connections (`Conn/OfferedBytes`) is said of it.
+pub record IsAsItsConn (scripts : Bool) (m : State) (x : Client) (o : Outcome) : Type 0 where
+  pub has : file.HasAnswer m x.conn o
+  pub asks : (fd : ℕ) → wants scripts fd x ≡ conn.wants fd x.conn
+  pub aggs : (a : ℕ) → uses_agg x a ≡ conn.uses_agg x.conn.doing a
+  pub fds : (g : ℕ) → uses_fd x g ≡ conn.uses_fd x.conn.doing g
+  pub tells : (worker : ℕ) (r : Reply) (heard : List ℕ)
+      → told scripts worker x r heard ≡ record x { conn = conn.told x.conn r heard }
+
+-- `scripts` says whether scripts are run.
+pub record ClientOffersTheResponse (scripts : Bool) : Type 0 where
+  -- a request begins so, with nothing needed yet
+  pub starts : (m : State) (fd : ℕ) (kept : List ℕ) (q : Answer) (o : Outcome)
+      → FirstCall q (wants scripts fd (begun kept q)) × HasKnown scripts m (begun kept q) (OfFile o)
+  -- after the reply to its call more is known, or what was, and the machine has what is needed then; the worker that is free
+  -- is one that has a job pipe
+  pub replied : (m n : State) (fd c worker : ℕ) (x : Client) (r : Reply) (heard : List ℕ) (before : Known)
+      → IsOrderly m → HasAccess m
+      → is_live m server ≡ true → descriptor m server fd ≡ Some (on.Connection c)
+      → (awaits x ≡ true → HasJobPipe m worker)
+      → is_ending x ≡ false
+      → HasKnown scripts m x before → StepsTo m (event.Call server (wants scripts fd x)) r n → Names n r heard
+      → (after : Known) × Learns scripts m x r heard before after × HasKnown scripts n (told scripts worker x r heard) after
+  -- whatever else happens, as long as it neither gives up nor moves what the client uses
+  pub stays : (m n : State) (x : Client) (e : Event) (r : Reply) (known : Known) → StepsTo m e r n
+      → ((a : ℕ) → uses_agg x a ≡ true → gives_up e server a ≡ false)
+      → ((g : ℕ) → uses_fd x g ≡ true → touches_fd m e server g ≡ false) → HasKnown scripts m x known
+      → HasKnown scripts n x known
+  -- what it writes is the next of the response, to its connection; or a job, to a worker
+  pub offers : (m : State) (fd g a : ℕ) (x : Client) (known : Known) → HasKnown scripts m x known
+      → wants scripts fd x ≡ call.IolWrite g a
+      → ((g ≡ fd) × IsNextOf m x.conn.q known a (taken_by x)) ⊎ HandsJob x g a
+  -- as much counts as taken as the connection took, as long as the response is neither over nor broken off
+  pub takes : (m n : State) (fd c worker : ℕ) (x : Client) (r : Reply) (heard : List ℕ) (before after : Known) → IsOrderly m
+      → descriptor m server fd ≡ Some (on.Connection c) → is_ending x ≡ false → HasKnown scripts m x before
+      → StepsTo m (event.Call server (wants scripts fd x)) r n → Learns scripts m x r heard before after
+      → drops_rest x ≡ false → drops_rest (told scripts worker x r heard) ≡ false
+      → is_working (told scripts worker x r heard) ≡ true
+      → taken_before after + taken_by (told scripts worker x r heard)
+      ≡ taken_before before + taken_by x + newly_taken fd (wants scripts fd x) r
+  -- for a request that is not for a script the client is as its connection
+  pub files : (m : State) (x : Client) (o : Outcome) → is_for_script scripts x.conn.q ≡ false → HasKnown scripts m x (OfFile o)
+      → IsAsItsConn scripts m x o
+  -- while a script runs it is as its run
+  pub runs : (m : State) (x : Client) (w : Wanted) (y : Running) (text : List ℕ) (o : Progress) → x.run ≡ Some y
+      → x.conn.q ≡ serve w → is_over y ≡ false → HasKnown scripts m x (OfScript text o) → IsAsItsRun scripts m x w y text o
+  -- the text of a script is read whole, for HEAD too
+  pub whole : (fd f : ℕ) (x : Client) → x.run ≡ None → is_for_script scripts x.conn.q ≡ true → x.conn.doing ≡ doing.Reads f
+      → wants scripts fd x ≡ call.IolRead f most_read
+  -- its request stays, and so does what is kept of the stream, but that what is heard of it is added
+  pub keeps : (worker : ℕ) (x : Client) (r : Reply) (heard : List ℕ)
+      → ((told scripts worker x r heard).conn.q ≡ x.conn.q)
+      × ((told scripts worker x r heard).conn.kept ≡ kept_by x r heard)
+  -- with each reply its request comes nearer to its end, but where more of its script's output was read, or its call is to be
+  -- made again later
+  pub rank : Client → Rank
+  pub nears : (m n : State) (fd c worker : ℕ) (x : Client) (r : Reply) (heard : List ℕ) (known : Known) → IsOrderly m
+      → is_live m server ≡ true → descriptor m server fd ≡ Some (on.Connection c) → is_working x ≡ true
+      → HasKnown scripts m x known → CanMake m (wants scripts fd x)
+      → StepsTo m (event.Call server (wants scripts fd x)) r n → Names n r heard
+      → Nears rank x r (told scripts worker x r heard) ⊎ HearsMore x r heard
+  -- a call that was done is not made again
+  pub moves : (m n : State) (fd worker : ℕ) (x : Client) (r : Reply) (heard : List ℕ) (known : Known) → is_ending x ≡ false
+      → HasKnown scripts m x known → StepsTo m (event.Call server (wants scripts fd x)) r n
+      → told scripts worker x r heard ≡ x → may_repeat (wants scripts fd x) r ≡ true
+
+abbrev pub ClientsAreOfferedTheResponse : Type 0
+ClientsAreOfferedTheResponse = (scripts : Bool) → ClientOffersTheResponse scripts

@@ -1,0 +1,133 @@
+-- What is known of the response to a request, whether it is for a file or for a script, and what the machine has of it.
+use Rattle.std.specs.Prelude.{◌≡◌, ℕ, ◌+◌, Bool, true, false, List, [], ◌++◌, drop, Option, Some, None, if◌then◌else◌}
+use Rattle.iol_core.specs.State.{State}
+use Rattle.iol_laws.specs.Caller.{lent_at}
+use Rattle.flash_http.specs.Request.{Answer, serve, refuse, Wanted}
+use Rattle.flash_laws.specs.Answers.{Outcome, Failed, response, script_text}
+use Rattle.flash_laws.specs.Client.{Client, is_for_script, job_of, can_run, keeps_text}
+use Rattle.flash_laws.specs.Conn.Fits.{Has}
+use Rattle.flash_laws.specs.Run.Fits as run
+use Rattle.flash_laws.specs.Run.Fits.{Progress, Broken, nothing_yet, IsLeft, HasRun}
+use Rattle.flash_laws.specs.Run.OfferedBytes.{past_of}
+use Rattle.flash_laws.specs.Site.{server}
+use Rattle.flash_laws.specs.declared.phase.Learnt.TheVariants.{Text}
+use Rattle.flash_laws.specs.declared.phase.Content.TheVariants.{Script}
+use Rattle.flash_laws.specs.declared.phase.Doing.{Doing}
+use Rattle.flash_laws.specs.declared.phase.Doing.TheVariants as doing
+use Rattle.flash_laws.specs.declared.script_run.Running.{Running}
+
+-- What the calls for a request gave so far.
+pub data Known : Type 0 where
+  -- the outcome of the calls for a file, or why a script is not run
+  OfFile : Outcome → Known
+  -- the text of a script that can run, and how far it has run
+  OfScript : (text : List ℕ) → Progress → Known
+
+-- whether such a text runs: its request is answered with what it puts out
+abbrev pub of_text : List ℕ → Known
+of_text text = if can_run text then OfScript text nothing_yet else OfFile (Failed 500)
+
+-- ---- what may be the response
+
+-- to HEAD its head alone, and no script runs for it
+abbrev pub MayPutOut : (head_only : Bool) → Wanted → Progress → List ℕ → Type 0
+MayPutOut true w o r = r ≡ script_text w
+MayPutOut false w o r = run.MayAnswer w o r
+
+-- What may be the response with what is known: of a file it is one; of a script it is the response to its output, whatever that
+-- will still be.
+abbrev pub MayAnswer : Answer → Known → List ℕ → Type 0
+MayAnswer q (OfFile o) r = r ≡ response q o
+MayAnswer (serve w) (OfScript text o) r = MayPutOut w.head_only w o r
+MayAnswer (refuse status head_only close) (OfScript text o) r = ⊥
+
+-- the bytes of the response that were taken in aggregates before the one that is being sent
+abbrev pub taken_before : Known → ℕ
+taken_before (OfFile o) = 0
+taken_before (OfScript text o) = past_of o
+
+-- the bytes of an aggregate are the next of the response, whatever that will be
+pub record IsNextOf (m : State) (q : Answer) (known : Known) (a taken : ℕ) : Type 0 where
+  pub bytes : List ℕ
+  pub lends : lent_at m server a ≡ Some bytes
+  pub next : (r : List ℕ) → MayAnswer q known r → (after : List ℕ) × (bytes ++ after ≡ drop (taken_before known + taken) r)
+
+-- ---- what the machine has of it
+
+-- whether the text of a script is read that has not yet begun to run
+abbrev pub is_read : Doing → Bool
+is_read (doing.Shuts f (Text a true)) = true
+is_read (doing.Spares a Script) = true
+is_read d = false
+
+-- whether a file, or a script, is still to be opened or read
+abbrev pub is_opening : Doing → Bool
+is_opening doing.Opens = true
+is_opening (doing.Reads f) = true
+is_opening d = false
+
+-- whether nothing of a response is made, or sent any more
+abbrev pub is_silent : Doing → Bool
+is_silent doing.Rests = true
+is_silent (doing.Got a) = true
+is_silent (doing.Breaks piece a more) = true
+is_silent (doing.Drops a more) = true
+is_silent doing.Closes = true
+is_silent d = is_read d
+
+-- the run is to begin, with the text that was read
+pub record IsToRun (x : Client) (text : List ℕ) (o : Progress) : Type 0 where
+  pub kept : x.script ≡ text
+  pub fresh : o ≡ nothing_yet
+
+-- all of the response was taken, or it was broken off
+abbrev pub IsTaken : Wanted → Progress → Type 0
+IsTaken w Broken = Unit {0}
+IsTaken w o = IsLeft w o []
+
+-- After the run the connection rests where all of the response was taken, and it lets it; else it is to be closed.
+abbrev pub IsAfter : Wanted → Progress → Doing → Type 0
+IsAfter w o doing.Rests = IsLeft w o [] × (w.keep ≡ true)
+IsAfter w o (doing.Got a) = IsLeft w o [] × (w.keep ≡ true)
+IsAfter w o d = IsTaken w o
+
+abbrev pub ReadsOn : (read : Bool) → Wanted → Client → (text : List ℕ) → Progress → Type 0
+ReadsOn true w x text o = IsToRun x text o
+ReadsOn false w x text o = IsAfter w o x.conn.doing
+
+-- HEAD is answered as for a file; with GET nothing is sent before the run begins, or after it
+abbrev pub Sends : (head_only : Bool) → Wanted → Client → (text : List ℕ) → Progress → Type 0
+Sends true w x text o = o ≡ nothing_yet
+Sends false w x text o = (is_silent x.conn.doing ≡ true) × ReadsOn (is_read x.conn.doing) w x text o
+
+-- no run has begun, or it is over
+pub record HasNoRun (scripts : Bool) (m : State) (w : Wanted) (x : Client) (text : List ℕ) (o : Progress) : Type 0 where
+  pub script : is_read x.conn.doing ≡ true → is_for_script scripts (serve w) ≡ true
+  pub read : is_opening x.conn.doing ≡ false
+  pub has : Has m (serve w) (script_text w) x.conn.doing
+  pub sends : Sends w.head_only w x text o
+
+-- a run has the connection
+pub record IsRun (m : State) (w : Wanted) (y : Running) (script text : List ℕ) (o : Progress) : Type 0 where
+  pub answers : w.head_only ≡ false
+  pub has : HasRun (job_of w text) m w o y
+  pub kept : keeps_text y ≡ true → script ≡ text
+
+abbrev pub RunsIn : (scripts : Bool) → State → Wanted → Client → (text : List ℕ) → Progress → Option Running → Type 0
+RunsIn scripts m w x text o None = HasNoRun scripts m w x text o
+RunsIn scripts m w x text o (Some y) = IsRun m w y x.script text o
+
+abbrev pub HasScript : (scripts : Bool) → State → Client → Answer → (text : List ℕ) → Progress → Type 0
+HasScript scripts m x (serve w) text o = RunsIn scripts m w x text o x.run
+HasScript scripts m x (refuse status head_only close) text o = ⊥
+
+-- of a file
+pub record HasFile (m : State) (x : Client) (o : Outcome) : Type 0 where
+  pub none : x.run ≡ None
+  pub unread : is_read x.conn.doing ≡ false
+  pub has : Has m x.conn.q (response x.conn.q o) x.conn.doing
+
+-- The machine has what is needed of the response, with what is known.
+abbrev pub HasKnown : (scripts : Bool) → State → Client → Known → Type 0
+HasKnown scripts m x (OfFile o) = HasFile m x o
+HasKnown scripts m x (OfScript text o) = HasScript scripts m x x.conn.q text o

@@ -1,0 +1,43 @@
+-- What a connection wants memory for: to keep the bytes that it hears, to begin a request, and for the bytes of a call.
+use Rattle.std.specs.Prelude.{◌≡◌, ◌⊎◌, ◌<◌, ℕ, Bool, true, false, List, length}
+use Rattle.iol_core.specs.declared.events.Reply.{Reply}
+use Rattle.iol_core.specs.declared.events.Reply.TheVariants as reply
+use Rattle.flash_http.specs.Window.{window_in}
+use Rattle.flash_http.specs.declared.windows.Window.{Window}
+use Rattle.flash_http.specs.declared.windows.Window.TheVariants.{Wait}
+use Rattle.flash_laws.specs.Conn.{Conn, told}
+use Rattle.flash_laws.specs.Conn.Policy.{leaves_off}
+use Rattle.flash_laws.specs.Site.OtherConns.{left_over}
+use Rattle.flash_laws.specs.declared.phase.Doing.{Doing}
+use Rattle.flash_laws.specs.declared.phase.Doing.TheVariants.{Rests, Opens, Heads}
+
+-- whether the call of a phase has bytes of its own: a name, or a head
+abbrev pub has_bytes : Doing → Bool
+has_bytes Opens = true
+has_bytes (Heads k) = true
+has_bytes d = false
+
+-- whether a request can begin: its head has come whole, or no head can come any more
+abbrev pub can_begin : Window → Bool
+can_begin Wait = false
+can_begin w = true
+
+-- whether one that goes on at once begins a request, or makes such a call
+abbrev pub needs_memory : Conn → Bool
+needs_memory x = by x.doing
+  where
+    by : Doing → Bool
+    by Rests = can_begin (window_in x.kept)
+    by d = has_bytes d
+
+-- it was reading, and a byte came
+abbrev pub Hears : Doing → Reply → (heard : List ℕ) → Type 0
+Hears Rests (reply.Agg n) heard = 0 < length heard
+Hears d r heard = ⊥
+
+-- a connection wants memory after a reply: to keep what came, or to go on at once
+abbrev pub WantsOn : Conn → Reply → (heard : List ℕ) → Type 0
+WantsOn x r heard =
+    Hears x.doing r heard
+    ⊎ ((leaves_off (left_over (told x r heard)) r ≡ false)
+    × (needs_memory (told x r heard) ≡ true))

@@ -1,0 +1,91 @@
+-- A run keeps nothing that it does not use: what its calls bring is used by it, and what it uses no more is given up. And it
+-- keeps to itself: its calls touch nothing but what it has.
+--
+-- As what it offers (`Run/OfferedBytes`), it is said of each call of its own, calm or not.
+use Rattle.std.specs.Prelude.{◌≡◌, ℕ, ◌==◌, ◌||◌, Bool, true, false, List, Some, None}
+use Rattle.iol_core.specs.NumberedLists.{lowest}
+use Rattle.iol_core.specs.State.{State, descriptor}
+use Rattle.iol_core.specs.Run.{StepsTo}
+use Rattle.iol_core.specs.Values.{gives_up}
+use Rattle.iol_core.specs.declared.descriptors.Descriptor.TheVariants as on
+use Rattle.iol_core.specs.declared.events.Call.{Call}
+use Rattle.iol_core.specs.declared.events.Call.TheVariants as call
+use Rattle.iol_core.specs.declared.events.Event.TheVariants as event
+use Rattle.iol_core.specs.declared.events.Reply.{Reply}
+use Rattle.iol_core.specs.declared.events.Reply.TheVariants as reply
+use Rattle.iol_laws.specs.Caller.{lent_at}
+use Rattle.iol_laws.specs.Frame.{touches_conn, touches_pipe, touches_fd, changes_files}
+use Rattle.iol_laws.specs.Order.{IsOrderly}
+use Rattle.flash_http.specs.Request.{Wanted}
+use Rattle.flash_laws.specs.Run.Fits.{Progress, HasRun}
+use Rattle.flash_laws.specs.Run.{job_pipe, uses_agg, ends_of, wants, told, is_over}
+use Rattle.flash_laws.specs.Site.{server}
+use Rattle.flash_laws.specs.declared.script_run.Step.TheVariants.{Hands, Returns}
+use Rattle.flash_laws.specs.declared.script_run.Running.{Running}
+use Rattle.flash_laws.specs.declared.script_run.Running.TheVariants.{Awaits, Runs}
+
+-- whether it has this end of its pipe
+abbrev pub has_end : Running → (g : ℕ) → Bool
+has_end (Runs run step) g = ends_of run step g
+has_end x g = false
+
+-- the calls that a run makes
+abbrev pub may_make : Call → Bool
+may_make call.Pipe = true
+may_make (call.GiveFd fd to) = true
+may_make (call.AggMake bytes) = true
+may_make (call.AggCut a from to) = true
+may_make (call.AggJoin a b) = true
+may_make (call.AggReplace a from to b) = true
+may_make (call.AggDrop a) = true
+may_make (call.IolRead fd n) = true
+may_make (call.IolWrite fd a) = true
+may_make (call.Close fd) = true
+may_make k = false
+
+-- the pipe that its call may touch: a new one, that of its worker's jobs, or that of its output
+abbrev pub MayTouch : State → Running → (p : ℕ) → Type 0
+MayTouch m Awaits p = lowest m.pipes ≡ p
+MayTouch m (Runs run (Hands j f)) p = descriptor m server (job_pipe run.worker) ≡ Some (on.WriteEnd p)
+MayTouch m (Runs run (Returns write)) p = descriptor m server write ≡ Some (on.WriteEnd p)
+MayTouch m (Runs run step) p = descriptor m server run.from ≡ Some (on.ReadEnd p)
+MayTouch m x p = ⊥
+
+-- a call that touches nothing but what a run has
+pub record KeepsToItself (m : State) (fd c : ℕ) (x : Running) (k : Call) : Type 0 where
+  pub kind : may_make k ≡ true
+  -- it gives up an aggregate only that it uses
+  pub aggs : (a : ℕ) → gives_up (event.Call server k) server a ≡ true → uses_agg x a ≡ true
+  -- it closes or gives away an end only of its pipe
+  pub fds : (g : ℕ) → touches_fd m (event.Call server k) server g ≡ true → has_end x g ≡ true
+  -- it writes to its connection, and does nothing else to any
+  pub conns : (d : ℕ) → touches_conn m (event.Call server k) d ≡ true → (c ≡ d) × ((a : ℕ) × (k ≡ call.IolWrite fd a))
+  pub pipes : (p : ℕ) → touches_pipe m (event.Call server k) p ≡ true → MayTouch m x p
+  pub files : changes_files m (event.Call server k) ≡ false
+
+pub record RunKeepsNothing (job : ℕ → List ℕ) : Type 0 where
+  -- an aggregate that comes by a call for it is used by it
+  pub brought : (m n : State) (fd c worker : ℕ) (w : Wanted) (x : Running) (o : Progress) (r : Reply)
+      (heard bytes : List ℕ) (a : ℕ)
+      → IsOrderly m → descriptor m server fd ≡ Some (on.Connection c) → is_over x ≡ false → HasRun job m w o x
+      → StepsTo m (event.Call server (wants job fd w x)) r n
+      → lent_at m server a ≡ None → lent_at n server a ≡ Some bytes → uses_agg (told worker w x r heard) a ≡ true
+  -- both ends of a pipe that comes by a call for it are had by it
+  pub opened : (m n : State) (fd worker : ℕ) (w : Wanted) (x : Running) (o : Progress) (from write : ℕ) (heard : List ℕ) (g : ℕ)
+      → is_over x ≡ false → HasRun job m w o x
+      → StepsTo m (event.Call server (wants job fd w x)) (reply.Fds from write) n
+      → ((from == g) || (write == g)) ≡ true → has_end (told worker w x (reply.Fds from write) heard) g ≡ true
+  -- an aggregate that it uses no more is gone
+  pub left : (m n : State) (fd worker : ℕ) (w : Wanted) (x : Running) (o : Progress) (r : Reply) (heard : List ℕ) (a : ℕ)
+      → IsOrderly m → HasRun job m w o x → StepsTo m (event.Call server (wants job fd w x)) r n
+      → uses_agg x a ≡ true → uses_agg (told worker w x r heard) a ≡ false → lent_at n server a ≡ None
+  -- and so is an end of its pipe, which is closed, or given to the worker
+  pub shut : (m n : State) (fd worker : ℕ) (w : Wanted) (x : Running) (o : Progress) (r : Reply) (heard : List ℕ) (g : ℕ)
+      → HasRun job m w o x → StepsTo m (event.Call server (wants job fd w x)) r n
+      → has_end x g ≡ true → has_end (told worker w x r heard) g ≡ false → descriptor n server g ≡ None
+  -- its calls touch nothing but what it has
+  pub alone : (m : State) (fd c : ℕ) (w : Wanted) (x : Running) (o : Progress) → descriptor m server fd ≡ Some (on.Connection c)
+      → is_over x ≡ false → HasRun job m w o x → KeepsToItself m fd c x (wants job fd w x)
+
+abbrev pub RunsKeepNothing : Type 0
+RunsKeepNothing = (job : ℕ → List ℕ) → RunKeepsNothing job

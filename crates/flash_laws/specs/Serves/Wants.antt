@@ -1,0 +1,52 @@
+-- What the server wants memory for in a turn: to keep the bytes that it hears, for a place past all that there are, to begin a
+-- request, and for the bytes of a call.
+use Rattle.std.specs.Prelude.{◌≡◌, ◌⊎◌, ◌≤◌, ℕ, ◌+◌, Bool, true, false, List, length, Option, Some, None}
+use Rattle.iol_core.specs.NumberedLists.{in_place}
+use Rattle.iol_core.specs.declared.events.Reply.{Reply}
+use Rattle.iol_core.specs.declared.events.Reply.TheVariants as reply
+use Rattle.flash_laws.specs.Client.{Client, told}
+use Rattle.flash_laws.specs.Client.Wants.{WantsOn, makes_bytes}
+use Rattle.flash_laws.specs.Site.Places.{first_free, has_free, runs_scripts, filed}
+use Rattle.flash_laws.specs.Serves.Rounds.{leaves_off, next_in}
+use Rattle.flash_laws.specs.Serves.{Server, heard_of}
+use Rattle.flash_laws.specs.declared.phase.Flight.{Flight}
+use Rattle.flash_laws.specs.declared.phase.Flight.TheVariants.{Nothing, Accepting, At}
+
+-- the client in a place wants it after a reply, where `worker` is free
+abbrev pub WantsHere : (scripts : Bool) → (worker : ℕ) → Option Client → Reply → (heard : List ℕ) → Type 0
+WantsHere scripts worker None r heard = ⊥
+WantsHere scripts worker (Some x) r heard = WantsOn scripts (told scripts worker x r heard) x r heard
+
+-- one that is picked wants it for the bytes of its call
+abbrev pub wants_there : Option Client → Bool
+wants_there None = false
+wants_there (Some x) = makes_bytes x
+
+abbrev pub wants_in : List (Option Client) → Option ℕ → Bool
+wants_in clients None = false
+wants_in clients (Some place) = wants_there (in_place clients place)
+
+-- the first from a place on is picked, where a worker is free or none
+abbrev pub WantsFrom : (free : Bool) → List (Option Client) → (from : ℕ) → Type 0
+WantsFrom free clients from = wants_in clients (next_in free clients from) ≡ true
+
+-- a connection was accepted whose place is past all that there are
+abbrev pub WantsPlace : List (Option Client) → Reply → Type 0
+WantsPlace clients (reply.Fd fd) = length clients ≤ fd
+WantsPlace clients r = ⊥
+
+-- once a reply is filed, the turn of the client in a place passes on, and the next is picked
+abbrev pub WantsPast : (workers : ℕ) → (filed : List (Option Client)) → (fd : ℕ) → Reply → Type 0
+WantsPast workers filed fd r = (leaves_off (in_place filed fd) r ≡ true) × WantsFrom (has_free workers filed) filed (fd + 1)
+
+-- after the reply to the call that is out
+abbrev pub MayWant : (workers : ℕ) → List (Option Client) → Flight → Reply → (heard : List ℕ) → Type 0
+MayWant workers clients Nothing r heard = WantsFrom (has_free workers clients) clients 0
+MayWant workers clients Accepting r heard = WantsPlace clients r
+MayWant workers clients (At fd) r heard =
+    WantsHere (runs_scripts workers) (first_free workers clients) (in_place clients fd) r heard
+    ⊎ WantsPast workers (filed workers clients (At fd) r heard) fd r
+
+-- the server, in a turn
+abbrev pub server_wants : Server → Reply → (lent : ℕ → Option (List ℕ)) → Type 0
+server_wants s r lent = MayWant s.workers s.clients s.flight r (heard_of r lent)

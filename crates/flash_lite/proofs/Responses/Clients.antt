@@ -1,0 +1,348 @@
+-- What a client does, by what its connection does.
+use Rattle.std.proofs.Common.{inl, inr, ◌≡◌, ◌≢◌, ℕ, ◌<◌, ◌==◌, ◌||◌, if◌then◌else◌, length, List, [], ◌∷◌, Option, Some, None, Bool, true, false, refl, sym, ap, subst, arith, ◌∙◌}
+use Rattle.std.specs.Prelude.{◌&&◌, is_some, nat_le, option_map}
+use Rattle.std.specs.List.{slice_split}
+use Rattle.std.proofs.lemmas.Bool.Decides.{nat_tests}
+use Rattle.std.proofs.lemmas.Str.{is_utf8-from_IsUtf8, IsUtf8-nil}
+use Rattle.flash_cgi.specs.Script.{is_utf8, is_line_feed, lines_in}
+use Rattle.flash_cgi.specs.declared.script.TheConstants.{MAX_SCRIPT_BYTES}
+use Rattle.iol_core.specs.declared.events.Call.{Call}
+use Rattle.iol_core.specs.declared.events.Reply.{Reply}
+use Rattle.iol_core.specs.declared.events.Reply.TheVariants as reply
+use Rattle.flash_http.specs.Request.{Answer}
+use Rattle.flash_http.specs.Window.{window_in}
+use Rattle.flash_laws.specs.Client.{Client, Readies, is_bare, can_run, kept_if, conn_wants, conn_told, file_told, told_spares, is_for_script, left_over, wants, awaits}
+use Rattle.flash_laws.specs.Client.Wants.{Hears, ClientHears, needs_memory, WantsOn}
+use Rattle.flash_laws.specs.Conn as conn
+use Rattle.flash_laws.specs.Conn.{Conn, is_head_only}
+use Rattle.flash_laws.specs.Conn.Policy as policy
+use Rattle.flash_laws.specs.Conn.Policy.{is_later}
+use Rattle.flash_laws.specs.Serves.Rounds.{leaves_off}
+use Rattle.flash_laws.specs.Site.OtherConns as tied
+use Rattle.flash_laws.specs.Conn.Wants as wanting
+use Rattle.flash_laws.specs.declared.script_run.Running.{Running}
+use Rattle.flash_laws.specs.declared.phase.Content.TheVariants.{Script}
+use Rattle.flash_laws.specs.declared.phase.Doing.{Doing}
+use Rattle.flash_laws.specs.declared.phase.Doing.TheVariants.{Rests, Got, Opens, Reads, Shuts, Picks, Spares, Heads, Joins, Sends, Cuts, Offers, Swaps, Sent, Breaks, Drops, Closes, Over}
+use Rattle.flash_laws.proofs.Site.InPlaces.{left-map}
+use Rattle.flash_lite.specs.Course.{whole, found, runs, text_heard, ended, left_with, GoesOn, IsLeft, IsCourse}
+use Rattle.flash_lite.specs.Onward as onward
+use Rattle.flash_lite.specs.declared.client.Course.{Course}
+use Rattle.flash_lite.specs.declared.client.Course.TheVariants.{Asks, Leaves}
+use Rattle.flash_lite.specs.declared.client.Left.TheVariants.{Goes, Ends, Begins, Stays}
+use Rattle.flash_lite.specs.declared.conn.Onward.TheVariants as going
+use Rattle.flash_lite.specs.declared.scripts.Found.TheVariants as tells
+
+abbrev at : List ℕ → Answer → Doing → Conn
+at kept q d = record { kept = kept; q = q; doing = d }
+
+-- for it no script runs
+abbrev pub plain : Conn → List ℕ → Client
+plain c script = record { conn = c; run = None; script = script }
+
+-- ---- its call
+
+wants-whole : (script : Bool) (fd : ℕ) (kept : List ℕ) (q : Answer) (d : Doing) → whole script d (conn.wants fd (at kept q d)) ≡ conn_wants script fd (at kept q d)
+wants-whole false fd kept q d = refl
+wants-whole true fd kept q Rests = refl
+wants-whole true fd kept q (Got a) = refl
+wants-whole true fd kept q Opens = refl
+wants-whole true fd kept q (Reads f) = refl
+wants-whole true fd kept q (Shuts f k) = refl
+wants-whole true fd kept q (Picks a from to len) = refl
+wants-whole true fd kept q (Spares a k) = refl
+wants-whole true fd kept q (Heads k) = refl
+wants-whole true fd kept q (Joins a size body len) = refl
+wants-whole true fd kept q (Sends a len taken more) = refl
+wants-whole true fd kept q (Cuts a from len taken more) = refl
+wants-whole true fd kept q (Offers a from len piece taken more) = refl
+wants-whole true fd kept q (Swaps a from len piece taken more) = refl
+wants-whole true fd kept q (Sent a taken more) = refl
+wants-whole true fd kept q (Breaks piece a more) = refl
+wants-whole true fd kept q (Drops a more) = refl
+wants-whole true fd kept q Closes = refl
+wants-whole true fd kept q Over = refl
+
+pub whole_wants : (script : Bool) (fd : ℕ) (x : Conn) → whole script x.doing (conn.wants fd x) ≡ conn_wants script fd x
+whole_wants script fd x = wants-whole script fd x.kept x.q x.doing
+
+wants-plain-of : (scripts : Bool) (fd : ℕ) (c : Conn) (run : Option Running) (script : List ℕ) → run ≡ None
+    → conn_wants (is_for_script scripts c.q) fd c ≡ wants scripts fd (record { conn = c; run = run; script = script })
+wants-plain-of scripts fd c None script none = refl
+wants-plain-of scripts fd c (Some y) script none = absurd (cc (none))
+
+wants-plain : (scripts : Bool) (fd : ℕ) (y : Client) → y.run ≡ None → conn_wants (is_for_script scripts y.conn.q) fd y.conn ≡ wants scripts fd y
+wants-plain scripts fd y none = wants-plain-of scripts fd y.conn y.run y.script none
+
+-- ---- where no script runs
+
+leaves-map : (script : List ℕ) (o : Option Conn) (r : Reply) → leaves_off (option_map (λ (c : Conn). plain c script) o) r ≡ policy.leaves_off o r
+leaves-map script None r = refl
+leaves-map script (Some c) r = refl
+
+pub leaves-plain : (c : Conn) (script : List ℕ) (r : Reply) → leaves_off (left_over (plain c script)) r ≡ policy.leaves_off (tied.left_over c) r
+leaves-plain c script r = ap (λ (o : Option Client). leaves_off o r) (sym (left-map (λ (z : Conn). plain z script) c.doing c)) ∙ leaves-map script (tied.left_over c) r
+
+pub stays-plain : (c : Conn) (script : List ℕ) → tied.left_over c ≡ Some c → left_over (plain c script) ≡ Some (plain c script)
+stays-plain c script stays = sym (left-map (λ (z : Conn). plain z script) c.doing c) ∙ ap (λ (o : Option Conn). option_map (λ (z : Conn). plain z script) o) stays
+
+asks-plain : (x : Client) (k : Conn) (r : Reply) (heard : List ℕ) → onward.GoesOn x.conn r heard k → GoesOn (conn_told x r heard) r (plain k x.script)
+asks-plain x k r heard g = record {
+  on = leaves-plain (conn.told x.conn r heard) x.script r ∙ g.on;
+  stays = stays-plain (conn.told x.conn r heard) x.script g.stays;
+  readies = (k, g.readies, refl);
+}
+
+pub asks_alone : (scripts : Bool) (fd : ℕ) (x y : Client) (r : Reply) (heard : List ℕ) (k : Call) → x.run ≡ None → onward.GoesOn x.conn r heard y.conn
+    → y.run ≡ None → y.script ≡ x.script → k ≡ conn_wants (is_for_script scripts y.conn.q) fd y.conn
+    → GoesOn (conn_told x r heard) r y × (k ≡ wants scripts fd y)
+asks_alone scripts fd x y r heard k none g runs same is =
+    let e : plain y.conn x.script ≡ y = ap (λ (l : List ℕ). plain y.conn l) (sym same) ∙ ap (λ (o : Option Running). record { conn = y.conn; run = o; script = y.script }) (sym runs) in
+    (subst (λ (z : Client). GoesOn (conn_told x r heard) r z) e (asks-plain x y.conn r heard g), is ∙ ap (λ (z : Client). wants scripts fd z) e)
+
+pub leaves_alone : (x y : Client) (k : Conn) (r : Reply) (heard : List ℕ) (d : Doing) → x.run ≡ None → onward.IsLeft x.conn r heard d k → y ≡ record { conn = k; run = x.run; script = x.script } → IsLeft (conn_told x r heard) x r (Goes d) y
+leaves_alone x y k r heard d none l is = record {
+  passed = leaves-plain (conn.told x.conn r heard) x.script r ∙ l.off;
+  told_is = ap (λ (c : Conn). plain c x.script) l.told_is ∙ ap (λ (o : Option Running). record { conn = record x.conn { doing = d }; run = o; script = x.script }) (sym none);
+  remains_is = ap (λ (e : Doing). tied.left_by e (conn_told x r heard)) (ap (λ (c : Conn). c.doing) l.told_is);
+  can_rest = l.can_rest;
+  as_it_was = is ∙ ap (λ (c : Conn). record { conn = c; run = x.run; script = x.script }) l.as_it_was;
+}
+
+-- ---- a reply after which it may go on
+
+leaves-now : (o : Option Client) (r : Reply) → is_later r ≡ false → leaves_off o r ≡ leaves_off o reply.Done
+leaves-now None r now = refl
+leaves-now (Some x) r now = ap (λ (b : Bool). b || (awaits x || is_bare x)) now
+
+pub course_reply : (scripts : Bool) (fd : ℕ) (t x : Client) (r : Reply) (o : Course) (y : Client) → is_later r ≡ false
+    → IsCourse scripts fd t x reply.Done o y → IsCourse scripts fd t x r o y
+course_reply scripts fd t x r (Asks k) y now c =
+    (record { on = leaves-now (left_over t) r now ∙ c.0.on; stays = c.0.stays; readies = c.0.readies }, c.1)
+course_reply scripts fd t x r (Leaves (Goes d)) y now c =
+    record { passed = leaves-now (left_over t) r now ∙ c.passed; told_is = c.told_is; remains_is = c.remains_is; can_rest = c.can_rest; as_it_was = c.as_it_was }
+course_reply scripts fd t x r (Leaves (Ends d)) y now c =
+    record { passed = leaves-now (left_over t) r now ∙ c.passed; told_is = c.told_is; remains_is = c.remains_is; can_rest = c.can_rest; as_it_was = c.as_it_was }
+course_reply scripts fd t x r (Leaves Begins) y now c =
+    record { passed = leaves-now (left_over t) r now ∙ c.passed; told_is = c.told_is; remains_is = c.remains_is; can_rest = c.can_rest; as_it_was = c.as_it_was }
+course_reply scripts fd t x r (Leaves Stays) y now c =
+    record { passed = leaves-now (left_over t) r now ∙ c.passed; told_is = c.told_is; remains_is = c.remains_is; can_rest = c.can_rest; as_it_was = c.as_it_was }
+
+-- it goes on with this, and no script runs for it
+pub goes_as : (scripts : Bool) (fd : ℕ) (t y : Client) (r : Reply) (k : Call) → GoesOn t r t → t.run ≡ None → y ≡ t
+    → k ≡ conn_wants (is_for_script scripts y.conn.q) fd y.conn → GoesOn t r y × (k ≡ wants scripts fd y)
+goes_as scripts fd t y r k goes none is asks =
+    (subst (λ (z : Client). GoesOn t r z) (sym is) goes, asks ∙ wants-plain scripts fd y (ap (λ (z : Client). z.run) is ∙ none))
+
+-- ---- a script is found
+
+abbrev of : List ℕ → Answer → Doing → Option Running → List ℕ → Client
+of kept q d run script = record { conn = at kept q d; run = run; script = script }
+
+never : (b : Bool) (f n : ℕ) → (if b then tells.Runs else tells.AsFile) ≡ tells.Text f n → ⊥
+never true f n is = absurd (cc (is))
+never false f n is = absurd (cc (is))
+
+record IsText (b : Bool) (x : Client) (r : Reply) (heard : List ℕ) (f n : ℕ) : Type 0 where
+  told : file_told b x r heard ≡ text_heard x f n heard
+  now : is_later r ≡ false
+  hears : 0 < length heard → Hears b x.conn.doing r heard
+
+text-found : (b : Bool) (kept : List ℕ) (q : Answer) (d : Doing) (run : Option Running) (script : List ℕ) (r : Reply) (heard : List ℕ) (h : Bool) (f n : ℕ)
+    → found b d r h ≡ tells.Text f n → IsText b (of kept q d run script) r heard f n
+text-found false kept q d run script r heard h f n is = absurd (cc (is))
+text-found true kept q (Reads g) run script (reply.Agg m) heard h f n is =
+    let eg : g ≡ f = cc in
+    let em : m ≡ n = cc in
+    record {
+      told = ap (λ k. text_heard (of kept q (Reads g) run script) k m heard) eg ∙ ap (λ k. text_heard (of kept q (Reads g) run script) f k heard) em;
+      now = refl;
+      hears = λ some. some;
+    }
+text-found true kept q (Reads g) run script r heard h f n is = absurd (cc (is))
+text-found true kept q (Spares a Script) run script r heard h f n is = absurd (never (runs r h) f n is)
+text-found true kept q d run script r heard h f n is = absurd (cc (is))
+
+record IsBegun (b : Bool) (x : Client) (r : Reply) (heard : List ℕ) : Type 0 where
+  told : file_told b x r heard ≡ left_with x Begins
+
+run-found : (b : Bool) (kept : List ℕ) (q : Answer) (d : Doing) (run : Option Running) (script : List ℕ) (r : Reply) (heard : List ℕ) (h : Bool)
+    → is_head_only q ≡ h → found b d r h ≡ tells.Runs → IsBegun b (of kept q d run script) r heard
+run-found false kept q d run script r heard h e is = absurd (cc (is))
+run-found true kept q (Reads g) run script (reply.Agg m) heard h e is = absurd (cc (is))
+run-found true kept q (Reads g) run script r heard h e is = absurd (cc (is))
+run-found true kept q (Spares a Script) run script reply.Done heard true e is = absurd (cc (is))
+run-found true kept q (Spares a Script) run script reply.Done heard false e is =
+    record {
+      told = ap (λ b. record { conn = at kept q (Heads Script); run = told_spares b reply.Done; script = script }) e;
+    }
+run-found true kept q (Spares a Script) run script r heard h e is = absurd (cc (is))
+run-found true kept q d run script r heard h e is = absurd (cc (is))
+
+file-found : (b : Bool) (kept : List ℕ) (q : Answer) (d : Doing) (run : Option Running) (script : List ℕ) (r : Reply) (heard : List ℕ) (h : Bool)
+    → is_head_only q ≡ h → found b d r h ≡ tells.AsFile → file_told b (of kept q d run script) r heard ≡ conn_told (of kept q d run script) r heard
+file-found false kept q d run script r heard h e is = refl
+file-found true kept q (Reads g) run script (reply.Agg m) heard h e is = absurd (cc (is))
+file-found true kept q (Reads g) run script r heard h e is = refl
+file-found true kept q (Spares a Script) run script reply.Done heard true e is = ap (λ b. record { conn = at kept q (Heads Script); run = told_spares b reply.Done; script = script }) e
+file-found true kept q (Spares a Script) run script reply.Done heard false e is = absurd (cc (is))
+file-found true kept q (Spares a Script) run script r heard true e is = ap (λ b. record { conn = at kept q (Spares a Script); run = told_spares b r; script = script }) e
+file-found true kept q (Spares a Script) run script r heard false e is = ap (λ b. record { conn = at kept q (Spares a Script); run = told_spares b r; script = script }) e
+file-found true kept q d run script r heard h e is = refl
+
+-- one that begins waits for a worker
+begun-passes : (x : Client) (r : Reply) → leaves_off (left_over (left_with x Begins)) r ≡ true
+begun-passes x r = by (is_later r)
+  where
+    by : (b : Bool) → (b || true) ≡ true
+    by true = refl
+    by false = refl
+
+-- a text that is too long is no script, and not kept
+pub long_runs : (text : List ℕ) → MAX_SCRIPT_BYTES < length text → can_run text ≡ false
+long_runs text long =
+    let e : nat_le (length text) MAX_SCRIPT_BYTES ≡ false = grind (arith, nat_tests, long) in
+    ap (λ b. is_some (if b && is_utf8 text then lines_in (slice_split is_line_feed text) else None)) e
+
+-- no text is a script without lines
+pub empty_runs : (text : List ℕ) → length text ≡ 0 → can_run text ≡ true
+empty_runs [] none = ap (λ b. is_some (if b then lines_in [] else None)) (is_utf8-from_IsUtf8 [] IsUtf8-nil)
+empty_runs (b ∷ text) none = absurd (omega (arith, none))
+
+kept-none : (h : Bool) (text : List ℕ) → kept_if h false text ≡ []
+kept-none true text = refl
+kept-none false text = refl
+
+pub long_kept : (h : Bool) (text : List ℕ) → MAX_SCRIPT_BYTES < length text → kept_if h (can_run text) text ≡ []
+long_kept h text long = ap (λ b. kept_if h b text) (long_runs text long) ∙ kept-none h text
+
+pub heard_goes : (scripts : Bool) (fd : ℕ) (x y : Client) (f n : ℕ) (heard : List ℕ) (k : Call) → y ≡ text_heard x f n heard
+    → k ≡ conn_wants (is_for_script scripts y.conn.q) fd y.conn → GoesOn (text_heard x f n heard) reply.Done y × (k ≡ wants scripts fd y)
+heard_goes scripts fd x y f n heard k is asks =
+    goes_as scripts fd (text_heard x f n heard) y reply.Done k
+    (record { on = refl; stays = refl; readies = ((text_heard x f n heard).conn, refl, refl) }) refl is asks
+
+pub file_hears : (scripts : Bool) (fd : ℕ) (x y : Client) (r : Reply) (heard : List ℕ) (o : Course) (f n : ℕ)
+    → tells.Text f n ≡ found (is_for_script scripts x.conn.q) x.conn.doing r (is_head_only x.conn.q)
+    → IsCourse scripts fd (text_heard x f n heard) x reply.Done o y
+    → IsCourse scripts fd (file_told (is_for_script scripts x.conn.q) x r heard) x r o y
+file_hears scripts fd x y r heard o f n is course =
+    let t = text-found (is_for_script scripts x.conn.q) x.conn.kept x.conn.q x.conn.doing x.run x.script r heard (is_head_only x.conn.q) f n (sym is) in
+    subst (λ (z : Client). IsCourse scripts fd z x r o y) (sym t.told) (course_reply scripts fd (text_heard x f n heard) x r o y t.now course)
+
+pub file_runs : (scripts : Bool) (x : Client) (r : Reply) (heard : List ℕ)
+    → tells.Runs ≡ found (is_for_script scripts x.conn.q) x.conn.doing r (is_head_only x.conn.q)
+    → IsLeft (file_told (is_for_script scripts x.conn.q) x r heard) x r Begins x
+file_runs scripts x r heard is =
+    let t = run-found (is_for_script scripts x.conn.q) x.conn.kept x.conn.q x.conn.doing x.run x.script r heard (is_head_only x.conn.q) refl (sym is) in
+    record {
+      passed = ap (λ (z : Client). leaves_off (left_over z) r) t.told ∙ begun-passes x r;
+      told_is = t.told;
+      remains_is = ap (λ (z : Client). left_over z) t.told ∙ ap (λ (z : Client). Some z) (sym t.told);
+      can_rest = tt;
+      as_it_was = refl;
+    }
+
+pub file_alone : (scripts : Bool) (fd : ℕ) (x y : Client) (r : Reply) (heard : List ℕ) (o : Course)
+    → tells.AsFile ≡ found (is_for_script scripts x.conn.q) x.conn.doing r (is_head_only x.conn.q)
+    → IsCourse scripts fd (conn_told x r heard) x r o y → IsCourse scripts fd (file_told (is_for_script scripts x.conn.q) x r heard) x r o y
+file_alone scripts fd x y r heard o is course =
+    let same = file-found (is_for_script scripts x.conn.q) x.conn.kept x.conn.q x.conn.doing x.run x.script r heard (is_head_only x.conn.q) refl (sym is) in
+    subst (λ (z : Client). IsCourse scripts fd z x r o y) (sym same) course
+
+-- ---- memory
+
+hears-none : (scripts : Bool) (c : Conn) (run : Option Running) (script : List ℕ) (r : Reply) (heard : List ℕ) → run ≡ None
+    → Hears (is_for_script scripts c.q) c.doing r heard → ClientHears scripts (record { conn = c; run = run; script = script }) r heard
+hears-none scripts c None script r heard none hears = hears
+hears-none scripts c (Some y) script r heard none hears = absurd (cc (none))
+
+hears-more : (b : Bool) (d : Doing) (r : Reply) (heard : List ℕ) → wanting.Hears d r heard → Hears b d r heard
+hears-more false d r heard hears = hears
+hears-more true (Reads f) (reply.Agg n) heard hears = absurd hears
+hears-more true (Reads f) r heard hears = absurd hears
+hears-more true d r heard hears = hears
+
+pub hears_wants : (scripts : Bool) (x : Client) (r : Reply) (heard : List ℕ) (f n : ℕ) → x.run ≡ None
+    → tells.Text f n ≡ found (is_for_script scripts x.conn.q) x.conn.doing r (is_head_only x.conn.q) → 0 < length heard
+    → WantsOn scripts (file_told (is_for_script scripts x.conn.q) x r heard) x r heard
+hears_wants scripts x r heard f n none is some =
+    let t = text-found (is_for_script scripts x.conn.q) x.conn.kept x.conn.q x.conn.doing x.run x.script r heard (is_head_only x.conn.q) f n (sym is) in
+    inl (hears-none scripts x.conn x.run x.script r heard none (t.hears some))
+
+pub alone_wants : (scripts : Bool) (x : Client) (r : Reply) (heard : List ℕ) → x.run ≡ None
+    → tells.AsFile ≡ found (is_for_script scripts x.conn.q) x.conn.doing r (is_head_only x.conn.q)
+    → wanting.WantsOn x.conn r heard → WantsOn scripts (file_told (is_for_script scripts x.conn.q) x r heard) x r heard
+alone_wants scripts x r heard none is (inl here) = inl (hears-none scripts x.conn x.run x.script r heard none (hears-more (is_for_script scripts x.conn.q) x.conn.doing r heard here))
+alone_wants scripts x r heard none is (inr on) =
+    let same = file-found (is_for_script scripts x.conn.q) x.conn.kept x.conn.q x.conn.doing x.run x.script r heard (is_head_only x.conn.q) refl (sym is) in
+    inr (
+      ap (λ (z : Client). leaves_off (left_over z) r) same ∙ (leaves-plain (conn.told x.conn r heard) x.script r ∙ on.0),
+      ap (λ (z : Client). needs_memory z) same ∙ on.1,
+    )
+
+-- ---- a run is over
+
+pub rests_asks : (scripts : Bool) (fd : ℕ) (x y : Client) (c : Conn) (k j : Call) → onward.Frees fd x.conn (going.Asks j) c
+    → y ≡ plain c [] → k ≡ conn_wants (is_for_script scripts y.conn.q) fd y.conn
+    → GoesOn (ended x Rests) reply.Done y × (k ≡ wants scripts fd y)
+rests_asks scripts fd x y c k j f is asks =
+    let goes : GoesOn (ended x Rests) reply.Done (plain c []) = record { on = f.0; stays = refl; readies = (c, f.1, refl) } in
+    (subst (λ (z : Client). GoesOn (ended x Rests) reply.Done z) (sym is) goes, asks ∙ wants-plain scripts fd y (ap (λ (z : Client). z.run) is))
+
+pub rests_leaves : (fd : ℕ) (x y : Client) (c : Conn) (d : Doing) → onward.Frees fd x.conn (going.Leaves d) c
+    → y ≡ record { conn = c; run = x.run; script = x.script } → IsLeft (ended x Rests) x reply.Done (Ends d) y
+rests_leaves fd x y c d f is =
+    let none : (length x.conn.kept == 0) ≡ true = ap (λ (l : List ℕ). length l == 0) f.1 in
+    record {
+      passed = none;
+      told_is = ap (λ (e : Doing). ended x e) (sym f.0);
+      remains_is = ap (λ (e : Doing). tied.left_by e (ended x Rests)) (sym f.0);
+      can_rest = subst (λ (e : Doing). onward.CanRest x.conn e) (sym f.0) (record {
+        small = omega arith;
+        awaits = ap (λ (l : List ℕ). window_in l) f.1;
+      });
+      as_it_was = is ∙ ap (λ (z : Conn). record { conn = z; run = x.run; script = x.script }) f.2;
+    }
+
+pub rests_wants : (x : Client) → policy.is_bare (record x.conn { doing = Rests }) ≡ false → wanting.can_begin (window_in x.conn.kept) ≡ true
+    → (leaves_off (left_over (ended x Rests)) reply.Done ≡ false) × (needs_memory (ended x Rests) ≡ true)
+rests_wants x some begins = (some, begins)
+
+goes-ended : (kept : List ℕ) (q : Answer) (d : Doing) → d ≢ Rests → d ≢ Over → GoesOn (plain (at kept q d) []) reply.Done (plain (at kept q d) [])
+goes-ended kept q Rests busy on = absurd (busy refl)
+goes-ended kept q Over busy on = absurd (on refl)
+goes-ended kept q d busy on = record { on = refl; stays = refl; readies = (at kept q d, refl, refl) }
+
+pub ends_asks : (scripts : Bool) (fd : ℕ) (x y : Client) (d : Doing) (k : Call) → d ≢ Rests → d ≢ Over → y ≡ ended x d
+    → k ≡ conn_wants (is_for_script scripts y.conn.q) fd y.conn → GoesOn (ended x d) reply.Done y × (k ≡ wants scripts fd y)
+ends_asks scripts fd x y d k busy on is asks =
+    goes_as scripts fd (ended x d) y reply.Done k (goes-ended x.conn.kept x.conn.q d busy on) refl is asks
+
+pub ends_wants : (x : Client) (d : Doing) → d ≢ Rests → d ≢ Over → wanting.has_bytes d ≡ true
+    → (leaves_off (left_over (ended x d)) reply.Done ≡ false) × (needs_memory (ended x d) ≡ true)
+ends_wants x d busy on bytes = ((goes-ended x.conn.kept x.conn.q d busy on).on, needs d bytes)
+  where
+    needs : (d : Doing) → wanting.has_bytes d ≡ true → wanting.needs_memory (record x.conn { doing = d }) ≡ true
+    needs Rests is = absurd (cc (is))
+    needs d is = is
+
+pub over_leaves : (x : Client) → IsLeft (ended x Over) x reply.Done (Ends Over) x
+over_leaves x = record { passed = refl; told_is = refl; remains_is = refl; can_rest = record { small = omega arith; awaits = tt }; as_it_was = refl }
+
+-- ---- its next call
+
+ready-plain : (c : Conn) (run : Option Running) (script : List ℕ) → conn.Readies c c → Readies (record { conn = c; run = run; script = script }) (record { conn = c; run = run; script = script })
+ready-plain c None script ready = (c, ready, refl)
+ready-plain c (Some y) script ready = refl
+
+pub ready_alone : (x : Client) → conn.Readies x.conn x.conn → Readies x x
+ready_alone x ready = ready-plain x.conn x.run x.script ready
+
+-- a file of which a client was told
+
+pub ruleset file_rules = (file_hears, file_runs, file_alone, hears_wants, alone_wants)
+
+-- the end of a client whose connection rests
+
+pub ruleset rest_rules = (rests_asks, rests_leaves, rests_wants)

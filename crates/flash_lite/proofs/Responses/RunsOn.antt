@@ -1,0 +1,232 @@
+-- What a client does after the reply to the call of its run.
+use Rattle.std.proofs.Common.{inr, ◌≡◌, ℕ, ◌||◌, List, Option, Some, None, Bool, true, false, refl, sym, ap, subst, ◌∙◌}
+use Rattle.std.specs.Prelude.{not, Result, Ok, Err, OnErr}
+use Rattle.iol_core.specs.declared.events.Call.{Call}
+use Rattle.iol_core.specs.declared.events.Reply.{Reply}
+use Rattle.iol_core.specs.declared.events.Reply.TheVariants as reply
+use Rattle.iol_core.specs.declared.refusals.Refusal.TheVariants as no
+use Rattle.flash_http.specs.Request.{Answer, serve, refuse, Wanted}
+use Rattle.flash_laws.proofs.Conn.Responses.{some-inj}
+use Rattle.flash_laws.proofs.Run.OfferedBytes.{keeps}
+use Rattle.flash_laws.specs.Client.{Client, is_bare, keeps_text, text_on, after_run, goes_on, run_told, run_wants, wants, left_over, awaits}
+use Rattle.flash_laws.specs.Client.Wants.{needs_memory, WantsOn}
+use Rattle.flash_laws.specs.Conn as conn
+use Rattle.flash_laws.specs.Conn.Policy.{is_later}
+use Rattle.flash_laws.specs.Run.OfferedBytes.{HasWorker}
+use Rattle.flash_laws.specs.Serves.Rounds.{leaves_off}
+use Rattle.flash_laws.specs.Run.Wants.{makes_any}
+use Rattle.flash_laws.specs.Run as running
+use Rattle.flash_laws.specs.Run.{is_over, is_left, in_phase, told_awaits, told_sending, told_step}
+use Rattle.flash_laws.specs.declared.phase.Doing.{Doing}
+use Rattle.flash_laws.specs.declared.phase.Doing.TheVariants.{Heads, Sends, Cuts, Offers, Swaps, Sent, Breaks, Drops}
+use Rattle.flash_laws.specs.declared.script_run.Run.{Run}
+use Rattle.flash_laws.specs.declared.script_run.Step.{Step}
+use Rattle.flash_laws.specs.declared.script_run.Step.TheVariants as act
+use Rattle.flash_laws.specs.declared.script_run.Running.{Running}
+use Rattle.flash_laws.specs.declared.script_run.Running.TheVariants.{Awaits, Runs, Leaves, Closes as Finished}
+use Rattle.flash_lite.specs.Course.{run_after, ended, GoesOn, IsLeft, IsCourse}
+use Rattle.flash_lite.specs.Runs.{waits}
+use Rattle.flash_lite.specs.declared.client.Course.{Course}
+use Rattle.flash_lite.specs.declared.client.Left.TheVariants.{Stays}
+use Rattle.flash_lite.proofs.Responses.Clients.{course_reply}
+
+-- ---- where its call is to be made again later, a run is as it was
+
+-- after each of these replies
+abbrev Later : {A : Type 0} → (Reply → A) → A → Type 0
+Later f a = (f (reply.Refused no.WouldBlock) ≡ a) × (f (reply.Refused no.TooMany) ≡ a)
+    × ((p : ℕ) → f (reply.Refused (no.NoRoom p)) ≡ a) × (f (reply.Refused no.Memory) ≡ a)
+
+by-later : {A : Type 0} (f : Reply → A) (a : A) (r : Reply) → Later f a → is_later r ≡ true → f r ≡ a
+by-later f a (reply.Refused no.WouldBlock) same is = same.0
+by-later f a (reply.Refused no.TooMany) same is = same.1
+by-later f a (reply.Refused (no.NoRoom p)) same is = same.2 p
+by-later f a (reply.Refused no.Memory) same is = same.3
+by-later f a r same is = absurd (cc (is))
+
+part-later : (run : Run) (d : Doing) (frame : Option ℕ) → Later (λ r. told_sending run d frame r) (Runs run (act.Sending d frame))
+part-later run (Sent a taken None) frame = (refl, refl, λ p. refl, refl)
+part-later run (Sent a taken (Some x)) frame = (refl, refl, λ p. refl, refl)
+part-later run (Drops a None) frame = (refl, refl, λ p. refl, refl)
+part-later run (Drops a (Some x)) frame = (refl, refl, λ p. refl, refl)
+part-later run d frame = (refl, refl, λ p. refl, refl)
+
+step-later : (w : Wanted) (run : Run) (s : Step) (heard : List ℕ) → Later (λ r. told_step w run s r heard) (Runs run s)
+step-later w run (act.Sending d frame) heard = part-later run d frame
+step-later w run s heard = (refl, refl, λ p. refl, refl)
+
+left-later : (w : Wanted) (d : Doing) (heard : List ℕ) → is_left d ≡ true → Later (λ r. Leaves (conn.told (in_phase w d) r heard).doing) (Leaves d)
+left-later w (Heads k) heard left = (refl, refl, λ p. refl, refl)
+left-later w (Sends a len taken more) heard left = (refl, refl, λ p. refl, refl)
+left-later w (Cuts a from len taken more) heard left = (refl, refl, λ p. refl, refl)
+left-later w (Offers a from len piece taken more) heard left = (refl, refl, λ p. refl, refl)
+left-later w (Swaps a from len piece taken more) heard left = (refl, refl, λ p. refl, refl)
+left-later w (Sent a taken more) heard left = (refl, refl, λ p. refl, refl)
+left-later w (Breaks piece a more) heard left = (refl, refl, λ p. refl, refl)
+left-later w (Drops a more) heard left = (refl, refl, λ p. refl, refl)
+left-later w d heard left = absurd (cc (left))
+
+still-left : (d : Doing) → not (is_left d) ≡ false → is_left d ≡ true
+still-left d is = by (is_left d) is
+  where
+    by : (b : Bool) → not b ≡ false → b ≡ true
+    by true is = refl
+    by false is = absurd (cc (is))
+
+run-later : (worker : ℕ) (w : Wanted) (y : Running) (heard : List ℕ) → is_over y ≡ false → Later (λ r. running.told worker w y r heard) y
+run-later worker w Awaits heard going = (refl, refl, λ p. refl, refl)
+run-later worker w (Runs run s) heard going = step-later w run s heard
+run-later worker w (Leaves d) heard going = left-later w d heard (still-left d going)
+run-later worker w Finished heard going = absurd (cc (going))
+
+after-later : (worker : ℕ) (q : Answer) (y : Running) (r : Reply) (heard : List ℕ) → is_over y ≡ false → is_later r ≡ true → run_after worker q y r heard ≡ y
+after-later worker (serve w) y r heard going later = by-later (λ z. running.told worker w y z heard) y r (run-later worker w y heard going) later
+after-later worker (refuse status head_only close) y r heard going later = refl
+
+-- ---- it goes on, or is over
+
+text-same : (b : Bool) (text : List ℕ) → text_on b b text ≡ text
+text-same true text = refl
+text-same false text = refl
+
+-- one that stands still is as it was
+stands : (x : Client) (y : Running) → x.run ≡ Some y → goes_on false false x y y ≡ x
+stands x y is =
+    ap (λ (l : List ℕ). record { conn = x.conn; run = Some y; script = l }) (text-same (keeps_text y) x.script)
+    ∙ ap (λ (o : Option Running). record { conn = x.conn; run = o; script = x.script }) (sym is)
+
+told-is : (worker : ℕ) (q : Answer) (x : Client) (y : Running) (r : Reply) (heard : List ℕ) → x.run ≡ Some y → is_over y ≡ false
+    → run_told worker q x y r heard ≡ goes_on false (is_over (run_after worker q y r heard)) x y (run_after worker q y r heard)
+told-is worker (serve w) x y r heard is going = ap (λ b. goes_on b (is_over (running.told worker w y r heard)) x y (running.told worker w y r heard)) going
+told-is worker (refuse status head_only close) x y r heard is going = sym (ap (λ b. goes_on false b x y y) going ∙ stands x y is)
+
+-- ---- it waits for a worker
+
+waits-is : (c : conn.Conn) (y : Running) (script : List ℕ) → awaits (record { conn = c; run = Some y; script = script }) ≡ waits y
+waits-is c Awaits script = refl
+waits-is c (Runs run s) script = refl
+waits-is c (Leaves d) script = refl
+waits-is c Finished script = refl
+
+kept-runs : (worker : ℕ) (z : Running) → HasWorker worker z → waits z ≡ false
+kept-runs worker Awaits has = absurd has
+kept-runs worker (Runs run s) has = refl
+kept-runs worker (Leaves d) has = refl
+kept-runs worker Finished has = refl
+
+-- one that waits after a reply waited before, and is as it was
+still-waits : (worker : ℕ) (q : Answer) (y : Running) (r : Reply) (heard : List ℕ) → waits (run_after worker q y r heard) ≡ true → run_after worker q y r heard ≡ y
+still-waits worker (serve w) Awaits r heard is = by r is
+  where
+    by : (r : Reply) → waits (told_awaits worker r) ≡ true → told_awaits worker r ≡ Awaits
+    by (reply.Fds from write) is = absurd (cc (is))
+    by r is = refl
+still-waits worker (serve w) (Runs run s) r heard is =
+    absurd (let no : waits (told_step w run s r heard) ≡ false = kept-runs run.worker (told_step w run s r heard) (keeps worker w run s r heard) in let never : false ≡ true = sym no ∙ is in cc (never))
+still-waits worker (serve w) (Leaves d) r heard is = absurd (cc (is))
+still-waits worker (serve w) Finished r heard is = absurd (cc (is))
+still-waits worker (refuse status head_only close) y r heard is = refl
+
+leaves-run : (c : conn.Conn) (run : Option Running) (script : List ℕ) (y : Running) (r : Reply) → run ≡ Some y
+    → leaves_off (left_over (record { conn = c; run = run; script = script })) r ≡ is_later r || (waits y || false)
+leaves-run c None script y r is = absurd (cc (is))
+leaves-run c (Some z) script y r is = ap (λ b. is_later r || (b || false)) (waits-is c z script ∙ ap (λ (v : Running). waits v) (some-inj z y is))
+
+-- one whose script runs is not forgotten
+runs-on : (c : conn.Conn) (run : Option Running) (script : List ℕ) (y : Running) → run ≡ Some y
+    → left_over (record { conn = c; run = run; script = script }) ≡ Some (record { conn = c; run = run; script = script })
+runs-on c None script y is = absurd (cc (is))
+runs-on c (Some z) script y is = refl
+
+or-true : (b c : Bool) → b ≡ true → b || c ≡ true
+or-true b c is = ap (λ d. d || c) is
+
+or-after : (b : Bool) → (b || true) ≡ true
+or-after true = refl
+or-after false = refl
+
+stays-as : (worker : ℕ) (x : Client) (y : Running) (r : Reply) (heard : List ℕ) → x.run ≡ Some y → is_over y ≡ false
+    → run_after worker x.conn.q y r heard ≡ y → (is_later r || (waits y || false)) ≡ true → IsLeft (run_told worker x.conn.q x y r heard) x r Stays x
+stays-as worker x y r heard is going z passes =
+    let same : run_told worker x.conn.q x y r heard ≡ x = told-is worker x.conn.q x y r heard is going
+    ∙ (ap (λ (v : Running). goes_on false (is_over v) x y v) z ∙ (ap (λ b. goes_on false b x y y) going ∙ stands x y is)) in
+    record {
+      passed = ap (λ (t : Client). leaves_off (left_over t) r) same ∙ (leaves-run x.conn x.run x.script y r is ∙ passes);
+      told_is = same;
+      remains_is = ap (λ (t : Client). left_over t) same ∙ (runs-on x.conn x.run x.script y is ∙ ap (λ (t : Client). Some t) (sym same));
+      can_rest = tt;
+      as_it_was = refl;
+    }
+
+pub run_stays : (worker : ℕ) (x : Client) (y : Running) (r : Reply) (heard : List ℕ) → x.run ≡ Some y → is_over y ≡ false → is_later r ≡ true
+    → IsLeft (run_told worker x.conn.q x y r heard) x r Stays x
+run_stays worker x y r heard is going later =
+    stays-as worker x y r heard is going (after-later worker x.conn.q y r heard going later) (or-true (is_later r) (waits y || false) later)
+
+on-told : (worker : ℕ) (x : Client) (y z : Running) (r : Reply) (heard : List ℕ) → x.run ≡ Some y → is_over y ≡ false
+    → z ≡ run_after worker x.conn.q y r heard → is_over z ≡ false → run_told worker x.conn.q x y r heard ≡ goes_on false false x y z
+on-told worker x y z r heard is going z_is on =
+    told-is worker x.conn.q x y r heard is going ∙ (ap (λ (v : Running). goes_on false (is_over v) x y v) (sym z_is) ∙ ap (λ b. goes_on false b x y z) on)
+
+over-told : (worker : ℕ) (x : Client) (y z : Running) (r : Reply) (heard : List ℕ) → x.run ≡ Some y → is_over y ≡ false
+    → z ≡ run_after worker x.conn.q y r heard → is_over z ≡ true → run_told worker x.conn.q x y r heard ≡ ended x (after_run z)
+over-told worker x y z r heard is going z_is over =
+    told-is worker x.conn.q x y r heard is going ∙ (ap (λ (v : Running). goes_on false (is_over v) x y v) (sym z_is) ∙ ap (λ b. goes_on false b x y z) over)
+
+pub run_waits : (worker : ℕ) (x : Client) (y z : Running) (r : Reply) (heard : List ℕ) → x.run ≡ Some y → is_over y ≡ false
+    → z ≡ run_after worker x.conn.q y r heard → waits z ≡ true → IsLeft (run_told worker x.conn.q x y r heard) x r Stays x
+run_waits worker x y z r heard is going z_is waiting =
+    let still : run_after worker x.conn.q y r heard ≡ y = still-waits worker x.conn.q y r heard (ap (λ (v : Running). waits v) (sym z_is) ∙ waiting) in
+    let waited : waits y ≡ true = ap (λ (v : Running). waits v) (sym (z_is ∙ still)) ∙ waiting in
+    stays-as worker x y r heard is going still (ap (λ b. is_later r || (b || false)) waited ∙ or-after (is_later r))
+
+goes-on : (x : Client) (y z : Running) (r : Reply) → is_later r ≡ false → waits z ≡ false → GoesOn (goes_on false false x y z) r (goes_on false false x y z)
+goes-on x y z r now going = record {
+  on = ap (λ b. b || (awaits (goes_on false false x y z) || false)) now
+      ∙ ap (λ b. b || false) (waits-is x.conn z (text_on (keeps_text y) (keeps_text z) x.script) ∙ going);
+  stays = refl;
+  readies = refl;
+}
+
+pub run_goes : (scripts : Bool) (fd worker : ℕ) (x n : Client) (y z : Running) (r : Reply) (heard : List ℕ) (k : Call) → x.run ≡ Some y → is_over y ≡ false
+    → is_later r ≡ false → z ≡ run_after worker x.conn.q y r heard → waits z ≡ false → is_over z ≡ false → n ≡ goes_on false false x y z
+    → k ≡ run_wants fd n.conn.q n.script z → GoesOn (run_told worker x.conn.q x y r heard) r n × (k ≡ wants scripts fd n)
+run_goes scripts fd worker x n y z r heard k is going now z_is runs on n_is asks =
+    let told = on-told worker x y z r heard is going z_is on in (
+      subst (λ (t : Client). GoesOn t r n) (sym told) (subst (λ (v : Client). GoesOn (goes_on false false x y z) r v) (sym n_is) (goes-on x y z r now runs)),
+      asks ∙ (ap (λ (v : Client). run_wants fd v.conn.q v.script z) n_is ∙ ap (λ (v : Client). wants scripts fd v) (sym n_is)),
+    )
+
+pub run_ends : (scripts : Bool) (fd worker : ℕ) (x n : Client) (y z : Running) (d : Doing) (r : Reply) (heard : List ℕ) (o : Course) → x.run ≡ Some y → is_over y ≡ false
+    → is_later r ≡ false → z ≡ run_after worker x.conn.q y r heard → is_over z ≡ true → d ≡ after_run z
+    → IsCourse scripts fd (ended x d) x reply.Done o n → IsCourse scripts fd (run_told worker x.conn.q x y r heard) x r o n
+run_ends scripts fd worker x n y z d r heard o is going now z_is over d_is course =
+    let told : run_told worker x.conn.q x y r heard ≡ ended x d = over-told worker x y z r heard is going z_is over ∙ ap (λ (e : Doing). ended x e) (sym d_is) in
+    subst (λ (t : Client). IsCourse scripts fd t x r o n) (sym told) (course_reply scripts fd (ended x d) x r o n now course)
+
+-- ---- memory
+
+pub on_err : {T E : Type 0} (r : Result T E) (P : Type 0) → P → OnErr r P
+on_err (Ok x) P p = tt
+on_err (Err e) P p = p
+
+pub goes_wants : (scripts : Bool) (worker : ℕ) (x : Client) (y z : Running) (r : Reply) (heard : List ℕ) → x.run ≡ Some y → is_over y ≡ false
+    → is_later r ≡ false → z ≡ run_after worker x.conn.q y r heard → waits z ≡ false → is_over z ≡ false → makes_any z ≡ true
+    → WantsOn scripts (run_told worker x.conn.q x y r heard) x r heard
+goes_wants scripts worker x y z r heard is going now z_is runs on makes =
+    let told = on-told worker x y z r heard is going z_is on in
+    inr (ap (λ (t : Client). leaves_off (left_over t) r) told ∙ (goes-on x y z r now runs).on, ap (λ (t : Client). needs_memory t) told ∙ makes)
+
+leaves-now : (o : Option Client) (r : Reply) → is_later r ≡ false → leaves_off o r ≡ leaves_off o reply.Done
+leaves-now None r now = refl
+leaves-now (Some x) r now = ap (λ (b : Bool). b || (awaits x || is_bare x)) now
+
+pub run_wants_on : (scripts : Bool) (worker : ℕ) (x : Client) (y z : Running) (d : Doing) (r : Reply) (heard : List ℕ) → x.run ≡ Some y → is_over y ≡ false
+    → is_later r ≡ false → z ≡ run_after worker x.conn.q y r heard → is_over z ≡ true → d ≡ after_run z
+    → (leaves_off (left_over (ended x d)) reply.Done ≡ false) × (needs_memory (ended x d) ≡ true)
+    → WantsOn scripts (run_told worker x.conn.q x y r heard) x r heard
+run_wants_on scripts worker x y z d r heard is going now z_is over d_is wants =
+    let told : run_told worker x.conn.q x y r heard ≡ ended x d = over-told worker x y z r heard is going z_is over ∙ ap (λ (e : Doing). ended x e) (sym d_is) in
+    inr (ap (λ (t : Client). leaves_off (left_over t) r) told ∙ (leaves-now (left_over (ended x d)) r now ∙ wants.0), ap (λ (t : Client). needs_memory t) told ∙ wants.1)
+
+pub ruleset run_rules = (run_stays, run_waits, run_goes, run_ends, goes_wants, run_wants_on)

@@ -1,0 +1,73 @@
+-- A site that is hosted: set up in a new system, run over choices, and then over turns in rounds.
+use Rattle.std.specs.Prelude.{◌≡◌, ℕ, List, ◌++◌, length, map, false, Bool}
+use Rattle.iol_back.specs.Disk.{Disk, IfHonest}
+use Rattle.iol_core.specs.State.{State}
+use Rattle.iol_core.specs.declared.configuration.Config.{Config}
+use Rattle.iol_core.specs.declared.events.Reply.{Reply}
+use Rattle.iol_proc.specs.Idle.{Idles, rounds}
+use Rattle.iol_proc.specs.Laws.{HasEvents}
+use Rattle.iol_kernel.specs.Readings.{slots_of}
+use Rattle.iol_proc.specs.World.{Stage, copied, copying, sharing, WorldRun, domains_of}
+use Rattle.iol_proc.specs.declared.choice.Choice.{Choice}
+use Rattle.iol_system.specs.Machine.{SystemState}
+use Rattle.flash_cgi.specs.declared.worker.Worker.{Worker}
+use Rattle.flash_laws.specs.World.Calm.{AreMild}
+use Rattle.flash_laws.specs.Serves.Rounds.{in_rounds}
+use Rattle.flash_laws.specs.World.Tie.{Actor, actor_turns}
+use Rattle.flash_laws.specs.World.{IsNew}
+use Rattle.flash_laws.specs.World.Host.{IsRight}
+use Rattle.flash_lite.specs.Crew.{crew_of}
+use Rattle.flash_lite.specs.Library.{library_of}
+use Rattle.flash_lite.specs.NewWorld.{AreSeated}
+use Rattle.flash_lite.specs.SiteState.{state_of}
+use Rattle.flash_lite.specs.SiteStart.{Starts}
+use Rattle.flash_lite.specs.Workers.{worker_turns}
+use Rattle.flash_lite.specs.declared.site.Site.{Site}
+
+-- The world of a site that was set up over these slots, before its first turn: it is new, as the law over whole worlds has it.
+pub record IsNewWorld (s : Site) (slots : List (List ℕ)) (w : Stage State (Actor Worker)) : Type 0 where
+  pub machine : w.machine ≡ state_of s slots
+  pub seats : AreSeated s w.seats
+  pub smooth : w.rough ≡ false
+  pub new : IsNew (library_of s slots) (crew_of s) w
+
+-- A site over these slots makes its choices, which are answered so, and then has at most so many turns in rounds.
+pub record Hosts (s : Site) (slots : List (List ℕ)) (xs : List Choice) (rs : List Reply)
+    (turns : ℕ) (idle : Bool) (after : Stage State (Actor Worker)) : Type 0 where
+  pub first : Stage State (Actor Worker)
+  pub new : IsNewWorld s slots first
+  pub mid : Stage State (Actor Worker)
+  pub run : WorldRun copying (actor_turns in_rounds worker_turns) first xs rs mid
+  pub ends : Idles copying (actor_turns in_rounds worker_turns) mid turns idle after
+
+-- So does a system of these sizes, over any store: all of it, from the new system on, is a chain of the system's steps, and
+-- the store is as honest after it as before.
+pub record HostsOver (config : Config) (store : Disk) (s : Site) (xs : List Choice) (rs : List Reply)
+    (turns : ℕ) (idle : Bool) (after : Stage SystemState (Actor Worker)) : Type 0 where
+  pub first : Stage SystemState (Actor Worker)
+  pub starts : Starts config store s first
+  pub mid : Stage SystemState (Actor Worker)
+  pub run : WorldRun sharing (actor_turns in_rounds worker_turns) first xs rs mid
+  pub ends : Idles sharing (actor_turns in_rounds worker_turns) mid turns idle after
+  pub events : HasEvents starts.begun after.machine
+  pub honest : after.machine.disk.honest ≡ store.honest
+
+-- Over an honest store the world of a system, as the copying machine has it, is new over the store's slots before its first turn.
+abbrev pub IsNewIfHonest : (store : Disk) → Site → Stage SystemState (Actor Worker) → Type 0
+IsNewIfHonest store s w = IfHonest store (IsNewWorld s (slots_of store.slots) (copied w))
+
+-- Over an honest store the site is hosted over the store's slots, and this is the system's world after it.
+abbrev pub HostsIfHonest : (store : Disk) → Site → List Choice → List Reply → (turns : ℕ) → (idle : Bool)
+    → (after : Stage SystemState (Actor Worker)) → Type 0
+HostsIfHonest store s xs rs turns idle after = IfHonest store (Hosts s (slots_of store.slots) xs rs turns idle (copied after))
+
+-- What was hosted is right, where calls from outside were mild and no turn was rough.
+abbrev pub HostedIsRight : Type 0
+HostedIsRight = (s : Site) (slots : List (List ℕ)) (xs : List Choice) (rs : List Reply) (turns : ℕ)
+    (idle : Bool) (after : Stage State (Actor Worker))
+    → (hosts : Hosts s slots xs rs turns idle after)
+    → AreMild (actor_turns in_rounds worker_turns) hosts.first xs rs hosts.mid hosts.run
+    → after.rough ≡ false
+    → IsRight (crew_of s) (library_of s slots)
+    (xs ++ rounds (domains_of hosts.mid.seats) 0 (length hosts.ends.went))
+    (rs ++ map (λ t. t.1) hosts.ends.went) idle after

@@ -1,0 +1,23 @@
+-- Which pages of a pool can be had for new bytes, if need be by evictions.
+use Rattle.std.specs.Prelude.{ℕ, ◌||◌, Bool, false, not, nat_lt, List, length, Option, Some, None}
+use Rattle.std.specs.List.{filter}
+use Rattle.iol_core.specs.declared.numbers.BufId.{BufId}
+use Rattle.iol_arena.specs.State.{entry_at, generation_at}
+use Rattle.iol_hold.specs.StoreState.{Stored}
+use Rattle.iol_hold.specs.Releases.{first_page, buf_at}
+use Rattle.iol_hold.specs.Room.{pages_of}
+use Rattle.iol_cache.specs.Marks.{is_held_beside}
+
+-- the buffer that begins there is held by more than clean extents
+abbrev pub is_begun : Stored → (clean : List BufId) → Option ℕ → Bool
+is_begun s clean None = false
+is_begun s clean (Some p) = is_held_beside s clean (buf_at s.arena p)
+
+-- its generation is the last, or it lies in a buffer that is held by anything but a clean extent
+unfoldable pub is_pinned : Stored → (clean : List BufId) → ℕ → Bool
+is_pinned s clean q = not (nat_lt (generation_at s.arena q) s.arena.limit)
+    || is_begun s clean (first_page (entry_at s.arena q).kind q)
+
+-- how many pages of a pool are pinned
+abbrev pub pinned_beside : Stored → (clean : List BufId) → (pool : ℕ) → ℕ
+pinned_beside s clean p = length (filter (is_pinned s clean) (pages_of s p))

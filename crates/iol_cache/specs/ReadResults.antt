@@ -1,0 +1,147 @@
+-- What a read of a file does to a store and a cache over it.
+use Rattle.std.specs.Prelude.{◌≡◌, ◌⊎◌, ℕ, ◌+◌, ◌<◌, ◌≤◌, min, max, true, List, [], length, take, drop, Result, Ok, Err, IfOk, IfErr, OnErr}
+use Rattle.iol_core.specs.NumberedLists.{is_numbered}
+use Rattle.iol_core.specs.Prelude.{WantOfRoomOrFault}
+use Rattle.iol_core.specs.declared.limits.TheConstants.{MAX_FILE_BYTES}
+use Rattle.iol_core.specs.declared.refusals.Refusal.{Refusal}
+use Rattle.iol_core.specs.declared.refusals.Refusal.TheVariants.{NoRoom, Fault, Memory}
+use Rattle.iol_back.specs.Disk.{Disk, IfHonest, content, last_failure, length_told}
+use Rattle.iol_back.specs.Prelude.{raised}
+use Rattle.iol_extent.specs.Extents.{last_end}
+use Rattle.iol_extent.specs.declared.spans.Span.{Span}
+use Rattle.iol_hold.specs.Moves.{Moves}
+use Rattle.iol_hold.specs.Places.{places}
+use Rattle.iol_hold.specs.Releases.{FreesOnly}
+use Rattle.iol_hold.specs.Room.{pages_of}
+use Rattle.iol_hold.specs.StoreState.{Stored}
+use Rattle.iol_hold.specs.Texts.{AllReadable, bufs_of}
+use Rattle.iol_hold.specs.declared.slices.Slice.{Slice}
+use Rattle.iol_cache.specs.CacheState.{Cached, clean_held, extents_in, file_in}
+use Rattle.iol_cache.specs.Contents.{Mirrors, bytes_in_slot}
+use Rattle.iol_cache.specs.Evictions.{HasPages, Holding}
+use Rattle.iol_cache.specs.Gaps.{gap_pages}
+use Rattle.iol_cache.specs.ReadSteps.{Goes, HasRoom, LacksRoom}
+use Rattle.iol_cache.specs.Loads.{Asks}
+use Rattle.iol_cache.specs.PinnedPages.{pinned_beside}
+use Rattle.iol_cache.specs.Ranges.{CompletesRange, FillsAfter, PinsRange, UndoesAfter}
+use Rattle.iol_cache.specs.RangeReads.{SameButRoom}
+use Rattle.iol_cache.specs.Sound.{IsSound}
+use Rattle.iol_cache.specs.Weave.{places_read}
+
+-- A call that wants pages is refused for want of room only where it lacks room. It succeeds, or meets a fault, only where it
+-- has room.
+abbrev pub TellsRoom : {A : Type 0} → (has lacks : Type 0) → Result A Refusal → Type 0
+TellsRoom has lacks (Ok x) = has
+TellsRoom has lacks (Err (Fault f)) = has
+TellsRoom has lacks (Err (NoRoom p)) = lacks
+TellsRoom has lacks (Err x) = Unit {0}
+
+-- a failure was counted just where a fault is answered
+abbrev pub FaultCounts : {A : Type 0} → (old new : Disk) → Result A Refusal → Type 0
+FaultCounts old new (Ok x) = new.failures ≡ old.failures
+FaultCounts old new (Err (Fault f)) = new.failures ≡ raised old.failures
+FaultCounts old new (Err x) = new.failures ≡ old.failures
+
+-- The store was read, so an honest one keeps its bytes. A fault is answered just where one failure more was counted.
+pub record TellsFault {A : Type 0} (old new : Disk) (r : Result A Refusal) : Type 0 where
+  pub honest : new.honest ≡ old.honest
+  pub slots : IfHonest old (new.slots ≡ old.slots)
+  pub counts : FaultCounts old new r
+
+-- The store is honest, no file of it is too long, and under clean extents it has the same bytes.
+pub record IsBacked (disk : Disk) (h : Holding) : Type 0 where
+  pub honest : disk.honest ≡ true
+  pub short : (f : ℕ) → is_numbered h.cache.files f ≡ true → length (content disk.slots f) ≤ MAX_FILE_BYTES
+  pub mirrors : Mirrors h.store disk.slots h.cache.files
+
+-- The end of a file for a read: that of what the store tells of it, as far as a file may go, or of the last extent. An
+-- honest store tells what is stored.
+pub record IsEnd (disk : Disk) (c : Cached) (f end : ℕ) : Type 0 where
+  pub short : end ≤ MAX_FILE_BYTES
+  pub is : end ≡ max (min (length_told disk.told f) MAX_FILE_BYTES) (last_end (extents_in c.files f))
+  pub stored : IfHonest disk (end ≡ max (min (length (content disk.slots f)) MAX_FILE_BYTES) (last_end (extents_in c.files f)))
+
+-- n bytes from `at` on, as far as the file goes
+pub record Range (disk : Disk) (c : Cached) (f at n : ℕ) : Type 0 where
+  pub end : ℕ
+  pub ends : IsEnd disk c f end
+  pub from : ℕ
+  pub begins : from ≡ min at end
+  pub to : ℕ
+  pub stops : to ≡ min (at + n) end
+
+-- so many pages of a pool are not free, and cannot be by evictions
+abbrev pub LacksPages : (p n : ℕ) → Holding → Type 0
+LacksPages p n h = length (pages_of h.store p) < pinned_beside h.store (clean_held h.cache.files) p + n
+
+-- Room is made for the gaps of a range, if there is room; they are filled, all of them or none, and the range is put together
+-- with what was shared beside them, which is released, also where this is refused. With these holds gone, and the range's made,
+-- the cache is sound, and over an honest store every file has the bytes that it had.
+pub record FillsPinned (f from to : ℕ) (pins : List Slice) (gaps : List Span) (disk after : Disk) (old new : Holding)
+    (r : Result (List Slice) Refusal) : Type 0 where
+  pub filled : IfOk r (FillsAfter f from to pins gaps disk old new)
+  pub undone : IfErr r (UndoesAfter f pins gaps old new)
+  pub readable : IfOk r (AllReadable new.store)
+  pub goes : IfOk r (λ xs. Goes disk (bufs_of pins) (bufs_of xs) old new)
+  pub gone : OnErr r (Goes disk (bufs_of pins) [] old new)
+  pub sound : IsSound new.store new.cache
+  pub room : let p = (file_in old.cache.files f).pool in
+      TellsRoom (HasPages p (gap_pages gaps) old) (LacksPages p (gap_pages gaps) old) r
+  pub asks : Asks (length gaps) disk after r
+  pub late : IfErr r (WantOfRoomOrFault (file_in old.cache.files f).pool f)
+
+-- The hits of a range were shared and counted. Where there are gaps, extents went to make room for them, and they stand as
+-- clean extents now. Its bytes lie over hits where they lay, over gaps in the new extents.
+pub record ReadsRange (f from to : ℕ) (disk : Disk) (old new : Holding) (xs : List Slice) : Type 0 where
+  pub pins : List Slice
+  pub gaps : List Span
+  pub hit : Holding
+  pub pinned : PinsRange f from to old hit pins gaps
+  pub completed : CompletesRange f from to pins gaps disk hit new xs
+  pub lies : places xs ≡ places_read (extents_in old.cache.files f) (extents_in new.cache.files f) from to gaps
+  pub answers : 0 < length gaps → disk.failures < last_failure
+
+-- The hits of a range were shared and counted, and extents went to make room for its gaps. What was made of these is gone,
+-- and what was shared was released. Where nothing was missing there is neither a fault nor want of room.
+pub record GivesBack (f from to : ℕ) (old new : Holding) (x : Refusal) : Type 0 where
+  pub pins : List Slice
+  pub gaps : List Span
+  pub faults : (g : ℕ) → x ≡ Fault g → 0 < length gaps
+  pub roomy : (p : ℕ) → x ≡ NoRoom p → 0 < length gaps
+  pub hit : Holding
+  pub pinned : PinsRange f from to old hit pins gaps
+  pub undone : UndoesAfter f pins gaps hit new x
+
+-- Nothing changed but room for what may come.
+pub record ReservesOnly (old new : Holding) : Type 0 where
+  pub same : SameButRoom old.cache new.cache
+  pub moves : Moves old.store new.store [] []
+  pub frees : FreesOnly old.store new.store
+
+-- A read of a range was refused: for want of memory before its hits were shared, or after that.
+abbrev pub LeavesRange : (f from to : ℕ) → (old new : Holding) → Refusal → Type 0
+LeavesRange f from to old new x = ((x ≡ Memory) × ReservesOnly old new) ⊎ GivesBack f from to old new x
+
+-- A file was read: n bytes from `at` on, as far as it goes.
+pub record ReadsFile (f at n : ℕ) (disk : Disk) (old new : Holding) (xs : List Slice) : Type 0 where
+  pub range : Range disk old.cache f at n
+  pub reads : ReadsRange f range.from range.to disk old new xs
+
+-- Such a read was refused so.
+pub record RefusesRead (f at n : ℕ) (disk : Disk) (old new : Holding) (x : Refusal) : Type 0 where
+  pub range : Range disk old.cache f at n
+  pub leaves : LeavesRange f range.from range.to old new x
+
+-- The pages that are pinned while such a read holds its hits, and those that its gaps want, fit the pool.
+pub record RoomToRead (f at n : ℕ) (disk : Disk) (old : Holding) : Type 0 where
+  pub range : Range disk old.cache f at n
+  pub room : HasRoom old.store old.cache f range.from range.to
+
+-- They do not.
+pub record NoRoomToRead (f at n : ℕ) (disk : Disk) (old : Holding) : Type 0 where
+  pub range : Range disk old.cache f at n
+  pub lacks : LacksRoom old.store old.cache f range.from range.to
+
+-- the bytes of a file from `at` on, at most n of them
+abbrev pub bytes_read : Stored → (slots : List (List ℕ)) → Cached → (f at n : ℕ) → List ℕ
+bytes_read s slots c f at n = take n (drop at (bytes_in_slot s slots c.files f))

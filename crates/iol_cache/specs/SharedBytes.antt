@@ -1,0 +1,69 @@
+-- Bytes of a file, shared from the extents over them.
+use Rattle.std.specs.Prelude.{◌≡◌, ℕ, ◌+◌, ◌-◌, ◌<◌, ◌≤◌, ◌^◌, ◌++◌, List, [], map, Option, Some, None, IsSome, Result, IfOk, OnErr}
+use Rattle.std.specs.List.{range_with_len}
+use Rattle.iol_core.specs.declared.numbers.BufId.{BufId}
+use Rattle.iol_extent.specs.Extents.{Cell, Extent, IsApart, cover, no_place}
+use Rattle.iol_extent.specs.declared.spans.Span.{Span}
+use Rattle.iol_hold.specs.Moves.{Covers, Moves, SameLists, Shares, tally}
+use Rattle.iol_hold.specs.Places.{Place, byte_len, places}
+use Rattle.iol_hold.specs.Releases.{FreesOnly}
+use Rattle.iol_hold.specs.StoreState.{AllSettled, Stored, count_of}
+use Rattle.iol_hold.specs.Texts.{AllReadable, bufs_of}
+use Rattle.iol_hold.specs.declared.slices.Slice.{Slice}
+use Rattle.iol_cache.specs.CacheState.{all_parts}
+
+-- each byte of the range lies under an extent
+pub record IsCovered (es : List Extent) (from to : ℕ) : Type 0 where
+  pub each : (i : ℕ) → from ≤ i → i < to → IsSome (cover es i)
+
+abbrev pub place_in : Option Cell → Place
+place_in None = no_place
+place_in (Some c) = c.place
+
+-- where byte i of a file lies
+abbrev pub place_over : List Extent → (i : ℕ) → Place
+place_over es i = place_in (cover es i)
+
+-- where the bytes of a range lie
+abbrev pub places_over : List Extent → (from to : ℕ) → List Place
+places_over es from to = map (place_over es) (range_with_len from (to - from))
+
+-- each of these ranges lies under extents
+abbrev pub IsCoveredSpan : List Extent → Span → Type 0
+IsCoveredSpan es s = IsCovered es s.from s.to
+
+-- these extents stand apart, their slices are held, and their bytes can be read
+pub record AreHeld (s : Stored) (es : List Extent) : Type 0 where
+  pub apart : IsApart 0 es
+  pub held : Covers s (bufs_of (all_parts es))
+  pub readable : AllReadable s (all_parts es)
+
+-- each buffer is held fewer than n times
+pub record CountsBelow (s : Stored) (n : ℕ) : Type 0 where
+  pub each : (b : BufId) → count_of s b < n
+
+-- Slices are shared, beside those that were held so far, and handed out with them. Refused, all of them are released.
+pub record SharesOrReleases {A E : Type 0} (so_far : List Slice) (given : A → List Slice) (old new : Stored)
+    (r : Result A E) : Type 0 where
+  pub shares : IfOk r (λ a. Shares old new (bufs_of so_far) (bufs_of (given a)))
+  pub gone : OnErr r (Moves old new (bufs_of so_far) [])
+  pub frees : FreesOnly old new
+  pub lists : SameLists old new
+  pub settles : AllSettled old → AllSettled new
+
+-- The bytes of a range lie under extents, and may be added to what was shared so far: all of it is held, and can be read.
+pub record MayShare (s : Stored) (es : List Extent) (so_far : List Slice) (from to : ℕ) : Type 0 where
+  pub ordered : from ≤ to
+  pub apart : IsApart 0 es
+  pub covered : IsCovered es from to
+  pub held : Covers s (bufs_of so_far ++ bufs_of (all_parts es))
+  pub readable : AllReadable s (all_parts es)
+  pub own_readable : AllReadable s so_far
+  pub few : (b : BufId) → count_of s b < 2 ^ 62 + tally b (bufs_of so_far)
+  pub small : byte_len so_far + (to - from) < 2 ^ 32
+
+-- The bytes of a range were added to what was shared so far. Refused, all of it is released.
+pub record SharesOver {E : Type 0} (es : List Extent) (so_far : List Slice) (from to : ℕ) (old new : Stored)
+    (r : Result (List Slice) E) : Type 0 where
+  pub places : IfOk r (λ a. places a ≡ places so_far ++ places_over es from to)
+  pub shared : SharesOrReleases so_far (λ a. a) old new r

@@ -1,0 +1,68 @@
+-- Files are named and opened: what that wants, and what the tables of files have then.
+use Rattle.std.specs.Prelude.{◌≡◌, ℕ, ◌+◌, ◌<◌, ◌++◌, ◌∷◌, false, true, bytes_eq, is_some, List, [], length, Option, IfSome, Result, IfOk, OnOk, OnErr}
+use Rattle.std.specs.List.{list_any}
+use Rattle.iol_core.specs.NumberedLists.{is_numbered}
+use Rattle.iol_core.specs.State as machine
+use Rattle.iol_core.specs.Calls.Descriptors.{too_many_open}
+use Rattle.iol_core.specs.Calls.Files.{file_called, file_new}
+use Rattle.iol_core.specs.declared.limits.TheConstants.{MAX_FILES}
+use Rattle.iol_arena.specs.State.{page_count}
+use Rattle.iol_pool.specs.Pools.{pool_in}
+use Rattle.iol_hold.specs.StoreState.{Stored, IsStill, IsTidy}
+use Rattle.iol_cache.specs.Cache.{cached_of}
+use Rattle.iol_cache.specs.CacheState.{new_file, order_in}
+use Rattle.iol_cache.specs.Sound as cache
+use Rattle.iol_kernel.specs.Calls.{AddsFile}
+use Rattle.iol_kernel.specs.FileLengths.{HasFileFor}
+use Rattle.iol_kernel.specs.Files.{with_named}
+use Rattle.iol_kernel.specs.KernelState.{KernelState, IsSound, machine_of, read_of}
+use Rattle.iol_kernel.specs.Readings.{Reading}
+use Rattle.iol_kernel.specs.declared.files.Files.{Files}
+
+-- There is no file, nothing in memory of any, and no order of eviction. Over a store of so many pages that is tidy and still
+-- the cache is in order.
+pub record HasNone (pages : ℕ) (x : Files) : Type 0 where
+  pub none : x.table.files ≡ []
+  pub cached : (cached_of x.cache).files ≡ []
+  pub orders : (cached_of x.cache).orders ≡ []
+  pub sound : (s : Stored) → page_count s.arena ≡ pages → IsTidy s → IsStill s.arena → cache.IsSound s (cached_of x.cache)
+
+-- A file of this name may come after those that there are: none of them has the name, and a slot is free.
+pub record MayName (name : List ℕ) (x : Files) : Type 0 where
+  pub unnamed : list_any (λ f. bytes_eq f.name name) x.table.files ≡ false
+  pub few : length (cached_of x.cache).files < MAX_FILES
+
+-- A file of this name and pool came in the next slot, and nothing of it is in memory; refused, files and cache are as they were.
+-- Each order of eviction stays, and so does the cache's order over a store in which the pool is open.
+pub record AddsNamed {E : Type 0} (name : List ℕ) (pool : ℕ) (old : Files) (r : Result ℕ E) (new : Files) : Type 0 where
+  pub number : IfOk r (λ n. n ≡ length (cached_of old.cache).files + 1)
+  pub list : OnOk r (new.table.files ≡ with_named old.table.files name pool)
+  pub cached : OnOk r ((cached_of new.cache).files ≡ (cached_of old.cache).files ++ new_file pool ∷ [])
+  pub orders : (p : ℕ) → order_in (cached_of new.cache).orders p ≡ order_in (cached_of old.cache).orders p
+  pub sound : (s : Stored) → cache.IsSound s (cached_of old.cache) → (pool_in s.pools pool).closed ≡ false
+      → cache.IsSound s (cached_of new.cache)
+  pub err_list : OnErr r (new.table.files ≡ old.table.files)
+  pub err_cache : OnErr r (cached_of new.cache ≡ cached_of old.cache)
+
+-- A file may come in the next slot, under a name that no other has, in a pool that is open.
+pub record MayAddFile (name : List ℕ) (pool : ℕ) (h : KernelState) : Type 0 where
+  pub sound : IsSound h
+  pub few : length (machine_of [] h).files < MAX_FILES
+  pub unnamed : is_some (file_called (machine_of [] h) name) ≡ false
+  pub opened : (machine.pool (machine_of [] h) pool).closed ≡ false
+
+-- A file of this name and pool came in the next slot; or memory was wanting, and nothing changed.
+pub record TriesFile {E : Type 0} (d : ℕ) (name : List ℕ) (pool : ℕ) (old : KernelState) (r : Result ℕ E)
+    (new : KernelState) : Type 0 where
+  pub done : IfOk r (λ n. AddsFile (λ s. file_new s d name pool) old n new)
+  pub err : OnErr r (new ≡ old)
+
+-- The file of a name was looked for: it is there, where there is one.
+pub record FindsNamed (name : List ℕ) (h : KernelState) (r : Option ℕ) : Type 0 where
+  pub called : (f : Reading) → r ≡ file_called (read_of f h) name
+  pub there : IfSome r (λ n. is_numbered h.files n ≡ true)
+
+-- A live domain may have one more descriptor, on a file that is there.
+pub record MayOpenFile (d f : ℕ) (h : KernelState) : Type 0 where
+  pub has : HasFileFor h d f
+  pub few : too_many_open (machine_of [] h) d 1 ≡ false

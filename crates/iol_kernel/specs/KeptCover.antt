@@ -1,0 +1,40 @@
+-- Which bytes of files lie where they lay, where clean extents may give way to new bytes.
+use Rattle.std.specs.Prelude.{◌≡◌, ◌⊎◌, ℕ, ◌+◌, ◌<◌, ◌≤◌, false, List, length, Some}
+use Rattle.iol_back.specs.Disk.{Disk}
+use Rattle.iol_extent.specs.Extents.{Cell, cover}
+use Rattle.iol_extent.specs.Spans.{Tile}
+use Rattle.iol_extent.specs.declared.spans.Span.{Span}
+use Rattle.iol_hold.specs.Room.{free_of}
+use Rattle.iol_cache.specs.CacheState.{Cached, extents_in, file_in}
+use Rattle.iol_cache.specs.Evictions.{Holding}
+use Rattle.iol_cache.specs.Gaps.{gap_pages}
+use Rattle.iol_cache.specs.ReadResults.{Range}
+use Rattle.iol_kernel.specs.KernelState.{KernelState}
+
+-- fewer pages of the pool are free than are wanted
+abbrev pub LacksPages : KernelState → (pool wanted : ℕ) → Type 0
+LacksPages h p wanted = length (free_of h.store p) < wanted
+
+-- A read of n bytes of a file from `at` on wants more pages for what is not in memory than are free.
+pub record LacksPagesToRead (f at n : ℕ) (disk : Disk) (old : Holding) : Type 0 where
+  pub range : Range disk old.cache f at n
+  pub hits : List Span
+  pub gaps : List Span
+  pub tile : Tile (extents_in old.cache.files f) range.from range.to hits gaps
+  pub lacks : length (free_of old.store (file_in old.cache.files f).pool) < gap_pages gaps
+
+-- What lay over a byte of file f gave way: it was clean, the file is of the pool, and there pages were wanting.
+pub record GaveWay (pool : ℕ) (Lacks : Type 0) (old : Cached) (f : ℕ) (c : Cell) : Type 0 where
+  pub clean : c.dirty ≡ false
+  pub pooled : (file_in old.files f).pool ≡ pool
+  pub lacks : Lacks
+
+-- each byte that lies under an extent lies where it lay, or gave way
+pub record KeepsUnless (pool : ℕ) (Lacks : Type 0) (old new : Cached) : Type 0 where
+  pub each : (f i : ℕ) (c : Cell) → cover (extents_in old.files f) i ≡ Some c
+      → (cover (extents_in new.files f) i ≡ Some c) ⊎ GaveWay pool Lacks old f c
+
+-- each byte that lies under an extent, and is none of the n of file f from `at` on, lies where it lay, or gave way
+pub record KeepsBeside (f at n pool : ℕ) (Lacks : Type 0) (old new : Cached) : Type 0 where
+  pub each : (g i : ℕ) (c : Cell) → (g ≡ f → (i < at) ⊎ (at + n ≤ i)) → cover (extents_in old.files g) i ≡ Some c
+      → (cover (extents_in new.files g) i ≡ Some c) ⊎ GaveWay pool Lacks old g c

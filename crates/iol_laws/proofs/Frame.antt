@@ -1,0 +1,6 @@
+pub mod Connections
+pub mod Pipes
+pub mod Descriptors
+pub mod Files
+pub mod Domains
+pub mod Steps

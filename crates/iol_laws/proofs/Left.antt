@@ -1,6 +1,0 @@
-pub mod Connections
-pub mod Pipes
-pub mod Descriptors
-pub mod Files
-pub mod Domains
-pub mod Leaving

@@ -1,0 +1,92 @@
+-- What comes in and goes out in place is an event of the copying machine.
+use Rattle.std.proofs.Common.{◌≡◌, ◌∙◌, ◌≤◌, ℕ, zero, suc, ◌==◌, min, length, List, [], ◌∷◌, Option, None, Bool, true, false, refl, ap, arith}
+use Rattle.std.proofs.lemmas.Bool.Decides.{nat_tests}
+use Rattle.std.specs.Prelude.{Result, Ok, Err, IfOk, OnOk, OnErr}
+use Rattle.iol_back.specs.Disk.{IfHonest}
+use Rattle.iol_core.specs.State.{State, conn_at}
+use Rattle.iol_core.specs.Calls.Outside.{lacks_conn, transmit}
+use Rattle.iol_core.specs.Meaning.{◌when◌, first}
+use Rattle.iol_core.specs.declared.events.Reply.TheVariants as reply
+use Rattle.iol_core.specs.declared.refusals.Refusal.{Refusal}
+use Rattle.iol_kernel.specs.Streams.{DrainsTo, TakesIn, sent_on}
+use Rattle.iol_kernel.specs.KernelState as held
+use Rattle.iol_kernel.specs.KernelState.{KernelState, read_of}
+use Rattle.iol_kernel.specs.Views.{state_view}
+use Rattle.iol_pipe.specs.declared.arrive.Arrived.{Arrived}
+use Rattle.iol_sock.specs.declared.drain_to.Drained.{Drained}
+use Rattle.iol_system.specs.Machine.{SystemState, machine_of, tables_of}
+use Rattle.iol_system.specs.Streams.{Comes}
+use Rattle.iol_proc.specs.Streams.{ArrivesAs, SendsAs}
+use Rattle.iol_proc.specs.Turns.{Account}
+use Rattle.iol_proc.specs.World.{Stage, copied}
+use Rattle.iol_proc.specs.declared.seat.Seat.{Seat}
+
+-- the store's bytes do not show in connections
+conn-slots : (slots : List (List ℕ)) (h : KernelState) (c : ℕ) → conn_at (held.machine_of slots h) c ≡ conn_at (tables_of h) c
+unfolding read_of state_view conn_at
+conn-slots slots h c = refl
+
+lacks_conn-slots : (slots : List (List ℕ)) (h : KernelState) (c : ℕ) → lacks_conn (held.machine_of slots h) c ≡ lacks_conn (tables_of h) c
+unfolding read_of state_view
+lacks_conn-slots slots h c = refl
+
+-- none of three refusals holds
+first_none : (a b c : Bool) (x y z : Refusal) → a ≡ false → b ≡ false → c ≡ false → first ((x when a) ∷ (y when b) ∷ (z when c) ∷ []) ≡ None
+first_none false false false x y z ea eb ec = refl
+first_none true b c x y z ea eb ec = absurd (cc)
+first_none a true c x y z ea eb ec = absurd (cc)
+first_none a b true x y z ea eb ec = absurd (cc)
+
+-- what is there to be sent is not refused
+sends : (slots : List (List ℕ)) (h : KernelState) (c n max : ℕ) → lacks_conn (tables_of h) c ≡ false → suc n ≤ min max (length (conn_at (tables_of h) c).outgoing) → first (transmit (held.machine_of slots h) c (suc n)).refusals ≡ None
+sends slots h c n max there most =
+    let some : length (conn_at (held.machine_of slots h) c).outgoing == 0 ≡ false = rw (conn-slots slots h c) (grind (arith, nat_tests, most)) in
+    let asked : suc n == 0 ≡ false = grind (arith, nat_tests) in
+    first_none _ _ _ _ _ _ (lacks_conn-slots slots h c ∙ there) asked some
+
+-- a stage from its parts
+staged : {P : Type 0} → State → List (Seat P) → Bool → Stage State P
+staged m seats rough = record { machine = m; seats = seats; rough = rough }
+
+same_copied : {P : Type 0} (old new : Stage SystemState P) → new.seats ≡ old.seats → new.rough ≡ old.rough → machine_of new.machine ≡ machine_of old.machine → copied new ≡ copied old
+unfolding staged
+same_copied old new seats rough machine =
+    ap (λ m. staged m new.seats new.rough) machine
+    ∙ (ap (λ s. staged (machine_of old.machine) s new.rough) seats ∙ ap (λ r. staged (machine_of old.machine) old.seats r) rough)
+
+-- a refusal leaves the machine, and the processes
+pub refused_copied : {P A E : Type 0} (r : Result A E) (old new : Stage SystemState P) → new.seats ≡ old.seats → new.rough ≡ old.rough → IfHonest old.machine.disk (OnErr r (machine_of new.machine ≡ machine_of old.machine)) → IfHonest old.machine.disk (OnErr r (copied new ≡ copied old))
+refused_copied (Ok a) old new seats rough same = λ honest. tt
+refused_copied (Err e) old new seats rough same = λ honest. same_copied old new seats rough (same honest)
+
+module _ {P : Type 0} (turns : Account P) where
+  arrives_as : (c n : ℕ) (bytes : List ℕ) (old new : Stage SystemState P) → new.seats ≡ old.seats → new.rough ≡ old.rough → old.machine.disk.honest ≡ true → Comes c n bytes old.machine new.machine → ArrivesAs turns c n bytes (copied old) (copied new)
+  arrives_as c n bytes old new seats rough honest came =
+      let step = came.step honest in
+      record { step = (step.0, ap reply.Count step.1, step.2); seats_stay = seats; rough_stays = rough }
+
+  pub arrived_copied : {E : Type 0} (c : ℕ) (left after : Option (List ℕ)) (r : Result Arrived E) (old new : Stage SystemState P) → new.seats ≡ old.seats → new.rough ≡ old.rough
+      → IfOk r (λ a. TakesIn left after a.taken (λ bytes. Comes c a.taken bytes old.machine new.machine))
+      → IfHonest old.machine.disk (IfOk r (λ a. TakesIn left after a.taken (λ bytes. ArrivesAs turns c a.taken bytes (copied old) (copied new))))
+  arrived_copied c left after (Ok a) old new seats rough read = λ honest. record {
+    bytes = read.bytes;
+    count = read.count;
+    given = read.given;
+    arrives = arrives_as c a.taken read.bytes old new seats rough honest read.arrives;
+  }
+  arrived_copied c left after (Err e) old new seats rough read = λ honest. tt
+
+  sends_as : (c n max : ℕ) (old new : Stage SystemState P) → new.seats ≡ old.seats → new.rough ≡ old.rough → lacks_conn (tables_of old.machine.kernel) c ≡ false → n ≤ min max (length (conn_at (tables_of old.machine.kernel) c).outgoing)
+      → machine_of new.machine ≡ sent_on c n (machine_of old.machine) → SendsAs turns c n (copied old) (copied new)
+  sends_as c zero max old new seats rough there most sent = same_copied old new seats rough sent
+  sends_as c (suc n) max old new seats rough there most sent = record {
+    step = (sends old.machine.disk.slots old.machine.kernel c n max there most, refl, sent);
+    seats_stay = seats;
+    rough_stays = rough;
+  }
+
+  pub drained_copied : {E : Type 0} (c max : ℕ) (before after : Option (List ℕ)) (r : Result Drained E) (old new : Stage SystemState P) → new.seats ≡ old.seats → new.rough ≡ old.rough → new.machine.disk ≡ old.machine.disk
+      → OnOk r (lacks_conn (tables_of old.machine.kernel) c ≡ false) → IfOk r (DrainsTo c max before after old.machine.kernel new.machine.kernel) → IfOk r (λ d. SendsAs turns c d.taken (copied old) (copied new))
+  drained_copied c max before after (Ok d) old new seats rough disk there drains =
+      sends_as c d.taken max old new seats rough there drains.most (ap (λ k. held.machine_of k.slots new.machine.kernel) disk ∙ drains.left.bytes old.machine.disk.slots)
+  drained_copied c max before after (Err e) old new seats rough disk there drains = tt

@@ -1,0 +1,52 @@
+-- What is carried over turns in rounds to the moment at which all is idle.
+--
+-- S says of a process that has yielded so often, up to two, since anything was done: what it is, what it was last answered,
+-- and the machine's state. So S 1 may say that what the process polled since its last yield was refused in this very state,
+-- and S 2 that this was all that it polls.
+use Rattle.std.specs.Prelude.{◌≡◌, ◌≤◌, ℕ, true, List, [], ◌∷◌, Some, slice_get}
+use Rattle.std.specs.List.{AllByRecursion}
+use Rattle.iol_core.specs.State.{State}
+use Rattle.iol_core.specs.Run.{StepsTo}
+use Rattle.iol_core.specs.declared.events.Call.{Call}
+use Rattle.iol_core.specs.declared.events.Event.TheVariants as event
+use Rattle.iol_core.specs.declared.events.Reply.{Reply}
+use Rattle.iol_core.specs.declared.events.Reply.TheVariants as reply
+use Rattle.iol_core.specs.declared.refusals.Refusal.TheVariants.{WouldBlock}
+use Rattle.iol_proc.specs.Idle.{Idles, more_of_two}
+use Rattle.iol_proc.specs.LentBytes.{lent_to}
+use Rattle.iol_proc.specs.Turns.{Account}
+use Rattle.iol_proc.specs.World.{Stage, copying}
+use Rattle.iol_proc.specs.declared.process.Turn.TheVariants as turn
+use Rattle.iol_proc.specs.declared.seat.Seat.{Seat}
+
+-- what may hold of a process in its domain that has yielded n times
+abbrev pub Claim : Type 0 → Type 1
+Claim P = (n by : ℕ) → P → Reply → State → Type 0
+
+module _ {P : Type 0} (S : Claim P) where
+  -- it holds of each process, by how often it has yielded
+  abbrev pub AreSettled : List ℕ → List (Seat P) → State → Type 0
+  AreSettled [] [] m = Unit {0}
+  AreSettled (n ∷ ns) (s ∷ ss) m = (n ≤ 2) × S n s.by s.process s.last m × AreSettled ns ss m
+  AreSettled [] (s ∷ ss) m = ⊥
+  AreSettled (n ∷ ns) [] m = ⊥
+
+  -- each process has yielded twice
+  abbrev pub AllSettled : List (Seat P) → State → Type 0
+  AllSettled ss m = AllByRecursion (λ s. S 2 s.by s.process s.last m) ss
+
+  -- What is to be shown of the processes: at first it holds of anything; a call that is answered WouldBlock keeps it, and a
+  -- yield moves it on.
+  pub record Settles (turns : Account P) : Type 0 where
+    pub first : (by : ℕ) (p : P) (l : Reply) (m : State) → S 0 by p l m
+    pub blocks : (n by : ℕ) (p q : P) (l : Reply) (m : State) (c : Call) → S n by p l m
+        → turns.goes p l (lent_to m by) (turn.Make c) q → StepsTo m (event.Call by c) (reply.Refused WouldBlock) m
+        → S n by q (reply.Refused WouldBlock) m
+    pub yields : (n by : ℕ) (p q : P) (l : Reply) (m : State) → S n by p l m → turns.goes p l (lent_to m by) turn.Yield q
+        → S (more_of_two n) by q reply.Done m
+
+  -- What then holds where all is idle, as `World::until_idle` says it: each process is one that has yielded twice.
+  pub record IdleIsSettled (turns : Account P) : Type 0 where
+    pub all : (w after : Stage State P) (most : ℕ) → Idles copying turns w most true after → AllSettled after.seats after.machine
+    pub each : (w after : Stage State P) (most place : ℕ) (s : Seat P) → Idles copying turns w most true after
+        → slice_get after.seats place ≡ Some s → S 2 s.by s.process s.last after.machine

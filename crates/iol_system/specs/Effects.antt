@@ -1,0 +1,65 @@
+-- What an event does to what a system's calls work on, over a store: all that its promises are made of.
+use Rattle.std.specs.Prelude.{◌≡◌, ℕ, true, false}
+use Rattle.iol_back.specs.Disk.{Disk, IfHonest}
+use Rattle.iol_cache.specs.ReadResults.{FaultCounts}
+use Rattle.iol_core.specs.Positions.{ArePlaced}
+use Rattle.iol_core.specs.Run.{meaning, outcome, StepsTo}
+use Rattle.iol_core.specs.SharingCalls.{is_sharing, LaysOut}
+use Rattle.iol_core.specs.declared.events.Call.{Call}
+use Rattle.iol_core.specs.declared.events.Event.{Event}
+use Rattle.iol_core.specs.declared.events.Event.TheVariants as event
+use Rattle.iol_core.specs.declared.events.Reply.{Reply}
+use Rattle.iol_hold.specs.Moves.{Stays}
+use Rattle.iol_kernel.specs.FileCalls.{IsBackedBy, StepsBeside}
+use Rattle.iol_kernel.specs.Kernel.{state_of}
+use Rattle.iol_kernel.specs.KernelState.{KernelState, layout_of, machine_of, IsSound}
+use Rattle.iol_kernel.specs.declared.kernel.Kernel.{Kernel}
+use Rattle.iol_system.specs.FileLengths.{TellsEnd}
+use Rattle.iol_system.specs.StoreCalls.{asks_store, makes_file, uses_cache, writes_store}
+use Rattle.iol_system.specs.InPlace.{KeepsInPlace, SharesFile}
+use Rattle.iol_system.specs.Late.{LeavesLate}
+use Rattle.iol_system.specs.Machine.{system_of, tables_of}
+use Rattle.iol_system.specs.PagesAndChunks.{Creates, Publishes, SamePages}
+use Rattle.iol_system.specs.Sums.{Remembers}
+use Rattle.iol_system.specs.Still.{is_still, keeps_store, only_looks, takes_out}
+use Rattle.iol_system.specs.Room.{HasRoomFor, LacksRoomFor, IsDone, IsEarly, IsFault, IsNoRoom, IsRefused}
+use Rattle.iol_system.specs.WriteBack.{WritesBack}
+
+-- What an event does. With a store that has the same bytes as memory where nothing was written, and positions within files,
+-- it is the machine's step; and then the store has them again. All else holds over any store.
+pub record Does (disk : Disk) (old : KernelState) (e : Event) (r : Reply) (after : Disk) (new : KernelState) : Type 0 where
+  pub step : IsBackedBy disk old → ArePlaced (machine_of disk.slots old)
+      → StepsTo (machine_of disk.slots old) e r (machine_of after.slots new)
+  pub backed : IsBackedBy disk old → IsBackedBy after new
+  pub beside : StepsBeside (λ s. meaning s e) old (outcome r) new
+  pub honest : after.honest ≡ disk.honest
+  pub unasked : asks_store (tables_of old) e ≡ false → after ≡ disk
+  pub faults : asks_store (tables_of old) e ≡ true → FaultCounts disk after (outcome r)
+  pub slots : IfHonest disk (writes_store e ≡ false → after.slots ≡ disk.slots)
+  pub asked : asks_store (tables_of old) e ≡ true → IsFault r → HasRoomFor (system_of old disk) e
+  pub room : IsDone r → HasRoomFor (system_of old disk) e
+  pub no_room : IsNoRoom r → LacksRoomFor (system_of old disk) e
+  pub early : IsEarly r → (new ≡ old) × (after ≡ disk)
+  pub refused : uses_cache (tables_of old) e ≡ false → IsRefused r → new ≡ old
+  pub uncached : uses_cache (tables_of old) e ≡ false → makes_file e ≡ false → new.cache ≡ old.cache
+  pub late : LeavesLate (system_of old disk) e r (system_of new after)
+  pub looks : only_looks e ≡ true → (new ≡ old) × (after ≡ disk)
+  pub shares : is_sharing (tables_of old) e ≡ true → LaysOut (layout_of old) e r (layout_of new)
+  pub pages : is_sharing (tables_of old) e ≡ true → SamePages old.store new.store
+  pub still : is_still e ≡ true → LaysOut (layout_of old) e r (layout_of new)
+  pub in_place : KeepsInPlace (system_of old disk) e new
+  pub places : takes_out (tables_of old) e ≡ true → IsDone r → layout_of new ≡ (meaning (layout_of old) e).after
+  pub store : keeps_store e ≡ true → new.store ≡ old.store
+  pub shares_file : IsDone r → SharesFile (system_of old disk) e r new
+  pub publishes : IsDone r → Publishes old e new
+  pub creates : Creates old e r new
+  pub ends : TellsEnd (system_of old disk) e r
+  pub sums : Remembers old e r new
+  pub written_back : WritesBack disk old e r after new
+  pub sound : IsSound new
+  pub stays : Stays old.store new.store
+
+-- what a call of a domain does to a kernel, over a store that has this disk
+abbrev pub DoesCall : {B : Type 0} → (by : ℕ) → Call → (disk : B → Disk) → (backing after : B) → Kernel → Reply → Kernel → Type 0
+DoesCall by call disk backing after old r new =
+    Does (disk backing) (state_of old) (event.Call by call) r (disk after) (state_of new)

@@ -1,0 +1,21 @@
+-- When nobody is left, and that all pages are free then.
+use Rattle.std.specs.Prelude.{◌≡◌, ℕ, true, false, not, []}
+use Rattle.std.specs.List.{filter}
+use Rattle.iol_core.specs.State.{is_live}
+use Rattle.iol_arena.specs.Chunks.{spent, usable}
+use Rattle.iol_hold.specs.Room.{free_of, pages_of}
+use Rattle.iol_hold.specs.StoreState.{Stored}
+use Rattle.iol_cache.specs.CacheState.{extents_in_all}
+use Rattle.iol_system.specs.Machine.{SystemState, machine_of}
+
+-- no domain and no connection is live, and no extent of a file is left
+pub record IsLeft (s : SystemState) : Type 0 where
+  pub domains : (d : ℕ) → is_live (machine_of s) d ≡ false
+  pub conns : (machine_of s).conns ≡ []
+  pub extents : extents_in_all s.kernel.cache.files ≡ 0
+
+-- Every page that is not retired is free, whether its chunk is a pool's or nobody's. So the free pages of each pool are all its
+-- pages, but for those that are retired.
+pub record IsAllFree (s : Stored) : Type 0 where
+  pub every : (q : ℕ) → spent s.arena q ≡ false → usable s.arena q ≡ true
+  pub each : (p : ℕ) → free_of s p ≡ filter (λ q. not (spent s.arena q)) (pages_of s p)
