@@ -1,5 +1,5 @@
 -- Slices divided between two lists.
-use Rattle.std.proofs.Common.{◌≡◌, ℕ, ◌+◌, ◌-◌, ◌<◌, ◌≤◌, List, [], ◌∷◌, ◌++◌, length, take, drop, get_or, set, slice_range, sym, ap, ◌∙◌, arith}
+use Rattle.std.proofs.Common.{◌≡◌, ℕ, ◌+◌, ◌-◌, ◌<◌, ◌≤◌, List, [], ◌∷◌, ◌++◌, length, length-append, take, drop, get_or, set, slice_range, sym, ap, ◌∙◌, arith, append-nil}
 use Rattle.std.proofs.lemmas.List.{take-append-le, drop-append-le, take_rest, take-append-drop, length-take, length-drop}
 use Rattle.std.proofs.Math.Seq.{take-append-add, drop-append-add}
 use Rattle.iol_hold.specs.StoreState.{Stored, count_of}
@@ -9,7 +9,9 @@ use Rattle.iol_hold.specs.Texts.{bufs_of}
 use Rattle.iol_hold.specs.declared.slices.Slice.{Slice}
 use Rattle.iol_hold.proofs.Counts.{tally-append, tally_none, tally-at, same_self, bufs-append, bufs-push}
 use Rattle.iol_hold.proofs.SlicePlaces.{places-append, places-push, length-slice_places}
+use Rattle.iol_agg.specs.Pours.{meeting}
 use Rattle.iol_agg.proofs.Pours.{shares_beside}
+use Rattle.iol_agg.proofs.RangeSlices.{meeting-drop, meeting-empty, meeting-front, meeting-rest, meeting-start}
 
 -- what is left of a slice from place n on
 pub tail-cut : (x y tail : Slice) (n : ℕ) → slice_places y ≡ slice_places x → slice_places tail ≡ slice_range (slice_places y) n x.len → slice_places tail ≡ drop n (slice_places x)
@@ -32,9 +34,21 @@ places-left [] x y n h e k is = absurd (omega arith)
 places-left (z ∷ zs) x y n h e k is =
     ap (λ t. t ++ places zs) is ∙ sym (drop-append-le n (slice_places x) (places zs) (omega (arith, length-slice_places x, k))) ∙ ap (λ w. drop n (slice_places w ++ places zs)) e
 
-bufs-left : (xs : List Slice) (x y : Slice) → 0 < length xs → x ≡ get_or xs 0 x → y.hold.buf ≡ x.hold.buf → bufs_of (set xs 0 y) ≡ bufs_of xs
+pub bufs-left : (xs : List Slice) (x y : Slice) → 0 < length xs → x ≡ get_or xs 0 x → y.hold.buf ≡ x.hold.buf → bufs_of (set xs 0 y) ≡ bufs_of xs
 bufs-left [] x y h e is = absurd (omega arith)
 bufs-left (z ∷ zs) x y h e is = ap (λ b. b ∷ bufs_of zs) (is ∙ ap (λ (w : Slice). w.hold.buf) e)
+
+-- none of its bytes meet it
+pub bufs-none : (fs xs : List Slice) (n : ℕ) → n ≡ 0 → bufs_of fs ≡ bufs_of fs ++ bufs_of (meeting 0 n xs)
+bufs-none fs xs n e = sym (ap (λ m. bufs_of fs ++ bufs_of (meeting 0 m xs)) e ∙ ap (λ l. bufs_of fs ++ bufs_of l) (meeting-empty 0 xs) ∙ append-nil (bufs_of fs))
+
+-- it meets those n bytes
+pub bufs-given : (fs xs : List Slice) (x part : Slice) (n : ℕ) → 0 < length xs → x ≡ get_or xs 0 x → 0 < n → n < (get_or xs 0 x).len → part.hold.buf ≡ x.hold.buf
+    → bufs_of (fs ++ part ∷ []) ≡ bufs_of fs ++ bufs_of (meeting 0 n xs)
+bufs-given fs [] x part n h e some k is = absurd (omega arith)
+bufs-given fs (z ∷ zs) x part n h e some k is =
+    let meets : meeting 0 n (z ∷ zs) ≡ z ∷ [] = meeting-start n z zs some (omega (arith, k)) in
+    bufs-push fs part ∙ ap (λ b. bufs_of fs ++ b ∷ []) (is ∙ ap (λ (w : Slice). w.hold.buf) e) ∙ ap (λ l. bufs_of fs ++ bufs_of l) (sym meets)
 
 pub shares-given : {s t : Stored} (fs xs : List Slice) (x y part : Slice) → 0 < length xs → x ≡ get_or xs 0 x → part.hold.buf ≡ x.hold.buf → y.hold.buf ≡ x.hold.buf → Shares s t [] (x.hold.buf ∷ [])
     → Shares s t (bufs_of fs ++ bufs_of xs) (bufs_of (fs ++ part ∷ []) ++ bufs_of (set xs 0 y))
@@ -61,6 +75,17 @@ take-halves xs k r at e =
 pub drop-halves : (xs : List Slice) (k r at : ℕ) → byte_len (take k xs) + r ≡ at → drop r (places (drop k xs)) ≡ drop at (places xs)
 drop-halves xs k r at e =
     sym (drop-append-add (places (take k xs)) (places (drop k xs)) r) ∙ ap (λ n. drop n (places (take k xs) ++ places (drop k xs))) e ∙ ap (drop at) (sym (places-halves xs k))
+
+-- which slices have them: those that meet the range before the place, and those that meet the range from it on
+pub bufs-before : (xs : List Slice) (k r at : ℕ) → byte_len (take k xs) + r ≡ at → bufs_of (take k xs) ++ bufs_of (meeting 0 r (drop k xs)) ≡ bufs_of (meeting 0 at xs)
+bufs-before xs k r at e = sym (bufs-append (take k xs) (meeting 0 r (drop k xs))) ∙ ap bufs_of (meeting-front xs k r at e)
+
+pub bufs-after : (xs : List Slice) (k r at : ℕ) → byte_len (take k xs) + r ≡ at → at ≤ byte_len xs → ((d : Slice) → 0 < r → r < (get_or (drop k xs) 0 d).len)
+    → bufs_of (drop k xs) ≡ bufs_of (meeting at (byte_len xs) xs)
+bufs-after xs k r at e h inside =
+    let n : ℕ = byte_len xs - at in
+    let all = ap length (places-halves xs k) ∙ length-append (places (take k xs)) (places (drop k xs)) in
+    ap bufs_of (sym (meeting-rest (drop k xs) r (r + n) inside (omega (arith, all, e, h))) ∙ meeting-drop xs k r n at (byte_len xs) e (omega (arith, h)))
 
 -- how many bytes the two have
 pub byte_len-taken : (xs ys : List Slice) (at : ℕ) → places ys ≡ take at (places xs) → at ≤ byte_len xs → at ≡ byte_len ys

@@ -33,6 +33,33 @@ meeting-all from to (x ∷ xs) z h =
     ap (λ b. cond b (x ∷ []) [] ++ meeting (from - x.len) (to - x.len) xs) (lt-ltb from (min to x.len) (omega (arith, byte_len-cons x xs, x.some)))
     ∙ ap (λ t. x ∷ t) (meeting-all (from - x.len) (to - x.len) xs (omega arith) (omega (arith, byte_len-cons x xs)))
 
+-- the first alone
+pub meeting-start : (to : ℕ) (x : Slice) (xs : List Slice) → 0 < to → to < x.len → meeting 0 to (x ∷ xs) ≡ x ∷ []
+meeting-start to x xs h k =
+    let none : 0 - x.len ≡ 0 = omega arith in
+    let end : to - x.len ≡ 0 = omega (arith, k) in
+    meeting-first 0 to x xs h x.some ∙ ap (λ n. x ∷ meeting n (to - x.len) xs) none ∙ ap (λ n. x ∷ meeting 0 n xs) end ∙ ap (λ t. x ∷ t) (meeting-empty 0 xs)
+
+-- the first k, and what meets the bytes after them
+pub meeting-front : (xs : List Slice) (k r at : ℕ) → byte_len (take k xs) + r ≡ at → take k xs ++ meeting 0 r (drop k xs) ≡ meeting 0 at xs
+meeting-front xs zero r at e = (let same : r ≡ at = omega (arith, e) in ap (λ n. meeting 0 n xs) same)
+meeting-front [] (suc k) r at e = meeting-nil 0 r ∙ sym (meeting-nil 0 at)
+meeting-front (x ∷ xs) (suc k) r at e =
+    let len : byte_len (x ∷ take k xs) ≡ x.len + byte_len (take k xs) = byte_len-cons x (take k xs) in
+    let none : 0 - x.len ≡ 0 = omega arith in
+    ap (λ t. x ∷ t) (meeting-front xs k r (at - x.len) (omega (arith, len, e))) ∙ ap (λ n. x ∷ meeting n (at - x.len) xs) (sym none)
+    ∙ sym (meeting-first 0 at x xs (omega (arith, len, e, x.some)) x.some)
+
+-- all of them, where the range begins within the first
+pub meeting-rest : (xs : List Slice) (r to : ℕ) → ((d : Slice) → 0 < r → r < (get_or xs 0 d).len) → byte_len xs ≤ to → meeting r to xs ≡ xs
+meeting-rest [] r to inside h = meeting-nil r to
+meeting-rest (x ∷ xs) zero to inside h = meeting-all 0 to (x ∷ xs) refl h
+meeting-rest (x ∷ xs) (suc r) to inside h =
+    let len : byte_len (x ∷ xs) ≡ x.len + byte_len xs = byte_len-cons x xs in
+    let within : suc r < x.len = inside x (omega arith) in
+    meeting-first (suc r) to x xs (omega (arith, len, h, within)) within
+    ∙ ap (λ t. x ∷ t) (meeting-all (suc r - x.len) (to - x.len) xs (omega (arith, within)) (omega (arith, len, h)))
+
 -- after the first k, which end before
 pub meeting-drop : (xs : List Slice) (k r n from to : ℕ) → byte_len (take k xs) + r ≡ from → from + n ≡ to → meeting r (r + n) (drop k xs) ≡ meeting from to xs
 unfolding meeting

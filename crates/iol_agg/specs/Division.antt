@@ -7,7 +7,7 @@ use Rattle.iol_hold.specs.Places.{slice_places, places as places_of, byte_len}
 use Rattle.iol_hold.specs.StoreState.{Stored, count_of}
 use Rattle.iol_hold.specs.Texts.{bufs_of}
 use Rattle.iol_hold.specs.declared.slices.Slice.{Slice}
-use Rattle.iol_agg.specs.Pours.{AreShareable}
+use Rattle.iol_agg.specs.Pours.{AreShareable, meeting}
 
 -- the place lies `rest` bytes past the first `whole` slices, within the next one
 pub record IsPlaceOf (xs : List Slice) (place whole rest : ℕ) : Type 0 where
@@ -38,17 +38,23 @@ pub record MayMoveBytes (s : Stored) (xs : List Slice) (n : ℕ) : Type 0 where
   pub inside : (d : Slice) → 0 < n → n < (slice_index_or xs 0 d).len
   pub held : AreShareable s (bufs_of xs)
 
--- The first n bytes of the second list of slices went to the end of the first, and the slices of both hold their buffers.
+-- The first n bytes of the second list of slices went to the end of the first, in a slice of their own, and the slices of both
+-- hold their buffers.
 pub record MovesBytes {Z : Type 0} (s t : Stored) (first second longer rest : Vec Slice Z) (n : ℕ) : Type 0 where
   pub places : places_of longer.items ≡ places_of first.items ++ take n (places_of second.items)
   pub left : places_of rest.items ≡ drop n (places_of second.items)
+  pub bufs : bufs_of longer.items ≡ bufs_of first.items ++ bufs_of (meeting 0 n second.items)
+  pub left_bufs : bufs_of rest.items ≡ bufs_of second.items
   pub shares : Shares s t (bufs_of first.items ++ bufs_of second.items) (bufs_of longer.items ++ bufs_of rest.items)
 
--- An aggregate was split: the bytes before a place, and those from it on. Where there is no memory it is given back whole.
+-- An aggregate was split: the bytes before a place, and those from it on. No slice was divided but the one over the place.
+-- Where there is no memory it is given back whole.
 pub record Splits (s t : Stored) (xs : List Slice) (place : ℕ)
     (r : Result (List Slice × List Slice) (AllocFailed (List Slice))) : Type 0 where
   pub first : IfOk r (λ a. places_of a.0 ≡ take place (places_of xs))
   pub second : IfOk r (λ a. places_of a.1 ≡ drop place (places_of xs))
+  pub first_bufs : IfOk r (λ a. bufs_of a.0 ≡ bufs_of (meeting 0 place xs))
+  pub second_bufs : IfOk r (λ a. bufs_of a.1 ≡ bufs_of (meeting place (byte_len xs) xs))
   pub shares : IfOk r (λ a. Shares s t (bufs_of xs) (bufs_of a.0 ++ bufs_of a.1))
   pub back : IfErr r (λ e. e.value ≡ xs)
   pub err : OnErr r (t ≡ s)

@@ -7,7 +7,7 @@ use Rattle.iol_core.specs.Meaning.{WantOfRoom}
 use Rattle.iol_core.specs.Text.{labelled}
 use Rattle.iol_core.specs.declared.refusals.Refusal.{Refusal}
 use Rattle.iol_core.specs.declared.refusals.Refusal.TheVariants.{NoRoom}
-use Rattle.iol_arena.specs.Buffers.{Grows}
+use Rattle.iol_arena.specs.Buffers.{Grows, bytes_in}
 use Rattle.iol_arena.specs.Chunks.{free_pages}
 use Rattle.iol_arena.specs.Pages.{IsSameBut, MadeOn}
 use Rattle.iol_pool.specs.Pools.{pool_in}
@@ -30,11 +30,12 @@ pub record AreWhole (s : Stored) (xs : List Slice) (holds : List Buffer) : Type 
   pub readable : AllReadable s xs
   pub bufs : bufs_of xs ≡ held_bufs holds
 
--- An aggregate of these bytes was made, in new buffers on the lowest free pages of pool p. Where it was not, nothing changed:
--- there was no room for them, or no memory.
+-- An aggregate of these bytes was made, in new buffers on the lowest free pages of pool p, in which no others lie. Where it was
+-- not, nothing changed: there was no room for them, or no memory.
 pub record FillsAgg (s t : Stored) (p : ℕ) (bytes : List ℕ) (r : Result (List Slice) Refusal) : Type 0 where
   pub text : IfOk r (λ a. text_of t a ≡ labelled p bytes)
   pub readable : IfOk r (λ a. AllReadable t a)
+  pub value : IfOk r (λ a. bytes_in t.arena (bufs_of a) ≡ bytes)
   pub moves : IfOk r (λ a. Moves s t [] (bufs_of a))
   pub made_on : IfOk r (λ a. MadeOn s.arena t.arena (bufs_of a) (lowest_of s p (length bytes)))
   pub others : OnOk r (IsSameBut (lowest_of s p (length bytes)) s.arena t.arena)

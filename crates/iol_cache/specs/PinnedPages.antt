@@ -3,8 +3,9 @@ use Rattle.std.specs.Prelude.{ℕ, ◌||◌, Bool, false, not, nat_lt, List, len
 use Rattle.std.specs.List.{filter}
 use Rattle.iol_core.specs.declared.numbers.BufId.{BufId}
 use Rattle.iol_arena.specs.State.{entry_at, generation_at}
+use Rattle.iol_arena.specs.Firsts.{first_on}
 use Rattle.iol_hold.specs.StoreState.{Stored}
-use Rattle.iol_hold.specs.Releases.{first_page, buf_at}
+use Rattle.iol_hold.specs.Releases.{buf_at}
 use Rattle.iol_hold.specs.Room.{pages_of}
 use Rattle.iol_cache.specs.Marks.{is_held_beside}
 
@@ -16,7 +17,7 @@ is_begun s clean (Some p) = is_held_beside s clean (buf_at s.arena p)
 -- its generation is the last, or it lies in a buffer that is held by anything but a clean extent
 unfoldable pub is_pinned : Stored → (clean : List BufId) → ℕ → Bool
 is_pinned s clean q = not (nat_lt (generation_at s.arena q) s.arena.limit)
-    || is_begun s clean (first_page (entry_at s.arena q).kind q)
+    || is_begun s clean (first_on (entry_at s.arena q).kind q)
 
 -- how many pages of a pool are pinned
 abbrev pub pinned_beside : Stored → (clean : List BufId) → (pool : ℕ) → ℕ

@@ -10,6 +10,7 @@ use Rattle.iol_arena.specs.declared.pages.PageKind.TheVariants.{Free, Head}
 use Rattle.iol_arena.proofs.Keeps.{freed_head}
 use Rattle.iol_arena.proofs.Marks.{pages_some}
 use Rattle.iol_arena.proofs.Each.{order, each_before, each_after, each_there}
+use Rattle.iol_arena.specs.Firsts.{first_on}
 use Rattle.iol_hold.specs.StoreState.{Stored, count_of, with_arena}
 use Rattle.iol_hold.specs.Moves.{Counts}
 use Rattle.iol_pool.specs.Pools.{Pool, pool_in, goes_back, with_returned, settled, settled_arena}
@@ -18,12 +19,12 @@ use Rattle.std.specs.List.{list_all}
 use Rattle.iol_arena.specs.Chunks.{is_unused}
 use Rattle.iol_arena.proofs.Good.{bool_cases}
 use Rattle.iol_hold.proofs.ChunkReturns.{chunks_returned}
-use Rattle.iol_hold.specs.Releases.{first_page, buf_at, FreesOnly, HasAllOrNone}
+use Rattle.iol_hold.specs.Releases.{buf_at, FreesOnly, HasAllOrNone}
 use Rattle.iol_hold.proofs.Counts.{tally_none, no_head}
 use Rattle.iol_hold.proofs.LastHolds.{length-with_freed}
 
-none_first : (k : kind.PageKind) (q p : ℕ) → k ≡ Free → first_page k q ≡ Some p → ⊥
-none_first k q p free some = absurd_of (sym (ap (λ (x : kind.PageKind). first_page x q) free) ∙ some)
+none_first : (k : kind.PageKind) (q p : ℕ) → k ≡ Free → first_on k q ≡ Some p → ⊥
+none_first k q p free some = absurd_of (sym (ap (λ (x : kind.PageKind). first_on x q) free) ∙ some)
   where
     absurd_of : None ≡ Some p → ⊥
     absurd_of e = cc
@@ -64,7 +65,7 @@ frees_trans {a = a} {b = b} {c = c} {xs = xs} m n counts = record {
   ];
   freed = λ q p free some. elim (m.each q) [
     | inl was ↦ (
-        let there = ap (λ (k : kind.PageKind). first_page k q) was ∙ some in
+        let there = ap (λ (k : kind.PageKind). first_on k q) was ∙ some in
         let buf : buf_at b.arena p ≡ buf_at a.arena p = λ i. (let x : BufId = record { page = p; generation = m.raised p i } in x) in
         ap (count_of c) (sym buf) ∙ n.freed q p free there)
     | inr gone ↦ (let z = m.freed q p gone some in omega (arith, z, counts.each (buf_at a.arena p), tally_none (buf_at a.arena p)))
@@ -90,14 +91,14 @@ module _ (s : State) (p : ℕ) (runs : HasRuns s.entries) (head : (entry_at s p)
       let run = runs.each p (kind_len (entry_at s p).kind) head in
       ap (λ (e : Entry). kind_head e.kind) (freed_head s p (omega (arith, run.room, pages_some (kind_len (entry_at s p).kind) run.some)) run.some)
 
-  first_of : (q r : ℕ) → p ≤ q → q < p + count → first_page (entry_at s q).kind q ≡ Some r → r ≡ p
+  first_of : (q r : ℕ) → p ≤ q → q < p + count → first_on (entry_at s q).kind q ≡ Some r → r ≡ p
   first_of q r lo hi some = elim (cases_eq q p) [
     | inl e ↦ (
-        let is : first_page (entry_at s q).kind q ≡ Some p = ap (λ n. first_page (entry_at s n).kind n) e ∙ ap (λ (k : kind.PageKind). first_page k p) head in
+        let is : first_on (entry_at s q).kind q ≡ Some p = ap (λ n. first_on (entry_at s n).kind n) e ∙ ap (λ (k : kind.PageKind). first_on k p) head in
         cc)
     | inr ne ↦ (
         let tail = (runs.each p (kind_len (entry_at s p).kind) head).tails q (omega (arith, lo, ne)) hi in
-        let is : first_page (entry_at s q).kind q ≡ Some p = ap (λ (k : kind.PageKind). first_page k q) tail in
+        let is : first_on (entry_at s q).kind q ≡ Some p = ap (λ (k : kind.PageKind). first_on k q) tail in
         cc)
   ]
 

@@ -1,21 +1,15 @@
 -- What a release does to pages.
-use Rattle.std.specs.Prelude.{◌≡◌, ◌⊎◌, ℕ, false, List, [], ◌∷◌, Option, Some, None}
+use Rattle.std.specs.Prelude.{◌≡◌, ◌⊎◌, ℕ, false, List, [], ◌∷◌, Some, None}
 use Rattle.iol_core.specs.declared.numbers.BufId.{BufId}
+use Rattle.iol_arena.specs.Firsts.{first_on}
 use Rattle.iol_arena.specs.State.{State, HasRuns, entry_at, generation_at, page_count}
 use Rattle.iol_arena.specs.declared.pages.PageKind as kind
-use Rattle.iol_arena.specs.declared.pages.PageKind.TheVariants.{Free, Pending, Head, Tail}
+use Rattle.iol_arena.specs.declared.pages.PageKind.TheVariants.{Free}
 use Rattle.iol_pool.specs.Pools.{pool_in}
 use Rattle.iol_hold.specs.Moves.{Moves, SameLists}
 use Rattle.iol_hold.specs.StoreState.{Stored, Buffer, AllSettled, AllSettledBut, IsHome, IsSettled, IsTidy, count_of}
 use Rattle.iol_hold.specs.Texts.{AllReadable, bufs_of}
 use Rattle.iol_hold.specs.declared.slices.Slice.{Slice}
-
--- the page at which the buffer on page q begins, by what stands on q: none where q is in no buffer
-abbrev pub first_page : kind.PageKind → (q : ℕ) → Option ℕ
-first_page Free q = None
-first_page Pending q = None
-first_page (Head n) q = Some q
-first_page (Tail p) q = Some p
 
 -- the buffer that begins at page q, if one does
 abbrev pub buf_at : State → ℕ → BufId
@@ -32,7 +26,7 @@ pub record FreesOnly (old new : Stored) : Type 0 where
   pub limit : new.arena.limit ≡ old.arena.limit
   pub raised : (q : ℕ) → generation_at new.arena q ≡ generation_at old.arena q
   pub each : (q : ℕ) → ((entry_at new.arena q).kind ≡ (entry_at old.arena q).kind) ⊎ ((entry_at new.arena q).kind ≡ Free)
-  pub freed : (q p : ℕ) → (entry_at new.arena q).kind ≡ Free → first_page (entry_at old.arena q).kind q ≡ Some p
+  pub freed : (q p : ℕ) → (entry_at new.arena q).kind ≡ Free → first_on (entry_at old.arena q).kind q ≡ Some p
       → count_of new (buf_at old.arena p) ≡ 0
   pub pools : (p : ℕ) → (pool_in old.pools p).closed ≡ false → pool_in new.pools p ≡ pool_in old.pools p
   pub chunks : (p : ℕ) → HasAllOrNone old new p

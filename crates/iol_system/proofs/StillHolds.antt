@@ -14,8 +14,9 @@ use Rattle.iol_arena.specs.declared.pages.PageKind.TheVariants.{Free, Head, Tail
 use Rattle.iol_arena.proofs.Good.{bool_cases}
 use Rattle.iol_arena.proofs.Members.{In, contains_in, in_contains, range_in}
 use Rattle.iol_pool.specs.Pools.{Pool, no_pool, pool_in}
+use Rattle.iol_arena.specs.Firsts.{first_on}
 use Rattle.iol_hold.specs.Moves.{SameLists, Stays, pool_meant}
-use Rattle.iol_hold.specs.Releases.{buf_at, first_page}
+use Rattle.iol_hold.specs.Releases.{buf_at}
 use Rattle.iol_hold.specs.StoreState.{Stored, AllSettled, IsHome, IsPlaced, IsStill, IsTidy, count_of}
 use Rattle.iol_hold.proofs.Counts.{live_of}
 use Rattle.iol_kernel.specs.FileCalls.{with_slots}
@@ -66,13 +67,13 @@ module _ (s t : Stored) (tidy : IsTidy s) (still : IsStill s.arena) (alike : Hel
   held_still b live = omega (arith, tidy.held b live, alike.counts b)
 
   -- where the buffer on a page begins
-  begins : (b : BufId) (q : ℕ) → IsLive s.arena b → LiesOn s.arena b q → first_page (arena.entry_at s.arena q).kind q ≡ Some b.page
+  begins : (b : BufId) (q : ℕ) → IsLive s.arena b → LiesOn s.arena b q → first_on (arena.entry_at s.arena q).kind q ≡ Some b.page
   begins b q live on = elim (cases_lt b.page q) [
-    | inl before ↦ (let tail : (arena.entry_at s.arena q).kind ≡ Tail b.page = (tidy.runs.each b.page _ live.head).tails q before on.to in ap (λ (k : PageKind). first_page k q) tail)
+    | inl before ↦ (let tail : (arena.entry_at s.arena q).kind ≡ Tail b.page = (tidy.runs.each b.page _ live.head).tails q before on.to in ap (λ (k : PageKind). first_on k q) tail)
     | inr here ↦ (
         let same : q ≡ b.page = omega (arith, here, on.from) in
         let head : (arena.entry_at s.arena q).kind ≡ Head (kind_len (arena.entry_at s.arena b.page).kind) = subst (λ n. (arena.entry_at s.arena n).kind ≡ Head (kind_len (arena.entry_at s.arena b.page).kind)) (sym same) live.head in
-        ap (λ (k : PageKind). first_page k q) head ∙ ap (λ n. let o : Option ℕ = Some n in o) same)
+        ap (λ (k : PageKind). first_on k q) head ∙ ap (λ n. let o : Option ℕ = Some n in o) same)
   ]
 
   named : (b : BufId) → IsLive s.arena b → buf_at s.arena b.page ≡ b

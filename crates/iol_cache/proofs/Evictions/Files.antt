@@ -5,10 +5,11 @@ use Rattle.std.specs.List.{range_with_len}
 use Rattle.std.proofs.lemmas.Bool.{cases_eq}
 use Rattle.iol_core.specs.declared.numbers.BufId.{BufId}
 use Rattle.iol_back.specs.Disk.{content}
+use Rattle.iol_arena.specs.Firsts.{first_on}
 use Rattle.iol_hold.specs.Places.{Place}
 use Rattle.iol_arena.specs.declared.pages.PageKind as kind
 use Rattle.iol_pool.specs.Pools.{Pool}
-use Rattle.iol_hold.specs.Releases.{FreesOnly, first_page, buf_at}
+use Rattle.iol_hold.specs.Releases.{FreesOnly, buf_at}
 use Rattle.iol_hold.specs.StoreState.{Stored, count_of}
 use Rattle.iol_hold.specs.Moves.{tally, Moves, Covers, Stays}
 use Rattle.iol_hold.specs.Texts.{bufs_of}
@@ -131,7 +132,7 @@ frees_then {a = a} {b = b} {c = c} m n fewer = record {
   ];
   freed = λ q p free some. elim (m.each q) [
     | inl was ↦ (
-        let there = ap (λ (k : kind.PageKind). first_page k q) was ∙ some in
+        let there = ap (λ (k : kind.PageKind). first_on k q) was ∙ some in
         let buf : buf_at b.arena p ≡ buf_at a.arena p = λ i. (let x : BufId = record { page = p; generation = m.raised p i } in x) in
         ap (count_of c) (sym buf) ∙ n.freed q p free there)
     | inr gone ↦ (let z = m.freed q p gone some in omega (arith, z, fewer (buf_at a.arena p)))

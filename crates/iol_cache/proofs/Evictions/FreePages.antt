@@ -11,13 +11,14 @@ use Rattle.iol_arena.proofs.Members.{In}
 use Rattle.iol_arena.specs.Chunks.{usable}
 use Rattle.iol_arena.specs.declared.pages.PageKind as kind
 use Rattle.iol_arena.specs.declared.pages.PageKind.TheVariants.{Free, Pending, Head, Tail}
+use Rattle.iol_arena.specs.Firsts.{first_on}
 use Rattle.iol_hold.specs.StoreState.{Stored, count_of, IsTidy, IsStill}
 use Rattle.iol_hold.specs.Moves.{tally, Counts}
 use Rattle.iol_hold.specs.Room.{pages_of}
 use Rattle.iol_arena.specs.Chunks.{chunk_pages, free_pages}
 use Rattle.iol_pool.specs.Pools.{Pool, pool_in}
 use Rattle.iol_cache.proofs.Evictions.Pins.{pinned_kept}
-use Rattle.iol_hold.specs.Releases.{first_page, buf_at, FreesOnly}
+use Rattle.iol_hold.specs.Releases.{buf_at, FreesOnly}
 use Rattle.iol_cache.specs.PinnedPages.{is_begun, is_pinned, pinned_beside}
 
 free_is : (k : kind.PageKind) → kind_free k ≡ true → k ≡ Free
@@ -31,8 +32,8 @@ usable_loose : (s : Stored) (clean : List BufId) (q : ℕ) → usable s.arena q 
 unfolding is_pinned
 usable_loose s clean q can = parts (kind_free (entry_at s.arena q).kind) (nat_lt (generation_at s.arena q) s.arena.limit) refl refl can
   where
-    parts : (f l : Bool) → kind_free (entry_at s.arena q).kind ≡ f → nat_lt (generation_at s.arena q) s.arena.limit ≡ l → (f && l) ≡ true → (not (nat_lt (generation_at s.arena q) s.arena.limit) || is_begun s clean (first_page (entry_at s.arena q).kind q)) ≡ false
-    parts true true f l can = ap (λ b. not b || is_begun s clean (first_page (entry_at s.arena q).kind q)) l ∙ ap (λ (k : kind.PageKind). is_begun s clean (first_page k q)) (free_is (entry_at s.arena q).kind f)
+    parts : (f l : Bool) → kind_free (entry_at s.arena q).kind ≡ f → nat_lt (generation_at s.arena q) s.arena.limit ≡ l → (f && l) ≡ true → (not (nat_lt (generation_at s.arena q) s.arena.limit) || is_begun s clean (first_on (entry_at s.arena q).kind q)) ≡ false
+    parts true true f l can = ap (λ b. not b || is_begun s clean (first_on (entry_at s.arena q).kind q)) l ∙ ap (λ (k : kind.PageKind). is_begun s clean (first_on k q)) (free_is (entry_at s.arena q).kind f)
     parts true false f l can = cc
     parts false l f m can = cc
 
@@ -58,16 +59,16 @@ buf_is : (s : State) (b : BufId) → IsLive s b → buf_at s b.page ≡ b
 buf_is s b live = λ i. (let x : BufId = record { page = b.page; generation = live.generation i } in x)
 
 -- the first page of what lies on q
-begun_on : (s : Stored) (clean : List BufId) (q : ℕ) → IsTidy s → IsStill s.arena → IsBeside s clean q → kind_free (entry_at s.arena q).kind ≡ false → is_begun s clean (first_page (entry_at s.arena q).kind q) ≡ true
+begun_on : (s : Stored) (clean : List BufId) (q : ℕ) → IsTidy s → IsStill s.arena → IsBeside s clean q → kind_free (entry_at s.arena q).kind ≡ false → is_begun s clean (first_on (entry_at s.arena q).kind q) ≡ true
 begun_on s clean q tidy still beside busy = elim (tidy.placed q) [
   | inl free ↦ absurd (let e : ◌≡◌ {A = Bool} true false = sym (ap kind_free free) ∙ busy in cc)
   | inr r ↦ elim r [
     | inl waits ↦ absurd (still.each q waits)
     | inr in_it ↦ (
         let b = in_it.0 in
-        let first : first_page (entry_at s.arena q).kind q ≡ Some b.page = elim (cases_eq q b.page) [
-          | inl e ↦ ap (λ n. first_page (entry_at s.arena n).kind n) e ∙ ap (λ (k : kind.PageKind). first_page k b.page) in_it.1.head
-          | inr ne ↦ (let lies = in_it.2 in ap (λ (k : kind.PageKind). first_page k q) ((tidy.runs.each b.page (kind_len (entry_at s.arena b.page).kind) in_it.1.head).tails q (omega (arith, lies.from, ne)) lies.to))
+        let first : first_on (entry_at s.arena q).kind q ≡ Some b.page = elim (cases_eq q b.page) [
+          | inl e ↦ ap (λ n. first_on (entry_at s.arena n).kind n) e ∙ ap (λ (k : kind.PageKind). first_on k b.page) in_it.1.head
+          | inr ne ↦ (let lies = in_it.2 in ap (λ (k : kind.PageKind). first_on k q) ((tidy.runs.each b.page (kind_len (entry_at s.arena b.page).kind) in_it.1.head).tails q (omega (arith, lies.from, ne)) lies.to))
         ] in
         ap (is_begun s clean) first ∙ ap (λ x. nat_lt (tally x clean) (count_of s x)) (buf_is s.arena b in_it.1) ∙ held_live s clean b tidy in_it.1 (beside b in_it.1 in_it.2))
   ]
@@ -77,10 +78,10 @@ busy_pinned : (s : Stored) (clean : List BufId) (q : ℕ) → IsTidy s → IsSti
 unfolding is_pinned
 busy_pinned s clean q tidy still beside no_use = parts (kind_free (entry_at s.arena q).kind) (nat_lt (generation_at s.arena q) s.arena.limit) refl refl no_use
   where
-    parts : (f l : Bool) → kind_free (entry_at s.arena q).kind ≡ f → nat_lt (generation_at s.arena q) s.arena.limit ≡ l → (f && l) ≡ false → (not (nat_lt (generation_at s.arena q) s.arena.limit) || is_begun s clean (first_page (entry_at s.arena q).kind q)) ≡ true
+    parts : (f l : Bool) → kind_free (entry_at s.arena q).kind ≡ f → nat_lt (generation_at s.arena q) s.arena.limit ≡ l → (f && l) ≡ false → (not (nat_lt (generation_at s.arena q) s.arena.limit) || is_begun s clean (first_on (entry_at s.arena q).kind q)) ≡ true
     parts true true f l h = cc
-    parts f false g l h = ap (λ b. not b || is_begun s clean (first_page (entry_at s.arena q).kind q)) l
-    parts false true f l h = ap (λ b. not b || is_begun s clean (first_page (entry_at s.arena q).kind q)) l ∙ begun_on s clean q tidy still beside f
+    parts f false g l h = ap (λ b. not b || is_begun s clean (first_on (entry_at s.arena q).kind q)) l
+    parts false true f l h = ap (λ b. not b || is_begun s clean (first_on (entry_at s.arena q).kind q)) l ∙ begun_on s clean q tidy still beside f
 
 -- where clean extents hold no buffer there, what may not be used is pinned
 pub all_of : (s : Stored) (clean : List BufId) (qs : List ℕ) → IsTidy s → IsStill s.arena → ((q : ℕ) → In qs q → IsBeside s clean q) → length (filter (usable s.arena) qs) + length (filter (is_pinned s clean) qs) ≡ length qs

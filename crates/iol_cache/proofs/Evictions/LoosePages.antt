@@ -9,9 +9,8 @@ use Rattle.iol_arena.specs.State.{State, entry_at, generation_at}
 use Rattle.iol_arena.specs.Buffers.{IsLive, kind_len}
 use Rattle.iol_arena.specs.Firsts.{first_on}
 use Rattle.iol_arena.specs.declared.pages.PageKind as kind
-use Rattle.iol_arena.specs.declared.pages.PageKind.TheVariants.{Free, Pending, Head, Tail}
 use Rattle.iol_hold.specs.Loose.{is_loose, is_spared, loose_pages}
-use Rattle.iol_hold.specs.Releases.{buf_at, first_page}
+use Rattle.iol_hold.specs.Releases.{buf_at}
 use Rattle.iol_hold.specs.Room.{free_of, pages_of}
 use Rattle.iol_hold.specs.StoreState.{Stored, count_of}
 use Rattle.iol_hold.specs.Moves.{tally}
@@ -21,12 +20,6 @@ use Rattle.iol_cache.specs.PinnedPages.{is_begun, is_pinned, pinned_beside}
 use Rattle.iol_cache.specs.Sound.{IsSound}
 use Rattle.iol_cache.proofs.Evictions.FreePages.{at_most}
 use Rattle.iol_cache.proofs.Extents.HeldSlices.{mark_is}
-
-first_same : (k : kind.PageKind) (q : ℕ) → first_on k q ≡ first_page k q
-first_same Free q = refl
-first_same Pending q = refl
-first_same (Head n) q = refl
-first_same (Tail p) q = refl
 
 buf_is : (s : State) (b : BufId) → IsLive s b → buf_at s b.page ≡ b
 buf_is s b live = λ i. (let x : BufId = record { page = b.page; generation = live.generation i } in x)
@@ -41,16 +34,16 @@ spared_live s c b sound live =
     ap (λ n. nat_le n (get_or c.marks b.page 0)) (sym count) ∙ ap (nat_le (count_of s b)) mark ∙ opposite (count_of s b) (tally b (clean_held c.files))
     ∙ sym (ap (λ x. not (nat_lt (tally x (clean_held c.files)) (count_of s x))) (buf_is s.arena b live))
 
-spared_is : (s : Stored) (c : Cached) (q : ℕ) → IsSound s c → is_spared s c.marks (first_page (entry_at s.arena q).kind q) ≡ not (is_begun s (clean_held c.files) (first_page (entry_at s.arena q).kind q))
+spared_is : (s : Stored) (c : Cached) (q : ℕ) → IsSound s c → is_spared s c.marks (first_on (entry_at s.arena q).kind q) ≡ not (is_begun s (clean_held c.files) (first_on (entry_at s.arena q).kind q))
 spared_is s c q sound = elim (sound.tidy.placed q) [
-  | inl free ↦ ap (λ (k : kind.PageKind). is_spared s c.marks (first_page k q)) free ∙ sym (ap (λ (k : kind.PageKind). not (is_begun s (clean_held c.files) (first_page k q))) free)
+  | inl free ↦ ap (λ (k : kind.PageKind). is_spared s c.marks (first_on k q)) free ∙ sym (ap (λ (k : kind.PageKind). not (is_begun s (clean_held c.files) (first_on k q))) free)
   | inr r ↦ elim r [
     | inl waits ↦ absurd (sound.still.each q waits)
     | inr in_it ↦ (
         let b = in_it.0 in
-        let first : first_page (entry_at s.arena q).kind q ≡ Some b.page = elim (cases_eq q b.page) [
-          | inl e ↦ ap (λ n. first_page (entry_at s.arena n).kind n) e ∙ ap (λ (k : kind.PageKind). first_page k b.page) in_it.1.head
-          | inr ne ↦ (let lies = in_it.2 in ap (λ (k : kind.PageKind). first_page k q) ((sound.tidy.runs.each b.page (kind_len (entry_at s.arena b.page).kind) in_it.1.head).tails q (omega (arith, lies.from, ne)) lies.to))
+        let first : first_on (entry_at s.arena q).kind q ≡ Some b.page = elim (cases_eq q b.page) [
+          | inl e ↦ ap (λ n. first_on (entry_at s.arena n).kind n) e ∙ ap (λ (k : kind.PageKind). first_on k b.page) in_it.1.head
+          | inr ne ↦ (let lies = in_it.2 in ap (λ (k : kind.PageKind). first_on k q) ((sound.tidy.runs.each b.page (kind_len (entry_at s.arena b.page).kind) in_it.1.head).tails q (omega (arith, lies.from, ne)) lies.to))
         ] in
         ap (is_spared s c.marks) first ∙ spared_live s c b sound in_it.1 ∙ sym (ap (λ (o : Option ℕ). not (is_begun s (clean_held c.files) o)) first))
   ]
@@ -62,7 +55,7 @@ both false a b h = refl
 
 loose_is : (s : Stored) (c : Cached) (q : ℕ) → IsSound s c → is_loose s c.marks q ≡ not (is_pinned s (clean_held c.files) q)
 unfolding is_pinned
-loose_is s c q sound = both (nat_lt (generation_at s.arena q) s.arena.limit) (is_spared s c.marks (first_on (entry_at s.arena q).kind q)) (is_begun s (clean_held c.files) (first_page (entry_at s.arena q).kind q)) (ap (is_spared s c.marks) (first_same (entry_at s.arena q).kind q) ∙ spared_is s c q sound)
+loose_is s c q sound = both (nat_lt (generation_at s.arena q) s.arena.limit) (is_spared s c.marks (first_on (entry_at s.arena q).kind q)) (is_begun s (clean_held c.files) (first_on (entry_at s.arena q).kind q)) (spared_is s c q sound)
 
 all_of : (f g : ℕ → Bool) (qs : List ℕ) → ((q : ℕ) → f q ≡ not (g q)) → length (filter f qs) + length (filter g qs) ≡ length qs
 all_of f g [] h = refl

@@ -10,10 +10,11 @@ use Rattle.iol_arena.specs.Chunks.{chunk_pages}
 use Rattle.iol_back.specs.Disk.{Disk}
 use Rattle.iol_extent.proofs.Alone.{gaps_alone}
 use Rattle.iol_pool.specs.Pools.{Pool, pool_in}
+use Rattle.iol_arena.specs.Firsts.{first_on}
 use Rattle.iol_hold.specs.StoreState.{Stored, count_of}
 use Rattle.iol_hold.specs.Moves.{Covers, Shares, same, tally}
 use Rattle.iol_hold.specs.Places.{Place, place_in, places, slice_places}
-use Rattle.iol_hold.specs.Releases.{buf_at, first_page}
+use Rattle.iol_hold.specs.Releases.{buf_at}
 use Rattle.iol_hold.specs.Room.{pages_of}
 use Rattle.iol_hold.specs.Texts.{bufs_of}
 use Rattle.iol_hold.specs.declared.slices.Slice.{Slice}
@@ -101,8 +102,8 @@ module _ (s t u : Stored) (clean : List BufId) (xs ys : List Slice) (same : plac
   pinned_alike : (q : ℕ) → is_pinned t clean q ≡ is_pinned u clean q
   unfolding is_pinned
   pinned_alike q =
-      ap (λ (a : State). not (nat_lt (generation_at a q) a.limit) || is_begun t clean (first_page (entry_at a q).kind q)) arenas
-      ∙ ap (λ b. not (nat_lt (generation_at u.arena q) u.arena.limit) || b) (begun_alike (first_page (entry_at u.arena q).kind q))
+      ap (λ (a : State). not (nat_lt (generation_at a q) a.limit) || is_begun t clean (first_on (entry_at a q).kind q)) arenas
+      ∙ ap (λ b. not (nat_lt (generation_at u.arena q) u.arena.limit) || b) (begun_alike (first_on (entry_at u.arena q).kind q))
 
   filter_alike : (qs : List ℕ) → filter (is_pinned t clean) qs ≡ filter (is_pinned u clean) qs
   filter_alike [] = refl

@@ -7,10 +7,11 @@ use Rattle.std.proofs.lemmas.Bool.Decides.{nat_tests}
 use Rattle.iol_core.specs.declared.numbers.BufId.{BufId}
 use Rattle.iol_arena.specs.State.{State, entry_at, generation_at}
 use Rattle.iol_arena.specs.declared.pages.PageKind as kind
+use Rattle.iol_arena.specs.Firsts.{first_on}
 use Rattle.iol_hold.specs.StoreState.{Stored, count_of}
 use Rattle.iol_hold.specs.Moves.{tally, Counts}
 use Rattle.iol_cache.specs.Marks.{is_held_beside}
-use Rattle.iol_hold.specs.Releases.{first_page, buf_at, FreesOnly}
+use Rattle.iol_hold.specs.Releases.{buf_at, FreesOnly}
 use Rattle.iol_cache.specs.PinnedPages.{is_begun, is_pinned}
 
 -- what is held by others is as it was
@@ -44,11 +45,11 @@ pub pinned_same : {s t : Stored} {clean left : List BufId} (q : ℕ) → FreesOn
 unfolding is_pinned
 pinned_same {s = s} {t = t} {clean = clean} {left = left} q f g =
     let last = ap not (ap (λ n. nat_lt n t.arena.limit) (f.raised q) ∙ ap (nat_lt (generation_at s.arena q)) f.limit) in
-    let held : is_begun t left (first_page (entry_at t.arena q).kind q) ≡ is_begun s clean (first_page (entry_at s.arena q).kind q) = elim (f.each q) [
-      | inl same ↦ ap (λ (k : kind.PageKind). is_begun t left (first_page k q)) same ∙ begun_same (first_page (entry_at s.arena q).kind q) f g
-      | inr free ↦ ap (λ (k : kind.PageKind). is_begun t left (first_page k q)) free ∙ sym (none_begun (first_page (entry_at s.arena q).kind q) g (λ p is. f.freed q p free is))
+    let held : is_begun t left (first_on (entry_at t.arena q).kind q) ≡ is_begun s clean (first_on (entry_at s.arena q).kind q) = elim (f.each q) [
+      | inl same ↦ ap (λ (k : kind.PageKind). is_begun t left (first_on k q)) same ∙ begun_same (first_on (entry_at s.arena q).kind q) f g
+      | inr free ↦ ap (λ (k : kind.PageKind). is_begun t left (first_on k q)) free ∙ sym (none_begun (first_on (entry_at s.arena q).kind q) g (λ p is. f.freed q p free is))
     ] in
-    ap (λ b. b || is_begun t left (first_page (entry_at t.arena q).kind q)) last ∙ ap (λ b. not (nat_lt (generation_at s.arena q) s.arena.limit) || b) held
+    ap (λ b. b || is_begun t left (first_on (entry_at t.arena q).kind q)) last ∙ ap (λ b. not (nat_lt (generation_at s.arena q) s.arena.limit) || b) held
 
 -- so their number is the same
 pub pinned_kept : {s t : Stored} {clean left : List BufId} (qs : List ℕ) → FreesOnly s t → Counts s t clean left → length (filter (is_pinned t left) qs) ≡ length (filter (is_pinned s clean) qs)

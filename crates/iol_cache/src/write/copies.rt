@@ -72,7 +72,8 @@ fn copy_run(alloc: Global, store: &mut Store, pool: PoolId, run: &[Slice]) -> Re
     Ok(copy)
 }
 
-// Composes the run of slices from the i-th on, whose first byte is at place `at`, and tells which slice is next.
+// Composes the run of slices from the i-th on, whose first byte is at place `at`, and tells which slice is next. What was composed
+// before it holds a buffer fewer than 2^32 times more.
 fn compose_run(
     alloc: Global,
     store: &mut Store,

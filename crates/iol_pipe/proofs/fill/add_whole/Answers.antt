@@ -24,4 +24,4 @@ loop-hold-preserved c =
     }
 
 pub returns : goal.returns
-returns c = whole_end c.args.store.now c.args.queue.now.items c.loop-hold.queue.items c.loop-hold.left c.args.holds c.loop-hold.invariant.so_far c.in_default.ensures
+returns c = whole_end c.args.store.now c.args.queue.now.items c.loop-hold.queue.items c.loop-hold.left c.args.holds c.loop-hold.invariant.so_far c.in_default.ensures.0

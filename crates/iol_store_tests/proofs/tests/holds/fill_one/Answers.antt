@@ -8,10 +8,10 @@ use Rattle.iol_hold.specs.Texts.{IsFilled}
 use Rattle.iol_store_tests.proofs.tests.holds.fill_one.Goals as goal
 
 filled_first : (s : Stored) (r : Result (List Buffer) Refusal) (o : Option Buffer) (holds rest : List Buffer) (h : Buffer) → IfOk r (λ xs. All (IsFilled s) xs) → r ≡ Ok holds
-    → MatchOption o (holds ≡ []) (λ x. holds ≡ x ∷ rest) → o ≡ Some h → IsFilled s h
+    → MatchOption o ((holds ≡ []) × (rest ≡ [])) (λ x. holds ≡ x ∷ rest) → o ≡ Some h → IsFilled s h
 filled_first s r o holds rest h filled ok first is =
     let all = subst (λ (x : Result (List Buffer) Refusal). IfOk x (λ xs. All (IsFilled s) xs)) ok filled in
-    let e = subst (λ (x : Option Buffer). MatchOption x (holds ≡ []) (λ y. holds ≡ y ∷ rest)) is first in
+    let e = subst (λ (x : Option Buffer). MatchOption x ((holds ≡ []) × (rest ≡ [])) (λ y. holds ≡ y ∷ rest)) is first in
     subst (All (IsFilled s)) e all 0 h (omega arith)
 
 pub returns-clause-filled : goal.returns-clause-filled

@@ -6,9 +6,9 @@ use Rattle.iol_hold.proofs.Moves.{covers_first, covers_less}
 use Rattle.iol_store_tests.proofs.tests.holds.release_two.Goals as goal
 
 taken : (s : Stored) (o : Option Buffer) (holds rest : List Buffer) (h : Buffer) → Covers s (map (λ x. x.buf) holds)
-    → MatchOption o (holds ≡ []) (λ x. holds ≡ x ∷ rest) → o ≡ Some h → Covers s (h.buf ∷ map (λ x. x.buf) rest)
+    → MatchOption o ((holds ≡ []) × (rest ≡ [])) (λ x. holds ≡ x ∷ rest) → o ≡ Some h → Covers s (h.buf ∷ map (λ x. x.buf) rest)
 taken s o holds rest h covers first is =
-    let e = subst (λ (x : Option Buffer). MatchOption x (holds ≡ []) (λ y. holds ≡ y ∷ rest)) is first in
+    let e = subst (λ (x : Option Buffer). MatchOption x ((holds ≡ []) × (rest ≡ [])) (λ y. holds ≡ y ∷ rest)) is first in
     subst (λ (xs : List Buffer). Covers s (map (λ x. x.buf) xs)) e covers
 
 pub release-requires : goal.release-requires
