@@ -6,7 +6,7 @@ pub mod Settles
 pub mod Remains
 pub mod Done
 pub mod Host
-use Rattle.std.specs.Prelude.{◌≡◌, ◌<◌, ℕ, true, false, List, [], ◌∷◌, ◌++◌, length, map, Some, None, slice_get}
+use Rattle.std.specs.Prelude.{◌≡◌, ◌≢◌, Bool, ◌<◌, ℕ, true, false, List, [], ◌∷◌, ◌++◌, length, map, Some, None, slice_get}
 use Rattle.iol_core.specs.Text.{bytes_of}
 use Rattle.iol_core.specs.State.{State, conn_at, no_conn}
 use Rattle.iol_core.specs.declared.events.Reply.{Reply}
@@ -26,7 +26,10 @@ use Rattle.flash_laws.specs.Site.Places.{filed}
 use Rattle.flash_laws.specs.Serves.Rounds.{in_rounds}
 use Rattle.flash_laws.specs.Site.ClientTies.{AreAtDesks, AllFit, AreOwned}
 use Rattle.flash_laws.specs.Serves.{Server, new_server, Policy}
-use Rattle.flash_laws.specs.Shelf.{Shelf, Begins, IsAnswer}
+use Rattle.flash_laws.specs.Shelf.{Shelf, Begins, IsAnswer, IsAmong}
+use Rattle.iol_core.specs.declared.refusals.Refusal.{Refusal}
+use Rattle.iol_laws.specs.Caller.{is_rough}
+use Rattle.iol_proc.specs.declared.choice.Choice.TheVariants as choice
 use Rattle.flash_laws.specs.Site.{server}
 use Rattle.flash_laws.specs.World.Tie.{past_of, made_over, gone_over, Actor, Serving, Working, actor_turns}
 
@@ -89,6 +92,13 @@ ClosedAreWhole shelf xs rs m = (c : ℕ) → made_over c xs rs ≡ true → (con
     → gone_over c xs rs ≡ false
     → IsAnswer shelf (stream_over c xs rs) (sent_over c xs rs ++ bytes_of (conn_at m c).outgoing)
 
+-- Of choices with these replies the turns of the server were refused for want of something, or by a fault, only by these, and those of
+-- workers by none.
+abbrev pub AreFair : (refuses : Refusal → Bool) → List Choice → List Reply → Type 0
+AreFair refuses (choice.Turn by ∷ xs) (r ∷ rs) = IsAmong refuses r × (by ≢ server → is_rough r ≡ false) × AreFair refuses xs rs
+AreFair refuses (choice.Outside e ∷ xs) (r ∷ rs) = AreFair refuses xs rs
+AreFair refuses xs rs = Unit {0}
+
 -- desks are apart
 abbrev pub DesksAreApart : Crew → Type 0
 DesksAreApart crew = (k l : ℕ) → k < crew.count → l < crew.count → crew.desk k ≡ crew.desk l → k ≡ l
@@ -108,11 +118,11 @@ module _ (crew : Crew) where
       → Tied shelf crew xs rs w → ClosedAreWhole shelf xs rs w.machine
 
 module _ (may : Policy) (crew : Crew) where
-  -- Each calm step keeps the tie: it is mild, and if it is a turn, not rough.
+  -- Each fair step keeps the tie: it is mild, and if it is a turn, it was refused only so.
   abbrev pub StepKeepsTie : Type 0
   StepKeepsTie = (shelf : Shelf) (xs : List Choice) (rs : List Reply) (x : Choice) (r : Reply)
       (w after : Stage State (Actor crew.Worker))
-      → WorldStep copying (actor_turns may crew.turns) w x r after → IsMild w x after → AreSmooth (x ∷ []) (r ∷ [])
+      → WorldStep copying (actor_turns may crew.turns) w x r after → IsMild w x after → AreFair shelf.refuses (x ∷ []) (r ∷ [])
       → Tied shelf crew xs rs w → Tied shelf crew (xs ++ x ∷ []) (rs ++ r ∷ []) after
 
   -- So does a calm run.
@@ -120,7 +130,7 @@ module _ (may : Policy) (crew : Crew) where
   RunKeepsTie = (shelf : Shelf) (past xs : List Choice) (ps rs : List Reply) (w after : Stage State (Actor crew.Worker))
       → (run : WorldRun copying (actor_turns may crew.turns) w xs rs after)
       → AreMild (actor_turns may crew.turns) w xs rs after run
-      → AreSmooth xs rs → Tied shelf crew past ps w → Tied shelf crew (past ++ xs) (ps ++ rs) after
+      → AreFair shelf.refuses xs rs → Tied shelf crew past ps w → Tied shelf crew (past ++ xs) (ps ++ rs) after
 
 -- The premises can be met: files, a new world on them, and a calm run of it in which a connection of the net comes
 -- and is accepted.
