@@ -1,6 +1,7 @@
--- What lies on the shelf of a site: the response that is due to each request, with the files as they are; those that it may have
--- where calls are refused; and so the answer to a stream.
+-- What lies on the shelf of a site: the response that is due to each request, by the files as they are; the responses that it may have
+-- where calls are refused; and so the answers to a stream.
 pub mod Due
+pub mod OneAnswer
 use Rattle.std.specs.Prelude.{◌≡◌, ℕ, ◌⊎◌, Bool, true, false, List, [], ◌∷◌, ◌++◌, Option, Some, None}
 use Rattle.std.specs.List.{concat}
 use Rattle.iol_core.specs.declared.refusals.Refusal.{Refusal}
@@ -27,15 +28,15 @@ pub record Shelf : Type 0 where
   pub shows : Seen
   -- whether scripts are run
   pub scripts : Bool
-  -- the refusals that calls may meet for want of something, or by a fault
+  -- which of the refusals TooMany, NoRoom, Fault and Memory the calls for files may get
   pub refuses : Refusal → Bool
 
--- the response that is due to a request, where none is refused
+-- the response that is due to a request, where nothing is refused
 abbrev pub due_to : Shelf → Answer → List ℕ
 due_to shelf q = due shelf.scripts shelf.finds shelf.shows q
 
 module _ (shelf : Shelf) where
-  -- What the server's calls for a file may give where this is there: it, or the status of a refusal.
+  -- What the server's calls for a file may give where this is there: it, or the status of a refusal (503, or 500 for a fault).
   abbrev pub MayFind : (there got : Outcome) → Type 0
   MayFind there got = (got ≡ there) ⊎ ((x : Refusal) × (shelf.refuses x ≡ true) × (got ≡ Failed (status_of x)))
 
@@ -54,7 +55,7 @@ module _ (shelf : Shelf) where
   abbrev pub MayRun : (head_only : Bool) → Wanted → List Line → List ℕ → Type 0
   MayRun true w lines r = r ≡ script_text w
   MayRun false w lines r = (os : List script.Outcome) × AllMayShow (outcomes_by shelf.shows lines) os
-        × (r ≡ script_response w (output w.query lines os))
+      × (r ≡ script_response w (output w.query lines os))
 
   -- a text that is no script is answered with 500
   abbrev pub MayAnswerText : Wanted → Option (List Line) → List ℕ → Type 0
@@ -104,7 +105,7 @@ pub record IsAnswer (shelf : Shelf) (s bytes : List ℕ) : Type 0 where
   pub responds : Responds shelf qs bytes
   pub no_more : (window_in rest ≡ Wait) ⊎ (last_closes qs ≡ true)
 
--- a reply that refuses for want of something, or by a fault, does so by one of these
+-- a reply that refuses by TooMany, NoRoom, Fault or Memory does so by one of these
 abbrev pub IsAmong : (refuses : Refusal → Bool) → Reply → Type 0
 IsAmong refuses (reply.Refused x) = is_rough (reply.Refused x) ≡ true → refuses x ≡ true
 IsAmong refuses r = Unit {0}

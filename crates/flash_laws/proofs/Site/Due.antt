@@ -113,4 +113,3 @@ module _ (shelf : Shelf) where
 
   pub error-may : (w : Wanted) (x : Refusal) → shelf.refuses x ≡ true → MayBeDue shelf (serve w) (text_of (serve w) (Error (status_of x)))
   error-may w x may = (Failed (status_of x), inr (x, may, refl), give-error (is_for_script shelf.scripts (serve w)) w (status_of x))
-

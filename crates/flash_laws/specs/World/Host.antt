@@ -15,7 +15,7 @@ use Rattle.flash_laws.specs.World.{Tied, IsNew, AllAnswered, ClosedAreWhole, Are
 use Rattle.flash_laws.specs.World.Done.{IsDone}
 
 module _ (crew : Crew) where
-  -- what holds at the end, if each turn was refused only so
+  -- what holds at the end, where turns are refused only as the shelf says
   pub record IsRight (shelf : Shelf) (xs : List Choice) (rs : List Reply) (idle : Bool)
       (after : Stage State (Actor crew.Worker)) : Type 0 where
     pub answered : AllAnswered shelf xs rs after.machine
@@ -23,7 +23,7 @@ module _ (crew : Crew) where
     pub tied : Tied shelf crew xs rs after
     pub done : idle ≡ true → IsDone shelf crew.count after.machine (past_of xs rs) tied.seated.state.clients
 
-  -- A new world runs choices whose calls from outside are mild, and then turns until it is idle; each turn was fair.
+  -- A new world runs choices whose calls from outside are mild, and then turns until it is idle; each turn is fair.
   abbrev pub HostIsRight : Type 0
   HostIsRight = ActorsAreSettled crew.turns crew.settled
       → (shelf : Shelf) (xs : List Choice) (rs : List Reply)
@@ -31,5 +31,6 @@ module _ (crew : Crew) where
       → (run : WorldRun copying (actor_turns in_rounds crew.turns) w xs rs mid)
       → AreMild (actor_turns in_rounds crew.turns) w xs rs mid run
       → (ends : Idles copying (actor_turns in_rounds crew.turns) mid most idle after)
-      → AreFair shelf.refuses xs rs → AreFair shelf.refuses (rounds (domains_of mid.seats) 0 (length ends.went)) (map (λ t. t.1) ends.went)
+      → AreFair shelf.refuses xs rs
+      → AreFair shelf.refuses (rounds (domains_of mid.seats) 0 (length ends.went)) (map (λ t. t.1) ends.went)
       → IsRight shelf (xs ++ rounds (domains_of mid.seats) 0 (length ends.went)) (rs ++ map (λ t. t.1) ends.went) idle after
