@@ -52,6 +52,7 @@ first_tied shelf crew w new = record {
         fds_apart = λ fd gd a x y is_x is_y u v. absurd (none fd x is_x);
         left = λ c. told-none false (conn_at w.machine c) (new.no_conns c);
         fresh = λ c more. (refl, refl, refl);
+        untold = λ c more. refl;
         own = (workers_shared.first crew.count).own;
         free = λ k seat sits free. new.free k seat sits;
         desks = new.desks;
