@@ -1,14 +1,13 @@
 -- What is given of a script's response does not tell what its worker still puts out: so another outcome of a file that is still to
 -- be read leaves it.
-use Rattle.std.proofs.Common.{inl, inr, ◌≡◌, ℕ, ◌+◌, ◌≤◌, List, [], ◌++◌, length, take, ap, ◌∙◌, refl, sym, subst, arith, true, false, Bool, length-append}
+use Rattle.std.proofs.Common.{◌≡◌, ℕ, ◌+◌, ◌≤◌, List, [], ◌++◌, length, take, ap, ◌∙◌, refl, sym, arith, true, false, Bool, length-append}
 use Rattle.std.proofs.lemmas.List.{take-append-le}
 use Rattle.iol_core.specs.State.{State}
 use Rattle.flash_http.specs.Request.{Wanted}
 use Rattle.flash_laws.specs.Answers.Scripts.{script_response, script_body}
-use Rattle.flash_laws.specs.Run.Fits.{Progress, Ran, Broken, HoldsBack, Goes, Continues, nothing_yet, HasStep}
+use Rattle.flash_laws.specs.Run.Fits.{Progress, Ran, HoldsBack, Goes, Continues, nothing_yet, HasStep}
 use Rattle.flash_laws.specs.Run.OfferedBytes.{past_of, taken_by, is_stopping}
 use Rattle.flash_laws.specs.Conn.OfferedBytes.{taken_of}
-use Rattle.flash_laws.specs.declared.phase.Doing.{Doing}
 use Rattle.flash_laws.specs.declared.script_run.Run.{Run}
 use Rattle.flash_laws.specs.declared.script_run.Step.{Step}
 use Rattle.flash_laws.specs.declared.script_run.Step.TheVariants.{Gives, Makes, Hands, Lets, Heads, Sending, Hears, Spills, Gathers, Frames, Wraps, Trims, Returns, Lapses, Fails}

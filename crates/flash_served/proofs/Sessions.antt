@@ -1,7 +1,6 @@
 -- Connections that are made and served one after another are answered.
-use Rattle.std.proofs.Common.{inl, inr, ◌≡◌, ℕ, ◌==◌, List, [], ◌∷◌, ◌++◌, ap, ◌∙◌, refl, sym, subst, arith, true, false, Bool, append_assoc, append-nil}
+use Rattle.std.proofs.Common.{◌≡◌, ℕ, ◌==◌, List, [], ◌∷◌, ◌++◌, ap, ◌∙◌, refl, sym, subst, arith, true, false, Bool, append_assoc, append-nil}
 use Rattle.std.specs.Prelude.{◌||◌, ◌&&◌}
-use Rattle.std.specs.List.{AllByRecursion}
 use Rattle.iol_core.specs.State.{State}
 use Rattle.iol_core.specs.declared.events.Event.TheVariants as event
 use Rattle.iol_core.specs.declared.events.Reply.{Reply}
@@ -15,7 +14,7 @@ use Rattle.flash_cgi.specs.declared.worker.Worker.{Worker}
 use Rattle.flash_laws.specs.Serves.Rounds.{in_rounds}
 use Rattle.flash_laws.specs.Shelf.{Shelf}
 use Rattle.flash_laws.specs.Site.{net_pool}
-use Rattle.flash_laws.specs.Site.Past.{Past, and_then}
+use Rattle.flash_laws.specs.Site.Past.{Past}
 use Rattle.flash_laws.specs.World.{AreFair, RunKeepsTie, Tied, TiedIsAnswered, TiedIsWhole}
 use Rattle.flash_laws.specs.World.Fair.{any_refusal, FilesAreFair}
 use Rattle.flash_laws.specs.World.Tie.{Actor, actor_turns, past_of}

@@ -1,21 +1,20 @@
 -- A smooth run is fair, and so is any run of a world in which the server sits alone.
-use Rattle.std.proofs.Common.{inl, inr, ◌≡◌, ◌≢◌, ℕ, zero, suc, ◌<◌, List, [], ◌∷◌, map, ap, ◌∙◌, refl, sym, subst, arith, Some, true, false, Bool, slice_get, slice_set}
+use Rattle.std.proofs.Common.{inl, inr, ◌≡◌, ◌≢◌, ℕ, zero, suc, ◌<◌, List, [], ◌∷◌, map, ap, ◌∙◌, refl, sym, subst, arith, Some, false, Bool, slice_get, slice_set}
 use Rattle.iol_core.specs.State.{State}
 use Rattle.iol_core.specs.declared.events.Reply.{Reply}
 use Rattle.iol_core.specs.declared.events.Reply.TheVariants as reply
 use Rattle.iol_laws.specs.Caller.{is_rough}
-use Rattle.iol_proc.specs.Smooth.{AreSmooth}
 use Rattle.iol_proc.specs.Turns.{Account, SeatTurn}
-use Rattle.iol_proc.specs.World.{Stage, copying, DomainTurn, Present, WorldStep, WorldRun}
+use Rattle.iol_proc.specs.World.{Stage, copying, DomainTurn, WorldRun}
 use Rattle.iol_proc.specs.declared.choice.Choice.{Choice}
 use Rattle.iol_proc.specs.declared.choice.Choice.TheVariants as choice
 use Rattle.iol_proc.specs.declared.seat.Seat.{Seat}
 use Rattle.flash_laws.specs.Workers.Crew.{Crew}
 use Rattle.flash_laws.specs.Serves.Rounds.{in_rounds}
-use Rattle.flash_laws.specs.Shelf.{Shelf, IsAmong}
+use Rattle.flash_laws.specs.Shelf.{IsAmong}
 use Rattle.flash_laws.specs.Site.{server}
 use Rattle.flash_laws.specs.World.Tie.{Actor, Serving, actor_turns}
-use Rattle.flash_laws.specs.World.{as_actor, AreFair, seats_of, Tied}
+use Rattle.flash_laws.specs.World.{as_actor, AreFair, seats_of}
 use Rattle.flash_laws.specs.World.Fair.{no_refusal, any_refusal, SmoothIsFair, FilesAreFair}
 use Rattle.flash_laws.proofs.Conn.Responses.{some-inj}
 use Rattle.flash_laws.proofs.Lists.{clash}

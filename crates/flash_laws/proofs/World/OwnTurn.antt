@@ -14,7 +14,6 @@ use Rattle.iol_core.specs.declared.events.Event.TheVariants as event
 use Rattle.iol_core.specs.declared.events.Reply.{Reply}
 use Rattle.iol_core.specs.declared.events.Reply.TheVariants as reply
 use Rattle.iol_laws.specs.Caller as o
-use Rattle.iol_laws.specs.Caller.{is_rough}
 use Rattle.iol_laws.specs.Frame.{Leaves, touches_conn, touches_pipe, touches_fd}
 use Rattle.iol_laws.specs.Order.{IsOrderly}
 use Rattle.iol_proc.specs.declared.seat.Seat.{Seat}

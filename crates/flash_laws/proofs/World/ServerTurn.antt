@@ -1,5 +1,5 @@
 -- A turn of the server keeps all tied, whichever call it makes.
-use Rattle.std.proofs.Common.{inl, inr, ◌≡◌, ℕ, List, [], ap, ◌∙◌, refl, sym, subst, Option, Some, None, true, false, if◌then◌else◌}
+use Rattle.std.proofs.Common.{inl, inr, ◌≡◌, ℕ, List, [], ap, ◌∙◌, refl, sym, subst, Option, Some, None, true, if◌then◌else◌}
 use Rattle.std.specs.Prelude.{unwrap_or}
 use Rattle.iol_core.specs.NumberedLists.{in_place}
 use Rattle.iol_core.specs.Run.{StepsTo}

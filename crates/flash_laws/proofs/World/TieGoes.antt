@@ -1,5 +1,5 @@
 -- What ties a client to its connection stays, as the connection goes on: or the peer is gone, and what was sent begins the answer.
-use Rattle.std.proofs.Common.{inl, inr, ◌≡◌, ℕ, ◌+◌, List, [], ◌∷◌, ◌++◌, take, ◌∙◌, sym, subst, true, false}
+use Rattle.std.proofs.Common.{inl, inr, ◌≡◌, ℕ, ◌+◌, List, [], ◌∷◌, ◌++◌, take, ◌∙◌, subst, true, false}
 use Rattle.std.specs.Prelude.{is_none}
 use Rattle.iol_core.specs.Text.{bytes_of}
 use Rattle.iol_core.specs.State.{Connection, is_gone}

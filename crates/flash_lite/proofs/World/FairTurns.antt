@@ -1,5 +1,5 @@
 -- The turns of what was hosted are fair: where the world is not rough, and where no scripts run.
-use Rattle.std.proofs.Common.{◌≡◌, ℕ, List, [], ◌++◌, length, map, Bool, false}
+use Rattle.std.proofs.Common.{◌≡◌, ℕ, List, [], length, map, Bool, false}
 use Rattle.iol_core.specs.State.{State}
 use Rattle.iol_core.specs.declared.events.Reply.{Reply}
 use Rattle.iol_proc.specs.Idle.{rounds}
