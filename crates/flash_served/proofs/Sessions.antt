@@ -71,7 +71,7 @@ module _ (s : Site) (slots : List (List ℕ)) (keeps : RunKeepsTie in_rounds (cr
 
     -- one session
     session-right : (past : List Choice) (ps : List Reply) (it : Session) (w after : Stage State (Actor Worker)) → Holds s slots refuses past ps w
-        → (is : IsSession s slots it w after) → AreFair refuses is.goes_on.choices is.goes_on.replies
+        → (is : IsSession it w after) → AreFair refuses is.goes_on.choices is.goes_on.replies
         → Holds s slots refuses ((past ++ choice.Outside (event.ConnNew net_pool) ∷ []) ++ is.goes_on.choices) ((ps ++ reply.Conn it.conn ∷ []) ++ is.goes_on.replies) after
         × IsAnswered shelf it.ending it.came it.sent
     session-right past ps it w after tied is fair =
@@ -92,7 +92,7 @@ module _ (s : Site) (slots : List (List ℕ)) (keeps : RunKeepsTie in_rounds (cr
     }
 
     one-more : (past : List Choice) (ps : List Reply) (it : Session) (its : List Session) (w mid after : Stage State (Actor Worker))
-        → (is : IsSession s slots it w mid) → IsAnswered shelf it.ending it.came it.sent
+        → (is : IsSession it w mid) → IsAnswered shelf it.ending it.came it.sent
         → AreRight s slots refuses ((past ++ choice.Outside (event.ConnNew net_pool) ∷ []) ++ is.goes_on.choices) ((ps ++ reply.Conn it.conn ∷ []) ++ is.goes_on.replies) its after
         → AreRight s slots refuses past ps (it ∷ its) after
     one-more past ps it its w mid after is first rest =
@@ -112,7 +112,7 @@ module _ (s : Site) (slots : List (List ℕ)) (keeps : RunKeepsTie in_rounds (cr
     }
 
     pub fair-sessions : (past : List Choice) (ps : List Reply) (its : List Session) (w after : Stage State (Actor Worker))
-        → (sessions : AreSessions s slots its w after) → Holds s slots refuses past ps w → AreFairSessions s slots refuses its w after sessions
+        → (sessions : AreSessions its w after) → Holds s slots refuses past ps w → AreFairSessions refuses its w after sessions
         → AreRight s slots refuses past ps its after
     fair-sessions past ps [] w after sessions tied fair = none-right past ps w after tied sessions
     fair-sessions past ps (it ∷ its) w after sessions tied fair =
@@ -121,7 +121,7 @@ module _ (s : Site) (slots : List (List ℕ)) (keeps : RunKeepsTie in_rounds (cr
         (fair-sessions _ _ its sessions.0 after sessions.2 did.0 fair.1)
 
   pub file-sessions : FilesAreFair (crew_of s) → workers_used s ≡ 0 → (past : List Choice) (ps : List Reply) (its : List Session)
-      (w after : Stage State (Actor Worker)) → AreSessions s slots its w after → Holds s slots any_refusal past ps w
+      (w after : Stage State (Actor Worker)) → AreSessions its w after → Holds s slots any_refusal past ps w
       → AreRight s slots any_refusal past ps its after
   file-sessions files none past ps [] w after sessions tied = none-right any_refusal past ps w after tied sessions
   file-sessions files none past ps (it ∷ its) w after sessions tied =

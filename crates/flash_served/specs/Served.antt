@@ -1,5 +1,6 @@
 -- Connections that are served in a world that satisfies the server's invariant: what was sent begins an answer to what arrived.
 use Rattle.std.specs.Prelude.{◌≡◌, ℕ, Bool, true, false, List, [], ◌∷◌, ◌++◌, Option}
+use Rattle.std.specs.Io.KnownBytes.{Appends, Consumes}
 use Rattle.std.specs.List.{AllByRecursion}
 use Rattle.iol_core.specs.Calls.Outside.{lacks_conn}
 use Rattle.iol_core.specs.State.{State}
@@ -45,6 +46,24 @@ pub record Session : Type 0 where
   pub came : List ℕ
   pub sent : List ℕ
 
+-- a connection is made in the net, and served
+pub record IsSession (it : Session) (w after : Stage State (Actor Worker)) : Type 0 where
+  pub begun : Stage State (Actor Worker)
+  pub made : OutsideStep copying (actor_turns in_rounds worker_turns) w (event.ConnNew net_pool) (reply.Conn it.conn) begun
+  pub goes_on : GoesOn (actor_turns in_rounds worker_turns) it.conn it.came it.sent (hung_up it.ending) begun after
+  pub over : it.ending ≡ Over → lacks_conn after.machine it.conn ≡ true
+
+abbrev pub AreSessions : List Session → (w after : Stage State (Actor Worker)) → Type 0
+AreSessions [] w after = after ≡ w
+AreSessions (it ∷ more) w after = (mid : Stage State (Actor Worker)) × IsSession it w mid × AreSessions more mid after
+
+-- the turns of each are fair where these refusals are allowed
+abbrev pub AreFairSessions : (refuses : Refusal → Bool) → (its : List Session) → (w after : Stage State (Actor Worker))
+    → AreSessions its w after → Type 0
+AreFairSessions refuses [] w after is = Unit {0}
+AreFairSessions refuses (it ∷ more) w after is = AreFair refuses is.1.goes_on.choices is.1.goes_on.replies
+    × AreFairSessions refuses more is.0 after is.2
+
 module _ (s : Site) (slots : List (List ℕ)) where
   -- The server's invariant, where these refusals are allowed.
   abbrev pub Holds : (refuses : Refusal → Bool) → List Choice → List Reply → Stage State (Actor Worker) → Type 0
@@ -71,24 +90,6 @@ module _ (s : Site) (slots : List (List ℕ)) where
 
   -- ---- connections one after another
 
-  -- a connection is made in the net, and served
-  pub record IsSession (it : Session) (w after : Stage State (Actor Worker)) : Type 0 where
-    pub begun : Stage State (Actor Worker)
-    pub made : OutsideStep copying (actor_turns in_rounds worker_turns) w (event.ConnNew net_pool) (reply.Conn it.conn) begun
-    pub goes_on : GoesOn (actor_turns in_rounds worker_turns) it.conn it.came it.sent (hung_up it.ending) begun after
-    pub over : it.ending ≡ Over → lacks_conn after.machine it.conn ≡ true
-
-  abbrev pub AreSessions : List Session → (w after : Stage State (Actor Worker)) → Type 0
-  AreSessions [] w after = after ≡ w
-  AreSessions (it ∷ more) w after = (mid : Stage State (Actor Worker)) × IsSession it w mid × AreSessions more mid after
-
-  -- the turns of each are fair where these refusals are allowed
-  abbrev pub AreFairSessions : (refuses : Refusal → Bool) → (its : List Session) → (w after : Stage State (Actor Worker))
-      → AreSessions its w after → Type 0
-  AreFairSessions refuses [] w after is = Unit {0}
-  AreFairSessions refuses (it ∷ more) w after is = AreFair refuses is.1.goes_on.choices is.1.goes_on.replies
-      × AreFairSessions refuses more is.0 after is.2
-
   -- what was sent to each is right, and the invariant holds afterwards
   pub record AreRight (refuses : Refusal → Bool) (past : List Choice) (ps : List Reply) (its : List Session)
       (after : Stage State (Actor Worker)) : Type 0 where
@@ -111,8 +112,24 @@ ServedIsRight = (s : Site) (slots : List (List ℕ)) (past : List Choice) (ps : 
     → (ending ≡ Over → lacks_conn after.machine c ≡ true)
     → IsServedRight s slots past ps c ending left rest held now w after served
 
+-- A connection is made in the net and served, from a reader and to a writer, until it ends so: what arrives is what the reader supplies,
+-- and what is sent is what the writer accepts. Then it is served right, whatever the site and the past.
+pub record ServesRight (ending : Ending) (left rest held now : Option (List ℕ)) (w after : Stage State (Actor Worker)) : Type 0 where
+  pub session : Session
+  pub ends : session.ending ≡ ending
+  pub given : Consumes left rest session.came
+  pub taken : Appends held now session.sent
+  pub serves : IsSession session w after
+  -- with the refusals that its turns had
+  pub fair : (s : Site) (slots : List (List ℕ)) (refuses : Refusal → Bool) (past : List Choice) (ps : List Reply)
+      → Holds s slots refuses past ps w → AreFair refuses serves.goes_on.choices serves.goes_on.replies
+      → AreRight s slots refuses past ps (session ∷ []) after
+  -- with TooMany, NoRoom, Fault and Memory, whatever was refused, where no scripts run
+  pub files : (s : Site) (slots : List (List ℕ)) (past : List Choice) (ps : List Reply) → Holds s slots any_refusal past ps w
+      → workers_used s ≡ 0 → AreRight s slots any_refusal past ps (session ∷ []) after
+
 -- Connections that are made in the net and served, one after another, are served right.
 abbrev pub SessionsAreRight : Type 0
 SessionsAreRight = (s : Site) (slots : List (List ℕ)) (past : List Choice) (ps : List Reply) (its : List Session)
-    (w after : Stage State (Actor Worker)) → (sessions : AreSessions s slots its w after)
+    (w after : Stage State (Actor Worker)) → (sessions : AreSessions its w after)
     → AreServedRight s slots past ps its w after sessions

@@ -2,7 +2,8 @@
 //!
 //! In a world that satisfies the server's invariant (`Tied`), the bytes that the writer accepts begin an answer to the bytes that the
 //! reader supplies, and are all of it where the connection ends by `Over`. The invariant holds afterwards, so the same holds of
-//! connections served one after another. The functions do nothing; their contracts are the laws.
+//! connections served one after another. [`serve_client`](serve::serve_client) serves one so; the functions here do nothing, and their
+//! contracts are the laws.
 #![tactic(auto)]
 
 ghost use Rattle.flash_served.specs.Served.{ServedIsRight, SessionsAreRight};
@@ -12,6 +13,8 @@ use flash_lite::actor::{Actor, Worker};
 use flash_lite::laws::connections_do_not_meet;
 use iol_laws::laws::connection_numbers_rise;
 use iol_proc::laws::smooth_runs;
+
+pub mod serve;
 
 /// A connection of which there is no history is served in a world that satisfies the server's invariant, over the copying machine, as
 /// the clause `serves` of [`serve_connection`](iol_serve::serve::serve_connection) says of an honest store. Then what was sent begins an
