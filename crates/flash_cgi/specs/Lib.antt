@@ -1,4 +1,5 @@
 pub mod Beside
+pub mod Collecting
 pub mod Due
 pub mod PipeEnd
 pub mod Feeds

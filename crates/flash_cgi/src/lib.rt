@@ -23,6 +23,7 @@ pub mod jobs;
 pub mod laws;
 pub mod line;
 pub mod phase;
+pub mod piece;
 mod replies;
 pub mod script;
 pub mod worker;

@@ -1,5 +1,6 @@
 //! What a worker is at.
 use crate::counts::Said;
+use crate::piece::Piece;
 use iol_core::numbers::{AggId, Fd};
 
 /// What a file is read for.
@@ -18,7 +19,8 @@ pub enum Doing {
     /// It gives up the aggregate of what was no job.
     Skips { agg: AggId },
 
-    /// It begins its next line, or closes its output after the last one.
+    /// It makes the text that is collected, where that is to be written now; else it begins its next line, or closes its output
+    /// after the last one.
     Runs,
 
     /// It reads an open file.
@@ -33,8 +35,29 @@ pub enum Doing {
     /// It closes a file, of which this is to be said.
     ShutsToSay { file: Fd, said: Said },
 
-    /// It makes the bytes of what is to be said.
-    Says { said: Said },
+    /// It joins the bytes of a file, so many, to those that are held, so many.
+    JoiningFile {
+        held: AggId,
+        agg: AggId,
+        from: u32,
+        len: u32,
+    },
+
+    /// It cuts off the held bytes that stand at the last place of this text.
+    CuttingPart { held: AggId, agg: AggId, from: u32 },
+
+    /// It sets them into it.
+    ReplacingPart { agg: AggId, part: AggId, at: u32 },
+
+    /// It gives up the text without them.
+    DroppingText {
+        agg: AggId,
+        part: AggId,
+        made: AggId,
+    },
+
+    /// It gives up what was cut off.
+    DroppingPart { part: AggId, made: AggId },
 
     /// It writes an aggregate.
     Writes { agg: AggId },
@@ -52,11 +75,12 @@ pub enum Doing {
     Breaks { agg: AggId },
 }
 
-/// What a worker is at, and how many lines of its script it has begun.
-#[derive(Clone, Copy, Debug)]
+/// What a worker is at, how many lines of its script it has begun, and what it has collected.
+#[derive(Debug, Drop)]
 pub struct Step {
     pub doing: Doing,
     pub begun: usize,
+    pub piece: Piece,
 }
 
 /// Whether the call that a worker is at was made.

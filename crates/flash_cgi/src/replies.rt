@@ -1,78 +1,144 @@
 //! What a worker is at after the reply to its call.
-ghost use Rattle.std.specs.Prelude.{◌≡◌};
+ghost use Rattle.std.specs.Prelude.{◌≡◌, IfOk, OnErr, true};
 ghost use Rattle.iol_proc.specs.Prelude.{lent};
+ghost use Rattle.flash_cgi.specs.Reached.{reached};
+ghost use Rattle.flash_cgi.specs.Wants as memory;
 ghost use Rattle.flash_cgi.specs.WorkerSteps as spec;
 
+use crate::calls::is_due;
 use crate::counts::Said;
 use crate::feeds::{counts, len_of};
 use crate::jobs::Job;
 use crate::line::Line;
-use crate::phase::{Doing, Purpose, Step};
+use crate::phase::{Doing, Purpose};
+use crate::piece::{MAX_COLLECTED_BYTES, Piece};
 use iol_core::events::Reply;
 use iol_core::numbers::{AggId, Fd};
 use iol_core::refusals::Refusal;
 use iol_proc::look::Look;
+use std::alloc::{AllocError, Global};
 
-// Bytes were made.
-fn told_made(begun: usize, last: &Reply) -> Option<Step>
-    ensures { result ≡ spec.told_made begun last.now }
-{
-    match last {
-        Reply::Agg(agg) => Some(Step {
-            doing: Doing::Writes { agg: *agg },
-            begun,
-        }),
-        _ => None,
-    }
+/// What a worker is at after a reply: a phase, how many lines it has begun, and what it has collected, where that changes.
+#[derive(Drop)]
+pub(crate) struct After {
+    pub doing: Doing,
+    pub begun: usize,
+    pub piece: Option<Piece>,
+}
+
+/// It is to make the same call again, or goes on.
+type Told = Result<Option<After>, AllocError>;
+
+// With what it has collected.
+fn at(doing: Doing, begun: usize) -> Option<After> {
+    Some(After {
+        doing,
+        begun,
+        piece: None,
+    })
+}
+
+// With this piece.
+fn with(doing: Doing, begun: usize, piece: Piece) -> Option<After> {
+    Some(After {
+        doing,
+        begun,
+        piece: Some(piece),
+    })
+}
+
+// What is said of a file is collected.
+fn says(alloc: Global, piece: &Piece, said: Said, begun: usize) -> Told {
+    let text = said.text(alloc)?;
+    let piece = piece.with_text(alloc, text.as_slice())?;
+    Ok(with(Doing::Runs, begun, piece))
 }
 
 // A file was opened, or is refused.
-fn told_opened(purpose: Purpose, begun: usize, last: &Reply) -> Option<Step>
-    ensures { result ≡ spec.told_opened purpose begun last.now }
-{
+fn told_opened(alloc: Global, piece: &Piece, purpose: Purpose, begun: usize, last: &Reply) -> Told {
     match last {
-        Reply::Fd(file) => Some(Step {
-            doing: Doing::Reads {
+        Reply::Fd(file) => Ok(at(
+            Doing::Reads {
                 file: *file,
                 purpose,
             },
             begun,
-        }),
-        Reply::Refused(refusal) => Some(Step {
-            doing: Doing::Says {
-                said: Said::Refused(*refusal),
-            },
-            begun,
-        }),
-        _ => None,
+        )),
+        Reply::Refused(refusal) => says(alloc, piece, Said::Refused(*refusal), begun),
+        _ => Ok(None),
     }
+}
+
+// A text is collected, as a line.
+fn collects(alloc: Global, piece: &Piece, text: &[u8], begun: usize) -> Told {
+    let piece = piece.with_line(alloc, text)?;
+    Ok(with(Doing::Runs, begun, piece))
 }
 
 // A line was begun, which `begun` counts.
-fn told_line(line: &Line, begun: usize, last: &Reply) -> Option<Step>
-    ensures { result ≡ spec.told_line line.now begun last.now }
-{
+fn told_line(
+    alloc: Global,
+    job: &Job,
+    piece: &Piece,
+    line: &Line,
+    begun: usize,
+    last: &Reply,
+) -> Told {
     match line {
-        Line::Emit { .. } | Line::Query => told_made(begun, last),
-        Line::Cat { .. } => told_opened(Purpose::Cat, begun, last),
-        Line::Wc { .. } => told_opened(Purpose::Wc, begun, last),
-        Line::Pause => Some(Step {
-            doing: Doing::Runs,
-            begun,
-        }),
+        Line::Emit { text } => collects(alloc, piece, text.as_slice(), begun),
+        Line::Query => collects(alloc, piece, job.query.as_slice(), begun),
+        Line::Cat { .. } => told_opened(alloc, piece, Purpose::Cat, begun, last),
+        Line::Wc { .. } => told_opened(alloc, piece, Purpose::Wc, begun, last),
+        Line::Pause => Ok(at(Doing::Runs, begun)),
     }
 }
 
-// The next line was begun, or the output closed.
-fn told_begun(job: &Job, begun: usize, last: &Reply) -> Option<Step>
-    ensures { result ≡ spec.told_begun job.now begun last.now }
-{
+// This text is made of what was collected: the bytes of the last file are set into it, or all of them are.
+fn weaves(alloc: Global, piece: Piece, agg: AggId, begun: usize) -> Told {
+    match (piece.held, piece.last()) {
+        (None, _) => Ok(with(Doing::Writes { agg }, begun, piece)),
+        (Some(held), None) => {
+            let piece = piece.without_files(alloc)?;
+            Ok(with(
+                Doing::Swaps {
+                    agg: held,
+                    rest: agg,
+                },
+                begun,
+                piece,
+            ))
+        }
+        (Some(held), Some(place)) => Ok(with(
+            Doing::CuttingPart {
+                held,
+                agg,
+                from: place.from,
+            },
+            begun,
+            piece,
+        )),
+    }
+}
+
+// The text that was collected is made.
+fn told_made(alloc: Global, piece: &Piece, begun: usize, last: &Reply) -> Told {
+    match last {
+        Reply::Agg(agg) => {
+            let piece = piece.without_text(alloc)?;
+            weaves(alloc, piece, *agg, begun)
+        }
+        _ => Ok(None),
+    }
+}
+
+// What was collected is made, the next line begun, or the output closed.
+fn told_begun(alloc: Global, job: &Job, piece: &Piece, begun: usize, last: &Reply) -> Told {
+    if is_due(job, piece, begun) {
+        return told_made(alloc, piece, begun, last);
+    }
     match job.script.lines.get(begun) {
-        Some(line) => told_line(line, begun + 1, last),
-        None => Some(Step {
-            doing: Doing::Waits,
-            begun: 0,
-        }),
+        Some(line) => told_line(alloc, job, piece, line, begun + 1, last),
+        None => Ok(at(Doing::Waits, 0)),
     }
 }
 
@@ -97,23 +163,116 @@ fn told_read(
     begun: usize,
     last: &Reply,
     look: &Look<'_>,
-) -> Option<Step>
-    ensures { result ≡ spec.told_read (lent look.now) file purpose begun last.now }
-{
+) -> Option<After> {
     match last {
-        Reply::Agg(agg) => Some(Step {
-            doing: got(file, *agg, purpose, look),
-            begun,
-        }),
-        Reply::Refused(refusal) => Some(Step {
-            doing: Doing::ShutsToSay {
+        Reply::Agg(agg) => at(got(file, *agg, purpose, look), begun),
+        Reply::Refused(refusal) => at(
+            Doing::ShutsToSay {
                 file,
                 said: Said::Refused(*refusal),
             },
             begun,
-        }),
+        ),
         _ => None,
     }
+}
+
+// The file is closed whose bytes it has, so many: they are collected.
+fn collects_file(
+    alloc: Global,
+    piece: &Piece,
+    agg: AggId,
+    len: u32,
+    begun: usize,
+    look: &Look<'_>,
+) -> Told {
+    match piece.held {
+        Some(held) => Ok(at(
+            Doing::JoiningFile {
+                held,
+                agg,
+                from: len_of(look, held),
+                len,
+            },
+            begun,
+        )),
+        None => {
+            let piece = piece.with_file(alloc, agg, 0, len)?;
+            Ok(with(Doing::Runs, begun, piece))
+        }
+    }
+}
+
+// The file is closed: its bytes are collected, or are written by themselves, behind what is collected.
+fn told_shut(alloc: Global, piece: &Piece, agg: AggId, begun: usize, look: &Look<'_>) -> Told {
+    let len = len_of(look, agg);
+    if len as usize <= MAX_COLLECTED_BYTES {
+        return collects_file(alloc, piece, agg, len, begun, look);
+    }
+    if piece.is_nothing() {
+        return Ok(at(Doing::Writes { agg }, begun));
+    }
+    let piece = piece.with_next(alloc, agg)?;
+    Ok(with(Doing::Runs, begun, piece))
+}
+
+// The bytes of a file were joined to those that are held.
+fn told_joined(
+    alloc: Global,
+    piece: &Piece,
+    from: u32,
+    len: u32,
+    begun: usize,
+    last: &Reply,
+) -> Told {
+    match last {
+        Reply::Agg(held) => {
+            let piece = piece.with_file(alloc, *held, from, len)?;
+            Ok(with(Doing::Runs, begun, piece))
+        }
+        _ => Ok(None),
+    }
+}
+
+// The bytes of the last file were cut off: they are set into this text.
+fn told_parted(alloc: Global, piece: &Piece, agg: AggId, begun: usize, last: &Reply) -> Told {
+    match last {
+        Reply::Aggs(held, part) => {
+            let at = match piece.last() {
+                Some(place) => place.at,
+                None => 0,
+            };
+            let piece = piece.with_held(alloc, *held)?;
+            let part = *part;
+            Ok(with(Doing::ReplacingPart { agg, part, at }, begun, piece))
+        }
+        _ => Ok(None),
+    }
+}
+
+// They were set into it.
+fn told_replaced(
+    alloc: Global,
+    piece: &Piece,
+    agg: AggId,
+    part: AggId,
+    begun: usize,
+    last: &Reply,
+) -> Told {
+    match last {
+        Reply::Agg(made) => {
+            let piece = piece.without_last(alloc)?;
+            let made = *made;
+            Ok(with(Doing::DroppingText { agg, part, made }, begun, piece))
+        }
+        _ => Ok(None),
+    }
+}
+
+// What was cut off is given up: the bytes of the file before are set into the text.
+fn told_parts_dropped(alloc: Global, piece: &Piece, made: AggId, begun: usize) -> Told {
+    let piece = piece.copy(alloc)?;
+    weaves(alloc, piece, made, begun)
 }
 
 // What follows where so many of an aggregate's bytes were taken.
@@ -132,59 +291,76 @@ fn taken_of(agg: AggId, taken: u32, to: u32) -> Doing
 }
 
 // An aggregate of so many bytes was written, or nobody reads it.
-fn told_written(agg: AggId, len: u32, begun: usize, last: &Reply) -> Option<Step>
-    ensures { result ≡ spec.told_written agg len begun last.now }
-{
+fn told_written(agg: AggId, len: u32, begun: usize, last: &Reply) -> Option<After> {
     match last {
-        Reply::Count(taken) => Some(Step {
-            doing: taken_of(agg, *taken, len),
-            begun,
-        }),
-        Reply::Refused(Refusal::BrokenPipe) => Some(Step {
-            doing: Doing::Breaks { agg },
-            begun,
-        }),
+        Reply::Count(taken) => at(taken_of(agg, *taken, len), begun),
+        Reply::Refused(Refusal::BrokenPipe) => at(Doing::Breaks { agg }, begun),
         _ => None,
     }
 }
 
 // The rest of an aggregate was cut off.
-fn told_cut(agg: AggId, begun: usize, last: &Reply) -> Option<Step>
-    ensures { result ≡ spec.told_cut agg begun last.now }
-{
+fn told_cut(agg: AggId, begun: usize, last: &Reply) -> Option<After> {
     match last {
-        Reply::Agg(rest) => Some(Step {
-            doing: Doing::Swaps { agg, rest: *rest },
-            begun,
-        }),
+        Reply::Agg(rest) => at(Doing::Swaps { agg, rest: *rest }, begun),
         _ => None,
     }
 }
 
+// All of something is written: the file that was too long is, or the script goes on.
+fn told_dropped(alloc: Global, piece: &Piece, begun: usize) -> Told {
+    match piece.next {
+        Some(agg) => {
+            let piece = piece.without_next(alloc)?;
+            Ok(with(Doing::Writes { agg }, begun, piece))
+        }
+        None => Ok(at(Doing::Runs, begun)),
+    }
+}
+
+// Nobody reads: what is left is given up, and the script is at its end.
+fn told_broken(alloc: Global, job: &Job, piece: &Piece, begun: usize) -> Told {
+    match piece.next {
+        Some(agg) => {
+            let piece = piece.without_next(alloc)?;
+            Ok(with(Doing::Breaks { agg }, begun, piece))
+        }
+        None => Ok(at(Doing::Runs, job.script.lines.len())),
+    }
+}
+
 /// What it is at after the reply; none where the call is to be made again.
-pub(crate) fn told(job: &Job, step: Step, last: &Reply, look: &Look<'_>) -> Option<Step>
-    ensures { result ≡ spec.told job.now step (lent look.now) last.now }
-{
-    let (doing, begun) = (step.doing, step.begun);
+pub(crate) fn told(
+    alloc: Global,
+    job: &Job,
+    piece: &Piece,
+    begun: usize,
+    doing: Doing,
+    last: &Reply,
+    look: &Look<'_>,
+) -> Told {
     let next = match doing {
-        Doing::Waits => return None,
-        Doing::Runs => return told_begun(job, begun, last),
-        Doing::Reads { file, purpose } => return told_read(file, purpose, begun, last, look),
-        Doing::Says { .. } => return told_made(begun, last),
-        Doing::Writes { agg } => return told_written(agg, len_of(look, agg), begun, last),
-        Doing::Cuts { agg, .. } => return told_cut(agg, begun, last),
+        Doing::Waits => return Ok(None),
+        Doing::Runs => return told_begun(alloc, job, piece, begun, last),
+        Doing::Reads { file, purpose } => return Ok(told_read(file, purpose, begun, last, look)),
+        Doing::Shuts { agg, .. } => return told_shut(alloc, piece, agg, begun, look),
+        Doing::ShutsToSay { said, .. } => return says(alloc, piece, said, begun),
+        Doing::JoiningFile { from, len, .. } => {
+            return told_joined(alloc, piece, from, len, begun, last);
+        }
+        Doing::CuttingPart { agg, .. } => return told_parted(alloc, piece, agg, begun, last),
+        Doing::ReplacingPart { agg, part, .. } => {
+            return told_replaced(alloc, piece, agg, part, begun, last);
+        }
+        Doing::DroppingPart { made, .. } => return told_parts_dropped(alloc, piece, made, begun),
+        Doing::Writes { agg } => return Ok(told_written(agg, len_of(look, agg), begun, last)),
+        Doing::Cuts { agg, .. } => return Ok(told_cut(agg, begun, last)),
+        Doing::Drops { .. } => return told_dropped(alloc, piece, begun),
+        Doing::Breaks { .. } => return told_broken(alloc, job, piece, begun),
         Doing::Skips { .. } => Doing::Waits,
         Doing::Counted { file, said, .. } => Doing::ShutsToSay { file, said },
-        Doing::Shuts { agg, .. } => Doing::Writes { agg },
-        Doing::ShutsToSay { said, .. } => Doing::Says { said },
+        Doing::DroppingText { part, made, .. } => Doing::DroppingPart { part, made },
         Doing::Swaps { rest, .. } => Doing::Writes { agg: rest },
-        Doing::Drops { .. } => Doing::Runs,
-        Doing::Breaks { .. } => {
-            return Some(Step {
-                doing: Doing::Runs,
-                begun: job.script.lines.len(),
-            });
-        }
     };
-    Some(Step { doing: next, begun })
+    Ok(at(next, begun))
 }
