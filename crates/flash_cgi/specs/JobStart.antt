@@ -9,6 +9,7 @@ use Rattle.iol_core.specs.declared.events.Call.TheVariants as call
 use Rattle.iol_core.specs.declared.events.Event.TheVariants as event
 use Rattle.iol_core.specs.declared.events.Reply.TheVariants as reply
 use Rattle.iol_laws.specs.Caller.{lent_at, TakesFromPipe}
+use Rattle.flash_cgi.specs.Collecting.{nothing}
 use Rattle.flash_cgi.specs.Job.{Task, job_of, job_text}
 use Rattle.flash_cgi.specs.Script.{script_of}
 use Rattle.flash_cgi.specs.JoinedLines.{gathered}
@@ -34,7 +35,7 @@ pub record Begins (m : State) (d p : ℕ) (job : Task) (agg : ℕ) (unseen : Lis
   pub bytes : List ℕ
   pub lends : lent_at m d agg ≡ Some bytes
   pub is_job : job_of bytes ≡ Some job
-  pub feeds : Feeds m d p job (record { doing = doing.Drops agg; begun = 0 }) unseen
+  pub feeds : Feeds m d p job (record { doing = doing.Drops agg; begun = 0; piece = nothing }) unseen
 
 -- The read of a job that waits gives just this job, its lines gathered, and all of the output of its lines is unseen yet.
 abbrev pub JobsAreTaken : Type 0

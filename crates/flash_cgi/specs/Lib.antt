@@ -13,6 +13,8 @@ pub mod Frame
 pub mod Outcomes
 pub mod Output
 pub mod Script
+pub mod Reached
+pub mod Pieces
 pub mod OutputPools
 pub mod JobStart
 pub mod TakingTurns

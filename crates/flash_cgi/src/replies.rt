@@ -1,17 +1,19 @@
 //! What a worker is at after the reply to its call.
-ghost use Rattle.std.specs.Prelude.{◌≡◌, IfOk, OnErr, true};
+ghost use Rattle.std.specs.Prelude.{◌≡◌, IfOk, OnErr, Some, None, is_some, true};
 ghost use Rattle.iol_proc.specs.Prelude.{lent};
-ghost use Rattle.flash_cgi.specs.Reached.{reached};
-ghost use Rattle.flash_cgi.specs.Wants as memory;
+ghost use Rattle.flash_cgi.specs.Collecting.{with_line};
+ghost use Rattle.flash_cgi.specs.Reached.{after_of, cut_after, reached, read_after, written_after};
+ghost use Rattle.flash_cgi.specs.Wants.{may_copy};
 ghost use Rattle.flash_cgi.specs.WorkerSteps as spec;
+ghost use Rattle.flash_cgi.specs.declared.phase.Doing.TheVariants as doing;
 
 use crate::calls::is_due;
 use crate::counts::Said;
 use crate::feeds::{counts, len_of};
 use crate::jobs::Job;
 use crate::line::Line;
-use crate::phase::{Doing, Purpose};
-use crate::piece::{MAX_COLLECTED_BYTES, Piece};
+use crate::phase::{Doing, Purpose, Step};
+use crate::piece::{MAX_COLLECTED_BYTES, Piece, Place};
 use iol_core::events::Reply;
 use iol_core::numbers::{AggId, Fd};
 use iol_core::refusals::Refusal;
@@ -30,7 +32,9 @@ pub(crate) struct After {
 type Told = Result<Option<After>, AllocError>;
 
 // With what it has collected.
-fn at(doing: Doing, begun: usize) -> Option<After> {
+fn at(doing: Doing, begun: usize) -> Option<After>
+    ensures { result ≡ after_of doing begun None }
+{
     Some(After {
         doing,
         begun,
@@ -39,7 +43,9 @@ fn at(doing: Doing, begun: usize) -> Option<After> {
 }
 
 // With this piece.
-fn with(doing: Doing, begun: usize, piece: Piece) -> Option<After> {
+fn with(doing: Doing, begun: usize, piece: Piece) -> Option<After>
+    ensures { result ≡ after_of doing begun (Some piece) }
+{
     Some(After {
         doing,
         begun,
@@ -48,14 +54,18 @@ fn with(doing: Doing, begun: usize, piece: Piece) -> Option<After> {
 }
 
 // What is said of a file is collected.
-fn says(alloc: Global, piece: &Piece, said: Said, begun: usize) -> Told {
+fn says(alloc: Global, piece: &Piece, said: Said, begun: usize) -> Told
+    ensures { IfOk result (λ after. reached piece.now after ≡ spec.says begun piece.now said) }
+{
     let text = said.text(alloc)?;
     let piece = piece.with_text(alloc, text.as_slice())?;
     Ok(with(Doing::Runs, begun, piece))
 }
 
 // A file was opened, or is refused.
-fn told_opened(alloc: Global, piece: &Piece, purpose: Purpose, begun: usize, last: &Reply) -> Told {
+fn told_opened(alloc: Global, piece: &Piece, purpose: Purpose, begun: usize, last: &Reply) -> Told
+    ensures { IfOk result (λ after. reached piece.now after ≡ spec.told_opened piece.now purpose begun last.now) }
+{
     match last {
         Reply::Fd(file) => Ok(at(
             Doing::Reads {
@@ -70,7 +80,9 @@ fn told_opened(alloc: Global, piece: &Piece, purpose: Purpose, begun: usize, las
 }
 
 // A text is collected, as a line.
-fn collects(alloc: Global, piece: &Piece, text: &[u8], begun: usize) -> Told {
+fn collects(alloc: Global, piece: &Piece, text: &[u8], begun: usize) -> Told
+    ensures { IfOk result (λ after. reached piece.now after ≡ spec.at doing.Runs begun (with_line piece.now text.now)) }
+{
     let piece = piece.with_line(alloc, text)?;
     Ok(with(Doing::Runs, begun, piece))
 }
@@ -83,7 +95,9 @@ fn told_line(
     line: &Line,
     begun: usize,
     last: &Reply,
-) -> Told {
+) -> Told
+    ensures { IfOk result (λ after. reached piece.now after ≡ spec.told_line job.now piece.now line.now begun last.now) }
+{
     match line {
         Line::Emit { text } => collects(alloc, piece, text.as_slice(), begun),
         Line::Query => collects(alloc, piece, job.query.as_slice(), begun),
@@ -94,45 +108,60 @@ fn told_line(
 }
 
 // This text is made of what was collected: the bytes of the last file are set into it, or all of them are.
-fn weaves(alloc: Global, piece: Piece, agg: AggId, begun: usize) -> Told {
-    match (piece.held, piece.last()) {
-        (None, _) => Ok(with(Doing::Writes { agg }, begun, piece)),
-        (Some(held), None) => {
-            let piece = piece.without_files(alloc)?;
-            Ok(with(
-                Doing::Swaps {
-                    agg: held,
-                    rest: agg,
-                },
-                begun,
-                piece,
-            ))
-        }
-        (Some(held), Some(place)) => Ok(with(
-            Doing::CuttingPart {
-                held,
-                agg,
-                from: place.from,
-            },
+fn weave(alloc: Global, piece: Piece, agg: AggId, begun: usize) -> Result<Step, AllocError>
+    ensures { IfOk result (λ step. step ≡ spec.weave_on begun piece agg) }
+{
+    let Some(held) = piece.held else {
+        let doing = Doing::Writes { agg };
+        return Ok(Step {
+            doing,
             begun,
             piece,
-        )),
+        });
+    };
+    match piece.last() {
+        None => {
+            let piece = piece.without_files(alloc)?;
+            let doing = Doing::Swaps {
+                agg: held,
+                rest: agg,
+            };
+            Ok(Step {
+                doing,
+                begun,
+                piece,
+            })
+        }
+        Some(place) => {
+            let from = place.from;
+            let doing = Doing::CuttingPart { held, agg, from };
+            Ok(Step {
+                doing,
+                begun,
+                piece,
+            })
+        }
     }
 }
 
 // The text that was collected is made.
-fn told_made(alloc: Global, piece: &Piece, begun: usize, last: &Reply) -> Told {
+fn told_made(alloc: Global, piece: &Piece, begun: usize, last: &Reply) -> Told
+    ensures { IfOk result (λ after. reached piece.now after ≡ spec.told_made piece.now begun last.now) }
+{
     match last {
         Reply::Agg(agg) => {
             let piece = piece.without_text(alloc)?;
-            weaves(alloc, piece, *agg, begun)
+            let step = weave(alloc, piece, *agg, begun)?;
+            Ok(with(step.doing, step.begun, step.piece))
         }
         _ => Ok(None),
     }
 }
 
 // What was collected is made, the next line begun, or the output closed.
-fn told_begun(alloc: Global, job: &Job, piece: &Piece, begun: usize, last: &Reply) -> Told {
+fn told_begun(alloc: Global, job: &Job, piece: &Piece, begun: usize, last: &Reply) -> Told
+    ensures { IfOk result (λ after. reached piece.now after ≡ spec.told_begun job.now piece.now begun last.now) }
+{
     if is_due(job, piece, begun) {
         return told_made(alloc, piece, begun, last);
     }
@@ -163,7 +192,9 @@ fn told_read(
     begun: usize,
     last: &Reply,
     look: &Look<'_>,
-) -> Option<After> {
+) -> Option<After>
+    ensures { result ≡ read_after (lent look.now) file purpose begun last.now }
+{
     match last {
         Reply::Agg(agg) => at(got(file, *agg, purpose, look), begun),
         Reply::Refused(refusal) => at(
@@ -185,7 +216,9 @@ fn collects_file(
     len: u32,
     begun: usize,
     look: &Look<'_>,
-) -> Told {
+) -> Told
+    ensures { IfOk result (λ after. reached piece.now after ≡ spec.file_collected (lent look.now) piece.now piece.now.held agg len begun) }
+{
     match piece.held {
         Some(held) => Ok(at(
             Doing::JoiningFile {
@@ -204,7 +237,9 @@ fn collects_file(
 }
 
 // The file is closed: its bytes are collected, or are written by themselves, behind what is collected.
-fn told_shut(alloc: Global, piece: &Piece, agg: AggId, begun: usize, look: &Look<'_>) -> Told {
+fn told_shut(alloc: Global, piece: &Piece, agg: AggId, begun: usize, look: &Look<'_>) -> Told
+    ensures { IfOk result (λ after. reached piece.now after ≡ spec.told_shut (lent look.now) piece.now agg begun) }
+{
     let len = len_of(look, agg);
     if len as usize <= MAX_COLLECTED_BYTES {
         return collects_file(alloc, piece, agg, len, begun, look);
@@ -224,7 +259,9 @@ fn told_joined(
     len: u32,
     begun: usize,
     last: &Reply,
-) -> Told {
+) -> Told
+    ensures { IfOk result (λ after. reached piece.now after ≡ spec.told_joined piece.now from len begun last.now) }
+{
     match last {
         Reply::Agg(held) => {
             let piece = piece.with_file(alloc, *held, from, len)?;
@@ -234,14 +271,22 @@ fn told_joined(
     }
 }
 
+fn place_at(place: Option<Place>) -> u32
+    ensures { result ≡ spec.place_at place }
+{
+    match place {
+        Some(place) => place.at,
+        None => 0,
+    }
+}
+
 // The bytes of the last file were cut off: they are set into this text.
-fn told_parted(alloc: Global, piece: &Piece, agg: AggId, begun: usize, last: &Reply) -> Told {
+fn told_parted(alloc: Global, piece: &Piece, agg: AggId, begun: usize, last: &Reply) -> Told
+    ensures { IfOk result (λ after. reached piece.now after ≡ spec.told_parted piece.now agg begun last.now) }
+{
     match last {
         Reply::Aggs(held, part) => {
-            let at = match piece.last() {
-                Some(place) => place.at,
-                None => 0,
-            };
+            let at = place_at(piece.last());
             let piece = piece.with_held(alloc, *held)?;
             let part = *part;
             Ok(with(Doing::ReplacingPart { agg, part, at }, begun, piece))
@@ -258,7 +303,9 @@ fn told_replaced(
     part: AggId,
     begun: usize,
     last: &Reply,
-) -> Told {
+) -> Told
+    ensures { IfOk result (λ after. reached piece.now after ≡ spec.told_replaced piece.now agg part begun last.now) }
+{
     match last {
         Reply::Agg(made) => {
             let piece = piece.without_last(alloc)?;
@@ -270,9 +317,12 @@ fn told_replaced(
 }
 
 // What was cut off is given up: the bytes of the file before are set into the text.
-fn told_parts_dropped(alloc: Global, piece: &Piece, made: AggId, begun: usize) -> Told {
+fn told_part_dropped(alloc: Global, piece: &Piece, made: AggId, begun: usize) -> Told
+    ensures { IfOk result (λ after. reached piece.now after ≡ Some (spec.weave_on begun piece.now made)) }
+{
     let piece = piece.copy(alloc)?;
-    weaves(alloc, piece, made, begun)
+    let step = weave(alloc, piece, made, begun)?;
+    Ok(with(step.doing, step.begun, step.piece))
 }
 
 // What follows where so many of an aggregate's bytes were taken.
@@ -291,7 +341,9 @@ fn taken_of(agg: AggId, taken: u32, to: u32) -> Doing
 }
 
 // An aggregate of so many bytes was written, or nobody reads it.
-fn told_written(agg: AggId, len: u32, begun: usize, last: &Reply) -> Option<After> {
+fn told_written(agg: AggId, len: u32, begun: usize, last: &Reply) -> Option<After>
+    ensures { result ≡ written_after agg len begun last.now }
+{
     match last {
         Reply::Count(taken) => at(taken_of(agg, *taken, len), begun),
         Reply::Refused(Refusal::BrokenPipe) => at(Doing::Breaks { agg }, begun),
@@ -300,7 +352,9 @@ fn told_written(agg: AggId, len: u32, begun: usize, last: &Reply) -> Option<Afte
 }
 
 // The rest of an aggregate was cut off.
-fn told_cut(agg: AggId, begun: usize, last: &Reply) -> Option<After> {
+fn told_cut(agg: AggId, begun: usize, last: &Reply) -> Option<After>
+    ensures { result ≡ cut_after agg begun last.now }
+{
     match last {
         Reply::Agg(rest) => at(Doing::Swaps { agg, rest: *rest }, begun),
         _ => None,
@@ -308,7 +362,10 @@ fn told_cut(agg: AggId, begun: usize, last: &Reply) -> Option<After> {
 }
 
 // All of something is written: the file that was too long is, or the script goes on.
-fn told_dropped(alloc: Global, piece: &Piece, begun: usize) -> Told {
+fn told_dropped(alloc: Global, piece: &Piece, begun: usize) -> Told
+    ensures after { IfOk result (λ after. reached piece.now after ≡ spec.told_dropped piece.now piece.now.next begun) }
+    ensures wants { OnErr result (is_some piece.now.next ≡ true) }
+{
     match piece.next {
         Some(agg) => {
             let piece = piece.without_next(alloc)?;
@@ -319,7 +376,10 @@ fn told_dropped(alloc: Global, piece: &Piece, begun: usize) -> Told {
 }
 
 // Nobody reads: what is left is given up, and the script is at its end.
-fn told_broken(alloc: Global, job: &Job, piece: &Piece, begun: usize) -> Told {
+fn told_broken(alloc: Global, job: &Job, piece: &Piece, begun: usize) -> Told
+    ensures after { IfOk result (λ after. reached piece.now after ≡ spec.told_broken job.now piece.now piece.now.next begun) }
+    ensures wants { OnErr result (is_some piece.now.next ≡ true) }
+{
     match piece.next {
         Some(agg) => {
             let piece = piece.without_next(alloc)?;
@@ -338,7 +398,11 @@ pub(crate) fn told(
     doing: Doing,
     last: &Reply,
     look: &Look<'_>,
-) -> Told {
+) -> Told
+    ensures after { IfOk result
+        (λ after. reached piece.now after ≡ spec.told_doing (lent look.now) job.now piece.now begun doing last.now) }
+    ensures wants { OnErr result (may_copy piece.now doing ≡ true) }
+{
     let next = match doing {
         Doing::Waits => return Ok(None),
         Doing::Runs => return told_begun(alloc, job, piece, begun, last),
@@ -352,7 +416,7 @@ pub(crate) fn told(
         Doing::ReplacingPart { agg, part, .. } => {
             return told_replaced(alloc, piece, agg, part, begun, last);
         }
-        Doing::DroppingPart { made, .. } => return told_parts_dropped(alloc, piece, made, begun),
+        Doing::DroppingPart { made, .. } => return told_part_dropped(alloc, piece, made, begun),
         Doing::Writes { agg } => return Ok(told_written(agg, len_of(look, agg), begun, last)),
         Doing::Cuts { agg, .. } => return Ok(told_cut(agg, begun, last)),
         Doing::Drops { .. } => return told_dropped(alloc, piece, begun),

@@ -1,9 +1,10 @@
 //! A process that runs scripts.
 ghost use Rattle.std.specs.Prelude.{◌≡◌, ◌<◌, Some, IfOk, OnErr, length};
 ghost use Rattle.iol_proc.specs.Prelude.{lent, IsQuiet};
-ghost use Rattle.flash_cgi.specs.TakingTurns.{FilesReply, MakesItsCall, StepsOn, TakesText, next_step};
+ghost use Rattle.flash_cgi.specs.Reached.{reached_by};
+ghost use Rattle.flash_cgi.specs.TakingTurns.{FilesReply, GoesOnBy, MakesItsCall, StepsOn, TakesText};
 ghost use Rattle.flash_cgi.specs.Wants as memory;
-ghost use Rattle.flash_cgi.specs.WorkerSteps.{bytes_at};
+ghost use Rattle.flash_cgi.specs.WorkerSteps.{bytes_at, step_with};
 ghost use Rattle.flash_cgi.specs.Works as account;
 
 use crate::calls::call_of;
@@ -58,7 +59,7 @@ impl Worker {
 
     // Makes the call of a phase, with what it has collected.
     fn make(&mut self, doing: Doing, begun: usize) -> Result<Turn, AllocError>
-        ensures { StepsOn self.old (Some (at_phase doing begun self.old.step.piece)) result self.new }
+        ensures { StepsOn self.old (Some (step_with doing begun self.old.step.piece)) result self.new }
     {
         let call = call_of(self.alloc, &self.job, &self.step.piece, begun, doing)?;
         self.step.doing = doing;
@@ -68,7 +69,7 @@ impl Worker {
 
     // Makes the call of a phase with this piece, which it has collected then.
     fn make_with(&mut self, doing: Doing, begun: usize, piece: Piece) -> Result<Turn, AllocError>
-        ensures { StepsOn self.old (Some (at_phase doing begun piece)) result self.new }
+        ensures { StepsOn self.old (Some (step_with doing begun piece)) result self.new }
     {
         let call = call_of(self.alloc, &self.job, &piece, begun, doing)?;
         self.step = Step {
