@@ -1,5 +1,5 @@
 -- A worker takes its job.
-use Rattle.std.proofs.Common.{◌≡◌, ◌≢◌, ℕ, ◌+◌, ◌==◌, List, [], ◌∷◌, ◌++◌, length, take, cond, ap, ◌∙◌, refl, sym, arith, Option, Some, true, false, Bool}
+use Rattle.std.proofs.Common.{◌≡◌, ◌≢◌, ℕ, ◌+◌, ◌==◌, List, [], ◌∷◌, ◌++◌, length, take, cond, ap, ◌∙◌, refl, sym, arith, Option, Some, None, true, false, Bool}
 use Rattle.std.specs.Prelude.{◌&&◌, ◌||◌}
 use Rattle.std.specs.List.{AllByRecursion, list_any, prefix_len}
 use Rattle.std.proofs.lemmas.List.{take_all, length-map}
@@ -13,12 +13,14 @@ use Rattle.iol_core.specs.declared.events.Call.TheVariants as call
 use Rattle.iol_core.specs.declared.events.Event.TheVariants as event
 use Rattle.iol_core.specs.declared.events.Reply.TheVariants as reply
 use Rattle.iol_proc.specs.declared.seat.Seat.{Seat}
-use Rattle.iol_laws.specs.Caller.{TakesFromPipe}
+use Rattle.iol_laws.specs.Caller.{TakesFromPipe, lent_at}
 use Rattle.iol_laws.specs.Frame.{EachStepLeavesTheRest, Leaves, is_end}
 use Rattle.flash_cgi.specs.JoinedLines.{gathered}
+use Rattle.flash_cgi.specs.Collecting.{nothing}
 use Rattle.flash_cgi.specs.Job.{job_of, task_of}
 use Rattle.flash_cgi.specs.Laws.{GatheringKeeps}
 use Rattle.flash_cgi.specs.Output.{Outcome, output}
+use Rattle.flash_cgi.specs.Pieces.{IsRest}
 use Rattle.flash_cgi.specs.JobStart.{HasJob, JobsAreTaken}
 use Rattle.flash_cgi.specs.Turns.{Awaits, IsFree}
 use Rattle.flash_cgi.specs.declared.worker.Worker.{Worker}
@@ -69,6 +71,10 @@ all_taken m n d j p fd a query script lines has takes =
         tail_is : (x y : ℕ × ℕ) (s u : Text) → x ∷ s ≡ y ∷ u → s ≡ u
         tail_is x y s u e = cc
 
+-- nothing is collected yet
+nothing_left : (lent : ℕ → Option (List ℕ)) → IsRest lent nothing
+nothing_left lent = record { piece = record { files = refl; within = tt; next = tt }; no_text = refl; no_places = refl }
+
 pub job_is_taken : EachStepLeavesTheRest → GatheringKeeps → JobsAreTaken
 job_is_taken steps keeps m n d j p fd a query script lines has step takes =
     let queue : Text = (pipe_at m j).queue in
@@ -83,6 +89,7 @@ job_is_taken steps keeps m n d j p fd a query script lines has step takes =
         live = leaves.lives d has.live refl;
         open_on = leaves.fds d fd (on.WriteEnd p) has.open_on (last_false ((d == d) && (0 == fd)) (is_file (descriptor m d 0)) (ap (λ (x : Option Descriptor). is_file x) has.jobs));
         needs = (bytes_of takes.text, takes.lends);
+        holds = (nothing_left (lent_at n d), (λ e. absurd (cc (e)), λ e. absurd (cc (e))));
         is = λ os. ap (λ (x : Pipe). bytes_of x.queue ++ output query lines os) (sym pipe)
             ∙ ap (λ (l : List ℕ). bytes_of (pipe_at n p).queue ++ l) (sym (keeps.output query lines os));
       };

@@ -240,6 +240,9 @@ module _ (steps : EachStepLeavesTheRest) (own : CallsServeTheirDomain) (files : 
       s : Step
       s = at_step (doing.Shuts file a) begun x
 
+      from : ℕ
+      from = length (bytes_of_one (lent_at n d) x.held)
+
       has : Lends (lent_at m d) a
       has = f.needs.1
 
@@ -268,7 +271,7 @@ module _ (steps : EachStepLeavesTheRest) (own : CallsServeTheirDomain) (files : 
           (and_false (d == d) (file == job.fd) (not-equal file job.fd (not_output m d file job.fd p f.needs.0 f.open_on))) (no_end m d file p f.needs.0)
           needs holds (λ os. same os ∙ was os))
 
-      small : (o : Option ℕ) → x.held ≡ o → ComesTo m d p job s unseen r n (file_collected (lent_at n d) x o a (length (bytes_at (lent_at n d) a)) begun)
+      small : (o : Option ℕ) → x.held ≡ o → ComesTo m d p job s unseen r n (file_collected x o from a (length (bytes_at (lent_at n d) a)) begun)
       small None is =
           on_to (at_step doing.Runs begun (with_file x a 0 (length (bytes_at (lent_at n d) a)))) tt
           (file_added (lent_at n d) x a 0 (length (bytes_at (lent_at n d) a)) gathers.piece.within gathers.none_next gathers.short (f.needs.1.0, now))
@@ -276,7 +279,7 @@ module _ (steps : EachStepLeavesTheRest) (own : CallsServeTheirDomain) (files : 
           (ap (λ (o : Option ℕ). bytes_of_one (lent_at n d) o) is) refl now
           ∙ ap (λ (l : List ℕ). collected (lent_at n d) x ++ (l ++ rest_of job begun os)) (sym (is_bytes n d a f.needs.1.0 now)))
       small (Some held) is =
-          on_to (at_step (doing.JoiningFile held a (length (bytes_at (lent_at n d) held)) (length (bytes_at (lent_at n d) a))) begun x) tt
+          on_to (at_step (doing.JoiningFile held a from (length (bytes_at (lent_at n d) a))) begun x) tt
           (record { gathers = gathers; held_is = is; lends = (f.needs.1.0, now); from_is = refl }) (λ os. refl)
 
       large : (t : Bool) → is_nothing x ≡ t → ComesTo m d p job s unseen r n (if t then Some (at_step (doing.Writes a) begun x) else Some (at_step doing.Runs begun (with_next x a)))
@@ -294,7 +297,7 @@ module _ (steps : EachStepLeavesTheRest) (own : CallsServeTheirDomain) (files : 
           ∙ ap (λ (o : Option ℕ). (woven x.text x.places (bytes_of_one (lent_at n d) x.held) ++ bytes_of_one (lent_at n d) o) ++ (bytes_at (lent_at n d) a ++ rest_of job begun os)) (sym gathers.none_next)))
 
       by_len : (t : Bool)
-          → ComesTo m d p job s unseen r n (if t then file_collected (lent_at n d) x x.held a (length (bytes_at (lent_at n d) a)) begun
+          → ComesTo m d p job s unseen r n (if t then file_collected x x.held from a (length (bytes_at (lent_at n d) a)) begun
           else (if is_nothing x then Some (at_step (doing.Writes a) begun x) else Some (at_step doing.Runs begun (with_next x a))))
       by_len true = small x.held refl
       by_len false = large (is_nothing x) refl
@@ -328,7 +331,7 @@ module _ (steps : EachStepLeavesTheRest) (own : CallsServeTheirDomain) (files : 
       by (reply.Agg b) step did = inl (goes m n d p job (at_step (doing.JoiningFile held a from len) begun x) (at_step doing.Runs begun (with_file x b from len)) unseen [] (call.AggJoin held a) (reply.Agg b) f step refl refl refl
           tt (file_added (lent_at n d) x b from len h.gathers.piece.within h.gathers.none_next h.gathers.short (there.0 ++ h.lends.0, did.0))
           (λ os. file_in (lent_at m d) (lent_at n d) x b from len there.0 h.lends.0 (rest_of job begun os) h.gathers.none_next h.gathers.short files_are
-          (h.from_is ∙ ap (λ (l : List ℕ). length l) (is_bytes m d held there.0 there.1)) did.0
+          (h.from_is ∙ ap (λ (l : List ℕ). length l) files_are) did.0
           ∙ ap (λ (l : List ℕ). collected (lent_at m d) x ++ (l ++ rest_of job begun os)) (sym (is_bytes m d a h.lends.0 h.lends.1))))
       by (reply.Refused y) step did = did
       by r step did = absurd did

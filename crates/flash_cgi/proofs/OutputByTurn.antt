@@ -135,7 +135,7 @@ module _ (feeds_on : FeedsOn) (taken : JobsAreTaken) (true_to : OutcomesAreTrue)
         filed : (x : Doing) (l : Reply) → w.step.doing ≡ x → Feeds m d p w.job (or_again (told w.job w.step (lent_at m d) l) w.step) unseen
             → files w x l (lent_at m d) t v → WentFrom m n d p v r unseen w.job (or_again (told w.job w.step (lent_at m d) l) w.step)
         filed doing.Waits (reply.Agg a) at g did =
-            let none : told w.job w.step (lent_at m d) (reply.Agg a) ≡ None = ap (λ (y : Doing). told_doing (lent_at m d) w.job w.step.begun y (reply.Agg a)) at in
+            let none : told w.job w.step (lent_at m d) (reply.Agg a) ≡ None = ap (λ (y : Doing). told_doing (lent_at m d) w.job w.step.piece w.step.begun y (reply.Agg a)) at in
             absurd (subst (λ (y : Doing). Needs m d y) (ap (λ (o : Option Step). (or_again o w.step).doing) none ∙ at) g.needs)
         filed x l at g did = on (told w.job w.step (lent_at m d) l) g did
 
@@ -179,7 +179,7 @@ module _ (feeds_on : FeedsOn) (taken : JobsAreTaken) (true_to : OutcomesAreTrue)
           bytes = b.bytes;
           lends = b.lends;
           is_job = b.is_job;
-          feeds = record { live = b.feeds.live; open_on = b.feeds.open_on; needs = b.feeds.needs; is = λ os. h.is os ∙ b.feeds.is os };
+          feeds = record { live = b.feeds.live; open_on = b.feeds.open_on; needs = b.feeds.needs; holds = b.feeds.holds; is = λ os. h.is os ∙ b.feeds.is os };
         }
 
         -- a worker that was refused a job is free
@@ -187,7 +187,7 @@ module _ (feeds_on : FeedsOn) (taken : JobsAreTaken) (true_to : OutcomesAreTrue)
         free_of x y asked at un is = record {
           not_over = ap (λ (s : Standing). is_over s) asked;
           waits = ap (λ (s : Standing). (filed_step s x (lent_at n d) r).doing) asked
-              ∙ (ap (λ (z : Doing). (or_again (told_doing (lent_at n d) x.job x.step.begun z r) x.step).doing) at ∙ at);
+              ∙ (ap (λ (z : Doing). (or_again (told_doing (lent_at n d) x.job x.step.piece x.step.begun z r) x.step).doing) at ∙ at);
           not_given = λ e. ap (λ (z : Doing). is_given z r) at ∙ (ap (λ (l : Reply). is_given doing.Waits l) is ∙ un);
         }
 
@@ -210,7 +210,7 @@ module _ (feeds_on : FeedsOn) (taken : JobsAreTaken) (true_to : OutcomesAreTrue)
 
         asks_now : (x : Worker) → t ≡ turn.Make (call_at x.job x.step) → v ≡ x → x.standing ≡ standing.Asked → x.step.doing ≡ doing.Waits → Went m n d p v r unseen (outcomes_in m d h.lines) (Unit {0})
         asks_now x is v_is asked at =
-            let make : t ≡ turn.Make (call.IolRead 0 65536) = is ∙ ap (λ (z : Doing). turn.Make (doing_call x.job x.step.begun z)) at in
+            let make : t ≡ turn.Make (call.IolRead 0 65536) = is ∙ ap (λ (z : Doing). turn.Make (doing_call x.job x.step.piece x.step.begun z)) at in
             let step = (subst (λ (u : Turn). ComesOf copying worker_turns m d u yields r n) make comes).1 in
             read x v_is asked at r refl step (own.read_pipe m n d 0 h.jobs 65536 r order h.has.jobs step)
 

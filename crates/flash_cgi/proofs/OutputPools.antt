@@ -347,7 +347,7 @@ nothing_lies pools n d x is = subst (λ (y : Doing). LiesIn pools n d y) (sym is
 given_at : (n : State) (d : ℕ) (w : Worker) (last : Reply) → w.standing ≡ standing.Asked → w.step.doing ≡ doing.Waits → (filed_step w.standing w (lent_at n d) last).doing ≡ doing.Waits
 given_at n d w last asked waits =
     ap (λ (s : Standing). (filed_step s w (lent_at n d) last).doing) asked
-    ∙ (ap (λ (x : Doing). (or_again (told_doing (lent_at n d) w.job w.step.begun x last) w.step).doing) waits ∙ waits)
+    ∙ (ap (λ (x : Doing). (or_again (told_doing (lent_at n d) w.job w.step.piece w.step.begun x last) w.step).doing) waits ∙ waits)
 
 no_exit : (e : Event) (d : ℕ) → is_call_of e d ≡ false → sets_default e d ≡ false
 no_exit (event.Call by call.Exit) d other = other

@@ -1,6 +1,6 @@
 -- What holds of what a worker has collected, where its domain lends bytes under numbers.
 use Rattle.std.specs.Prelude.{◌≡◌, ◌≢◌, ℕ, ◌≤◌, List, [], ◌∷◌, ◌++◌, length, take, drop, Option, Some, None}
-use Rattle.flash_cgi.specs.Collecting.{Collected, but_last, last_place, without_last}
+use Rattle.flash_cgi.specs.Collecting.{Collected, but_last, bytes_of_one, without_last}
 use Rattle.flash_cgi.specs.declared.phase.Doing.{Doing}
 use Rattle.flash_cgi.specs.declared.phase.Doing.TheVariants as doing
 use Rattle.flash_cgi.specs.declared.piece.Place.{Place}
@@ -51,7 +51,7 @@ pub record Joins (lent : ℕ → Option (List ℕ)) (x : Collected) (held agg fr
   pub gathers : Gathers lent x
   pub held_is : x.held ≡ Some held
   pub lends : Lends lent agg
-  pub from_is : from ≡ length (bytes_at lent held)
+  pub from_is : from ≡ length (bytes_of_one lent x.held)
 
 -- this text is made of it, and the bytes of the last place are to be set into it
 pub record Cuts (lent : ℕ → Option (List ℕ)) (x : Collected) (held agg from : ℕ) : Type 0 where

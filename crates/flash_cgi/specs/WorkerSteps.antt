@@ -10,7 +10,7 @@ use Rattle.iol_core.specs.declared.events.Call.{Call}
 use Rattle.iol_core.specs.declared.events.Call.TheVariants as call
 use Rattle.iol_core.specs.declared.events.Reply.{Reply}
 use Rattle.iol_core.specs.declared.events.Reply.TheVariants as reply
-use Rattle.flash_cgi.specs.Collecting.{Collected, is_due, is_nothing, last_place, with_file, with_held, with_line, with_next, with_text, without_files, without_last, without_next, without_text}
+use Rattle.flash_cgi.specs.Collecting.{Collected, bytes_of_one, is_due, is_nothing, last_place, with_file, with_held, with_line, with_next, with_text, without_files, without_last, without_next, without_text}
 use Rattle.flash_cgi.specs.Job.{Task}
 pub use Rattle.flash_cgi.specs.Script.{is_line_feed}
 use Rattle.flash_cgi.specs.declared.line.Line.{Line}
@@ -179,6 +179,17 @@ abbrev pub told_broken : Task → Collected → Option ℕ → (begun : ℕ) →
 told_broken job x (Some agg) begun = at (doing.Breaks agg) begun (without_next x)
 told_broken job x None begun = at doing.Runs (length job.lines) x
 
+-- a file of so many bytes is closed, behind so many that are held: its bytes are collected
+abbrev pub file_collected : Collected → Option ℕ → (from agg len begun : ℕ) → Option Step
+file_collected x None from agg len begun = at doing.Runs begun (with_file x agg 0 len)
+file_collected x (Some held) from agg len begun = at (doing.JoiningFile held agg from len) begun x
+
+-- or it is too long, and is written by itself
+abbrev pub shut_by : Collected → (from agg len begun : ℕ) → Option Step
+shut_by x from agg len begun =
+    if nat_le len MAX_COLLECTED_BYTES then file_collected x x.held from agg len begun
+    else (if is_nothing x then at (doing.Writes agg) begun x else at doing.Runs begun (with_next x agg))
+
 module _ (lent : ℕ → Option (List ℕ)) where
   -- bytes were read
   abbrev pub got : (file agg : ℕ) → Purpose → Doing
@@ -190,17 +201,9 @@ module _ (lent : ℕ → Option (List ℕ)) where
   told_read x file p begun (reply.Refused why) = at (doing.ShutsToSay file (said.Refused why)) begun x
   told_read x file p begun r = None
 
-  -- a file of so many bytes is closed: its bytes are collected
-  abbrev pub file_collected : Collected → Option ℕ → (agg len begun : ℕ) → Option Step
-  file_collected x None agg len begun = at doing.Runs begun (with_file x agg 0 len)
-  file_collected x (Some held) agg len begun = at (doing.JoiningFile held agg (length (bytes_at lent held)) len) begun x
-
-  -- or it is too long, and is written by itself
+  -- a file is closed
   abbrev pub told_shut : Collected → (agg begun : ℕ) → Option Step
-  told_shut x agg begun =
-      if nat_le (length (bytes_at lent agg)) MAX_COLLECTED_BYTES
-      then file_collected x x.held agg (length (bytes_at lent agg)) begun
-      else (if is_nothing x then at (doing.Writes agg) begun x else at doing.Runs begun (with_next x agg))
+  told_shut x agg begun = shut_by x (length (bytes_of_one lent x.held)) agg (length (bytes_at lent agg)) begun
 
   abbrev pub told_doing : Task → Collected → (begun : ℕ) → Doing → Reply → Option Step
   told_doing job x begun doing.Waits r = None

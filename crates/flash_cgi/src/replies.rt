@@ -1,7 +1,7 @@
 //! What a worker is at after the reply to its call.
-ghost use Rattle.std.specs.Prelude.{◌≡◌, IfOk, OnErr, Some, None, is_some, true};
+ghost use Rattle.std.specs.Prelude.{◌≡◌, IfOk, OnErr, Some, None, is_some, length, true};
 ghost use Rattle.iol_proc.specs.Prelude.{lent};
-ghost use Rattle.flash_cgi.specs.Collecting.{with_line};
+ghost use Rattle.flash_cgi.specs.Collecting.{bytes_of_one, with_line};
 ghost use Rattle.flash_cgi.specs.Reached.{after_of, cut_after, reached, read_after, written_after};
 ghost use Rattle.flash_cgi.specs.Wants.{may_copy};
 ghost use Rattle.flash_cgi.specs.WorkerSteps as spec;
@@ -208,23 +208,24 @@ fn told_read(
     }
 }
 
-// The file is closed whose bytes it has, so many: they are collected.
+// The file is closed whose bytes it has, so many: they are collected, behind those that are held, so many.
 fn collects_file(
     alloc: Global,
     piece: &Piece,
+    from: u32,
     agg: AggId,
     len: u32,
     begun: usize,
-    look: &Look<'_>,
 ) -> Told
-    ensures { IfOk result (λ after. reached piece.now after ≡ spec.file_collected (lent look.now) piece.now piece.now.held agg len begun) }
+    ensures { IfOk result
+        (λ after. reached piece.now after ≡ spec.file_collected piece.now piece.now.held from agg len begun) }
 {
     match piece.held {
         Some(held) => Ok(at(
             Doing::JoiningFile {
                 held,
                 agg,
-                from: len_of(look, held),
+                from,
                 len,
             },
             begun,
@@ -236,13 +237,23 @@ fn collects_file(
     }
 }
 
+// How many bytes are held.
+fn held_bytes(piece: &Piece, look: &Look<'_>) -> u32
+    ensures { result ≡ length (bytes_of_one (lent look.now) piece.now.held) }
+{
+    match piece.held {
+        Some(held) => len_of(look, held),
+        None => 0,
+    }
+}
+
 // The file is closed: its bytes are collected, or are written by themselves, behind what is collected.
 fn told_shut(alloc: Global, piece: &Piece, agg: AggId, begun: usize, look: &Look<'_>) -> Told
     ensures { IfOk result (λ after. reached piece.now after ≡ spec.told_shut (lent look.now) piece.now agg begun) }
 {
     let len = len_of(look, agg);
     if len as usize <= MAX_COLLECTED_BYTES {
-        return collects_file(alloc, piece, agg, len, begun, look);
+        return collects_file(alloc, piece, held_bytes(piece, look), agg, len, begun);
     }
     if piece.is_nothing() {
         return Ok(at(Doing::Writes { agg }, begun));
