@@ -366,27 +366,36 @@ module _ (steps : EachStepLeavesTheRest) (own : CallsServeTheirDomain) (files : 
 
       by : (h : Option ℕ) (ps : List Place) → x.held ≡ h → x.places ≡ ps → Ready n d job begun text x (weave_by h (last_place ps) begun x a)
       by None ps is places =
-          let none : x.places ≡ [] = subst (λ (o : Option ℕ). LendsFiles (lent_at n d) o x.places) is piece.files in
-          (lends, (record { piece = record { files = piece.files; within = subst (λ (l : List Place). AreWithin (length x.text) l) (sym none) tt; next = piece.next }; no_text = no_text; no_places = none }, apart),
-          λ os. ap (λ (l : List ℕ). text ++ (l ++ rest_of job begun os)) (rest_text (lent_at n d) x no_text none) ∙ all none os)
+          let none : x.places ≡ [] = subst (λ (o : Option ℕ). LendsFiles (lent_at n d) o x.places) is piece.files in (
+            lends,
+            (record { piece = record { files = piece.files; within = subst (λ (l : List Place). AreWithin (length x.text) l) (sym none) tt; next = piece.next }; no_text = no_text; no_places = none }, apart),
+            λ os. ap (λ (l : List ℕ). text ++ (l ++ rest_of job begun os)) (rest_text (lent_at n d) x no_text none) ∙ all none os,
+          )
       by (Some held) [] is none =
           let left : Collected = without_files x in
-          let next_is = subst (λ (o : Option ℕ). LendsNext (lent_at n d) o x.next) is piece.next in
-          ((lends, λ same. apart.0 (is ∙ ap (λ k. Some k) same)),
-          (record { piece = record { files = refl; within = tt; next = no_next x.held x.next piece.next }; no_text = no_text; no_places = refl },
-          (λ e. absurd (cc (e)), apart_next held a x.next next_is), (λ e. absurd (cc (e)), apart.1)),
-          λ os. ap (λ (l : List ℕ). text ++ (l ++ rest_of job begun os)) (rest_text (lent_at n d) left no_text refl) ∙ all none os)
-      by (Some held) (place ∷ ps) is places =
-          (tt, record {
-            place = place;
-            lends = lends;
-            piece = piece;
-            no_text = no_text;
-            held_is = is;
-            places_are = places ∙ ap (λ (l : List Place). place ∷ but_last l) (sym places);
-            from_is = refl;
-            apart = apart;
-          }, λ os. refl)
+          let next_is = subst (λ (o : Option ℕ). LendsNext (lent_at n d) o x.next) is piece.next in (
+            (lends, λ same. apart.0 (is ∙ ap (λ k. Some k) same)),
+            (
+              record { piece = record { files = refl; within = tt; next = no_next x.held x.next piece.next }; no_text = no_text; no_places = refl },
+              (λ e. absurd (cc (e)), apart_next held a x.next next_is),
+              (λ e. absurd (cc (e)), apart.1),
+            ),
+            λ os. ap (λ (l : List ℕ). text ++ (l ++ rest_of job begun os)) (rest_text (lent_at n d) left no_text refl) ∙ all none os,
+          )
+      by (Some held) (place ∷ ps) is places = (
+        tt,
+        record {
+          place = place;
+          lends = lends;
+          piece = piece;
+          no_text = no_text;
+          held_is = is;
+          places_are = places ∙ ap (λ (l : List Place). place ∷ but_last l) (sym places);
+          from_is = refl;
+          apart = apart;
+        },
+        λ os. refl,
+      )
 
   makes : (m n : State) (d p : ℕ) (job : Task) (begun : ℕ) (x : Collected) (r : Reply) (unseen : List Outcome → List ℕ) → IsOrderly m → (f : Feeds m d p job (at_step doing.Runs begun x) unseen) → settled job (at_step doing.Runs begun x) (lent_at n d) r ≡ []
       → StepsTo m (event.Call d (call.AggMake x.text)) r n → ComesTo m d p job (at_step doing.Runs begun x) unseen r n (told_made x begun r)
@@ -568,10 +577,12 @@ module _ (steps : EachStepLeavesTheRest) (own : CallsServeTheirDomain) (files : 
   made_still m n d job begun a part b x r step h apart differ =
       let stays = after_drop m n d a r x step apart in
       let now = beside_drop m n d a b r step differ h.lends in
-      let same = same_bytes m n d b h.lends.0 h.lends.1 now.1 in
-      (now, subst (λ (l : List ℕ). HasPiece (lent_at n d) (length l) x) (sym same) (piece_kept (lent_at m d) (lent_at n d) (length (bytes_at (lent_at m d) b)) x stays h.piece),
-      λ os. ap (λ (l : List ℕ). l ++ rest_of job begun os)
-      (ap (λ (l : List ℕ). collected_in (lent_at n d) l x) same ∙ text_kept (lent_at m d) (lent_at n d) (length (bytes_at (lent_at m d) b)) (bytes_at (lent_at m d) b) x stays h.piece))
+      let same = same_bytes m n d b h.lends.0 h.lends.1 now.1 in (
+        now,
+        subst (λ (l : List ℕ). HasPiece (lent_at n d) (length l) x) (sym same) (piece_kept (lent_at m d) (lent_at n d) (length (bytes_at (lent_at m d) b)) x stays h.piece),
+        λ os. ap (λ (l : List ℕ). l ++ rest_of job begun os)
+            (ap (λ (l : List ℕ). collected_in (lent_at n d) l x) same ∙ text_kept (lent_at m d) (lent_at n d) (length (bytes_at (lent_at m d) b)) (bytes_at (lent_at m d) b) x stays h.piece),
+      )
 
   drops_text : (m n : State) (d p : ℕ) (job : Task) (begun a part b : ℕ) (x : Collected) (r : Reply) (unseen : List Outcome → List ℕ) → Feeds m d p job (at_step (doing.DroppingText a part b) begun x) unseen
       → StepsTo m (event.Call d (call.AggDrop a)) r n → Comes m d p job (at_step (doing.DroppingText a part b) begun x) unseen r n

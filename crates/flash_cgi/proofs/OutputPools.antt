@@ -130,8 +130,10 @@ module _ (labels : LabelsFollow) (steps : EachStepLeavesTheRest) (files : FileCa
       same_file f at mode g e = cc
 
   after_opened : (x : Collected) (u : Purpose) (name : List ℕ) (begun : ℕ) (r : Reply) → PieceLies pools m d x → StepsTo m (event.Call d (call.OpenFile name Read)) r n → LiesAfter (told_opened x u begun r) x doing.Runs
-  after_opened x u name begun (reply.Fd fd) lies step = (piece_kept (call.OpenFile name Read) (reply.Fd fd) x refl step lies,
-      opened_file name fd (files.opens m n d name Read (reply.Fd fd) live step) ((steps.leaves m n (event.Call d (call.OpenFile name Read)) (reply.Fd fd) step).files refl).0)
+  after_opened x u name begun (reply.Fd fd) lies step = (
+    piece_kept (call.OpenFile name Read) (reply.Fd fd) x refl step lies,
+    opened_file name fd (files.opens m n d name Read (reply.Fd fd) live step) ((steps.leaves m n (event.Call d (call.OpenFile name Read)) (reply.Fd fd) step).files refl).0,
+  )
   after_opened x u name begun (reply.Refused y) lies step = (piece_kept (call.OpenFile name Read) (reply.Refused y) x refl step lies, tt)
   after_opened x u name begun r lies step = (piece_kept (call.OpenFile name Read) r x refl step lies, tt)
 
@@ -188,9 +190,10 @@ module _ (labels : LabelsFollow) (steps : EachStepLeavesTheRest) (files : FileCa
 
   after_parted : (x : Collected) (held a from begun : ℕ) (r : Reply) → PieceLies pools m d x → Lie (text m d held) → Lie (text m d a) → StepsTo m (event.Call d (call.AggSplit held from)) r n
       → LiesAfter (told_parted x a begun r) x (doing.CuttingPart held a from)
-  after_parted x held a from begun (reply.Aggs b c) lies one two step =
-      ((new (call.AggSplit held from) (reply.Aggs b c) b one step (brought_front b c), one_kept (call.AggSplit held from) (reply.Aggs b c) x.next one step lies.1),
-      (kept (call.AggSplit held from) (reply.Aggs b c) a one step two, new (call.AggSplit held from) (reply.Aggs b c) c one step (brought_back b c)))
+  after_parted x held a from begun (reply.Aggs b c) lies one two step = (
+    (new (call.AggSplit held from) (reply.Aggs b c) b one step (brought_front b c), one_kept (call.AggSplit held from) (reply.Aggs b c) x.next one step lies.1),
+    (kept (call.AggSplit held from) (reply.Aggs b c) a one step two, new (call.AggSplit held from) (reply.Aggs b c) c one step (brought_back b c)),
+  )
   after_parted x held a from begun r lies one two step =
       (piece_kept (call.AggSplit held from) r x one step lies, (kept (call.AggSplit held from) r held one step one, kept (call.AggSplit held from) r a one step two))
 

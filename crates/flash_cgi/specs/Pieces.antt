@@ -1,5 +1,5 @@
 -- What holds of what a worker has collected, where its domain lends bytes under numbers.
-use Rattle.std.specs.Prelude.{◌≡◌, ◌≢◌, ℕ, ◌≤◌, List, [], ◌∷◌, ◌++◌, length, take, drop, Option, Some, None}
+use Rattle.std.specs.Prelude.{◌≡◌, ◌≢◌, ℕ, ◌≤◌, List, [], ◌∷◌, length, drop, Option, Some, None}
 use Rattle.flash_cgi.specs.Collecting.{Collected, but_last, bytes_of_one, without_last}
 use Rattle.flash_cgi.specs.declared.phase.Doing.{Doing}
 use Rattle.flash_cgi.specs.declared.phase.Doing.TheVariants as doing

@@ -21,8 +21,9 @@ pub struct Place {
     pub from: u32,
 }
 
-/// What is collected. `held` is the aggregate of the bytes of all collected files, one behind the other, of which the last place tells
-/// where the last file's stand; `files` is how many bytes these are. `next` is a file that is too long, and comes behind all of it.
+/// What is collected. `held` is the aggregate of the bytes of all collected files, one behind the other, and `files` is how many
+/// these are. `places` tells where each file's bytes stand, those of the last file first. `next` is a file that is too long, and
+/// comes behind all of it.
 #[derive(Debug, Drop)]
 pub struct Piece {
     pub(crate) text: Vec<u8>,
@@ -33,20 +34,17 @@ pub struct Piece {
 }
 
 impl Model for Piece {
-    ghost use Rattle.std.specs.Prelude.{reverse};
     ghost use Rattle.flash_cgi.specs.Collecting.{Collected};
 
     ghost Value = { Collected };
 
-    ghost view = {
-        λ p. record {
-            text = p.text.items;
-            held = p.held;
-            files = p.files;
-            places = reverse p.places.items;
-            next = p.next;
-        }
-    };
+    ghost view = { λ p. record {
+      text = p.text.items;
+      held = p.held;
+      files = p.files;
+      places = p.places.items;
+      next = p.next;
+    } };
 }
 
 // The place behind a text of so many bytes, which has room for a file.
@@ -57,6 +55,16 @@ fn place_behind(len: usize) -> u32
         len as u32
     } else {
         MAX_COLLECTED_BYTES as u32
+    }
+}
+
+// All places but the last, which comes first.
+fn but_last(alloc: Global, places: &[Place]) -> Result<Vec<Place>, AllocError>
+    ensures { IfOk result (λ left. left.items ≡ spec.but_last places.now) }
+{
+    match places.split_first() {
+        Some((_, left)) => Vec::from_slice(alloc, left),
+        None => Ok(Vec::new(alloc)),
     }
 }
 
@@ -97,7 +105,10 @@ impl Piece {
     pub(crate) fn last(&self) -> Option<Place>
         ensures { result ≡ spec.last_place self.now.places }
     {
-        self.places.last().copied()
+        match self.places.first() {
+            Some(place) => Some(*place),
+            None => None,
+        }
     }
 
     /// A copy. A turn that finds no memory leaves the worker as it was, so what is added is added to a copy.
@@ -145,8 +156,9 @@ impl Piece {
         ensures { IfOk result (λ piece. piece ≡ spec.with_file self.now held from len) }
     {
         let at = place_behind(self.text.len());
-        let mut places = Vec::from_slice(alloc, self.places.as_slice())?;
+        let mut places = Vec::new(alloc);
         places.push(Place { at, from })?;
+        places.extend_from_slice(self.places.as_slice())?;
         let text = Vec::from_slice(alloc, self.text.as_slice())?;
         Ok(Piece {
             text,
@@ -203,8 +215,7 @@ impl Piece {
         ensures { IfOk result (λ piece. piece ≡ spec.without_last self.now) }
     {
         let text = Vec::from_slice(alloc, self.text.as_slice())?;
-        let mut places = Vec::from_slice(alloc, self.places.as_slice())?;
-        places.pop();
+        let places = but_last(alloc, self.places.as_slice())?;
         Ok(Piece {
             text,
             held: self.held,

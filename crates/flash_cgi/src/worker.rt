@@ -94,7 +94,15 @@ impl Worker {
         ensures { GoesOnBy self.old last.now (lent look.now) result self.new }
     {
         let step = &self.step;
-        match told(self.alloc, &self.job, &step.piece, step.begun, step.doing, last, look)? {
+        match told(
+            self.alloc,
+            &self.job,
+            &step.piece,
+            step.begun,
+            step.doing,
+            last,
+            look,
+        )? {
             Some(after) => self.advance(after),
             None => {
                 self.standing = Standing::Asks;
