@@ -42,7 +42,7 @@ use Rattle.flash_cgi.specs.declared.phase.Step.{Step}
 use Rattle.flash_cgi.specs.declared.piece.Place.{Place}
 use Rattle.flash_cgi.specs.declared.worker.Worker.{Worker}
 use Rattle.flash_cgi.proofs.Interleaving.{LendsStill, gathers_still, piece_kept, text_kept}
-use Rattle.flash_cgi.proofs.OutputByCall.{bytes-append}
+use Rattle.flash_cgi.proofs.StaysByCall.{bytes-append}
 use Rattle.flash_cgi.proofs.JobStart.{awaits_still}
 use Rattle.flash_cgi.proofs.Truly.{content-same, same_outcome, same_outcomes}
 

@@ -59,7 +59,7 @@ use Rattle.flash_cgi.specs.declared.worker.Worker.{Worker}
 use Rattle.flash_cgi.proofs.Beside.{filed_stays, free_still, no_gift, others_leave}
 use Rattle.flash_cgi.proofs.Frame.{makes_call, run_is_not_given}
 use Rattle.flash_cgi.proofs.Due.{writing}
-use Rattle.flash_cgi.proofs.OutputByCall.{at_step}
+use Rattle.flash_cgi.proofs.StaysByCall.{at_step}
 use Rattle.flash_cgi.proofs.OutputByTurn.{has_life, lent-live, seat_at, text_taken}
 
 file-same : (m n : State) (f : ℕ) → n.files ≡ m.files → file n f ≡ file m f

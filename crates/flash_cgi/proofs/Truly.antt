@@ -37,7 +37,7 @@ use Rattle.flash_cgi.specs.declared.phase.Doing.{Doing}
 use Rattle.flash_cgi.specs.declared.phase.Doing.TheVariants as doing
 use Rattle.flash_cgi.specs.declared.phase.Step.{Step}
 use Rattle.flash_cgi.specs.declared.piece.Place.{Place}
-use Rattle.flash_cgi.proofs.OutputByCall.{rest-cons, rest-nil, at_step, file-same}
+use Rattle.flash_cgi.proofs.StaysByCall.{rest-cons, rest-nil, at_step, file-same}
 
 pub content-same : (m n : State) (k : ℕ) → n.slots ≡ m.slots → content n k ≡ content m k
 unfolding content

@@ -29,7 +29,7 @@ use Rattle.flash_cgi.specs.declared.phase.Doing.TheVariants as doing
 use Rattle.flash_cgi.specs.declared.phase.Step.{Step}
 use Rattle.flash_cgi.specs.declared.piece.Place.{Place}
 use Rattle.flash_cgi.proofs.Interleaving.{nothing_is}
-use Rattle.flash_cgi.proofs.OutputByCall.{at_step}
+use Rattle.flash_cgi.proofs.StaysByCall.{at_step}
 use Rattle.flash_cgi.proofs.NotOpen.{free_make, free_cut, free_drop, free_join, free_replace, free_set_pool, free_split, free_read, free_write, free_close, free_open}
 
 either_false : (a b : Bool) → a ≡ false → b ≡ false → (a || b) ≡ false

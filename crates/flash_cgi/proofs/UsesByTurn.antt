@@ -31,7 +31,7 @@ use Rattle.flash_cgi.specs.declared.phase.Standing.{Standing}
 use Rattle.flash_cgi.specs.declared.phase.Standing.TheVariants as standing
 use Rattle.flash_cgi.specs.declared.phase.Step.{Step}
 use Rattle.flash_cgi.specs.declared.worker.Worker.{Worker}
-use Rattle.flash_cgi.proofs.OutputByCall.{at_step}
+use Rattle.flash_cgi.proofs.StaysByCall.{at_step}
 use Rattle.flash_cgi.proofs.UsesByCall.{both_false, same_number, call_keeps, absent, drops}
 use Rattle.flash_cgi.proofs.OutputByTurn.{seat_at, lent-live}
 use Rattle.flash_cgi.proofs.NotOpen.{free_read}

@@ -86,11 +86,12 @@ pub(crate) fn call_of(
     job: &Job,
     piece: &Piece,
     begun: usize,
-    doing: Doing,
+    doing: &Doing,
 ) -> Result<Call, AllocError>
-    ensures call { IfOk result (λ call. call ≡ spec.doing_call job.now piece.now begun doing) }
-    ensures wants { OnErr result (doing_has_bytes job.now piece.now begun doing ≡ true) }
+    ensures call { IfOk result (λ call. call ≡ spec.doing_call job.now piece.now begun doing.now) }
+    ensures wants { OnErr result (doing_has_bytes job.now piece.now begun doing.now ≡ true) }
 {
+    let doing = *doing;
     match doing {
         Doing::Waits => Ok(Call::IolRead {
             fd: Fd::new(JOBS),

@@ -52,7 +52,7 @@ impl Worker {
         ensures { MakesItsCall self.old result self.new }
     {
         let step = &self.step;
-        let call = call_of(self.alloc, &self.job, &step.piece, step.begun, step.doing)?;
+        let call = call_of(self.alloc, &self.job, &step.piece, step.begun, &step.doing)?;
         self.standing = Standing::Asked;
         Ok(Turn::Make(call))
     }
@@ -61,7 +61,7 @@ impl Worker {
     fn make(&mut self, doing: Doing, begun: usize) -> Result<Turn, AllocError>
         ensures { StepsOn self.old (Some (step_with doing begun self.old.step.piece)) result self.new }
     {
-        let call = call_of(self.alloc, &self.job, &self.step.piece, begun, doing)?;
+        let call = call_of(self.alloc, &self.job, &self.step.piece, begun, &doing)?;
         self.step.doing = doing;
         self.step.begun = begun;
         Ok(Turn::Make(call))
@@ -71,7 +71,7 @@ impl Worker {
     fn make_with(&mut self, doing: Doing, begun: usize, piece: Piece) -> Result<Turn, AllocError>
         ensures { StepsOn self.old (Some (step_with doing begun piece)) result self.new }
     {
-        let call = call_of(self.alloc, &self.job, &piece, begun, doing)?;
+        let call = call_of(self.alloc, &self.job, &piece, begun, &doing)?;
         self.step = Step {
             doing,
             begun,
@@ -83,9 +83,14 @@ impl Worker {
     fn advance(&mut self, after: After) -> Result<Turn, AllocError>
         ensures { StepsOn self.old (Some (reached_by self.old.step.piece after)) result self.new }
     {
-        match after.piece {
-            Some(piece) => self.make_with(after.doing, after.begun, piece),
-            None => self.make(after.doing, after.begun),
+        let After {
+            doing,
+            begun,
+            piece,
+        } = after;
+        match piece {
+            Some(piece) => self.make_with(doing, begun, piece),
+            None => self.make(doing, begun),
         }
     }
 
