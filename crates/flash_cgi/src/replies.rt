@@ -401,7 +401,6 @@ fn told_broken(alloc: Global, job: &Job, piece: &Piece, begun: usize) -> Told
 }
 
 /// What it is at after the reply; none where the call is to be made again.
-#[tactic(auto, using(crate::proofs::Reaches::read_reached, crate::proofs::Reaches::written_reached, crate::proofs::Reaches::cut_reached))]
 pub(crate) fn told(
     alloc: Global,
     job: &Job,
