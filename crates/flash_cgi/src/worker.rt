@@ -71,15 +71,17 @@ impl Worker {
     fn make_with(&mut self, doing: Doing, begun: usize, piece: Piece) -> Result<Turn, AllocError>
         ensures { StepsOn self.old (Some (step_with doing begun piece)) result self.new }
     {
-        let call = call_of(self.alloc, &self.job, &piece, begun, &doing)?;
-        self.step = Step {
+        let step = Step {
             doing,
             begun,
             piece,
         };
+        let call = call_of(self.alloc, &self.job, &step.piece, step.begun, &step.doing)?;
+        self.step = step;
         Ok(Turn::Make(call))
     }
 
+    // Makes the call of what it is at after a reply.
     fn advance(&mut self, after: After) -> Result<Turn, AllocError>
         ensures { StepsOn self.old (Some (reached_by self.old.step.piece after)) result self.new }
     {
