@@ -18,9 +18,7 @@ use Rattle.iol_proc.specs.World.{copying}
 use Rattle.iol_proc.specs.declared.process.Turn.{Turn}
 use Rattle.iol_proc.specs.declared.process.Turn.TheVariants as turn
 use Rattle.iol_proc.specs.declared.seat.Seat.{Seat}
-use Rattle.flash_cgi.specs.JoinedLines.{gathered}
 use Rattle.flash_cgi.specs.Job.{Task, job_of}
-use Rattle.flash_cgi.specs.Laws.{GatheringKeeps}
 use Rattle.flash_cgi.specs.Output.{Outcome, output}
 use Rattle.flash_cgi.specs.WorkerSteps.{call_at, doing_call, told, told_doing, bytes_at}
 use Rattle.flash_cgi.specs.Works.{works, works_as, files, goes_on, takes, with_job, with_text, worker_turns}
@@ -60,7 +58,7 @@ given_none m d x r h = refl
 abbrev pub seat_at : ℕ → Worker → Reply → Seat Worker
 seat_at d v r = record { by = d; process = v; last = r }
 
-module _ (feeds_on : FeedsOn) (taken : JobsAreTaken) (true_to : OutcomesAreTrue) (keeps : GatheringKeeps) (own : CallsServeTheirDomain) (steps : EachStepLeavesTheRest) where
+module _ (feeds_on : FeedsOn) (taken : JobsAreTaken) (true_to : OutcomesAreTrue) (own : CallsServeTheirDomain) (steps : EachStepLeavesTheRest) where
   abbrev Went : (m n : State) → (d p : ℕ) → Worker → Reply → (List Outcome → List ℕ) → List Outcome → Type 0 → Type 0
   Went m n d p v r unseen due Reads = GoesOn m n p (seat_at d v r) r unseen due Reads ⊎ IsOver m n d p (seat_at d v r) unseen r ⊎ ((pipe_at n p).reading ≡ false)
 
@@ -162,7 +160,7 @@ module _ (feeds_on : FeedsOn) (taken : JobsAreTaken) (true_to : OutcomesAreTrue)
     awaits w last unseen h did = by w.standing refl h.free.not_over h.free.waits h.free.not_given did
       where
         job : Task
-        job = record { fd = h.fd; query = h.query; lines = gathered h.query h.lines }
+        job = record { fd = h.fd; query = h.query; lines = h.lines }
 
         -- it awaits it still, where nothing happened
         still : (x : Worker) → v ≡ x → IsFree n (seat_at d x r) → n ≡ m → Went m n d p v r unseen (outcomes_in m d h.lines) (Unit {0})
@@ -203,7 +201,7 @@ module _ (feeds_on : FeedsOn) (taken : JobsAreTaken) (true_to : OutcomesAreTrue)
             last = is;
             begins = begun a (taken m n d h.jobs p h.fd a h.query h.script h.lines h.has step takes);
           }));
-          truly = λ placed good smooth reads. (sym (keeps.outcomes m d h.query h.lines) ∙ plain steps m n d job (call.IolRead 0 65536) (reply.Agg a) step good refl (λ q. refl) 0, tt);
+          truly = λ placed good smooth reads. (plain steps m n d job (call.IolRead 0 65536) (reply.Agg a) step good refl (λ q. refl) 0, tt);
         }))
         read x v_is asked at (reply.Refused y) is step same = still x v_is (free_of x (reply.Refused y) asked at refl is) same
         read x v_is asked at l is step did = absurd did

@@ -5,7 +5,6 @@ pub mod PipeEnd
 pub mod Feeds
 pub mod Free
 pub mod Full
-pub mod JoinedLines
 pub mod Uses
 pub mod Job
 pub mod Laws
