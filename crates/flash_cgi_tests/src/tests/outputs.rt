@@ -99,16 +99,19 @@ fn many_texts(alloc: Global) -> Result<bool, Refusal> {
     })
 }
 
-// Lines, so many times, and what they put out each time. The worker's pool has 16 pages.
-const PIECES: [(&[u8], usize, &[u8]); 3] = [
-    (b"wc f\n", 1024, b"1 3\n"),
-    (b"cat f\nwc f\n", 1000, b"a\nb1 3\n"),
-    (b"cat none\nquery\n", 1000, b"[NoFile]\nq\n"),
+// Lines, and what they put out: a hundred times each they are many more pieces than the worker's pool has pages.
+const PIECES: [(&[u8], &[u8]); 3] = [
+    (b"wc f\n", b"1 3\n"),
+    (
+        b"cat f\nemit xxxxxxxxxxxxxxxxxxxxxxxxxxxxxxxxxxxxxxxxxxxxxxxxxxxxxxxxxxxx\n",
+        b"a\nbxxxxxxxxxxxxxxxxxxxxxxxxxxxxxxxxxxxxxxxxxxxxxxxxxxxxxxxxxxxx\n",
+    ),
+    (b"cat none\nquery\n", b"[NoFile]\nq\n"),
 ];
 
-fn small_pieces(alloc: Global, lines: &[u8], times: usize, output: &[u8]) -> Result<bool, Refusal> {
-    let script = repeated(alloc, lines, times)?;
-    let wanted = repeated(alloc, output, times)?;
+fn small_pieces(alloc: Global, lines: &[u8], output: &[u8]) -> Result<bool, Refusal> {
+    let script = repeated(alloc, lines, 100)?;
+    let wanted = repeated(alloc, output, 100)?;
     let job = job_text(alloc, Fd::new(OUTPUT), b"q", &script)?;
     lend(stage_of(alloc, &FILES), |stage| {
         give(stage, job) && is_put_out(stage, &wanted) && !stage.is_rough()
@@ -118,9 +121,10 @@ fn small_pieces(alloc: Global, lines: &[u8], times: usize, output: &[u8]) -> Res
 #[test]
 fn small_pieces_share_pages(rt: HostRuntime) -> Result<(), Fail> {
     let alloc = rt.alloc();
-    pass_each(&PIECES, |(lines, times, output)| {
-        small_pieces(alloc, lines, *times, output)
-    })
+    pass_each(
+        &PIECES,
+        |(lines, output)| small_pieces(alloc, lines, output),
+    )
 }
 
 #[test]
