@@ -1,5 +1,5 @@
 -- Which errors a head may be refused with, and what stays short from one phase to the next.
-use Rattle.std.proofs.Common.{◌≡◌, ℕ, ◌+◌, ◌||◌, ◌≤◌, List, [], ◌∷◌, ap, refl, sym, subst, arith, Option, Some, None, true, false, Bool, if◌then◌else◌}
+use Rattle.std.proofs.Common.{◌≡◌, ℕ, ◌+◌, ◌||◌, List, [], ◌∷◌, ap, refl, sym, subst, Option, Some, None, true, false, Bool, if◌then◌else◌}
 use Rattle.std.specs.Prelude.{nat_lt, nat_le, not, MatchOption}
 use Rattle.iol_core.specs.State.{State}
 use Rattle.iol_core.specs.declared.limits.TheConstants.{MAX_AGGREGATE_BYTES}
@@ -16,12 +16,11 @@ use Rattle.flash_http.specs.Request.{Answer, serve, refuse, Reading, IsAnswerTo,
 use Rattle.flash_laws.specs.Answers.{keeps}
 use Rattle.flash_laws.specs.Client.Fits.{Finds}
 use Rattle.flash_laws.specs.Client.ResponseState.{is_read, is_opening}
-use Rattle.flash_laws.specs.Conn.{Following, following, headed, count_of, status_of, sends_of, settled, goes_on, drops_next, moved_on, told}
-use Rattle.flash_laws.specs.Conn.ShortHeads.{is_error_status, LearntIsShort, ContentIsShort}
+use Rattle.flash_laws.specs.Conn.{Following, following, headed, count_of, status_of, sends_of, settled, goes_on, drops_next, told}
+use Rattle.flash_laws.specs.Conn.ShortHeads.{is_error_status, LearntIsShort}
 use Rattle.flash_laws.specs.Shelf.{Shelf}
 use Rattle.flash_laws.specs.declared.phase.Learnt.{Learnt}
 use Rattle.flash_laws.specs.declared.phase.Learnt.TheVariants.{File, Length, Fails, Text as TextOf}
-use Rattle.flash_laws.specs.declared.phase.Content.{Content}
 use Rattle.flash_laws.specs.declared.phase.Content.TheVariants.{Script}
 use Rattle.flash_laws.specs.declared.phase.Doing.{Doing}
 use Rattle.flash_laws.specs.declared.phase.Doing.TheVariants.{Rests, Got, Opens, Reads as ReadsFile, Shuts, Picks, Spares, Heads, Joins, Sends, Cuts, Offers, Swaps, Sent, Breaks, Drops, Closes, Over}

@@ -38,7 +38,7 @@ use Rattle.flash_laws.specs.Site.{server, found_in, IsFixed}
 use Rattle.flash_laws.specs.declared.phase.Learnt.TheVariants.{File, Length, Text as TextOf}
 use Rattle.flash_laws.specs.declared.phase.Content.TheVariants.{Error, Script}
 use Rattle.flash_laws.specs.declared.phase.Doing.{Doing}
-use Rattle.flash_laws.specs.declared.phase.Doing.TheVariants.{Opens, Reads as Reading, Shuts, Spares, Heads}
+use Rattle.flash_laws.specs.declared.phase.Doing.TheVariants.{Opens, Reads as Reading, Shuts, Heads}
 use Rattle.flash_laws.proofs.Conn.Responses.{some-inj}
 use Rattle.flash_laws.proofs.Conn.ShortHeads.{refusal-status, finds-told}
 use Rattle.flash_laws.proofs.Forms.{at}

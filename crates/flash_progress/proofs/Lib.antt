@@ -1,0 +1,16 @@
+pub mod Dwindles
+pub mod Rest
+pub mod Pools
+pub mod Holders
+pub mod Measure
+pub mod Ahead
+pub mod Left
+pub mod OpenPools
+pub mod ServerLeft
+pub mod Heads
+pub mod Lengths
+pub mod Enough
+pub mod Known
+pub mod FilesComeToRest
+pub mod Served
+pub mod Hosted
