@@ -34,8 +34,8 @@ pub fn serve_client<B: Backing + Drop, R: Read, W: Write>(
     sessions_are_right();
     let pool = PoolId::new(NET);
     let reply = world.step_outside(Event::ConnNew { pool });
-    match reply {
-        Reply::Conn(conn) => Some(serve_connection(world, conn, reader, writer)),
+    match &reply {
+        Reply::Conn(conn) => Some(serve_connection(world, *conn, reader, writer)),
         _ => None,
     }
 }
