@@ -30,10 +30,10 @@ use Rattle.flash_laws.proofs.World.AllLaws.{AllLaws}
 use Rattle.flash_laws.proofs.World.Fair.{files_are_fair}
 use Rattle.flash_laws.proofs.World.Steps.{run_keeps}
 use Rattle.flash_laws.proofs.World.Whole.{first_tied}
-use Rattle.flash_progress.specs.Hosted.{HostedFilesAreServed}
-use Rattle.flash_progress.specs.Served.{CanRead, HasEnough}
-use Rattle.flash_progress.proofs.Known.{MoreLaws, read-step}
-use Rattle.flash_progress.proofs.Served.{fair-any, comes_to_rest, are_served}
+use Rattle.flash_progress.specs.Hosted.{HostedBecomesIdle}
+use Rattle.flash_progress.specs.Served.{CanRead, RunsLongEnough}
+use Rattle.flash_progress.proofs.Invariant.{MoreLaws, read-step}
+use Rattle.flash_progress.proofs.Served.{fair-any, becomes_idle, serves_all}
 
 -- ---- what came can be read, from a new world on
 
@@ -104,9 +104,9 @@ module _ {P : Type 0} (turns : Account P) where
 -- ---- the theorem
 
 module _ (crew : Crew) (laws : AllLaws crew) (more : MoreLaws) where
-  pub hosted_are_served : Settles crew.settled crew.turns → HostedFilesAreServed crew
-  hosted_are_served settles shelf xs rs w mid most idle after has =
-      (comes_to_rest crew laws more shelf xs rs mid most idle after enough, are_served crew laws more settles shelf xs rs mid most idle after enough)
+  pub hosted_becomes_idle : Settles crew.settled crew.turns → HostedBecomesIdle crew
+  hosted_becomes_idle settles shelf xs rs w mid most idle after has =
+      (becomes_idle crew laws more shelf xs rs mid most idle after turns_in_rounds, serves_all crew laws more settles shelf xs rs mid most idle after turns_in_rounds)
     where
       first : Tied shelf crew [] [] w
       first = first_tied shelf crew w has.new
@@ -120,8 +120,8 @@ module _ (crew : Crew) (laws : AllLaws crew) (more : MoreLaws) where
           (λ s t e r order can step. (laws.the.orders.step s t e r order step, read-step more.homes laws.the.steps laws.the.orders s t e r order can step))
           xs rs w mid has.new.order (new-reads w.machine has.new.order has.new.no_conns) has.run
 
-      enough : HasEnough crew shelf xs rs mid most idle after
-      enough = record {
+      turns_in_rounds : RunsLongEnough crew shelf xs rs mid most idle after
+      turns_in_rounds = record {
         files = has.files;
         any = has.any;
         tied = tied;

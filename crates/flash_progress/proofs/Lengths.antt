@@ -23,7 +23,7 @@ use Rattle.flash_laws.proofs.World.AllLaws.{AllLaws}
 use Rattle.flash_laws.proofs.World.OwnAlone.{next_proper}
 use Rattle.flash_progress.specs.Bound.{longest_of, most_head, longest_response}
 use Rattle.flash_progress.proofs.Heads.{file-text-short, error-text-short, script-text-short, unless-short, unsatisfiable-short}
-use Rattle.flash_progress.proofs.Left.{AreShort, no-script}
+use Rattle.flash_progress.proofs.TurnsLeft.{AreShort, no-script}
 
 -- ---- files
 

@@ -35,19 +35,19 @@ use Rattle.flash_laws.proofs.World.AllLaws.{AllLaws}
 use Rattle.flash_laws.proofs.World.Idle.Whole.{idle_done}
 use Rattle.flash_laws.proofs.World.Fair.{files_are_fair}
 use Rattle.flash_laws.proofs.World.Steps.{run_keeps}
-use Rattle.flash_progress.specs.Bound.{enough, turns_in_all, longest_response}
-use Rattle.flash_progress.specs.Served.{CanRead, clients_in, HasEnough, IsServed, FilesComeToRest, FilesAreServed, WhatCameCanBeRead}
-use Rattle.flash_progress.proofs.Left.{AreShort}
+use Rattle.flash_progress.specs.Bound.{turns_in_rounds, turns_of_all, longest_response}
+use Rattle.flash_progress.specs.Served.{CanRead, clients_in, RunsLongEnough, IsServed, BecomesIdle, ServesAll, ArrivalsCanBeRead}
+use Rattle.flash_progress.proofs.TurnsLeft.{AreShort}
 use Rattle.flash_progress.proofs.Lengths.{are-short}
 use Rattle.flash_progress.proofs.Holders.{holds-new}
-use Rattle.flash_progress.proofs.Known.{MoreLaws, few-now, read-step}
-use Rattle.flash_progress.proofs.FilesComeToRest.{Quiet, any-among, files_come_to_rest, left, left-most-of}
+use Rattle.flash_progress.proofs.Invariant.{MoreLaws, few-now, read-step}
+use Rattle.flash_progress.proofs.FileServer.{Quiet, any-among, file_server_becomes_idle, left, left-most-of}
 
 -- ---- what came can be read
 
 -- In each state that is reached.
-pub what_came_can_be_read : ArrivalsLieInTheirPool → EachStepLeavesTheRest → EachStepKeepsOrder → WhatCameCanBeRead
-what_came_can_be_read homes steps orders = record {
+pub arrivals_can_be_read : ArrivalsLieInTheirPool → EachStepLeavesTheRest → EachStepKeepsOrder → ArrivalsCanBeRead
+arrivals_can_be_read homes steps orders = record {
   new = new;
   step = λ s t e r order reads step. read-step homes steps orders s t e r order reads step;
   reached = λ slots t es rs run. over (new_state slots) t es rs (orders.new slots) (new slots) run;
@@ -79,7 +79,7 @@ module _ (crew : Crew) (laws : AllLaws crew) (more : MoreLaws) where
   no-scripts shelf m fixed none = fixed.scripts ∙ ap (λ (k : ℕ). runs_scripts k) none
 
   module _ (shelf : Shelf) (xs : List Choice) (rs : List Reply) (w after : Stage State (Actor crew.Worker)) (most : ℕ) (idle : Bool)
-      (has : HasEnough crew shelf xs rs w most idle after) where
+      (has : RunsLongEnough crew shelf xs rs w most idle after) where
     plain : shelf.scripts ≡ false
     plain = no-scripts shelf w.machine has.tied.fixed has.files
 
@@ -89,16 +89,16 @@ module _ (crew : Crew) (laws : AllLaws crew) (more : MoreLaws) where
     quiet : Quiet shelf crew laws more plain has.files has.any (longest_response w.machine) short w.machine.next_conn w
     quiet = record { xs = xs; rs = rs; tied = has.tied; reads = has.reads; places = has.places; few = few-now w.machine has.tied.order }
 
-    suffices : enough (left shelf crew laws more plain has.files has.any (longest_response w.machine) short w.machine.next_conn w) (MAX_OPEN + 2) ≤ most
+    suffices : turns_in_rounds (left shelf crew laws more plain has.files has.any (longest_response w.machine) short w.machine.next_conn w) (MAX_OPEN + 2) ≤ most
     suffices =
         let less = left-most-of shelf crew laws more plain has.files has.any (longest_response w.machine) short w.machine.next_conn w quiet in
         let all = has.suffices in
-        let product : (2 * (MAX_OPEN + 2) + 3) * (left shelf crew laws more plain has.files has.any (longest_response w.machine) short w.machine.next_conn w + 1) ≤ (2 * (MAX_OPEN + 2) + 3) * (turns_in_all w.machine (clients_in w) + 1) =
+        let product : (2 * (MAX_OPEN + 2) + 3) * (left shelf crew laws more plain has.files has.any (longest_response w.machine) short w.machine.next_conn w + 1) ≤ (2 * (MAX_OPEN + 2) + 3) * (turns_of_all w.machine (clients_in w) + 1) =
         mul-le-mul_left (2 * (MAX_OPEN + 2) + 3) (omega (arith, less)) in
         omega (arith, all, product)
 
     rests : idle ≡ true
-    rests = files_come_to_rest shelf crew laws more plain has.files has.any (longest_response w.machine) short w.machine.next_conn w after most idle quiet has.ends has.lacks_none suffices
+    rests = file_server_becomes_idle shelf crew laws more plain has.files has.any (longest_response w.machine) short w.machine.next_conn w after most idle quiet has.ends has.lacks_none suffices
 
     abbrev choices : List Choice
     choices = rounds (domains_of w.seats) 0 (length has.ends.went)
@@ -150,11 +150,11 @@ module _ (crew : Crew) (laws : AllLaws crew) (more : MoreLaws) where
           which true is full = accepted is
           which false is full = inr (inr (inr (is, full)))
 
-  pub comes_to_rest : FilesComeToRest crew
-  comes_to_rest shelf xs rs w most idle after has = rests shelf xs rs w after most idle has
+  pub becomes_idle : BecomesIdle crew
+  becomes_idle shelf xs rs w most idle after has = rests shelf xs rs w after most idle has
 
-  pub are_served : Settles crew.settled crew.turns → FilesAreServed crew
-  are_served settles shelf xs rs w most idle after has = record {
+  pub serves_all : Settles crew.settled crew.turns → ServesAll crew
+  serves_all settles shelf xs rs w most idle after has = record {
     tied = tied_after shelf xs rs w after most idle has;
     each = served shelf xs rs w after most idle has settles;
   }

@@ -1,5 +1,5 @@
--- Progress of a server of files: where enough turns are allowed turns in rounds end where all is idle, and then each request that came
--- is answered, but for what waits for others.
+-- Progress of a server of files: if the number of turns suffices, all becomes idle, and then each request that arrived is answered,
+-- with the exceptions that `IsServed` names.
 use Rattle.std.specs.Prelude.{◌≡◌, ◌≤◌, ◌⊎◌, ℕ, Bool, true, false, List, [], ◌∷◌, ◌++◌, length, map, Option, Some}
 use Rattle.iol_core.specs.Text.{bytes_of}
 use Rattle.iol_core.specs.State.{State, domain, pool, descriptor, may_read, conn_at, new_state}
@@ -29,23 +29,23 @@ use Rattle.flash_laws.specs.World.{Tied}
 use Rattle.flash_laws.specs.World.Done.{IsHeldUp}
 use Rattle.flash_laws.specs.World.Remains.{IsFull}
 use Rattle.flash_laws.specs.World.Tie.{Actor, Serving, Working, actor_turns, past_of}
-use Rattle.flash_progress.specs.Bound.{turns_enough}
+use Rattle.flash_progress.specs.Bound.{turns_that_suffice}
 
 -- ---- the premises
 
--- whether a call lacks table entries, pages or memory, which may be there later; a fault is none of these
-abbrev pub is_wanting : Reply → Bool
-is_wanting (reply.Refused TooMany) = true
-is_wanting (reply.Refused (NoRoom p)) = true
-is_wanting (reply.Refused Memory) = true
-is_wanting r = false
+-- whether a call is refused for lack of table entries, pages or memory; a fault of the store is none of these
+abbrev pub lacks_resource : Reply → Bool
+lacks_resource (reply.Refused TooMany) = true
+lacks_resource (reply.Refused (NoRoom p)) = true
+lacks_resource (reply.Refused Memory) = true
+lacks_resource r = false
 
--- no turn of these lacks any
-abbrev pub NoneWants : List Went → Type 0
-NoneWants [] = Unit {0}
-NoneWants (t ∷ ts) = (is_wanting t.1 ≡ false) × NoneWants ts
+-- none of these turns is refused so
+abbrev pub NoneLacksResource : List Went → Type 0
+NoneLacksResource [] = Unit {0}
+NoneLacksResource (t ∷ ts) = (lacks_resource t.1 ≡ false) × NoneLacksResource ts
 
--- the clients of the first process, if it is the server, once its last reply is filed
+-- the clients of the first process, if it is the server, after its last reply is filed
 abbrev pub clients_of : {W : Type 0} → State → Reply → Actor W → List (Option Client)
 clients_of m last (Serving s) = filed_in s last (λ a. lent_to m server a)
 clients_of m last (Working v) = []
@@ -61,13 +61,13 @@ clients_in {W = W} w = clients_by {W = W} w.machine w.seats
 abbrev pub MayReadConns : State → Type 0
 MayReadConns m = (d fd c : ℕ) → descriptor m d fd ≡ Some (on.Connection c) → may_read m d (conn_at m c).pool ≡ true
 
--- What came can be read: what is unread on a connection lies in its pool, which whoever has the connection may read. So it is in each
--- state that is reached.
+-- The unread bytes of each connection are in its pool, and a domain that has it open may read this pool. This holds in each reachable
+-- state (`ArrivalsCanBeRead`).
 pub record CanRead (m : State) : Type 0 where
   pub home : AreAtHome m
   pub holders : MayReadConns m
 
--- The default pool of the server is there, and open, so it can make heads.
+-- The server has a default pool, and it is open, so the server can make the heads of responses.
 pub record CanPlace (m : State) : Type 0 where
   pub place : ℕ
   pub default : (domain m server).default ≡ Some place
@@ -75,16 +75,16 @@ pub record CanPlace (m : State) : Type 0 where
 
 -- ---- what follows
 
--- What became of a connection: all that came on it is answered, or its peer left, or as much waits to be sent as may, or it waits for
--- a place at a server that has as many connections as it may.
+-- A connection is served: all requests that arrived on it are answered, or its peer left, or its queue is full, or it is not accepted
+-- and the server has as many connections as it may.
 abbrev pub IsServed : Shelf → State → Past → List (Option Client) → (c : ℕ) → Type 0
 IsServed shelf m p clients c = IsAnswer shelf (p.came c) (p.sent c ++ bytes_of (conn_at m c).outgoing)
     ⊎ (p.gone c ≡ true) ⊎ IsHeldUp m c ⊎ (((conn_at m c).accepted ≡ false) × IsFull m clients)
 
 module _ (crew : Crew) where
-  -- A tied world of files, whatever was refused so far, has turns in rounds, at most so many, of which none lacks table entries, pages
-  -- or memory; and so many are enough.
-  pub record HasEnough (shelf : Shelf) (xs : List Choice) (rs : List Reply) (w : Stage State (Actor crew.Worker)) (most : ℕ)
+  -- A tied world of files has turns in rounds, at most `most`. Before them any call may have been refused. None of them is refused for
+  -- lack of table entries, pages or memory, and `most` suffices for the state in which they begin.
+  pub record RunsLongEnough (shelf : Shelf) (xs : List Choice) (rs : List Reply) (w : Stage State (Actor crew.Worker)) (most : ℕ)
       (idle : Bool) (after : Stage State (Actor crew.Worker)) : Type 0 where
     pub files : crew.count ≡ 0
     pub any : (x : Refusal) → is_rough (reply.Refused x) ≡ true → shelf.refuses x ≡ true
@@ -92,26 +92,26 @@ module _ (crew : Crew) where
     pub reads : CanRead w.machine
     pub places : CanPlace w.machine
     pub ends : Idles copying (actor_turns in_rounds crew.turns) w most idle after
-    pub lacks_none : NoneWants ends.went
-    pub suffices : turns_enough w.machine (clients_in w) ≤ most
+    pub lacks_none : NoneLacksResource ends.went
+    pub suffices : turns_that_suffice w.machine (clients_in w) ≤ most
 
-  -- Then all becomes idle.
-  abbrev pub FilesComeToRest : Type 0
-  FilesComeToRest = (shelf : Shelf) (xs : List Choice) (rs : List Reply) (w : Stage State (Actor crew.Worker)) (most : ℕ)
-      (idle : Bool) (after : Stage State (Actor crew.Worker)) → HasEnough shelf xs rs w most idle after → idle ≡ true
+  -- All becomes idle.
+  abbrev pub BecomesIdle : Type 0
+  BecomesIdle = (shelf : Shelf) (xs : List Choice) (rs : List Reply) (w : Stage State (Actor crew.Worker)) (most : ℕ)
+      (idle : Bool) (after : Stage State (Actor crew.Worker)) → RunsLongEnough shelf xs rs w most idle after → idle ≡ true
 
-  -- The world is tied after it, and each connection of the net is served.
+  -- The world is tied, and each connection of the net is served.
   pub record AreServed (shelf : Shelf) (xs : List Choice) (rs : List Reply) (after : Stage State (Actor crew.Worker)) : Type 0 where
     pub tied : Tied shelf crew xs rs after
     pub each : (c : ℕ) → (past_of xs rs).net c ≡ true → IsServed shelf after.machine (past_of xs rs) tied.seated.state.clients c
 
-  abbrev pub FilesAreServed : Type 0
-  FilesAreServed = (shelf : Shelf) (xs : List Choice) (rs : List Reply) (w : Stage State (Actor crew.Worker)) (most : ℕ)
-      (idle : Bool) (after : Stage State (Actor crew.Worker)) → (has : HasEnough shelf xs rs w most idle after)
+  abbrev pub ServesAll : Type 0
+  ServesAll = (shelf : Shelf) (xs : List Choice) (rs : List Reply) (w : Stage State (Actor crew.Worker)) (most : ℕ)
+      (idle : Bool) (after : Stage State (Actor crew.Worker)) → (has : RunsLongEnough shelf xs rs w most idle after)
       → AreServed shelf (xs ++ rounds (domains_of w.seats) 0 (length has.ends.went)) (rs ++ map (λ t. t.1) has.ends.went) after
 
--- What came can be read in a new state, after each event, and so in each state that is reached.
-pub record WhatCameCanBeRead : Type 0 where
+-- Arrivals can be read in a new state, after each event, and so in each reachable state.
+pub record ArrivalsCanBeRead : Type 0 where
   pub new : (slots : List (List ℕ)) → CanRead (new_state slots)
   pub step : (s t : State) (e : Event) (r : Reply) → IsOrderly s → CanRead s → StepsTo s e r t → CanRead t
   pub reached : (slots : List (List ℕ)) (t : State) (es : List Event) (rs : List Reply) → Run (new_state slots) es rs t → CanRead t

@@ -1,7 +1,7 @@
-//! The law of progress. The function does nothing; its contract is the law.
+//! The laws of progress. The functions do nothing; their contracts are the laws.
 ghost use Rattle.flash_laws.specs.Workers.Crews.{OfEach};
-ghost use Rattle.flash_progress.specs.Hosted.{HostedFilesAreServed};
-ghost use Rattle.flash_progress.specs.Served.{FilesAreServed, FilesComeToRest, WhatCameCanBeRead};
+ghost use Rattle.flash_progress.specs.Hosted.{HostedBecomesIdle};
+ghost use Rattle.flash_progress.specs.Served.{ArrivalsCanBeRead, BecomesIdle, ServesAll};
 
 use flash_cgi::laws::others_hear;
 use flash_http::{served_requests, window_fits, window_stays};
@@ -10,19 +10,19 @@ use flash_laws::worker_laws::due_may_come;
 use flash_laws::world_law::RunsScripts;
 use iol_laws::laws;
 
-/// A server of files, which has no workers, makes progress in each tied world, whatever was refused
-/// before: if no turn of the rounds lacks table entries, pages or memory, and as many turns are
-/// allowed as are enough for the state (`turns_enough`), all becomes idle. Then each connection of
-/// the net is served: all that came on it is answered, or its peer left, or as much waits to be sent
-/// as may, or it waits for a place at a server that has as many connections as it may. The server's
-/// default pool must be open (`CanPlace`), and what came must lie where it can be read (`CanRead`),
-/// which it does in each state that is reached ([`what_came_can_be_read`]). So it is of a new world
-/// that ran choices whose calls from outside are mild, whatever was refused, where its default pool
-/// is still open.
-pub fn files_come_to_rest<W: RunsScripts>()
-    ensures rests { OfEach W.turns W.settled W.free W.due FilesComeToRest }
-    ensures served { OfEach W.turns W.settled W.free W.due FilesAreServed }
-    ensures hosted { OfEach W.turns W.settled W.free W.due HostedFilesAreServed }
+/// A server without workers makes progress in each tied world, whatever was refused before. If the
+/// number of turns in rounds suffices for the state (`turns_that_suffice`) and none of them is refused
+/// for lack of table entries, pages or memory, all becomes idle (`idle`). Then each connection of the
+/// net is served (`served`): all requests that arrived on it are answered, or its peer left, or its
+/// queue is full, or it is not accepted and the server has as many connections as it may. Two
+/// premises are about the state in which the turns begin: the server's default pool is open
+/// (`CanPlace`), and arrivals can be read (`CanRead`), which [`arrivals_can_be_read`] gives of each
+/// reachable state. `hosted` says the same of a new world that first ran choices whose calls from
+/// outside are mild.
+pub fn file_server_becomes_idle<W: RunsScripts>()
+    ensures idle { OfEach W.turns W.settled W.free W.due BecomesIdle }
+    ensures served { OfEach W.turns W.settled W.free W.due ServesAll }
+    ensures hosted { OfEach W.turns W.settled W.free W.due HostedBecomesIdle }
 {
     W::runs();
     W::settles();
@@ -50,11 +50,10 @@ pub fn files_come_to_rest<W: RunsScripts>()
     window_fits();
 }
 
-/// What is unread on a connection lies in the connection's pool, and a domain may read the pool of
-/// each connection that it has open: in a new state, after each event, and so in each state that is
-/// reached.
-pub fn what_came_can_be_read()
-    ensures { WhatCameCanBeRead }
+/// The unread bytes of each connection are in its pool, and a domain that has it open may read this
+/// pool: in a new state, after each event, and so in each reachable state.
+pub fn arrivals_can_be_read()
+    ensures { ArrivalsCanBeRead }
 {
     laws::each_step_leaves_the_rest();
     laws::each_step_keeps_order();

@@ -1,4 +1,4 @@
--- What the head of a response may still have to name: no file is longer than is read at once, and an error has a status of this server.
+-- What the head of a response, before it is made, may name: a file that the server reads at once, and an error status of this server.
 -- So each head is short.
 use Rattle.std.specs.Prelude.{◌≡◌, ◌≤◌, ◌==◌, ℕ, Bool, true, [], ◌∷◌}
 use Rattle.std.specs.List.{list_any}

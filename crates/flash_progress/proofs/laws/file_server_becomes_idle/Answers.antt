@@ -6,11 +6,11 @@ use Rattle.flash_laws.proofs.Conn.Responses.{WindowLaws}
 use Rattle.flash_laws.proofs.TheLaws.{TheLaws}
 use Rattle.flash_laws.proofs.World.AllLaws.{AllLaws}
 use Rattle.flash_laws.proofs.World.Desk.Texts.{texts_are_put_out}
-use Rattle.flash_progress.proofs.Known.{MoreLaws}
-use Rattle.flash_progress.proofs.Hosted.{hosted_are_served}
-use Rattle.flash_progress.proofs.Served.{comes_to_rest, are_served}
-use Rattle.flash_progress.proofs.laws.files_come_to_rest.Given.{Over}
-use Rattle.flash_progress.proofs.laws.files_come_to_rest.Goals as goal
+use Rattle.flash_progress.proofs.Invariant.{MoreLaws}
+use Rattle.flash_progress.proofs.Hosted.{hosted_becomes_idle}
+use Rattle.flash_progress.proofs.Served.{becomes_idle, serves_all}
+use Rattle.flash_progress.proofs.laws.file_server_becomes_idle.Given.{Over}
+use Rattle.flash_progress.proofs.laws.file_server_becomes_idle.Goals as goal
 
 window_laws : (g : Over) (c : goal.After-window_fits g) → WindowLaws
 window_laws g c = record { stay = c.window_stays.ensures; fit = c.window_fits.ensures }
@@ -55,12 +55,12 @@ all_laws g c count desk pools jobs apart = record {
 more_laws : (g : Over) (c : goal.After-window_fits g) → MoreLaws
 more_laws g c = record { homes = c.arrivals_lie_in_their_pool.ensures; histories = c.histories_add_up.ensures }
 
-pub returns-clause-rests : goal.returns-clause-rests
-returns-clause-rests g c = λ count desk pools jobs apart. comes_to_rest (crew_of g count desk pools jobs) (all_laws g c count desk pools jobs apart) (more_laws g c)
+pub returns-clause-idle : goal.returns-clause-idle
+returns-clause-idle g c = λ count desk pools jobs apart. becomes_idle (crew_of g count desk pools jobs) (all_laws g c count desk pools jobs apart) (more_laws g c)
 
 pub returns-clause-served : goal.returns-clause-served
-returns-clause-served g c = λ count desk pools jobs apart. are_served (crew_of g count desk pools jobs) (all_laws g c count desk pools jobs apart) (more_laws g c) c.settles.ensures
+returns-clause-served g c = λ count desk pools jobs apart. serves_all (crew_of g count desk pools jobs) (all_laws g c count desk pools jobs apart) (more_laws g c) c.settles.ensures
 
 pub returns-clause-hosted : goal.returns-clause-hosted
 returns-clause-hosted g c = λ count desk pools jobs apart.
-    hosted_are_served (crew_of g count desk pools jobs) (all_laws g c count desk pools jobs apart) (more_laws g c) c.settles.ensures
+    hosted_becomes_idle (crew_of g count desk pools jobs) (all_laws g c count desk pools jobs apart) (more_laws g c) c.settles.ensures

@@ -34,14 +34,14 @@ use Rattle.flash_laws.specs.World.Tie.{Actor, Serving, Working, actor_goes, acto
 use Rattle.flash_laws.specs.declared.phase.Flight.{Flight}
 use Rattle.flash_laws.specs.declared.phase.Flight.TheVariants.{Nothing, Accepting, At}
 use Rattle.flash_laws.proofs.Conn.Responses.{some-inj}
-use Rattle.flash_progress.specs.Bound.{sum_to, turns_at, turns_at_door}
-use Rattle.flash_progress.specs.Served.{is_wanting, NoneWants, CanPlace, CanRead, clients_by, clients_in}
-use Rattle.flash_progress.proofs.Left.{AreShort, all_left}
-use Rattle.flash_progress.proofs.Dwindles.{Dwindles, IdleComes}
-use Rattle.flash_progress.proofs.Enough.{left-within}
-use Rattle.flash_progress.proofs.Rest.{idle_comes, holds_after}
-use Rattle.flash_progress.proofs.ServerLeft.{IsKnown, server-falls, server-waits, server-open, server-kind}
-use Rattle.flash_progress.proofs.Known.{MoreLaws, AreFew, known-of, read-step, places-on, few-calls}
+use Rattle.flash_progress.specs.Bound.{sum_to, turns_at, turns_of_waiting}
+use Rattle.flash_progress.specs.Served.{lacks_resource, NoneLacksResource, CanPlace, CanRead, clients_by, clients_in}
+use Rattle.flash_progress.proofs.TurnsLeft.{AreShort, all_left}
+use Rattle.flash_progress.proofs.Decrease.{Decreases, IdleComes}
+use Rattle.flash_progress.proofs.BoundProof.{left-within}
+use Rattle.flash_progress.proofs.Idleness.{idle_comes, holds-after}
+use Rattle.flash_progress.proofs.ServerTurns.{IsKnown, server-falls, server-waits, server-open, server-kind}
+use Rattle.flash_progress.proofs.Invariant.{MoreLaws, AreFew, known-of, read-step, places-on, few-calls}
 use Rattle.flash_laws.proofs.World.Calls.{opens-on}
 use Rattle.flash_laws.proofs.Site.Rounds.{from-there}
 use Rattle.flash_laws.proofs.World.AllLaws.{AllLaws}
@@ -50,7 +50,7 @@ use Rattle.flash_laws.proofs.World.ServerTurn.{heard-is, server_turn}
 use Rattle.flash_laws.proofs.World.Steps.{step_keeps}
 
 -- a call that lacks nothing, and meets no closed pool, is to be made again later only where it would block
-not-later : (r : Reply) → is_wanting r ≡ false → is_would_block r ≡ false → ((p : ℕ) → r ≡ reply.Refused (no.PoolClosed p) → ⊥) → is_later r ≡ false
+not-later : (r : Reply) → lacks_resource r ≡ false → is_would_block r ≡ false → ((p : ℕ) → r ≡ reply.Refused (no.PoolClosed p) → ⊥) → is_later r ≡ false
 not-later (reply.Refused no.WouldBlock) smooth on opened = absurd (cc (on))
 not-later (reply.Refused no.TooMany) smooth on opened = absurd (cc (smooth))
 not-later (reply.Refused (no.PoolClosed p)) smooth on opened = absurd (opened p refl)
@@ -152,7 +152,7 @@ module _ (shelf : Shelf) (crew : Crew) (laws : AllLaws crew) (more : MoreLaws) (
       pub comes : Comes copying (actor_turns in_rounds crew.turns) w.machine server made yields r after.machine
       pub now : after.seats ≡ record { by = server; process = Serving state; last = r } ∷ []
 
-    turned : (after : Stage State (Actor crew.Worker)) (yields : Bool) (r : Reply) → PlaceTurn copying (actor_turns in_rounds crew.turns) w 0 yields r after → is_wanting r ≡ false
+    turned : (after : Stage State (Actor crew.Worker)) (yields : Bool) (r : Reply) → PlaceTurn copying (actor_turns in_rounds crew.turns) w 0 yields r after → lacks_resource r ≡ false
         → Turned after yields r
     turned after yields r place smooth =
         by place.next (subst (λ (z : Seat (Actor crew.Worker)). SeatTurn copying (actor_turns in_rounds crew.turns) w.machine z yields r after.machine place.next) (sym here) place.turn)
@@ -163,7 +163,7 @@ module _ (shelf : Shelf) (crew : Crew) (laws : AllLaws crew) (more : MoreLaws) (
 
         by : (next : Seat (Actor crew.Worker)) → SeatTurn copying (actor_turns in_rounds crew.turns) w.machine first yields r after.machine next → after.seats ≡ next ∷ []
             → Turned after yields r
-        by next (inl starves) seats = absurd (let e = ap is_wanting (sym starves.answer) ∙ smooth in cc (e))
+        by next (inl starves) seats = absurd (let e = ap lacks_resource (sym starves.answer) ∙ smooth in cc (e))
         by next (inr moves) seats = which next.process refl moves.goes_on
           where
             which : (x : Actor crew.Worker) → next.process ≡ x
@@ -190,7 +190,7 @@ module _ (shelf : Shelf) (crew : Crew) (laws : AllLaws crew) (more : MoreLaws) (
     after-left after yields r d = ap (λ (l : List (Seat (Actor crew.Worker))). first_of turns_left_by after.machine l) d.now
 
     -- a call that is answered
-    falls : (after : Stage State (Actor crew.Worker)) (r : Reply) → PlaceTurn copying (actor_turns in_rounds crew.turns) w 0 false r after → is_wanting r ≡ false → is_would_block r ≡ false
+    falls : (after : Stage State (Actor crew.Worker)) (r : Reply) → PlaceTurn copying (actor_turns in_rounds crew.turns) w 0 false r after → lacks_resource r ≡ false → is_would_block r ≡ false
         → left after < left w
     falls after r place smooth on = called d.made refl d.comes
       where
@@ -218,7 +218,7 @@ module _ (shelf : Shelf) (crew : Crew) (laws : AllLaws crew) (more : MoreLaws) (
             omega (arith, fell, here, one, two, was)
 
     -- a yield
-    yields : (after : Stage State (Actor crew.Worker)) (r : Reply) → PlaceTurn copying (actor_turns in_rounds crew.turns) w 0 true r after → is_wanting r ≡ false → left after ≤ left w
+    yields : (after : Stage State (Actor crew.Worker)) (r : Reply) → PlaceTurn copying (actor_turns in_rounds crew.turns) w 0 true r after → lacks_resource r ≡ false → left after ≤ left w
     yields after r place smooth = yielded d.made refl d.comes
       where
         d : Turned after true r
@@ -321,7 +321,7 @@ module _ (shelf : Shelf) (crew : Crew) (laws : AllLaws crew) (more : MoreLaws) (
               few-calls shelf crew laws w.machine after.machine k r q.tied.order q.tied.fixed did conns q.few,
             )
 
-    quiet-on : (after : Stage State (Actor crew.Worker)) (yields : Bool) (r : Reply) → PlaceTurn copying (actor_turns in_rounds crew.turns) w 0 yields r after → is_wanting r ≡ false → Quiet after
+    quiet-on : (after : Stage State (Actor crew.Worker)) (yields : Bool) (r : Reply) → PlaceTurn copying (actor_turns in_rounds crew.turns) w 0 yields r after → lacks_resource r ≡ false → Quiet after
     quiet-on after yields r place smooth = record {
       xs = q.xs ++ choice.Turn place.seat.by ∷ [];
       rs = q.rs ++ r ∷ [];
@@ -335,8 +335,8 @@ module _ (shelf : Shelf) (crew : Crew) (laws : AllLaws crew) (more : MoreLaws) (
         by-server : place.seat.by ≡ server
         by-server = ap (λ (z : Seat (Actor crew.Worker)). z.by) (sym (some-inj first place.seat (sym (ap (λ (l : List (Seat (Actor crew.Worker))). slice_get l 0) alone) ∙ place.sits)))
 
-  dwindles : Dwindles (actor_turns in_rounds crew.turns) Quiet left polls (MAX_OPEN + 2)
-  dwindles = record {
+  decreases : Decreases (actor_turns in_rounds crew.turns) Quiet left polls (MAX_OPEN + 2)
+  decreases = record {
     one = λ w q. ap (λ (l : List (Seat (Actor crew.Worker))). length l) (alone w q);
     keeps = λ w after yields r q place smooth. quiet-on w q after yields r place smooth;
     falls = λ w after r q place smooth on. falls w q after r place smooth on;
@@ -346,17 +346,17 @@ module _ (shelf : Shelf) (crew : Crew) (laws : AllLaws crew) (more : MoreLaws) (
   }
 
   -- Turns in rounds, none of which wants anything, end where all is idle, if as many are allowed as suffice for what is left.
-  pub files_come_to_rest : IdleComes (actor_turns in_rounds crew.turns) Quiet left (MAX_OPEN + 2)
-  files_come_to_rest = idle_comes (actor_turns in_rounds crew.turns) Quiet left polls (MAX_OPEN + 2) dwindles
+  pub file_server_becomes_idle : IdleComes (actor_turns in_rounds crew.turns) Quiet left (MAX_OPEN + 2)
+  file_server_becomes_idle = idle_comes (actor_turns in_rounds crew.turns) Quiet left polls (MAX_OPEN + 2) decreases
 
   -- And what is known holds there.
   pub quiet_after : (w after : Stage State (Actor crew.Worker)) (i : ℕ) (ts : List Went) → Quiet w → RoundRun copying (actor_turns in_rounds crew.turns) w i ts after
-      → NoneWants ts → Quiet after
-  quiet_after = holds_after (actor_turns in_rounds crew.turns) Quiet left polls (MAX_OPEN + 2) dwindles
+      → NoneLacksResource ts → Quiet after
+  quiet_after = holds-after (actor_turns in_rounds crew.turns) Quiet left polls (MAX_OPEN + 2) decreases
 
   -- What is left is at most what the bound counts.
   pub left-most-of : (w : Stage State (Actor crew.Worker)) → Quiet w
-      → left w ≤ sum_to MAX_OPEN (turns_at longest w.machine (clients_in w)) + sum_to conns (turns_at_door longest w.machine)
+      → left w ≤ sum_to MAX_OPEN (turns_at longest w.machine (clients_in w)) + sum_to conns (turns_of_waiting longest w.machine)
   left-most-of w q =
       let is = left-is w q in
       let most = left-within shelf crew files longest short w.machine (past_of q.xs q.rs) (clients w q) q.tied.seated.workers (fit w q) conns in

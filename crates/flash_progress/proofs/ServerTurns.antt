@@ -44,7 +44,7 @@ use Rattle.flash_laws.specs.declared.script_run.Running.{Running}
 use Rattle.flash_laws.proofs.Forms.{of, at as conn-at}
 use Rattle.flash_progress.specs.Bound.{unread_at}
 use Rattle.flash_progress.proofs.OpenPools.{never-closed}
-use Rattle.flash_progress.proofs.Left.{AreShort, HasRoom, can-make, all_left, place_turns, of_place, no_more, left-most, no-script, ready-left, call-falls, accept-falls}
+use Rattle.flash_progress.proofs.TurnsLeft.{AreShort, HasRoom, can-make, all_left, place_turns, of_place, no_more, left-most, no-script, ready-left, call-falls, accept-falls}
 use Rattle.flash_laws.proofs.Lists.{clash}
 use Rattle.flash_laws.proofs.Site.InPlaces.{at-same, at-other}
 use Rattle.flash_laws.proofs.Site.OwnWorkers.{own-picked}

@@ -18,10 +18,10 @@ use Rattle.flash_laws.specs.declared.phase.Doing.TheVariants.{Rests, Got, Opens,
 use Rattle.flash_laws.specs.declared.script_run.Running.{Running}
 use Rattle.flash_laws.proofs.Conn.Progress.{sent_after}
 use Rattle.flash_laws.proofs.Lists.{clash}
-use Rattle.flash_progress.specs.Bound.{turns_for, turns_of, turns_at, turns_at_door, unread_at, sum_to}
+use Rattle.flash_progress.specs.Bound.{turns_for, turns_of, turns_at, turns_of_waiting, unread_at, sum_to}
 use Rattle.flash_progress.proofs.Measure.{request_turns, ahead, reads_on, kept_turns, unread_turns}
-use Rattle.flash_progress.proofs.Ahead.{conn_turns, made-short, few-drops}
-use Rattle.flash_progress.proofs.Left.{AreShort, due-short, no-script, no_more, of_place, place_turns, door_turns, all_left}
+use Rattle.flash_progress.proofs.RequestProgress.{conn_turns, made-short, few-drops}
+use Rattle.flash_progress.proofs.TurnsLeft.{AreShort, due-short, no-script, no_more, of_place, place_turns, door_turns, all_left}
 
 -- ---- a request in progress
 
@@ -113,7 +113,7 @@ module _ (shelf : Shelf) (crew : Crew) (files : shelf.scripts ≡ false) (longes
       by None none = omega arith
       by (Some x) there = client-within (unread_at m fd) fd (fit.each fd x there).conn x x.run (fit.each fd x there).fits
 
-  door-within : (c : ℕ) → door_turns longest m c ≤ turns_at_door longest m c
+  door-within : (c : ℕ) → door_turns longest m c ≤ turns_of_waiting longest m c
   door-within c = by (conn_at m c).accepted
     where
       unread : ℕ
@@ -126,8 +126,8 @@ module _ (shelf : Shelf) (crew : Crew) (files : shelf.scripts ≡ false) (longes
           omega (arith, split)
 
   -- What is left of all is at most what the bound counts.
-  pub left-within : (conns : ℕ) → all_left longest MAX_OPEN conns m clients ≤ sum_to MAX_OPEN (turns_at longest m clients) + sum_to conns (turns_at_door longest m)
+  pub left-within : (conns : ℕ) → all_left longest MAX_OPEN conns m clients ≤ sum_to MAX_OPEN (turns_at longest m clients) + sum_to conns (turns_of_waiting longest m)
   left-within conns =
       let places = no_more MAX_OPEN (turns_at longest m clients) (place_turns longest m clients) place-within in
-      let doors = no_more conns (turns_at_door longest m) (door_turns longest m) door-within in
+      let doors = no_more conns (turns_of_waiting longest m) (door_turns longest m) door-within in
       omega (arith, places, doors)

@@ -30,7 +30,7 @@ use Rattle.flash_laws.proofs.World.Calls.{is_client_call, kind-default, kind-adm
 use Rattle.flash_progress.specs.Served.{CanPlace, CanRead}
 use Rattle.flash_progress.proofs.Holders.{holds-step}
 use Rattle.flash_progress.proofs.Lengths.{text-fits}
-use Rattle.flash_progress.proofs.ServerLeft.{IsKnown}
+use Rattle.flash_progress.proofs.ServerTurns.{IsKnown}
 
 -- the laws that are wanted besides
 pub record MoreLaws : Type 0 where

@@ -41,7 +41,7 @@ use Rattle.flash_laws.specs.declared.phase.Doing.TheVariants as doing
 use Rattle.flash_laws.proofs.Forms.{at, of}
 use Rattle.flash_progress.specs.Bound.{conn_of, unread_at, sum_to}
 use Rattle.flash_progress.proofs.Measure.{unread_turns}
-use Rattle.flash_progress.proofs.Ahead.{conn_turns, IsShort, readies-falls, turn-falls}
+use Rattle.flash_progress.proofs.RequestProgress.{conn_turns, IsShort, readies-falls, turn-falls}
 use Rattle.flash_laws.proofs.Site.InPlaces.{at-same, at-other}
 use Rattle.flash_laws.proofs.Site.OpenDescriptors.{no-true, held-open}
 use Rattle.flash_laws.proofs.World.AllLaws.{AllLaws}

@@ -10,8 +10,8 @@ use Rattle.iol_core.specs.declared.refusals.Refusal.TheVariants.{WouldBlock}
 use Rattle.iol_proc.specs.Idle.{Went, RoundRun, counted, counted_over, is_idle}
 use Rattle.iol_proc.specs.Turns.{Account, is_would_block}
 use Rattle.iol_proc.specs.World.{Stage, copying, PlaceTurn}
-use Rattle.flash_progress.specs.Served.{is_wanting, NoneWants}
-use Rattle.flash_progress.proofs.Dwindles.{Dwindles, IdleComes}
+use Rattle.flash_progress.specs.Served.{lacks_resource, NoneLacksResource}
+use Rattle.flash_progress.proofs.Decrease.{Decreases, IdleComes}
 
 -- the turns of its own that a process has at most before it has yielded twice, if it has yielded so often
 abbrev own_turns : (round yields polls : ℕ) → ℕ
@@ -48,7 +48,7 @@ first_place : (i : ℕ) → i % 1 ≡ 0
 first_place i = omega arith
 
 module _ {P : Type 0} (turns : Account P) (Holds : Stage State P → Type 0) (left polls : Stage State P → ℕ) (round : ℕ)
-    (d : Dwindles turns Holds left polls round) where
+    (d : Decreases turns Holds left polls round) where
   abbrev bound : (n : ℕ) → Stage State P → ℕ
   bound n w = all_turns round (left w) n (polls w)
 
@@ -63,7 +63,7 @@ module _ {P : Type 0} (turns : Account P) (Holds : Stage State P → Type 0) (le
       subst (λ (k : ℕ). PlaceTurn copying turns w k yields r mid) (ap (λ (k : ℕ). i % k) (d.one w holds) ∙ first_place i) turn
 
   -- each turn lowers the bound, as long as it has not yielded twice
-  lowers : (w mid : Stage State P) (n : ℕ) (t : Went) → Holds w → PlaceTurn copying turns w 0 t.0 t.1 mid → is_wanting t.1 ≡ false
+  lowers : (w mid : Stage State P) (n : ℕ) (t : Went) → Holds w → PlaceTurn copying turns w 0 t.0 t.1 mid → lacks_resource t.1 ≡ false
       → is_idle (n ∷ []) ≡ false → (k : ℕ) × (counted (n ∷ []) 0 t ≡ k ∷ []) × (bound k mid < bound n w)
   lowers w mid n (true, r) holds turn smooth busy = by n busy
     where
@@ -96,7 +96,7 @@ module _ {P : Type 0} (turns : Account P) (Holds : Stage State P → Type 0) (le
           (0, ap (λ (b : Bool). if b then n ∷ [] else replicate 1 0) is, less_left (2 * round + 3) (left mid) (left w) (polls mid + (round + 2)) (own_turns round n (polls w)) less (omega (arith, few)))
 
   -- so there are only so many of them
-  few_turns : (ts : List Went) (n i : ℕ) (w after : Stage State P) → Holds w → RoundRun copying turns w i ts after → NoneWants ts
+  few_turns : (ts : List Went) (n i : ℕ) (w after : Stage State P) → Holds w → RoundRun copying turns w i ts after → NoneLacksResource ts
       → NeverIdle n i ts → length ts ≤ bound n w
   few_turns [] n i w after holds ran smooth never = omega arith
   few_turns (t ∷ ts) n i w after holds ran smooth never =
@@ -127,7 +127,7 @@ module _ {P : Type 0} (turns : Account P) (Holds : Stage State P → Type 0) (le
           absurd (omega (arith, all, few, asked, split, enough_turns))
 
   -- What is known holds where they end.
-  pub holds_after : (w after : Stage State P) (i : ℕ) (ts : List Went) → Holds w → RoundRun copying turns w i ts after → NoneWants ts → Holds after
-  holds_after w after i [] holds ran none = subst (λ (v : Stage State P). Holds v) (sym ran) holds
-  holds_after w after i (t ∷ ts) holds ran none =
-      holds_after ran.0 after (suc i) ts (d.keeps w ran.0 t.0 t.1 holds (at_first w ran.0 i t.0 t.1 holds ran.1) none.0) ran.2 none.1
+  pub holds-after : (w after : Stage State P) (i : ℕ) (ts : List Went) → Holds w → RoundRun copying turns w i ts after → NoneLacksResource ts → Holds after
+  holds-after w after i [] holds ran none = subst (λ (v : Stage State P). Holds v) (sym ran) holds
+  holds-after w after i (t ∷ ts) holds ran none =
+      holds-after ran.0 after (suc i) ts (d.keeps w ran.0 t.0 t.1 holds (at_first w ran.0 i t.0 t.1 holds ran.1) none.0) ran.2 none.1
