@@ -2,7 +2,7 @@
 ghost use Rattle.flash_laws.specs.Prelude.{ActorsSettle, in_rounds, RunKeepsTie, StepKeepsTie, TiedAtFirst, TiedIsAnswered, TiedIsWhole, IdleIsDone, HostIsRight};
 ghost use Rattle.flash_lite.specs.Crew.{crew_of};
 ghost use Rattle.flash_lite.specs.Harmless.{HarmlessIsMild, HarmlessIsRight};
-ghost use Rattle.flash_lite.specs.HostedFiles.{HostedFilesComeToRest};
+ghost use Rattle.flash_lite.specs.HostedFiles.{HostedFilesBecomeIdle};
 ghost use Rattle.flash_lite.specs.HostedSite.{HostedIsRight};
 ghost use Rattle.flash_lite.specs.SiteWorld.{SetUpIsANewWorld};
 ghost use Rattle.flash_lite.specs.Workers.{worker_turns, worker_settled};
@@ -13,7 +13,7 @@ use flash_cgi::laws::workers_stay_free;
 use flash_laws::answer_laws::runs_are_fair;
 use flash_laws::laws::site_law;
 use flash_laws::world_law::world_law;
-use flash_progress::laws::files_come_to_rest;
+use flash_progress::laws::file_server_becomes_idle;
 use iol_laws::laws;
 use iol_proc::laws::{idle_is_settled, smooth_runs};
 
@@ -83,14 +83,14 @@ pub fn harmless_is_right()
     runs_are_fair::<Worker>();
 }
 
-/// A site without scripts that [`host`](crate::host::host) gives over an honest store comes to rest,
-/// whatever was refused before: if calls from outside were mild, the pool `work` is still open, no
-/// turn of `until_idle` lacks table entries, pages or memory, and as many turns are allowed as are
-/// enough for the state (`turns_enough`), all is idle. Then each connection of the net is served: all
-/// that came on it is answered, or its peer left, or as much waits to be sent as may, or it waits for
-/// a place at a server that has as many connections as it may.
-pub fn hosted_files_come_to_rest()
-    ensures { HostedFilesComeToRest }
+/// A site without scripts that [`host`](crate::host::host) hosts over an honest store becomes idle,
+/// whatever was refused before, if calls from outside are mild, the pool `work` is still open where
+/// `until_idle` begins, its number of turns suffices for that state (`turns_that_suffice`), and none
+/// of them is refused for lack of table entries, pages or memory. Then each connection of the net is
+/// served: all requests that arrived on it are answered, or its peer left, or its queue is full, or
+/// it is not accepted and the server has as many connections as it may.
+pub fn hosted_files_become_idle()
+    ensures { HostedFilesBecomeIdle }
 {
-    files_come_to_rest::<Worker>();
+    file_server_becomes_idle::<Worker>();
 }

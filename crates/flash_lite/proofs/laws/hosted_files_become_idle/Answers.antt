@@ -3,11 +3,11 @@ use Rattle.flash_lite.specs.Crew.{is_shown, is_work}
 use Rattle.flash_lite.specs.Library.{library_of}
 use Rattle.flash_lite.specs.Setup.{workers_used}
 use Rattle.flash_lite.proofs.World.SiteWorld.{desks_apart}
-use Rattle.flash_lite.proofs.laws.hosted_files_come_to_rest.Goals as goal
+use Rattle.flash_lite.proofs.laws.hosted_files_become_idle.Goals as goal
 
 pub returns : goal.returns
 returns c = λ s slots xs rs turns idle after hosts has.
-    c.files_come_to_rest.ensures.hosted (workers_used s) (λ k. k) is_shown is_work (desks_apart s) (library_of s slots any_refusal) xs rs hosts.first hosts.mid turns idle after
+    c.file_server_becomes_idle.ensures.hosted (workers_used s) (λ k. k) is_shown is_work (desks_apart s) (library_of s slots any_refusal) xs rs hosts.first hosts.mid turns idle after
     (record {
       files = has.files;
       any = λ x rough. rough;
