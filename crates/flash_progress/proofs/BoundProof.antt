@@ -1,4 +1,4 @@
--- The bound covers what is left.
+-- The bound is at least the measure.
 use Rattle.std.proofs.Common.{◌≡◌, ℕ, ◌+◌, ◌*◌, ◌-◌, ◌≤◌, List, ◌++◌, length, drop, ap, refl, arith, Option, Some, None, true, false, Bool, length-append, length-drop, if◌then◌else◌}
 use Rattle.iol_core.specs.NumberedLists.{in_place}
 use Rattle.iol_core.specs.State.{State, conn_at}
@@ -80,7 +80,7 @@ ahead-short m q due longest Over has short = omega arith
 
 -- ---- a connection
 
--- in the numbers of the bound
+-- of one connection, in the terms of the bound
 within : (longest unread kept ahead kept_now : ℕ) → ahead ≤ 3 * longest + 21 → kept_now ≤ request_turns longest * kept
     → ahead + (kept_now + (request_turns longest + 2) * unread) ≤ (3 * longest + 22) * (kept + unread + 1)
 within longest unread kept ahead kept_now few less =
@@ -125,7 +125,7 @@ module _ (shelf : Shelf) (crew : Crew) (files : shelf.scripts ≡ false) (longes
           let split : (3 * longest + 22) * (unread + 1) ≡ (request_turns longest + 2) * unread + 4 * unread + (3 * longest + 22) = grind (arith) in
           omega (arith, split)
 
-  -- What is left of all is at most what the bound counts.
+  -- The measure of all is at most what the bound counts.
   pub left-within : (conns : ℕ) → all_left longest MAX_OPEN conns m clients ≤ sum_to MAX_OPEN (turns_at longest m clients) + sum_to conns (turns_of_waiting longest m)
   left-within conns =
       let places = no_more MAX_OPEN (turns_at longest m clients) (place_turns longest m clients) place-within in

@@ -1,4 +1,4 @@
--- A world of files comes to rest: turns in rounds, none of them rough, end where all is idle, if so many are allowed.
+-- A world of files becomes idle: turns in rounds, none of which lacks a resource, end where all is idle, if their number suffices.
 use Rattle.std.proofs.Common.{inl, inr, ◌≡◌, ℕ, ◌+◌, ◌-◌, ◌<◌, ◌≤◌, List, [], ◌∷◌, ◌++◌, length, ap, ◌∙◌, refl, sym, subst, arith, Option, Some, None, true, false, Bool, slice_get, slice_set, if◌then◌else◌}
 use Rattle.std.specs.Prelude.{nat_lt}
 use Rattle.iol_core.specs.NumberedLists.{in_place, taken}
@@ -49,7 +49,7 @@ use Rattle.flash_laws.proofs.World.FixedState.{fixed-on}
 use Rattle.flash_laws.proofs.World.ServerTurn.{heard-is, server_turn}
 use Rattle.flash_laws.proofs.World.Steps.{step_keeps}
 
--- a call that lacks nothing, and meets no closed pool, is to be made again later only where it would block
+-- a call that lacks no resource, and meets no closed pool, is retried later only if it would block
 not-later : (r : Reply) → lacks_resource r ≡ false → is_would_block r ≡ false → ((p : ℕ) → r ≡ reply.Refused (no.PoolClosed p) → ⊥) → is_later r ≡ false
 not-later (reply.Refused no.WouldBlock) smooth on opened = absurd (cc (on))
 not-later (reply.Refused no.TooMany) smooth on opened = absurd (cc (smooth))
@@ -58,18 +58,18 @@ not-later (reply.Refused (no.NoRoom p)) smooth on opened = absurd (cc (smooth))
 not-later (reply.Refused no.Memory) smooth on opened = absurd (cc (smooth))
 not-later r smooth on opened = refl
 
--- whatever is refused is among any
+-- where any of the four refusals is allowed, each reply is allowed
 pub any-among : (shelf : Shelf) → ((x : Refusal) → is_rough (reply.Refused x) ≡ true → shelf.refuses x ≡ true) → (r : Reply) → IsAmong shelf.refuses r
 any-among shelf any (reply.Refused x) = any x
 any-among shelf any r = tt
 
--- how many are still to be asked in this round, who is asked next
+-- the number of polls that are left in this round, by which is next
 abbrev asks : (places : ℕ) → Flight → ℕ
 asks places Nothing = 0
 asks places Accepting = 1
 asks places (At fd) = places - fd + 2
 
--- from a place on there are fewer to ask
+-- from a later place fewer polls are left
 asks-on : (places from : ℕ) (free : Bool) (clients : List (Option Client)) (workers : ℕ) → from ≤ places → asks places (flight_from workers clients from) ≤ places - from + 2
 asks-on places from free clients workers low = by (next_place workers clients from) (λ fd is. from-there (has_free workers clients) clients from fd is)
   where
@@ -84,7 +84,7 @@ asks-on places from free clients workers low = by (next_place workers clients fr
 module _ (shelf : Shelf) (crew : Crew) (laws : AllLaws crew) (more : MoreLaws) (files : shelf.scripts ≡ false) (none : crew.count ≡ 0)
     (any : (x : Refusal) → is_rough (reply.Refused x) ≡ true → shelf.refuses x ≡ true)
     (longest : ℕ) (short : AreShort shelf longest) (conns : ℕ) where
-  -- what is known of the world from one turn to the next
+  -- the invariant
   pub record Quiet (w : Stage State (Actor crew.Worker)) : Type 0 where
     pub xs : List Choice
     pub rs : List Reply
@@ -105,7 +105,7 @@ module _ (shelf : Shelf) (crew : Crew) (laws : AllLaws crew) (more : MoreLaws) (
   first_of f m [] = 0
   first_of f m (seat ∷ seats) = f m seat.process seat.last
 
-  -- the turns that are left for all, and those that are still asked in this round
+  -- the measure, and the polls that are left in this round
   abbrev pub left : Stage State (Actor crew.Worker) → ℕ
   left w = first_of turns_left_by w.machine w.seats
 
@@ -184,7 +184,7 @@ module _ (shelf : Shelf) (crew : Crew) (laws : AllLaws crew) (more : MoreLaws) (
     workers-is : q.tied.seated.state.workers ≡ crew.count
     workers-is = q.tied.seated.serves.count
 
-    -- what is left after it
+    -- the measure after it
     after-left : (after : Stage State (Actor crew.Worker)) (yields : Bool) (r : Reply) (d : Turned after yields r)
         → left after ≡ all_left longest MAX_OPEN conns after.machine (filed d.state.workers d.state.clients d.state.flight r (heard_of r (λ a. lent_to after.machine server a)))
     after-left after yields r d = ap (λ (l : List (Seat (Actor crew.Worker))). first_of turns_left_by after.machine l) d.now
@@ -246,13 +246,10 @@ module _ (shelf : Shelf) (crew : Crew) (laws : AllLaws crew) (more : MoreLaws) (
         → (left after ≤ left w) × (polls after < polls w)
     waits after place = called d.made refl d.comes
       where
-        abbrev-free : Turned after false (reply.Refused no.WouldBlock)
-        abbrev-free = turned after false (reply.Refused no.WouldBlock) place refl
-
         d : Turned after false (reply.Refused no.WouldBlock)
-        d = abbrev-free
+        d = turned after false (reply.Refused no.WouldBlock) place refl
 
-        -- who is asked next stands further on
+        -- the next poll is of a later place
         fewer : (f : Flight) → d.state.flight ≡ f → (k : Call) → Picks q.tied.seated.state.workers clients f (turn.Make k) d.state.clients
             → (l : List (Option Client)) → asks MAX_OPEN (next_flight d.state.workers l f (reply.Refused no.WouldBlock)) < asks MAX_OPEN f
         fewer Nothing is k picks l = absurd (let bad = picks.1 in cc (bad))
@@ -292,7 +289,7 @@ module _ (shelf : Shelf) (crew : Crew) (laws : AllLaws crew) (more : MoreLaws) (
             let less = fewer d.state.flight refl k picks (filed_in d.state (reply.Refused no.WouldBlock) (λ a. lent_to after.machine server a)) in
             (omega (arith, kept_left, here, one, two, was), omega (arith, asked, next, less))
 
-    -- there are only so many to ask
+    -- the polls of a round are bounded
     most : polls w ≤ MAX_OPEN + 2
     most = let is = polls-is in let few = few-asked (next_flight q.tied.seated.state.workers clients q.tied.seated.state.flight q.tied.seated.last) in omega (arith, is, few)
       where
@@ -301,7 +298,7 @@ module _ (shelf : Shelf) (crew : Crew) (laws : AllLaws crew) (more : MoreLaws) (
         few-asked Accepting = omega arith
         few-asked (At fd) = omega arith
 
-    -- a turn that wants nothing keeps what is known
+    -- a turn that lacks no resource keeps the invariant
     next-known : (after : Stage State (Actor crew.Worker)) (yields : Bool) (r : Reply) → Turned after yields r → CanRead after.machine × CanPlace after.machine × AreFew conns after.machine
     next-known after yields r d = of d.made refl d.comes
       where
@@ -345,16 +342,16 @@ module _ (shelf : Shelf) (crew : Crew) (laws : AllLaws crew) (more : MoreLaws) (
     most = λ w q. most w q;
   }
 
-  -- Turns in rounds, none of which wants anything, end where all is idle, if as many are allowed as suffice for what is left.
+  -- Turns in rounds, none of which lacks a resource, end where all is idle, if their number suffices for the measure.
   pub file_server_becomes_idle : IdleComes (actor_turns in_rounds crew.turns) Quiet left (MAX_OPEN + 2)
   file_server_becomes_idle = idle_comes (actor_turns in_rounds crew.turns) Quiet left polls (MAX_OPEN + 2) decreases
 
-  -- And what is known holds there.
+  -- The invariant holds there.
   pub quiet_after : (w after : Stage State (Actor crew.Worker)) (i : ℕ) (ts : List Went) → Quiet w → RoundRun copying (actor_turns in_rounds crew.turns) w i ts after
       → NoneLacksResource ts → Quiet after
   quiet_after = holds-after (actor_turns in_rounds crew.turns) Quiet left polls (MAX_OPEN + 2) decreases
 
-  -- What is left is at most what the bound counts.
+  -- The measure is at most what the bound counts.
   pub left-most-of : (w : Stage State (Actor crew.Worker)) → Quiet w
       → left w ≤ sum_to MAX_OPEN (turns_at longest w.machine (clients_in w)) + sum_to conns (turns_of_waiting longest w.machine)
   left-most-of w q =

@@ -1,4 +1,4 @@
--- Heads are short: each names a file that is read at once, or an error of this server.
+-- Heads are short: each names a file that the server reads at once, or an error status of this server.
 use Rattle.std.proofs.Common.{◌≡◌, ℕ, ◌+◌, ◌-◌, ◌^◌, ◌<◌, ◌≤◌, ◌==◌, ◌||◌, List, [], ◌∷◌, ◌++◌, length, ap, refl, subst, arith, Option, Some, true, false, Bool, length-append, if◌then◌else◌}
 use Rattle.std.specs.Prelude.{codes, decimal, unwrap_or, not}
 use Rattle.std.specs.List.{list_any}
@@ -118,7 +118,7 @@ framing-short (Length len) low =
 framing-short Chunked low = let e : length (codes "Transfer-Encoding: chunked\r\n") ≡ 28 = refl in omega (arith, e)
 framing-short UntilClose low = omega arith
 
--- the bytes from first to last of so many
+-- the bytes from `first` to `last` of `len`
 part-line : (first last len : ℕ) → first ≤ 16777216 → last ≤ 16777216 → len ≤ 16777216 → length (range_line (Some (of.Bytes first last len))) ≤ 49
 part-line first last len a b c =
     let one = eight first a in

@@ -107,7 +107,7 @@ each-sought : (s : State) (by f at : ℕ) (o : Option Descriptor) → EachMay s 
 each-sought s by f at (Some (on.File g was mode)) each = each-moved s s by f g at mode each
 each-sought s by f at o each = each-fds s s by _ (may-freed s s by f (each by)) each
 
--- who is given a connection may read its pool
+-- a domain that is given a connection may read its pool
 may-given : (s : State) (to : ℕ) (x : Descriptor) → fds.denied_by s to (fds.needed_pool s (Some x)) ≡ None → May s to x
 may-given s to (on.Connection c) unrefused = λ e is.
     let may = when-not (no.Denied (conn_at s c).pool) (may_read s to (conn_at s c).pool) unrefused in
@@ -144,7 +144,7 @@ each-new s by each d fd x is = elim (domain-push s new_domain d) [
   | inr both ↦ may-none s d fd x (sym (ap (λ (z : Domain Text). in_place z.fds fd) both.1) ∙ is)
 ]
 
--- what is accepted may be read
+-- a domain that accepts a connection may read its pool
 may-waiting : (s : State) (by : ℕ) (o : Option ℕ) → IsOrderly s → fds.waiting s by ≡ o → is_none o ≡ false → May s by (on.Connection (unwrap_or o 0))
 may-waiting s by None order is some = absurd (cc (some))
 may-waiting s by (Some c) order is some = λ e same.
@@ -202,7 +202,7 @@ closed_by-pool : (k : Connection) (how : How) → (closed_by k how).pool ≡ k.p
 closed_by-pool k ways.Done = refl
 closed_by-pool k ways.Gone = refl
 
--- what happens outside changes no domain, and no pool of a connection that was there
+-- an event outside changes no domain, and no pool of an existing connection
 outside-pool : (s : State) (e : Event) (c : ℕ) → IsOrderly s → ((d : ℕ) (k : Call) → e ≡ event.Call d k → ⊥) → (conn_at s c).closed ≡ false → (conn_at (meaning s e).after c).closed ≡ false
     → (conn_at (meaning s e).after c).pool ≡ (conn_at s c).pool
 outside-pool s (event.Call d k) c order outside was open_yet = absurd (outside d k refl)
@@ -254,7 +254,7 @@ module _ (s t : State) (order : IsOrderly s) (order_t : IsOrderly t) (readers : 
   holds-step event.Flush r step = outside-holds event.Flush (λ d k is. cc (is)) step.2
   holds-step event.DropClean r step = outside-holds event.DropClean (λ d k is. cc (is)) step.2
 
--- in a new state nobody has any
+-- in a new state no domain has a descriptor
 pub holds-new : (slots : List (List ℕ)) → MayReadConns (new_state slots)
 holds-new slots d fd c is = absurd (elim (domain-new_state slots d) [
   | inl new ↦ nobody (ap (λ (z : Domain Text). in_place z.fds fd) new)

@@ -1,4 +1,4 @@
--- A site of files comes to rest from its new world on.
+-- A site of files becomes idle, from its new world.
 use Rattle.std.proofs.Common.{inl, inr, ◌≡◌, ◌⊎◌, ℕ, List, [], ◌∷◌, ap, ◌∙◌, refl, sym, subst, arith, Option, Some, None, true, Bool}
 use Rattle.std.specs.Prelude.{unwrap_or}
 use Rattle.std.specs.List.{list_all}
@@ -37,7 +37,7 @@ use Rattle.flash_progress.proofs.Served.{fair-any, becomes_idle, serves_all}
 
 -- ---- what came can be read, from a new world on
 
--- nothing came in where no connection is there
+-- without connections there are no unread bytes
 none-at-home : (es : List (ℕ × Connection)) → Once es → ((c : ℕ) → unwrap_or (lookup es c) no_conn ≡ no_conn) → list_all (λ e. lies_in e.1.pool e.1.incoming) es ≡ true
 none-at-home [] once none = refl
 none-at-home (e ∷ es) once none = both (λ (k : Connection). lies_in k.pool k.incoming) first (none-at-home es once.1 others)
@@ -70,7 +70,7 @@ new-reads m order none = record {
 }
 
 module _ {P : Type 0} (turns : Account P) where
-  -- what a step of a world is for the machine: nothing, or an event
+  -- a step of a world leaves the machine, or is one event of it
   abbrev Moved : State → State → Type 0
   Moved m n = (n ≡ m) ⊎ ((e : Event) × (r : Reply) × StepsTo m e r n)
 

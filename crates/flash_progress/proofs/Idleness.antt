@@ -1,4 +1,4 @@
--- Turns of one process come to rest.
+-- Turns of one process end where it is idle.
 use Rattle.std.proofs.Common.{◌≡◌, ◌≤◌, ◌<◌, ℕ, zero, suc, ◌+◌, ◌*◌, ◌%◌, List, [], ◌∷◌, length, take, replicate, ap, ◌∙◌, refl, sym, subst, arith, true, false, Bool}
 use Rattle.std.proofs.lemmas.Bool.Decides.{nat_tests}
 use Rattle.std.proofs.Math.Nat.{mul-le-mul_left}
@@ -13,13 +13,13 @@ use Rattle.iol_proc.specs.World.{Stage, copying, PlaceTurn}
 use Rattle.flash_progress.specs.Served.{lacks_resource, NoneLacksResource}
 use Rattle.flash_progress.proofs.Decrease.{Decreases, IdleComes}
 
--- the turns of its own that a process has at most before it has yielded twice, if it has yielded so often
+-- the most turns that a process has before it has yielded twice, after this number of yields, if none of them does anything
 abbrev own_turns : (round yields polls : ℕ) → ℕ
 own_turns round zero polls = polls + (round + 2)
 own_turns round (suc zero) polls = polls + 1
 own_turns round (suc (suc n)) polls = 0
 
--- and with so much left to do
+-- the same, where turns may decrease the measure
 abbrev all_turns : (round left yields polls : ℕ) → ℕ
 all_turns round left n polls = (2 * round + 3) * left + own_turns round n polls
 
@@ -27,7 +27,7 @@ is_wb : (r : Reply) → is_would_block r ≡ true → r ≡ reply.Refused WouldB
 is_wb (reply.Refused WouldBlock) is = refl
 is_wb r is = absurd (cc (is))
 
--- one less to do makes up for a whole round, and another
+-- one unit of the measure pays for two rounds
 less_left : (k a b c e : ℕ) → a < b → c < k → k * a + c < k * b + e
 less_left k a b c e less few =
     let step : k * (suc a) ≤ k * b = mul-le-mul_left k less in
@@ -95,7 +95,7 @@ module _ {P : Type 0} (turns : Account P) (Holds : Stage State P → Type 0) (le
           let less = d.falls w mid r holds turn smooth is in
           (0, ap (λ (b : Bool). if b then n ∷ [] else replicate 1 0) is, less_left (2 * round + 3) (left mid) (left w) (polls mid + (round + 2)) (own_turns round n (polls w)) less (omega (arith, few)))
 
-  -- so there are only so many of them
+  -- so their number is bounded
   few_turns : (ts : List Went) (n i : ℕ) (w after : Stage State P) → Holds w → RoundRun copying turns w i ts after → NoneLacksResource ts
       → NeverIdle n i ts → length ts ≤ bound n w
   few_turns [] n i w after holds ran smooth never = omega arith
@@ -126,7 +126,7 @@ module _ {P : Type 0} (turns : Account P) (Holds : Stage State P → Type 0) (le
           let split : (2 * round + 3) * (left w + 1) ≡ (2 * round + 3) * left w + (2 * round + 3) = grind (arith) in
           absurd (omega (arith, all, few, asked, split, enough_turns))
 
-  -- What is known holds where they end.
+  -- The invariant holds where they end.
   pub holds-after : (w after : Stage State P) (i : ℕ) (ts : List Went) → Holds w → RoundRun copying turns w i ts after → NoneLacksResource ts → Holds after
   holds-after w after i [] holds ran none = subst (λ (v : Stage State P). Holds v) (sym ran) holds
   holds-after w after i (t ∷ ts) holds ran none =

@@ -1,4 +1,4 @@
--- What the server needs of the machine stays so over its own turns, and what is known by it.
+-- What the server needs of the machine holds after each of its own turns; and what follows from it.
 use Rattle.std.proofs.Common.{◌≡◌, ℕ, ◌<◌, ◌≤◌, ◌==◌, List, [], ◌∷◌, length, ap, ◌∙◌, refl, sym, subst, arith, Some, true, false, Bool, length-append}
 use Rattle.std.specs.Prelude.{nat_lt, ◌&&◌}
 use Rattle.std.specs.List.{list_all}
@@ -32,16 +32,16 @@ use Rattle.flash_progress.proofs.Holders.{holds-step}
 use Rattle.flash_progress.proofs.Lengths.{text-fits}
 use Rattle.flash_progress.proofs.ServerTurns.{IsKnown}
 
--- the laws that are wanted besides
+-- the further laws of the machine
 pub record MoreLaws : Type 0 where
   pub homes : ArrivalsLieInTheirPool
   pub histories : HistoriesAddUp
 
--- each connection that waits has a number below this one
+-- the number of each connection that is not accepted is below `conns`
 abbrev pub AreFew : (conns : ℕ) → State → Type 0
 AreFew conns m = (c : ℕ) → (conn_at m c).accepted ≡ false → c < conns
 
--- in each state those that wait have numbers below the next one
+-- in each state it is below the next number
 pub few-now : (m : State) → IsOrderly m → AreFew m.next_conn m
 few-now m order c waits = by (nat_lt c m.next_conn) refl
   where
@@ -53,7 +53,7 @@ few-now m order c waits = by (nat_lt c m.next_conn) refl
 
 -- ---- what is known
 
--- nothing comes in by a call
+-- a call adds no unread bytes
 none-come : HistoriesAddUp → (m n : State) (k : Call) (r : Reply) (c : ℕ) → IsOrderly m → StepsTo m (event.Call server k) r n
     → length (conn_at n c).incoming ≤ length (conn_at m c).incoming
 unfolding stream_of
@@ -67,7 +67,7 @@ none-come histories m n k r c order step =
     let now = length-map (conn_at n c).incoming (λ b. b.0) in
     omega (arith, all, one, none, two, was, now)
 
--- what came in the server may read
+-- the server may read the unread bytes of its connections
 all-seen : ArrivalsLieInTheirPool → (m : State) → CanRead m → (fd c q : ℕ) → descriptor m server fd ≡ Some (on.Connection c) → IsHidden m server q (conn_at m c).incoming → ⊥
 all-seen homes m reads fd c q opened hidden =
     let all : lies_in (conn_at m c).pool ((hidden.byte, q) ∷ hidden.rest) ≡ true = subst (λ (t : Text). lies_in (conn_at m c).pool t ≡ true) hidden.text_is (homes.each m c reads.home) in
@@ -93,7 +93,7 @@ known-of more conns m order low reads places few = record {
 
 -- ---- after an event
 
--- what came can be read
+-- arrivals can be read
 pub read-step : ArrivalsLieInTheirPool → EachStepLeavesTheRest → EachStepKeepsOrder → (s t : State) (e : Event) (r : Reply) → IsOrderly s → CanRead s → StepsTo s e r t → CanRead t
 read-step homes steps orders s t e r order reads step = record {
   home = homes.step s t e r reads.home step;
@@ -116,7 +116,7 @@ module _ (shelf : Shelf) (crew : Crew) (laws : AllLaws crew) (m n : State) (k : 
       there true is = is
       there false is = absurd (none-listed m server places.place is (fixed.access.default server places.place places.default))
 
-  -- none waits that did not
+  -- no connection becomes unaccepted
   pub few-calls : (conns : ℕ) → AreFew conns m → AreFew conns n
   few-calls conns few c waits = few c (by (conn_at m c).accepted refl)
     where

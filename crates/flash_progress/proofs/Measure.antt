@@ -1,5 +1,5 @@
--- What is left to do for a connection of files, in turns, where no response is longer than so many bytes: for the request in
--- progress, for those that are kept, for what is still to be read of the stream, and for the end.
+-- The measure of a connection of files, in turns, where no response has more than `longest` bytes: for the request in progress, for the kept
+-- bytes, for the unread bytes of the stream, and for the end of the connection.
 use Rattle.std.specs.Prelude.{ℕ, ◌+◌, ◌*◌, Bool, true, false, List, length, if◌then◌else◌}
 use Rattle.flash_http.specs.Request.{Answer}
 use Rattle.flash_laws.specs.Answers.{keeps}
@@ -7,11 +7,11 @@ use Rattle.flash_laws.specs.declared.phase.Doing.{Doing}
 use Rattle.flash_laws.specs.declared.phase.Doing.TheVariants.{Rests, Got, Opens, Reads, Shuts, Breaks, Drops, Closes, Over}
 use Rattle.flash_laws.proofs.Conn.Progress.{calls_left}
 
--- the turns that one request takes at most: three a byte of its response, and some
+-- the most turns that one request takes: three per byte of its response, and a constant
 abbrev pub request_turns : (longest : ℕ) → ℕ
 request_turns longest = 3 * longest + 16
 
--- those that the request in progress still takes, and then the end of the connection
+-- for the request in progress, and the end of the connection
 abbrev pub ahead : (longest : ℕ) → Answer → Doing → ℕ
 ahead longest q Rests = 6
 ahead longest q Opens = 3 * longest + 21
@@ -33,11 +33,11 @@ reads_on q Closes = false
 reads_on q Over = false
 reads_on q d = keeps q
 
--- those of the requests that are kept: each has a byte at least
+-- for the requests that are kept: each has at least one byte
 abbrev pub kept_turns : (longest : ℕ) → (on : Bool) → (kept : List ℕ) → ℕ
 kept_turns longest on kept = if on then request_turns longest * length kept else 0
 
--- those of the bytes that are not yet read: each is read, and is kept then
+-- for the unread bytes: each is read, and then kept
 abbrev pub unread_turns : (longest unread : ℕ) → ℕ
 unread_turns longest unread = (request_turns longest + 2) * unread
 

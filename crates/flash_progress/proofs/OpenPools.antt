@@ -1,4 +1,4 @@
--- No call of a connection of files meets a closed pool: it makes bytes in the default pool alone, which is open.
+-- No call for a connection of files meets a closed pool: it makes bytes only in the default pool, which is open.
 use Rattle.std.proofs.Common.{◌≡◌, ℕ, ◌-◌, List, length, refl, arith, Some, true, false, Bool, if◌then◌else◌}
 use Rattle.iol_core.specs.State.{State, descriptor, is_live}
 use Rattle.iol_core.specs.Run.{StepsTo}
@@ -25,7 +25,7 @@ use Rattle.flash_laws.proofs.World.AllLaws.{AllLaws}
 
 module _ (shelf : Shelf) (crew : Crew) (laws : AllLaws crew) (m n : State) (fd c : ℕ) (kept script due : List ℕ) (order : IsOrderly m) (lives : is_live m server ≡ true)
     (open_on : descriptor m server fd ≡ Some (on.Connection c)) (p : ℕ) where
-  -- its call is refused so
+  -- its call is refused by a closed pool
   abbrev Refuses : Answer → Doing → Type 0
   Refuses q d = StepsTo m (event.Call server (wants fd (at kept q d))) (reply.Refused (no.PoolClosed p)) n
 

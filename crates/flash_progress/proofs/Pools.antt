@@ -1,4 +1,4 @@
--- The pool of a connection stays the one that it was made in, over each call.
+-- No call changes the pool of a connection.
 use Rattle.std.proofs.Common.{inl, inr, ◌≡◌, ◌⊎◌, ℕ, List, [], ◌∷◌, ap, refl, sym, subst, true, false}
 use Rattle.std.proofs.lemmas.Bool.{cases_eq}
 use Rattle.iol_core.specs.State.{State, Connection, conn_at}

@@ -1,4 +1,4 @@
--- Each call for a connection of files that is answered, and not to be made again later, leaves less to do for it.
+-- Each call for a connection of files that is not retried later decreases the measure of the connection.
 use Rattle.std.proofs.Common.{inl, inr, ◌≡◌, ℕ, suc, ◌+◌, ◌*◌, ◌-◌, ◌<◌, ◌≤◌, List, [], ◌∷◌, ◌++◌, length, drop, take, ap, ◌∙◌, refl, sym, subst, arith, Some, None, true, false, Bool, length-append, length-drop, if◌then◌else◌}
 use Rattle.std.specs.Prelude.{nat_lt, nat_le, slice_range, not}
 use Rattle.std.proofs.Math.Nat.{mul-le-mul_left}

@@ -1,4 +1,4 @@
--- Progress of a server of files: it comes to rest, and then each connection is served.
+-- Progress of a server of files: it becomes idle, and then each connection is served.
 use Rattle.std.proofs.Common.{inl, inr, ◌≡◌, ℕ, ◌+◌, ◌*◌, ◌≤◌, List, [], ◌∷◌, ◌++◌, length, map, ap, ◌∙◌, refl, sym, subst, arith, true, false, Bool}
 use Rattle.std.proofs.Math.Nat.{mul-le-mul_left}
 use Rattle.iol_core.specs.State.{State, conn_at, new_state}
@@ -45,7 +45,7 @@ use Rattle.flash_progress.proofs.FileServer.{Quiet, any-among, file_server_becom
 
 -- ---- what came can be read
 
--- In each state that is reached.
+-- In each reachable state.
 pub arrivals_can_be_read : ArrivalsLieInTheirPool → EachStepLeavesTheRest → EachStepKeepsOrder → ArrivalsCanBeRead
 arrivals_can_be_read homes steps orders = record {
   new = new;

@@ -1,4 +1,4 @@
--- A turn of the server that is answered, and not to be made again later, leaves less to do.
+-- A call of the server that is not retried later decreases the measure.
 use Rattle.std.proofs.Common.{inl, inr, ◌≡◌, ℕ, ◌<◌, ◌≤◌, List, ap, ◌∙◌, refl, sym, subst, arith, Option, Some, None, true, false, Bool, length, if◌then◌else◌}
 use Rattle.iol_core.specs.NumberedLists.{in_place}
 use Rattle.iol_core.specs.State.{State, descriptor, conn_at}
@@ -53,8 +53,8 @@ use Rattle.flash_laws.proofs.World.AllLaws.{AllLaws}
 use Rattle.flash_laws.proofs.World.Calls.{is_client_call, calls-alone}
 use Rattle.flash_laws.proofs.World.ServerTurn.{client-awaits}
 
--- What is known of the machine while a world of files comes to rest: there is room, what came in the server may read, numbers are
--- low, and calls bring nothing in.
+-- What is known of the machine: heads can be made, the server may read the unread bytes of its connections, numbers are low, and a
+-- call adds no unread bytes.
 pub record IsKnown (places conns : ℕ) (m : State) : Type 0 where
   pub room : HasRoom m
   pub seen : (fd c q : ℕ) → descriptor m server fd ≡ Some (on.Connection c) → IsHidden m server q (conn_at m c).incoming → ⊥

@@ -1,4 +1,4 @@
--- What is left to do in a world of files: each call of the server that is answered, and is not to be made again later, leaves less.
+-- The measure of a world of files: each call for a client that is not retried later decreases it, and so does accepting a connection.
 use Rattle.std.proofs.Common.{inl, inr, ◌≡◌, ◌≢◌, ℕ, zero, suc, ◌+◌, ◌<◌, ◌≤◌, List, [], ◌∷◌, length, ap, ◌∙◌, refl, sym, subst, arith, Option, Some, None, true, false, Bool, if◌then◌else◌}
 use Rattle.std.proofs.lemmas.Bool.{cases_eq}
 use Rattle.iol_core.specs.NumberedLists.{in_place}
@@ -111,7 +111,7 @@ no-script false (serve w) is = refl
 no-script false (refuse status head_only close) is = refl
 no-script true q is = absurd (cc (is))
 
--- No response to a proper request is longer than so much.
+-- No response to a proper request is longer than `longest`.
 pub record AreShort (shelf : Shelf) (longest : ℕ) : Type 0 where
   pub short : (q : Answer) (due : List ℕ) → IsProper q → MayBeDue shelf q due → length due ≤ longest
   pub errors : IsShort longest
