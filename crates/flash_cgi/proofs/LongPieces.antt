@@ -3,22 +3,22 @@ use Rattle.std.proofs.Common.{inl, inr, ◌⊎◌, ◌≡◌, ◌≢◌, ℕ, �
 use Rattle.std.specs.Prelude.{◌||◌, is_some, unwrap_or}
 use Rattle.std.proofs.lemmas.List.{length-take}
 use Rattle.std.proofs.lemmas.Bool.Decides.{nat_tests}
-use Rattle.flash_cgi.specs.Collecting.{Collected, bytes_of_one, collected, is_due, is_full, with_file, woven}
+use Rattle.flash_cgi.specs.Collecting.{Collected, bytes_of_one, collected, is_due, is_full, with_file, interleaved}
 use Rattle.flash_cgi.specs.LongPieces.{HavePlaces, IsCounted, PiecesAreLong}
 use Rattle.flash_cgi.specs.declared.line.Line.{Line}
 use Rattle.flash_cgi.specs.declared.piece.Place.{Place}
 
 -- all bytes stand in it
-length-woven : (text files : List ℕ) (ps : List Place) → HavePlaces ps (length files) → length (woven text ps files) ≡ length text + length files
-length-woven text files [] h = omega (arith, h)
-length-woven text files (p ∷ ps) h =
+length-interleaved : (text files : List ℕ) (ps : List Place) → HavePlaces ps (length files) → length (interleaved text ps files) ≡ length text + length files
+length-interleaved text files [] h = omega (arith, h)
+length-interleaved text files (p ∷ ps) h =
     let front = length-take p.from files in
     let back = length-drop p.from files in
     let before = length-take p.at text in
     let behind = length-drop p.at text in
     let from_is : length (take p.from files) ≡ p.from = (let le = h.0 in omega (arith, front, le)) in
-    let rest = length-woven (take p.at text) (take p.from files) ps (subst (λ (k : ℕ). HavePlaces ps k) (sym from_is) h.1) in
-    let all = length-append (woven (take p.at text) ps (take p.from files)) (drop p.from files ++ drop p.at text) in
+    let rest = length-interleaved (take p.at text) (take p.from files) ps (subst (λ (k : ℕ). HavePlaces ps k) (sym from_is) h.1) in
+    let all = length-append (interleaved (take p.at text) ps (take p.from files)) (drop p.from files ++ drop p.at text) in
     let ends = length-append (drop p.from files) (drop p.at text) in
     let le = h.0 in
     omega (arith, all, ends, rest, from_is, back, before, behind, le)
@@ -41,8 +41,8 @@ long lent x l h due = by (either (is_full x) (is_some x.next) due)
     by (inl full) = inl (
         let count = h.count in
         let most : 4064 ≤ length x.text + x.files = grind (arith, nat_tests, full) in
-        let all = length-woven x.text files x.places (subst (λ (k : ℕ). HavePlaces x.places k) h.count h.places) in
-        let both = length-append (woven x.text x.places files) (bytes_of_one lent x.next) in
+        let all = length-interleaved x.text files x.places (subst (λ (k : ℕ). HavePlaces x.places k) h.count h.places) in
+        let both = length-append (interleaved x.text x.places files) (bytes_of_one lent x.next) in
         omega (arith, count, most, all, both))
     by (inr next) = inr (no_none x.next next)
 

@@ -7,8 +7,8 @@ use iol_core::numbers::AggId;
 use std::alloc::{AllocError, Global};
 use std::marker::Model;
 
-/// The bytes from which on a piece is written before the next line: all but 32 of those of a page, so that what one more line says
-/// of a file lies in that page, too.
+/// A piece of so many bytes is written before the next line: all but 32 of the bytes of a page, so that the text of one more
+/// `wc` line, or a refusal, lies in that page, too.
 pub const MIN_PIECE_BYTES: usize = 4064;
 
 /// The bytes that a file has at most which is collected: as many as lie in a page. A longer one is written by itself.
