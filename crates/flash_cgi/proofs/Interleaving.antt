@@ -4,7 +4,7 @@ use Rattle.std.specs.Prelude.{◌==◌, ◌&&◌, if◌then◌else◌, is_none, 
 use Rattle.std.proofs.lemmas.List.{take-append-le, drop-append-le, length-take}
 use Rattle.std.proofs.lemmas.Bool.Decides.{nat_tests}
 use Rattle.std.proofs.Math.Seq.{drop-append_seam, take-append_seam}
-use Rattle.flash_cgi.specs.Collecting.{Collected, bytes_of_one, collected, collected_in, is_nothing, place_behind, with_file, with_text, woven}
+use Rattle.flash_cgi.specs.Collecting.{Collected, bytes_of_one, collected, collected_in, is_nothing, place_behind, with_file, with_text, interleaved}
 use Rattle.flash_cgi.specs.Feeds.{set_in}
 use Rattle.flash_cgi.specs.Pieces.{AreWithin, Gathers, HasPiece, IsApart, Lends, LendsFiles, LendsNext}
 use Rattle.flash_cgi.specs.declared.piece.Place.{Place}
@@ -20,13 +20,13 @@ take_whole [] = refl
 take_whole (x ∷ xs) = ap (λ (l : List ℕ). x ∷ l) (take_whole xs)
 
 -- more text stands behind all of it
-pub behind : (text said files : List ℕ) (ps : List Place) → AreWithin (length text) ps → woven (text ++ said) ps files ≡ woven text ps files ++ said
+pub behind : (text said files : List ℕ) (ps : List Place) → AreWithin (length text) ps → interleaved (text ++ said) ps files ≡ interleaved text ps files ++ said
 behind text said files [] h = refl
 behind text said files (p ∷ ps) h =
-    ap (λ (l : List ℕ). woven l ps front ++ (part ++ drop p.at (text ++ said))) (take-append-le p.at text said h.0)
-    ∙ ap (λ (l : List ℕ). woven (take p.at text) ps front ++ (part ++ l)) (drop-append-le p.at text said h.0)
-    ∙ sym (append_assoc (woven (take p.at text) ps front) (part ++ drop p.at text) said
-    ∙ ap (λ (l : List ℕ). woven (take p.at text) ps front ++ l) (append_assoc part (drop p.at text) said))
+    ap (λ (l : List ℕ). interleaved l ps front ++ (part ++ drop p.at (text ++ said))) (take-append-le p.at text said h.0)
+    ∙ ap (λ (l : List ℕ). interleaved (take p.at text) ps front ++ (part ++ l)) (drop-append-le p.at text said h.0)
+    ∙ sym (append_assoc (interleaved (take p.at text) ps front) (part ++ drop p.at text) said
+    ∙ ap (λ (l : List ℕ). interleaved (take p.at text) ps front ++ l) (append_assoc part (drop p.at text) said))
   where
     front : List ℕ
     front = take p.from files
@@ -34,20 +34,20 @@ behind text said files (p ∷ ps) h =
     part : List ℕ
     part = drop p.from files
 
-ends_at : (text files bytes : List ℕ) (ps : List Place) → woven text (record { at = length text; from = length files } ∷ ps) (files ++ bytes) ≡ woven text ps files ++ bytes
+ends_at : (text files bytes : List ℕ) (ps : List Place) → interleaved text (record { at = length text; from = length files } ∷ ps) (files ++ bytes) ≡ interleaved text ps files ++ bytes
 ends_at text files bytes ps =
-    ap (λ (l : List ℕ). woven (take (length text) text) ps l ++ (drop (length files) (files ++ bytes) ++ drop (length text) text)) (take-append_seam files bytes)
-    ∙ ap (λ (l : List ℕ). woven (take (length text) text) ps files ++ (l ++ drop (length text) text)) (drop-append_seam files bytes)
-    ∙ ap (λ (l : List ℕ). woven l ps files ++ (bytes ++ drop (length text) text)) (take_whole text)
-    ∙ ap (λ (l : List ℕ). woven text ps files ++ (bytes ++ l)) (drop_whole text)
-    ∙ ap (λ (l : List ℕ). woven text ps files ++ l) (append-nil bytes)
+    ap (λ (l : List ℕ). interleaved (take (length text) text) ps l ++ (drop (length files) (files ++ bytes) ++ drop (length text) text)) (take-append_seam files bytes)
+    ∙ ap (λ (l : List ℕ). interleaved (take (length text) text) ps files ++ (l ++ drop (length text) text)) (drop-append_seam files bytes)
+    ∙ ap (λ (l : List ℕ). interleaved l ps files ++ (bytes ++ drop (length text) text)) (take_whole text)
+    ∙ ap (λ (l : List ℕ). interleaved text ps files ++ (bytes ++ l)) (drop_whole text)
+    ∙ ap (λ (l : List ℕ). interleaved text ps files ++ l) (append-nil bytes)
 
 -- and so do the bytes of one more file
 pub file_behind : (text files bytes : List ℕ) (ps : List Place) (at from : ℕ) → at ≡ length text → from ≡ length files
-    → woven text (record { at = at; from = from } ∷ ps) (files ++ bytes) ≡ woven text ps files ++ bytes
+    → interleaved text (record { at = at; from = from } ∷ ps) (files ++ bytes) ≡ interleaved text ps files ++ bytes
 file_behind text files bytes ps at from at_is from_is =
-    ap (λ (k : ℕ). woven text (record { at = k; from = from } ∷ ps) (files ++ bytes)) at_is
-    ∙ (ap (λ (k : ℕ). woven text (record { at = length text; from = k } ∷ ps) (files ++ bytes)) from_is ∙ ends_at text files bytes ps)
+    ap (λ (k : ℕ). interleaved text (record { at = k; from = from } ∷ ps) (files ++ bytes)) at_is
+    ∙ (ap (λ (k : ℕ). interleaved text (record { at = length text; from = k } ∷ ps) (files ++ bytes)) from_is ∙ ends_at text files bytes ps)
 
 at_front : (text : List ℕ) (k : ℕ) → k ≤ length text → length (take k text) ≡ k
 at_front text k h = omega (arith, length-take k text, h)
@@ -58,7 +58,7 @@ wider a b (p ∷ ps) le h = (omega (arith, le, h.0), h.1)
 
 -- the last place may be set first
 pub set_last : (text files : List ℕ) (p : Place) (ps : List Place) → p.at ≤ length text → AreWithin p.at ps
-    → woven text (p ∷ ps) files ≡ woven (set_in text p.at (drop p.from files)) ps (take p.from files)
+    → interleaved text (p ∷ ps) files ≡ interleaved (set_in text p.at (drop p.from files)) ps (take p.from files)
 set_last text files p ps at within =
     sym (behind (take p.at text) (drop p.from files ++ drop p.at text) (take p.from files) ps (subst (λ (k : ℕ). AreWithin k ps) (sym (at_front text p.at at)) within))
 
@@ -110,8 +110,8 @@ module _ (lm ln : ℕ → Option (List ℕ)) where
 
   pub text_kept : (len : ℕ) (text : List ℕ) (x : Collected) → LendsStill lm ln x → HasPiece lm len x → collected_in ln text x ≡ collected_in lm text x
   text_kept len text x stays h =
-      ap (λ (l : List ℕ). woven text x.places l ++ bytes_of_one ln x.next) (files_same x.held x.places (λ a bytes is l. stays a bytes (inl is) l) h.files)
-      ∙ ap (λ (l : List ℕ). woven text x.places (bytes_of_one lm x.held) ++ l) (next_same x.held x.next (λ a bytes is l. stays a bytes (inr is) l) h.next)
+      ap (λ (l : List ℕ). interleaved text x.places l ++ bytes_of_one ln x.next) (files_same x.held x.places (λ a bytes is l. stays a bytes (inl is) l) h.files)
+      ∙ ap (λ (l : List ℕ). interleaved text x.places (bytes_of_one lm x.held) ++ l) (next_same x.held x.next (λ a bytes is l. stays a bytes (inr is) l) h.next)
 
   pub gathers_still : (x : Collected) → LendsStill lm ln x → Gathers lm x → Gathers ln x
   gathers_still x stays g = record { piece = piece_kept (length x.text) x stays g.piece; none_next = g.none_next; short = g.short }
@@ -134,8 +134,8 @@ new_apart lent len x a h none = (held_is_lent lent x.held x.places a h.files non
 -- where nothing but a file that is too long is left, that is all of it
 pub rest_text : (lent : ℕ → Option (List ℕ)) (x : Collected) → x.text ≡ [] → x.places ≡ [] → collected lent x ≡ bytes_of_one lent x.next
 rest_text lent x no_text no_places =
-    ap (λ (t : List ℕ). woven t x.places (bytes_of_one lent x.held) ++ bytes_of_one lent x.next) no_text
-    ∙ ap (λ (ps : List Place). woven [] ps (bytes_of_one lent x.held) ++ bytes_of_one lent x.next) no_places
+    ap (λ (t : List ℕ). interleaved t x.places (bytes_of_one lent x.held) ++ bytes_of_one lent x.next) no_text
+    ∙ ap (λ (ps : List Place). interleaved [] ps (bytes_of_one lent x.held) ++ bytes_of_one lent x.next) no_places
 
 pub text_added : (lent : ℕ → Option (List ℕ)) (x : Collected) (said : List ℕ) → HasPiece lent (length x.text) x → HasPiece lent (length (x.text ++ said)) (with_text x said)
 text_added lent x said h = record {
@@ -146,8 +146,8 @@ text_added lent x said h = record {
 
 pub said_behind : (lent : ℕ → Option (List ℕ)) (x : Collected) (said rest : List ℕ) → Gathers lent x → collected lent (with_text x said) ++ rest ≡ collected lent x ++ (said ++ rest)
 said_behind lent x said rest g =
-    ap (λ (l : List ℕ). (woven (x.text ++ said) x.places files ++ l) ++ rest) none
-    ∙ (ap (λ (l : List ℕ). l ++ rest) (append-nil (woven (x.text ++ said) x.places files) ∙ behind x.text said files x.places g.piece.within)
+    ap (λ (l : List ℕ). (interleaved (x.text ++ said) x.places files ++ l) ++ rest) none
+    ∙ (ap (λ (l : List ℕ). l ++ rest) (append-nil (interleaved (x.text ++ said) x.places files) ∙ behind x.text said files x.places g.piece.within)
     ∙ (append_assoc all said rest
     ∙ (ap (λ (l : List ℕ). l ++ (said ++ rest)) (sym (append-nil all)) ∙ ap (λ (l : List ℕ). (all ++ l) ++ (said ++ rest)) (sym none))))
   where
@@ -155,7 +155,7 @@ said_behind lent x said rest g =
     files = bytes_of_one lent x.held
 
     all : List ℕ
-    all = woven x.text x.places files
+    all = interleaved x.text x.places files
 
     none : bytes_of_one lent x.next ≡ []
     none = ap (λ (o : Option ℕ). bytes_of_one lent o) g.none_next
@@ -172,13 +172,13 @@ file_added ln x a from len within none short lends = record {
 pub file_in : (lm ln : ℕ → Option (List ℕ)) (x : Collected) (a from len : ℕ) (files bytes rest : List ℕ) → x.next ≡ None → length x.text ≤ 4096 → bytes_of_one lm x.held ≡ files → from ≡ length files → ln a ≡ Some (files ++ bytes)
     → collected ln (with_file x a from len) ++ rest ≡ collected lm x ++ (bytes ++ rest)
 file_in lm ln x a from len files bytes rest none short held_is from_is is =
-    ap (λ (o : Option (List ℕ)). (woven x.text (place ∷ x.places) (unwrap_or o []) ++ bytes_of_one ln x.next) ++ rest) is
-    ∙ (ap (λ (o : Option ℕ). (woven x.text (place ∷ x.places) (files ++ bytes) ++ bytes_of_one ln o) ++ rest) none
-    ∙ (ap (λ (l : List ℕ). l ++ rest) (append-nil (woven x.text (place ∷ x.places) (files ++ bytes)) ∙ file_behind x.text files bytes x.places place.at from (place_is (length x.text) short) from_is)
-    ∙ (append_assoc (woven x.text x.places files) bytes rest
-    ∙ (ap (λ (l : List ℕ). woven x.text x.places l ++ (bytes ++ rest)) (sym held_is)
-    ∙ (ap (λ (l : List ℕ). l ++ (bytes ++ rest)) (sym (append-nil (woven x.text x.places (bytes_of_one lm x.held))))
-    ∙ ap (λ (o : Option ℕ). (woven x.text x.places (bytes_of_one lm x.held) ++ bytes_of_one lm o) ++ (bytes ++ rest)) (sym none))))))
+    ap (λ (o : Option (List ℕ)). (interleaved x.text (place ∷ x.places) (unwrap_or o []) ++ bytes_of_one ln x.next) ++ rest) is
+    ∙ (ap (λ (o : Option ℕ). (interleaved x.text (place ∷ x.places) (files ++ bytes) ++ bytes_of_one ln o) ++ rest) none
+    ∙ (ap (λ (l : List ℕ). l ++ rest) (append-nil (interleaved x.text (place ∷ x.places) (files ++ bytes)) ∙ file_behind x.text files bytes x.places place.at from (place_is (length x.text) short) from_is)
+    ∙ (append_assoc (interleaved x.text x.places files) bytes rest
+    ∙ (ap (λ (l : List ℕ). interleaved x.text x.places l ++ (bytes ++ rest)) (sym held_is)
+    ∙ (ap (λ (l : List ℕ). l ++ (bytes ++ rest)) (sym (append-nil (interleaved x.text x.places (bytes_of_one lm x.held))))
+    ∙ ap (λ (o : Option ℕ). (interleaved x.text x.places (bytes_of_one lm x.held) ++ bytes_of_one lm o) ++ (bytes ++ rest)) (sym none))))))
   where
     place : Place
     place = record { at = place_behind (length x.text); from = from }

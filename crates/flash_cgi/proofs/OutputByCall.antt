@@ -23,7 +23,7 @@ use Rattle.iol_laws.specs.CallerFiles.{FileCallsServeTheirDomain}
 use Rattle.iol_laws.specs.Frame.{EachStepLeavesTheRest, Leaves, touches_fd, ends}
 use Rattle.iol_laws.specs.Order.{IsOrderly}
 use Rattle.iol_laws.specs.Reasons.{RefusalsTellWhy}
-use Rattle.flash_cgi.specs.Collecting.{Collected, bytes_of_one, collected, is_due, is_full, is_nothing, with_file, with_next, with_text, without_next, woven}
+use Rattle.flash_cgi.specs.Collecting.{Collected, bytes_of_one, collected, is_due, is_full, is_nothing, with_file, with_next, with_text, without_next, interleaved}
 use Rattle.flash_cgi.specs.Job.{Task}
 use Rattle.flash_cgi.specs.Output.{Outcome, Found, Failed, output, by_first}
 use Rattle.flash_cgi.specs.Pieces.{Cuts, Gathers, HasPiece, HoldsAt, IsRest, Joins, Lends, LendsFiles, LendsNext}
@@ -147,9 +147,9 @@ module _ (steps : EachStepLeavesTheRest) (own : CallsServeTheirDomain) (files : 
       large false is =
           on_to (at_step doing.Runs begun (with_next x a)) tt
           (record { files = gathers.piece.files; within = gathers.piece.within; next = ((f.needs.1.0, now), f.holds.1.0) })
-          (λ os. append_assoc (woven x.text x.places (bytes_of_one (lent_at n d) x.held)) (bytes_at (lent_at n d) a) (rest_of job begun os)
-          ∙ (ap (λ (l : List ℕ). l ++ (bytes_at (lent_at n d) a ++ rest_of job begun os)) (sym (append-nil (woven x.text x.places (bytes_of_one (lent_at n d) x.held))))
-          ∙ ap (λ (o : Option ℕ). (woven x.text x.places (bytes_of_one (lent_at n d) x.held) ++ bytes_of_one (lent_at n d) o) ++ (bytes_at (lent_at n d) a ++ rest_of job begun os)) (sym gathers.none_next)))
+          (λ os. append_assoc (interleaved x.text x.places (bytes_of_one (lent_at n d) x.held)) (bytes_at (lent_at n d) a) (rest_of job begun os)
+          ∙ (ap (λ (l : List ℕ). l ++ (bytes_at (lent_at n d) a ++ rest_of job begun os)) (sym (append-nil (interleaved x.text x.places (bytes_of_one (lent_at n d) x.held))))
+          ∙ ap (λ (o : Option ℕ). (interleaved x.text x.places (bytes_of_one (lent_at n d) x.held) ++ bytes_of_one (lent_at n d) o) ++ (bytes_at (lent_at n d) a ++ rest_of job begun os)) (sym gathers.none_next)))
 
       by_len : (t : Bool)
           → ComesTo m d p job s unseen r n (if t then file_collected x x.held from a (length (bytes_at (lent_at n d) a)) begun

@@ -44,7 +44,7 @@ use Rattle.flash_cgi.specs.Turns.{RunsJob, filed_step, is_given, or_again, step_
 use Rattle.flash_cgi.specs.Standstill.{is_over}
 use Rattle.flash_cgi.specs.Works.{goes_on, with_job, works, works_as, worker_turns}
 use Rattle.flash_cgi.specs.Works.{files as files_reply}
-use Rattle.flash_cgi.specs.WorkerSteps.{bytes_at, call_at, doing_call, due_now, file_collected, next_call, shut_by, told, told_broken, told_cut, told_doing, told_dropped, told_joined, told_made, told_next, told_opened, told_parted, told_read, told_replaced, told_written, weave_by, weave_on}
+use Rattle.flash_cgi.specs.WorkerSteps.{bytes_at, call_at, doing_call, due_now, file_collected, next_call, shut_by, told, told_broken, told_cut, told_doing, told_dropped, told_joined, told_made, told_next, told_opened, told_parted, told_read, told_replaced, told_written, interleave_by, interleave_on}
 use Rattle.flash_cgi.specs.declared.line.Line.{Line}
 use Rattle.flash_cgi.specs.declared.line.Line.TheVariants as line
 use Rattle.flash_cgi.specs.declared.phase.Purpose.{Purpose}
@@ -109,16 +109,16 @@ module _ (labels : LabelsFollow) (steps : EachStepLeavesTheRest) (files : FileCa
   LiesAfter o x y = LiesIn pools n d (or_again o (at_step y 0 x)).piece (or_again o (at_step y 0 x)).doing
 
   -- a text is made of what is collected
-  woven_lies : (x : Collected) (begun a : ℕ) → PieceLies pools n d x → Lie (text n d a) → LiesIn pools n d (weave_on begun x a).piece (weave_on begun x a).doing
-  woven_lies x begun a lies made = by x.held refl (last_place x.places)
+  interleaved_lies : (x : Collected) (begun a : ℕ) → PieceLies pools n d x → Lie (text n d a) → LiesIn pools n d (interleave_on begun x a).piece (interleave_on begun x a).doing
+  interleaved_lies x begun a lies made = by x.held refl (last_place x.places)
     where
-      by : (h : Option ℕ) → x.held ≡ h → (o : Option Place) → LiesIn pools n d (weave_by h o begun x a).piece (weave_by h o begun x a).doing
+      by : (h : Option ℕ) → x.held ≡ h → (o : Option Place) → LiesIn pools n d (interleave_by h o begun x a).piece (interleave_by h o begun x a).doing
       by None is o = (lies, made)
       by (Some held) is None = ((tt, lies.1), made)
       by (Some held) is (Some place) = (lies, (subst (λ (o : Option ℕ). OneLies pools n d o) is lies.0, made))
 
   after_made : (x : Collected) (begun : ℕ) (r : Reply) → PieceLies pools m d x → StepsTo m (event.Call d (call.AggMake x.text)) r n → LiesAfter (told_made x begun r) x doing.Runs
-  after_made x begun (reply.Agg a) lies step = woven_lies (without_text x) begun a (piece_kept (call.AggMake x.text) (reply.Agg a) x (made_here x.text) step lies) (new (call.AggMake x.text) (reply.Agg a) a (made_here x.text) step (brought a))
+  after_made x begun (reply.Agg a) lies step = interleaved_lies (without_text x) begun a (piece_kept (call.AggMake x.text) (reply.Agg a) x (made_here x.text) step lies) (new (call.AggMake x.text) (reply.Agg a) a (made_here x.text) step (brought a))
   after_made x begun r lies step = (piece_kept (call.AggMake x.text) r x (made_here x.text) step lies, tt)
 
   opened_file : (name : List ℕ) (fd : ℕ) → own_files.OpensFile m d name Read fd n → n.files ≡ m.files → PhaseLies pools n d (doing.Reads fd purpose.Cat)
@@ -251,7 +251,7 @@ module _ (labels : LabelsFollow) (steps : EachStepLeavesTheRest) (files : FileCa
   after job x begun (doing.CuttingPart held a from) r h lies step = after_parted x held a from begun r lies.0 lies.1.0 lies.1.1 step
   after job x begun (doing.ReplacingPart a part at) r h lies step = after_replaced x a part at begun r lies.0 lies.1.0 lies.1.1 step
   after job x begun (doing.DroppingText a part made) r h lies step = (piece_kept (call.AggDrop a) r x refl step lies.0, kept (call.AggDrop a) r made refl step lies.1)
-  after job x begun (doing.DroppingPart part made) r h lies step = woven_lies x begun made (piece_kept (call.AggDrop part) r x refl step lies.0) (kept (call.AggDrop part) r made refl step lies.1)
+  after job x begun (doing.DroppingPart part made) r h lies step = interleaved_lies x begun made (piece_kept (call.AggDrop part) r x refl step lies.0) (kept (call.AggDrop part) r made refl step lies.1)
   after job x begun (doing.Writes a) r h lies step = after_written x job.fd a _ begun r lies.0 lies.1 step
   after job x begun (doing.Cuts a from to) r h lies step = after_cut x a from to begun r lies.0 lies.1 step
   after job x begun (doing.Swaps a rest) r h lies step = (piece_kept (call.AggDrop a) r x refl step lies.0, kept (call.AggDrop a) r rest refl step lies.1)

@@ -16,11 +16,11 @@ use Rattle.iol_laws.specs.Caller.{CallsServeTheirDomain, lent_at}
 use Rattle.iol_laws.specs.CallerFiles as fl
 use Rattle.iol_laws.specs.Frame.{EachStepLeavesTheRest, Leaves, ends}
 use Rattle.iol_laws.specs.Order.{IsOrderly}
-use Rattle.flash_cgi.specs.Collecting.{Collected, bytes_of_one, but_last, collected, collected_in, last_place, with_held, without_files, without_last, without_text, woven}
+use Rattle.flash_cgi.specs.Collecting.{Collected, bytes_of_one, but_last, collected, collected_in, last_place, with_held, without_files, without_last, without_text, interleaved}
 use Rattle.flash_cgi.specs.Job.{Task}
 use Rattle.flash_cgi.specs.Output.{Outcome}
 use Rattle.flash_cgi.specs.Pieces.{AreWithin, Cuts, DropsPart, HasPiece, HoldsAt, IsApart, Lends, LendsFiles, LendsNext, Replaces}
-use Rattle.flash_cgi.specs.WorkerSteps.{bytes_at, place_at, told_made, told_parted, told_replaced, weave_by, weave_on}
+use Rattle.flash_cgi.specs.WorkerSteps.{bytes_at, place_at, told_made, told_parted, told_replaced, interleave_by, interleave_on}
 use Rattle.flash_cgi.specs.Feeds.{rest_of, set_in, still, Needs, Feeds, settled, Ends, ComesTo, Comes}
 use Rattle.flash_cgi.specs.declared.phase.Doing.TheVariants as doing
 use Rattle.flash_cgi.specs.declared.phase.Step.{Step}
@@ -36,9 +36,9 @@ module _ (steps : EachStepLeavesTheRest) (own : CallsServeTheirDomain) where
   Ready n d job begun text x v = Needs n d v.doing × HoldsAt (lent_at n d) v.piece v.doing
       × ((os : List Outcome) → still job (lent_at n d) v os ≡ collected_in (lent_at n d) text x ++ rest_of job begun os)
 
-  pub weaves : (n : State) (d : ℕ) (job : Task) (begun a : ℕ) (x : Collected) → Lends (lent_at n d) a → HasPiece (lent_at n d) (length (bytes_at (lent_at n d) a)) x → x.text ≡ [] → IsApart x a
-      → Ready n d job begun (bytes_at (lent_at n d) a) x (weave_on begun x a)
-  weaves n d job begun a x lends piece no_text apart = by x.held x.places refl refl
+  pub interleaves : (n : State) (d : ℕ) (job : Task) (begun a : ℕ) (x : Collected) → Lends (lent_at n d) a → HasPiece (lent_at n d) (length (bytes_at (lent_at n d) a)) x → x.text ≡ [] → IsApart x a
+      → Ready n d job begun (bytes_at (lent_at n d) a) x (interleave_on begun x a)
+  interleaves n d job begun a x lends piece no_text apart = by x.held x.places refl refl
     where
       text : List ℕ
       text = bytes_at (lent_at n d) a
@@ -47,7 +47,7 @@ module _ (steps : EachStepLeavesTheRest) (own : CallsServeTheirDomain) where
       all : x.places ≡ [] → (os : List Outcome) → text ++ (bytes_of_one (lent_at n d) x.next ++ rest_of job begun os) ≡ collected_in (lent_at n d) text x ++ rest_of job begun os
       all no_places os =
           sym (append_assoc text (bytes_of_one (lent_at n d) x.next) (rest_of job begun os))
-          ∙ ap (λ (ps : List Place). (woven text ps (bytes_of_one (lent_at n d) x.held) ++ bytes_of_one (lent_at n d) x.next) ++ rest_of job begun os) (sym no_places)
+          ∙ ap (λ (ps : List Place). (interleaved text ps (bytes_of_one (lent_at n d) x.held) ++ bytes_of_one (lent_at n d) x.next) ++ rest_of job begun os) (sym no_places)
 
       no_next : (held next : Option ℕ) → LendsNext (lent_at n d) held next → LendsNext (lent_at n d) None next
       no_next held None l = tt
@@ -57,7 +57,7 @@ module _ (steps : EachStepLeavesTheRest) (own : CallsServeTheirDomain) where
       apart_next held b None l e = absurd (cc (e))
       apart_next held b (Some c) l e = l.1 (sym e)
 
-      by : (h : Option ℕ) (ps : List Place) → x.held ≡ h → x.places ≡ ps → Ready n d job begun text x (weave_by h (last_place ps) begun x a)
+      by : (h : Option ℕ) (ps : List Place) → x.held ≡ h → x.places ≡ ps → Ready n d job begun text x (interleave_by h (last_place ps) begun x a)
       by None ps is places =
           let none : x.places ≡ [] = subst (λ (o : Option ℕ). LendsFiles (lent_at n d) o x.places) is piece.files in (
             lends,
@@ -100,7 +100,7 @@ module _ (steps : EachStepLeavesTheRest) (own : CallsServeTheirDomain) where
           (ap (λ (l : List ℕ). collected_in (lent_at n d) l x) (is_bytes n d a x.text did.0) ∙ all_same m n d x stays f.holds))))
         where
           v : Step
-          v = weave_on begun (without_text x) a
+          v = interleave_on begun (without_text x) a
 
           ComesUsing : List Outcome → Type 0
           ComesUsing used = Feeds n d p job v (λ os. unseen (used ++ os)) ⊎ (Ends m d p unseen (reply.Agg a) v n ⊎ ((pipe_at n p).reading ≡ false))
@@ -112,7 +112,7 @@ module _ (steps : EachStepLeavesTheRest) (own : CallsServeTheirDomain) where
           piece = piece_kept (lent_at m d) (lent_at n d) (length x.text) x stays f.holds
 
           ready : Ready n d job begun (bytes_at (lent_at n d) a) (without_text x) v
-          ready = weaves n d job begun a (without_text x) (x.text, did.0)
+          ready = interleaves n d job begun a (without_text x) (x.text, did.0)
               (record {
                 files = piece.files;
                 within = subst (λ (l : List ℕ). AreWithin (length l) x.places) (sym (is_bytes n d a x.text did.0)) piece.within;
@@ -200,19 +200,19 @@ module _ (steps : EachStepLeavesTheRest) (own : CallsServeTheirDomain) where
 
           same : (os : List Outcome) → still job (lent_at n d) v os ≡ collected_in (lent_at m d) (bytes_at (lent_at m d) a) x ++ rest_of job begun os
           same os = ap (λ (l : List ℕ). l ++ rest_of job begun os)
-              (ap (λ (l : List ℕ). woven (set_in (bytes_at (lent_at n d) a) (place_at (last_place x.places)) (bytes_at (lent_at n d) part)) ps (bytes_at (lent_at n d) front) ++ l) (next_same (reply.Aggs front part) step x.next next_is)
-              ∙ ap (λ (l : List ℕ). l ++ bytes_of_one (lent_at m d) x.next) woven_same)
+              (ap (λ (l : List ℕ). interleaved (set_in (bytes_at (lent_at n d) a) (place_at (last_place x.places)) (bytes_at (lent_at n d) part)) ps (bytes_at (lent_at n d) front) ++ l) (next_same (reply.Aggs front part) step x.next next_is)
+              ∙ ap (λ (l : List ℕ). l ++ bytes_of_one (lent_at m d) x.next) interleaved_same)
             where
-              woven_same : woven (set_in (bytes_at (lent_at n d) a) (place_at (last_place x.places)) (bytes_at (lent_at n d) part)) ps (bytes_at (lent_at n d) front) ≡ woven (bytes_at (lent_at m d) a) x.places (bytes_of_one (lent_at m d) x.held)
-              woven_same =
-                  ap (λ (l : List ℕ). woven (set_in l (place_at (last_place x.places)) (bytes_at (lent_at n d) part)) ps (bytes_at (lent_at n d) front)) same_a
-                  ∙ (ap (λ (k : ℕ). woven (set_in (bytes_at (lent_at m d) a) k (bytes_at (lent_at n d) part)) ps (bytes_at (lent_at n d) front)) place_now
-                  ∙ (ap (λ (l : List ℕ). woven (set_in (bytes_at (lent_at m d) a) h.place.at l) ps (bytes_at (lent_at n d) front)) (is_bytes n d part (drop from there.0) did.1)
-                  ∙ (ap (λ (l : List ℕ). woven (set_in (bytes_at (lent_at m d) a) h.place.at (drop from there.0)) ps l) (is_bytes n d front (take from there.0) did.0)
-                  ∙ (ap (λ (k : ℕ). woven (set_in (bytes_at (lent_at m d) a) h.place.at (drop k there.0)) ps (take k there.0)) (sym h.from_is)
+              interleaved_same : interleaved (set_in (bytes_at (lent_at n d) a) (place_at (last_place x.places)) (bytes_at (lent_at n d) part)) ps (bytes_at (lent_at n d) front) ≡ interleaved (bytes_at (lent_at m d) a) x.places (bytes_of_one (lent_at m d) x.held)
+              interleaved_same =
+                  ap (λ (l : List ℕ). interleaved (set_in l (place_at (last_place x.places)) (bytes_at (lent_at n d) part)) ps (bytes_at (lent_at n d) front)) same_a
+                  ∙ (ap (λ (k : ℕ). interleaved (set_in (bytes_at (lent_at m d) a) k (bytes_at (lent_at n d) part)) ps (bytes_at (lent_at n d) front)) place_now
+                  ∙ (ap (λ (l : List ℕ). interleaved (set_in (bytes_at (lent_at m d) a) h.place.at l) ps (bytes_at (lent_at n d) front)) (is_bytes n d part (drop from there.0) did.1)
+                  ∙ (ap (λ (l : List ℕ). interleaved (set_in (bytes_at (lent_at m d) a) h.place.at (drop from there.0)) ps l) (is_bytes n d front (take from there.0) did.0)
+                  ∙ (ap (λ (k : ℕ). interleaved (set_in (bytes_at (lent_at m d) a) h.place.at (drop k there.0)) ps (take k there.0)) (sym h.from_is)
                   ∙ (sym (set_last (bytes_at (lent_at m d) a) there.0 h.place ps within.0 within.1)
-                  ∙ (ap (λ (l : List Place). woven (bytes_at (lent_at m d) a) l there.0) (sym h.places_are)
-                  ∙ ap (λ (l : List ℕ). woven (bytes_at (lent_at m d) a) x.places l) (sym (ap (λ (o : Option ℕ). bytes_of_one (lent_at m d) o) h.held_is ∙ is_bytes m d held there.0 there.1))))))))
+                  ∙ (ap (λ (l : List Place). interleaved (bytes_at (lent_at m d) a) l there.0) (sym h.places_are)
+                  ∙ ap (λ (l : List ℕ). interleaved (bytes_at (lent_at m d) a) x.places l) (sym (ap (λ (o : Option ℕ). bytes_of_one (lent_at m d) o) h.held_is ∙ is_bytes m d held there.0 there.1))))))))
       by (reply.Refused y) step did = did
       by r step did = absurd did
 
@@ -288,5 +288,5 @@ module _ (steps : EachStepLeavesTheRest) (own : CallsServeTheirDomain) where
       → StepsTo m (event.Call d (call.AggDrop part)) r n → Comes m d p job (at_step (doing.DroppingPart part b) begun x) unseen r n
   drops_part m n d p job begun part b x r unseen f step =
       let now = made_still m n d job begun part part b x r step f.holds f.holds.part_apart f.holds.differ in
-      let ready = weaves n d job begun b x now.0 now.1 f.holds.no_text f.holds.made_apart in
-      inl (goes steps m n d p job (at_step (doing.DroppingPart part b) begun x) (weave_on begun x b) unseen [] (call.AggDrop part) r f step refl refl refl ready.0 ready.1 (λ os. ready.2 os ∙ now.2 os))
+      let ready = interleaves n d job begun b x now.0 now.1 f.holds.no_text f.holds.made_apart in
+      inl (goes steps m n d p job (at_step (doing.DroppingPart part b) begun x) (interleave_on begun x b) unseen [] (call.AggDrop part) r f step refl refl refl ready.0 ready.1 (λ os. ready.2 os ∙ now.2 os))

@@ -26,7 +26,7 @@ use Rattle.iol_laws.specs.Order.{IsOrderly}
 use Rattle.flash_cgi.specs.Collecting.{Collected, bytes_of_one, is_due, is_nothing, last_place, with_next, without_text}
 use Rattle.flash_cgi.specs.Job.{Task}
 use Rattle.flash_cgi.specs.Output.{Outcome, Found, Failed}
-use Rattle.flash_cgi.specs.WorkerSteps.{call_at, due_now, file_collected, shut_by, told, told_dropped, told_joined, told_next, told_made, told_opened, told_parted, told_replaced, told_written, told_read, told_cut, next_call, bytes_at, weave_by, weave_on}
+use Rattle.flash_cgi.specs.WorkerSteps.{call_at, due_now, file_collected, shut_by, told, told_dropped, told_joined, told_next, told_made, told_opened, told_parted, told_replaced, told_written, told_read, told_cut, next_call, bytes_at, interleave_by, interleave_on}
 use Rattle.flash_cgi.specs.Feeds.{Feeds, settled, settled_begun, settled_open, failed}
 use Rattle.flash_cgi.specs.Outcomes.{outcome_of, outcome_in, outcomes_in, to_come, IsReading, ReadsNamed, SettlesTruly, AreFiles, OutcomesAreTrue}
 use Rattle.flash_cgi.specs.declared.line.Line.{Line}
@@ -74,20 +74,20 @@ module _ (steps : EachStepLeavesTheRest) (files : FileCallsServeTheirDomain) whe
   TrulyTo m d job step r n (Some next) = SettlesTruly m d job step r n next
 
   -- what is collected is made: no file is opened
-  woven_truly : (m n : State) (d : ℕ) (job : Task) (begun a : ℕ) (s : Step) (r : Reply) (x : Collected) → to_come m d job s ≡ outcomes_in n d (drop begun job.lines) → settled job s (lent_at n d) r ≡ [] → SettlesTruly m d job s r n (weave_on begun x a)
-  woven_truly m n d job begun a s r x same none = by x.held (last_place x.places)
+  interleaved_truly : (m n : State) (d : ℕ) (job : Task) (begun a : ℕ) (s : Step) (r : Reply) (x : Collected) → to_come m d job s ≡ outcomes_in n d (drop begun job.lines) → settled job s (lent_at n d) r ≡ [] → SettlesTruly m d job s r n (interleave_on begun x a)
+  interleaved_truly m n d job begun a s r x same none = by x.held (last_place x.places)
     where
       all : to_come m d job s ≡ settled job s (lent_at n d) r ++ outcomes_in n d (drop begun job.lines)
       all = same ∙ ap (λ (used : List Outcome). used ++ outcomes_in n d (drop begun job.lines)) (sym none)
 
-      by : (h : Option ℕ) (o : Option Place) → SettlesTruly m d job s r n (weave_by h o begun x a)
+      by : (h : Option ℕ) (o : Option Place) → SettlesTruly m d job s r n (interleave_by h o begun x a)
       by None o = record { same = all; reads = tt }
       by (Some held) None = record { same = all; reads = tt }
       by (Some held) (Some place) = record { same = all; reads = tt }
 
   made : (m n : State) (d : ℕ) (job : Task) (begun : ℕ) (x : Collected) (r : Reply) → outcomes_in m d (drop begun job.lines) ≡ outcomes_in n d (drop begun job.lines) → settled job (at_step doing.Runs begun x) (lent_at n d) r ≡ []
       → TrulyTo m d job (at_step doing.Runs begun x) r n (told_made x begun r)
-  made m n d job begun x (reply.Agg a) same none = woven_truly m n d job begun a (at_step doing.Runs begun x) (reply.Agg a) (without_text x) same none
+  made m n d job begun x (reply.Agg a) same none = interleaved_truly m n d job begun a (at_step doing.Runs begun x) (reply.Agg a) (without_text x) same none
   made m n d job begun x r same none = tt
 
   cut : (m n : State) (d : ℕ) (job : Task) (begun a from to : ℕ) (x : Collected) (r : Reply) → outcomes_in m d (drop begun job.lines) ≡ outcomes_in n d (drop begun job.lines) → TrulyTo m d job (at_step (doing.Cuts a from to) begun x) r n (told_cut x a begun r)
@@ -242,7 +242,7 @@ module _ (steps : EachStepLeavesTheRest) (files : FileCallsServeTheirDomain) whe
   by_doing m n d p job begun x (doing.ReplacingPart a part at) r unseen order placed good f g did smooth = replaced m n d job begun a part at x r (plain steps m n d job (call.AggReplace a at at part) r did good refl (λ q. refl) begun)
   by_doing m n d p job begun x (doing.DroppingText a part b) r unseen order placed good f g did smooth = record { same = plain steps m n d job (call.AggDrop a) r did good refl (λ q. refl) begun; reads = tt }
   by_doing m n d p job begun x (doing.DroppingPart part b) r unseen order placed good f g did smooth =
-      woven_truly m n d job begun b (at_step (doing.DroppingPart part b) begun x) r x (plain steps m n d job (call.AggDrop part) r did good refl (λ q. refl) begun) refl
+      interleaved_truly m n d job begun b (at_step (doing.DroppingPart part b) begun x) r x (plain steps m n d job (call.AggDrop part) r did good refl (λ q. refl) begun) refl
   by_doing m n d p job begun x (doing.Writes a) r unseen order placed good f g did smooth = written m n d job begun a x r (plain steps m n d job (call.IolWrite job.fd a) r did good (ap (λ (o : Option Descriptor). is_file o) f.open_on) (λ q. refl) begun)
   by_doing m n d p job begun x (doing.Cuts a from to) r unseen order placed good f g did smooth = cut m n d job begun a from to x r (plain steps m n d job (call.AggCut a from to) r did good refl (λ q. refl) begun)
   by_doing m n d p job begun x (doing.Swaps a b) r unseen order placed good f g did smooth = record { same = plain steps m n d job (call.AggDrop a) r did good refl (λ q. refl) begun; reads = tt }

@@ -18,7 +18,7 @@ use Rattle.iol_laws.specs.Order.{IsOrderly}
 use Rattle.iol_laws.specs.Reasons.{RefusalsTellWhy}
 use Rattle.flash_cgi.specs.Collecting.{Collected, bytes_of_one, is_due, is_full, is_nothing, last_place, with_file, with_next, with_text, without_next, without_text}
 use Rattle.flash_cgi.specs.Job.{Task}
-use Rattle.flash_cgi.specs.WorkerSteps.{call_at, due_now, file_collected, shut_by, told, told_broken, told_dropped, told_joined, told_next, told_made, told_opened, told_parted, told_replaced, told_written, told_read, told_cut, got, next_call, bytes_at, weave_by, weave_on}
+use Rattle.flash_cgi.specs.WorkerSteps.{call_at, due_now, file_collected, shut_by, told, told_broken, told_dropped, told_joined, told_next, told_made, told_opened, told_parted, told_replaced, told_written, told_read, told_cut, got, next_call, bytes_at, interleave_by, interleave_on}
 use Rattle.flash_cgi.specs.Uses.{is_one, uses_fd, uses_agg, HasJust}
 use Rattle.flash_cgi.specs.declared.line.Line.{Line}
 use Rattle.flash_cgi.specs.declared.line.Line.TheVariants as line
@@ -191,11 +191,11 @@ module _ (own : CallsServeTheirDomain) (why : RefusalsTellWhy) (come : Aggregate
   }
 
   -- a text is made of what is collected: whichever phase is next uses it, and what was collected
-  weaves : (y : Doing) (begun : ℕ) (x : Collected) (a : ℕ) → ((f : ℕ) → fds f ≡ false → (job.fd == f) ≡ false → descriptor n d f ≡ None)
-      → ((b : ℕ) → aggs b ≡ false → (a == b) ≡ false → is_one x.held b ≡ false → is_one x.next b ≡ false → lent_at n d b ≡ None) → HasTo (Some (weave_on begun x a))
-  weaves y begun x a no_fd none = by x.held refl (last_place x.places)
+  interleaves : (y : Doing) (begun : ℕ) (x : Collected) (a : ℕ) → ((f : ℕ) → fds f ≡ false → (job.fd == f) ≡ false → descriptor n d f ≡ None)
+      → ((b : ℕ) → aggs b ≡ false → (a == b) ≡ false → is_one x.held b ≡ false → is_one x.next b ≡ false → lent_at n d b ≡ None) → HasTo (Some (interleave_on begun x a))
+  interleaves y begun x a no_fd none = by x.held refl (last_place x.places)
     where
-      by : (h : Option ℕ) → x.held ≡ h → (o : Option Place) → HasTo (Some (weave_by h o begun x a))
+      by : (h : Option ℕ) → x.held ≡ h → (o : Option Place) → HasTo (Some (interleave_by h o begun x a))
       by None is o = record {
         no_fd = no_fd;
         no_agg = λ b given un. (let k = or_parts (a == b) (is_one x.held b || is_one x.next b) un in let l = or_parts (is_one x.held b) (is_one x.next b) k.1 in none b given k.0 l.0 l.1);
@@ -212,7 +212,7 @@ module _ (own : CallsServeTheirDomain) (why : RefusalsTellWhy) (come : Aggregate
       }
 
   made : (begun : ℕ) (x : Collected) (r : Reply) → Had x doing.Runs → StepsTo m (event.Call d (call.AggMake x.text)) r n → HasTo (told_made x begun r)
-  made begun x (reply.Agg a) h step = weaves doing.Runs begun (without_text x) a (λ f given un. free_make m n d f x.text (reply.Agg a) step (h.no_fd f given un))
+  made begun x (reply.Agg a) h step = interleaves doing.Runs begun (without_text x) a (λ f given un. free_make m n d f x.text (reply.Agg a) step (h.no_fd f given un))
       (λ b given new held next. absent (call.AggMake x.text) (reply.Agg a) b step (both_false (d == d) (a == b) new) (h.no_agg b given (either_false (is_one x.held b) (is_one x.next b) held next)))
   made begun x r h step = tt
 
@@ -357,7 +357,7 @@ module _ (own : CallsServeTheirDomain) (why : RefusalsTellWhy) (come : Aggregate
   by_doing begun x (doing.ReplacingPart a part at) r h step = replaced x a part at begun r h step
   by_doing begun x (doing.DroppingText a part made) r h step = drops x x (doing.DroppingText a part made) (doing.DroppingPart part made) a r (λ f un. un)
       (λ b differ un. either_false (a == b) ((part == b) || ((made == b) || (is_one x.held b || is_one x.next b))) differ un) h step
-  by_doing begun x (doing.DroppingPart part made) r h step = weaves (doing.DroppingPart part made) begun x made (λ f given un. free_drop m n d f part r step (h.no_fd f given un))
+  by_doing begun x (doing.DroppingPart part made) r h step = interleaves (doing.DroppingPart part made) begun x made (λ f given un. free_drop m n d f part r step (h.no_fd f given un))
       (λ b given new held next. after_drop part b r step (λ differ. h.no_agg b given (either_false (part == b) ((made == b) || (is_one x.held b || is_one x.next b)) differ
       (either_false (made == b) (is_one x.held b || is_one x.next b) new (either_false (is_one x.held b) (is_one x.next b) held next)))))
   by_doing begun x (doing.Writes a) r h step = writes x a (length (bytes_at (lent_at n d) a)) begun r h step

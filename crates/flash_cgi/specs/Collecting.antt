@@ -22,9 +22,9 @@ is_nothing x = (length x.text == 0) && (length x.places == 0) && is_none x.held 
 -- ---- what all of it is
 
 -- the text with the bytes of files in it, the last first
-abbrev pub woven : (text : List ℕ) → List Place → (files : List ℕ) → List ℕ
-woven text [] files = text
-woven text (p ∷ ps) files = woven (take p.at text) ps (take p.from files) ++ (drop p.from files ++ drop p.at text)
+abbrev pub interleaved : (text : List ℕ) → List Place → (files : List ℕ) → List ℕ
+interleaved text [] files = text
+interleaved text (p ∷ ps) files = interleaved (take p.at text) ps (take p.from files) ++ (drop p.from files ++ drop p.at text)
 
 abbrev pub bytes_of_one : (ℕ → Option (List ℕ)) → Option ℕ → List ℕ
 bytes_of_one lent None = []
@@ -32,7 +32,7 @@ bytes_of_one lent (Some a) = unwrap_or (lent a) []
 
 -- with this text
 abbrev pub collected_in : (ℕ → Option (List ℕ)) → (text : List ℕ) → Collected → List ℕ
-collected_in lent text x = woven text x.places (bytes_of_one lent x.held) ++ bytes_of_one lent x.next
+collected_in lent text x = interleaved text x.places (bytes_of_one lent x.held) ++ bytes_of_one lent x.next
 
 abbrev pub collected : (ℕ → Option (List ℕ)) → Collected → List ℕ
 collected lent x = collected_in lent x.text x

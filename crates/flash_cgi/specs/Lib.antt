@@ -8,6 +8,7 @@ pub mod Full
 pub mod Uses
 pub mod Job
 pub mod Laws
+pub mod LongPieces
 pub mod Frame
 pub mod Outcomes
 pub mod Output

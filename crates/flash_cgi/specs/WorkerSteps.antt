@@ -100,12 +100,12 @@ abbrev pub at : Doing → (begun : ℕ) → Collected → Option Step
 at d begun x = Some (step_with d begun x)
 
 -- a text is collected
-abbrev pub says : (begun : ℕ) → Collected → Said → Option Step
-says begun x s = at doing.Runs begun (with_text x (said_text s))
+abbrev pub said_collected : (begun : ℕ) → Collected → Said → Option Step
+said_collected begun x s = at doing.Runs begun (with_text x (said_text s))
 
 abbrev pub told_opened : Collected → Purpose → (begun : ℕ) → Reply → Option Step
 told_opened x p begun (reply.Fd file) = at (doing.Reads file p) begun x
-told_opened x p begun (reply.Refused why) = says begun x (said.Refused why)
+told_opened x p begun (reply.Refused why) = said_collected begun x (said.Refused why)
 told_opened x p begun r = None
 
 abbrev pub told_line : Task → Collected → Line → (begun : ℕ) → Reply → Option Step
@@ -120,16 +120,16 @@ told_next job x (Some l) begun r = told_line job x l (begun + 1) r
 told_next job x None begun r = at doing.Waits 0 x
 
 -- this text is made: the bytes of the last file are to be set into it, or all of them are
-abbrev pub weave_by : Option ℕ → Option Place → (begun : ℕ) → Collected → (agg : ℕ) → Step
-weave_by None place begun x agg = step_with (doing.Writes agg) begun x
-weave_by (Some held) None begun x agg = step_with (doing.Swaps held agg) begun (without_files x)
-weave_by (Some held) (Some place) begun x agg = step_with (doing.CuttingPart held agg place.from) begun x
+abbrev pub interleave_by : Option ℕ → Option Place → (begun : ℕ) → Collected → (agg : ℕ) → Step
+interleave_by None place begun x agg = step_with (doing.Writes agg) begun x
+interleave_by (Some held) None begun x agg = step_with (doing.Swaps held agg) begun (without_files x)
+interleave_by (Some held) (Some place) begun x agg = step_with (doing.CuttingPart held agg place.from) begun x
 
-abbrev pub weave_on : (begun : ℕ) → Collected → (agg : ℕ) → Step
-weave_on begun x agg = weave_by x.held (last_place x.places) begun x agg
+abbrev pub interleave_on : (begun : ℕ) → Collected → (agg : ℕ) → Step
+interleave_on begun x agg = interleave_by x.held (last_place x.places) begun x agg
 
 abbrev pub told_made : Collected → (begun : ℕ) → Reply → Option Step
-told_made x begun (reply.Agg agg) = Some (weave_on begun (without_text x) agg)
+told_made x begun (reply.Agg agg) = Some (interleave_on begun (without_text x) agg)
 told_made x begun r = None
 
 abbrev pub told_begun : Task → Collected → (begun : ℕ) → Reply → Option Step
@@ -210,12 +210,12 @@ module _ (lent : ℕ → Option (List ℕ)) where
   told_doing job x begun doing.Runs r = told_begun job x begun r
   told_doing job x begun (doing.Reads file p) r = told_read x file p begun r
   told_doing job x begun (doing.Shuts file agg) r = told_shut x agg begun
-  told_doing job x begun (doing.ShutsToSay file s) r = says begun x s
+  told_doing job x begun (doing.ShutsToSay file s) r = said_collected begun x s
   told_doing job x begun (doing.JoiningFile held agg from len) r = told_joined x from len begun r
   told_doing job x begun (doing.CuttingPart held agg from) r = told_parted x agg begun r
   told_doing job x begun (doing.ReplacingPart agg part place) r = told_replaced x agg part begun r
   told_doing job x begun (doing.DroppingText agg part made) r = at (doing.DroppingPart part made) begun x
-  told_doing job x begun (doing.DroppingPart part made) r = Some (weave_on begun x made)
+  told_doing job x begun (doing.DroppingPart part made) r = Some (interleave_on begun x made)
   told_doing job x begun (doing.Writes agg) r = told_written x agg (length (bytes_at lent agg)) begun r
   told_doing job x begun (doing.Cuts agg from to) r = told_cut x agg begun r
   told_doing job x begun (doing.Skips agg) r = at doing.Waits begun x

@@ -66,7 +66,8 @@ fn make_call(alloc: Global, text: &[u8]) -> Result<Call, AllocError>
     Ok(Call::AggMake { bytes })
 }
 
-// The call that makes what is collected, where that is due; else it begins the next line, or closes the output after the last one.
+// The call that makes the text that is collected, where that is due; else it begins the next line, or
+// closes the output after the last one.
 fn begin_call(alloc: Global, job: &Job, piece: &Piece, begun: usize) -> Result<Call, AllocError>
     ensures call { IfOk result (λ call. call ≡ spec.begin_call job.now piece.now begun) }
     ensures wants { OnErr result (begins_with_bytes job.now piece.now begun ≡ true) }

@@ -1,11 +1,17 @@
 //! Laws of scripts and workers. The functions do nothing; their contracts are the laws.
-ghost use Rattle.flash_cgi.specs.Laws.{OthersHear, ScriptsPutOut, WorkersStop, FeedsOn, WorkersStayFree, RunningIsFull, WorkersKeepNothing, JobsAreRead, WorkersAreQuiet, OutcomesAreTrue, OutputsAreShown, JobsAreTaken, TurnsFeed, WaitingIsEmpty};
+ghost use Rattle.flash_cgi.specs.Laws.{OthersHear, ScriptsPutOut, WorkersStop, FeedsOn, WorkersStayFree, RunningIsFull, WorkersKeepNothing, JobsAreRead, WorkersAreQuiet, OutcomesAreTrue, OutputsAreShown, JobsAreTaken, PiecesAreLong, TurnsFeed, WaitingIsEmpty};
 
 use iol_laws::laws;
 
 /// A job's text is read as that job.
 pub fn jobs_are_read()
     ensures { JobsAreRead }
+{}
+
+/// What a worker has collected, and writes before its next line, has at least
+/// [`MIN_PIECE_BYTES`](crate::piece::MIN_PIECE_BYTES) bytes, or a file of its own comes behind it.
+pub fn pieces_are_long()
+    ensures { PiecesAreLong }
 {}
 
 /// The worker that reads a job which waits for it runs that job, and all of its output is unseen

@@ -21,8 +21,8 @@ pub enum Doing {
         agg: AggId,
     },
 
-    /// It makes the text that is collected, where that is to be written now; else it begins its next line, or closes its output
-    /// after the last one.
+    /// It makes the text that is collected, where that is due; else it begins its next line, or closes
+    /// its output after the last one.
     Runs,
 
     /// It reads an open file.

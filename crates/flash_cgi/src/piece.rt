@@ -7,23 +7,25 @@ use iol_core::numbers::AggId;
 use std::alloc::{AllocError, Global};
 use std::marker::Model;
 
-/// The bytes from which on a piece is written before the next line: all but 32 of those of a page, so that what one more line says
-/// of a file lies in that page, too.
+/// A piece of so many bytes is written before the next line: all but 32 of the bytes of a page, so that
+/// the text of one more `wc` line, or a refusal, lies in that page, too.
 pub const MIN_PIECE_BYTES: usize = 4064;
 
-/// The bytes that a file has at most which is collected: as many as lie in a page. A longer one is written by itself.
+/// The bytes that a file has at most which is collected: as many as lie in a page. A longer one is
+/// written by itself.
 pub const MAX_COLLECTED_BYTES: usize = PAGE_BYTES;
 
-/// Where the bytes of a file stand: behind how many bytes of the text, and behind how many of the bytes of all collected files.
+/// Where the bytes of a file stand: behind how many bytes of the text, and behind how many of the bytes
+/// of all collected files.
 #[derive(Clone, Copy, Debug)]
 pub struct Place {
     pub at: u32,
     pub from: u32,
 }
 
-/// What is collected. `held` is the aggregate of the bytes of all collected files, one behind the other, and `files` is how many
-/// these are. `places` tells where each file's bytes stand, those of the last file first. `next` is a file that is too long, and
-/// comes behind all of it.
+/// What is collected. `held` is the aggregate of the bytes of all collected files, one behind the other,
+/// and `files` is how many these are. `places` tells where each file's bytes stand, those of the last
+/// file first. `next` is a file that is too long, and comes behind all of it.
 #[derive(Debug, Drop)]
 pub struct Piece {
     pub(crate) text: Vec<u8>,
@@ -145,7 +147,8 @@ impl Piece {
         Ok(piece)
     }
 
-    /// With a file more, of so many bytes. `held` is an aggregate of those that were held, so many, and of its bytes.
+    /// With a file more, of `len` bytes. `held` is an aggregate of the `from` bytes that were held, and
+    /// of its bytes.
     pub(crate) fn with_file(
         &self,
         alloc: Global,

@@ -54,8 +54,8 @@ fn with(doing: Doing, begun: usize, piece: Piece) -> Option<After>
 }
 
 // What is said of a file is collected.
-fn says(alloc: Global, piece: &Piece, said: Said, begun: usize) -> Told
-    ensures { IfOk result (λ after. reached piece.now after ≡ spec.says begun piece.now said) }
+fn collect_said(alloc: Global, piece: &Piece, said: Said, begun: usize) -> Told
+    ensures { IfOk result (λ after. reached piece.now after ≡ spec.said_collected begun piece.now said) }
 {
     let text = said.text(alloc)?;
     let piece = piece.with_text(alloc, text.as_slice())?;
@@ -74,13 +74,13 @@ fn told_opened(alloc: Global, piece: &Piece, purpose: Purpose, begun: usize, las
             },
             begun,
         )),
-        Reply::Refused(refusal) => says(alloc, piece, Said::Refused(*refusal), begun),
+        Reply::Refused(refusal) => collect_said(alloc, piece, Said::Refused(*refusal), begun),
         _ => Ok(None),
     }
 }
 
 // A text is collected, as a line.
-fn collects(alloc: Global, piece: &Piece, text: &[u8], begun: usize) -> Told
+fn collect_line(alloc: Global, piece: &Piece, text: &[u8], begun: usize) -> Told
     ensures { IfOk result (λ after. reached piece.now after ≡ spec.at doing.Runs begun (with_line piece.now text.now)) }
 {
     let piece = piece.with_line(alloc, text)?;
@@ -99,8 +99,8 @@ fn told_line(
     ensures { IfOk result (λ after. reached piece.now after ≡ spec.told_line job.now piece.now line.now begun last.now) }
 {
     match line {
-        Line::Emit { text } => collects(alloc, piece, text.as_slice(), begun),
-        Line::Query => collects(alloc, piece, job.query.as_slice(), begun),
+        Line::Emit { text } => collect_line(alloc, piece, text.as_slice(), begun),
+        Line::Query => collect_line(alloc, piece, job.query.as_slice(), begun),
         Line::Cat { .. } => told_opened(alloc, piece, Purpose::Cat, begun, last),
         Line::Wc { .. } => told_opened(alloc, piece, Purpose::Wc, begun, last),
         Line::Pause => Ok(at(Doing::Runs, begun)),
@@ -108,8 +108,8 @@ fn told_line(
 }
 
 // This text is made of what was collected: the bytes of the last file are set into it, or all of them are.
-fn weave(alloc: Global, piece: Piece, agg: AggId, begun: usize) -> Result<Step, AllocError>
-    ensures { IfOk result (λ step. step ≡ spec.weave_on begun piece agg) }
+fn interleave(alloc: Global, piece: Piece, agg: AggId, begun: usize) -> Result<Step, AllocError>
+    ensures { IfOk result (λ step. step ≡ spec.interleave_on begun piece agg) }
 {
     let Some(held) = piece.held else {
         let doing = Doing::Writes { agg };
@@ -151,7 +151,7 @@ fn told_made(alloc: Global, piece: &Piece, begun: usize, last: &Reply) -> Told
     match last {
         Reply::Agg(agg) => {
             let piece = piece.without_text(alloc)?;
-            let step = weave(alloc, piece, *agg, begun)?;
+            let step = interleave(alloc, piece, *agg, begun)?;
             Ok(with(step.doing, step.begun, step.piece))
         }
         _ => Ok(None),
@@ -209,14 +209,7 @@ fn told_read(
 }
 
 // The file is closed whose bytes it has, so many: they are collected, behind those that are held, so many.
-fn collects_file(
-    alloc: Global,
-    piece: &Piece,
-    from: u32,
-    agg: AggId,
-    len: u32,
-    begun: usize,
-) -> Told
+fn collect_file(alloc: Global, piece: &Piece, from: u32, agg: AggId, len: u32, begun: usize) -> Told
     ensures { IfOk result
         (λ after. reached piece.now after ≡ spec.file_collected piece.now piece.now.held from agg len begun) }
 {
@@ -253,7 +246,7 @@ fn told_shut(alloc: Global, piece: &Piece, agg: AggId, begun: usize, look: &Look
 {
     let len = len_of(look, agg);
     if len as usize <= MAX_COLLECTED_BYTES {
-        return collects_file(alloc, piece, held_bytes(piece, look), agg, len, begun);
+        return collect_file(alloc, piece, held_bytes(piece, look), agg, len, begun);
     }
     if piece.is_nothing() {
         return Ok(at(Doing::Writes { agg }, begun));
@@ -329,10 +322,10 @@ fn told_replaced(
 
 // What was cut off is given up: the bytes of the file before are set into the text.
 fn told_part_dropped(alloc: Global, piece: &Piece, made: AggId, begun: usize) -> Told
-    ensures { IfOk result (λ after. reached piece.now after ≡ Some (spec.weave_on begun piece.now made)) }
+    ensures { IfOk result (λ after. reached piece.now after ≡ Some (spec.interleave_on begun piece.now made)) }
 {
     let piece = piece.copy(alloc)?;
-    let step = weave(alloc, piece, made, begun)?;
+    let step = interleave(alloc, piece, made, begun)?;
     Ok(with(step.doing, step.begun, step.piece))
 }
 
@@ -419,7 +412,7 @@ pub(crate) fn told(
         Doing::Runs => return told_begun(alloc, job, piece, begun, last),
         Doing::Reads { file, purpose } => return Ok(told_read(file, purpose, begun, last, look)),
         Doing::Shuts { agg, .. } => return told_shut(alloc, piece, agg, begun, look),
-        Doing::ShutsToSay { said, .. } => return says(alloc, piece, said, begun),
+        Doing::ShutsToSay { said, .. } => return collect_said(alloc, piece, said, begun),
         Doing::JoiningFile { from, len, .. } => {
             return told_joined(alloc, piece, from, len, begun, last);
         }
