@@ -9,7 +9,7 @@ use Rattle.iol_c.specs.Steps.{CarriesOutOrNot}
 use Rattle.iol_c.specs.declared.Machine.{Machine}
 
 -- the machine that a handle has, or another where it has none
-machine_or : Machine → Option Machine → Machine
+abbrev machine_or : Machine → Option Machine → Machine
 machine_or m None = m
 machine_or m (Some x) = x
 
@@ -19,8 +19,6 @@ record Chained (old : Machine) (cs : List StepCall) (new : Machine) : Type 0 whe
   replies : List Reply
   denote : Denote cs events replies
   chain : Chain old.system events replies new.system
-
-chained : (old new : Machine) (cs : List StepCall) → Calls old cs new → Chained old cs new
 
 -- a call more, in front
 call_first : (old mid new : Machine) (c : StepCall) (cs : List StepCall) → CarriesOutOrNot c.event c.bytes c.names c.reply c.out (Some old) (Some mid) → Chained mid cs new → Chained old (c ∷ cs) new
@@ -36,6 +34,8 @@ call_first old mid new c cs (inr not) rest = record {
   denote = inl (not.1, rest.denote);
   chain = subst (λ (m : Machine). Chain m.system rest.events rest.replies new.system) (ap (machine_or old) not.0) rest.chain;
 }
+
+chained : (old new : Machine) (cs : List StepCall) → Calls old cs new → Chained old cs new
 chained old new [] calls = record { events = []; replies = []; denote = (refl, refl); chain = ap (λ (m : Machine). m.system) calls }
 chained old new (c ∷ cs) calls = call_first old calls.0 new c cs calls.1 (chained calls.0 new cs calls.2)
 

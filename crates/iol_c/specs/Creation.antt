@@ -1,5 +1,6 @@
 -- A system that C makes.
-use Rattle.std.specs.Prelude.{◌≡◌, ◌⊎◌, ℕ, true, false, List, [], Option, None, Some, Result, Ok, Err}
+use Rattle.std.specs.Prelude.{◌≡◌, ◌⊎◌, ℕ, true, false, List, [], Option, None, Some, Result, Ok, Err, Box}
+use Rattle.std.specs.Global.{Global}
 use Rattle.iol_back.specs.Disk.{Disk}
 use Rattle.iol_core.specs.declared.configuration.Config.{Config}
 use Rattle.iol_core.specs.declared.refusals.Refusal.{Refusal}
@@ -12,23 +13,23 @@ use Rattle.iol_c.specs.declared.Machine.{Machine}
 abbrev pub sizes : (chunks generations sums : ℕ) → Config
 sizes chunks generations sums = record { chunks = chunks; gen_limit = generations; sums = sums }
 
--- the system of a machine
-abbrev pub system_in : Result Machine Refusal → Result SystemState Refusal
-system_in (Ok m) = Ok m.system
+-- the system of a boxed machine
+abbrev pub system_in : Result (Box Machine Global) Refusal → Result SystemState Refusal
+system_in (Ok b) = Ok b.value.system
 system_in (Err e) = Err e
 
 -- a new system of these sizes over a store, or why there is none
-abbrev pub IsCreated : Config → Disk → Result Machine Refusal → Type 0
+abbrev pub IsCreated : Config → Disk → Result (Box Machine Global) Refusal → Type 0
 IsCreated config under r = MakesSystem config under (system_in r)
 
 -- the number that C gets, and the machine that is then in its handle
-abbrev pub IsHanded : Result Machine Refusal → (number : ℕ) → Option Machine → Type 0
-IsHanded (Ok m) n new = (n ≡ 0) × (new ≡ Some m)
+abbrev pub IsHanded : Result (Box Machine Global) Refusal → (number : ℕ) → Option Machine → Type 0
+IsHanded (Ok b) n new = (n ≡ 0) × (new ≡ Some b.value)
 IsHanded (Err e) n new = (n ≡ number_of e) × (new ≡ None)
 
 -- An empty handle gets a new system over a store, and C gets 0. Or it stays empty, and C gets the refusal's number.
 pub record Creates (config : Config) (under : Disk) (number : ℕ) (new : Option Machine) : Type 0 where
-  pub outcome : Result Machine Refusal
+  pub outcome : Result (Box Machine Global) Refusal
   pub created : IsCreated config under outcome
   pub handed : IsHanded outcome number new
 

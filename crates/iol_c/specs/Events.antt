@@ -1,5 +1,5 @@
 -- The event that C's struct, bytes and domains denote.
-use Rattle.std.specs.Prelude.{◌≡◌, ℕ, List}
+use Rattle.std.specs.Prelude.{◌≡◌, ◌⊎◌, ◌<◌, ℕ, List, ⊤}
 use Rattle.iol_core.specs.declared.descriptors.How.{How}
 use Rattle.iol_core.specs.declared.descriptors.How.TheVariants as how
 use Rattle.iol_core.specs.declared.descriptors.Mode.{Mode}
@@ -9,6 +9,8 @@ use Rattle.iol_core.specs.declared.events.Call.TheVariants as call
 use Rattle.iol_core.specs.declared.events.Event.{Event}
 use Rattle.iol_core.specs.declared.events.Event.TheVariants as event
 use Rattle.iol_c.specs.declared.events.IolEvent.{IolEvent}
+use Rattle.iol_c.specs.declared.events.Unread.{Unread}
+use Rattle.iol_c.specs.declared.events.Unread.TheVariants as unread
 
 -- the numbers of the modes in which a file is open
 abbrev pub mode_number : Mode → ℕ
@@ -65,3 +67,25 @@ IsEvent (event.PeerClosed conn h) e bs ns = (e.kind ≡ 102) × (conn ≡ e.id) 
 IsEvent (event.Transmit conn max) e bs ns = (e.kind ≡ 103) × (conn ≡ e.id) × (max ≡ e.from)
 IsEvent event.Flush e bs ns = e.kind ≡ 104
 IsEvent event.DropClean e bs ns = e.kind ≡ 105
+
+-- a call of this kind reads bytes or domains, or there is none
+abbrev pub IsNoPlainKind : ℕ → Type 0
+IsNoPlainKind k = (k ≡ 2 → ⊥) → (k ≡ 6 → ⊥) → (k ≡ 15 → ⊥) → (k ≡ 16 → ⊥) → (k ≡ 26 → ⊥) → 27 < k
+
+-- no call has this kind, or its mode has no such number
+abbrev pub IsNoCall : IolEvent → Type 0
+IsNoCall e = (27 < e.kind) ⊎ ((e.kind ≡ 16) × (2 < e.from))
+
+-- no event has this kind, or the mode or the way that it reads has no such number
+abbrev pub IsNoEvent : IolEvent → Type 0
+IsNoEvent e = ((27 < e.kind) × (e.kind < 100)) ⊎ ((105 < e.kind)
+    ⊎ (((e.kind ≡ 16) × (2 < e.from)) ⊎ ((e.kind ≡ 102) × (1 < e.from))))
+
+-- P holds where C passed no event, and there is nothing to say where there was no memory
+abbrev pub IfBad : Unread → Type 0 → Type 0
+IfBad unread.Bad P = P
+IfBad unread.Memory P = ⊤
+
+-- the events whose bytes a second one would not return again
+abbrev pub TakesBytes : IolEvent → Type 0
+TakesBytes e = (e.kind ≡ 25) ⊎ (e.kind ≡ 103)

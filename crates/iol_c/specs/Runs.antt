@@ -1,5 +1,5 @@
 -- Runs of calls from C: the main theorem at the boundary.
-use Rattle.std.specs.Prelude.{◌≡◌, ◌⊎◌, ℕ, List, [], ◌∷◌, Some}
+use Rattle.std.specs.Prelude.{◌≡◌, ◌⊎◌, ℕ, List, [], ◌∷◌, length, Some}
 use Rattle.iol_back.specs.Disk.{IfHonest}
 use Rattle.iol_core.specs.Run.{Run}
 use Rattle.iol_core.specs.declared.events.Event.{Event}
@@ -30,7 +30,7 @@ Calls old (c ∷ cs) new = (mid : Machine)
 -- the events that calls denote, and the replies that C got, without the calls that did nothing
 abbrev pub Denote : List StepCall → List Event → List Reply → Type 0
 Denote [] es rs = (es ≡ []) × (rs ≡ [])
-Denote (c ∷ cs) es rs = (IsReason c.reply × Denote cs es rs)
+Denote (c ∷ cs) es rs = (IsReason c.event c.reply (length c.out) × Denote cs es rs)
     ⊎ ((e : Event) × (r : Reply) × (later : List Event) × (more : List Reply) × (es ≡ e ∷ later) × (rs ≡ r ∷ more)
     × IsEvent e c.event c.bytes c.names × Encodes r c.reply c.out × Denote cs later more)
 

@@ -1,9 +1,9 @@
 -- What one call of `iol_step` does.
-use Rattle.std.specs.Prelude.{◌≡◌, ◌⊎◌, ℕ, List, Option, Some}
+use Rattle.std.specs.Prelude.{◌≡◌, ◌⊎◌, ◌<◌, ℕ, List, length, Option, Some}
 use Rattle.iol_core.specs.declared.events.Event.{Event}
 use Rattle.iol_core.specs.declared.events.Reply.{Reply}
 use Rattle.iol_system.specs.Promises.{Promises}
-use Rattle.iol_c.specs.Events.{IsEvent}
+use Rattle.iol_c.specs.Events.{IsEvent, IsNoEvent, TakesBytes}
 use Rattle.iol_c.specs.Replies.{Encodes}
 use Rattle.iol_c.specs.declared.Machine.{Machine}
 use Rattle.iol_c.specs.declared.events.IolEvent.{IolEvent}
@@ -22,10 +22,12 @@ pub record CarriesOut (e : IolEvent) (bytes names : List ℕ) (r : IolReply) (ou
   pub steps : Steps old event reply new
   pub encodes : Encodes reply r out
 
--- why nothing was done: there was no memory for the event's bytes, C passed no event, or `out` has too little room
-abbrev pub IsReason : IolReply → Type 0
-IsReason r = (r.refusal ≡ 17) ⊎ ((r.refusal ≡ 100) ⊎ (r.refusal ≡ 101))
+-- Why nothing was done: there was no memory for the event's bytes, C passed no event, or `out` has less room than a copying read or
+-- a transmission may return.
+abbrev pub IsReason : IolEvent → IolReply → (room : ℕ) → Type 0
+IsReason e r room = (r.refusal ≡ 17)
+    ⊎ (((r.refusal ≡ 100) × IsNoEvent e) ⊎ ((r.refusal ≡ 101) × TakesBytes e × (room < e.from)))
 
 -- a step, or nothing was done
 abbrev pub CarriesOutOrNot : IolEvent → (bytes names : List ℕ) → IolReply → (out : List ℕ) → (old new : Option Machine) → Type 0
-CarriesOutOrNot e bs ns r out old new = CarriesOut e bs ns r out old new ⊎ ((new ≡ old) × IsReason r)
+CarriesOutOrNot e bs ns r out old new = CarriesOut e bs ns r out old new ⊎ ((new ≡ old) × IsReason e r (length out))

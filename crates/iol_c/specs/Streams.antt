@@ -3,6 +3,7 @@ use Rattle.std.specs.Prelude.{ℕ, Bool, true, false, Option, None, Some, Result
 use Rattle.iol_core.specs.declared.refusals.Refusal.{Refusal}
 use Rattle.iol_pipe.specs.declared.arrive.Arrived.{Arrived}
 use Rattle.iol_sock.specs.declared.drain_to.Drained.{Drained}
+use Rattle.iol_system.specs.Machine.{SystemState}
 use Rattle.iol_system.specs.Streams.{ServesReader, ServesWriter}
 use Rattle.iol_c.specs.Replies.{IsDone, IsRefusal}
 use Rattle.iol_c.specs.declared.Machine.{Machine}
@@ -31,26 +32,30 @@ SaysDrained (Ok d) r = IsDone r d.taken (failed_number d.failed)
 SaysDrained (Err why) r = IsRefusal why r
 
 -- a connection is served by a reader of unknown bytes, and C gets the outcome
-pub record Arrives (conn max : ℕ) (r : IolReply) (old new : Machine) : Type 0 where
+pub record Arrives (conn max : ℕ) (r : IolReply) (old new : SystemState) : Type 0 where
   pub reader : Descriptor
   pub after : Descriptor
   pub outcome : Result Arrived Refusal
-  pub serves : ServesReader conn max old.system new.system reader after None None outcome
+  pub serves : ServesReader conn max old new reader after None None outcome
   pub says : SaysArrived outcome r
 
+-- the same, closed, so that it is passed on whole
+unfoldable pub ArrivesBetween : (conn max : ℕ) → IolReply → (old new : SystemState) → Type 0
+ArrivesBetween conn max r old new = Arrives conn max r old new
+
 -- a connection is served to a writer of unknown bytes, and C gets the outcome
-pub record Drains (conn max : ℕ) (r : IolReply) (old new : Machine) : Type 0 where
+pub record Drains (conn max : ℕ) (r : IolReply) (old new : SystemState) : Type 0 where
   pub writer : Descriptor
   pub after : Descriptor
   pub outcome : Result Drained Refusal
-  pub serves : ServesWriter conn max old.system new.system writer after None None outcome
+  pub serves : ServesWriter conn max old new writer after None None outcome
   pub says : SaysDrained outcome r
 
 -- the same of the machine in a handle
 abbrev pub ArrivesFrom : (conn max : ℕ) → IolReply → (old new : Option Machine) → Type 0
-ArrivesFrom c max r (Some old) (Some new) = Arrives c max r old new
+ArrivesFrom c max r (Some old) (Some new) = ArrivesBetween c max r old.system new.system
 ArrivesFrom c max r o n = ⊥
 
 abbrev pub DrainsTo : (conn max : ℕ) → IolReply → (old new : Option Machine) → Type 0
-DrainsTo c max r (Some old) (Some new) = Drains c max r old new
+DrainsTo c max r (Some old) (Some new) = Drains c max r old.system new.system
 DrainsTo c max r o n = ⊥

@@ -1,5 +1,5 @@
 //! The bytes of an aggregate, borrowed in place by C.
-ghost use Rattle.iol_c.specs.Parts.{Borrows, IsPlaced};
+ghost use Rattle.iol_c.specs.Parts.{AreCounted, Borrows};
 
 use crate::address::start_of;
 use crate::replies::{IolReply, done, refused};
@@ -18,7 +18,7 @@ pub struct IolPart {
 
 // Puts the address and the length of each part from number `skip` on into `room`, as many as it has. The reply counts all.
 fn place_all(parts: Parts<'_>, skip: usize, room: &mut [IolPart]) -> IolReply
-    ensures { IsPlaced parts.entry skip result room.new }
+    ensures { AreCounted parts.entry result }
 {
     let mut count = 0u64;
     let mut len = 0u64;
@@ -43,7 +43,7 @@ pub(crate) fn parts_of(
     skip: usize,
     room: &mut [IolPart],
 ) -> IolReply
-    ensures { Borrows by agg skip system.now.kernel result room.new }
+    ensures { Borrows by agg system.now.kernel result }
 {
     match system.parts(DomainId::new(by), AggId::new(agg)) {
         Ok(parts) => place_all(parts, skip, room),

@@ -1,6 +1,6 @@
 //! Events as C passes them: a struct of numbers, and slices for bytes and domains.
-ghost use Rattle.std.specs.Prelude.{◌≡◌, None, IfOk, IfSome, Err};
-ghost use Rattle.iol_c.specs.Events.{IsCall, IsEvent, IsPlainCall, how_number, mode_number};
+ghost use Rattle.std.specs.Prelude.{◌≡◌, ◌<◌, ◌≤◌, IfErr, IfNone, IfOk, IfSome};
+ghost use Rattle.iol_c.specs.Events.{IfBad, IsCall, IsEvent, IsNoCall, IsNoEvent, IsNoPlainKind, IsPlainCall, TakesBytes, how_number, mode_number};
 
 use iol_core::descriptors::{How, Mode};
 use iol_core::events::{Call, Event};
@@ -34,6 +34,10 @@ pub(crate) enum Unread {
 }
 
 impl From<AllocError> for Unread {
+    ghost use Rattle.iol_c.specs.declared.events.Unread.TheVariants.{Memory};
+
+    ghost from_gives = { λ _ e. e ≡ Memory };
+
     fn from(_error: AllocError) -> Unread {
         Unread::Memory
     }
@@ -57,7 +61,8 @@ fn domains_of(alloc: Global, names: &[u32]) -> Result<Domains, AllocError>
 }
 
 fn mode_of(number: u32) -> Option<Mode>
-    ensures { IfSome result (λ m. number ≡ mode_number m) }
+    ensures some { IfSome result (λ m. number ≡ mode_number m) }
+    ensures none { IfNone result (2 < number) }
 {
     match number {
         0 => Some(Mode::Read),
@@ -68,7 +73,8 @@ fn mode_of(number: u32) -> Option<Mode>
 }
 
 fn how_of(number: u32) -> Option<How>
-    ensures { IfSome result (λ h. number ≡ how_number h) }
+    ensures some { IfSome result (λ h. number ≡ how_number h) }
+    ensures none { IfNone result (1 < number) }
 {
     match number {
         0 => Some(How::Done),
@@ -79,7 +85,8 @@ fn how_of(number: u32) -> Option<How>
 
 // The calls that read only the fields of the event.
 fn plain_call(e: &IolEvent) -> Option<Call>
-    ensures { IfSome result (λ c. IsPlainCall c e.now) }
+    ensures some { IfSome result (λ c. IsPlainCall c e.now) }
+    ensures none { IfNone result (IsNoPlainKind e.now.kind) }
 {
     let (agg, fd, pool) = (AggId::new(e.agg), Fd::new(e.id), PoolId::new(e.id));
     let to = DomainId::new(e.to);
@@ -126,7 +133,8 @@ fn plain_call(e: &IolEvent) -> Option<Call>
 
 // The call of an event, also one that reads bytes or domains.
 fn call_of(alloc: Global, e: &IolEvent, bytes: &[u8], names: &[u32]) -> Result<Call, Unread>
-    ensures { IfOk result (λ c. IsCall c e.now bytes.now names.now) }
+    ensures ok { IfOk result (λ c. IsCall c e.now bytes.now names.now) }
+    ensures bad { IfErr result (λ why. IfBad why (IsNoCall e.now)) }
 {
     match e.kind {
         2 => Ok(Call::PoolCreate {
@@ -165,7 +173,8 @@ pub(crate) fn event_of(
     bytes: &[u8],
     names: &[u32],
 ) -> Result<Event, Unread>
-    ensures { IfOk result (λ event. IsEvent event e.now bytes.now names.now) }
+    ensures ok { IfOk result (λ event. IsEvent event e.now bytes.now names.now) }
+    ensures bad { IfErr result (λ why. IfBad why (IsNoEvent e.now)) }
 {
     let conn = ConnId::new(e.id);
     match e.kind {
@@ -191,7 +200,9 @@ pub(crate) fn event_of(
 }
 
 /// The number of bytes that the reply to this event may have, where carrying it out again would not return them again.
-pub(crate) fn room_for(e: &IolEvent) -> usize {
+pub(crate) fn room_for(e: &IolEvent) -> usize
+    ensures { 0 < result → TakesBytes e.now × (result ≤ e.now.from) }
+{
     match e.kind {
         25 | 103 => MAX_FILE_BYTES.min(e.from as usize),
         _ => 0,

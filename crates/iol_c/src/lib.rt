@@ -29,7 +29,6 @@ use iol_back::memory::MemoryBacking;
 use iol_back::slots::Slots;
 use iol_core::configuration::Config;
 use iol_core::events::{Event, Reply};
-use iol_core::numbers::ConnId;
 use iol_core::refusals::Refusal;
 use iol_system::system::System;
 use replies::{BAD_EVENT, IolReply, MEMORY, SMALL_ROOM, not_done, refusal_number, reply_of};
@@ -37,7 +36,7 @@ use report::{IolPool, IolReport, report_of};
 use std::alloc::Global;
 use std::mem;
 use store::{HostStore, OpenFiles};
-use streams::{Descriptor, arrived, drained};
+use streams::{arrive_from, drain_to};
 
 /// The system that a handle owns.
 #[derive(Drop)]
@@ -189,7 +188,7 @@ pub extern "C" fn iol_parts(
 )
     requires { IsSome handle.old.value }
     ensures same { handle.new.value ≡ handle.old.value }
-    ensures borrows { BorrowsTo by agg skip handle.old.value reply.new room.new }
+    ensures borrows { BorrowsTo by agg handle.old.value reply.new }
 {
     let machine = mem::replace(handle, Handle::none(alloc)).into_box();
     *reply = parts_of(&machine.system, by, agg, skip, room);
@@ -229,12 +228,8 @@ pub extern "C" fn iol_arrive_from(
     ensures { ArrivesFrom conn max reply.new handle.old.value handle.new.value }
 {
     let mut machine = mem::replace(handle, Handle::none(alloc)).into_box();
-    let mut reader = Descriptor { fd };
-    let result = machine
-        .system
-        .arrive_from(ConnId::new(conn), &mut reader, max);
+    *reply = arrive_from(&mut machine.system, conn, fd, max);
     *handle = Handle::of(machine);
-    *reply = arrived(result);
 }
 
 /// Writes the first bytes to be sent on a connection to a descriptor, from their pages, at most `max`. Replies how many it
@@ -252,8 +247,6 @@ pub extern "C" fn iol_drain_to(
     ensures { DrainsTo conn max reply.new handle.old.value handle.new.value }
 {
     let mut machine = mem::replace(handle, Handle::none(alloc)).into_box();
-    let mut writer = Descriptor { fd };
-    let result = machine.system.drain_to(ConnId::new(conn), &mut writer, max);
+    *reply = drain_to(&mut machine.system, conn, fd, max);
     *handle = Handle::of(machine);
-    *reply = drained(result);
 }

@@ -1,5 +1,5 @@
 //! Replies as C gets them: a struct of numbers, and a slice for bytes.
-ghost use Rattle.std.specs.Prelude.{◌≡◌, IsTrue, length, take};
+ghost use Rattle.std.specs.Prelude.{◌≡◌, ◌<◌, IsFalse, IsTrue, length, take};
 ghost use Rattle.iol_c.specs.Replies.{Encodes, IsDone, IsRefusal, ReturnsBytes, about_of, number_of};
 
 use iol_core::events::Reply;
@@ -101,7 +101,8 @@ pub(crate) fn refused(refusal: &Refusal) -> IolReply
 
 // Copies bytes to the front of `out`, where there is room for them.
 fn put(bytes: &[u8], out: &mut [u8]) -> bool
-    ensures { IsTrue result → take (length bytes.now) out.new ≡ bytes.now }
+    ensures fits { IsTrue result → take (length bytes.now) out.new ≡ bytes.now }
+    ensures full { IsFalse result → length out.new < length bytes.now }
 {
     if bytes.len() > out.len() {
         return false;

@@ -1,8 +1,10 @@
 //! A report as C gets it.
-ghost use Rattle.iol_c.specs.Reports.{IsReported};
+ghost use Rattle.iol_c.specs.Reports.{HasCounts, IsReported};
 
 use crate::replies::MEMORY;
 use crate::store::HostStore;
+use iol_kernel::report::Report;
+use iol_pool::report::PoolReport;
 use iol_system::system::System;
 
 /// The pages of a pool.
@@ -26,20 +28,9 @@ pub struct IolReport {
     pub pools: u64,
 }
 
-/// Counts what is in a system. The pools go to `room`, by rising number and as many as it has room for.
-pub(crate) fn report_of(system: &System<HostStore>, room: &mut [IolPool]) -> IolReport
-    ensures { IsReported system.now.kernel result }
-{
-    let Ok(report) = system.report() else {
-        return IolReport {
-            refusal: MEMORY,
-            buffers: 0,
-            extents: 0,
-            dirty: 0,
-            pools: 0,
-        };
-    };
-    for (at, pool) in report.pools.iter().enumerate() {
+// Puts the pages of pools into `room`, as many as it has.
+fn place_all(pools: &[PoolReport], room: &mut [IolPool]) {
+    for (at, pool) in pools.iter().enumerate() {
         if let Some(place) = room.get_mut(at) {
             *place = IolPool {
                 pool: pool.pool.number(),
@@ -49,11 +40,36 @@ pub(crate) fn report_of(system: &System<HostStore>, room: &mut [IolPool]) -> Iol
             };
         }
     }
+}
+
+// The counts of a report.
+fn counts_of(report: &Report) -> IolReport
+    ensures { HasCounts report.now result }
+{
     IolReport {
         refusal: 0,
         buffers: report.buffers,
         extents: report.extents as u64,
         dirty: report.dirty as u64,
         pools: report.pools.len() as u64,
+    }
+}
+
+/// Counts what is in a system. The pools go to `room`, by rising number and as many as it has room for.
+pub(crate) fn report_of(system: &System<HostStore>, room: &mut [IolPool]) -> IolReport
+    ensures { IsReported system.now.kernel result }
+{
+    match system.report() {
+        Ok(report) => {
+            place_all(report.pools.as_slice(), room);
+            counts_of(&report)
+        }
+        Err(_) => IolReport {
+            refusal: MEMORY,
+            buffers: 0,
+            extents: 0,
+            dirty: 0,
+            pools: 0,
+        },
     }
 }

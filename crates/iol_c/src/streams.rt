@@ -1,10 +1,13 @@
 //! A descriptor of the caller's process, as a reader and as a writer.
 ghost use Rattle.std.specs.Prelude.{◌≡◌, ◌≤◌, IfOk};
-ghost use Rattle.iol_c.specs.Streams.{SaysArrived, SaysDrained, ending_number};
+ghost use Rattle.iol_c.specs.Streams.{ArrivesBetween, Drains, SaysArrived, SaysDrained, ending_number};
 
 use crate::replies::{IolReply, done, refused};
+use crate::store::HostStore;
+use iol_core::numbers::ConnId;
 use iol_core::refusals::Refusal;
 use iol_sock::{Arrived, Drained};
+use iol_system::system::System;
 use std::io;
 use std::io::{Error, ErrorKind, Read, Write};
 
@@ -42,16 +45,6 @@ impl Write for Descriptor {
     }
 }
 
-/// The reply where a reader brought bytes, or did not.
-pub(crate) fn arrived(outcome: Result<Arrived, Refusal>) -> IolReply
-    ensures { SaysArrived outcome result }
-{
-    match outcome {
-        Ok(arrived) => done(u64::from(arrived.taken), ending(&arrived)),
-        Err(refusal) => refused(&refusal),
-    }
-}
-
 // How a read ended: 2 where it failed, 1 at the reader's end, else 0.
 fn ending(arrived: &Arrived) -> u64
     ensures { result ≡ ending_number arrived.now.end arrived.now.failed }
@@ -63,8 +56,18 @@ fn ending(arrived: &Arrived) -> u64
     }
 }
 
-/// The reply where a writer took bytes, or did not.
-pub(crate) fn drained(outcome: Result<Drained, Refusal>) -> IolReply
+// The reply where a reader brought bytes, or did not.
+fn arrived(outcome: Result<Arrived, Refusal>) -> IolReply
+    ensures { SaysArrived outcome result }
+{
+    match outcome {
+        Ok(arrived) => done(u64::from(arrived.taken), ending(&arrived)),
+        Err(refusal) => refused(&refusal),
+    }
+}
+
+// The reply where a writer took bytes, or did not.
+fn drained(outcome: Result<Drained, Refusal>) -> IolReply
     ensures { SaysDrained outcome result }
 {
     match outcome {
@@ -74,4 +77,21 @@ pub(crate) fn drained(outcome: Result<Drained, Refusal>) -> IolReply
         }
         Err(refusal) => refused(&refusal),
     }
+}
+
+/// Has the bytes of one read of a descriptor arrive on a connection.
+#[tactic(auto, unfolding(crate::specs::Streams::ArrivesBetween))]
+pub(crate) fn arrive_from(system: &mut System<HostStore>, conn: u32, fd: i32, max: u32) -> IolReply
+    ensures { ArrivesBetween conn max result system.old system.new }
+{
+    let mut reader = Descriptor { fd };
+    arrived(system.arrive_from(ConnId::new(conn), &mut reader, max))
+}
+
+/// Has a descriptor take the first bytes to be sent on a connection.
+pub(crate) fn drain_to(system: &mut System<HostStore>, conn: u32, fd: i32, max: u32) -> IolReply
+    ensures { Drains conn max result system.old system.new }
+{
+    let mut writer = Descriptor { fd };
+    drained(system.drain_to(ConnId::new(conn), &mut writer, max))
 }
