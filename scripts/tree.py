@@ -1,4 +1,5 @@
 """What the scripts share: the crates of a tree, the edits of a crate, and copies of a tree."""
+import functools
 import os
 import re
 import shutil
@@ -51,6 +52,18 @@ def below(known, name):
 def above(known, names):
     """The crates that stand on one of these."""
     return [name for name in known if any(low in names for low in below(known, name))]
+
+
+def paths(known):
+    """How many paths through crates.txt begin at each crate, the one that ends there among them.
+
+    `rt` reads the files of a crate once for each path to it, whenever it sums those of a crate above.
+    """
+    @functools.cache
+    def count(name):
+        return 1 + sum(count(low) for low in known[name] if low in known)
+
+    return {name: count(name) for name in known}
 
 
 def only_known(names, known):
