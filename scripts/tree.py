@@ -3,6 +3,7 @@ import functools
 import os
 import re
 import shutil
+import subprocess
 from dataclasses import dataclass
 
 ROOT = os.path.dirname(os.path.dirname(os.path.abspath(__file__)))
@@ -141,6 +142,25 @@ def copy_tree(room, root=ROOT, leave=("edits", "wrong")):
     for name in ("crates.txt", "HANDLES"):
         if os.path.isfile(f"{root}/{name}"):
             shutil.copy(f"{root}/{name}", f"{room}/{name}")
+
+
+def sources():
+    """The files from which programs are built."""
+    yield f"{ROOT}/crates.txt"
+    for name in crates():
+        for part in PARTS:
+            for folder, _, files in os.walk(f"{ROOT}/crates/{name}/{part}"):
+                yield from (f"{folder}/{file}" for file in files)
+
+
+def build_program(name, *words):
+    """Has the program of a crate proved and built, where it is not there or a source is newer: it is run with these words then."""
+    room = f"{ROOT}/crates/{name}"
+    program = f"{room}/out/{name}"
+    built = os.path.getmtime(program) if os.path.isfile(program) else 0
+    if any(os.path.getmtime(source) > built for source in sources()):
+        subprocess.run(["rt", "run", "--", *words], cwd=room, stdin=subprocess.DEVNULL, capture_output=True, check=True)
+        os.utime(program)
 
 
 def tally(said):
