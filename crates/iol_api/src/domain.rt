@@ -18,6 +18,7 @@ use iol_system::system::System;
 use std::alloc::{AllocError, Global};
 
 /// A domain of a system, by which calls are made. It borrows the system until it is dropped.
+#[derive(Drop)]
 pub struct Domain<'a, B: Backing> {
     alloc: Global,
     system: &'a mut System<B>,

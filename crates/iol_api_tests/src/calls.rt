@@ -42,7 +42,7 @@ fn passes(alloc: Global, system: &mut System<MemoryBacking>) -> bool {
     };
     let is_refused = drops_nothing(alloc, system);
     match receive(alloc, system, read) {
-        Ok(bytes) => is_refused && bytes.as_slice() == b"hel",
+        Ok(bytes) => is_refused && bytes.as_slice() == b"hel".as_slice(),
         Err(_) => false,
     }
 }
