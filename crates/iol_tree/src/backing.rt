@@ -1,6 +1,6 @@
 //! A store of the files below a folder.
-ghost use Rattle.std.specs.Prelude.{◌≡◌, ◌+◌, ◌-◌, ◌<◌, ◌≤◌, ◌↔◌, length, true, false, Some, IsSome, IfSome, IfOk, OnOk, slice_get};
-ghost use Rattle.iol_back.specs.Disk.{IsHonestLength, IsSlot, ReadsAt, WritesAt, length_told, raised};
+ghost use Rattle.std.specs.Prelude.{◌≡◌, ◌+◌, ◌-◌, ◌<◌, ◌≤◌, ◌↔◌, length, true, false, Some, IsSome, IfSome, IfOk};
+ghost use Rattle.iol_back.specs.Disk.{IsSlot, ReadsAt, length_told, raised};
 ghost use Rattle.iol_back.specs.Folder.{AreListed, AreNames};
 ghost use Rattle.iol_back.specs.Lists.{items_of};
 ghost use Rattle.iol_tree.specs.Store.{HaveLengths, HoldsBytes, disk_of};

@@ -1,5 +1,5 @@
 //! The bytes of the files below a folder.
-ghost use Rattle.std.specs.Prelude.{◌≡◌, ◌<◌, ◌≤◌, ◌+◌, [], length, map, IfOk, Some, slice_get, true};
+ghost use Rattle.std.specs.Prelude.{◌≡◌, ◌<◌, ◌≤◌, ◌+◌, length, IfOk, Some, slice_get, true};
 ghost use Rattle.iol_core.specs.declared.limits.TheConstants.{MAX_FILES};
 ghost use Rattle.iol_back.specs.Lists.{items_of};
 ghost use Rattle.iol_tree.specs.Store.{HaveLengths, HoldsBytes};

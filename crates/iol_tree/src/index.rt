@@ -1,5 +1,5 @@
 //! The files below a folder.
-ghost use Rattle.std.specs.Prelude.{◌≡◌, ◌+◌, ◌-◌, ◌<◌, ◌≤◌, [], length, All, Some, IsTrue, slice_get, string_bytes, map};
+ghost use Rattle.std.specs.Prelude.{◌≡◌, ◌+◌, ◌-◌, ◌<◌, [], length, All, Some, IsTrue, slice_get, string_bytes, map};
 ghost use Rattle.iol_back.specs.Folder.{AreNames, MayFollow, Precedes};
 
 use crate::stamp::{Stamp, stamp_at};
