@@ -98,6 +98,10 @@ impl<S: Socket> Client<S> {
         }
     }
 
+    pub fn socket(&self) -> &S {
+        &self.socket
+    }
+
     pub fn serial(&self) -> u64 {
         self.serial
     }

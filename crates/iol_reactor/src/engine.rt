@@ -66,6 +66,36 @@ pub struct Engine<S, B: Backing, P: Process, V: Service<B, P>> {
     now: u64,
 }
 
+// Room for all clients, which is reserved before the first comes.
+#[derive(Drop)]
+struct Room<S> {
+    clients: Vec<Option<Client<S>>>,
+    free: Vec<usize>,
+    ready: Vec<usize>,
+    pending: Vec<usize>,
+    ready_before: Vec<usize>,
+    pending_before: Vec<usize>,
+    waiting: VecDeque<Key>,
+    piece: Vec<u8>,
+    outbox: Outbox,
+}
+
+impl<S: Drop> Room<S> {
+    fn new(alloc: Global, most: usize) -> Result<Room<S>, AllocError> {
+        Ok(Room {
+            clients: Vec::with_capacity(alloc, most)?,
+            free: Vec::with_capacity(alloc, most)?,
+            ready: Vec::with_capacity(alloc, most)?,
+            pending: Vec::with_capacity(alloc, most)?,
+            ready_before: Vec::with_capacity(alloc, most)?,
+            pending_before: Vec::with_capacity(alloc, most)?,
+            waiting: VecDeque::with_capacity(alloc, most)?,
+            piece: vec![in alloc; 0u8; READ_BYTES]?,
+            outbox: Outbox::new(alloc, QUEUE as usize)?,
+        })
+    }
+}
+
 // How often a limit is looked at while it lasts.
 const LOOKS: u64 = 8;
 
@@ -92,21 +122,36 @@ impl<S: Socket + Drop, B: Backing + Drop, P: Process, V: Service<B, P>> Engine<S
     ) -> Result<Engine<S, B, P, V>, AllocError>
         requires { V.starts world }
     {
-        let most = limits.max_clients;
-        Ok(Engine {
+        match Room::new(alloc, limits.max_clients) {
+            Ok(room) => Ok(Engine::within(alloc, room, Worlds::new(world, pool), limits)),
+            Err(error) => {
+                drop(world);
+                Err(error)
+            }
+        }
+    }
+
+    // No client yet, and room for all that may come.
+    fn within(
+        alloc: Global,
+        room: Room<S>,
+        worlds: Worlds<B, P, V>,
+        limits: Limits,
+    ) -> Engine<S, B, P, V> {
+        Engine {
             alloc,
             limits,
-            worlds: Worlds::new(world, pool),
-            clients: Vec::with_capacity(alloc, most)?,
-            free: Vec::with_capacity(alloc, most)?,
+            worlds,
+            clients: room.clients,
+            free: room.free,
             serial: 0,
-            ready: Vec::with_capacity(alloc, most)?,
-            pending: Vec::with_capacity(alloc, most)?,
-            ready_before: Vec::with_capacity(alloc, most)?,
-            pending_before: Vec::with_capacity(alloc, most)?,
-            waiting: VecDeque::with_capacity(alloc, most)?,
-            piece: vec![in alloc; 0u8; READ_BYTES]?,
-            outbox: Outbox::new(alloc, QUEUE as usize)?,
+            ready: room.ready,
+            pending: room.pending,
+            ready_before: room.ready_before,
+            pending_before: room.pending_before,
+            waiting: room.waiting,
+            piece: room.piece,
+            outbox: room.outbox,
             silences: Deadlines::new(alloc, look_of(limits.idle_millis)),
             heads: Deadlines::new(alloc, look_of(limits.head_millis)),
             rates: Deadlines::new(alloc, limits.rate_millis),
@@ -115,7 +160,7 @@ impl<S: Socket + Drop, B: Backing + Drop, P: Process, V: Service<B, P>> Engine<S
             retry_at: None,
             is_idle: true,
             now: 0,
-        })
+        }
     }
 
     /// The number of clients.
@@ -136,6 +181,14 @@ impl<S: Socket + Drop, B: Backing + Drop, P: Process, V: Service<B, P>> Engine<S
     /// The worlds.
     pub fn worlds(&mut self) -> &mut Worlds<B, P, V> {
         &mut self.worlds
+    }
+
+    /// The socket of the client in this place.
+    pub fn socket(&self, slot: usize) -> Option<&S> {
+        match self.clients.get(slot) {
+            Some(Some(client)) => Some(client.socket()),
+            _ => None,
+        }
     }
 
     /// Whether there is a place for one more client.

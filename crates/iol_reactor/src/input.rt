@@ -1,4 +1,7 @@
 //! The bytes that a client sent and that the world has not answered yet.
+ghost use Rattle.std.specs.Prelude.{◌≡◌, ◌≢◌, ◌++◌};
+ghost use Rattle.iol_reactor.specs.Bytes.{Gains};
+
 use crate::limits::MAX_BUFFERED;
 use crate::socket::Socket;
 use std::alloc::{AllocError, Global};
@@ -76,14 +79,17 @@ impl Input {
     }
 
     /// Reads once, behind what is buffered.
-    pub fn read_from<S: Socket>(&mut self, socket: &mut S, piece: &mut [u8]) -> Reading {
+    pub fn read_from<S: Socket>(&mut self, socket: &mut S, piece: &mut [u8]) -> Reading
+        ensures { result ≢ Reading.Failed → Gains (S.remaining socket.old)
+            (S.remaining socket.new) self.old.bytes.items self.new.bytes.items }
+    {
         let room = piece.len();
         match socket.read(piece) {
             Ok(0) => {
                 self.ended = true;
                 Reading::End
             }
-            Ok(count) => self.append(&piece[..count.min(room)], room),
+            Ok(count) => self.append(&piece[..count], room),
             Err(e) if e.kind() == ErrorKind::WouldBlock => {
                 self.readable = false;
                 self.ending = false;
@@ -110,7 +116,10 @@ impl Input {
     }
 
     // Keeps the bytes of a read of at most `room` bytes. A short read has emptied the socket, unless the peer's end is behind it.
-    fn append(&mut self, bytes: &[u8], room: usize) -> Reading {
+    fn append(&mut self, bytes: &[u8], room: usize) -> Reading
+        ensures { result ≢ Reading.Failed →
+            self.new.bytes.items ≡ self.old.bytes.items ++ bytes.now }
+    {
         if bytes.len() < room {
             self.readable = self.ending;
         }

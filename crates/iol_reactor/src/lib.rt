@@ -15,6 +15,7 @@
 //! ```
 #![tactic(auto)]
 
+pub mod accept;
 pub mod client;
 pub mod deadlines;
 pub mod engine;

@@ -1,4 +1,7 @@
 //! The bytes of a response that the world sent and that a client has not accepted yet.
+ghost use Rattle.std.specs.Prelude.{◌≡◌, ◌≢◌, []};
+ghost use Rattle.iol_reactor.specs.Bytes.{Passes};
+
 use crate::limits::{HEAD_BYTES, TAIL_BYTES};
 use crate::socket::Socket;
 use std::alloc::{AllocError, Global};
@@ -105,9 +108,12 @@ impl Output {
 
     /// Writes what is left, as far as the socket accepts it.
     pub fn flush<S: Socket>(&mut self, socket: &mut S) -> Sending {
-        let before = self.at;
-        let sending = write_from(socket, &self.left, &mut self.at);
-        self.count(self.at.saturating_sub(before));
+        let waiting = &self.left[self.at.min(self.left.len())..];
+        let count = waiting.len();
+        let (sending, rest) = write_all(socket, waiting);
+        let accepted = count.saturating_sub(rest.len());
+        self.count(accepted);
+        self.at = self.at.saturating_add(accepted);
         self.is_blocked = sending == Sending::Blocked;
         if sending == Sending::All && self.at > 0 {
             self.at = 0;
@@ -120,20 +126,20 @@ impl Output {
     }
 
     /// Writes bytes that the world sent, as far as the socket accepts them, and keeps the rest. Nothing is left from before.
-    pub fn send<S: Socket>(&mut self, socket: &mut S, bytes: &[u8]) -> Sending {
+    pub fn send<S: Socket>(&mut self, socket: &mut S, bytes: &[u8]) -> Sending
+        ensures { result ≢ Sending.Failed → Passes (S.contents socket.old)
+            (S.contents socket.new) bytes.now self.new.left.items }
+    {
         if self.show(bytes).is_err() {
             return Sending::Failed;
         }
-        let mut at = 0;
-        let sending = write_from(socket, bytes, &mut at);
-        self.count(at);
+        let (sending, rest) = write_all(socket, bytes);
+        self.count(bytes.len().saturating_sub(rest.len()));
         self.is_blocked = sending == Sending::Blocked;
         self.at = 0;
-        if sending == Sending::Blocked {
-            let rest = &bytes[at.min(bytes.len())..];
-            if self.left.extend_from_slice(rest).is_err() {
-                return Sending::Failed;
-            }
+        self.left.clear();
+        if sending == Sending::Blocked && self.left.extend_from_slice(rest).is_err() {
+            return Sending::Failed;
         }
         sending
     }
@@ -158,19 +164,41 @@ impl Output {
     }
 }
 
-// Writes bytes from a place on, until the socket accepts no more, and moves the place.
-fn write_from<S: Socket>(socket: &mut S, bytes: &[u8], at: &mut usize) -> Sending {
+// Writes bytes until the socket accepts no more: those that it did not accept.
+fn write_all<'a, S: Socket>(socket: &mut S, bytes: &'a [u8]) -> (Sending, &'a [u8])
+    ensures passes { Passes (S.contents socket.old) (S.contents socket.new) bytes.now result.1.now }
+    ensures all { result.0 ≡ Sending.All → result.1.now ≡ [] }
+{
+    let mut rest = bytes;
     for _ in 0..MAX_WRITES {
-        if *at >= bytes.len() {
-            return Sending::All;
+        if rest.is_empty() {
+            return (Sending::All, rest);
         }
-        match socket.write(&bytes[*at..]) {
-            Ok(0) => return Sending::Failed,
-            Ok(count) => *at = at.saturating_add(count).min(bytes.len()),
-            Err(e) if e.kind() == ErrorKind::WouldBlock => return Sending::Blocked,
-            Err(e) if e.kind() == ErrorKind::Interrupted => {}
-            Err(_) => return Sending::Failed,
+        let (sending, left) = write_once(socket, rest);
+        rest = left;
+        if sending != Sending::All {
+            return (sending, rest);
         }
     }
-    Sending::Failed
+    (Sending::Failed, rest)
+}
+
+// One write: the bytes that it did not accept. `All`: more may be written.
+fn write_once<'a, S: Socket>(socket: &mut S, bytes: &'a [u8]) -> (Sending, &'a [u8])
+    ensures { Passes (S.contents socket.old) (S.contents socket.new) bytes.now result.1.now }
+{
+    match socket.write(bytes) {
+        Ok(0) => (Sending::Failed, bytes),
+        Ok(count) => (Sending::All, &bytes[count..]),
+        Err(e) => (after(e.kind()), bytes),
+    }
+}
+
+// What follows from an error of a write.
+fn after(kind: ErrorKind) -> Sending {
+    match kind {
+        ErrorKind::WouldBlock => Sending::Blocked,
+        ErrorKind::Interrupted => Sending::All,
+        _ => Sending::Failed,
+    }
 }

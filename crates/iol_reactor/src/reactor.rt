@@ -1,6 +1,10 @@
 //! The loop: it polls the sockets, accepts clients, and lets the engine work.
+ghost use Rattle.std.specs.Prelude.{◌≡◌, Some, OnOk, true};
+ghost use Rattle.iol_reactor.specs.Accepting.{StaysWithin};
+
+use crate::accept::{Acceptor, Listener};
 use crate::engine::Engine;
-use crate::limits::{ACCEPT_MILLIS, EVENTS, Limits, RENEW_MILLIS};
+use crate::limits::{EVENTS, Limits, RENEW_MILLIS};
 use crate::service::Service;
 use iol_back::backing::Backing;
 use iol_core::numbers::PoolId;
@@ -9,7 +13,7 @@ use iol_proc::world::World;
 use mio::event::Event;
 use mio::net::{TcpListener, TcpStream};
 use mio::{Events, Interest, Poll, Token};
-use std::alloc::Global;
+use std::alloc::{AllocError, Global};
 use std::io;
 use std::io::ErrorKind;
 use std::net::{Net, SocketAddr};
@@ -21,24 +25,17 @@ const LISTENER: usize = usize::MAX;
 
 /// A listener, its clients, and the worlds that answer them.
 #[derive(Drop)]
-pub struct Reactor<B: Backing, P: Process, V: Service<B, P>> {
+pub struct Reactor<L, B: Backing, P: Process, V: Service<B, P>> {
     alloc: Global,
     poll: Poll,
-    listener: TcpListener,
+    acceptor: Acceptor<L>,
     engine: Engine<TcpStream, B, P, V>,
-
-    // How many clients may still be accepted: any number, if it is none.
-    left: Option<u32>,
-
-    // Whether a client may wait to be accepted, and when one is accepted again after a failure.
-    is_open: bool,
-    open_at: Option<u64>,
 
     // When the service is asked for a new world.
     renew_at: u64,
 }
 
-impl<B: Backing + Drop, P: Process, V: Service<B, P>> Reactor<B, P, V> {
+impl<B: Backing + Drop, P: Process, V: Service<B, P>> Reactor<TcpListener, B, P, V> {
     /// Listens on an address. The bytes that clients send are placed in the pool.
     pub fn new(
         net: &impl Net,
@@ -47,58 +44,115 @@ impl<B: Backing + Drop, P: Process, V: Service<B, P>> Reactor<B, P, V> {
         pool: PoolId,
         world: World<B, P>,
         limits: Limits,
-    ) -> io::Result<Reactor<B, P, V>>
+    ) -> io::Result<Reactor<TcpListener, B, P, V>>
         requires { V.starts world }
     {
-        let mut listener = TcpListener::bind(net, address)?;
-        let poll = Poll::new(net)?;
-        poll.registry()
-            .register(&mut listener, Token(LISTENER), Interest::READABLE)?;
-        Ok(Reactor {
-            alloc,
-            poll,
-            listener,
-            engine: Engine::new(alloc, pool, world, limits)?,
-            left: limits.stop_after,
-            is_open: true,
-            open_at: None,
-            renew_at: RENEW_MILLIS,
-        })
+        match listen(net, address) {
+            Ok((listener, poll)) => {
+                let acceptor = Acceptor::new(listener, limits.stop_after);
+                Reactor::over(
+                    alloc,
+                    poll,
+                    acceptor,
+                    Engine::new(alloc, pool, world, limits),
+                )
+            }
+            Err(error) => {
+                drop(world);
+                Err(error)
+            }
+        }
+    }
+
+    // A reactor of an engine, if there was memory for that.
+    fn over(
+        alloc: Global,
+        poll: Poll,
+        acceptor: Acceptor<TcpListener>,
+        engine: Result<Engine<TcpStream, B, P, V>, AllocError>,
+    ) -> io::Result<Reactor<TcpListener, B, P, V>> {
+        match engine {
+            Ok(engine) => Ok(Reactor {
+                alloc,
+                poll,
+                acceptor,
+                engine,
+                renew_at: RENEW_MILLIS,
+            }),
+            Err(error) => Err(io::Error::from(error)),
+        }
     }
 
     /// The address that it listens on.
     pub fn local_addr(&self) -> io::Result<SocketAddr> {
-        self.listener.local_addr()
+        self.acceptor.listener.local_addr()
     }
+}
 
+impl<L, B, P, V> Reactor<L, B, P, V>
+where
+    L: Listener<TcpStream>,
+    B: Backing + Drop,
+    P: Process,
+    V: Service<B, P>,
+{
     /// Serves clients. It returns when the number of clients that `Limits::stop_after` gives have come and gone, or the sockets
-    /// cannot be polled.
-    pub fn serve(&mut self, clock: &impl Clock, service: &mut V) -> io::Result<()> {
+    /// cannot be polled. It never accepts more.
+    pub fn serve(&mut self, clock: &impl Clock, service: &mut V) -> io::Result<()>
+        ensures accepts { StaysWithin (L.given self.old.acceptor.listener) self.old.acceptor.left
+            (L.given self.new.acceptor.listener) self.new.acceptor.left }
+        ensures done { OnOk result (self.new.acceptor.left ≡ Some 0) }
+    {
         let start = Instant::now(clock)?;
         let mut events = Events::with_capacity(self.alloc, EVENTS)?;
         for _ in 0..u64::MAX {
             if self.is_done() {
-                break;
+                return Ok(());
             }
-            let wait = self.wait();
-            self.poll.poll(&mut events, Some(wait))?;
-            self.engine.set_now(millis_of(start.elapsed(clock)?));
-            for event in &events {
-                self.note(event)?;
-            }
-            self.turn(service)?;
+            self.step(&mut events, &start, clock, service)?;
+        }
+        Err(io::Error::from(ErrorKind::TimedOut))
+    }
+
+    // One poll, and what follows from it.
+    fn step(
+        &mut self,
+        events: &mut Events<Global>,
+        start: &Instant,
+        clock: &impl Clock,
+        service: &mut V,
+    ) -> io::Result<()>
+        ensures { StaysWithin (L.given self.old.acceptor.listener) self.old.acceptor.left
+            (L.given self.new.acceptor.listener) self.new.acceptor.left }
+    {
+        let wait = self.wait();
+        self.poll.poll(events, Some(wait))?;
+        self.engine.set_now(millis_of(start.elapsed(clock)?));
+        self.note_all(events)?;
+        self.turn(service)
+    }
+
+    // Sockets were reported ready.
+    fn note_all(&mut self, events: &Events<Global>) -> io::Result<()>
+        ensures listener { self.new.acceptor.listener ≡ self.old.acceptor.listener }
+        ensures left { self.new.acceptor.left ≡ self.old.acceptor.left }
+    {
+        for event in events {
+            self.note(event)?;
         }
         Ok(())
     }
 
     // Whether all clients that may be accepted have come and gone.
-    fn is_done(&self) -> bool {
-        self.left == Some(0) && self.engine.count() == 0
+    fn is_done(&self) -> bool
+        ensures { result ≡ true → self.now.acceptor.left ≡ Some 0 }
+    {
+        self.acceptor.is_exhausted() && self.engine.count() == 0
     }
 
     // Whether a client may wait to be accepted for which there is a place.
     fn may_accept(&self) -> bool {
-        self.is_open && self.left != Some(0) && self.engine.has_place()
+        self.acceptor.is_open() && self.engine.has_place()
     }
 
     // How long the sockets are waited for.
@@ -110,7 +164,7 @@ impl<B: Backing + Drop, P: Process, V: Service<B, P>> Reactor<B, P, V> {
         if let Some(at) = self.engine.first_deadline() {
             first = first.min(at);
         }
-        if let Some(at) = self.open_at {
+        if let Some(at) = self.acceptor.open_at() {
             first = first.min(at);
         }
         let now = self.engine.now();
@@ -121,10 +175,13 @@ impl<B: Backing + Drop, P: Process, V: Service<B, P>> Reactor<B, P, V> {
     }
 
     // A socket was reported ready.
-    fn note(&mut self, event: &Event) -> io::Result<()> {
+    fn note(&mut self, event: &Event) -> io::Result<()>
+        ensures listener { self.new.acceptor.listener ≡ self.old.acceptor.listener }
+        ensures left { self.new.acceptor.left ≡ self.old.acceptor.left }
+    {
         let Token(slot) = event.token();
         if slot == LISTENER {
-            self.is_open = true;
+            self.acceptor.open();
             return Ok(());
         }
         let has_failed = event.is_error() || event.is_write_closed();
@@ -135,7 +192,10 @@ impl<B: Backing + Drop, P: Process, V: Service<B, P>> Reactor<B, P, V> {
     }
 
     // What is done between two polls.
-    fn turn(&mut self, service: &mut V) -> io::Result<()> {
+    fn turn(&mut self, service: &mut V) -> io::Result<()>
+        ensures { StaysWithin (L.given self.old.acceptor.listener) self.old.acceptor.left
+            (L.given self.new.acceptor.listener) self.new.acceptor.left }
+    {
         self.accept_all();
         self.engine.round(service)?;
         self.engine.expire(service)?;
@@ -144,37 +204,29 @@ impl<B: Backing + Drop, P: Process, V: Service<B, P>> Reactor<B, P, V> {
     }
 
     // Accepts those that wait, while there is a place.
-    fn accept_all(&mut self) {
-        self.reopen();
+    fn accept_all(&mut self)
+        ensures { StaysWithin (L.given self.old.acceptor.listener) self.old.acceptor.left
+            (L.given self.new.acceptor.listener) self.new.acceptor.left }
+    {
+        let now = self.engine.now();
+        self.acceptor.reopen(now);
         for _ in 0..EVENTS {
-            if !self.is_open || self.left == Some(0) {
+            if !self.acceptor.is_open() {
                 return;
             }
             let Some(slot) = self.engine.vacancy() else {
                 return;
             };
-            match self.listener.accept() {
-                Ok((stream, peer)) => self.admit(slot, stream, peer),
-                Err(e) => self.refuse(e.kind()),
-            }
-        }
-    }
-
-    // A listener that had failed is tried again once that is due.
-    fn reopen(&mut self) {
-        if let Some(at) = self.open_at {
-            if at <= self.engine.now() {
-                self.open_at = None;
-                self.is_open = true;
+            if let Some((stream, peer)) = self.acceptor.accept(now) {
+                self.admit(slot, stream, peer);
             }
         }
     }
 
     // A client came. One that the system refuses to report on ends at once.
-    fn admit(&mut self, slot: usize, stream: TcpStream, peer: SocketAddr) {
-        if let Some(left) = self.left {
-            self.left = Some(left.saturating_sub(1));
-        }
+    fn admit(&mut self, slot: usize, stream: TcpStream, peer: SocketAddr)
+        ensures { self.new.acceptor ≡ self.old.acceptor }
+    {
         let mut stream = stream;
         let both = Interest::READABLE | Interest::WRITABLE;
         let watched = self
@@ -186,20 +238,10 @@ impl<B: Backing + Drop, P: Process, V: Service<B, P>> Reactor<B, P, V> {
         }
     }
 
-    // No client was accepted. One that broke before is no failure of the listener.
-    fn refuse(&mut self, kind: ErrorKind) {
-        match kind {
-            ErrorKind::ConnectionAborted | ErrorKind::Interrupted => {}
-            ErrorKind::WouldBlock => self.is_open = false,
-            _ => {
-                self.is_open = false;
-                self.open_at = Some(self.engine.now().saturating_add(ACCEPT_MILLIS));
-            }
-        }
-    }
-
     // Asks for a new world, once that is due.
-    fn renew(&mut self, service: &mut V) {
+    fn renew(&mut self, service: &mut V)
+        ensures { self.new.acceptor ≡ self.old.acceptor }
+    {
         let now = self.engine.now();
         if now < self.renew_at {
             return;
@@ -209,10 +251,20 @@ impl<B: Backing + Drop, P: Process, V: Service<B, P>> Reactor<B, P, V> {
         if worlds.is_retiring() {
             return;
         }
-        if let Some(world) = service.renew(worlds.is_worn()) {
-            worlds.renew(world);
+        match service.renew(worlds.is_worn()) {
+            Some(world) => worlds.renew(world),
+            None => {}
         }
     }
+}
+
+// A listener on an address, and a poll that reports it.
+fn listen(net: &impl Net, address: SocketAddr) -> io::Result<(TcpListener, Poll)> {
+    let mut listener = TcpListener::bind(net, address)?;
+    let poll = Poll::new(net)?;
+    poll.registry()
+        .register(&mut listener, Token(LISTENER), Interest::READABLE)?;
+    Ok((listener, poll))
 }
 
 // A time in milliseconds.

@@ -78,14 +78,14 @@ impl<B: Backing + Drop, P: Process, V: Service<B, P>> Worlds<B, P, V> {
         self.is_worn = false;
         self.retiring_links = self.links;
         self.links = 0;
-        self.retiring = Some(before);
+        drop(self.retiring.replace(before));
         self.retire();
     }
 
     // Drops the world before, if no connection of it has a client.
     fn retire(&mut self) {
         if self.retiring_links == 0 {
-            self.retiring = None;
+            drop(self.retiring.take());
         }
     }
 
