@@ -55,7 +55,8 @@ class Prover:
         for it in tree.lowest_first(self.crates, over):
             given += ["-L", f"dependency={self.root}/crates/{it}/out/rlib"]
         logic = ["--antt-project", f"{KIT}/rattle/logic/antt-project.json", "--logic-built", f"{KIT}/logic_built"]
-        return [*given, *logic, "--jobs", "1", "--links", f"{name}="]
+        kind = ["--crate-type", "staticlib"] if tree.is_static(name, self.root) else []
+        return [*given, *logic, *kind, "--jobs", "1", "--links", f"{name}="]
 
     def check(self, room, name, functions, kept=None, over=None):
         """Proves these functions of a crate that lies in a folder, over kept work: the status and what was said."""

@@ -37,6 +37,11 @@ def crates(root=ROOT):
     return listed(read(f"{root}/crates.txt"))
 
 
+def is_static(name, root=ROOT):
+    """Whether crates.txt lists a crate as a static library."""
+    return any(line.partition(":")[0].split() == [name, "staticlib"] for line in read(f"{root}/crates.txt").splitlines())
+
+
 def lowest_first(known, names):
     """The crates of these names and all that they stand on, what is below first."""
     found = []

@@ -318,6 +318,8 @@ static iol_reply show(const line *it)
     iol_part part[3];
     iol_reply reply = iol_show(&sys, it->by, it->number[0], out, sizeof out), lent;
     size_t at = 0, skip = 0;
+    if (reply.refusal == IOL_MEMORY)
+        return reply; /* borrowing takes no memory */
     do {
         iol_parts(&sys, it->by, it->number[0], skip, part, 3, &lent);
         if (lent.refusal != reply.refusal || lent.about != reply.about)

@@ -13,6 +13,7 @@ if TYPE_CHECKING:
     from .streams import Stream
 
 MAX_BYTES = 1 << 24  # of one reply
+MAX_QUEUE = 1 << 16  # bytes of a queue
 MAX_NUMBER = 2**32 - 1
 MODES = {"r": 0, "w": 1, "rw": 2}
 ENDS = {"done": 0, "gone": 1}
@@ -110,7 +111,7 @@ class System:
 
     def transmit(self, conn: int, count: int) -> tuple[bytes, int]:
         """Sends the first bytes, at most `count`, that a connection has to send. Returns them, and their checksum."""
-        out = bytearray(min(count, MAX_BYTES))
+        out = bytearray(min(count, MAX_QUEUE))
         length, checksum = self._raw.step(_iolite.TRANSMIT, 0, 0, 0, conn, 0, len(out), 0, None, (), out)
         return bytes(memoryview(out)[:length]), checksum
 

@@ -148,7 +148,7 @@ impl System {
 
     /// Makes a system over open files: file N of the store is `files[N - 1]`, at most 2^24 bytes each and 1,024 in number.
     ///
-    /// An error of the kind `Other` has the [`Refusal`]. Nobody else may change the files while the system lives.
+    /// An error of the kind `Other` has the [`Refusal`]. Nothing else may change the files while the system lives.
     pub fn over(sizes: Sizes, files: Vec<File>) -> io::Result<System> {
         let lens = files
             .iter()
