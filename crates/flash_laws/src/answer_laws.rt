@@ -1,5 +1,5 @@
-//! What refusals leave of the answers: which runs are fair, and that a stream has one answer where nothing is refused. The functions
-//! do nothing; their contracts are the laws.
+//! What refusals leave of the answers: which runs are fair, and that a stream has one answer where
+//! nothing is refused. The functions do nothing; their contracts are the laws.
 ghost use Rattle.flash_laws.specs.Shelf.OneAnswer.{StreamsHaveOneAnswer};
 ghost use Rattle.flash_laws.specs.Workers.Crews.{OfEach};
 ghost use Rattle.flash_laws.specs.World.Fair.{FilesAreFair, SmoothIsFair};

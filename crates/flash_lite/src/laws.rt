@@ -19,13 +19,13 @@ use iol_proc::laws::{idle_is_settled, smooth_runs};
 
 /// Connections do not meet, whatever the site, with scripts or without: of the account that `Actor`
 /// has as a process. A new world is tied; each step keeps the tie, and so does a run, if calls from
-/// outside are mild and turns are fair: the server's are refused by TooMany, NoRoom, Fault and Memory
-/// only as the shelf says, and a worker's never. Where it holds, what was sent on each connection of
-/// the net begins an answer to what came on it, of files and of what scripts output, and is all of
-/// it once the connection is closed, unless its peer left. Where all is idle nothing is left to do, but what waits for others: full queues, clients
-/// that wait for workers of such, and connections while the server has as many as it may; and the
-/// server has no aggregate but what connections with a full queue use, or what calls from outside
-/// gave it (`IsDone`).
+/// outside are mild and turns are fair: the server's are refused by TooMany, NoRoom, Fault and
+/// Memory only as the shelf says, and a worker's never. Where it holds, what was sent on each
+/// connection of the net begins an answer to what came on it, of files and of what scripts output,
+/// and is all of it once the connection is closed, unless its peer left. Where all is idle nothing
+/// is left to do, but what waits for others: full queues, clients that wait for workers of such,
+/// and connections while the server has as many as it may; and the server has no aggregate but what
+/// connections with a full queue use, or what calls from outside gave it (`IsDone`).
 pub fn connections_do_not_meet()
     ensures first { (s : Site) → TiedAtFirst (crew_of s) }
     ensures step { (s : Site) → StepKeepsTie in_rounds (crew_of s) }

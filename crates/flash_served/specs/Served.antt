@@ -112,8 +112,9 @@ ServedIsRight = (s : Site) (slots : List (List ℕ)) (past : List Choice) (ps : 
     → (ending ≡ Over → lacks_conn after.machine c ≡ true)
     → IsServedRight s slots past ps c ending left rest held now w after served
 
--- A connection is made in the net and served, from a reader and to a writer, until it ends so: what arrives is what the reader supplies,
--- and what is sent is what the writer accepts. Then it is served right, whatever the site and the past.
+-- A connection is made in the net and served, from a reader and to a writer, until it ends so: what arrives is what the
+-- reader supplies, and what is sent is what the writer accepts. Then it is served right, whatever the site and the
+-- past.
 pub record ServesRight (ending : Ending) (left rest held now : Option (List ℕ)) (w after : Stage State (Actor Worker)) : Type 0 where
   pub session : Session
   pub ends : session.ending ≡ ending

@@ -17,9 +17,10 @@ use std::io::{Read, Write};
 /// The pool that connections take their bytes into.
 const NET: u32 = 2;
 
-/// Makes a connection of the net and serves it, from a reader and to a writer: how that ended, or nothing where there is no place or
-/// no memory for it. Over an honest store what the writer accepts begins an answer to what the reader supplies, and is all of it where
-/// the ending is `Over`, if the world satisfies the server's invariant; and it does so afterwards.
+/// Makes a connection of the net and serves it, from a reader and to a writer: how that ended, or
+/// nothing where there is no place or no memory for it. Over an honest store what the writer
+/// accepts begins an answer to what the reader supplies, and is all of it where the ending is
+/// `Over`, if the world satisfies the server's invariant; and it does so afterwards.
 pub fn serve_client<B: Backing + Drop, R: Read, W: Write>(
     world: &mut World<B, Actor>,
     reader: &mut R,
