@@ -85,10 +85,10 @@ pub fn harmless_is_right()
 
 /// A site without scripts that [`host`](crate::host::host) hosts over an honest store becomes idle,
 /// whatever was refused before, if calls from outside are mild, the pool `work` is still open where
-/// `until_idle` begins, its number of turns suffices for that state (`turns_that_suffice`), and none
-/// of them is refused for lack of table entries, pages or memory. Then each connection of the net is
-/// served: all requests that arrived on it are answered, or its peer left, or its queue is full, or
-/// it is not accepted and the server has as many connections as it may.
+/// `until_idle` begins, its number of turns suffices for that state (`turns_that_suffice`), and
+/// none of them is refused for lack of table entries, pages or memory. Then each connection of the
+/// net is served: all requests that arrived on it are answered, or its peer left, or its queue is
+/// full, or it is not accepted and the server has as many connections as it may.
 pub fn hosted_files_become_idle()
     ensures { HostedFilesBecomeIdle }
 {
