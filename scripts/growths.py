@@ -49,7 +49,7 @@ class Sweep:
             self.rests[event] = script.answers(script.output())
         return self.rests[event]
 
-    def made_again(self, event, number):
+    def check_retried(self, event, number):
         """Checks the script in which the event stands twice, and the first is refused."""
         script = self.script.doubled(event)
         for later in range(number, number + AHEAD):
@@ -58,9 +58,15 @@ class Sweep:
                 answers = script.answers(ended.stdout)
                 if is_want(answers[event], self.expected[event]):
                     if not script.agree(answers[:event] + answers[event + 1:], self.expected):
-                        raise Wrong("made again, it is answered otherwise")
+                        raise Wrong("retried, it is answered otherwise")
                     return
         raise Wrong("where it stands twice, the first is not refused")
+
+    def check_refused(self, event, answers, number):
+        """Checks that an event that was refused changed nothing, and is answered where it is retried."""
+        if not self.script.agree(answers[:event] + answers[event + 1:], self.rest(event)):
+            raise Wrong("other replies than without the refused event")
+        self.check_retried(event, number)
 
     def comes_to(self, count, number):
         """Whether that growth comes where only so many of the first events are there."""
@@ -99,10 +105,7 @@ class Sweep:
         wants = [event for event, answer in enumerate(answers) if is_want(answer, self.expected[event])]
         if not wants:
             raise Wrong("other replies, and none says that memory was wanted")
-        event = wants[0]
-        if not self.script.agree(answers[:event] + answers[event + 1:], self.rest(event)):
-            raise Wrong("other replies than without the refused event")
-        self.made_again(event, number)
+        self.check_refused(wants[0], answers, number)
         return "refused"
 
     def counts(self):

@@ -22,19 +22,9 @@ ENDINGS = {
 BOTH = re.compile(rb"(.*)\nconnection 1, idle: true\n(.*)\nconnection 2, idle: true\n", re.DOTALL)
 
 
-def sources():
-    yield f"{tree.ROOT}/crates.txt"
-    for name in tree.crates():
-        for folder, _, files in itertools.chain(*(os.walk(f"{tree.ROOT}/crates/{name}/{part}") for part in tree.PARTS)):
-            yield from (f"{folder}/{file}" for file in files)
-
-
 def build():
     """Has the program proved and built, where it is not there, or a source is newer."""
-    built = os.path.getmtime(PROGRAM) if os.path.isfile(PROGRAM) else 0
-    if any(os.path.getmtime(source) > built for source in sources()):
-        subprocess.run(["rt", "run", "--", "borrowed", "0", "-", "1", "0", "1", "0"], cwd=CRATE, capture_output=True, check=True)
-        os.utime(PROGRAM)
+    tree.build_program("worked_rows", "borrowed", "0", "-", "1", "0", "1", "0")
 
 
 def words_of(files):

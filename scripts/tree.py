@@ -1,7 +1,9 @@
 """What the scripts share: the crates of a tree, the edits of a crate, and copies of a tree."""
+import functools
 import os
 import re
 import shutil
+import subprocess
 from dataclasses import dataclass
 
 ROOT = os.path.dirname(os.path.dirname(os.path.abspath(__file__)))
@@ -51,6 +53,18 @@ def below(known, name):
 def above(known, names):
     """The crates that stand on one of these."""
     return [name for name in known if any(low in names for low in below(known, name))]
+
+
+def paths(known):
+    """How many paths through crates.txt begin at each crate, the one that ends there among them.
+
+    `rt` reads the files of a crate once for each path to it, whenever it sums those of a crate above.
+    """
+    @functools.cache
+    def count(name):
+        return 1 + sum(count(low) for low in known[name] if low in known)
+
+    return {name: count(name) for name in known}
 
 
 def only_known(names, known):
@@ -128,6 +142,25 @@ def copy_tree(room, root=ROOT, leave=("edits", "wrong")):
     for name in ("crates.txt", "HANDLES"):
         if os.path.isfile(f"{root}/{name}"):
             shutil.copy(f"{root}/{name}", f"{room}/{name}")
+
+
+def sources():
+    """The files from which programs are built."""
+    yield f"{ROOT}/crates.txt"
+    for name in crates():
+        for part in PARTS:
+            for folder, _, files in os.walk(f"{ROOT}/crates/{name}/{part}"):
+                yield from (f"{folder}/{file}" for file in files)
+
+
+def build_program(name, *words):
+    """Has the program of a crate proved and built, where it is not there or a source is newer: it is run with these words then."""
+    room = f"{ROOT}/crates/{name}"
+    program = f"{room}/out/{name}"
+    built = os.path.getmtime(program) if os.path.isfile(program) else 0
+    if any(os.path.getmtime(source) > built for source in sources()):
+        subprocess.run(["rt", "run", "--", *words], cwd=room, stdin=subprocess.DEVNULL, capture_output=True, check=True)
+        os.utime(program)
 
 
 def tally(said):

@@ -57,13 +57,13 @@ def of_server():
     yield Served("get-and-head-byte-by-byte", INDEX, GET_AND_HEAD, late=SITE, few="1")
     yield Served("get-and-head-byte-by-byte, whole", INDEX, GET_AND_HEAD)
     for name, stream in REFUSED.items():
-        yield Served(f"refused-heads, {name}", INDEX, stream)
+        yield Served(f"refused-heads, {name}", INDEX, stream, late=SITE)
     curl = get("/index.html", "Host: 127.0.0.1:8080", "User-Agent: curl/8.5.0", "Accept: */*")
-    yield Served("head-of-curl", INDEX, curl)
+    yield Served("head-of-curl", INDEX, curl, late=SITE)
     yield Served("http-1.0-closes", INDEX, get("/", version="1.0"))
     yield Served("private-file", GUESTS, of_host("/p") + of_host("/"), late=SITE)
-    yield Served("three-ranges", SIX, ranges(*THREE))
-    yield Served("table-of-ranges", SIX, ranges(*TABLE) + OTHER_RANGES)
+    yield Served("three-ranges", SIX, ranges(*THREE), late=SITE)
+    yield Served("table-of-ranges", SIX, ranges(*TABLE) + OTHER_RANGES, late=SITE)
     for name, stream in heads_at_the_limit():
         yield Served(f"heads at the limit, {name}", INDEX, stream)
 

@@ -1,6 +1,6 @@
 -- A worker's turn touches nothing but its own, and one pipe.
 use Rattle.std.proofs.Common.{inl, inr, ◌≡◌, ◌≢◌, ℕ, ◌==◌, List, [], ◌∷◌, ap, ◌∙◌, refl, sym, subst, arith, Option, Some, None, true, false, Bool}
-use Rattle.std.specs.Prelude.{◌&&◌, ◌||◌, not, slice_get}
+use Rattle.std.specs.Prelude.{◌&&◌, ◌||◌, not, if◌then◌else◌, slice_get}
 use Rattle.std.specs.List.{list_any}
 use Rattle.std.proofs.lemmas.Bool.Decides.{nat_tests}
 use Rattle.iol_core.specs.State.{State, descriptor, domain, pipe_at, conn_at, pool, is_live}
@@ -23,13 +23,14 @@ use Rattle.iol_proc.specs.World.{copying}
 use Rattle.iol_proc.specs.declared.process.Turn.{Turn}
 use Rattle.iol_proc.specs.declared.process.Turn.TheVariants as turn
 use Rattle.iol_proc.specs.declared.seat.Seat.{Seat}
+use Rattle.flash_cgi.specs.Collecting.{Collected}
 use Rattle.flash_cgi.specs.Feeds.{Needs}
 use Rattle.flash_cgi.specs.Job.{Task}
 use Rattle.flash_cgi.specs.Frame.{LeavesAllBut, WorkersAreQuiet}
 use Rattle.flash_cgi.specs.Output.{Outcome}
 use Rattle.flash_cgi.specs.Turns.{IsFree, HasRead, IsRunning, filed_step, is_given, or_again}
 use Rattle.flash_cgi.specs.Standstill.{is_over}
-use Rattle.flash_cgi.specs.WorkerSteps.{call_at, doing_call, next_call, told, told_doing}
+use Rattle.flash_cgi.specs.WorkerSteps.{call_at, doing_call, due_now, next_call, told, told_doing}
 use Rattle.flash_cgi.specs.Works.{files, goes_on, works, works_as, worker_turns}
 use Rattle.flash_cgi.specs.declared.line.Line.{Line}
 use Rattle.flash_cgi.specs.declared.line.Line.TheVariants as line
@@ -54,6 +55,9 @@ abbrev keeps_to : State → (d p : ℕ) → Call → Bool
 keeps_to m d p (call.AggMake bytes) = true
 keeps_to m d p (call.AggCut a from to) = true
 keeps_to m d p (call.AggDrop a) = true
+keeps_to m d p (call.AggSplit a at) = true
+keeps_to m d p (call.AggJoin a b) = true
+keeps_to m d p (call.AggReplace a from to b) = true
 keeps_to m d p (call.SetPool q) = true
 keeps_to m d p (call.OpenFile name mode) = true
 keeps_to m d p (call.Close fd) = is_but p (descriptor m d fd)
@@ -97,6 +101,9 @@ module _ (m : State) (d p : ℕ) where
   conn_free (call.AggMake bytes) c is = refl
   conn_free (call.AggCut a from to) c is = refl
   conn_free (call.AggDrop a) c is = refl
+  conn_free (call.AggSplit a at) c is = refl
+  conn_free (call.AggJoin a b) c is = refl
+  conn_free (call.AggReplace a from to b) c is = refl
   conn_free (call.SetPool q) c is = refl
   conn_free (call.OpenFile name mode) c is = refl
   conn_free (call.Close fd) c is = or_none _ (no_conn p c (descriptor m d fd) is)
@@ -108,6 +115,9 @@ module _ (m : State) (d p : ℕ) where
   pipe_free (call.AggMake bytes) r differ is = refl
   pipe_free (call.AggCut a from to) r differ is = refl
   pipe_free (call.AggDrop a) r differ is = refl
+  pipe_free (call.AggSplit a at) r differ is = refl
+  pipe_free (call.AggJoin a b) r differ is = refl
+  pipe_free (call.AggReplace a from to b) r differ is = refl
   pipe_free (call.SetPool q) r differ is = refl
   pipe_free (call.OpenFile name mode) r differ is = refl
   pipe_free (call.Close fd) r differ is = or_none _ (no_end p r (descriptor m d fd) differ is)
@@ -119,6 +129,9 @@ module _ (m : State) (d p : ℕ) where
   file_free (call.AggMake bytes) is = refl
   file_free (call.AggCut a from to) is = refl
   file_free (call.AggDrop a) is = refl
+  file_free (call.AggSplit a at) is = refl
+  file_free (call.AggJoin a b) is = refl
+  file_free (call.AggReplace a from to b) is = refl
   file_free (call.SetPool q) is = refl
   file_free (call.OpenFile name mode) is = refl
   file_free (call.Close fd) is = refl
@@ -179,6 +192,9 @@ module _ (m : State) (d p : ℕ) where
   desk_free (call.AggMake bytes) j differ opened is = refl
   desk_free (call.AggCut a from to) j differ opened is = refl
   desk_free (call.AggDrop a) j differ opened is = refl
+  desk_free (call.AggSplit a at) j differ opened is = refl
+  desk_free (call.AggJoin a b) j differ opened is = refl
+  desk_free (call.AggReplace a from to b) j differ opened is = refl
   desk_free (call.SetPool q) j differ opened is = refl
   desk_free (call.OpenFile name mode) j differ opened is = refl
   desk_free (call.Close fd) j differ opened is = (let e = at_desk fd j differ opened is in grind (arith, nat_tests, e))
@@ -268,8 +284,13 @@ makes_call w v k l lent standing.Asked is goes un did = filed w.step.doing l (un
 -- a step that it is at keeps to files, and to the pipe of its output
 line_keeps : (m : State) (d p : ℕ) (job : Task) (l : Option Line) → is_but p (descriptor m d job.fd) ≡ true → keeps_to m d p (next_call job l) ≡ true
 line_keeps m d p job None is = is
-line_keeps m d p job (Some (line.Emit text)) is = refl
+line_keeps m d p job (Some (line.Cat name)) is = refl
+line_keeps m d p job (Some (line.Wc name)) is = refl
 line_keeps m d p job o is = refl
+
+begin_keeps : (m : State) (d p : ℕ) (job : Task) (x : Collected) (l : Option Line) (t : Bool) → is_but p (descriptor m d job.fd) ≡ true → keeps_to m d p (if t then call.AggMake x.text else next_call job l) ≡ true
+begin_keeps m d p job x l true is = refl
+begin_keeps m d p job x l false is = line_keeps m d p job l is
 
 output_is : (m : State) (d p fd : ℕ) → descriptor m d fd ≡ Some (on.WriteEnd p) → (is_but p (descriptor m d fd) ≡ true) × (is_file (descriptor m d fd) ≡ false)
 unfolding is_but
@@ -284,20 +305,19 @@ both true false one two = refl
 both true true one two = absurd (cc (two))
 both false b one two = absurd (cc (one))
 
-step_keeps : (m : State) (d p : ℕ) (job : Task) (begun : ℕ) (x : Doing) → descriptor m d job.fd ≡ Some (on.WriteEnd p) → Needs m d x → keeps_to m d p (doing_call job begun x) ≡ true
-step_keeps m d p job begun doing.Waits opened h = absurd h
-step_keeps m d p job begun (doing.Skips a) opened h = absurd h
-step_keeps m d p job begun (doing.Breaks a) opened h = absurd h
-step_keeps m d p job begun doing.Runs opened h = line_keeps m d p job (slice_get job.lines begun) (output_is m d p job.fd opened).0
-step_keeps m d p job begun (doing.Reads file u) opened h = file_is m d p file h.number h.place h.open_on
-step_keeps m d p job begun (doing.Shuts file a) opened h = file_is m d p file h.0.0 h.0.1 h.0.2
-step_keeps m d p job begun (doing.ShutsToSay file s) opened h = file_is m d p file h.0 h.1 h.2
-step_keeps m d p job begun (doing.Writes a) opened h = (let o = output_is m d p job.fd opened in both _ _ o.0 o.1)
-step_keeps m d p job begun (doing.Cuts a from to) opened h = refl
-step_keeps m d p job begun x opened h = refl
+step_keeps : (m : State) (d p : ℕ) (job : Task) (x : Collected) (begun : ℕ) (y : Doing) → descriptor m d job.fd ≡ Some (on.WriteEnd p) → Needs m d y → keeps_to m d p (doing_call job x begun y) ≡ true
+step_keeps m d p job x begun doing.Waits opened h = absurd h
+step_keeps m d p job x begun (doing.Skips a) opened h = absurd h
+step_keeps m d p job x begun (doing.Breaks a) opened h = absurd h
+step_keeps m d p job x begun doing.Runs opened h = begin_keeps m d p job x (slice_get job.lines begun) (due_now job x begun) (output_is m d p job.fd opened).0
+step_keeps m d p job x begun (doing.Reads file u) opened h = file_is m d p file h.number h.place h.open_on
+step_keeps m d p job x begun (doing.Shuts file a) opened h = file_is m d p file h.0.0 h.0.1 h.0.2
+step_keeps m d p job x begun (doing.ShutsToSay file s) opened h = file_is m d p file h.0 h.1 h.2
+step_keeps m d p job x begun (doing.Writes a) opened h = (let o = output_is m d p job.fd opened in both _ _ o.0 o.1)
+step_keeps m d p job x begun y opened h = refl
 
 -- one that runs was given no text, or it would wait
-given_waits : (m : State) (d : ℕ) (x : Doing) (y : Reply) (w : Worker) (lent : ℕ → Option (List ℕ)) → w.step.doing ≡ x → Needs m d (or_again (told_doing lent w.job w.step.begun x y) w.step).doing → is_given x y ≡ false
+given_waits : (m : State) (d : ℕ) (x : Doing) (y : Reply) (w : Worker) (lent : ℕ → Option (List ℕ)) → w.step.doing ≡ x → Needs m d (or_again (told_doing lent w.job w.step.piece w.step.begun x y) w.step).doing → is_given x y ≡ false
 given_waits m d doing.Waits (reply.Agg a) w lent at h = absurd (subst (λ (z : Doing). Needs m d z) at h)
 given_waits m d x y w lent at h = refl
 
@@ -320,7 +340,7 @@ module _ (steps : EachStepLeavesTheRest) (come : AggregatesComeAndGo) (by_reply 
   free_keeps m j seat free opened k v did =
       let w : Worker = seat.process in
       let step : Step = filed_step w.standing w (lent_at m seat.by) seat.last in
-      (makes_call w v k seat.last (lent_at m seat.by) w.standing refl free.not_over free.not_given did).call_is ∙ ap (λ (x : Doing). doing_call w.job step.begun x) free.waits
+      (makes_call w v k seat.last (lent_at m seat.by) w.standing refl free.not_over free.not_given did).call_is ∙ ap (λ (x : Doing). doing_call w.job step.piece step.begun x) free.waits
 
   desk_is : (m : State) (d j : ℕ) → descriptor m d 0 ≡ Some (on.ReadEnd j) → is_but j (descriptor m d 0) ≡ true
   unfolding is_but
@@ -368,7 +388,7 @@ module _ (steps : EachStepLeavesTheRest) (come : AggregatesComeAndGo) (by_reply 
           let w : Worker = seat.process in
           let step : Step = filed_step w.standing w (lent_at m seat.by) seat.last in
           let is = makes_call w v k seat.last (lent_at m seat.by) w.standing refl i.not_over (λ asked. run_is_not_given m seat.by w seat.last (lent_at m seat.by) w.standing asked i.feeds.needs) goes in
-          ap (λ c. keeps_to m seat.by p c) is.call_is ∙ step_keeps m seat.by p w.job step.begun step.doing i.feeds.open_on i.feeds.needs
+          ap (λ c. keeps_to m seat.by p c) is.call_is ∙ step_keeps m seat.by p w.job step.piece step.begun step.doing i.feeds.open_on i.feeds.needs
 
 pub workers_are_quiet : EachStepLeavesTheRest → AggregatesComeAndGo → DescriptorsComeByReplies → WorkersAreQuiet
 workers_are_quiet steps come by_reply = record {

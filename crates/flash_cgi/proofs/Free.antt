@@ -46,7 +46,7 @@ pub refused_is_free : (n : State) (d : ℕ) (x : Worker) (r y : Reply) → x.sta
 refused_is_free n d x r y asked at un is = record {
   not_over = ap (λ (s : Standing). is_over s) asked;
   waits = ap (λ (s : Standing). (filed_step s x (lent_at n d) r).doing) asked
-      ∙ (ap (λ (z : Doing). (or_again (told_doing (lent_at n d) x.job x.step.begun z r) x.step).doing) at ∙ at);
+      ∙ (ap (λ (z : Doing). (or_again (told_doing (lent_at n d) x.job x.step.piece x.step.begun z r) x.step).doing) at ∙ at);
   not_given = λ e. ap (λ (z : Doing). is_given z r) at ∙ (ap (λ (l : Reply). is_given doing.Waits l) is ∙ un);
 }
 
@@ -66,7 +66,7 @@ module _ (m n : State) (d : ℕ) (v : Worker) (r : Reply) (t : Turn) (yields : B
 
   asks : (x : Worker) → t ≡ turn.Make (call_at x.job x.step) → v ≡ x → x.standing ≡ standing.Asked → x.step.doing ≡ doing.Waits → Stays v
   asks x is v_is asked at =
-      let make : t ≡ turn.Make (call.IolRead 0 65536) = is ∙ ap (λ (z : Doing). turn.Make (doing_call x.job x.step.begun z)) at in
+      let make : t ≡ turn.Make (call.IolRead 0 65536) = is ∙ ap (λ (z : Doing). turn.Make (doing_call x.job x.step.piece x.step.begun z)) at in
       let step = (subst (λ (u : Turn). ComesOf copying worker_turns m d u yields r n) make comes).1 in
       subst (λ (y : Worker). Stays y) (sym v_is) (read x asked at r refl step)
 

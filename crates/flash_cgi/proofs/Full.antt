@@ -1,6 +1,6 @@
 -- A worker that has a job, and whose call would block, is writing to a full pipe.
-use Rattle.std.proofs.Common.{inl, inr, ◌≡◌, ◌≤◌, ℕ, List, [], length, ap, ◌∙◌, refl, sym, subst, Option, Some, true, false}
-use Rattle.std.specs.Prelude.{slice_get}
+use Rattle.std.proofs.Common.{inl, inr, ◌≡◌, ◌≤◌, ℕ, List, [], length, ap, ◌∙◌, refl, sym, subst, Option, Some, None, Bool, true, false}
+use Rattle.std.specs.Prelude.{if◌then◌else◌, slice_get}
 use Rattle.iol_core.specs.Access.{HasAccess}
 use Rattle.iol_core.specs.Text.{Text, bytes_of}
 use Rattle.iol_core.specs.State.{State, descriptor, pipe_at, is_live}
@@ -20,13 +20,14 @@ use Rattle.iol_laws.specs.Order.{IsOrderly}
 use Rattle.iol_laws.specs.Reasons.{RefusalsTellWhy}
 use Rattle.iol_laws.specs.RefusalsLeft.{RefusalsThatAreLeft, may_wait}
 use Rattle.iol_proc.specs.declared.seat.Seat.{Seat}
+use Rattle.flash_cgi.specs.Collecting.{Collected}
 use Rattle.flash_cgi.specs.Feeds.{Needs, IsFileOpen}
 use Rattle.flash_cgi.specs.Full.{RunningIsFull}
 use Rattle.flash_cgi.specs.Job.{Task, job_of}
 use Rattle.flash_cgi.specs.Output.{Outcome}
 use Rattle.flash_cgi.specs.Turns.{Awaits, filed_step, or_again}
 use Rattle.flash_cgi.specs.Standstill.{IsBlocked, IsStuck, is_over}
-use Rattle.flash_cgi.specs.WorkerSteps.{doing_call, next_call, told, told_doing}
+use Rattle.flash_cgi.specs.WorkerSteps.{doing_call, due_now, next_call, told, told_doing}
 use Rattle.flash_cgi.specs.declared.line.Line.{Line}
 use Rattle.flash_cgi.specs.declared.line.Line.TheVariants as line
 use Rattle.flash_cgi.specs.declared.phase.Doing.{Doing}
@@ -39,8 +40,15 @@ use Rattle.flash_cgi.proofs.JobStart.{waits_as_job}
 
 -- no call that begins a line blocks
 line_goes : (job : Task) (l : Option Line) → may_wait (next_call job l) ≡ true → ⊥
-line_goes job (Some (line.Emit text)) is = cc (is)
-line_goes job o is = cc (is)
+line_goes job (Some (line.Cat name)) is = cc (is)
+line_goes job (Some (line.Wc name)) is = cc (is)
+line_goes job (Some l) is = cc (is)
+line_goes job None is = cc (is)
+
+-- nor does the one that makes what is collected
+begin_goes : (job : Task) (x : Collected) (l : Option Line) (t : Bool) → may_wait (if t then call.AggMake x.text else next_call job l) ≡ true → ⊥
+begin_goes job x l true is = cc (is)
+begin_goes job x l false is = line_goes job l is
 
 module _ (why : RefusalsTellWhy) (left : RefusalsThatAreLeft) (files : FileCallsServeTheirDomain)
     (m : State) (d p : ℕ) (order : IsOrderly m) (access : HasAccess m) (live : is_live m d ≡ true) where
@@ -60,12 +68,12 @@ module _ (why : RefusalsTellWhy) (left : RefusalsThatAreLeft) (files : FileCalls
   Ready (doing.Reads file u) = IsFileOpen m d file
   Ready x = Unit {0}
 
-  full_at : (job : Task) (begun : ℕ) (x : Doing) → descriptor m d job.fd ≡ Some (on.WriteEnd p) → Ready x → Blocks (doing_call job begun x) → Full
-  full_at job begun doing.Waits opened h step = absurd h
-  full_at job begun doing.Runs opened h step = absurd (line_goes job (slice_get job.lines begun) (left.waits m m d (doing_call job begun doing.Runs) step))
-  full_at job begun (doing.Reads file u) opened h step = absurd (file_goes file h step)
-  full_at job begun (doing.Writes a) opened h step = why.pipe_is_full m m d job.fd p a opened step
-  full_at job begun x opened h step = absurd (let e = left.waits m m d (doing_call job begun x) step in cc (e))
+  full_at : (job : Task) (x : Collected) (begun : ℕ) (y : Doing) → descriptor m d job.fd ≡ Some (on.WriteEnd p) → Ready y → Blocks (doing_call job x begun y) → Full
+  full_at job x begun doing.Waits opened h step = absurd h
+  full_at job x begun doing.Runs opened h step = absurd (begin_goes job x (slice_get job.lines begun) (due_now job x begun) (left.waits m m d (doing_call job x begun doing.Runs) step))
+  full_at job x begun (doing.Reads file u) opened h step = absurd (file_goes file h step)
+  full_at job x begun (doing.Writes a) opened h step = why.pipe_is_full m m d job.fd p a opened step
+  full_at job x begun y opened h step = absurd (let e = left.waits m m d (doing_call job x begun y) step in cc (e))
 
   -- one that is at its call, and one that was told to wait
   ready_at : (x : Doing) → Needs m d x → Ready x
@@ -74,13 +82,13 @@ module _ (why : RefusalsTellWhy) (left : RefusalsThatAreLeft) (files : FileCalls
   ready_at x h = tt
 
   ready_told : (lent : ℕ → Option (List ℕ)) (job : Task) (step : Step) (x : Doing) → step.doing ≡ x
-      → Needs m d (or_again (told_doing lent job step.begun x (reply.Refused WouldBlock)) step).doing → Ready x
+      → Needs m d (or_again (told_doing lent job step.piece step.begun x (reply.Refused WouldBlock)) step).doing → Ready x
   ready_told lent job step doing.Waits is h = subst (λ (y : Doing). Needs m d y) is h
   ready_told lent job step (doing.Reads file u) is h = h
   ready_told lent job step x is h = tt
 
   blocked_full : (w : Worker) → descriptor m d w.job.fd ≡ Some (on.WriteEnd p) → Ready w.step.doing → IsBlocked m d w → Full
-  blocked_full w opened h step = full_at w.job w.step.begun w.step.doing opened h step
+  blocked_full w opened h step = full_at w.job w.step.piece w.step.begun w.step.doing opened h step
 
   runs_full : (w : Worker) (last : Reply) (s : Standing) → is_over s ≡ false → descriptor m d w.job.fd ≡ Some (on.WriteEnd p)
       → Needs m d (filed_step s w (lent_at m d) last).doing → IsStuck m d w last s → Full
@@ -93,21 +101,21 @@ module _ (why : RefusalsTellWhy) (left : RefusalsThatAreLeft) (files : FileCalls
   -- ---- a job that waits would be read
 
   waits_told : (lent : ℕ → Option (List ℕ)) (job : Task) (step : Step) (x : Doing) → step.doing ≡ x
-      → (or_again (told_doing lent job step.begun x (reply.Refused WouldBlock)) step).doing ≡ doing.Waits
-      → Blocks (doing_call job step.begun x) → x ≡ doing.Waits
+      → (or_again (told_doing lent job step.piece step.begun x (reply.Refused WouldBlock)) step).doing ≡ doing.Waits
+      → Blocks (doing_call job step.piece step.begun x) → x ≡ doing.Waits
   waits_told lent job step doing.Waits is h step_is = refl
-  waits_told lent job step doing.Runs is h step_is = absurd (line_goes job (slice_get job.lines step.begun) (left.waits m m d (doing_call job step.begun doing.Runs) step_is))
+  waits_told lent job step doing.Runs is h step_is = absurd (begin_goes job step.piece (slice_get job.lines step.begun) (due_now job step.piece step.begun) (left.waits m m d (doing_call job step.piece step.begun doing.Runs) step_is))
   waits_told lent job step (doing.Reads file u) is h step_is = absurd (cc (h))
   waits_told lent job step (doing.Writes a) is h step_is = absurd (let e = sym is ∙ h in cc (e))
-  waits_told lent job step x is h step_is = absurd (let e = left.waits m m d (doing_call job step.begun x) step_is in cc (e))
+  waits_told lent job step x is h step_is = absurd (let e = left.waits m m d (doing_call job step.piece step.begun x) step_is in cc (e))
 
   asks_blocked : (w : Worker) (last : Reply) (s : Standing) → is_over s ≡ false → (filed_step s w (lent_at m d) last).doing ≡ doing.Waits
       → IsStuck m d w last s → Blocks (call.IolRead 0 65536)
   asks_blocked w last standing.Over goes h stuck = absurd (cc (goes))
-  asks_blocked w last standing.Asks goes h stuck = subst (λ (x : Doing). Blocks (doing_call w.job w.step.begun x)) h stuck
+  asks_blocked w last standing.Asks goes h stuck = subst (λ (x : Doing). Blocks (doing_call w.job w.step.piece w.step.begun x)) h stuck
   asks_blocked w last standing.Asked goes h stuck =
       let told_so = subst (λ (l : Reply). (or_again (told w.job w.step (lent_at m d) l) w.step).doing ≡ doing.Waits) stuck.1 h in
-      subst (λ (x : Doing). Blocks (doing_call w.job w.step.begun x)) (waits_told (lent_at m d) w.job w.step w.step.doing refl told_so stuck.0) stuck.0
+      subst (λ (x : Doing). Blocks (doing_call w.job w.step.piece w.step.begun x)) (waits_told (lent_at m d) w.job w.step w.step.doing refl told_so stuck.0) stuck.0
 
 -- what it was given it was not refused
 given_is_told : (m : State) (d a : ℕ) (w : Worker) (last : Reply) (s : Standing) → s ≡ standing.Asked → last ≡ reply.Agg a → IsStuck m d w last s → ⊥

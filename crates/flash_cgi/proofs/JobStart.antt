@@ -13,12 +13,12 @@ use Rattle.iol_core.specs.declared.events.Call.TheVariants as call
 use Rattle.iol_core.specs.declared.events.Event.TheVariants as event
 use Rattle.iol_core.specs.declared.events.Reply.TheVariants as reply
 use Rattle.iol_proc.specs.declared.seat.Seat.{Seat}
-use Rattle.iol_laws.specs.Caller.{TakesFromPipe}
+use Rattle.iol_laws.specs.Caller.{TakesFromPipe, lent_at}
 use Rattle.iol_laws.specs.Frame.{EachStepLeavesTheRest, Leaves, is_end}
-use Rattle.flash_cgi.specs.JoinedLines.{gathered}
+use Rattle.flash_cgi.specs.Collecting.{nothing}
 use Rattle.flash_cgi.specs.Job.{job_of, task_of}
-use Rattle.flash_cgi.specs.Laws.{GatheringKeeps}
 use Rattle.flash_cgi.specs.Output.{Outcome, output}
+use Rattle.flash_cgi.specs.Pieces.{IsRest}
 use Rattle.flash_cgi.specs.JobStart.{HasJob, JobsAreTaken}
 use Rattle.flash_cgi.specs.Turns.{Awaits, IsFree}
 use Rattle.flash_cgi.specs.declared.worker.Worker.{Worker}
@@ -46,7 +46,7 @@ awaits_still m n p seat next was is h free has unseen = record { jobs = h.jobs; 
 
 -- what waits for it is its job
 pub waits_as_job : (m : State) (d j p fd : ℕ) (query script : List ℕ) (lines : List Line) → HasJob m d j p fd query script lines
-    → job_of (bytes_of (pipe_at m j).queue) ≡ Some (record { fd = fd; query = query; lines = gathered query lines })
+    → job_of (bytes_of (pipe_at m j).queue) ≡ Some (record { fd = fd; query = query; lines = lines })
 waits_as_job m d j p fd query script lines has =
     let queue : Text = (pipe_at m j).queue in
     let size = length-map queue (λ b. b.0) in
@@ -69,8 +69,12 @@ all_taken m n d j p fd a query script lines has takes =
         tail_is : (x y : ℕ × ℕ) (s u : Text) → x ∷ s ≡ y ∷ u → s ≡ u
         tail_is x y s u e = cc
 
-pub job_is_taken : EachStepLeavesTheRest → GatheringKeeps → JobsAreTaken
-job_is_taken steps keeps m n d j p fd a query script lines has step takes =
+-- nothing is collected yet
+nothing_left : (lent : ℕ → Option (List ℕ)) → IsRest lent nothing
+nothing_left lent = record { piece = record { files = refl; within = tt; next = tt }; no_text = refl; no_places = refl }
+
+pub job_is_taken : EachStepLeavesTheRest → JobsAreTaken
+job_is_taken steps m n d j p fd a query script lines has step takes =
     let queue : Text = (pipe_at m j).queue in
     let all : takes.text ≡ queue = takes.most ∙ (ap (λ (t : Text). admitted (may_read m d) t) (take_all 65536 queue has.short) ∙ all_admitted (may_read m d) queue has.readable) in
     let leaves : Leaves m (event.Call d (call.IolRead 0 65536)) n = steps.leaves m n (event.Call d (call.IolRead 0 65536)) (reply.Agg a) step in
@@ -83,7 +87,7 @@ job_is_taken steps keeps m n d j p fd a query script lines has step takes =
         live = leaves.lives d has.live refl;
         open_on = leaves.fds d fd (on.WriteEnd p) has.open_on (last_false ((d == d) && (0 == fd)) (is_file (descriptor m d 0)) (ap (λ (x : Option Descriptor). is_file x) has.jobs));
         needs = (bytes_of takes.text, takes.lends);
-        is = λ os. ap (λ (x : Pipe). bytes_of x.queue ++ output query lines os) (sym pipe)
-            ∙ ap (λ (l : List ℕ). bytes_of (pipe_at n p).queue ++ l) (sym (keeps.output query lines os));
+        holds = (nothing_left (lent_at n d), (λ e. absurd (cc (e)), λ e. absurd (cc (e))));
+        is = λ os. ap (λ (x : Pipe). bytes_of x.queue ++ output query lines os) (sym pipe);
       };
     }

@@ -57,6 +57,15 @@ free_make m n d f bytes r step is = either m n _ d f (after_of m n d (call.AggMa
 pub free_cut : (m n : State) (d f a from to : ℕ) (r : Reply) → StepsTo m (event.Call d (call.AggCut a from to)) r n → IsFree m d f → IsFree n d f
 free_cut m n d f a from to r step is = either m n _ d f (after_of m n d (call.AggCut a from to) r step) is (changed m d f _ is is)
 
+pub free_split : (m n : State) (d f a at : ℕ) (r : Reply) → StepsTo m (event.Call d (call.AggSplit a at)) r n → IsFree m d f → IsFree n d f
+free_split m n d f a at r step is = either m n _ d f (after_of m n d (call.AggSplit a at) r step) is (changed m d f _ is is)
+
+pub free_join : (m n : State) (d f a b : ℕ) (r : Reply) → StepsTo m (event.Call d (call.AggJoin a b)) r n → IsFree m d f → IsFree n d f
+free_join m n d f a b r step is = either m n _ d f (after_of m n d (call.AggJoin a b) r step) is (changed m d f _ is is)
+
+pub free_replace : (m n : State) (d f a from to b : ℕ) (r : Reply) → StepsTo m (event.Call d (call.AggReplace a from to b)) r n → IsFree m d f → IsFree n d f
+free_replace m n d f a from to b r step is = either m n _ d f (after_of m n d (call.AggReplace a from to b) r step) is (changed m d f _ is is)
+
 pub free_drop : (m n : State) (d f a : ℕ) (r : Reply) → StepsTo m (event.Call d (call.AggDrop a)) r n → IsFree m d f → IsFree n d f
 free_drop m n d f a r step is = either m n _ d f (after_of m n d (call.AggDrop a) r step) is (changed m d f _ is is)
 

@@ -18,9 +18,7 @@ use Rattle.iol_proc.specs.World.{copying}
 use Rattle.iol_proc.specs.declared.process.Turn.{Turn}
 use Rattle.iol_proc.specs.declared.process.Turn.TheVariants as turn
 use Rattle.iol_proc.specs.declared.seat.Seat.{Seat}
-use Rattle.flash_cgi.specs.JoinedLines.{gathered}
 use Rattle.flash_cgi.specs.Job.{Task, job_of}
-use Rattle.flash_cgi.specs.Laws.{GatheringKeeps}
 use Rattle.flash_cgi.specs.Output.{Outcome, output}
 use Rattle.flash_cgi.specs.WorkerSteps.{call_at, doing_call, told, told_doing, bytes_at}
 use Rattle.flash_cgi.specs.Works.{works, works_as, files, goes_on, takes, with_job, with_text, worker_turns}
@@ -60,7 +58,7 @@ given_none m d x r h = refl
 abbrev pub seat_at : ℕ → Worker → Reply → Seat Worker
 seat_at d v r = record { by = d; process = v; last = r }
 
-module _ (feeds_on : FeedsOn) (taken : JobsAreTaken) (true_to : OutcomesAreTrue) (keeps : GatheringKeeps) (own : CallsServeTheirDomain) (steps : EachStepLeavesTheRest) where
+module _ (feeds_on : FeedsOn) (taken : JobsAreTaken) (true_to : OutcomesAreTrue) (own : CallsServeTheirDomain) (steps : EachStepLeavesTheRest) where
   abbrev Went : (m n : State) → (d p : ℕ) → Worker → Reply → (List Outcome → List ℕ) → List Outcome → Type 0 → Type 0
   Went m n d p v r unseen due Reads = GoesOn m n p (seat_at d v r) r unseen due Reads ⊎ IsOver m n d p (seat_at d v r) unseen r ⊎ ((pipe_at n p).reading ≡ false)
 
@@ -135,7 +133,7 @@ module _ (feeds_on : FeedsOn) (taken : JobsAreTaken) (true_to : OutcomesAreTrue)
         filed : (x : Doing) (l : Reply) → w.step.doing ≡ x → Feeds m d p w.job (or_again (told w.job w.step (lent_at m d) l) w.step) unseen
             → files w x l (lent_at m d) t v → WentFrom m n d p v r unseen w.job (or_again (told w.job w.step (lent_at m d) l) w.step)
         filed doing.Waits (reply.Agg a) at g did =
-            let none : told w.job w.step (lent_at m d) (reply.Agg a) ≡ None = ap (λ (y : Doing). told_doing (lent_at m d) w.job w.step.begun y (reply.Agg a)) at in
+            let none : told w.job w.step (lent_at m d) (reply.Agg a) ≡ None = ap (λ (y : Doing). told_doing (lent_at m d) w.job w.step.piece w.step.begun y (reply.Agg a)) at in
             absurd (subst (λ (y : Doing). Needs m d y) (ap (λ (o : Option Step). (or_again o w.step).doing) none ∙ at) g.needs)
         filed x l at g did = on (told w.job w.step (lent_at m d) l) g did
 
@@ -162,7 +160,7 @@ module _ (feeds_on : FeedsOn) (taken : JobsAreTaken) (true_to : OutcomesAreTrue)
     awaits w last unseen h did = by w.standing refl h.free.not_over h.free.waits h.free.not_given did
       where
         job : Task
-        job = record { fd = h.fd; query = h.query; lines = gathered h.query h.lines }
+        job = record { fd = h.fd; query = h.query; lines = h.lines }
 
         -- it awaits it still, where nothing happened
         still : (x : Worker) → v ≡ x → IsFree n (seat_at d x r) → n ≡ m → Went m n d p v r unseen (outcomes_in m d h.lines) (Unit {0})
@@ -179,7 +177,7 @@ module _ (feeds_on : FeedsOn) (taken : JobsAreTaken) (true_to : OutcomesAreTrue)
           bytes = b.bytes;
           lends = b.lends;
           is_job = b.is_job;
-          feeds = record { live = b.feeds.live; open_on = b.feeds.open_on; needs = b.feeds.needs; is = λ os. h.is os ∙ b.feeds.is os };
+          feeds = record { live = b.feeds.live; open_on = b.feeds.open_on; needs = b.feeds.needs; holds = b.feeds.holds; is = λ os. h.is os ∙ b.feeds.is os };
         }
 
         -- a worker that was refused a job is free
@@ -187,7 +185,7 @@ module _ (feeds_on : FeedsOn) (taken : JobsAreTaken) (true_to : OutcomesAreTrue)
         free_of x y asked at un is = record {
           not_over = ap (λ (s : Standing). is_over s) asked;
           waits = ap (λ (s : Standing). (filed_step s x (lent_at n d) r).doing) asked
-              ∙ (ap (λ (z : Doing). (or_again (told_doing (lent_at n d) x.job x.step.begun z r) x.step).doing) at ∙ at);
+              ∙ (ap (λ (z : Doing). (or_again (told_doing (lent_at n d) x.job x.step.piece x.step.begun z r) x.step).doing) at ∙ at);
           not_given = λ e. ap (λ (z : Doing). is_given z r) at ∙ (ap (λ (l : Reply). is_given doing.Waits l) is ∙ un);
         }
 
@@ -203,14 +201,14 @@ module _ (feeds_on : FeedsOn) (taken : JobsAreTaken) (true_to : OutcomesAreTrue)
             last = is;
             begins = begun a (taken m n d h.jobs p h.fd a h.query h.script h.lines h.has step takes);
           }));
-          truly = λ placed good smooth reads. (sym (keeps.outcomes m d h.query h.lines) ∙ plain steps m n d job (call.IolRead 0 65536) (reply.Agg a) step good refl (λ q. refl) 0, tt);
+          truly = λ placed good smooth reads. (plain steps m n d job (call.IolRead 0 65536) (reply.Agg a) step good refl (λ q. refl) 0, tt);
         }))
         read x v_is asked at (reply.Refused y) is step same = still x v_is (free_of x (reply.Refused y) asked at refl is) same
         read x v_is asked at l is step did = absurd did
 
         asks_now : (x : Worker) → t ≡ turn.Make (call_at x.job x.step) → v ≡ x → x.standing ≡ standing.Asked → x.step.doing ≡ doing.Waits → Went m n d p v r unseen (outcomes_in m d h.lines) (Unit {0})
         asks_now x is v_is asked at =
-            let make : t ≡ turn.Make (call.IolRead 0 65536) = is ∙ ap (λ (z : Doing). turn.Make (doing_call x.job x.step.begun z)) at in
+            let make : t ≡ turn.Make (call.IolRead 0 65536) = is ∙ ap (λ (z : Doing). turn.Make (doing_call x.job x.step.piece x.step.begun z)) at in
             let step = (subst (λ (u : Turn). ComesOf copying worker_turns m d u yields r n) make comes).1 in
             read x v_is asked at r refl step (own.read_pipe m n d 0 h.jobs 65536 r order h.has.jobs step)
 

@@ -1,6 +1,6 @@
 -- What a worker writes lies in the pools of what it reads, and in its default pool.
-use Rattle.std.proofs.Common.{inl, inr, ◌≡◌, ℕ, ◌+◌, ◌==◌, List, [], ap, ◌∙◌, refl, sym, subst, arith, Option, Some, None, true, false, Bool, if◌then◌else◌}
-use Rattle.std.specs.Prelude.{option_map, slice_get, unwrap_or, ◌&&◌}
+use Rattle.std.proofs.Common.{inl, inr, ◌≡◌, ℕ, ◌+◌, ◌==◌, List, [], ◌++◌, length, ap, ◌∙◌, refl, sym, subst, arith, Option, Some, None, true, false, Bool, if◌then◌else◌}
+use Rattle.std.specs.Prelude.{option_map, nat_le, slice_get, unwrap_or, ◌&&◌, ◌||◌}
 use Rattle.std.proofs.lemmas.Bool.Decides.{nat_tests}
 use Rattle.iol_core.specs.Text.{Text, bytes_of}
 use Rattle.iol_core.specs.NumberedLists.{numbered_or}
@@ -34,15 +34,17 @@ use Rattle.iol_proc.specs.declared.process.Turn.{Turn}
 use Rattle.iol_proc.specs.declared.process.Turn.TheVariants as turn
 use Rattle.iol_proc.specs.declared.seat.Seat.{Seat}
 use Rattle.flash_cgi.specs.Beside.{is_call_of}
+use Rattle.flash_cgi.specs.Collecting.{Collected, bytes_of_one, is_nothing, last_place, nothing, with_next, without_last, without_text}
 use Rattle.flash_cgi.specs.Feeds.{HasBytes, IsFileOpen, Needs}
 use Rattle.flash_cgi.specs.Job.{Task, job_of}
 use Rattle.flash_cgi.specs.Output.{Outcome}
-use Rattle.flash_cgi.specs.OutputPools.{HoldFiles, IsShown, LiesIn, OutputsAreShown}
+use Rattle.flash_cgi.specs.OutputPools.{HoldFiles, IsShown, LiesIn, OneLies, OutputsAreShown, PhaseLies, PieceLies}
+use Rattle.flash_cgi.specs.Pieces.{HasPiece, HoldsAt, LendsFiles, LendsNext}
 use Rattle.flash_cgi.specs.Turns.{RunsJob, filed_step, is_given, or_again, step_of}
 use Rattle.flash_cgi.specs.Standstill.{is_over}
 use Rattle.flash_cgi.specs.Works.{goes_on, with_job, works, works_as, worker_turns}
 use Rattle.flash_cgi.specs.Works.{files as files_reply}
-use Rattle.flash_cgi.specs.WorkerSteps.{bytes_at, call_at, doing_call, next_call, told, told_cut, told_doing, told_made, told_next, told_opened, told_read, told_written}
+use Rattle.flash_cgi.specs.WorkerSteps.{bytes_at, call_at, doing_call, due_now, file_collected, next_call, shut_by, told, told_broken, told_cut, told_doing, told_dropped, told_joined, told_made, told_next, told_opened, told_parted, told_read, told_replaced, told_written, weave_by, weave_on}
 use Rattle.flash_cgi.specs.declared.line.Line.{Line}
 use Rattle.flash_cgi.specs.declared.line.Line.TheVariants as line
 use Rattle.flash_cgi.specs.declared.phase.Purpose.{Purpose}
@@ -52,11 +54,12 @@ use Rattle.flash_cgi.specs.declared.phase.Doing.TheVariants as doing
 use Rattle.flash_cgi.specs.declared.phase.Standing.{Standing}
 use Rattle.flash_cgi.specs.declared.phase.Standing.TheVariants as standing
 use Rattle.flash_cgi.specs.declared.phase.Step.{Step}
+use Rattle.flash_cgi.specs.declared.piece.Place.{Place}
 use Rattle.flash_cgi.specs.declared.worker.Worker.{Worker}
 use Rattle.flash_cgi.proofs.Beside.{filed_stays, free_still, no_gift, others_leave}
 use Rattle.flash_cgi.proofs.Frame.{makes_call, run_is_not_given}
 use Rattle.flash_cgi.proofs.Due.{writing}
-use Rattle.flash_cgi.proofs.OutputByCall.{at_step}
+use Rattle.flash_cgi.proofs.StaysByCall.{at_step}
 use Rattle.flash_cgi.proofs.OutputByTurn.{has_life, lent-live, seat_at, text_taken}
 
 file-same : (m n : State) (f : ℕ) → n.files ≡ m.files → file n f ≡ file m f
@@ -86,16 +89,39 @@ module _ (labels : LabelsFollow) (steps : EachStepLeavesTheRest) (files : FileCa
   made_here : (bytes : List ℕ) → FromThere (call.AggMake bytes)
   made_here bytes = labels.fresh pools (default_pool m d) bytes default
 
+  -- so does what is collected
+  one_kept : (k : Call) (r : Reply) (o : Option ℕ) → FromThere k → StepsTo m (event.Call d k) r n → OneLies pools m d o → OneLies pools n d o
+  one_kept k r None from step lies = tt
+  one_kept k r (Some a) from step lies = kept k r a from step lies
+
+  piece_kept : (k : Call) (r : Reply) (x : Collected) → FromThere k → StepsTo m (event.Call d k) r n → PieceLies pools m d x → PieceLies pools n d x
+  piece_kept k r x from step lies = (one_kept k r x.held from step lies.0, one_kept k r x.next from step lies.1)
+
+  brought_front : (a b : ℕ) → ((d == d) && ((a == a) || (b == a))) ≡ true
+  brought_front a b = grind (arith, nat_tests)
+
+  brought_back : (a b : ℕ) → ((d == d) && ((a == b) || (b == b))) ≡ true
+  brought_back a b = grind (arith, nat_tests)
+
   -- ---- call by call
 
-  abbrev LiesAfter : Option Step → (x : Doing) → Type 0
-  LiesAfter o x = LiesIn pools n d (or_again o (at_step x 0)).doing
+  abbrev LiesAfter : Option Step → Collected → (y : Doing) → Type 0
+  LiesAfter o x y = LiesIn pools n d (or_again o (at_step y 0 x)).piece (or_again o (at_step y 0 x)).doing
 
-  after_made : (x : Doing) (bytes : List ℕ) (begun : ℕ) (r : Reply) → LiesIn pools n d x → StepsTo m (event.Call d (call.AggMake bytes)) r n → LiesAfter (told_made begun r) x
-  after_made x bytes begun (reply.Agg a) still step = new (call.AggMake bytes) (reply.Agg a) a (made_here bytes) step (brought a)
-  after_made x bytes begun r still step = still
+  -- a text is made of what is collected
+  woven_lies : (x : Collected) (begun a : ℕ) → PieceLies pools n d x → Lie (text n d a) → LiesIn pools n d (weave_on begun x a).piece (weave_on begun x a).doing
+  woven_lies x begun a lies made = by x.held refl (last_place x.places)
+    where
+      by : (h : Option ℕ) → x.held ≡ h → (o : Option Place) → LiesIn pools n d (weave_by h o begun x a).piece (weave_by h o begun x a).doing
+      by None is o = (lies, made)
+      by (Some held) is None = ((tt, lies.1), made)
+      by (Some held) is (Some place) = (lies, (subst (λ (o : Option ℕ). OneLies pools n d o) is lies.0, made))
 
-  opened_file : (name : List ℕ) (fd : ℕ) → own_files.OpensFile m d name Read fd n → n.files ≡ m.files → LiesIn pools n d (doing.Reads fd purpose.Cat)
+  after_made : (x : Collected) (begun : ℕ) (r : Reply) → PieceLies pools m d x → StepsTo m (event.Call d (call.AggMake x.text)) r n → LiesAfter (told_made x begun r) x doing.Runs
+  after_made x begun (reply.Agg a) lies step = woven_lies (without_text x) begun a (piece_kept (call.AggMake x.text) (reply.Agg a) x (made_here x.text) step lies) (new (call.AggMake x.text) (reply.Agg a) a (made_here x.text) step (brought a))
+  after_made x begun r lies step = (piece_kept (call.AggMake x.text) r x (made_here x.text) step lies, tt)
+
+  opened_file : (name : List ℕ) (fd : ℕ) → own_files.OpensFile m d name Read fd n → n.files ≡ m.files → PhaseLies pools n d (doing.Reads fd purpose.Cat)
   opened_file name fd h same f at mode is =
       let number : f ≡ h.file_is = same_file f at mode h.file_is (sym is ∙ h.open_on) in
       ap (λ k. pools (file n k).pool) number ∙ (ap (λ (x : File). pools x.pool) (file-same m n h.file_is same) ∙ holds.files name h.file_is h.found h.may)
@@ -103,41 +129,108 @@ module _ (labels : LabelsFollow) (steps : EachStepLeavesTheRest) (files : FileCa
       same_file : (f at : ℕ) (mode : Mode) (g : ℕ) → Some (on.File f at mode) ≡ Some (on.File g 0 Read) → f ≡ g
       same_file f at mode g e = cc
 
-  after_opened : (u : Purpose) (name : List ℕ) (begun : ℕ) (r : Reply) → StepsTo m (event.Call d (call.OpenFile name Read)) r n → LiesAfter (told_opened u begun r) doing.Runs
-  after_opened u name begun (reply.Fd fd) step =
-      opened_file name fd (files.opens m n d name Read (reply.Fd fd) live step) ((steps.leaves m n (event.Call d (call.OpenFile name Read)) (reply.Fd fd) step).files refl).0
-  after_opened u name begun (reply.Refused x) step = tt
-  after_opened u name begun r step = tt
+  after_opened : (x : Collected) (u : Purpose) (name : List ℕ) (begun : ℕ) (r : Reply) → PieceLies pools m d x → StepsTo m (event.Call d (call.OpenFile name Read)) r n → LiesAfter (told_opened x u begun r) x doing.Runs
+  after_opened x u name begun (reply.Fd fd) lies step = (
+    piece_kept (call.OpenFile name Read) (reply.Fd fd) x refl step lies,
+    opened_file name fd (files.opens m n d name Read (reply.Fd fd) live step) ((steps.leaves m n (event.Call d (call.OpenFile name Read)) (reply.Fd fd) step).files refl).0,
+  )
+  after_opened x u name begun (reply.Refused y) lies step = (piece_kept (call.OpenFile name Read) (reply.Refused y) x refl step lies, tt)
+  after_opened x u name begun r lies step = (piece_kept (call.OpenFile name Read) r x refl step lies, tt)
 
-  after_line : (job : Task) (begun : ℕ) (l : Option Line) (r : Reply) → StepsTo m (event.Call d (next_call job l)) r n → LiesAfter (told_next l begun r) doing.Runs
-  after_line job begun (Some (line.Emit bytes)) r step = after_made doing.Runs _ (begun + 1) r tt step
-  after_line job begun (Some line.Query) r step = after_made doing.Runs _ (begun + 1) r tt step
-  after_line job begun (Some (line.Cat name)) r step = after_opened purpose.Cat name (begun + 1) r step
-  after_line job begun (Some (line.Wc name)) r step = after_opened purpose.Wc name (begun + 1) r step
-  after_line job begun o r step = tt
+  after_line : (job : Task) (x : Collected) (begun : ℕ) (l : Option Line) (r : Reply) → PieceLies pools m d x → StepsTo m (event.Call d (next_call job l)) r n → LiesAfter (told_next job x l begun r) x doing.Runs
+  after_line job x begun (Some (line.Emit bytes)) r lies step = (piece_kept (call.SetPool 3) r x refl step lies, tt)
+  after_line job x begun (Some line.Query) r lies step = (piece_kept (call.SetPool 3) r x refl step lies, tt)
+  after_line job x begun (Some line.Pause) r lies step = (piece_kept (call.SetPool 3) r x refl step lies, tt)
+  after_line job x begun (Some (line.Cat name)) r lies step = after_opened x purpose.Cat name (begun + 1) r lies step
+  after_line job x begun (Some (line.Wc name)) r lies step = after_opened x purpose.Wc name (begun + 1) r lies step
+  after_line job x begun None r lies step = tt
+
+  after_begun : (job : Task) (x : Collected) (begun : ℕ) (l : Option Line) (r : Reply) (t : Bool) → PieceLies pools m d x → StepsTo m (event.Call d (if t then call.AggMake x.text else next_call job l)) r n
+      → LiesAfter (if t then told_made x begun r else told_next job x l begun r) x doing.Runs
+  after_begun job x begun l r true lies step = after_made x begun r lies step
+  after_begun job x begun l r false lies step = after_line job x begun l r lies step
 
   file_there : (fd f at : ℕ) (mode : Mode) → descriptor m d fd ≡ Some (on.File f at mode) → pools (file m f).pool ≡ true → FromThere (call.IolRead fd 16777216)
   file_there fd f at mode opened is = subst (λ (o : Option Descriptor). Lie (read_from m o)) (sym opened) (labels.fresh pools (file m f).pool _ is)
 
-  after_read : (fd : ℕ) (u : Purpose) (begun : ℕ) (r : Reply) → FromThere (call.IolRead fd 16777216) → StepsTo m (event.Call d (call.IolRead fd 16777216)) r n
-      → LiesAfter (told_read (lent_at n d) fd u begun r) (doing.Reads fd u)
-  after_read fd purpose.Cat begun (reply.Agg a) from step = new (call.IolRead fd 16777216) (reply.Agg a) a from step (brought a)
-  after_read fd purpose.Wc begun (reply.Agg a) from step = tt
-  after_read fd u begun (reply.Refused x) from step = tt
-  after_read fd u begun r from step = (let e = step.1 in absurd (cc (e)))
+  after_read : (x : Collected) (fd : ℕ) (u : Purpose) (begun : ℕ) (r : Reply) → FromThere (call.IolRead fd 16777216) → PieceLies pools m d x → StepsTo m (event.Call d (call.IolRead fd 16777216)) r n
+      → LiesAfter (told_read (lent_at n d) x fd u begun r) x (doing.Reads fd u)
+  after_read x fd purpose.Cat begun (reply.Agg a) from lies step = (piece_kept (call.IolRead fd 16777216) (reply.Agg a) x from step lies, new (call.IolRead fd 16777216) (reply.Agg a) a from step (brought a))
+  after_read x fd purpose.Wc begun (reply.Agg a) from lies step = (piece_kept (call.IolRead fd 16777216) (reply.Agg a) x from step lies, tt)
+  after_read x fd u begun (reply.Refused y) from lies step = (piece_kept (call.IolRead fd 16777216) (reply.Refused y) x from step lies, tt)
+  after_read x fd u begun r from lies step = (let e = step.1 in absurd (cc (e)))
 
-  after_written : (fd a len begun : ℕ) (r : Reply) → Lie (text m d a) → StepsTo m (event.Call d (call.IolWrite fd a)) r n → LiesAfter (told_written a len begun r) (doing.Writes a)
-  after_written fd a len begun (reply.Count k) lies step = by (k == len)
+  after_shut : (x : Collected) (fd a from len begun : ℕ) (r : Reply) → PieceLies pools m d x → Lie (text m d a) → StepsTo m (event.Call d (call.Close fd)) r n → LiesAfter (shut_by x from a len begun) x (doing.Shuts fd a)
+  after_shut x fd a from len begun r lies made step = by x.held refl (nat_le len 4096) (is_nothing x)
     where
-      by : (b : Bool) → LiesIn pools n d (if b then doing.Drops a else doing.Cuts a k len)
-      by true = tt
-      by false = kept (call.IolWrite fd a) (reply.Count k) a lies step lies
-  after_written fd a len begun (reply.Refused not_so.BrokenPipe) lies step = tt
-  after_written fd a len begun r lies step = kept (call.IolWrite fd a) r a lies step lies
+      piece : PieceLies pools n d x
+      piece = piece_kept (call.Close fd) r x refl step lies
 
-  after_cut : (a from to begun : ℕ) (r : Reply) → Lie (text m d a) → StepsTo m (event.Call d (call.AggCut a from to)) r n → LiesAfter (told_cut a begun r) (doing.Cuts a from to)
-  after_cut a from to begun (reply.Agg rest) lies step = new (call.AggCut a from to) (reply.Agg rest) rest lies step (brought rest)
-  after_cut a from to begun r lies step = kept (call.AggCut a from to) r a lies step lies
+      there : Lie (text n d a)
+      there = kept (call.Close fd) r a refl step made
+
+      by : (o : Option ℕ) → x.held ≡ o → (t u : Bool) → LiesAfter (if t then file_collected x o from a len begun
+          else (if u then Some (at_step (doing.Writes a) begun x) else Some (at_step doing.Runs begun (with_next x a)))) x (doing.Shuts fd a)
+      by None is true u = ((there, piece.1), tt)
+      by (Some held) is true u = (piece, (subst (λ (o : Option ℕ). OneLies pools n d o) is piece.0, there))
+      by o is false true = (piece, there)
+      by o is false false = ((piece.0, there), tt)
+
+  both_lie : (a b : ℕ) → Lie (text m d a) → Lie (text m d b) → Lie (text m d a ++ text m d b)
+  both_lie a b one two = labels.both pools (text m d a) (text m d b) one two
+
+  after_joined : (x : Collected) (held a from len begun : ℕ) (r : Reply) → PieceLies pools m d x → Lie (text m d held) → Lie (text m d a) → StepsTo m (event.Call d (call.AggJoin held a)) r n
+      → LiesAfter (told_joined x from len begun r) x (doing.JoiningFile held a from len)
+  after_joined x held a from len begun (reply.Agg b) lies one two step =
+      let there = both_lie held a one two in
+      ((new (call.AggJoin held a) (reply.Agg b) b there step (brought b), one_kept (call.AggJoin held a) (reply.Agg b) x.next there step lies.1), tt)
+  after_joined x held a from len begun r lies one two step =
+      let there = both_lie held a one two in
+      (piece_kept (call.AggJoin held a) r x there step lies, (kept (call.AggJoin held a) r held there step one, kept (call.AggJoin held a) r a there step two))
+
+  after_parted : (x : Collected) (held a from begun : ℕ) (r : Reply) → PieceLies pools m d x → Lie (text m d held) → Lie (text m d a) → StepsTo m (event.Call d (call.AggSplit held from)) r n
+      → LiesAfter (told_parted x a begun r) x (doing.CuttingPart held a from)
+  after_parted x held a from begun (reply.Aggs b c) lies one two step = (
+    (new (call.AggSplit held from) (reply.Aggs b c) b one step (brought_front b c), one_kept (call.AggSplit held from) (reply.Aggs b c) x.next one step lies.1),
+    (kept (call.AggSplit held from) (reply.Aggs b c) a one step two, new (call.AggSplit held from) (reply.Aggs b c) c one step (brought_back b c)),
+  )
+  after_parted x held a from begun r lies one two step =
+      (piece_kept (call.AggSplit held from) r x one step lies, (kept (call.AggSplit held from) r held one step one, kept (call.AggSplit held from) r a one step two))
+
+  after_replaced : (x : Collected) (a part at begun : ℕ) (r : Reply) → PieceLies pools m d x → Lie (text m d a) → Lie (text m d part) → StepsTo m (event.Call d (call.AggReplace a at at part)) r n
+      → LiesAfter (told_replaced x a part begun r) x (doing.ReplacingPart a part at)
+  after_replaced x a part at begun (reply.Agg b) lies one two step =
+      let there = both_lie a part one two in
+      (piece_kept (call.AggReplace a at at part) (reply.Agg b) x there step lies, new (call.AggReplace a at at part) (reply.Agg b) b there step (brought b))
+  after_replaced x a part at begun r lies one two step =
+      let there = both_lie a part one two in
+      (piece_kept (call.AggReplace a at at part) r x there step lies, (kept (call.AggReplace a at at part) r a there step one, kept (call.AggReplace a at at part) r part there step two))
+
+  after_written : (x : Collected) (fd a len begun : ℕ) (r : Reply) → PieceLies pools m d x → Lie (text m d a) → StepsTo m (event.Call d (call.IolWrite fd a)) r n → LiesAfter (told_written x a len begun r) x (doing.Writes a)
+  after_written x fd a len begun (reply.Count k) lies made step = by (k == len)
+    where
+      piece : PieceLies pools n d x
+      piece = piece_kept (call.IolWrite fd a) (reply.Count k) x made step lies
+
+      by : (b : Bool) → LiesIn pools n d x (if b then doing.Drops a else doing.Cuts a k len)
+      by true = (piece, tt)
+      by false = (piece, kept (call.IolWrite fd a) (reply.Count k) a made step made)
+  after_written x fd a len begun (reply.Refused not_so.BrokenPipe) lies made step = (piece_kept (call.IolWrite fd a) (reply.Refused not_so.BrokenPipe) x made step lies, tt)
+  after_written x fd a len begun r lies made step = (piece_kept (call.IolWrite fd a) r x made step lies, kept (call.IolWrite fd a) r a made step made)
+
+  after_cut : (x : Collected) (a from to begun : ℕ) (r : Reply) → PieceLies pools m d x → Lie (text m d a) → StepsTo m (event.Call d (call.AggCut a from to)) r n → LiesAfter (told_cut x a begun r) x (doing.Cuts a from to)
+  after_cut x a from to begun (reply.Agg rest) lies made step = (piece_kept (call.AggCut a from to) (reply.Agg rest) x made step lies, new (call.AggCut a from to) (reply.Agg rest) rest made step (brought rest))
+  after_cut x a from to begun r lies made step = (piece_kept (call.AggCut a from to) r x made step lies, kept (call.AggCut a from to) r a made step made)
+
+  after_dropped : (x : Collected) (a begun : ℕ) (r : Reply) (o : Option ℕ) → x.next ≡ o → PieceLies pools m d x → StepsTo m (event.Call d (call.AggDrop a)) r n → LiesAfter (told_dropped x o begun) x (doing.Drops a)
+  after_dropped x a begun r None is lies step = (piece_kept (call.AggDrop a) r x refl step lies, tt)
+  after_dropped x a begun r (Some b) is lies step =
+      let piece = piece_kept (call.AggDrop a) r x refl step lies in
+      ((piece.0, tt), subst (λ (o : Option ℕ). OneLies pools n d o) is piece.1)
+
+  after_broken : (job : Task) (x : Collected) (a begun : ℕ) (r : Reply) (o : Option ℕ) → PieceLies pools m d x → StepsTo m (event.Call d (call.AggDrop a)) r n → LiesAfter (told_broken job x o begun) x (doing.Breaks a)
+  after_broken job x a begun r None lies step = (piece_kept (call.AggDrop a) r x refl step lies, tt)
+  after_broken job x a begun r (Some b) lies step = (let piece = piece_kept (call.AggDrop a) r x refl step lies in ((piece.0, tt), tt))
 
   -- the file that it reads is open
   abbrev FileOpen : Doing → Type 0
@@ -145,16 +238,25 @@ module _ (labels : LabelsFollow) (steps : EachStepLeavesTheRest) (files : FileCa
   FileOpen x = Unit {0}
 
   -- what lies there of a step lies there after its call, the reply taken as filed
-  after : (job : Task) (begun : ℕ) (x : Doing) (r : Reply) → FileOpen x → LiesIn pools m d x → StepsTo m (event.Call d (doing_call job begun x)) r n
-      → LiesAfter (told_doing (lent_at n d) job begun x r) x
-  after job begun doing.Runs r h lies step = after_line job begun (slice_get job.lines begun) r step
-  after job begun (doing.Reads fd u) r h lies step = after_read fd u begun r (file_there fd h.0 h.1 Read h.2 (lies h.0 h.1 Read h.2)) step
-  after job begun (doing.Says s) r h lies step = after_made (doing.Says s) _ begun r tt step
-  after job begun (doing.Writes a) r h lies step = after_written job.fd a _ begun r lies step
-  after job begun (doing.Cuts a from to) r h lies step = after_cut a from to begun r lies step
-  after job begun (doing.Swaps a rest) r h lies step = kept (call.AggDrop a) r rest refl step lies
-  after job begun (doing.Shuts fd a) r h lies step = kept (call.Close fd) r a refl step lies
-  after job begun x r h lies step = tt
+  after : (job : Task) (x : Collected) (begun : ℕ) (y : Doing) (r : Reply) → FileOpen y → LiesIn pools m d x y → StepsTo m (event.Call d (doing_call job x begun y)) r n
+      → LiesAfter (told_doing (lent_at n d) job x begun y r) x y
+  after job x begun doing.Waits r h lies step = tt
+  after job x begun (doing.Skips a) r h lies step = tt
+  after job x begun doing.Runs r h lies step = after_begun job x begun (slice_get job.lines begun) r (due_now job x begun) lies.0 step
+  after job x begun (doing.Reads fd u) r h lies step = after_read x fd u begun r (file_there fd h.0 h.1 Read h.2 (lies.1 h.0 h.1 Read h.2)) lies.0 step
+  after job x begun (doing.Counted fd a s) r h lies step = (piece_kept (call.AggDrop a) r x refl step lies.0, tt)
+  after job x begun (doing.Shuts fd a) r h lies step = after_shut x fd a (length (bytes_of_one (lent_at n d) x.held)) (length (bytes_at (lent_at n d) a)) begun r lies.0 lies.1 step
+  after job x begun (doing.ShutsToSay fd s) r h lies step = (piece_kept (call.Close fd) r x refl step lies.0, tt)
+  after job x begun (doing.JoiningFile held a from len) r h lies step = after_joined x held a from len begun r lies.0 lies.1.0 lies.1.1 step
+  after job x begun (doing.CuttingPart held a from) r h lies step = after_parted x held a from begun r lies.0 lies.1.0 lies.1.1 step
+  after job x begun (doing.ReplacingPart a part at) r h lies step = after_replaced x a part at begun r lies.0 lies.1.0 lies.1.1 step
+  after job x begun (doing.DroppingText a part made) r h lies step = (piece_kept (call.AggDrop a) r x refl step lies.0, kept (call.AggDrop a) r made refl step lies.1)
+  after job x begun (doing.DroppingPart part made) r h lies step = woven_lies x begun made (piece_kept (call.AggDrop part) r x refl step lies.0) (kept (call.AggDrop part) r made refl step lies.1)
+  after job x begun (doing.Writes a) r h lies step = after_written x job.fd a _ begun r lies.0 lies.1 step
+  after job x begun (doing.Cuts a from to) r h lies step = after_cut x a from to begun r lies.0 lies.1 step
+  after job x begun (doing.Swaps a rest) r h lies step = (piece_kept (call.AggDrop a) r x refl step lies.0, kept (call.AggDrop a) r rest refl step lies.1)
+  after job x begun (doing.Drops a) r h lies step = after_dropped x a begun r x.next refl lies.0 step
+  after job x begun (doing.Breaks a) r h lies step = after_broken job x a begun r x.next lies.0 step
 
   -- ---- its default pool
 
@@ -171,35 +273,42 @@ module _ (labels : LabelsFollow) (steps : EachStepLeavesTheRest) (files : FileCa
 
   default_line : (job : Task) (l : Option Line) (r : Reply) → StepsTo m (event.Call d (next_call job l)) r n → pools (default_pool n d) ≡ true
   default_line job None r step = default_kept (next_call job None) r refl step
-  default_line job (Some (line.Emit bytes)) r step = default_kept (next_call job (Some (line.Emit bytes))) r refl step
-  default_line job (Some line.Query) r step = default_kept (next_call job (Some line.Query)) r refl step
+  default_line job (Some (line.Emit bytes)) r step = default_set r step
+  default_line job (Some line.Query) r step = default_set r step
   default_line job (Some (line.Cat name)) r step = default_kept (next_call job (Some (line.Cat name))) r refl step
   default_line job (Some (line.Wc name)) r step = default_kept (next_call job (Some (line.Wc name))) r refl step
   default_line job (Some line.Pause) r step = default_set r step
 
-  default_after : (job : Task) (begun : ℕ) (x : Doing) (r : Reply) → StepsTo m (event.Call d (doing_call job begun x)) r n → pools (default_pool n d) ≡ true
-  default_after job begun doing.Runs r step = default_line job (slice_get job.lines begun) r step
-  default_after job begun x r step = default_kept (doing_call job begun x) r refl step
+  default_begun : (job : Task) (x : Collected) (l : Option Line) (r : Reply) (t : Bool) → StepsTo m (event.Call d (if t then call.AggMake x.text else next_call job l)) r n → pools (default_pool n d) ≡ true
+  default_begun job x l r true step = default_kept (call.AggMake x.text) r refl step
+  default_begun job x l r false step = default_line job l r step
+
+  default_after : (job : Task) (x : Collected) (begun : ℕ) (y : Doing) (r : Reply) → StepsTo m (event.Call d (doing_call job x begun y)) r n → pools (default_pool n d) ≡ true
+  default_after job x begun doing.Runs r step = default_begun job x (slice_get job.lines begun) r (due_now job x begun) step
+  default_after job x begun y r step = default_kept (doing_call job x begun y) r refl step
 
   -- ---- what it wrote
 
-  line_written : (p : ℕ) (job : Task) (l : Option Line) → writes_pipe m (event.Call d (next_call job l)) p ≡ false
-  line_written p job (Some (line.Emit bytes)) = refl
-  line_written p job o = refl
+  line_written : (p : ℕ) (job : Task) (x : Collected) (l : Option Line) (t : Bool) → writes_pipe m (event.Call d (if t then call.AggMake x.text else next_call job l)) p ≡ false
+  line_written p job x l true = refl
+  line_written p job x (Some (line.Cat name)) false = refl
+  line_written p job x (Some (line.Wc name)) false = refl
+  line_written p job x (Some l) false = refl
+  line_written p job x None false = refl
 
-  from_there : (p : ℕ) (job : Task) (begun : ℕ) (x : Doing) → LiesIn pools m d x → writes_pipe m (event.Call d (doing_call job begun x)) p ≡ true → FromThere (doing_call job begun x)
-  from_there p job begun doing.Runs lies is = absurd (let e = line_written p job (slice_get job.lines begun) in cc (e, is))
-  from_there p job begun (doing.Writes a) lies is = lies
-  from_there p job begun x lies is = absurd (cc (is))
+  from_there : (p : ℕ) (job : Task) (x : Collected) (begun : ℕ) (y : Doing) → LiesIn pools m d x y → writes_pipe m (event.Call d (doing_call job x begun y)) p ≡ true → FromThere (doing_call job x begun y)
+  from_there p job x begun doing.Runs lies is = absurd (let e = line_written p job x (slice_get job.lines begun) (due_now job x begun) in cc (e, is))
+  from_there p job x begun (doing.Writes a) lies is = lies.1
+  from_there p job x begun y lies is = absurd (cc (is))
 
-  output_after : (p : ℕ) (job : Task) (begun : ℕ) (x : Doing) (r : Reply) → LiesIn pools m d x → Lie (pipe_at m p).queue → StepsTo m (event.Call d (doing_call job begun x)) r n → Lie (pipe_at n p).queue
-  output_after p job begun x r lies was step = labels.pipes pools m n (event.Call d (doing_call job begun x)) r p step (from_there p job begun x lies) was
+  output_after : (p : ℕ) (job : Task) (x : Collected) (begun : ℕ) (y : Doing) (r : Reply) → LiesIn pools m d x y → Lie (pipe_at m p).queue → StepsTo m (event.Call d (doing_call job x begun y)) r n → Lie (pipe_at n p).queue
+  output_after p job x begun y r lies was step = labels.pipes pools m n (event.Call d (doing_call job x begun y)) r p step (from_there p job x begun y lies) was
 
   -- ---- the worker after its call
 
-  told_step : (o : Option Step) (step : Step) → (or_again o step).doing ≡ (or_again o (at_step step.doing 0)).doing
-  told_step None step = refl
-  told_step (Some next) step = refl
+  told_step : (o : Option Step) (step : Step) → LiesIn pools n d (or_again o (at_step step.doing 0 step.piece)).piece (or_again o (at_step step.doing 0 step.piece)).doing → LiesIn pools n d (or_again o step).piece (or_again o step).doing
+  told_step None step h = h
+  told_step (Some next) step h = h
 
   filed_after : (v : Worker) (r : Reply) (job : Task) (step : Step) → v.job ≡ job → v.step ≡ step → v.standing ≡ standing.Asked
       → filed_step v.standing v (lent_at n d) r ≡ or_again (told job step (lent_at n d) r) step
@@ -208,16 +317,15 @@ module _ (labels : LabelsFollow) (steps : EachStepLeavesTheRest) (files : FileCa
       ∙ (ap (λ (j : Task). or_again (told j v.step (lent_at n d) r) v.step) job_is ∙ ap (λ (s : Step). or_again (told job s (lent_at n d) r) s) step_is)
 
   shown_after : (p : ℕ) (v : Worker) (r : Reply) (job : Task) (step : Step) (k : Call) → v.job ≡ job → v.step ≡ step → v.standing ≡ standing.Asked
-      → k ≡ call_at job step → FileOpen step.doing → LiesIn pools m d step.doing → Lie (pipe_at m p).queue → StepsTo m (event.Call d k) r n
+      → k ≡ call_at job step → FileOpen step.doing → LiesIn pools m d step.piece step.doing → Lie (pipe_at m p).queue → StepsTo m (event.Call d k) r n
       → IsShown pools n p (seat_at d v r)
   shown_after p v r job step k job_is step_is asked k_is opened lies was made =
       let goes = subst (λ (c : Call). StepsTo m (event.Call d c) r n) k_is made in
       let next = filed_after v r job step job_is step_is asked in
       record {
-        default = default_after job step.begun step.doing r goes;
-        output = output_after p job step.begun step.doing r lies was goes;
-        lies = subst (λ (x : Doing). LiesIn pools n d x) (sym (ap (λ (s : Step). s.doing) next ∙ told_step (told job step (lent_at n d) r) step))
-            (after job step.begun step.doing r opened lies goes);
+        default = default_after job step.piece step.begun step.doing r goes;
+        output = output_after p job step.piece step.begun step.doing r lies was goes;
+        lies = subst (λ (s : Step). LiesIn pools n d s.piece s.doing) (sym next) (told_step (told job step (lent_at n d) r) step (after job step.piece step.begun step.doing r opened lies goes));
       }
 
 -- ---- a turn
@@ -261,7 +369,7 @@ module _ (labels : LabelsFollow) (steps : EachStepLeavesTheRest) (files : FileCa
       record {
         default = subst (λ (u : State). pools (default_pool u d) ≡ true) (sym comes.2) shown.default;
         output = subst (λ (u : State). lie_in pools (pipe_at u p).queue ≡ true) (sym comes.2) shown.output;
-        lies = subst (λ (x : Step). LiesIn pools n d x.doing) (sym step_is) (subst (λ (u : State). LiesIn pools u d now.doing) (sym comes.2) shown.lies);
+        lies = subst (λ (x : Step). LiesIn pools n d x.piece x.doing) (sym step_is) (subst (λ (u : State). LiesIn pools u d now.piece now.doing) (sym comes.2) shown.lies);
       }
   moves (turn.Make k) goes un opened did comes =
       let made = makes_call w v k last (lent_at m d) w.standing refl goes un did in
@@ -271,9 +379,9 @@ module _ (labels : LabelsFollow) (steps : EachStepLeavesTheRest) (files : FileCa
   takes_job : (t : Turn) (job : Task) (a : ℕ) → w.standing ≡ standing.Asked → t ≡ turn.Make (call.AggDrop a) → v ≡ with_job w (Some job) a
       → ComesOf copying worker_turns m d t yields r n → IsShown pools n p (seat_at d v r)
   takes_job t job a asked is v_is comes =
-      let step : Step = record { doing = doing.Drops a; begun = 0 } in
+      let step : Step = record { doing = doing.Drops a; begun = 0; piece = nothing } in
       shown_after labels steps files pools_come pools m n d order live holds shown.default p v r job step (call.AggDrop a)
-      (ap (λ (y : Worker). y.job) v_is) (ap (λ (y : Worker). y.step) v_is) (ap (λ (y : Worker). y.standing) v_is ∙ asked) refl tt tt shown.output
+      (ap (λ (y : Worker). y.job) v_is) (ap (λ (y : Worker). y.step) v_is) (ap (λ (y : Worker). y.standing) v_is ∙ asked) refl tt ((tt, tt), tt) shown.output
       (subst (λ (u : Turn). ComesOf copying worker_turns m d u yields r n) is comes).1
 
 turns : LabelsFollow → EachStepLeavesTheRest → FileCallsServeTheirDomain → DomainsAndPoolsComeAndGo → (pools : ℕ → Bool) (m n : State) (p : ℕ) (seat next : Seat Worker) (yields : Bool) (r : Reply)
@@ -322,7 +430,7 @@ module _ (labels : LabelsFollow) (steps : EachStepLeavesTheRest) (pools : ℕ �
   lies_still : (a : ℕ) → HasBytes m d a → lie_in pools (text m d a) ≡ true → lie_in pools (text n d a) ≡ true
   lies_still a h lies = subst (λ (t : Text). lie_in pools t ≡ true) (sym (text_stays a h)) lies
 
-  file_still : (fd : ℕ) → IsFileOpen m d fd → LiesIn pools m d (doing.Reads fd purpose.Cat) → LiesIn pools n d (doing.Reads fd purpose.Cat)
+  file_still : (fd : ℕ) → IsFileOpen m d fd → PhaseLies pools m d (doing.Reads fd purpose.Cat) → PhaseLies pools n d (doing.Reads fd purpose.Cat)
   file_still fd h lies f at mode is =
       let left = others_leave steps m n d e r placed step other in
       let number : f ≡ h.0 = same_file f at mode h.0 h.1 (sym is ∙ left.fds fd (on.File h.0 h.1 Read) h.2) in
@@ -332,22 +440,49 @@ module _ (labels : LabelsFollow) (steps : EachStepLeavesTheRest) (pools : ℕ �
       same_file : (f at : ℕ) (mode : Mode) (g to : ℕ) → Some (on.File f at mode) ≡ Some (on.File g to Read) → f ≡ g
       same_file f at mode g to e = cc
 
-  lies_stay : (x : Doing) → Needs m d x → LiesIn pools m d x → LiesIn pools n d x
-  lies_stay (doing.Reads fd u) h lies = file_still fd (h.number, h.place, h.open_on) lies
-  lies_stay (doing.Shuts fd a) h lies = lies_still a h.1 lies
-  lies_stay (doing.Writes a) h lies = lies_still a h lies
-  lies_stay (doing.Cuts a from to) h lies = lies_still a (h.0, h.1) lies
-  lies_stay (doing.Swaps a rest) h lies = lies_still rest h.0 lies
-  lies_stay x h lies = tt
+  one_still : (o : Option ℕ) (ps : List Place) → LendsFiles (lent_at m d) o ps → OneLies pools m d o → OneLies pools n d o
+  one_still None ps h lies = tt
+  one_still (Some a) ps h lies = lies_still a h lies
+
+  next_still : (held o : Option ℕ) → LendsNext (lent_at m d) held o → OneLies pools m d o → OneLies pools n d o
+  next_still held None h lies = tt
+  next_still held (Some a) h lies = lies_still a h.0 lies
+
+  piece_still : (len : ℕ) (x : Collected) → HasPiece (lent_at m d) len x → PieceLies pools m d x → PieceLies pools n d x
+  piece_still len x h lies = (one_still x.held x.places h.files lies.0, next_still x.held x.next h.next lies.1)
+
+  held_still : (x : Collected) (held : ℕ) → LendsFiles (lent_at m d) x.held x.places → x.held ≡ Some held → lie_in pools (text m d held) ≡ true → lie_in pools (text n d held) ≡ true
+  held_still x held h is lies = lies_still held (subst (λ (o : Option ℕ). LendsFiles (lent_at m d) o x.places) is h) lies
+
+  lies_stay : (x : Collected) (y : Doing) → Needs m d y → HoldsAt (lent_at m d) x y → LiesIn pools m d x y → LiesIn pools n d x y
+  lies_stay x doing.Waits h k lies = tt
+  lies_stay x (doing.Skips a) h k lies = absurd h
+  lies_stay x (doing.Breaks a) h k lies = absurd h
+  lies_stay x doing.Runs h k lies = (piece_still (length x.text) x k lies.0, tt)
+  lies_stay x (doing.Reads fd u) h k lies = (piece_still (length x.text) x k.piece lies.0, file_still fd (h.number, h.place, h.open_on) lies.1)
+  lies_stay x (doing.Counted fd a s) h k lies = (piece_still (length x.text) x k.0.piece lies.0, tt)
+  lies_stay x (doing.ShutsToSay fd s) h k lies = (piece_still (length x.text) x k.piece lies.0, tt)
+  lies_stay x (doing.Shuts fd a) h k lies = (piece_still (length x.text) x k.0.piece lies.0, lies_still a h.1 lies.1)
+  lies_stay x (doing.JoiningFile held a from len) h k lies =
+      (piece_still (length x.text) x k.gathers.piece lies.0, (held_still x held k.gathers.piece.files k.held_is lies.1.0, lies_still a k.lends lies.1.1))
+  lies_stay x (doing.CuttingPart held a from) h k lies =
+      (piece_still (length (bytes_at (lent_at m d) a)) x k.piece lies.0, (held_still x held k.piece.files k.held_is lies.1.0, lies_still a k.lends lies.1.1))
+  lies_stay x (doing.ReplacingPart a part at) h k lies = (piece_still at (without_last x) k.piece lies.0, (lies_still a k.lends lies.1.0, lies_still part k.parts lies.1.1))
+  lies_stay x (doing.DroppingText a part made) h k lies = (piece_still (length (bytes_at (lent_at m d) made)) x k.drops.piece lies.0, lies_still made k.drops.lends lies.1)
+  lies_stay x (doing.DroppingPart part made) h k lies = (piece_still (length (bytes_at (lent_at m d) made)) x k.piece lies.0, lies_still made k.lends lies.1)
+  lies_stay x (doing.Drops a) h k lies = (piece_still (length x.text) x k.0.piece lies.0, tt)
+  lies_stay x (doing.Writes a) h k lies = (piece_still (length x.text) x k.0.piece lies.0, lies_still a h lies.1)
+  lies_stay x (doing.Cuts a from to) h k lies = (piece_still (length x.text) x k.0.piece lies.0, lies_still a (h.0, h.1) lies.1)
+  lies_stay x (doing.Swaps a rest) h k lies = (piece_still (length x.text) x k.0.piece lies.0, lies_still rest h.0 lies.1)
 
 -- a worker without a step of its own has nothing there
-nothing_lies : (pools : ℕ → Bool) (n : State) (d : ℕ) (x : Doing) → x ≡ doing.Waits → LiesIn pools n d x
-nothing_lies pools n d x is = subst (λ (y : Doing). LiesIn pools n d y) (sym is) tt
+nothing_lies : (pools : ℕ → Bool) (n : State) (d : ℕ) (x : Collected) (y : Doing) → y ≡ doing.Waits → LiesIn pools n d x y
+nothing_lies pools n d x y is = subst (λ (z : Doing). LiesIn pools n d x z) (sym is) tt
 
 given_at : (n : State) (d : ℕ) (w : Worker) (last : Reply) → w.standing ≡ standing.Asked → w.step.doing ≡ doing.Waits → (filed_step w.standing w (lent_at n d) last).doing ≡ doing.Waits
 given_at n d w last asked waits =
     ap (λ (s : Standing). (filed_step s w (lent_at n d) last).doing) asked
-    ∙ (ap (λ (x : Doing). (or_again (told_doing (lent_at n d) w.job w.step.begun x last) w.step).doing) waits ∙ waits)
+    ∙ (ap (λ (x : Doing). (or_again (told_doing (lent_at n d) w.job w.step.piece w.step.begun x last) w.step).doing) waits ∙ waits)
 
 no_exit : (e : Event) (d : ℕ) → is_call_of e d ≡ false → sets_default e d ≡ false
 no_exit (event.Call by call.Exit) d other = other
@@ -378,18 +513,18 @@ others labels steps pools m n p seat e r unseen order placed job shown step othe
   lies = by job;
 }
   where
-    by : RunsJob m p seat unseen → LiesIn pools n seat.by (step_of n seat).doing
-    by (inl h) = nothing_lies pools n seat.by (step_of n seat).doing (free_still m n seat h.free).waits
-    by (inr (inl h)) = nothing_lies pools n seat.by (step_of n seat).doing (given_at n seat.by seat.process seat.last h.asked h.waits)
+    by : RunsJob m p seat unseen → LiesIn pools n seat.by (step_of n seat).piece (step_of n seat).doing
+    by (inl h) = nothing_lies pools n seat.by (step_of n seat).piece (step_of n seat).doing (free_still m n seat h.free).waits
+    by (inr (inl h)) = nothing_lies pools n seat.by (step_of n seat).piece (step_of n seat).doing (given_at n seat.by seat.process seat.last h.asked h.waits)
     by (inr (inr i)) =
         let left = others_leave steps m n seat.by e r placed step other in
-        let same = filed_stays m n seat.by left seat.process.standing seat.process seat.last i.feeds.needs in
-        subst (λ (s : Step). LiesIn pools n seat.by s.doing) (sym same)
-        (lies_stay labels steps pools m n seat.by e r placed step other (step_of m seat).doing i.feeds.needs shown.lies)
+        let same = filed_stays m n seat.by left seat.process.standing seat.process seat.last i.feeds.needs i.feeds.holds in
+        subst (λ (s : Step). LiesIn pools n seat.by s.piece s.doing) (sym same)
+        (lies_stay labels steps pools m n seat.by e r placed step other (step_of m seat).piece (step_of m seat).doing i.feeds.needs i.feeds.holds shown.lies)
 
 pub outputs_are_shown : LabelsFollow → EachStepLeavesTheRest → FileCallsServeTheirDomain → DomainsAndPoolsComeAndGo → OutputsAreShown
 outputs_are_shown labels steps files pools_come = record {
-  free = λ pools m p seat free default output. record { default = default; output = output; lies = nothing_lies pools m seat.by (step_of m seat).doing free.waits };
+  free = λ pools m p seat free default output. record { default = default; output = output; lies = nothing_lies pools m seat.by (step_of m seat).piece (step_of m seat).doing free.waits };
   turns = turns labels steps files pools_come;
   others = others labels steps;
 }

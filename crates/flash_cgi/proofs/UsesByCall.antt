@@ -1,6 +1,6 @@
 -- A worker's call leaves it with what it uses then, and nothing else.
 use Rattle.std.proofs.Common.{◌≡◌, ◌≢◌, ℕ, ◌+◌, ◌==◌, List, length, ap, ◌∙◌, refl, subst, arith, Option, Some, None, true, false, Bool, if◌then◌else◌}
-use Rattle.std.specs.Prelude.{◌||◌, ◌&&◌, slice_get}
+use Rattle.std.specs.Prelude.{◌||◌, ◌&&◌, not, is_some, nat_le, slice_get}
 use Rattle.std.proofs.lemmas.Bool.Decides.{nat_tests}
 use Rattle.iol_core.specs.State.{State, descriptor, is_live}
 use Rattle.iol_core.specs.Run.{StepsTo}
@@ -16,9 +16,10 @@ use Rattle.iol_laws.specs.Caller as o
 use Rattle.iol_laws.specs.Caller.{CallsServeTheirDomain, lent_at}
 use Rattle.iol_laws.specs.Order.{IsOrderly}
 use Rattle.iol_laws.specs.Reasons.{RefusalsTellWhy}
+use Rattle.flash_cgi.specs.Collecting.{Collected, bytes_of_one, is_due, is_full, is_nothing, last_place, with_file, with_next, with_text, without_next, without_text}
 use Rattle.flash_cgi.specs.Job.{Task}
-use Rattle.flash_cgi.specs.WorkerSteps.{call_at, told, told_next, told_made, told_opened, told_written, told_read, told_cut, got, next_call, bytes_at}
-use Rattle.flash_cgi.specs.Uses.{uses_fd, uses_agg, HasJust}
+use Rattle.flash_cgi.specs.WorkerSteps.{call_at, due_now, file_collected, shut_by, told, told_broken, told_dropped, told_joined, told_next, told_made, told_opened, told_parted, told_replaced, told_written, told_read, told_cut, got, next_call, bytes_at, weave_by, weave_on}
+use Rattle.flash_cgi.specs.Uses.{is_one, uses_fd, uses_agg, HasJust}
 use Rattle.flash_cgi.specs.declared.line.Line.{Line}
 use Rattle.flash_cgi.specs.declared.line.Line.TheVariants as line
 use Rattle.flash_cgi.specs.declared.phase.Purpose.{Purpose}
@@ -26,8 +27,10 @@ use Rattle.flash_cgi.specs.declared.phase.Purpose.TheVariants as purpose
 use Rattle.flash_cgi.specs.declared.phase.Doing.{Doing}
 use Rattle.flash_cgi.specs.declared.phase.Doing.TheVariants as doing
 use Rattle.flash_cgi.specs.declared.phase.Step.{Step}
-use Rattle.flash_cgi.proofs.OutputByCall.{at_step}
-use Rattle.flash_cgi.proofs.NotOpen.{free_make, free_cut, free_drop, free_set_pool, free_read, free_write, free_close, free_open}
+use Rattle.flash_cgi.specs.declared.piece.Place.{Place}
+use Rattle.flash_cgi.proofs.Interleaving.{nothing_is}
+use Rattle.flash_cgi.proofs.StaysByCall.{at_step}
+use Rattle.flash_cgi.proofs.NotOpen.{free_make, free_cut, free_drop, free_join, free_replace, free_set_pool, free_split, free_read, free_write, free_close, free_open}
 
 either_false : (a b : Bool) → a ≡ false → b ≡ false → (a || b) ≡ false
 either_false true b p q = absurd (cc)
@@ -41,6 +44,24 @@ left_of : (a b : Bool) → (a || b) ≡ false → a ≡ false
 left_of true b e = e
 left_of false b e = refl
 
+or_parts : (a b : Bool) → (a || b) ≡ false → (a ≡ false) × (b ≡ false)
+or_parts a b e = (left_of a b e, right_of a b e)
+
+not_not : (b : Bool) → not b ≡ false → b ≡ true
+not_not true e = refl
+not_not false e = absurd (cc (e))
+
+none_next : (x : Collected) → (is_full x || is_some x.next) ≡ false → x.next ≡ None
+none_next x due = by x.next (right_of (is_full x) (is_some x.next) due)
+  where
+    by : (o : Option ℕ) → is_some o ≡ false → o ≡ None
+    by None e = refl
+    by (Some a) e = absurd (cc (e))
+
+-- an event of a domain's own
+here : (d : ℕ) (b : Bool) → b ≡ true → ((d == d) && b) ≡ true
+here d b is = ap (λ t. (d == d) && t) is ∙ grind (arith, nat_tests)
+
 pub both_false : (a b : Bool) → b ≡ false → (a && b) ≡ false
 both_false true b e = e
 both_false false b e = refl
@@ -53,12 +74,12 @@ same_number a b test = grind (arith, nat_tests, test)
 
 module _ (own : CallsServeTheirDomain) (why : RefusalsTellWhy) (come : AggregatesComeAndGo)
     (m n : State) (d : ℕ) (fds aggs : ℕ → Bool) (job : Task) (order : IsOrderly m) (live : is_live m d ≡ true) where
-  abbrev Had : Doing → Type 0
-  Had x = HasJust m d fds aggs job x
+  abbrev Had : Collected → Doing → Type 0
+  Had x y = HasJust m d fds aggs job x y
 
   abbrev HasTo : Option Step → Type 0
   HasTo None = Unit {0}
-  HasTo (Some next) = HasJust n d fds aggs job next.doing
+  HasTo (Some next) = HasJust n d fds aggs job next.piece next.doing
 
   -- ---- aggregates
 
@@ -126,50 +147,118 @@ module _ (own : CallsServeTheirDomain) (why : RefusalsTellWhy) (come : Aggregate
       by true test = subst (λ k. descriptor n d k ≡ None) (same_number fd f test) (shut fd r step)
       by false test = free_close m n d fd f r step (was test)
 
+  -- two aggregates that are joined, or one that is parted, are gone
+  after_join : (a c e b : ℕ) → StepsTo m (event.Call d (call.AggJoin a c)) (reply.Agg e) n → (e == b) ≡ false → ((a == b) ≡ false → (c == b) ≡ false → lent_at m d b ≡ None) → lent_at n d b ≡ None
+  after_join a c e b step new was = by (a == b) refl (c == b) refl
+    where
+      given : ((a == b) || (c == b)) ≡ true → lent_at n d b ≡ None
+      given is = come.gone m n (event.Call d (call.AggJoin a c)) (reply.Agg e) d b order step (here d ((a == b) || (c == b)) is) refl
+
+      by : (t : Bool) → (a == b) ≡ t → (u : Bool) → (c == b) ≡ u → lent_at n d b ≡ None
+      by true one u two = given (ap (λ t. t || (c == b)) one)
+      by false one true two = given (ap (λ t. t || (c == b)) one ∙ two)
+      by false one false two = absent (call.AggJoin a c) (reply.Agg e) b step (both_false (d == d) (e == b) new) (was one two)
+
+  after_split : (a at c e b : ℕ) → StepsTo m (event.Call d (call.AggSplit a at)) (reply.Aggs c e) n → ((c == b) || (e == b)) ≡ false → ((a == b) ≡ false → lent_at m d b ≡ None) → lent_at n d b ≡ None
+  after_split a at c e b step new was = by (a == b) refl
+    where
+      by : (t : Bool) → (a == b) ≡ t → lent_at n d b ≡ None
+      by true one = come.gone m n (event.Call d (call.AggSplit a at)) (reply.Aggs c e) d b order step (here d (a == b) one) refl
+      by false one = absent (call.AggSplit a at) (reply.Aggs c e) b step (both_false (d == d) ((c == b) || (e == b)) new) (was one)
+
   -- ---- nothing happened
 
-  unchanged : (x y : Doing) → ((f : ℕ) → uses_fd job y f ≡ false → uses_fd job x f ≡ false) → ((a : ℕ) → uses_agg y a ≡ false → uses_agg x a ≡ false) → n ≡ m → Had x → HasJust n d fds aggs job y
-  unchanged x y fewer_fds fewer_aggs same h = record {
+  unchanged : (x z : Collected) (y v : Doing) → ((f : ℕ) → uses_fd job v f ≡ false → uses_fd job y f ≡ false) → ((a : ℕ) → uses_agg z v a ≡ false → uses_agg x y a ≡ false) → n ≡ m → Had x y → HasJust n d fds aggs job z v
+  unchanged x z y v fewer_fds fewer_aggs same h = record {
     no_fd = λ f given un. ap (λ (s : State). descriptor s d f) same ∙ h.no_fd f given (fewer_fds f un);
     no_agg = λ a given un. ap (λ (s : State). lent_at s d a) same ∙ h.no_agg a given (fewer_aggs a un);
   }
 
   -- ---- phase by phase
 
-  pub drops : (x y : Doing) (a : ℕ) (r : Reply) → ((f : ℕ) → uses_fd job y f ≡ false → uses_fd job x f ≡ false) → ((b : ℕ) → (a == b) ≡ false → uses_agg y b ≡ false → uses_agg x b ≡ false)
-      → Had x → StepsTo m (event.Call d (call.AggDrop a)) r n → HasJust n d fds aggs job y
-  drops x y a r fewer_fds fewer_aggs h step = record {
+  pub drops : (x z : Collected) (y v : Doing) (a : ℕ) (r : Reply) → ((f : ℕ) → uses_fd job v f ≡ false → uses_fd job y f ≡ false) → ((b : ℕ) → (a == b) ≡ false → uses_agg z v b ≡ false → uses_agg x y b ≡ false)
+      → Had x y → StepsTo m (event.Call d (call.AggDrop a)) r n → HasJust n d fds aggs job z v
+  drops x z y v a r fewer_fds fewer_aggs h step = record {
     no_fd = λ f given un. free_drop m n d f a r step (h.no_fd f given (fewer_fds f un));
     no_agg = λ b given un. after_drop a b r step (λ differ. h.no_agg b given (fewer_aggs b differ un));
   }
 
-  closes : (x y : Doing) (fd : ℕ) (r : Reply) → ((f : ℕ) → (fd == f) ≡ false → uses_fd job y f ≡ false → uses_fd job x f ≡ false) → ((b : ℕ) → uses_agg y b ≡ false → uses_agg x b ≡ false)
-      → Had x → StepsTo m (event.Call d (call.Close fd)) r n → HasJust n d fds aggs job y
-  closes x y fd r fewer_fds fewer_aggs h step = record {
+  closes : (x z : Collected) (y v : Doing) (fd : ℕ) (r : Reply) → ((f : ℕ) → (fd == f) ≡ false → uses_fd job v f ≡ false → uses_fd job y f ≡ false) → ((b : ℕ) → uses_agg z v b ≡ false → uses_agg x y b ≡ false)
+      → Had x y → StepsTo m (event.Call d (call.Close fd)) r n → HasJust n d fds aggs job z v
+  closes x z y v fd r fewer_fds fewer_aggs h step = record {
     no_fd = λ f given un. after_shut fd f r step (λ differ. h.no_fd f given (fewer_fds f differ un));
     no_agg = λ b given un. after_close fd b r step (h.no_agg b given (fewer_aggs b un));
   }
 
-  -- bytes are made by a phase that uses the output alone
-  made : (x : Doing) (bytes : List ℕ) (begun : ℕ) (r : Reply) → ((f : ℕ) → (job.fd == f) ≡ false → uses_fd job x f ≡ false) → ((b : ℕ) → uses_agg x b ≡ false)
-      → Had x → StepsTo m (event.Call d (call.AggMake bytes)) r n → HasTo (told_made begun r)
-  made x bytes begun (reply.Agg a) output none h step = record {
-    no_fd = λ f given un. free_make m n d f bytes (reply.Agg a) step (h.no_fd f given (output f un));
-    no_agg = λ b given un. absent (call.AggMake bytes) (reply.Agg a) b step (both_false (d == d) (a == b) un) (h.no_agg b given (none b));
-  }
-  made x bytes begun r output none h step = tt
-
-  cuts : (a from to begun : ℕ) (r : Reply) → Had (doing.Cuts a from to) → StepsTo m (event.Call d (call.AggCut a from to)) r n → HasTo (told_cut a begun r)
-  cuts a from to begun (reply.Agg c) h step = record {
-    no_fd = λ f given un. free_cut m n d f a from to (reply.Agg c) step (h.no_fd f given un);
-    no_agg = λ b given un. absent (call.AggCut a from to) (reply.Agg c) b step (both_false (d == d) (c == b) (right_of (a == b) (c == b) un)) (h.no_agg b given (left_of (a == b) (c == b) un));
-  }
-  cuts a from to begun r h step = tt
-
-  writes : (a len begun : ℕ) (r : Reply) → Had (doing.Writes a) → StepsTo m (event.Call d (call.IolWrite job.fd a)) r n → HasTo (told_written a len begun r)
-  writes a len begun (reply.Count k) h step = by (k == len)
+  -- a text is made of what is collected: whichever phase is next uses it, and what was collected
+  weaves : (y : Doing) (begun : ℕ) (x : Collected) (a : ℕ) → ((f : ℕ) → fds f ≡ false → (job.fd == f) ≡ false → descriptor n d f ≡ None)
+      → ((b : ℕ) → aggs b ≡ false → (a == b) ≡ false → is_one x.held b ≡ false → is_one x.next b ≡ false → lent_at n d b ≡ None) → HasTo (Some (weave_on begun x a))
+  weaves y begun x a no_fd none = by x.held refl (last_place x.places)
     where
-      by : (t : Bool) → HasJust n d fds aggs job (if t then doing.Drops a else doing.Cuts a k len)
+      by : (h : Option ℕ) → x.held ≡ h → (o : Option Place) → HasTo (Some (weave_by h o begun x a))
+      by None is o = record {
+        no_fd = no_fd;
+        no_agg = λ b given un. (let k = or_parts (a == b) (is_one x.held b || is_one x.next b) un in let l = or_parts (is_one x.held b) (is_one x.next b) k.1 in none b given k.0 l.0 l.1);
+      }
+      by (Some held) is None = record {
+        no_fd = no_fd;
+        no_agg = λ b given un. (let k = or_parts (held == b) ((a == b) || is_one x.next b) un in let l = or_parts (a == b) (is_one x.next b) k.1 in
+            none b given l.0 (ap (λ (o : Option ℕ). is_one o b) is ∙ k.0) l.1);
+      }
+      by (Some held) is (Some place) = record {
+        no_fd = no_fd;
+        no_agg = λ b given un. (let k = or_parts (held == b) ((a == b) || is_one x.next b) un in let l = or_parts (a == b) (is_one x.next b) k.1 in
+            none b given l.0 (ap (λ (o : Option ℕ). is_one o b) is ∙ k.0) l.1);
+      }
+
+  made : (begun : ℕ) (x : Collected) (r : Reply) → Had x doing.Runs → StepsTo m (event.Call d (call.AggMake x.text)) r n → HasTo (told_made x begun r)
+  made begun x (reply.Agg a) h step = weaves doing.Runs begun (without_text x) a (λ f given un. free_make m n d f x.text (reply.Agg a) step (h.no_fd f given un))
+      (λ b given new held next. absent (call.AggMake x.text) (reply.Agg a) b step (both_false (d == d) (a == b) new) (h.no_agg b given (either_false (is_one x.held b) (is_one x.next b) held next)))
+  made begun x r h step = tt
+
+  parted : (x : Collected) (held a from begun : ℕ) (r : Reply) → Had x (doing.CuttingPart held a from) → StepsTo m (event.Call d (call.AggSplit held from)) r n → HasTo (told_parted x a begun r)
+  parted x held a from begun (reply.Aggs front part) h step = record {
+    no_fd = λ f given un. free_split m n d f held from (reply.Aggs front part) step (h.no_fd f given un);
+    no_agg = λ b given un. (let k = or_parts (a == b) ((part == b) || ((front == b) || is_one x.next b)) un in
+        let l = or_parts (part == b) ((front == b) || is_one x.next b) k.1 in
+        let o = or_parts (front == b) (is_one x.next b) l.1 in
+        after_split held from front part b step (either_false (front == b) (part == b) o.0 l.0)
+        (λ differ. h.no_agg b given (either_false (held == b) ((a == b) || is_one x.next b) differ (either_false (a == b) (is_one x.next b) k.0 o.1))));
+  }
+  parted x held a from begun r h step = tt
+
+  replaced : (x : Collected) (a part at begun : ℕ) (r : Reply) → Had x (doing.ReplacingPart a part at) → StepsTo m (event.Call d (call.AggReplace a at at part)) r n → HasTo (told_replaced x a part begun r)
+  replaced x a part at begun (reply.Agg made) h step = record {
+    no_fd = λ f given un. free_replace m n d f a at at part (reply.Agg made) step (h.no_fd f given un);
+    no_agg = λ b given un. (let k = or_parts (a == b) ((part == b) || ((made == b) || (is_one x.held b || is_one x.next b))) un in
+        let l = or_parts (part == b) ((made == b) || (is_one x.held b || is_one x.next b)) k.1 in
+        let o = or_parts (made == b) (is_one x.held b || is_one x.next b) l.1 in
+        absent (call.AggReplace a at at part) (reply.Agg made) b step (both_false (d == d) (made == b) o.0)
+        (h.no_agg b given (either_false (a == b) ((part == b) || (is_one x.held b || is_one x.next b)) k.0 (either_false (part == b) (is_one x.held b || is_one x.next b) l.0 o.1))));
+  }
+  replaced x a part at begun r h step = tt
+
+  joined : (x : Collected) (held a from len begun : ℕ) (r : Reply) → Had x (doing.JoiningFile held a from len) → StepsTo m (event.Call d (call.AggJoin held a)) r n → HasTo (told_joined x from len begun r)
+  joined x held a from len begun (reply.Agg c) h step = record {
+    no_fd = λ f given un. free_join m n d f held a (reply.Agg c) step (h.no_fd f given un);
+    no_agg = λ b given un. (let k = or_parts (c == b) (is_one x.next b) un in
+        after_join held a c b step k.0 (λ one two. h.no_agg b given (either_false (held == b) (a == b) one two)));
+  }
+  joined x held a from len begun r h step = tt
+
+  cuts : (x : Collected) (a from to begun : ℕ) (r : Reply) → Had x (doing.Cuts a from to) → StepsTo m (event.Call d (call.AggCut a from to)) r n → HasTo (told_cut x a begun r)
+  cuts x a from to begun (reply.Agg c) h step = record {
+    no_fd = λ f given un. free_cut m n d f a from to (reply.Agg c) step (h.no_fd f given un);
+    no_agg = λ b given un. (let k = or_parts (a == b) ((c == b) || (is_one x.held b || is_one x.next b)) un in
+        let l = or_parts (c == b) (is_one x.held b || is_one x.next b) k.1 in
+        absent (call.AggCut a from to) (reply.Agg c) b step (both_false (d == d) (c == b) l.0) (h.no_agg b given (either_false (a == b) (is_one x.held b || is_one x.next b) k.0 l.1)));
+  }
+  cuts x a from to begun r h step = tt
+
+  writes : (x : Collected) (a len begun : ℕ) (r : Reply) → Had x (doing.Writes a) → StepsTo m (event.Call d (call.IolWrite job.fd a)) r n → HasTo (told_written x a len begun r)
+  writes x a len begun (reply.Count k) h step = by (k == len)
+    where
+      by : (t : Bool) → HasJust n d fds aggs job x (if t then doing.Drops a else doing.Cuts a k len)
       by true = record {
         no_fd = λ f given un. free_write m n d job.fd f a (reply.Count k) step (h.no_fd f given un);
         no_agg = λ b given un. absent (call.IolWrite job.fd a) (reply.Count k) b step refl (h.no_agg b given un);
@@ -178,60 +267,112 @@ module _ (own : CallsServeTheirDomain) (why : RefusalsTellWhy) (come : Aggregate
         no_fd = λ f given un. free_write m n d job.fd f a (reply.Count k) step (h.no_fd f given un);
         no_agg = λ b given un. absent (call.IolWrite job.fd a) (reply.Count k) b step refl (h.no_agg b given un);
       }
-  writes a len begun (reply.Refused not_so.BrokenPipe) h step = unchanged (doing.Writes a) (doing.Breaks a) (λ f un. un) (λ b un. un) step.1 h
-  writes a len begun r h step = tt
+  writes x a len begun (reply.Refused not_so.BrokenPipe) h step = unchanged x x (doing.Writes a) (doing.Breaks a) (λ f un. un) (λ b un. un) step.1 h
+  writes x a len begun r h step = tt
 
-  reads : (file : ℕ) (u : Purpose) (begun : ℕ) (r : Reply) → Had (doing.Reads file u) → StepsTo m (event.Call d (call.IolRead file 16777216)) r n → HasTo (told_read (lent_at n d) file u begun r)
-  reads file u begun (reply.Agg a) h step = by u
+  reads : (x : Collected) (file : ℕ) (u : Purpose) (begun : ℕ) (r : Reply) → Had x (doing.Reads file u) → StepsTo m (event.Call d (call.IolRead file 16777216)) r n → HasTo (told_read (lent_at n d) x file u begun r)
+  reads x file u begun (reply.Agg a) h step = by u
     where
-      by : (v : Purpose) → HasJust n d fds aggs job (got (lent_at n d) file a v)
-      by purpose.Cat = record {
-        no_fd = λ f given un. free_read m n d file f 16777216 (reply.Agg a) step (h.no_fd f given un);
-        no_agg = λ b given un. absent (call.IolRead file 16777216) (reply.Agg a) b step (both_false (d == d) (a == b) un) (h.no_agg b given refl);
-      }
-      by purpose.Wc = record {
-        no_fd = λ f given un. free_read m n d file f 16777216 (reply.Agg a) step (h.no_fd f given un);
-        no_agg = λ b given un. absent (call.IolRead file 16777216) (reply.Agg a) b step (both_false (d == d) (a == b) un) (h.no_agg b given refl);
-      }
-  reads file u begun (reply.Refused x) h step = unchanged (doing.Reads file u) _ (λ f un. un) (λ b un. refl) step.1 h
-  reads file u begun r h step = tt
+      none : (b : ℕ) → aggs b ≡ false → ((a == b) || is_one x.held b) ≡ false → lent_at n d b ≡ None
+      none b given un = (let k = or_parts (a == b) (is_one x.held b) un in absent (call.IolRead file 16777216) (reply.Agg a) b step (both_false (d == d) (a == b) k.0) (h.no_agg b given k.1))
 
-  opens : (u : Purpose) (name : List ℕ) (begun : ℕ) (r : Reply) → Had doing.Runs → StepsTo m (event.Call d (call.OpenFile name Read)) r n → HasTo (told_opened u begun r)
-  opens u name begun (reply.Fd g) h step = record {
+      by : (v : Purpose) → HasJust n d fds aggs job x (got (lent_at n d) file a v)
+      by purpose.Cat = record { no_fd = λ f given un. free_read m n d file f 16777216 (reply.Agg a) step (h.no_fd f given un); no_agg = none }
+      by purpose.Wc = record { no_fd = λ f given un. free_read m n d file f 16777216 (reply.Agg a) step (h.no_fd f given un); no_agg = none }
+  reads x file u begun (reply.Refused y) h step = unchanged x x (doing.Reads file u) _ (λ f un. un) (λ b un. un) step.1 h
+  reads x file u begun r h step = tt
+
+  -- a line is begun: no file waits behind what is collected
+  abbrev NoNext : Collected → Type 0
+  NoNext x = x.next ≡ None
+
+  opens : (x : Collected) (u : Purpose) (name : List ℕ) (begun : ℕ) (r : Reply) → NoNext x → Had x doing.Runs → StepsTo m (event.Call d (call.OpenFile name Read)) r n → HasTo (told_opened x u begun r)
+  opens x u name begun (reply.Fd g) none h step = record {
     no_fd = λ f given un. free_open m n d f g name Read step (apart g f (right_of (job.fd == f) (g == f) un)) (h.no_fd f given (left_of (job.fd == f) (g == f) un));
-    no_agg = λ b given un. absent (call.OpenFile name Read) (reply.Fd g) b step refl (h.no_agg b given refl);
+    no_agg = λ b given un. absent (call.OpenFile name Read) (reply.Fd g) b step refl (h.no_agg b given (either_false (is_one x.held b) (is_one x.next b) un (ap (λ (o : Option ℕ). is_one o b) none)));
   }
-  opens u name begun (reply.Refused x) h step = unchanged doing.Runs _ (λ f un. un) (λ b un. refl) step.1 h
-  opens u name begun r h step = tt
+  opens x u name begun (reply.Refused y) none h step = unchanged x _ doing.Runs doing.Runs (λ f un. un) (λ b un. un) step.1 h
+  opens x u name begun r none h step = tt
 
-  begins : (begun : ℕ) (l : Option Line) (r : Reply) → Had doing.Runs → StepsTo m (event.Call d (next_call job l)) r n → HasTo (told_next l begun r)
-  begins begun None r h step = closes doing.Runs doing.Waits job.fd r (λ f differ un. differ) (λ b un. refl) h step
-  begins begun (Some (line.Cat name)) r h step = opens purpose.Cat name (begun + 1) r h step
-  begins begun (Some (line.Wc name)) r h step = opens purpose.Wc name (begun + 1) r h step
-  begins begun (Some line.Pause) r h step = record {
+  collects : (x : Collected) (said : List ℕ) (begun : ℕ) (r : Reply) → Had x doing.Runs → StepsTo m (event.Call d (call.SetPool 3)) r n → HasTo (Some (at_step doing.Runs begun (with_text x said)))
+  collects x said begun r h step = record {
     no_fd = λ f given un. free_set_pool m n d f 3 r step (h.no_fd f given un);
-    no_agg = λ b given un. after_set_pool 3 b r step (h.no_agg b given refl);
+    no_agg = λ b given un. after_set_pool 3 b r step (h.no_agg b given un);
   }
-  begins begun o r h step = made doing.Runs _ (begun + 1) r (λ f un. un) (λ b. refl) h step
 
-  by_doing : (begun : ℕ) (x : Doing) (r : Reply) → Had x → StepsTo m (event.Call d (call_at job (at_step x begun))) r n → HasTo (told job (at_step x begun) (lent_at n d) r)
-  by_doing begun doing.Waits r h step = tt
-  by_doing begun doing.Runs r h step = begins begun (slice_get job.lines begun) r h step
-  by_doing begun (doing.Reads file u) r h step = reads file u begun r h step
-  by_doing begun (doing.Says s) r h step = made (doing.Says s) _ begun r (λ f un. un) (λ b. refl) h step
-  by_doing begun (doing.Writes a) r h step = writes a (length (bytes_at (lent_at n d) a)) begun r h step
-  by_doing begun (doing.Cuts a from to) r h step = cuts a from to begun r h step
-  by_doing begun (doing.Skips a) r h step = drops (doing.Skips a) doing.Waits a r (λ f un. un) (λ b differ un. differ) h step
-  by_doing begun (doing.Counted file a s) r h step = drops (doing.Counted file a s) (doing.ShutsToSay file s) a r (λ f un. un) (λ b differ un. differ) h step
-  by_doing begun (doing.Drops a) r h step = drops (doing.Drops a) doing.Runs a r (λ f un. un) (λ b differ un. differ) h step
-  by_doing begun (doing.Breaks a) r h step = drops (doing.Breaks a) doing.Runs a r (λ f un. un) (λ b differ un. differ) h step
-  by_doing begun (doing.Swaps a c) r h step = drops (doing.Swaps a c) (doing.Writes c) a r (λ f un. un) (λ b differ un. either_false (a == b) (c == b) differ un) h step
-  by_doing begun (doing.Shuts file a) r h step = closes (doing.Shuts file a) (doing.Writes a) file r (λ f differ un. either_false (job.fd == f) (file == f) un differ) (λ b un. un) h step
-  by_doing begun (doing.ShutsToSay file s) r h step = closes (doing.ShutsToSay file s) (doing.Says s) file r (λ f differ un. either_false (job.fd == f) (file == f) un differ) (λ b un. refl) h step
+  begins : (x : Collected) (begun : ℕ) (l : Option Line) (r : Reply) → is_due x l ≡ false → Had x doing.Runs → StepsTo m (event.Call d (next_call job l)) r n → HasTo (told_next job x l begun r)
+  begins x begun None r due h step = closes x x doing.Runs doing.Waits job.fd r (λ f differ un. differ)
+      (λ b un. (let empty = nothing_is x (not_not (is_nothing x) due) in either_false (is_one x.held b) (is_one x.next b) (ap (λ (o : Option ℕ). is_one o b) empty.held) (ap (λ (o : Option ℕ). is_one o b) empty.next))) h step
+  begins x begun (Some (line.Cat name)) r due h step = opens x purpose.Cat name (begun + 1) r (none_next x due) h step
+  begins x begun (Some (line.Wc name)) r due h step = opens x purpose.Wc name (begun + 1) r (none_next x due) h step
+  begins x begun (Some (line.Emit text)) r due h step = collects x _ (begun + 1) r h step
+  begins x begun (Some line.Query) r due h step = collects x _ (begun + 1) r h step
+  begins x begun (Some line.Pause) r due h step = record {
+    no_fd = λ f given un. free_set_pool m n d f 3 r step (h.no_fd f given un);
+    no_agg = λ b given un. after_set_pool 3 b r step (h.no_agg b given un);
+  }
+
+  runs : (x : Collected) (begun : ℕ) (r : Reply) (t : Bool) → due_now job x begun ≡ t → Had x doing.Runs → StepsTo m (event.Call d (if t then call.AggMake x.text else next_call job (slice_get job.lines begun))) r n
+      → HasTo (if t then told_made x begun r else told_next job x (slice_get job.lines begun) begun r)
+  runs x begun r true due h step = made begun x r h step
+  runs x begun r false due h step = begins x begun (slice_get job.lines begun) r due h step
+
+  shuts : (x : Collected) (file a from len begun : ℕ) (r : Reply) → Had x (doing.Shuts file a) → StepsTo m (event.Call d (call.Close file)) r n → HasTo (shut_by x from a len begun)
+  shuts x file a from len begun r h step = by x.held refl (nat_le len 4096) (is_nothing x)
+    where
+      to : (z : Collected) (v : Doing) → ((f : ℕ) → uses_fd job v f ≡ false → (job.fd == f) ≡ false) → ((b : ℕ) → uses_agg z v b ≡ false → ((a == b) || is_one x.held b) ≡ false) → HasJust n d fds aggs job z v
+      to z v fewer_fds fewer = closes x z (doing.Shuts file a) v file r (λ f differ un. either_false (job.fd == f) (file == f) (fewer_fds f un) differ) fewer h step
+
+      by : (o : Option ℕ) → x.held ≡ o → (t u : Bool) → HasTo (if t then file_collected x o from a len begun
+          else (if u then Some (at_step (doing.Writes a) begun x) else Some (at_step doing.Runs begun (with_next x a))))
+      by None is true u = to (with_file x a 0 len) doing.Runs (λ f un. un)
+          (λ b un. (let k = or_parts (a == b) (is_one x.next b) un in either_false (a == b) (is_one x.held b) k.0 (ap (λ (o : Option ℕ). is_one o b) is)))
+      by (Some held) is true u = to x (doing.JoiningFile held a from len) (λ f un. un)
+          (λ b un. (let k = or_parts (held == b) (a == b) un in either_false (a == b) (is_one x.held b) k.1 (ap (λ (o : Option ℕ). is_one o b) is ∙ k.0)))
+      by o is false true = to x (doing.Writes a) (λ f un. un)
+          (λ b un. (let k = or_parts (a == b) (is_one x.held b || is_one x.next b) un in either_false (a == b) (is_one x.held b) k.0 (or_parts (is_one x.held b) (is_one x.next b) k.1).0))
+      by o is false false = to (with_next x a) doing.Runs (λ f un. un)
+          (λ b un. (let k = or_parts (is_one x.held b) (a == b) un in either_false (a == b) (is_one x.held b) k.1 k.0))
+
+  -- of what waits behind it
+  next_used : (x : Collected) (o : Option ℕ) (a b : ℕ) → x.next ≡ o → is_one x.held b ≡ false → is_one o b ≡ false → (is_one x.held b || is_one x.next b) ≡ false
+  next_used x o a b is held next = either_false (is_one x.held b) (is_one x.next b) held (ap (λ (p : Option ℕ). is_one p b) is ∙ next)
+
+  dropped_on : (x : Collected) (a begun : ℕ) (r : Reply) (o : Option ℕ) → x.next ≡ o → Had x (doing.Drops a) → StepsTo m (event.Call d (call.AggDrop a)) r n → HasTo (told_dropped x o begun)
+  dropped_on x a begun r None is h step = drops x x (doing.Drops a) doing.Runs a r (λ f un. un) (λ b differ un. either_false (a == b) (is_one x.held b || is_one x.next b) differ un) h step
+  dropped_on x a begun r (Some c) is h step = drops x (without_next x) (doing.Drops a) (doing.Writes c) a r (λ f un. un)
+      (λ b differ un. (let k = or_parts (c == b) (is_one x.held b || false) un in either_false (a == b) (is_one x.held b || is_one x.next b) differ (next_used x (Some c) a b is (or_parts (is_one x.held b) false k.1).0 k.0))) h step
+
+  broken_on : (x : Collected) (a begun : ℕ) (r : Reply) (o : Option ℕ) → x.next ≡ o → Had x (doing.Breaks a) → StepsTo m (event.Call d (call.AggDrop a)) r n → HasTo (told_broken job x o begun)
+  broken_on x a begun r None is h step = drops x x (doing.Breaks a) doing.Runs a r (λ f un. un) (λ b differ un. either_false (a == b) (is_one x.held b || is_one x.next b) differ un) h step
+  broken_on x a begun r (Some c) is h step = drops x (without_next x) (doing.Breaks a) (doing.Breaks c) a r (λ f un. un)
+      (λ b differ un. (let k = or_parts (c == b) (is_one x.held b || false) un in either_false (a == b) (is_one x.held b || is_one x.next b) differ (next_used x (Some c) a b is (or_parts (is_one x.held b) false k.1).0 k.0))) h step
+
+  by_doing : (begun : ℕ) (x : Collected) (y : Doing) (r : Reply) → Had x y → StepsTo m (event.Call d (call_at job (at_step y begun x))) r n → HasTo (told job (at_step y begun x) (lent_at n d) r)
+  by_doing begun x doing.Waits r h step = tt
+  by_doing begun x doing.Runs r h step = runs x begun r (due_now job x begun) refl h step
+  by_doing begun x (doing.Reads file u) r h step = reads x file u begun r h step
+  by_doing begun x (doing.JoiningFile held a from len) r h step = joined x held a from len begun r h step
+  by_doing begun x (doing.CuttingPart held a from) r h step = parted x held a from begun r h step
+  by_doing begun x (doing.ReplacingPart a part at) r h step = replaced x a part at begun r h step
+  by_doing begun x (doing.DroppingText a part made) r h step = drops x x (doing.DroppingText a part made) (doing.DroppingPart part made) a r (λ f un. un)
+      (λ b differ un. either_false (a == b) ((part == b) || ((made == b) || (is_one x.held b || is_one x.next b))) differ un) h step
+  by_doing begun x (doing.DroppingPart part made) r h step = weaves (doing.DroppingPart part made) begun x made (λ f given un. free_drop m n d f part r step (h.no_fd f given un))
+      (λ b given new held next. after_drop part b r step (λ differ. h.no_agg b given (either_false (part == b) ((made == b) || (is_one x.held b || is_one x.next b)) differ
+      (either_false (made == b) (is_one x.held b || is_one x.next b) new (either_false (is_one x.held b) (is_one x.next b) held next)))))
+  by_doing begun x (doing.Writes a) r h step = writes x a (length (bytes_at (lent_at n d) a)) begun r h step
+  by_doing begun x (doing.Cuts a from to) r h step = cuts x a from to begun r h step
+  by_doing begun x (doing.Skips a) r h step = drops x x (doing.Skips a) doing.Waits a r (λ f un. un) (λ b differ un. differ) h step
+  by_doing begun x (doing.Counted file a s) r h step = drops x x (doing.Counted file a s) (doing.ShutsToSay file s) a r (λ f un. un) (λ b differ un. either_false (a == b) (is_one x.held b) differ un) h step
+  by_doing begun x (doing.Drops a) r h step = dropped_on x a begun r x.next refl h step
+  by_doing begun x (doing.Breaks a) r h step = broken_on x a begun r x.next refl h step
+  by_doing begun x (doing.Swaps a c) r h step = drops x x (doing.Swaps a c) (doing.Writes c) a r (λ f un. un) (λ b differ un. either_false (a == b) ((c == b) || (is_one x.held b || is_one x.next b)) differ un) h step
+  by_doing begun x (doing.Shuts file a) r h step = shuts x file a (length (bytes_of_one (lent_at n d) x.held)) (length (bytes_at (lent_at n d) a)) begun r h step
+  by_doing begun x (doing.ShutsToSay file s) r h step = closes x _ (doing.ShutsToSay file s) doing.Runs file r (λ f differ un. either_false (job.fd == f) (file == f) un differ) (λ b un. (or_parts (is_one x.held b) (is_one x.next b) un).0) h step
 
 pub call_keeps : CallsServeTheirDomain → RefusalsTellWhy → AggregatesComeAndGo → (m n : State) (d : ℕ) (fds aggs : ℕ → Bool) (job : Task) (step next : Step) (r : Reply) → IsOrderly m
-    → is_live m d ≡ true → HasJust m d fds aggs job step.doing → StepsTo m (event.Call d (call_at job step)) r n
-    → told job step (lent_at n d) r ≡ Some next → HasJust n d fds aggs job next.doing
+    → is_live m d ≡ true → HasJust m d fds aggs job step.piece step.doing → StepsTo m (event.Call d (call_at job step)) r n
+    → told job step (lent_at n d) r ≡ Some next → HasJust n d fds aggs job next.piece next.doing
 call_keeps own why come m n d fds aggs job step next r order live h did is =
-    let kept = by_doing own why come m n d fds aggs job order live step.begun step.doing r h did in
+    let kept = by_doing own why come m n d fds aggs job order live step.begun step.piece step.doing r h did in
     subst (λ (s : Option Step). HasTo own why come m n d fds aggs job order live s) is kept

@@ -130,5 +130,5 @@ waiting_is_empty why m by j w last h waits goes opened = why.pipe_is_empty m m b
   where
     stuck : (s : Standing) → is_over s ≡ false → IsStuck m by w last s → StepsTo m (event.Call by (call.IolRead 0 65536)) (reply.Refused WouldBlock) m
     stuck standing.Over goes h = absurd (cc)
-    stuck standing.Asks goes h = subst (λ (d : Doing). StepsTo m (event.Call by (doing_call w.job w.step.begun d)) (reply.Refused WouldBlock) m) waits h
-    stuck standing.Asked goes h = subst (λ (d : Doing). StepsTo m (event.Call by (doing_call w.job w.step.begun d)) (reply.Refused WouldBlock) m) waits h.0
+    stuck standing.Asks goes h = subst (λ (d : Doing). StepsTo m (event.Call by (doing_call w.job w.step.piece w.step.begun d)) (reply.Refused WouldBlock) m) waits h
+    stuck standing.Asked goes h = subst (λ (d : Doing). StepsTo m (event.Call by (doing_call w.job w.step.piece w.step.begun d)) (reply.Refused WouldBlock) m) waits h.0

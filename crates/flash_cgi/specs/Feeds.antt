@@ -1,5 +1,5 @@
 -- What a running script is still to put out: what waits in its pipe, and what its worker is still to write.
-use Rattle.std.specs.Prelude.{◌≡◌, ◌≢◌, ◌⊎◌, ℕ, true, false, List, [], ◌∷◌, ◌++◌, length, drop, Option, Some, None, slice_get}
+use Rattle.std.specs.Prelude.{◌≡◌, ◌≢◌, ◌⊎◌, ℕ, Bool, true, false, List, [], ◌∷◌, ◌++◌, length, take, drop, Option, Some, None, slice_get}
 use Rattle.iol_core.specs.Text.{bytes_of}
 use Rattle.iol_core.specs.State.{State, descriptor, pipe_at, file, may_read, is_live}
 use Rattle.iol_core.specs.Run.{StepsTo}
@@ -10,9 +10,11 @@ use Rattle.iol_core.specs.declared.events.Reply.{Reply}
 use Rattle.iol_core.specs.declared.events.Reply.TheVariants as reply
 use Rattle.iol_laws.specs.Caller.{lent_at, ClosesWriteEnd}
 use Rattle.iol_laws.specs.Order.{IsOrderly}
+use Rattle.flash_cgi.specs.Collecting.{Collected, collected, collected_in, without_last}
 use Rattle.flash_cgi.specs.Job.{Task}
 use Rattle.flash_cgi.specs.Output.{Outcome, Found, Failed, output, by_first, cat_of, wc_of}
-use Rattle.flash_cgi.specs.WorkerSteps.{said_text, bytes_at, call_at, told}
+use Rattle.flash_cgi.specs.Pieces.{HoldsAt}
+use Rattle.flash_cgi.specs.WorkerSteps.{said_text, bytes_at, call_at, due_now, told}
 use Rattle.flash_cgi.specs.declared.line.Line.{Line}
 use Rattle.flash_cgi.specs.declared.line.Line.TheVariants as line
 use Rattle.flash_cgi.specs.declared.phase.Purpose.{Purpose}
@@ -31,24 +33,41 @@ put_out purpose.Wc o = wc_of o
 abbrev pub rest_of : Task → (begun : ℕ) → List Outcome → List ℕ
 rest_of job begun os = output job.query (drop begun job.lines) os
 
-abbrev pub still_doing : Task → (begun : ℕ) → (ℕ → Option (List ℕ)) → Doing → List Outcome → List ℕ
-still_doing job begun lent doing.Waits os = []
-still_doing job begun lent (doing.Skips agg) os = []
-still_doing job begun lent (doing.Breaks agg) os = []
-still_doing job begun lent doing.Runs os = rest_of job begun os
-still_doing job begun lent (doing.Drops agg) os = rest_of job begun os
-still_doing job begun lent (doing.Reads file p) os = by_first (put_out p) (rest_of job begun) os
-still_doing job begun lent (doing.Counted file agg s) os = said_text s ++ rest_of job begun os
-still_doing job begun lent (doing.ShutsToSay file s) os = said_text s ++ rest_of job begun os
-still_doing job begun lent (doing.Says s) os = said_text s ++ rest_of job begun os
-still_doing job begun lent (doing.Shuts file agg) os = bytes_at lent agg ++ rest_of job begun os
-still_doing job begun lent (doing.Writes agg) os = bytes_at lent agg ++ rest_of job begun os
-still_doing job begun lent (doing.Cuts agg from to) os = drop from (bytes_at lent agg) ++ rest_of job begun os
-still_doing job begun lent (doing.Swaps agg rest) os = bytes_at lent rest ++ rest_of job begun os
+-- what is collected, and then these
+abbrev pub then_rest : Task → (begun : ℕ) → (ℕ → Option (List ℕ)) → Collected → List Outcome → List ℕ
+then_rest job begun lent x os = collected lent x ++ rest_of job begun os
+
+-- the text with these bytes at this place
+abbrev pub set_in : (text : List ℕ) → (at : ℕ) → (bytes : List ℕ) → List ℕ
+set_in text at bytes = take at text ++ (bytes ++ drop at text)
+
+abbrev pub still_doing : Task → (begun : ℕ) → (ℕ → Option (List ℕ)) → Collected → Doing → List Outcome → List ℕ
+still_doing job begun lent x doing.Waits os = []
+still_doing job begun lent x (doing.Skips agg) os = []
+still_doing job begun lent x (doing.Breaks agg) os = []
+still_doing job begun lent x doing.Runs os = then_rest job begun lent x os
+still_doing job begun lent x (doing.Drops agg) os = then_rest job begun lent x os
+still_doing job begun lent x (doing.Reads file p) os = collected lent x ++ by_first (put_out p) (rest_of job begun) os
+still_doing job begun lent x (doing.Counted file agg s) os = collected lent x ++ (said_text s ++ rest_of job begun os)
+still_doing job begun lent x (doing.ShutsToSay file s) os = collected lent x ++ (said_text s ++ rest_of job begun os)
+still_doing job begun lent x (doing.Shuts file agg) os = collected lent x ++ (bytes_at lent agg ++ rest_of job begun os)
+still_doing job begun lent x (doing.JoiningFile held agg from len) os =
+    collected lent x ++ (bytes_at lent agg ++ rest_of job begun os)
+still_doing job begun lent x (doing.CuttingPart held agg from) os =
+    collected_in lent (bytes_at lent agg) x ++ rest_of job begun os
+still_doing job begun lent x (doing.ReplacingPart agg part at) os =
+    collected_in lent (set_in (bytes_at lent agg) at (bytes_at lent part)) (without_last x) ++ rest_of job begun os
+still_doing job begun lent x (doing.DroppingText agg part made) os =
+    collected_in lent (bytes_at lent made) x ++ rest_of job begun os
+still_doing job begun lent x (doing.DroppingPart part made) os =
+    collected_in lent (bytes_at lent made) x ++ rest_of job begun os
+still_doing job begun lent x (doing.Writes agg) os = bytes_at lent agg ++ then_rest job begun lent x os
+still_doing job begun lent x (doing.Cuts agg from to) os = drop from (bytes_at lent agg) ++ then_rest job begun lent x os
+still_doing job begun lent x (doing.Swaps agg rest) os = bytes_at lent rest ++ then_rest job begun lent x os
 
 -- where the files that are still to be read have these outcomes
 abbrev pub still : Task → (ℕ → Option (List ℕ)) → Step → List Outcome → List ℕ
-still job lent step os = still_doing job step.begun lent step.doing os
+still job lent step os = still_doing job step.begun lent step.piece step.doing os
 
 -- ---- what it needs of the machine
 
@@ -71,7 +90,11 @@ Needs m d doing.Waits = ⊥
 Needs m d (doing.Skips agg) = ⊥
 Needs m d (doing.Breaks agg) = ⊥
 Needs m d doing.Runs = Unit {0}
-Needs m d (doing.Says s) = Unit {0}
+Needs m d (doing.JoiningFile held agg from len) = Unit {0}
+Needs m d (doing.CuttingPart held agg from) = Unit {0}
+Needs m d (doing.ReplacingPart agg part at) = Unit {0}
+Needs m d (doing.DroppingText agg part made) = Unit {0}
+Needs m d (doing.DroppingPart part made) = Unit {0}
 Needs m d (doing.Drops agg) = HasBytes m d agg
 Needs m d (doing.Reads file p) = IsOpenFile m d file
 Needs m d (doing.ShutsToSay file s) = IsFileOpen m d file
@@ -87,6 +110,7 @@ pub record Feeds (m : State) (d p : ℕ) (job : Task) (step : Step) (unseen : Li
   pub live : is_live m d ≡ true
   pub open_on : descriptor m d job.fd ≡ Some (on.WriteEnd p)
   pub needs : Needs m d step.doing
+  pub holds : HoldsAt (lent_at m d) step.piece step.doing
   pub is : (os : List Outcome) → unseen os ≡ bytes_of (pipe_at m p).queue ++ still job (lent_at m d) step os
 
 -- ---- its own calls
@@ -104,14 +128,19 @@ abbrev pub settled_read : (ℕ → Option (List ℕ)) → Reply → List Outcome
 settled_read lent (reply.Agg agg) = Found (bytes_at lent agg) ∷ []
 settled_read lent r = failed r
 
-abbrev pub settled_doing : Task → (begun : ℕ) → (ℕ → Option (List ℕ)) → Doing → Reply → List Outcome
-settled_doing job begun lent doing.Runs r = settled_open (slice_get job.lines begun) r
-settled_doing job begun lent (doing.Reads file p) r = settled_read lent r
-settled_doing job begun lent d r = []
+-- to make what is collected settles none
+abbrev pub settled_begun : (due : Bool) → Option Line → Reply → List Outcome
+settled_begun true l r = []
+settled_begun false l r = settled_open l r
+
+abbrev pub settled_doing : Task → Collected → (begun : ℕ) → (ℕ → Option (List ℕ)) → Doing → Reply → List Outcome
+settled_doing job x begun lent doing.Runs r = settled_begun (due_now job x begun) (slice_get job.lines begun) r
+settled_doing job x begun lent (doing.Reads file p) r = settled_read lent r
+settled_doing job x begun lent d r = []
 
 -- the outcome that a reply settles, if it does
 abbrev pub settled : Task → Step → (ℕ → Option (List ℕ)) → Reply → List Outcome
-settled job step lent r = settled_doing job step.begun lent step.doing r
+settled job step lent r = settled_doing job step.piece step.begun lent step.doing r
 
 -- the script is over: all of its output was written, and the pipe's write end is closed
 pub record Ends (m : State) (d p : ℕ) (unseen : List Outcome → List ℕ) (r : Reply) (next : Step) (n : State) : Type 0 where

@@ -9,9 +9,9 @@ use Rattle.iol_core.specs.declared.events.Call.TheVariants as call
 use Rattle.iol_core.specs.declared.events.Event.TheVariants as event
 use Rattle.iol_core.specs.declared.events.Reply.TheVariants as reply
 use Rattle.iol_laws.specs.Caller.{lent_at, TakesFromPipe}
+use Rattle.flash_cgi.specs.Collecting.{nothing}
 use Rattle.flash_cgi.specs.Job.{Task, job_of, job_text}
 use Rattle.flash_cgi.specs.Script.{script_of}
-use Rattle.flash_cgi.specs.JoinedLines.{gathered}
 use Rattle.flash_cgi.specs.Output.{Outcome, output}
 use Rattle.flash_cgi.specs.Feeds.{Feeds}
 use Rattle.flash_cgi.specs.declared.line.Line.{Line}
@@ -34,12 +34,12 @@ pub record Begins (m : State) (d p : ℕ) (job : Task) (agg : ℕ) (unseen : Lis
   pub bytes : List ℕ
   pub lends : lent_at m d agg ≡ Some bytes
   pub is_job : job_of bytes ≡ Some job
-  pub feeds : Feeds m d p job (record { doing = doing.Drops agg; begun = 0 }) unseen
+  pub feeds : Feeds m d p job (record { doing = doing.Drops agg; begun = 0; piece = nothing }) unseen
 
--- The read of a job that waits gives just this job, its lines gathered, and all of the output of its lines is unseen yet.
+-- The read of a job that waits gives just this job, and all of the output of its lines is unseen yet.
 abbrev pub JobsAreTaken : Type 0
 JobsAreTaken = (m n : State) (d j p fd agg : ℕ) (query script : List ℕ) (lines : List Line)
     → HasJob m d j p fd query script lines
     → StepsTo m (event.Call d (call.IolRead 0 65536)) (reply.Agg agg) n → TakesFromPipe m d j 65536 agg n
-    → Begins n d p (record { fd = fd; query = query; lines = gathered query lines }) agg
+    → Begins n d p (record { fd = fd; query = query; lines = lines }) agg
     (λ os. bytes_of (pipe_at m p).queue ++ output query lines os)

@@ -1,10 +1,10 @@
 pub mod Beside
+pub mod Collecting
 pub mod Due
 pub mod PipeEnd
 pub mod Feeds
 pub mod Free
 pub mod Full
-pub mod JoinedLines
 pub mod Uses
 pub mod Job
 pub mod Laws
@@ -12,6 +12,8 @@ pub mod Frame
 pub mod Outcomes
 pub mod Output
 pub mod Script
+pub mod Reached
+pub mod Pieces
 pub mod OutputPools
 pub mod JobStart
 pub mod TakingTurns

@@ -1,7 +1,7 @@
 -- Where lies what a worker writes: in the pools of the files that it reads, and in its default pool.
 --
 -- Whoever may read these is never denied its output.
-use Rattle.std.specs.Prelude.{◌≡◌, ℕ, Bool, true, false, List, Some}
+use Rattle.std.specs.Prelude.{◌≡◌, ℕ, Bool, true, false, List, Option, Some, None}
 use Rattle.iol_core.specs.State.{State, descriptor, file, may_read, pipe_at, text}
 use Rattle.iol_core.specs.Calls.Files.{file_called}
 use Rattle.iol_core.specs.Positions.{ArePlaced}
@@ -17,6 +17,7 @@ use Rattle.iol_proc.specs.Turns.{SeatTurn}
 use Rattle.iol_proc.specs.World.{copying}
 use Rattle.iol_proc.specs.declared.seat.Seat.{Seat}
 use Rattle.flash_cgi.specs.Beside.{is_call_of}
+use Rattle.flash_cgi.specs.Collecting.{Collected}
 use Rattle.flash_cgi.specs.Output.{Outcome}
 use Rattle.flash_cgi.specs.Turns.{IsFree, RunsJob, step_of}
 use Rattle.flash_cgi.specs.Works.{worker_turns}
@@ -30,21 +31,40 @@ pub record HoldFiles (pools : ℕ → Bool) (m : State) (d : ℕ) : Type 0 where
       → pools (file m f).pool ≡ true
   pub pauses : pools 3 ≡ true
 
--- the file that it reads lies in them, or what it is to write
-abbrev pub LiesIn : (pools : ℕ → Bool) → State → (d : ℕ) → Doing → Type 0
-LiesIn pools m d (doing.Reads fd u) =
+abbrev pub OneLies : (pools : ℕ → Bool) → State → (d : ℕ) → Option ℕ → Type 0
+OneLies pools m d None = Unit {0}
+OneLies pools m d (Some a) = lie_in pools (text m d a) ≡ true
+
+-- what it has collected lies in them
+abbrev pub PieceLies : (pools : ℕ → Bool) → State → (d : ℕ) → Collected → Type 0
+PieceLies pools m d x = OneLies pools m d x.held × OneLies pools m d x.next
+
+-- so does the file that it reads, or what it is to write
+abbrev pub PhaseLies : (pools : ℕ → Bool) → State → (d : ℕ) → Doing → Type 0
+PhaseLies pools m d (doing.Reads fd u) =
     (f at : ℕ) (mode : Mode) → descriptor m d fd ≡ Some (on.File f at mode) → pools (file m f).pool ≡ true
-LiesIn pools m d (doing.Shuts fd a) = lie_in pools (text m d a) ≡ true
-LiesIn pools m d (doing.Writes a) = lie_in pools (text m d a) ≡ true
-LiesIn pools m d (doing.Cuts a from to) = lie_in pools (text m d a) ≡ true
-LiesIn pools m d (doing.Swaps a rest) = lie_in pools (text m d rest) ≡ true
-LiesIn pools m d x = Unit {0}
+PhaseLies pools m d (doing.Shuts fd a) = lie_in pools (text m d a) ≡ true
+PhaseLies pools m d (doing.JoiningFile held a from len) =
+    (lie_in pools (text m d held) ≡ true) × (lie_in pools (text m d a) ≡ true)
+PhaseLies pools m d (doing.CuttingPart held a from) = (lie_in pools (text m d held) ≡ true) × (lie_in pools (text m d a) ≡ true)
+PhaseLies pools m d (doing.ReplacingPart a part at) = (lie_in pools (text m d a) ≡ true) × (lie_in pools (text m d part) ≡ true)
+PhaseLies pools m d (doing.DroppingText a part made) = lie_in pools (text m d made) ≡ true
+PhaseLies pools m d (doing.DroppingPart part made) = lie_in pools (text m d made) ≡ true
+PhaseLies pools m d (doing.Writes a) = lie_in pools (text m d a) ≡ true
+PhaseLies pools m d (doing.Cuts a from to) = lie_in pools (text m d a) ≡ true
+PhaseLies pools m d (doing.Swaps a rest) = lie_in pools (text m d rest) ≡ true
+PhaseLies pools m d x = Unit {0}
+
+-- while it has a job
+abbrev pub LiesIn : (pools : ℕ → Bool) → State → (d : ℕ) → Collected → Doing → Type 0
+LiesIn pools m d x doing.Waits = Unit {0}
+LiesIn pools m d x y = PieceLies pools m d x × PhaseLies pools m d y
 
 -- so does what it wrote to pipe p, and what it will make
 pub record IsShown (pools : ℕ → Bool) (m : State) (p : ℕ) (seat : Seat Worker) : Type 0 where
   pub default : pools (default_pool m seat.by) ≡ true
   pub output : lie_in pools (pipe_at m p).queue ≡ true
-  pub lies : LiesIn pools m seat.by (step_of m seat).doing
+  pub lies : LiesIn pools m seat.by (step_of m seat).piece (step_of m seat).doing
 
 pub record OutputsAreShown : Type 0 where
   -- of a worker that is free, and a pipe to which nothing else was written

@@ -3,7 +3,7 @@ use Rattle.std.specs.Prelude.{◌≡◌, ◌<◌, ℕ, true, List, length, Optio
 use Rattle.iol_core.specs.declared.events.Reply.{Reply}
 use Rattle.iol_proc.specs.Quiet.{IsQuiet}
 use Rattle.iol_proc.specs.declared.process.Turn.{Turn}
-use Rattle.flash_cgi.specs.Wants.{WantsOn, WantsToFile, has_bytes}
+use Rattle.flash_cgi.specs.Wants.{WantsByReply, WantsOn, WantsToFile, has_bytes}
 use Rattle.flash_cgi.specs.WorkerSteps.{told}
 use Rattle.flash_cgi.specs.Works.{asks, files, goes_on, takes}
 use Rattle.flash_cgi.specs.declared.phase.Step.{Step}
@@ -29,6 +29,11 @@ StepsOn old next result new = TakesTurn (goes_on old next) (WantsOn old.job next
 -- the step that it is at after the reply to its call; none where the call is to be made again
 abbrev pub next_step : Worker → Reply → (ℕ → Option (List ℕ)) → Option Step
 next_step w last lent = told w.job w.step lent last
+
+-- it goes on by the reply
+abbrev pub GoesOnBy : {E : Type 0} → (old : Worker) → Reply → (ℕ → Option (List ℕ)) → Result Turn E → (new : Worker) → Type 0
+GoesOnBy old last lent result new =
+    TakesTurn (goes_on old (next_step old last lent)) (WantsByReply old last lent) old result new
 
 -- it takes this text, which came on its job pipe under this number
 abbrev pub TakesText : {E : Type 0} → (old : Worker) → (text : List ℕ) → (agg : ℕ) → Result Turn E → (new : Worker) → Type 0

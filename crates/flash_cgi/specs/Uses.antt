@@ -1,5 +1,5 @@
 -- What a worker has: what it uses for the call that it is at, and nothing else.
-use Rattle.std.specs.Prelude.{◌≡◌, ℕ, ◌==◌, ◌||◌, ◌&&◌, not, Bool, true, false, Some, None}
+use Rattle.std.specs.Prelude.{◌≡◌, ℕ, ◌==◌, ◌||◌, ◌&&◌, not, Bool, true, false, Option, Some, None}
 use Rattle.iol_core.specs.State.{State, descriptor, is_live}
 use Rattle.iol_core.specs.Run.{StepsTo}
 use Rattle.iol_core.specs.declared.events.Event.TheVariants as event
@@ -10,6 +10,7 @@ use Rattle.iol_laws.specs.Order.{IsOrderly}
 use Rattle.iol_proc.specs.Turns.{SeatTurn}
 use Rattle.iol_proc.specs.World.{copying}
 use Rattle.iol_proc.specs.declared.seat.Seat.{Seat}
+use Rattle.flash_cgi.specs.Collecting.{Collected}
 use Rattle.flash_cgi.specs.Job.{Task}
 use Rattle.flash_cgi.specs.Turns.{step_of}
 use Rattle.flash_cgi.specs.WorkerSteps.{call_at, told}
@@ -31,26 +32,38 @@ uses_fd job (doing.Shuts file agg) fd = (job.fd == fd) || (file == fd)
 uses_fd job (doing.ShutsToSay file s) fd = (job.fd == fd) || (file == fd)
 uses_fd job x fd = job.fd == fd
 
+abbrev pub is_one : Option ℕ → (agg : ℕ) → Bool
+is_one None a = false
+is_one (Some b) a = b == a
+
+-- whether it has collected this aggregate, of the bytes of files or of the one that is too long
+abbrev pub has_collected : Collected → (agg : ℕ) → Bool
+has_collected x a = is_one x.held a || is_one x.next a
+
 -- whether it uses this aggregate
-abbrev pub uses_agg : Doing → (agg : ℕ) → Bool
-uses_agg doing.Waits a = false
-uses_agg doing.Runs a = false
-uses_agg (doing.Reads file p) a = false
-uses_agg (doing.ShutsToSay file s) a = false
-uses_agg (doing.Says s) a = false
-uses_agg (doing.Skips agg) a = agg == a
-uses_agg (doing.Counted file agg s) a = agg == a
-uses_agg (doing.Shuts file agg) a = agg == a
-uses_agg (doing.Writes agg) a = agg == a
-uses_agg (doing.Cuts agg from to) a = agg == a
-uses_agg (doing.Drops agg) a = agg == a
-uses_agg (doing.Breaks agg) a = agg == a
-uses_agg (doing.Swaps agg rest) a = (agg == a) || (rest == a)
+abbrev pub uses_agg : Collected → Doing → (agg : ℕ) → Bool
+uses_agg x doing.Waits a = false
+uses_agg x (doing.Skips agg) a = agg == a
+uses_agg x doing.Runs a = has_collected x a
+uses_agg x (doing.Reads file p) a = is_one x.held a
+uses_agg x (doing.ShutsToSay file s) a = is_one x.held a
+uses_agg x (doing.Counted file agg s) a = (agg == a) || is_one x.held a
+uses_agg x (doing.Shuts file agg) a = (agg == a) || is_one x.held a
+uses_agg x (doing.JoiningFile held agg from len) a = (held == a) || (agg == a)
+uses_agg x (doing.CuttingPart held agg from) a = (held == a) || ((agg == a) || is_one x.next a)
+uses_agg x (doing.ReplacingPart agg part at) a = (agg == a) || ((part == a) || has_collected x a)
+uses_agg x (doing.DroppingText agg part made) a = (agg == a) || ((part == a) || ((made == a) || has_collected x a))
+uses_agg x (doing.DroppingPart part made) a = (part == a) || ((made == a) || has_collected x a)
+uses_agg x (doing.Writes agg) a = (agg == a) || has_collected x a
+uses_agg x (doing.Cuts agg from to) a = (agg == a) || has_collected x a
+uses_agg x (doing.Drops agg) a = (agg == a) || has_collected x a
+uses_agg x (doing.Breaks agg) a = (agg == a) || has_collected x a
+uses_agg x (doing.Swaps agg rest) a = (agg == a) || ((rest == a) || has_collected x a)
 
 -- beside the descriptors and aggregates of these numbers it has those that it uses alone
-pub record HasJust (m : State) (d : ℕ) (fds aggs : ℕ → Bool) (job : Task) (x : Doing) : Type 0 where
-  pub no_fd : (fd : ℕ) → fds fd ≡ false → uses_fd job x fd ≡ false → descriptor m d fd ≡ None
-  pub no_agg : (a : ℕ) → aggs a ≡ false → uses_agg x a ≡ false → lent_at m d a ≡ None
+pub record HasJust (m : State) (d : ℕ) (fds aggs : ℕ → Bool) (job : Task) (x : Collected) (doing : Doing) : Type 0 where
+  pub no_fd : (fd : ℕ) → fds fd ≡ false → uses_fd job doing fd ≡ false → descriptor m d fd ≡ None
+  pub no_agg : (a : ℕ) → aggs a ≡ false → uses_agg x doing a ≡ false → lent_at m d a ≡ None
 
 -- ---- as it sits between two turns
 
@@ -60,7 +73,7 @@ held_doing standing.Asked doing.Waits (reply.Agg agg) step = doing.Skips agg
 held_doing s x r step = step.doing
 
 abbrev pub KeepsJust : State → (fds aggs : ℕ → Bool) → Seat Worker → Type 0
-KeepsJust m fds aggs seat = HasJust m seat.by fds aggs seat.process.job
+KeepsJust m fds aggs seat = HasJust m seat.by fds aggs seat.process.job (step_of m seat).piece
     (held_doing seat.process.standing seat.process.step.doing seat.last (step_of m seat))
 
 -- A worker has what it uses, and nothing else. So where its script has ended, and it waits, it has what it had without a job:
@@ -68,13 +81,13 @@ KeepsJust m fds aggs seat = HasJust m seat.by fds aggs seat.process.job
 pub record WorkersKeepNothing : Type 0 where
   -- its call leaves it with what it uses then
   pub calls : (m n : State) (d : ℕ) (fds aggs : ℕ → Bool) (job : Task) (step next : Step) (r : Reply) → IsOrderly m
-      → is_live m d ≡ true → HasJust m d fds aggs job step.doing → StepsTo m (event.Call d (call_at job step)) r n
-      → told job step (lent_at n d) r ≡ Some next → HasJust n d fds aggs job next.doing
+      → is_live m d ≡ true → HasJust m d fds aggs job step.piece step.doing → StepsTo m (event.Call d (call_at job step)) r n
+      → told job step (lent_at n d) r ≡ Some next → HasJust n d fds aggs job next.piece next.doing
   -- and so does each of its turns, those in which it reads a job or finds none among them
   pub turns : (m n : State) (fds aggs : ℕ → Bool) (seat next : Seat Worker) (yields : Bool) (r : Reply) → IsOrderly m
       → is_live m seat.by ≡ true → KeepsJust m fds aggs seat → SeatTurn copying worker_turns m seat yields r n next
       → KeepsJust n fds aggs next
   -- what takes its output is its job's own, though others gave it: so it has that no more once its script has ended
-  pub output : (m : State) (d : ℕ) (fds aggs : ℕ → Bool) (job : Task) (x : Doing) → uses_fd job x job.fd ≡ true
-      → HasJust m d fds aggs job x
-      → HasJust m d (λ fd. fds fd && not (job.fd == fd)) aggs job x
+  pub output : (m : State) (d : ℕ) (fds aggs : ℕ → Bool) (job : Task) (x : Collected) (doing : Doing)
+      → uses_fd job doing job.fd ≡ true → HasJust m d fds aggs job x doing
+      → HasJust m d (λ fd. fds fd && not (job.fd == fd)) aggs job x doing

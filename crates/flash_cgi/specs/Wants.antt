@@ -1,9 +1,10 @@
--- What a worker wants memory for: to read a job, and for the bytes of a call.
-use Rattle.std.specs.Prelude.{◌≡◌, ◌<◌, ℕ, Bool, true, false, List, length, Option, Some, None, slice_get}
+-- What a worker wants memory for: to read a job, for the bytes of a call, and to collect.
+use Rattle.std.specs.Prelude.{◌≡◌, ◌<◌, ℕ, Bool, true, false, List, length, Option, Some, None, is_some, slice_get, if◌then◌else◌}
 use Rattle.iol_core.specs.declared.events.Reply.{Reply}
 use Rattle.iol_core.specs.declared.events.Reply.TheVariants as reply
+use Rattle.flash_cgi.specs.Collecting.{Collected}
 use Rattle.flash_cgi.specs.Job.{Task}
-use Rattle.flash_cgi.specs.WorkerSteps.{bytes_at, told}
+use Rattle.flash_cgi.specs.WorkerSteps.{bytes_at, due_now, told}
 use Rattle.flash_cgi.specs.declared.phase.Doing.{Doing}
 use Rattle.flash_cgi.specs.declared.phase.Doing.TheVariants as doing
 use Rattle.flash_cgi.specs.declared.phase.Standing.{Standing}
@@ -13,33 +14,54 @@ use Rattle.flash_cgi.specs.declared.line.Line.{Line}
 use Rattle.flash_cgi.specs.declared.line.Line.TheVariants as line
 use Rattle.flash_cgi.specs.declared.worker.Worker.{Worker}
 
--- whether the call that begins a line has bytes of its own: a text, or a name
+-- whether the call that begins a line has bytes of its own: a name
 abbrev pub line_has_bytes : Line → Bool
-line_has_bytes line.Pause = false
-line_has_bytes l = true
+line_has_bytes (line.Cat name) = true
+line_has_bytes (line.Wc name) = true
+line_has_bytes l = false
 
 abbrev pub next_has_bytes : Option Line → Bool
 next_has_bytes None = false
 next_has_bytes (Some l) = line_has_bytes l
 
-abbrev pub doing_has_bytes : Task → (begun : ℕ) → Doing → Bool
-doing_has_bytes job begun doing.Runs = next_has_bytes (slice_get job.lines begun)
-doing_has_bytes job begun (doing.Says s) = true
-doing_has_bytes job begun d = false
+-- or makes the text that is collected
+abbrev pub begins_with_bytes : Task → Collected → (begun : ℕ) → Bool
+begins_with_bytes job x begun = if due_now job x begun then true else next_has_bytes (slice_get job.lines begun)
+
+abbrev pub doing_has_bytes : Task → Collected → (begun : ℕ) → Doing → Bool
+doing_has_bytes job x begun doing.Runs = begins_with_bytes job x begun
+doing_has_bytes job x begun d = false
 
 -- whether the call of a step has
 abbrev pub has_bytes : Task → Step → Bool
-has_bytes job step = doing_has_bytes job step.begun step.doing
+has_bytes job step = doing_has_bytes job step.piece step.begun step.doing
+
+-- whether what is collected may change after the reply, and is copied
+abbrev pub may_copy : Collected → Doing → Bool
+may_copy x doing.Runs = true
+may_copy x (doing.Shuts file agg) = true
+may_copy x (doing.ShutsToSay file s) = true
+may_copy x (doing.JoiningFile held agg from len) = true
+may_copy x (doing.CuttingPart held agg from) = true
+may_copy x (doing.ReplacingPart agg part place) = true
+may_copy x (doing.DroppingPart part made) = true
+may_copy x (doing.Drops agg) = is_some x.next
+may_copy x (doing.Breaks agg) = is_some x.next
+may_copy x d = false
 
 -- it goes on with a call that has, or makes its call again
 abbrev pub WantsOn : Task → Option Step → Type 0
 WantsOn job None = ⊥
 WantsOn job (Some step) = has_bytes job step ≡ true
 
+-- where it copies nothing, it wants memory for its next call alone
+abbrev pub WantsByReply : Worker → Reply → (ℕ → Option (List ℕ)) → Type 0
+WantsByReply w last lent = may_copy w.step.piece w.step.doing ≡ false → WantsOn w.job (told w.job w.step lent last)
+
 -- it files a reply: what came for a job is read, if a byte did
 abbrev pub WantsToFile : Worker → Doing → Reply → (ℕ → Option (List ℕ)) → Type 0
 WantsToFile w doing.Waits (reply.Agg agg) lent = 0 < length (bytes_at lent agg)
-WantsToFile w d last lent = WantsOn w.job (told w.job w.step lent last)
+WantsToFile w d last lent = WantsByReply w last lent
 
 abbrev pub WantsAs : Standing → Worker → Reply → (ℕ → Option (List ℕ)) → Type 0
 WantsAs standing.Asks w last lent = has_bytes w.job w.step ≡ true

@@ -1,7 +1,7 @@
--- What a worker does, step by step: the call that it makes, and what it is at after the reply.
+-- What a worker does, step by step: the call that it makes, and what it is at after the reply, and has collected.
 --
 -- A reply that is no answer to its call, and no outcome of a file, leaves it where it is: the call is made again.
-use Rattle.std.specs.Prelude.{ℕ, ◌+◌, ◌==◌, List, [], ◌∷◌, ◌++◌, length, count_by, Option, Some, None, unwrap_or, if◌then◌else◌, slice_get}
+use Rattle.std.specs.Prelude.{ℕ, ◌+◌, ◌==◌, nat_le, Bool, List, [], ◌∷◌, ◌++◌, length, count_by, Option, Some, None, unwrap_or, if◌then◌else◌, slice_get}
 use Rattle.std.specs.Fmt.{decimal}
 use Rattle.iol_core.specs.Refusals.{name_of}
 use Rattle.iol_core.specs.declared.descriptors.Mode.TheVariants.{Read}
@@ -10,6 +10,7 @@ use Rattle.iol_core.specs.declared.events.Call.{Call}
 use Rattle.iol_core.specs.declared.events.Call.TheVariants as call
 use Rattle.iol_core.specs.declared.events.Reply.{Reply}
 use Rattle.iol_core.specs.declared.events.Reply.TheVariants as reply
+use Rattle.flash_cgi.specs.Collecting.{Collected, bytes_of_one, is_due, is_nothing, last_place, with_file, with_held, with_line, with_next, with_text, without_files, without_last, without_next, without_text}
 use Rattle.flash_cgi.specs.Job.{Task}
 pub use Rattle.flash_cgi.specs.Script.{is_line_feed}
 use Rattle.flash_cgi.specs.declared.line.Line.{Line}
@@ -22,6 +23,8 @@ use Rattle.flash_cgi.specs.declared.phase.Purpose.TheVariants as purpose
 use Rattle.flash_cgi.specs.declared.phase.Doing.{Doing}
 use Rattle.flash_cgi.specs.declared.phase.Doing.TheVariants as doing
 use Rattle.flash_cgi.specs.declared.phase.Step.{Step}
+use Rattle.flash_cgi.specs.declared.piece.Place.{Place}
+use Rattle.flash_cgi.specs.declared.piece.TheConstants.{MAX_COLLECTED_BYTES}
 
 -- ---- texts
 
@@ -45,80 +48,147 @@ bytes_at lent agg = unwrap_or (lent agg) []
 abbrev pub open_call : List ℕ → Call
 open_call name = call.OpenFile name Read
 
--- the call that begins a line
-abbrev pub line_call : (query : List ℕ) → Line → Call
-line_call query (line.Emit text) = call.AggMake (line_text text)
-line_call query line.Query = call.AggMake (line_text query)
-line_call query (line.Cat name) = open_call name
-line_call query (line.Wc name) = open_call name
-line_call query line.Pause = call.SetPool 3
+-- the call that begins a line; a text needs none, and is collected
+abbrev pub line_call : Line → Call
+line_call (line.Cat name) = open_call name
+line_call (line.Wc name) = open_call name
+line_call l = call.SetPool 3
 
 -- of the next line, or the close of the output
 abbrev pub next_call : Task → Option Line → Call
-next_call job (Some l) = line_call job.query l
+next_call job (Some l) = line_call l
 next_call job None = call.Close job.fd
 
-abbrev pub begin_call : Task → (begun : ℕ) → Call
-begin_call job begun = next_call job (slice_get job.lines begun)
+abbrev pub make_call : List ℕ → Call
+make_call text = call.AggMake text
 
-abbrev pub doing_call : Task → (begun : ℕ) → Doing → Call
-doing_call job begun doing.Waits = call.IolRead 0 65536
-doing_call job begun doing.Runs = begin_call job begun
-doing_call job begun (doing.Reads file p) = call.IolRead file 16777216
-doing_call job begun (doing.Shuts file agg) = call.Close file
-doing_call job begun (doing.ShutsToSay file s) = call.Close file
-doing_call job begun (doing.Says s) = call.AggMake (said_text s)
-doing_call job begun (doing.Writes agg) = call.IolWrite job.fd agg
-doing_call job begun (doing.Cuts agg from to) = call.AggCut agg from to
-doing_call job begun (doing.Skips agg) = call.AggDrop agg
-doing_call job begun (doing.Counted file agg s) = call.AggDrop agg
-doing_call job begun (doing.Swaps agg rest) = call.AggDrop agg
-doing_call job begun (doing.Drops agg) = call.AggDrop agg
-doing_call job begun (doing.Breaks agg) = call.AggDrop agg
+-- whether what is collected is to be written before the next line
+abbrev pub due_now : Task → Collected → (begun : ℕ) → Bool
+due_now job x begun = is_due x (slice_get job.lines begun)
+
+abbrev pub begin_call : Task → Collected → (begun : ℕ) → Call
+begin_call job x begun = if due_now job x begun then make_call x.text else next_call job (slice_get job.lines begun)
+
+abbrev pub doing_call : Task → Collected → (begun : ℕ) → Doing → Call
+doing_call job x begun doing.Waits = call.IolRead 0 65536
+doing_call job x begun doing.Runs = begin_call job x begun
+doing_call job x begun (doing.Reads file p) = call.IolRead file 16777216
+doing_call job x begun (doing.Shuts file agg) = call.Close file
+doing_call job x begun (doing.ShutsToSay file s) = call.Close file
+doing_call job x begun (doing.JoiningFile held agg from len) = call.AggJoin held agg
+doing_call job x begun (doing.CuttingPart held agg from) = call.AggSplit held from
+doing_call job x begun (doing.ReplacingPart agg part at) = call.AggReplace agg at at part
+doing_call job x begun (doing.DroppingText agg part made) = call.AggDrop agg
+doing_call job x begun (doing.DroppingPart part made) = call.AggDrop part
+doing_call job x begun (doing.Writes agg) = call.IolWrite job.fd agg
+doing_call job x begun (doing.Cuts agg from to) = call.AggCut agg from to
+doing_call job x begun (doing.Skips agg) = call.AggDrop agg
+doing_call job x begun (doing.Counted file agg s) = call.AggDrop agg
+doing_call job x begun (doing.Swaps agg rest) = call.AggDrop agg
+doing_call job x begun (doing.Drops agg) = call.AggDrop agg
+doing_call job x begun (doing.Breaks agg) = call.AggDrop agg
 
 abbrev pub call_at : Task → Step → Call
-call_at job step = doing_call job step.begun step.doing
+call_at job step = doing_call job step.piece step.begun step.doing
 
 -- ---- what it is at after the reply; none where the call is to be made again
 
-abbrev pub at : Doing → (begun : ℕ) → Option Step
-at d begun = Some (record { doing = d; begun = begun })
+abbrev pub step_with : Doing → (begun : ℕ) → Collected → Step
+step_with d begun x = record { doing = d; begun = begun; piece = x }
 
-abbrev pub told_made : (begun : ℕ) → Reply → Option Step
-told_made begun (reply.Agg agg) = at (doing.Writes agg) begun
-told_made begun r = None
+abbrev pub at : Doing → (begun : ℕ) → Collected → Option Step
+at d begun x = Some (step_with d begun x)
 
-abbrev pub told_opened : Purpose → (begun : ℕ) → Reply → Option Step
-told_opened p begun (reply.Fd file) = at (doing.Reads file p) begun
-told_opened p begun (reply.Refused x) = at (doing.Says (said.Refused x)) begun
-told_opened p begun r = None
+-- a text is collected
+abbrev pub says : (begun : ℕ) → Collected → Said → Option Step
+says begun x s = at doing.Runs begun (with_text x (said_text s))
 
-abbrev pub told_line : Line → (begun : ℕ) → Reply → Option Step
-told_line (line.Emit text) begun r = told_made begun r
-told_line line.Query begun r = told_made begun r
-told_line (line.Cat name) begun r = told_opened purpose.Cat begun r
-told_line (line.Wc name) begun r = told_opened purpose.Wc begun r
-told_line line.Pause begun r = at doing.Runs begun
+abbrev pub told_opened : Collected → Purpose → (begun : ℕ) → Reply → Option Step
+told_opened x p begun (reply.Fd file) = at (doing.Reads file p) begun x
+told_opened x p begun (reply.Refused why) = says begun x (said.Refused why)
+told_opened x p begun r = None
 
-abbrev pub told_next : Option Line → (begun : ℕ) → Reply → Option Step
-told_next (Some l) begun r = told_line l (begun + 1) r
-told_next None begun r = at doing.Waits 0
+abbrev pub told_line : Task → Collected → Line → (begun : ℕ) → Reply → Option Step
+told_line job x (line.Emit text) begun r = at doing.Runs begun (with_line x text)
+told_line job x line.Query begun r = at doing.Runs begun (with_line x job.query)
+told_line job x (line.Cat name) begun r = told_opened x purpose.Cat begun r
+told_line job x (line.Wc name) begun r = told_opened x purpose.Wc begun r
+told_line job x line.Pause begun r = at doing.Runs begun x
 
-abbrev pub told_begun : Task → (begun : ℕ) → Reply → Option Step
-told_begun job begun r = told_next (slice_get job.lines begun) begun r
+abbrev pub told_next : Task → Collected → Option Line → (begun : ℕ) → Reply → Option Step
+told_next job x (Some l) begun r = told_line job x l (begun + 1) r
+told_next job x None begun r = at doing.Waits 0 x
 
-abbrev pub told_cut : (agg begun : ℕ) → Reply → Option Step
-told_cut agg begun (reply.Agg rest) = at (doing.Swaps agg rest) begun
-told_cut agg begun r = None
+-- this text is made: the bytes of the last file are to be set into it, or all of them are
+abbrev pub weave_by : Option ℕ → Option Place → (begun : ℕ) → Collected → (agg : ℕ) → Step
+weave_by None place begun x agg = step_with (doing.Writes agg) begun x
+weave_by (Some held) None begun x agg = step_with (doing.Swaps held agg) begun (without_files x)
+weave_by (Some held) (Some place) begun x agg = step_with (doing.CuttingPart held agg place.from) begun x
+
+abbrev pub weave_on : (begun : ℕ) → Collected → (agg : ℕ) → Step
+weave_on begun x agg = weave_by x.held (last_place x.places) begun x agg
+
+abbrev pub told_made : Collected → (begun : ℕ) → Reply → Option Step
+told_made x begun (reply.Agg agg) = Some (weave_on begun (without_text x) agg)
+told_made x begun r = None
+
+abbrev pub told_begun : Task → Collected → (begun : ℕ) → Reply → Option Step
+told_begun job x begun r =
+    if due_now job x begun then told_made x begun r else told_next job x (slice_get job.lines begun) begun r
+
+-- the bytes of a file were joined to those that are held
+abbrev pub told_joined : Collected → (from len begun : ℕ) → Reply → Option Step
+told_joined x from len begun (reply.Agg held) = at doing.Runs begun (with_file x held from len)
+told_joined x from len begun r = None
+
+abbrev pub place_at : Option Place → ℕ
+place_at None = 0
+place_at (Some place) = place.at
+
+-- those of the last file were cut off
+abbrev pub told_parted : Collected → (agg begun : ℕ) → Reply → Option Step
+told_parted x agg begun (reply.Aggs held part) =
+    at (doing.ReplacingPart agg part (place_at (last_place x.places))) begun (with_held x held)
+told_parted x agg begun r = None
+
+-- and are set into the text
+abbrev pub told_replaced : Collected → (agg part begun : ℕ) → Reply → Option Step
+told_replaced x agg part begun (reply.Agg made) = at (doing.DroppingText agg part made) begun (without_last x)
+told_replaced x agg part begun r = None
+
+abbrev pub told_cut : Collected → (agg begun : ℕ) → Reply → Option Step
+told_cut x agg begun (reply.Agg rest) = at (doing.Swaps agg rest) begun x
+told_cut x agg begun r = None
 
 -- of so many bytes so many were taken
 abbrev pub taken_of : (agg taken to : ℕ) → Doing
 taken_of agg taken to = if taken == to then doing.Drops agg else doing.Cuts agg taken to
 
-abbrev pub told_written : (agg len begun : ℕ) → Reply → Option Step
-told_written agg len begun (reply.Count taken) = at (taken_of agg taken len) begun
-told_written agg len begun (reply.Refused BrokenPipe) = at (doing.Breaks agg) begun
-told_written agg len begun r = None
+abbrev pub told_written : Collected → (agg len begun : ℕ) → Reply → Option Step
+told_written x agg len begun (reply.Count taken) = at (taken_of agg taken len) begun x
+told_written x agg len begun (reply.Refused BrokenPipe) = at (doing.Breaks agg) begun x
+told_written x agg len begun r = None
+
+-- all of something is written: the file that was too long is, or the script goes on
+abbrev pub told_dropped : Collected → Option ℕ → (begun : ℕ) → Option Step
+told_dropped x (Some agg) begun = at (doing.Writes agg) begun (without_next x)
+told_dropped x None begun = at doing.Runs begun x
+
+-- nobody reads: what is left is given up, and the script is at its end
+abbrev pub told_broken : Task → Collected → Option ℕ → (begun : ℕ) → Option Step
+told_broken job x (Some agg) begun = at (doing.Breaks agg) begun (without_next x)
+told_broken job x None begun = at doing.Runs (length job.lines) x
+
+-- a file of so many bytes is closed, behind so many that are held: its bytes are collected
+abbrev pub file_collected : Collected → Option ℕ → (from agg len begun : ℕ) → Option Step
+file_collected x None from agg len begun = at doing.Runs begun (with_file x agg 0 len)
+file_collected x (Some held) from agg len begun = at (doing.JoiningFile held agg from len) begun x
+
+-- or it is too long, and is written by itself
+abbrev pub shut_by : Collected → (from agg len begun : ℕ) → Option Step
+shut_by x from agg len begun =
+    if nat_le len MAX_COLLECTED_BYTES then file_collected x x.held from agg len begun
+    else (if is_nothing x then at (doing.Writes agg) begun x else at doing.Runs begun (with_next x agg))
 
 module _ (lent : ℕ → Option (List ℕ)) where
   -- bytes were read
@@ -126,25 +196,33 @@ module _ (lent : ℕ → Option (List ℕ)) where
   got file agg purpose.Cat = doing.Shuts file agg
   got file agg purpose.Wc = doing.Counted file agg (said.Counted (counts_of (bytes_at lent agg)))
 
-  abbrev pub told_read : (file : ℕ) → Purpose → (begun : ℕ) → Reply → Option Step
-  told_read file p begun (reply.Agg agg) = at (got file agg p) begun
-  told_read file p begun (reply.Refused x) = at (doing.ShutsToSay file (said.Refused x)) begun
-  told_read file p begun r = None
+  abbrev pub told_read : Collected → (file : ℕ) → Purpose → (begun : ℕ) → Reply → Option Step
+  told_read x file p begun (reply.Agg agg) = at (got file agg p) begun x
+  told_read x file p begun (reply.Refused why) = at (doing.ShutsToSay file (said.Refused why)) begun x
+  told_read x file p begun r = None
 
-  abbrev pub told_doing : Task → (begun : ℕ) → Doing → Reply → Option Step
-  told_doing job begun doing.Waits r = None
-  told_doing job begun doing.Runs r = told_begun job begun r
-  told_doing job begun (doing.Reads file p) r = told_read file p begun r
-  told_doing job begun (doing.Says s) r = told_made begun r
-  told_doing job begun (doing.Writes agg) r = told_written agg (length (bytes_at lent agg)) begun r
-  told_doing job begun (doing.Cuts agg from to) r = told_cut agg begun r
-  told_doing job begun (doing.Skips agg) r = at doing.Waits begun
-  told_doing job begun (doing.Counted file agg s) r = at (doing.ShutsToSay file s) begun
-  told_doing job begun (doing.Shuts file agg) r = at (doing.Writes agg) begun
-  told_doing job begun (doing.ShutsToSay file s) r = at (doing.Says s) begun
-  told_doing job begun (doing.Swaps agg rest) r = at (doing.Writes rest) begun
-  told_doing job begun (doing.Drops agg) r = at doing.Runs begun
-  told_doing job begun (doing.Breaks agg) r = at doing.Runs (length job.lines)
+  -- a file is closed
+  abbrev pub told_shut : Collected → (agg begun : ℕ) → Option Step
+  told_shut x agg begun = shut_by x (length (bytes_of_one lent x.held)) agg (length (bytes_at lent agg)) begun
+
+  abbrev pub told_doing : Task → Collected → (begun : ℕ) → Doing → Reply → Option Step
+  told_doing job x begun doing.Waits r = None
+  told_doing job x begun doing.Runs r = told_begun job x begun r
+  told_doing job x begun (doing.Reads file p) r = told_read x file p begun r
+  told_doing job x begun (doing.Shuts file agg) r = told_shut x agg begun
+  told_doing job x begun (doing.ShutsToSay file s) r = says begun x s
+  told_doing job x begun (doing.JoiningFile held agg from len) r = told_joined x from len begun r
+  told_doing job x begun (doing.CuttingPart held agg from) r = told_parted x agg begun r
+  told_doing job x begun (doing.ReplacingPart agg part place) r = told_replaced x agg part begun r
+  told_doing job x begun (doing.DroppingText agg part made) r = at (doing.DroppingPart part made) begun x
+  told_doing job x begun (doing.DroppingPart part made) r = Some (weave_on begun x made)
+  told_doing job x begun (doing.Writes agg) r = told_written x agg (length (bytes_at lent agg)) begun r
+  told_doing job x begun (doing.Cuts agg from to) r = told_cut x agg begun r
+  told_doing job x begun (doing.Skips agg) r = at doing.Waits begun x
+  told_doing job x begun (doing.Counted file agg s) r = at (doing.ShutsToSay file s) begun x
+  told_doing job x begun (doing.Swaps agg rest) r = at (doing.Writes rest) begun x
+  told_doing job x begun (doing.Drops agg) r = told_dropped x x.next begun
+  told_doing job x begun (doing.Breaks agg) r = told_broken job x x.next begun
 
 abbrev pub told : Task → Step → (ℕ → Option (List ℕ)) → Reply → Option Step
-told job step lent r = told_doing lent job step.begun step.doing r
+told job step lent r = told_doing lent job step.piece step.begun step.doing r

@@ -6,6 +6,7 @@ use Rattle.iol_core.specs.declared.events.Reply.TheVariants as reply
 use Rattle.iol_proc.specs.Turns.{Account}
 use Rattle.iol_proc.specs.declared.process.Turn.{Turn}
 use Rattle.iol_proc.specs.declared.process.Turn.TheVariants as turn
+use Rattle.flash_cgi.specs.Collecting.{nothing}
 use Rattle.flash_cgi.specs.Job.{Task, no_task, job_of}
 use Rattle.flash_cgi.specs.Wants.{Wants}
 use Rattle.flash_cgi.specs.WorkerSteps.{call_at, told, bytes_at}
@@ -19,7 +20,7 @@ use Rattle.flash_cgi.specs.declared.worker.Worker.{Worker}
 -- it waits for a job, and has asked for none
 pub record IsNew (w : Worker) : Type 0 where
   pub job : w.job ≡ no_task
-  pub step : w.step ≡ record { doing = doing.Waits; begun = 0 }
+  pub step : w.step ≡ record { doing = doing.Waits; begun = 0; piece = nothing }
   pub standing : w.standing ≡ standing.Asks
 
 -- it makes the call that it is at
@@ -33,8 +34,8 @@ goes_on w None t v = (t ≡ turn.Yield) × (v ≡ record w { standing = standing
 
 -- the worker with this job, if there is one, whose text is under this number
 abbrev pub with_job : Worker → Option Task → (agg : ℕ) → Worker
-with_job w (Some job) agg = record w { job = job; step = record { doing = doing.Drops agg; begun = 0 } }
-with_job w None agg = record w { step = record { doing = doing.Skips agg; begun = w.step.begun } }
+with_job w (Some job) agg = record w { job = job; step = record { doing = doing.Drops agg; begun = 0; piece = nothing } }
+with_job w None agg = record w { step = record { doing = doing.Skips agg; begun = w.step.begun; piece = w.step.piece } }
 
 -- the worker that has read this text on its job pipe; no text is the pipe's end
 abbrev pub with_text : Worker → (text : List ℕ) → (agg : ℕ) → Worker

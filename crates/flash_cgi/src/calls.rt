@@ -1,12 +1,12 @@
 //! The calls that a worker makes.
 ghost use Rattle.std.specs.Prelude.{◌≡◌, true, IfOk, OnErr};
-ghost use Rattle.std.specs.List.{slice_get};
-ghost use Rattle.flash_cgi.specs.Wants.{has_bytes, line_has_bytes, next_has_bytes};
+ghost use Rattle.flash_cgi.specs.Wants.{doing_has_bytes, line_has_bytes, begins_with_bytes};
 ghost use Rattle.flash_cgi.specs.WorkerSteps as spec;
 
 use crate::jobs::Job;
 use crate::line::Line;
-use crate::phase::{Doing, Step};
+use crate::phase::Doing;
+use crate::piece::Piece;
 use iol_core::descriptors::Mode;
 use iol_core::events::Call;
 use iol_core::lists::Bytes;
@@ -25,13 +25,14 @@ pub const MAX_FILE_BYTES: u32 = 0x100_0000;
 /// The pool in which a worker places bytes: it is set again by a pause, which changes nothing.
 pub const WORK_POOL: u32 = 3;
 
-// The text and a line feed.
-fn line_text(alloc: Global, text: &[u8]) -> Result<Bytes, AllocError>
-    ensures { IfOk result (λ line. line ≡ spec.line_text text.now) }
+/// Whether what is collected is written before the next line.
+pub(crate) fn is_due(job: &Job, piece: &Piece, begun: usize) -> bool
+    ensures { result ≡ spec.due_now job.now piece.now begun }
 {
-    let mut line = Vec::from_slice(alloc, text)?;
-    line.push(b'\n')?;
-    Ok(Bytes::from_vec(line))
+    match job.script.lines.get(begun) {
+        Some(_) => piece.is_full() || piece.next.is_some(),
+        None => !piece.is_nothing(),
+    }
 }
 
 fn open_call(alloc: Global, name: &[u8]) -> Result<Call, AllocError>
@@ -44,61 +45,81 @@ fn open_call(alloc: Global, name: &[u8]) -> Result<Call, AllocError>
     })
 }
 
-// The call that begins a line.
-fn line_call(alloc: Global, line: &Line, query: &[u8]) -> Result<Call, AllocError>
-    ensures call { IfOk result (λ call. call ≡ spec.line_call query.now line.now) }
+// The call that begins a line. A text needs none: it is collected.
+fn line_call(alloc: Global, line: &Line) -> Result<Call, AllocError>
+    ensures call { IfOk result (λ call. call ≡ spec.line_call line.now) }
     ensures wants { OnErr result (line_has_bytes line.now ≡ true) }
 {
     match line {
-        Line::Emit { text } => {
-            let bytes = line_text(alloc, text.as_slice())?;
-            Ok(Call::AggMake { bytes })
-        }
-        Line::Query => {
-            let bytes = line_text(alloc, query)?;
-            Ok(Call::AggMake { bytes })
-        }
         Line::Cat { name } => open_call(alloc, name.as_slice()),
         Line::Wc { name } => open_call(alloc, name.as_slice()),
-        Line::Pause => Ok(Call::SetPool {
+        Line::Emit { .. } | Line::Query | Line::Pause => Ok(Call::SetPool {
             pool: PoolId::new(WORK_POOL),
         }),
     }
 }
 
-// The call that begins the next line, or closes the output after the last one.
-fn begin_call(alloc: Global, job: &Job, begun: usize) -> Result<Call, AllocError>
-    ensures call { IfOk result (λ call. call ≡ spec.begin_call job.now begun) }
-    ensures wants { OnErr result (next_has_bytes (slice_get job.now.lines begun) ≡ true) }
+fn make_call(alloc: Global, text: &[u8]) -> Result<Call, AllocError>
+    ensures { IfOk result (λ call. call ≡ spec.make_call text.now) }
 {
+    let bytes = Bytes::from_vec(Vec::from_slice(alloc, text)?);
+    Ok(Call::AggMake { bytes })
+}
+
+// The call that makes what is collected, where that is due; else it begins the next line, or closes the output after the last one.
+fn begin_call(alloc: Global, job: &Job, piece: &Piece, begun: usize) -> Result<Call, AllocError>
+    ensures call { IfOk result (λ call. call ≡ spec.begin_call job.now piece.now begun) }
+    ensures wants { OnErr result (begins_with_bytes job.now piece.now begun ≡ true) }
+{
+    if is_due(job, piece, begun) {
+        return make_call(alloc, piece.text.as_slice());
+    }
     match job.script.lines.get(begun) {
-        Some(line) => line_call(alloc, line, job.query.as_slice()),
+        Some(line) => line_call(alloc, line),
         None => Ok(Call::Close { fd: job.fd }),
     }
 }
 
-/// The call of a step.
-pub(crate) fn call_at(alloc: Global, job: &Job, step: &Step) -> Result<Call, AllocError>
-    ensures call { IfOk result (λ call. call ≡ spec.call_at job.now step.now) }
-    ensures wants { OnErr result (has_bytes job.now step.now ≡ true) }
+/// The call of a phase, with what is collected.
+pub(crate) fn call_of(
+    alloc: Global,
+    job: &Job,
+    piece: &Piece,
+    begun: usize,
+    doing: &Doing,
+) -> Result<Call, AllocError>
+    ensures call { IfOk result (λ call. call ≡ spec.doing_call job.now piece.now begun doing.now) }
+    ensures wants { OnErr result (doing_has_bytes job.now piece.now begun doing.now ≡ true) }
 {
-    let doing = step.doing;
+    let doing = *doing;
     match doing {
         Doing::Waits => Ok(Call::IolRead {
             fd: Fd::new(JOBS),
             count: MAX_JOB_BYTES,
         }),
-        Doing::Runs => begin_call(alloc, job, step.begun),
+        Doing::Runs => begin_call(alloc, job, piece, begun),
         Doing::Reads { file, .. } => Ok(Call::IolRead {
             fd: file,
             count: MAX_FILE_BYTES,
         }),
         Doing::Shuts { file, .. } => Ok(Call::Close { fd: file }),
         Doing::ShutsToSay { file, .. } => Ok(Call::Close { fd: file }),
-        Doing::Says { said } => {
-            let bytes = said.text(alloc)?;
-            Ok(Call::AggMake { bytes })
-        }
+        Doing::JoiningFile { held, agg, .. } => Ok(Call::AggJoin {
+            first: held,
+            second: agg,
+        }),
+        Doing::CuttingPart { held, from, .. } => Ok(Call::AggSplit {
+            agg: held,
+            at: from,
+        }),
+        Doing::ReplacingPart { agg, part, at } => Ok(Call::AggReplace {
+            agg,
+            from: at,
+            to: at,
+            with: part,
+        }),
+        Doing::DroppingText { agg, .. } => Ok(Call::AggDrop { agg }),
+        Doing::DroppingPart { part, .. } => Ok(Call::AggDrop { agg: part }),
         Doing::Writes { agg } => Ok(Call::IolWrite { fd: job.fd, agg }),
         Doing::Cuts { agg, from, to } => Ok(Call::AggCut { agg, from, to }),
         Doing::Skips { agg } => Ok(Call::AggDrop { agg }),

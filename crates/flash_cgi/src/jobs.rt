@@ -14,8 +14,7 @@ use std::str;
 /// The digits that a number in a job may have.
 pub const MAX_DIGITS: usize = 9;
 
-/// A script that is to be run for a request: where its output goes, the query, and its lines, consecutive
-/// texts as one ([`gathering`](crate::gather)).
+/// A script that is to be run for a request: where its output goes, the query, and its lines.
 #[derive(Debug, Drop)]
 pub struct Job {
     pub(crate) fd: Fd,
@@ -74,7 +73,7 @@ fn number_before(text: &[u8], byte: u8) -> Option<(u32, &[u8])>
     Some((number, &text[end + 1..]))
 }
 
-// The job of this descriptor and these sizes, with the script's lines as they are run.
+// The job of this descriptor and these sizes.
 fn job_with(
     alloc: Global,
     fd: u32,
@@ -90,7 +89,6 @@ fn job_with(
     }
     match Script::read(alloc, &body[query..])? {
         Some(script) => {
-            let script = script.gathered(alloc, &body[..query])?;
             let query = Vec::from_slice(alloc, &body[..query])?;
             Ok(Some(Job {
                 fd: Fd::new(fd),

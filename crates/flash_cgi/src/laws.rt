@@ -1,5 +1,5 @@
 //! Laws of scripts and workers. The functions do nothing; their contracts are the laws.
-ghost use Rattle.flash_cgi.specs.Laws.{OthersHear, ScriptsPutOut, WorkersStop, FeedsOn, WorkersStayFree, RunningIsFull, WorkersKeepNothing, GatheringKeeps, JobsAreRead, WorkersAreQuiet, OutcomesAreTrue, OutputsAreShown, JobsAreTaken, TurnsFeed, WaitingIsEmpty};
+ghost use Rattle.flash_cgi.specs.Laws.{OthersHear, ScriptsPutOut, WorkersStop, FeedsOn, WorkersStayFree, RunningIsFull, WorkersKeepNothing, JobsAreRead, WorkersAreQuiet, OutcomesAreTrue, OutputsAreShown, JobsAreTaken, TurnsFeed, WaitingIsEmpty};
 
 use iol_laws::laws;
 
@@ -8,17 +8,11 @@ pub fn jobs_are_read()
     ensures { JobsAreRead }
 {}
 
-/// The lines that a worker runs, consecutive texts as one, put out what the lines of the script do.
-pub fn gathering_keeps()
-    ensures { GatheringKeeps }
-{}
-
 /// The worker that reads a job which waits for it runs that job, and all of its output is unseen
 /// yet.
 pub fn jobs_are_taken()
     ensures { JobsAreTaken }
 {
-    gathering_keeps();
     laws::each_step_leaves_the_rest();
 }
 
@@ -41,7 +35,6 @@ pub fn turns_feed()
     workers_feed_pipes();
     jobs_are_taken();
     outcomes_are_true();
-    gathering_keeps();
     laws::calls_serve_their_domain();
     laws::each_step_leaves_the_rest();
 }

@@ -4,7 +4,7 @@
 //! a file. A [`Worker`](worker::Worker) is a process in a domain of its own that runs them. On its
 //! descriptor 0 a [`Job`](jobs::Job) comes: a script, the query, and which of its descriptors takes
 //! the output. It writes what its lines put out to that pipe, by reference, closes it, and waits for
-//! the next job. Consecutive texts of a script are put out as one ([`gather`]).
+//! the next job. It writes texts and the bytes of small files together ([`piece`]).
 //!
 //! What a script puts out is a definition (`specs/Output`), and so is each turn of a worker
 //! (`specs/Works`). That just this goes through the pipe, whatever others do meanwhile, is a law
@@ -18,11 +18,11 @@
 mod calls;
 pub mod counts;
 mod feeds;
-pub mod gather;
 pub mod jobs;
 pub mod laws;
 pub mod line;
 pub mod phase;
+pub mod piece;
 mod replies;
 pub mod script;
 pub mod worker;

@@ -1,78 +1,173 @@
 //! What a worker is at after the reply to its call.
-ghost use Rattle.std.specs.Prelude.{◌≡◌};
+ghost use Rattle.std.specs.Prelude.{◌≡◌, IfOk, OnErr, Some, None, is_some, length, true};
 ghost use Rattle.iol_proc.specs.Prelude.{lent};
+ghost use Rattle.flash_cgi.specs.Collecting.{bytes_of_one, with_line};
+ghost use Rattle.flash_cgi.specs.Reached.{after_of, cut_after, reached, read_after, written_after};
+ghost use Rattle.flash_cgi.specs.Wants.{may_copy};
 ghost use Rattle.flash_cgi.specs.WorkerSteps as spec;
+ghost use Rattle.flash_cgi.specs.declared.phase.Doing.TheVariants as doing;
 
+use crate::calls::is_due;
 use crate::counts::Said;
 use crate::feeds::{counts, len_of};
 use crate::jobs::Job;
 use crate::line::Line;
 use crate::phase::{Doing, Purpose, Step};
+use crate::piece::{MAX_COLLECTED_BYTES, Piece, Place};
 use iol_core::events::Reply;
 use iol_core::numbers::{AggId, Fd};
 use iol_core::refusals::Refusal;
 use iol_proc::look::Look;
+use std::alloc::{AllocError, Global};
 
-// Bytes were made.
-fn told_made(begun: usize, last: &Reply) -> Option<Step>
-    ensures { result ≡ spec.told_made begun last.now }
+/// What a worker is at after a reply: a phase, how many lines it has begun, and what it has collected, where that changes.
+#[derive(Drop)]
+pub(crate) struct After {
+    pub doing: Doing,
+    pub begun: usize,
+    pub piece: Option<Piece>,
+}
+
+/// It is to make the same call again, or goes on.
+type Told = Result<Option<After>, AllocError>;
+
+// With what it has collected.
+fn at(doing: Doing, begun: usize) -> Option<After>
+    ensures { result ≡ after_of doing begun None }
 {
-    match last {
-        Reply::Agg(agg) => Some(Step {
-            doing: Doing::Writes { agg: *agg },
-            begun,
-        }),
-        _ => None,
-    }
+    Some(After {
+        doing,
+        begun,
+        piece: None,
+    })
+}
+
+// With this piece.
+fn with(doing: Doing, begun: usize, piece: Piece) -> Option<After>
+    ensures { result ≡ after_of doing begun (Some piece) }
+{
+    Some(After {
+        doing,
+        begun,
+        piece: Some(piece),
+    })
+}
+
+// What is said of a file is collected.
+fn says(alloc: Global, piece: &Piece, said: Said, begun: usize) -> Told
+    ensures { IfOk result (λ after. reached piece.now after ≡ spec.says begun piece.now said) }
+{
+    let text = said.text(alloc)?;
+    let piece = piece.with_text(alloc, text.as_slice())?;
+    Ok(with(Doing::Runs, begun, piece))
 }
 
 // A file was opened, or is refused.
-fn told_opened(purpose: Purpose, begun: usize, last: &Reply) -> Option<Step>
-    ensures { result ≡ spec.told_opened purpose begun last.now }
+fn told_opened(alloc: Global, piece: &Piece, purpose: Purpose, begun: usize, last: &Reply) -> Told
+    ensures { IfOk result (λ after. reached piece.now after ≡ spec.told_opened piece.now purpose begun last.now) }
 {
     match last {
-        Reply::Fd(file) => Some(Step {
-            doing: Doing::Reads {
+        Reply::Fd(file) => Ok(at(
+            Doing::Reads {
                 file: *file,
                 purpose,
             },
             begun,
-        }),
-        Reply::Refused(refusal) => Some(Step {
-            doing: Doing::Says {
-                said: Said::Refused(*refusal),
-            },
-            begun,
-        }),
-        _ => None,
+        )),
+        Reply::Refused(refusal) => says(alloc, piece, Said::Refused(*refusal), begun),
+        _ => Ok(None),
     }
+}
+
+// A text is collected, as a line.
+fn collects(alloc: Global, piece: &Piece, text: &[u8], begun: usize) -> Told
+    ensures { IfOk result (λ after. reached piece.now after ≡ spec.at doing.Runs begun (with_line piece.now text.now)) }
+{
+    let piece = piece.with_line(alloc, text)?;
+    Ok(with(Doing::Runs, begun, piece))
 }
 
 // A line was begun, which `begun` counts.
-fn told_line(line: &Line, begun: usize, last: &Reply) -> Option<Step>
-    ensures { result ≡ spec.told_line line.now begun last.now }
+fn told_line(
+    alloc: Global,
+    job: &Job,
+    piece: &Piece,
+    line: &Line,
+    begun: usize,
+    last: &Reply,
+) -> Told
+    ensures { IfOk result (λ after. reached piece.now after ≡ spec.told_line job.now piece.now line.now begun last.now) }
 {
     match line {
-        Line::Emit { .. } | Line::Query => told_made(begun, last),
-        Line::Cat { .. } => told_opened(Purpose::Cat, begun, last),
-        Line::Wc { .. } => told_opened(Purpose::Wc, begun, last),
-        Line::Pause => Some(Step {
-            doing: Doing::Runs,
-            begun,
-        }),
+        Line::Emit { text } => collects(alloc, piece, text.as_slice(), begun),
+        Line::Query => collects(alloc, piece, job.query.as_slice(), begun),
+        Line::Cat { .. } => told_opened(alloc, piece, Purpose::Cat, begun, last),
+        Line::Wc { .. } => told_opened(alloc, piece, Purpose::Wc, begun, last),
+        Line::Pause => Ok(at(Doing::Runs, begun)),
     }
 }
 
-// The next line was begun, or the output closed.
-fn told_begun(job: &Job, begun: usize, last: &Reply) -> Option<Step>
-    ensures { result ≡ spec.told_begun job.now begun last.now }
+// This text is made of what was collected: the bytes of the last file are set into it, or all of them are.
+fn weave(alloc: Global, piece: Piece, agg: AggId, begun: usize) -> Result<Step, AllocError>
+    ensures { IfOk result (λ step. step ≡ spec.weave_on begun piece agg) }
 {
+    let Some(held) = piece.held else {
+        let doing = Doing::Writes { agg };
+        return Ok(Step {
+            doing,
+            begun,
+            piece,
+        });
+    };
+    match piece.last() {
+        None => {
+            let piece = piece.without_files(alloc)?;
+            let doing = Doing::Swaps {
+                agg: held,
+                rest: agg,
+            };
+            Ok(Step {
+                doing,
+                begun,
+                piece,
+            })
+        }
+        Some(place) => {
+            let from = place.from;
+            let doing = Doing::CuttingPart { held, agg, from };
+            Ok(Step {
+                doing,
+                begun,
+                piece,
+            })
+        }
+    }
+}
+
+// The text that was collected is made.
+fn told_made(alloc: Global, piece: &Piece, begun: usize, last: &Reply) -> Told
+    ensures { IfOk result (λ after. reached piece.now after ≡ spec.told_made piece.now begun last.now) }
+{
+    match last {
+        Reply::Agg(agg) => {
+            let piece = piece.without_text(alloc)?;
+            let step = weave(alloc, piece, *agg, begun)?;
+            Ok(with(step.doing, step.begun, step.piece))
+        }
+        _ => Ok(None),
+    }
+}
+
+// What was collected is made, the next line begun, or the output closed.
+fn told_begun(alloc: Global, job: &Job, piece: &Piece, begun: usize, last: &Reply) -> Told
+    ensures { IfOk result (λ after. reached piece.now after ≡ spec.told_begun job.now piece.now begun last.now) }
+{
+    if is_due(job, piece, begun) {
+        return told_made(alloc, piece, begun, last);
+    }
     match job.script.lines.get(begun) {
-        Some(line) => told_line(line, begun + 1, last),
-        None => Some(Step {
-            doing: Doing::Waits,
-            begun: 0,
-        }),
+        Some(line) => told_line(alloc, job, piece, line, begun + 1, last),
+        None => Ok(at(Doing::Waits, 0)),
     }
 }
 
@@ -97,23 +192,148 @@ fn told_read(
     begun: usize,
     last: &Reply,
     look: &Look<'_>,
-) -> Option<Step>
-    ensures { result ≡ spec.told_read (lent look.now) file purpose begun last.now }
+) -> Option<After>
+    ensures { result ≡ read_after (lent look.now) file purpose begun last.now }
 {
     match last {
-        Reply::Agg(agg) => Some(Step {
-            doing: got(file, *agg, purpose, look),
-            begun,
-        }),
-        Reply::Refused(refusal) => Some(Step {
-            doing: Doing::ShutsToSay {
+        Reply::Agg(agg) => at(got(file, *agg, purpose, look), begun),
+        Reply::Refused(refusal) => at(
+            Doing::ShutsToSay {
                 file,
                 said: Said::Refused(*refusal),
             },
             begun,
-        }),
+        ),
         _ => None,
     }
+}
+
+// The file is closed whose bytes it has, so many: they are collected, behind those that are held, so many.
+fn collects_file(
+    alloc: Global,
+    piece: &Piece,
+    from: u32,
+    agg: AggId,
+    len: u32,
+    begun: usize,
+) -> Told
+    ensures { IfOk result
+        (λ after. reached piece.now after ≡ spec.file_collected piece.now piece.now.held from agg len begun) }
+{
+    match piece.held {
+        Some(held) => Ok(at(
+            Doing::JoiningFile {
+                held,
+                agg,
+                from,
+                len,
+            },
+            begun,
+        )),
+        None => {
+            let piece = piece.with_file(alloc, agg, 0, len)?;
+            Ok(with(Doing::Runs, begun, piece))
+        }
+    }
+}
+
+// How many bytes are held.
+fn held_bytes(piece: &Piece, look: &Look<'_>) -> u32
+    ensures { result ≡ length (bytes_of_one (lent look.now) piece.now.held) }
+{
+    match piece.held {
+        Some(held) => len_of(look, held),
+        None => 0,
+    }
+}
+
+// The file is closed: its bytes are collected, or are written by themselves, behind what is collected.
+fn told_shut(alloc: Global, piece: &Piece, agg: AggId, begun: usize, look: &Look<'_>) -> Told
+    ensures { IfOk result (λ after. reached piece.now after ≡ spec.told_shut (lent look.now) piece.now agg begun) }
+{
+    let len = len_of(look, agg);
+    if len as usize <= MAX_COLLECTED_BYTES {
+        return collects_file(alloc, piece, held_bytes(piece, look), agg, len, begun);
+    }
+    if piece.is_nothing() {
+        return Ok(at(Doing::Writes { agg }, begun));
+    }
+    let piece = piece.with_next(alloc, agg)?;
+    Ok(with(Doing::Runs, begun, piece))
+}
+
+// The bytes of a file were joined to those that are held.
+fn told_joined(
+    alloc: Global,
+    piece: &Piece,
+    from: u32,
+    len: u32,
+    begun: usize,
+    last: &Reply,
+) -> Told
+    ensures { IfOk result (λ after. reached piece.now after ≡ spec.told_joined piece.now from len begun last.now) }
+{
+    match last {
+        Reply::Agg(held) => {
+            let piece = piece.with_file(alloc, *held, from, len)?;
+            Ok(with(Doing::Runs, begun, piece))
+        }
+        _ => Ok(None),
+    }
+}
+
+fn place_at(place: Option<Place>) -> u32
+    ensures { result ≡ spec.place_at place }
+{
+    match place {
+        Some(place) => place.at,
+        None => 0,
+    }
+}
+
+// The bytes of the last file were cut off: they are set into this text.
+fn told_parted(alloc: Global, piece: &Piece, agg: AggId, begun: usize, last: &Reply) -> Told
+    ensures { IfOk result (λ after. reached piece.now after ≡ spec.told_parted piece.now agg begun last.now) }
+{
+    match last {
+        Reply::Aggs(held, part) => {
+            let at = place_at(piece.last());
+            let piece = piece.with_held(alloc, *held)?;
+            let part = *part;
+            Ok(with(Doing::ReplacingPart { agg, part, at }, begun, piece))
+        }
+        _ => Ok(None),
+    }
+}
+
+// They were set into it.
+fn told_replaced(
+    alloc: Global,
+    piece: &Piece,
+    agg: AggId,
+    part: AggId,
+    begun: usize,
+    last: &Reply,
+) -> Told
+    ensures { IfOk result (λ after. reached piece.now after ≡ spec.told_replaced piece.now agg part begun last.now) }
+{
+    match last {
+        Reply::Agg(made) => {
+            let piece = piece.without_last(alloc)?;
+            let made = *made;
+            Ok(with(Doing::DroppingText { agg, part, made }, begun, piece))
+        }
+        _ => Ok(None),
+    }
+}
+
+// What was cut off is given up: the bytes of the file before are set into the text.
+fn told_part_dropped(alloc: Global, piece: &Piece, made: AggId, begun: usize) -> Told
+    ensures { IfOk result (λ after. reached piece.now after ≡ Some (spec.weave_on begun piece.now made)) }
+{
+    let piece = piece.copy(alloc)?;
+    let step = weave(alloc, piece, made, begun)?;
+    Ok(with(step.doing, step.begun, step.piece))
 }
 
 // What follows where so many of an aggregate's bytes were taken.
@@ -132,59 +352,90 @@ fn taken_of(agg: AggId, taken: u32, to: u32) -> Doing
 }
 
 // An aggregate of so many bytes was written, or nobody reads it.
-fn told_written(agg: AggId, len: u32, begun: usize, last: &Reply) -> Option<Step>
-    ensures { result ≡ spec.told_written agg len begun last.now }
+fn told_written(agg: AggId, len: u32, begun: usize, last: &Reply) -> Option<After>
+    ensures { result ≡ written_after agg len begun last.now }
 {
     match last {
-        Reply::Count(taken) => Some(Step {
-            doing: taken_of(agg, *taken, len),
-            begun,
-        }),
-        Reply::Refused(Refusal::BrokenPipe) => Some(Step {
-            doing: Doing::Breaks { agg },
-            begun,
-        }),
+        Reply::Count(taken) => at(taken_of(agg, *taken, len), begun),
+        Reply::Refused(Refusal::BrokenPipe) => at(Doing::Breaks { agg }, begun),
         _ => None,
     }
 }
 
 // The rest of an aggregate was cut off.
-fn told_cut(agg: AggId, begun: usize, last: &Reply) -> Option<Step>
-    ensures { result ≡ spec.told_cut agg begun last.now }
+fn told_cut(agg: AggId, begun: usize, last: &Reply) -> Option<After>
+    ensures { result ≡ cut_after agg begun last.now }
 {
     match last {
-        Reply::Agg(rest) => Some(Step {
-            doing: Doing::Swaps { agg, rest: *rest },
-            begun,
-        }),
+        Reply::Agg(rest) => at(Doing::Swaps { agg, rest: *rest }, begun),
         _ => None,
     }
 }
 
-/// What it is at after the reply; none where the call is to be made again.
-pub(crate) fn told(job: &Job, step: Step, last: &Reply, look: &Look<'_>) -> Option<Step>
-    ensures { result ≡ spec.told job.now step (lent look.now) last.now }
+// All of something is written: the file that was too long is, or the script goes on.
+fn told_dropped(alloc: Global, piece: &Piece, begun: usize) -> Told
+    ensures after { IfOk result (λ after. reached piece.now after ≡ spec.told_dropped piece.now piece.now.next begun) }
+    ensures wants { OnErr result (is_some piece.now.next ≡ true) }
 {
-    let (doing, begun) = (step.doing, step.begun);
+    match piece.next {
+        Some(agg) => {
+            let piece = piece.without_next(alloc)?;
+            Ok(with(Doing::Writes { agg }, begun, piece))
+        }
+        None => Ok(at(Doing::Runs, begun)),
+    }
+}
+
+// Nobody reads: what is left is given up, and the script is at its end.
+fn told_broken(alloc: Global, job: &Job, piece: &Piece, begun: usize) -> Told
+    ensures after { IfOk result (λ after. reached piece.now after ≡ spec.told_broken job.now piece.now piece.now.next begun) }
+    ensures wants { OnErr result (is_some piece.now.next ≡ true) }
+{
+    match piece.next {
+        Some(agg) => {
+            let piece = piece.without_next(alloc)?;
+            Ok(with(Doing::Breaks { agg }, begun, piece))
+        }
+        None => Ok(at(Doing::Runs, job.script.lines.len())),
+    }
+}
+
+/// What it is at after the reply; none where the call is to be made again.
+pub(crate) fn told(
+    alloc: Global,
+    job: &Job,
+    piece: &Piece,
+    begun: usize,
+    doing: Doing,
+    last: &Reply,
+    look: &Look<'_>,
+) -> Told
+    ensures after { IfOk result
+        (λ after. reached piece.now after ≡ spec.told_doing (lent look.now) job.now piece.now begun doing last.now) }
+    ensures wants { OnErr result (may_copy piece.now doing ≡ true) }
+{
     let next = match doing {
-        Doing::Waits => return None,
-        Doing::Runs => return told_begun(job, begun, last),
-        Doing::Reads { file, purpose } => return told_read(file, purpose, begun, last, look),
-        Doing::Says { .. } => return told_made(begun, last),
-        Doing::Writes { agg } => return told_written(agg, len_of(look, agg), begun, last),
-        Doing::Cuts { agg, .. } => return told_cut(agg, begun, last),
+        Doing::Waits => return Ok(None),
+        Doing::Runs => return told_begun(alloc, job, piece, begun, last),
+        Doing::Reads { file, purpose } => return Ok(told_read(file, purpose, begun, last, look)),
+        Doing::Shuts { agg, .. } => return told_shut(alloc, piece, agg, begun, look),
+        Doing::ShutsToSay { said, .. } => return says(alloc, piece, said, begun),
+        Doing::JoiningFile { from, len, .. } => {
+            return told_joined(alloc, piece, from, len, begun, last);
+        }
+        Doing::CuttingPart { agg, .. } => return told_parted(alloc, piece, agg, begun, last),
+        Doing::ReplacingPart { agg, part, .. } => {
+            return told_replaced(alloc, piece, agg, part, begun, last);
+        }
+        Doing::DroppingPart { made, .. } => return told_part_dropped(alloc, piece, made, begun),
+        Doing::Writes { agg } => return Ok(told_written(agg, len_of(look, agg), begun, last)),
+        Doing::Cuts { agg, .. } => return Ok(told_cut(agg, begun, last)),
+        Doing::Drops { .. } => return told_dropped(alloc, piece, begun),
+        Doing::Breaks { .. } => return told_broken(alloc, job, piece, begun),
         Doing::Skips { .. } => Doing::Waits,
         Doing::Counted { file, said, .. } => Doing::ShutsToSay { file, said },
-        Doing::Shuts { agg, .. } => Doing::Writes { agg },
-        Doing::ShutsToSay { said, .. } => Doing::Says { said },
+        Doing::DroppingText { part, made, .. } => Doing::DroppingPart { part, made },
         Doing::Swaps { rest, .. } => Doing::Writes { agg: rest },
-        Doing::Drops { .. } => Doing::Runs,
-        Doing::Breaks { .. } => {
-            return Some(Step {
-                doing: Doing::Runs,
-                begun: job.script.lines.len(),
-            });
-        }
     };
-    Some(Step { doing: next, begun })
+    Ok(at(next, begun))
 }

@@ -1,16 +1,18 @@
 //! A process that runs scripts.
 ghost use Rattle.std.specs.Prelude.{◌≡◌, ◌<◌, Some, IfOk, OnErr, length};
 ghost use Rattle.iol_proc.specs.Prelude.{lent, IsQuiet};
-ghost use Rattle.flash_cgi.specs.TakingTurns.{FilesReply, MakesItsCall, StepsOn, TakesText, next_step};
+ghost use Rattle.flash_cgi.specs.Reached.{reached_by};
+ghost use Rattle.flash_cgi.specs.TakingTurns.{FilesReply, GoesOnBy, MakesItsCall, StepsOn, TakesText};
 ghost use Rattle.flash_cgi.specs.Wants as memory;
-ghost use Rattle.flash_cgi.specs.WorkerSteps.{bytes_at};
+ghost use Rattle.flash_cgi.specs.WorkerSteps.{bytes_at, step_with};
 ghost use Rattle.flash_cgi.specs.Works as account;
 
-use crate::calls::call_at;
+use crate::calls::call_of;
 use crate::feeds::text_of;
 use crate::jobs::Job;
 use crate::phase::{Doing, Standing, Step};
-use crate::replies::told;
+use crate::piece::Piece;
+use crate::replies::{After, told};
 use iol_core::events::{Call, Reply};
 use iol_core::numbers::AggId;
 use iol_proc::idle::Settling;
@@ -39,6 +41,7 @@ impl Worker {
             step: Step {
                 doing: Doing::Waits,
                 begun: 0,
+                piece: Piece::nothing(alloc),
             },
             standing: Standing::Asks,
         }
@@ -48,26 +51,66 @@ impl Worker {
     fn ask(&mut self) -> Result<Turn, AllocError>
         ensures { MakesItsCall self.old result self.new }
     {
-        let call = call_at(self.alloc, &self.job, &self.step)?;
+        let step = &self.step;
+        let call = call_of(self.alloc, &self.job, &step.piece, step.begun, &step.doing)?;
         self.standing = Standing::Asked;
         Ok(Turn::Make(call))
     }
 
-    // Makes the call of a step, which it is at then.
-    fn make(&mut self, step: Step) -> Result<Turn, AllocError>
-        ensures { StepsOn self.old (Some step) result self.new }
+    // Makes the call of a phase, with what it has collected.
+    fn make(&mut self, doing: Doing, begun: usize) -> Result<Turn, AllocError>
+        ensures { StepsOn self.old (Some (step_with doing begun self.old.step.piece)) result self.new }
     {
-        let call = call_at(self.alloc, &self.job, &step)?;
+        let call = call_of(self.alloc, &self.job, &self.step.piece, begun, &doing)?;
+        self.step.doing = doing;
+        self.step.begun = begun;
+        Ok(Turn::Make(call))
+    }
+
+    // Makes the call of a phase with this piece, which it has collected then.
+    fn make_with(&mut self, doing: Doing, begun: usize, piece: Piece) -> Result<Turn, AllocError>
+        ensures { StepsOn self.old (Some (step_with doing begun piece)) result self.new }
+    {
+        let step = Step {
+            doing,
+            begun,
+            piece,
+        };
+        let call = call_of(self.alloc, &self.job, &step.piece, step.begun, &step.doing)?;
         self.step = step;
         Ok(Turn::Make(call))
     }
 
+    // Makes the call of what it is at after a reply.
+    fn advance(&mut self, after: After) -> Result<Turn, AllocError>
+        ensures { StepsOn self.old (Some (reached_by self.old.step.piece after)) result self.new }
+    {
+        let After {
+            doing,
+            begun,
+            piece,
+        } = after;
+        match piece {
+            Some(piece) => self.make_with(doing, begun, piece),
+            None => self.make(doing, begun),
+        }
+    }
+
     // Goes on by the reply, or yields, to make the same call again.
     fn go_on(&mut self, last: &Reply, look: &Look<'_>) -> Result<Turn, AllocError>
-        ensures { StepsOn self.old (next_step self.old last.now (lent look.now)) result self.new }
+        ensures { GoesOnBy self.old last.now (lent look.now) result self.new }
     {
-        match told(&self.job, self.step, last, look) {
-            Some(step) => self.make(step),
+        let step = &self.step;
+        match told(
+            self.alloc,
+            &self.job,
+            &step.piece,
+            step.begun,
+            step.doing,
+            last,
+            look,
+        )? {
+            Some(after) => self.advance(after),
             None => {
                 self.standing = Standing::Asks;
                 Ok(Turn::Yield)
@@ -92,6 +135,7 @@ impl Worker {
                 self.step = Step {
                     doing: Doing::Drops { agg },
                     begun: 0,
+                    piece: Piece::nothing(self.alloc),
                 };
             }
             None => self.step.doing = Doing::Skips { agg },

@@ -8,3 +8,4 @@ pub mod Client
 pub mod Site
 pub mod Witness
 pub mod World
+pub mod Given

@@ -11,3 +11,4 @@ pub mod BlockedClients
 pub mod IdleMoments
 pub mod Rounds
 pub mod MildTurns
+pub mod OneAnswer

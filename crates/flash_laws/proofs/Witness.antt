@@ -165,7 +165,7 @@ site_files = record {
 
 -- nothing is shown, since no script runs
 abbrev shelf : Shelf
-shelf = record { finds = outcome_in site; shows = λ name. script.Failed refusal.NoFile; scripts = false }
+shelf = record { finds = outcome_in site; shows = λ name. script.Failed refusal.NoFile; scripts = false; refuses = λ x. false }
 
 -- A world with the server alone: it is new. A connection comes, and is accepted: this run is calm, and the connection is the net's.
 module _ (orders : EachStepKeepsOrder) (descriptors : DescriptorsComeByReplies) {W : Type 0} (works : Account W) (settled : Claim W)

@@ -24,3 +24,4 @@ pub mod FixedState
 pub mod ServerTurn
 pub mod Steps
 pub mod Whole
+pub mod Fair

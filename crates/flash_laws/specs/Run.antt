@@ -160,6 +160,7 @@ module _ (job : (fd : ℕ) → List ℕ) where
 abbrev pub is_again : Refusal → Bool
 is_again no.WouldBlock = true
 is_again no.TooMany = true
+is_again (no.PoolClosed p) = true
 is_again (no.NoRoom p) = true
 is_again no.Memory = true
 is_again x = false

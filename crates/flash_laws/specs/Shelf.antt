@@ -1,13 +1,25 @@
--- What lies on the shelf of a site: the response that is due to each request, and so the answer to a stream, with the
--- files as they are.
+-- What lies on the shelf of a site: the response that is due to each request, by the files as they are; the responses that it may have
+-- where calls are refused; and so the answers to a stream.
 pub mod Due
-use Rattle.std.specs.Prelude.{◌≡◌, ℕ, ◌⊎◌, Bool, true, List, ◌++◌}
-use Rattle.std.specs.List.{flat_map}
+pub mod OneAnswer
+use Rattle.std.specs.Prelude.{◌≡◌, ℕ, ◌⊎◌, Bool, true, false, List, [], ◌∷◌, ◌++◌, Option, Some, None}
+use Rattle.std.specs.List.{concat}
+use Rattle.iol_core.specs.declared.refusals.Refusal.{Refusal}
+use Rattle.iol_core.specs.declared.events.Reply.{Reply}
+use Rattle.iol_core.specs.declared.events.Reply.TheVariants as reply
+use Rattle.iol_laws.specs.Caller.{is_rough}
 use Rattle.flash_http.specs.declared.windows.Window.TheVariants.{Wait}
 use Rattle.flash_http.specs.Window.{window_in}
-use Rattle.flash_http.specs.Request.{Answer}
-use Rattle.flash_laws.specs.Answers.{Outcome, Reads, last_may_close, last_closes}
-use Rattle.flash_laws.specs.Shelf.Due.{Seen, due}
+use Rattle.flash_http.specs.Request.{Answer, serve, Wanted}
+use Rattle.flash_cgi.specs.Output as script
+use Rattle.flash_cgi.specs.Output.{output}
+use Rattle.flash_cgi.specs.Script.{script_of}
+use Rattle.flash_cgi.specs.declared.line.Line.{Line}
+use Rattle.flash_laws.specs.Answers.Scripts.{script_response}
+use Rattle.flash_laws.specs.Client.{is_for_script}
+use Rattle.flash_laws.specs.Conn.{status_of}
+use Rattle.flash_laws.specs.Answers.{Outcome, Found, Failed, response, outcome_of, script_text, Reads, last_may_close, last_closes}
+use Rattle.flash_laws.specs.Shelf.Due.{Seen, due, outcomes_by}
 
 pub record Shelf : Type 0 where
   -- the outcome of each name for the server
@@ -16,29 +28,84 @@ pub record Shelf : Type 0 where
   pub shows : Seen
   -- whether scripts are run
   pub scripts : Bool
+  -- which of the refusals TooMany, NoRoom, Fault and Memory the calls for files may get
+  pub refuses : Refusal → Bool
 
--- the response that is due to a request
+-- the response that is due to a request, where nothing is refused
 abbrev pub due_to : Shelf → Answer → List ℕ
 due_to shelf q = due shelf.scripts shelf.finds shelf.shows q
 
-abbrev pub responses : Shelf → List Answer → List ℕ
-responses shelf qs = flat_map (λ q. due_to shelf q) qs
+module _ (shelf : Shelf) where
+  -- What the server's calls for a file may give where this is there: it, or the status of a refusal (503, or 500 for a fault).
+  abbrev pub MayFind : (there got : Outcome) → Type 0
+  MayFind there got = (got ≡ there) ⊎ ((x : Refusal) × (shelf.refuses x ≡ true) × (got ≡ Failed (status_of x)))
 
--- These bytes begin the answer to the stream: they are the responses to its first requests, in order, or the beginning of
+  -- What a script's calls for a file may give: it, or a refusal.
+  abbrev pub MayShow : (there got : script.Outcome) → Type 0
+  MayShow there got = (got ≡ there) ⊎ ((x : Refusal) × (shelf.refuses x ≡ true) × (got ≡ script.Failed x))
+
+  -- of each file that it names
+  abbrev pub AllMayShow : (there got : List script.Outcome) → Type 0
+  AllMayShow [] [] = Unit {0}
+  AllMayShow (o ∷ os) (p ∷ ps) = MayShow o p × AllMayShow os ps
+  AllMayShow [] (p ∷ ps) = ⊥
+  AllMayShow (o ∷ os) [] = ⊥
+
+  -- the response with what these lines may put out; to HEAD the head alone
+  abbrev pub MayRun : (head_only : Bool) → Wanted → List Line → List ℕ → Type 0
+  MayRun true w lines r = r ≡ script_text w
+  MayRun false w lines r = (os : List script.Outcome) × AllMayShow (outcomes_by shelf.shows lines) os
+      × (r ≡ script_response w (output w.query lines os))
+
+  -- a text that is no script is answered with 500
+  abbrev pub MayAnswerText : Wanted → Option (List Line) → List ℕ → Type 0
+  MayAnswerText w (Some lines) r = MayRun w.head_only w lines r
+  MayAnswerText w None r = r ≡ response (serve w) (Failed 500)
+
+  -- the response where the calls for the request's file gave this
+  abbrev pub MayGive : (script : Bool) → Answer → Outcome → List ℕ → Type 0
+  MayGive true (serve w) (Found text) r = MayAnswerText w (script_of text) r
+  MayGive script q o r = r ≡ response q o
+
+  -- The response that a request may have.
+  abbrev pub MayBeDue : Answer → List ℕ → Type 0
+  MayBeDue q r = (o : Outcome) × MayFind (outcome_of shelf.finds q) o × MayGive (is_for_script shelf.scripts q) q o r
+
+  -- each of these requests may have the response in its place
+  abbrev pub AllMayBeDue : List Answer → List (List ℕ) → Type 0
+  AllMayBeDue [] [] = Unit {0}
+  AllMayBeDue (q ∷ qs) (r ∷ rs) = MayBeDue q r × AllMayBeDue qs rs
+  AllMayBeDue [] (r ∷ rs) = ⊥
+  AllMayBeDue (q ∷ qs) [] = ⊥
+
+  -- these bytes are responses that these requests may have, in order
+  pub record Responds (qs : List Answer) (bytes : List ℕ) : Type 0 where
+    pub responses : List (List ℕ)
+    pub each : AllMayBeDue qs responses
+    pub all : bytes ≡ concat responses
+
+-- These bytes begin an answer to the stream: they are responses that its first requests may have, in order, or the beginning of
 -- these.
 pub record Begins (shelf : Shelf) (s bytes : List ℕ) : Type 0 where
   pub qs : List Answer
   pub rest : List ℕ
   pub reads : Reads s qs rest
   pub order : last_may_close qs ≡ true
+  pub whole : List ℕ
+  pub responds : Responds shelf qs whole
   pub more : List ℕ
-  pub all : responses shelf qs ≡ bytes ++ more
+  pub all : whole ≡ bytes ++ more
 
--- These bytes are the answer to the stream: no further request is there, or the connection closes after the last one.
+-- These bytes are an answer to the stream: no further request is there, or the connection closes after the last one.
 pub record IsAnswer (shelf : Shelf) (s bytes : List ℕ) : Type 0 where
   pub qs : List Answer
   pub rest : List ℕ
   pub reads : Reads s qs rest
   pub order : last_may_close qs ≡ true
-  pub all : bytes ≡ responses shelf qs
+  pub responds : Responds shelf qs bytes
   pub no_more : (window_in rest ≡ Wait) ⊎ (last_closes qs ≡ true)
+
+-- a reply that refuses by TooMany, NoRoom, Fault or Memory does so by one of these
+abbrev pub IsAmong : (refuses : Refusal → Bool) → Reply → Type 0
+IsAmong refuses (reply.Refused x) = is_rough (reply.Refused x) ≡ true → refuses x ≡ true
+IsAmong refuses r = Unit {0}

@@ -5,8 +5,9 @@ pub mod Idle
 pub mod Settles
 pub mod Remains
 pub mod Done
+pub mod Fair
 pub mod Host
-use Rattle.std.specs.Prelude.{◌≡◌, ◌<◌, ℕ, true, false, List, [], ◌∷◌, ◌++◌, length, map, Some, None, slice_get}
+use Rattle.std.specs.Prelude.{◌≡◌, ◌≢◌, Bool, ◌<◌, ℕ, true, false, List, [], ◌∷◌, ◌++◌, length, map, Some, None, slice_get}
 use Rattle.iol_core.specs.Text.{bytes_of}
 use Rattle.iol_core.specs.State.{State, conn_at, no_conn}
 use Rattle.iol_core.specs.declared.events.Reply.{Reply}
@@ -26,7 +27,10 @@ use Rattle.flash_laws.specs.Site.Places.{filed}
 use Rattle.flash_laws.specs.Serves.Rounds.{in_rounds}
 use Rattle.flash_laws.specs.Site.ClientTies.{AreAtDesks, AllFit, AreOwned}
 use Rattle.flash_laws.specs.Serves.{Server, new_server, Policy}
-use Rattle.flash_laws.specs.Shelf.{Shelf, Begins, IsAnswer}
+use Rattle.flash_laws.specs.Shelf.{Shelf, Begins, IsAnswer, IsAmong}
+use Rattle.iol_core.specs.declared.refusals.Refusal.{Refusal}
+use Rattle.iol_laws.specs.Caller.{is_rough}
+use Rattle.iol_proc.specs.declared.choice.Choice.TheVariants as choice
 use Rattle.flash_laws.specs.Site.{server}
 use Rattle.flash_laws.specs.World.Tie.{past_of, made_over, gone_over, Actor, Serving, Working, actor_turns}
 
@@ -77,17 +81,24 @@ module _ (shelf : Shelf) (crew : Crew) where
     pub no_aggs : (a : ℕ) → lent_at w.machine server a ≡ None
     pub no_conns : (c : ℕ) → conn_at w.machine c ≡ no_conn
 
--- What was sent on each connection of the net, and is to be sent, begins the answer to what came on it.
+-- What was sent on each connection of the net, and is to be sent, begins an answer to what came on it.
 abbrev pub AllAnswered : Shelf → List Choice → List Reply → State → Type 0
 AllAnswered shelf xs rs m = (c : ℕ) → made_over c xs rs ≡ true
     → Begins shelf (stream_over c xs rs) (sent_over c xs rs ++ bytes_of (conn_at m c).outgoing)
 
 -- Each connection of the net that is closed, and whose peer did not leave, is answered whole: what was sent on it, and is to be
--- sent, is the answer to what came on it.
+-- sent, is an answer to what came on it.
 abbrev pub ClosedAreWhole : Shelf → List Choice → List Reply → State → Type 0
 ClosedAreWhole shelf xs rs m = (c : ℕ) → made_over c xs rs ≡ true → (conn_at m c).closed ≡ true
     → gone_over c xs rs ≡ false
     → IsAnswer shelf (stream_over c xs rs) (sent_over c xs rs ++ bytes_of (conn_at m c).outgoing)
+
+-- Of choices with these replies each turn is fair: where TooMany, NoRoom, Fault or Memory refused the server's, it is one of these
+-- refusals; none of them refused a worker's.
+abbrev pub AreFair : (refuses : Refusal → Bool) → List Choice → List Reply → Type 0
+AreFair refuses (choice.Turn by ∷ xs) (r ∷ rs) = IsAmong refuses r × (by ≢ server → is_rough r ≡ false) × AreFair refuses xs rs
+AreFair refuses (choice.Outside e ∷ xs) (r ∷ rs) = AreFair refuses xs rs
+AreFair refuses xs rs = Unit {0}
 
 -- desks are apart
 abbrev pub DesksAreApart : Crew → Type 0
@@ -108,19 +119,19 @@ module _ (crew : Crew) where
       → Tied shelf crew xs rs w → ClosedAreWhole shelf xs rs w.machine
 
 module _ (may : Policy) (crew : Crew) where
-  -- Each calm step keeps the tie: it is mild, and if it is a turn, not rough.
+  -- Each step that is mild, and fair if it is a turn, keeps the tie.
   abbrev pub StepKeepsTie : Type 0
   StepKeepsTie = (shelf : Shelf) (xs : List Choice) (rs : List Reply) (x : Choice) (r : Reply)
       (w after : Stage State (Actor crew.Worker))
-      → WorldStep copying (actor_turns may crew.turns) w x r after → IsMild w x after → AreSmooth (x ∷ []) (r ∷ [])
+      → WorldStep copying (actor_turns may crew.turns) w x r after → IsMild w x after → AreFair shelf.refuses (x ∷ []) (r ∷ [])
       → Tied shelf crew xs rs w → Tied shelf crew (xs ++ x ∷ []) (rs ++ r ∷ []) after
 
-  -- So does a calm run.
+  -- So does a run of such steps.
   abbrev pub RunKeepsTie : Type 0
   RunKeepsTie = (shelf : Shelf) (past xs : List Choice) (ps rs : List Reply) (w after : Stage State (Actor crew.Worker))
       → (run : WorldRun copying (actor_turns may crew.turns) w xs rs after)
       → AreMild (actor_turns may crew.turns) w xs rs after run
-      → AreSmooth xs rs → Tied shelf crew past ps w → Tied shelf crew (past ++ xs) (ps ++ rs) after
+      → AreFair shelf.refuses xs rs → Tied shelf crew past ps w → Tied shelf crew (past ++ xs) (ps ++ rs) after
 
 -- The premises can be met: files, a new world on them, and a calm run of it in which a connection of the net comes
 -- and is accepted.

@@ -8,8 +8,8 @@
 //! [`run_laws`]; that turns go round and each script has a worker of its own, in [`laws`]; what a
 //! worker and the files give, in [`worker_laws`]. The law ([`world_law`]) is about every process
 //! with such turns, beside any number of workers that run scripts ([`world_law::RunsScripts`]), and
-//! none, too: what is sent on each connection begins the answer to what came on it, as if it were
-//! alone, whatever the order of turns. It stands below the server's code, which meets these words
+//! none, too: what is sent on each connection begins an answer to what came on it, as if it were
+//! alone, whatever the order of turns, and whatever calls of the server are refused ([`answer_laws`]). It stands below the server's code, which meets these words
 //! with a contract for each phase; so an edit of that code does not check the law again.
 //!
 //! A law is the contract of a function that does nothing, so a proof in a crate above has it by a
@@ -20,6 +20,7 @@
 //! ```
 #![tactic(auto)]
 
+pub mod answer_laws;
 pub mod laws;
 pub mod phase;
 pub mod run_laws;

@@ -43,10 +43,11 @@ pub trait RunsScripts: Drop {
         ensures { Settles settled turns };
 }
 
-/// Connections do not meet, with any number of workers, whose desks are apart. A new world is tied, each calm step keeps the tie, and
-/// so does a calm run, be it in rounds or whichever call the server likes; and where it holds, what was sent on each connection of the
-/// net begins the answer to what came on it, of files and of what scripts put out, and is all of it once the connection is closed,
-/// unless its peer left; and the server has no aggregate but what its clients use, or what calls from outside gave it (`IsServing`).
+/// Connections do not meet, with any number of workers, whose desks are apart. A new world is tied; each step keeps the tie, and so
+/// does a run, be it in rounds or whichever call the server likes, if calls from outside are mild and turns are fair (`AreFair`): the
+/// server's are refused by TooMany, NoRoom, Fault and Memory only as the shelf says, and a worker's never. Where the tie holds, what was
+/// sent on each connection of the net begins an answer to what came on it, of files and of what scripts output, and is all of it once
+/// the connection is closed, unless its peer left; and the server has no aggregate but what its clients use, or what calls from outside gave it (`IsServing`).
 /// Where all is idle nothing is left to do, but for a client that takes nothing, for one that waits for a worker while each runs the
 /// script of such a client, and for connections that wait while the server has as many as it may; and each aggregate that the server
 /// has is used by a client that takes nothing, or came from outside.

@@ -9,3 +9,4 @@ pub mod SiteWorld
 pub mod SiteStart
 pub mod HostedWorld
 pub mod Harmless
+pub mod FairTurns

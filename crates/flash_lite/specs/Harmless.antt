@@ -6,20 +6,20 @@ use Rattle.iol_core.specs.declared.events.Call.{Call}
 use Rattle.iol_core.specs.declared.events.Call.TheVariants as call
 use Rattle.iol_core.specs.declared.events.Event.TheVariants as event
 use Rattle.iol_core.specs.declared.events.Reply.{Reply}
+use Rattle.iol_core.specs.declared.refusals.Refusal.{Refusal}
 use Rattle.iol_proc.specs.World.{Stage}
 use Rattle.iol_proc.specs.declared.choice.Choice.{Choice}
 use Rattle.iol_proc.specs.declared.choice.Choice.TheVariants as choice
 use Rattle.flash_cgi.specs.declared.worker.Worker.{Worker}
-use Rattle.flash_laws.specs.World.Calm.{AreMild}
-use Rattle.flash_laws.specs.Serves.Rounds.{in_rounds}
 use Rattle.flash_laws.specs.Site.{server}
-use Rattle.flash_laws.specs.World.Tie.{Actor, actor_turns}
+use Rattle.flash_laws.specs.World.Tie.{Actor}
+use Rattle.flash_laws.specs.World.{AreFair}
+use Rattle.flash_laws.specs.World.Fair.{any_refusal, no_refusal}
 use Rattle.flash_laws.specs.World.Host.{IsRight}
 use Rattle.flash_lite.specs.Crew.{crew_of}
-use Rattle.flash_lite.specs.HostedSite.{Hosts}
+use Rattle.flash_lite.specs.HostedSite.{HasFairTurns, Hosts, IsMildlyUsed}
 use Rattle.flash_lite.specs.Library.{library_of}
 use Rattle.flash_lite.specs.Setup.{workers_used}
-use Rattle.flash_lite.specs.Workers.{worker_turns}
 use Rattle.flash_lite.specs.declared.site.Site.{Site}
 
 -- whether a call makes and writes no file, whatever its descriptor is open on, and admits nobody to a pool
@@ -38,16 +38,29 @@ IsHarmless workers x = Unit {0}
 abbrev pub AreHarmless : Site → List Choice → Type 0
 AreHarmless s xs = AllByRecursion (λ x. IsHarmless (workers_used s) x) xs
 
--- Harmless choices are mild, whatever is hosted, if no turn was rough.
+-- Harmless choices are mild, whatever is hosted, if their turns were fair.
 abbrev pub HarmlessIsMild : Type 0
 HarmlessIsMild = (s : Site) (slots : List (List ℕ)) (xs : List Choice) (rs : List Reply) (turns : ℕ)
-    (idle : Bool) (after : Stage State (Actor Worker))
-    → (hosts : Hosts s slots xs rs turns idle after) → AreHarmless s xs → after.rough ≡ false
-    → AreMild (actor_turns in_rounds worker_turns) hosts.first xs rs hosts.mid hosts.run
+    (idle : Bool) (after : Stage State (Actor Worker)) (hosts : Hosts s slots xs rs turns idle after)
+    → (refuses : Refusal → Bool) → AreHarmless s xs → AreFair refuses xs rs
+    → IsMildlyUsed s slots xs rs turns idle after hosts
 
 -- So what is hosted with them is right, of what came by these choices: the turns in rounds behind them bring nothing in.
+module _ (s : Site) (slots : List (List ℕ)) (xs : List Choice) (rs : List Reply) (turns : ℕ) (idle : Bool)
+    (after : Stage State (Actor Worker)) (hosts : Hosts s slots xs rs turns idle after) where
+  abbrev pub IsRightNow : (refuses : Refusal → Bool) → Type 0
+  IsRightNow refuses = IsRight (crew_of s) (library_of s slots refuses) xs rs idle after
+
+  pub record IsRightIfHarmless : Type 0 where
+    -- with the refusals that its turns had
+    pub fair : (refuses : Refusal → Bool) → AreHarmless s xs → HasFairTurns s slots xs rs turns idle after hosts refuses
+        → IsRightNow refuses
+    -- with none, where the world says that it is not rough
+    pub smooth : AreHarmless s xs → after.rough ≡ false → IsRightNow no_refusal
+    -- with TooMany, NoRoom, Fault and Memory, whatever was refused, where no scripts run
+    pub files : AreHarmless s xs → workers_used s ≡ 0 → IsRightNow any_refusal
+
 abbrev pub HarmlessIsRight : Type 0
 HarmlessIsRight = (s : Site) (slots : List (List ℕ)) (xs : List Choice) (rs : List Reply) (turns : ℕ)
-    (idle : Bool) (after : Stage State (Actor Worker))
-    → Hosts s slots xs rs turns idle after → AreHarmless s xs → after.rough ≡ false
-    → IsRight (crew_of s) (library_of s slots) xs rs idle after
+    (idle : Bool) (after : Stage State (Actor Worker)) (hosts : Hosts s slots xs rs turns idle after)
+    → IsRightIfHarmless s slots xs rs turns idle after hosts

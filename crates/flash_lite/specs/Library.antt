@@ -1,6 +1,7 @@
 -- What lies on the shelf of a site for the server and for its scripts.
-use Rattle.std.specs.Prelude.{ℕ, List, [], Option, Some, None, if◌then◌else◌, position, bytes_eq, slice_index_or}
+use Rattle.std.specs.Prelude.{ℕ, List, [], Bool, Option, Some, None, if◌then◌else◌, position, bytes_eq, slice_index_or}
 use Rattle.std.specs.List.{slice_get}
+use Rattle.iol_core.specs.declared.refusals.Refusal.{Refusal}
 use Rattle.iol_core.specs.declared.refusals.Refusal.TheVariants.{Denied, NoFile}
 use Rattle.flash_cgi.specs.Output.{Outcome, Failed, Found}
 use Rattle.flash_laws.specs.Shelf.Due.{Seen}
@@ -24,6 +25,11 @@ seen_at s slots (Some i) = seen (slice_get s.files.items i) (slice_index_or slot
 abbrev pub seen_of : Site → (slots : List (List ℕ)) → Seen
 seen_of s slots name = seen_at s slots (position (λ f. bytes_eq f.name.items name) s.files.items)
 
--- For both, where scripts are run if there is one.
-abbrev pub library_of : Site → (slots : List (List ℕ)) → Shelf
-library_of s slots = record { finds = shelf_of s slots; shows = seen_of s slots; scripts = has_script s }
+-- For both, where scripts are run if there is one, and where calls may be refused by these refusals.
+abbrev pub library_of : Site → (slots : List (List ℕ)) → (refuses : Refusal → Bool) → Shelf
+library_of s slots refuses = record {
+  finds = shelf_of s slots;
+  shows = seen_of s slots;
+  scripts = has_script s;
+  refuses = refuses;
+}

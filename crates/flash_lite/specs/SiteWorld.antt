@@ -1,8 +1,9 @@
 -- The world of a site that was set up in a new machine, with scripts or without, before its first turn.
-use Rattle.std.specs.Prelude.{◌≡◌, ◌≤◌, ℕ, true, List, length}
+use Rattle.std.specs.Prelude.{◌≡◌, ◌≤◌, ℕ, Bool, true, List, length}
 use Rattle.iol_back.specs.Disk.{IfHonest}
 use Rattle.iol_core.specs.State.{State, new_state}
 use Rattle.iol_core.specs.declared.limits.TheConstants.{MAX_FILES}
+use Rattle.iol_core.specs.declared.refusals.Refusal.{Refusal}
 use Rattle.iol_proc.specs.World.{Stage}
 use Rattle.iol_system.specs.Machine.{SystemState, machine_of}
 use Rattle.flash_cgi.specs.declared.worker.Worker.{Worker}
@@ -14,10 +15,11 @@ use Rattle.flash_lite.specs.NewWorld.{AreSeated}
 use Rattle.flash_lite.specs.Setup.{SetsUp, is_in_range}
 use Rattle.flash_lite.specs.declared.site.Site.{Site}
 
--- The world is new, with the files that the slots had and the workers of the site, if the machine was new and had slots enough.
+-- The world is new, with the files that the slots had and the workers of the site, if the machine was new and had slots enough,
+-- whatever calls may be refused by later.
 abbrev pub IsNewFor : Site → (old : State) → Stage State (Actor Worker) → Type 0
-IsNewFor s old w = (slots : List (List ℕ)) → old ≡ new_state slots → MAX_FILES ≤ length slots
-    → IsNew (library_of s slots) (crew_of s) w
+IsNewFor s old w = (slots : List (List ℕ)) (refuses : Refusal → Bool) → old ≡ new_state slots → MAX_FILES ≤ length slots
+    → IsNew (library_of s slots refuses) (crew_of s) w
 
 -- each world of the site's processes on this machine is new, with what the slots had, if the machine was new and had slots enough
 abbrev pub IsNewAt : Site → (old new : State) → Type 0

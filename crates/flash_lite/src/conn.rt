@@ -65,7 +65,11 @@ pub(crate) fn is_later(last: &Reply) -> bool
     match last {
         Reply::Refused(refusal) => matches!(
             refusal,
-            Refusal::WouldBlock | Refusal::TooMany | Refusal::NoRoom { pool: _ } | Refusal::Memory
+            Refusal::WouldBlock
+                | Refusal::TooMany
+                | Refusal::PoolClosed { pool: _ }
+                | Refusal::NoRoom { pool: _ }
+                | Refusal::Memory
         ),
         _ => false,
     }

@@ -35,9 +35,9 @@ pub struct Hosted<B: Backing> {
 /// of their limits are `BadRange`. Any other refusal is that of the first call of the setup that was
 /// refused, or `Memory`; it drops all.
 ///
-/// With an honest store, and where calls from outside leave the site and its processes alone and no
-/// turn was rough, what comes of it is right: [`hosted_is_right`](crate::laws::hosted_is_right), and
-/// [`harmless_is_right`](crate::laws::harmless_is_right) of choices that leave them alone by their looks.
+/// With an honest store, and where calls from outside leave the site and its processes alone, what
+/// comes of it is right: [`hosted_is_right`](crate::laws::hosted_is_right), and
+/// [`harmless_is_right`](crate::laws::harmless_is_right) of choices that can be seen to leave them alone.
 pub fn host<B: Backing + Drop>(
     alloc: Global,
     config: Config,

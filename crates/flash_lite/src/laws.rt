@@ -9,16 +9,18 @@ ghost use Rattle.flash_lite.specs.declared.site.Site.{Site};
 
 use crate::actor::{Actor, Worker};
 use flash_cgi::laws::workers_stay_free;
+use flash_laws::answer_laws::runs_are_fair;
 use flash_laws::laws::site_law;
 use flash_laws::world_law::world_law;
 use iol_laws::laws;
 use iol_proc::laws::{idle_is_settled, smooth_runs};
 
 /// Connections do not meet, whatever the site, with scripts or without: of the account that `Actor`
-/// has as a process. A new world is tied, each calm step keeps the tie, and so does a calm run; and
-/// where it holds, what was sent on each connection of the net begins the answer to what came on it,
-/// of files and of what scripts put out, and is all of it once the connection is closed, unless its
-/// peer left. Where all is idle nothing is left to do, but what waits for others: full queues, clients
+/// has as a process. A new world is tied; each step keeps the tie, and so does a run, if calls from
+/// outside are mild and turns are fair: the server's are refused by TooMany, NoRoom, Fault and Memory
+/// only as the shelf says, and a worker's never. Where it holds, what was sent on each connection of
+/// the net begins an answer to what came on it, of files and of what scripts output, and is all of
+/// it once the connection is closed, unless its peer left. Where all is idle nothing is left to do, but what waits for others: full queues, clients
 /// that wait for workers of such, and connections while the server has as many as it may; and the
 /// server has no aggregate but what connections with a full queue use, or what calls from outside
 /// gave it (`IsDone`).
@@ -47,22 +49,27 @@ pub fn set_up_is_a_new_world()
     workers_stay_free();
 }
 
-/// What [`host`](crate::host::host) gives over an honest store is right, whatever the site, where what
-/// came from outside was mild and no turn was rough: what was sent on each connection of the net
-/// begins the answer to what came on it, be it for files or for scripts, and is all of it once it is
-/// closed, unless its peer left; where all is idle nothing is left to do, but what waits for others
-/// (`IsDone`).
+/// What [`host`](crate::host::host) gives over an honest store is right, whatever the site, where
+/// calls from outside were mild: what was sent on each connection of the net begins an answer to what
+/// came on it, be it for files or for scripts, and is all of it once it is closed, unless its peer
+/// left; where all is idle nothing is left to do, but what waits for others (`IsDone`). In an answer
+/// a refusal by TooMany, NoRoom, Fault or Memory may stand in place of a file: one that the turns had
+/// (`fair`); none, where the world is not rough (`smooth`); any, where no scripts run, whatever was
+/// refused (`files`).
 pub fn hosted_is_right()
     ensures { HostedIsRight }
 {
     connections_do_not_meet();
     idle_is_settled::<Actor>();
+    smooth_runs::<Actor>();
+    runs_are_fair::<Worker>();
 }
 
-/// Whether what came from outside was mild can be read off the choices: it was, if each call among
-/// them is by a domain behind those of the processes, a guest's, and is none of `file_new`,
-/// `iol_write`, `write` and `pool_admit`, and no turn was rough. So what is hosted with such choices
-/// is right, where its world says that it is not rough.
+/// Whether calls from outside were mild can be read off the choices: they were, if each is by a
+/// domain behind those of the processes, a guest's, and is none of `file_new`, `iol_write`, `write`
+/// and `pool_admit`, and if the turns were fair. So what is hosted with such choices is right: with
+/// the refusals that its turns had, with none where its world is not rough, and where no scripts run
+/// with any, whatever was refused.
 pub fn harmless_is_right()
     ensures mild { HarmlessIsMild }
     ensures right { HarmlessIsRight }
@@ -71,4 +78,5 @@ pub fn harmless_is_right()
     hosted_is_right();
     site_law();
     smooth_runs::<Actor>();
+    runs_are_fair::<Worker>();
 }

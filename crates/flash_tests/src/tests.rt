@@ -1,5 +1,6 @@
 //! What the libraries of the web server make of heads, ranges and texts.
 mod answers;
+mod calls;
 mod chunks;
 mod malformed_heads;
 mod outcomes;

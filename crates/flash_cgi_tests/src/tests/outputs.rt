@@ -1,12 +1,12 @@
 //! What scripts put out.
 use super::rows::{OUTPUT, Row, give, held, is_put_out};
-use super::stage::on_stage;
+use super::stage::{on_stage, stage_of};
 use flash_cgi::jobs::job_text;
 use iol_core::numbers::Fd;
 use iol_core::refusals::Refusal;
 use std::alloc::Global;
 use std::test::Fail;
-use test_parts::checks::{pass, pass_all};
+use test_parts::checks::{lend, pass, pass_all, pass_each};
 use test_parts::texts::repeated;
 use test_worlds::files::Kept;
 
@@ -16,7 +16,7 @@ const FILES: [Kept<'static>; 2] = [("f", b"a\nb", false), ("p", b"secret", true)
 // One byte more than a query has that is joined to texts.
 const LONG_QUERY: &str = "xxxxxxxxxxxxxxxxxxxxxxxxxxxxxxxxxxxxxxxxxxxxxxxxxxxxxxxxxxxxxxxxx";
 
-const ROWS: [Row<'static>; 13] = [
+const ROWS: [Row<'static>; 15] = [
     ("emit a\nquery\ncat f", "q=1", b"a\nq=1\na\nb"),
     ("wc f\ncat none\nemit\n", "", b"1 3\n[NoFile]\n\n"),
     ("cat p", "", b"[Denied]\n"),
@@ -38,6 +38,16 @@ const ROWS: [Row<'static>; 13] = [
         "q",
         b"a\n\na\nbb\nc\nq\n",
     ),
+    (
+        "cat f\ncat f\nemit\ncat f\nwc f\ncat f",
+        "",
+        b"a\nba\nb\na\nb1 3\na\nb",
+    ),
+    (
+        "emit x\ncat f\ncat p\ncat none\ncat f\nemit y",
+        "",
+        b"x\na\nb[Denied]\n[NoFile]\na\nby\n",
+    ),
 ];
 
 #[test]
@@ -45,8 +55,13 @@ fn outcomes_of_a_script(rt: HostRuntime) -> Result<(), Fail> {
     pass_all(held(rt.alloc(), &FILES, &ROWS), ROWS.len())
 }
 
-// Files of no bytes, of as many as a pipe holds, and of more, which go in pieces.
-fn sizes_held<'a>(alloc: Global, full: &'a [u8], more: &'a [u8]) -> Result<usize, Refusal> {
+// Files of no bytes, of as many as a pipe holds, and of more, which go in pieces; and the last between texts.
+fn sizes_held<'a>(
+    alloc: Global,
+    full: &'a [u8],
+    more: &'a [u8],
+    between: &'a [u8],
+) -> Result<usize, Refusal> {
     let files: [Kept<'a>; 3] = [
         ("none", b"", false),
         ("full", full, false),
@@ -58,6 +73,7 @@ fn sizes_held<'a>(alloc: Global, full: &'a [u8], more: &'a [u8]) -> Result<usize
         ("cat full", "", full),
         ("cat more", "", more),
         ("wc none\nwc full\nwc more", "", counts),
+        ("wc none\ncat none\ncat more\nemit b", "", between),
     ];
     held(alloc, &files, &rows)
 }
@@ -66,7 +82,10 @@ fn sizes_held<'a>(alloc: Global, full: &'a [u8], more: &'a [u8]) -> Result<usize
 fn files_of_several_sizes(rt: HostRuntime) -> Result<(), Fail> {
     let full = vec![in rt.alloc(); b'z'; 65_536]?;
     let more = vec![in rt.alloc(); b'\n'; 100_000]?;
-    pass_all(sizes_held(rt.alloc(), &full, &more), 4)
+    let mut between = Vec::from_slice(rt.alloc(), b"0 0\n")?;
+    between.extend_from_slice(&more)?;
+    between.extend_from_slice(b"b\n")?;
+    pass_all(sizes_held(rt.alloc(), &full, &more, &between), 5)
 }
 
 // Many more texts than the worker's pool has pages: nothing is read before all of them are put out, and no
@@ -78,6 +97,34 @@ fn many_texts(alloc: Global) -> Result<bool, Refusal> {
     on_stage(alloc, |stage| {
         give(stage, job) && is_put_out(stage, &wanted) && !stage.is_rough()
     })
+}
+
+// Lines, and what they put out: a hundred times each they are many more pieces than the worker's pool has pages.
+const PIECES: [(&[u8], &[u8]); 3] = [
+    (b"wc f\n", b"1 3\n"),
+    (
+        b"cat f\nemit xxxxxxxxxxxxxxxxxxxxxxxxxxxxxxxxxxxxxxxxxxxxxxxxxxxxxxxxxxxx\n",
+        b"a\nbxxxxxxxxxxxxxxxxxxxxxxxxxxxxxxxxxxxxxxxxxxxxxxxxxxxxxxxxxxxx\n",
+    ),
+    (b"cat none\nquery\n", b"[NoFile]\nq\n"),
+];
+
+fn small_pieces(alloc: Global, lines: &[u8], output: &[u8]) -> Result<bool, Refusal> {
+    let script = repeated(alloc, lines, 100)?;
+    let wanted = repeated(alloc, output, 100)?;
+    let job = job_text(alloc, Fd::new(OUTPUT), b"q", &script)?;
+    lend(stage_of(alloc, &FILES), |stage| {
+        give(stage, job) && is_put_out(stage, &wanted) && !stage.is_rough()
+    })
+}
+
+#[test]
+fn small_pieces_share_pages(rt: HostRuntime) -> Result<(), Fail> {
+    let alloc = rt.alloc();
+    pass_each(
+        &PIECES,
+        |(lines, output)| small_pieces(alloc, lines, output),
+    )
 }
 
 #[test]

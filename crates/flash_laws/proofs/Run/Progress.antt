@@ -131,6 +131,7 @@ counts-short heard = omega arith
 again-later : (z : Refusal) → is_again z ≡ true → is_later (reply.Refused z) ≡ true
 again-later no.WouldBlock is = refl
 again-later no.TooMany is = refl
+again-later (no.PoolClosed p) is = refl
 again-later (no.NoRoom p) is = refl
 again-later no.Memory is = refl
 again-later z is = absurd (cc (is))

@@ -26,7 +26,10 @@ use Rattle.flash_laws.specs.Site.Past.{Past}
 use Rattle.flash_laws.specs.Site.Places.{EachHasItsOwn, is_run_by, is_free, accepted}
 use Rattle.flash_laws.specs.Run.{worker_domain, job_pipe}
 use Rattle.flash_laws.specs.Site.ClientTies.{Held, Ended, Aside, AreAtDesks, FitsAt, AllFit}
-use Rattle.flash_laws.specs.Shelf.{Shelf}
+use Rattle.flash_laws.specs.Shelf.{Shelf, due_to}
+use Rattle.flash_laws.proofs.Site.Due.{due-may}
+use Rattle.flash_laws.specs.Conn.{new_connection}
+use Rattle.flash_laws.proofs.World.Responses.{responds-none}
 use Rattle.flash_laws.specs.Site.{server, KeepsSite}
 use Rattle.flash_laws.specs.Site.OtherConns.{with_at, Waits}
 use Rattle.flash_laws.specs.declared.phase.Doing.{Doing}
@@ -170,7 +173,9 @@ module _ (shelf : Shelf) (crew : Crew) (laws : AllLaws crew) where
         open_on = takes.open_on;
         took = [];
         came_is = waits.came_is ∙ ap (λ (k : Connection). bytes_of k.incoming) (sym takes.conn_is);
-        tie = inl (refl, record { done = []; open_yet = refl; reads = refl; out_is = ap (λ (k : Connection). p.sent takes.conn ++ bytes_of k.outgoing) takes.conn_is ∙ waits.none_sent });
+        due = due_to shelf new_connection.q;
+        may = due-may shelf new_connection.q;
+        tie = inl (refl, record { done = []; open_yet = refl; reads = refl; before = []; responds = responds-none shelf; out_is = ap (λ (k : Connection). p.sent takes.conn ++ bytes_of k.outgoing) takes.conn_is ∙ waits.none_sent });
         has = tt;
         finds = tt;
         proper = tt;

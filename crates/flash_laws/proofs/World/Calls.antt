@@ -146,7 +146,7 @@ module _ (shelf : Shelf) (crew : Crew) (laws : AllLaws crew) (m : State) (came s
 
   pub calls-alone : (conn : Conn) (run : Option Running) (script : List ℕ) → Fits shelf crew m came sent fd c (of conn run script) seats
       → CallsAlone m fd c (of conn run script) (wants shelf.scripts fd (of conn run script))
-  calls-alone conn None script f = scripted m fd c script conn.kept conn.q (due_in shelf conn.q conn.doing) f.open_on (is_for_script shelf.scripts conn.q) conn.doing f.has
+  calls-alone conn None script f = scripted m fd c script conn.kept conn.q (due_in f.due conn.q conn.doing) f.open_on (is_for_script shelf.scripts conn.q) conn.doing f.has
   calls-alone conn (Some y) script f =
       subst (λ (k : Call). CallsAlone m fd c (of conn (Some y) script) k) (sym (wants-run shelf.scripts fd conn (Some y) script f.script.text y f.wanted refl f.script.asks f.kept))
       (of-run m fd c conn script y (running.wants (job_of f.wanted f.script.text) fd f.wanted y)
@@ -155,12 +155,12 @@ module _ (shelf : Shelf) (crew : Crew) (laws : AllLaws crew) (m : State) (came s
   -- what it uses is there
   pub there-agg : (conn : Conn) (run : Option Running) (script : List ℕ) (a : ℕ) → Fits shelf crew m came sent fd c (of conn run script) seats
       → uses_agg (of conn run script) a ≡ true → IsLent m a
-  there-agg conn None script a f u = has-agg m conn.q (due_in shelf conn.q conn.doing) conn.doing a u f.has
+  there-agg conn None script a f u = has-agg m conn.q (due_in f.due conn.q conn.doing) conn.doing a u f.has
   there-agg conn (Some y) script a f u = run-there m a (job_of f.wanted f.script.text) f.wanted f.so_far y u f.has
 
   -- and what it has: a file, or an end of a pipe
   pub there-fd : (conn : Conn) (run : Option Running) (script : List ℕ) (g : ℕ) → Fits shelf crew m came sent fd c (of conn run script) seats
       → has_fd (of conn run script) g ≡ true
       → ((i : ℕ) × (pos : ℕ) × (descriptor m server g ≡ Some (on.File i pos modes.Read))) ⊎ IsEnd m g
-  there-fd conn None script g f u = inl (has-fd m conn.q (due_in shelf conn.q conn.doing) conn.doing g u f.has)
+  there-fd conn None script g f u = inl (has-fd m conn.q (due_in f.due conn.q conn.doing) conn.doing g u f.has)
   there-fd conn (Some y) script g f u = inr (run-end m g (job_of f.wanted f.script.text) f.wanted f.so_far y u f.has)

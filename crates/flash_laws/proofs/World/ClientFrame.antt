@@ -23,7 +23,7 @@ use Rattle.flash_laws.specs.Workers.Crew.{Crew, IsFixedFor}
 use Rattle.flash_laws.specs.Run.Fits.{Progress, HasRun}
 use Rattle.flash_laws.specs.Run.{job_pipe, is_reading, step_fd, ends_of}
 use Rattle.flash_laws.specs.Site.ClientTies.{AreAtDesks}
-use Rattle.flash_laws.specs.Shelf.{Shelf}
+use Rattle.flash_laws.specs.Shelf.{Shelf, MayBeDue}
 use Rattle.flash_laws.specs.Site.{server, KeepsSite}
 use Rattle.flash_laws.specs.Run.Stages.{HasWorkerAt}
 use Rattle.flash_laws.specs.declared.phase.Doing.{Doing}
@@ -54,9 +54,9 @@ Changes k j sent after = Stays k j sent after ⊎ Leaves k j sent after
 
 -- ---- the tie, over what becomes of a connection
 
-tie_goes : (shelf : Shelf) (k j : Connection) (took sent after : List ℕ) (x : Client) → Changes k j sent after → TieAlone shelf k took sent x → TieAlone shelf j took after x
-tie_goes shelf k j took sent after x (inl s) tie = tie-stays shelf k j took sent after s.total s.gone s.ended x tie
-tie_goes shelf k j took sent after x (inr l) tie = tie-leaves shelf k j took sent after l.dropped l.gone l.total x tie
+tie_goes : (shelf : Shelf) (k j : Connection) (took sent after : List ℕ) (x : Client) (due : List ℕ) → MayBeDue shelf x.conn.q due → Changes k j sent after → TieAlone shelf due k took sent x → TieAlone shelf due j took after x
+tie_goes shelf k j took sent after x due may (inl s) tie = tie-stays shelf k j took sent after s.total s.gone s.ended x due tie
+tie_goes shelf k j took sent after x due may (inr l) tie = tie-leaves shelf k j took sent after l.dropped l.gone l.total x due may tie
 
 run_goes : (shelf : Shelf) (k j : Connection) (took sent after kept : List ℕ) (x : Client) → Changes k j sent after → (w : Wanted) (o : Progress) (y : Running)
     → TieRun shelf k took sent kept w o y → TieRun shelf j took after kept w o y
@@ -98,8 +98,10 @@ module _ (shelf : Shelf) (crew : Crew) (laws : AllLaws crew) (m n : State) (e : 
     open_on = leaves.fds server fd (on.Connection c) f.open_on left.own;
     took = f.took;
     came_is = came_on came f.took (bytes_of (conn_at m c).incoming) (bytes_of (conn_at n c).incoming) more f.came_is grows;
-    tie = tie_goes shelf (conn_at m c) (conn_at n c) f.took sent after (of x None script) changes f.tie;
-    has = has-stays m n x.q (due_in shelf x.q x.doing) x.doing (λ a bytes u is. lent-stays laws.the.steps m n e r step a bytes is (left.aggs a u)) (λ g y u is. leaves.fds server g y is (left.fds g u)) f.has;
+    due = f.due;
+    may = f.may;
+    tie = tie_goes shelf (conn_at m c) (conn_at n c) f.took sent after (of x None script) f.due f.may changes f.tie;
+    has = has-stays m n x.q (due_in f.due x.q x.doing) x.doing (λ a bytes u is. lent-stays laws.the.steps m n e r step a bytes is (left.aggs a u)) (λ g y u is. leaves.fds server g y is (left.fds g u)) f.has;
     finds = finds_on shelf m n x.q script x.doing (λ g y u is. leaves.fds server g y is (left.fds g u)) left.site (λ p may. leaves.readers server p may) f.finds;
     proper = f.proper;
   }

@@ -135,7 +135,7 @@ module _ (shelf : Shelf) (crew : Crew) (m : State) (came sent : List ℕ) (fd c 
 
   pub no-desk : (conn : Conn) (run : Option Running) (script : List ℕ) (g k : ℕ) → Fits shelf crew m came sent fd c (of conn run script) seats
       → has_fd (of conn run script) g ≡ true → k < crew.count → descriptor m server g ≡ Some (on.WriteEnd (crew.desk k)) → ⊥
-  no-desk conn None script g k f u lt is = (let file = (has-fd m conn.q (due_in shelf conn.q conn.doing) conn.doing g u f.has).2 in absurd (cc (file, is)))
+  no-desk conn None script g k f u lt is = (let file = (has-fd m conn.q (due_in f.due conn.q conn.doing) conn.doing g u f.has).2 in absurd (cc (file, is)))
   no-desk conn (Some y) script g k f u lt is = write-apart conn y script g k f u lt is
 
   -- a descriptor that a client uses it has, or it is that of its worker's desk

@@ -58,7 +58,7 @@ module _ (shelf : Shelf) (crew : Crew) (laws : AllLaws crew) (m n : State) (orde
       → uses_agg (told shelf.scripts worker (of conn run script) r heard) a ≡ true
   brought None f step before after =
       script-uses conn.kept conn.q conn.doing script r heard a (is_for_script shelf.scripts conn.q)
-      ∙ conn-brought laws.aggs laws.the.own laws.the.files m n order fd c conn.kept conn.q conn.doing (due_in shelf conn.q conn.doing) r heard after.0 a (is_for_script shelf.scripts conn.q)
+      ∙ conn-brought laws.aggs laws.the.own laws.the.files m n order fd c conn.kept conn.q conn.doing (due_in f.due conn.q conn.doing) r heard after.0 a (is_for_script shelf.scripts conn.q)
       fixed.access fixed.site.lives f.open_on f.has step before after.1
   brought (Some y) f step before after =
       run-uses y f step

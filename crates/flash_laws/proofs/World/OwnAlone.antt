@@ -8,7 +8,6 @@ use Rattle.iol_core.specs.declared.events.Call.TheVariants as call
 use Rattle.iol_core.specs.declared.events.Event.TheVariants as event
 use Rattle.iol_core.specs.declared.events.Reply.{Reply}
 use Rattle.iol_core.specs.declared.events.Reply.TheVariants as reply
-use Rattle.iol_laws.specs.Caller.{is_rough}
 use Rattle.iol_laws.specs.Order.{IsOrderly}
 use Rattle.iol_laws.proofs.Streams.Remains.{closed-then}
 use Rattle.iol_proc.specs.declared.seat.Seat.{Seat}
@@ -23,7 +22,8 @@ use Rattle.flash_laws.specs.Conn as conn
 use Rattle.flash_laws.specs.Conn.{Conn, begins}
 use Rattle.flash_laws.specs.Workers.Crew.{Crew, IsFixedFor}
 use Rattle.flash_laws.specs.Conn.Fits.{Has, asked, quits, is_closing, Names}
-use Rattle.flash_laws.specs.Shelf.{Shelf, responses, Begins, IsAnswer}
+use Rattle.flash_laws.specs.Shelf.{Shelf, due_to, Begins, IsAnswer, IsAmong}
+use Rattle.flash_laws.proofs.Site.Due.{due-may}
 use Rattle.flash_laws.specs.Site.{server}
 use Rattle.flash_laws.specs.declared.phase.Doing.{Doing}
 use Rattle.flash_laws.specs.declared.phase.Doing.TheVariants as doing
@@ -41,7 +41,7 @@ module _ (shelf : Shelf) (crew : Crew) (laws : AllLaws crew) where
   -- any call of it but the last: it goes on alone, or its script begins to run
   pub alone_step : (m n : State) (came sent : List ℕ) (fd c worker : ℕ) (x : Client) (r : Reply) (heard : List ℕ)
       (seats : List (Seat crew.Worker)) → IsOrderly m → IsFixedFor shelf crew m → x.run ≡ None
-      → FitsAlone shelf m came sent fd c x → IsAwaiting x → is_closing x.conn.doing ≡ false → is_rough r ≡ false
+      → FitsAlone shelf m came sent fd c x → IsAwaiting x → is_closing x.conn.doing ≡ false → IsAmong shelf.refuses r
       → StepsTo m (event.Call server (wants shelf.scripts fd x)) r n → Names n r heard
       → Fits shelf crew n came sent fd c (told shelf.scripts worker x r heard) seats
   alone_step m n came sent fd c worker x r heard seats order fixed none f waits busy calm step names = by x.run none f waits step
@@ -77,8 +77,8 @@ module _ (shelf : Shelf) (crew : Crew) (laws : AllLaws crew) where
   alone_readies m came sent fd c x y none f ready = by x.run none f ready
     where
       begun : (p : Answer)
-          → Has m p (due_in shelf p (begins p)) (begins p) × Finds shelf m p x.script (begins p) × (asked p (begins p) ≡ p ∷ [])
-          × (part_of shelf p (begins p) ≡ []) × (quits (begins p) ≡ false)
+          → Has m p (due_in (due_to shelf p) p (begins p)) (begins p) × Finds shelf m p x.script (begins p) × (asked p (begins p) ≡ p ∷ [])
+          × (part_of (due_to shelf p) (begins p) ≡ []) × (quits (begins p) ≡ false)
       begun (serve w) = (tt, tt, refl, refl, refl)
       begun (refuse status head_only close) = (refl, tt, refl, refl, refl)
 
@@ -90,6 +90,8 @@ module _ (shelf : Shelf) (crew : Crew) (laws : AllLaws crew) where
           record {
             open_on = f.open_on;
             took = f.took;
+            due = due_to shelf p;
+            may = due-may shelf p;
             came_is = f.came_is;
             tie = ties f.tie;
             has = b.0;
@@ -97,14 +99,16 @@ module _ (shelf : Shelf) (crew : Crew) (laws : AllLaws crew) where
             proper = next_proper x.conn.kept p rest next;
           }
         where
-          ties : TieAlone shelf (conn_at m c) f.took sent (alone x.conn.kept x.script q doing.Rests) → TieAlone shelf (conn_at m c) f.took sent (alone rest x.script p (begins p))
+          ties : TieAlone shelf f.due (conn_at m c) f.took sent (alone x.conn.kept x.script q doing.Rests) → TieAlone shelf (due_to shelf p) (conn_at m c) f.took sent (alone rest x.script p (begins p))
           ties (inl owes) = inl (
             (begun p).4,
             record {
               done = owes.1.done;
               open_yet = owes.1.open_yet;
               reads = subst (λ (l : List Answer). Reads f.took (owes.1.done ++ l) rest) (sym (begun p).2) (reads-more f.took owes.1.done x.conn.kept p rest (subst (λ (l : List Answer). Reads f.took l x.conn.kept) (append-nil owes.1.done) owes.1.reads) next);
-              out_is = owes.1.out_is ∙ ap (λ (l : List ℕ). responses shelf owes.1.done ++ l) (sym (begun p).3);
+              before = owes.1.before;
+              responds = owes.1.responds;
+              out_is = owes.1.out_is ∙ ap (λ (l : List ℕ). owes.1.before ++ l) (sym (begun p).3);
             },
           )
           ties (inr (inl finished)) = absurd (let bad = finished.quits in cc (bad))
@@ -133,7 +137,7 @@ module _ (shelf : Shelf) (crew : Crew) (laws : AllLaws crew) where
       × ((is_gone (conn_at m c).peer ≡ true) ⊎ IsAnswer shelf came (sent ++ bytes_of (conn_at n c).outgoing))
   alone_closes m n came sent fd c x order closing f step =
       let did = closed-then m n c (laws.the.own.closes_conn m n server fd c reply.Done order f.open_on step) in
-      let begun = begins-append laws.the.windows shelf f.took (bytes_of (conn_at m c).incoming) (sent ++ bytes_of (conn_at m c).outgoing) (begins-tie shelf (conn_at m c) f.took sent x f.tie) in (
+      let begun = begins-append laws.the.windows shelf f.took (bytes_of (conn_at m c).incoming) (sent ++ bytes_of (conn_at m c).outgoing) (begins-tie shelf (conn_at m c) f.took sent x f.due f.may f.tie) in (
         did.0,
         subst (λ (l : List ℕ). Begins shelf l (sent ++ bytes_of (conn_at n c).outgoing)) (sym f.came_is) (subst (λ (t : Text). Begins shelf (f.took ++ bytes_of (conn_at m c).incoming) (sent ++ bytes_of t)) (sym did.1) begun),
         whole did.1 f.tie,
@@ -143,7 +147,7 @@ module _ (shelf : Shelf) (crew : Crew) (laws : AllLaws crew) where
       quitting = ap (λ (d : Doing). quits d) closing
 
       whole : (conn_at n c).outgoing ≡ (conn_at m c).outgoing
-          → TieAlone shelf (conn_at m c) f.took sent x
+          → TieAlone shelf f.due (conn_at m c) f.took sent x
           → (is_gone (conn_at m c).peer ≡ true) ⊎ IsAnswer shelf came (sent ++ bytes_of (conn_at n c).outgoing)
       whole out (inl owes) = absurd (let bad = owes.0 in let quit = quitting in cc (bad, quit))
       whole out (inr (inl finished)) = inr (subst (λ (l : List ℕ). IsAnswer shelf l (sent ++ bytes_of (conn_at n c).outgoing)) (sym f.came_is)

@@ -7,7 +7,6 @@ use Rattle.iol_core.specs.declared.descriptors.Descriptor.TheVariants as on
 use Rattle.iol_core.specs.declared.events.Call.{Call}
 use Rattle.iol_core.specs.declared.events.Event.TheVariants as event
 use Rattle.iol_core.specs.declared.events.Reply.{Reply}
-use Rattle.iol_laws.specs.Caller.{is_rough}
 use Rattle.iol_laws.specs.Frame.{touches_fd}
 use Rattle.iol_laws.specs.Order.{IsOrderly}
 use Rattle.iol_proc.specs.declared.seat.Seat.{Seat}
@@ -24,7 +23,8 @@ use Rattle.flash_laws.specs.Run.OfferedBytes.{Learns}
 use Rattle.flash_laws.specs.Run as running
 use Rattle.flash_laws.specs.Run.{is_over}
 use Rattle.flash_laws.specs.Site.ClientTies.{AreAtDesks}
-use Rattle.flash_laws.specs.Shelf.{Shelf}
+use Rattle.flash_laws.specs.Shelf.{Shelf, due_to, IsAmong}
+use Rattle.flash_laws.proofs.Site.Due.{due-may}
 use Rattle.flash_laws.specs.Site.{server}
 use Rattle.flash_laws.specs.declared.phase.Doing.{Doing}
 use Rattle.flash_laws.specs.declared.phase.Doing.TheVariants as doing
@@ -80,10 +80,10 @@ text-kept true true script text back kept is = kept refl
 text-kept false true script text back kept is = absurd (let e = back refl in cc (e))
 text-kept b false script text back kept is = absurd (cc (is))
 
-rests-has : (shelf : Shelf) (n : State) (q : Answer) (script : List ℕ) (d : Doing) → (d ≡ doing.Rests) ⊎ (d ≡ doing.Closes)
-    → Has n q (due_in shelf q d) d × Finds shelf n q script d
-rests-has shelf n q script d (inl is) = subst (λ (e : Doing). Has n q (due_in shelf q e) e × Finds shelf n q script e) (sym is) (tt, tt)
-rests-has shelf n q script d (inr is) = subst (λ (e : Doing). Has n q (due_in shelf q e) e × Finds shelf n q script e) (sym is) (tt, tt)
+rests-has : (shelf : Shelf) (due : List ℕ) (n : State) (q : Answer) (script : List ℕ) (d : Doing) → (d ≡ doing.Rests) ⊎ (d ≡ doing.Closes)
+    → Has n q (due_in due q d) d × Finds shelf n q script d
+rests-has shelf due n q script d (inl is) = subst (λ (e : Doing). Has n q (due_in due q e) e × Finds shelf n q script e) (sym is) (tt, tt)
+rests-has shelf due n q script d (inr is) = subst (λ (e : Doing). Has n q (due_in due q e) e × Finds shelf n q script e) (sym is) (tt, tt)
 
 -- a run that is over has no worker
 over-none : (z : Running) (k : ℕ) → is_over z ≡ true → has_worker z k ≡ false
@@ -94,7 +94,7 @@ over-none x k is = absurd (cc (is))
 module _ (shelf : Shelf) (crew : Crew) (laws : AllLaws crew) where
   run_goes : (m n : State) (came sent : List ℕ) (fd c worker : ℕ) (conn : Conn) (run : Option Running) (script : List ℕ) (y : Running) (r : Reply) (heard : List ℕ)
       (seats : List (Seat crew.Worker)) → IsOrderly m → IsOrderly n → IsFixedFor shelf crew m → AreAtDesks crew m seats
-      → run ≡ Some y → FitsRun shelf crew m came sent fd c (of conn run script) y seats → IsHired crew m (of conn run script) worker seats → is_rough r ≡ false
+      → run ≡ Some y → FitsRun shelf crew m came sent fd c (of conn run script) y seats → IsHired crew m (of conn run script) worker seats → IsAmong shelf.refuses r
       → StepsTo m (event.Call server (wants shelf.scripts fd (of conn run script))) r n → Names n r heard
       → GoesOn shelf crew n came sent fd c (of conn run script) (told shelf.scripts worker (of conn run script) r heard) seats
   run_goes m n came sent fd c worker conn run script y r heard seats order order_n fixed desks has f hired calm step names =
@@ -131,7 +131,7 @@ module _ (shelf : Shelf) (crew : Crew) (laws : AllLaws crew) where
       after = replied.0
 
       d : DeskAfter shelf crew m n c seats f.wanted (output_of shelf f.wanted f.script.lines) y (running.told worker f.wanted y r heard) f.so_far replied.0
-      d = desk_step shelf crew laws m n fd c worker (of conn run script) w s y r heard f.so_far after seats order order_n fixed desks f.open_on f.ongoing f.has f.desk hires calm calls names replied.1 replied.2
+      d = desk_step shelf crew laws m n fd c worker (of conn run script) w s y r heard f.so_far after seats order order_n fixed desks f.open_on f.ongoing f.has f.desk hires calls names replied.1 replied.2
 
       t : TieAfter shelf m n c f.took sent conn.kept f.wanted replied.0 (running.told worker f.wanted y r heard)
       t = tie_step shelf crew laws m n fd c worker f.took sent conn.kept w job y r heard f.so_far after order f.open_on f.script.proper f.ongoing f.has calls names replied.1 replied.2 d.cut d.may f.tie
@@ -157,9 +157,11 @@ module _ (shelf : Shelf) (crew : Crew) (laws : AllLaws crew) where
           open_on = open_on;
           took = f.took;
           came_is = came_is;
-          tie = subst (λ (q : Answer). TieAlone shelf (conn_at n c) f.took sent (of (record { kept = conn.kept; q = q; doing = after_run z }) None [])) (sym s.asks) (t.ends over);
-          has = (rests-has shelf n conn.q [] (after_run z) (t.rests over)).0;
-          finds = (rests-has shelf n conn.q [] (after_run z) (t.rests over)).1;
+          due = due_to shelf conn.q;
+          may = due-may shelf conn.q;
+          tie = subst (λ (q : Answer). TieAlone shelf (due_to shelf q) (conn_at n c) f.took sent (of (record { kept = conn.kept; q = q; doing = after_run z }) None [])) (sym s.asks) (t.ends over);
+          has = (rests-has shelf (due_to shelf conn.q) n conn.q [] (after_run z) (t.rests over)).0;
+          finds = (rests-has shelf (due_to shelf conn.q) n conn.q [] (after_run z) (t.rests over)).1;
           proper = subst (λ (q : Answer). IsProper q) (sym s.asks) s.proper;
         };
         freed = λ k seat sits runs runs_no. d.freed k seat sits (runs-run conn run script y k has runs) (over-none z k over);
@@ -190,7 +192,7 @@ module _ (shelf : Shelf) (crew : Crew) (laws : AllLaws crew) where
 
   pub run_step : (m n : State) (came sent : List ℕ) (fd c worker : ℕ) (x : Client) (y : Running) (r : Reply) (heard : List ℕ)
       (seats : List (Seat crew.Worker)) → IsOrderly m → IsOrderly n → IsFixedFor shelf crew m → AreAtDesks crew m seats
-      → x.run ≡ Some y → FitsRun shelf crew m came sent fd c x y seats → IsHired crew m x worker seats → is_rough r ≡ false
+      → x.run ≡ Some y → FitsRun shelf crew m came sent fd c x y seats → IsHired crew m x worker seats → IsAmong shelf.refuses r
       → StepsTo m (event.Call server (wants shelf.scripts fd x)) r n → Names n r heard
       → GoesOn shelf crew n came sent fd c x (told shelf.scripts worker x r heard) seats
   run_step m n came sent fd c worker x y r heard seats = run_goes m n came sent fd c worker x.conn x.run x.script y r heard seats

@@ -14,7 +14,6 @@ use Rattle.iol_core.specs.declared.events.Event.TheVariants as event
 use Rattle.iol_core.specs.declared.events.Reply.{Reply}
 use Rattle.iol_core.specs.declared.events.Reply.TheVariants as reply
 use Rattle.iol_laws.specs.Caller as o
-use Rattle.iol_laws.specs.Caller.{is_rough}
 use Rattle.iol_laws.specs.Frame.{Leaves, touches_conn, touches_pipe, touches_fd}
 use Rattle.iol_laws.specs.Order.{IsOrderly}
 use Rattle.iol_proc.specs.declared.seat.Seat.{Seat}
@@ -29,7 +28,7 @@ use Rattle.flash_laws.specs.Site.Past.{Past}
 use Rattle.flash_laws.specs.Site.Places.{EachHasItsOwn, is_run_by, is_free, has_free, first_free, may_go, told_at}
 use Rattle.flash_laws.specs.Run.{worker_domain, job_pipe, is_over}
 use Rattle.flash_laws.specs.Site.ClientTies.{Held, Ended, Aside, AreAtDesks, FitsAt, AllFit}
-use Rattle.flash_laws.specs.Shelf.{Shelf}
+use Rattle.flash_laws.specs.Shelf.{Shelf, IsAmong}
 use Rattle.flash_laws.specs.Site.{server, KeepsSite}
 use Rattle.flash_laws.specs.Site.OtherConns.{with_at, left_by, Waits}
 use Rattle.flash_laws.specs.declared.phase.Flight.TheVariants.{At}
@@ -70,7 +69,7 @@ pub record IsOwnTurn (shelf : Shelf) (crew : Crew) (m n : State) (p : Past) (cli
   pub there : in_place clients fd ≡ Some x
   pub waits : IsAwaiting x
   pub goes : may_go (has_free crew.count clients) x ≡ true
-  pub smooth : is_rough r ≡ false
+  pub among : IsAmong shelf.refuses r
   pub step : StepsTo m (event.Call server (wants shelf.scripts fd x)) r n
   pub names : Names n r heard
 
@@ -290,7 +289,7 @@ module _ (shelf : Shelf) (crew : Crew) (laws : AllLaws crew) (m n : State) (p : 
     where
       closed : (d : Doing) → conn.doing ≡ d → is_closing d ≡ true → run ≡ None → Became after
       closed doing.Closes is closing_is none = closing none is
-      closed doing.Over is closing_is none = absurd (subst (λ (d : Doing). Has m conn.q (due_in shelf conn.q d) d) is (of-fits None none).has)
+      closed doing.Over is closing_is none = absurd (subst (λ (d : Doing). Has m conn.q (due_in (of-fits None none).due conn.q d) d) is (of-fits None none).has)
       closed d is closing_is none = absurd (cc (closing_is))
 
       by : (o : Option Running) → run ≡ o → Becomes after
@@ -298,9 +297,9 @@ module _ (shelf : Shelf) (crew : Crew) (laws : AllLaws crew) (m n : State) (p : 
         where
           on : (b : Bool) → is_closing conn.doing ≡ b → Became after
           on true is = closed conn.doing refl is none
-          on false is = inl (alone_step shelf crew laws m n (p.came c) (p.sent c) fd c worker (of conn run script) r heard seats t.order t.fixed none (of-fits None none) t.waits is t.smooth t.step t.names)
+          on false is = inl (alone_step shelf crew laws m n (p.came c) (p.sent c) fd c worker (of conn run script) r heard seats t.order t.fixed none (of-fits None none) t.waits is t.among t.step t.names)
       by (Some y) some =
-          let went = run_step shelf crew laws m n (p.came c) (p.sent c) fd c worker (of conn run script) y r heard seats t.order t.order_after t.fixed t.fit.desks some (of-fits (Some y) some) hired t.smooth t.step t.names in
+          let went = run_step shelf crew laws m n (p.came c) (p.sent c) fd c worker (of conn run script) y r heard seats t.order t.order_after t.fixed t.fit.desks some (of-fits (Some y) some) hired t.among t.step t.names in
           record { became = inl went.fits; freed = went.freed }
 
   -- ---- all clients after it
@@ -310,7 +309,7 @@ module _ (shelf : Shelf) (crew : Crew) (laws : AllLaws crew) (m n : State) (p : 
   left-some None z text g is = by z.doing refl is
     where
       by : (d : Doing) → z.doing ≡ d → left_by d (of z None text) ≡ None → ⊥
-      by doing.Over over is = subst (λ (d : Doing). Has n z.q (due_in shelf z.q d) d) over g.has
+      by doing.Over over is = subst (λ (d : Doing). Has n z.q (due_in g.due z.q d) d) over g.has
       by d over is = cc (is)
   left-some (Some y) z text g is = cc (is)
 

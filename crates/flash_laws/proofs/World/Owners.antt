@@ -50,6 +50,7 @@ fit-called shelf crew m p clients seats d k r all = record {
   fds_apart = all.fds_apart;
   left = all.left;
   fresh = all.fresh;
+  untold = all.untold;
   own = all.own;
   free = all.free;
   desks = all.desks;

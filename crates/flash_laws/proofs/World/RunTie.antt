@@ -25,7 +25,7 @@ use Rattle.flash_laws.specs.Run.Fits.{Progress, Ran, Broken, NotRun, Follows, Is
 use Rattle.flash_laws.specs.Run.OfferedBytes.{Learns, taken_by, past_of, IsNextOf, breaks_off}
 use Rattle.flash_laws.specs.Run.{wants, told, is_over}
 use Rattle.flash_laws.specs.Answers.Scripts.{script_response}
-use Rattle.flash_laws.specs.Shelf.{Shelf, due_to, responses}
+use Rattle.flash_laws.specs.Shelf.{Shelf, due_to, Responds}
 use Rattle.flash_laws.specs.Site.{server}
 use Rattle.flash_laws.specs.declared.phase.Doing.{Doing}
 use Rattle.flash_laws.specs.declared.phase.Doing.TheVariants as doing
@@ -34,7 +34,8 @@ use Rattle.flash_laws.specs.declared.script_run.Running.TheVariants.{Leaves, Clo
 use Rattle.flash_laws.proofs.Conn.Responses.{all-more, order-more, last-more}
 use Rattle.flash_laws.proofs.Lists.{bytes-append, clash, next-front, self, take-plus}
 use Rattle.flash_laws.proofs.World.AllLaws.{AllLaws}
-use Rattle.flash_laws.proofs.World.Responses.{responses-more, begins-part}
+use Rattle.flash_laws.proofs.World.Responses.{responds-more, begins-part}
+use Rattle.flash_laws.proofs.Site.Due.{due-may}
 
 -- a client whose run ended: its connection goes on where that left off
 abbrev pub past_run : (kept : List ℕ) → Wanted → Running → Client
@@ -44,7 +45,7 @@ past_run kept w z = record { conn = record { kept = kept; q = serve w; doing = a
 pub record TieAfter (shelf : Shelf) (m n : State) (c : ℕ) (took sent kept : List ℕ) (w : Wanted) (after : Progress)
     (z : Running) : Type 0 where
   pub goes : is_over z ≡ false → TieRun shelf (conn_at n c) took sent kept w after z
-  pub ends : is_over z ≡ true → TieAlone shelf (conn_at n c) took sent (past_run kept w z)
+  pub ends : is_over z ≡ true → TieAlone shelf (due_to shelf (serve w)) (conn_at n c) took sent (past_run kept w z)
   pub rests : is_over z ≡ true → (after_run z ≡ doing.Rests) ⊎ (after_run z ≡ doing.Closes)
   -- nothing of the stream was read
   pub unread : bytes_of (conn_at n c).incoming ≡ bytes_of (conn_at m c).incoming
@@ -146,11 +147,13 @@ module _ (m n : State) (c : ℕ) (w : Wanted) (o : Progress) (taken new : ℕ) w
     done = a.done;
     open_yet = a.open_yet;
     reads = a.reads;
+    before = a.before;
+    responds = a.responds;
     out_is = ap (λ (l : List ℕ). sent ++ l) (written_more did due may)
         ∙ (sym (append_assoc sent (bytes_of (conn_at m c).outgoing) (take new (drop (past_of o + taken) due)))
         ∙ (ap (λ (l : List ℕ). l ++ take new (drop (past_of o + taken) due)) a.out_is
-        ∙ (append_assoc (responses shelf a.done) (take (past_of o + taken) due) (take new (drop (past_of o + taken) due))
-        ∙ ap (λ (l : List ℕ). responses shelf a.done ++ l) (sym (take-plus (past_of o + taken) new due) ∙ ap (λ (k : ℕ). take k due) (sym count_is)))));
+        ∙ (append_assoc a.before (take (past_of o + taken) due) (take new (drop (past_of o + taken) due))
+        ∙ ap (λ (l : List ℕ). a.before ++ l) (sym (take-plus (past_of o + taken) new due) ∙ ap (λ (k : ℕ). take k due) (sym count_is)))));
   }
 
 -- ---- how a run ends
@@ -213,17 +216,18 @@ module _ (shelf : Shelf) (m n : State) (c : ℕ) (took sent kept : List ℕ) (w 
 
   -- a connection alone that is in this phase
   abbrev Alone : Doing → Type 0
-  Alone d = TieAlone shelf (conn_at n c) took sent (record { conn = record { kept = kept; q = serve w; doing = d }; run = None; script = [] })
+  Alone d = TieAlone shelf (due_to shelf (serve w)) (conn_at n c) took sent (record { conn = record { kept = kept; q = serve w; doing = d }; run = None; script = [] })
 
   rests_or_closes : Ending w after z → (after_run z ≡ doing.Rests) ⊎ (after_run z ≡ doing.Closes)
   rests_or_closes e = (elim e.1 [ inl rest ↦ inl rest.0 | inr close ↦ inr close.0 ])
 
   -- all of the response is written
   answered_whole : (a : Answers shelf took out kept (serve w ∷ []) (take (past_of after + taken_by z) response)) → taken_by z ≡ 0
-      → MayAnswer w after response → IsLeft w after [] → out ≡ responses shelf (a.done ++ serve w ∷ [])
+      → MayAnswer w after response → IsLeft w after [] → Responds shelf (a.done ++ serve w ∷ []) out
   answered_whole a none may rest =
       let count : past_of after + taken_by z ≡ past_of after = omega (arith, none) in
-      a.out_is ∙ (ap (λ (l : List ℕ). responses shelf a.done ++ l) (ap (λ (k : ℕ). take k response) count ∙ all_taken w after response may rest) ∙ sym (responses-more shelf a.done (serve w)))
+      subst (λ (l : List ℕ). Responds shelf (a.done ++ serve w ∷ []) l) (sym (a.out_is ∙ ap (λ (l : List ℕ). a.before ++ l) (ap (λ (k : ℕ). take k response) count ∙ all_taken w after response may rest)))
+      (responds-more shelf a.done (serve w) a.before response a.responds (due-may shelf (serve w)))
 
   -- it goes on with the next request
   resting : Answers shelf took out kept (serve w ∷ []) (take (past_of after + taken_by z) response) → taken_by z ≡ 0
@@ -234,7 +238,9 @@ module _ (shelf : Shelf) (m n : State) (c : ℕ) (took sent kept : List ℕ) (w 
       done = a.done ++ serve w ∷ [];
       open_yet = all-more a.done (serve w) a.open_yet keep;
       reads = subst (λ (l : List Answer). Reads took l kept) (sym (append-nil (a.done ++ serve w ∷ []))) a.reads;
-      out_is = answered_whole a none may rest ∙ sym (append-nil (responses shelf (a.done ++ serve w ∷ [])));
+      before = out;
+      responds = answered_whole a none may rest;
+      out_is = sym (append-nil out);
     },
   )
 
@@ -248,10 +254,10 @@ module _ (shelf : Shelf) (m n : State) (c : ℕ) (took sent kept : List ℕ) (w 
       rest = kept;
       reads = a.reads;
       order = order-more a.done (serve w) a.open_yet;
-      all = answered_whole a none may rest;
+      responds = answered_whole a none may rest;
       no_more = inl (last-more a.done (serve w) last);
     };
-    begins = begins-part shelf took out kept (serve w) (past_of after + taken_by z) a;
+    begins = begins-part shelf took out kept (serve w) response (due-may shelf (serve w)) (past_of after + taken_by z) a;
   }))
 
   -- so it is tied as a connection alone
@@ -326,7 +332,7 @@ module _ (shelf : Shelf) (crew : Crew) (laws : AllLaws crew) where
           cases : (b : Bool) → breaks_off z ≡ b → TieAfter shelf m n c took sent kept w after z
           cases true is = left (record {
             gone = cut goes.whole is;
-            begins = begins-part shelf took (sent ++ bytes_of (conn_at m c).outgoing) kept (serve w) (past_of o + taken_by y) goes.answers;
+            begins = begins-part shelf took (sent ++ bytes_of (conn_at m c).outgoing) kept (serve w) (due_to shelf (serve w)) (due-may shelf (serve w)) (past_of o + taken_by y) goes.answers;
           })
           cases false is =
               let count = (laws.runs job).takes m n fd c worker w y r heard o after order open_on ongoing has step learns goes.whole is in

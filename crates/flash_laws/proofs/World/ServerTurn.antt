@@ -1,5 +1,5 @@
 -- A turn of the server keeps all tied, whichever call it makes.
-use Rattle.std.proofs.Common.{inl, inr, ◌≡◌, ℕ, List, [], ap, ◌∙◌, refl, sym, subst, Option, Some, None, true, false, if◌then◌else◌}
+use Rattle.std.proofs.Common.{inl, inr, ◌≡◌, ℕ, List, [], ap, ◌∙◌, refl, sym, subst, Option, Some, None, true, if◌then◌else◌}
 use Rattle.std.specs.Prelude.{unwrap_or}
 use Rattle.iol_core.specs.NumberedLists.{in_place}
 use Rattle.iol_core.specs.Run.{StepsTo}
@@ -9,7 +9,7 @@ use Rattle.iol_core.specs.declared.events.Call.TheVariants as call
 use Rattle.iol_core.specs.declared.events.Event.TheVariants as event
 use Rattle.iol_core.specs.declared.events.Reply.{Reply}
 use Rattle.iol_core.specs.declared.events.Reply.TheVariants as reply
-use Rattle.iol_laws.specs.Caller.{lent_at, is_rough}
+use Rattle.iol_laws.specs.Caller.{lent_at}
 use Rattle.iol_laws.specs.Order.{IsOrderly}
 use Rattle.iol_proc.specs.LentBytes.{lent_to}
 use Rattle.iol_proc.specs.declared.process.Turn.{Turn}
@@ -23,7 +23,7 @@ use Rattle.flash_laws.specs.Site.Past.{Past}
 use Rattle.flash_laws.specs.Site.Places.{EachHasItsOwn, first_free, filed, told_at}
 use Rattle.flash_laws.specs.Site.ClientTies.{AllFit, AreOwned}
 use Rattle.flash_laws.specs.Serves.{Server, heard_of, filed_in, Picks, Made}
-use Rattle.flash_laws.specs.Shelf.{Shelf}
+use Rattle.flash_laws.specs.Shelf.{Shelf, IsAmong}
 use Rattle.flash_laws.specs.Site.{server, KeepsSite}
 use Rattle.flash_laws.specs.Site.OtherConns.{with_at}
 use Rattle.flash_laws.specs.World.{IsServing}
@@ -75,7 +75,7 @@ module _ (shelf : Shelf) (crew : Crew) (laws : AllLaws crew) where
       pub owned : AreOwned n p (filed crew.count after next r heard)
 
   module _ (m n : State) (p : Past) (clients after : List (Option Client)) (next : Flight) (r : Reply) (made : Turn) (seats : List (Seat crew.Worker)) (order : IsOrderly m)
-      (fixed : IsFixedFor shelf crew m) (fit : AllFit shelf crew m p clients seats) (owned : AreOwned m p clients) (calm : is_rough r ≡ false) (did : Made m made r n) where
+      (fixed : IsFixedFor shelf crew m) (fit : AllFit shelf crew m p clients seats) (owned : AreOwned m p clients) (among : IsAmong shelf.refuses r) (did : Made m made r n) where
     -- a call of the server's leaves the site
     goes-by : (k : Call) → StepsTo m (event.Call server k) r n → is_client_call k ≡ true → KeepsSite m n → Goes m n
     goes-by k step kind site = inr (record { e = event.Call server k; r = r; step = step; site = site; lives = kind-ends k kind; default = kind-default k kind })
@@ -125,7 +125,7 @@ module _ (shelf : Shelf) (crew : Crew) (laws : AllLaws crew) where
               there = there;
               waits = client-awaits picks.was.conn picks.was.run picks.was.script picks.ready picks.readies;
               goes = picks.goes;
-              smooth = calm;
+              among = among;
               step = step;
               names = hear.1;
             } in
@@ -148,8 +148,8 @@ module _ (shelf : Shelf) (crew : Crew) (laws : AllLaws crew) where
   pub server_turn : (m n : State) (p : Past) (s t : Server) (last r : Reply) (made : Turn) (seats : List (Seat crew.Worker)) → IsOrderly m → IsFixedFor shelf crew m
       → IsServing shelf crew m p s last seats
       → Picks s.workers (filed_in s last (λ a. lent_to m server a)) t.flight made t.clients → t.workers ≡ s.workers
-      → is_rough r ≡ false → Made m made r n → Goes m n × IsServing shelf crew n p t r seats
-  server_turn m n p s t last r made seats order fixed was picks same calm did = (
+      → IsAmong shelf.refuses r → Made m made r n → Goes m n × IsServing shelf crew n p t r seats
+  server_turn m n p s t last r made seats order fixed was picks same among did = (
     went.goes,
     record {
       count = same ∙ was.count;
@@ -167,5 +167,5 @@ module _ (shelf : Shelf) (crew : Crew) (laws : AllLaws crew) where
       owned = subst (λ (xs : List (Option Client)). AreOwned m p xs) (sym (heard-is m last was.heard fixed.site.lives was.names s.workers s.clients s.flight)) was.owned
 
       went : Flies m n p r seats t.clients t.flight
-      went = picked m n p (filed_in s last (λ a. lent_to m server a)) t.clients t.flight r made seats order fixed fit owned calm did
+      went = picked m n p (filed_in s last (λ a. lent_to m server a)) t.clients t.flight r made seats order fixed fit owned among did
           (subst (λ k. Picks k (filed_in s last (λ a. lent_to m server a)) t.flight made t.clients) was.count picks)

@@ -12,7 +12,7 @@ use Rattle.iol_laws.specs.Caller.{is_rough}
 use Rattle.iol_laws.specs.Frame.{EachStepLeavesTheRest, changes_files, admits_to, ends, sets_default}
 use Rattle.iol_laws.specs.Order.{IsOrderly}
 use Rattle.iol_proc.specs.LentBytes.{lent_to}
-use Rattle.iol_proc.specs.Smooth.{AreSmooth}
+use Rattle.iol_core.specs.declared.refusals.Refusal.{Refusal}
 use Rattle.iol_proc.specs.Turns.{Comes, SeatTurn}
 use Rattle.iol_proc.specs.World.{Stage, copying, PlaceTurn, WorldStep, WorldRun}
 use Rattle.iol_proc.specs.declared.choice.Choice.{Choice}
@@ -29,10 +29,10 @@ use Rattle.flash_laws.specs.Site.Places.{filed}
 use Rattle.flash_laws.specs.Run.{worker_domain}
 use Rattle.flash_laws.specs.Site.ClientTies.{AllFit, AreOwned}
 use Rattle.flash_laws.specs.Serves.{Policy, Made}
-use Rattle.flash_laws.specs.Shelf.{Shelf}
+use Rattle.flash_laws.specs.Shelf.{Shelf, IsAmong}
 use Rattle.flash_laws.specs.Site.{server, KeepsSite}
 use Rattle.flash_laws.specs.World.Tie.{past_of, Actor, Serving, Working, actor_goes, actor_turns}
-use Rattle.flash_laws.specs.World.{as_actor, AreSeated, Tied}
+use Rattle.flash_laws.specs.World.{as_actor, IsServing, AreSeated, Tied, AreFair}
 use Rattle.flash_laws.proofs.Conn.Responses.{some-inj}
 use Rattle.flash_laws.proofs.Conn.LentBytes.{lent-stays}
 use Rattle.flash_laws.proofs.Lists.{clash}
@@ -98,10 +98,10 @@ names-stay steps m n e r last heard step un names = names
 not-rough : (r : Reply) → r ≡ reply.Refused no.Memory → is_rough r ≡ false → ⊥
 not-rough r is calm = clash (is_rough r) (ap is_rough is) calm
 
-smooth-parts : (x : Choice) (r : Reply) (xs : List Choice) (rs : List Reply)
-    → AreSmooth (x ∷ xs) (r ∷ rs) → AreSmooth (x ∷ []) (r ∷ []) × AreSmooth xs rs
-smooth-parts (choice.Turn by) r xs rs smooth = ((smooth.0, tt), smooth.1)
-smooth-parts (choice.Outside e) r xs rs smooth = (tt, smooth)
+smooth-parts : (refuses : Refusal → Bool) (x : Choice) (r : Reply) (xs : List Choice) (rs : List Reply)
+    → AreFair refuses (x ∷ xs) (r ∷ rs) → AreFair refuses (x ∷ []) (r ∷ []) × AreFair refuses xs rs
+smooth-parts refuses (choice.Turn by) r xs rs smooth = ((smooth.0, smooth.1, tt), smooth.2)
+smooth-parts refuses (choice.Outside e) r xs rs smooth = (tt, smooth)
 
 module _ (may : Policy) (shelf : Shelf) (crew : Crew) (laws : AllLaws crew) where
   -- what the server's turn made
@@ -144,9 +144,18 @@ module _ (may : Policy) (shelf : Shelf) (crew : Crew) (laws : AllLaws crew) wher
 
     -- The server's turn.
     server_step : (yields : Bool) (r : Reply) (next : Seat (Actor crew.Worker))
-        → SeatTurn copying (actor_turns may crew.turns) w.machine first yields r after.machine next → after.seats ≡ next ∷ others → is_rough r ≡ false
+        → SeatTurn copying (actor_turns may crew.turns) w.machine first yields r after.machine next → after.seats ≡ next ∷ others → IsAmong shelf.refuses r
         → Leads p
-    server_step yields r next (inl starves) seats calm = absurd (not-rough r starves.answer calm)
+    server_step yields r next (inl starves) seats calm = (
+      inl starves.machine_stays,
+      record {
+        state = s.state;
+        last = s.last;
+        workers = s.workers;
+        seats = seats ∙ ap (λ (z : Seat (Actor crew.Worker)). z ∷ others) starves.seat_stays;
+        serves = subst (λ (m : State). IsServing shelf crew m p s.state s.last s.workers) (sym starves.machine_stays) s.serves;
+      },
+    )
     server_step yields r next (inr moves) seats calm = by next.process refl moves.goes_on
       where
         by : (x : Actor crew.Worker) → next.process ≡ x
@@ -254,18 +263,21 @@ module _ (may : Policy) (shelf : Shelf) (crew : Crew) (laws : AllLaws crew) wher
               next_is : next ≡ as_actor (record { by = next.by; process = u; last = next.last })
               next_is = ap (λ (z : Actor crew.Worker). record { by = next.by; process = z; last = next.last }) is
 
+    not-server-by : (i : ℕ) (seat : Seat crew.Worker) → slice_get s.workers i ≡ Some seat → seat.by ≡ server → ⊥
+    not-server-by i seat sits same = (let is = (s.serves.fit.desks.by i seat sits).1 in omega (arith, same, is))
+
     -- A turn of whoever sits at a place.
-    place_step : (place : ℕ) (yields : Bool) (r : Reply) → PlaceTurn copying (actor_turns may crew.turns) w place yields r after → is_rough r ≡ false
-        → Leads p
-    place_step place yields r t calm = by place (subst (λ (l : List (Seat (Actor crew.Worker))). slice_get l place ≡ Some t.seat) s.seats t.sits) (t.others_stay ∙ ap (λ (l : List (Seat (Actor crew.Worker))). slice_set l place t.next) s.seats)
+    place_step : (place : ℕ) (yields : Bool) (r : Reply) → (t : PlaceTurn copying (actor_turns may crew.turns) w place yields r after) → IsAmong shelf.refuses r
+        → (t.seat.by ≢ server → is_rough r ≡ false) → Leads p
+    place_step place yields r t among calm = by place (subst (λ (l : List (Seat (Actor crew.Worker))). slice_get l place ≡ Some t.seat) s.seats t.sits) (t.others_stay ∙ ap (λ (l : List (Seat (Actor crew.Worker))). slice_set l place t.next) s.seats)
       where
         by : (place : ℕ) → slice_get (first ∷ others) place ≡ Some t.seat → after.seats ≡ slice_set (first ∷ others) place t.next → Leads p
         by zero sits seats =
             let is : first ≡ t.seat = some-inj first t.seat sits in
-            server_step yields r t.next (subst (λ (z : Seat (Actor crew.Worker)). SeatTurn copying (actor_turns may crew.turns) w.machine z yields r after.machine t.next) (sym is) t.turn) seats calm
+            server_step yields r t.next (subst (λ (z : Seat (Actor crew.Worker)). SeatTurn copying (actor_turns may crew.turns) w.machine z yields r after.machine t.next) (sym is) t.turn) seats among
         by (suc i) sits seats =
             let one = map-get s.workers i t.seat sits in
-            worker_step r i one.0 one.1 calm yields t.next (subst (λ (z : Seat (Actor crew.Worker)). SeatTurn copying (actor_turns may crew.turns) w.machine z yields r after.machine t.next) one.2 t.turn) seats
+            worker_step r i one.0 one.1 (calm (λ same. not-server-by i one.0 one.1 (sym (ap (λ (z : Seat (Actor crew.Worker)). z.by) one.2) ∙ same))) yields t.next (subst (λ (z : Seat (Actor crew.Worker)). SeatTurn copying (actor_turns may crew.turns) w.machine z yields r after.machine t.next) one.2 t.turn) seats
 
     -- whoever sits stays, with what the server keeps
     still : (q : Past) → after.seats ≡ w.seats → Names after.machine s.last s.serves.heard → AllFit shelf crew after.machine q clients s.workers
@@ -318,13 +330,13 @@ module _ (may : Policy) (shelf : Shelf) (crew : Crew) (laws : AllLaws crew) wher
   -- Each calm step keeps the tie.
   pub step_keeps : (xs : List Choice) (rs : List Reply) (x : Choice) (r : Reply) (w after : Stage State (Actor crew.Worker))
       → WorldStep copying (actor_turns may crew.turns) w x r after → IsMild w x after
-      → AreSmooth (x ∷ []) (r ∷ []) → Tied shelf crew xs rs w
+      → AreFair shelf.refuses (x ∷ []) (r ∷ []) → Tied shelf crew xs rs w
       → Tied shelf crew (xs ++ x ∷ []) (rs ++ r ∷ []) after
   step_keeps xs rs (choice.Turn by) r w after (inl absent) mild smooth tied =
       let same : after.machine ≡ w.machine = ap (λ (v : Stage State (Actor crew.Worker)). v.machine) absent.stays in
       tied-on xs rs (choice.Turn by) r w after (past_of xs rs) tied (inl same) (past-turn xs rs by r tied.even) (subst (λ (v : Stage State (Actor crew.Worker)). AreSeated shelf crew v (past_of xs rs)) (sym absent.stays) tied.seated)
   step_keeps xs rs (choice.Turn by) r w after (inr present) mild smooth tied =
-      let did = place_step w after (past_of xs rs) tied.order tied.fixed tied.seated present.place present.yields r present.turn smooth.0 in
+      let did = place_step w after (past_of xs rs) tied.order tied.fixed tied.seated present.place present.yields r present.turn smooth.0 (λ apart. smooth.1 (λ same. apart (present.domain ∙ same))) in
       tied-on xs rs (choice.Turn by) r w after (past_of xs rs) tied did.0 (past-turn xs rs by r tied.even) did.1
   step_keeps xs rs (choice.Outside e) r w after outside mild smooth tied =
       let did = outside_step w after (past_of xs rs) tied.order tied.fixed tied.seated e r outside.step outside.seats_stay mild in
@@ -333,11 +345,11 @@ module _ (may : Policy) (shelf : Shelf) (crew : Crew) (laws : AllLaws crew) wher
   -- so a calm run keeps it
   pub run_keeps : (xs : List Choice) (rs : List Reply) (w after : Stage State (Actor crew.Worker)) (past : List Choice) (ps : List Reply)
       → (run : WorldRun copying (actor_turns may crew.turns) w xs rs after)
-      → AreMild (actor_turns may crew.turns) w xs rs after run → AreSmooth xs rs → Tied shelf crew past ps w
+      → AreMild (actor_turns may crew.turns) w xs rs after run → AreFair shelf.refuses xs rs → Tied shelf crew past ps w
       → Tied shelf crew (past ++ xs) (ps ++ rs) after
   run_keeps [] [] w after past ps run mild smooth tied = subst (λ (l : List Choice). Tied shelf crew l (ps ++ []) after) (sym (append-nil past)) (subst (λ (l : List Reply). Tied shelf crew past l after) (sym (append-nil ps)) (subst (λ (v : Stage State (Actor crew.Worker)). Tied shelf crew past ps v) (sym run) tied))
   run_keeps (x ∷ xs) (r ∷ rs) w after past ps run mild smooth tied =
-      let both = smooth-parts x r xs rs smooth in
+      let both = smooth-parts shelf.refuses x r xs rs smooth in
       let on_tied = run_keeps xs rs run.0 after (past ++ x ∷ []) (ps ++ r ∷ []) run.2 mild.1 both.1 (step_keeps past ps x r w run.0 run.1 mild.0 both.0 tied) in
       subst (λ (l : List Choice). Tied shelf crew l (ps ++ r ∷ rs) after) (append_assoc past (x ∷ []) xs) (subst (λ (l : List Reply). Tied shelf crew ((past ++ x ∷ []) ++ xs) l after) (append_assoc ps (r ∷ []) rs) on_tied)
   run_keeps [] (r ∷ rs) w after past ps run mild smooth tied = absurd run

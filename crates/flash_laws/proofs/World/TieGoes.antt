@@ -1,5 +1,5 @@
 -- What ties a client to its connection stays, as the connection goes on: or the peer is gone, and what was sent begins the answer.
-use Rattle.std.proofs.Common.{inl, inr, ◌≡◌, ℕ, ◌+◌, List, [], ◌∷◌, ◌++◌, take, ◌∙◌, sym, subst, true, false}
+use Rattle.std.proofs.Common.{inl, inr, ◌≡◌, ℕ, ◌+◌, List, [], ◌∷◌, ◌++◌, take, ◌∙◌, subst, true, false}
 use Rattle.std.specs.Prelude.{is_none}
 use Rattle.iol_core.specs.Text.{bytes_of}
 use Rattle.iol_core.specs.State.{Connection, is_gone}
@@ -10,7 +10,7 @@ use Rattle.flash_laws.specs.Conn.Fits.{asked}
 use Rattle.flash_laws.specs.Conn.OfferedBytes.{taken_of}
 use Rattle.flash_laws.specs.Run.Fits.{Progress}
 use Rattle.flash_laws.specs.Run.OfferedBytes.{past_of, taken_by}
-use Rattle.flash_laws.specs.Shelf.{Shelf, due_to, Begins}
+use Rattle.flash_laws.specs.Shelf.{Shelf, due_to, Begins, MayBeDue, Responds}
 use Rattle.flash_laws.specs.declared.phase.Doing.{Doing}
 use Rattle.flash_laws.specs.declared.script_run.Running.{Running}
 use Rattle.flash_laws.proofs.World.Responses.{begins-less, begins-tie, begins-run}
@@ -27,7 +27,7 @@ module _ (shelf : Shelf) (k j : Connection) (took sent after : List ℕ) (total 
       rest = f.finished.rest;
       reads = f.finished.reads;
       order = f.finished.order;
-      all = sym total ∙ f.finished.all;
+      responds = subst (λ (l : List ℕ). Responds shelf f.finished.qs l) total f.finished.responds;
       no_more = (elim f.finished.no_more [
         | inl last ↦ inl last
         | inr end ↦ (let now = ended end.2 in inr (end.0, now.0 ∙ end.1, now.1))
@@ -39,13 +39,13 @@ module _ (shelf : Shelf) (k j : Connection) (took sent after : List ℕ) (total 
   left-stays : IsLeftAlone shelf k took (sent ++ bytes_of k.outgoing) → IsLeftAlone shelf j took (after ++ bytes_of j.outgoing)
   left-stays l = record { gone = gone ∙ l.gone; begins = subst (λ (l : List ℕ). Begins shelf took l) total l.begins }
 
-  pub tie-stays : (x : Client) → TieAlone shelf k took sent x → TieAlone shelf j took after x
-  tie-stays x (inl a) = inl (
+  pub tie-stays : (x : Client) (due : List ℕ) → TieAlone shelf due k took sent x → TieAlone shelf due j took after x
+  tie-stays x due (inl a) = inl (
     a.0,
-    subst (λ (l : List ℕ). Answers shelf took l x.conn.kept (asked x.conn.q x.conn.doing) (given_of shelf x.conn.q (is_at_rest x.conn.doing) (taken_of x.conn.doing))) total a.1,
+    subst (λ (l : List ℕ). Answers shelf took l x.conn.kept (asked x.conn.q x.conn.doing) (given_of due (is_at_rest x.conn.doing) (taken_of x.conn.doing))) total a.1,
   )
-  tie-stays x (inr (inl f)) = inr (inl (finished-stays x.conn.doing f))
-  tie-stays x (inr (inr l)) = inr (inr (left-stays l))
+  tie-stays x due (inr (inl f)) = inr (inl (finished-stays x.conn.doing f))
+  tie-stays x due (inr (inr l)) = inr (inr (left-stays l))
 
   pub run-stays : (kept : List ℕ) (w : Wanted) (o : Progress) (y : Running) → TieRun shelf k took sent kept w o y → TieRun shelf j took after kept w o y
   run-stays kept w o y (inl g) = inl (record {
@@ -62,8 +62,8 @@ module _ (shelf : Shelf) (k j : Connection) (took sent after dropped : List ℕ)
   left-alone : Begins shelf took (sent ++ bytes_of k.outgoing) → IsLeftAlone shelf j took (after ++ bytes_of j.outgoing)
   left-alone begins = record { gone = gone; begins = begins-less shelf took (after ++ bytes_of j.outgoing) dropped (subst (λ (l : List ℕ). Begins shelf took l) total begins) }
 
-  pub tie-leaves : (x : Client) → TieAlone shelf k took sent x → TieAlone shelf j took after x
-  tie-leaves x tie = inr (inr (left-alone (begins-tie shelf k took sent x tie)))
+  pub tie-leaves : (x : Client) (due : List ℕ) → MayBeDue shelf x.conn.q due → TieAlone shelf due k took sent x → TieAlone shelf due j took after x
+  tie-leaves x due may tie = inr (inr (left-alone (begins-tie shelf k took sent x due may tie)))
 
   pub run-leaves : (kept : List ℕ) (w : Wanted) (o : Progress) (y : Running) → TieRun shelf k took sent kept w o y → TieRun shelf j took after kept w o y
   run-leaves kept w o y tie = inr (left-alone (begins-run shelf k took sent kept w o y tie))

@@ -57,6 +57,7 @@ module _ (shelf : Shelf) (crew : Crew) (m n : State) (p : Past) (clients : List 
     fds_apart = apart (λ y g. has_fd y g) mixed_fd all.fds_apart;
     left = left;
     fresh = λ c more. all.fresh c (omega (arith, rises, more));
+    untold = λ c more. all.untold c (omega (arith, rises, more));
     own = own;
     free = free;
     desks = desks;

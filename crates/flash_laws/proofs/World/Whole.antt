@@ -52,6 +52,7 @@ first_tied shelf crew w new = record {
         fds_apart = λ fd gd a x y is_x is_y u v. absurd (none fd x is_x);
         left = λ c. told-none false (conn_at w.machine c) (new.no_conns c);
         fresh = λ c more. (refl, refl, refl);
+        untold = λ c more. refl;
         own = (workers_shared.first crew.count).own;
         free = λ k seat sits free. new.free k seat sits;
         desks = new.desks;
@@ -74,7 +75,7 @@ module _ (laws : WindowLaws) (shelf : Shelf) (crew : Crew) (m : State) (p : Past
   -- a client's connection
   begun : (fd k : ℕ) (x : Client) (run : Option Running) → FitsBy shelf crew run m (p.came k) (p.sent k) fd k x seats
       → (descriptor m server fd ≡ Some (on.Connection k)) × Begins shelf (p.came k) (p.sent k ++ bytes_of (conn_at m k).outgoing)
-  begun fd k x None f = (f.open_on, with-more k f.took f.came_is (begins-tie shelf (conn_at m k) f.took (p.sent k) x f.tie))
+  begun fd k x None f = (f.open_on, with-more k f.took f.came_is (begins-tie shelf (conn_at m k) f.took (p.sent k) x f.due f.may f.tie))
   begun fd k x (Some y) f = (f.open_on, with-more k f.took f.came_is (begins-run shelf (conn_at m k) f.took (p.sent k) x.conn.kept f.wanted f.so_far y f.tie))
 
   -- so the claim holds

@@ -109,6 +109,7 @@ module _ (shelf : Shelf) (crew : Crew) (laws : AllLaws crew) (m n : State) (p : 
       fds_apart = turn.fit.fds_apart;
       left = λ c. subst (λ (z : Connection). z.closed ≡ false → is_gone z.peer ≡ true → p.gone c ≡ true) (sym (left.conns c)) (turn.fit.left c);
       fresh = λ c more. turn.fit.fresh c (omega (arith, rises, more));
+      untold = λ c more. turn.fit.untold c (omega (arith, rises, more));
       own = turn.fit.own;
       free = stays-free;
       desks = still-seated;

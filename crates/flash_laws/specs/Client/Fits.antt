@@ -24,7 +24,7 @@ use Rattle.flash_laws.specs.Run.Fits as run
 use Rattle.flash_laws.specs.Run.Fits.{Progress, HasRun}
 use Rattle.flash_laws.specs.Run.OfferedBytes.{past_of, taken_by, breaks_off}
 use Rattle.flash_laws.specs.Run.{is_over}
-use Rattle.flash_laws.specs.Shelf.{Shelf, due_to, responses, Begins}
+use Rattle.flash_laws.specs.Shelf.{Shelf, due_to, MayBeDue, Responds, Begins}
 use Rattle.flash_laws.specs.Site.{server}
 use Rattle.flash_laws.specs.Run.Stages.{HasWorkerAt}
 use Rattle.flash_laws.specs.declared.phase.Learnt.TheVariants.{Text}
@@ -51,7 +51,7 @@ pub record Finished (shelf : Shelf) (k : Connection) (took out : List ℕ) : Typ
   pub rest : List ℕ
   pub reads : Reads took qs rest
   pub order : last_may_close qs ≡ true
-  pub all : out ≡ responses shelf qs
+  pub responds : Responds shelf qs out
   pub no_more : (last_closes qs ≡ true) ⊎ ((window_in rest ≡ Wait) × (k.incoming ≡ []) × (is_none k.peer ≡ false))
 
 -- The requests before the one in progress are answered whole, that one up to these bytes, and the rest of the stream is kept.
@@ -59,7 +59,9 @@ pub record Answers (shelf : Shelf) (took out kept : List ℕ) (now : List Answer
   pub done : List Answer
   pub open_yet : list_all (λ p. keeps p) done ≡ true
   pub reads : Reads took (done ++ now) kept
-  pub out_is : out ≡ responses shelf done ++ given
+  pub before : List ℕ
+  pub responds : Responds shelf done before
+  pub out_is : out ≡ before ++ given
 
 -- The peer is gone, which drops what was to be sent; what was sent begins the answer.
 pub record IsLeftAlone (shelf : Shelf) (k : Connection) (took out : List ℕ) : Type 0 where
@@ -68,15 +70,15 @@ pub record IsLeftAlone (shelf : Shelf) (k : Connection) (took out : List ℕ) : 
 
 -- ---- a connection alone
 
+-- what is given of the response to the request in progress, where so many bytes of it are taken
+abbrev pub given_of : (due : List ℕ) → (rests : Bool) → (taken : ℕ) → List ℕ
+given_of due rests taken = if rests then [] else take taken due
+
+-- what the phase makes or sends the bytes of: where the text of a script was read the head for one, else the response
+abbrev pub due_in : (due : List ℕ) → Answer → Doing → List ℕ
+due_in due q d = if is_read d then text_of q Script else due
+
 module _ (shelf : Shelf) where
-  -- what is given of the response to the request in progress, where so many bytes of it are taken
-  abbrev pub given_of : Answer → (rests : Bool) → (taken : ℕ) → List ℕ
-  given_of q rests taken = if rests then [] else take taken (due_to shelf q)
-
-  -- what the phase makes or sends the bytes of: where the text of a script was read the head for one, else the response
-  abbrev pub due_in : Answer → Doing → List ℕ
-  due_in q d = if is_read d then text_of q Script else due_to shelf q
-
   -- the text of a script was read that can run, and is kept but for HEAD
   pub record HasText (q : Answer) (script : List ℕ) : Type 0 where
     pub asks : is_for_script shelf.scripts q ≡ true
@@ -105,10 +107,10 @@ module _ (shelf : Shelf) where
     pub finished : Finished shelf k took out
     pub begins : Begins shelf took out
 
-  abbrev pub TieAlone : Connection → (took sent : List ℕ) → Client → Type 0
-  TieAlone k took sent x =
+  abbrev pub TieAlone : (due : List ℕ) → Connection → (took sent : List ℕ) → Client → Type 0
+  TieAlone due k took sent x =
       ((quits x.conn.doing ≡ false) × Answers shelf took (sent ++ bytes_of k.outgoing) x.conn.kept (asked x.conn.q x.conn.doing)
-      (given_of x.conn.q (is_at_rest x.conn.doing) (taken_of x.conn.doing)))
+      (given_of due (is_at_rest x.conn.doing) (taken_of x.conn.doing)))
       ⊎ (IsFinished k took (sent ++ bytes_of k.outgoing) x.conn.doing
       ⊎ IsLeftAlone shelf k took (sent ++ bytes_of k.outgoing))
 
@@ -118,8 +120,11 @@ module _ (shelf : Shelf) where
     pub open_on : descriptor m server fd ≡ Some (on.Connection c)
     pub took : List ℕ
     pub came_is : came ≡ took ++ bytes_of (conn_at m c).incoming
-    pub tie : TieAlone (conn_at m c) took sent x
-    pub has : Has m x.conn.q (due_in x.conn.q x.conn.doing) x.conn.doing
+    -- the response to the request in progress
+    pub due : List ℕ
+    pub may : MayBeDue shelf x.conn.q due
+    pub tie : TieAlone due (conn_at m c) took sent x
+    pub has : Has m x.conn.q (due_in due x.conn.q x.conn.doing) x.conn.doing
     pub finds : Finds m x.conn.q x.script x.conn.doing
     pub proper : IsProper x.conn.q
 

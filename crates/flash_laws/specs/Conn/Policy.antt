@@ -4,7 +4,7 @@
 -- until its call is to be made again later, or nothing is left to do for it but to read more.
 use Rattle.std.specs.Prelude.{ℕ, ◌==◌, ◌||◌, Bool, true, false, if◌then◌else◌, nat_lt, List, length, Option, Some, None}
 use Rattle.iol_core.specs.NumberedLists.{taken}
-use Rattle.iol_core.specs.declared.refusals.Refusal.TheVariants.{WouldBlock, TooMany, NoRoom, Memory}
+use Rattle.iol_core.specs.declared.refusals.Refusal.TheVariants.{WouldBlock, TooMany, PoolClosed, NoRoom, Memory}
 use Rattle.iol_core.specs.declared.events.Reply.{Reply}
 use Rattle.iol_core.specs.declared.events.Reply.TheVariants as reply
 use Rattle.flash_laws.specs.Conn.{Conn}
@@ -17,10 +17,12 @@ use Rattle.flash_laws.specs.declared.phase.Flight.TheVariants.{Nothing, Acceptin
 abbrev pub most_conns : ℕ
 most_conns = 256
 
--- whether the call is to be made again later: it would block now, or numbers, room or memory are wanting
+-- whether the call is to be made again later: it would block, there are no more table entries, pages or memory, or its pool is
+-- closed, so that a closed pool does not keep the server at one client
 abbrev pub is_later : Reply → Bool
 is_later (reply.Refused WouldBlock) = true
 is_later (reply.Refused TooMany) = true
+is_later (reply.Refused (PoolClosed p)) = true
 is_later (reply.Refused (NoRoom p)) = true
 is_later (reply.Refused Memory) = true
 is_later r = false

@@ -68,8 +68,9 @@ module _ (shelf : Shelf) (crew : Crew) where
         → has_fd x g ≡ true → has_fd y g ≡ true → fd ≡ gd
     -- of an open connection whose peer is gone it was told that it left
     pub left : (c : ℕ) → (conn_at m c).closed ≡ false → is_gone (conn_at m c).peer ≡ true → p.gone c ≡ true
-    -- of a number that is still to come there is no history
+    -- of a number that is still to come there is no history, and no peer that left
     pub fresh : (c : ℕ) → m.next_conn ≤ c → (p.came c ≡ []) × (p.sent c ≡ []) × (p.net c ≡ false)
+    pub untold : (c : ℕ) → m.next_conn ≤ c → p.gone c ≡ false
     -- no worker runs two scripts, and each that runs none is free
     pub own : EachHasItsOwn crew.count clients
     pub free : (k : ℕ) (seat : Seat crew.Worker) → slice_get seats k ≡ Some seat → is_free clients k ≡ true

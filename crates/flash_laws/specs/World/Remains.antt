@@ -10,7 +10,7 @@ use Rattle.flash_http.specs.Request.{Answer}
 use Rattle.flash_laws.specs.Answers.{Reads, keeps}
 use Rattle.flash_laws.specs.Client.{is_for_script}
 use Rattle.flash_laws.specs.Conn.Policy.{most_conns}
-use Rattle.flash_laws.specs.Shelf.{Shelf, due_to, responses}
+use Rattle.flash_laws.specs.Shelf.{Shelf, MayBeDue, Responds}
 use Rattle.flash_laws.specs.Site.{server}
 
 -- The server has as many connections as it may: so many are kept, and each of these is open on one.
@@ -36,6 +36,8 @@ pub record AnswersScript (shelf : Shelf) (s bytes part : List ℕ) : Type 0 wher
   pub reads : Reads s (qs ++ q ∷ []) rest
   pub open_yet : list_all (λ p. keeps p) qs ≡ true
   pub script : is_for_script shelf.scripts q ≡ true
-  pub so_far : bytes ≡ responses shelf qs ++ part
+  pub before : List ℕ
+  pub responds : Responds shelf qs before
+  pub so_far : bytes ≡ before ++ part
   pub after : List ℕ
-  pub due : due_to shelf q ≡ part ++ after
+  pub may : MayBeDue shelf q (part ++ after)

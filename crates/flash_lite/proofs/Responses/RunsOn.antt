@@ -35,35 +35,36 @@ use Rattle.flash_lite.proofs.Responses.Clients.{course_reply}
 -- after each of these replies
 abbrev Later : {A : Type 0} → (Reply → A) → A → Type 0
 Later f a = (f (reply.Refused no.WouldBlock) ≡ a) × (f (reply.Refused no.TooMany) ≡ a)
-    × ((p : ℕ) → f (reply.Refused (no.NoRoom p)) ≡ a) × (f (reply.Refused no.Memory) ≡ a)
+    × ((p : ℕ) → f (reply.Refused (no.PoolClosed p)) ≡ a) × ((p : ℕ) → f (reply.Refused (no.NoRoom p)) ≡ a) × (f (reply.Refused no.Memory) ≡ a)
 
 by-later : {A : Type 0} (f : Reply → A) (a : A) (r : Reply) → Later f a → is_later r ≡ true → f r ≡ a
 by-later f a (reply.Refused no.WouldBlock) same is = same.0
 by-later f a (reply.Refused no.TooMany) same is = same.1
-by-later f a (reply.Refused (no.NoRoom p)) same is = same.2 p
-by-later f a (reply.Refused no.Memory) same is = same.3
+by-later f a (reply.Refused (no.PoolClosed p)) same is = same.2 p
+by-later f a (reply.Refused (no.NoRoom p)) same is = same.3 p
+by-later f a (reply.Refused no.Memory) same is = same.4
 by-later f a r same is = absurd (cc (is))
 
 part-later : (run : Run) (d : Doing) (frame : Option ℕ) → Later (λ r. told_sending run d frame r) (Runs run (act.Sending d frame))
-part-later run (Sent a taken None) frame = (refl, refl, λ p. refl, refl)
-part-later run (Sent a taken (Some x)) frame = (refl, refl, λ p. refl, refl)
-part-later run (Drops a None) frame = (refl, refl, λ p. refl, refl)
-part-later run (Drops a (Some x)) frame = (refl, refl, λ p. refl, refl)
-part-later run d frame = (refl, refl, λ p. refl, refl)
+part-later run (Sent a taken None) frame = (refl, refl, λ p. refl, λ p. refl, refl)
+part-later run (Sent a taken (Some x)) frame = (refl, refl, λ p. refl, λ p. refl, refl)
+part-later run (Drops a None) frame = (refl, refl, λ p. refl, λ p. refl, refl)
+part-later run (Drops a (Some x)) frame = (refl, refl, λ p. refl, λ p. refl, refl)
+part-later run d frame = (refl, refl, λ p. refl, λ p. refl, refl)
 
 step-later : (w : Wanted) (run : Run) (s : Step) (heard : List ℕ) → Later (λ r. told_step w run s r heard) (Runs run s)
 step-later w run (act.Sending d frame) heard = part-later run d frame
-step-later w run s heard = (refl, refl, λ p. refl, refl)
+step-later w run s heard = (refl, refl, λ p. refl, λ p. refl, refl)
 
 left-later : (w : Wanted) (d : Doing) (heard : List ℕ) → is_left d ≡ true → Later (λ r. Leaves (conn.told (in_phase w d) r heard).doing) (Leaves d)
-left-later w (Heads k) heard left = (refl, refl, λ p. refl, refl)
-left-later w (Sends a len taken more) heard left = (refl, refl, λ p. refl, refl)
-left-later w (Cuts a from len taken more) heard left = (refl, refl, λ p. refl, refl)
-left-later w (Offers a from len piece taken more) heard left = (refl, refl, λ p. refl, refl)
-left-later w (Swaps a from len piece taken more) heard left = (refl, refl, λ p. refl, refl)
-left-later w (Sent a taken more) heard left = (refl, refl, λ p. refl, refl)
-left-later w (Breaks piece a more) heard left = (refl, refl, λ p. refl, refl)
-left-later w (Drops a more) heard left = (refl, refl, λ p. refl, refl)
+left-later w (Heads k) heard left = (refl, refl, λ p. refl, λ p. refl, refl)
+left-later w (Sends a len taken more) heard left = (refl, refl, λ p. refl, λ p. refl, refl)
+left-later w (Cuts a from len taken more) heard left = (refl, refl, λ p. refl, λ p. refl, refl)
+left-later w (Offers a from len piece taken more) heard left = (refl, refl, λ p. refl, λ p. refl, refl)
+left-later w (Swaps a from len piece taken more) heard left = (refl, refl, λ p. refl, λ p. refl, refl)
+left-later w (Sent a taken more) heard left = (refl, refl, λ p. refl, λ p. refl, refl)
+left-later w (Breaks piece a more) heard left = (refl, refl, λ p. refl, λ p. refl, refl)
+left-later w (Drops a more) heard left = (refl, refl, λ p. refl, λ p. refl, refl)
 left-later w d heard left = absurd (cc (left))
 
 still-left : (d : Doing) → not (is_left d) ≡ false → is_left d ≡ true
@@ -74,7 +75,7 @@ still-left d is = by (is_left d) is
     by false is = absurd (cc (is))
 
 run-later : (worker : ℕ) (w : Wanted) (y : Running) (heard : List ℕ) → is_over y ≡ false → Later (λ r. running.told worker w y r heard) y
-run-later worker w Awaits heard going = (refl, refl, λ p. refl, refl)
+run-later worker w Awaits heard going = (refl, refl, λ p. refl, λ p. refl, refl)
 run-later worker w (Runs run s) heard going = step-later w run s heard
 run-later worker w (Leaves d) heard going = left-later w d heard (still-left d going)
 run-later worker w Finished heard going = absurd (cc (going))

@@ -7,9 +7,9 @@ use Rattle.iol_core.specs.declared.events.Call.{Call}
 use Rattle.iol_core.specs.declared.events.Call.TheVariants as call
 use Rattle.iol_core.specs.declared.events.Event.TheVariants as event
 use Rattle.iol_core.specs.declared.events.Reply.{Reply}
+use Rattle.iol_core.specs.declared.refusals.Refusal.{Refusal}
 use Rattle.iol_laws.specs.Frame.{changes_files, admits_to}
 use Rattle.iol_proc.specs.Idle.{Went, rounds}
-use Rattle.iol_proc.specs.Smooth.{AreSmooth}
 use Rattle.iol_proc.specs.Turns.{Account}
 use Rattle.iol_proc.specs.World.{Stage, copying, WorldStep, WorldRun}
 use Rattle.iol_proc.specs.declared.choice.Choice.{Choice}
@@ -23,7 +23,7 @@ use Rattle.flash_laws.specs.Site.ClientTies.{AreAnswered}
 use Rattle.flash_laws.specs.Shelf.{Shelf, IsAnswer}
 use Rattle.flash_laws.specs.Site.{server, SiteStays}
 use Rattle.flash_laws.specs.World.Tie.{past_of, Actor, Serving, actor_turns}
-use Rattle.flash_laws.specs.World.{Tied, IsServing, as_actor, StepKeepsTie}
+use Rattle.flash_laws.specs.World.{AreFair, Tied, IsServing, as_actor, StepKeepsTie}
 use Rattle.flash_laws.specs.World.Done.{IsDone}
 use Rattle.flash_laws.specs.World.Host.{IsRight}
 use Rattle.flash_laws.proofs.Conn.Responses.{some-inj}
@@ -53,10 +53,10 @@ seat-there [] i s is = absurd (cc (is))
 seat-there {W = W} (x ∷ xs) zero s is = (x, refl, ap (λ (v : Seat (Actor W)). v.by) (sym (some-inj (as_actor x) s is)))
 seat-there (x ∷ xs) (suc i) s is = seat-there xs i s is
 
-smooth-parts : (x : Choice) (r : Reply) (xs : List Choice) (rs : List Reply)
-    → AreSmooth (x ∷ xs) (r ∷ rs) → AreSmooth (x ∷ []) (r ∷ []) × AreSmooth xs rs
-smooth-parts (choice.Turn by) r xs rs smooth = ((smooth.0, tt), smooth.1)
-smooth-parts (choice.Outside e) r xs rs smooth = (tt, smooth)
+fair-parts : (refuses : Refusal → Bool) (x : Choice) (r : Reply) (xs : List Choice) (rs : List Reply)
+    → AreFair refuses (x ∷ xs) (r ∷ rs) → AreFair refuses (x ∷ []) (r ∷ []) × AreFair refuses xs rs
+fair-parts refuses (choice.Turn by) r xs rs fair = ((fair.0, fair.1, tt), fair.2)
+fair-parts refuses (choice.Outside e) r xs rs fair = (tt, fair)
 
 module _ (shelf : Shelf) (crew : Crew) where
   sits-below : (xs : List Choice) (rs : List Reply) (w : Stage State (Actor crew.Worker)) → Tied shelf crew xs rs w
@@ -94,12 +94,12 @@ module _ (shelf : Shelf) (crew : Crew) where
 
     pub all-mild : (keeps : StepKeepsTie in_rounds crew) (past xs : List Choice) (ps rs : List Reply)
         (w after : Stage State (Actor crew.Worker)) → (run : WorldRun copying (actor_turns in_rounds crew.turns) w xs rs after)
-        → Tied shelf crew past ps w → AreSmooth xs rs → AllByRecursion (λ x. IsHarmless crew.count x) xs
+        → Tied shelf crew past ps w → AreFair shelf.refuses xs rs → AllByRecursion (λ x. IsHarmless crew.count x) xs
         → AreMild (actor_turns in_rounds crew.turns) w xs rs after run
-    all-mild keeps past [] ps rs w after run tied smooth harmless = tt
-    all-mild keeps past (x ∷ xs) ps [] w after run tied smooth harmless = tt
-    all-mild keeps past (x ∷ xs) ps (r ∷ rs) w after run tied smooth harmless =
-        let parts = smooth-parts x r xs rs smooth in
+    all-mild keeps past [] ps rs w after run tied fair harmless = tt
+    all-mild keeps past (x ∷ xs) ps [] w after run tied fair harmless = tt
+    all-mild keeps past (x ∷ xs) ps (r ∷ rs) w after run tied fair harmless =
+        let parts = fair-parts shelf.refuses x r xs rs fair in
         let mild = step-mild past ps x r w run.0 run.1 harmless.0 tied in (
           mild,
           all-mild keeps (past ++ x ∷ []) xs (ps ++ r ∷ []) rs run.0 after run.2

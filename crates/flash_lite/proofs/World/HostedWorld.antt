@@ -32,7 +32,7 @@ world_new s slots old sys w ps begins placed leaves same new procs machine seats
       machine = is ∙ ((leaves slots begins).state ∙ ap (λ (l : List (List ℕ)). state_of s l) kept);
       seats = seated;
       smooth = smooth;
-      new = new (copied w) is seated slots begins (subst (λ (m : State). ArePlaced m) begins placed).slots;
+      new = λ refuses. new (copied w) is seated slots refuses begins (subst (λ (m : State). ArePlaced m) begins placed).slots;
     }
 
 pub hosted : (s : Site) (slots : List (List ℕ)) (xs : List Choice) (rs : List Reply) (turns : ℕ) (idle : Bool)

@@ -6,6 +6,7 @@ use Rattle.iol_core.specs.Positions.{ArePlaced}
 use Rattle.iol_core.specs.Run.{Run}
 use Rattle.iol_core.specs.State.{Domain, Pipe, State, conn_at, domain, new_state}
 use Rattle.iol_core.specs.Text.{Text}
+use Rattle.iol_core.specs.declared.refusals.Refusal.{Refusal}
 use Rattle.iol_laws.specs.Caller.{lent_at}
 use Rattle.iol_laws.specs.DescriptorNumbers.{AreLow, DescriptorsComeByReplies}
 use Rattle.iol_laws.specs.Order.{IsOrderly, EachStepKeepsOrder}
@@ -59,12 +60,12 @@ module _ (orders : EachStepKeepsOrder) (descriptors : DescriptorsComeByReplies) 
     unfolding domain
     no_aggregate a = refl
 
-    new_by : (seats : List (Seat (Actor Worker))) (rough : Bool) → is_in_range s ≡ true → Led (Just slots) s slots (state_of s slots) → HasCrew s seats → IsOrderly (state_of s slots)
-        → HasAccess (state_of s slots) → ArePlaced (state_of s slots) → AreLow (state_of s slots) → IsNew (library_of s slots) (crew_of s) (record { machine = state_of s slots; seats = seats; rough = rough })
+    new_by : (seats : List (Seat (Actor Worker))) (rough : Bool) (refuses : Refusal → Bool) → is_in_range s ≡ true → Led (Just slots) s slots (state_of s slots) → HasCrew s seats → IsOrderly (state_of s slots)
+        → HasAccess (state_of s slots) → ArePlaced (state_of s slots) → AreLow (state_of s slots) → IsNew (library_of s slots refuses) (crew_of s) (record { machine = state_of s slots; seats = seats; rough = rough })
     unfolding conn_at
-    new_by seats rough fits l has order access placed low = record {
+    new_by seats rough refuses fits l has order access placed low = record {
       order = order;
-      fixed = fixed_for s slots fits access placed low (shorts s slots l.short);
+      fixed = fixed_for s slots refuses fits access placed low (shorts s slots l.short);
       workers = has.workers;
       seats = has.seats_are;
       desks = record {
@@ -78,15 +79,15 @@ module _ (orders : EachStepKeepsOrder) (descriptors : DescriptorsComeByReplies) 
     }
 
   pub set_up_a_new_world : SetUpIsANewWorld
-  set_up_a_new_world s old w fits set seated slots is enough =
+  set_up_a_new_world s old w fits set seated slots refuses is enough =
       let run : Run (new_state slots) (calls s) set.replies w.machine = subst (λ (m : State). Run m (calls s) set.replies w.machine) is set.run in
       let l = led_by s slots old w.machine fits set is in
       let order = run_keeps IsOrderly orders.step (new_state slots) w.machine (calls s) set.replies (orders.new slots) run in
       let access = run_keeps HasAccess orders.access (new_state slots) w.machine (calls s) set.replies (orders.new_access slots) run in
       let placed = run_keeps ArePlaced orders.places (new_state slots) w.machine (calls s) set.replies (orders.new_places slots enough) run in
       let low = descriptors.reached slots w.machine (calls s) set.replies run in
-      subst (λ (m : State). Led (Just slots) s slots m → IsOrderly m → HasAccess m → ArePlaced m → AreLow m → IsNew (library_of s slots) (crew_of s) (record { machine = m; seats = w.seats; rough = w.rough })) (sym l.state)
-      (λ led o a p d. new_by s slots w.seats w.rough fits led (has_crew s w.seats seated) o a p d) l order access placed low
+      subst (λ (m : State). Led (Just slots) s slots m → IsOrderly m → HasAccess m → ArePlaced m → AreLow m → IsNew (library_of s slots refuses) (crew_of s) (record { machine = m; seats = w.seats; rough = w.rough })) (sym l.state)
+      (λ led o a p d. new_by s slots w.seats w.rough refuses fits led (has_crew s w.seats seated) o a p d) l order access placed low
 
 -- ---- hosted by a system
 

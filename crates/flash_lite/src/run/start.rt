@@ -21,7 +21,11 @@ fn is_again(refusal: Refusal) -> bool
 {
     matches!(
         refusal,
-        Refusal::WouldBlock | Refusal::TooMany | Refusal::NoRoom { pool: _ } | Refusal::Memory
+        Refusal::WouldBlock
+            | Refusal::TooMany
+            | Refusal::PoolClosed { pool: _ }
+            | Refusal::NoRoom { pool: _ }
+            | Refusal::Memory
     )
 }
 

@@ -11,6 +11,7 @@ use iol_proc::choice::Choice;
 use std::alloc::{AllocError, Global};
 use std::test::Fail;
 use test_parts::checks::{lend, pass};
+use test_parts::streams::Source;
 
 /// How many pieces are a mebibyte.
 const PIECES: u8 = 128;
@@ -139,4 +140,34 @@ fn all_are_refused(world: &mut Workers) -> bool {
 #[test]
 fn nobody_has_a_turn(rt: HostRuntime) -> Result<(), Fail> {
     pass(lend(eager_world(rt.alloc()), all_are_refused))
+}
+
+// A turn of each of two processes, bytes that come in, and a report.
+fn each_answers(world: &mut Workers, turns: &[Choice], reader: &mut Source<'_>) -> bool {
+    let have_turns = match world.run(turns) {
+        Ok(replies) => matches!(replies.as_slice(), [Reply::Done, Reply::Done]),
+        Err(_) => false,
+    };
+    let Some(conn) = world.connect(1) else {
+        return false;
+    };
+    let arrives = matches!(world.arrive_from(conn, reader, 9), Ok(arrived) if arrived.taken == 3);
+    have_turns && arrives && world.world().report().is_ok()
+}
+
+fn all_answer(alloc: Global) -> Result<bool, Refusal> {
+    let turns = [
+        Choice::Turn(DomainId::new(1)),
+        Choice::Turn(DomainId::new(2)),
+    ];
+    let mut reader = Source::new(b"abc", 9, 0);
+    lend(
+        world_of(alloc, Worker::Idle, Worker::Idle),
+        |world| each_answers(world, &turns, &mut reader),
+    )
+}
+
+#[test]
+fn ample(rt: HostRuntime) -> Result<(), Fail> {
+    pass(all_answer(rt.alloc()))
 }

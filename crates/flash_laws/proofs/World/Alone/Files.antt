@@ -19,7 +19,6 @@ use Rattle.iol_core.specs.declared.events.Reply.{Reply}
 use Rattle.iol_core.specs.declared.events.Reply.TheVariants as reply
 use Rattle.iol_laws.specs.Frame.{is_conn, touches_conn, touches_fd}
 use Rattle.iol_laws.specs.Order.{IsOrderly}
-use Rattle.iol_laws.specs.Caller.{is_rough}
 use Rattle.iol_laws.specs.CallerFiles as of
 use Rattle.flash_http.specs.Range.{selected}
 use Rattle.flash_http.specs.Request.{Answer, serve, refuse, Wanted}
@@ -27,13 +26,14 @@ use Rattle.flash_laws.specs.Answers.{Outcome, Found, Failed, body_unless, chosen
 use Rattle.flash_laws.specs.Client.{is_for_script, can_run, kept_if, script_told}
 use Rattle.flash_laws.specs.Client.Fits.{TieAlone, due_in, Finds, FitsAlone}
 use Rattle.flash_laws.specs.Conn as conn
-use Rattle.flash_laws.specs.Conn.{Conn, most_read, name_of, count_of, text_of}
+use Rattle.flash_laws.specs.Conn.{Conn, most_read, name_of, count_of, text_of, status_of}
 use Rattle.flash_laws.specs.Workers.Crew.{Crew}
 use Rattle.flash_laws.specs.Conn.Fits.{Has, is_closing, Names}
 use Rattle.flash_laws.specs.Client.ResponseState as known
 use Rattle.flash_laws.specs.Client.ResponseState.{OfFile, OfScript, is_read, is_opening}
 use Rattle.flash_laws.specs.Run.Fits.{nothing_yet}
-use Rattle.flash_laws.specs.Shelf.{Shelf, due_to}
+use Rattle.flash_laws.specs.Shelf.{Shelf, due_to, MayBeDue, IsAmong}
+use Rattle.flash_laws.proofs.Site.Due.{due-may, error-may}
 use Rattle.flash_laws.specs.Site.{server, found_in, IsFixed}
 use Rattle.flash_laws.specs.declared.phase.Learnt.TheVariants.{File, Length, Text as TextOf}
 use Rattle.flash_laws.specs.declared.phase.Content.TheVariants.{Error, Script}
@@ -44,13 +44,13 @@ use Rattle.flash_laws.proofs.Forms.{at}
 use Rattle.flash_laws.proofs.Client.Phases as phases
 use Rattle.flash_laws.proofs.Counts.{counted}
 use Rattle.flash_laws.proofs.Conn.LentBytes.{file-same, content-same}
-use Rattle.flash_laws.proofs.Lists.{not-equal, clash}
+use Rattle.flash_laws.proofs.Lists.{not-equal}
 use Rattle.flash_laws.proofs.World.AllLaws.{AllLaws}
 use Rattle.flash_laws.proofs.World.Alone.Ties.{alone, FitsAt, Stands, TiesOn, tie_on}
 
 -- of a phase that reads no script the response is due
-pub due-is : (shelf : Shelf) (q : Answer) (d : Doing) → is_read d ≡ false → due_in shelf q d ≡ due_to shelf q
-due-is shelf q d is = ap (λ b. if b then text_of q Script else due_to shelf q) is
+pub due-is : (due : List ℕ) (q : Answer) (d : Doing) → is_read d ≡ false → due_in due q d ≡ due
+due-is due q d is = ap (λ b. if b then text_of q Script else due) is
 
 -- and nothing is found
 pub finds-none : (shelf : Shelf) (s : State) (q : Answer) (script : List ℕ) (d : Doing) → is_opening d ≡ false → is_read d ≡ false
@@ -66,18 +66,20 @@ module _ (shelf : Shelf) (crew : Crew) (laws : AllLaws crew) (m n : State) (came
   Fitting = FitsAt shelf came sent fd c kept script
 
   -- a call that leaves the connection itself; the text that is kept may be another
-  pub moves_to : (text : List ℕ) (q : Answer) (d e : Doing) (k : Call) (r : Reply) → Fitting m q d
+  pub moves_to : (text : List ℕ) (q : Answer) (d e : Doing) (k : Call) (r : Reply) (later : List ℕ) → MayBeDue shelf q later → (f : Fitting m q d)
       → StepsTo m (event.Call server k) r n → touches_conn m (event.Call server k) c ≡ false
-      → touches_fd m (event.Call server k) server fd ≡ false → TiesOn shelf kept script q d e
-      → Has n q (due_in shelf q e) e → Finds shelf n q text e → FitsAlone shelf n came sent fd c (alone kept text q e)
-  moves_to text q d e k r f step un un_fd ties has finds =
+      → touches_fd m (event.Call server k) server fd ≡ false → TiesOn shelf kept script f.due later q d e
+      → Has n q (due_in later q e) e → Finds shelf n q text e → FitsAlone shelf n came sent fd c (alone kept text q e)
+  moves_to text q d e k r later may f step un un_fd ties has finds =
       let leaves = laws.the.steps.leaves m n (event.Call server k) r step in
       let conn = leaves.conns c un in
       record {
         open_on = leaves.fds server fd (on.Connection c) f.open_on un_fd;
         took = f.took;
+        due = later;
+        may = may;
         came_is = f.came_is ∙ ap (λ (x : Connection). f.took ++ bytes_of x.incoming) (sym conn);
-        tie = subst (λ (x : Connection). TieAlone shelf x f.took sent (alone kept script q e)) (sym conn) (ties (conn_at m c) f.took sent f.tie);
+        tie = subst (λ (x : Connection). TieAlone shelf later x f.took sent (alone kept script q e)) (sym conn) (ties (conn_at m c) f.took sent f.tie);
         has = has;
         finds = finds;
         proper = f.proper;
@@ -87,20 +89,20 @@ module _ (shelf : Shelf) (crew : Crew) (laws : AllLaws crew) (m n : State) (came
   same q d f is = subst (λ (s : State). Fitting s q d) (sym is) f
 
   -- one that goes on with the request
-  pub goes : (q : Answer) (part : List ℕ) (d e : Doing) (k : Call) (r : Reply) → Fitting m q d
+  pub goes : (q : Answer) (part : List ℕ) (d e : Doing) (k : Call) (r : Reply) (later : List ℕ) → MayBeDue shelf q later → (f : Fitting m q d)
       → StepsTo m (event.Call server k) r n → touches_conn m (event.Call server k) c ≡ false
       → touches_fd m (event.Call server k) server fd ≡ false
-      → Stands shelf q part d → Stands shelf q part e → Has n q (due_in shelf q e) e → Finds shelf n q script e → Fitting n q e
-  goes q part d e k r f step un un_fd was stands has finds =
-      moves_to script q d e k r f step un un_fd (tie_on shelf kept script q d e (stands.0 ∙ sym was.0) (stands.1 ∙ sym was.1) was.2 stands.2) has finds
+      → Stands f.due q part d → Stands later q part e → Has n q (due_in later q e) e → Finds shelf n q script e → Fitting n q e
+  goes q part d e k r later may f step un un_fd was stands has finds =
+      moves_to script q d e k r later may f step un un_fd (tie_on shelf kept script f.due later q d e (stands.0 ∙ sym was.0) (stands.1 ∙ sym was.1) was.2 stands.2) has finds
 
   -- what the machine has, and what is found, after a call that opens and reads nothing
-  pub has_told : (q : Answer) (d : Doing) (r : Reply) (heard : List ℕ) → Fitting m q d → is_opening d ≡ false → is_closing d ≡ false → is_read d ≡ false
+  pub has_told : (q : Answer) (d : Doing) (r : Reply) (heard : List ℕ) → (f : Fitting m q d) → is_opening d ≡ false → is_closing d ≡ false → is_read d ≡ false
       → StepsTo m (event.Call server (conn.wants fd (at kept q d))) r n → Names n r heard
-      → Has n q (due_in shelf q (conn.told (at kept q d) r heard).doing) (conn.told (at kept q d) r heard).doing
+      → Has n q (due_in f.due q (conn.told (at kept q d) r heard).doing) (conn.told (at kept q d) r heard).doing
   has_told q d r heard f un busy unread step names =
-      subst (λ (l : List ℕ). Has n q l (conn.told (at kept q d) r heard).doing) (sym (due-is shelf q (conn.told (at kept q d) r heard).doing (phases.unread-told kept q d r heard unread)))
-      (phases.phase laws.the.steps laws.the.own m n order kept fd c q d (due_to shelf q) r heard f.open_on un busy (subst (λ (l : List ℕ). Has m q l d) (due-is shelf q d unread) f.has) step names)
+      subst (λ (l : List ℕ). Has n q l (conn.told (at kept q d) r heard).doing) (sym (due-is f.due q (conn.told (at kept q d) r heard).doing (phases.unread-told kept q d r heard unread)))
+      (phases.phase laws.the.steps laws.the.own m n order kept fd c q d f.due r heard f.open_on un busy (subst (λ (l : List ℕ). Has m q l d) (due-is f.due q d unread) f.has) step names)
 
   pub finds_told : (q : Answer) (d : Doing) (r : Reply) (heard : List ℕ) → is_opening d ≡ false → is_read d ≡ false
       → Finds shelf n q script (conn.told (at kept q d) r heard).doing
@@ -129,7 +131,7 @@ module _ (shelf : Shelf) (crew : Crew) (laws : AllLaws crew) (m n : State) (came
       by true for_script = laws.due.unread shelf.scripts shelf.finds shelf.shows w status for_script is
       by false none = due_of_file w (Failed status) none is
 
-  pub opens : (q : Answer) (r : Reply) (heard : List ℕ) → IsFixed shelf.finds m → Fitting m q Opens → is_rough r ≡ false
+  pub opens : (q : Answer) (r : Reply) (heard : List ℕ) → IsFixed shelf.finds m → Fitting m q Opens → IsAmong shelf.refuses r
       → StepsTo m (event.Call server (call.OpenFile (name_of q) modes.Read)) r n
       → Fitting n q (conn.told_opens r)
   opens (refuse status head_only close) r heard fixed f calm step = absurd f.has
@@ -143,13 +145,13 @@ module _ (shelf : Shelf) (crew : Crew) (laws : AllLaws crew) (m n : State) (came
       found i b may is = shelved (Some i) is ∙ ap (λ (t : Bool). if t then Found (content m i) else Failed 403) may
 
       by : (r : Reply) → of.Opening m server w.name modes.Read r n
-          → StepsTo m (event.Call server (call.OpenFile w.name modes.Read)) r n → is_rough r ≡ false
+          → StepsTo m (event.Call server (call.OpenFile w.name modes.Read)) r n → IsAmong shelf.refuses r
           → Fitting n (serve w) (conn.told_opens r)
       by (reply.Fd g) did step calm =
           let leaves = laws.the.steps.leaves m n (event.Call server (call.OpenFile w.name modes.Read)) (reply.Fd g) step in
           let here = file-same m n did.file_is (leaves.files refl).0 in
           let bytes = content-same m n did.file_is (leaves.files refl).1 in
-          goes (serve w) [] Opens (Reading g) (call.OpenFile w.name modes.Read) (reply.Fd g) f step refl refl (refl, refl, refl) (refl, refl, refl)
+          goes (serve w) [] Opens (Reading g) (call.OpenFile w.name modes.Read) (reply.Fd g) (due_to shelf (serve w)) (due-may shelf (serve w)) f step refl refl (refl, refl, refl) (refl, refl, refl)
           (tt, (did.file_is, 0, did.open_on)) (record {
             number = did.file_is;
             open_on = did.open_on;
@@ -158,11 +160,13 @@ module _ (shelf : Shelf) (crew : Crew) (laws : AllLaws crew) (m n : State) (came
             found = found did.file_is true did.may did.found ∙ ap (λ (l : List ℕ). Found l) (sym bytes);
           })
       by (reply.Refused no.NoFile) did step calm =
-          goes (serve w) [] Opens (Heads (Error 404)) (call.OpenFile w.name modes.Read) (reply.Refused no.NoFile) f step refl refl (refl, refl, refl) (refl, refl, refl) (failed w 404 (shelved None did.0)) tt
+          goes (serve w) [] Opens (Heads (Error 404)) (call.OpenFile w.name modes.Read) (reply.Refused no.NoFile) (due_to shelf (serve w)) (due-may shelf (serve w)) f step refl refl (refl, refl, refl) (refl, refl, refl) (failed w 404 (shelved None did.0)) tt
       by (reply.Refused (no.Denied p)) did step calm =
           let may_not = ap (λ z. may_read m server z) did.0.pool_is ∙ did.0.may_not in
-          goes (serve w) [] Opens (Heads (Error 403)) (call.OpenFile w.name modes.Read) (reply.Refused (no.Denied p)) f step refl refl (refl, refl, refl) (refl, refl, refl) (failed w 403 (found did.0.file_is false may_not did.0.found)) tt
-      by (reply.Refused y) did step calm = absurd (clash (is_rough (reply.Refused y)) did.0 calm)
+          goes (serve w) [] Opens (Heads (Error 403)) (call.OpenFile w.name modes.Read) (reply.Refused (no.Denied p)) (due_to shelf (serve w)) (due-may shelf (serve w)) f step refl refl (refl, refl, refl) (refl, refl, refl) (failed w 403 (found did.0.file_is false may_not did.0.found)) tt
+      by (reply.Refused no.WouldBlock) did step calm = absurd (let bad = did.0 in cc (bad))
+      by (reply.Refused y) did step calm = goes (serve w) [] Opens (conn.told_opens (reply.Refused y)) (call.OpenFile w.name modes.Read) (reply.Refused y)
+          (text_of (serve w) (Error (status_of y))) (error-may shelf w y (calm did.0)) f step refl refl (refl, refl, refl) (refl, refl, refl) refl tt
       by r did step calm = absurd did
 
   -- what a read of a whole file touches is that file alone
@@ -174,7 +178,7 @@ module _ (shelf : Shelf) (crew : Crew) (laws : AllLaws crew) (m n : State) (came
   )
 
   pub reads : (q : Answer) (g : ℕ) (r : Reply) (heard : List ℕ) → is_for_script shelf.scripts q ≡ false → IsFixed shelf.finds m → Fitting m q (Reading g)
-      → is_rough r ≡ false → StepsTo m (event.Call server (conn.wants fd (at kept q (Reading g)))) r n
+      → IsAmong shelf.refuses r → StepsTo m (event.Call server (conn.wants fd (at kept q (Reading g)))) r n
       → Names n r heard → Fitting n q (conn.told_reads g r heard)
   reads (refuse status head_only close) g r heard none fixed f calm step names = absurd f.has.0
   reads (serve w) g r heard none fixed f calm step names = which w.head_only refl step
@@ -183,7 +187,7 @@ module _ (shelf : Shelf) (crew : Crew) (laws : AllLaws crew) (m n : State) (came
           → StepsTo m (event.Call server (call.Length g)) r n
           → Fitting n (serve w) (conn.told_reads g r heard)
       measured (reply.Count k) is did step =
-          goes (serve w) [] (Reading g) (Shuts g (Length k)) (call.Length g) (reply.Count k) f step refl refl (refl, refl, refl) (refl, refl, refl) (
+          goes (serve w) [] (Reading g) (Shuts g (Length k)) (call.Length g) (reply.Count k) (due_to shelf (serve w)) (due-may shelf (serve w)) f step refl refl (refl, refl, refl) (refl, refl, refl) (
             (f.has.1.0, f.has.1.1, subst (λ (s : State). descriptor s server g ≡ Some (on.File f.has.1.0 f.has.1.1 modes.Read)) (sym did.1) f.has.1.2),
             due_of_file w (Found (content m f.finds.number)) none f.finds.found ∙ (ap (λ b. file_text w (length (content m f.finds.number)) ++ body_unless b (chosen (selected w.range (length (content m f.finds.number))) (content m f.finds.number))) is
                 ∙ (ap (λ z. file_text w z ++ []) (sym did.0) ∙ ap (λ b. file_text w k ++ body_unless b unsatisfiable) (sym is))),
@@ -192,12 +196,12 @@ module _ (shelf : Shelf) (crew : Crew) (laws : AllLaws crew) (m n : State) (came
 
       whole : (r : Reply) → w.head_only ≡ false
           → of.ReadsFile m server g f.finds.number 0 modes.Read (take most_read (content m f.finds.number)) r n
-          → StepsTo m (event.Call server (call.IolRead g most_read)) r n → is_rough r ≡ false
+          → StepsTo m (event.Call server (call.IolRead g most_read)) r n → IsAmong shelf.refuses r
           → Names n r heard → Fitting n (serve w) (conn.told_reads g r heard)
       whole (reply.Agg a) is did step calm names =
           let bytes : heard ≡ content m f.finds.number = some-inj _ _ (sym names ∙ did.lends) ∙ take_all most_read (content m f.finds.number) f.finds.short in
           let apart = reads_apart g f.finds.number most_read f.finds.open_on f.open_on in
-          goes (serve w) [] (Reading g) (Shuts g (File a (count_of heard))) (call.IolRead g most_read) (reply.Agg a) f step apart.0 apart.1 (refl, refl, refl) (refl, refl, refl) (
+          goes (serve w) [] (Reading g) (Shuts g (File a (count_of heard))) (call.IolRead g most_read) (reply.Agg a) (due_to shelf (serve w)) (due-may shelf (serve w)) f step apart.0 apart.1 (refl, refl, refl) (refl, refl, refl) (
             (f.finds.number, 0 + length (take most_read (content m f.finds.number)), did.moves),
             record {
               bytes = heard;
@@ -207,7 +211,12 @@ module _ (shelf : Shelf) (crew : Crew) (laws : AllLaws crew) (m n : State) (came
               due_is = due_of_file w (Found heard) none (f.finds.found ∙ ap (λ (l : List ℕ). Found l) (sym bytes));
             },
           ) tt
-      whole (reply.Refused y) is did step calm names = absurd (clash (is_rough (reply.Refused y)) did.0 calm)
+      whole (reply.Refused no.WouldBlock) is did step calm names = absurd (let bad = did.0 in cc (bad))
+      whole (reply.Refused y) is did step calm names =
+          let apart = reads_apart g f.finds.number most_read f.finds.open_on f.open_on in
+          goes (serve w) [] (Reading g) (conn.told_reads g (reply.Refused y) heard) (call.IolRead g most_read) (reply.Refused y)
+          (text_of (serve w) (Error (status_of y))) (error-may shelf w y (calm did.0)) f step apart.0 apart.1 (refl, refl, refl) (refl, refl, refl)
+          ((f.has.1.0, f.has.1.1, subst (λ (s : State). descriptor s server g ≡ Some (on.File f.has.1.0 f.has.1.1 modes.Read)) (sym did.1) f.has.1.2), refl) tt
       whole r is did step calm names = absurd did
 
       which : (b : Bool) → w.head_only ≡ b
@@ -218,14 +227,14 @@ module _ (shelf : Shelf) (crew : Crew) (laws : AllLaws crew) (m n : State) (came
 
   -- the text of a script is read whole
   pub reads_text : (q : Answer) (g : ℕ) (r : Reply) (heard : List ℕ) → is_for_script shelf.scripts q ≡ true → IsFixed shelf.finds m → Fitting m q (Reading g)
-      → is_rough r ≡ false → StepsTo m (event.Call server (call.IolRead g most_read)) r n
+      → IsAmong shelf.refuses r → StepsTo m (event.Call server (call.IolRead g most_read)) r n
       → Names n r heard → FitsAlone shelf n came sent fd c (script_told (alone kept script q (Reading g)) r heard)
   reads_text (refuse status head_only close) g r heard asks fixed f calm step names = absurd f.has.0
   reads_text (serve w) g r heard asks fixed f calm step names =
       by r (laws.the.files.reads_file m n server g f.finds.number 0 most_read modes.Read r order fixed.lives f.finds.may refl f.finds.open_on step) step calm names
     where
       by : (r : Reply) → of.ReadsFile m server g f.finds.number 0 modes.Read (take most_read (content m f.finds.number)) r n
-          → StepsTo m (event.Call server (call.IolRead g most_read)) r n → is_rough r ≡ false
+          → StepsTo m (event.Call server (call.IolRead g most_read)) r n → IsAmong shelf.refuses r
           → Names n r heard → FitsAlone shelf n came sent fd c (script_told (alone kept script (serve w) (Reading g)) r heard)
       by (reply.Agg a) did step calm names = runs (can_run heard) refl
         where
@@ -247,13 +256,18 @@ module _ (shelf : Shelf) (crew : Crew) (laws : AllLaws crew) (m n : State) (came
 
           runs : (b : Bool) → can_run heard ≡ b → FitsAlone shelf n came sent fd c (alone kept (kept_if w.head_only b heard) (serve w) (Shuts g (TextOf a b)))
           runs true is =
-              moves_to (kept_if w.head_only true heard) (serve w) (Reading g) (Shuts g (TextOf a true)) (call.IolRead g most_read) (reply.Agg a) f step apart.0 apart.1
-              (tie_on shelf kept script (serve w) (Reading g) (Shuts g (TextOf a true)) refl refl refl refl)
+              moves_to (kept_if w.head_only true heard) (serve w) (Reading g) (Shuts g (TextOf a true)) (call.IolRead g most_read) (reply.Agg a) (due_to shelf (serve w)) (due-may shelf (serve w)) f step apart.0 apart.1
+              (tie_on shelf kept script f.due (due_to shelf (serve w)) (serve w) (Reading g) (Shuts g (TextOf a true)) refl refl refl refl)
               ((f.finds.number, 0 + length (take most_read (content m f.finds.number)), did.moves), ((heard, names), refl))
               (record { asks = asks; text = heard; found = found; runs = is; kept = λ get. kept_whole true w.head_only refl get })
           runs false is =
-              moves_to (kept_if w.head_only false heard) (serve w) (Reading g) (Shuts g (TextOf a false)) (call.IolRead g most_read) (reply.Agg a) f step apart.0 apart.1
-              (tie_on shelf kept script (serve w) (Reading g) (Shuts g (TextOf a false)) refl refl refl refl)
+              moves_to (kept_if w.head_only false heard) (serve w) (Reading g) (Shuts g (TextOf a false)) (call.IolRead g most_read) (reply.Agg a) (due_to shelf (serve w)) (due-may shelf (serve w)) f step apart.0 apart.1
+              (tie_on shelf kept script f.due (due_to shelf (serve w)) (serve w) (Reading g) (Shuts g (TextOf a false)) refl refl refl refl)
               ((f.finds.number, 0 + length (take most_read (content m f.finds.number)), did.moves), ((heard, names), may false is)) tt
-      by (reply.Refused y) did step calm names = absurd (clash (is_rough (reply.Refused y)) did.0 calm)
+      by (reply.Refused no.WouldBlock) did step calm names = absurd (let bad = did.0 in cc (bad))
+      by (reply.Refused y) did step calm names =
+          let apart = reads_apart g f.finds.number most_read f.finds.open_on f.open_on in
+          goes (serve w) [] (Reading g) (conn.told_reads g (reply.Refused y) heard) (call.IolRead g most_read) (reply.Refused y)
+          (text_of (serve w) (Error (status_of y))) (error-may shelf w y (calm did.0)) f step apart.0 apart.1 (refl, refl, refl) (refl, refl, refl)
+          ((f.has.1.0, f.has.1.1, subst (λ (s : State). descriptor s server g ≡ Some (on.File f.has.1.0 f.has.1.1 modes.Read)) (sym did.1) f.has.1.2), refl) tt
       by r did step calm names = absurd did

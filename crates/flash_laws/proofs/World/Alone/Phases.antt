@@ -16,7 +16,6 @@ use Rattle.iol_core.specs.declared.events.Reply.TheVariants as reply
 use Rattle.iol_laws.specs.Frame.{is_conn, touches_conn, touches_fd}
 use Rattle.iol_laws.specs.Order.{IsOrderly}
 use Rattle.iol_laws.specs.Caller as o
-use Rattle.iol_laws.specs.Caller.{is_rough}
 use Rattle.iol_proc.specs.declared.seat.Seat.{Seat}
 use Rattle.flash_http.specs.declared.ranges.Selection.{Selection}
 use Rattle.flash_http.specs.declared.ranges.Selection.TheVariants.{Bytes}
@@ -35,7 +34,8 @@ use Rattle.flash_laws.specs.Conn.Fits.{Has, quits, is_closing, HoldsMore, Names}
 use Rattle.flash_laws.specs.Client.ResponseState as known
 use Rattle.flash_laws.specs.Client.ResponseState.{OfFile, OfScript, MayPutOut, is_read, is_opening}
 use Rattle.flash_laws.specs.Run.Fits.{nothing_yet}
-use Rattle.flash_laws.specs.Shelf.{Shelf, due_to}
+use Rattle.flash_laws.specs.Shelf.{Shelf, due_to, MayBeDue, IsAmong}
+use Rattle.flash_laws.proofs.Site.Due.{due-may}
 use Rattle.flash_laws.specs.Site.{server, IsFixed}
 use Rattle.flash_laws.specs.declared.phase.Learnt.{Learnt}
 use Rattle.flash_laws.specs.declared.phase.Learnt.TheVariants.{File, Text as TextOf}
@@ -63,24 +63,24 @@ module _ (shelf : Shelf) (crew : Crew) (laws : AllLaws crew) (m n : State) (came
 
   -- ---- what the phases rest on, of these states
 
-  moves_to : (text : List ℕ) (q : Answer) (d e : Doing) (k : Call) (r : Reply) → Fitting m q d
+  moves_to : (text : List ℕ) (q : Answer) (d e : Doing) (k : Call) (r : Reply) (later : List ℕ) → MayBeDue shelf q later → (f : Fitting m q d)
       → StepsTo m (event.Call server k) r n → touches_conn m (event.Call server k) c ≡ false
-      → touches_fd m (event.Call server k) server fd ≡ false → TiesOn shelf kept script q d e
-      → Has n q (due_in shelf q e) e → Finds shelf n q text e → FitsAlone shelf n came sent fd c (alone kept text q e)
+      → touches_fd m (event.Call server k) server fd ≡ false → TiesOn shelf kept script f.due later q d e
+      → Has n q (due_in later q e) e → Finds shelf n q text e → FitsAlone shelf n came sent fd c (alone kept text q e)
   moves_to = files.moves_to shelf crew laws m n came sent fd c kept script order
 
   same : (q : Answer) (d : Doing) → Fitting m q d → n ≡ m → Fitting n q d
   same = files.same shelf crew laws m n came sent fd c kept script order
 
-  goes : (q : Answer) (part : List ℕ) (d e : Doing) (k : Call) (r : Reply) → Fitting m q d
+  goes : (q : Answer) (part : List ℕ) (d e : Doing) (k : Call) (r : Reply) (f : Fitting m q d)
       → StepsTo m (event.Call server k) r n → touches_conn m (event.Call server k) c ≡ false
       → touches_fd m (event.Call server k) server fd ≡ false
-      → Stands shelf q part d → Stands shelf q part e → Has n q (due_in shelf q e) e → Finds shelf n q script e → Fitting n q e
-  goes = files.goes shelf crew laws m n came sent fd c kept script order
+      → Stands f.due q part d → Stands f.due q part e → Has n q (due_in f.due q e) e → Finds shelf n q script e → Fitting n q e
+  goes q part d e k r f = files.goes shelf crew laws m n came sent fd c kept script order q part d e k r f.due f.may f
 
-  has_told : (q : Answer) (d : Doing) (r : Reply) (heard : List ℕ) → Fitting m q d → is_opening d ≡ false → is_closing d ≡ false → is_read d ≡ false
+  has_told : (q : Answer) (d : Doing) (r : Reply) (heard : List ℕ) → (f : Fitting m q d) → is_opening d ≡ false → is_closing d ≡ false → is_read d ≡ false
       → StepsTo m (event.Call server (conn.wants fd (at kept q d))) r n → Names n r heard
-      → Has n q (due_in shelf q (conn.told (at kept q d) r heard).doing) (conn.told (at kept q d) r heard).doing
+      → Has n q (due_in f.due q (conn.told (at kept q d) r heard).doing) (conn.told (at kept q d) r heard).doing
   has_told = files.has_told shelf crew laws m n came sent fd c kept script order
 
   finds_told : (q : Answer) (d : Doing) (r : Reply) (heard : List ℕ) → is_opening d ≡ false → is_read d ≡ false
@@ -100,29 +100,29 @@ module _ (shelf : Shelf) (crew : Crew) (laws : AllLaws crew) (m n : State) (came
   got : (q : Answer) (a : ℕ) (r : Reply) (heard : List ℕ) → Fitting m q (Got a) → StepsTo m (event.Call server (call.AggDrop a)) r n → Names n r heard
       → Fitting n q (told_got a r)
   got q a r heard f step names =
-      moves_to script q (Got a) (told_got a r) (call.AggDrop a) r f step refl refl (ties r) (has_told q (Got a) r heard f refl refl refl step names) (finds_told q (Got a) r heard refl refl)
+      moves_to script q (Got a) (told_got a r) (call.AggDrop a) r f.due f.may f step refl refl (ties r) (has_told q (Got a) r heard f refl refl refl step names) (finds_told q (Got a) r heard refl refl)
     where
-      ties : (r : Reply) → TiesOn shelf kept script q (Got a) (told_got a r)
-      ties reply.Done = tie_on shelf kept script q (Got a) Rests refl refl refl refl
-      ties r = tie_on shelf kept script q (Got a) (Got a) refl refl refl refl
+      ties : (r : Reply) → TiesOn shelf kept script f.due f.due q (Got a) (told_got a r)
+      ties reply.Done = tie_on shelf kept script f.due f.due q (Got a) Rests refl refl refl refl
+      ties r = tie_on shelf kept script f.due f.due q (Got a) (Got a) refl refl refl refl
 
-  settled-stands : (q : Answer) (k : Learnt) → Stands shelf q [] (settled q k)
-  settled-stands (serve w) (File a len) = by (selected w.range len)
+  settled-stands : (due : List ℕ) (q : Answer) (k : Learnt) → Stands due q [] (settled q k)
+  settled-stands due (serve w) (File a len) = by (selected w.range len)
     where
-      by : (sel : Selection) → Stands shelf (serve w) [] (sends_of sel a len)
+      by : (sel : Selection) → Stands due (serve w) [] (sends_of sel a len)
       by (Bytes first last) = (refl, refl, refl)
       by x = (refl, refl, refl)
-  settled-stands (refuse status head_only close) (File a len) = (refl, refl, refl)
-  settled-stands q k = (refl, refl, refl)
+  settled-stands due (refuse status head_only close) (File a len) = (refl, refl, refl)
+  settled-stands due q k = (refl, refl, refl)
 
-  shuts-stands : (q : Answer) (g : ℕ) (k : Learnt) (r : Reply) → Stands shelf q [] (told_shuts q g k r)
-  shuts-stands q g k reply.Done = settled-stands q k
-  shuts-stands q g k r = (refl, refl, refl)
+  shuts-stands : (due : List ℕ) (q : Answer) (g : ℕ) (k : Learnt) (r : Reply) → Stands due q [] (told_shuts q g k r)
+  shuts-stands due q g k reply.Done = settled-stands due q k
+  shuts-stands due q g k r = (refl, refl, refl)
 
   shuts : (q : Answer) (g : ℕ) (k : Learnt) (r : Reply) (heard : List ℕ) → is_read (Shuts g k) ≡ false → Fitting m q (Shuts g k)
       → StepsTo m (event.Call server (call.Close g)) r n → Names n r heard → Fitting n q (told_shuts q g k r)
   shuts q g k r heard unread f step names =
-      goes q [] (Shuts g k) (told_shuts q g k r) (call.Close g) r f step (unused g f.has.0.0 f.has.0.1 f.has.0.2) (differ-fds g f.has.0.0 f.has.0.1 f.has.0.2 f.open_on) (refl, refl, refl) (shuts-stands q g k r)
+      goes q [] (Shuts g k) (told_shuts q g k r) (call.Close g) r f step (unused g f.has.0.0 f.has.0.1 f.has.0.2) (differ-fds g f.has.0.0 f.has.0.1 f.has.0.2 f.open_on) (refl, refl, refl) (shuts-stands f.due q g k r)
       (has_told q (Shuts g k) r heard f refl refl unread step names) (finds_told q (Shuts g k) r heard refl unread)
 
   -- the text of a script was read
@@ -130,11 +130,11 @@ module _ (shelf : Shelf) (crew : Crew) (laws : AllLaws crew) (m n : State) (came
       → Fitting n q (told_shuts q g (TextOf a true) r)
   shuts_text q g a r f step =
       let on = still q r (having.shuts laws.the.steps laws.the.own m n order q g (TextOf a true) (text_of q Script) r f.has step) f.finds in
-      goes q [] (Shuts g (TextOf a true)) (told_shuts q g (TextOf a true) r) (call.Close g) r f step (unused g f.has.0.0 f.has.0.1 f.has.0.2) (differ-fds g f.has.0.0 f.has.0.1 f.has.0.2 f.open_on) (refl, refl, refl) (shuts-stands q g (TextOf a true) r)
+      goes q [] (Shuts g (TextOf a true)) (told_shuts q g (TextOf a true) r) (call.Close g) r f step (unused g f.has.0.0 f.has.0.1 f.has.0.2) (differ-fds g f.has.0.0 f.has.0.1 f.has.0.2 f.open_on) (refl, refl, refl) (shuts-stands f.due q g (TextOf a true) r)
       on.0 on.1
     where
       still : (q : Answer) (r : Reply) → Has n q (text_of q Script) (told_shuts q g (TextOf a true) r) → HasText shelf q script
-          → Has n q (due_in shelf q (told_shuts q g (TextOf a true) r)) (told_shuts q g (TextOf a true) r) × Finds shelf n q script (told_shuts q g (TextOf a true) r)
+          → Has n q (due_in f.due q (told_shuts q g (TextOf a true) r)) (told_shuts q g (TextOf a true) r) × Finds shelf n q script (told_shuts q g (TextOf a true) r)
       still (serve w) reply.Done has text = (has, text)
       still (refuse status head_only close) reply.Done has text = (has, text)
       still q r has text = (has, text)
@@ -145,7 +145,7 @@ module _ (shelf : Shelf) (crew : Crew) (laws : AllLaws crew) (m n : State) (came
       goes q [] (Picks a first to len) (told_picks a first to len r) (call.AggCut a first to) r f step refl refl (refl, refl, refl) (stands r)
       (has_told q (Picks a first to len) r heard f refl refl refl step names) (finds_told q (Picks a first to len) r heard refl refl)
     where
-      stands : (r : Reply) → Stands shelf q [] (told_picks a first to len r)
+      stands : (r : Reply) → Stands f.due q [] (told_picks a first to len r)
       stands (reply.Agg x) = (refl, refl, refl)
       stands r = (refl, refl, refl)
 
@@ -155,7 +155,7 @@ module _ (shelf : Shelf) (crew : Crew) (laws : AllLaws crew) (m n : State) (came
       goes q [] (Spares a k) (told_spares a k r) (call.AggDrop a) r f step refl refl (refl, refl, refl) (stands r)
       (has_told q (Spares a k) r heard f refl refl unread step names) (finds_told q (Spares a k) r heard refl unread)
     where
-      stands : (r : Reply) → Stands shelf q [] (told_spares a k r)
+      stands : (r : Reply) → Stands f.due q [] (told_spares a k r)
       stands reply.Done = (refl, refl, refl)
       stands r = (refl, refl, refl)
 
@@ -172,7 +172,7 @@ module _ (shelf : Shelf) (crew : Crew) (laws : AllLaws crew) (m n : State) (came
       may_be : (b : Bool) → w.head_only ≡ b → MayPutOut b w nothing_yet (due_to shelf (serve w))
       may_be b is = subst (λ (t : Bool). MayPutOut t w nothing_yet (due_to shelf (serve w))) is may
 
-      ties : (k : Connection) (took sent : List ℕ) → w.head_only ≡ false → TieAlone shelf k took sent (alone kept script (serve w) (Spares a Script))
+      ties : (k : Connection) (took sent : List ℕ) → w.head_only ≡ false → TieAlone shelf f.due k took sent (alone kept script (serve w) (Spares a Script))
           → TieRun shelf k took sent kept w nothing_yet Awaits
       ties k took sent get (inl owes) = inl (record { answers = owes.1; may = may_be false get; whole = refl })
       ties k took sent get (inr (inl finished)) = absurd (let bad = finished.quits in cc (bad))
@@ -201,16 +201,16 @@ module _ (shelf : Shelf) (crew : Crew) (laws : AllLaws crew) (m n : State) (came
       by : (b : Bool) (r : Reply) → w.head_only ≡ b → o.Drops m server a r n → StepsTo m (event.Call server (call.AggDrop a)) r n
           → Fits shelf crew n came sent fd c (record { conn = at kept (serve w) (told_spares a Script r); run = client.told_spares b r; script = script }) seats
       by true reply.Done is did step =
-          goes (serve w) [] (Spares a Script) (Heads Script) (call.AggDrop a) reply.Done f step refl refl (refl, refl, refl) (refl, refl, refl) (may_be true is) tt
+          files.goes shelf crew laws m n came sent fd c kept script order (serve w) [] (Spares a Script) (Heads Script) (call.AggDrop a) reply.Done (due_to shelf (serve w)) (due-may shelf (serve w)) f step refl refl (refl, refl, refl) (refl, refl, refl) (may_be true is) tt
       by false reply.Done is did step = begins is step
       by other (reply.Refused y) is did step = same (serve w) (Spares a Script) f did
       by b r is did step = absurd did
 
-  headed-stands : (q : Answer) (a size : ℕ) (more : Following) → Stands shelf q [] (headed a size more)
-  headed-stands q a size None = (refl, refl, refl)
-  headed-stands q a size (Some x) = by (nat_le (size + x.1) MAX_AGGREGATE_BYTES)
+  headed-stands : (due : List ℕ) (q : Answer) (a size : ℕ) (more : Following) → Stands due q [] (headed a size more)
+  headed-stands due q a size None = (refl, refl, refl)
+  headed-stands due q a size (Some x) = by (nat_le (size + x.1) MAX_AGGREGATE_BYTES)
     where
-      by : (b : Bool) → Stands shelf q [] (if b then Joins a size x.0 x.1 else Sends a size 0 (Some x))
+      by : (b : Bool) → Stands due q [] (if b then Joins a size x.0 x.1 else Sends a size 0 (Some x))
       by true = (refl, refl, refl)
       by false = (refl, refl, refl)
 
@@ -220,8 +220,8 @@ module _ (shelf : Shelf) (crew : Crew) (laws : AllLaws crew) (m n : State) (came
       goes q [] (Heads k) (told_heads k r heard) (call.AggMake (text_of q k)) r f step refl refl (refl, refl, refl) (stands r)
       (has_told q (Heads k) r heard f refl refl refl step names) (finds_told q (Heads k) r heard refl refl)
     where
-      stands : (r : Reply) → Stands shelf q [] (told_heads k r heard)
-      stands (reply.Agg x) = headed-stands q x (count_of heard) (following k)
+      stands : (r : Reply) → Stands f.due q [] (told_heads k r heard)
+      stands (reply.Agg x) = headed-stands f.due q x (count_of heard) (following k)
       stands r = (refl, refl, refl)
 
   joins : (q : Answer) (a size b len : ℕ) (r : Reply) (heard : List ℕ) → Fitting m q (Joins a size b len)
@@ -230,30 +230,30 @@ module _ (shelf : Shelf) (crew : Crew) (laws : AllLaws crew) (m n : State) (came
       goes q [] (Joins a size b len) (told_joins a size b len r) (call.AggJoin a b) r f step refl refl (refl, refl, refl) (stands r)
       (has_told q (Joins a size b len) r heard f refl refl refl step names) (finds_told q (Joins a size b len) r heard refl refl)
     where
-      stands : (r : Reply) → Stands shelf q [] (told_joins a size b len r)
+      stands : (r : Reply) → Stands f.due q [] (told_joins a size b len r)
       stands (reply.Agg x) = (refl, refl, refl)
       stands r = (refl, refl, refl)
 
   cuts : (q : Answer) (a from len taken : ℕ) (more : Following) (r : Reply) (heard : List ℕ) → Fitting m q (Cuts a from len taken more)
       → StepsTo m (event.Call server (call.AggCut a from (piece_end from len))) r n → Names n r heard → Fitting n q (told_cuts a from len taken more r)
   cuts q a from len taken more r heard f step names =
-      goes q (take taken (due_to shelf q)) (Cuts a from len taken more) (told_cuts a from len taken more r) (call.AggCut a from (piece_end from len)) r f step refl refl (refl, refl, refl) (stands r)
+      goes q (take taken f.due) (Cuts a from len taken more) (told_cuts a from len taken more r) (call.AggCut a from (piece_end from len)) r f step refl refl (refl, refl, refl) (stands r)
       (has_told q (Cuts a from len taken more) r heard f refl refl refl step names) (finds_told q (Cuts a from len taken more) r heard refl refl)
     where
-      stands : (r : Reply) → Stands shelf q (take taken (due_to shelf q)) (told_cuts a from len taken more r)
+      stands : (r : Reply) → Stands f.due q (take taken f.due) (told_cuts a from len taken more r)
       stands (reply.Agg x) = (refl, refl, refl)
       stands r = (refl, refl, refl)
 
   swaps : (q : Answer) (a from len piece taken : ℕ) (more : Following) (r : Reply) (heard : List ℕ) → Fitting m q (Swaps a from len piece taken more)
       → StepsTo m (event.Call server (call.AggDrop piece)) r n → Names n r heard → Fitting n q (told_swaps a from len piece taken more r)
   swaps q a from len piece taken more r heard f step names =
-      goes q (take taken (due_to shelf q)) (Swaps a from len piece taken more) (told_swaps a from len piece taken more r) (call.AggDrop piece) r f step refl refl (refl, refl, refl) (stands r)
+      goes q (take taken f.due) (Swaps a from len piece taken more) (told_swaps a from len piece taken more r) (call.AggDrop piece) r f step refl refl (refl, refl, refl) (stands r)
       (has_told q (Swaps a from len piece taken more) r heard f refl refl refl step names) (finds_told q (Swaps a from len piece taken more) r heard refl refl)
     where
-      stands : (r : Reply) → Stands shelf q (take taken (due_to shelf q)) (told_swaps a from len piece taken more r)
+      stands : (r : Reply) → Stands f.due q (take taken f.due) (told_swaps a from len piece taken more r)
       stands reply.Done = by (nat_lt from len)
         where
-          by : (b : Bool) → Stands shelf q (take taken (due_to shelf q)) (if b then Cuts a from len taken more else Sent a taken more)
+          by : (b : Bool) → Stands f.due q (take taken f.due) (if b then Cuts a from len taken more else Sent a taken more)
           by true = (refl, refl, refl)
           by false = (refl, refl, refl)
       stands r = (refl, refl, refl)
@@ -261,7 +261,7 @@ module _ (shelf : Shelf) (crew : Crew) (laws : AllLaws crew) (m n : State) (came
   breaks : (q : Answer) (piece a : ℕ) (more : Following) (r : Reply) (heard : List ℕ) → Fitting m q (Breaks piece a more)
       → StepsTo m (event.Call server (call.AggDrop piece)) r n → Names n r heard → Fitting n q (told_breaks piece a more r)
   breaks q piece a more r heard f step names =
-      moves_to script q (Breaks piece a more) (told_breaks piece a more r) (call.AggDrop piece) r f step refl refl (hush shelf kept script q (Breaks piece a more) (told_breaks piece a more r) refl (ending r))
+      moves_to script q (Breaks piece a more) (told_breaks piece a more r) (call.AggDrop piece) r f.due f.may f step refl refl (hush shelf kept script f.due f.due q (Breaks piece a more) (told_breaks piece a more r) refl (ending r))
       (has_told q (Breaks piece a more) r heard f refl refl refl step names) (finds_told q (Breaks piece a more) r heard refl refl)
     where
       ending : (r : Reply) → quits (told_breaks piece a more r) ≡ true
@@ -271,7 +271,7 @@ module _ (shelf : Shelf) (crew : Crew) (laws : AllLaws crew) (m n : State) (came
   drops : (q : Answer) (a : ℕ) (more : Following) (r : Reply) (heard : List ℕ) → Fitting m q (Drops a more)
       → StepsTo m (event.Call server (call.AggDrop a)) r n → Names n r heard → Fitting n q (told_drops a more r)
   drops q a more r heard f step names =
-      moves_to script q (Drops a more) (told_drops a more r) (call.AggDrop a) r f step refl refl (hush shelf kept script q (Drops a more) (told_drops a more r) refl (ending r))
+      moves_to script q (Drops a more) (told_drops a more r) (call.AggDrop a) r f.due f.may f step refl refl (hush shelf kept script f.due f.due q (Drops a more) (told_drops a more r) refl (ending r))
       (has_told q (Drops a more) r heard f refl refl refl step names) (finds_told q (Drops a more) r heard refl refl)
     where
       next : (more : Following) → quits (drops_next more) ≡ true
@@ -285,20 +285,20 @@ module _ (shelf : Shelf) (crew : Crew) (laws : AllLaws crew) (m n : State) (came
   sent_all : (q : Answer) (a taken : ℕ) (more : Following) (r : Reply) (heard : List ℕ) → Fitting m q (Sent a taken more)
       → StepsTo m (event.Call server (call.AggDrop a)) r n → Names n r heard → Fitting n q (told_sent q a taken more r)
   sent_all q a taken more r heard f step names =
-      moves_to script q (Sent a taken more) (told_sent q a taken more r) (call.AggDrop a) r f step refl refl (ties r)
+      moves_to script q (Sent a taken more) (told_sent q a taken more r) (call.AggDrop a) r f.due f.may f step refl refl (ties r)
       (has_told q (Sent a taken more) r heard f refl refl refl step names) (finds_told q (Sent a taken more) r heard refl refl)
     where
-      ended : (b : Bool) → keeps q ≡ b → drop taken (due_to shelf q) ≡ [] → TiesOn shelf kept script q (Sent a taken None) (if b then Rests else Closes)
-      ended true keep none = ends shelf kept script q a taken keep none
-      ended false keep none = ends-last shelf kept script q a taken keep none
+      ended : (b : Bool) → keeps q ≡ b → drop taken f.due ≡ [] → TiesOn shelf kept script f.due f.due q (Sent a taken None) (if b then Rests else Closes)
+      ended true keep none = ends shelf kept script f.due q f.may a taken keep none
+      ended false keep none = ends-last shelf kept script f.due q f.may a taken keep none
 
-      after : (more : Following) → HoldsMore m (due_to shelf q) a taken more → TiesOn shelf kept script q (Sent a taken more) (goes_on q taken more)
-      after (Some x) h = tie_on shelf kept script q (Sent a taken (Some x)) (Sends x.0 x.1 taken None) refl refl refl refl
+      after : (more : Following) → HoldsMore m f.due a taken more → TiesOn shelf kept script f.due f.due q (Sent a taken more) (goes_on q taken more)
+      after (Some x) h = tie_on shelf kept script f.due f.due q (Sent a taken (Some x)) (Sends x.0 x.1 taken None) refl refl refl refl
       after None h = ended (keeps q) refl (sym h.next ∙ h.follows)
 
-      ties : (r : Reply) → TiesOn shelf kept script q (Sent a taken more) (told_sent q a taken more r)
+      ties : (r : Reply) → TiesOn shelf kept script f.due f.due q (Sent a taken more) (told_sent q a taken more r)
       ties reply.Done = after more f.has
-      ties r = tie_on shelf kept script q (Sent a taken more) (Sent a taken more) refl refl refl refl
+      ties r = tie_on shelf kept script f.due f.due q (Sent a taken more) (Sent a taken more) refl refl refl refl
 
   -- ---- any call of it but the last
 
@@ -309,7 +309,7 @@ module _ (shelf : Shelf) (crew : Crew) (laws : AllLaws crew) (m n : State) (came
   is_of_text d = false
 
   phase : (q : Answer) (d : Doing) (r : Reply) (heard : List ℕ) → is_of_text d ≡ false → IsFixed shelf.finds m → Fitting m q d
-      → conn.IsAwaiting (at kept q d) → is_closing d ≡ false → is_rough r ≡ false
+      → conn.IsAwaiting (at kept q d) → is_closing d ≡ false → IsAmong shelf.refuses r
       → StepsTo m (event.Call server (conn.wants fd (at kept q d))) r n → Names n r heard → FitsAlone shelf n came sent fd c (conn_told (alone kept script q d) r heard)
   phase q Rests r heard plain fixed f waits busy calm step names = rests shelf laws.the m n came sent fd c kept script order q r heard f waits step names
   phase q (Got a) r heard plain fixed f waits busy calm step names = got q a r heard f step names
@@ -336,7 +336,7 @@ module _ (shelf : Shelf) (crew : Crew) (laws : AllLaws crew) (m n : State) (came
 
   pub alone_phase : (seats : List (Seat crew.Worker)) (b : Bool) (q : Answer) (d : Doing) (r : Reply) (heard : List ℕ)
       → is_for_script shelf.scripts q ≡ b → IsFixed shelf.finds m → Fitting m q d
-      → conn.IsAwaiting (at kept q d) → is_closing d ≡ false → is_rough r ≡ false
+      → conn.IsAwaiting (at kept q d) → is_closing d ≡ false → IsAmong shelf.refuses r
       → StepsTo m (event.Call server (conn_wants b fd (at kept q d))) r n → Names n r heard
       → Fits shelf crew n came sent fd c (file_told b (alone kept script q d) r heard) seats
   alone_phase seats false q (Reading g) r heard is fixed f waits busy calm step names = files.reads shelf crew laws m n came sent fd c kept script order q g r heard is fixed f calm step names

@@ -27,7 +27,7 @@ use Rattle.flash_laws.specs.Client.Fits.{TieAlone, due_in, Finds, FitsAlone}
 use Rattle.flash_laws.specs.Conn as conn
 use Rattle.flash_laws.specs.Conn.{Following, Conn, most_kept, piece_end, moved_on}
 use Rattle.flash_laws.specs.Conn.Fits.{Has, quits, Names}
-use Rattle.flash_laws.specs.Shelf.{Shelf, due_to, responses}
+use Rattle.flash_laws.specs.Shelf.{Shelf, Responds}
 use Rattle.flash_laws.specs.Site.{server}
 use Rattle.flash_laws.specs.declared.phase.Doing.{Doing}
 use Rattle.flash_laws.specs.declared.phase.Doing.TheVariants.{Rests, Got, Sends, Cuts, Offers, Sent, Breaks, Drops}
@@ -55,82 +55,88 @@ module _ (shelf : Shelf) (the : TheLaws) (m n : State) (came sent : List ℕ) (f
   itself a b = grind (arith, nat_tests)
 
   -- of an aggregate that is offered the first k bytes are taken, which are what of the response is next
-  took_on : (q : Answer) (d e : Doing) (a taken k : ℕ) (bytes : List ℕ) → Fitting m q d
+  took_on : (q : Answer) (d e : Doing) (a taken k : ℕ) (bytes : List ℕ) → (f : Fitting m q d)
       → StepsTo m (event.Call server (call.IolWrite fd a)) (reply.Count k) n → o.Puts m c bytes k n
-      → take k (drop taken (due_to shelf q)) ≡ take k bytes
-      → Stands shelf q (take taken (due_to shelf q)) d → Stands shelf q (take (taken + k) (due_to shelf q)) e
-      → Has n q (due_in shelf q e) e → Finds shelf n q script e → Fitting n q e
+      → take k (drop taken f.due) ≡ take k bytes
+      → Stands f.due q (take taken f.due) d → Stands f.due q (take (taken + k) f.due) e
+      → Has n q (due_in f.due q e) e → Finds shelf n q script e → Fitting n q e
   took_on q d e a taken k bytes f step puts front was stands has finds = record {
     open_on = open_still (call.IolWrite fd a) (reply.Count k) step f.open_on (itself fd (is_file (descriptor m server fd)));
     took = f.took;
+    due = f.due;
+    may = f.may;
     came_is = f.came_is ∙ ap (λ (x : Connection). f.took ++ bytes_of x.incoming) (sym puts.conn);
-    tie = subst (λ (x : Connection). TieAlone shelf x f.took sent (alone kept script q e)) (sym puts.conn) (tied f.tie);
+    tie = subst (λ (x : Connection). TieAlone shelf f.due x f.took sent (alone kept script q e)) (sym puts.conn) (tied f.tie);
     has = has;
     finds = finds;
     proper = f.proper;
   }
     where
       -- what is given now is what was given before, and the bytes that were taken
-      more_given : take (taken + k) (due_to shelf q) ≡ take taken (due_to shelf q) ++ take k bytes
-      more_given = take-plus taken k (due_to shelf q) ∙ ap (λ (l : List ℕ). take taken (due_to shelf q) ++ l) front
+      more_given : take (taken + k) f.due ≡ take taken f.due ++ take k bytes
+      more_given = take-plus taken k f.due ∙ ap (λ (l : List ℕ). take taken f.due ++ l) front
 
-      out : (done : List Answer)
-          → sent ++ bytes_of (conn_at m c).outgoing ≡ responses shelf done ++ take taken (due_to shelf q)
-          → sent ++ bytes_of ((conn_at m c).outgoing ++ puts.text) ≡ responses shelf done ++ part_of shelf q e
-      out done is =
+      out : (before : List ℕ)
+          → sent ++ bytes_of (conn_at m c).outgoing ≡ before ++ take taken f.due
+          → sent ++ bytes_of ((conn_at m c).outgoing ++ puts.text) ≡ before ++ part_of f.due e
+      out before is =
           ap (λ (l : List ℕ). sent ++ l) (bytes-append (conn_at m c).outgoing puts.text ∙ ap (λ (l : List ℕ). bytes_of (conn_at m c).outgoing ++ l) puts.text_is)
           ∙ (sym (append_assoc sent (bytes_of (conn_at m c).outgoing) (take k bytes))
           ∙ (ap (λ (l : List ℕ). l ++ take k bytes) is
-          ∙ (append_assoc (responses shelf done) (take taken (due_to shelf q)) (take k bytes)
-          ∙ ap (λ (l : List ℕ). responses shelf done ++ l) (sym more_given ∙ sym stands.1))))
+          ∙ (append_assoc before (take taken f.due) (take k bytes)
+          ∙ ap (λ (l : List ℕ). before ++ l) (sym more_given ∙ sym stands.1))))
 
-      tied : TieAlone shelf (conn_at m c) f.took sent (alone kept script q d) → TieAlone shelf (record (conn_at m c) { outgoing = (conn_at m c).outgoing ++ puts.text }) f.took sent (alone kept script q e)
+      tied : TieAlone shelf f.due (conn_at m c) f.took sent (alone kept script q d) → TieAlone shelf f.due (record (conn_at m c) { outgoing = (conn_at m c).outgoing ++ puts.text }) f.took sent (alone kept script q e)
       tied (inl owes) = inl (
         stands.2,
         record {
           done = owes.1.done;
           open_yet = owes.1.open_yet;
           reads = subst (λ (l : List Answer). Reads f.took (owes.1.done ++ l) kept) (was.0 ∙ sym stands.0) owes.1.reads;
-          out_is = out owes.1.done (owes.1.out_is ∙ ap (λ (l : List ℕ). responses shelf owes.1.done ++ l) was.1);
+          before = owes.1.before;
+          responds = owes.1.responds;
+          out_is = out owes.1.before (owes.1.out_is ∙ ap (λ (l : List ℕ). owes.1.before ++ l) was.1);
         },
       )
       tied (inr (inl finished)) = absurd (clash (quits d) finished.quits was.2)
       tied (inr (inr gone)) = absurd (clash (is_gone (conn_at m c).peer) gone.gone puts.takes)
 
   -- the peer is gone: what was sent begins the answer, and nothing more is sent
-  broken_off : (q : Answer) (d e : Doing) (a : ℕ) → Fitting m q d
+  broken_off : (q : Answer) (d e : Doing) (a : ℕ) → (f : Fitting m q d)
       → StepsTo m (event.Call server (call.IolWrite fd a)) (reply.Refused no.BrokenPipe) n → n ≡ m
-      → Has n q (due_in shelf q e) e → Finds shelf n q script e → Fitting n q e
+      → Has n q (due_in f.due q e) e → Finds shelf n q script e → Fitting n q e
   broken_off q d e a f step same has finds = record {
     open_on = subst (λ (s : State). descriptor s server fd ≡ Some (on.Connection c)) (sym same) f.open_on;
     took = f.took;
+    due = f.due;
+    may = f.may;
     came_is = f.came_is ∙ ap (λ (s : State). f.took ++ bytes_of (conn_at s c).incoming) (sym same);
-    tie = subst (λ (s : State). TieAlone shelf (conn_at s c) f.took sent (alone kept script q e)) (sym same)
-        (inr (inr (record { gone = the.reasons.peer_is_gone m n server fd c a f.open_on step; begins = begins-tie shelf (conn_at m c) f.took sent (alone kept script q d) f.tie })));
+    tie = subst (λ (s : State). TieAlone shelf f.due (conn_at s c) f.took sent (alone kept script q e)) (sym same)
+        (inr (inr (record { gone = the.reasons.peer_is_gone m n server fd c a f.open_on step; begins = begins-tie shelf (conn_at m c) f.took sent (alone kept script q d) f.due f.may f.tie })));
     has = has;
     finds = finds;
     proper = f.proper;
   }
 
   pub sends : (q : Answer) (a len taken : ℕ) (more : Following) (r : Reply)
-      → Fitting m q (Sends a len taken more) → StepsTo m (event.Call server (call.IolWrite fd a)) r n
-      → Has n q (due_in shelf q (conn.told_sends a len taken more r)) (conn.told_sends a len taken more r)
+      → (f : Fitting m q (Sends a len taken more)) → StepsTo m (event.Call server (call.IolWrite fd a)) r n
+      → Has n q (due_in f.due q (conn.told_sends a len taken more r)) (conn.told_sends a len taken more r)
       → Finds shelf n q script (conn.told_sends a len taken more r) → Fitting n q (conn.told_sends a len taken more r)
   sends q a len taken more r f step has finds = by r (the.own.write_conn m n server fd c a f.has.bytes r order f.open_on f.has.lends step) step has finds
     where
       by : (r : Reply) → o.WritesConn m c f.has.bytes r n
           → StepsTo m (event.Call server (call.IolWrite fd a)) r n
-          → Has n q (due_in shelf q (conn.told_sends a len taken more r)) (conn.told_sends a len taken more r)
+          → Has n q (due_in f.due q (conn.told_sends a len taken more r)) (conn.told_sends a len taken more r)
           → Finds shelf n q script (conn.told_sends a len taken more r)
           → Fitting n q (conn.told_sends a len taken more r)
       by (reply.Count k) puts step has finds = cases (nat_lt k len) refl has finds
         where
-          took : (e : Doing) → Stands shelf q (take (taken + k) (due_to shelf q)) e → Has n q (due_in shelf q e) e → Finds shelf n q script e → Fitting n q e
+          took : (e : Doing) → Stands f.due q (take (taken + k) f.due) e → Has n q (due_in f.due q e) e → Finds shelf n q script e → Fitting n q e
           took e stands has finds =
-              took_on q (Sends a len taken more) e a taken k f.has.bytes f step puts (next-front k f.has.bytes f.has.after (drop taken (due_to shelf q)) f.has.next puts.within) (refl, refl, refl) stands has finds
+              took_on q (Sends a len taken more) e a taken k f.has.bytes f step puts (next-front k f.has.bytes f.has.after (drop taken f.due) f.has.next puts.within) (refl, refl, refl) stands has finds
 
           cases : (b : Bool) → nat_lt k len ≡ b
-              → Has n q (due_in shelf q (if b then Cuts a k len (taken + k) more else Sent a (taken + len) more)) (if b then Cuts a k len (taken + k) more else Sent a (taken + len) more)
+              → Has n q (due_in f.due q (if b then Cuts a k len (taken + k) more else Sent a (taken + len) more)) (if b then Cuts a k len (taken + k) more else Sent a (taken + len) more)
               → Finds shelf n q script (if b then Cuts a k len (taken + k) more else Sent a (taken + len) more)
               → Fitting n q (if b then Cuts a k len (taken + k) more else Sent a (taken + len) more)
           cases true is has finds = took (Cuts a k len (taken + k) more) (refl, refl, refl) has finds
@@ -139,27 +145,27 @@ module _ (shelf : Shelf) (the : TheLaws) (m n : State) (came sent : List ℕ) (f
               let within = puts.within in
               let all : length f.has.bytes ≤ k = grind (arith, nat_tests, is, size) in
               let here : taken + len ≡ taken + k = omega (arith, all, within, size) in
-              took (Sent a (taken + len) more) (refl, ap (λ z. take z (due_to shelf q)) here, refl) has finds
+              took (Sent a (taken + len) more) (refl, ap (λ z. take z f.due) here, refl) has finds
       by (reply.Refused no.BrokenPipe) did step has finds = broken_off q (Sends a len taken more) (Drops a more) a f step did has finds
       by (reply.Refused y) did step has finds = same q (Sends a len taken more) f did
       by r did step has finds = absurd did
 
   pub offers : (q : Answer) (a from len piece taken : ℕ) (more : Following) (r : Reply)
-      → Fitting m q (Offers a from len piece taken more) → StepsTo m (event.Call server (call.IolWrite fd piece)) r n
-      → Has n q (due_in shelf q (conn.told_offers a from len piece taken more r)) (conn.told_offers a from len piece taken more r)
+      → (f : Fitting m q (Offers a from len piece taken more)) → StepsTo m (event.Call server (call.IolWrite fd piece)) r n
+      → Has n q (due_in f.due q (conn.told_offers a from len piece taken more r)) (conn.told_offers a from len piece taken more r)
       → Finds shelf n q script (conn.told_offers a from len piece taken more r) → Fitting n q (conn.told_offers a from len piece taken more r)
   offers q a from len piece taken more r f step has finds =
       by r (the.own.write_conn m n server fd c piece (slice_range f.has.whole.bytes from (piece_end from len)) r order f.open_on f.has.lends step) step has finds
     where
       by : (r : Reply) → o.WritesConn m c (slice_range f.has.whole.bytes from (piece_end from len)) r n
           → StepsTo m (event.Call server (call.IolWrite fd piece)) r n
-          → Has n q (due_in shelf q (conn.told_offers a from len piece taken more r)) (conn.told_offers a from len piece taken more r)
+          → Has n q (due_in f.due q (conn.told_offers a from len piece taken more r)) (conn.told_offers a from len piece taken more r)
           → Finds shelf n q script (conn.told_offers a from len piece taken more r)
           → Fitting n q (conn.told_offers a from len piece taken more r)
       by (reply.Count k) puts step has finds =
           took_on q (Offers a from len piece taken more) (moved_on a from len piece taken more (min k (len - from))) piece taken k (slice_range f.has.whole.bytes from (piece_end from len)) f step puts
-          (next-front k (drop from f.has.whole.bytes) f.has.whole.after (drop taken (due_to shelf q)) f.has.whole.next few.0 ∙ take-slice k from (piece_end from len) f.has.whole.bytes puts.within)
-          (refl, refl, refl) (refl, ap (λ z. take (taken + z) (due_to shelf q)) few.1, refl) has finds
+          (next-front k (drop from f.has.whole.bytes) f.has.whole.after (drop taken f.due) f.has.whole.next few.0 ∙ take-slice k from (piece_end from len) f.has.whole.bytes puts.within)
+          (refl, refl, refl) (refl, ap (λ z. take (taken + z) f.due) few.1, refl) has finds
         where
           few : (k ≤ length (drop from f.has.whole.bytes)) × (min k (len - from) ≡ k)
           few = few-taken k from len f.has.whole.bytes f.has.whole.size puts.within
@@ -182,15 +188,17 @@ module _ (shelf : Shelf) (the : TheLaws) (m n : State) (came sent : List ℕ) (f
       got_some : (a : ℕ) (takes : o.Takes m server c (most_kept - length kept) a n)
           → StepsTo m (event.Call server (call.IolRead fd (most_kept - length kept))) (reply.Agg a) n
           → (bytes : List ℕ) → lent_at n server a ≡ Some bytes → (after : List ℕ) (d : Doing)
-          → (TieAlone shelf (conn_at m c) f.took sent (alone kept script q Rests)
-          → TieAlone shelf (record (conn_at m c) { incoming = takes.incoming }) (f.took ++ bytes) sent (alone after script q d))
-          → Has n q (due_in shelf q d) d → Finds shelf n q script d → FitsAlone shelf n came sent fd c (alone after script q d)
+          → (TieAlone shelf f.due (conn_at m c) f.took sent (alone kept script q Rests)
+          → TieAlone shelf f.due (record (conn_at m c) { incoming = takes.incoming }) (f.took ++ bytes) sent (alone after script q d))
+          → Has n q (due_in f.due q d) d → Finds shelf n q script d → FitsAlone shelf n came sent fd c (alone after script q d)
       got_some a takes step bytes named after d ties has finds = record {
         open_on = open_still (call.IolRead fd (most_kept - length kept)) (reply.Agg a) step f.open_on (itself fd (is_file (descriptor m server fd)));
         took = f.took ++ bytes;
+        due = f.due;
+        may = f.may;
         came_is = f.came_is ∙ (ap (λ (x : Text). f.took ++ bytes_of x) takes.was ∙ (ap (λ (l : List ℕ). f.took ++ l) (bytes-append takes.text takes.incoming ∙ ap (λ (l : List ℕ). l ++ bytes_of takes.incoming) same_bytes)
             ∙ (sym (append_assoc f.took bytes (bytes_of takes.incoming)) ∙ ap (λ (x : Connection). (f.took ++ bytes) ++ bytes_of x.incoming) (sym takes.conn))));
-        tie = subst (λ (x : Connection). TieAlone shelf x (f.took ++ bytes) sent (alone after script q d)) (sym takes.conn) (ties f.tie);
+        tie = subst (λ (x : Connection). TieAlone shelf f.due x (f.took ++ bytes) sent (alone after script q d)) (sym takes.conn) (ties f.tie);
         has = has;
         finds = finds;
         proper = f.proper;
@@ -213,8 +221,8 @@ module _ (shelf : Shelf) (the : TheLaws) (m n : State) (came sent : List ℕ) (f
               rest_none : takes.incoming ≡ []
               rest_none = ap (λ (t : Text). t ++ takes.incoming) (sym text_none) ∙ (sym takes.was ∙ (takes.ended some text_none).0)
 
-              ties : TieAlone shelf (conn_at m c) f.took sent (alone kept script q Rests)
-                  → TieAlone shelf (record (conn_at m c) { incoming = takes.incoming }) (f.took ++ []) sent (alone kept script q (Drops a None))
+              ties : TieAlone shelf f.due (conn_at m c) f.took sent (alone kept script q Rests)
+                  → TieAlone shelf f.due (record (conn_at m c) { incoming = takes.incoming }) (f.took ++ []) sent (alone kept script q (Drops a None))
               ties (inl owes) = inr (inl (record {
                 quits = refl;
                 finished = record {
@@ -222,18 +230,18 @@ module _ (shelf : Shelf) (the : TheLaws) (m n : State) (came sent : List ℕ) (f
                   rest = kept;
                   reads = subst (λ (l : List ℕ). Reads l owes.1.done kept) (sym (append-nil f.took)) (subst (λ (l : List Answer). Reads f.took l kept) (append-nil owes.1.done) owes.1.reads);
                   order = order-all owes.1.done owes.1.open_yet;
-                  all = owes.1.out_is ∙ append-nil (responses shelf owes.1.done);
+                  responds = subst (λ (l : List ℕ). Responds shelf owes.1.done l) (sym (owes.1.out_is ∙ append-nil owes.1.before)) owes.1.responds;
                   no_more = inr (waits, rest_none, (takes.ended some text_none).1);
                 };
-                begins = begins-append the.windows shelf f.took [] (sent ++ bytes_of (conn_at m c).outgoing) (begins-tie shelf (conn_at m c) f.took sent (alone kept script q Rests) f.tie);
+                begins = begins-append the.windows shelf f.took [] (sent ++ bytes_of (conn_at m c).outgoing) (begins-tie shelf (conn_at m c) f.took sent (alone kept script q Rests) f.due f.may f.tie);
               }))
               ties (inr (inl finished)) = absurd (let bad = finished.quits in cc (bad))
               ties (inr (inr gone)) = inr (inr (record { gone = gone.gone; begins = begins-append the.windows shelf f.took [] (sent ++ bytes_of (conn_at m c).outgoing) gone.begins }))
           ended (b ∷ l) names = got_some a takes step (b ∷ l) names (kept ++ (b ∷ l)) (Got a) ties (b ∷ l, names) tt
             where
-              ties : TieAlone shelf (conn_at m c) f.took sent (alone kept script q Rests)
-                  → TieAlone shelf (record (conn_at m c) { incoming = takes.incoming }) (f.took ++ (b ∷ l)) sent (alone (kept ++ (b ∷ l)) script q (Got a))
-              ties (inl owes) = inl (refl, record { done = owes.1.done; open_yet = owes.1.open_yet; reads = reads-append the.windows f.took (b ∷ l) (owes.1.done ++ []) kept owes.1.reads; out_is = owes.1.out_is })
+              ties : TieAlone shelf f.due (conn_at m c) f.took sent (alone kept script q Rests)
+                  → TieAlone shelf f.due (record (conn_at m c) { incoming = takes.incoming }) (f.took ++ (b ∷ l)) sent (alone (kept ++ (b ∷ l)) script q (Got a))
+              ties (inl owes) = inl (refl, record { done = owes.1.done; open_yet = owes.1.open_yet; reads = reads-append the.windows f.took (b ∷ l) (owes.1.done ++ []) kept owes.1.reads; before = owes.1.before; responds = owes.1.responds; out_is = owes.1.out_is })
               ties (inr (inl finished)) = absurd (let bad = finished.quits in cc (bad))
               ties (inr (inr gone)) = inr (inr (record { gone = gone.gone; begins = begins-append the.windows shelf f.took (b ∷ l) (sent ++ bytes_of (conn_at m c).outgoing) gone.begins }))
       by (reply.Refused y) did step names = same q Rests f did

@@ -5,7 +5,6 @@ use Rattle.iol_core.specs.Run.{StepsTo}
 use Rattle.iol_core.specs.declared.descriptors.Descriptor.TheVariants as on
 use Rattle.iol_core.specs.declared.events.Event.TheVariants as event
 use Rattle.iol_core.specs.declared.events.Reply.{Reply}
-use Rattle.iol_laws.specs.Caller.{is_rough}
 use Rattle.iol_laws.specs.Frame.{Leaves}
 use Rattle.iol_laws.specs.Order.{IsOrderly}
 use Rattle.iol_proc.specs.declared.seat.Seat.{Seat}
@@ -161,8 +160,8 @@ module _ (shelf : Shelf) (crew : Crew) (laws : AllLaws crew) where
       → is_over y ≡ false → HasRun (job_of w s.text) m w o y → HasWorkerAt crew m seats (output_of shelf w s.lines) o y
       → (y ≡ Awaits → (worker < crew.count)
       × ((seat : Seat crew.Worker) → slice_get seats worker ≡ Some seat → crew.Free m (crew.desk worker) seat))
-      → is_rough r ≡ false → StepsTo m (event.Call server (wants (job_of w s.text) fd w y)) r n → Names n r heard
+      → StepsTo m (event.Call server (wants (job_of w s.text) fd w y)) r n → Names n r heard
       → Learns m y r heard o after → HasRun (job_of w s.text) n w after (told worker w y r heard)
       → DeskAfter shelf crew m n c seats w (output_of shelf w s.lines) y (told worker w y r heard) o after
-  desk_step m n fd c worker x w s y r heard o after seats order now fixed desks open_on going has desk hired smooth did names learns later =
+  desk_step m n fd c worker x w s y r heard o after seats order now fixed desks open_on going has desk hired did names learns later =
       by_step m n fd c worker x w s r heard o after seats order now fixed desks open_on names y going has desk hired did learns

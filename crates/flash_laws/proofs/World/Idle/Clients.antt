@@ -18,7 +18,7 @@ use Rattle.flash_laws.specs.Conn.{most_kept, most_read, name_of, text_of, is_hea
 use Rattle.flash_laws.specs.Workers.Crew.{Crew, IsFixedFor}
 use Rattle.flash_laws.specs.World.Remains.{StaysOpen}
 use Rattle.flash_laws.specs.World.Idle.{WouldWait}
-use Rattle.flash_laws.specs.Shelf.{Shelf, responses, IsAnswer}
+use Rattle.flash_laws.specs.Shelf.{Shelf, Responds, IsAnswer}
 use Rattle.flash_laws.specs.Site.{server}
 use Rattle.flash_laws.specs.World.Done.{IsHeldUp}
 use Rattle.flash_laws.specs.declared.phase.Doing.{Doing}
@@ -56,7 +56,7 @@ module _ (shelf : Shelf) (crew : Crew) (laws : AllLaws crew) (m : State) (order 
       came-is : came ≡ f.took
       came-is = f.came_is ∙ (ap (λ (t : Text). f.took ++ bytes_of t) empty.0 ∙ append-nil f.took)
 
-      by : TieAlone shelf (conn_at m c) f.took sent (alone kept script q Rests) → IsAnsweredSoFar shelf m came sent c
+      by : TieAlone shelf f.due (conn_at m c) f.took sent (alone kept script q Rests) → IsAnsweredSoFar shelf m came sent c
       by (inl o) =
           let reads : Reads f.took o.1.done kept = subst (λ (l : List Answer). Reads f.took l kept) (append-nil o.1.done) o.1.reads in
           record {
@@ -65,7 +65,7 @@ module _ (shelf : Shelf) (crew : Crew) (laws : AllLaws crew) (m : State) (order 
               rest = kept;
               reads = reads;
               order = order-all o.1.done o.1.open_yet;
-              all = o.1.out_is ∙ append-nil (responses shelf o.1.done);
+              responds = subst (λ (l : List ℕ). Responds shelf o.1.done l) (sym (o.1.out_is ∙ append-nil o.1.before)) o.1.responds;
               no_more = inl waits;
             });
             peer = empty.1;

@@ -26,7 +26,8 @@ use Rattle.flash_laws.specs.Site.Places.{is_run_by, has_free, may_go, runs_scrip
 use Rattle.flash_laws.specs.Run.Fits.{Progress}
 use Rattle.flash_laws.specs.Run.OfferedBytes.{past_of as past_taken, taken_by}
 use Rattle.flash_laws.specs.Site.ClientTies.{Held, Aside, AllFit, IsUsed, AreOwned}
-use Rattle.flash_laws.specs.Shelf.{Shelf, IsAnswer, due_to}
+use Rattle.flash_laws.specs.Shelf.{Shelf, IsAnswer, due_to, MayBeDue}
+use Rattle.flash_laws.proofs.Site.Due.{due-may}
 use Rattle.flash_laws.specs.Workers.OwnWorkers.{RunsForAnother}
 use Rattle.flash_laws.specs.Site.{server}
 use Rattle.flash_laws.specs.World.Tie.{past_of, Actor, Serving}
@@ -120,9 +121,11 @@ module _ (shelf : Shelf) (crew : Crew) (laws : AllLaws crew) (m : State) (order 
           (reads-append laws.the.windows f.took (bytes_of (conn_at m c).incoming) (goes.answers.done ++ serve f.wanted ∷ []) x.conn.kept goes.answers.reads);
       open_yet = goes.answers.open_yet;
       script = f.script.is_for;
+      before = goes.answers.before;
+      responds = goes.answers.responds;
       so_far = goes.answers.out_is;
       after = drop (past_taken f.so_far + taken_by y) (due_to shelf (serve f.wanted));
-      due = sym (take-append-drop (past_taken f.so_far + taken_by y) (due_to shelf (serve f.wanted)));
+      may = subst (λ (l : List ℕ). MayBeDue shelf (serve f.wanted) l) (sym (take-append-drop (past_taken f.so_far + taken_by y) (due_to shelf (serve f.wanted)))) (due-may shelf (serve f.wanted));
     })
     | inr alone ↦ inl (all.left c (held-open m fd c order f.open_on).1 alone.gone)
   ]

@@ -53,7 +53,7 @@ module _ (shelf : Shelf) (crew : Crew) (laws : AllLaws crew) where
         net = λ z differ. or-false (p.net z) false refl;
         gone = λ z differ. or-false (p.gone z) false refl;
       })
-      goes aside left (λ more. absurd (open_yet more)) all
+      goes aside left (λ more. absurd (open_yet more)) (λ more. absurd (open_yet more)) all
     where
       q : Past
       q = and_then p (event.Arrive c bytes) (reply.Count k)
@@ -109,7 +109,7 @@ module _ (shelf : Shelf) (crew : Crew) (laws : AllLaws crew) where
         net = λ z differ. or-false (p.net z) false refl;
         gone = λ z differ. or-false (p.gone z) false refl;
       })
-      goes aside left (λ more. absurd (some_there more)) all
+      goes aside left (λ more. absurd (some_there more)) (λ more. absurd (some_there more)) all
     where
       q : Past
       q = and_then p (event.Transmit c max) (reply.Segment bytes sum)
@@ -191,6 +191,7 @@ module _ (shelf : Shelf) (crew : Crew) (laws : AllLaws crew) where
       (λ taken open_yet. let new = ap (λ (k : Connection). k.closed) did.new in absurd (cc (new, open_yet)))
       (λ aside. inl waits)
       (λ still gone. absurd (let is = ap (λ (k : Connection). is_gone k.peer) did.conn in cc (is, gone)))
+      (λ more. let up = numbers.1 in let is = numbers.0 in absurd (omega (arith, up, is, more)))
       (λ more. let up = numbers.1 in let is = numbers.0 in absurd (omega (arith, up, is, more))) all
     where
       leaves : Leaving m (event.ConnNew pool) n

@@ -58,14 +58,16 @@ module _ (shelf : Shelf) (crew : Crew) (laws : AllLaws crew) (m n : State) (p q 
       → ((c : ℕ) → Aside shelf p c (conn_at m c) → Aside shelf q c (conn_at n c))
       → ((c : ℕ) → IsTold (q.gone c) (conn_at n c))
       → ((c : ℕ) → n.next_conn ≤ c → (q.came c ≡ []) × (q.sent c ≡ []) × (q.net c ≡ false))
+      → ((c : ℕ) → n.next_conn ≤ c → q.gone c ≡ false)
       → AllFit shelf crew n q clients seats
-  all_on all goes asides told fresh = record {
+  all_on all goes asides told fresh untold = record {
     each = λ fd x is. let at = all.each fd x is in record { conn = at.conn; fits = fits_at fd x at };
     others = λ c. somewhere c (all.others c);
     aggs_apart = all.aggs_apart;
     fds_apart = all.fds_apart;
     left = told;
     fresh = fresh;
+    untold = untold;
     own = all.own;
     free = free-left shelf crew laws m n p clients seats e r order fixed site step not_server not_worker all;
     desks = desks-left shelf crew laws m n p clients seats e r order fixed site step not_server not_worker all;
@@ -123,9 +125,10 @@ module _ (shelf : Shelf) (crew : Crew) (laws : AllLaws crew) where
       → (Aside shelf p c (conn_at m c) → Aside shelf q c (conn_at n c))
       → IsTold (q.gone c) (conn_at n c)
       → (n.next_conn ≤ c → (q.came c ≡ []) × (q.sent c ≡ []) × (q.net c ≡ false))
+      → (n.next_conn ≤ c → q.gone c ≡ false)
       → AllFit shelf crew m p clients seats → AllFit shelf crew n q clients seats
-  outside m n p q clients seats e r c order fixed site step none same past goes_c aside_c left_c fresh_c all =
-      all_on shelf crew laws m n p q clients seats e r order fixed site step (none server) (λ k lt. none (worker_domain k)) all goes asides told fresh
+  outside m n p q clients seats e r c order fixed site step none same past goes_c aside_c left_c fresh_c untold_c all =
+      all_on shelf crew laws m n p q clients seats e r order fixed site step (none server) (λ k lt. none (worker_domain k)) all goes asides told fresh untold
     where
       goes : (fd k : ℕ) → descriptor m server fd ≡ Some (on.Connection k) → Goes m n p q k
       goes fd k opens = elim (cases_eq c k) [
@@ -149,4 +152,10 @@ module _ (shelf : Shelf) (crew : Crew) (laws : AllLaws crew) where
       fresh k more = elim (cases_eq c k) [
         | inl here ↦ subst (λ z. (q.came z ≡ []) × (q.sent z ≡ []) × (q.net z ≡ false)) here (fresh_c (subst (λ z. n.next_conn ≤ z) (sym here) more))
         | inr differ ↦ (let up = laws.the.rises m n e r step in let was = all.fresh k (omega (arith, up, more)) in (past.came k differ ∙ was.0, past.sent k differ ∙ was.1, past.net k differ ∙ was.2))
+      ]
+
+      untold : (k : ℕ) → n.next_conn ≤ k → q.gone k ≡ false
+      untold k more = elim (cases_eq c k) [
+        | inl here ↦ subst (λ z. q.gone z ≡ false) here (untold_c (subst (λ z. n.next_conn ≤ z) (sym here) more))
+        | inr differ ↦ (let up = laws.the.rises m n e r step in past.gone k differ ∙ all.untold k (omega (arith, up, more)))
       ]

@@ -1,16 +1,18 @@
 -- A peer that closes keeps all clients and workers tied.
-use Rattle.std.proofs.Common.{inl, inr, ◌≡◌, ◌≢◌, ◌⊎◌, ℕ, ◌==◌, List, [], ◌++◌, ap, ◌∙◌, refl, sym, subst, arith, Option, Some, true, false, Bool, append-nil, if◌then◌else◌}
+use Rattle.std.proofs.Common.{inl, inr, ◌≡◌, ◌≢◌, ◌≤◌, ◌⊎◌, ℕ, ◌==◌, List, [], ◌++◌, ap, ◌∙◌, refl, sym, subst, arith, Option, Some, true, false, Bool, append-nil, if◌then◌else◌}
 use Rattle.std.specs.Prelude.{◌||◌, is_none}
 use Rattle.iol_core.specs.Text.{Text, bytes_of}
 use Rattle.iol_core.specs.State.{State, Connection, conn_at, is_gone}
-use Rattle.iol_core.specs.Run.{StepsTo}
-use Rattle.iol_core.specs.Calls.Outside.{closed_by}
+use Rattle.iol_core.specs.Run.{StepsTo, meaning}
+use Rattle.iol_core.specs.Calls.Outside.{closed_by, lacks_conn}
+use Rattle.iol_core.specs.declared.refusals.Refusal.TheVariants as no
 use Rattle.iol_core.specs.declared.descriptors.How.{How}
 use Rattle.iol_core.specs.declared.descriptors.How.TheVariants as how
 use Rattle.iol_core.specs.declared.events.Event.TheVariants as event
 use Rattle.iol_core.specs.declared.events.Reply.TheVariants as reply
 use Rattle.iol_laws.specs.Frame.{Leaves as Leaving}
 use Rattle.iol_laws.specs.Order.{IsOrderly}
+use Rattle.iol_core.proofs.TestedLists.{passed, when-none}
 use Rattle.iol_laws.proofs.Streams.Remains.{LeavesPeer, peer-left}
 use Rattle.iol_proc.specs.declared.seat.Seat.{Seat}
 use Rattle.flash_laws.specs.Client.{Client}
@@ -20,7 +22,7 @@ use Rattle.flash_laws.specs.Site.ClientTies.{Ended, Aside, AllFit}
 use Rattle.flash_laws.specs.Shelf.{Shelf, Begins, IsAnswer}
 use Rattle.flash_laws.specs.Site.{KeepsSite}
 use Rattle.flash_laws.specs.Site.OtherConns.{Waits, Foreign}
-use Rattle.flash_laws.proofs.Lists.{not-equal, self, later_of, former_of}
+use Rattle.flash_laws.proofs.Lists.{clash, not-equal, self, later_of, former_of}
 use Rattle.flash_laws.proofs.Site.Pasts.{or-false, peer_told}
 use Rattle.flash_laws.proofs.Site.Peers.{IsTold, peer-done, over-done}
 use Rattle.flash_laws.proofs.World.AllLaws.{AllLaws}
@@ -69,10 +71,16 @@ module _ (shelf : Shelf) (crew : Crew) (laws : AllLaws crew) where
   peer_closes m n p clients seats c w order order_n fixed site step all =
       outside shelf crew laws m n p (peer_told p c w) clients seats (event.PeerClosed c w) reply.Done c order fixed site step (λ d. refl)
       (λ z differ. leaves.conns z (not-equal c z differ)) (record { came = λ z differ. refl; sent = λ z differ. refl; net = λ z differ. refl; gone = λ z differ. or-false (p.gone z) (gone_by z (event.PeerClosed c w) reply.Done) (elsewhere w z differ) })
-      (λ taken open_yet. goes taken open_yet did) (λ a. aside did a) (left w step) (λ more. let up = laws.the.rises m n (event.PeerClosed c w) reply.Done step in all.fresh c (omega (arith, up, more))) all
+      (λ taken open_yet. goes taken open_yet did) (λ a. aside did a) (left w step) (λ more. let up = laws.the.rises m n (event.PeerClosed c w) reply.Done step in all.fresh c (omega (arith, up, more)))
+      (λ more. let up = laws.the.rises m n (event.PeerClosed c w) reply.Done step in absurd (unmade (omega (arith, up, more)))) all
     where
       leaves : Leaving m (event.PeerClosed c w) n
       leaves = laws.the.steps.leaves m n (event.PeerClosed c w) reply.Done step
+
+      -- it was made
+      unmade : m.next_conn ≤ c → ⊥
+      unmade more = clash (lacks_conn m c) (ap (λ (o : Option Connection). is_none o) (order.conns c more))
+          (when-none no.BadFd (lacks_conn m c) (passed (meaning m (event.PeerClosed c w)).refusals 0 step.0))
 
       did : LeavesPeer m c w n
       did = peer-left m n c w order (laws.the.other.peer_closed m n c w reply.Done order step)

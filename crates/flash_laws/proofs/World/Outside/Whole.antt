@@ -50,6 +50,7 @@ module _ (shelf : Shelf) (crew : Crew) (laws : AllLaws crew) where
   others_call m n p clients seats d k r order order_n fixed differ no_worker site step all =
       all_on shelf crew laws m n p p clients seats (event.Call d k) r order fixed site step (not-equal d server differ) (λ j lt. not-equal d (worker_domain j) (no_worker j lt)) all
       goes asides (λ c. told-call (p.gone c) m n d k r c order step (all.left c)) (λ c more. let up = laws.the.rises m n (event.Call d k) r step in all.fresh c (omega (arith, up, more)))
+      (λ c more. let up = laws.the.rises m n (event.Call d k) r step in all.untold c (omega (arith, up, more)))
     where
       -- nobody has it
       unheld : (c : ℕ) → (((conn_at m c).accepted ≡ false) ⊎ ((conn_at m c).closed ≡ true)) → (f : ℕ) → descriptor m d f ≡ Some (on.Connection c) → ⊥

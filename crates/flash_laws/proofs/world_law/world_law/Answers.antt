@@ -1,7 +1,6 @@
 use Rattle.std.proofs.Common.{ℕ, Bool, [], ◌++◌, length, map, subst}
 use Rattle.iol_proc.specs.Idle.{Idles, rounds}
 use Rattle.iol_proc.specs.World.{copying, domains_of}
-use Rattle.iol_proc.proofs.Smooth.{rough_as_it_runs}
 use Rattle.flash_laws.specs.Workers.Crew.{Crew}
 use Rattle.flash_laws.specs.Workers.Crews.{crew_with}
 use Rattle.flash_laws.specs.Serves.Rounds.{in_rounds}
@@ -92,12 +91,10 @@ returns-clause-idle g c = λ count desk pools jobs apart. idle_done (crew_of g c
 
 -- a whole run: choices, and then turns in rounds
 hosts : (crew : Crew) → AllLaws crew → HostIsRight crew
-hosts crew laws settled shelf xs rs w mid after most idle new run mild ends smooth =
-    let later = (rough_as_it_runs copying (actor_turns in_rounds crew.turns)).never_was mid after (rounds (domains_of mid.seats) 0 (length ends.went)) (map (λ t. t.1) ends.went) ends.run smooth in
-    let before = (rough_as_it_runs copying (actor_turns in_rounds crew.turns)).never_was w mid xs rs run later.0 in
-    let tied_mid = run_keeps in_rounds shelf crew laws xs rs w mid [] [] run mild before.1 (first_tied shelf crew w new) in
+hosts crew laws settled shelf xs rs w mid after most idle new run mild ends fair fair_rounds =
+    let tied_mid = run_keeps in_rounds shelf crew laws xs rs w mid [] [] run mild fair (first_tied shelf crew w new) in
     let tied_end = run_keeps in_rounds shelf crew laws (rounds (domains_of mid.seats) 0 (length ends.went)) (map (λ t. t.1) ends.went) mid after xs rs ends.run
-    (rounds-mild (actor_turns in_rounds crew.turns) (domains_of mid.seats) 0 (length ends.went) (map (λ t. t.1) ends.went) mid after ends.run) later.1 tied_mid in
+    (rounds-mild (actor_turns in_rounds crew.turns) (domains_of mid.seats) 0 (length ends.went) (map (λ t. t.1) ends.went) mid after ends.run) fair_rounds tied_mid in
     record {
       answered = tied_answered laws.the.windows shelf crew (xs ++ rounds (domains_of mid.seats) 0 (length ends.went)) (rs ++ map (λ t. t.1) ends.went) after tied_end;
       whole = tied_whole laws.the.windows shelf crew (xs ++ rounds (domains_of mid.seats) 0 (length ends.went)) (rs ++ map (λ t. t.1) ends.went) after tied_end;

@@ -1,28 +1,54 @@
-use Rattle.std.proofs.Common.{[], length, map}
-use Rattle.iol_proc.specs.Idle.{rounds}
-use Rattle.iol_proc.specs.World.{domains_of}
+use Rattle.std.proofs.Common.{ℕ, List, [], Bool}
+use Rattle.iol_core.specs.State.{State}
+use Rattle.iol_core.specs.declared.events.Reply.{Reply}
+use Rattle.iol_core.specs.declared.refusals.Refusal.{Refusal}
+use Rattle.iol_proc.specs.World.{Stage, domains_of}
+use Rattle.iol_proc.specs.declared.choice.Choice.{Choice}
+use Rattle.flash_cgi.specs.declared.worker.Worker.{Worker}
 use Rattle.flash_laws.specs.Serves.Rounds.{in_rounds}
-use Rattle.flash_laws.specs.World.Tie.{actor_turns}
-use Rattle.flash_lite.specs.Crew.{crew_of}
-use Rattle.flash_lite.specs.Harmless.{HarmlessIsMild}
+use Rattle.flash_laws.specs.World.Tie.{Actor, actor_turns}
+use Rattle.flash_laws.specs.World.Fair.{any_refusal, no_refusal, FilesAreFair}
+use Rattle.flash_lite.specs.Crew.{crew_of, is_shown, is_work}
+use Rattle.flash_lite.specs.Harmless.{HarmlessIsMild, IsRightNow}
+use Rattle.flash_lite.specs.HostedSite.{Hosts, IsRightAfter}
 use Rattle.flash_lite.specs.Library.{library_of}
+use Rattle.flash_lite.specs.Setup.{workers_used}
 use Rattle.flash_lite.specs.Workers.{worker_turns}
+use Rattle.flash_lite.specs.declared.site.Site.{Site}
+use Rattle.flash_lite.proofs.World.FairTurns.{files-choices, smooth-turns}
 use Rattle.flash_lite.proofs.World.Harmless.{all-mild, right-before, run-even}
+use Rattle.flash_lite.proofs.World.SiteWorld.{desks_apart}
 use Rattle.flash_lite.proofs.laws.harmless_is_right.Goals as goal
 
-are-mild : goal.After-smooth_runs → HarmlessIsMild
-are-mild c s slots xs rs turns idle after hosts harmless smooth =
-    let mid = c.smooth_runs.ensures.machine.never_was hosts.mid after (rounds (domains_of hosts.mid.seats) 0 (length hosts.ends.went)) (map (λ t. t.1) hosts.ends.went)
-    hosts.ends.run smooth in
-    let first = c.smooth_runs.ensures.machine.never_was hosts.first hosts.mid xs rs hosts.run mid.0 in
-    all-mild (library_of s slots) (crew_of s) c.site_law.ensures (c.connections_do_not_meet.ensures.step s) [] xs [] rs hosts.first hosts.mid hosts.run
-    (c.connections_do_not_meet.ensures.first s (library_of s slots) hosts.first hosts.new.new) first.1 harmless
+are-mild : goal.After-runs_are_fair → HarmlessIsMild
+are-mild c s slots xs rs turns idle after hosts refuses harmless fair =
+    all-mild (library_of s slots refuses) (crew_of s) c.site_law.ensures (c.connections_do_not_meet.ensures.step s) [] xs [] rs hosts.first hosts.mid hosts.run
+    (c.connections_do_not_meet.ensures.first s (library_of s slots refuses) hosts.first (hosts.new.new refuses)) fair harmless
+
+before : (s : Site) (slots : List (List ℕ)) (xs : List Choice) (rs : List Reply) (turns : ℕ) (idle : Bool) (after : Stage State (Actor Worker))
+    (hosts : Hosts s slots xs rs turns idle after) (refuses : Refusal → Bool) → IsRightAfter s slots xs rs turns idle after hosts refuses
+    → IsRightNow s slots xs rs turns idle after hosts refuses
+before s slots xs rs turns idle after hosts refuses right =
+    right-before (library_of s slots refuses) (crew_of s) (domains_of hosts.mid.seats) xs rs hosts.ends.went idle after
+    (run-even (actor_turns in_rounds worker_turns) xs rs hosts.first hosts.mid hosts.run) right
+
+files-fair : (c : goal.After-runs_are_fair) (s : Site) → FilesAreFair (crew_of s)
+files-fair c s = c.runs_are_fair.ensures.files (workers_used s) (λ k. k) is_shown is_work (desks_apart s)
 
 pub returns-clause-mild : goal.returns-clause-mild
 returns-clause-mild c = are-mild c
 
 pub returns-clause-right : goal.returns-clause-right
-returns-clause-right c = λ s slots xs rs turns idle after hosts harmless smooth.
-    right-before (library_of s slots) (crew_of s) (domains_of hosts.mid.seats) xs rs hosts.ends.went idle after
-    (run-even (actor_turns in_rounds worker_turns) xs rs hosts.first hosts.mid hosts.run)
-    (c.hosted_is_right.ensures s slots xs rs turns idle after hosts (are-mild c s slots xs rs turns idle after hosts harmless smooth) smooth)
+returns-clause-right c = λ s slots xs rs turns idle after hosts.
+    let hosted = c.hosted_is_right.ensures s slots xs rs turns idle after hosts in record {
+      fair = λ refuses harmless fair. before s slots xs rs turns idle after hosts refuses
+          (hosted.fair refuses (are-mild c s slots xs rs turns idle after hosts refuses harmless fair.0) fair);
+      smooth = λ harmless smooth.
+          let fair = smooth-turns s slots xs rs turns idle after hosts c.runs_are_fair.ensures.smooth c.smooth_runs.ensures smooth in
+          before s slots xs rs turns idle after hosts no_refusal
+          (hosted.smooth (are-mild c s slots xs rs turns idle after hosts no_refusal harmless fair.0) smooth);
+      files = λ harmless none.
+          let fair = files-choices s slots xs rs turns idle after hosts (files-fair c s) none (c.connections_do_not_meet.ensures.first s) in
+          before s slots xs rs turns idle after hosts any_refusal
+          (hosted.files (are-mild c s slots xs rs turns idle after hosts any_refusal harmless fair) none);
+    }

@@ -1,0 +1,95 @@
+-- What a worker has collected and not yet written: a text, and bytes of files that stand in it by reference.
+use Rattle.std.specs.Prelude.{ℕ, ◌+◌, ◌==◌, ◌&&◌, ◌||◌, not, nat_le, nat_lt, Bool, List, [], ◌∷◌, ◌++◌, length, take, drop, Option, Some, None, is_none, is_some, unwrap_or, if◌then◌else◌}
+use Rattle.flash_cgi.specs.declared.line.Line.{Line}
+use Rattle.flash_cgi.specs.declared.piece.Place.{Place}
+use Rattle.flash_cgi.specs.declared.piece.TheConstants.{MIN_PIECE_BYTES, MAX_COLLECTED_BYTES}
+
+-- A place says behind how many bytes of the text a file's bytes stand, and behind how many of the bytes of all collected files, which
+-- are held one behind the other. The last place is the first of the list. A file that is too long comes behind all of it.
+pub record Collected : Type 0 where
+  pub text : List ℕ
+  pub held : Option ℕ
+  pub files : ℕ
+  pub places : List Place
+  pub next : Option ℕ
+
+abbrev pub nothing : Collected
+nothing = record { text = []; held = None; files = 0; places = []; next = None }
+
+abbrev pub is_nothing : Collected → Bool
+is_nothing x = (length x.text == 0) && (length x.places == 0) && is_none x.held && is_none x.next
+
+-- ---- what all of it is
+
+-- the text with the bytes of files in it, the last first
+abbrev pub woven : (text : List ℕ) → List Place → (files : List ℕ) → List ℕ
+woven text [] files = text
+woven text (p ∷ ps) files = woven (take p.at text) ps (take p.from files) ++ (drop p.from files ++ drop p.at text)
+
+abbrev pub bytes_of_one : (ℕ → Option (List ℕ)) → Option ℕ → List ℕ
+bytes_of_one lent None = []
+bytes_of_one lent (Some a) = unwrap_or (lent a) []
+
+-- with this text
+abbrev pub collected_in : (ℕ → Option (List ℕ)) → (text : List ℕ) → Collected → List ℕ
+collected_in lent text x = woven text x.places (bytes_of_one lent x.held) ++ bytes_of_one lent x.next
+
+abbrev pub collected : (ℕ → Option (List ℕ)) → Collected → List ℕ
+collected lent x = collected_in lent x.text x
+
+-- ---- when it is written
+
+-- from so many bytes on
+abbrev pub is_full : Collected → Bool
+is_full x = nat_le MIN_PIECE_BYTES (length x.text + x.files)
+
+-- before this line, or after the last one: where it is full, a file waits behind it, or no line is left
+abbrev pub is_due : Collected → Option Line → Bool
+is_due x (Some l) = is_full x || is_some x.next
+is_due x None = not (is_nothing x)
+
+-- ---- what is added, and taken
+
+abbrev pub with_text : Collected → List ℕ → Collected
+with_text x text = record x { text = x.text ++ text }
+
+abbrev pub with_line : Collected → List ℕ → Collected
+with_line x text = with_text x (text ++ 10 ∷ [])
+
+abbrev pub without_text : Collected → Collected
+without_text x = record x { text = [] }
+
+-- where a file stands behind a text of so many bytes, which is not full
+abbrev pub place_behind : (len : ℕ) → ℕ
+place_behind len = if nat_lt len MAX_COLLECTED_BYTES then len else MAX_COLLECTED_BYTES
+
+-- with so many bytes of a file behind so many of those before
+abbrev pub with_file : Collected → (held from len : ℕ) → Collected
+with_file x held from len = record x {
+  held = Some held;
+  files = from + len;
+  places = record { at = place_behind (length x.text); from = from } ∷ x.places;
+}
+
+abbrev pub with_next : Collected → (next : ℕ) → Collected
+with_next x next = record x { next = Some next }
+
+abbrev pub without_next : Collected → Collected
+without_next x = record x { next = None }
+
+abbrev pub with_held : Collected → (held : ℕ) → Collected
+with_held x held = record x { held = Some held }
+
+abbrev pub last_place : List Place → Option Place
+last_place [] = None
+last_place (p ∷ ps) = Some p
+
+abbrev pub but_last : List Place → List Place
+but_last [] = []
+but_last (p ∷ ps) = ps
+
+abbrev pub without_last : Collected → Collected
+without_last x = record x { places = but_last x.places }
+
+abbrev pub without_files : Collected → Collected
+without_files x = record x { held = None; files = 0; places = [] }

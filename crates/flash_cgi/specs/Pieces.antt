@@ -1,0 +1,107 @@
+-- What holds of what a worker has collected, where its domain lends bytes under numbers.
+use Rattle.std.specs.Prelude.{◌≡◌, ◌≢◌, ℕ, ◌≤◌, List, [], ◌∷◌, length, drop, Option, Some, None}
+use Rattle.flash_cgi.specs.Collecting.{Collected, but_last, bytes_of_one, without_last}
+use Rattle.flash_cgi.specs.declared.phase.Doing.{Doing}
+use Rattle.flash_cgi.specs.declared.phase.Doing.TheVariants as doing
+use Rattle.flash_cgi.specs.declared.piece.Place.{Place}
+use Rattle.flash_cgi.specs.WorkerSteps.{bytes_at}
+
+-- places stand in their order, within so many bytes of text
+abbrev pub AreWithin : ℕ → List Place → Type 0
+AreWithin n [] = Unit {0}
+AreWithin n (p ∷ ps) = (p.at ≤ n) × AreWithin p.at ps
+
+abbrev pub Lends : (ℕ → Option (List ℕ)) → (a : ℕ) → Type 0
+Lends lent a = (bytes : List ℕ) × (lent a ≡ Some bytes)
+
+-- the bytes of files are there, where files have places
+abbrev pub LendsFiles : (ℕ → Option (List ℕ)) → (held : Option ℕ) → List Place → Type 0
+LendsFiles lent None ps = ps ≡ []
+LendsFiles lent (Some held) ps = Lends lent held
+
+abbrev pub LendsNext : (ℕ → Option (List ℕ)) → (held next : Option ℕ) → Type 0
+LendsNext lent held None = Unit {0}
+LendsNext lent held (Some next) = Lends lent next × (held ≢ Some next)
+
+-- what is collected is there, with its places within a text of so many bytes
+pub record HasPiece (lent : ℕ → Option (List ℕ)) (len : ℕ) (x : Collected) : Type 0 where
+  pub files : LendsFiles lent x.held x.places
+  pub within : AreWithin len x.places
+  pub next : LendsNext lent x.held x.next
+
+-- this aggregate is none of what is collected
+abbrev pub IsApart : Collected → (a : ℕ) → Type 0
+IsApart x a = (x.held ≢ Some a) × (x.next ≢ Some a)
+
+-- ---- phase by phase
+
+-- a file may be collected: no file waits behind what is, and the place behind its text is known
+pub record Gathers (lent : ℕ → Option (List ℕ)) (x : Collected) : Type 0 where
+  pub piece : HasPiece lent (length x.text) x
+  pub none_next : x.next ≡ None
+  pub short : length x.text ≤ 4096
+
+-- of what was collected nothing is left but the file that is too long
+pub record IsRest (lent : ℕ → Option (List ℕ)) (x : Collected) : Type 0 where
+  pub piece : HasPiece lent (length x.text) x
+  pub no_text : x.text ≡ []
+  pub no_places : x.places ≡ []
+
+pub record Joins (lent : ℕ → Option (List ℕ)) (x : Collected) (held agg from : ℕ) : Type 0 where
+  pub gathers : Gathers lent x
+  pub held_is : x.held ≡ Some held
+  pub lends : Lends lent agg
+  pub from_is : from ≡ length (bytes_of_one lent x.held)
+
+-- this text is made of it, and the bytes of the last place are to be set into it
+pub record Cuts (lent : ℕ → Option (List ℕ)) (x : Collected) (held agg from : ℕ) : Type 0 where
+  pub place : Place
+  pub lends : Lends lent agg
+  pub piece : HasPiece lent (length (bytes_at lent agg)) x
+  pub no_text : x.text ≡ []
+  pub held_is : x.held ≡ Some held
+  pub places_are : x.places ≡ place ∷ but_last x.places
+  pub from_is : place.from ≡ from
+  pub apart : IsApart x agg
+
+pub record Replaces (lent : ℕ → Option (List ℕ)) (x : Collected) (agg part at : ℕ) : Type 0 where
+  pub lends : Lends lent agg
+  pub parts : Lends lent part
+  pub piece : HasPiece lent at (without_last x)
+  pub within : at ≤ length (bytes_at lent agg)
+  pub no_text : x.text ≡ []
+  pub apart : IsApart x agg
+  pub part_apart : IsApart x part
+  pub differ : agg ≢ part
+
+pub record DropsPart (lent : ℕ → Option (List ℕ)) (x : Collected) (part made : ℕ) : Type 0 where
+  pub lends : Lends lent made
+  pub piece : HasPiece lent (length (bytes_at lent made)) x
+  pub no_text : x.text ≡ []
+  pub part_apart : IsApart x part
+  pub made_apart : IsApart x made
+  pub differ : part ≢ made
+
+pub record DropsText (lent : ℕ → Option (List ℕ)) (x : Collected) (agg part made : ℕ) : Type 0 where
+  pub drops : DropsPart lent x part made
+  pub apart : IsApart x agg
+  pub differ : agg ≢ made
+
+abbrev pub HoldsAt : (ℕ → Option (List ℕ)) → Collected → Doing → Type 0
+HoldsAt lent x doing.Waits = Unit {0}
+HoldsAt lent x (doing.Skips agg) = Unit {0}
+HoldsAt lent x (doing.Breaks agg) = Unit {0}
+HoldsAt lent x doing.Runs = HasPiece lent (length x.text) x
+HoldsAt lent x (doing.Reads file p) = Gathers lent x
+HoldsAt lent x (doing.ShutsToSay file s) = Gathers lent x
+HoldsAt lent x (doing.Counted file agg s) = Gathers lent x × IsApart x agg
+HoldsAt lent x (doing.Shuts file agg) = Gathers lent x × IsApart x agg
+HoldsAt lent x (doing.JoiningFile held agg from len) = Joins lent x held agg from
+HoldsAt lent x (doing.CuttingPart held agg from) = Cuts lent x held agg from
+HoldsAt lent x (doing.ReplacingPart agg part at) = Replaces lent x agg part at
+HoldsAt lent x (doing.DroppingText agg part made) = DropsText lent x agg part made
+HoldsAt lent x (doing.DroppingPart part made) = DropsPart lent x part made
+HoldsAt lent x (doing.Drops agg) = IsRest lent x × IsApart x agg
+HoldsAt lent x (doing.Writes agg) = IsRest lent x × IsApart x agg
+HoldsAt lent x (doing.Cuts agg from to) = IsRest lent x × IsApart x agg
+HoldsAt lent x (doing.Swaps agg rest) = IsRest lent x × IsApart x agg × IsApart x rest

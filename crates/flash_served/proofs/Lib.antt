@@ -1,0 +1,3 @@
+pub mod Histories
+pub mod Served
+pub mod Sessions

@@ -1,0 +1,102 @@
+-- A connection of a tied world that was served is answered.
+use Rattle.std.proofs.Common.{◌≡◌, ℕ, List, [], ◌∷◌, ◌++◌, ap, ◌∙◌, subst, Option, Some, None, true, false, append-nil, is_none, unwrap_or}
+use Rattle.iol_core.specs.Calls.Outside.{lacks_conn}
+use Rattle.iol_core.specs.NumberedLists.{lookup}
+use Rattle.iol_core.specs.Text.{bytes_of}
+use Rattle.iol_core.specs.State.{State, Connection, conn_at, no_conn}
+use Rattle.iol_core.specs.declared.events.Event.TheVariants as event
+use Rattle.iol_core.specs.declared.events.Reply.{Reply}
+use Rattle.iol_proc.specs.Histories.{stream_over, sent_over}
+use Rattle.iol_proc.specs.World.{Stage, copying, WorldRun}
+use Rattle.iol_proc.specs.declared.choice.Choice.{Choice}
+use Rattle.iol_proc.specs.declared.choice.Choice.TheVariants as choice
+use Rattle.iol_serve.specs.Service.{AreOn, GoesOn, IsOn, hung_up}
+use Rattle.iol_serve.specs.declared.ending.Ending.{Ending}
+use Rattle.iol_serve.specs.declared.ending.Ending.TheVariants.{Over}
+use Rattle.flash_laws.specs.Serves.Rounds.{in_rounds}
+use Rattle.flash_laws.specs.Shelf.{Shelf, Begins, IsAnswer}
+use Rattle.flash_laws.specs.Site.Past.{made_by, gone_by}
+use Rattle.flash_laws.specs.Workers.Crew.{Crew}
+use Rattle.flash_laws.specs.World.{AreFair, Tied, RunKeepsTie, TiedIsAnswered, TiedIsWhole}
+use Rattle.flash_laws.specs.World.Calm.{IsMild, AreMild}
+use Rattle.flash_laws.specs.World.Tie.{Actor, actor_turns, made_over, gone_over}
+use Rattle.flash_laws.proofs.World.Responses.{begins-less}
+use Rattle.flash_served.specs.Served.{IsFresh, IsAnswered}
+use Rattle.flash_served.proofs.Histories.{stream-both, sent-both, told-then, untold-then, none-told}
+
+-- ---- what happens is mild: no call comes from outside
+
+module _ (crew : Crew) where
+  mild-one : (c : ℕ) (x : Choice) (w after : Stage State (Actor crew.Worker)) → IsOn c x → IsMild w x after
+  mild-one c (choice.Outside (event.Call d k)) w after on = absurd on
+  mild-one c (choice.Outside (event.Arrive d bytes)) w after on = tt
+  mild-one c (choice.Outside (event.PeerClosed d how)) w after on = tt
+  mild-one c (choice.Outside (event.Transmit d max)) w after on = tt
+  mild-one c (choice.Outside e) w after on = absurd on
+  mild-one c (choice.Turn by) w after on = tt
+
+  all-mild : (c : ℕ) (xs : List Choice) (rs : List Reply) (w after : Stage State (Actor crew.Worker))
+      → (run : WorldRun copying (actor_turns in_rounds crew.turns) w xs rs after) → AreOn c xs
+      → AreMild (actor_turns in_rounds crew.turns) w xs rs after run
+  all-mild c [] rs w after run on = tt
+  all-mild c (x ∷ xs) [] w after run on = tt
+  all-mild c (x ∷ xs) (r ∷ rs) w after run on = (mild-one c x w run.0 on.0, all-mild c xs rs run.0 after run.2 on.1)
+
+-- ---- a connection that is not there any more
+
+none-found : (found : Option Connection) → is_none found ≡ true → found ≡ None
+none-found None lacks = refl
+none-found (Some x) lacks = absurd (cc (lacks))
+
+lacking-is-none : (s : State) (c : ℕ) → lacks_conn s c ≡ true → conn_at s c ≡ no_conn
+unfolding conn_at
+lacking-is-none s c lacks = ap (λ (found : Option Connection). unwrap_or found no_conn) (none-found (lookup s.conns c) lacks)
+
+-- ---- the law
+
+pub served_right : (crew : Crew) → RunKeepsTie in_rounds crew → TiedIsAnswered crew → TiedIsWhole crew
+    → (shelf : Shelf) (past : List Choice) (ps : List Reply) (c : ℕ) (ending : Ending) (came sent : List ℕ)
+    (w after : Stage State (Actor crew.Worker)) → Tied shelf crew past ps w → IsFresh c past ps
+    → (on : GoesOn (actor_turns in_rounds crew.turns) c came sent (hung_up ending) w after)
+    → (ending ≡ Over → lacks_conn after.machine c ≡ true) → AreFair shelf.refuses on.choices on.replies
+    → Tied shelf crew (past ++ on.choices) (ps ++ on.replies) after × IsAnswered shelf ending came sent
+unfolding made_over gone_over
+served_right crew keeps answered whole shelf past ps c ending came sent w after tied fresh on lacks fair =
+    (tie, record { begins = begun; whole = λ over. all over })
+  where
+    tie : Tied shelf crew (past ++ on.choices) (ps ++ on.replies) after
+    tie = keeps shelf past on.choices ps on.replies w after on.run
+        (all-mild crew c on.choices on.replies w after on.run on.alone) fair tied
+
+    net : made_over c (past ++ on.choices) (ps ++ on.replies) ≡ true
+    net = told-then (λ e r. made_by c e r) past on.choices ps on.replies tied.even fresh.net
+
+    came_is : stream_over c (past ++ on.choices) (ps ++ on.replies) ≡ came
+    came_is = stream-both c past on.choices ps on.replies tied.even
+        ∙ (ap (λ (l : List ℕ). l ++ stream_over c on.choices on.replies) fresh.unread ∙ on.comes)
+
+    sent_is : sent_over c (past ++ on.choices) (ps ++ on.replies) ≡ sent
+    sent_is = sent-both c past on.choices ps on.replies tied.even
+        ∙ (ap (λ (l : List ℕ). l ++ sent_over c on.choices on.replies) fresh.unsent ∙ on.goes)
+
+    begun : Begins shelf came sent
+    begun = subst (λ (l : List ℕ). Begins shelf l sent) came_is
+        (subst (λ (l : List ℕ). Begins shelf (stream_over c (past ++ on.choices) (ps ++ on.replies)) l) sent_is
+        (begins-less shelf _ _ (bytes_of (conn_at after.machine c).outgoing) (answered shelf _ _ after tie c net)))
+
+    all : ending ≡ Over → IsAnswer shelf came sent
+    all over = subst (λ (l : List ℕ). IsAnswer shelf l sent) came_is
+        (subst (λ (l : List ℕ). IsAnswer shelf (stream_over c (past ++ on.choices) (ps ++ on.replies)) l) (all_sent ∙ sent_is)
+        (whole shelf _ _ after tie c net (ap (λ (k : Connection). k.closed) gone) stays))
+      where
+        gone : conn_at after.machine c ≡ no_conn
+        gone = lacking-is-none after.machine c (lacks over)
+
+        stays : gone_over c (past ++ on.choices) (ps ++ on.replies) ≡ false
+        stays = untold-then (λ e r. gone_by c e r) past on.choices ps on.replies tied.even fresh.stays
+            (none-told c on.choices on.replies (on.tells ∙ ap (λ (e : Ending). hung_up e) over))
+
+        all_sent : sent_over c (past ++ on.choices) (ps ++ on.replies) ++ bytes_of (conn_at after.machine c).outgoing
+            ≡ sent_over c (past ++ on.choices) (ps ++ on.replies)
+        all_sent = ap (λ (k : Connection). sent_over c (past ++ on.choices) (ps ++ on.replies) ++ bytes_of k.outgoing) gone
+            ∙ append-nil (sent_over c (past ++ on.choices) (ps ++ on.replies))

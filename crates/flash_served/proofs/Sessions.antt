@@ -1,0 +1,133 @@
+-- Connections that are made and served one after another are answered.
+use Rattle.std.proofs.Common.{◌≡◌, ℕ, ◌==◌, List, [], ◌∷◌, ◌++◌, ap, ◌∙◌, refl, sym, subst, arith, true, false, Bool, append_assoc, append-nil}
+use Rattle.std.specs.Prelude.{◌||◌, ◌&&◌}
+use Rattle.iol_core.specs.State.{State}
+use Rattle.iol_core.specs.declared.events.Event.TheVariants as event
+use Rattle.iol_core.specs.declared.events.Reply.{Reply}
+use Rattle.iol_core.specs.declared.events.Reply.TheVariants as reply
+use Rattle.iol_core.specs.declared.refusals.Refusal.{Refusal}
+use Rattle.iol_laws.specs.ConnNumbers.{ConnectionNumbersRise}
+use Rattle.iol_proc.specs.World.{Stage, copying, OutsideStep}
+use Rattle.iol_proc.specs.declared.choice.Choice.{Choice}
+use Rattle.iol_proc.specs.declared.choice.Choice.TheVariants as choice
+use Rattle.flash_cgi.specs.declared.worker.Worker.{Worker}
+use Rattle.flash_laws.specs.Serves.Rounds.{in_rounds}
+use Rattle.flash_laws.specs.Shelf.{Shelf}
+use Rattle.flash_laws.specs.Site.{net_pool}
+use Rattle.flash_laws.specs.Site.Past.{Past}
+use Rattle.flash_laws.specs.World.{AreFair, RunKeepsTie, Tied, TiedIsAnswered, TiedIsWhole}
+use Rattle.flash_laws.specs.World.Fair.{any_refusal, FilesAreFair}
+use Rattle.flash_laws.specs.World.Tie.{Actor, actor_turns, past_of}
+use Rattle.flash_laws.proofs.Lists.{later_of, self}
+use Rattle.flash_laws.proofs.Site.Pasts.{past-outside}
+use Rattle.flash_lite.specs.Crew.{crew_of}
+use Rattle.flash_lite.specs.Library.{library_of}
+use Rattle.flash_lite.specs.Setup.{workers_used}
+use Rattle.flash_lite.specs.Workers.{worker_turns}
+use Rattle.flash_lite.specs.declared.site.Site.{Site}
+use Rattle.flash_served.specs.Served.{AreFairSessions, AreRight, AreSessions, Holds, IsAnswered, IsFresh, IsSession, Session}
+use Rattle.flash_served.proofs.Served.{served_right}
+
+-- what a past has of a connection
+record HasNone (p : Past) (c : ℕ) : Type 0 where
+  pub net : p.net c ≡ true
+  pub unread : p.came c ≡ []
+  pub unsent : p.sent c ≡ []
+  pub stays : p.gone c ≡ false
+
+fresh-by : (c : ℕ) (xs : List Choice) (rs : List Reply) → HasNone (past_of xs rs) c → IsFresh c xs rs
+fresh-by c xs rs has = record { net = has.net; unread = has.unread; unsent = has.unsent; stays = has.stays }
+
+never : (b : Bool) → b ≡ false → (b || false) ≡ false
+never false is = refl
+never true is = absurd (cc (is))
+
+module _ (s : Site) (slots : List (List ℕ)) (keeps : RunKeepsTie in_rounds (crew_of s)) (answered : TiedIsAnswered (crew_of s)) (whole : TiedIsWhole (crew_of s))
+    (numbers : ConnectionNumbersRise) where
+  module _ (refuses : Refusal → Bool) where
+    abbrev shelf : Shelf
+    shelf = library_of s slots refuses
+
+    -- a connection that was just made has no history
+    made-fresh : (past : List Choice) (ps : List Reply) (c : ℕ) (w mid : Stage State (Actor Worker)) → Holds s slots refuses past ps w
+        → OutsideStep copying (actor_turns in_rounds worker_turns) w (event.ConnNew net_pool) (reply.Conn c) mid
+        → IsFresh c (past ++ choice.Outside (event.ConnNew net_pool) ∷ []) (ps ++ reply.Conn c ∷ [])
+    made-fresh past ps c w mid tied made = fresh-by c _ _
+        (subst (λ (p : Past). HasNone p c) (sym (past-outside past ps (event.ConnNew net_pool) (reply.Conn c) tied.even)) (record {
+          net = later_of ((past_of past ps).net c) ((c == c) && (net_pool == net_pool)) (and-self c);
+          unread = append-nil ((past_of past ps).came c) ∙ none.0;
+          unsent = append-nil ((past_of past ps).sent c) ∙ none.1;
+          stays = never ((past_of past ps).gone c) (tied.seated.serves.fit.untold c (omega (arith, number)));
+        }))
+      where
+        number : c ≡ w.machine.next_conn
+        number = (numbers.next w.machine mid.machine net_pool c made.step).0
+
+        none : ((past_of past ps).came c ≡ []) × ((past_of past ps).sent c ≡ []) × ((past_of past ps).net c ≡ false)
+        none = tied.seated.serves.fit.fresh c (omega (arith, number))
+
+        and-self : (a : ℕ) → ((a == a) && (net_pool == net_pool)) ≡ true
+        and-self a = ap (λ b. b && (net_pool == net_pool)) (self a)
+
+    -- one session
+    session-right : (past : List Choice) (ps : List Reply) (it : Session) (w after : Stage State (Actor Worker)) → Holds s slots refuses past ps w
+        → (is : IsSession it w after) → AreFair refuses is.goes_on.choices is.goes_on.replies
+        → Holds s slots refuses ((past ++ choice.Outside (event.ConnNew net_pool) ∷ []) ++ is.goes_on.choices) ((ps ++ reply.Conn it.conn ∷ []) ++ is.goes_on.replies) after
+        × IsAnswered shelf it.ending it.came it.sent
+    session-right past ps it w after tied is fair =
+        let begun = keeps shelf past (choice.Outside (event.ConnNew net_pool) ∷ []) ps (reply.Conn it.conn ∷ []) w is.begun (is.begun, is.made, refl) (tt, tt) tt tied in
+        served_right (crew_of s) keeps answered whole shelf _ _ it.conn it.ending it.came it.sent is.begun after begun
+        (made-fresh past ps it.conn w is.begun tied is.made) is.goes_on is.over fair
+
+    -- one more before the others
+    right-more : (past : List Choice) (ps : List Reply) (xs : List Choice) (rs : List Reply) (it : Session) (its : List Session)
+        (after : Stage State (Actor Worker)) → IsAnswered shelf it.ending it.came it.sent → AreRight s slots refuses (past ++ xs) (ps ++ rs) its after
+        → AreRight s slots refuses past ps (it ∷ its) after
+    right-more past ps xs rs it its after first rest = record {
+      answered = (first, rest.answered);
+      choices = xs ++ rest.choices;
+      replies = rs ++ rest.replies;
+      holds = subst (λ (l : List Choice). Holds s slots refuses l (ps ++ (rs ++ rest.replies)) after) (append_assoc past xs rest.choices)
+          (subst (λ (l : List Reply). Holds s slots refuses ((past ++ xs) ++ rest.choices) l after) (append_assoc ps rs rest.replies) rest.holds);
+    }
+
+    one-more : (past : List Choice) (ps : List Reply) (it : Session) (its : List Session) (w mid after : Stage State (Actor Worker))
+        → (is : IsSession it w mid) → IsAnswered shelf it.ending it.came it.sent
+        → AreRight s slots refuses ((past ++ choice.Outside (event.ConnNew net_pool) ∷ []) ++ is.goes_on.choices) ((ps ++ reply.Conn it.conn ∷ []) ++ is.goes_on.replies) its after
+        → AreRight s slots refuses past ps (it ∷ its) after
+    one-more past ps it its w mid after is first rest =
+        right-more past ps (choice.Outside (event.ConnNew net_pool) ∷ is.goes_on.choices) (reply.Conn it.conn ∷ is.goes_on.replies) it its after first
+        (subst (λ (l : List Choice). AreRight s slots refuses l (ps ++ (reply.Conn it.conn ∷ is.goes_on.replies)) its after) (append_assoc past (choice.Outside (event.ConnNew net_pool) ∷ []) is.goes_on.choices)
+        (subst (λ (l : List Reply). AreRight s slots refuses ((past ++ choice.Outside (event.ConnNew net_pool) ∷ []) ++ is.goes_on.choices) l its after) (append_assoc ps (reply.Conn it.conn ∷ []) is.goes_on.replies) rest))
+
+    none-right : (past : List Choice) (ps : List Reply) (w after : Stage State (Actor Worker)) → Holds s slots refuses past ps w → after ≡ w
+        → AreRight s slots refuses past ps [] after
+    none-right past ps w after tied same = record {
+      answered = tt;
+      choices = [];
+      replies = [];
+      holds = subst (λ (v : Stage State (Actor Worker)). Holds s slots refuses (past ++ []) (ps ++ []) v) (sym same)
+          (subst (λ (l : List Choice). Holds s slots refuses l (ps ++ []) w) (sym (append-nil past))
+          (subst (λ (l : List Reply). Holds s slots refuses past l w) (sym (append-nil ps)) tied));
+    }
+
+    pub fair-sessions : (past : List Choice) (ps : List Reply) (its : List Session) (w after : Stage State (Actor Worker))
+        → (sessions : AreSessions its w after) → Holds s slots refuses past ps w → AreFairSessions refuses its w after sessions
+        → AreRight s slots refuses past ps its after
+    fair-sessions past ps [] w after sessions tied fair = none-right past ps w after tied sessions
+    fair-sessions past ps (it ∷ its) w after sessions tied fair =
+        let did = session-right past ps it w sessions.0 tied sessions.1 fair.0 in
+        one-more past ps it its w sessions.0 after sessions.1 did.1
+        (fair-sessions _ _ its sessions.0 after sessions.2 did.0 fair.1)
+
+  pub file-sessions : FilesAreFair (crew_of s) → workers_used s ≡ 0 → (past : List Choice) (ps : List Reply) (its : List Session)
+      (w after : Stage State (Actor Worker)) → AreSessions its w after → Holds s slots any_refusal past ps w
+      → AreRight s slots any_refusal past ps its after
+  file-sessions files none past ps [] w after sessions tied = none-right any_refusal past ps w after tied sessions
+  file-sessions files none past ps (it ∷ its) w after sessions tied =
+      let is = sessions.1 in
+      let begun = keeps (library_of s slots any_refusal) past (choice.Outside (event.ConnNew net_pool) ∷ []) ps (reply.Conn it.conn ∷ []) w is.begun (is.begun, is.made, refl) (tt, tt) tt tied in
+      let fair = files none (library_of s slots any_refusal) _ is.goes_on.choices _ is.goes_on.replies is.begun sessions.0 begun is.goes_on.run in
+      let did = session-right any_refusal past ps it w sessions.0 tied is fair in
+      one-more any_refusal past ps it its w sessions.0 after is did.1
+      (file-sessions files none _ _ its sessions.0 after sessions.2 did.0)

@@ -1,0 +1,41 @@
+//! One client of the server, from the making of its connection to its end.
+ghost use Rattle.std.specs.Prelude.{◌≡◌, IfNone, IfSome};
+ghost use Rattle.iol_back.specs.Prelude.{IfHonest};
+ghost use Rattle.iol_proc.specs.Prelude.{KeepsHonesty, copied};
+ghost use Rattle.flash_served.specs.Served.{ServesRight};
+
+use crate::sessions_are_right;
+use flash_lite::actor::Actor;
+use iol_back::backing::Backing;
+use iol_core::events::{Event, Reply};
+use iol_core::numbers::PoolId;
+use iol_proc::world::World;
+use iol_serve::ending::Ending;
+use iol_serve::serve::serve_connection;
+use std::io::{Read, Write};
+
+/// The pool that connections take their bytes into.
+const NET: u32 = 2;
+
+/// Makes a connection of the net and serves it, from a reader and to a writer: how that ended, or nothing where there is no place or
+/// no memory for it. Over an honest store what the writer accepts begins an answer to what the reader supplies, and is all of it where
+/// the ending is `Over`, if the world satisfies the server's invariant; and it does so afterwards.
+pub fn serve_client<B: Backing + Drop, R: Read, W: Write>(
+    world: &mut World<B, Actor>,
+    reader: &mut R,
+    writer: &mut W,
+) -> Option<Ending>
+    ensures honest { KeepsHonesty world.old.machine world.new.machine }
+    ensures right { IfHonest world.old.machine.disk (IfSome result (λ ending. ServesRight ending
+        (R.remaining reader.old) (R.remaining reader.new)
+        (W.contents writer.old) (W.contents writer.new) (copied world.old) (copied world.new))) }
+    ensures none { IfNone result ((reader.new ≡ reader.old) × (writer.new ≡ writer.old)) }
+{
+    sessions_are_right();
+    let pool = PoolId::new(NET);
+    let reply = world.step_outside(Event::ConnNew { pool });
+    match &reply {
+        Reply::Conn(conn) => Some(serve_connection(world, *conn, reader, writer)),
+        _ => None,
+    }
+}
