@@ -1,3 +1,4 @@
 pub mod Histories
 pub mod Served
 pub mod Sessions
+pub mod ConnEnd

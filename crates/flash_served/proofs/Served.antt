@@ -1,5 +1,5 @@
 -- A connection of a tied world that was served is answered.
-use Rattle.std.proofs.Common.{◌≡◌, ℕ, List, [], ◌∷◌, ◌++◌, ap, ◌∙◌, subst, Option, Some, None, true, false, append-nil, is_none, unwrap_or}
+use Rattle.std.proofs.Common.{◌≡◌, ℕ, List, [], ◌∷◌, ◌++◌, ap, ◌∙◌, subst, Option, Some, None, true, false, append-nil, is_none, unwrap_or, refl}
 use Rattle.iol_core.specs.Calls.Outside.{lacks_conn}
 use Rattle.iol_core.specs.NumberedLists.{lookup}
 use Rattle.iol_core.specs.Text.{bytes_of}

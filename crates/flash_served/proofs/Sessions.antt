@@ -1,6 +1,7 @@
 -- Connections that are made and served one after another are answered.
-use Rattle.std.proofs.Common.{◌≡◌, ℕ, ◌==◌, List, [], ◌∷◌, ◌++◌, ap, ◌∙◌, refl, sym, subst, arith, true, false, Bool, append_assoc, append-nil}
+use Rattle.std.proofs.Common.{◌≡◌, ℕ, ◌==◌, List, [], ◌∷◌, ◌++◌, ap, ◌∙◌, refl, sym, subst, arith, true, false, Bool, append_assoc, append-nil, Option}
 use Rattle.std.specs.Prelude.{◌||◌, ◌&&◌}
+use Rattle.iol_core.specs.Calls.Outside.{lacks_conn}
 use Rattle.iol_core.specs.State.{State}
 use Rattle.iol_core.specs.declared.events.Event.TheVariants as event
 use Rattle.iol_core.specs.declared.events.Reply.{Reply}
@@ -10,6 +11,9 @@ use Rattle.iol_laws.specs.ConnNumbers.{ConnectionNumbersRise}
 use Rattle.iol_proc.specs.World.{Stage, copying, OutsideStep}
 use Rattle.iol_proc.specs.declared.choice.Choice.{Choice}
 use Rattle.iol_proc.specs.declared.choice.Choice.TheVariants as choice
+use Rattle.iol_serve.specs.Service.{Serves, hung_up}
+use Rattle.iol_serve.specs.declared.ending.Ending.{Ending}
+use Rattle.iol_serve.specs.declared.ending.Ending.TheVariants.{Over}
 use Rattle.flash_cgi.specs.declared.worker.Worker.{Worker}
 use Rattle.flash_laws.specs.Serves.Rounds.{in_rounds}
 use Rattle.flash_laws.specs.Shelf.{Shelf}
@@ -25,7 +29,7 @@ use Rattle.flash_lite.specs.Library.{library_of}
 use Rattle.flash_lite.specs.Setup.{workers_used}
 use Rattle.flash_lite.specs.Workers.{worker_turns}
 use Rattle.flash_lite.specs.declared.site.Site.{Site}
-use Rattle.flash_served.specs.Served.{AreFairSessions, AreRight, AreSessions, Holds, IsAnswered, IsFresh, IsSession, Session}
+use Rattle.flash_served.specs.Served.{AreFairSessions, AreRight, AreSessions, Holds, IsAnswered, IsFresh, IsSession, ServesRight, Session, SessionsAreRight}
 use Rattle.flash_served.proofs.Served.{served_right}
 
 -- what a past has of a connection
@@ -131,3 +135,24 @@ module _ (s : Site) (slots : List (List ℕ)) (keeps : RunKeepsTie in_rounds (cr
       let did = session-right any_refusal past ps it w sessions.0 tied is fair in
       one-more any_refusal past ps it its w sessions.0 after is did.1
       (file-sessions files none _ _ its sessions.0 after sessions.2 did.0)
+
+-- one client, that is made and served
+pub serves_right : SessionsAreRight → (n : ℕ) (ending : Ending) (left rest held now : Option (List ℕ)) (w begun after : Stage State (Actor Worker))
+    → OutsideStep copying (actor_turns in_rounds worker_turns) w (event.ConnNew net_pool) (reply.Conn n) begun
+    → Serves (actor_turns in_rounds worker_turns) n (hung_up ending) left rest held now begun after
+    → (ending ≡ Over → lacks_conn after.machine n ≡ true) → ServesRight ending left rest held now w after
+serves_right law n ending left rest held now w begun after made served over = record {
+  session = it;
+  ends = refl;
+  given = served.given;
+  taken = served.taken;
+  serves = is;
+  fair = λ s slots refuses past ps tied fair. (law s slots past ps (it ∷ []) w after (after, is, refl)).fair refuses tied (fair, tt);
+  files = λ s slots past ps tied none. (law s slots past ps (it ∷ []) w after (after, is, refl)).files tied none;
+}
+  where
+    it : Session
+    it = record { conn = n; ending = ending; came = served.came; sent = served.sent }
+
+    is : IsSession it w after
+    is = record { begun = begun; made = made; goes_on = served.goes_on; over = over }

@@ -1,0 +1,10 @@
+-- A connection that is not there in a system's tables is not there for the copying machine.
+use Rattle.std.proofs.Common.{◌≡◌, ℕ, true}
+use Rattle.iol_core.specs.Calls.Outside.{lacks_conn}
+use Rattle.iol_kernel.specs.KernelState.{read_of}
+use Rattle.iol_kernel.specs.Views.{state_view}
+use Rattle.iol_system.specs.Machine.{SystemState, machine_of, tables_of}
+
+pub lacks_copied : (s : SystemState) (c : ℕ) → lacks_conn (tables_of s.kernel) c ≡ true → lacks_conn (machine_of s) c ≡ true
+unfolding read_of state_view
+lacks_copied s c lacks = lacks
