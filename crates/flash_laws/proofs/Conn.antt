@@ -6,6 +6,7 @@ pub mod Touches
 pub mod Repeats
 pub mod DoneCalls
 pub mod Progress
+pub mod ShortHeads
 pub mod TakenBytes
 pub mod OfferedBytes
 pub mod Holdings

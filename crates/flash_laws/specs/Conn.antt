@@ -2,6 +2,7 @@
 pub mod Fits
 pub mod OfferedBytes
 pub mod Progress
+pub mod ShortHeads
 pub mod Holdings
 pub mod Policy
 pub mod Wants

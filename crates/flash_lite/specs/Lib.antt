@@ -18,6 +18,7 @@ pub mod Crew
 pub mod SiteWorld
 pub mod SiteStart
 pub mod HostedSite
+pub mod HostedFiles
 pub mod Harmless
 pub mod Offers
 pub mod Runs

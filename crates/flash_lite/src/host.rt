@@ -38,6 +38,8 @@ pub struct Hosted<B: Backing> {
 /// With an honest store, and where calls from outside leave the site and its processes alone, what
 /// comes of it is right: [`hosted_is_right`](crate::laws::hosted_is_right), and
 /// [`harmless_is_right`](crate::laws::harmless_is_right) of choices that can be seen to leave them alone.
+/// Without scripts all becomes idle if the number of turns suffices, and each connection is served:
+/// [`hosted_files_become_idle`](crate::laws::hosted_files_become_idle).
 pub fn host<B: Backing + Drop>(
     alloc: Global,
     config: Config,

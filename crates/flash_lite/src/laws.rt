@@ -2,6 +2,7 @@
 ghost use Rattle.flash_laws.specs.Prelude.{ActorsSettle, in_rounds, RunKeepsTie, StepKeepsTie, TiedAtFirst, TiedIsAnswered, TiedIsWhole, IdleIsDone, HostIsRight};
 ghost use Rattle.flash_lite.specs.Crew.{crew_of};
 ghost use Rattle.flash_lite.specs.Harmless.{HarmlessIsMild, HarmlessIsRight};
+ghost use Rattle.flash_lite.specs.HostedFiles.{HostedFilesBecomeIdle};
 ghost use Rattle.flash_lite.specs.HostedSite.{HostedIsRight};
 ghost use Rattle.flash_lite.specs.SiteWorld.{SetUpIsANewWorld};
 ghost use Rattle.flash_lite.specs.Workers.{worker_turns, worker_settled};
@@ -12,6 +13,7 @@ use flash_cgi::laws::workers_stay_free;
 use flash_laws::answer_laws::runs_are_fair;
 use flash_laws::laws::site_law;
 use flash_laws::world_law::world_law;
+use flash_progress::laws::file_server_becomes_idle;
 use iol_laws::laws;
 use iol_proc::laws::{idle_is_settled, smooth_runs};
 
@@ -79,4 +81,16 @@ pub fn harmless_is_right()
     site_law();
     smooth_runs::<Actor>();
     runs_are_fair::<Worker>();
+}
+
+/// A site without scripts that [`host`](crate::host::host) hosts over an honest store becomes idle,
+/// whatever was refused before, if calls from outside are mild, the pool `work` is still open where
+/// `until_idle` begins, its number of turns suffices for that state (`turns_that_suffice`), and none
+/// of them is refused for lack of table entries, pages or memory. Then each connection of the net is
+/// served: all requests that arrived on it are answered, or its peer left, or its queue is full, or
+/// it is not accepted and the server has as many connections as it may.
+pub fn hosted_files_become_idle()
+    ensures { HostedFilesBecomeIdle }
+{
+    file_server_becomes_idle::<Worker>();
 }

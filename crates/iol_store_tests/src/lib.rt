@@ -1,6 +1,7 @@
 //! Tests of the libraries below the calls, in a crate of their own since a crate with tests is proved twice.
 //!
-//! Each call that wants memory answers when there is enough: of the system's calls a script says so, `examples/every_call`.
+//! Each call that needs memory answers where there is enough: a test named `ample` says so of each library, up to the kernel and the
+//! calls that copy.
 #![tactic(auto)]
 
 #[cfg(test)]

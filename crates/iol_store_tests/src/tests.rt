@@ -1,9 +1,13 @@
-//! Pages, aggregates, pipes, descriptors, sums, extents and stores of files.
+//! Pages, aggregates, pipes, descriptors, sums, connections, extents, stores of files, caches and kernels.
 mod aggregates;
 mod arenas;
 mod backing;
+mod caches;
+mod connections;
 mod extents;
 mod holds;
+mod kernel_calls;
+mod kernels;
 mod order;
 mod pipes;
 mod pools;

@@ -28,12 +28,12 @@ not-at-door clients fd is = by (nat_lt (taken clients) most_conns) is
     by false is = cc (is)
 
 -- who is picked is the next one found
-picked-is : (clients : List (Option Client)) (o : Option ℕ) (fd : ℕ) → At fd ≡ flight_to clients o → o ≡ Some fd
+pub picked-is : (clients : List (Option Client)) (o : Option ℕ) (fd : ℕ) → At fd ≡ flight_to clients o → o ≡ Some fd
 picked-is clients (Some gd) fd is = ap (λ (w : Flight). Some (place_of w)) (sym is)
 picked-is clients None fd is = absurd (not-at-door clients fd is)
 
 -- it stands no earlier than where the look for it began
-from-there : (free : Bool) (clients : List (Option Client)) (from fd : ℕ)
+pub from-there : (free : Bool) (clients : List (Option Client)) (from fd : ℕ)
     → option_map (λ k. from + k) (position (λ o. goes_in free o) (drop from clients)) ≡ Some fd → from ≤ fd
 from-there free clients from fd is = by (position (λ o. goes_in free o) (drop from clients)) is
   where

@@ -178,7 +178,7 @@ module _ (shelf : Shelf) (crew : Crew) (laws : AllLaws crew) where
         tie = inl (refl, record { done = []; open_yet = refl; reads = refl; before = []; responds = responds-none shelf; out_is = ap (λ (k : Connection). p.sent takes.conn ++ bytes_of k.outgoing) takes.conn_is ∙ waits.none_sent });
         has = tt;
         finds = tt;
-        proper = tt;
+        proper = refl;
       };
     }
 

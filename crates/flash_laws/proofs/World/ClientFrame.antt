@@ -27,7 +27,9 @@ use Rattle.flash_laws.specs.Shelf.{Shelf, MayBeDue}
 use Rattle.flash_laws.specs.Site.{server, KeepsSite}
 use Rattle.flash_laws.specs.Run.Stages.{HasWorkerAt}
 use Rattle.flash_laws.specs.declared.phase.Doing.{Doing}
-use Rattle.flash_laws.specs.declared.phase.Doing.TheVariants.{Reads as Reading, Shuts, Spares}
+use Rattle.flash_laws.specs.declared.phase.Learnt.TheVariants.{Text as TextOf}
+use Rattle.flash_laws.specs.declared.phase.Content.TheVariants.{Script}
+use Rattle.flash_laws.specs.declared.phase.Doing.TheVariants.{Reads as Reading, Shuts, Picks, Spares, Heads}
 use Rattle.flash_laws.specs.declared.script_run.Running.{Running}
 use Rattle.flash_laws.specs.declared.script_run.Running.TheVariants.{Runs}
 use Rattle.flash_laws.proofs.Forms.{of}
@@ -80,8 +82,12 @@ finds_on shelf m n q script (Reading f) opens site may h = record {
   short = subst (λ (l : List ℕ). length l ≤ most_read) (sym (content-same m n h.number site.slots)) h.short;
   found = h.found ∙ ap (λ (l : List ℕ). Found l) (sym (content-same m n h.number site.slots));
 }
+finds_on shelf m n q script (Shuts f (TextOf a true)) opens site may h = h
 finds_on shelf m n q script (Shuts f k) opens site may h = h
+finds_on shelf m n q script (Picks a from to len) opens site may h = h
+finds_on shelf m n q script (Spares a Script) opens site may h = h
 finds_on shelf m n q script (Spares a k) opens site may h = h
+finds_on shelf m n q script (Heads k) opens site may h = h
 finds_on shelf m n q script d opens site may h = tt
 
 -- ---- a client

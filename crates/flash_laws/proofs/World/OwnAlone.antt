@@ -29,6 +29,7 @@ use Rattle.flash_laws.specs.declared.phase.Doing.{Doing}
 use Rattle.flash_laws.specs.declared.phase.Doing.TheVariants as doing
 use Rattle.flash_laws.specs.declared.script_run.Running.{Running}
 use Rattle.flash_laws.proofs.Conn.Responses.{reads-more}
+use Rattle.flash_laws.proofs.Conn.ShortHeads.{refused-status}
 use Rattle.flash_laws.proofs.World.AllLaws.{AllLaws}
 use Rattle.flash_laws.proofs.World.Alone.Phases.{alone_phase}
 use Rattle.flash_laws.proofs.World.Alone.Ties.{alone, part_of}
@@ -54,7 +55,7 @@ module _ (shelf : Shelf) (crew : Crew) (laws : AllLaws crew) where
       by (Some y) none f waits step = absurd (cc (none))
 
   -- the next request of a stream is proper
-  next_proper : (s : List ℕ) (q : Answer) (rest : List ℕ) → Next s q rest → IsProper q
+  pub next_proper : (s : List ℕ) (q : Answer) (rest : List ℕ) → Next s q rest → IsProper q
   next_proper s q rest next = by (window_in s) refl next
     where
       of_head : (skip len : ℕ) (q : Answer) → skip + len ≤ 8192 → IsAnswerTo (take len (drop skip s)) q → IsProper q
@@ -62,31 +63,30 @@ module _ (shelf : Shelf) (crew : Crew) (laws : AllLaws crew) where
           let fits = laws.queries (take len (drop skip s)) w is in
           let taken = length-take len (drop skip s) in
           (omega (arith, short, fits, taken), laws.closes (take len (drop skip s)) w is)
-      of_head skip len (refuse status head_only close) short is = tt
+      of_head skip len (refuse status head_only close) short is = refused-status (take len (drop skip s)) status head_only close is
 
       by : (w : Window) → window_in s ≡ w → NextIn w s q rest → IsProper q
       by Wait is next = absurd next
       by (Head skip len) is next =
           let fits : FitsIn (length s) (Head skip len) = subst (λ (w : Window). FitsIn (length s) w) is (laws.the.windows.fit s) in
           of_head skip len q fits.2 next.0
-      by TooLarge is next = subst (λ (p : Answer). IsProper p) (sym next.0) tt
+      by TooLarge is next = subst (λ (p : Answer). IsProper p) (sym next.0) refl
 
   -- one that is made ready: with nothing in progress the first request that is kept begins
   pub alone_readies : (m : State) (came sent : List ℕ) (fd c : ℕ) (x y : Client) → x.run ≡ None
       → FitsAlone shelf m came sent fd c x → Readies x y → (y.run ≡ None) × FitsAlone shelf m came sent fd c y
   alone_readies m came sent fd c x y none f ready = by x.run none f ready
     where
-      begun : (p : Answer)
+      begun : (p : Answer) → IsProper p
           → Has m p (due_in (due_to shelf p) p (begins p)) (begins p) × Finds shelf m p x.script (begins p) × (asked p (begins p) ≡ p ∷ [])
           × (part_of (due_to shelf p) (begins p) ≡ []) × (quits (begins p) ≡ false)
-      begun (serve w) = (tt, tt, refl, refl, refl)
-      begun (refuse status head_only close) = (refl, tt, refl, refl, refl)
+      begun (serve w) proper = (tt, tt, refl, refl, refl)
+      begun (refuse status head_only close) proper = (refl, proper, refl, refl, refl)
 
       -- a request begins
       starts : (q : Answer) (p : Answer) (rest : List ℕ) → FitsAlone shelf m came sent fd c (alone x.conn.kept x.script q doing.Rests)
           → Next x.conn.kept p rest → FitsAlone shelf m came sent fd c (alone rest x.script p (begins p))
       starts q p rest f next =
-          let b = begun p in
           record {
             open_on = f.open_on;
             took = f.took;
@@ -96,19 +96,26 @@ module _ (shelf : Shelf) (crew : Crew) (laws : AllLaws crew) where
             tie = ties f.tie;
             has = b.0;
             finds = b.1;
-            proper = next_proper x.conn.kept p rest next;
+            proper = proper;
           }
         where
+          proper : IsProper p
+          proper = next_proper x.conn.kept p rest next
+
+          b : Has m p (due_in (due_to shelf p) p (begins p)) (begins p) × Finds shelf m p x.script (begins p) × (asked p (begins p) ≡ p ∷ [])
+              × (part_of (due_to shelf p) (begins p) ≡ []) × (quits (begins p) ≡ false)
+          b = begun p proper
+
           ties : TieAlone shelf f.due (conn_at m c) f.took sent (alone x.conn.kept x.script q doing.Rests) → TieAlone shelf (due_to shelf p) (conn_at m c) f.took sent (alone rest x.script p (begins p))
           ties (inl owes) = inl (
-            (begun p).4,
+            b.4,
             record {
               done = owes.1.done;
               open_yet = owes.1.open_yet;
-              reads = subst (λ (l : List Answer). Reads f.took (owes.1.done ++ l) rest) (sym (begun p).2) (reads-more f.took owes.1.done x.conn.kept p rest (subst (λ (l : List Answer). Reads f.took l x.conn.kept) (append-nil owes.1.done) owes.1.reads) next);
+              reads = subst (λ (l : List Answer). Reads f.took (owes.1.done ++ l) rest) (sym b.2) (reads-more f.took owes.1.done x.conn.kept p rest (subst (λ (l : List Answer). Reads f.took l x.conn.kept) (append-nil owes.1.done) owes.1.reads) next);
               before = owes.1.before;
               responds = owes.1.responds;
-              out_is = owes.1.out_is ∙ ap (λ (l : List ℕ). owes.1.before ++ l) (sym (begun p).3);
+              out_is = owes.1.out_is ∙ ap (λ (l : List ℕ). owes.1.before ++ l) (sym b.3);
             },
           )
           ties (inr (inl finished)) = absurd (let bad = finished.quits in cc (bad))

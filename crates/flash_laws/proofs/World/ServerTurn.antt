@@ -45,20 +45,20 @@ use Rattle.flash_laws.proofs.World.OwnTurn.{IsOwnTurn, own_turn}
 use Rattle.flash_laws.proofs.World.Owners.{owned-ready, owned-accept}
 
 -- one that is ready has no request that could begin, where it reads
-client-awaits : (c : Conn) (run : Option Running) (script : List ℕ) (y : Client) → Readies (of c run script) y → IsAwaiting y
+pub client-awaits : (c : Conn) (run : Option Running) (script : List ℕ) (y : Client) → Readies (of c run script) y → IsAwaiting y
 client-awaits c None script y ready = subst (λ (z : Client). IsAwaiting z) (sym ready.2) (ready-awaits c.kept c.q c.doing ready.0 ready.1)
 client-awaits c (Some z) script y ready = subst (λ (v : Client). IsAwaiting v) (sym ready) tt
 
 module _ (shelf : Shelf) (crew : Crew) (laws : AllLaws crew) where
   -- the bytes that are heard are those that the number names
-  heard-is : (m : State) (last : Reply) (heard : List ℕ) → is_live m server ≡ true → Names m last heard
+  pub heard-is : (m : State) (last : Reply) (heard : List ℕ) → is_live m server ≡ true → Names m last heard
       → (workers : ℕ) (xs : List (Option Client)) (w : Flight)
       → filed workers xs w last (heard_of last (λ a. lent_to m server a)) ≡ filed workers xs w last heard
   heard-is m (reply.Agg a) heard lives names workers xs w = ap (λ (o : Option (List ℕ)). filed workers xs w (reply.Agg a) (unwrap_or o [])) (ap (λ b. if b then lent_at m server a else None) lives ∙ names)
   heard-is m last heard lives names workers xs w = ap (λ (l : List ℕ). filed workers xs w last l) (sym names)
 
   -- what a reply names is there to be heard
-  hears : (m n : State) (k : Call) (r : Reply) → IsOrderly m → StepsTo m (event.Call server k) r n
+  pub hears : (m n : State) (k : Call) (r : Reply) → IsOrderly m → StepsTo m (event.Call server k) r n
       → is_client_call k ≡ true → (heard : List ℕ) × Names n r heard
   hears m n (call.GiveFd f to) (reply.Agg a) order step kind = (let e = step.1 in absurd (cc))
   hears m n (call.AggGive b to) (reply.Agg a) order step kind = absurd (cc (kind))

@@ -129,7 +129,7 @@ module _ (may : Policy) (shelf : Shelf) (crew : Crew) (laws : AllLaws crew) wher
   }
 
   module _ (w after : Stage State (Actor crew.Worker)) (p : Past) (order : IsOrderly w.machine) (fixed : IsFixedFor shelf crew w.machine) (s : AreSeated shelf crew w p) where
-    abbrev first : Seat (Actor crew.Worker)
+    abbrev pub first : Seat (Actor crew.Worker)
     first = record { by = server; process = Serving s.state; last = s.last }
 
     abbrev others : List (Seat (Actor crew.Worker))

@@ -18,6 +18,7 @@ use Rattle.flash_laws.specs.Conn.{most_kept, most_read, name_of, text_of, is_hea
 use Rattle.flash_laws.specs.Workers.Crew.{Crew}
 use Rattle.flash_laws.specs.Shelf.Due.{outcomes_by}
 use Rattle.flash_laws.specs.Conn.Fits.{Has, quits, asked}
+use Rattle.flash_laws.specs.Conn.ShortHeads.{is_error_status, LearntIsShort, ContentIsShort}
 use Rattle.flash_laws.specs.Client.ResponseState.{is_read}
 use Rattle.flash_laws.specs.Conn.OfferedBytes.{taken_of}
 use Rattle.flash_laws.specs.Run.Fits as run
@@ -33,11 +34,11 @@ use Rattle.flash_laws.specs.declared.phase.Doing.{Doing}
 use Rattle.flash_laws.specs.declared.phase.Doing.TheVariants as doing
 use Rattle.flash_laws.specs.declared.script_run.Running.{Running}
 
--- a request whose query is no longer than a head, and that closes the connection where its response is in no chunks: such are all
--- that are read from a stream
+-- a request whose query is no longer than a head, and that closes the connection where its response is in no chunks, or one that is
+-- refused by a status of this server: such are all that are read from a stream
 abbrev pub IsProper : Answer → Type 0
 IsProper (serve w) = (length w.query ≤ most_kept) × (w.chunked ≡ false → w.keep ≡ false)
-IsProper (refuse status head_only close) = Unit {0}
+IsProper (refuse status head_only close) = is_error_status status ≡ true
 
 -- whether nothing is asked
 abbrev pub is_at_rest : Doing → Bool
@@ -98,7 +99,11 @@ module _ (shelf : Shelf) where
   abbrev pub Finds : State → Answer → (script : List ℕ) → Doing → Type 0
   Finds m q script (doing.Reads f) = FindsFile m q f
   Finds m q script (doing.Shuts f (Text a true)) = HasText q script
+  Finds m q script (doing.Shuts f k) = LearntIsShort k
+  Finds m q script (doing.Picks a from to len) = len ≤ most_read
   Finds m q script (doing.Spares a Script) = HasText q script
+  Finds m q script (doing.Spares a k) = ContentIsShort k
+  Finds m q script (doing.Heads k) = ContentIsShort k
   Finds m q script d = Unit {0}
 
   -- all is answered, and the connection will only be closed

@@ -115,3 +115,9 @@ fn script_and_file_are_hosted(rt: HostRuntime) -> Result<(), Fail> {
 fn eight_workers_are_hosted(rt: HostRuntime) -> Result<(), Fail> {
     pass(are_answered(rt.alloc(), 8, 10))
 }
+
+// Each call that needs memory answers where there is enough: `host` sets the site up, and makes its world.
+#[test]
+fn ample(rt: HostRuntime) -> Result<(), Fail> {
+    pass(are_answered(rt.alloc(), 2, 4))
+}

@@ -78,6 +78,20 @@ fn order_of_three(rt: HostRuntime) -> Result<(), Fail> {
     pass_if(three_hold(&rt, rt.alloc()))
 }
 
+// Room for more entries than there are pages, and again for fewer, which is there already.
+fn rooms_hold<R: Abort>(rt: &R, alloc: Global) -> bool {
+    let mut order = make_order(rt, alloc, 3);
+    let rooms = order.reserve(4096).is_ok() && order.reserve(16).is_ok();
+    let three = three_in_order(&mut order);
+    drop(order);
+    rooms && three
+}
+
+#[test]
+fn ample(rt: HostRuntime) -> Result<(), Fail> {
+    pass_if(rooms_hold(&rt, rt.alloc()))
+}
+
 // Rounds of a small and costly part: it enters, and is evicted.
 fn evict_rounds(order: &mut Order, rounds: u32)
     requires entries { order.old.entries ≡ [] }

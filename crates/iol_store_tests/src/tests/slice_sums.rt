@@ -133,6 +133,22 @@ fn one_sum_or_both_remembered(rt: HostRuntime) -> Result<(), Fail> {
     pass_if(remembers_what_fits(&rt, rt.alloc()))
 }
 
+// Room for eight sums, and each sum that needs room there.
+fn all_answer<R: Abort>(rt: &R, alloc: Global) -> bool {
+    let (mut store, pool) = start(rt, alloc, u32::MAX);
+    let agg = two_slices(rt, alloc, &mut store, pool);
+    let mut sums = cache(rt, alloc, &store, 8);
+    let first = sum_at(rt, &mut sums, &store, &agg, 0);
+    let both = both_stay(rt, &mut sums, &store, &agg);
+    drop((store, agg, sums));
+    first == ABC && both
+}
+
+#[test]
+fn ample(rt: HostRuntime) -> Result<(), Fail> {
+    pass_if(all_answer(&rt, rt.alloc()))
+}
+
 // Other bytes, on the same page again where it serves more than once: nothing is known of them.
 fn recycles<R: Abort>(rt: &R, alloc: Global, gen_limit: u32) -> bool {
     let (mut store, pool) = start(rt, alloc, gen_limit);

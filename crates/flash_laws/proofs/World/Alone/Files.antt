@@ -38,8 +38,9 @@ use Rattle.flash_laws.specs.Site.{server, found_in, IsFixed}
 use Rattle.flash_laws.specs.declared.phase.Learnt.TheVariants.{File, Length, Text as TextOf}
 use Rattle.flash_laws.specs.declared.phase.Content.TheVariants.{Error, Script}
 use Rattle.flash_laws.specs.declared.phase.Doing.{Doing}
-use Rattle.flash_laws.specs.declared.phase.Doing.TheVariants.{Opens, Reads as Reading, Shuts, Spares, Heads}
+use Rattle.flash_laws.specs.declared.phase.Doing.TheVariants.{Opens, Reads as Reading, Shuts, Heads}
 use Rattle.flash_laws.proofs.Conn.Responses.{some-inj}
+use Rattle.flash_laws.proofs.Conn.ShortHeads.{refusal-status, finds-told}
 use Rattle.flash_laws.proofs.Forms.{at}
 use Rattle.flash_laws.proofs.Client.Phases as phases
 use Rattle.flash_laws.proofs.Counts.{counted}
@@ -51,14 +52,6 @@ use Rattle.flash_laws.proofs.World.Alone.Ties.{alone, FitsAt, Stands, TiesOn, ti
 -- of a phase that reads no script the response is due
 pub due-is : (due : List ℕ) (q : Answer) (d : Doing) → is_read d ≡ false → due_in due q d ≡ due
 due-is due q d is = ap (λ b. if b then text_of q Script else due) is
-
--- and nothing is found
-pub finds-none : (shelf : Shelf) (s : State) (q : Answer) (script : List ℕ) (d : Doing) → is_opening d ≡ false → is_read d ≡ false
-    → Finds shelf s q script d
-finds-none shelf s q script (Reading f) un unread = absurd (cc (un))
-finds-none shelf s q script (Shuts f (TextOf a true)) un unread = absurd (cc (unread))
-finds-none shelf s q script (Spares a Script) un unread = absurd (cc (unread))
-finds-none shelf s q script d un unread = tt
 
 module _ (shelf : Shelf) (crew : Crew) (laws : AllLaws crew) (m n : State) (came sent : List ℕ) (fd c : ℕ) (kept script : List ℕ)
     (order : IsOrderly m) where
@@ -105,9 +98,8 @@ module _ (shelf : Shelf) (crew : Crew) (laws : AllLaws crew) (m n : State) (came
       (phases.phase laws.the.steps laws.the.own m n order kept fd c q d f.due r heard f.open_on un busy (subst (λ (l : List ℕ). Has m q l d) (due-is f.due q d unread) f.has) step names)
 
   pub finds_told : (q : Answer) (d : Doing) (r : Reply) (heard : List ℕ) → is_opening d ≡ false → is_read d ≡ false
-      → Finds shelf n q script (conn.told (at kept q d) r heard).doing
-  finds_told q d r heard un unread =
-      finds-none shelf n q script (conn.told (at kept q d) r heard).doing (phases.read-told kept q d r heard un) (phases.unread-told kept q d r heard unread)
+      → Finds shelf m q script d → Finds shelf n q script (conn.told (at kept q d) r heard).doing
+  finds_told q d r heard un unread found = finds-told shelf m n kept q script d r heard un unread found
 
   -- the file's descriptor is not the connection's
   pub differ-fds : (g f pos : ℕ) → descriptor m server g ≡ Some (on.File f pos modes.Read)
@@ -160,13 +152,13 @@ module _ (shelf : Shelf) (crew : Crew) (laws : AllLaws crew) (m n : State) (came
             found = found did.file_is true did.may did.found ∙ ap (λ (l : List ℕ). Found l) (sym bytes);
           })
       by (reply.Refused no.NoFile) did step calm =
-          goes (serve w) [] Opens (Heads (Error 404)) (call.OpenFile w.name modes.Read) (reply.Refused no.NoFile) (due_to shelf (serve w)) (due-may shelf (serve w)) f step refl refl (refl, refl, refl) (refl, refl, refl) (failed w 404 (shelved None did.0)) tt
+          goes (serve w) [] Opens (Heads (Error 404)) (call.OpenFile w.name modes.Read) (reply.Refused no.NoFile) (due_to shelf (serve w)) (due-may shelf (serve w)) f step refl refl (refl, refl, refl) (refl, refl, refl) (failed w 404 (shelved None did.0)) refl
       by (reply.Refused (no.Denied p)) did step calm =
           let may_not = ap (λ z. may_read m server z) did.0.pool_is ∙ did.0.may_not in
-          goes (serve w) [] Opens (Heads (Error 403)) (call.OpenFile w.name modes.Read) (reply.Refused (no.Denied p)) (due_to shelf (serve w)) (due-may shelf (serve w)) f step refl refl (refl, refl, refl) (refl, refl, refl) (failed w 403 (found did.0.file_is false may_not did.0.found)) tt
+          goes (serve w) [] Opens (Heads (Error 403)) (call.OpenFile w.name modes.Read) (reply.Refused (no.Denied p)) (due_to shelf (serve w)) (due-may shelf (serve w)) f step refl refl (refl, refl, refl) (refl, refl, refl) (failed w 403 (found did.0.file_is false may_not did.0.found)) refl
       by (reply.Refused no.WouldBlock) did step calm = absurd (let bad = did.0 in cc (bad))
       by (reply.Refused y) did step calm = goes (serve w) [] Opens (conn.told_opens (reply.Refused y)) (call.OpenFile w.name modes.Read) (reply.Refused y)
-          (text_of (serve w) (Error (status_of y))) (error-may shelf w y (calm did.0)) f step refl refl (refl, refl, refl) (refl, refl, refl) refl tt
+          (text_of (serve w) (Error (status_of y))) (error-may shelf w y (calm did.0)) f step refl refl (refl, refl, refl) (refl, refl, refl) refl (refusal-status y)
       by r did step calm = absurd did
 
   -- what a read of a whole file touches is that file alone
@@ -191,7 +183,7 @@ module _ (shelf : Shelf) (crew : Crew) (laws : AllLaws crew) (m n : State) (came
             (f.has.1.0, f.has.1.1, subst (λ (s : State). descriptor s server g ≡ Some (on.File f.has.1.0 f.has.1.1 modes.Read)) (sym did.1) f.has.1.2),
             due_of_file w (Found (content m f.finds.number)) none f.finds.found ∙ (ap (λ b. file_text w (length (content m f.finds.number)) ++ body_unless b (chosen (selected w.range (length (content m f.finds.number))) (content m f.finds.number))) is
                 ∙ (ap (λ z. file_text w z ++ []) (sym did.0) ∙ ap (λ b. file_text w k ++ body_unless b unsatisfiable) (sym is))),
-          ) tt
+          ) (let size = did.0 in let short = f.finds.short in omega (arith, size, short))
       measured r is did step = absurd did
 
       whole : (r : Reply) → w.head_only ≡ false
@@ -210,13 +202,14 @@ module _ (shelf : Shelf) (crew : Crew) (laws : AllLaws crew) (m n : State) (came
               whole = is;
               due_is = due_of_file w (Found heard) none (f.finds.found ∙ ap (λ (l : List ℕ). Found l) (sym bytes));
             },
-          ) tt
+          ) (let short : length heard ≤ most_read = subst (λ (l : List ℕ). length l ≤ most_read) (sym bytes) f.finds.short in
+          let size = counted heard short in omega (arith, size, short))
       whole (reply.Refused no.WouldBlock) is did step calm names = absurd (let bad = did.0 in cc (bad))
       whole (reply.Refused y) is did step calm names =
           let apart = reads_apart g f.finds.number most_read f.finds.open_on f.open_on in
           goes (serve w) [] (Reading g) (conn.told_reads g (reply.Refused y) heard) (call.IolRead g most_read) (reply.Refused y)
           (text_of (serve w) (Error (status_of y))) (error-may shelf w y (calm did.0)) f step apart.0 apart.1 (refl, refl, refl) (refl, refl, refl)
-          ((f.has.1.0, f.has.1.1, subst (λ (s : State). descriptor s server g ≡ Some (on.File f.has.1.0 f.has.1.1 modes.Read)) (sym did.1) f.has.1.2), refl) tt
+          ((f.has.1.0, f.has.1.1, subst (λ (s : State). descriptor s server g ≡ Some (on.File f.has.1.0 f.has.1.1 modes.Read)) (sym did.1) f.has.1.2), refl) (refusal-status y)
       whole r is did step calm names = absurd did
 
       which : (b : Bool) → w.head_only ≡ b
@@ -269,5 +262,5 @@ module _ (shelf : Shelf) (crew : Crew) (laws : AllLaws crew) (m n : State) (came
           let apart = reads_apart g f.finds.number most_read f.finds.open_on f.open_on in
           goes (serve w) [] (Reading g) (conn.told_reads g (reply.Refused y) heard) (call.IolRead g most_read) (reply.Refused y)
           (text_of (serve w) (Error (status_of y))) (error-may shelf w y (calm did.0)) f step apart.0 apart.1 (refl, refl, refl) (refl, refl, refl)
-          ((f.has.1.0, f.has.1.1, subst (λ (s : State). descriptor s server g ≡ Some (on.File f.has.1.0 f.has.1.1 modes.Read)) (sym did.1) f.has.1.2), refl) tt
+          ((f.has.1.0, f.has.1.1, subst (λ (s : State). descriptor s server g ≡ Some (on.File f.has.1.0 f.has.1.1 modes.Read)) (sym did.1) f.has.1.2), refl) (refusal-status y)
       by r did step calm names = absurd did

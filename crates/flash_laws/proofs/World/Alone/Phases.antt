@@ -84,7 +84,7 @@ module _ (shelf : Shelf) (crew : Crew) (laws : AllLaws crew) (m n : State) (came
   has_told = files.has_told shelf crew laws m n came sent fd c kept script order
 
   finds_told : (q : Answer) (d : Doing) (r : Reply) (heard : List ℕ) → is_opening d ≡ false → is_read d ≡ false
-      → Finds shelf n q script (conn.told (at kept q d) r heard).doing
+      → Finds shelf m q script d → Finds shelf n q script (conn.told (at kept q d) r heard).doing
   finds_told = files.finds_told shelf crew laws m n came sent fd c kept script order
 
   differ-fds : (g f pos : ℕ) → descriptor m server g ≡ Some (on.File f pos modes.Read)
@@ -100,7 +100,7 @@ module _ (shelf : Shelf) (crew : Crew) (laws : AllLaws crew) (m n : State) (came
   got : (q : Answer) (a : ℕ) (r : Reply) (heard : List ℕ) → Fitting m q (Got a) → StepsTo m (event.Call server (call.AggDrop a)) r n → Names n r heard
       → Fitting n q (told_got a r)
   got q a r heard f step names =
-      moves_to script q (Got a) (told_got a r) (call.AggDrop a) r f.due f.may f step refl refl (ties r) (has_told q (Got a) r heard f refl refl refl step names) (finds_told q (Got a) r heard refl refl)
+      moves_to script q (Got a) (told_got a r) (call.AggDrop a) r f.due f.may f step refl refl (ties r) (has_told q (Got a) r heard f refl refl refl step names) (finds_told q (Got a) r heard refl refl f.finds)
     where
       ties : (r : Reply) → TiesOn shelf kept script f.due f.due q (Got a) (told_got a r)
       ties reply.Done = tie_on shelf kept script f.due f.due q (Got a) Rests refl refl refl refl
@@ -123,7 +123,7 @@ module _ (shelf : Shelf) (crew : Crew) (laws : AllLaws crew) (m n : State) (came
       → StepsTo m (event.Call server (call.Close g)) r n → Names n r heard → Fitting n q (told_shuts q g k r)
   shuts q g k r heard unread f step names =
       goes q [] (Shuts g k) (told_shuts q g k r) (call.Close g) r f step (unused g f.has.0.0 f.has.0.1 f.has.0.2) (differ-fds g f.has.0.0 f.has.0.1 f.has.0.2 f.open_on) (refl, refl, refl) (shuts-stands f.due q g k r)
-      (has_told q (Shuts g k) r heard f refl refl unread step names) (finds_told q (Shuts g k) r heard refl unread)
+      (has_told q (Shuts g k) r heard f refl refl unread step names) (finds_told q (Shuts g k) r heard refl unread f.finds)
 
   -- the text of a script was read
   shuts_text : (q : Answer) (g a : ℕ) (r : Reply) → Fitting m q (Shuts g (TextOf a true)) → StepsTo m (event.Call server (call.Close g)) r n
@@ -143,7 +143,7 @@ module _ (shelf : Shelf) (crew : Crew) (laws : AllLaws crew) (m n : State) (came
       → StepsTo m (event.Call server (call.AggCut a first to)) r n → Names n r heard → Fitting n q (told_picks a first to len r)
   picks q a first to len r heard f step names =
       goes q [] (Picks a first to len) (told_picks a first to len r) (call.AggCut a first to) r f step refl refl (refl, refl, refl) (stands r)
-      (has_told q (Picks a first to len) r heard f refl refl refl step names) (finds_told q (Picks a first to len) r heard refl refl)
+      (has_told q (Picks a first to len) r heard f refl refl refl step names) (finds_told q (Picks a first to len) r heard refl refl f.finds)
     where
       stands : (r : Reply) → Stands f.due q [] (told_picks a first to len r)
       stands (reply.Agg x) = (refl, refl, refl)
@@ -153,7 +153,7 @@ module _ (shelf : Shelf) (crew : Crew) (laws : AllLaws crew) (m n : State) (came
       → StepsTo m (event.Call server (call.AggDrop a)) r n → Names n r heard → Fitting n q (told_spares a k r)
   spares q a k r heard unread f step names =
       goes q [] (Spares a k) (told_spares a k r) (call.AggDrop a) r f step refl refl (refl, refl, refl) (stands r)
-      (has_told q (Spares a k) r heard f refl refl unread step names) (finds_told q (Spares a k) r heard refl unread)
+      (has_told q (Spares a k) r heard f refl refl unread step names) (finds_told q (Spares a k) r heard refl unread f.finds)
     where
       stands : (r : Reply) → Stands f.due q [] (told_spares a k r)
       stands reply.Done = (refl, refl, refl)
@@ -218,7 +218,7 @@ module _ (shelf : Shelf) (crew : Crew) (laws : AllLaws crew) (m n : State) (came
       → StepsTo m (event.Call server (call.AggMake (text_of q k))) r n → Names n r heard → Fitting n q (told_heads k r heard)
   heads q k r heard f step names =
       goes q [] (Heads k) (told_heads k r heard) (call.AggMake (text_of q k)) r f step refl refl (refl, refl, refl) (stands r)
-      (has_told q (Heads k) r heard f refl refl refl step names) (finds_told q (Heads k) r heard refl refl)
+      (has_told q (Heads k) r heard f refl refl refl step names) (finds_told q (Heads k) r heard refl refl f.finds)
     where
       stands : (r : Reply) → Stands f.due q [] (told_heads k r heard)
       stands (reply.Agg x) = headed-stands f.due q x (count_of heard) (following k)
@@ -228,7 +228,7 @@ module _ (shelf : Shelf) (crew : Crew) (laws : AllLaws crew) (m n : State) (came
       → StepsTo m (event.Call server (call.AggJoin a b)) r n → Names n r heard → Fitting n q (told_joins a size b len r)
   joins q a size b len r heard f step names =
       goes q [] (Joins a size b len) (told_joins a size b len r) (call.AggJoin a b) r f step refl refl (refl, refl, refl) (stands r)
-      (has_told q (Joins a size b len) r heard f refl refl refl step names) (finds_told q (Joins a size b len) r heard refl refl)
+      (has_told q (Joins a size b len) r heard f refl refl refl step names) (finds_told q (Joins a size b len) r heard refl refl f.finds)
     where
       stands : (r : Reply) → Stands f.due q [] (told_joins a size b len r)
       stands (reply.Agg x) = (refl, refl, refl)
@@ -238,7 +238,7 @@ module _ (shelf : Shelf) (crew : Crew) (laws : AllLaws crew) (m n : State) (came
       → StepsTo m (event.Call server (call.AggCut a from (piece_end from len))) r n → Names n r heard → Fitting n q (told_cuts a from len taken more r)
   cuts q a from len taken more r heard f step names =
       goes q (take taken f.due) (Cuts a from len taken more) (told_cuts a from len taken more r) (call.AggCut a from (piece_end from len)) r f step refl refl (refl, refl, refl) (stands r)
-      (has_told q (Cuts a from len taken more) r heard f refl refl refl step names) (finds_told q (Cuts a from len taken more) r heard refl refl)
+      (has_told q (Cuts a from len taken more) r heard f refl refl refl step names) (finds_told q (Cuts a from len taken more) r heard refl refl f.finds)
     where
       stands : (r : Reply) → Stands f.due q (take taken f.due) (told_cuts a from len taken more r)
       stands (reply.Agg x) = (refl, refl, refl)
@@ -248,7 +248,7 @@ module _ (shelf : Shelf) (crew : Crew) (laws : AllLaws crew) (m n : State) (came
       → StepsTo m (event.Call server (call.AggDrop piece)) r n → Names n r heard → Fitting n q (told_swaps a from len piece taken more r)
   swaps q a from len piece taken more r heard f step names =
       goes q (take taken f.due) (Swaps a from len piece taken more) (told_swaps a from len piece taken more r) (call.AggDrop piece) r f step refl refl (refl, refl, refl) (stands r)
-      (has_told q (Swaps a from len piece taken more) r heard f refl refl refl step names) (finds_told q (Swaps a from len piece taken more) r heard refl refl)
+      (has_told q (Swaps a from len piece taken more) r heard f refl refl refl step names) (finds_told q (Swaps a from len piece taken more) r heard refl refl f.finds)
     where
       stands : (r : Reply) → Stands f.due q (take taken f.due) (told_swaps a from len piece taken more r)
       stands reply.Done = by (nat_lt from len)
@@ -262,7 +262,7 @@ module _ (shelf : Shelf) (crew : Crew) (laws : AllLaws crew) (m n : State) (came
       → StepsTo m (event.Call server (call.AggDrop piece)) r n → Names n r heard → Fitting n q (told_breaks piece a more r)
   breaks q piece a more r heard f step names =
       moves_to script q (Breaks piece a more) (told_breaks piece a more r) (call.AggDrop piece) r f.due f.may f step refl refl (hush shelf kept script f.due f.due q (Breaks piece a more) (told_breaks piece a more r) refl (ending r))
-      (has_told q (Breaks piece a more) r heard f refl refl refl step names) (finds_told q (Breaks piece a more) r heard refl refl)
+      (has_told q (Breaks piece a more) r heard f refl refl refl step names) (finds_told q (Breaks piece a more) r heard refl refl f.finds)
     where
       ending : (r : Reply) → quits (told_breaks piece a more r) ≡ true
       ending reply.Done = refl
@@ -272,7 +272,7 @@ module _ (shelf : Shelf) (crew : Crew) (laws : AllLaws crew) (m n : State) (came
       → StepsTo m (event.Call server (call.AggDrop a)) r n → Names n r heard → Fitting n q (told_drops a more r)
   drops q a more r heard f step names =
       moves_to script q (Drops a more) (told_drops a more r) (call.AggDrop a) r f.due f.may f step refl refl (hush shelf kept script f.due f.due q (Drops a more) (told_drops a more r) refl (ending r))
-      (has_told q (Drops a more) r heard f refl refl refl step names) (finds_told q (Drops a more) r heard refl refl)
+      (has_told q (Drops a more) r heard f refl refl refl step names) (finds_told q (Drops a more) r heard refl refl f.finds)
     where
       next : (more : Following) → quits (drops_next more) ≡ true
       next None = refl
@@ -286,7 +286,7 @@ module _ (shelf : Shelf) (crew : Crew) (laws : AllLaws crew) (m n : State) (came
       → StepsTo m (event.Call server (call.AggDrop a)) r n → Names n r heard → Fitting n q (told_sent q a taken more r)
   sent_all q a taken more r heard f step names =
       moves_to script q (Sent a taken more) (told_sent q a taken more r) (call.AggDrop a) r f.due f.may f step refl refl (ties r)
-      (has_told q (Sent a taken more) r heard f refl refl refl step names) (finds_told q (Sent a taken more) r heard refl refl)
+      (has_told q (Sent a taken more) r heard f refl refl refl step names) (finds_told q (Sent a taken more) r heard refl refl f.finds)
     where
       ended : (b : Bool) → keeps q ≡ b → drop taken f.due ≡ [] → TiesOn shelf kept script f.due f.due q (Sent a taken None) (if b then Rests else Closes)
       ended true keep none = ends shelf kept script f.due q f.may a taken keep none
@@ -323,10 +323,10 @@ module _ (shelf : Shelf) (crew : Crew) (laws : AllLaws crew) (m n : State) (came
   phase q (Heads k) r heard plain fixed f waits busy calm step names = heads q k r heard f step names
   phase q (Joins a size body len) r heard plain fixed f waits busy calm step names = joins q a size body len r heard f step names
   phase q (Sends a len taken more) r heard plain fixed f waits busy calm step names =
-      sends shelf laws.the m n came sent fd c kept script order q a len taken more r f step (has_told q (Sends a len taken more) r heard f refl refl refl step names) (finds_told q (Sends a len taken more) r heard refl refl)
+      sends shelf laws.the m n came sent fd c kept script order q a len taken more r f step (has_told q (Sends a len taken more) r heard f refl refl refl step names) (finds_told q (Sends a len taken more) r heard refl refl f.finds)
   phase q (Cuts a from len taken more) r heard plain fixed f waits busy calm step names = cuts q a from len taken more r heard f step names
   phase q (Offers a from len piece taken more) r heard plain fixed f waits busy calm step names =
-      offers shelf laws.the m n came sent fd c kept script order q a from len piece taken more r f step (has_told q (Offers a from len piece taken more) r heard f refl refl refl step names) (finds_told q (Offers a from len piece taken more) r heard refl refl)
+      offers shelf laws.the m n came sent fd c kept script order q a from len piece taken more r f step (has_told q (Offers a from len piece taken more) r heard f refl refl refl step names) (finds_told q (Offers a from len piece taken more) r heard refl refl f.finds)
   phase q (Swaps a from len piece taken more) r heard plain fixed f waits busy calm step names = swaps q a from len piece taken more r heard f step names
   phase q (Sent a taken more) r heard plain fixed f waits busy calm step names = sent_all q a taken more r heard f step names
   phase q (Breaks piece a more) r heard plain fixed f waits busy calm step names = breaks q piece a more r heard f step names

@@ -1,0 +1,159 @@
+-- Which errors a head may be refused with, and what stays short from one phase to the next.
+use Rattle.std.proofs.Common.{◌≡◌, ℕ, ◌+◌, ◌||◌, List, [], ◌∷◌, ap, refl, sym, subst, Option, Some, None, true, false, Bool, if◌then◌else◌}
+use Rattle.std.specs.Prelude.{nat_lt, nat_le, not, MatchOption}
+use Rattle.iol_core.specs.State.{State}
+use Rattle.iol_core.specs.declared.limits.TheConstants.{MAX_AGGREGATE_BYTES}
+use Rattle.iol_core.specs.declared.refusals.Refusal.{Refusal}
+use Rattle.iol_core.specs.declared.refusals.Refusal.TheVariants as no
+use Rattle.iol_core.specs.declared.events.Reply.{Reply}
+use Rattle.iol_core.specs.declared.events.Reply.TheVariants as reply
+use Rattle.flash_http.specs.Fields.{has_content, is_served_method, is_known_method}
+use Rattle.flash_http.specs.Range.{selected}
+use Rattle.flash_http.specs.Target.{TargetIs}
+use Rattle.flash_http.specs.declared.ranges.Selection.{Selection}
+use Rattle.flash_http.specs.declared.ranges.Selection.TheVariants.{Whole, Bytes, Unsatisfiable}
+use Rattle.flash_http.specs.Request.{Answer, serve, refuse, Reading, IsAnswerTo, Asks, bad_request, refusal, served, is_head_only, is_host_fine, closes}
+use Rattle.flash_laws.specs.Answers.{keeps}
+use Rattle.flash_laws.specs.Client.Fits.{Finds}
+use Rattle.flash_laws.specs.Client.ResponseState.{is_read, is_opening}
+use Rattle.flash_laws.specs.Conn.{Following, following, headed, count_of, status_of, sends_of, settled, goes_on, drops_next, told}
+use Rattle.flash_laws.specs.Conn.ShortHeads.{is_error_status, LearntIsShort}
+use Rattle.flash_laws.specs.Shelf.{Shelf}
+use Rattle.flash_laws.specs.declared.phase.Learnt.{Learnt}
+use Rattle.flash_laws.specs.declared.phase.Learnt.TheVariants.{File, Length, Fails, Text as TextOf}
+use Rattle.flash_laws.specs.declared.phase.Content.TheVariants.{Script}
+use Rattle.flash_laws.specs.declared.phase.Doing.{Doing}
+use Rattle.flash_laws.specs.declared.phase.Doing.TheVariants.{Rests, Got, Opens, Reads as ReadsFile, Shuts, Picks, Spares, Heads, Joins, Sends, Cuts, Offers, Swaps, Sent, Breaks, Drops, Closes, Over}
+use Rattle.flash_laws.proofs.Forms.{at}
+
+-- ---- statuses
+
+-- a refusal has a status of this server
+pub refusal-status : (x : Refusal) → is_error_status (status_of x) ≡ true
+refusal-status no.NoFile = refl
+refusal-status (no.Denied p) = refl
+refusal-status (no.Fault f) = refl
+refusal-status x = refl
+
+-- so has each answer that is no file
+abbrev IsListed : Answer → Type 0
+IsListed (serve w) = Unit {0}
+IsListed (refuse status head_only close) = is_error_status status ≡ true
+
+served-listed : (r : Reading) (file : Option (List ℕ × List ℕ)) → IsListed (served r file)
+served-listed r None = refl
+served-listed r (Some file) = tt
+
+refusal-listed : (r : Reading) (x : Answer) → refusal r ≡ Some x → IsListed x
+refusal-listed r x is = cases (not (is_host_fine r) || has_content r.fields) (is_served_method r.method) (is_known_method r.method) is
+  where
+    same : (y : Answer) → Some y ≡ Some x → IsListed y → IsListed x
+    same y e listed = subst IsListed (the-same e) listed
+      where
+        the-same : Some y ≡ Some x → y ≡ x
+        the-same e = cc (e)
+
+    cases : (a b k : Bool) → (if a then Some (bad_request r) else (if b then None else Some (refuse (if k then 405 else 501) (is_head_only r) (closes r)))) ≡ Some x → IsListed x
+    cases true b k e = same (bad_request r) e refl
+    cases false true k e = absurd (cc (e))
+    cases false false true e = same (refuse 405 (is_head_only r) (closes r)) e refl
+    cases false false false e = same (refuse 501 (is_head_only r) (closes r)) e refl
+
+asks-listed : (reading : Option Reading) (a : Answer) → Asks reading a → IsListed a
+asks-listed None a is = subst IsListed (sym is) refl
+asks-listed (Some r) a is = by (refusal r) refl is
+  where
+    by : (o : Option Answer) → refusal r ≡ o
+        → MatchOption o ((file : Option (List ℕ × List ℕ)) × TargetIs r.target file × (a ≡ served r file)) (λ refused. a ≡ refused) → IsListed a
+    by None same is = subst IsListed (sym is.2) (served-listed r is.0)
+    by (Some x) same is = subst IsListed (sym is) (refusal-listed r x same)
+
+-- Whatever the head, one that is refused has a status of this server.
+pub refused-status : (head : List ℕ) (status : ℕ) (head_only close : Bool) → IsAnswerTo head (refuse status head_only close) → is_error_status status ≡ true
+refused-status head status head_only close is = asks-listed is.0 (refuse status head_only close) is.2
+
+-- ---- phases
+
+settled-short : (shelf : Shelf) (n : State) (q : Answer) (script : List ℕ) (f : ℕ) (k : Learnt) → is_read (Shuts f k) ≡ false → LearntIsShort k
+    → Finds shelf n q script (settled q k)
+settled-short shelf n (serve w) script f (File a len) unread short = by (selected w.range len)
+  where
+    by : (sel : Selection) → Finds shelf n (serve w) script (sends_of sel a len)
+    by Whole = short
+    by (Bytes first last) = short
+    by Unsatisfiable = short
+settled-short shelf n (refuse status head_only close) script f (File a len) unread short = short
+settled-short shelf n q script f (Length len) unread short = short
+settled-short shelf n q script f (Fails status) unread short = short
+settled-short shelf n q script f (TextOf a true) unread short = absurd (cc (unread))
+settled-short shelf n q script f (TextOf a false) unread short = refl
+
+headed-finds : (shelf : Shelf) (n : State) (q : Answer) (script : List ℕ) (a size : ℕ) (more : Following) → Finds shelf n q script (headed a size more)
+headed-finds shelf n q script a size None = tt
+headed-finds shelf n q script a size (Some x) = by (nat_le (size + x.1) MAX_AGGREGATE_BYTES)
+  where
+    by : (b : Bool) → Finds shelf n q script (if b then Joins a size x.0 x.1 else Sends a size 0 (Some x))
+    by true = tt
+    by false = tt
+
+goes-finds : (shelf : Shelf) (n : State) (q : Answer) (script : List ℕ) (taken : ℕ) (more : Following) → Finds shelf n q script (goes_on q taken more)
+goes-finds shelf n q script taken (Some x) = tt
+goes-finds shelf n q script taken None = by (keeps q)
+  where
+    by : (b : Bool) → Finds shelf n q script (if b then Rests else Closes)
+    by true = tt
+    by false = tt
+
+drops-finds : (shelf : Shelf) (n : State) (q : Answer) (script : List ℕ) (more : Following) → Finds shelf n q script (drops_next more)
+drops-finds shelf n q script None = tt
+drops-finds shelf n q script (Some x) = tt
+
+-- After a call that opens and reads nothing what is still to be named is as short.
+pub finds-told : (shelf : Shelf) (m n : State) (kept : List ℕ) (q : Answer) (script : List ℕ) (d : Doing) (r : Reply) (heard : List ℕ)
+    → is_opening d ≡ false → is_read d ≡ false → Finds shelf m q script d → Finds shelf n q script (told (at kept q d) r heard).doing
+finds-told shelf m n kept q script Rests (reply.Agg a) [] un unread h = tt
+finds-told shelf m n kept q script Rests (reply.Agg a) (b ∷ heard) un unread h = tt
+finds-told shelf m n kept q script Rests r heard un unread h = tt
+finds-told shelf m n kept q script (Got a) reply.Done heard un unread h = tt
+finds-told shelf m n kept q script (Got a) r heard un unread h = tt
+finds-told shelf m n kept q script Opens r heard un unread h = absurd (cc (un))
+finds-told shelf m n kept q script (ReadsFile f) r heard un unread h = absurd (cc (un))
+finds-told shelf m n kept q script (Shuts f (TextOf a true)) r heard un unread h = absurd (cc (unread))
+finds-told shelf m n kept q script (Shuts f k) reply.Done heard un unread h = settled-short shelf n q script f k refl h
+finds-told shelf m n kept q script (Shuts f k) r heard un unread h = h
+finds-told shelf m n kept q script (Picks a from to len) (reply.Agg x) heard un unread h = h
+finds-told shelf m n kept q script (Picks a from to len) r heard un unread h = h
+finds-told shelf m n kept q script (Spares a Script) r heard un unread h = absurd (cc (unread))
+finds-told shelf m n kept q script (Spares a k) reply.Done heard un unread h = h
+finds-told shelf m n kept q script (Spares a k) r heard un unread h = h
+finds-told shelf m n kept q script (Heads k) (reply.Agg x) heard un unread h = headed-finds shelf n q script x (count_of heard) (following k)
+finds-told shelf m n kept q script (Heads k) r heard un unread h = h
+finds-told shelf m n kept q script (Joins a size body len) (reply.Agg x) heard un unread h = tt
+finds-told shelf m n kept q script (Joins a size body len) r heard un unread h = tt
+finds-told shelf m n kept q script (Sends a len taken more) (reply.Count k) heard un unread h = by (nat_lt k len)
+  where
+    by : (b : Bool) → Finds shelf n q script (if b then Cuts a k len (taken + k) more else Sent a (taken + len) more)
+    by true = tt
+    by false = tt
+finds-told shelf m n kept q script (Sends a len taken more) (reply.Refused no.BrokenPipe) heard un unread h = tt
+finds-told shelf m n kept q script (Sends a len taken more) r heard un unread h = tt
+finds-told shelf m n kept q script (Cuts a from len taken more) (reply.Agg x) heard un unread h = tt
+finds-told shelf m n kept q script (Cuts a from len taken more) r heard un unread h = tt
+finds-told shelf m n kept q script (Offers a from len piece taken more) (reply.Count k) heard un unread h = tt
+finds-told shelf m n kept q script (Offers a from len piece taken more) (reply.Refused no.BrokenPipe) heard un unread h = tt
+finds-told shelf m n kept q script (Offers a from len piece taken more) r heard un unread h = tt
+finds-told shelf m n kept q script (Swaps a from len piece taken more) reply.Done heard un unread h = by (nat_lt from len)
+  where
+    by : (b : Bool) → Finds shelf n q script (if b then Cuts a from len taken more else Sent a taken more)
+    by true = tt
+    by false = tt
+finds-told shelf m n kept q script (Swaps a from len piece taken more) r heard un unread h = tt
+finds-told shelf m n kept q script (Sent a taken more) reply.Done heard un unread h = goes-finds shelf n q script taken more
+finds-told shelf m n kept q script (Sent a taken more) r heard un unread h = tt
+finds-told shelf m n kept q script (Breaks piece a more) reply.Done heard un unread h = tt
+finds-told shelf m n kept q script (Breaks piece a more) r heard un unread h = tt
+finds-told shelf m n kept q script (Drops a more) reply.Done heard un unread h = drops-finds shelf n q script more
+finds-told shelf m n kept q script (Drops a more) r heard un unread h = tt
+finds-told shelf m n kept q script Closes reply.Done heard un unread h = tt
+finds-told shelf m n kept q script Closes r heard un unread h = tt
+finds-told shelf m n kept q script Over r heard un unread h = tt

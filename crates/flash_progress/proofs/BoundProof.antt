@@ -1,0 +1,133 @@
+-- The bound is at least the measure.
+use Rattle.std.proofs.Common.{◌≡◌, ℕ, ◌+◌, ◌*◌, ◌-◌, ◌≤◌, List, ◌++◌, length, drop, ap, refl, arith, Option, Some, None, true, false, Bool, length-append, length-drop, if◌then◌else◌}
+use Rattle.iol_core.specs.NumberedLists.{in_place}
+use Rattle.iol_core.specs.State.{State, conn_at}
+use Rattle.iol_core.specs.declared.limits.TheConstants.{MAX_OPEN}
+use Rattle.iol_proc.specs.declared.seat.Seat.{Seat}
+use Rattle.flash_http.specs.Request.{Answer, serve}
+use Rattle.flash_laws.specs.Client.{Client, is_for_script}
+use Rattle.flash_laws.specs.Client.Fits.{FitsBy}
+use Rattle.flash_laws.specs.Conn.{Conn, Following}
+use Rattle.flash_laws.specs.Conn.Fits.{Has, LendsMore, HoldsRest, HoldsRestFrom}
+use Rattle.flash_laws.specs.Shelf.{Shelf}
+use Rattle.flash_laws.specs.Site.ClientTies.{AllFit}
+use Rattle.flash_laws.specs.Site.Past.{Past}
+use Rattle.flash_laws.specs.Workers.Crew.{Crew}
+use Rattle.flash_laws.specs.declared.phase.Doing.{Doing}
+use Rattle.flash_laws.specs.declared.phase.Doing.TheVariants.{Rests, Got, Opens, Reads as Reading, Shuts, Picks, Spares, Heads, Joins, Sends, Cuts, Offers, Swaps, Sent, Breaks, Drops, Closes, Over}
+use Rattle.flash_laws.specs.declared.script_run.Running.{Running}
+use Rattle.flash_laws.proofs.Conn.Progress.{sent_after}
+use Rattle.flash_laws.proofs.Lists.{clash}
+use Rattle.flash_progress.specs.Bound.{turns_for, turns_of, turns_at, turns_of_waiting, unread_at, sum_to}
+use Rattle.flash_progress.proofs.Measure.{request_turns, ahead, reads_on, kept_turns, unread_turns}
+use Rattle.flash_progress.proofs.RequestProgress.{conn_turns, made-short, few-drops}
+use Rattle.flash_progress.proofs.TurnsLeft.{AreShort, due-short, no-script, no_more, of_place, place_turns, door_turns, all_left}
+
+-- ---- a request in progress
+
+more-calls : (m : State) (more : Following) (bytes : List ℕ) → LendsMore m more bytes → sent_after more ≤ 3 * length bytes + 4
+more-calls m None bytes lends = omega arith
+more-calls m (Some x) bytes lends = let size = lends.1 in omega (arith, size)
+
+rest-long : (due bytes after : List ℕ) (taken : ℕ) → bytes ++ after ≡ drop taken due → length bytes + length after ≤ length due
+rest-long due bytes after taken is =
+    let all = ap (λ (l : List ℕ). length l) is in
+    let both = length-append bytes after in
+    let rest = length-drop taken due in
+    omega (arith, all, both, rest)
+
+from-long : (m : State) (due : List ℕ) (a from len taken : ℕ) (more : Following) → HoldsRestFrom m due a from len taken more
+    → 3 * (len - from) + sent_after more ≤ 3 * length due + 4
+from-long m due a from len taken more h =
+    let calls = more-calls m more h.after h.follows in
+    let long = rest-long due (drop from h.bytes) h.after taken h.next in
+    let part = length-drop from h.bytes in
+    let size = h.size in
+    omega (arith, calls, long, part, size)
+
+pub ahead-short : (m : State) (q : Answer) (due : List ℕ) (longest : ℕ) (d : Doing) → Has m q due d → length due ≤ longest → ahead longest q d ≤ 3 * longest + 21
+ahead-short m q due longest Rests has short = omega arith
+ahead-short m q due longest (Got a) has short = omega arith
+ahead-short m q due longest Opens has short = omega arith
+ahead-short m q due longest (Reading f) has short = omega arith
+ahead-short m q due longest (Shuts f k) has short = omega arith
+ahead-short m q due longest (Picks a from to len) has short = let few = made-short m q due longest (Picks a from to len) refl has short in omega (arith, few)
+ahead-short m q due longest (Spares a k) has short = let few = made-short m q due longest (Spares a k) refl has short in omega (arith, few)
+ahead-short m q due longest (Heads k) has short = let few = made-short m q due longest (Heads k) refl has short in omega (arith, few)
+ahead-short m q due longest (Joins a size body len) has short =
+    let h : HoldsRest m due a size 0 (Some (body, len)) = has.0 in
+    let long = rest-long due h.bytes h.after 0 h.next in
+    let one = h.size in
+    let two = h.follows.1 in
+    omega (arith, long, one, two, short)
+ahead-short m q due longest (Sends a len taken more) has short =
+    let calls = more-calls m more has.after has.follows in
+    let long = rest-long due has.bytes has.after taken has.next in
+    let size = has.size in
+    omega (arith, calls, long, size, short)
+ahead-short m q due longest (Cuts a from len taken more) has short = let few = from-long m due a from len taken more has.0 in omega (arith, few, short)
+ahead-short m q due longest (Offers a from len piece taken more) has short = let few = from-long m due a from len taken more has.whole in omega (arith, few, short)
+ahead-short m q due longest (Swaps a from len piece taken more) has short = let few = from-long m due a from len taken more has.2 in omega (arith, few, short)
+ahead-short m q due longest (Sent a taken more) has short =
+    let calls = more-calls m more has.after has.follows in
+    let rest = ap (λ (l : List ℕ). length l) has.next in
+    let part = length-drop taken due in
+    omega (arith, calls, rest, part, short)
+ahead-short m q due longest (Breaks piece a more) has short = omega arith
+ahead-short m q due longest (Drops a more) has short = let few = few-drops q a more in omega (arith, few)
+ahead-short m q due longest Closes has short = omega arith
+ahead-short m q due longest Over has short = omega arith
+
+-- ---- a connection
+
+-- of one connection, in the terms of the bound
+within : (longest unread kept ahead kept_now : ℕ) → ahead ≤ 3 * longest + 21 → kept_now ≤ request_turns longest * kept
+    → ahead + (kept_now + (request_turns longest + 2) * unread) ≤ (3 * longest + 22) * (kept + unread + 1)
+within longest unread kept ahead kept_now few less =
+    let split : (3 * longest + 22) * (kept + unread + 1) ≡ request_turns longest * kept + 6 * kept + ((request_turns longest + 2) * unread + 4 * unread) + (3 * longest + 22) = grind (arith) in
+    omega (arith, few, less, split)
+
+kept-most : (longest : ℕ) (on : Bool) (kept : List ℕ) → kept_turns longest on kept ≤ request_turns longest * length kept
+kept-most longest true kept = omega arith
+kept-most longest false kept = omega arith
+
+conn-within : (m : State) (due : List ℕ) (longest unread : ℕ) (x : Conn) → Has m x.q due x.doing → length due ≤ longest
+    → conn_turns longest unread x ≤ turns_for longest (length x.kept + unread)
+conn-within m due longest unread x has short =
+    within longest unread (length x.kept) (ahead longest x.q x.doing) (kept_turns longest (reads_on x.q x.doing) x.kept) (ahead-short m x.q due longest x.doing has short)
+    (kept-most longest (reads_on x.q x.doing) x.kept)
+
+-- ---- all
+
+module _ (shelf : Shelf) (crew : Crew) (files : shelf.scripts ≡ false) (longest : ℕ) (short : AreShort shelf longest) (m : State) (p : Past) (clients : List (Option Client))
+    (seats : List (Seat crew.Worker)) (fit : AllFit shelf crew m p clients seats) where
+  client-within : (unread fd c : ℕ) (x : Client) (run : Option Running) → FitsBy shelf crew run m (p.came c) (p.sent c) fd c x seats
+      → conn_turns longest unread x.conn ≤ turns_for longest (length x.conn.kept + unread)
+  client-within unread fd c x None f = conn-within m _ longest unread x.conn f.has (due-short shelf longest x.conn.q f.due x.conn.doing f.proper short f.may)
+  client-within unread fd c x (Some y) f = absurd (clash (is_for_script shelf.scripts (serve f.wanted)) f.script.is_for (no-script shelf.scripts (serve f.wanted) files))
+
+  place-within : (fd : ℕ) → place_turns longest m clients fd ≤ turns_at longest m clients fd
+  place-within fd = by (in_place clients fd) refl
+    where
+      by : (o : Option Client) → in_place clients fd ≡ o → of_place longest (unread_at m fd) o ≤ turns_of longest (unread_at m fd) o
+      by None none = omega arith
+      by (Some x) there = client-within (unread_at m fd) fd (fit.each fd x there).conn x x.run (fit.each fd x there).fits
+
+  door-within : (c : ℕ) → door_turns longest m c ≤ turns_of_waiting longest m c
+  door-within c = by (conn_at m c).accepted
+    where
+      unread : ℕ
+      unread = length (conn_at m c).incoming
+
+      by : (b : Bool) → (if b then 0 else unread_turns longest unread + 7) ≤ (if b then 0 else turns_for longest unread)
+      by true = omega arith
+      by false =
+          let split : (3 * longest + 22) * (unread + 1) ≡ (request_turns longest + 2) * unread + 4 * unread + (3 * longest + 22) = grind (arith) in
+          omega (arith, split)
+
+  -- The measure of all is at most what the bound counts.
+  pub left-within : (conns : ℕ) → all_left longest MAX_OPEN conns m clients ≤ sum_to MAX_OPEN (turns_at longest m clients) + sum_to conns (turns_of_waiting longest m)
+  left-within conns =
+      let places = no_more MAX_OPEN (turns_at longest m clients) (place_turns longest m clients) place-within in
+      let doors = no_more conns (turns_of_waiting longest m) (door_turns longest m) door-within in
+      omega (arith, places, doors)

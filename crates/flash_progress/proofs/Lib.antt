@@ -1,0 +1,16 @@
+pub mod Decrease
+pub mod Idleness
+pub mod Pools
+pub mod Holders
+pub mod Measure
+pub mod RequestProgress
+pub mod TurnsLeft
+pub mod OpenPools
+pub mod ServerTurns
+pub mod Heads
+pub mod Lengths
+pub mod BoundProof
+pub mod Invariant
+pub mod FileServer
+pub mod Served
+pub mod Hosted

@@ -1,0 +1,45 @@
+-- The measure of a connection of files, in turns, where no response has more than `longest` bytes: for the request in progress, for the kept
+-- bytes, for the unread bytes of the stream, and for the end of the connection.
+use Rattle.std.specs.Prelude.{ℕ, ◌+◌, ◌*◌, Bool, true, false, List, length, if◌then◌else◌}
+use Rattle.flash_http.specs.Request.{Answer}
+use Rattle.flash_laws.specs.Answers.{keeps}
+use Rattle.flash_laws.specs.declared.phase.Doing.{Doing}
+use Rattle.flash_laws.specs.declared.phase.Doing.TheVariants.{Rests, Got, Opens, Reads, Shuts, Breaks, Drops, Closes, Over}
+use Rattle.flash_laws.proofs.Conn.Progress.{calls_left}
+
+-- the most turns that one request takes: three per byte of its response, and a constant
+abbrev pub request_turns : (longest : ℕ) → ℕ
+request_turns longest = 3 * longest + 16
+
+-- for the request in progress, and the end of the connection
+abbrev pub ahead : (longest : ℕ) → Answer → Doing → ℕ
+ahead longest q Rests = 6
+ahead longest q Opens = 3 * longest + 21
+ahead longest q (Reads f) = 3 * longest + 20
+ahead longest q (Shuts f k) = 3 * longest + 19
+ahead longest q (Breaks piece a more) = 5
+ahead longest q (Drops a more) = calls_left q (Drops a more) + 2
+ahead longest q Closes = 1
+ahead longest q Over = 0
+ahead longest q d = calls_left q d + 6
+
+-- whether the stream is read on after the request in progress
+abbrev pub reads_on : Answer → Doing → Bool
+reads_on q Rests = true
+reads_on q (Got a) = true
+reads_on q (Breaks piece a more) = false
+reads_on q (Drops a more) = false
+reads_on q Closes = false
+reads_on q Over = false
+reads_on q d = keeps q
+
+-- for the requests that are kept: each has at least one byte
+abbrev pub kept_turns : (longest : ℕ) → (on : Bool) → (kept : List ℕ) → ℕ
+kept_turns longest on kept = if on then request_turns longest * length kept else 0
+
+-- for the unread bytes: each is read, and then kept
+abbrev pub unread_turns : (longest unread : ℕ) → ℕ
+unread_turns longest unread = (request_turns longest + 2) * unread
+
+abbrev pub turns_left : (longest unread : ℕ) → (kept : List ℕ) → Answer → Doing → ℕ
+turns_left longest unread kept q d = ahead longest q d + (kept_turns longest (reads_on q d) kept + unread_turns longest unread)

@@ -1,0 +1,466 @@
+-- Each call for a connection of files that is not retried later decreases the measure of the connection.
+use Rattle.std.proofs.Common.{inl, inr, ◌≡◌, ℕ, suc, ◌+◌, ◌*◌, ◌-◌, ◌<◌, ◌≤◌, List, [], ◌∷◌, ◌++◌, length, drop, take, ap, ◌∙◌, refl, sym, subst, arith, Some, None, true, false, Bool, length-append, length-drop, if◌then◌else◌}
+use Rattle.std.specs.Prelude.{nat_lt, nat_le, slice_range, not}
+use Rattle.std.proofs.Math.Nat.{mul-le-mul_left}
+use Rattle.iol_core.specs.State.{State, Connection, descriptor, is_live, conn_at}
+use Rattle.iol_core.specs.Text.{Text, bytes_of}
+use Rattle.iol_core.specs.Run.{StepsTo}
+use Rattle.iol_core.specs.declared.limits.TheConstants.{MAX_AGGREGATE_BYTES}
+use Rattle.iol_core.specs.declared.descriptors.Descriptor.TheVariants as on
+use Rattle.iol_core.specs.declared.refusals.Refusal.{Refusal}
+use Rattle.iol_core.specs.declared.refusals.Refusal.TheVariants as no
+use Rattle.iol_core.specs.declared.events.Call.TheVariants as call
+use Rattle.iol_core.specs.declared.events.Event.TheVariants as event
+use Rattle.iol_core.specs.declared.events.Reply.{Reply}
+use Rattle.iol_core.specs.declared.events.Reply.TheVariants as reply
+use Rattle.iol_laws.specs.Caller as o
+use Rattle.iol_laws.specs.Caller.{CallsServeTheirDomain}
+use Rattle.iol_laws.specs.Order.{IsOrderly}
+use Rattle.iol_laws.specs.Reasons.{IsHidden, RefusalsTellWhy}
+use Rattle.iol_laws.specs.RefusalsLeft.{RefusalsThatAreLeft, LacksNumbersOrHasNothingToRead}
+use Rattle.flash_http.specs.declared.windows.Window.{Window}
+use Rattle.flash_http.specs.declared.windows.Window.TheVariants.{Wait, Head, TooLarge}
+use Rattle.flash_http.specs.declared.ranges.Selection.{Selection}
+use Rattle.flash_http.specs.declared.ranges.Selection.TheVariants.{Bytes}
+use Rattle.flash_http.specs.Range.{selected}
+use Rattle.flash_http.specs.Window.{window_in, FitsIn}
+use Rattle.flash_http.specs.Request.{Answer, serve, refuse}
+use Rattle.flash_laws.specs.Answers.{keeps, Next, NextIn}
+use Rattle.flash_laws.specs.Conn.{Conn, Following, Readies, begins, most_kept, text_of, wants, sends_of, count_of, following, headed, goes_on, settled, told_opens, told_reads, told_shuts, told_rests, told_closes, told_breaks, told_drops, told}
+use Rattle.flash_laws.specs.Conn.Fits.{Has, HasContent, Names, is_closing}
+use Rattle.flash_laws.specs.Conn.Policy.{is_later}
+use Rattle.flash_laws.specs.Conn.Progress.{Nears, CanMake, is_busy}
+use Rattle.flash_laws.specs.Site.{server}
+use Rattle.flash_laws.specs.declared.phase.Learnt.{Learnt}
+use Rattle.flash_laws.specs.declared.phase.Learnt.TheVariants.{File}
+use Rattle.flash_laws.specs.declared.phase.Content.{Content}
+use Rattle.flash_laws.specs.declared.phase.Content.TheVariants.{Body, Error}
+use Rattle.flash_laws.specs.declared.phase.Doing.{Doing}
+use Rattle.flash_laws.specs.declared.phase.Doing.TheVariants.{Rests, Got, Opens, Reads as Reading, Shuts, Picks, Spares, Heads, Joins, Sends, Cuts, Offers, Swaps, Sent, Breaks, Drops, Closes, Over}
+use Rattle.flash_laws.proofs.Forms.{at}
+use Rattle.flash_laws.proofs.Lists.{clash}
+use Rattle.flash_laws.proofs.Conn.Progress.{near, rank, stage, calls_left, head_calls, ready}
+use Rattle.flash_laws.proofs.Conn.LentBytes.{text-same}
+use Rattle.flash_laws.proofs.Conn.Responses.{WindowLaws, some-inj}
+use Rattle.std.proofs.lemmas.List.{length-map}
+use Rattle.flash_progress.proofs.Measure.{request_turns, ahead, reads_on, kept_turns, unread_turns, turns_left}
+
+-- ---- what is made is no longer than the response
+
+-- whether a response is about to be made
+abbrev is_made : Doing → Bool
+is_made (Picks a from to len) = true
+is_made (Spares a k) = true
+is_made (Heads k) = true
+is_made d = false
+
+content-short : (m : State) (q : Answer) (due : List ℕ) (k : Content) → HasContent m q due k → head_calls q k ≤ 3 * length due + 7
+content-short m q due (Body a size len) has =
+    let e = ap (λ (l : List ℕ). length l) has.due_is in
+    let both = length-append (text_of q (Body a size len)) has.bytes in
+    let size = has.count in
+    omega (arith, e, both, size)
+content-short m q due k has = let e = ap (λ (l : List ℕ). length l) has in omega (arith, e)
+
+pub made-short : (m : State) (q : Answer) (due : List ℕ) (longest : ℕ) (d : Doing) → is_made d ≡ true → Has m q due d → length due ≤ longest
+    → ahead longest q d ≤ 3 * longest + 15
+made-short m q due longest (Picks a from to len) is has short =
+    let e = ap (λ (l : List ℕ). length l) has.due_is in
+    let both = length-append (text_of q (Body a 0 len)) (slice_range has.bytes from to) in
+    let size = has.count in
+    let same = ap (λ (l : List ℕ). length l) (text-same q a a (to - from) 0 len) in
+    omega (arith, e, both, size, same, short)
+made-short m q due longest (Spares a k) is has short = let few = content-short m q due k has.2 in omega (arith, few, short)
+made-short m q due longest (Heads k) is has short = let few = content-short m q due k has in omega (arith, few, short)
+made-short m q due longest d is has short = absurd (cc (is))
+
+settled-made : (q : Answer) (k : Learnt) → is_made (settled q k) ≡ true
+settled-made (serve w) (File a len) = by (selected w.range len)
+  where
+    by : (sel : Selection) → is_made (sends_of sel a len) ≡ true
+    by (Bytes first last) = refl
+    by x = refl
+settled-made (refuse status head_only close) (File a len) = refl
+settled-made q k = refl
+
+-- ---- a request in progress
+
+-- whether its file is still to be opened, read or closed
+abbrev is_early : Doing → Bool
+is_early Opens = true
+is_early (Reading f) = true
+is_early (Shuts f k) = true
+is_early d = false
+
+-- whether it is being answered: what is due is known, and not broken off; or what was read of the stream is let go
+abbrev is_answering : Doing → Bool
+is_answering Rests = false
+is_answering Opens = false
+is_answering (Reading f) = false
+is_answering (Shuts f k) = false
+is_answering (Breaks piece a more) = false
+is_answering (Drops a more) = false
+is_answering Closes = false
+is_answering Over = false
+is_answering d = true
+
+pub few-drops : (q : Answer) (a : ℕ) (more : Following) → calls_left q (Drops a more) ≤ 2
+few-drops q a None = omega arith
+few-drops q a (Some x) = omega arith
+
+ahead-most : (longest : ℕ) (q : Answer) (e : Doing) → is_early e ≡ false → ahead longest q e ≤ calls_left q e + 6
+ahead-most longest q Opens late = absurd (cc (late))
+ahead-most longest q (Reading g) late = absurd (cc (late))
+ahead-most longest q (Shuts g k) late = absurd (cc (late))
+ahead-most longest q Rests late = omega arith
+ahead-most longest q (Breaks piece a more) late = omega arith
+ahead-most longest q (Drops a more) late = omega arith
+ahead-most longest q Closes late = omega arith
+ahead-most longest q Over late = omega arith
+ahead-most longest q d late = omega arith
+
+ahead-is : (longest : ℕ) (q : Answer) (d : Doing) → is_answering d ≡ true → (ahead longest q d ≡ calls_left q d + 6) × (stage d ≡ 0)
+ahead-is longest q Rests is = absurd (cc (is))
+ahead-is longest q Opens is = absurd (cc (is))
+ahead-is longest q (Reading f) is = absurd (cc (is))
+ahead-is longest q (Shuts f k) is = absurd (cc (is))
+ahead-is longest q (Breaks piece a more) is = absurd (cc (is))
+ahead-is longest q (Drops a more) is = absurd (cc (is))
+ahead-is longest q Closes is = absurd (cc (is))
+ahead-is longest q Over is = absurd (cc (is))
+ahead-is longest q d is = (refl, refl)
+
+-- ---- what it is after the reply
+
+-- it is past the file, and the stream is read on only where it was
+abbrev Goes : Answer → (d e : Doing) → Type 0
+Goes q d e = (is_early e ≡ false) × (reads_on q d ≡ false → reads_on q e ≡ false)
+
+headed-goes : (q : Answer) (k : Content) (a size : ℕ) (more : Following) → Goes q (Heads k) (headed a size more)
+headed-goes q k a size None = (refl, λ is. is)
+headed-goes q k a size (Some x) = by (nat_le (size + x.1) MAX_AGGREGATE_BYTES)
+  where
+    by : (b : Bool) → Goes q (Heads k) (if b then Joins a size x.0 x.1 else Sends a size 0 (Some x))
+    by true = (refl, λ is. is)
+    by false = (refl, λ is. is)
+
+ends-goes : (q : Answer) (a taken : ℕ) (more : Following) → Goes q (Sent a taken more) (goes_on q taken more)
+ends-goes q a taken (Some x) = (refl, λ is. is)
+ends-goes q a taken None = by (keeps q) refl
+  where
+    by : (b : Bool) → keeps q ≡ b → Goes q (Sent a taken None) (if b then Rests else Closes)
+    by true on = (refl, λ is. absurd (let e = sym on ∙ is in cc (e)))
+    by false off = (refl, λ is. refl)
+
+goes : (kept : List ℕ) (q : Answer) (d : Doing) (r : Reply) (heard : List ℕ) → is_answering d ≡ true → Goes q d (told (at kept q d) r heard).doing
+goes kept q (Got a) reply.Done heard is = (refl, λ no. absurd (cc (no)))
+goes kept q (Got a) r heard is = (refl, λ no. no)
+goes kept q (Picks a from to len) (reply.Agg n) heard is = (refl, λ no. no)
+goes kept q (Picks a from to len) r heard is = (refl, λ no. no)
+goes kept q (Spares a k) reply.Done heard is = (refl, λ no. no)
+goes kept q (Spares a k) r heard is = (refl, λ no. no)
+goes kept q (Heads k) (reply.Agg n) heard is = headed-goes q k n (count_of heard) (following k)
+goes kept q (Heads k) r heard is = (refl, λ no. no)
+goes kept q (Joins a size body len) (reply.Agg n) heard is = (refl, λ no. no)
+goes kept q (Joins a size body len) r heard is = (refl, λ no. no)
+goes kept q (Sends a len taken more) (reply.Count n) heard is = by (nat_lt n len)
+  where
+    by : (b : Bool) → Goes q (Sends a len taken more) (if b then Cuts a n len (taken + n) more else Sent a (taken + len) more)
+    by true = (refl, λ no. no)
+    by false = (refl, λ no. no)
+goes kept q (Sends a len taken more) (reply.Refused no.BrokenPipe) heard is = (refl, λ no. refl)
+goes kept q (Sends a len taken more) r heard is = (refl, λ no. no)
+goes kept q (Cuts a from len taken more) (reply.Agg n) heard is = (refl, λ no. no)
+goes kept q (Cuts a from len taken more) r heard is = (refl, λ no. no)
+goes kept q (Offers a from len piece taken more) (reply.Count n) heard is = (refl, λ no. no)
+goes kept q (Offers a from len piece taken more) (reply.Refused no.BrokenPipe) heard is = (refl, λ no. refl)
+goes kept q (Offers a from len piece taken more) r heard is = (refl, λ no. no)
+goes kept q (Swaps a from len piece taken more) reply.Done heard is = by (nat_lt from len)
+  where
+    by : (b : Bool) → Goes q (Swaps a from len piece taken more) (if b then Cuts a from len taken more else Sent a taken more)
+    by true = (refl, λ no. no)
+    by false = (refl, λ no. no)
+goes kept q (Swaps a from len piece taken more) r heard is = (refl, λ no. no)
+goes kept q (Sent a taken more) reply.Done heard is = ends-goes q a taken more
+goes kept q (Sent a taken more) r heard is = (refl, λ no. no)
+goes kept q d r heard is = absurd (cc (is))
+
+-- one that is as it was is to be made again later
+not-same : (q : Answer) (d : Doing) (r : Reply) → Nears (rank q) d r d → is_later r ≡ false → ⊥
+not-same q d r (inl (inl less)) on = omega (arith, less)
+not-same q d r (inl (inr fewer)) on = let less = fewer.1 in omega (arith, less)
+not-same q d r (inr same) on = clash (is_later r) same.1 on
+
+made-on : (q : Answer) (e : Doing) → is_made e ≡ true → reads_on q e ≡ keeps q
+made-on q (Picks a from to len) is = refl
+made-on q (Spares a k) is = refl
+made-on q (Heads k) is = refl
+made-on q d is = absurd (cc (is))
+
+module _ (n : State) (longest : ℕ) (kept : List ℕ) (q : Answer) (due : List ℕ) (short : length due ≤ longest) where
+  -- less is left of the request, and the stream is read on only where it was
+  abbrev Falls : (d e : Doing) → Type 0
+  Falls d e = (ahead longest q e < ahead longest q d) × (reads_on q d ≡ false → reads_on q e ≡ false)
+
+  answering : (d : Doing) (r : Reply) (heard : List ℕ) → is_answering d ≡ true → Nears (rank q) d r (told (at kept q d) r heard).doing
+      → is_later r ≡ false → Falls d (told (at kept q d) r heard).doing
+  answering d r heard is near on = (by near, after.1)
+    where
+      after : Goes q d (told (at kept q d) r heard).doing
+      after = goes kept q d r heard is
+
+      here : (ahead longest q d ≡ calls_left q d + 6) × (stage d ≡ 0)
+      here = ahead-is longest q d is
+
+      most : ahead longest q (told (at kept q d) r heard).doing ≤ calls_left q (told (at kept q d) r heard).doing + 6
+      most = ahead-most longest q (told (at kept q d) r heard).doing after.0
+
+      by : Nears (rank q) d r (told (at kept q d) r heard).doing → ahead longest q (told (at kept q d) r heard).doing < ahead longest q d
+      by (inl (inl less)) = absurd (let none = here.1 in omega (arith, less, none))
+      by (inl (inr fewer)) = (let less = fewer.1 in let now = here.0 in omega (arith, less, now, most))
+      by (inr same) = absurd (clash (is_later r) same.1 on)
+
+  made : (d e : Doing) (more : ℕ) → is_made e ≡ true → Has n q due e → ahead longest q d ≡ 3 * longest + 16 + more → reads_on q d ≡ keeps q → Falls d e
+  made d e more is has much on =
+      let few = made-short n q due longest e is has short in
+      (omega (arith, few, much), λ no. made-on q e is ∙ (sym on ∙ no))
+
+  opens : (r : Reply) → Nears (rank q) Opens r (told_opens r) → is_later r ≡ false → Has n q due (told_opens r) → Falls Opens (told_opens r)
+  opens (reply.Fd f) near on has = (omega arith, λ no. no)
+  opens (reply.Refused no.WouldBlock) near on has = absurd (cc (on))
+  opens (reply.Refused z) near on has = made Opens (told_opens (reply.Refused z)) 5 refl has (omega arith) refl
+  opens r near on has = absurd (not-same q Opens r near on)
+
+  reads : (f : ℕ) (r : Reply) (heard : List ℕ) → Nears (rank q) (Reading f) r (told_reads f r heard) → is_later r ≡ false
+      → Falls (Reading f) (told_reads f r heard)
+  reads f (reply.Agg k) heard near on = (omega arith, λ no. no)
+  reads f (reply.Count k) heard near on = (omega arith, λ no. no)
+  reads f (reply.Refused no.WouldBlock) heard near on = absurd (cc (on))
+  reads f (reply.Refused z) heard near on = (omega arith, λ no. no)
+  reads f r heard near on = absurd (not-same q (Reading f) r near on)
+
+  shuts : (f : ℕ) (k : Learnt) (r : Reply) → Nears (rank q) (Shuts f k) r (told_shuts q f k r) → is_later r ≡ false
+      → Has n q due (told_shuts q f k r) → Falls (Shuts f k) (told_shuts q f k r)
+  shuts f k reply.Done near on has = made (Shuts f k) (settled q k) 3 (settled-made q k) has (omega arith) refl
+  shuts f k r near on has = absurd (not-same q (Shuts f k) r near on)
+
+  breaks : (piece a : ℕ) (more : Following) (r : Reply) → Nears (rank q) (Breaks piece a more) r (told_breaks piece a more r) → is_later r ≡ false
+      → Falls (Breaks piece a more) (told_breaks piece a more r)
+  breaks piece a more reply.Done near on = (let few = few-drops q a more in omega (arith, few), λ no. refl)
+  breaks piece a more r near on = absurd (not-same q (Breaks piece a more) r near on)
+
+  drops : (a : ℕ) (more : Following) (r : Reply) → Nears (rank q) (Drops a more) r (told_drops a more r) → is_later r ≡ false
+      → Falls (Drops a more) (told_drops a more r)
+  drops a None reply.Done near on = (omega arith, λ no. refl)
+  drops a (Some x) reply.Done near on = (omega arith, λ no. refl)
+  drops a more r near on = absurd (not-same q (Drops a more) r near on)
+
+  -- each busy phase
+  pub busy-falls : (d : Doing) (r : Reply) (heard : List ℕ) → is_busy d ≡ true → Nears (rank q) d r (told (at kept q d) r heard).doing
+      → is_later r ≡ false → Has n q due (told (at kept q d) r heard).doing → Falls d (told (at kept q d) r heard).doing
+  busy-falls Rests r heard busy near on has = absurd (cc (busy))
+  busy-falls Closes r heard busy near on has = absurd (cc (busy))
+  busy-falls Over r heard busy near on has = absurd (cc (busy))
+  busy-falls Opens r heard busy near on has = opens r near on has
+  busy-falls (Reading f) r heard busy near on has = reads f r heard near on
+  busy-falls (Shuts f k) r heard busy near on has = shuts f k r near on has
+  busy-falls (Breaks piece a more) r heard busy near on has = breaks piece a more r near on
+  busy-falls (Drops a more) r heard busy near on has = drops a more r near on
+  busy-falls d r heard busy near on has = answering d r heard refl near on
+
+-- ---- with what is kept and unread
+
+kept-less : (longest : ℕ) (b c : Bool) (kept : List ℕ) → (b ≡ false → c ≡ false) → kept_turns longest c kept ≤ kept_turns longest b kept
+kept-less longest true true kept only = omega arith
+kept-less longest true false kept only = omega arith
+kept-less longest false c kept only = subst (λ (x : Bool). kept_turns longest x kept ≤ 0) (sym (only refl)) (omega arith)
+
+-- Of a request in progress: each reply, but where its call is to be made again later.
+pub progress-falls : (n : State) (longest unread : ℕ) (kept : List ℕ) (q : Answer) (d : Doing) (due : List ℕ) (r : Reply) (heard : List ℕ) → length due ≤ longest
+    → is_busy d ≡ true → Nears (rank q) d r (told (at kept q d) r heard).doing → is_later r ≡ false → Has n q due (told (at kept q d) r heard).doing
+    → turns_left longest unread kept q (told (at kept q d) r heard).doing < turns_left longest unread kept q d
+progress-falls n longest unread kept q d due r heard short busy near on has =
+    let falls = busy-falls n longest kept q due short d r heard busy near on has in
+    let less = falls.0 in
+    let keeps_less = kept-less longest (reads_on q d) (reads_on q (told (at kept q d) r heard).doing) kept falls.1 in
+    omega (arith, less, keeps_less)
+
+-- The end of a connection.
+pub closes-falls : (longest unread : ℕ) (kept : List ℕ) (q : Answer) → turns_left longest unread kept q Over < turns_left longest unread kept q Closes
+closes-falls longest unread kept q = omega arith
+
+-- What is read of the stream.
+pub reads-falls : (longest unread later : ℕ) (kept : List ℕ) (q : Answer) (a : ℕ) (heard : List ℕ) → unread ≡ length heard + later
+    → turns_left longest later (told_rests kept q (reply.Agg a) heard).kept q (told_rests kept q (reply.Agg a) heard).doing < turns_left longest unread kept q Rests
+reads-falls longest unread later kept q a [] all =
+    let same : unread_turns longest unread ≡ unread_turns longest later = ap (λ (k : ℕ). unread_turns longest k) (none all) in
+    omega (arith, same)
+  where
+    none : unread ≡ 0 + later → unread ≡ later
+    none e = omega (arith, e)
+reads-falls longest unread later kept q a (b ∷ heard) all =
+    let long = length-append kept (b ∷ heard) in
+    let kept_is : request_turns longest * length (kept ++ (b ∷ heard)) ≡ request_turns longest * length kept + request_turns longest * length (b ∷ heard) = ap (λ (k : ℕ). request_turns longest * k) long ∙ spread (request_turns longest) (length kept) (length (b ∷ heard)) in
+    let unread_is : (request_turns longest + 2) * unread ≡ (request_turns longest + 2) * length (b ∷ heard) + (request_turns longest + 2) * later = ap (λ (k : ℕ). (request_turns longest + 2) * k) all ∙ spread (request_turns longest + 2) (length (b ∷ heard)) later in
+    let two : (request_turns longest + 2) * length (b ∷ heard) ≡ request_turns longest * length (b ∷ heard) + 2 * length (b ∷ heard) = grind (arith) in
+    omega (arith, kept_is, unread_is, two)
+  where
+    spread : (k a b : ℕ) → k * (a + b) ≡ k * a + k * b
+    spread k a b = grind (arith)
+
+-- ---- a request begins
+
+next-shorter : (laws : WindowLaws) (s : List ℕ) (q : Answer) (rest : List ℕ) → Next s q rest → (1 ≤ length s) × (keeps q ≡ true → suc (length rest) ≤ length s)
+next-shorter laws s q rest next = by (window_in s) refl next
+  where
+    by : (w : Window) → window_in s ≡ w → NextIn w s q rest → (1 ≤ length s) × (keeps q ≡ true → suc (length rest) ≤ length s)
+    by Wait is next = absurd next
+    by (Head skip len) is next =
+        let fits : FitsIn (length s) (Head skip len) = subst (λ (w : Window). FitsIn (length s) w) is (laws.fit s) in
+        let long = ap (λ (l : List ℕ). length l) next.1 ∙ length-drop (skip + len) s in
+        (omega (arith, fits), λ on. omega (arith, fits, long))
+    by TooLarge is next =
+        let fits : FitsIn (length s) TooLarge = subst (λ (w : Window). FitsIn (length s) w) is (laws.fit s) in
+        (omega (arith, fits), λ on. absurd (let e = sym (ap (λ (p : Answer). keeps p) next.0) ∙ on in cc (e)))
+
+begins-on : (q : Answer) → reads_on q (begins q) ≡ keeps q
+begins-on (serve w) = refl
+begins-on (refuse status head_only close) = refl
+
+begins-short : (m : State) (longest : ℕ) (q : Answer) → ((status : ℕ) (head_only close : Bool) → q ≡ refuse status head_only close → length (text_of q (Error status)) ≤ longest) → ahead longest q (begins q) ≤ 3 * longest + 21
+begins-short m longest (serve w) short = omega arith
+begins-short m longest (refuse status head_only close) short =
+    let few = made-short m (refuse status head_only close) (text_of (refuse status head_only close) (Error status)) longest (Heads (Error status)) refl refl (short status head_only close refl) in omega (arith, few)
+
+-- Where the first request that is kept begins, less is left, too.
+pub begins-falls : (laws : WindowLaws) (m : State) (longest unread : ℕ) (kept : List ℕ) (was q : Answer) (rest : List ℕ) → Next kept q rest
+    → ((status : ℕ) (head_only close : Bool) → q ≡ refuse status head_only close → length (text_of q (Error status)) ≤ longest)
+    → turns_left longest unread rest q (begins q) < turns_left longest unread kept was Rests
+begins-falls laws m longest unread kept was q rest next short = by (keeps q) refl
+  where
+    shorter : (1 ≤ length kept) × (keeps q ≡ true → suc (length rest) ≤ length kept)
+    shorter = next-shorter laws kept q rest next
+
+    few : ahead longest q (begins q) ≤ 3 * longest + 21
+    few = begins-short m longest q short
+
+    on : (b : Bool) → keeps q ≡ b → kept_turns longest (reads_on q (begins q)) rest ≡ kept_turns longest b rest
+    on b is = ap (λ (x : Bool). kept_turns longest x rest) (begins-on q ∙ is)
+
+    by : (b : Bool) → keeps q ≡ b → turns_left longest unread rest q (begins q) < turns_left longest unread kept was Rests
+    by true is =
+        let now = on true is in
+        let step : request_turns longest * suc (length rest) ≤ request_turns longest * length kept = mul-le-mul_left (request_turns longest) (shorter.1 is) in
+        let split : request_turns longest * suc (length rest) ≡ request_turns longest * length rest + request_turns longest = grind (arith) in
+        omega (arith, few, now, step, split)
+    by false is =
+        let now = on false is in
+        let step : request_turns longest * 1 ≤ request_turns longest * length kept = mul-le-mul_left (request_turns longest) shorter.0 in
+        let one : request_turns longest * 1 ≡ request_turns longest = grind (arith) in
+        omega (arith, few, now, step, one)
+
+-- ---- a whole turn for a connection of files
+
+-- less is left where no more is unread
+unread-less : (longest few many : ℕ) → few ≤ many → unread_turns longest few ≤ unread_turns longest many
+unread-less longest few many le = mul-le-mul_left (request_turns longest + 2) le
+
+fewer-unread : (longest few many : ℕ) (kept : List ℕ) (q : Answer) (d : Doing) → few ≤ many
+    → turns_left longest few kept q d ≤ turns_left longest many kept q d
+fewer-unread longest few many kept q d le = let less = unread-less longest few many le in omega (arith, less)
+
+-- the turns that are left for a connection as the server keeps it, where so much of its stream is unread
+abbrev pub conn_turns : (longest unread : ℕ) → Conn → ℕ
+conn_turns longest unread x = turns_left longest unread x.kept x.q x.doing
+
+abbrev pub IsShort : (longest : ℕ) → Type 0
+IsShort longest = (s rest : List ℕ) (q : Answer) → Next s q rest → (status : ℕ) (head_only close : Bool) → q ≡ refuse status head_only close → length (text_of q (Error status)) ≤ longest
+
+module _ (own : CallsServeTheirDomain) (may : RefusalsThatAreLeft) (why : RefusalsTellWhy) (laws : WindowLaws) (m n : State) (longest fd c : ℕ)
+    (order : IsOrderly m) (lives : is_live m server ≡ true) (open_on : descriptor m server fd ≡ Some (on.Connection c)) where
+  abbrev before : ℕ
+  before = length (conn_at m c).incoming
+
+  abbrev now : ℕ
+  now = length (conn_at n c).incoming
+
+  -- to be made ready leaves no more
+  pub readies-falls : (was ready : Conn) → IsShort longest → Readies was ready → conn_turns longest before ready ≤ conn_turns longest before was
+  readies-falls was ready short readies = by was.doing refl readies
+    where
+      stays : ready ≡ was → conn_turns longest before ready ≤ conn_turns longest before was
+      stays same = subst (λ (x : Conn). conn_turns longest before x ≤ conn_turns longest before was) (sym same) (omega arith)
+
+      by : (d : Doing) → was.doing ≡ d → Readies (record was { doing = d }) ready → conn_turns longest before ready ≤ conn_turns longest before was
+      by Rests is (inl waits) = stays (waits.1 ∙ ap (λ (d : Doing). record was { doing = d }) (sym is))
+      by Rests is (inr some) =
+          let less = begins-falls laws m longest before was.kept was.q some.0 some.1 some.2 (short was.kept some.1 some.0 some.2) in
+          let here = ap (λ (d : Doing). turns_left longest before was.kept was.q d) is in
+          subst (λ (x : Conn). conn_turns longest before x ≤ conn_turns longest before was) (sym some.3) (omega (arith, less, here))
+      by d is readies = stays (readies-same d is readies)
+        where
+          readies-same : (d : Doing) → was.doing ≡ d → ready ≡ record was { doing = d } → ready ≡ was
+          readies-same d is same = same ∙ ap (λ (d : Doing). record was { doing = d }) (sym is)
+
+  -- what is read is no longer unread
+  rests : (kept : List ℕ) (q : Answer) (r : Reply) (heard : List ℕ) → ((p : ℕ) → IsHidden m server p (conn_at m c).incoming → ⊥)
+      → StepsTo m (event.Call server (call.IolRead fd (most_kept - length kept))) r n → Names n r heard → is_later r ≡ false
+      → conn_turns longest now (told_rests kept q r heard) < turns_left longest before kept q Rests
+  rests kept q r heard seen step names sure = by r (own.read_conn m n server fd c (most_kept - length kept) r order open_on step) step names sure
+    where
+      by : (r : Reply) → o.ReadsConn m server c (most_kept - length kept) r n
+          → StepsTo m (event.Call server (call.IolRead fd (most_kept - length kept))) r n → Names n r heard → is_later r ≡ false
+          → conn_turns longest now (told_rests kept q r heard) < turns_left longest before kept q Rests
+      by (reply.Agg a) takes step names sure =
+          subst (λ (k : ℕ). conn_turns longest k (told_rests kept q (reply.Agg a) heard) < turns_left longest before kept q Rests) (sym later)
+          (told-q heard (reads-falls longest before (length takes.incoming) kept q a heard all))
+        where
+          later : now ≡ length takes.incoming
+          later = ap (λ (k : Connection). length k.incoming) takes.conn
+
+          all : before ≡ length heard + length takes.incoming
+          all =
+              let parts = ap (λ (t : Text). length t) takes.was ∙ length-append takes.text takes.incoming in
+              let bytes = length-map takes.text (λ b. b.0) in
+              let heard_is = ap (λ (l : List ℕ). length l) (some-inj (bytes_of takes.text) heard (sym takes.lends ∙ names)) in
+              omega (arith, parts, bytes, heard_is)
+
+          told-q : (l : List ℕ) → turns_left longest (length takes.incoming) (told_rests kept q (reply.Agg a) l).kept q (told_rests kept q (reply.Agg a) l).doing < turns_left longest before kept q Rests
+              → conn_turns longest (length takes.incoming) (told_rests kept q (reply.Agg a) l) < turns_left longest before kept q Rests
+          told-q [] less = less
+          told-q (b ∷ l) less = less
+      by (reply.Refused z) did step names sure = absurd (refused z (may.reads_queue m n server fd (most_kept - length kept) (on.Connection c) z lives open_on refl refl step) step sure)
+        where
+          refused : (z : Refusal) → LacksNumbersOrHasNothingToRead z → StepsTo m (event.Call server (call.IolRead fd (most_kept - length kept))) (reply.Refused z) n
+              → is_later (reply.Refused z) ≡ false → ⊥
+          refused no.TooMany left step sure = cc (sure)
+          refused no.WouldBlock left step sure = cc (sure)
+          refused no.Memory left step sure = cc (sure)
+          refused (no.Denied p) left step sure = seen p (why.conn_is_hidden m n server fd c (most_kept - length kept) p open_on step)
+          refused z left step sure = left
+      by r did step names sure = absurd did
+
+  -- it is closed
+  closes : (kept : List ℕ) (q : Answer) (r : Reply) → now ≤ before → StepsTo m (event.Call server (call.Close fd)) r n → is_later r ≡ false
+      → turns_left longest now kept q (told_closes r) < turns_left longest before kept q Closes
+  closes kept q r few step sure = by r (own.closes_conn m n server fd c r order open_on step) step
+    where
+      by : (r : Reply) → o.ClosesConn m c r n → StepsTo m (event.Call server (call.Close fd)) r n
+          → turns_left longest now kept q (told_closes r) < turns_left longest before kept q Closes
+      by reply.Done did step = (let less = unread-less longest now before few in omega (arith, less))
+      by (reply.Refused z) did step = absurd (may.closes m n server fd (on.Connection c) z lives open_on step)
+      by r did step = absurd did
+
+  -- Its call is answered, and is not to be made again later: less is left for it.
+  pub turn-falls : (kept : List ℕ) (q : Answer) (d : Doing) (was due : List ℕ) (r : Reply) (heard : List ℕ) → length due ≤ longest → now ≤ before
+      → ((p : ℕ) → IsHidden m server p (conn_at m c).incoming → ⊥)
+      → Has m q was d → (is_closing d ≡ false → Has n q due (told (at kept q d) r heard).doing) → CanMake m (wants fd (at kept q d))
+      → StepsTo m (event.Call server (wants fd (at kept q d))) r n → Names n r heard → is_later r ≡ false
+      → conn_turns longest now (told (at kept q d) r heard) < conn_turns longest before (at kept q d)
+  turn-falls kept q Rests was due r heard short few seen has later can step names sure = rests kept q r heard seen step names sure
+  turn-falls kept q Closes was due r heard short few seen has later can step names sure = closes kept q r few step sure
+  turn-falls kept q Over was due r heard short few seen has later can step names sure = absurd has
+  turn-falls kept q d was due r heard short few seen has later can step names sure =
+      let less = progress-falls n longest before kept q d due r heard short refl (near own may m n order lives fd c kept q d was r heard open_on refl has can step names) sure (later refl) in
+      let fewer = fewer-unread longest now before kept q (told (at kept q d) r heard).doing few in
+      omega (arith, less, fewer)

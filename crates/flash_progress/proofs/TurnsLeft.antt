@@ -1,0 +1,408 @@
+-- The measure of a world of files: each call for a client that is not retried later decreases it, and so does accepting a connection.
+use Rattle.std.proofs.Common.{inl, inr, ◌≡◌, ◌≢◌, ℕ, zero, suc, ◌+◌, ◌<◌, ◌≤◌, List, [], ◌∷◌, length, ap, ◌∙◌, refl, sym, subst, arith, Option, Some, None, true, false, Bool, if◌then◌else◌}
+use Rattle.std.proofs.lemmas.Bool.{cases_eq}
+use Rattle.iol_core.specs.NumberedLists.{in_place}
+use Rattle.iol_core.specs.State.{State, Connection, descriptor, conn_at}
+use Rattle.iol_core.specs.Run.{StepsTo}
+use Rattle.iol_core.specs.declared.descriptors.Descriptor.{Descriptor}
+use Rattle.iol_core.specs.declared.descriptors.Descriptor.TheVariants as on
+use Rattle.iol_core.specs.declared.events.Call.{Call}
+use Rattle.iol_core.specs.declared.events.Call.TheVariants as call
+use Rattle.iol_core.specs.declared.events.Event.TheVariants as event
+use Rattle.iol_core.specs.declared.events.Reply.{Reply}
+use Rattle.iol_core.specs.declared.events.Reply.TheVariants as reply
+use Rattle.iol_laws.specs.Caller as o
+use Rattle.iol_laws.specs.Frame.{touches_conn, touches_fd}
+use Rattle.iol_laws.specs.Order.{IsOrderly}
+use Rattle.iol_laws.specs.Reasons.{IsHidden}
+use Rattle.iol_proc.specs.declared.seat.Seat.{Seat}
+use Rattle.flash_http.specs.Request.{Answer, serve, refuse}
+use Rattle.flash_laws.specs.Client as client
+use Rattle.flash_laws.specs.Client.{Client, new_client, wants, Readies, is_for_script, told, left_over, IsAwaiting}
+use Rattle.flash_laws.specs.Client.Fits.{IsProper, Finds, FitsAlone, Fits, due_in}
+use Rattle.flash_laws.specs.Client.Holdings.{has_fd}
+use Rattle.flash_laws.specs.Client.ResponseState.{is_read}
+use Rattle.flash_laws.specs.Conn as conn
+use Rattle.flash_laws.specs.Conn.{Conn, text_of}
+use Rattle.flash_laws.specs.Conn.Fits.{Names, Has, is_closing}
+use Rattle.flash_laws.specs.Conn.ShortHeads.{ContentIsShort}
+use Rattle.flash_laws.specs.Conn.Policy.{is_later}
+use Rattle.flash_laws.specs.Conn.Progress.{HasPlaceFor, CanMake}
+use Rattle.flash_laws.specs.Shelf.{Shelf, MayBeDue, IsAmong}
+use Rattle.flash_laws.specs.Site.{server}
+use Rattle.flash_laws.specs.Site.ClientTies.{AllFit}
+use Rattle.flash_laws.specs.Site.OtherConns.{with_at, left_by}
+use Rattle.flash_laws.specs.Site.Past.{Past}
+use Rattle.flash_laws.specs.Workers.Crew.{Crew, IsFixedFor}
+use Rattle.flash_laws.specs.declared.phase.Content.{Content}
+use Rattle.flash_laws.specs.declared.phase.Content.TheVariants.{Script}
+use Rattle.flash_laws.specs.declared.phase.Doing.{Doing}
+use Rattle.flash_laws.specs.declared.phase.Doing.TheVariants as doing
+use Rattle.flash_laws.proofs.Forms.{at, of}
+use Rattle.flash_progress.specs.Bound.{conn_of, unread_at, sum_to}
+use Rattle.flash_progress.proofs.Measure.{unread_turns}
+use Rattle.flash_progress.proofs.RequestProgress.{conn_turns, IsShort, readies-falls, turn-falls}
+use Rattle.flash_laws.proofs.Site.InPlaces.{at-same, at-other}
+use Rattle.flash_laws.proofs.Site.OpenDescriptors.{no-true, held-open}
+use Rattle.flash_laws.proofs.World.AllLaws.{AllLaws}
+use Rattle.flash_laws.proofs.World.Calls.{CallsAlone, calls-alone, opens-on, there-fd}
+use Rattle.flash_laws.proofs.World.OwnAlone.{alone_step}
+
+-- ---- sums
+
+pub no_more : (most : ℕ) (f g : ℕ → ℕ) → ((i : ℕ) → g i ≤ f i) → sum_to most g ≤ sum_to most f
+unfolding sum_to
+no_more zero f g each = omega arith
+no_more (suc k) f g each = let here = each k in let rest = no_more k f g each in omega (arith, here, rest)
+
+-- where one is less by so much, and none is more
+pub less_at : (most j by : ℕ) (f g : ℕ → ℕ) → j < most → g j + by ≤ f j → ((i : ℕ) → g i ≤ f i) → sum_to most g + by ≤ sum_to most f
+unfolding sum_to
+less_at zero j by f g lt less each = absurd (omega (arith, lt))
+less_at (suc k) j by f g lt less each = elim (cases_eq j k) [
+  | inl same ↦
+      (let here : g k + by ≤ f k = subst (λ (i : ℕ). g i + by ≤ f i) same less in
+      let rest = no_more k f g each in omega (arith, here, rest))
+  | inr differ ↦
+      (let here = each k in
+      let rest = less_at k j by f g (omega (arith, lt, differ)) less each in omega (arith, here, rest))
+]
+
+-- where none below is more
+below-less : (b k : ℕ) (f g : ℕ → ℕ) → b ≤ k → ((i : ℕ) → k ≢ i → g i ≤ f i) → sum_to b g ≤ sum_to b f
+unfolding sum_to
+below-less zero k f g le each = omega arith
+below-less (suc b) k f g le each = let here = each b (λ is. omega (arith, is, le)) in let rest = below-less b k f g (omega (arith, le)) each in omega (arith, here, rest)
+
+-- where one may be more by so much
+pub more_at : (most j by : ℕ) (f g : ℕ → ℕ) → g j ≤ f j + by → ((i : ℕ) → j ≢ i → g i ≤ f i) → sum_to most g ≤ sum_to most f + by
+unfolding sum_to
+more_at zero j by f g more each = omega arith
+more_at (suc k) j by f g more each = elim (cases_eq j k) [
+  | inl same ↦
+      (let here : g k ≤ f k + by = subst (λ (i : ℕ). g i ≤ f i + by) same more in
+      let rest = below-less k k f g (omega arith) (λ i differ. each i (λ is. differ (sym same ∙ is))) in omega (arith, here, rest))
+  | inr differ ↦ (let here = each k differ in let rest = more_at k j by f g more each in omega (arith, here, rest))
+]
+
+-- ---- what is left
+
+-- of whoever stands in a place
+abbrev pub of_place : (longest unread : ℕ) → Option Client → ℕ
+of_place longest unread None = 0
+of_place longest unread (Some x) = conn_turns longest unread x.conn
+
+-- the turns that are left for whoever stands in a place
+abbrev pub place_turns : (longest : ℕ) → State → List (Option Client) → (fd : ℕ) → ℕ
+place_turns longest m clients fd = of_place longest (unread_at m fd) (in_place clients fd)
+
+-- and for a connection that waits
+abbrev pub door_turns : (longest : ℕ) → State → (c : ℕ) → ℕ
+door_turns longest m c = if (conn_at m c).accepted then 0 else unread_turns longest (length (conn_at m c).incoming) + 7
+
+-- for all places and connections below these numbers
+abbrev pub all_left : (longest places conns : ℕ) → State → List (Option Client) → ℕ
+all_left longest places conns m clients = sum_to places (place_turns longest m clients) + sum_to conns (door_turns longest m)
+
+-- ---- of files alone
+
+pub no-script : (scripts : Bool) (q : Answer) → scripts ≡ false → is_for_script scripts q ≡ false
+no-script false (serve w) is = refl
+no-script false (refuse status head_only close) is = refl
+no-script true q is = absurd (cc (is))
+
+-- No response to a proper request is longer than `longest`.
+pub record AreShort (shelf : Shelf) (longest : ℕ) : Type 0 where
+  pub short : (q : Answer) (due : List ℕ) → IsProper q → MayBeDue shelf q due → length due ≤ longest
+  pub errors : IsShort longest
+  pub heads : (q : Answer) → IsProper q → length (text_of q Script) ≤ longest
+
+-- The server has an open pool for heads, and none is longer than an aggregate.
+abbrev pub HasRoom : State → Type 0
+HasRoom m = (q : Answer) (k : Content) → IsProper q → ContentIsShort k → HasPlaceFor m (text_of q k)
+
+pub can-make : (shelf : Shelf) (m : State) (fd : ℕ) (kept : List ℕ) (q : Answer) (script : List ℕ) (d : Doing) → IsProper q → Finds shelf m q script d
+    → HasRoom m → CanMake m (conn.wants fd (at kept q d))
+can-make shelf m fd kept q script (doing.Heads k) fine finds room = room q k fine finds
+can-make shelf m fd kept q script (doing.Reads f) fine finds room = by (conn.is_head_only q)
+  where
+    by : (b : Bool) → CanMake m (if b then call.Length f else call.IolRead f conn.most_read)
+    by true = tt
+    by false = tt
+can-make shelf m fd kept q script d fine finds room = tt
+
+pub due-short : (shelf : Shelf) (longest : ℕ) (q : Answer) (due : List ℕ) (d : Doing) → IsProper q → AreShort shelf longest → MayBeDue shelf q due → length (due_in due q d) ≤ longest
+due-short shelf longest q due d fine short may = by (is_read d)
+  where
+    by : (b : Bool) → length (if b then text_of q Script else due) ≤ longest
+    by true = short.heads q fine
+    by false = short.short q due fine may
+
+-- the request stays
+same-request : (kept : List ℕ) (q : Answer) (d : Doing) (r : Reply) (heard : List ℕ) → (conn.told (at kept q d) r heard).q ≡ q
+same-request kept q doing.Rests (reply.Agg a) [] = refl
+same-request kept q doing.Rests (reply.Agg a) (b ∷ heard) = refl
+same-request kept q doing.Rests r heard = refl
+same-request kept q d r heard = refl
+
+-- one that is over is forgotten
+pub left-most : (longest unread : ℕ) (d : Doing) (x : Client) → of_place longest unread (left_by d x) ≤ conn_turns longest unread x.conn
+left-most longest unread doing.Over x = omega arith
+left-most longest unread d x = omega arith
+
+-- ---- the server's own call for a client
+
+module _ (shelf : Shelf) (crew : Crew) (laws : AllLaws crew) (files : shelf.scripts ≡ false) (longest places conns : ℕ) (m n : State) (p : Past) (clients : List (Option Client)) (fd : ℕ)
+    (cn : Conn) (script : List ℕ) (r : Reply) (heard : List ℕ) (seats : List (Seat crew.Worker)) (order : IsOrderly m) (fixed : IsFixedFor shelf crew m) (fit : AllFit shelf crew m p clients seats)
+    (there : in_place clients fd ≡ Some (of cn None script)) (waits : IsAwaiting (of cn None script)) (among : IsAmong shelf.refuses r)
+    (step : StepsTo m (event.Call server (wants shelf.scripts fd (of cn None script))) r n) (names : Names n r heard) where
+  abbrev c : ℕ
+  c = (fit.each fd (of cn None script) there).conn
+
+  f : FitsAlone shelf m (p.came (fit.each fd (of cn None script) there).conn) (p.sent (fit.each fd (of cn None script) there).conn) fd (fit.each fd (of cn None script) there).conn (of cn None script)
+  f = (fit.each fd (of cn None script) there).fits
+
+  plain : is_for_script shelf.scripts cn.q ≡ false
+  plain = no-script shelf.scripts cn.q files
+
+  calls : wants shelf.scripts fd (of cn None script) ≡ conn.wants fd cn
+  calls = ap (λ (b : Bool). client.conn_wants b fd cn) plain
+
+  tells : (worker : ℕ) → told shelf.scripts worker (of cn None script) r heard ≡ of (conn.told cn r heard) None script
+  tells worker = ap (λ (b : Bool). client.file_told b (of cn None script) r heard) plain
+
+  step_is : StepsTo m (event.Call server (conn.wants fd cn)) r n
+  step_is = subst (λ (k : Call). StepsTo m (event.Call server k) r n) calls step
+
+  after-fits : is_closing cn.doing ≡ false → FitsAlone shelf n (p.came c) (p.sent c) fd c (of (conn.told cn r heard) None script)
+  after-fits going = subst (λ (x : Client). Fits shelf crew n (p.came c) (p.sent c) fd c x seats) (tells 0)
+      (alone_step shelf crew laws m n (p.came c) (p.sent c) fd c 0 (of cn None script) r heard seats order fixed refl f waits going among step names)
+
+  open_on : descriptor m server fd ≡ Some (on.Connection c)
+  open_on = f.open_on
+
+  abbrev after : Client
+  after = of (conn.told cn r heard) None script
+
+  abbrev later : List (Option Client)
+  later = with_at clients fd (left_over after)
+
+  -- where its connection is closed nothing is left there
+  closed : cn.doing ≡ doing.Closes → (conn.told cn r heard).doing ≡ doing.Over
+  closed is = ap (λ (d : Doing). (conn.told (record cn { doing = d }) r heard).doing) is ∙ by r (laws.the.own.closes_conn m n server fd c r order open_on did) did
+    where
+      did : StepsTo m (event.Call server (call.Close fd)) r n
+      did = subst (λ (d : Doing). StepsTo m (event.Call server (conn.wants fd (record cn { doing = d }))) r n) is step_is
+
+      by : (r : Reply) → o.ClosesConn m c r n → StepsTo m (event.Call server (call.Close fd)) r n → conn.told_closes r ≡ doing.Over
+      by reply.Done did step = refl
+      by (reply.Refused z) did step = absurd (laws.left.closes m n server fd (on.Connection c) z fixed.site.lives open_on step)
+      by r did step = absurd did
+
+  alone : CallsAlone m fd c (of cn None script) (wants shelf.scripts fd (of cn None script))
+  alone = calls-alone shelf crew laws m (p.came c) (p.sent c) fd c seats cn None script f
+
+  -- a descriptor on another connection stays
+  untouched : (gd k : ℕ) → fd ≢ gd → descriptor m server gd ≡ Some (on.Connection k)
+      → touches_fd m (event.Call server (wants shelf.scripts fd (of cn None script))) server gd ≡ false
+  untouched gd k differ opened = no-true (touches_fd m (event.Call server (wants shelf.scripts fd (of cn None script))) server gd) (λ u. elim (alone.fds gd u) [
+    | inl has ↦ not-conn has
+    | inr here ↦ differ here
+  ])
+    where
+      not-conn : has_fd (of cn None script) gd ≡ true → ⊥
+      not-conn has = elim (there-fd shelf crew laws m (p.came c) (p.sent c) fd c seats cn None script gd f has) [
+        | inl file ↦ (let h = file.2 in cc (h, opened))
+        | inr end ↦ elim end.1 [ inl read ↦ cc (read, opened) | inr write ↦ cc (write, opened) ]
+      ]
+
+  stays-open : (gd k : ℕ) → fd ≢ gd → descriptor m server gd ≡ Some (on.Connection k) → descriptor n server gd ≡ Some (on.Connection k)
+  stays-open gd k differ opened = (laws.the.steps.leaves m n (event.Call server (wants shelf.scripts fd (of cn None script))) r step).fds server gd (on.Connection k) opened (untouched gd k differ opened)
+
+  module _ (sure : is_later r ≡ false)
+      (short : AreShort shelf longest) (room : HasRoom m) (low : fd < places)
+      -- of the machine: nothing comes in by a call; what came in the server may read
+      (none_come : (c : ℕ) → length (conn_at n c).incoming ≤ length (conn_at m c).incoming)
+      (seen : (c q : ℕ) → descriptor m server fd ≡ Some (on.Connection c) → IsHidden m server q (conn_at m c).incoming → ⊥) where
+    due-after : (b : Bool) → is_closing cn.doing ≡ b → (due : List ℕ) × (length due ≤ longest) × (is_closing cn.doing ≡ false → Has n cn.q due (conn.told cn r heard).doing)
+    due-after true is = ([], omega arith, λ going. absurd (let e = sym is ∙ going in cc (e)))
+    due-after false is =
+        let g = after-fits is in (
+          due_in g.due (conn.told cn r heard).q (conn.told cn r heard).doing,
+          due-short shelf longest (conn.told cn r heard).q g.due (conn.told cn r heard).doing (subst (λ (q : Answer). IsProper q) (sym (same-request cn.kept cn.q cn.doing r heard)) f.proper) short g.may,
+          λ going. subst (λ (q : Answer). Has n q (due_in g.due (conn.told cn r heard).q (conn.told cn r heard).doing) (conn.told cn r heard).doing) (same-request cn.kept cn.q cn.doing r heard) g.has,
+        )
+
+    abbrev before : ℕ
+    before = length (conn_at m c).incoming
+
+    abbrev now : ℕ
+    now = length (conn_at n c).incoming
+
+    -- less is left for it
+    falls : conn_turns longest now (conn.told cn r heard) < conn_turns longest before cn
+    falls =
+        let due = due-after (is_closing cn.doing) refl in
+        turn-falls laws.the.own laws.left laws.the.reasons laws.the.windows m n longest fd c order fixed.site.lives open_on cn.kept cn.q cn.doing (due_in f.due cn.q cn.doing) due.0 r heard due.1 (none_come c)
+        (λ q. seen c q open_on) f.has due.2 (can-make shelf m fd cn.kept cn.q script cn.doing f.proper f.finds room) step_is names sure
+
+    -- in its place
+    here-before : place_turns longest m clients fd ≡ conn_turns longest before cn
+    here-before = ap (λ (x : Option Client). of_place longest (unread_at m fd) x) there ∙ ap (λ (x : Option Descriptor). conn_turns longest (length (conn_at m (conn_of x)).incoming) cn) open_on
+
+    here-later : place_turns longest n later fd ≤ conn_turns longest now (conn.told cn r heard)
+    here-later = subst (λ (x : Option Client). of_place longest (unread_at n fd) x ≤ conn_turns longest now (conn.told cn r heard)) (sym (at-same clients fd (left_over after))) (which (is_closing cn.doing) refl)
+      where
+        gone : (d : Doing) → (conn.told cn r heard).doing ≡ d → d ≡ doing.Over → of_place longest (unread_at n fd) (left_by (conn.told cn r heard).doing after) ≤ conn_turns longest now (conn.told cn r heard)
+        gone d is over = subst (λ (e : Doing). of_place longest (unread_at n fd) (left_by e after) ≤ conn_turns longest now (conn.told cn r heard)) (sym (is ∙ over)) (omega arith)
+
+        closes : (d : Doing) → cn.doing ≡ d → is_closing d ≡ true → of_place longest (unread_at n fd) (left_over after) ≤ conn_turns longest now (conn.told cn r heard)
+        closes doing.Closes is closing = gone (conn.told cn r heard).doing refl (closed is)
+        closes doing.Over is closing = absurd (subst (λ (d : Doing). Has m cn.q (due_in f.due cn.q d) d) is f.has)
+        closes d is closing = absurd (cc (closing))
+
+        which : (b : Bool) → is_closing cn.doing ≡ b → of_place longest (unread_at n fd) (left_over after) ≤ conn_turns longest now (conn.told cn r heard)
+        which true is = closes cn.doing refl is
+        which false is =
+            let open_still = ap (λ (x : Option Descriptor). length (conn_at n (conn_of x)).incoming) (after-fits is).open_on in
+            subst (λ (u : ℕ). of_place longest u (left_over after) ≤ conn_turns longest now (conn.told cn r heard)) (sym open_still) (left-most longest now (conn.told cn r heard).doing after)
+
+    -- in the others as much as before
+    elsewhere : (gd : ℕ) → fd ≢ gd → place_turns longest n later gd ≤ place_turns longest m clients gd
+    elsewhere gd differ = subst (λ (x : Option Client). of_place longest (unread_at n gd) x ≤ place_turns longest m clients gd) (sym (at-other clients fd gd (left_over after) differ)) (by (in_place clients gd) refl)
+      where
+        same : (y : Client) → in_place clients gd ≡ Some y → unread_at n gd ≡ unread_at m gd
+        same y is =
+            let at_y = fit.each gd y is in
+            let k = at_y.conn in
+            let opened : descriptor m server gd ≡ Some (on.Connection k) = opens-on shelf crew laws m (p.came k) (p.sent k) gd k seats y.conn y.run y.script at_y.fits in
+            let kept : descriptor n server gd ≡ Some (on.Connection k) = stays-open gd k differ opened in
+            let other : c ≢ k = (λ e. differ (order.one server server fd gd (on.Connection k) refl (open_on ∙ ap (λ (z : ℕ). Some (on.Connection z)) e) opened).1) in
+            ap (λ (x : Option Descriptor). length (conn_at n (conn_of x)).incoming) kept
+            ∙ (ap (λ (z : Connection). length z.incoming) ((laws.the.steps.leaves m n (event.Call server (wants shelf.scripts fd (of cn None script))) r step).conns k (no-true (touches_conn m (event.Call server (wants shelf.scripts fd (of cn None script))) k) (λ u. other (alone.conns k u))))
+            ∙ sym (ap (λ (x : Option Descriptor). length (conn_at m (conn_of x)).incoming) opened))
+
+        by : (x : Option Client) → in_place clients gd ≡ x → of_place longest (unread_at n gd) x ≤ place_turns longest m clients gd
+        by None is = omega arith
+        by (Some y) is =
+            let e = same y is in
+            let was = ap (λ (x : Option Client). of_place longest (unread_at m gd) x) is in
+            let now_is = ap (λ (u : ℕ). of_place longest u (Some y)) e in
+            omega (arith, was, now_is)
+
+    each-place : (gd : ℕ) → place_turns longest n later gd ≤ place_turns longest m clients gd
+    each-place gd = elim (cases_eq fd gd) [
+      | inl same ↦ subst (λ (g : ℕ). place_turns longest n later g ≤ place_turns longest m clients g) same (let one = here-later in let two = here-before in let less = falls in omega (arith, one, two, less))
+      | inr differ ↦ elsewhere gd differ
+    ]
+
+    -- no more waits at the door
+    each-door : (k : ℕ) → door_turns longest n k ≤ door_turns longest m k
+    each-door k = elim (cases_eq c k) [
+      | inl same ↦ subst (λ (z : ℕ). door_turns longest n z ≤ door_turns longest m z) same
+          (subst (λ (b : Bool). (if b then 0 else unread_turns longest (length (conn_at n c).incoming) + 7) ≤ door_turns longest m c)
+          (sym (laws.the.other.accepted m n server (wants shelf.scripts fd (of cn None script)) r c order step (held-open m fd c order open_on).0)) (omega arith))
+      | inr differ ↦
+          (let is = (laws.the.steps.leaves m n (event.Call server (wants shelf.scripts fd (of cn None script))) r step).conns k (no-true (touches_conn m (event.Call server (wants shelf.scripts fd (of cn None script))) k) (λ u. differ (alone.conns k u))) in
+          let e = ap (λ (z : Connection). if z.accepted then 0 else unread_turns longest (length z.incoming) + 7) is in omega (arith, e))
+    ]
+
+    -- So less is left of all.
+    pub call-falls : (worker : ℕ) → all_left longest places conns n (with_at clients fd (left_over (told shelf.scripts worker (of cn None script) r heard))) < all_left longest places conns m clients
+    call-falls worker = subst (λ (x : Client). all_left longest places conns n (with_at clients fd (left_over x)) < all_left longest places conns m clients) (sym (tells worker))
+        (let one = here-later in let two = here-before in let less = falls in
+        let sums = less_at places fd 1 (place_turns longest m clients) (place_turns longest n later) low (omega (arith, one, two, less)) each-place in
+        let doors = no_more conns (door_turns longest m) (door_turns longest n) each-door in
+        omega (arith, sums, doors))
+
+-- ---- a client is made ready
+
+module _ (shelf : Shelf) (crew : Crew) (laws : AllLaws crew) (longest places conns : ℕ) (m : State) (p : Past) (clients : List (Option Client)) (fd : ℕ)
+    (cn : Conn) (script : List ℕ) (y : Client) (seats : List (Seat crew.Worker)) (order : IsOrderly m) (fixed : IsFixedFor shelf crew m) (fit : AllFit shelf crew m p clients seats)
+    (there : in_place clients fd ≡ Some (of cn None script)) (ready : Readies (of cn None script) y) (short : AreShort shelf longest) where
+  abbrev mine : ℕ
+  mine = (fit.each fd (of cn None script) there).conn
+
+  opened : descriptor m server fd ≡ Some (on.Connection mine)
+  opened = (fit.each fd (of cn None script) there).fits.open_on
+
+  ready-here : place_turns longest m (with_at clients fd (Some y)) fd ≤ place_turns longest m clients fd
+  ready-here =
+      let less = readies-falls laws.the.own laws.left laws.the.reasons laws.the.windows m m longest fd mine order fixed.site.lives opened cn ready.0 short.errors ready.1 in
+      let reads = ap (λ (x : Option Descriptor). length (conn_at m (conn_of x)).incoming) opened in
+      let was = ap (λ (x : Option Client). of_place longest (unread_at m fd) x) there ∙ ap (λ (u : ℕ). conn_turns longest u cn) reads in
+      let now_is = ap (λ (x : Option Client). of_place longest (unread_at m fd) x) (at-same clients fd (Some y) ∙ ap (λ (z : Client). Some z) ready.2) ∙ ap (λ (u : ℕ). conn_turns longest u ready.0) reads in
+      omega (arith, less, was, now_is)
+
+  -- that leaves no more of all
+  pub ready-left : all_left longest places conns m (with_at clients fd (Some y)) ≤ all_left longest places conns m clients
+  ready-left =
+      let sums = no_more places (place_turns longest m clients) (place_turns longest m (with_at clients fd (Some y))) each in
+      omega (arith, sums)
+    where
+      each : (gd : ℕ) → place_turns longest m (with_at clients fd (Some y)) gd ≤ place_turns longest m clients gd
+      each gd = elim (cases_eq fd gd) [
+        | inl same ↦ subst (λ (g : ℕ). place_turns longest m (with_at clients fd (Some y)) g ≤ place_turns longest m clients g) same ready-here
+        | inr differ ↦ (let e = ap (λ (x : Option Client). of_place longest (unread_at m gd) x) (at-other clients fd gd (Some y) differ) in omega (arith, e))
+      ]
+
+-- ---- one more is accepted
+
+module _ (shelf : Shelf) (crew : Crew) (laws : AllLaws crew) (longest places conns : ℕ) (m n : State) (p : Past) (clients : List (Option Client)) (fd : ℕ)
+    (seats : List (Seat crew.Worker)) (order : IsOrderly m) (fit : AllFit shelf crew m p clients seats)
+    (step : StepsTo m (event.Call server call.Accept) (reply.Fd fd) n) (takes : o.TakesConn m server fd n) (low : takes.conn < conns) where
+  abbrev came : ℕ
+  came = length (conn_at m takes.conn).incoming
+
+  same-came : length (conn_at n takes.conn).incoming ≡ came
+  same-came = ap (λ (k : Connection). length k.incoming) takes.conn_is
+
+  abbrev entered : List (Option Client)
+  entered = with_at clients fd (Some new_client)
+
+  -- in its place, for what came on it
+  here-entered : place_turns longest n entered fd ≡ conn_turns longest came conn.new_connection
+  here-entered = ap (λ (x : Option Client). of_place longest (unread_at n fd) x) (at-same clients fd (Some new_client))
+      ∙ (ap (λ (x : Option Descriptor). conn_turns longest (length (conn_at n (conn_of x)).incoming) conn.new_connection) takes.open_on ∙ ap (λ (u : ℕ). conn_turns longest u conn.new_connection) same-came)
+
+  beside : (gd : ℕ) → fd ≢ gd → place_turns longest n entered gd ≤ place_turns longest m clients gd
+  beside gd differ = subst (λ (x : Option Client). of_place longest (unread_at n gd) x ≤ place_turns longest m clients gd) (sym (at-other clients fd gd (Some new_client) differ)) (by (in_place clients gd) refl)
+    where
+      same : (y : Client) → in_place clients gd ≡ Some y → unread_at n gd ≡ unread_at m gd
+      same y is =
+          let at_y = fit.each gd y is in
+          let k = at_y.conn in
+          let opened : descriptor m server gd ≡ Some (on.Connection k) = opens-on shelf crew laws m (p.came k) (p.sent k) gd k seats y.conn y.run y.script at_y.fits in
+          let kept : descriptor n server gd ≡ Some (on.Connection k) = (laws.the.steps.leaves m n (event.Call server call.Accept) (reply.Fd fd) step).fds server gd (on.Connection k) opened refl in
+          let other : takes.conn ≢ k = (λ e. let w = ap (λ (z : ℕ). (conn_at m z).accepted) (sym e) ∙ takes.waited in let a = (held-open m gd k order opened).0 in cc (w, a)) in
+          ap (λ (x : Option Descriptor). length (conn_at n (conn_of x)).incoming) kept
+          ∙ (ap (λ (z : Connection). length z.incoming) (takes.others k other) ∙ sym (ap (λ (x : Option Descriptor). length (conn_at m (conn_of x)).incoming) opened))
+
+      by : (x : Option Client) → in_place clients gd ≡ x → of_place longest (unread_at n gd) x ≤ place_turns longest m clients gd
+      by None is = omega arith
+      by (Some y) is =
+          let e = same y is in
+          let was = ap (λ (x : Option Client). of_place longest (unread_at m gd) x) is in
+          let now_is = ap (λ (u : ℕ). of_place longest u (Some y)) e in
+          omega (arith, was, now_is)
+
+  -- it waits no more
+  each-door-then : (k : ℕ) → door_turns longest n k ≤ door_turns longest m k
+  each-door-then k = elim (cases_eq takes.conn k) [
+    | inl same ↦ subst (λ (z : ℕ). door_turns longest n z ≤ door_turns longest m z) same (let e = entered-door in omega (arith, e))
+    | inr differ ↦ (let e = ap (λ (z : Connection). if z.accepted then 0 else unread_turns longest (length z.incoming) + 7) (takes.others k differ) in omega (arith, e))
+  ]
+    where
+      entered-door : door_turns longest n takes.conn ≡ 0
+      entered-door = ap (λ (z : Connection). if z.accepted then 0 else unread_turns longest (length z.incoming) + 7) takes.conn_is
+
+  -- So less is left of all.
+  pub accept-falls : all_left longest places conns n (with_at clients fd (Some new_client)) < all_left longest places conns m clients
+  accept-falls =
+      let here = here-entered in
+      let none : conn_turns longest came conn.new_connection ≡ 6 + unread_turns longest came = omega arith in
+      let sums = more_at places fd (6 + unread_turns longest came) (place_turns longest m clients) (place_turns longest n entered) (omega (arith, here, none)) beside in
+      let gone : door_turns longest n takes.conn ≡ 0 = ap (λ (z : Connection). if z.accepted then 0 else unread_turns longest (length z.incoming) + 7) takes.conn_is in
+      let was : door_turns longest m takes.conn ≡ unread_turns longest came + 7 = ap (λ (b : Bool). if b then 0 else unread_turns longest came + 7) takes.waited in
+      let doors = less_at conns takes.conn (unread_turns longest came + 7) (door_turns longest m) (door_turns longest n) low (omega (arith, gone, was)) each-door-then in
+      omega (arith, sums, doors)

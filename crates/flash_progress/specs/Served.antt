@@ -1,0 +1,117 @@
+-- Progress of a server of files: if the number of turns suffices, all becomes idle, and then each request that arrived is answered,
+-- with the exceptions that `IsServed` names.
+use Rattle.std.specs.Prelude.{◌≡◌, ◌≤◌, ◌⊎◌, ℕ, Bool, true, false, List, [], ◌∷◌, ◌++◌, length, map, Option, Some}
+use Rattle.iol_core.specs.Text.{bytes_of}
+use Rattle.iol_core.specs.State.{State, domain, pool, descriptor, may_read, conn_at, new_state}
+use Rattle.iol_core.specs.Run.{Run, StepsTo}
+use Rattle.iol_core.specs.declared.descriptors.Descriptor.TheVariants as on
+use Rattle.iol_core.specs.declared.events.Event.{Event}
+use Rattle.iol_core.specs.declared.events.Reply.{Reply}
+use Rattle.iol_core.specs.declared.events.Reply.TheVariants as reply
+use Rattle.iol_core.specs.declared.refusals.Refusal.{Refusal}
+use Rattle.iol_core.specs.declared.refusals.Refusal.TheVariants.{TooMany, NoRoom, Memory}
+use Rattle.iol_laws.specs.Caller.{is_rough}
+use Rattle.iol_laws.specs.Labels.{AreAtHome}
+use Rattle.iol_laws.specs.Order.{IsOrderly}
+use Rattle.iol_proc.specs.Idle.{Idles, Went, rounds}
+use Rattle.iol_proc.specs.LentBytes.{lent_to}
+use Rattle.iol_proc.specs.World.{Stage, copying, domains_of}
+use Rattle.iol_proc.specs.declared.choice.Choice.{Choice}
+use Rattle.iol_proc.specs.declared.seat.Seat.{Seat}
+use Rattle.flash_laws.specs.Client.{Client}
+use Rattle.flash_laws.specs.Serves.{filed_in}
+use Rattle.flash_laws.specs.Serves.Rounds.{in_rounds}
+use Rattle.flash_laws.specs.Shelf.{Shelf, IsAnswer}
+use Rattle.flash_laws.specs.Site.{server}
+use Rattle.flash_laws.specs.Site.Past.{Past}
+use Rattle.flash_laws.specs.Workers.Crew.{Crew}
+use Rattle.flash_laws.specs.World.{Tied}
+use Rattle.flash_laws.specs.World.Done.{IsHeldUp}
+use Rattle.flash_laws.specs.World.Remains.{IsFull}
+use Rattle.flash_laws.specs.World.Tie.{Actor, Serving, Working, actor_turns, past_of}
+use Rattle.flash_progress.specs.Bound.{turns_that_suffice}
+
+-- ---- the premises
+
+-- whether a call is refused for lack of table entries, pages or memory; a fault of the store is none of these
+abbrev pub lacks_resource : Reply → Bool
+lacks_resource (reply.Refused TooMany) = true
+lacks_resource (reply.Refused (NoRoom p)) = true
+lacks_resource (reply.Refused Memory) = true
+lacks_resource r = false
+
+-- none of these turns is refused so
+abbrev pub NoneLacksResource : List Went → Type 0
+NoneLacksResource [] = Unit {0}
+NoneLacksResource (t ∷ ts) = (lacks_resource t.1 ≡ false) × NoneLacksResource ts
+
+-- the clients of the first process, if it is the server, after its last reply is filed
+abbrev pub clients_of : {W : Type 0} → State → Reply → Actor W → List (Option Client)
+clients_of m last (Serving s) = filed_in s last (λ a. lent_to m server a)
+clients_of m last (Working v) = []
+
+abbrev pub clients_by : {W : Type 0} → State → List (Seat (Actor W)) → List (Option Client)
+clients_by m [] = []
+clients_by {W = W} m (seat ∷ seats) = clients_of {W = W} m seat.last seat.process
+
+abbrev pub clients_in : {W : Type 0} → Stage State (Actor W) → List (Option Client)
+clients_in {W = W} w = clients_by {W = W} w.machine w.seats
+
+-- each domain may read the pools of the connections that it has open
+abbrev pub MayReadConns : State → Type 0
+MayReadConns m = (d fd c : ℕ) → descriptor m d fd ≡ Some (on.Connection c) → may_read m d (conn_at m c).pool ≡ true
+
+-- The unread bytes of each connection are in its pool, and a domain that has it open may read this pool. This holds in each reachable
+-- state (`ArrivalsCanBeRead`).
+pub record CanRead (m : State) : Type 0 where
+  pub home : AreAtHome m
+  pub holders : MayReadConns m
+
+-- The server has a default pool, and it is open, so the server can make the heads of responses.
+pub record CanPlace (m : State) : Type 0 where
+  pub place : ℕ
+  pub default : (domain m server).default ≡ Some place
+  pub open_yet : (pool m place).closed ≡ false
+
+-- ---- what follows
+
+-- A connection is served: all requests that arrived on it are answered, or its peer left, or its queue is full, or it is not accepted
+-- and the server has as many connections as it may.
+abbrev pub IsServed : Shelf → State → Past → List (Option Client) → (c : ℕ) → Type 0
+IsServed shelf m p clients c = IsAnswer shelf (p.came c) (p.sent c ++ bytes_of (conn_at m c).outgoing)
+    ⊎ (p.gone c ≡ true) ⊎ IsHeldUp m c ⊎ (((conn_at m c).accepted ≡ false) × IsFull m clients)
+
+module _ (crew : Crew) where
+  -- A tied world of files has turns in rounds, at most `most`. Before them any call may have been refused. None of them is refused for
+  -- lack of table entries, pages or memory, and `most` suffices for the state in which they begin.
+  pub record RunsLongEnough (shelf : Shelf) (xs : List Choice) (rs : List Reply) (w : Stage State (Actor crew.Worker)) (most : ℕ)
+      (idle : Bool) (after : Stage State (Actor crew.Worker)) : Type 0 where
+    pub files : crew.count ≡ 0
+    pub any : (x : Refusal) → is_rough (reply.Refused x) ≡ true → shelf.refuses x ≡ true
+    pub tied : Tied shelf crew xs rs w
+    pub reads : CanRead w.machine
+    pub places : CanPlace w.machine
+    pub ends : Idles copying (actor_turns in_rounds crew.turns) w most idle after
+    pub lacks_none : NoneLacksResource ends.went
+    pub suffices : turns_that_suffice w.machine (clients_in w) ≤ most
+
+  -- All becomes idle.
+  abbrev pub BecomesIdle : Type 0
+  BecomesIdle = (shelf : Shelf) (xs : List Choice) (rs : List Reply) (w : Stage State (Actor crew.Worker)) (most : ℕ)
+      (idle : Bool) (after : Stage State (Actor crew.Worker)) → RunsLongEnough shelf xs rs w most idle after → idle ≡ true
+
+  -- The world is tied, and each connection of the net is served.
+  pub record AreServed (shelf : Shelf) (xs : List Choice) (rs : List Reply) (after : Stage State (Actor crew.Worker)) : Type 0 where
+    pub tied : Tied shelf crew xs rs after
+    pub each : (c : ℕ) → (past_of xs rs).net c ≡ true → IsServed shelf after.machine (past_of xs rs) tied.seated.state.clients c
+
+  abbrev pub ServesAll : Type 0
+  ServesAll = (shelf : Shelf) (xs : List Choice) (rs : List Reply) (w : Stage State (Actor crew.Worker)) (most : ℕ)
+      (idle : Bool) (after : Stage State (Actor crew.Worker)) → (has : RunsLongEnough shelf xs rs w most idle after)
+      → AreServed shelf (xs ++ rounds (domains_of w.seats) 0 (length has.ends.went)) (rs ++ map (λ t. t.1) has.ends.went) after
+
+-- Arrivals can be read in a new state, after each event, and so in each reachable state.
+pub record ArrivalsCanBeRead : Type 0 where
+  pub new : (slots : List (List ℕ)) → CanRead (new_state slots)
+  pub step : (s t : State) (e : Event) (r : Reply) → IsOrderly s → CanRead s → StepsTo s e r t → CanRead t
+  pub reached : (slots : List (List ℕ)) (t : State) (es : List Event) (rs : List Reply) → Run (new_state slots) es rs t → CanRead t
