@@ -1,0 +1,10 @@
+use Rattle.std.proofs.Common.{◌+◌, List, subst, sym, take}
+use Rattle.flash_site.proofs.FileList.{filed_more}
+use Rattle.flash_site.specs.World.{AreFilesOf}
+use Rattle.flash_site.proofs.site.files_of.Goals as goal
+use Rattle.flash_lite.specs.declared.site.SiteFile.{SiteFile}
+
+pub loop-place-preserved : goal.loop-place-preserved
+loop-place-preserved c =
+    subst (λ (fs : List SiteFile). AreFilesOf (take (c.loop-place.place + 1) c.args.index.now.names) fs) (sym c.in_ok-push.ensures.items)
+    (filed_more _ c.loop-place.place c.loop-place.files.items c.in_ok-file_at.field-0 c.loop-place.invariant c.in_ok-file_at.ensures.name c.in_ok-file_at.ensures.shared)

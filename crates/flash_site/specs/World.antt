@@ -1,0 +1,40 @@
+-- The world of a site of files.
+use Rattle.std.specs.Prelude.{◌≡◌, ℕ, Bool, false, List, [], map}
+use Rattle.std.specs.List.{list_any}
+use Rattle.iol_back.specs.Disk.{Disk}
+use Rattle.iol_core.specs.declared.configuration.Config.{Config}
+use Rattle.iol_core.specs.declared.events.Reply.{Reply}
+use Rattle.iol_proc.specs.World.{Stage}
+use Rattle.iol_system.specs.Machine.{SystemState}
+use Rattle.flash_cgi.specs.declared.worker.Worker.{Worker}
+use Rattle.flash_laws.specs.World.Tie.{Actor}
+use Rattle.flash_lite.specs.HostedSite.{HostsIfHonest, HostsOver}
+use Rattle.flash_lite.specs.declared.site.Site.{Site}
+use Rattle.flash_lite.specs.declared.site.SiteFile.{SiteFile}
+
+-- files of these names, in their order, for everybody
+pub record AreFilesOf (names : List (List ℕ)) (files : List SiteFile) : Type 0 where
+  pub named : map (λ f. f.name.items) files ≡ names
+  pub shared : list_any (λ f. f.private) files ≡ false
+
+-- The world of a site of these files over a store, before its first turn: it was set up in a new system, and nobody did anything
+-- else in it. Over an honest store it is that of the site as the copying machine has it, to which the server's laws apply.
+pub record IsWorldOf (names : List (List ℕ)) (store : Disk) (world : Stage SystemState (Actor Worker)) : Type 0 where
+  pub site : Site
+  pub files : AreFilesOf names site.files.items
+  pub config : Config
+  pub replies : List Reply
+  pub idle : Bool
+  pub over : HostsOver config store site [] replies 0 idle world
+  pub honest : HostsIfHonest store site [] replies 0 idle world
+
+-- a world of a site, as new: its store is honest, or not
+pub record IsSiteWorld (honest : Bool) (world : Stage SystemState (Actor Worker)) : Type 0 where
+  pub names : List (List ℕ)
+  pub store : Disk
+  pub is : IsWorldOf names store world
+  pub store-honest : store.honest ≡ honest
+
+-- a world of a site, as new, over any store
+abbrev pub IsNewSite : Stage SystemState (Actor Worker) → Type 0
+IsNewSite world = (honest : Bool) × IsSiteWorld honest world

@@ -1,0 +1,12 @@
+//! The site of the files below a folder, and the world that serves it.
+//!
+//! A [`Source`](source::Source) reads the site from its folder, into memory as far as it may, and notices when the folder
+//! changes; each time it gives a new world ([`world_of`](site::world_of)) of the files as they were at one moment.
+//!
+//!     let mut source = Source::new(&rt, "site", Some(PRELOAD_BYTES))?;
+//!     let loaded = source.load()?;
+//!     let renewed = source.renew(false)?;
+#![tactic(auto)]
+
+pub mod site;
+pub mod source;

@@ -1,0 +1,69 @@
+//! A site of the files of a store, and the world that serves it.
+ghost use Rattle.std.specs.Prelude.{◌≡◌, ◌<◌, IfOk, Some, true, false, length, slice_get};
+ghost use Rattle.iol_tree.specs.Store.{disk_of};
+ghost use Rattle.flash_lite.specs.Prelude.{is_in_range};
+ghost use Rattle.flash_site.specs.World.{AreFilesOf, IsWorldOf};
+
+use flash_lite::actor::Actor;
+use flash_lite::host::host;
+use flash_lite::site::{Site, SiteFile};
+use iol_core::configuration::Config;
+use iol_core::refusals::Refusal;
+use iol_proc::world::World;
+use iol_tree::backing::TreeBacking;
+use iol_tree::index::Index;
+use std::alloc::{AllocError, Global};
+use std::rt::Files;
+
+/// The number of the pool that connections of a site's world take their bytes into.
+pub const NET_POOL: u32 = 2;
+
+// The files of an index, in their order, for everybody.
+fn files_of(alloc: Global, index: &Index) -> Result<Vec<SiteFile>, AllocError>
+    ensures { IfOk result (λ files. AreFilesOf index.now.names files.items) }
+{
+    let mut files = Vec::new(alloc);
+    for place in 0..index.count() {
+        files.push(file_at(alloc, index, place)?)?;
+    }
+    Ok(files)
+}
+
+// The file in a place.
+fn file_at(alloc: Global, index: &Index, place: usize) -> Result<SiteFile, AllocError>
+    requires { place < length index.now.names }
+    ensures name { IfOk result (λ f. slice_get index.now.names place ≡ Some f.name.items) }
+    ensures shared { IfOk result (λ f. f.private ≡ false) }
+{
+    let name = Vec::from_slice(alloc, index.name(place).as_bytes())?;
+    let private = false;
+    Ok(SiteFile { name, private })
+}
+
+// Four workers, and every file for everybody. The chunks are those of the system, all of them.
+fn site_of(alloc: Global, index: &Index) -> Result<Site, AllocError>
+    ensures files { IfOk result (λ site. AreFilesOf index.now.names site.files.items) }
+    ensures range { IfOk result (λ site. is_in_range site ≡ true) }
+{
+    Ok(Site {
+        workers: 4,
+        guests: 0,
+        site_chunks: 128,
+        net_chunks: 64,
+        work_chunks: 64,
+        vault_chunks: 0,
+        files: files_of(alloc, index)?,
+    })
+}
+
+/// A new world that serves the files of a store to everybody, over that store.
+pub fn world_of<R: Files + Drop>(
+    alloc: Global,
+    store: TreeBacking<R>,
+) -> Result<World<TreeBacking<R>, Actor>, Refusal>
+    ensures { IfOk result (λ world. IsWorldOf store.names (disk_of store) world) }
+{
+    let site = site_of(alloc, store.index())?;
+    let hosted = host(alloc, Config::DEFAULT, store, &site, &[], 0)?;
+    Ok(hosted.world)
+}

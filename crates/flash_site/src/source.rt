@@ -1,0 +1,182 @@
+//! Where a site is read from, and when it is read again.
+ghost use Rattle.flash_site.specs.World.{IsSiteWorld};
+
+use crate::site::world_of;
+use flash_lite::actor::Actor;
+use iol_proc::world::World;
+use iol_tree::backing::TreeBacking;
+use iol_tree::contents::read_all;
+use iol_tree::index::Index;
+use std::io;
+use std::io::ErrorKind;
+use std::rt::{Clock, Files};
+use std::time::{SystemTime, UNIX_EPOCH};
+
+/// The bytes of a site that are read into memory at most, where nothing else is asked for.
+pub const PRELOAD_BYTES: u64 = 0x1000_0000;
+
+/// How often the folder is read before it is given up that it stays the same meanwhile.
+const ATTEMPTS: u32 = 5;
+
+/// Times of change are this coarse: a file that changed less than this number of nanoseconds ago may change once more with no
+/// other time of change.
+const GRAIN_NANOS: i64 = 50_000_000;
+
+/// What a site consists of.
+#[derive(Clone, Copy, Debug, PartialEq, Eq)]
+pub struct Summary {
+    /// The number of its files, and of their bytes.
+    pub files: usize,
+    pub bytes: u64,
+
+    /// The number of entries of the folder that are not served.
+    pub skipped: u64,
+
+    /// Whether its bytes were read into memory, so that its store is honest.
+    pub is_in_memory: bool,
+}
+
+/// A site as it was read, in a world in which nothing happened yet. Its store is honest just where the bytes are in memory.
+#[derive(Drop)]
+pub struct Loaded<R: Files> {
+    pub world: World<TreeBacking<R>, Actor>,
+    pub summary: Summary,
+
+    ghost new: { IsSiteWorld summary.is_in_memory world },
+}
+
+/// A folder whose files are a site.
+#[derive(Drop)]
+pub struct Source<R: Files> {
+    rt: R,
+    root: String,
+
+    // The bytes that are read into memory at most. None: all is served from the folder.
+    preload: Option<u64>,
+
+    // The files as they were read last, and whether one of them changed so shortly before that it is to be read again.
+    index: Option<Index>,
+    is_young: bool,
+}
+
+impl<R: Files + Clock + AllocGlobal + Clone + Drop> Source<R> {
+    /// The site of a folder. Up to `preload` bytes of files are read into memory, and a larger site is served from the folder,
+    /// as is each where there is no `preload`.
+    pub fn new(rt: &R, root: &str, preload: Option<u64>) -> io::Result<Source<R>> {
+        Ok(Source {
+            rt: rt.clone()?,
+            root: String::from_str(rt.alloc(), root)?,
+            preload,
+            index: None,
+            is_young: false,
+        })
+    }
+
+    /// Reads the site. Where it does not stay the same while it is read, it is served from the folder.
+    pub fn load(&mut self) -> io::Result<Loaded<R>> {
+        match self.load_steady()? {
+            Some(loaded) => Ok(loaded),
+            None => {
+                let index = Index::of(&self.rt, self.root.as_str())?;
+                self.load_folder(index)
+            }
+        }
+    }
+
+    /// Reads the site again, if the folder changed since it was read last, or if `is_forced`. None: it did not change, or does
+    /// not stay the same while it is read, so that it is to be tried again later.
+    pub fn renew(&mut self, is_forced: bool) -> io::Result<Option<Loaded<R>>> {
+        if !is_forced && !self.is_young && self.is_same()? {
+            return Ok(None);
+        }
+        self.load_steady()
+    }
+
+    // Whether the folder has the files that were read last, unchanged.
+    fn is_same(&self) -> io::Result<bool> {
+        let now = Index::of(&self.rt, self.root.as_str())?;
+        Ok(match &self.index {
+            Some(index) => index.is_same(&now),
+            None => false,
+        })
+    }
+
+    // Reads the site, unless it changes meanwhile, each time that this is tried.
+    fn load_steady(&mut self) -> io::Result<Option<Loaded<R>>> {
+        for _ in 0..ATTEMPTS {
+            let index = Index::of(&self.rt, self.root.as_str())?;
+            if !self.fits(&index) {
+                return Ok(Some(self.load_folder(index)?));
+            }
+            if let Some(loaded) = self.load_memory(index)? {
+                return Ok(Some(loaded));
+            }
+        }
+        Ok(None)
+    }
+
+    // Whether the files are to be read into memory.
+    fn fits(&self, index: &Index) -> bool {
+        match self.preload {
+            Some(most) => index.total() <= most,
+            None => false,
+        }
+    }
+
+    // Reads the files into memory. None: the folder changed meanwhile.
+    fn load_memory(&mut self, index: Index) -> io::Result<Option<Loaded<R>>> {
+        let contents = match read_all(&self.rt, &index) {
+            Ok(contents) => contents,
+            Err(e) if e.kind() == ErrorKind::OutOfMemory => return Err(e),
+            Err(_) => return Ok(None),
+        };
+        let after = Index::of(&self.rt, self.root.as_str())?;
+        if !index.is_same(&after) {
+            return Ok(None);
+        }
+        let store = TreeBacking::in_memory(self.rt.clone()?, self.rt.alloc(), index, contents)?;
+        Ok(Some(self.host(store, after)?))
+    }
+
+    // Serves the files from the folder.
+    fn load_folder(&mut self, index: Index) -> io::Result<Loaded<R>> {
+        let kept = Index::of(&self.rt, self.root.as_str())?;
+        let store = TreeBacking::on_disk(self.rt.clone()?, self.rt.alloc(), index);
+        self.host(store, kept)
+    }
+
+    // Makes the world of a store whose files are those of an index.
+    fn host(&mut self, store: TreeBacking<R>, index: Index) -> io::Result<Loaded<R>> {
+        let summary = Summary {
+            files: index.count(),
+            bytes: index.total(),
+            skipped: index.skipped(),
+            is_in_memory: store.is_in_memory(),
+        };
+        let is_young = !index.is_older_than(self.grain_ago()?);
+        self.is_young = is_young && !self.is_young;
+        self.index = Some(index);
+        match world_of(self.rt.alloc(), store) {
+            Ok(world) => Ok(Loaded { world, summary }),
+            Err(_) => Err(io::Error::from(ErrorKind::OutOfMemory)),
+        }
+    }
+
+    // A moment ago, in seconds and nanoseconds since 1970.
+    fn grain_ago(&self) -> io::Result<(i64, i64)> {
+        let now = SystemTime::now(&self.rt)?;
+        let Ok(since) = now.duration_since(UNIX_EPOCH) else {
+            return Ok((0, 0));
+        };
+        let seconds = since.as_secs().min(i64::MAX as u64) as i64;
+        let nanos = i64::from(since.subsec_nanos());
+        Ok(if nanos >= GRAIN_NANOS {
+            (seconds, nanos - GRAIN_NANOS)
+        } else {
+            (
+                seconds.saturating_sub(1),
+                nanos + 1_000_000_000 - GRAIN_NANOS,
+            )
+        })
+    }
+}

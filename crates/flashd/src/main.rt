@@ -1,0 +1,68 @@
+//! `flashd`: the files below a folder, served by HTTP/1.1 to many clients at once.
+#![tactic(auto)]
+
+mod framing;
+mod notices;
+mod options;
+mod serve;
+mod service;
+
+use options::{Options, command};
+use serve::serve;
+use std::io::{ErrorKind, Write};
+use std::process::ExitCode;
+use std::rt::Env;
+use std::{env, io};
+
+/// The exit status of a program that was given words that it does not accept.
+const BAD_WORDS: u8 = 2;
+
+/// The exit status of one that met a fault.
+const FAULT: u8 = 3;
+
+/// The words of the command line, the program's own first.
+fn words_of<R: Env + AllocGlobal>(rt: &R) -> io::Result<Vec<String>> {
+    let mut words = Vec::new(rt.alloc());
+    for word in env::args(rt)? {
+        words.push(word)?;
+    }
+    Ok(words)
+}
+
+/// Runs the program that the words ask for: its exit status.
+fn run(rt: &HostRuntime, words: &[String]) -> io::Result<u8> {
+    let command = command(rt.alloc())?;
+    let matches = match command.try_get_matches_from(words) {
+        Ok(matches) => matches,
+        Err(error) => {
+            let shown = error.print(rt);
+            let status = if error.use_stderr() { BAD_WORDS } else { 0 };
+            shown?;
+            return Ok(status);
+        }
+    };
+    let Some(options) = Options::of(&matches) else {
+        writeln!(
+            rt.stderr(),
+            "error: --listen wants an IP address and a port, as 127.0.0.1:8080 or [::1]:8080"
+        )?;
+        return Ok(BAD_WORDS);
+    };
+    serve(rt, &options)?;
+    Ok(0)
+}
+
+/// Runs the program, and tells on standard error what ended it early.
+fn main(rt: HostRuntime) -> ExitCode {
+    let done = match words_of(&rt) {
+        Ok(words) => run(&rt, &words),
+        Err(e) => Err(e),
+    };
+    match done {
+        Ok(status) => ExitCode::from(status),
+        Err(e) => {
+            let _ = writeln!(rt.stderr(), "flashd: {e}");
+            ExitCode::from(FAULT)
+        }
+    }
+}

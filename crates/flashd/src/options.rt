@@ -1,0 +1,202 @@
+//! What the command line asks for.
+use clap::{Arg, ArgAction, ArgMatches, Command, value_parser};
+use flash_site::source::PRELOAD_BYTES;
+use iol_reactor::limits::Limits;
+use std::alloc::{AllocError, Global};
+use std::net::SocketAddr;
+
+const VERSION: &str = "0.1.0";
+
+const ABOUT: &str = "Serves the files below a folder by HTTP/1.1 to many clients at once.";
+
+const AFTER_HELP: &str =
+    "Ends with 0 after --stop-after clients, with 2 where the words are wrong, and with 3 where \
+    ROOT cannot be read or ADDR:PORT cannot be listened on.";
+
+const DAY: i64 = 86_400;
+
+const MILLIS: u64 = 1_000;
+
+/// What the command line asks for.
+#[derive(Clone, Copy, Debug)]
+pub struct Options<'a> {
+    /// The address to listen on.
+    pub listen: SocketAddr,
+
+    /// The folder whose files are served.
+    pub root: &'a str,
+
+    /// Where the access log is written to: `-` is standard output.
+    pub access_log: Option<&'a str>,
+
+    /// The bytes of files that are read into memory at most, if any are to be.
+    pub preload: Option<u64>,
+
+    pub limits: Limits,
+}
+
+impl<'a> Options<'a> {
+    /// What was asked for. None: the address to listen on is none.
+    pub fn of(matches: &ArgMatches<'a>) -> Option<Options<'a>> {
+        let listen = matches.get_one::<SocketAddr>("listen")?;
+        let root = matches.get_str("root")?;
+        Some(Options {
+            listen,
+            root,
+            access_log: matches.get_str("access-log"),
+            preload: preload_of(matches),
+            limits: limits_of(matches),
+        })
+    }
+}
+
+fn preload_of(matches: &ArgMatches<'_>) -> Option<u64> {
+    if matches.get_flag("no-preload") {
+        None
+    } else {
+        Some(
+            matches
+                .get_one::<u64>("preload-limit")
+                .unwrap_or(PRELOAD_BYTES),
+        )
+    }
+}
+
+// The limits of the event loop, changed where another was asked for.
+fn limits_of(matches: &ArgMatches<'_>) -> Limits {
+    let mut limits = Limits::DEFAULT;
+    limits.stop_after = matches.get_one::<u32>("stop-after");
+    if let Some(count) = matches.get_one::<u32>("max-clients") {
+        limits.max_clients = count as usize;
+    }
+    if let Some(seconds) = matches.get_one::<u32>("idle-timeout") {
+        limits.idle_millis = u64::from(seconds).saturating_mul(MILLIS);
+    }
+    if let Some(seconds) = matches.get_one::<u32>("request-timeout") {
+        limits.head_millis = u64::from(seconds).saturating_mul(MILLIS);
+    }
+    if let Some(bytes) = matches.get_one::<u32>("min-rate") {
+        limits.min_rate = u64::from(bytes);
+    }
+    limits
+}
+
+/// The command line: its options, and what help tells of them.
+pub fn command(alloc: Global) -> Result<Command<'static>, AllocError> {
+    let command = Command::new(alloc, "flashd")
+        .version(VERSION)
+        .about(ABOUT)
+        .after_help(AFTER_HELP)
+        .arg(listen(alloc))?
+        .arg(root(alloc))?;
+    files_arguments(alloc, clients_arguments(alloc, command)?)
+}
+
+// Those that bound what clients may do.
+fn clients_arguments(
+    alloc: Global,
+    command: Command<'static>,
+) -> Result<Command<'static>, AllocError> {
+    command
+        .arg(stop_after(alloc))?
+        .arg(max_clients(alloc))?
+        .arg(idle_timeout(alloc))?
+        .arg(request_timeout(alloc))?
+        .arg(min_rate(alloc))
+}
+
+// Those of files.
+fn files_arguments(
+    alloc: Global,
+    command: Command<'static>,
+) -> Result<Command<'static>, AllocError> {
+    command
+        .arg(access_log(alloc))?
+        .arg(preload_limit(alloc))?
+        .arg(no_preload(alloc))
+}
+
+fn listen(alloc: Global) -> Arg<'static> {
+    Arg::new(alloc, "listen")
+        .long("listen")
+        .value_name("ADDR:PORT")
+        .default_value("127.0.0.1:8080")
+        .help("Listen on this IP address and port; port 0 is any that is free")
+}
+
+fn root(alloc: Global) -> Arg<'static> {
+    Arg::new(alloc, "root")
+        .value_name("ROOT")
+        .required(true)
+        .help("Serve the files in this folder and in the folders below it")
+}
+
+fn stop_after(alloc: Global) -> Arg<'static> {
+    Arg::new(alloc, "stop-after")
+        .long("stop-after")
+        .value_name("N")
+        .value_parser(value_parser!(u32).range(1..))
+        .help("End after this number of clients")
+}
+
+fn max_clients(alloc: Global) -> Arg<'static> {
+    Arg::new(alloc, "max-clients")
+        .long("max-clients")
+        .value_name("N")
+        .value_parser(value_parser!(u32).range(1..1_000_000))
+        .help(
+            "Serve at most this number of clients at once; more wait to be accepted [default: 4096]",
+        )
+}
+
+fn idle_timeout(alloc: Global) -> Arg<'static> {
+    Arg::new(alloc, "idle-timeout")
+        .long("idle-timeout")
+        .value_name("SECONDS")
+        .value_parser(value_parser!(u32).range(1..DAY))
+        .help("Close a connection after this time without a request [default: 60]")
+}
+
+fn request_timeout(alloc: Global) -> Arg<'static> {
+    Arg::new(alloc, "request-timeout")
+        .long("request-timeout")
+        .value_name("SECONDS")
+        .value_parser(value_parser!(u32).range(1..DAY))
+        .help("Close a connection whose request is not complete after this time [default: 10]")
+}
+
+fn min_rate(alloc: Global) -> Arg<'static> {
+    Arg::new(alloc, "min-rate")
+        .long("min-rate")
+        .value_name("BYTES")
+        .value_parser(value_parser!(u32))
+        .help(
+            "Close a connection that accepts fewer bytes of a response a second, over 20 seconds [default: 1024]",
+        )
+}
+
+fn access_log(alloc: Global) -> Arg<'static> {
+    Arg::new(alloc, "access-log")
+        .long("access-log")
+        .value_name("FILE")
+        .help(
+            "Append a line for each request to this file, in the Common Log Format; - is standard output",
+        )
+}
+
+fn preload_limit(alloc: Global) -> Arg<'static> {
+    Arg::new(alloc, "preload-limit")
+        .long("preload-limit")
+        .value_name("BYTES")
+        .value_parser(value_parser!(u64))
+        .help(
+            "Read the site into memory if it has at most this number of bytes [default: 268435456]",
+        )
+}
+
+fn no_preload(alloc: Global) -> Arg<'static> {
+    Arg::new(alloc, "no-preload")
+        .long("no-preload")
+        .action(ArgAction::SetTrue)
+        .help("Read no file into memory: serve all from the folder")
+}

@@ -1,0 +1,59 @@
+//! The server.
+use crate::options::Options;
+use crate::service::SiteService;
+use flash_log::log::AccessLog;
+use flash_site::site::NET_POOL;
+use flash_site::source::Source;
+use iol_core::numbers::PoolId;
+use iol_reactor::reactor::Reactor;
+use std::fs::{File, OpenOptions};
+use std::io;
+use std::io::Write;
+use std::net::SocketAddr;
+
+/// Serves a site as the command line asks for, until as many clients came and went as it says.
+pub fn serve(rt: &HostRuntime, options: &Options<'_>) -> io::Result<()> {
+    let log = match options.access_log {
+        Some("-") => return serve_site(rt, options, Some(AccessLog::new(rt.alloc(), rt.stdout()))),
+        Some(path) => Some(AccessLog::new(rt.alloc(), open_log(rt, path)?)),
+        None => None,
+    };
+    serve_site(rt, options, log)
+}
+
+// The file that the log is appended to.
+fn open_log(rt: &HostRuntime, path: &str) -> io::Result<File> {
+    OpenOptions::new().append(true).create(true).open(rt, path)
+}
+
+// Reads the site, listens, tells so, and serves.
+fn serve_site<W: Write + Drop>(
+    rt: &HostRuntime,
+    options: &Options<'_>,
+    log: Option<AccessLog<W>>,
+) -> io::Result<()> {
+    let mut source = Source::new(rt, options.root, options.preload)?;
+    let loaded = source.load()?;
+    let summary = loaded.summary;
+    let pool = PoolId::new(NET_POOL);
+    let mut reactor = Reactor::new(
+        rt,
+        rt.alloc(),
+        options.listen,
+        pool,
+        loaded.world,
+        options.limits,
+    )?;
+    tell_address(rt, reactor.local_addr()?)?;
+    let mut service = SiteService::new(rt, options.root, source, summary, log)?;
+    let served = reactor.serve(rt, &mut service);
+    service.flush();
+    served
+}
+
+// Prints the line that tells where it listens.
+fn tell_address(rt: &HostRuntime, address: SocketAddr) -> io::Result<()> {
+    let mut output = rt.stdout();
+    writeln!(output, "listening on http://{address}/")?;
+    output.flush()
+}

@@ -1,0 +1,166 @@
+//! A site, as a service of the event loop.
+ghost use Rattle.std.specs.Prelude.{IfSome, IfOk};
+ghost use Rattle.flash_site.specs.World.{IsNewSite};
+
+use crate::framing::{frame_of, progress_of};
+use crate::notices::tell_site;
+use flash_lite::actor::Actor;
+use flash_log::dates::log_date;
+use flash_log::heads::{head_length, request_line, status_of};
+use flash_log::lines::Entry;
+use flash_log::log::AccessLog;
+use flash_site::source::{Source, Summary};
+use iol_proc::world::World;
+use iol_reactor::service::{Exchange, Frame, Progress, Service};
+use iol_tree::backing::TreeBacking;
+use std::io;
+use std::io::{Eprint, Write};
+use std::rt::{Clock, Files};
+use std::time::{Duration, Instant, SystemTime, UNIX_EPOCH};
+
+/// The pause between two looks at the folder is at least this number of times as long as the first of them took.
+const PAUSE_LOOKS: u64 = 20;
+
+/// The files of a folder, and the log of what was answered.
+#[derive(Drop)]
+pub struct SiteService<'a, R: Files, W> {
+    rt: R,
+    root: &'a str,
+    source: Source<R>,
+    log: Option<AccessLog<W>>,
+
+    // What the site consists of, as it was told last.
+    summary: Summary,
+
+    // When the folder is looked at again, at the earliest.
+    next_look: Option<Instant>,
+}
+
+impl<'a, R, W> SiteService<'a, R, W>
+where
+    R: Files + Clock + Eprint + AllocGlobal + Clone + Drop,
+    W: Write + Drop,
+{
+    /// The service of a site that was read from a source, and has this summary.
+    pub fn new(
+        rt: &R,
+        root: &'a str,
+        source: Source<R>,
+        summary: Summary,
+        log: Option<AccessLog<W>>,
+    ) -> io::Result<SiteService<'a, R, W>> {
+        tell_site(rt, root, &summary);
+        Ok(SiteService {
+            rt: rt.clone()?,
+            root,
+            source,
+            log,
+            summary,
+            next_look: None,
+        })
+    }
+
+    /// Writes what is left of the log.
+    pub fn flush(&mut self) {
+        if let Some(log) = &mut self.log {
+            log.flush();
+        }
+    }
+
+    // Adds a line to the log.
+    fn log(&mut self, exchange: &Exchange<'_>) -> io::Result<()> {
+        let Some(log) = &mut self.log else {
+            return Ok(());
+        };
+        let alloc = self.rt.alloc();
+        let ip = exchange.peer.ip();
+        let host = format!(in alloc; "{ip}")?;
+        let date = log_date(alloc, seconds_now(&self.rt)?)?;
+        let head = head_length(exchange.head).unwrap_or(exchange.head.len()) as u64;
+        log.add(&Entry {
+            host: host.as_bytes(),
+            date: &date,
+            request_line: request_line(exchange.request),
+            status: status_of(exchange.head),
+            body: exchange.sent.saturating_sub(head),
+        })?;
+        if log.is_full() {
+            log.flush();
+        }
+        Ok(())
+    }
+
+    // Whether the folder is to be looked at now.
+    fn is_time(&self, now: &Instant) -> bool {
+        match &self.next_look {
+            Some(next) => now >= next,
+            None => true,
+        }
+    }
+
+    // A new world, if the folder changed. A folder that takes long to look at is looked at less often.
+    fn look(&mut self, is_worn: bool) -> io::Result<Option<World<TreeBacking<R>, Actor>>>
+        ensures { IfOk result (λ world. IfSome world IsNewSite) }
+    {
+        let start = Instant::now(&self.rt)?;
+        if !is_worn && !self.is_time(&start) {
+            return Ok(None);
+        }
+        let renewed = self.source.renew(is_worn);
+        self.next_look = start.checked_add(pause_after(start.elapsed(&self.rt)?));
+        let Some(loaded) = renewed? else {
+            return Ok(None);
+        };
+        if loaded.summary.is_in_memory != self.summary.is_in_memory
+            || loaded.summary.skipped != self.summary.skipped
+        {
+            tell_site(&self.rt, self.root, &loaded.summary);
+        }
+        self.summary = loaded.summary;
+        Ok(Some(loaded.world))
+    }
+}
+
+// The seconds since 1970.
+fn seconds_now<R: Clock>(clock: &R) -> io::Result<u64> {
+    match SystemTime::now(clock)?.duration_since(UNIX_EPOCH) {
+        Ok(since) => Ok(since.as_secs()),
+        Err(_) => Ok(0),
+    }
+}
+
+// The pause after a look that took some time.
+fn pause_after(took: Duration) -> Duration {
+    let millis = took.as_millis().min(1_000_000_000) as u64;
+    Duration::from_millis(millis.saturating_mul(PAUSE_LOOKS))
+}
+
+impl<'a, R, W> Service<TreeBacking<R>, Actor> for SiteService<'a, R, W>
+where
+    R: Files + Clock + Eprint + AllocGlobal + Clone + Drop,
+    W: Write + Drop,
+{
+    ghost use Rattle.flash_site.specs.World.{IsNewSite};
+
+    ghost starts = { IsNewSite };
+
+    fn frame(&self, bytes: &[u8]) -> Frame {
+        frame_of(bytes)
+    }
+
+    fn progress(&self, exchange: &Exchange<'_>) -> Progress {
+        progress_of(exchange)
+    }
+
+    fn record(&mut self, exchange: &Exchange<'_>) {
+        let _ = self.log(exchange);
+    }
+
+    fn renew(&mut self, is_worn: bool) -> Option<World<TreeBacking<R>, Actor>> {
+        self.flush();
+        match self.look(is_worn) {
+            Ok(world) => world,
+            Err(_) => None,
+        }
+    }
+}

@@ -1,0 +1,75 @@
+-- A world that serves, one step after another.
+use Rattle.std.proofs.Common.{◌≡◌, ◌∙◌, ℕ, Bool, List, [], ◌∷◌, ◌++◌, refl}
+use Rattle.std.proofs.Math.Logic.{∥∥₁_map}
+use Rattle.iol_back.specs.Disk.{IfHonest}
+use Rattle.iol_core.specs.State.{State}
+use Rattle.iol_core.specs.declared.events.Event.TheVariants as event
+use Rattle.iol_core.specs.declared.events.Reply.{Reply}
+use Rattle.iol_system.specs.Machine.{SystemState}
+use Rattle.iol_proc.specs.Laws.{KeepsHonesty}
+use Rattle.iol_proc.specs.Turns.{Account}
+use Rattle.iol_proc.specs.World.{Stage, copied, copying, OutsideStep}
+use Rattle.iol_proc.specs.declared.choice.Choice.{Choice}
+use Rattle.iol_proc.specs.declared.choice.Choice.TheVariants as choice
+use Rattle.iol_proc.proofs.Streams.{runs_follow}
+use Rattle.iol_serve.specs.Service.{IsOn, AreOn, GoesOn}
+use Rattle.iol_reactor.specs.Serving.{IsServing, AreServing, Continues, HasServed}
+
+serving_on : (pool c : ℕ) (x : Choice) → IsOn c x → IsServing pool x
+serving_on pool c (choice.Turn by) on = tt
+serving_on pool c (choice.Outside (event.Arrive d bytes)) on = tt
+serving_on pool c (choice.Outside (event.PeerClosed d how)) on = tt
+serving_on pool c (choice.Outside (event.Transmit d max)) on = tt
+serving_on pool c (choice.Outside (event.ConnNew p)) on = absurd on
+serving_on pool c (choice.Outside (event.Call d k)) on = absurd on
+serving_on pool c (choice.Outside event.Flush) on = absurd on
+serving_on pool c (choice.Outside event.DropClean) on = absurd on
+
+serving_all : (pool c : ℕ) (xs : List Choice) → AreOn c xs → AreServing pool xs
+serving_all pool c [] on = tt
+serving_all pool c (x ∷ xs) on = (serving_on pool c x on.0, serving_all pool c xs on.1)
+
+serving-append : (pool : ℕ) (xs ys : List Choice) → AreServing pool xs → AreServing pool ys → AreServing pool (xs ++ ys)
+serving-append pool [] ys first next = next
+serving-append pool (x ∷ xs) ys first next = (first.0, serving-append pool xs ys first.1 next)
+
+module _ {P : Type 0} (turns : Account P) where
+  continues_none : (pool : ℕ) (w : Stage State P) → Continues turns pool w w
+  continues_none pool w = record { choices = []; replies = []; run = refl; serving = tt }
+
+  continues_then : (pool : ℕ) (w mid after : Stage State P) → Continues turns pool w mid → Continues turns pool mid after → Continues turns pool w after
+  continues_then pool w mid after a b = record {
+    choices = a.choices ++ b.choices;
+    replies = a.replies ++ b.replies;
+    run = runs_follow copying turns w mid after a.choices b.choices a.replies b.replies a.run b.run;
+    serving = serving-append pool a.choices b.choices a.serving b.serving;
+  }
+
+  pub continues_same : (pool : ℕ) (w after : Stage State P) → after ≡ w → Continues turns pool w after
+  continues_same pool w after same = record { choices = []; replies = []; run = same; serving = tt }
+
+  pub continues_on : (pool c : ℕ) (came sent : List ℕ) (gone : Bool) (w after : Stage State P) → GoesOn turns c came sent gone w after → Continues turns pool w after
+  continues_on pool c came sent gone w after g = record { choices = g.choices; replies = g.replies; run = g.run; serving = serving_all pool c g.choices g.alone }
+
+  pub continues_new : (pool : ℕ) (r : Reply) (w after : Stage State P) → OutsideStep copying turns w (event.ConnNew pool) r after → Continues turns pool w after
+  continues_new pool r w after step = record { choices = choice.Outside (event.ConnNew pool) ∷ []; replies = r ∷ []; run = (after, step, refl); serving = (refl, tt) }
+
+  served_first : (starts : Stage SystemState P → Type 0) (pool : ℕ) (w : Stage SystemState P) → starts w → HasServed turns starts pool w
+  served_first starts pool w started = record { begun = w; started = started; honest = record { same = refl }; continues = λ honest. continues_none pool (copied w) }
+
+  served_next : (starts : Stage SystemState P → Type 0) (pool : ℕ) (w after : Stage SystemState P) → KeepsHonesty w.machine after.machine
+      → IfHonest w.machine.disk (Continues turns pool (copied w) (copied after)) → HasServed turns starts pool w → HasServed turns starts pool after
+  served_next starts pool w after kept next h = record {
+    begun = h.begun;
+    started = h.started;
+    honest = record { same = kept.same ∙ h.honest.same };
+    continues = λ honest. continues_then pool (copied h.begun) (copied w) (copied after) (h.continues honest) (next (h.honest.same ∙ honest));
+  }
+
+  -- the same, of a fact that only holds
+  pub began : (starts : Stage SystemState P → Type 0) (pool : ℕ) (w : Stage SystemState P) → starts w → ∥ HasServed turns starts pool w ∥₁
+  began starts pool w started = ∣ served_first starts pool w started ∣₁
+
+  pub goes_on : (starts : Stage SystemState P → Type 0) (pool : ℕ) (w after : Stage SystemState P) → KeepsHonesty w.machine after.machine
+      → IfHonest w.machine.disk (Continues turns pool (copied w) (copied after)) → ∥ HasServed turns starts pool w ∥₁ → ∥ HasServed turns starts pool after ∥₁
+  goes_on starts pool w after kept next h = ∥∥₁_map h (served_next starts pool w after kept next)

@@ -1,0 +1,10 @@
+use Rattle.std.proofs.Common.{ap}
+use Rattle.iol_serve.proofs.Drains.{sends_drained, sends_refused}
+use Rattle.iol_reactor.proofs.steps.collect.Goals as goal
+
+pub returns-in-Ok-clause-alone : goal.returns-in-Ok-clause-alone
+returns-in-Ok-clause-alone g c = sends_drained g.P.Process.turns c.args.conn _ _ _ c.args.world.now c.drain_to.new.self c.in-Ok.ensures.copied c.in-Ok.ensures.system.drains.written
+
+pub returns-in-Err-clause-alone : goal.returns-in-Err-clause-alone
+returns-in-Err-clause-alone g c = sends_refused g.P.Process.turns c.args.conn _ _ c.args.world.now c.drain_to.new.self (ap g.W.Write.contents c.in-Err.ensures.system.refuses.err_writer)
+    (λ i. record { machine = c.in-Err.ensures.system.refuses.err i; seats = c.in-Err.ensures.seats i; rough = c.in-Err.ensures.rough i })

@@ -1,0 +1,23 @@
+-- How many clients are accepted.
+use Rattle.std.specs.Prelude.{◌≡◌, ◌≤◌, ◌+◌, ℕ, ⊤, Option, None, Some, MatchResult, Result}
+
+-- A listener gives one more client at `Ok`, and none at `Err`, where it is known how many it gave.
+abbrev pub Counts : {A E : Type 0} → (given now : Option ℕ) → Result A E → Type 0
+Counts None now r = ⊤
+Counts (Some n) None r = ⊥
+Counts (Some n) (Some m) r = MatchResult r (λ _. m ≡ n + 1) (λ _. m ≡ n)
+
+-- Where it is known how many clients a listener gave, and how many it may still give: it gave no more than those by which the
+-- number that it may still give has fallen, and that number is still known.
+abbrev pub StaysWithin : (given left now now_left : Option ℕ) → Type 0
+StaysWithin given None now now_left = ⊤
+StaysWithin None (Some left) now now_left = ⊤
+StaysWithin (Some n) (Some left) None now_left = ⊥
+StaysWithin (Some n) (Some left) (Some m) None = ⊥
+StaysWithin (Some n) (Some left) (Some m) (Some rest) = m + rest ≤ n + left
+
+-- The number of clients that may still be accepted falls by one, if it is limited.
+abbrev pub Falls : (left now : Option ℕ) → Type 0
+Falls None now = now ≡ None
+Falls (Some n) None = ⊥
+Falls (Some n) (Some m) = m + 1 ≡ n

@@ -1,0 +1,48 @@
+-- What happens to a world that serves clients.
+use Rattle.std.specs.Prelude.{◌≡◌, ℕ, List, [], ◌∷◌, Some, None, false}
+use Rattle.iol_back.specs.Disk.{IfHonest}
+use Rattle.iol_core.specs.State.{State}
+use Rattle.iol_core.specs.declared.events.Event.TheVariants as event
+use Rattle.iol_core.specs.declared.events.Reply.{Reply}
+use Rattle.iol_system.specs.Machine.{SystemState}
+use Rattle.iol_proc.specs.Laws.{KeepsHonesty}
+use Rattle.iol_proc.specs.Turns.{Account}
+use Rattle.iol_proc.specs.World.{Stage, copied, copying, WorldRun}
+use Rattle.iol_serve.specs.Service.{Serves}
+use Rattle.iol_proc.specs.declared.choice.Choice.{Choice}
+use Rattle.iol_proc.specs.declared.choice.Choice.TheVariants as choice
+
+-- A turn of a process, or an event on a connection: one of this pool is made, bytes arrive, the peer closes it, bytes are sent.
+-- It is never a call from outside.
+abbrev pub IsServing : (pool : ℕ) → Choice → Type 0
+IsServing pool (choice.Turn by) = Unit {0}
+IsServing pool (choice.Outside (event.ConnNew p)) = p ≡ pool
+IsServing pool (choice.Outside (event.Arrive c bytes)) = Unit {0}
+IsServing pool (choice.Outside (event.PeerClosed c how)) = Unit {0}
+IsServing pool (choice.Outside (event.Transmit c max)) = Unit {0}
+IsServing pool (choice.Outside e) = ⊥
+
+abbrev pub AreServing : (pool : ℕ) → List Choice → Type 0
+AreServing pool [] = Unit {0}
+AreServing pool (x ∷ xs) = IsServing pool x × AreServing pool xs
+
+module _ {P : Type 0} (turns : Account P) where
+  -- From w, processes have turns and connections are served.
+  pub record Continues (pool : ℕ) (w after : Stage State P) : Type 0 where
+    pub choices : List Choice
+    pub replies : List Reply
+    pub run : WorldRun copying turns w choices replies after
+    pub serving : AreServing pool choices
+
+  -- This world began as one of those that may serve. Since then, where the store is honest, processes had turns and connections
+  -- were served, as the copying machine has it.
+  pub record HasServed (starts : Stage SystemState P → Type 0) (pool : ℕ) (w : Stage SystemState P) : Type 0 where
+    pub begun : Stage SystemState P
+    pub started : starts begun
+    pub honest : KeepsHonesty begun.machine w.machine
+    pub continues : IfHonest begun.machine.disk (Continues pool (copied begun) (copied w))
+
+-- The first of these bytes arrive on a connection, where the store is honest, and the rest remains.
+abbrev pub ArrivesIn : {P : Type 0} → Account P → (c : ℕ) (bytes rest : List ℕ) (w after : Stage SystemState P) → Type 0
+ArrivesIn turns c bytes rest w after = IfHonest w.machine.disk
+    (Serves turns c false (Some bytes) (Some rest) None None (copied w) (copied after))

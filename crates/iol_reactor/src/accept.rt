@@ -1,0 +1,141 @@
+//! The clients that are accepted.
+ghost use Rattle.std.specs.Prelude.{◌≡◌, ◌≢◌, ℕ, Option, Some, None, true};
+ghost use Rattle.iol_reactor.specs.Accepting.{Counts, Falls, StaysWithin};
+
+use crate::limits::ACCEPT_MILLIS;
+use mio::net::{TcpListener, TcpStream};
+use std::io;
+use std::io::ErrorKind;
+use std::net::SocketAddr;
+
+/// What gives clients, and never blocks: where none waits it fails with `WouldBlock`.
+pub trait Listener<S> {
+    /// The number of clients that it gave, where that is known. Of a listener of the system it is not.
+    ghost given: { Self → Option ℕ } = { λ listener. None };
+
+    /// The next client.
+    fn accept_next(&mut self) -> io::Result<(S, SocketAddr)>
+        ensures { Counts (given self.old) (given self.new) result };
+}
+
+impl Listener<TcpStream> for TcpListener {
+    fn accept_next(&mut self) -> io::Result<(TcpStream, SocketAddr)> {
+        self.accept()
+    }
+}
+
+/// A listener, and how many clients may still be accepted.
+#[derive(Drop)]
+pub struct Acceptor<L> {
+    pub listener: L,
+
+    /// Any number, if it is none.
+    pub left: Option<u32>,
+
+    // Whether a client may wait to be accepted, and when one is accepted again after a failure.
+    is_open: bool,
+    open_at: Option<u64>,
+}
+
+impl<L> Acceptor<L> {
+    /// A listener on which a client may wait.
+    pub fn new(listener: L, left: Option<u32>) -> Acceptor<L>
+        ensures listener { result.listener ≡ listener }
+        ensures left { result.left ≡ left }
+    {
+        Acceptor {
+            listener,
+            left,
+            is_open: true,
+            open_at: None,
+        }
+    }
+
+    /// Whether no more clients may be accepted.
+    pub fn is_exhausted(&self) -> bool
+        ensures { result ≡ true → self.now.left ≡ Some 0 }
+    {
+        self.left == Some(0)
+    }
+
+    /// Whether a client may wait to be accepted, and may be accepted.
+    pub fn is_open(&self) -> bool
+        ensures { result ≡ true → self.now.left ≢ Some 0 }
+    {
+        self.is_open && self.left != Some(0)
+    }
+
+    /// When a listener that failed is tried again, if it failed.
+    pub fn open_at(&self) -> Option<u64> {
+        self.open_at
+    }
+
+    /// The listener was reported ready.
+    pub fn open(&mut self)
+        ensures listener { self.new.listener ≡ self.old.listener }
+        ensures left { self.new.left ≡ self.old.left }
+    {
+        self.is_open = true;
+    }
+
+    /// A listener that had failed is tried again once that is due.
+    pub fn reopen(&mut self, now: u64)
+        ensures listener { self.new.listener ≡ self.old.listener }
+        ensures left { self.new.left ≡ self.old.left }
+    {
+        if let Some(at) = self.open_at {
+            if at <= now {
+                self.open_at = None;
+                self.is_open = true;
+            }
+        }
+    }
+
+    /// The next client, if one waits and may be accepted.
+    pub fn accept<S>(&mut self, now: u64) -> Option<(S, SocketAddr)>
+    where
+        L: Listener<S>,
+        ensures { StaysWithin (L.given self.old.listener) self.old.left
+            (L.given self.new.listener) self.new.left }
+    {
+        if !self.is_open() {
+            return None;
+        }
+        match self.listener.accept_next() {
+            Ok(client) => {
+                self.count();
+                Some(client)
+            }
+            Err(e) => {
+                self.refuse(e.kind(), now);
+                None
+            }
+        }
+    }
+
+    // One more was accepted.
+    fn count(&mut self)
+        requires { self.old.left ≢ Some 0 }
+        ensures listener { self.new.listener ≡ self.old.listener }
+        ensures left { Falls self.old.left self.new.left }
+    {
+        if let Some(left) = self.left {
+            self.left = Some(left - 1);
+        }
+    }
+
+    // No client was accepted. One that broke before is no failure of the listener.
+    fn refuse(&mut self, kind: ErrorKind, now: u64)
+        ensures listener { self.new.listener ≡ self.old.listener }
+        ensures left { self.new.left ≡ self.old.left }
+    {
+        match kind {
+            ErrorKind::ConnectionAborted | ErrorKind::Interrupted => {}
+            ErrorKind::WouldBlock => self.is_open = false,
+            _ => {
+                self.is_open = false;
+                self.open_at = Some(now.saturating_add(ACCEPT_MILLIS));
+            }
+        }
+    }
+}

@@ -1,0 +1,279 @@
+//! A client: its socket, its connection of a world, and what is buffered between them.
+use crate::input::{Input, Reading};
+use crate::output::{Output, Sending};
+use crate::service::Exchange;
+use crate::socket::Socket;
+use crate::worlds::Link;
+use std::alloc::Global;
+use std::net::SocketAddr;
+
+/// The reads that drop what a peer sends after the end, between two looks at the other clients.
+const MAX_DROPPED: u32 = 16;
+
+/// What a client does.
+#[derive(Clone, Copy, Debug, PartialEq, Eq)]
+pub enum Phase {
+    /// It has no connection, and no complete request.
+    Parked,
+
+    /// It has a complete request, and waits for a connection.
+    Waiting,
+
+    /// It has a connection, and no request in progress.
+    Quiet,
+
+    /// A request was handed in, at least in part, and its response is not complete.
+    Answering,
+
+    /// The world was told that nothing more comes on its connection, which the processes are to close.
+    Leaving,
+
+    /// The processes have closed its connection. What is left is being sent.
+    Flushing,
+
+    /// All was sent, and its output was ended. Its peer's end is awaited.
+    Closing,
+
+    /// It is to be removed.
+    Over,
+}
+
+/// In which queues of deadlines a client has an entry.
+#[derive(Clone, Copy, Debug, PartialEq, Eq)]
+pub struct Armed {
+    pub head: bool,
+    pub rate: bool,
+    pub drain: bool,
+    pub park: bool,
+}
+
+/// A client on a socket.
+#[derive(Drop)]
+pub struct Client<S> {
+    socket: S,
+    peer: SocketAddr,
+    serial: u64,
+    phase: Phase,
+    link: Option<Link>,
+    input: Input,
+    output: Output,
+
+    /// Whether it is in the list of those that are looked at in the next round, and in that of those whose response is pending.
+    pub is_ready: bool,
+    pub is_pending: bool,
+
+    pub armed: Armed,
+
+    /// When bytes came or were accepted last.
+    last: u64,
+
+    /// Since when a request is incomplete, if one is.
+    pub head_since: Option<u64>,
+
+    /// How many bytes the socket had accepted when its rate was measured last.
+    pub rate_mark: u64,
+}
+
+impl<S: Socket> Client<S> {
+    pub fn new(alloc: Global, socket: S, peer: SocketAddr, serial: u64, now: u64) -> Client<S> {
+        Client {
+            socket,
+            peer,
+            serial,
+            phase: Phase::Parked,
+            link: None,
+            input: Input::new(alloc),
+            output: Output::new(alloc),
+            is_ready: false,
+            is_pending: false,
+            armed: Armed {
+                head: false,
+                rate: false,
+                drain: false,
+                park: false,
+            },
+            last: now,
+            head_since: None,
+            rate_mark: 0,
+        }
+    }
+
+    pub fn socket(&self) -> &S {
+        &self.socket
+    }
+
+    pub fn serial(&self) -> u64 {
+        self.serial
+    }
+
+    pub fn phase(&self) -> Phase {
+        self.phase
+    }
+
+    pub fn set_phase(&mut self, phase: Phase) {
+        self.phase = phase;
+    }
+
+    /// Its connection of a world, if it has one.
+    pub fn link(&self) -> Option<&Link> {
+        self.link.as_ref()
+    }
+
+    /// It has this connection from now on.
+    pub fn set_link(&mut self, link: Link) {
+        self.link = Some(link);
+    }
+
+    /// Its connection, which it has no longer.
+    pub fn take_link(&mut self) -> Option<Link> {
+        self.link.take()
+    }
+
+    /// All of its request was handed in, but for this number of bytes.
+    pub fn give(&mut self, left: usize) {
+        self.input.give(left);
+    }
+
+    /// The number of bytes that the socket accepted.
+    pub fn accepted(&self) -> u64 {
+        self.output.accepted()
+    }
+
+    /// Whether the socket accepted no more when it was last written to.
+    pub fn is_blocked(&self) -> bool {
+        self.output.is_blocked()
+    }
+
+    /// For how long nothing has moved.
+    pub fn silence(&self, now: u64) -> u64 {
+        now.saturating_sub(self.last)
+    }
+
+    /// Its socket was reported ready. Whether it is to be looked at.
+    pub fn note(&mut self, reads: bool, ends: bool, writes: bool) -> bool {
+        self.input.note(reads, ends);
+        let was_awaited = writes && self.output.unblock();
+        reads || ends || was_awaited
+    }
+
+    /// Whether a read may bring something that there is room for.
+    pub fn may_read(&self) -> bool {
+        self.input.may_read()
+    }
+
+    /// Whether the peer's end was read.
+    pub fn is_ended(&self) -> bool {
+        self.input.is_ended()
+    }
+
+    /// Whether no request is in progress, and there are bytes of a next one, or its end.
+    pub fn has_next(&self) -> bool {
+        !self.input.next().is_empty() || self.input.may_read() || self.input.is_ended()
+    }
+
+    /// Reads once. False: the socket failed, or there was no memory.
+    pub fn read(&mut self, piece: &mut [u8], now: u64) -> bool {
+        match self.input.read_from(&mut self.socket, piece) {
+            Reading::Bytes(_) => {
+                self.last = now;
+                true
+            }
+            Reading::Empty | Reading::End => true,
+            Reading::Failed => false,
+        }
+    }
+
+    /// The bytes after the request in progress.
+    pub fn next(&self) -> &[u8] {
+        self.input.next()
+    }
+
+    /// Its first bytes are a request, whose response begins.
+    pub fn begin(&mut self, length: usize) {
+        self.input.begin(length);
+        self.output.begin();
+        self.head_since = None;
+    }
+
+    /// Whether the rest of a request is awaited.
+    pub fn is_awaited(&self) -> bool {
+        self.head_since.is_some()
+    }
+
+    /// Whether all of its request was handed in.
+    pub fn is_given(&self) -> bool {
+        self.input.is_given()
+    }
+
+    /// The bytes of its request that were not handed in.
+    pub fn rest(&self) -> &[u8] {
+        self.input.rest()
+    }
+
+    /// Writes what is left, as far as the socket accepts it.
+    pub fn flush(&mut self, now: u64) -> Sending {
+        let before = self.output.accepted();
+        let sending = self.output.flush(&mut self.socket);
+        if self.output.accepted() > before {
+            self.last = now;
+        }
+        sending
+    }
+
+    /// Writes bytes of the response, as far as the socket accepts them, and keeps the rest.
+    pub fn send(&mut self, bytes: &[u8], now: u64) -> Sending {
+        self.last = now;
+        self.output.send(&mut self.socket, bytes)
+    }
+
+    /// Whether the response has begun.
+    pub fn has_begun(&self) -> bool {
+        self.output.produced() > 0
+    }
+
+    /// The request and the response so far.
+    pub fn exchange(&self, complete: bool) -> Exchange<'_> {
+        Exchange {
+            peer: self.peer,
+            request: self.input.request(),
+            head: self.output.head(),
+            tail: self.output.tail(),
+            produced: self.output.produced(),
+            sent: self.output.sent(),
+            complete,
+        }
+    }
+
+    /// Whether a request is in progress.
+    pub fn is_asking(&self) -> bool {
+        self.input.is_asking()
+    }
+
+    /// The response is complete, or given up.
+    pub fn finish(&mut self, now: u64) {
+        self.input.finish();
+        self.last = now;
+    }
+
+    /// Ends the output. False: the socket failed.
+    pub fn end_output(&mut self) -> bool {
+        self.socket.end_output().is_ok()
+    }
+
+    /// Whether a read may bring something.
+    pub fn is_readable(&self) -> bool {
+        self.input.is_readable()
+    }
+
+    /// Reads and drops what comes, a bounded number of times. True: the peer's end came, or the socket failed.
+    pub fn drop_input(&mut self, piece: &mut [u8]) -> bool {
+        for _ in 0..MAX_DROPPED {
+            match self.input.drop_from(&mut self.socket, piece) {
+                Reading::Bytes(_) => {}
+                Reading::Empty => return false,
+                Reading::End | Reading::Failed => return true,
+            }
+        }
+        false
+    }
+}

@@ -1,0 +1,216 @@
+//! One client's exchange with its world: its request goes in, its response comes out.
+use crate::client::{Client, Phase};
+use crate::outbox::Outbox;
+use crate::output::Sending;
+use crate::service::{Progress, Service};
+use crate::socket::Socket;
+use crate::steps::QUEUE;
+use crate::worlds::Worlds;
+use iol_back::backing::Backing;
+use iol_proc::process::Process;
+
+/// What follows for a client that was looked at.
+#[derive(Clone, Copy, Debug, PartialEq, Eq)]
+pub enum Step {
+    /// There may be more to do at once.
+    Again,
+
+    /// Its response is pending: it is looked at whenever the processes had turns.
+    Pending,
+
+    /// There is nothing to do until its socket is reported ready, or a deadline.
+    Rests,
+
+    /// It is to be removed.
+    Over,
+}
+
+/// What a round knows of the moment.
+#[derive(Clone, Copy)]
+pub struct Moment {
+    pub now: u64,
+
+    /// Whether all processes are idle.
+    pub is_idle: bool,
+}
+
+/// Hands in more of a client's request. False: there is no room for all of it now.
+pub fn hand_in<S: Socket, B: Backing + Drop, P: Process, V: Service<B, P>>(
+    worlds: &mut Worlds<B, P, V>,
+    client: &mut Client<S>,
+) -> bool {
+    let Some(link) = client.link() else {
+        return true;
+    };
+    let left = worlds.hand_in(link, client.rest()).len();
+    let is_over = left > 0 && worlds.is_over(link);
+    client.give(left);
+    left == 0 || is_over
+}
+
+/// Sends what the world has for a client that has a connection, as far as its socket accepts it.
+pub fn answer<S: Socket, B: Backing + Drop, P: Process, V: Service<B, P>>(
+    worlds: &mut Worlds<B, P, V>,
+    outbox: &mut Outbox,
+    client: &mut Client<S>,
+    service: &mut V,
+    moment: Moment,
+) -> Step {
+    match client.flush(moment.now) {
+        Sending::All => {}
+        Sending::Blocked => return Step::Rests,
+        Sending::Failed => return abandon(worlds, client, service),
+    }
+    outbox.clear();
+    let Some(taken) = collect(worlds, outbox, client) else {
+        return ended(worlds, client, service, moment.now);
+    };
+    if taken > 0 {
+        match client.send(outbox.bytes(), moment.now) {
+            Sending::All => {}
+            Sending::Blocked => return Step::Rests,
+            Sending::Failed => return abandon(worlds, client, service),
+        }
+    }
+    if taken >= QUEUE {
+        return Step::Again;
+    }
+    if is_over(worlds, client) {
+        return ended(worlds, client, service, moment.now);
+    }
+    if is_complete(client, service, moment.is_idle) {
+        complete(client, service, moment.now);
+        return next_step(client);
+    }
+    Step::Pending
+}
+
+// Moves what a client's connection has to send into the outbox: how many bytes, or none if the processes have closed it.
+fn collect<S: Socket, B: Backing + Drop, P: Process, V: Service<B, P>>(
+    worlds: &mut Worlds<B, P, V>,
+    outbox: &mut Outbox,
+    client: &Client<S>,
+) -> Option<u32> {
+    let link = client.link()?;
+    worlds.collect(link, outbox)
+}
+
+// Whether the processes have closed a client's connection.
+fn is_over<S: Socket, B: Backing + Drop, P: Process, V: Service<B, P>>(
+    worlds: &mut Worlds<B, P, V>,
+    client: &Client<S>,
+) -> bool {
+    match client.link() {
+        Some(link) => worlds.is_over(link),
+        None => true,
+    }
+}
+
+// Whether a response is complete, all of which so far was sent.
+fn is_complete<S: Socket, B: Backing + Drop, P: Process, V: Service<B, P>>(
+    client: &Client<S>,
+    service: &V,
+    is_idle: bool,
+) -> bool {
+    if client.phase() != Phase::Answering || !client.has_begun() || !client.is_given() {
+        return false;
+    }
+    if is_idle {
+        return true;
+    }
+    matches!(service.progress(&client.exchange(true)), Progress::Complete)
+}
+
+// A response was sent whole: the client is quiet, and its next request may be handed in.
+fn complete<S: Socket, B: Backing + Drop, P: Process, V: Service<B, P>>(
+    client: &mut Client<S>,
+    service: &mut V,
+    now: u64,
+) {
+    service.record(&client.exchange(true));
+    client.finish(now);
+    client.set_phase(Phase::Quiet);
+}
+
+// What follows for a client whose response is complete.
+fn next_step<S: Socket>(client: &Client<S>) -> Step {
+    if client.has_next() {
+        Step::Again
+    } else {
+        Step::Rests
+    }
+}
+
+// The world has closed a client's connection, and all that it sent on it was written.
+fn ended<S: Socket, B: Backing + Drop, P: Process, V: Service<B, P>>(
+    worlds: &mut Worlds<B, P, V>,
+    client: &mut Client<S>,
+    service: &mut V,
+    now: u64,
+) -> Step {
+    if let Some(link) = client.take_link() {
+        worlds.release(link);
+    }
+    let was_leaving = client.phase() == Phase::Leaving;
+    if client.is_asking() {
+        service.record(&client.exchange(true));
+        client.finish(now);
+    }
+    if was_leaving && !client.is_ended() {
+        client.set_phase(Phase::Parked);
+        return next_step(client);
+    }
+    client.set_phase(Phase::Flushing);
+    Step::Again
+}
+
+/// A client's socket failed, or it broke a limit: nothing more is handed in or sent.
+pub fn abandon<S: Socket, B: Backing + Drop, P: Process, V: Service<B, P>>(
+    worlds: &mut Worlds<B, P, V>,
+    client: &mut Client<S>,
+    service: &mut V,
+) -> Step {
+    if let Some(link) = client.take_link() {
+        worlds.hang_up(&link);
+        worlds.release(link);
+    }
+    if client.is_asking() {
+        service.record(&client.exchange(false));
+    }
+    client.set_phase(Phase::Over);
+    Step::Over
+}
+
+/// A quiet client gives back its connection: the world is told that nothing more comes on it.
+pub fn leave<S: Socket, B: Backing + Drop, P: Process, V: Service<B, P>>(
+    worlds: &mut Worlds<B, P, V>,
+    client: &mut Client<S>,
+) {
+    if let Some(link) = client.link() {
+        worlds.close(link);
+    }
+    client.set_phase(Phase::Leaving);
+}
+
+/// A client without a connection ends: what is left is sent, its output is ended, and its peer's end is awaited.
+pub fn close<S: Socket>(client: &mut Client<S>, piece: &mut [u8], now: u64) -> Step {
+    match client.flush(now) {
+        Sending::All => {}
+        Sending::Blocked => return Step::Rests,
+        Sending::Failed => return Step::Over,
+    }
+    if client.phase() == Phase::Flushing {
+        client.set_phase(Phase::Closing);
+        if !client.end_output() {
+            return Step::Over;
+        }
+    }
+    if client.is_ended() || client.drop_input(piece) {
+        return Step::Over;
+    }
+    if client.is_readable() {
+        Step::Again
+    } else {
+        Step::Rests
+    }
+}

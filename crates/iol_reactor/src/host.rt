@@ -1,0 +1,97 @@
+//! A world that serves clients.
+ghost use Rattle.std.specs.Prelude.{◌≡◌, [], true, false};
+ghost use Rattle.iol_proc.specs.Prelude.{copied};
+ghost use Rattle.iol_serve.specs.Service.{GoesOnIn, SendsIn};
+ghost use Rattle.iol_reactor.specs.Serving.{ArrivesIn, HasServed};
+
+use crate::service::Service;
+use crate::steps;
+use iol_back::backing::Backing;
+use iol_core::events::{Event, Reply};
+use iol_core::numbers::{ConnId, PoolId};
+use iol_proc::process::Process;
+use iol_proc::world::World;
+use std::io::Write;
+use std::marker::PhantomData;
+
+/// A world of a service, and the pool that takes what arrives. Since it began, nothing has happened to it but turns of its
+/// processes and events on connections.
+#[derive(Drop)]
+pub struct Host<B: Backing, P: Process, V: Service<B, P>> {
+    pool: PoolId,
+    world: World<B, P>,
+    service: PhantomData<V>,
+    ghost served: { ∥ HasServed P.turns V.starts pool world ∥₁ },
+}
+
+impl<B: Backing + Drop, P: Process, V: Service<B, P>> Host<B, P, V> {
+    /// A world that has served nobody yet.
+    pub fn new(world: World<B, P>, pool: PoolId) -> Host<B, P, V>
+        requires { V.starts world }
+    {
+        Host {
+            pool,
+            world,
+            service: PhantomData,
+        }
+    }
+
+    /// The world.
+    pub fn world(&self) -> &World<B, P>
+        ensures served { ∥ HasServed P.turns V.starts self.now.pool result.now ∥₁ }
+    {
+        &self.world
+    }
+
+    /// A new connection, if there is a place for it.
+    pub fn connect(&mut self) -> Option<ConnId> {
+        let pool = self.pool;
+        let reply = self.world.step_outside(Event::ConnNew { pool });
+        match &reply {
+            Reply::Conn(conn) => Some(*conn),
+            _ => None,
+        }
+    }
+
+    /// Gives turns to the processes until all are idle, but at most this number: whether all are.
+    pub fn until_idle(&mut self, turns: usize) -> bool {
+        self.world.until_idle(turns)
+    }
+
+    /// The peer of a connection sends no more.
+    pub fn close(&mut self, conn: ConnId)
+        ensures alone { GoesOnIn P.turns conn [] [] false self.old.world self.new.world }
+    {
+        steps::close(&mut self.world, conn);
+    }
+
+    /// The peer of a connection is gone.
+    pub fn hang_up(&mut self, conn: ConnId)
+        ensures alone { GoesOnIn P.turns conn [] [] true self.old.world self.new.world }
+    {
+        steps::hang_up(&mut self.world, conn);
+    }
+
+    /// Whether the processes have closed a connection, or it never was.
+    pub fn is_over(&mut self, conn: ConnId) -> bool
+        ensures same { copied self.new.world ≡ copied self.old.world }
+    {
+        steps::is_over(&mut self.world, conn)
+    }
+
+    /// Bytes arrive on a connection, as many as there is room for: those for which there is none.
+    pub fn hand_in<'a>(&mut self, conn: ConnId, bytes: &'a [u8]) -> &'a [u8]
+        ensures alone { ArrivesIn P.turns conn bytes.now result.now self.old.world self.new.world }
+    {
+        steps::hand_in(&mut self.world, conn, bytes)
+    }
+
+    /// Sends what a connection has to send to a writer, at most a whole queue: how many bytes, or none if the processes have
+    /// closed it.
+    pub fn collect<W: Write>(&mut self, conn: ConnId, writer: &mut W) -> Option<u32>
+        ensures alone { SendsIn P.turns conn W.contents writer.old writer.new self.old.world
+            self.new.world }
+    {
+        steps::collect(&mut self.world, conn, writer)
+    }
+}

@@ -1,0 +1,179 @@
+//! The bytes that a client sent and that the world has not answered yet.
+ghost use Rattle.std.specs.Prelude.{◌≡◌, ◌≢◌, ◌++◌};
+ghost use Rattle.iol_reactor.specs.Bytes.{Gains};
+
+use crate::limits::MAX_BUFFERED;
+use crate::socket::Socket;
+use std::alloc::{AllocError, Global};
+use std::io::ErrorKind;
+
+/// A buffer that is empty and larger than this is given back.
+const MAX_KEPT: usize = 4_096;
+
+/// How a read went.
+#[derive(Clone, Copy, Debug, PartialEq, Eq)]
+pub enum Reading {
+    /// This number of bytes came.
+    Bytes(usize),
+
+    /// The socket has nothing now.
+    Empty,
+
+    /// The peer sends no more.
+    End,
+
+    /// The socket failed, or there was no memory for the bytes.
+    Failed,
+}
+
+/// The request in progress, if there is one, and the bytes that follow it.
+#[derive(Drop)]
+pub struct Input {
+    alloc: Global,
+    bytes: Vec<u8>,
+
+    // The length of the request in progress, which is at the front of `bytes`; 0 if there is none. And how much of it was handed in.
+    asked: usize,
+    given: usize,
+
+    // Whether the socket may have bytes, and whether the peer's end is behind them.
+    readable: bool,
+    ending: bool,
+
+    // Whether the peer's end was read.
+    ended: bool,
+}
+
+impl Input {
+    pub fn new(alloc: Global) -> Input {
+        Input {
+            alloc,
+            bytes: Vec::new(alloc),
+            asked: 0,
+            given: 0,
+            readable: false,
+            ending: false,
+            ended: false,
+        }
+    }
+
+    /// The socket was reported readable, or at its peer's end.
+    pub fn note(&mut self, reads: bool, ends: bool) {
+        self.readable |= reads;
+        self.ending |= ends;
+    }
+
+    /// Whether the peer's end was read.
+    pub fn is_ended(&self) -> bool {
+        self.ended
+    }
+
+    /// Whether a read may bring something.
+    pub fn is_readable(&self) -> bool {
+        (self.readable || self.ending) && !self.ended
+    }
+
+    /// Whether a read may bring something, and there is room for it.
+    pub fn may_read(&self) -> bool {
+        self.is_readable() && self.bytes.len() < MAX_BUFFERED
+    }
+
+    /// Reads once, behind what is buffered.
+    pub fn read_from<S: Socket>(&mut self, socket: &mut S, piece: &mut [u8]) -> Reading
+        ensures { result ≢ Reading.Failed → Gains (S.remaining socket.old)
+            (S.remaining socket.new) self.old.bytes.items self.new.bytes.items }
+    {
+        let room = piece.len();
+        match socket.read(piece) {
+            Ok(0) => {
+                self.ended = true;
+                Reading::End
+            }
+            Ok(count) => self.append(&piece[..count], room),
+            Err(e) if e.kind() == ErrorKind::WouldBlock => {
+                self.readable = false;
+                self.ending = false;
+                Reading::Empty
+            }
+            Err(e) if e.kind() == ErrorKind::Interrupted => Reading::Bytes(0),
+            Err(_) => Reading::Failed,
+        }
+    }
+
+    /// Reads once, and drops what came.
+    pub fn drop_from<S: Socket>(&mut self, socket: &mut S, piece: &mut [u8]) -> Reading {
+        match socket.read(piece) {
+            Ok(0) => Reading::End,
+            Ok(count) => Reading::Bytes(count),
+            Err(e) if e.kind() == ErrorKind::WouldBlock => {
+                self.readable = false;
+                self.ending = false;
+                Reading::Empty
+            }
+            Err(e) if e.kind() == ErrorKind::Interrupted => Reading::Bytes(0),
+            Err(_) => Reading::Failed,
+        }
+    }
+
+    // Keeps the bytes of a read of at most `room` bytes. A short read has emptied the socket, unless the peer's end is behind it.
+    fn append(&mut self, bytes: &[u8], room: usize) -> Reading
+        ensures { result ≢ Reading.Failed →
+            self.new.bytes.items ≡ self.old.bytes.items ++ bytes.now }
+    {
+        if bytes.len() < room {
+            self.readable = self.ending;
+        }
+        match self.bytes.extend_from_slice(bytes) {
+            Ok(()) => Reading::Bytes(bytes.len()),
+            Err(AllocError) => Reading::Failed,
+        }
+    }
+
+    /// Whether a request is in progress.
+    pub fn is_asking(&self) -> bool {
+        self.asked > 0
+    }
+
+    /// Whether all of the request in progress was handed in.
+    pub fn is_given(&self) -> bool {
+        self.given >= self.asked
+    }
+
+    /// The request in progress.
+    pub fn request(&self) -> &[u8] {
+        &self.bytes[..self.asked.min(self.bytes.len())]
+    }
+
+    /// The bytes of the request in progress that were not handed in.
+    pub fn rest(&self) -> &[u8] {
+        let end = self.asked.min(self.bytes.len());
+        &self.bytes[self.given.min(end)..end]
+    }
+
+    /// The bytes after the request in progress.
+    pub fn next(&self) -> &[u8] {
+        &self.bytes[self.asked.min(self.bytes.len())..]
+    }
+
+    /// The first bytes are a request, which begins now. None is in progress.
+    pub fn begin(&mut self, length: usize) {
+        self.asked = length.min(self.bytes.len());
+        self.given = 0;
+    }
+
+    /// All of the request in progress was handed in, but for this number of bytes.
+    pub fn give(&mut self, left: usize) {
+        self.given = self.asked.saturating_sub(left);
+    }
+
+    /// The request in progress is answered, or given up.
+    pub fn finish(&mut self) {
+        let count = self.asked.min(self.bytes.len());
+        self.bytes.drain(..count);
+        self.asked = 0;
+        self.given = 0;
+        if self.bytes.is_empty() && self.bytes.capacity() > MAX_KEPT {
+            self.bytes = Vec::new(self.alloc);
+        }
+    }
+}

@@ -1,0 +1,75 @@
+//! How many clients there are, and how long each step of a client may take.
+
+/// Limits of a reactor. Times are in milliseconds.
+#[derive(Clone, Copy, Debug, PartialEq, Eq)]
+pub struct Limits {
+    /// The number of clients at once. Others wait in the system's queue of the listener.
+    pub max_clients: usize,
+
+    /// The number of clients that have a connection of a world at once. The others wait for one of them to be quiet.
+    pub live: usize,
+
+    /// A client's request is complete within this time after its first byte, or after the response before it.
+    pub head_millis: u64,
+
+    /// A client is silent between requests for at most this time.
+    pub idle_millis: u64,
+
+    /// A client that has not accepted what is ready for it accepts at least this number of bytes a second, on average over
+    /// `rate_millis`.
+    pub min_rate: u64,
+    pub rate_millis: u64,
+
+    /// After the last byte was sent, the peer's end is awaited for this time.
+    pub drain_millis: u64,
+
+    /// A client that is quiet for this time gives back its connection of the world.
+    pub park_millis: u64,
+
+    /// The service ends when this number of clients has come and gone; never, if it is none.
+    pub stop_after: Option<u32>,
+}
+
+impl Limits {
+    pub const DEFAULT: Limits = Limits {
+        max_clients: 4_096,
+        live: 256,
+        head_millis: 10_000,
+        idle_millis: 60_000,
+        min_rate: 1_024,
+        rate_millis: 20_000,
+        drain_millis: 1_000,
+        park_millis: 2,
+        stop_after: None,
+    };
+}
+
+/// The events that one poll reports at most.
+pub const EVENTS: usize = 256;
+
+/// The turns that the processes have between two looks at the sockets: one or two milliseconds.
+pub const TURNS: usize = 4_096;
+
+/// The bytes of one read.
+pub const READ_BYTES: usize = 16_384;
+
+/// A client that has this number of bytes buffered is not read until a request of it was answered.
+pub const MAX_BUFFERED: usize = 16_384;
+
+/// The first bytes of a response that an [`Exchange`](crate::service::Exchange) shows.
+pub const HEAD_BYTES: usize = 2_048;
+
+/// The last bytes of a response that it shows.
+pub const TAIL_BYTES: usize = 8;
+
+/// After this time a request that found no room in the world is handed in again.
+pub const ROOM_MILLIS: u64 = 5;
+
+/// After this time a listener that failed, as for lack of descriptors, accepts again.
+pub const ACCEPT_MILLIS: u64 = 100;
+
+/// The time between two questions for a new world.
+pub const RENEW_MILLIS: u64 = 1_000;
+
+/// A world whose connections have reached this number is replaced: numbers have 32 bits and are never used again.
+pub const WORN_CONNECTION: u32 = 0xf000_0000;

@@ -1,0 +1,40 @@
+//! Bytes of a connection that are sent together.
+use std::alloc::{AllocError, Global};
+use std::io;
+use std::io::Write;
+
+/// A writer that keeps up to a fixed number of bytes: a head and what follows it are one send.
+#[derive(Drop)]
+pub struct Outbox {
+    bytes: Vec<u8>,
+    most: usize,
+}
+
+impl Outbox {
+    pub fn new(alloc: Global, most: usize) -> Result<Outbox, AllocError> {
+        let bytes = Vec::with_capacity(alloc, most)?;
+        Ok(Outbox { bytes, most })
+    }
+
+    /// The bytes written since the last `clear`.
+    pub fn bytes(&self) -> &[u8] {
+        &self.bytes
+    }
+
+    pub fn clear(&mut self) {
+        self.bytes.clear();
+    }
+}
+
+impl Write for Outbox {
+    fn write(&mut self, buf: &[u8]) -> io::Result<usize> {
+        let room = self.most.saturating_sub(self.bytes.len());
+        let taken = buf.len().min(room);
+        self.bytes.extend_from_slice(&buf[..taken])?;
+        Ok(taken)
+    }
+
+    fn flush(&mut self) -> io::Result<()> {
+        Ok(())
+    }
+}

@@ -1,0 +1,204 @@
+//! The bytes of a response that the world sent and that a client has not accepted yet.
+ghost use Rattle.std.specs.Prelude.{◌≡◌, ◌≢◌, []};
+ghost use Rattle.iol_reactor.specs.Bytes.{Passes};
+
+use crate::limits::{HEAD_BYTES, TAIL_BYTES};
+use crate::socket::Socket;
+use std::alloc::{AllocError, Global};
+use std::io::ErrorKind;
+
+/// The writes that one call makes at most.
+const MAX_WRITES: u32 = 0x1_0000;
+
+/// A buffer that is empty and larger than this is given back.
+const MAX_KEPT: usize = 4_096;
+
+/// How the writing of bytes went.
+#[derive(Clone, Copy, Debug, PartialEq, Eq)]
+pub enum Sending {
+    /// The socket accepted all.
+    All,
+
+    /// The socket accepts no more now.
+    Blocked,
+
+    /// The socket failed, or there was no memory for the rest.
+    Failed,
+}
+
+/// A response in progress: what the socket has not accepted, and what an exchange shows of it.
+#[derive(Drop)]
+pub struct Output {
+    alloc: Global,
+
+    // What the socket has not accepted, from `at` on.
+    left: Vec<u8>,
+    at: usize,
+    is_blocked: bool,
+
+    // Its first and last bytes, and the number of bytes that the world sent and the socket accepted.
+    head: Vec<u8>,
+    tail: [u8; TAIL_BYTES],
+    produced: u64,
+    sent: u64,
+
+    // The number of bytes of all responses that the socket accepted.
+    accepted: u64,
+}
+
+impl Output {
+    pub fn new(alloc: Global) -> Output {
+        Output {
+            alloc,
+            left: Vec::new(alloc),
+            at: 0,
+            is_blocked: false,
+            head: Vec::new(alloc),
+            tail: [0; TAIL_BYTES],
+            produced: 0,
+            sent: 0,
+            accepted: 0,
+        }
+    }
+
+    /// Whether the socket accepted no more when it was last written to.
+    pub fn is_blocked(&self) -> bool {
+        self.is_blocked
+    }
+
+    /// The socket was reported writable: whether that was awaited.
+    pub fn unblock(&mut self) -> bool {
+        let was_blocked = self.is_blocked;
+        self.is_blocked = false;
+        was_blocked
+    }
+
+    /// The first bytes of the response.
+    pub fn head(&self) -> &[u8] {
+        &self.head
+    }
+
+    /// The last bytes of the response.
+    pub fn tail(&self) -> &[u8] {
+        let known = usize::try_from(self.produced).unwrap_or(TAIL_BYTES);
+        &self.tail[TAIL_BYTES.saturating_sub(known)..]
+    }
+
+    /// The number of bytes of the response that the world sent.
+    pub fn produced(&self) -> u64 {
+        self.produced
+    }
+
+    /// The number of bytes of the response that the socket accepted.
+    pub fn sent(&self) -> u64 {
+        self.sent
+    }
+
+    /// The number of bytes of all responses that the socket accepted.
+    pub fn accepted(&self) -> u64 {
+        self.accepted
+    }
+
+    /// A new response begins.
+    pub fn begin(&mut self) {
+        self.head.clear();
+        self.produced = 0;
+        self.sent = 0;
+    }
+
+    /// Writes what is left, as far as the socket accepts it.
+    pub fn flush<S: Socket>(&mut self, socket: &mut S) -> Sending {
+        let waiting = &self.left[self.at.min(self.left.len())..];
+        let count = waiting.len();
+        let (sending, rest) = write_all(socket, waiting);
+        let accepted = count.saturating_sub(rest.len());
+        self.count(accepted);
+        self.at = self.at.saturating_add(accepted);
+        self.is_blocked = sending == Sending::Blocked;
+        if sending == Sending::All && self.at > 0 {
+            self.at = 0;
+            self.left.clear();
+            if self.left.capacity() > MAX_KEPT {
+                self.left = Vec::new(self.alloc);
+            }
+        }
+        sending
+    }
+
+    /// Writes bytes that the world sent, as far as the socket accepts them, and keeps the rest. Nothing is left from before.
+    pub fn send<S: Socket>(&mut self, socket: &mut S, bytes: &[u8]) -> Sending
+        ensures { result ≢ Sending.Failed → Passes (S.contents socket.old)
+            (S.contents socket.new) bytes.now self.new.left.items }
+    {
+        if self.show(bytes).is_err() {
+            return Sending::Failed;
+        }
+        let (sending, rest) = write_all(socket, bytes);
+        self.count(bytes.len().saturating_sub(rest.len()));
+        self.is_blocked = sending == Sending::Blocked;
+        self.at = 0;
+        self.left.clear();
+        if sending == Sending::Blocked && self.left.extend_from_slice(rest).is_err() {
+            return Sending::Failed;
+        }
+        sending
+    }
+
+    // The socket accepted this number of bytes.
+    fn count(&mut self, accepted: usize) {
+        self.sent = self.sent.saturating_add(accepted as u64);
+        self.accepted = self.accepted.saturating_add(accepted as u64);
+    }
+
+    // Keeps what an exchange shows of these bytes.
+    fn show(&mut self, bytes: &[u8]) -> Result<(), AllocError> {
+        let room = HEAD_BYTES.saturating_sub(self.head.len());
+        self.head
+            .extend_from_slice(&bytes[..room.min(bytes.len())])?;
+        self.produced = self.produced.saturating_add(bytes.len() as u64);
+        for byte in &bytes[bytes.len().saturating_sub(TAIL_BYTES)..] {
+            self.tail.rotate_left(1);
+            self.tail[TAIL_BYTES - 1] = *byte;
+        }
+        Ok(())
+    }
+}
+
+// Writes bytes until the socket accepts no more: those that it did not accept.
+fn write_all<'a, S: Socket>(socket: &mut S, bytes: &'a [u8]) -> (Sending, &'a [u8])
+    ensures passes { Passes (S.contents socket.old) (S.contents socket.new) bytes.now result.1.now }
+    ensures all { result.0 ≡ Sending.All → result.1.now ≡ [] }
+{
+    let mut rest = bytes;
+    for _ in 0..MAX_WRITES {
+        if rest.is_empty() {
+            return (Sending::All, rest);
+        }
+        let (sending, left) = write_once(socket, rest);
+        rest = left;
+        if sending != Sending::All {
+            return (sending, rest);
+        }
+    }
+    (Sending::Failed, rest)
+}
+
+// One write: the bytes that it did not accept. `All`: more may be written.
+fn write_once<'a, S: Socket>(socket: &mut S, bytes: &'a [u8]) -> (Sending, &'a [u8])
+    ensures { Passes (S.contents socket.old) (S.contents socket.new) bytes.now result.1.now }
+{
+    match socket.write(bytes) {
+        Ok(0) => (Sending::Failed, bytes),
+        Ok(count) => (Sending::All, &bytes[count..]),
+        Err(e) => (after(e.kind()), bytes),
+    }
+}
+
+// What follows from an error of a write.
+fn after(kind: ErrorKind) -> Sending {
+    match kind {
+        ErrorKind::WouldBlock => Sending::Blocked,
+        ErrorKind::Interrupted => Sending::All,
+        _ => Sending::Failed,
+    }
+}

@@ -1,0 +1,275 @@
+//! The loop: it polls the sockets, accepts clients, and lets the engine work.
+ghost use Rattle.std.specs.Prelude.{◌≡◌, Some, OnOk, true};
+ghost use Rattle.iol_reactor.specs.Accepting.{StaysWithin};
+
+use crate::accept::{Acceptor, Listener};
+use crate::engine::Engine;
+use crate::limits::{EVENTS, Limits, RENEW_MILLIS};
+use crate::service::Service;
+use iol_back::backing::Backing;
+use iol_core::numbers::PoolId;
+use iol_proc::process::Process;
+use iol_proc::world::World;
+use mio::event::Event;
+use mio::net::{TcpListener, TcpStream};
+use mio::{Events, Interest, Poll, Token};
+use std::alloc::{AllocError, Global};
+use std::io;
+use std::io::ErrorKind;
+use std::net::{Net, SocketAddr};
+use std::rt::Clock;
+use std::time::{Duration, Instant};
+
+/// The token of the listener. Those of clients are their places.
+const LISTENER: usize = usize::MAX;
+
+/// A listener, its clients, and the worlds that answer them.
+#[derive(Drop)]
+pub struct Reactor<L, B: Backing, P: Process, V: Service<B, P>> {
+    alloc: Global,
+    poll: Poll,
+    acceptor: Acceptor<L>,
+    engine: Engine<TcpStream, B, P, V>,
+
+    // When the service is asked for a new world.
+    renew_at: u64,
+}
+
+impl<B: Backing + Drop, P: Process, V: Service<B, P>> Reactor<TcpListener, B, P, V> {
+    /// Listens on an address. The bytes that clients send are placed in the pool.
+    pub fn new(
+        net: &impl Net,
+        alloc: Global,
+        address: SocketAddr,
+        pool: PoolId,
+        world: World<B, P>,
+        limits: Limits,
+    ) -> io::Result<Reactor<TcpListener, B, P, V>>
+        requires { V.starts world }
+    {
+        match listen(net, address) {
+            Ok((listener, poll)) => {
+                let acceptor = Acceptor::new(listener, limits.stop_after);
+                Reactor::over(
+                    alloc,
+                    poll,
+                    acceptor,
+                    Engine::new(alloc, pool, world, limits),
+                )
+            }
+            Err(error) => {
+                drop(world);
+                Err(error)
+            }
+        }
+    }
+
+    // A reactor of an engine, if there was memory for that.
+    fn over(
+        alloc: Global,
+        poll: Poll,
+        acceptor: Acceptor<TcpListener>,
+        engine: Result<Engine<TcpStream, B, P, V>, AllocError>,
+    ) -> io::Result<Reactor<TcpListener, B, P, V>> {
+        match engine {
+            Ok(engine) => Ok(Reactor {
+                alloc,
+                poll,
+                acceptor,
+                engine,
+                renew_at: RENEW_MILLIS,
+            }),
+            Err(error) => Err(io::Error::from(error)),
+        }
+    }
+
+    /// The address that it listens on.
+    pub fn local_addr(&self) -> io::Result<SocketAddr> {
+        self.acceptor.listener.local_addr()
+    }
+}
+
+impl<L, B, P, V> Reactor<L, B, P, V>
+where
+    L: Listener<TcpStream>,
+    B: Backing + Drop,
+    P: Process,
+    V: Service<B, P>,
+{
+    /// Serves clients. It returns when the number of clients that `Limits::stop_after` gives have come and gone, or the sockets
+    /// cannot be polled. It never accepts more.
+    pub fn serve(&mut self, clock: &impl Clock, service: &mut V) -> io::Result<()>
+        ensures accepts { StaysWithin (L.given self.old.acceptor.listener) self.old.acceptor.left
+            (L.given self.new.acceptor.listener) self.new.acceptor.left }
+        ensures done { OnOk result (self.new.acceptor.left ≡ Some 0) }
+    {
+        let start = Instant::now(clock)?;
+        let mut events = Events::with_capacity(self.alloc, EVENTS)?;
+        for _ in 0..u64::MAX {
+            if self.is_done() {
+                return Ok(());
+            }
+            self.step(&mut events, &start, clock, service)?;
+        }
+        Err(io::Error::from(ErrorKind::TimedOut))
+    }
+
+    // One poll, and what follows from it.
+    fn step(
+        &mut self,
+        events: &mut Events<Global>,
+        start: &Instant,
+        clock: &impl Clock,
+        service: &mut V,
+    ) -> io::Result<()>
+        ensures { StaysWithin (L.given self.old.acceptor.listener) self.old.acceptor.left
+            (L.given self.new.acceptor.listener) self.new.acceptor.left }
+    {
+        let wait = self.wait();
+        self.poll.poll(events, Some(wait))?;
+        self.engine.set_now(millis_of(start.elapsed(clock)?));
+        self.note_all(events)?;
+        self.turn(service)
+    }
+
+    // Sockets were reported ready.
+    fn note_all(&mut self, events: &Events<Global>) -> io::Result<()>
+        ensures listener { self.new.acceptor.listener ≡ self.old.acceptor.listener }
+        ensures left { self.new.acceptor.left ≡ self.old.acceptor.left }
+    {
+        for event in events {
+            self.note(event)?;
+        }
+        Ok(())
+    }
+
+    // Whether all clients that may be accepted have come and gone.
+    fn is_done(&self) -> bool
+        ensures { result ≡ true → self.now.acceptor.left ≡ Some 0 }
+    {
+        self.acceptor.is_exhausted() && self.engine.count() == 0
+    }
+
+    // Whether a client may wait to be accepted for which there is a place.
+    fn may_accept(&self) -> bool {
+        self.acceptor.is_open() && self.engine.has_place()
+    }
+
+    // How long the sockets are waited for.
+    fn wait(&self) -> Duration {
+        if self.engine.is_busy() || self.may_accept() {
+            return Duration::from_millis(0);
+        }
+        let mut first = self.renew_at;
+        if let Some(at) = self.engine.first_deadline() {
+            first = first.min(at);
+        }
+        if let Some(at) = self.acceptor.open_at() {
+            first = first.min(at);
+        }
+        let now = self.engine.now();
+        if first <= now {
+            return Duration::from_millis(0);
+        }
+        Duration::from_millis(first.saturating_sub(now).saturating_add(1))
+    }
+
+    // A socket was reported ready.
+    fn note(&mut self, event: &Event) -> io::Result<()>
+        ensures listener { self.new.acceptor.listener ≡ self.old.acceptor.listener }
+        ensures left { self.new.acceptor.left ≡ self.old.acceptor.left }
+    {
+        let Token(slot) = event.token();
+        if slot == LISTENER {
+            self.acceptor.open();
+            return Ok(());
+        }
+        let has_failed = event.is_error() || event.is_write_closed();
+        let ends = event.is_read_closed() || has_failed;
+        self.engine
+            .note(slot, event.is_readable(), ends, event.is_writable())?;
+        Ok(())
+    }
+
+    // What is done between two polls.
+    fn turn(&mut self, service: &mut V) -> io::Result<()>
+        ensures { StaysWithin (L.given self.old.acceptor.listener) self.old.acceptor.left
+            (L.given self.new.acceptor.listener) self.new.acceptor.left }
+    {
+        self.accept_all();
+        self.engine.round(service)?;
+        self.engine.expire(service)?;
+        self.renew(service);
+        Ok(())
+    }
+
+    // Accepts those that wait, while there is a place.
+    fn accept_all(&mut self)
+        ensures { StaysWithin (L.given self.old.acceptor.listener) self.old.acceptor.left
+            (L.given self.new.acceptor.listener) self.new.acceptor.left }
+    {
+        let now = self.engine.now();
+        self.acceptor.reopen(now);
+        for _ in 0..EVENTS {
+            if !self.acceptor.is_open() {
+                return;
+            }
+            let Some(slot) = self.engine.vacancy() else {
+                return;
+            };
+            if let Some((stream, peer)) = self.acceptor.accept(now) {
+                self.admit(slot, stream, peer);
+            }
+        }
+    }
+
+    // A client came. One that the system refuses to report on ends at once.
+    fn admit(&mut self, slot: usize, stream: TcpStream, peer: SocketAddr)
+        ensures { self.new.acceptor ≡ self.old.acceptor }
+    {
+        let mut stream = stream;
+        let both = Interest::READABLE | Interest::WRITABLE;
+        let watched = self
+            .poll
+            .registry()
+            .register(&mut stream, Token(slot), both);
+        if watched.is_ok() && stream.set_nodelay(true).is_ok() {
+            self.engine.admit(stream, peer);
+        }
+    }
+
+    // Asks for a new world, once that is due.
+    fn renew(&mut self, service: &mut V)
+        ensures { self.new.acceptor ≡ self.old.acceptor }
+    {
+        let now = self.engine.now();
+        if now < self.renew_at {
+            return;
+        }
+        self.renew_at = now.saturating_add(RENEW_MILLIS);
+        let worlds = self.engine.worlds();
+        if worlds.is_retiring() {
+            return;
+        }
+        match service.renew(worlds.is_worn()) {
+            Some(world) => worlds.renew(world),
+            None => {}
+        }
+    }
+}
+
+// A listener on an address, and a poll that reports it.
+fn listen(net: &impl Net, address: SocketAddr) -> io::Result<(TcpListener, Poll)> {
+    let mut listener = TcpListener::bind(net, address)?;
+    let poll = Poll::new(net)?;
+    poll.registry()
+        .register(&mut listener, Token(LISTENER), Interest::READABLE)?;
+    Ok((listener, poll))
+}
+
+// A time in milliseconds.
+fn millis_of(time: Duration) -> u64 {
+    time.as_secs()
+        .saturating_mul(1000)
+        .saturating_add(u64::from(time.subsec_millis()))
+}

@@ -1,0 +1,78 @@
+//! What a service adds to the event loop: where a request ends, what is recorded, and when the world is replaced.
+ghost use Rattle.std.specs.Prelude.{IfSome};
+ghost use Rattle.iol_proc.specs.World.{Stage};
+ghost use Rattle.iol_system.specs.Machine.{SystemState};
+
+use iol_back::backing::Backing;
+use iol_proc::process::Process;
+use iol_proc::world::World;
+use std::net::SocketAddr;
+
+/// The first request of some bytes.
+#[derive(Clone, Copy, Debug, PartialEq, Eq)]
+pub enum Frame {
+    /// There is no complete request yet.
+    Incomplete,
+
+    /// It has this number of bytes, with what precedes it.
+    Complete(usize),
+
+    /// It is too long. This number of bytes is handed in: the processes refuse them and close the connection.
+    TooLong(usize),
+}
+
+/// How far a response is.
+#[derive(Clone, Copy, Debug, PartialEq, Eq)]
+pub enum Progress {
+    /// The bytes do not show it. The response ends when all processes are idle, or when the connection is closed.
+    Unknown,
+
+    /// It is complete, and the connection stays open for the next request.
+    Complete,
+
+    /// The processes close the connection after it.
+    Last,
+}
+
+/// A request and its response.
+#[derive(Clone, Copy)]
+pub struct Exchange<'a> {
+    pub peer: SocketAddr,
+
+    /// The bytes of the request, with what precedes it.
+    pub request: &'a [u8],
+
+    /// The first bytes of the response, at most `HEAD_BYTES`.
+    pub head: &'a [u8],
+
+    /// Its last bytes so far, at most `TAIL_BYTES`.
+    pub tail: &'a [u8],
+
+    /// The number of its bytes that the world sent.
+    pub produced: u64,
+
+    /// The number of its bytes that the socket accepted.
+    pub sent: u64,
+
+    /// Whether it ended, and the socket accepted all of it.
+    pub complete: bool,
+}
+
+/// A protocol and its records, over the processes of worlds.
+pub trait Service<B: Backing, P: Process> {
+    /// The worlds that it may begin with.
+    ghost starts: { Stage SystemState P → Type 0 } = { λ world. Unit {0} };
+
+    /// Where the first complete request of these bytes ends.
+    fn frame(&self, bytes: &[u8]) -> Frame;
+
+    /// How far the response of an exchange is. The answer decides when the client's next request is handed in, and nothing else.
+    fn progress(&self, exchange: &Exchange<'_>) -> Progress;
+
+    /// Records an exchange that ended.
+    fn record(&mut self, exchange: &Exchange<'_>);
+
+    /// The world for new requests, if there is a new one. The connection numbers of the present one may be nearly used up.
+    fn renew(&mut self, is_worn: bool) -> Option<World<B, P>>
+        ensures { IfSome result starts };
+}

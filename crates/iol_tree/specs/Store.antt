@@ -1,0 +1,32 @@
+-- The files below a folder, as a store.
+use Rattle.std.specs.Prelude.{◌≡◌, ℕ, Bool, true, false, List, [], length, map}
+use Rattle.iol_back.specs.Disk.{Disk, content}
+
+-- The names of the files, the lengths that they had when they were found, their bytes in memory, whether these are what is
+-- read, and how often a call failed that went to the folder.
+pub record Store : Type 0 where
+  pub names : List (List ℕ)
+  pub lengths : List ℕ
+  pub memory : Disk
+  pub in_memory : Bool
+  pub failures : ℕ
+
+-- the folder as a store: it is not honest, since others write the files
+abbrev pub folder_disk : Store → Disk
+folder_disk s = record { slots = []; failures = s.failures; honest = false; told = s.lengths }
+
+abbrev pub either_disk : Bool → (memory folder : Disk) → Disk
+either_disk true memory folder = memory
+either_disk false memory folder = folder
+
+-- the store: that in memory, or the folder
+abbrev pub disk_of : Store → Disk
+disk_of s = either_disk s.in_memory s.memory (folder_disk s)
+
+-- slots hold these bytes as the files from 1 on, and nothing as any other file
+pub record HoldsBytes (contents slots : List (List ℕ)) : Type 0 where
+  pub each : (f : ℕ) → content slots f ≡ content contents f
+
+-- the bytes of files of these lengths
+abbrev pub HaveLengths : (lengths : List ℕ) → (contents : List (List ℕ)) → Type 0
+HaveLengths lengths contents = map length contents ≡ lengths

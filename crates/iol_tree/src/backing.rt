@@ -1,0 +1,214 @@
+//! A store of the files below a folder.
+ghost use Rattle.std.specs.Prelude.{◌≡◌, ◌+◌, ◌-◌, ◌<◌, ◌≤◌, ◌↔◌, length, true, false, Some, IsSome, IfSome, IfOk};
+ghost use Rattle.iol_back.specs.Disk.{IsSlot, ReadsAt, length_told, raised};
+ghost use Rattle.iol_back.specs.Folder.{AreListed, AreNames};
+ghost use Rattle.iol_back.specs.Lists.{items_of};
+ghost use Rattle.iol_tree.specs.Store.{HaveLengths, HoldsBytes, disk_of};
+
+use crate::contents::store_of;
+use crate::index::Index;
+use iol_back::backing::{Backing, StoreFault};
+use iol_back::memory::MemoryBacking;
+use iol_back::slots::Slots;
+use iol_core::numbers::FileId;
+use std::alloc::{AllocError, Global};
+use std::io;
+use std::io::{Read, Seek, SeekFrom};
+use std::marker::Model;
+use std::rt::Files;
+
+/// The files of an index, as a store that is read alone: over a copy of their bytes in memory, which is honest, or over the
+/// folder, which promises nothing of their bytes.
+///
+/// Over the folder no file is held open. While one is not as the index has it, each read of it fails. A write fails there.
+#[derive(Drop)]
+pub struct TreeBacking<R: Files> {
+    files: R,
+    alloc: Global,
+    index: Index,
+    is_in_memory: bool,
+
+    // The bytes, where they are in memory, else nothing.
+    memory: MemoryBacking,
+
+    // How often a call failed that went to the folder.
+    failures: u64,
+}
+
+impl<R: Files> Model for TreeBacking<R> {
+    ghost use Rattle.std.specs.Prelude.{◌≡◌, true};
+    ghost use Rattle.iol_tree.specs.Store.{Store};
+
+    ghost Value = { Store };
+
+    ghost view = { λ t. record {
+      names = t.index.names;
+      lengths = t.index.lengths;
+      memory = t.memory;
+      in_memory = t.is_in_memory;
+      failures = t.failures;
+    } };
+
+    // The store in memory is honest.
+    ghost invariant = { λ t. t.memory.honest ≡ true };
+}
+
+impl<R: Files + Drop> TreeBacking<R> {
+    /// A store of the files' bytes, as they were read: honest.
+    pub fn in_memory(
+        files: R,
+        alloc: Global,
+        index: Index,
+        contents: Vec<Vec<u8>>,
+    ) -> Result<TreeBacking<R>, AllocError>
+        requires { HaveLengths index.lengths (items_of contents.items) }
+        ensures honest { IfOk result (λ t. (disk_of t).honest ≡ true) }
+        ensures bytes { IfOk result (λ t. HoldsBytes (items_of contents.items) (disk_of t).slots) }
+        ensures names { IfOk result (λ t. t.names ≡ index.names) }
+        ensures failures { IfOk result (λ t. (disk_of t).failures ≡ 0) }
+    {
+        let memory = store_of(alloc, contents)?;
+        Ok(TreeBacking {
+            files,
+            alloc,
+            index,
+            is_in_memory: true,
+            memory,
+            failures: 0,
+        })
+    }
+
+    /// A store over the folder: not honest, since others write the files.
+    pub fn on_disk(files: R, alloc: Global, index: Index) -> TreeBacking<R>
+        ensures honest { (disk_of result).honest ≡ false }
+        ensures names { result.names ≡ index.names }
+        ensures failures { (disk_of result).failures ≡ 0 }
+    {
+        TreeBacking {
+            files,
+            alloc,
+            index,
+            is_in_memory: false,
+            memory: MemoryBacking::new(Slots::new(alloc)),
+            failures: 0,
+        }
+    }
+}
+
+impl<R: Files> TreeBacking<R> {
+    /// The files.
+    pub fn index(&self) -> &Index
+        ensures names { result.now.names ≡ self.now.names }
+        ensures are { AreNames self.now.names }
+    {
+        let _count = self.index.count();
+        &self.index
+    }
+
+    /// Whether the bytes are in memory, and so the store is honest.
+    pub fn is_in_memory(&self) -> bool
+        ensures { result ≡ (disk_of self.now).honest }
+    {
+        self.is_in_memory
+    }
+
+    // Where a file stands in the list.
+    fn place(&self, slot: FileId) -> Option<usize>
+        ensures which { IsSome result ↔ ((0 < slot) × (slot ≤ length self.now.names)) }
+        ensures slot { IfSome result (λ place. IsSlot slot × (place ≡ slot - 1)) }
+        ensures listed { AreListed self.now.names self.now.lengths }
+    {
+        let number = slot.number() as usize;
+        let index = &self.index;
+        let count = index.count();
+        if number == 0 || number > count {
+            return None;
+        }
+        Some(number - 1)
+    }
+
+    // The length that a file of the folder had when it was found.
+    fn folder_length(&self, file: FileId) -> u32
+        ensures { result ≡ length_told self.now.lengths file }
+    {
+        match self.place(file) {
+            Some(place) => self.index.stamp(place).length(),
+            None => 0,
+        }
+    }
+
+    // Counts a failure of a call that went to the folder.
+    fn fail(&mut self) -> StoreFault
+        ensures { self.new ≡ record self.old { failures = raised self.old.failures } }
+    {
+        self.failures = self.failures.saturating_add(1);
+        StoreFault
+    }
+
+    // Reads bytes of a file that is as it was, before and after.
+    fn read(&self, place: usize, at: u32, into: &mut [u8]) -> io::Result<()>
+        requires { place < length self.now.names }
+    {
+        let mut file = self.index.open(&self.files, self.alloc, place)?;
+        file.seek(SeekFrom::Start(u64::from(at)))?;
+        file.read_exact(into)?;
+        self.index.check::<R>(place, &file)
+    }
+
+    // Reads bytes of a file of the folder.
+    fn read_folder(&mut self, file: FileId, at: u32, into: &mut [u8]) -> Result<(), StoreFault>
+        requires { self.old.in_memory ≡ false }
+        ensures { ReadsAt file at (disk_of self.old) (disk_of self.new) into.old into.new result }
+    {
+        if self.failures == u64::MAX {
+            return Err(self.fail());
+        }
+        let Some(place) = self.place(file) else {
+            return Err(self.fail());
+        };
+        if self.read(place, at, into).is_err() {
+            return Err(self.fail());
+        }
+        Ok(())
+    }
+}
+
+impl<R: Files> Backing for TreeBacking<R> {
+    ghost use Rattle.iol_tree.specs.Store.{disk_of};
+
+    ghost disk = { disk_of };
+
+    /// The length that the file had when it was found; 0 where there is no file.
+    fn length(&self, file: FileId) -> u32 {
+        if self.is_in_memory {
+            self.memory.length(file)
+        } else {
+            self.folder_length(file)
+        }
+    }
+
+    fn read_at(&mut self, file: FileId, at: u32, into: &mut [u8]) -> Result<(), StoreFault> {
+        if self.is_in_memory {
+            self.memory.read_at(file, at, into)
+        } else {
+            self.read_folder(file, at, into)
+        }
+    }
+
+    /// In memory alone; over the folder it fails.
+    fn write_at(&mut self, file: FileId, at: u32, bytes: &[u8]) -> Result<(), StoreFault> {
+        if self.is_in_memory {
+            self.memory.write_at(file, at, bytes)
+        } else {
+            Err(self.fail())
+        }
+    }
+
+    fn failures(&self) -> u64 {
+        if self.is_in_memory {
+            self.memory.failures()
+        } else {
+            self.failures
+        }
+    }
+}

@@ -1,0 +1,192 @@
+//! The files below a folder.
+ghost use Rattle.std.specs.Prelude.{◌≡◌, ◌+◌, ◌-◌, ◌<◌, [], length, All, Some, IsTrue, slice_get, string_bytes, map};
+ghost use Rattle.iol_back.specs.Folder.{AreNames, MayFollow, Precedes};
+
+use crate::stamp::{Stamp, stamp_at};
+use crate::walk::{join, walk_below};
+use iol_core::limits::{MAX_FILES, MAX_NAME_BYTES};
+use std::alloc::{AllocError, Global};
+use std::cmp::Ordering;
+use std::fs::{OpenFile, OpenOptions};
+use std::io;
+use std::io::ErrorKind;
+use std::marker::Model;
+use std::rt::Files;
+
+/// Files below a folder, by byte order of their names, each with the stamp that it had when it was looked at last. A file's
+/// name is its path below the folder.
+#[derive(Drop)]
+pub struct Index {
+    root: String,
+    names: Vec<String>,
+    stamps: Vec<Stamp>,
+    skipped: u64,
+}
+
+impl Model for Index {
+    ghost use Rattle.std.specs.Prelude.{◌≡◌, length, map, string_bytes};
+    ghost use Rattle.iol_back.specs.Folder.{AreNames, Listed};
+
+    ghost Value = { Listed };
+
+    ghost view = { λ l. record {
+      names = map string_bytes l.names.items;
+      lengths = map (λ s. s.length) l.stamps.items;
+    } };
+
+    ghost invariant = { λ l. AreNames (map string_bytes l.names.items)
+        × (length l.stamps.items ≡ length l.names.items) };
+}
+
+impl Index {
+    /// The regular files below the folder and in its folders, as they are now: those of at most 2^24 bytes with a name in UTF-8
+    /// of at most 255 bytes, by byte order of names, the first 1,024. No link is followed. The error is of the kind
+    /// `OutOfMemory` where memory was refused, else that of the folder, which could not be read.
+    pub fn of<R>(rt: &R, root: &str) -> io::Result<Index>
+    where
+        R: Files + AllocGlobal + Clone + Drop,
+    {
+        let alloc = rt.alloc();
+        let found = walk_below(rt, root)?;
+        let mut index = Index::new(alloc, String::from_str(alloc, root)?);
+        index.skipped = found.skipped;
+        for name in found.names {
+            index.add_found(rt, name)?;
+        }
+        Ok(index)
+    }
+
+    fn new(alloc: Global, root: String) -> Index
+        ensures { result.names ≡ [] }
+    {
+        Index {
+            root,
+            names: Vec::new(alloc),
+            stamps: Vec::new(alloc),
+            skipped: 0,
+        }
+    }
+
+    /// How many files there are.
+    pub fn count(&self) -> usize
+        ensures count { result ≡ length self.now.names }
+        ensures names { AreNames self.now.names }
+        ensures lengths { result ≡ length self.now.lengths }
+    {
+        self.names.len()
+    }
+
+    /// How many entries below the folder are none of these files: links, devices and the like, files that are too long, names
+    /// that are too long or not UTF-8, folders that could not be read, and files past the first 1,024.
+    pub fn skipped(&self) -> u64 {
+        self.skipped
+    }
+
+    /// The name of a file.
+    pub fn name(&self, place: usize) -> &str
+        requires { place < length self.now.names }
+        ensures { slice_get self.now.names place ≡ Some result.now }
+    {
+        self.names[place].as_str()
+    }
+
+    /// What a file was like when it was looked at last.
+    pub fn stamp(&self, place: usize) -> Stamp
+        requires { place < length self.now.names }
+        ensures { slice_get self.now.lengths place ≡ Some result.length }
+    {
+        self.stamps[place]
+    }
+
+    /// Whether another index has the same files with the same stamps.
+    pub fn is_same(&self, other: &Index) -> bool
+        ensures { IsTrue result → self.now.names ≡ other.now.names }
+    {
+        self.names == other.names && self.stamps == other.stamps
+    }
+
+    /// How many bytes the files have together.
+    pub fn total(&self) -> u64 {
+        let mut total = 0u64;
+        for stamp in &self.stamps {
+            total = total.saturating_add(u64::from(stamp.length()));
+        }
+        total
+    }
+
+    /// Whether no file changed from a time on, in seconds and nanoseconds since 1970.
+    pub fn is_older_than(&self, time: (i64, i64)) -> bool {
+        self.stamps.iter().all(|stamp| stamp.changed() < time)
+    }
+
+    // Adds a file that was found, or counts it as skipped.
+    fn add_found<R: Files + AllocGlobal>(
+        &mut self,
+        rt: &R,
+        name: String,
+    ) -> Result<(), AllocError> {
+        if self.takes(name.as_str()) {
+            let path = join(rt.alloc(), self.root.as_str(), name.as_str())?;
+            if let Some(stamp) = stamp_at(rt, path.as_str()) {
+                return self.add(name, stamp);
+            }
+        }
+        self.skipped = self.skipped.saturating_add(1);
+        Ok(())
+    }
+
+    // Whether a file of this name may stand behind the others.
+    fn takes(&self, name: &str) -> bool
+        ensures { IsTrue result → MayFollow self.now.names name.now }
+    {
+        let is_sized = 1 <= name.len() && name.len() <= MAX_NAME_BYTES;
+        is_sized && self.names.len() < MAX_FILES && self.is_last(name)
+    }
+
+    // Whether a name is behind the others in byte order.
+    fn is_last(&self, name: &str) -> bool
+        ensures { IsTrue result → All (λ other. Precedes other name.now) self.now.names }
+    {
+        let count = self.count();
+        if count == 0 {
+            return true;
+        }
+        matches!(self.name(count - 1).cmp(name), Ordering::Less)
+    }
+
+    // Adds a file behind the others.
+    fn add(&mut self, name: String, stamp: Stamp) -> Result<(), AllocError>
+        requires { MayFollow self.old.names (string_bytes name) }
+    {
+        self.names.reserve(1)?;
+        self.stamps.reserve(1)?;
+        self.names.push_reserved(name);
+        self.stamps.push_reserved(stamp);
+        Ok(())
+    }
+
+    /// Opens a file for reading. It fails where the file is not as it was. It is looked at first, since to open a pipe is to
+    /// wait for its other end.
+    pub fn open<R: Files>(&self, files: &R, alloc: Global, place: usize) -> io::Result<R::File>
+        requires { place < length self.now.names }
+    {
+        let path = join(alloc, self.root.as_str(), self.name(place))?;
+        if stamp_at(files, path.as_str()) != Some(self.stamp(place)) {
+            return Err(io::Error::from(ErrorKind::InvalidData));
+        }
+        let file = OpenOptions::new().read(true).open(files, path.as_str())?;
+        self.check::<R>(place, &file)?;
+        Ok(file)
+    }
+
+    /// Fails where an open file is not as it was.
+    pub fn check<R: Files>(&self, place: usize, file: &R::File) -> io::Result<()>
+        requires { place < length self.now.names }
+    {
+        if Stamp::of(&file.metadata()?) == Some(self.stamp(place)) {
+            Ok(())
+        } else {
+            Err(io::Error::from(ErrorKind::InvalidData))
+        }
+    }
+}

@@ -1,0 +1,106 @@
+//! The names of the files below a folder.
+use iol_core::limits::MAX_NAME_BYTES;
+use std::alloc::{AllocError, Global};
+use std::io::ErrorKind;
+use std::rt::Files;
+use std::{fs, io};
+
+/// What was found below a folder so far.
+#[derive(Drop)]
+pub struct Walk {
+    /// The names of regular files: their paths below the folder.
+    pub names: Vec<String>,
+
+    /// How many entries are neither regular files nor folders, or have no name of at most 255 bytes in UTF-8, or could not be
+    /// read.
+    pub skipped: u64,
+
+    // The folders that are still to be read.
+    folders: Vec<String>,
+}
+
+impl Walk {
+    fn new(alloc: Global) -> Walk {
+        Walk {
+            names: Vec::new(alloc),
+            skipped: 0,
+            folders: Vec::new(alloc),
+        }
+    }
+
+    fn skip(&mut self) {
+        self.skipped = self.skipped.saturating_add(1);
+    }
+
+    // Reads a folder: its files and folders are added to what was found.
+    fn read<R>(&mut self, rt: &R, root: &str, folder: &str) -> io::Result<()>
+    where
+        R: Files + AllocGlobal + Clone + Drop,
+    {
+        let path = join(rt.alloc(), root, folder)?;
+        for entry in fs::read_dir(rt, path.as_str())? {
+            match entry {
+                Ok(entry) => {
+                    let name = join(rt.alloc(), folder, entry.file_name())?;
+                    self.add(rt, root, name)?;
+                }
+                Err(e) if e.kind() == ErrorKind::InvalidFilename => self.skip(),
+                Err(e) => return Err(e),
+            }
+        }
+        Ok(())
+    }
+
+    // Adds what has this name: a folder, or a regular file. A link is neither, whatever it leads to.
+    fn add<R: Files + AllocGlobal>(
+        &mut self,
+        rt: &R,
+        root: &str,
+        name: String,
+    ) -> Result<(), AllocError> {
+        if name.len() > MAX_NAME_BYTES {
+            self.skip();
+            return Ok(());
+        }
+        let path = join(rt.alloc(), root, name.as_str())?;
+        match fs::symlink_metadata(rt, path.as_str()) {
+            Ok(found) if found.is_dir() => self.folders.push(name)?,
+            Ok(found) if found.is_file() => self.names.push(name)?,
+            _ => self.skip(),
+        }
+        Ok(())
+    }
+}
+
+/// A path below another: the other itself, where the path is empty, and the path itself, where the other is.
+pub fn join(alloc: Global, above: &str, below: &str) -> Result<String, AllocError> {
+    if above.is_empty() {
+        return String::from_str(alloc, below);
+    }
+    if below.is_empty() {
+        return String::from_str(alloc, above);
+    }
+    format!(in alloc; "{above}/{below}")
+}
+
+/// Walks the folder and the folders below it. One below it that cannot be read is skipped; the error is that of the folder
+/// itself, or of the kind `OutOfMemory`.
+pub fn walk_below<R>(rt: &R, root: &str) -> io::Result<Walk>
+where
+    R: Files + AllocGlobal + Clone + Drop,
+{
+    let mut walk = Walk::new(rt.alloc());
+    walk.read(rt, root, "")?;
+    for _ in 0..u64::MAX {
+        let Some(folder) = walk.folders.pop() else {
+            break;
+        };
+        match walk.read(rt, root, folder.as_str()) {
+            Ok(()) => {}
+            Err(e) if e.kind() == ErrorKind::OutOfMemory => return Err(e),
+            Err(_) => walk.skip(),
+        }
+    }
+    walk.names.sort_unstable();
+    Ok(walk)
+}
