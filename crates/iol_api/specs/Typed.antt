@@ -1,0 +1,37 @@
+-- What a typed call returns: the reply of its event, as a value of the call's own type or a refusal.
+use Rattle.std.specs.Prelude.{◌≡◌, ◌⊎◌, ℕ, Result, Err}
+use Rattle.iol_api.specs.declared.domain.Domain.{Domain}
+use Rattle.iol_core.specs.declared.events.Call.{Call}
+use Rattle.iol_core.specs.declared.events.Event.TheVariants as event
+use Rattle.iol_core.specs.declared.events.Reply.{Reply}
+use Rattle.iol_core.specs.declared.events.Reply.TheVariants as reply
+use Rattle.iol_core.specs.declared.refusals.Refusal.{Refusal}
+use Rattle.iol_core.specs.declared.refusals.Refusal.TheVariants.{Memory}
+use Rattle.iol_system.specs.Promises.{Promises}
+use Rattle.iol_system.specs.Replies.{told}
+
+-- This reply is a value of a type, or a refusal.
+abbrev pub IsReply : {A : Type 0} → (A → Reply) → Reply → Type 0
+IsReply {A} f r = ((a : A) × (r ≡ f a)) ⊎ ((x : Refusal) × (r ≡ reply.Refused x))
+
+-- What a call by a handle of a domain promises: the handle stays that of the same domain and system, the call is carried out with all
+-- that `System::step` promises of its event, and the reply is this result.
+pub record Answers {B : Type 0} {A : Type 0} (f : A → Reply) (old : Domain B) (c : Call) (result : Result A Refusal) (new : Domain B) : Type 0 where
+  pub same_reference : new.system.ghost_name ≡ old.system.ghost_name
+  pub by : new.by ≡ old.by
+  pub promises : Promises old.system.now (event.Call old.by c) (told f result) new.system.now
+
+-- The same, or there is no memory for the bytes or names that the call carries, and nothing is done.
+abbrev pub AnswersIfHeld : {B : Type 0} {A : Type 0} → (A → Reply) → Domain B → Call → Result A Refusal → Domain B → Type 0
+AnswersIfHeld f old c result new = Answers f old c result new ⊎ ((result ≡ Err Memory) × (new ≡ old))
+
+-- what a call without a value returns
+abbrev pub done : Unit {0} → Reply
+done u = reply.Done
+
+-- the two descriptors of a pipe, and the two aggregates of a split
+abbrev pub fds : ℕ × ℕ → Reply
+fds two = reply.Fds two.0 two.1
+
+abbrev pub aggs : ℕ × ℕ → Reply
+aggs two = reply.Aggs two.0 two.1

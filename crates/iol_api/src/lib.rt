@@ -1,0 +1,20 @@
+//! Calls by name: one method for each call of a domain, whose result has the call's own type.
+//!
+//! [`Domain`](domain::Domain) borrows a system and makes the calls of one of its domains. A method returns what the call's reply
+//! carries, or its refusal; `docs/RULES.md` lists the refusals of each call. Each contract is that of
+//! [`System::step`](iol_system::system::System::step), with the reply as a typed result.
+//!
+//!     let store = MemoryBacking::new(Slots::new(alloc));
+//!     let mut system = System::new(alloc, Config::DEFAULT, store)?;
+//!     let (one, two) = (DomainId::new(1), DomainId::new(2));
+//!     let mut first = Domain::new(alloc, &mut system, one);
+//!     first.domain_new()?;
+//!     let pool = first.pool_create(1, &[one, two])?;
+//!     first.set_pool(pool)?;
+//!     let hello = first.agg_make(b"hello")?;
+//!     let given = first.agg_give(hello, two)?;
+//!     let bytes = Domain::new(alloc, &mut system, two).show(given)?;
+#![tactic(auto)]
+
+pub mod domain;
+mod replies;

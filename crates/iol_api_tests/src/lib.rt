@@ -1,0 +1,5 @@
+//! Tests of calls by name, in a crate of their own since a crate with tests is proved twice.
+#![tactic(auto)]
+
+#[cfg(test)]
+mod calls;
