@@ -27,14 +27,3 @@ pub record IsWorldOf (names : List (List ℕ)) (store : Disk) (world : Stage Sys
   pub idle : Bool
   pub over : HostsOver config store site [] replies 0 idle world
   pub honest : HostsIfHonest store site [] replies 0 idle world
-
--- a world of a site, as new: its store is honest, or not
-pub record IsSiteWorld (honest : Bool) (world : Stage SystemState (Actor Worker)) : Type 0 where
-  pub names : List (List ℕ)
-  pub store : Disk
-  pub is : IsWorldOf names store world
-  pub store-honest : store.honest ≡ honest
-
--- a world of a site, as new, over any store
-abbrev pub IsNewSite : Stage SystemState (Actor Worker) → Type 0
-IsNewSite world = (honest : Bool) × IsSiteWorld honest world

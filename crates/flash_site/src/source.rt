@@ -1,6 +1,4 @@
 //! Where a site is read from, and when it is read again.
-ghost use Rattle.flash_site.specs.World.{IsSiteWorld};
-
 use crate::site::world_of;
 use flash_lite::actor::Actor;
 use iol_proc::world::World;
@@ -41,8 +39,6 @@ pub struct Summary {
 pub struct Loaded<R: Files> {
     pub world: World<TreeBacking<R>, Actor>,
     pub summary: Summary,
-
-    ghost new: { IsSiteWorld summary.is_in_memory world },
 }
 
 /// A folder whose files are a site.
