@@ -156,7 +156,7 @@ fn ended<S: Socket, B: Backing + Drop, P: Process, V: Service<B, P>>(
         service.record(&client.exchange(true));
         client.finish(now);
     }
-    if was_leaving && !client.is_ended() {
+    if was_leaving {
         client.set_phase(Phase::Parked);
         return next_step(client);
     }
