@@ -206,7 +206,7 @@ static size_t repeat(size_t length, uint64_t times)
 {
     if (length * times > MAX_TEXT)
         end(2, "a text that is too long\n");
-    for (uint64_t i = 1; i < times; i++)
+    for (uint64_t i = 1; length && i < times; i++)
         memcpy(text + i * length, text, length);
     return length * (size_t)times;
 }
