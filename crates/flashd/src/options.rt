@@ -82,7 +82,7 @@ fn limits_of(matches: &ArgMatches<'_>) -> Limits {
 }
 
 /// The command line: its options, and what help tells of them.
-pub fn command(alloc: Global) -> Result<Command<'static>, AllocError> {
+pub fn command<'a>(alloc: Global) -> Result<Command<'a>, AllocError> {
     let command = Command::new(alloc, "flashd")
         .version(VERSION)
         .about(ABOUT)
@@ -93,10 +93,7 @@ pub fn command(alloc: Global) -> Result<Command<'static>, AllocError> {
 }
 
 // Those that bound what clients may do.
-fn clients_arguments(
-    alloc: Global,
-    command: Command<'static>,
-) -> Result<Command<'static>, AllocError> {
+fn clients_arguments<'a>(alloc: Global, command: Command<'a>) -> Result<Command<'a>, AllocError> {
     command
         .arg(stop_after(alloc))?
         .arg(max_clients(alloc))?
@@ -106,17 +103,14 @@ fn clients_arguments(
 }
 
 // Those of files.
-fn files_arguments(
-    alloc: Global,
-    command: Command<'static>,
-) -> Result<Command<'static>, AllocError> {
+fn files_arguments<'a>(alloc: Global, command: Command<'a>) -> Result<Command<'a>, AllocError> {
     command
         .arg(access_log(alloc))?
         .arg(preload_limit(alloc))?
         .arg(no_preload(alloc))
 }
 
-fn listen(alloc: Global) -> Arg<'static> {
+fn listen<'a>(alloc: Global) -> Arg<'a> {
     Arg::new(alloc, "listen")
         .long("listen")
         .value_name("ADDR:PORT")
@@ -124,14 +118,14 @@ fn listen(alloc: Global) -> Arg<'static> {
         .help("Listen on this IP address and port; port 0 is any that is free")
 }
 
-fn root(alloc: Global) -> Arg<'static> {
+fn root<'a>(alloc: Global) -> Arg<'a> {
     Arg::new(alloc, "root")
         .value_name("ROOT")
         .required(true)
         .help("Serve the files in this folder and in the folders below it")
 }
 
-fn stop_after(alloc: Global) -> Arg<'static> {
+fn stop_after<'a>(alloc: Global) -> Arg<'a> {
     Arg::new(alloc, "stop-after")
         .long("stop-after")
         .value_name("N")
@@ -139,7 +133,7 @@ fn stop_after(alloc: Global) -> Arg<'static> {
         .help("End after this number of clients")
 }
 
-fn max_clients(alloc: Global) -> Arg<'static> {
+fn max_clients<'a>(alloc: Global) -> Arg<'a> {
     Arg::new(alloc, "max-clients")
         .long("max-clients")
         .value_name("N")
@@ -149,7 +143,7 @@ fn max_clients(alloc: Global) -> Arg<'static> {
         )
 }
 
-fn idle_timeout(alloc: Global) -> Arg<'static> {
+fn idle_timeout<'a>(alloc: Global) -> Arg<'a> {
     Arg::new(alloc, "idle-timeout")
         .long("idle-timeout")
         .value_name("SECONDS")
@@ -157,7 +151,7 @@ fn idle_timeout(alloc: Global) -> Arg<'static> {
         .help("Close a connection after this time without a request [default: 60]")
 }
 
-fn request_timeout(alloc: Global) -> Arg<'static> {
+fn request_timeout<'a>(alloc: Global) -> Arg<'a> {
     Arg::new(alloc, "request-timeout")
         .long("request-timeout")
         .value_name("SECONDS")
@@ -165,7 +159,7 @@ fn request_timeout(alloc: Global) -> Arg<'static> {
         .help("Close a connection whose request is not complete after this time [default: 10]")
 }
 
-fn min_rate(alloc: Global) -> Arg<'static> {
+fn min_rate<'a>(alloc: Global) -> Arg<'a> {
     Arg::new(alloc, "min-rate")
         .long("min-rate")
         .value_name("BYTES")
@@ -175,7 +169,7 @@ fn min_rate(alloc: Global) -> Arg<'static> {
         )
 }
 
-fn access_log(alloc: Global) -> Arg<'static> {
+fn access_log<'a>(alloc: Global) -> Arg<'a> {
     Arg::new(alloc, "access-log")
         .long("access-log")
         .value_name("FILE")
@@ -184,7 +178,7 @@ fn access_log(alloc: Global) -> Arg<'static> {
         )
 }
 
-fn preload_limit(alloc: Global) -> Arg<'static> {
+fn preload_limit<'a>(alloc: Global) -> Arg<'a> {
     Arg::new(alloc, "preload-limit")
         .long("preload-limit")
         .value_name("BYTES")
@@ -194,7 +188,7 @@ fn preload_limit(alloc: Global) -> Arg<'static> {
         )
 }
 
-fn no_preload(alloc: Global) -> Arg<'static> {
+fn no_preload<'a>(alloc: Global) -> Arg<'a> {
     Arg::new(alloc, "no-preload")
         .long("no-preload")
         .action(ArgAction::SetTrue)

@@ -3,7 +3,7 @@ use crate::options::Options;
 use crate::service::SiteService;
 use flash_log::log::AccessLog;
 use flash_site::site::NET_POOL;
-use flash_site::source::Source;
+use flash_site::source::{Loaded, Source};
 use iol_core::numbers::PoolId;
 use iol_reactor::reactor::Reactor;
 use std::fs::{File, OpenOptions};
@@ -33,17 +33,9 @@ fn serve_site<W: Write + Drop>(
     log: Option<AccessLog<W>>,
 ) -> io::Result<()> {
     let mut source = Source::new(rt, options.root, options.preload)?;
-    let loaded = source.load()?;
-    let summary = loaded.summary;
+    let Loaded { world, summary } = source.load()?;
     let pool = PoolId::new(NET_POOL);
-    let mut reactor = Reactor::new(
-        rt,
-        rt.alloc(),
-        options.listen,
-        pool,
-        loaded.world,
-        options.limits,
-    )?;
+    let mut reactor = Reactor::new(rt, rt.alloc(), options.listen, pool, world, options.limits)?;
     tell_address(rt, reactor.local_addr()?)?;
     let mut service = SiteService::new(rt, options.root, source, summary, log)?;
     let served = reactor.serve(rt, &mut service);
