@@ -1,0 +1,11 @@
+//! Tests of the event loop over sockets in memory, in a crate of their own since a crate with tests is proved twice.
+#![tactic(auto)]
+
+#[cfg(test)]
+mod deadlines;
+#[cfg(test)]
+mod memory_socket;
+#[cfg(test)]
+mod reading;
+#[cfg(test)]
+mod sending;

@@ -1,0 +1,101 @@
+//! A socket in memory.
+use iol_reactor::socket::Socket;
+use std::alloc::Global;
+use std::io;
+use std::io::{ErrorKind, Read, Write};
+
+/// How a socket reads and writes.
+#[derive(Clone, Copy)]
+pub struct Manner {
+    /// The bytes of one read, and of one write, at most.
+    pub read: usize,
+    pub write: usize,
+
+    /// Each call of this number blocks, if it is not 0.
+    pub blocks: u32,
+
+    /// The call of this number fails, if it is not 0.
+    pub fails: u32,
+
+    /// Whether the peer's end follows its bytes; else a read after them blocks.
+    pub ends: bool,
+}
+
+/// A socket that supplies given bytes, and keeps the bytes that it accepts.
+#[derive(Drop)]
+pub struct MemorySocket<'a> {
+    supply: &'a [u8],
+    accepted: Vec<u8>,
+    manner: Manner,
+    calls: u32,
+    output_ends: u32,
+}
+
+impl<'a> MemorySocket<'a> {
+    pub fn new(alloc: Global, supply: &'a [u8], manner: Manner) -> MemorySocket<'a> {
+        MemorySocket {
+            supply,
+            accepted: Vec::new(alloc),
+            manner,
+            calls: 0,
+            output_ends: 0,
+        }
+    }
+
+    /// The bytes that it accepted.
+    pub fn accepted(&self) -> &[u8] {
+        &self.accepted
+    }
+
+    /// The number of times that its output was ended.
+    pub fn output_ends(&self) -> u32 {
+        self.output_ends
+    }
+
+    // Whether the next call has an error, and which.
+    fn refusal(&mut self) -> Option<ErrorKind> {
+        self.calls = self.calls.wrapping_add(1);
+        if self.calls == self.manner.fails {
+            return Some(ErrorKind::ConnectionReset);
+        }
+        if self.manner.blocks > 0 && self.calls % self.manner.blocks == 0 {
+            return Some(ErrorKind::WouldBlock);
+        }
+        None
+    }
+}
+
+impl<'a> Read for MemorySocket<'a> {
+    fn read(&mut self, buf: &mut [u8]) -> io::Result<usize> {
+        if let Some(kind) = self.refusal() {
+            return Err(io::Error::from(kind));
+        }
+        if self.supply.is_empty() && !self.manner.ends {
+            return Err(io::Error::from(ErrorKind::WouldBlock));
+        }
+        let most = buf.len().min(self.manner.read);
+        self.supply.read(&mut buf[..most])
+    }
+}
+
+impl<'a> Write for MemorySocket<'a> {
+    fn write(&mut self, buf: &[u8]) -> io::Result<usize> {
+        if let Some(kind) = self.refusal() {
+            return Err(io::Error::from(kind));
+        }
+        let taken = buf.len().min(self.manner.write);
+        self.accepted.extend_from_slice(&buf[..taken])?;
+        Ok(taken)
+    }
+
+    fn flush(&mut self) -> io::Result<()> {
+        Ok(())
+    }
+}
+
+impl<'a> Socket for MemorySocket<'a> {
+    fn end_output(&mut self) -> io::Result<()> {
+        self.output_ends = self.output_ends.saturating_add(1);
+        Ok(())
+    }
+}
