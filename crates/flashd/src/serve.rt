@@ -1,15 +1,25 @@
 //! The server.
 use crate::options::Options;
 use crate::service::SiteService;
+use flash_lite::actor::Actor;
 use flash_log::log::AccessLog;
 use flash_site::site::NET_POOL;
 use flash_site::source::{Loaded, Source};
 use iol_core::numbers::PoolId;
 use iol_reactor::reactor::Reactor;
+use iol_tree::backing::TreeBacking;
+use mio::net::TcpListener;
 use std::fs::{File, OpenOptions};
 use std::io;
 use std::io::Write;
-use std::net::SocketAddr;
+
+// The event loop of a site.
+type SiteReactor<W> = Reactor<
+    TcpListener,
+    TreeBacking<HostRuntime>,
+    Actor,
+    SiteService<HostRuntime, W>,
+>;
 
 /// Serves a site as the command line asks for, until as many clients came and went as it says.
 pub fn serve(rt: &HostRuntime, options: &Options<'_>) -> io::Result<()> {
@@ -26,7 +36,7 @@ fn open_log(rt: &HostRuntime, path: &str) -> io::Result<File> {
     OpenOptions::new().append(true).create(true).open(rt, path)
 }
 
-// Reads the site, listens, tells so, and serves.
+// Reads the site, listens, and serves.
 fn serve_site<W: Write + Drop>(
     rt: &HostRuntime,
     options: &Options<'_>,
@@ -36,15 +46,30 @@ fn serve_site<W: Write + Drop>(
     let Loaded { world, summary } = source.load()?;
     let pool = PoolId::new(NET_POOL);
     let mut reactor = Reactor::new(rt, rt.alloc(), options.listen, pool, world, options.limits)?;
-    tell_address(rt, reactor.local_addr()?)?;
-    let mut service = SiteService::new(rt, options.root, source, summary, log)?;
-    let served = reactor.serve(rt, &mut service);
+    let service = SiteService::new(rt, options.root, source, summary, log);
+    let served = serve_clients(rt, service, &mut reactor);
+    drop(reactor);
+    served
+}
+
+// Prints where it listens, and serves.
+fn serve_clients<W: Write + Drop>(
+    rt: &HostRuntime,
+    service: io::Result<SiteService<HostRuntime, W>>,
+    reactor: &mut SiteReactor<W>,
+) -> io::Result<()> {
+    let mut service = service?;
+    let served = match tell_address(rt, reactor) {
+        Ok(()) => reactor.serve(rt, &mut service),
+        Err(error) => Err(error),
+    };
     service.flush();
     served
 }
 
 // Prints the line that tells where it listens.
-fn tell_address(rt: &HostRuntime, address: SocketAddr) -> io::Result<()> {
+fn tell_address<W: Write + Drop>(rt: &HostRuntime, reactor: &SiteReactor<W>) -> io::Result<()> {
+    let address = reactor.local_addr()?;
     let mut output = rt.stdout();
     writeln!(output, "listening on http://{address}/")?;
     output.flush()

@@ -20,9 +20,9 @@ const PAUSE_LOOKS: u64 = 20;
 
 /// The files of a folder, and the log of what was answered.
 #[derive(Drop)]
-pub struct SiteService<'a, R: Files, W> {
+pub struct SiteService<R: Files, W> {
     rt: R,
-    root: &'a str,
+    root: String,
     source: Source<R>,
     log: Option<AccessLog<W>>,
 
@@ -33,7 +33,7 @@ pub struct SiteService<'a, R: Files, W> {
     next_look: Option<Instant>,
 }
 
-impl<'a, R, W> SiteService<'a, R, W>
+impl<R, W> SiteService<R, W>
 where
     R: Files + Clock + Eprint + AllocGlobal + Clone + Drop,
     W: Write + Drop,
@@ -41,15 +41,15 @@ where
     /// The service of a site that was read from a source, and has this summary.
     pub fn new(
         rt: &R,
-        root: &'a str,
+        root: &str,
         source: Source<R>,
         summary: Summary,
         log: Option<AccessLog<W>>,
-    ) -> io::Result<SiteService<'a, R, W>> {
+    ) -> io::Result<SiteService<R, W>> {
         tell_site(rt, root, &summary);
         Ok(SiteService {
             rt: rt.clone()?,
-            root,
+            root: String::from_str(rt.alloc(), root)?,
             source,
             log,
             summary,
@@ -109,7 +109,7 @@ where
         if loaded.summary.is_in_memory != self.summary.is_in_memory
             || loaded.summary.skipped != self.summary.skipped
         {
-            tell_site(&self.rt, self.root, &loaded.summary);
+            tell_site(&self.rt, self.root.as_str(), &loaded.summary);
         }
         self.summary = loaded.summary;
         Ok(Some(loaded.world))
@@ -130,7 +130,7 @@ fn pause_after(took: Duration) -> Duration {
     Duration::from_millis(millis.saturating_mul(PAUSE_LOOKS))
 }
 
-impl<'a, R, W> Service<TreeBacking<R>, Actor> for SiteService<'a, R, W>
+impl<R, W> Service<TreeBacking<R>, Actor> for SiteService<R, W>
 where
     R: Files + Clock + Eprint + AllocGlobal + Clone + Drop,
     W: Write + Drop,
