@@ -70,6 +70,7 @@ module _ (old new : SystemState) (e : Event) (r : Reply) (safe : IsSafe old) (do
     asked = does.asked;
     room = does.room;
     no_room = does.no_room;
+    memory = does.memory;
     without_room = extents_met old new e r does.late does.refused;
     early = λ is. (let same = does.early is in ap (λ (d : Disk). system_of new.kernel d) same.1 ∙ ap (λ (h : KernelState). system_of h old.disk) same.0);
     uncached = does.uncached;

@@ -1,5 +1,5 @@
 -- An aggregate is made of new bytes, after clean extents gave way.
-use Rattle.std.proofs.Common.{◌≡◌, ℕ, ◌∙◌, List, [], length, refl, sym, ap, subst, true, false}
+use Rattle.std.proofs.Common.{◌≡◌, ℕ, ◌∙◌, List, [], length, Some, refl, sym, ap, subst, true, false}
 use Rattle.std.specs.Prelude.{Result, Ok, Err}
 use Rattle.iol_arena.specs.State.{pages_for}
 use Rattle.iol_core.specs.Text.{labelled}
@@ -8,13 +8,13 @@ use Rattle.iol_core.specs.State.{State}
 use Rattle.iol_core.specs.Meaning.{WantOfRoom, first}
 use Rattle.iol_core.specs.Calls.Aggregates as aggs
 use Rattle.iol_core.specs.declared.refusals.Refusal.{Refusal}
-use Rattle.iol_core.specs.declared.refusals.Refusal.TheVariants.{NoRoom}
+use Rattle.iol_core.specs.declared.refusals.Refusal.TheVariants.{NoDomain, NoPool, TooLong, TooMany, PoolClosed, NoRoom, Memory}
 use Rattle.iol_hold.specs.Room.{has_room}
 use Rattle.iol_kernel.specs.Calls.{AddsBytes, MakesNext, MayMake, Steps}
 use Rattle.iol_kernel.specs.KernelState.{KernelState, machine_of, read_of}
 use Rattle.iol_kernel.specs.Room.{MakesRoom, Places, can_fit}
 use Rattle.iol_kernel.specs.Readings.{Reading, bytes_over}
-use Rattle.iol_kernel.proofs.State.AfterRoom.{kept_machine, kept_reading, late_step, places_filled, places_late, places_none}
+use Rattle.iol_kernel.proofs.State.AfterRoom.{kept_machine, kept_reading, late_step, no_tests, places_filled, places_late, places_none, skips_memory}
 
 -- What the call asks does not look at the bytes of files.
 
@@ -37,6 +37,12 @@ default_blind d s x = refl
 make_blind : (d : ℕ) (bytes : List ℕ) (s : State) (x : List (List ℕ)) → first (aggs.agg_make (record s { slots = x }) d bytes).refusals ≡ first (aggs.agg_make s d bytes).refusals
 unfolding machine.domain machine.pool
 make_blind d bytes s x = refl
+
+-- its tests are not for memory
+pub make_tests : (d : ℕ) (bytes : List ℕ) (s : State) → first (aggs.agg_make s d bytes).refusals ≡ Some Memory → ⊥
+make_tests d bytes s =
+    skips_memory NoDomain _ _ (λ e. absurd (cc e)) (skips_memory NoPool _ _ (λ e. absurd (cc e)) (skips_memory TooLong _ _ (λ e. absurd (cc e))
+    (skips_memory TooMany _ _ (λ e. absurd (cc e)) (skips_memory (PoolClosed (aggs.default_pool s d)) _ _ (λ e. absurd (cc e)) no_tests))))
 
 module _ (pool pages : ℕ) (h k : KernelState) (room : MakesRoom pool pages h k) where
   pub open_after : (p : ℕ) → (machine.pool (machine_of [] h) p).closed ≡ false → (machine.pool (machine_of [] k) p).closed ≡ false

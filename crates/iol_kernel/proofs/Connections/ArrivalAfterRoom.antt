@@ -8,7 +8,7 @@ use Rattle.iol_core.specs.NumberedLists.{lookup}
 use Rattle.iol_core.specs.Meaning.{◌when◌, WantOfRoom, first}
 use Rattle.iol_core.specs.Calls.Outside as outside
 use Rattle.iol_core.specs.declared.refusals.Refusal.{Refusal}
-use Rattle.iol_core.specs.declared.refusals.Refusal.TheVariants.{BadFd, NoRoom}
+use Rattle.iol_core.specs.declared.refusals.Refusal.TheVariants.{BadFd, BrokenPipe, WouldBlock, NoRoom, Memory}
 use Rattle.iol_hold.specs.Room.{has_room}
 use Rattle.iol_hold.specs.declared.slices.Slice.{Slice}
 use Rattle.iol_pipe.specs.Queue.{fitting}
@@ -22,7 +22,7 @@ use Rattle.iol_kernel.specs.Outside.{HasConn}
 use Rattle.iol_kernel.specs.WritesByCopy.{Fills}
 use Rattle.iol_kernel.specs.Readings.{Reading, bytes_over}
 use Rattle.iol_kernel.proofs.Connections.OneConnection.{conn_found, conn_missing}
-use Rattle.iol_kernel.proofs.State.AfterRoom.{kept_machine, none_fit, queue_none, queue_places}
+use Rattle.iol_kernel.proofs.State.AfterRoom.{kept_machine, no_tests, none_fit, queue_none, queue_places, skips_memory}
 
 -- What an arrival asks does not look at the bytes of files.
 
@@ -44,6 +44,14 @@ answer_same c bytes s x = refl
 late_is : (c : ℕ) (bytes : List ℕ) (s : State) (x : Refusal) → outside.arrive_late s c bytes x → WantOfRoom (conn_at s c).pool x
 late_is c [] s x is = absurd is
 late_is c (b ∷ bytes) s x is = is
+
+-- its tests are not for memory
+pub arrive_tests : (c : ℕ) (bytes : List ℕ) (s : State) → first (outside.arrive s c bytes).refusals ≡ Some Memory → ⊥
+arrive_tests c bytes s = skips_memory BadFd _ _ (λ e. absurd (cc e)) (skips_memory BrokenPipe _ _ (λ e. absurd (cc e)) (skips_memory WouldBlock _ _ (λ e. absurd (cc e)) no_tests))
+
+-- nor are those of a connection
+pub held_tests : (x : Conn (List Slice)) (n : ℕ) → first (arrive_refusals x n) ≡ Some Memory → ⊥
+held_tests x n = skips_memory BrokenPipe _ _ (λ e. absurd (cc e)) (skips_memory WouldBlock _ _ (λ e. absurd (cc e)) no_tests)
 
 late_some : (c : ℕ) (bytes : List ℕ) (s : State) (pool : ℕ) → (length bytes ≡ 0 → ⊥) → (conn_at s c).pool ≡ pool → outside.arrive_late s c bytes (NoRoom pool)
 late_some c [] s pool some is = absurd (some refl)

@@ -7,7 +7,7 @@ use Rattle.iol_core.specs.declared.refusals.Refusal.TheVariants.{NoRoom}
 use Rattle.iol_kernel.specs.Kernel.{state_of, machine}
 use Rattle.iol_kernel.specs.Room.{Places}
 use Rattle.iol_kernel.specs.Readings.{bytes_over}
-use Rattle.iol_kernel.proofs.AggregateCalls.NewAggregates.{may_after, make_none, make_places}
+use Rattle.iol_kernel.proofs.AggregateCalls.NewAggregates.{make_tests, may_after, make_none, make_places}
 use Rattle.iol_kernel.proofs.State.AfterRoom.{places_refused}
 use Rattle.iol_kernel.proofs.State.ReadOf.{closed-read_of}
 use Rattle.iol_kernel.proofs.kernel.Kernel.agg_make.Goals as goal
@@ -17,7 +17,7 @@ returns-in_err-pool c =
     let h = state_of c.args.self.now in
     let is : ◌≡◌ {A = Result ℕ Refusal} (Err c.in_err-pool.field-0.0) c.from_residual.result = search (rules) in
     subst (λ (r : Result ℕ Refusal). Places (λ s. agg_make s c.args.by c.args.bytes.now) (λ s t. with_agg s c.args.by t) (default_pool (machine c.args.self.now) c.args.by) (length c.args.bytes.now) h r h) is
-    (places_refused (λ s. agg_make s c.args.by c.args.bytes.now) (λ s t. with_agg s c.args.by t) (default_pool (machine c.args.self.now) c.args.by) (length c.args.bytes.now) h c.in_err-pool.field-0.0 c.requires (search (rules)) (search (rules)))
+    (places_refused (λ s. agg_make s c.args.by c.args.bytes.now) (λ s t. with_agg s c.args.by t) (default_pool (machine c.args.self.now) c.args.by) (length c.args.bytes.now) h c.in_err-pool.field-0.0 c.requires (search (rules)) (search (rules)) (make_tests c.args.by c.args.bytes.now))
 
 pub make_room_for-requires : goal.make_room_for-requires
 make_room_for-requires c = record { sound = c.requires; opened = sym (closed-read_of (bytes_over [] c.args.self.now.store) (state_of c.args.self.now) c.in_ok-pool.pool) ∙ c.in_ok-pool.ensures.may.opened }
