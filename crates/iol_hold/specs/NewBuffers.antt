@@ -45,8 +45,8 @@ pub record FillsParts (s t : Stored) (ps : List Part) (bytes : List ℕ) (bufs :
   pub made_on : MadeOn s.arena t.arena bufs (part_pages ps)
   pub others : IsSameBut (part_pages ps) s.arena t.arena
 
--- Bytes were filled into new buffers on the lowest free pages of pool p. Where they were not, nothing changed: there was no
--- room for them, or no memory.
+-- Bytes, at most 2^24, were filled into new buffers on the lowest free pages of pool p. If they were not, nothing changed:
+-- there was no room for them, or no memory.
 pub record FillsHolds (s t : Stored) (p : ℕ) (bytes : List ℕ) (r : Result (List Buffer) Refusal) : Type 0 where
   pub moves : IfOk r (λ holds. Moves s t [] (held_bufs holds))
   pub made : IfOk r (λ holds. All (IsNew s.arena t.arena) (held_bufs holds))
@@ -57,6 +57,7 @@ pub record FillsHolds (s t : Stored) (p : ℕ) (bytes : List ℕ) (r : Result (L
   pub settles : AllSettled s → AllSettled t
   pub pool : IfOk r (λ holds. All (λ h. h.pool ≡ p) holds)
   pub few : IfOk r (λ holds. length holds ≤ pages_for (length bytes))
+  pub small : OnOk r (length bytes ≤ MAX_AGGREGATE_BYTES)
   pub grows : OnOk r (Grows s.arena t.arena)
   pub lowest : OnOk r (free_pages t.arena (pool_in s.pools p).chunks ≡ others_of s p (length bytes))
   pub pools : t.pools ≡ s.pools

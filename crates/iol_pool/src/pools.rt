@@ -1,5 +1,5 @@
 //! The table of pools.
-ghost use Rattle.std.specs.Prelude.{◌≡◌, ◌<◌, ◌≤◌, length, true, not, find, Some, None, is_some, IfSome, IfErr, OnOk, [], ◌∷◌, ◌↔◌, IsTrue};
+ghost use Rattle.std.specs.Prelude.{◌≡◌, ◌<◌, ◌≤◌, length, true, not, find, nat_le, Some, None, is_some, IfSome, IfErr, OnOk, [], ◌∷◌, ◌↔◌, IsTrue};
 ghost use Rattle.std.specs.Option.{option_copied};
 ghost use Rattle.std.specs.List.{All, list_all};
 ghost use Rattle.iol_core.specs.Prelude.{is_numbered, has_place};
@@ -149,6 +149,22 @@ fn count_pages(arena: &Arena, chunks: &[ChunkNo], retired: bool) -> u32
         count += count_in(arena, *chunk, retired);
     }
     count
+}
+
+// Whether at least `pages` pages of the chunks may be used.
+fn has_usable(arena: &Arena, chunks: &[ChunkNo], pages: u32) -> bool
+    requires { All (λ c. c < chunk_count arena.now) chunks.now }
+    ensures { result ≡ nat_le pages (length (free_pages arena.now chunks.now)) }
+{
+    let mut left = pages;
+    for chunk in chunks {
+        let here = arena.free_in(*chunk);
+        if left <= here {
+            return true;
+        }
+        left -= here;
+    }
+    left == 0
 }
 
 impl Pools {
@@ -320,6 +336,16 @@ impl Pools {
         ensures { result ≡ length (free_pages arena.now (pool_in self.now p).chunks) }
     {
         count_pages(arena, self.chunks_in(arena, p), false)
+    }
+
+    /// Whether at least `pages` pages of a pool may be used. It looks at the chunks in order, and stops at the first that
+    /// completes the number.
+    pub fn has_free(&self, arena: &Arena, p: PoolId, pages: u32) -> bool
+        requires there { is_numbered self.now p ≡ true }
+        requires owned { AreOwned arena.now self.now }
+        ensures { result ≡ nat_le pages (length (free_pages arena.now (pool_in self.now p).chunks)) }
+    {
+        has_usable(arena, self.chunks_in(arena, p), pages)
     }
 
     /// The pages of a pool, counted. Those that are retired cost a look at each page.

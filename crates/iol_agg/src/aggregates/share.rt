@@ -66,7 +66,8 @@ impl Agg {
     }
 
     /// Makes an aggregate of these bytes with those from place `from` up to `to` replaced by another's. It shares the buffers
-    /// of both and copies no byte. Fails where there is no memory for its list of slices.
+    /// of both and copies no byte. Fails if it would have 2^32 bytes or more, and if there is no memory for its list of slices.
+    /// An error changes nothing.
     pub fn replace(
         &self,
         alloc: Global,
@@ -77,21 +78,20 @@ impl Agg {
     ) -> Result<Agg, AllocError>
         requires ordered { from ≤ to }
         requires within { to ≤ byte_len self.now }
-        requires small { byte_len self.now + byte_len other.now < 2 ^ 32 }
         requires covered { Covers store.old (bufs_of self.now) }
         requires other_covered { Covers store.old (bufs_of other.now) }
         requires countable { IsCountable store.old (bufs_around self.now other.now) }
         ensures { SharesReplaced store.old store.new self.now other.now from to result }
     {
+        let Some(len) = (from + (self.len - to)).checked_add(other.len) else {
+            return Err(AllocError);
+        };
         let before = self.slices.len().min(from as usize);
         let after = self.slices.len().min((self.len - to) as usize);
         let mut slices = Vec::with_capacity(alloc, before + other.slices.len() + after)?;
         pour(&self.slices, &mut slices, store, 0, from);
         pour(&other.slices, &mut slices, store, 0, other.len);
         pour(&self.slices, &mut slices, store, to, self.len);
-        Ok(Agg {
-            slices,
-            len: from + other.len + (self.len - to),
-        })
+        Ok(Agg { slices, len })
     }
 }
