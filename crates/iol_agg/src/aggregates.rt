@@ -80,7 +80,7 @@ impl Agg {
     }
 
     /// The bytes of whole buffers, one after another, as slices in a list that has room for them. The holds become the
-    /// aggregate's. No memory is taken.
+    /// aggregate's. It takes no memory.
     pub fn of_holds(slices: Vec<Slice>, store: &Store, holds: Holds) -> Agg
         requires none { slices.items ≡ [] }
         requires filled { All (IsFilled store.now) holds }
@@ -114,7 +114,7 @@ impl Agg {
         self.slices.as_slice()
     }
 
-    /// The bytes where they lie, slice by slice.
+    /// The bytes in place, slice by slice. No byte is copied.
     pub fn parts<'a>(&'a self, store: &'a Store) -> Parts<'a>
         requires { AllReadable store.now self.now }
         ensures { result ≡ parts_of store.now self.now }
@@ -146,7 +146,7 @@ impl Agg {
     }
 }
 
-// Adds a slice for each of the buffers, whole.
+// Adds one slice for each whole buffer.
 fn add_whole(slices: &mut Vec<Slice>, store: &Store, holds: Holds)
     requires { MayAddWhole store.now slices.old holds }
     ensures { AreWhole store.now slices.new.items holds }

@@ -9,7 +9,8 @@ use iol_hold::Store;
 use std::alloc::{AllocError, Global};
 
 impl Agg {
-    /// The same bytes once more.
+    /// A second aggregate of the same bytes. It shares their buffers and copies no byte. Fails only if there is no memory for its
+    /// list of slices, and then changes nothing.
     pub fn dup(&self, alloc: Global, store: &mut Store) -> Result<Agg, AllocError>
         requires covered { Covers store.old (bufs_of self.now) }
         requires countable { IsCountable store.old (bufs_of self.now) }
@@ -18,8 +19,8 @@ impl Agg {
         self.cut(alloc, store, 0, self.len)
     }
 
-    /// Makes an aggregate of the bytes from place `from` up to `to`. It shares their buffers and copies no byte. Fails where there
-    /// is no memory for its list of slices.
+    /// Makes an aggregate of the bytes `from..to`. It shares their buffers and copies no byte. Fails only if there is no memory
+    /// for its list of slices, and then changes nothing.
     pub fn cut(
         &self,
         alloc: Global,
@@ -42,8 +43,8 @@ impl Agg {
         })
     }
 
-    /// Adds the bytes of another aggregate from place `from` up to `to`. It shares their buffers and copies no byte. Fails where
-    /// there is no memory for the list of slices, and changes nothing then.
+    /// Adds the bytes `from..to` of another aggregate. It shares their buffers and copies no byte. Fails only if there is no memory
+    /// for the list of slices, and then changes nothing.
     pub fn add_range(
         &mut self,
         store: &mut Store,
@@ -65,9 +66,9 @@ impl Agg {
         Ok(())
     }
 
-    /// Makes an aggregate of these bytes with those from place `from` up to `to` replaced by another's. It shares the buffers
-    /// of both and copies no byte. Fails if it would have 2^32 bytes or more, and if there is no memory for its list of slices.
-    /// An error changes nothing.
+    /// Makes an aggregate of these bytes with the bytes `from..to` replaced by those of another. It shares the buffers of both and
+    /// copies no byte. Fails if it would have 2^32 bytes or more, or if there is no memory for its list of slices. An error
+    /// changes nothing.
     pub fn replace(
         &self,
         alloc: Global,
