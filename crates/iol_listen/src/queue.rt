@@ -1,4 +1,4 @@
-//! Connections that were accepted and are served once they have asked.
+//! Accepted connections, which are served once they have sent input.
 ghost use Rattle.std.specs.Prelude.{◌≡◌, ◌≤◌, ◌<◌, ◌+◌, ◌++◌, ◌∷◌, [], ◌-◌, IfOk, IfSome, IsNone, OnOk, OnErr, filter, length, nat_lt, true, vec_capacity};
 ghost use Rattle.iol_listen.specs.Backlog.{to_come, Joined, Gives, not_too_long};
 ghost use Rattle.iol_listen.specs.declared.bounds.TheConstants.{MAX_LOOKS, MAX_WAITING};
@@ -12,7 +12,7 @@ use std::marker::Model;
 use std::net::{TcpListener, TcpStream};
 use thiserror::Error;
 
-/// Why a listener's connections are served no longer.
+/// The reason for which a listener's connections are not served any more.
 #[derive(Clone, Copy, Debug, PartialEq, Eq, Error)]
 pub enum ServeFault {
     #[error("no connection could be accepted")]
@@ -22,25 +22,26 @@ pub enum ServeFault {
     Memory,
 }
 
-/// A connection that has not asked yet, and after which look it came.
+/// A connection without input so far, and the number of looks before it came.
 #[derive(Drop)]
 struct Waiting {
     stream: TcpStream,
     since: u64,
 }
 
-/// The connections to be served, one after another: the one that has waited longest of those that have asked.
+/// The queue of connections to be served. The next one is the one that has waited longest, of
+/// those with input.
 #[derive(Drop)]
 pub struct Queue<'a> {
     listener: &'a TcpListener,
 
-    // In the order in which they came.
+    // In order of arrival.
     waiting: Vec<Waiting>,
 
-    // How many looks there were.
+    // The number of looks so far.
     looks: u64,
 
-    // How many may still be accepted.
+    // The number of connections that may still be accepted.
     left: u32,
 }
 
@@ -62,7 +63,7 @@ impl<'a> Model for Queue<'a> {
 }
 
 impl<'a> Queue<'a> {
-    /// A queue of the next connections of a listener, so many in all.
+    /// A queue of the next `count` connections of a listener.
     pub fn new(
         alloc: Global,
         listener: &'a TcpListener,
@@ -79,8 +80,8 @@ impl<'a> Queue<'a> {
         })
     }
 
-    /// The next connection that has asked, or ended; none once all that may be accepted were. One at which so many looks hear
-    /// nothing, while no other is served, is dropped.
+    /// The next connection that has input, or has ended; none once all have been given. A
+    /// connection that is silent for too many looks, while no other is served, is dropped.
     pub fn next(&mut self) -> Result<Option<TcpStream>, ServeFault>
         ensures most { to_come self.new ≤ to_come self.old }
         ensures fewer { IfOk result
@@ -102,7 +103,7 @@ impl<'a> Queue<'a> {
         Err(ServeFault::Accept)
     }
 
-    /// How many connections were accepted and wait.
+    /// The number of accepted connections that wait.
     pub fn waiting(&self) -> usize
         ensures waiting { result ≡ length self.now.waiting }
         ensures few { result ≤ MAX_WAITING }
@@ -110,7 +111,7 @@ impl<'a> Queue<'a> {
         self.waiting.len()
     }
 
-    /// Whether a connection has asked, or ended.
+    /// Returns whether a connection has input, or has ended.
     pub fn is_asked(&mut self) -> bool
         ensures kept { Joined self.old self.new }
         ensures asked { result ≡ true → 0 < length self.new.waiting }
@@ -118,7 +119,7 @@ impl<'a> Queue<'a> {
         self.first_asking().is_some()
     }
 
-    // Where the first connection stands that has asked, if one has.
+    // The index of the first connection with input, if any.
     fn first_asking(&mut self) -> Option<usize>
         ensures kept { Joined self.old self.new }
         ensures place { IfSome result (λ place. place < length self.new.waiting) }
@@ -129,7 +130,7 @@ impl<'a> Queue<'a> {
             .position(|other| has_asked(&other.stream))
     }
 
-    // The first connection that has asked, if one has.
+    // The first connection with input, if any.
     fn take_asking(&mut self) -> Option<TcpStream>
         ensures given { IfSome result (λ stream. Gives self.old self.new) }
         ensures kept { IsNone result → Joined self.old self.new }
@@ -140,14 +141,15 @@ impl<'a> Queue<'a> {
         Some(self.waiting.remove(place).stream)
     }
 
-    // Waits a little for the first one to ask.
+    // Waits a short time for input of the first connection.
     fn await_first(&self) {
         if let Some(first) = self.waiting.first() {
             let _heard = first.stream.peek(&mut [0u8]);
         }
     }
 
-    // Waits a little for the first one to ask, and drops those that are silent too long.
+    // Waits a short time for input of the first connection, and drops those that are silent for
+    // too long.
     fn look(&mut self)
         ensures looks { self.old.looks ≤ self.new.looks }
         ensures waiting { self.new.waiting ≡ not_too_long self.new.looks self.old.waiting }
@@ -159,7 +161,7 @@ impl<'a> Queue<'a> {
         drop_silent(&mut self.waiting, self.looks);
     }
 
-    // Waits for a connection. One that broke before it was accepted is no fault.
+    // Waits for a connection. A connection that broke before it was accepted is no fault.
     fn accept(&mut self) -> Result<(), ServeFault>
         requires room { length self.old.waiting < MAX_WAITING }
         requires left { 0 < self.old.left }
@@ -177,7 +179,7 @@ impl<'a> Queue<'a> {
         }
     }
 
-    // Accepts the connections that are there, as long as there is room.
+    // Accepts waiting connections, as long as there is room.
     fn accept_ready(&mut self)
         ensures { Joined self.old self.new }
     {
@@ -196,11 +198,11 @@ impl<'a> Queue<'a> {
                 Err(_) => break,
             }
         }
-        // Where this fails, so does the next accept that is to wait.
+        // If this fails, the next blocking accept also fails.
         let _ = self.listener.set_nonblocking(false);
     }
 
-    // Keeps a connection until it asks. One whose waits could not be set is dropped.
+    // Keeps a connection until it has input. A connection whose timeouts cannot be set is dropped.
     fn keep(&mut self, stream: TcpStream, waits: io::Result<()>)
         requires room { length self.old.waiting < MAX_WAITING }
         requires left { 0 < self.old.left }
@@ -217,7 +219,7 @@ impl<'a> Queue<'a> {
     }
 }
 
-// Drops those that have been silent too long.
+// Drops the connections that have been silent for too long.
 fn drop_silent(waiting: &mut Vec<Waiting>, looks: u64)
     ensures items { waiting.new.items
         ≡ filter (λ w. nat_lt (looks - w.since) MAX_LOOKS) waiting.old.items }
@@ -227,7 +229,7 @@ fn drop_silent(waiting: &mut Vec<Waiting>, looks: u64)
     waiting.retain(|other| looks.saturating_sub(other.since) < u64::from(MAX_LOOKS));
 }
 
-// Whether a connection has something to read, has ended or fails, now.
+// Returns whether a connection has input, has ended or has failed.
 fn has_asked(stream: &TcpStream) -> bool {
     if stream.set_nonblocking(true).is_err() {
         return true;
@@ -239,7 +241,7 @@ fn has_asked(stream: &TcpStream) -> bool {
     stream.set_nonblocking(false).is_err() || is_heard
 }
 
-// Whether an accept that failed is to be made again.
+// Returns whether a failed accept should be retried.
 fn is_passing(error: &io::Error) -> bool {
     matches!(
         error.kind(),
