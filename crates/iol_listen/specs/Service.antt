@@ -1,4 +1,4 @@
--- Serving the connections of a listener, one after another, each without events of the others.
+-- What serving the connections of a listener is: one after another, each alone.
 use Rattle.std.specs.Prelude.{◌≡◌, ◌≤◌, ◌⊎◌, ℕ, zero, suc, Bool, List}
 use Rattle.iol_back.specs.Disk.{IfHonest}
 use Rattle.iol_core.specs.State.{State}
@@ -11,42 +11,43 @@ use Rattle.iol_proc.specs.World.{Stage, copied, copying, OutsideStep}
 use Rattle.iol_serve.specs.Service.{GoesOn, HasEnded}
 
 module _ {P : Type 0} (turns : Account P) where
-  -- From w, the choices are only process turns and events of this connection; gone is whether its peer is reported as gone.
+  -- From w, processes have turns and things happen to this connection alone, whose peer is told to be gone, or is not.
   pub record GoesAlone (c : ℕ) (w after : Stage State P) : Type 0 where
     pub came : List ℕ
     pub sent : List ℕ
     pub gone : Bool
     pub goes_on : GoesOn turns c came sent gone w after
 
-  -- A new connection is served without events of others, until it has ended; if none was created, nothing happens.
+  -- A connection that was made goes on alone, until it has ended; where none was made nothing happens.
   abbrev pub IsServed : Reply → (begun after : Stage State P) → Type 0
   IsServed (reply.Conn c) begun after = GoesAlone c begun after × HasEnded after.machine c
   IsServed r begun after = after ≡ begun
 
-  -- A connection of the pool is created, if there is room for it, and served to its end.
+  -- A connection of the pool is made, if there is a place for it, and served to its end.
   pub record ServesNext (pool : ℕ) (w after : Stage State P) : Type 0 where
     pub answer : Reply
     pub begun : Stage State P
     pub made : OutsideStep copying turns w (event.ConnNew pool) answer begun
     pub serves : IsServed answer begun after
 
-  -- count connections, one after another
+  -- so many connections, one after another
   abbrev pub ServesEach : (pool count : ℕ) → Stage State P → Stage State P → Type 0
   ServesEach pool zero w after = after ≡ w
   ServesEach pool (suc n) w after = (mid : Stage State P) × ServesEach pool n w mid × ServesNext pool mid after
 
-  -- at most that many
+  -- at most so many
   pub record ServesSome (pool most : ℕ) (w after : Stage State P) : Type 0 where
     pub count : ℕ
     pub few : count ≤ most
     pub each : ServesEach pool count w after
 
-  -- count connections, or fewer if there are none left
+  -- so many, or fewer where there are none left
   pub record ServesAll (pool count left : ℕ) (w after : Stage State P) : Type 0 where
     pub some : ServesSome pool count w after
     pub all : (some.count ≡ count) ⊎ (left ≡ 0)
 
--- Serving connections of a world, in terms of the copying machine. The first and the third definition require an honest store.
+-- How connections of a world are served, as the copying machine has it. That one goes alone, and that some are served, is said
+-- where the store is honest.
 module _ {P : Type 0} (turns : Account P) where
   abbrev pub GoesAloneIn : (c : ℕ) (w after : Stage SystemState P) → Type 0
   GoesAloneIn c w after = IfHonest w.machine.disk (GoesAlone turns c (copied w) (copied after))

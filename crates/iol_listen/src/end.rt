@@ -4,9 +4,9 @@ use crate::queue::Queue;
 use std::io::Read;
 use std::net::{Shutdown, TcpStream};
 
-/// Closes a connection so that its peer gets all sent bytes: it shuts down sending, then reads and
-/// drops input, within limits, until the peer closes or is silent for a look. Closing at once
-/// would reset the connection of a peer that is still sending.
+/// Ends a connection so that its peer gets all that was sent: no more is sent, and what it still sends is read and dropped,
+/// within bounds, until it ends too, or is silent for a look. To close at once would tell a peer that is still sending that the
+/// connection broke.
 pub fn end(stream: &TcpStream, others: &mut Queue<'_>) {
     if stream.shutdown(Shutdown::Write).is_err() {
         return;

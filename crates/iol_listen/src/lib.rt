@@ -1,12 +1,10 @@
-//! Serves the connections of a listener, one after another, by the processes of a world.
+//! The connections of a listener, served one after another by the processes of a world.
 //!
-//! [`serve_all`](serve::serve_all) accepts connections and serves each by
-//! [`serve_connection`](iol_serve::serve::serve_connection). One connection is served at a time.
-//! So silent ones wait in a [`Queue`](queue::Queue) until they send a request, and the current one
-//! ends when it is silent while another has a request ([`Patient`](patience::Patient)). `bounds`
-//! has the limits. A client that keeps sending requests and reads slowly can delay the others for
-//! longer than these limits. Contracts state nothing about sockets or time: the proofs show that
-//! functions fail only by an error, and that they terminate.
+//! [`serve_all`](serve::serve_all) accepts connections and serves each through
+//! [`serve_connection`](iol_serve::serve::serve_connection). Since one is served at a time, those that say nothing must not hold
+//! the others up: they wait in a [`Queue`](queue::Queue) until they ask, and the one that is served gives way when it is
+//! silent ([`Patient`](patience::Patient)). How long each thing may take stands in `bounds`. No clause speaks of sockets or of time:
+//! what is proved here is that nothing fails but by an error, and that it ends.
 //!
 //!     serve_all(alloc, &listener, &mut world, pool, 1000)?;
 #![tactic(auto)]

@@ -1,4 +1,4 @@
-//! Output that is buffered until it is flushed.
+//! What is to be sent, kept until it is flushed.
 ghost use Rattle.std.specs.Prelude.{◌≡◌, [], None, IfOk, OnOk, take};
 ghost use Rattle.std.specs.Io.{WritesAtMost};
 ghost use Rattle.std.specs.Io.KnownBytes.{Appends, Keeps, WriteAppends};
@@ -10,13 +10,13 @@ use std::cell::Cell;
 use std::io;
 use std::io::Write;
 
-/// The state of a connection that its reader and its writer share.
+/// What both ends of a connection know of how far it has come.
 #[derive(Drop)]
 pub struct Talk {
-    /// Whether input has arrived since the last flush of output.
+    /// Whether something came that was not answered yet.
     pub has_begun: Cell<bool>,
 
-    /// The number of flushes that had output to send.
+    /// How often something was sent that was waited for.
     pub answers: Cell<u32>,
 }
 
@@ -29,9 +29,8 @@ impl Talk {
     }
 }
 
-/// A writer that sends its buffer when it is flushed, or full, so that a head and the first bytes
-/// of its body are one send. When it is dropped, its buffer is not sent: a peer that does not read
-/// could block it for the whole timeout again.
+/// A writer that sends what it holds when it is flushed, or full: so a head and the first bytes of its body are one send.
+/// What it holds when it is dropped is not sent: to a peer that takes nothing that would take as long once more.
 #[derive(Drop)]
 pub struct Outbox<'a, W> {
     to: W,
@@ -47,7 +46,7 @@ impl<'a, W: Write + Drop> Outbox<'a, W> {
         Ok(Outbox { to, talk, bytes })
     }
 
-    // Sends the buffer once. If that fails, the rest is lost.
+    // Sends what it holds, once. Where that fails the rest is lost.
     fn send(&mut self) -> io::Result<()>
         ensures sent { OnOk result
             (Appends (W.contents self.old.to) (W.contents self.new.to) self.old.bytes.items) }
@@ -60,7 +59,7 @@ impl<'a, W: Write + Drop> Outbox<'a, W> {
 }
 
 impl<'a, W: Write + Drop> Write for Outbox<'a, W> {
-    // The bytes taken are appended to the buffer, or are its only bytes after it was sent.
+    // What is taken is held behind what was held before, or alone once that was sent.
     fn write(&mut self, buf: &[u8]) -> io::Result<usize>
         ensures bound { WritesAtMost result buf.now }
         ensures bytes { WriteAppends None None result buf.now }

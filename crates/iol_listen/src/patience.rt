@@ -1,4 +1,4 @@
-//! The wait for input from the connection that is being served.
+//! How long the connection that is served is waited for.
 ghost use Rattle.std.specs.Prelude.{◌≡◌, ◌↔◌, IfOk, IfSome, IsNone, true};
 ghost use Rattle.std.specs.Io.{ReadsAtMost};
 ghost use Rattle.std.specs.Io.KnownBytes.{Keeps, ReadConsumes};
@@ -11,23 +11,23 @@ use std::io::{ErrorKind, Read};
 use std::net::TcpStream;
 use std::time::Duration;
 
-/// Sets the timeouts of reads and sends of a stream.
+/// Sets how long reads and sends of a stream wait.
 pub fn set_waits(stream: &TcpStream) -> io::Result<()> {
     stream.set_nodelay(true)?;
     stream.set_read_timeout(Some(Duration::from_millis(LOOK_MILLIS)))?;
     stream.set_write_timeout(Some(Duration::from_millis(SEND_MILLIS)))
 }
 
-/// A reader of a stream with a limited number of looks. If another connection has a request, it
-/// fails after one look without input; if a request has begun, after about a second; and after 100
-/// flushes of output at the next pause. Otherwise it fails after four to five seconds of silence.
+/// A reader of a stream, look by look. Where another connection has asked, it fails after a look at which nothing comes; if
+/// something has begun, once that takes about a second; and after 100 answers at the next pause. Else it fails after four to five
+/// seconds of silence.
 #[derive(Drop)]
 pub struct Patient<'a, 'b, R> {
     from: R,
     talk: &'a Talk,
     others: &'a mut Queue<'b>,
 
-    // The number of looks since a request began.
+    // The looks since something began.
     spent: u32,
     is_over: bool,
 }
@@ -45,15 +45,14 @@ impl<'a, 'b, R: Read + Drop> Patient<'a, 'b, R> {
         }
     }
 
-    /// Returns whether the peer ended the connection, or the connection failed.
+    /// Whether the peer ended the connection, or failed.
     pub fn is_over(&self) -> bool
         ensures { result ≡ self.now.is_over }
     {
         self.is_over
     }
 
-    // Returns whether the connection must end before its next look, if another connection has a
-    // request.
+    // Whether it is to give way before it is looked at again, where another connection has asked.
     fn is_due(&self) -> bool {
         if self.talk.has_begun.get() {
             self.spent >= BEGUN_LOOKS
@@ -62,7 +61,7 @@ impl<'a, 'b, R: Read + Drop> Patient<'a, 'b, R> {
         }
     }
 
-    // One look; none if there is no input.
+    // One look: none where nothing came.
     fn look(&mut self, buf: &mut [u8]) -> Option<io::Result<usize>>
         ensures bound { IfSome result (λ came. ReadsAtMost came buf.new) }
         ensures bytes { IfSome result (λ came.
@@ -91,7 +90,7 @@ impl<'a, 'b, R: Read + Drop> Patient<'a, 'b, R> {
 impl<'a, 'b, R: Read + Drop> Read for Patient<'a, 'b, R> {
     ghost remaining = { λ patient. R.remaining patient.from };
 
-    // It is over exactly if the peer's end was read, or a read failed.
+    // It is over just where the peer's end was read, or a read failed.
     fn read(&mut self, buf: &mut [u8]) -> io::Result<usize>
         ensures bound { ReadsAtMost result buf.new }
         ensures bytes { ReadConsumes (R.remaining self.old.from) (R.remaining self.new.from) result

@@ -1,4 +1,4 @@
-//! Accepted connections, which are served once they have sent input.
+//! Connections that were accepted and are served once they have asked.
 ghost use Rattle.std.specs.Prelude.{◌≡◌, ◌≤◌, ◌<◌, ◌+◌, ◌++◌, ◌∷◌, [], ◌-◌, IfOk, IfSome, IsNone, OnOk, OnErr, filter, length, nat_lt, true, vec_capacity};
 ghost use Rattle.iol_listen.specs.Backlog.{to_come, Joined, Gives, not_too_long};
 ghost use Rattle.iol_listen.specs.declared.bounds.TheConstants.{MAX_LOOKS, MAX_WAITING};
@@ -12,7 +12,7 @@ use std::marker::Model;
 use std::net::{TcpListener, TcpStream};
 use thiserror::Error;
 
-/// The reason for which a listener's connections are not served any more.
+/// Why a listener's connections are served no longer.
 #[derive(Clone, Copy, Debug, PartialEq, Eq, Error)]
 pub enum ServeFault {
     #[error("no connection could be accepted")]
@@ -22,26 +22,25 @@ pub enum ServeFault {
     Memory,
 }
 
-/// A connection without input so far, and the number of looks before it came.
+/// A connection that has not asked yet, and after which look it came.
 #[derive(Drop)]
 struct Waiting {
     stream: TcpStream,
     since: u64,
 }
 
-/// The queue of connections to be served. The next one is the one that has waited longest, of
-/// those with input.
+/// The connections to be served, one after another: the one that has waited longest of those that have asked.
 #[derive(Drop)]
 pub struct Queue<'a> {
     listener: &'a TcpListener,
 
-    // In order of arrival.
+    // In the order in which they came.
     waiting: Vec<Waiting>,
 
-    // The number of looks so far.
+    // How many looks there were.
     looks: u64,
 
-    // The number of connections that may still be accepted.
+    // How many may still be accepted.
     left: u32,
 }
 
@@ -63,7 +62,7 @@ impl<'a> Model for Queue<'a> {
 }
 
 impl<'a> Queue<'a> {
-    /// A queue of the next `count` connections of a listener.
+    /// A queue of the next connections of a listener, so many in all.
     pub fn new(
         alloc: Global,
         listener: &'a TcpListener,
@@ -80,8 +79,8 @@ impl<'a> Queue<'a> {
         })
     }
 
-    /// The next connection that has input, or has ended; none once all have been given. A
-    /// connection that is silent for too many looks, while no other is served, is dropped.
+    /// The next connection that has asked, or ended; none once all that may be accepted were. One at which so many looks hear
+    /// nothing, while no other is served, is dropped.
     pub fn next(&mut self) -> Result<Option<TcpStream>, ServeFault>
         ensures most { to_come self.new ≤ to_come self.old }
         ensures fewer { IfOk result
@@ -103,7 +102,7 @@ impl<'a> Queue<'a> {
         Err(ServeFault::Accept)
     }
 
-    /// The number of accepted connections that wait.
+    /// How many connections were accepted and wait.
     pub fn waiting(&self) -> usize
         ensures waiting { result ≡ length self.now.waiting }
         ensures few { result ≤ MAX_WAITING }
@@ -111,7 +110,7 @@ impl<'a> Queue<'a> {
         self.waiting.len()
     }
 
-    /// Returns whether a connection has input, or has ended.
+    /// Whether a connection has asked, or ended.
     pub fn is_asked(&mut self) -> bool
         ensures kept { Joined self.old self.new }
         ensures asked { result ≡ true → 0 < length self.new.waiting }
@@ -119,7 +118,7 @@ impl<'a> Queue<'a> {
         self.first_asking().is_some()
     }
 
-    // The index of the first connection with input, if any.
+    // Where the first connection stands that has asked, if one has.
     fn first_asking(&mut self) -> Option<usize>
         ensures kept { Joined self.old self.new }
         ensures place { IfSome result (λ place. place < length self.new.waiting) }
@@ -130,7 +129,7 @@ impl<'a> Queue<'a> {
             .position(|other| has_asked(&other.stream))
     }
 
-    // The first connection with input, if any.
+    // The first connection that has asked, if one has.
     fn take_asking(&mut self) -> Option<TcpStream>
         ensures given { IfSome result (λ stream. Gives self.old self.new) }
         ensures kept { IsNone result → Joined self.old self.new }
@@ -141,15 +140,14 @@ impl<'a> Queue<'a> {
         Some(self.waiting.remove(place).stream)
     }
 
-    // Waits a short time for input of the first connection.
+    // Waits a little for the first one to ask.
     fn await_first(&self) {
         if let Some(first) = self.waiting.first() {
             let _heard = first.stream.peek(&mut [0u8]);
         }
     }
 
-    // Waits a short time for input of the first connection, and drops those that are silent for
-    // too long.
+    // Waits a little for the first one to ask, and drops those that are silent too long.
     fn look(&mut self)
         ensures looks { self.old.looks ≤ self.new.looks }
         ensures waiting { self.new.waiting ≡ not_too_long self.new.looks self.old.waiting }
@@ -161,7 +159,7 @@ impl<'a> Queue<'a> {
         drop_silent(&mut self.waiting, self.looks);
     }
 
-    // Waits for a connection. A connection that broke before it was accepted is no fault.
+    // Waits for a connection. One that broke before it was accepted is no fault.
     fn accept(&mut self) -> Result<(), ServeFault>
         requires room { length self.old.waiting < MAX_WAITING }
         requires left { 0 < self.old.left }
@@ -179,7 +177,7 @@ impl<'a> Queue<'a> {
         }
     }
 
-    // Accepts waiting connections, as long as there is room.
+    // Accepts the connections that are there, as long as there is room.
     fn accept_ready(&mut self)
         ensures { Joined self.old self.new }
     {
@@ -198,11 +196,11 @@ impl<'a> Queue<'a> {
                 Err(_) => break,
             }
         }
-        // If this fails, the next blocking accept also fails.
+        // Where this fails, so does the next accept that is to wait.
         let _ = self.listener.set_nonblocking(false);
     }
 
-    // Keeps a connection until it has input. A connection whose timeouts cannot be set is dropped.
+    // Keeps a connection until it asks. One whose waits could not be set is dropped.
     fn keep(&mut self, stream: TcpStream, waits: io::Result<()>)
         requires room { length self.old.waiting < MAX_WAITING }
         requires left { 0 < self.old.left }
@@ -219,7 +217,7 @@ impl<'a> Queue<'a> {
     }
 }
 
-// Drops the connections that have been silent for too long.
+// Drops those that have been silent too long.
 fn drop_silent(waiting: &mut Vec<Waiting>, looks: u64)
     ensures items { waiting.new.items
         ≡ filter (λ w. nat_lt (looks - w.since) MAX_LOOKS) waiting.old.items }
@@ -229,7 +227,7 @@ fn drop_silent(waiting: &mut Vec<Waiting>, looks: u64)
     waiting.retain(|other| looks.saturating_sub(other.since) < u64::from(MAX_LOOKS));
 }
 
-// Returns whether a connection has input, has ended or has failed.
+// Whether a connection has something to read, has ended or fails, now.
 fn has_asked(stream: &TcpStream) -> bool {
     if stream.set_nonblocking(true).is_err() {
         return true;
@@ -241,7 +239,7 @@ fn has_asked(stream: &TcpStream) -> bool {
     stream.set_nonblocking(false).is_err() || is_heard
 }
 
-// Returns whether a failed accept should be retried.
+// Whether an accept that failed is to be made again.
 fn is_passing(error: &io::Error) -> bool {
     matches!(
         error.kind(),

@@ -1,4 +1,4 @@
-//! Serves the connections of a listener, one after another.
+//! The connections of a listener, one after another.
 ghost use Rattle.std.specs.Prelude.{OnOk};
 ghost use Rattle.iol_back.specs.Prelude.{IfHonest};
 ghost use Rattle.iol_listen.specs.Service.{GoesAloneIn, ServesAllIn, ServesNextIn, ServesSomeIn};
@@ -21,8 +21,8 @@ use iol_serve::serve::serve_connection;
 use std::alloc::Global;
 use std::net::{TcpListener, TcpStream};
 
-/// Serves `count` connections of a listener, one after another, and places their input in the
-/// pool. At most 64 are accepted ahead.
+/// Serves so many connections of a listener, one after another: their bytes are placed in the pool. Up to 64 are accepted
+/// ahead. What becomes of a connection ends that one alone.
 pub fn serve_all<B: Backing + Drop, P: Process>(
     alloc: Global,
     listener: &TcpListener,
@@ -39,8 +39,7 @@ pub fn serve_all<B: Backing + Drop, P: Process>(
     serve_queue(alloc, world, pool, &mut queue, count)
 }
 
-/// Serves `count` connections from a queue, one after another; fewer only if the queue has no
-/// more.
+/// Serves so many connections that a queue gives, one after another: fewer only where it has none left to give.
 pub fn serve_queue<B: Backing + Drop, P: Process>(
     alloc: Global,
     world: &mut World<B, P>,
@@ -62,8 +61,7 @@ pub fn serve_queue<B: Backing + Drop, P: Process>(
     Ok(())
 }
 
-// Creates a connection of the world, and serves it to its end. If there is no room for it, it is
-// closed.
+// Makes a connection of the world, and serves it to its end. One for which there is no place ends.
 fn serve_next<B: Backing + Drop, P: Process>(
     alloc: Global,
     world: &mut World<B, P>,

@@ -1,5 +1,4 @@
-//! Tests of the queue of a listener's connections. They are a crate of their own since a crate
-//! with tests is proved twice.
+//! Tests of the queue of a listener's connections, in a crate of their own since a crate with tests is proved twice.
 #![tactic(auto)]
 
 #[cfg(test)]

@@ -1,4 +1,4 @@
-//! Tests of the next connection of a queue, and of the number of connections that it keeps.
+//! Which connection a queue gives next, and how many it keeps.
 use iol_listen::bounds::MAX_WAITING;
 use iol_listen::queue::Queue;
 use std::alloc::{AllocError, Global};
@@ -20,7 +20,7 @@ fn ask(client: &TcpStream, word: u8) -> io::Result<()> {
     to.write_all(&[word])
 }
 
-// The first byte of the next connection's input; none if there is no further connection.
+// What the next connection said first; none where there is no further one.
 fn next_word(queue: &mut Queue<'_>) -> Option<u8> {
     let Ok(Some(stream)) = queue.next() else {
         return None;
@@ -40,7 +40,7 @@ fn queue_of<'a>(
     Queue::new(alloc, listener, count)
 }
 
-// The one that has waited longest of those with input, and at last one that was silent until then.
+// The one that has waited longest of those that have asked, and at last one that was silent until then.
 #[test]
 fn silent_ones_wait(rt: HostRuntime) -> Result<(), Fail> {
     let listener = listen(&rt)?;
@@ -60,7 +60,7 @@ fn silent_ones_wait(rt: HostRuntime) -> Result<(), Fail> {
     Ok(())
 }
 
-// One that ended counts as one with input; one that stays silent is eventually dropped.
+// One that ended counts as one that has asked; one that stays silent is dropped in the end.
 #[test]
 fn ended_and_silent_ones(rt: HostRuntime) -> Result<(), Fail> {
     let listener = listen(&rt)?;
@@ -74,7 +74,7 @@ fn ended_and_silent_ones(rt: HostRuntime) -> Result<(), Fail> {
     Ok(())
 }
 
-// Connections beyond the limit are not accepted before others have ended.
+// Those past the bound are not accepted before others have gone.
 #[test]
 fn keeps_a_bounded_number(rt: HostRuntime) -> Result<(), Fail> {
     let listener = listen(&rt)?;
