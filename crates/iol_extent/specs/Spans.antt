@@ -46,3 +46,8 @@ pub record Tile (es : List Extent) (from to : ℕ) (found missed : List Span) : 
   pub empty : All (IsGapSpan es) missed
   pub whole : All (IsWhole es to) missed
   pub each : (i : ℕ) → from ≤ i → i < to → LiesIn i found ⊎ LiesIn i missed
+
+-- Hits and gaps of a range were found. An empty or reversed range has none.
+pub record Finds (es : List Extent) (from to : ℕ) (found missed : List Span) : Type 0 where
+  pub tile : from ≤ to → Tile es from to found missed
+  pub none : to ≤ from → (found ≡ []) × (missed ≡ [])
