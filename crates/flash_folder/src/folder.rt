@@ -1,4 +1,4 @@
-//! A site of the files of a folder, and the world that serves it.
+//! A site with the files of a folder, and the world that serves it.
 ghost use Rattle.std.specs.Prelude.{◌≡◌, ◌<◌, IfErr, IfOk, Some, true, false, length, slice_get};
 ghost use Rattle.iol_core.specs.declared.limits.TheConstants.{MAX_FILES};
 ghost use Rattle.flash_folder.specs.Fault.{StopsServing, StopsStart};
@@ -24,7 +24,7 @@ use std::marker::Model;
 use std::net::TcpListener;
 use std::rt::Files;
 
-/// The pool that connections take their bytes into.
+/// The pool for the input of connections.
 const NET: u32 = 2;
 
 /// The world that serves the files of a folder.
@@ -41,7 +41,7 @@ impl<R: Files> Model for Host<R> {
 }
 
 impl<R: Files + AllocGlobal + Clone + Drop> Host<R> {
-    /// The files of a folder, as they are now, and the processes that serve them.
+    /// Creates a world from the files that a folder has now, with the processes that serve them.
     pub fn new(rt: &R, root: &str) -> Result<Host<R>, Fault>
         ensures { IfErr result StopsStart }
     {
@@ -49,7 +49,7 @@ impl<R: Files + AllocGlobal + Clone + Drop> Host<R> {
             Ok(store) => store,
             Err(e) => return Err(Fault::of(&e, Fault::Folder)),
         };
-        // All is within its limits, so only memory can be wanting.
+        // All sizes are within their limits, so the only possible error is out of memory.
         let alloc = rt.alloc();
         match world_over(alloc, store) {
             Ok(world) => Ok(Host { alloc, world }),
@@ -59,7 +59,7 @@ impl<R: Files + AllocGlobal + Clone + Drop> Host<R> {
 }
 
 impl<R: Files + Drop> Host<R> {
-    /// Serves so many connections of a listener, one after another.
+    /// Serves `count` connections of a listener, one after another.
     pub fn serve(&mut self, listener: &TcpListener, count: u32) -> Result<(), Fault>
         ensures { IfErr result StopsServing }
     {
@@ -71,7 +71,7 @@ impl<R: Files + Drop> Host<R> {
         }
     }
 
-    /// Serves one connection, from a reader and to a writer: how that ended.
+    /// Serves one connection, from a reader and to a writer, and returns its ending.
     pub fn answer<I: Read, O: Write>(
         &mut self,
         reader: &mut I,
@@ -83,7 +83,8 @@ impl<R: Files + Drop> Host<R> {
         Ok(serve_connection(&mut self.world, conn, reader, writer))
     }
 
-    // A new connection. The first one has a place, so only memory can be wanting.
+    // Creates a connection. There is room for the first one, so the only possible error is out of
+    // memory.
     fn connect(&mut self) -> Result<ConnId, Fault>
         ensures { IfErr result (λ fault. fault ≡ Fault.Memory) }
     {
@@ -96,7 +97,7 @@ impl<R: Files + Drop> Host<R> {
     }
 }
 
-// All files of a store, by their slots, for everybody.
+// All files of a store, by slot, readable by all.
 fn files_of<R: Files>(alloc: Global, store: &FolderBacking<R>) -> Result<Vec<SiteFile>, AllocError>
     ensures { IfOk result (λ files. AreFilesOf store.now.names files.items) }
 {
@@ -107,7 +108,7 @@ fn files_of<R: Files>(alloc: Global, store: &FolderBacking<R>) -> Result<Vec<Sit
     Ok(files)
 }
 
-// The file in a place.
+// The file in a slot.
 fn file_at<R: Files>(
     alloc: Global,
     store: &FolderBacking<R>,
@@ -126,7 +127,7 @@ fn file_at<R: Files>(
     Ok(SiteFile { name, private })
 }
 
-// Four workers, and every file for everybody. The chunks are those of the system, all of them.
+// A site with four workers, with every file readable by all, and with all chunks of the system.
 fn site_of<R: Files>(alloc: Global, store: &FolderBacking<R>) -> Result<Site, AllocError>
     ensures files { IfOk result (λ site. AreFilesOf store.now.names site.files.items) }
     ensures range { IfOk result (λ site. is_in_range site ≡ true) }
@@ -142,7 +143,7 @@ fn site_of<R: Files>(alloc: Global, store: &FolderBacking<R>) -> Result<Site, Al
     })
 }
 
-// The world of the site of a store's files.
+// Creates the world of a site over a store's files.
 fn world_over<R: Files + Drop>(
     alloc: Global,
     store: FolderBacking<R>,

@@ -12,13 +12,15 @@ use std::net::{Net, TcpListener, TcpStream};
 use std::rt::Files;
 use std::time::Duration;
 
-/// How long either end waits for the other, in seconds.
+/// The timeout of either end, in seconds.
 const WAIT: u64 = 5;
 
-/// The most bytes that are sent before they are read again. They fit any socket's buffer.
+/// The maximum number of bytes that are sent before they are read again. They fit into any socket
+/// buffer.
 const PIECE: usize = 4096;
 
-/// The server's end of a connection whose other end is here too. What was sent is read there at once, and printed.
+/// The server's end of a connection whose other end is in this program, too. Sent bytes are read
+/// there at once, and printed.
 #[derive(Drop)]
 struct Looped<'a, W: Write> {
     server: &'a TcpStream,
@@ -72,7 +74,8 @@ impl<'a, W: Write> Write for Looped<'a, W> {
     }
 }
 
-/// Asks a server of the files of a folder for a path, and prints the answer: the exit status.
+/// Requests a path from a server of the files of a folder, prints the response, and returns the
+/// exit status.
 pub fn loop_on<R, W: Write, E: Write>(
     rt: &R,
     root: &str,
@@ -88,7 +91,7 @@ where
     ended(ask_and_print(rt, root, path, output), errors)
 }
 
-// Does the work of `loop_on`, up to the first fault.
+// The work of `loop_on`, up to the first fault.
 fn ask_and_print<R, W: Write>(rt: &R, root: &str, path: &str, output: &mut W) -> Result<(), Fault>
 where
     R: Net<Listener = TcpListener, Stream = TcpStream> + Files + AllocGlobal + Clone + Drop,
@@ -97,7 +100,7 @@ where
     ask_host(rt, &mut host, path, output)
 }
 
-// Asks over a connection to this program itself.
+// Sends the request over a connection to this program itself.
 fn ask_host<R, W: Write>(
     rt: &R,
     host: &mut Host<R>,
@@ -118,7 +121,7 @@ where
     }
 }
 
-// A connection to this program itself: its client, and its server.
+// A connection to this program itself: its client's end, and its server's end.
 fn connect<R>(rt: &R) -> Result<(TcpStream, TcpStream), Fault>
 where
     R: Net<Listener = TcpListener, Stream = TcpStream>,
@@ -156,7 +159,7 @@ fn ask(client: &TcpStream, path: &str) -> io::Result<()> {
     to.write_all(b" HTTP/1.1\r\nHost: 127.0.0.1\r\nConnection: close\r\n\r\n")
 }
 
-// Serves the connection, whose answer is printed.
+// Serves the connection, and prints its response.
 fn pass_through<R: Files + Drop, W: Write>(
     host: &mut Host<R>,
     server: &TcpStream,
@@ -177,7 +180,7 @@ fn pass_through<R: Files + Drop, W: Write>(
     }
 }
 
-// Whether all of the answer came: one whose connection was hung up is cut off.
+// Returns a fault if the response is incomplete: its connection was hung up.
 fn whole(ending: Ending) -> Result<(), Fault>
     ensures { IsOk result ↔ (hung_up ending ≡ false) }
 {

@@ -20,7 +20,7 @@ use Rattle.iol_cache.specs.Gaps.{FillsGaps, HasGaps, ReadsAllGaps}
 use Rattle.iol_cache.specs.Marks.{AreWithin}
 use Rattle.iol_cache.specs.SharedBytes.{CountsBelow}
 use Rattle.iol_cache.specs.Sound.{IsSound}
-use Rattle.iol_cache.specs.Weave.{LieBeside, len_beside, woven}
+use Rattle.iol_cache.specs.Weave.{HasSlicesWoven, LieBeside, len_beside, woven}
 use Rattle.iol_cache.specs.CacheState.{Cached, file_in, extents_in, order_in, parts_in, all_parts, held, clean_held, clean_at, entries_at}
 
 -- nothing changed but how many more can come in without memory
@@ -103,6 +103,7 @@ pub record MayFillRange (s : Stored) (x : CachedFile) (from to : ℕ) (gs : List
 pub record FillsAll (part : FilePart) (gs : List Span) (xs : List Slice) (disk after : Disk) (s t : Stored) (x y : CachedFile)
     (r : Result (List Slice) Refusal) : Type 0 where
   pub fills : IfOk r (FillsRange s t x.extents y.extents x.pool (places xs) gs part.from part.to disk part.file)
+  pub parts : IfOk r (HasSlicesWoven xs y.extents.extents part.from part.to gs)
   pub pool : y.pool ≡ x.pool
   pub reads : ReadsAllGaps x.pool part.file gs (y ≡ x) disk after s t r
 

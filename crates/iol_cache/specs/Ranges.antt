@@ -23,7 +23,7 @@ use Rattle.iol_cache.specs.Loads.{PlacesSome}
 use Rattle.iol_cache.specs.RangeReads.{SameButRoom}
 use Rattle.iol_cache.specs.SharedBytes.{CountsBelow}
 use Rattle.iol_cache.specs.Sound.{IsSound}
-use Rattle.iol_cache.specs.Weave.{places_beside}
+use Rattle.iol_cache.specs.Weave.{HasSlicesBeside, HasSlicesWoven, places_beside}
 
 -- a range of a file of a sound cache may be read
 pub record MayRead (f from to : ℕ) (h : Holding) : Type 0 where
@@ -38,6 +38,7 @@ pub record PinsRange (f from to : ℕ) (old new : Holding) (pins : List Slice) (
   pub hits : List Span
   pub tile : Tile (extents_in old.cache.files f) from to hits gaps
   pub lies : places pins ≡ places_beside (extents_in old.cache.files f) from to gaps
+  pub parts : HasSlicesBeside (extents_in old.cache.files f) from to gaps pins
   pub shares : Shares old.store new.store [] (bufs_of pins)
   pub reserved : Cached
   pub rooms : SameButRoom old.cache reserved
@@ -79,6 +80,7 @@ pub record FillsAfter (f from to : ℕ) (pins : List Slice) (gaps : List Span) (
   pub less : GivesUp old mid
   pub full : Holding
   pub fills : FillsFile f from to (places pins) gaps disk mid full xs
+  pub parts : HasSlicesWoven pins (extents_in new.cache.files f) from to gaps xs
   pub stand : All (IsCleanSpan (extents_in new.cache.files f)) gaps
   pub cache : new.cache ≡ full.cache
   pub released : Moves full.store new.store (bufs_of pins) []

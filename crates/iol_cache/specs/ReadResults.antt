@@ -26,7 +26,7 @@ use Rattle.iol_cache.specs.PinnedPages.{pinned_beside}
 use Rattle.iol_cache.specs.Ranges.{CompletesRange, FillsAfter, PinsRange, UndoesAfter}
 use Rattle.iol_cache.specs.RangeReads.{SameButRoom}
 use Rattle.iol_cache.specs.Sound.{IsSound}
-use Rattle.iol_cache.specs.Weave.{places_read}
+use Rattle.iol_cache.specs.Weave.{places_read, slices_read}
 
 -- A call that wants pages is refused for want of room only where it lacks room. It succeeds, or meets a fault, only where it
 -- has room.
@@ -90,8 +90,9 @@ pub record FillsPinned (f from to : ℕ) (pins : List Slice) (gaps : List Span) 
   pub asks : Asks (length gaps) disk after r
   pub late : IfErr r (WantOfRoomOrFault (file_in old.cache.files f).pool f)
 
--- The hits of a range were shared and counted. Where there are gaps, extents went to make room for them, and they stand as
--- clean extents now. Its bytes lie over hits where they lay, over gaps in the new extents.
+-- The hits of a range were shared and counted. If there are gaps, extents were evicted to make room for them, and they are clean
+-- extents now. Bytes of hits are where they were, and bytes of gaps are in the new extents. There is one slice for each slice of
+-- an extent that has a byte of the range, and at most one more for each gap (`pinned` and `completed` state the slices exactly).
 pub record ReadsRange (f from to : ℕ) (disk : Disk) (old new : Holding) (xs : List Slice) : Type 0 where
   pub pins : List Slice
   pub gaps : List Span
@@ -99,6 +100,7 @@ pub record ReadsRange (f from to : ℕ) (disk : Disk) (old new : Holding) (xs : 
   pub pinned : PinsRange f from to old hit pins gaps
   pub completed : CompletesRange f from to pins gaps disk hit new xs
   pub lies : places xs ≡ places_read (extents_in old.cache.files f) (extents_in new.cache.files f) from to gaps
+  pub parts : length xs ≤ length (slices_read (extents_in old.cache.files f) (extents_in new.cache.files f) from to gaps) + length gaps
   pub answers : 0 < length gaps → disk.failures < last_failure
 
 -- The hits of a range were shared and counted, and extents went to make room for its gaps. What was made of these is gone,

@@ -21,7 +21,7 @@ use Rattle.iol_cache.specs.PinnedPages.{pinned_beside}
 use Rattle.iol_cache.specs.Marks.{Marks}
 use Rattle.iol_cache.specs.RangeReads.{FillsRange, SameButRoom, hits_counted, all_entered, parts_of_spans}
 use Rattle.iol_cache.specs.Sound.{IsSound}
-use Rattle.iol_cache.specs.Weave.{places_beside}
+use Rattle.iol_cache.specs.Weave.{HasSlicesWoven, places_beside}
 
 -- The holds `taken`, beside those of the extents, became the holds `given` beside theirs. With an honest store every
 -- file has its bytes, and clean extents are as stored.
@@ -83,6 +83,7 @@ pub record FillsFile (f from to : ℕ) (beside : List Place) (gaps : List Span) 
 pub record FillsAllOf (f from to : ℕ) (gaps : List Span) (xs : List Slice) (disk after : Disk) (old new : Holding)
     (r : Result (List Slice) Refusal) : Type 0 where
   pub filled : IfOk r (FillsFile f from to (places xs) gaps disk old new)
+  pub parts : IfOk r (HasSlicesWoven xs (extents_in new.cache.files f) from to gaps)
   pub sound : IsSound new.store new.cache
   pub reads : ReadsAllGaps (file_in old.cache.files f).pool f gaps (SameButRoom old.cache new.cache) disk after
       old.store new.store r

@@ -1,7 +1,8 @@
 -- Bytes of a file, shared from the extents over them.
-use Rattle.std.specs.Prelude.{◌≡◌, ℕ, ◌+◌, ◌-◌, ◌<◌, ◌≤◌, ◌^◌, ◌++◌, List, [], map, Option, Some, None, IsSome, Result, IfOk, OnErr}
+use Rattle.std.specs.Prelude.{◌≡◌, ℕ, ◌+◌, ◌-◌, ◌<◌, ◌≤◌, ◌^◌, ◌++◌, List, [], ◌∷◌, map, Option, Some, None, IsSome, Result, IfOk, OnErr}
 use Rattle.std.specs.List.{range_with_len}
 use Rattle.iol_core.specs.declared.numbers.BufId.{BufId}
+use Rattle.iol_agg.specs.Pours.{meeting}
 use Rattle.iol_extent.specs.Extents.{Cell, Extent, IsApart, cover, no_place}
 use Rattle.iol_extent.specs.declared.spans.Span.{Span}
 use Rattle.iol_hold.specs.Moves.{Covers, Moves, SameLists, Shares, tally}
@@ -27,6 +28,11 @@ place_over es i = place_in (cover es i)
 -- where the bytes of a range lie
 abbrev pub places_over : List Extent → (from to : ℕ) → List Place
 places_over es from to = map (place_over es) (range_with_len from (to - from))
+
+-- the slices of the extents that have a byte of from..to, in order
+abbrev pub slices_over : List Extent → (from to : ℕ) → List Slice
+slices_over [] from to = []
+slices_over (e ∷ es) from to = meeting (from - e.at) (to - e.at) e.parts ++ slices_over es from to
 
 -- each of these ranges lies under extents
 abbrev pub IsCoveredSpan : List Extent → Span → Type 0
@@ -62,8 +68,10 @@ pub record MayShare (s : Stored) (es : List Extent) (so_far : List Slice) (from 
   pub few : (b : BufId) → count_of s b < 2 ^ 62 + tally b (bufs_of so_far)
   pub small : byte_len so_far + (to - from) < 2 ^ 32
 
--- The bytes of a range were added to what was shared so far. Refused, all of it is released.
+-- The bytes of a range were added to what was shared so far: one slice for each slice of an extent that has a byte of the range,
+-- the first and the last one cut at its ends. If refused, all of it is released.
 pub record SharesOver {E : Type 0} (es : List Extent) (so_far : List Slice) (from to : ℕ) (old new : Stored)
     (r : Result (List Slice) E) : Type 0 where
   pub places : IfOk r (λ a. places a ≡ places so_far ++ places_over es from to)
+  pub parts : IfOk r (λ a. bufs_of a ≡ bufs_of so_far ++ bufs_of (slices_over es from to))
   pub shared : SharesOrReleases so_far (λ a. a) old new r

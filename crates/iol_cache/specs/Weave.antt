@@ -1,5 +1,6 @@
 -- A range of a file: the bytes beside its gaps, which were shared first, and those of its gaps.
 use Rattle.std.specs.Prelude.{◌≡◌, ℕ, ◌+◌, ◌-◌, ◌<◌, ◌≤◌, ◌^◌, All, List, [], ◌∷◌, ◌++◌, take, drop, slice_range}
+use Rattle.iol_agg.specs.Pours.{meeting}
 use Rattle.iol_extent.specs.Extents.{Extent}
 use Rattle.iol_extent.specs.Spans.{AreInOrder}
 use Rattle.iol_extent.specs.declared.spans.Span.{Span}
@@ -8,7 +9,7 @@ use Rattle.iol_hold.specs.Places.{Place, byte_len, places}
 use Rattle.iol_hold.specs.StoreState.{Stored}
 use Rattle.iol_hold.specs.Texts.{AllReadable, bufs_of}
 use Rattle.iol_hold.specs.declared.slices.Slice.{Slice}
-use Rattle.iol_cache.specs.SharedBytes.{AreHeld, CountsBelow, IsCovered, IsCoveredSpan, places_over}
+use Rattle.iol_cache.specs.SharedBytes.{AreHeld, CountsBelow, IsCovered, IsCoveredSpan, places_over, slices_over}
 
 -- how many bytes of at..to lie beside these gaps
 abbrev pub len_beside : (at to : ℕ) → List Span → ℕ
@@ -29,6 +30,23 @@ woven ps es at to (g ∷ gs) = take (g.from - at) ps ++ places_over es g.from g.
 abbrev pub places_read : (old new : List Extent) → (at to : ℕ) → List Span → List Place
 places_read old new at to [] = places_over old at to
 places_read old new at to (g ∷ gs) = places_over old at g.from ++ places_over new g.from g.to ++ places_read old new g.to to gs
+
+-- the slices of the extents that have a byte of at..to outside these gaps, once for each part of at..to between two gaps
+abbrev pub slices_beside : List Extent → (at to : ℕ) → List Span → List Slice
+slices_beside es at to [] = slices_over es at to
+slices_beside es at to (g ∷ gs) = slices_over es at g.from ++ slices_beside es g.to to gs
+
+-- the slices of the extents that have a byte of at..to: of the new extents for the gaps, and of the old ones outside the gaps
+abbrev pub slices_read : (old new : List Extent) → (at to : ℕ) → List Span → List Slice
+slices_read old new at to [] = slices_over old at to
+slices_read old new at to (g ∷ gs) = slices_over old at g.from ++ (slices_over new g.from g.to ++ slices_read old new g.to to gs)
+
+-- The slices of at..to. The bytes outside the gaps are those of xs from byte `used` on. For each part between two gaps there are
+-- the slices of xs that have a byte of it, and for each gap the slices of the extents that have a byte of it.
+abbrev pub slices_woven : List Slice → List Extent → (used at to : ℕ) → List Span → List Slice
+slices_woven xs es used at to [] = meeting used (used + (to - at)) xs
+slices_woven xs es used at to (g ∷ gs) =
+    meeting used (used + (g.from - at)) xs ++ (slices_over es g.from g.to ++ slices_woven xs es (used + (g.from - at)) g.to to gs)
 
 -- the bytes of at..to that are beside these gaps lie under extents
 abbrev pub IsCoveredBeside : List Extent → (at to : ℕ) → List Span → Type 0
@@ -74,3 +92,15 @@ HasPart xs ys from to zs = places zs ≡ places xs ++ slice_range (places ys) fr
 -- zs has the bytes of a range: those of its gaps where extents have them, and those beside these where the bytes of xs lie
 abbrev pub IsWoven : (xs : List Slice) → List Extent → (from to : ℕ) → (gaps : List Span) → (zs : List Slice) → Type 0
 IsWoven xs es from to gaps zs = places zs ≡ woven (places xs) es from to gaps
+
+-- the slices that zs adds to xs are those of ys with a byte from a place up to another
+abbrev pub AddsPart : (xs ys : List Slice) → (from to : ℕ) → (zs : List Slice) → Type 0
+AddsPart xs ys from to zs = bufs_of zs ≡ bufs_of xs ++ bufs_of (meeting from to ys)
+
+-- zs has a slice for each slice of the extents with a byte of a range outside its gaps
+abbrev pub HasSlicesBeside : List Extent → (from to : ℕ) → (gaps : List Span) → (zs : List Slice) → Type 0
+HasSlicesBeside es from to gaps zs = bufs_of zs ≡ bufs_of (slices_beside es from to gaps)
+
+-- zs has the slices of a range: those of its gaps where extents have them, and those of xs
+abbrev pub HasSlicesWoven : (xs : List Slice) → List Extent → (from to : ℕ) → (gaps : List Span) → (zs : List Slice) → Type 0
+HasSlicesWoven xs es from to gaps zs = bufs_of zs ≡ bufs_of (slices_woven xs es 0 from to gaps)
