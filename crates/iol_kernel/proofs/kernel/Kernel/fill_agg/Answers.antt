@@ -15,7 +15,7 @@ use Rattle.iol_kernel.proofs.kernel.Kernel.fill_agg.Goals as goal
 use Rattle.iol_kernel.proofs.kernel.Kernel.fill_agg.Goals.{After-add_agg}
 
 pub fill-requires : goal.fill-requires
-fill-requires c = record { open = sym (closed-read_of _ (state_of c.args.self.now) c.args.pool) ∙ c.requires.may.opened }
+fill-requires c = record { «open» = sym (closed-read_of _ (state_of c.args.self.now) c.args.pool) ∙ c.requires.may.opened }
 
 pub add_agg-requires-clause-few : goal.add_agg-requires-clause-few
 add_agg-requires-clause-few c = (let few = few_kept (state_of c.args.self.now) c.args.by c.requires.may.few c.in_ok-reserve_aggs.ensures.same in omega (arith, few))
