@@ -84,6 +84,7 @@ module _ (old new : SystemState) (e : Event) (r : Reply) (safe : IsSafe old) (do
     store = does.store;
     in_place = does.in_place;
     shares_file = does.shares_file;
+    slices = does.slices;
     publishes = does.publishes;
     creates = does.creates;
     ends = does.ends;

@@ -21,6 +21,7 @@ use Rattle.iol_system.specs.Late.{LeavesLate}
 use Rattle.iol_system.specs.Machine.{system_of, tables_of}
 use Rattle.iol_system.specs.PagesAndChunks.{Creates, Publishes, SamePages}
 use Rattle.iol_system.specs.Sums.{Remembers}
+use Rattle.iol_system.specs.Slices.{Divides}
 use Rattle.iol_system.specs.Still.{is_still, keeps_store, only_looks, takes_out}
 use Rattle.iol_system.specs.Room.{BytesFit, HasRoomFor, LacksRoomFor, IsDone, IsEarly, IsFault, IsMemory, IsNoRoom, IsRefused}
 use Rattle.iol_system.specs.WriteBack.{WritesBack}
@@ -52,6 +53,7 @@ pub record Does (disk : Disk) (old : KernelState) (e : Event) (r : Reply) (after
   pub places : takes_out (tables_of old) e ≡ true → IsDone r → layout_of new ≡ (meaning (layout_of old) e).after
   pub store : keeps_store e ≡ true → new.store ≡ old.store
   pub shares_file : IsDone r → SharesFile (system_of old disk) e r new
+  pub slices : IsDone r → Divides old e new
   pub publishes : IsDone r → Publishes old e new
   pub creates : Creates old e r new
   pub ends : TellsEnd (system_of old disk) e r

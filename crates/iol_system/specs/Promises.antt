@@ -24,6 +24,7 @@ use Rattle.iol_system.specs.PagesAndChunks.{Creates, Publishes, SamePages}
 use Rattle.iol_system.specs.Sums.{Remembers}
 use Rattle.iol_system.specs.Room.{BytesFit, HasRoomFor, LacksRoomFor, IsDone, IsEarly, IsFault, IsMemory, IsNoRoom, IsRefused}
 use Rattle.iol_system.specs.Safe.{IsSafe}
+use Rattle.iol_system.specs.Slices.{Divides}
 use Rattle.iol_system.specs.Still.{is_still, keeps_store, only_looks, takes_out}
 use Rattle.iol_system.specs.WriteBack.{IsDropped, IsFlushed, IsKept, IsSynced, StoresBack}
 
@@ -77,6 +78,8 @@ pub record Promises (old : SystemState) (e : Event) (r : Reply) (new : SystemSta
   pub store : keeps_store e ≡ true → new.kernel.store ≡ old.kernel.store
   -- calls on files share the bytes in memory, and the bytes read or written by copying are in memory afterwards, too
   pub shares_file : IsDone r → SharesFile old e r new.kernel
+  -- an aggregate of new bytes has at most one slice per page
+  pub slices : IsDone r → Divides old.kernel e new.kernel
   -- Buffers are made on the lowest free pages, whose generation is incremented, and no more extents are evicted for new bytes
   -- than needed. An open pool keeps its chunks, a closed one all of them or none.
   pub publishes : IsDone r → Publishes old.kernel e new.kernel

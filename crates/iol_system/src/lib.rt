@@ -10,7 +10,8 @@
 //! done (`err`). `step` and `step_ref` have one clause, `Promises`: the machine's step (`step`,
 //! `beside`), when the store is asked and a failure is reported (`unasked`, `faults`, `asked`, `slots`),
 //! refusals (`room`, `no_room`, `memory`, `without_room`, `early`, `refused`, `late`), events that only
-//! look (`looks`), sharing (`shares`, `pages`, `still`, `places`, `store`, `in_place`, `shares_file`),
+//! look (`looks`), sharing (`shares`, `pages`, `still`, `places`, `store`, `in_place`, `shares_file`,
+//! `slices`),
 //! generations (`publishes`, `creates`), the ends of files (`ends`), sums (`sums`), writing back
 //! (`synced`, `kept`, `flushed`, `dropped`, `stores_back`), and the invariant (`safe`, `stays`,
 //! `honest`). `arrive_from` and `drain_to` serve a reader and a writer in place; `parts` and

@@ -2,11 +2,11 @@
 ghost use Rattle.std.specs.Prelude.{◌≡◌, ℕ, true, IfOk, IfErr, Err};
 ghost use Rattle.iol_core.specs.Prelude.{is_live, domain};
 ghost use Rattle.iol_core.specs.Calls.Aggregates as calls;
-ghost use Rattle.iol_kernel.specs.Calls.{MakesNext, MayMake, RefusesShow};
+ghost use Rattle.iol_kernel.specs.Calls.{MayMake, RefusesShow};
 ghost use Rattle.iol_kernel.specs.Denials.{TellsBarred};
 ghost use Rattle.iol_kernel.specs.DomainAggregates.{HasAgg, MayCut, MayGive, MayJoin, MayReplace, MaySplit};
 ghost use Rattle.iol_kernel.specs.KernelState.{joined, IsSound};
-ghost use Rattle.iol_kernel.specs.NewBytes.{PlacesAgg, TestsMake};
+ghost use Rattle.iol_kernel.specs.NewBytes.{FillsNext, MakesAggregate, TestsMake};
 ghost use Rattle.iol_kernel.specs.Readings.{Reading};
 
 use crate::kernel::Kernel;
@@ -25,7 +25,7 @@ impl Kernel {
     /// pool's files are evicted if necessary.
     pub fn agg_make(&mut self, by: DomainId, bytes: &Bytes) -> Result<AggId, Refusal>
         requires { IsSound (state_of self.old) }
-        ensures { PlacesAgg by bytes.now (state_of self.old) result (state_of self.new) }
+        ensures { MakesAggregate by bytes.now (state_of self.old) result (state_of self.new) }
     {
         let list = bytes.as_slice();
         let pool = self.pool_to_make(by, list)?;
@@ -72,7 +72,7 @@ impl Kernel {
     fn fill_agg(&mut self, by: DomainId, pool: PoolId, bytes: &[u8]) -> Result<AggId, Refusal>
         requires sound { IsSound (state_of self.old) }
         requires may { MayMake by bytes.now pool (state_of self.old) }
-        ensures { MakesNext by pool bytes.now (state_of self.old) result (state_of self.new) }
+        ensures { FillsNext by pool bytes.now (state_of self.old) result (state_of self.new) }
     {
         self.domains.reserve_aggs(by, 1)?;
         let agg = Agg::fill(self.alloc, &mut self.store, pool, bytes)?;
