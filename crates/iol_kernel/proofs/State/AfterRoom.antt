@@ -1,5 +1,5 @@
 -- What a call means that places new bytes after clean extents gave way.
-use Rattle.std.proofs.Common.{◌≡◌, ℕ, ◌+◌, ◌≤◌, ◌∙◌, Bool, true, false, List, [], ◌∷◌, length, Option, Some, None, refl, sym, ap, subst, arith, inl, inr}
+use Rattle.std.proofs.Common.{◌≡◌, ℕ, ◌+◌, ◌≤◌, ◌∙◌, Bool, true, false, List, [], length, Some, None, refl, sym, ap, subst, arith, inl, inr}
 use Rattle.std.specs.Prelude.{◌↔◌, IsTrue, nat_le, MatchOption, Result, not, Ok, Err}
 use Rattle.std.proofs.lemmas.Bool.{cases_lt}
 use Rattle.std.proofs.lemmas.List.Filters.{length-filter_both}
@@ -7,7 +7,7 @@ use Rattle.std.proofs.lemmas.Bool.Decides.{nat_tests}
 use Rattle.iol_arena.specs.State.{pages_for}
 use Rattle.iol_core.specs.Text.{Text}
 use Rattle.iol_core.specs.State.{State}
-use Rattle.iol_core.specs.Meaning.{◌when◌, Meaning, Step, WantOfRoom, first}
+use Rattle.iol_core.specs.Meaning.{Meaning, Step, WantOfRoom, first}
 use Rattle.iol_core.specs.declared.refusals.Refusal.{Refusal}
 use Rattle.iol_core.specs.declared.refusals.Refusal.TheVariants.{NoRoom, Memory}
 use Rattle.iol_core.specs.declared.refusals.Refusal.TheVariants as refusal
@@ -68,14 +68,6 @@ late_step m x passed late = rw passed late
 
 err_is : {A : Type 0} (x y : Refusal) → ◌≡◌ {A = Result A Refusal} (Err x) (Err y) → x ≡ y
 err_is x y e = cc
-
--- A test that is not for memory, before tests that are not.
-pub skips_memory : (x : Refusal) (b : Bool) (rest : List (Option Refusal)) → (x ≡ Memory → ⊥) → (first rest ≡ Some Memory → ⊥) → first ((x when b) ∷ rest) ≡ Some Memory → ⊥
-skips_memory x true rest other more is = (let same : x ≡ Memory = cc in other same)
-skips_memory x false rest other more is = more is
-
-pub no_tests : first [] ≡ Some Memory → ⊥
-no_tests is = absurd (cc is)
 
 pub places_refused : {A : Type 0} (m : State → Meaning A) (put : State → Text → State) (pool n : ℕ) (h : KernelState) (x : Refusal) → IsSound h → ((f : Reading) → first (m (read_of f h)).refusals ≡ Some x) → ((p : ℕ) → x ≡ NoRoom p → ⊥) → ((s : State) → first (m s).refusals ≡ Some Memory → ⊥) → Places m put pool n h (Err x) h
 places_refused m put pool n h x sound is other tested = record {
