@@ -144,6 +144,7 @@ pub record IsTakenSoFar (s t : Stored) (old out queue : List Slice) (n left : �
   pub taken : places out ++ take_while (λ (p : Place). names_given s.pools d p.pool) (take left (places queue)) ≡ take_while (λ (p : Place). names_given s.pools d p.pool) (take n (places old))
   pub cut : IsCutSoFar n left old out queue
   pub count : byte_len out + left ≡ n
+  pub fewer : length queue ≤ length old
   pub whole : places out ++ places queue ≡ places old
   pub shares : Shares s t (bufs_of old) (bufs_of out ++ bufs_of queue)
 
@@ -152,6 +153,7 @@ taken_none s old out n d none = record {
   taken = ap (λ xs. places xs ++ take_while (λ (p : Place). names_given s.pools d p.pool) (take n (places old))) none;
   cut = record { parts = ap (λ xs. map slice_places xs ++ first_parts n (map slice_places old)) none };
   count = omega (arith, ap byte_len none);
+  fewer = omega arith;
   whole = ap (λ xs. places xs ++ places old) none;
   shares = shares_start s old out none;
 }
@@ -164,6 +166,7 @@ taken_end s t old out queue n left d so_far few none no_parts = record {
   cut = λ all. cut_end n left old out queue so_far.cut (no_parts all);
   parts = parts_first n old out (first_parts left (map slice_places queue)) (omega (arith, so_far.count)) so_far.cut.parts;
   few = few;
+  left = so_far.fewer;
   whole = so_far.whole;
   shares = so_far.shares;
 }
@@ -193,8 +196,8 @@ taken_barred s t old out queue n left d x so_far few some is wanted barred =
 -- one slice more, or a part of one
 pub taken_more : (s t u : Stored) (old out moved queue after : List Slice) (n left : ℕ) (d : Option ℕ) (x : Slice) → IsTakenSoFar s t old out queue n left d → moved ≡ out ++ x ∷ []
     → slice_places x ++ places after ≡ places queue → first_parts left (map slice_places queue) ≡ slice_places x ∷ first_parts (left - x.len) (map slice_places after) → x.len ≤ left
-    → names_given s.pools d x.hold.pool ≡ true → Shares t u (bufs_of queue) (x.hold.buf ∷ bufs_of after) → IsTakenSoFar s u old moved after n (left - x.len) d
-taken_more s t u old out moved queue after n left d x so_far pushed first parts fits seen shares =
+    → length after ≤ length queue → names_given s.pools d x.hold.pool ≡ true → Shares t u (bufs_of queue) (x.hold.buf ∷ bufs_of after) → IsTakenSoFar s u old moved after n (left - x.len) d
+taken_more s t u old out moved queue after n left d x so_far pushed first parts fits fewer seen shares =
     let rest = take_while (λ (p : Place). names_given s.pools d p.pool) (take (left - x.len) (places after)) in
     let step = take_while_step (names_given s.pools d) x left (places queue) after first fits seen in
     record {
@@ -202,6 +205,7 @@ taken_more s t u old out moved queue after n left d x so_far pushed first parts 
           ∙ append_assoc (places out) (slice_places x) rest ∙ ap (λ t. places out ++ t) (sym step) ∙ so_far.taken;
       cut = cut_more n left old out moved queue after x so_far.cut pushed parts;
       count = omega (arith, so_far.count, fits, ap byte_len pushed, byte_len-push out x);
+      fewer = omega (arith, fewer, so_far.fewer);
       whole = ap (λ xs. places xs ++ places after) pushed ∙ ap (λ t. t ++ places after) (places-push out x)
           ∙ append_assoc (places out) (slice_places x) (places after) ∙ ap (λ t. places out ++ t) first ∙ so_far.whole;
       shares = shares_moved old out queue moved after x pushed so_far.shares shares;

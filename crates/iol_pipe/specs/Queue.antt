@@ -79,6 +79,7 @@ pub record TakesFirst (s t : Stored) (old given new : List Slice) (n : ℕ) (d :
   pub cut : d ≡ None → map slice_places given ≡ first_parts n (map slice_places old)
   pub parts : map slice_places given ≡ first_parts (byte_len given) (map slice_places old)
   pub few : length given + length new ≤ length old + 1
+  pub left : length new ≤ length old
   pub whole : places given ++ places new ≡ places old
   pub shares : Shares s t (bufs_of old) (bufs_of given ++ bufs_of new)
 
@@ -92,11 +93,12 @@ pub record TakesOff {E : Type 0} (s t : Stored) (old new : List Slice) (n : ℕ)
 
 -- A domain was given the front of a queue: of its first n bytes the longest prefix whose pools all name the domain. The slices
 -- given are the queue's first ones, of which only the last may have been cut. With those left they are at most one more than
--- before.
+-- before, and those left are no more than before.
 pub record GivesFirst (s t : Stored) (old front new : List Slice) (n d : ℕ) : Type 0 where
   pub given : places front ≡ front_for s.pools d n old
   pub cut : map slice_places front ≡ first_parts (byte_len front) (map slice_places old)
   pub few : length front + length new ≤ length old + 1
+  pub left : length new ≤ length old
   pub rest : places new ≡ drop (byte_len front) (places old)
   pub shares : Shares s t (bufs_of old) (bufs_of front ++ bufs_of new)
 
@@ -105,5 +107,6 @@ pub record CutsFirst (s t : Stored) (old first new : List Slice) (n : ℕ) : Typ
   pub given : places first ≡ take n (places old)
   pub cut : map slice_places first ≡ first_parts n (map slice_places old)
   pub few : length first + length new ≤ length old + 1
+  pub left : length new ≤ length old
   pub rest : places new ≡ drop n (places old)
   pub shares : Shares s t (bufs_of old) (bufs_of first ++ bufs_of new)

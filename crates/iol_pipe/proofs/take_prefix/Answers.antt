@@ -47,7 +47,7 @@ loop-left-preserved c =
     let seen = asked pools c.loop-left.store.pools slice.hold.pool c.pool.result c.args.d.now c.names.result c.loop-left.invariant.so_far.shares.pools (c.pool.ensures ∙ sym pool) c.names.ensures in
     record {
       so_far = taken_more c.args.store.now c.loop-left.store c.take_first-slice.new.store old out moved queue after c.args.n c.loop-left.left c.args.d.now slice c.loop-left.invariant.so_far c.push_reserved.ensures.items
-          c.take_first-slice.ensures.given c.take_first-slice.ensures.cut c.take_first-slice.ensures.len (seen ∙ c.if-not-names.false) c.take_first-slice.ensures.shares;
+          c.take_first-slice.ensures.given c.take_first-slice.ensures.cut c.take_first-slice.ensures.len c.take_first-slice.ensures.few (seen ∙ c.if-not-names.false) c.take_first-slice.ensures.shares;
       room = omega (arith, c.loop-left.invariant.room, c.push_reserved.ensures.len, c.push_reserved.ensures.capacity, c.take_first-slice.ensures.fewer);
       few = omega (arith, c.loop-left.invariant.fewer c.loop-left-test.true, length-push out moved slice c.push_reserved.ensures.items, c.take_first-slice.ensures.few);
       fewer = λ more. omega (arith, c.loop-left.invariant.fewer c.loop-left-test.true, length-push out moved slice c.push_reserved.ensures.items, c.take_first-slice.ensures.fewer_left (omega (arith, more)));
