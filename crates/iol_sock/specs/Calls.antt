@@ -67,7 +67,6 @@ pub record CopiesFront (s : Stored) (x : Conn (List Slice)) (d : ℕ) (old new :
 -- The first n bytes that came in are released, or all where fewer wait.
 pub record Skips (s t : Stored) (x y : Conn (List Slice)) (n : ℕ) : Type 0 where
   pub rest : places y.incoming ≡ drop n (places x.incoming)
-  pub few : length y.incoming ≤ length x.incoming
   pub others : y ≡ record x { incoming = y.incoming }
   pub releases : Releases s t x.incoming y.incoming
 
@@ -110,7 +109,6 @@ pub record Drains {W : Type 0} (contents : W → Option (List ℕ)) (writer afte
     (max : ℕ) (d : Drained) : Type 0 where
   pub writes : Writes contents writer after s x.outgoing max d
   pub rest : places y.outgoing ≡ drop d.taken (places x.outgoing)
-  pub few : length y.outgoing ≤ length x.outgoing
   pub others : y ≡ record x { outgoing = y.outgoing }
   pub releases : Releases s t x.outgoing y.outgoing
 

@@ -1,5 +1,5 @@
 -- What becomes of the first bytes of a queue, as they are sent.
-use Rattle.std.specs.Prelude.{◌≡◌, ◌<◌, ◌≤◌, ℕ, true, false, List, Option, Result, IfOk, OnErr, length, map, take, drop, min}
+use Rattle.std.specs.Prelude.{◌≡◌, ◌<◌, ◌≤◌, ℕ, true, false, List, Option, Result, IfOk, OnErr, map, take, drop, min}
 use Rattle.std.specs.Io.KnownBytes.{Appends}
 use Rattle.iol_core.specs.Prelude.{checksum as checksum_of}
 use Rattle.iol_core.specs.Text.{bytes_of}
@@ -27,7 +27,6 @@ pub record UsesSent (s : Stored) (queue : List Slice) (n : ℕ) (old new : Sums)
 pub record IsSent (s t : Stored) (old new : List Slice) (n : ℕ) (sums summed : Sums) (sent : List ℕ) : Type 0 where
   pub bytes : sent ≡ bytes_of (take n (text_of s old))
   pub rest : places new ≡ drop n (places old)
-  pub few : length new ≤ length old
   pub releases : Releases s t old new
   pub uses : UsesSent s old n sums summed
 
