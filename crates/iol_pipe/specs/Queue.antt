@@ -69,12 +69,17 @@ pub record TakesSlice (s t : Stored) (old new : List Slice) (most : ℕ) (x : Sl
   pub fewer : min (length new) (most - x.len) + 1 ≤ min (length old) most
   pub shares : Shares s t (bufs_of old) (x.hold.buf ∷ bufs_of new)
   pub whole : x.len < most → (b : BufId) → same b x.hold.buf + tally b (bufs_of new) ≤ tally b (bufs_of old)
+  pub few : length new ≤ length old
+  pub fewer_left : x.len < most → length new + 1 ≤ length old
 
 -- The first bytes of a queue went to others, at most n, for as long as their pools name the domain, if one is given. If
 -- none is, only the last of these slices may have been cut.
 pub record TakesFirst (s t : Stored) (old given new : List Slice) (n : ℕ) (d : Option ℕ) : Type 0 where
   pub taken : places given ≡ take_while (λ (p : Place). names_given s.pools d p.pool) (take n (places old))
   pub cut : d ≡ None → map slice_places given ≡ first_parts n (map slice_places old)
+  pub parts : map slice_places given ≡ first_parts (byte_len given) (map slice_places old)
+  pub few : length given + length new ≤ length old + 1
+  pub left : length new ≤ length old
   pub whole : places given ++ places new ≡ places old
   pub shares : Shares s t (bufs_of old) (bufs_of given ++ bufs_of new)
 
@@ -86,9 +91,14 @@ pub record TakesOff {E : Type 0} (s t : Stored) (old new : List Slice) (n : ℕ)
   pub none : min n (byte_len old) ≡ 0 → IsOk r
   pub err : OnErr r ((new ≡ old) × (t ≡ s))
 
--- A domain was given the front of a queue: of its first n bytes the longest prefix whose pools all name the domain.
+-- A domain was given the front of a queue: of its first n bytes the longest prefix whose pools all name the domain. The slices
+-- given are the queue's first ones, of which only the last may have been cut. With those left they are at most one more than
+-- before, and those left are no more than before.
 pub record GivesFirst (s t : Stored) (old front new : List Slice) (n d : ℕ) : Type 0 where
   pub given : places front ≡ front_for s.pools d n old
+  pub cut : map slice_places front ≡ first_parts (byte_len front) (map slice_places old)
+  pub few : length front + length new ≤ length old + 1
+  pub left : length new ≤ length old
   pub rest : places new ≡ drop (byte_len front) (places old)
   pub shares : Shares s t (bufs_of old) (bufs_of front ++ bufs_of new)
 
@@ -96,5 +106,7 @@ pub record GivesFirst (s t : Stored) (old front new : List Slice) (n d : ℕ) : 
 pub record CutsFirst (s t : Stored) (old first new : List Slice) (n : ℕ) : Type 0 where
   pub given : places first ≡ take n (places old)
   pub cut : map slice_places first ≡ first_parts n (map slice_places old)
+  pub few : length first + length new ≤ length old + 1
+  pub left : length new ≤ length old
   pub rest : places new ≡ drop n (places old)
   pub shares : Shares s t (bufs_of old) (bufs_of first ++ bufs_of new)

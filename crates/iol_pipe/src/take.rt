@@ -1,5 +1,5 @@
 //! The first bytes of a queue, whoever may read them.
-ghost use Rattle.std.specs.Prelude.{◌≡◌, length, drop, min, slice_index_or, ◌↔◌, ◌<◌, IsSome, IfSome, IsOk, IfOk, OnErr};
+ghost use Rattle.std.specs.Prelude.{◌≡◌, length, drop, min, slice_index_or, ◌↔◌, ◌<◌, ◌≤◌, IsSome, IfSome, IsOk, IfOk, OnErr};
 ghost use Rattle.iol_hold.specs.Prelude.{Covers, IsCountable, Releases, places, byte_len, bufs_of};
 ghost use Rattle.iol_pipe.specs.Queue.{CutsFirst};
 
@@ -34,6 +34,7 @@ impl Pipe {
     pub fn skip(&mut self, store: &mut Store, n: u32)
         requires { Covers store.old (bufs_of self.old) }
         ensures rest { places self.new ≡ drop n (places self.old) }
+        ensures few { length self.new ≤ length self.old }
         ensures releases { Releases store.old store.new self.old self.new }
     {
         let skipped = self.len.min(n);
@@ -46,6 +47,7 @@ impl Pipe {
 fn skip_bytes(queue: &mut VecDeque<Slice>, store: &mut Store, n: u32)
     requires { Covers store.old (bufs_of queue.old.items) }
     ensures rest { places queue.new.items ≡ drop n (places queue.old.items) }
+    ensures few { length queue.new.items ≤ length queue.old.items }
     ensures releases { Releases store.old store.new queue.old.items queue.new.items }
 {
     let mut left = n;
