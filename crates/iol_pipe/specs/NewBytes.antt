@@ -13,8 +13,8 @@ use Rattle.iol_hold.specs.declared.slices.Slice.{Slice}
 use Rattle.iol_agg.specs.Wholes.{AreWhole}
 use Rattle.iol_pipe.specs.Queue.{first_parts, fitting}
 
--- The queue got slices of these bytes at its end, in new buffers of the pool. They were made on the lowest free pages
--- of the pool, each of which was raised by one.
+-- The queue got slices of these bytes at its end, in new buffers of the pool: one slice per buffer, and at most one per page.
+-- The buffers were made on the lowest free pages of the pool, whose generations were incremented by one.
 pub record AddsBytes (s t : Stored) (old new : List Slice) (pool : ℕ) (bytes : List ℕ) : Type 0 where
   pub slices : List Slice
   pub few : length slices ≤ pages_for (length bytes)
@@ -27,7 +27,7 @@ pub record AddsBytes (s t : Stored) (old new : List Slice) (pool : ℕ) (bytes :
   pub settles : AllSettled s → AllSettled t
   pub pools : t.pools ≡ s.pools
 
--- The queue got a slice of each of these buffers at its end, whole.
+-- The queue got one slice per buffer at its end: the whole buffer.
 pub record AddsWhole (s : Stored) (old new : List Slice) (holds : List Buffer) : Type 0 where
   pub slices : List Slice
   pub added : new ≡ old ++ slices
