@@ -21,11 +21,11 @@ abbrev pub place_in : Option Cell → Place
 place_in None = no_place
 place_in (Some c) = c.place
 
--- where byte i of a file lies
+-- the place of byte i of a file
 abbrev pub place_over : List Extent → (i : ℕ) → Place
 place_over es i = place_in (cover es i)
 
--- where the bytes of a range lie
+-- the places of the bytes of a range
 abbrev pub places_over : List Extent → (from to : ℕ) → List Place
 places_over es from to = map (place_over es) (range_with_len from (to - from))
 
@@ -38,7 +38,7 @@ slices_over (e ∷ es) from to = meeting (from - e.at) (to - e.at) e.parts ++ sl
 abbrev pub IsCoveredSpan : List Extent → Span → Type 0
 IsCoveredSpan es s = IsCovered es s.from s.to
 
--- these extents stand apart, their slices are held, and their bytes can be read
+-- these extents do not overlap, their slices are held, and their bytes can be read
 pub record AreHeld (s : Stored) (es : List Extent) : Type 0 where
   pub apart : IsApart 0 es
   pub held : Covers s (bufs_of (all_parts es))
@@ -48,7 +48,7 @@ pub record AreHeld (s : Stored) (es : List Extent) : Type 0 where
 pub record CountsBelow (s : Stored) (n : ℕ) : Type 0 where
   pub each : (b : BufId) → count_of s b < n
 
--- Slices are shared, beside those that were held so far, and handed out with them. Refused, all of them are released.
+-- Slices are shared, in addition to those held so far, and returned with them. After an error all of them are released.
 pub record SharesOrReleases {A E : Type 0} (so_far : List Slice) (given : A → List Slice) (old new : Stored)
     (r : Result A E) : Type 0 where
   pub shares : IfOk r (λ a. Shares old new (bufs_of so_far) (bufs_of (given a)))

@@ -57,7 +57,7 @@ impl Cache {
             result }
     {
         let mut passed = Rank::least();
-        while store.free_count(pool) < pages {
+        while !store.has_free(pool, pages) {
             let Some(place) = self.victim(store, pool, &mut passed) else {
                 return false;
             };
@@ -72,7 +72,7 @@ impl Cache {
         requires open { (pool_in store.now.pools pool).closed ≡ false }
         ensures { IsTrue result ↔ HasPages pool pages (holding store.now self.now) }
     {
-        if pages <= store.free_count(pool) {
+        if store.has_free(pool, pages) {
             return true;
         }
         store.can_free(pool, pages, self.marks.as_slice())

@@ -1,18 +1,16 @@
 -- The slices of extents that meet a range.
-use Rattle.std.proofs.Common.{◌≡◌, ℕ, ◌+◌, ◌-◌, ◌<◌, ◌≤◌, Bool, true, false, min, cond, ltb, List, [], ◌∷◌, ◌++◌, Option, None, Some, length, refl, sym, ap, subst, ◌∙◌, arith, inl, inr, append_assoc, append-nil}
-use Rattle.std.proofs.lemmas.Bool.{cases_lt, lt-ltb, le-ltb}
+use Rattle.std.proofs.Common.{◌≡◌, ℕ, ◌+◌, ◌-◌, ◌<◌, ◌≤◌, Bool, true, false, min, cond, ltb, List, [], ◌∷◌, ◌++◌, Some, refl, sym, ap, subst, ◌∙◌, arith, inl, inr, append_assoc, append-nil}
+use Rattle.std.proofs.lemmas.Bool.{cases_lt, le-ltb}
 use Rattle.iol_core.specs.declared.numbers.BufId.{BufId}
 use Rattle.iol_agg.specs.Pours.{meeting}
-use Rattle.iol_agg.proofs.RangeSlices.{meeting-empty, meeting-nil}
+use Rattle.iol_agg.proofs.RangeSlices.{meeting-empty}
 use Rattle.iol_extent.specs.Extents.{Extent, IsApart, end_of, extent_over, is_over}
-use Rattle.iol_extent.specs.declared.spans.Span.{Span}
 use Rattle.iol_hold.specs.Places.{byte_len}
 use Rattle.iol_hold.specs.Texts.{bufs_of}
 use Rattle.iol_hold.specs.declared.slices.Slice.{Slice}
 use Rattle.iol_hold.proofs.Counts.{bufs-append}
 use Rattle.iol_hold.proofs.SlicePlaces.{byte_len-cons}
 use Rattle.iol_cache.specs.SharedBytes.{slices_over}
-use Rattle.iol_cache.specs.Weave.{slices_beside, slices_woven}
 use Rattle.iol_cache.proofs.RangeReads.SharedBytes.{over_at, over_low}
 
 -- no slice meets a range after the last byte
