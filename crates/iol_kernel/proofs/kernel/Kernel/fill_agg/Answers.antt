@@ -58,8 +58,8 @@ returns c =
         err = tt;
       };
       slices = record {
-        slices = c.in_ok-agg.agg;
-        few = few_made c.args.self.now.store c.args.self.now.store.arena t.arena c.in_ok-agg.agg c.args.pool (length c.args.bytes.now) e.made_on;
+        slices = all.slices;
+        few = few_made c.args.self.now.store c.args.self.now.store.arena t.arena all.slices c.args.pool (length c.args.bytes.now) all.made_on;
         added = all.added;
       };
     }
