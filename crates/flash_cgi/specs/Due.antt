@@ -1,4 +1,4 @@
--- The text that a script outputs, from its job to its end, whatever others do.
+-- The text that a script puts out, from its job to its end, beside whatever others do.
 use Rattle.std.specs.Prelude.{◌≡◌, ◌≢◌, ◌⊎◌, ℕ, Bool, true, false, List, [], ◌++◌, Some}
 use mathlib.Core.Logic.{inl, inr}
 use Rattle.iol_core.specs.Text.{bytes_of}
@@ -25,20 +25,20 @@ use Rattle.flash_cgi.specs.Works.{worker_turns}
 use Rattle.flash_cgi.specs.declared.line.Line.{Line}
 use Rattle.flash_cgi.specs.declared.worker.Worker.{Worker}
 
--- The job pipe of the worker in domain d: the worker has its read end, it has a writer, and it is not the output pipe.
+-- The job pipe of the worker in domain d, which is not the pipe of its output: it reads it, and somebody may write to it.
 pub record HasDesk (m : State) (d j p : ℕ) : Type 0 where
   pub jobs : descriptor m d 0 ≡ Some (on.ReadEnd j)
   pub writing : (pipe_at m j).writing ≡ true
   pub apart : j ≢ p
 
--- the job pipe has the job until it is read, and is empty afterwards
+-- what lies there is the job, until it is read, and then nothing
 abbrev pub HasRest : (m : State) → (j p : ℕ) → (seat : Seat Worker) → (unseen : List Outcome → List ℕ) → RunsJob m p seat unseen
     → Type 0
 HasRest m j p seat unseen (inl h) = Unit {0}
 HasRest m j p seat unseen (inr h) = (pipe_at m j).queue ≡ []
 
--- This text is due from pipe p: it is the pending output of the running script, with the current contents of each file that is
--- still to be read. The job came from pipe j.
+-- This text is still to be had from pipe p: what is unseen of the output of the script that runs here, where each file that it is
+-- still to read comes out as it would now. Its job came from pipe j.
 pub record IsDue (m : State) (j p : ℕ) (seat : Seat Worker) (text : List ℕ) : Type 0 where
   pub unseen : List Outcome → List ℕ
   pub runs : RunsJob m p seat unseen
@@ -47,7 +47,7 @@ pub record IsDue (m : State) (j p : ℕ) (seat : Seat Worker) (text : List ℕ) 
   pub desk : HasDesk m seat.by j p
   pub rest : HasRest m j p seat unseen runs
 
--- all of the text is in the pipe, the write end is closed, and the worker is free for the next job, which has not arrived
+-- all of it lies in the pipe, whose write end is closed, and the worker is free for the next job, which is still to come
 pub record IsWritten (m n : State) (j p : ℕ) (next : Seat Worker) (text : List ℕ) (r : Reply) : Type 0 where
   pub all : text ≡ bytes_of (pipe_at m p).queue
   pub done : r ≡ reply.Done
@@ -55,25 +55,25 @@ pub record IsWritten (m n : State) (j p : ℕ) (next : Seat Worker) (text : List
   pub free : IsFree n next
   pub none : HasNoJob n next.by j
 
--- the bytes removed from the pipe were the front of the text, and the rest is due
+-- what went from the pipe was the front of the text, and the rest is due
 pub record GaveFront (m n : State) (j p : ℕ) (seat : Seat Worker) (text : List ℕ) : Type 0 where
   pub goes : GoesFromFront m p n
   pub rest : List ℕ
   pub splits : text ≡ bytes_of goes.gone ++ rest
   pub due : IsDue n j p seat rest
 
--- If the files do not change, a script outputs one text.
+-- With the files as they are a script puts out one text.
 pub record ScriptsPutOut : Type 0 where
-  -- for a job that waits for a free worker: the output of its lines, after the bytes already in the pipe
+  -- of a job that waits for a free worker: the output of its lines, behind what is in the pipe
   pub begins : (m : State) (j p fd : ℕ) (seat : Seat Worker) (query script : List ℕ) (lines : List Line) → IsFree m seat
       → HasJob m seat.by j p fd query script lines → (pipe_at m j).writing ≡ true
       → IsDue m j p seat (bytes_of (pipe_at m p).queue ++ output query lines (outcomes_in m seat.by lines))
-  -- a turn of the worker without a resource refusal keeps the text due, until all is written, or the pipe has no reader
+  -- a turn of the worker leaves it due, until all is written, or nobody reads; it is not rough
   pub turns : (m n : State) (j p : ℕ) (seat next : Seat Worker) (yields : Bool) (r : Reply) (text : List ℕ)
       → IsOrderly m → ArePlaced m
       → AreFiles m → IsDue m j p seat text → SeatTurn copying worker_turns m seat yields r n next → is_rough r ≡ false
       → IsDue n j p next text ⊎ IsWritten m n j p next text r ⊎ ((pipe_at n p).reading ≡ false)
-  -- calls of others and external events take the front of the text, if they do not change the files and the job pipe
+  -- calls of others and what happens outside take its front, as long as they leave the files, and the job pipe
   pub others : (m n : State) (j p : ℕ) (seat : Seat Worker) (e : Event) (r : Reply) (text : List ℕ) → IsOrderly m → ArePlaced m
       → StepsTo m e r n → is_call_of e seat.by ≡ false → LeavesFiles m seat.by n → pipe_at n j ≡ pipe_at m j
       → IsDue m j p seat text → GaveFront m n j p seat text
