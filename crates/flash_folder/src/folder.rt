@@ -1,4 +1,4 @@
-//! A site with the files of a folder, and the world that serves it.
+//! A site of the files of a folder, and the world that serves it.
 ghost use Rattle.std.specs.Prelude.{◌≡◌, ◌<◌, IfErr, IfOk, Some, true, false, length, slice_get};
 ghost use Rattle.iol_core.specs.declared.limits.TheConstants.{MAX_FILES};
 ghost use Rattle.flash_folder.specs.Fault.{StopsServing, StopsStart};
@@ -24,7 +24,7 @@ use std::marker::Model;
 use std::net::TcpListener;
 use std::rt::Files;
 
-/// The pool for the input of connections.
+/// The pool that connections take their bytes into.
 const NET: u32 = 2;
 
 /// The world that serves the files of a folder.
@@ -41,7 +41,7 @@ impl<R: Files> Model for Host<R> {
 }
 
 impl<R: Files + AllocGlobal + Clone + Drop> Host<R> {
-    /// Creates a world from the files that a folder has now, with the processes that serve them.
+    /// The files of a folder, as they are now, and the processes that serve them.
     pub fn new(rt: &R, root: &str) -> Result<Host<R>, Fault>
         ensures { IfErr result StopsStart }
     {
@@ -49,7 +49,7 @@ impl<R: Files + AllocGlobal + Clone + Drop> Host<R> {
             Ok(store) => store,
             Err(e) => return Err(Fault::of(&e, Fault::Folder)),
         };
-        // All sizes are within their limits, so the only possible error is out of memory.
+        // All is within its limits, so only memory can be wanting.
         let alloc = rt.alloc();
         match world_over(alloc, store) {
             Ok(world) => Ok(Host { alloc, world }),
@@ -59,7 +59,7 @@ impl<R: Files + AllocGlobal + Clone + Drop> Host<R> {
 }
 
 impl<R: Files + Drop> Host<R> {
-    /// Serves `count` connections of a listener, one after another.
+    /// Serves so many connections of a listener, one after another.
     pub fn serve(&mut self, listener: &TcpListener, count: u32) -> Result<(), Fault>
         ensures { IfErr result StopsServing }
     {
@@ -71,7 +71,7 @@ impl<R: Files + Drop> Host<R> {
         }
     }
 
-    /// Serves one connection, from a reader and to a writer, and returns its ending.
+    /// Serves one connection, from a reader and to a writer: how that ended.
     pub fn answer<I: Read, O: Write>(
         &mut self,
         reader: &mut I,
@@ -83,8 +83,7 @@ impl<R: Files + Drop> Host<R> {
         Ok(serve_connection(&mut self.world, conn, reader, writer))
     }
 
-    // Creates a connection. There is room for the first one, so the only possible error is out of
-    // memory.
+    // A new connection. The first one has a place, so only memory can be wanting.
     fn connect(&mut self) -> Result<ConnId, Fault>
         ensures { IfErr result (λ fault. fault ≡ Fault.Memory) }
     {
@@ -97,7 +96,7 @@ impl<R: Files + Drop> Host<R> {
     }
 }
 
-// All files of a store, by slot, readable by all.
+// All files of a store, by their slots, for everybody.
 fn files_of<R: Files>(alloc: Global, store: &FolderBacking<R>) -> Result<Vec<SiteFile>, AllocError>
     ensures { IfOk result (λ files. AreFilesOf store.now.names files.items) }
 {
@@ -108,7 +107,7 @@ fn files_of<R: Files>(alloc: Global, store: &FolderBacking<R>) -> Result<Vec<Sit
     Ok(files)
 }
 
-// The file in a slot.
+// The file in a place.
 fn file_at<R: Files>(
     alloc: Global,
     store: &FolderBacking<R>,
@@ -127,7 +126,7 @@ fn file_at<R: Files>(
     Ok(SiteFile { name, private })
 }
 
-// A site with four workers, with every file readable by all, and with all chunks of the system.
+// Four workers, and every file for everybody. The chunks are those of the system, all of them.
 fn site_of<R: Files>(alloc: Global, store: &FolderBacking<R>) -> Result<Site, AllocError>
     ensures files { IfOk result (λ site. AreFilesOf store.now.names site.files.items) }
     ensures range { IfOk result (λ site. is_in_range site ≡ true) }
@@ -143,7 +142,7 @@ fn site_of<R: Files>(alloc: Global, store: &FolderBacking<R>) -> Result<Site, Al
     })
 }
 
-// Creates the world of a site over a store's files.
+// The world of the site of a store's files.
 fn world_over<R: Files + Drop>(
     alloc: Global,
     store: FolderBacking<R>,

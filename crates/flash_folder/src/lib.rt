@@ -1,9 +1,8 @@
-//! Serves the files of a folder to the clients of a listener.
+//! The files of a folder, served by the file server to the clients of a listener.
 //!
-//! [`serve`](serve::serve) and [`loop_on`](loopback::loop_on) are whole programs, except for their
-//! command lines: each returns its exit status, and reports on standard error the
-//! [`Fault`](fault::Fault) that ended it early. [`serve_on`](serve::serve_on) serves an existing
-//! listener.
+//! [`serve`](serve::serve) and [`loop_on`](loopback::loop_on) are programs, but for their words:
+//! each answers its exit status, and tells on standard error what ended it early
+//! ([`Fault`](fault::Fault)). [`serve_on`](serve::serve_on) serves a listener that is there
 //! already.
 //!
 //!     let status = serve(&rt, 8080, "site", 100, &mut rt.stdout(), &mut rt.stderr());

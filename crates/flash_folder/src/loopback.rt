@@ -12,15 +12,13 @@ use std::net::{Net, TcpListener, TcpStream};
 use std::rt::Files;
 use std::time::Duration;
 
-/// The timeout of either end, in seconds.
+/// How long either end waits for the other, in seconds.
 const WAIT: u64 = 5;
 
-/// The maximum number of bytes that are sent before they are read again. They fit into any socket
-/// buffer.
+/// The most bytes that are sent before they are read again. They fit any socket's buffer.
 const PIECE: usize = 4096;
 
-/// The server's end of a connection whose other end is in this program, too. Sent bytes are read
-/// there at once, and printed.
+/// The server's end of a connection whose other end is here too. What was sent is read there at once, and printed.
 #[derive(Drop)]
 struct Looped<'a, W: Write> {
     server: &'a TcpStream,
@@ -74,8 +72,7 @@ impl<'a, W: Write> Write for Looped<'a, W> {
     }
 }
 
-/// Requests a path from a server of the files of a folder, prints the response, and returns the
-/// exit status.
+/// Asks a server of the files of a folder for a path, and prints the answer: the exit status.
 pub fn loop_on<R, W: Write, E: Write>(
     rt: &R,
     root: &str,
@@ -91,7 +88,7 @@ where
     ended(ask_and_print(rt, root, path, output), errors)
 }
 
-// The work of `loop_on`, up to the first fault.
+// Does the work of `loop_on`, up to the first fault.
 fn ask_and_print<R, W: Write>(rt: &R, root: &str, path: &str, output: &mut W) -> Result<(), Fault>
 where
     R: Net<Listener = TcpListener, Stream = TcpStream> + Files + AllocGlobal + Clone + Drop,
@@ -100,7 +97,7 @@ where
     ask_host(rt, &mut host, path, output)
 }
 
-// Sends the request over a connection to this program itself.
+// Asks over a connection to this program itself.
 fn ask_host<R, W: Write>(
     rt: &R,
     host: &mut Host<R>,
@@ -121,7 +118,7 @@ where
     }
 }
 
-// A connection to this program itself: its client's end, and its server's end.
+// A connection to this program itself: its client, and its server.
 fn connect<R>(rt: &R) -> Result<(TcpStream, TcpStream), Fault>
 where
     R: Net<Listener = TcpListener, Stream = TcpStream>,
@@ -159,7 +156,7 @@ fn ask(client: &TcpStream, path: &str) -> io::Result<()> {
     to.write_all(b" HTTP/1.1\r\nHost: 127.0.0.1\r\nConnection: close\r\n\r\n")
 }
 
-// Serves the connection, and prints its response.
+// Serves the connection, whose answer is printed.
 fn pass_through<R: Files + Drop, W: Write>(
     host: &mut Host<R>,
     server: &TcpStream,
@@ -180,7 +177,7 @@ fn pass_through<R: Files + Drop, W: Write>(
     }
 }
 
-// Returns a fault if the response is incomplete: its connection was hung up.
+// Whether all of the answer came: one whose connection was hung up is cut off.
 fn whole(ending: Ending) -> Result<(), Fault>
     ensures { IsOk result ↔ (hung_up ending ≡ false) }
 {

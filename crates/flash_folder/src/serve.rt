@@ -10,8 +10,8 @@ use std::io::Write;
 use std::net::{Ipv4Addr, Net, SocketAddr, TcpListener, TcpStream};
 use std::rt::Files;
 
-/// Serves the files of a folder on a port of 127.0.0.1 to `count` connections, one after another,
-/// and returns the exit status. It prints the port once it listens; port 0 is any free port.
+/// Serves the files of a folder on a port of 127.0.0.1 to so many connections, one after another:
+/// the exit status. It prints the port once it listens; port 0 is any that is free.
 pub fn serve<R, W: Write, E: Write>(
     rt: &R,
     port: u16,
@@ -29,7 +29,7 @@ where
     ended(listen_and_serve(rt, port, root, count, output), errors)
 }
 
-/// Serves the files of a folder to `count` connections of a listener, one after another.
+/// Serves the files of a folder to so many connections of a listener, one after another.
 pub fn serve_on<R>(rt: &R, listener: &TcpListener, root: &str, count: u32) -> Result<(), Fault>
 where
     R: Files + AllocGlobal + Clone + Drop,
@@ -39,8 +39,8 @@ where
     host.serve(listener, count)
 }
 
-// The work of `serve`, up to the first fault. It reads the folder first, so that no client
-// connects to a server without files.
+// Does the work of `serve`, up to the first fault. The folder comes first, so that nobody connects
+// to a server that has none.
 fn listen_and_serve<R, W: Write>(
     rt: &R,
     port: u16,
@@ -56,7 +56,7 @@ where
     serve_port(rt, &mut host, port, count, output)
 }
 
-// Listens on a port, prints it, and serves.
+// Listens on a port, tells it, and serves.
 fn serve_port<R, W: Write>(
     rt: &R,
     host: &mut Host<R>,
@@ -85,7 +85,7 @@ where
     }
 }
 
-// Prints the port.
+// Tells the port.
 fn announce<W: Write>(listener: &TcpListener, output: &mut W) -> Result<(), Fault>
     ensures { OnOk result (Announces (W.contents output.old) (W.contents output.new)) }
 {

@@ -1,4 +1,4 @@
-//! Reads a site from a folder, and again when it changes.
+//! Where a site is read from, and when it is read again.
 use crate::site::world_of;
 use flash_lite::actor::Actor;
 use iol_proc::world::World;
@@ -10,17 +10,17 @@ use std::io::ErrorKind;
 use std::rt::{Clock, Files};
 use std::time::{SystemTime, UNIX_EPOCH};
 
-/// The default limit of the bytes of a site that are read into memory.
+/// The bytes of a site that are read into memory at most, where nothing else is asked for.
 pub const PRELOAD_BYTES: u64 = 0x1000_0000;
 
-/// The number of attempts to read a folder that changes while it is read.
+/// How often the folder is read before it is given up that it stays the same meanwhile.
 const ATTEMPTS: u32 = 5;
 
-/// The granularity of modification times: a file that changed less than this number of nanoseconds
-/// ago may change again without a different time.
+/// Times of change are this coarse: a file that changed less than this number of nanoseconds ago may change once more with no
+/// other time of change.
 const GRAIN_NANOS: i64 = 50_000_000;
 
-/// The contents of a site.
+/// What a site consists of.
 #[derive(Clone, Copy, Debug, PartialEq, Eq)]
 pub struct Summary {
     /// The number of its files, and of their bytes.
@@ -34,8 +34,7 @@ pub struct Summary {
     pub is_in_memory: bool,
 }
 
-/// A site that was read, in a world without events so far. Its store is honest exactly if the
-/// bytes are in memory.
+/// A site as it was read, in a world in which nothing happened yet. Its store is honest just where the bytes are in memory.
 #[derive(Drop)]
 pub struct Loaded<R: Files> {
     pub world: World<TreeBacking<R>, Actor>,
@@ -48,19 +47,17 @@ pub struct Source<R: Files> {
     rt: R,
     root: String,
 
-    // The maximum number of bytes that are read into memory. None: all files are served from the
-    // folder.
+    // The bytes that are read into memory at most. None: all is served from the folder.
     preload: Option<u64>,
 
-    // The files of the last read, and whether one of them changed so shortly before that it must
-    // be read again.
+    // The files as they were read last, and whether one of them changed so shortly before that it is to be read again.
     index: Option<Index>,
     is_young: bool,
 }
 
 impl<R: Files + Clock + AllocGlobal + Clone + Drop> Source<R> {
-    /// The site of a folder. If it has at most `preload` bytes, they are read into memory;
-    /// otherwise, or without `preload`, the site is served from the folder.
+    /// The site of a folder. Up to `preload` bytes of files are read into memory, and a larger site is served from the folder,
+    /// as is each where there is no `preload`.
     pub fn new(rt: &R, root: &str, preload: Option<u64>) -> io::Result<Source<R>> {
         Ok(Source {
             rt: rt.clone()?,
@@ -71,7 +68,7 @@ impl<R: Files + Clock + AllocGlobal + Clone + Drop> Source<R> {
         })
     }
 
-    /// Reads the site. If it changes while it is read, it is served from the folder.
+    /// Reads the site. Where it does not stay the same while it is read, it is served from the folder.
     pub fn load(&mut self) -> io::Result<Loaded<R>> {
         match self.load_steady()? {
             Some(loaded) => Ok(loaded),
@@ -82,8 +79,8 @@ impl<R: Files + Clock + AllocGlobal + Clone + Drop> Source<R> {
         }
     }
 
-    /// Reads the site again, if the folder changed since the last read, or if `is_forced`. None:
-    /// it did not change, or it changes while it is read, so that the caller should retry later.
+    /// Reads the site again, if the folder changed since it was read last, or if `is_forced`. None: it did not change, or does
+    /// not stay the same while it is read, so that it is to be tried again later.
     pub fn renew(&mut self, is_forced: bool) -> io::Result<Option<Loaded<R>>> {
         if !is_forced && !self.is_young && self.is_same()? {
             return Ok(None);
@@ -91,7 +88,7 @@ impl<R: Files + Clock + AllocGlobal + Clone + Drop> Source<R> {
         self.load_steady()
     }
 
-    // Returns whether the folder has the files of the last read, unchanged.
+    // Whether the folder has the files that were read last, unchanged.
     fn is_same(&self) -> io::Result<bool> {
         let now = Index::of(&self.rt, self.root.as_str())?;
         Ok(match &self.index {
@@ -100,7 +97,7 @@ impl<R: Files + Clock + AllocGlobal + Clone + Drop> Source<R> {
         })
     }
 
-    // Reads the site, unless it changes during each attempt.
+    // Reads the site, unless it changes meanwhile, each time that this is tried.
     fn load_steady(&mut self) -> io::Result<Option<Loaded<R>>> {
         for _ in 0..ATTEMPTS {
             let index = Index::of(&self.rt, self.root.as_str())?;
@@ -114,7 +111,7 @@ impl<R: Files + Clock + AllocGlobal + Clone + Drop> Source<R> {
         Ok(None)
     }
 
-    // Returns whether the files are read into memory.
+    // Whether the files are to be read into memory.
     fn fits(&self, index: &Index) -> bool {
         match self.preload {
             Some(most) => index.total() <= most,
@@ -122,7 +119,7 @@ impl<R: Files + Clock + AllocGlobal + Clone + Drop> Source<R> {
         }
     }
 
-    // Reads the files into memory. None: the folder changed while it was read.
+    // Reads the files into memory. None: the folder changed meanwhile.
     fn load_memory(&mut self, index: Index) -> io::Result<Option<Loaded<R>>> {
         let contents = match read_all(&self.rt, &index) {
             Ok(contents) => contents,
@@ -144,7 +141,7 @@ impl<R: Files + Clock + AllocGlobal + Clone + Drop> Source<R> {
         self.host(store, kept)
     }
 
-    // Creates the world of a store with the files of an index.
+    // Makes the world of a store whose files are those of an index.
     fn host(&mut self, store: TreeBacking<R>, index: Index) -> io::Result<Loaded<R>> {
         let summary = Summary {
             files: index.count(),
@@ -161,7 +158,7 @@ impl<R: Files + Clock + AllocGlobal + Clone + Drop> Source<R> {
         }
     }
 
-    // The time one granule ago, in seconds and nanoseconds since 1970.
+    // A moment ago, in seconds and nanoseconds since 1970.
     fn grain_ago(&self) -> io::Result<(i64, i64)> {
         let now = SystemTime::now(&self.rt)?;
         let Ok(since) = now.duration_since(UNIX_EPOCH) else {

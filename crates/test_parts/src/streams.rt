@@ -3,8 +3,8 @@ use std::alloc::{AllocError, Global};
 use std::io;
 use std::io::{ErrorKind, Read, Write};
 
-/// Reads from memory, at most `most` bytes at once, and counts its reads. Read number `fails` fails,
-/// if it is not 0.
+/// Reads from memory, at most `most` bytes at once, and counts its reads. Read number `fails`
+/// fails, if it is not 0.
 #[derive(Drop)]
 pub struct Source<'a> {
     bytes: &'a [u8],

@@ -146,8 +146,8 @@ pub record ClientOffersTheResponse (scripts : Bool) : Type 0 where
   -- when a request begins, nothing is needed
   pub starts : (m : State) (fd : ℕ) (kept : List ℕ) (q : Answer) (o : Outcome)
       → FirstCall q (wants scripts fd (begun kept q)) × HasKnown scripts m (begun kept q) (OfFile o)
-  -- after the reply to its call the result is known or unchanged, and the machine has the data for the next step; the free worker is
-  -- one with a job pipe
+  -- after the reply to its call the result is known or unchanged, and the machine has the data for the next step; the free
+  -- worker is one with a job pipe
   pub replied : (m n : State) (fd c worker : ℕ) (x : Client) (r : Reply) (heard : List ℕ) (before : Known)
       → IsOrderly m → HasAccess m
       → is_live m server ≡ true → descriptor m server fd ≡ Some (on.Connection c)

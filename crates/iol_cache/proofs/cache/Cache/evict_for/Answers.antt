@@ -24,7 +24,7 @@ loop-pool-smaller c = next_fewer c.loop-pool.invariant c.in-Some.place c.in-Some
 
 pub loop-pool-preserved : goal.loop-pool-preserved
 loop-pool-preserved c =
-    let few : length (free_of c.loop-pool.store c.args.pool) < c.args.pages = omega (arith, nat_tests, c.has_free.ensures, c.loop-pool-test.true) in
+    let few : length (free_of c.loop-pool.store c.args.pool) < c.args.pages = grind (arith, nat_tests, c.has_free.ensures, c.loop-pool-test.true) in
     on_more c.loop-pool.invariant c.in-Some.place c.in-Some.ensures c.evict.ensures few
 
 pub returns : goal.returns
@@ -33,7 +33,7 @@ returns c =
     let t = c.loop-pool.store in
     let v = c.loop-pool.invariant in
     let m = v.gives_up in
-    let enough : c.args.pages ≤ length (free_of t c.args.pool) = omega (arith, nat_tests, c.has_free.ensures, c.loop-pool-test.false) in
+    let enough : c.args.pages ≤ length (free_of t c.args.pool) = grind (arith, nat_tests, c.has_free.ensures, c.loop-pool-test.false) in
     record {
       room = ((λ y. room_at_most s t c.args.pool c.args.pages (clean_held c.args.self.now.files.items) (clean_held c.loop-pool.self.files.items) (same_pages s t c.args.pool m.frees c.requires.open) m.frees m.clean enough), (λ y. refl));
       free = λ y. enough;
@@ -48,7 +48,7 @@ returns-in_default c =
     let t = c.loop-pool.store in
     let v = c.loop-pool.invariant in
     let m = v.gives_up in
-    let few : length (free_of t c.args.pool) < c.args.pages = omega (arith, nat_tests, c.has_free.ensures, c.loop-pool-test.true) in
+    let few : length (free_of t c.args.pool) < c.args.pages = grind (arith, nat_tests, c.has_free.ensures, c.loop-pool-test.true) in
     record {
       room = (
         (λ y. absurd (false_true y)),
