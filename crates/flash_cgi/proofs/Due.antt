@@ -1,4 +1,4 @@
--- With the files as they are a script puts out one text.
+-- If the files do not change, a script outputs one text.
 use Rattle.std.proofs.Common.{inl, inr, ◌≡◌, ◌⊎◌, ℕ, List, [], ◌∷◌, ◌++◌, append_assoc, ap, ◌∙◌, refl, sym, subst, Some, true, false, Bool}
 use Rattle.std.proofs.lemmas.List.{append_cancel_right}
 use Rattle.iol_core.specs.Text.{bytes_of}

@@ -1,4 +1,4 @@
--- A worker's turn leaves what is unseen of its output, from the moment at which its job waits.
+-- A worker's turn preserves its pending output, from the time when its job waits.
 use Rattle.std.proofs.Common.{inl, inr, ◌≡◌, ◌⊎◌, ℕ, List, [], ◌∷◌, ◌++◌, ap, ◌∙◌, refl, sym, subst, Option, Some, None, true, false, Bool, if◌then◌else◌}
 use Rattle.std.specs.Prelude.{unwrap_or}
 use Rattle.iol_core.specs.Text.{bytes_of}

@@ -1,4 +1,4 @@
--- The text that a script puts out, from its job to its end, beside whatever others do.
+-- The text that a script outputs, from its job to its end, whatever others do.
 use Rattle.std.specs.Prelude.{◌≡◌, ◌≢◌, ◌⊎◌, ℕ, Bool, true, false, List, [], ◌∷◌, ◌++◌, Some}
 use mathlib.Core.Logic.{inl, inr}
 use Rattle.iol_core.specs.Text.{bytes_of}
@@ -26,8 +26,8 @@ use Rattle.flash_cgi.specs.Works.{worker_turns}
 use Rattle.flash_cgi.specs.declared.line.Line.{Line}
 use Rattle.flash_cgi.specs.declared.worker.Worker.{Worker}
 
--- What a script puts out: what was in the pipe before, and the output of its lines, with what each file that they name gave, or is to
--- give.
+-- The output of a script: the bytes in the pipe before, followed by the output of its lines, with the outcome of each file that
+-- they name, past or to come.
 pub record Made : Type 0 where
   pub before : List ℕ
   pub query : List ℕ
@@ -37,7 +37,7 @@ pub record Made : Type 0 where
 abbrev pub text_of : Made → List ℕ
 text_of made = made.before ++ output made.query made.lines made.outcomes
 
--- One of its files gives this refusal, TooMany, NoRoom, Fault or Memory, which was the reply, in place of what it was to give.
+-- One of its files gets the refusal of the reply, TooMany, NoRoom, Fault or Memory, instead of the outcome to come.
 pub record IsRefusedIn (r : Reply) (made after : Made) : Type 0 where
   pub why : Refusal
   pub answer : r ≡ reply.Refused why
@@ -48,35 +48,36 @@ pub record IsRefusedIn (r : Reply) (made after : Made) : Type 0 where
   pub was : made.outcomes ≡ past ++ instead ∷ rest
   pub is : after ≡ record made { outcomes = past ++ Failed why ∷ rest }
 
--- So another text is put out: what went of the old one begins it, and in place of the rest of that the rest of this is to come.
+-- So the output is another text: the part of the old one that was taken begins it, and the rest of this replaces the rest of
+-- that.
 pub record IsExchanged (r : Reply) (made after : Made) (text later : List ℕ) : Type 0 where
   pub refused : IsRefusedIn r made after
   pub begins : (front : List ℕ) → text_of made ≡ front ++ text → text_of after ≡ front ++ later
 
--- the same is put out, and of it the same is to come; or one of its files gave the refusal
+-- the output and the rest of it are unchanged; or one of its files got the refusal
 abbrev pub Instead : Reply → (made after : Made) → (text later : List ℕ) → Type 0
 Instead r made after text later = ((after ≡ made) × (later ≡ text)) ⊎ IsExchanged r made after text later
 
--- The job pipe of the worker in domain d, which is not the pipe of its output: it reads it, and somebody may write to it.
+-- The job pipe of the worker in domain d: the worker has its read end, it has a writer, and it is not the output pipe.
 pub record HasDesk (m : State) (d j p : ℕ) : Type 0 where
   pub jobs : descriptor m d 0 ≡ Some (on.ReadEnd j)
   pub writing : (pipe_at m j).writing ≡ true
   pub apart : j ≢ p
 
--- what lies there is the job, until it is read, and then nothing
+-- the job pipe has the job until it is read, and is empty afterwards
 abbrev pub HasRest : (m : State) → (j p : ℕ) → (seat : Seat Worker) → (unseen : List Outcome → List ℕ) → RunsJob m p seat unseen
     → Type 0
 HasRest m j p seat unseen (inl h) = Unit {0}
 HasRest m j p seat unseen (inr h) = (pipe_at m j).queue ≡ []
 
--- Of what the script that runs here puts out this text is still to be had from pipe p, where each file that it is still to read
--- comes out as it would now. Its job came from pipe j.
+-- Of the output of the running script this text is due from pipe p, with the current contents of each file that is still to be
+-- read. The job came from pipe j.
 pub record IsDue (m : State) (j p : ℕ) (seat : Seat Worker) (made : Made) (text : List ℕ) : Type 0 where
   pub unseen : List Outcome → List ℕ
   pub runs : RunsJob m p seat unseen
   pub reads : ReadsItsFile m p seat unseen runs
   pub is : text ≡ unseen (outcomes_to_come m p seat unseen runs)
-  -- what its files gave, and what went of its output
+  -- the outcomes of its files so far, and the part of its output that was taken
   pub settled : List Outcome
   pub gave : made.outcomes ≡ settled ++ outcomes_to_come m p seat unseen runs
   pub past : List ℕ
@@ -84,7 +85,7 @@ pub record IsDue (m : State) (j p : ℕ) (seat : Seat Worker) (made : Made) (tex
   pub desk : HasDesk m seat.by j p
   pub rest : HasRest m j p seat unseen runs
 
--- all of it lies in the pipe, whose write end is closed, and the worker is free for the next job, which is still to come
+-- all of the text is in the pipe, the write end is closed, and the worker is free for the next job, which has not arrived
 pub record IsWritten (m n : State) (j p : ℕ) (next : Seat Worker) (text : List ℕ) (r : Reply) : Type 0 where
   pub all : text ≡ bytes_of (pipe_at m p).queue
   pub done : r ≡ reply.Done
@@ -92,34 +93,34 @@ pub record IsWritten (m n : State) (j p : ℕ) (next : Seat Worker) (text : List
   pub free : IsFree n next
   pub none : HasNoJob n next.by j
 
--- what went from the pipe was the front of the text, and the rest is due
+-- the bytes removed from the pipe were the front of the text, and the rest is due
 pub record GaveFront (m n : State) (j p : ℕ) (seat : Seat Worker) (made : Made) (text : List ℕ) : Type 0 where
   pub goes : GoesFromFront m p n
   pub rest : List ℕ
   pub splits : text ≡ bytes_of goes.gone ++ rest
   pub due : IsDue n j p seat made rest
 
--- A turn of its worker leaves a text due, until all is written, or nobody reads: the same, or one that was exchanged for it.
+-- A turn of its worker keeps a text due, the same or its replacement, until all is written, or the pipe has no reader.
 pub record Goes (m n : State) (j p : ℕ) (next : Seat Worker) (made : Made) (text : List ℕ) (r : Reply) : Type 0 where
   pub after : Made
   pub later : List ℕ
   pub instead : Instead r made after text later
   pub goes : IsDue n j p next after later ⊎ IsWritten m n j p next later r ⊎ ((pipe_at n p).reading ≡ false)
 
--- With the files as they are a script puts out one text, in which a refusal may stand in place of a file: one that its worker's call
--- for this file got.
+-- If the files do not change, a script outputs one text, with a refusal instead of a file if its worker's call for this file
+-- got it.
 pub record ScriptsPutOut : Type 0 where
-  -- of a job that waits for a free worker: the output of its lines, behind what is in the pipe
+  -- for a job that waits for a free worker: the output of its lines, after the bytes already in the pipe
   pub begins : (m : State) (j p fd : ℕ) (seat : Seat Worker) (query script : List ℕ) (lines : List Line) → IsFree m seat
       → HasJob m seat.by j p fd query script lines → (pipe_at m j).writing ≡ true
       → IsDue m j p seat
       (record { before = bytes_of (pipe_at m p).queue; query = query; lines = lines; outcomes = outcomes_in m seat.by lines })
       (bytes_of (pipe_at m p).queue ++ output query lines (outcomes_in m seat.by lines))
-  -- a turn of the worker leaves it due, until all is written, or nobody reads, whatever its reply
+  -- a turn of the worker keeps it due, until all is written, or the pipe has no reader, whatever its reply
   pub turns : (m n : State) (j p : ℕ) (seat next : Seat Worker) (yields : Bool) (r : Reply) (made : Made) (text : List ℕ)
       → IsOrderly m → ArePlaced m → AreFiles m → IsDue m j p seat made text
       → SeatTurn copying worker_turns m seat yields r n next → Goes m n j p next made text r
-  -- calls of others and what happens outside take its front, as long as they leave the files, and the job pipe
+  -- calls of others and external events take the front of the text, if they do not change the files and the job pipe
   pub others : (m n : State) (j p : ℕ) (seat : Seat Worker) (e : Event) (r : Reply) (made : Made) (text : List ℕ) → IsOrderly m
       → ArePlaced m
       → StepsTo m e r n → is_call_of e seat.by ≡ false → LeavesFiles m seat.by n → pipe_at n j ≡ pipe_at m j

@@ -1,4 +1,4 @@
--- The premises of the law can be met: a small site, a new world on it with the server alone, and a calm run of that world.
+-- The premises of the law can be met: a small site, a new world with only the server, and a calm run of that world.
 use Rattle.std.proofs.Common.{inl, inr, ◌≡◌, ◌≢◌, ℕ, zero, suc, ◌+◌, ◌≤◌, ◌<◌, ◌⊎◌, List, [], ◌∷◌, length, replicate, ap, refl, sym, subst, arith, Some, true, false, Bool}
 use Rattle.std.specs.Prelude.{codes, bytes_eq, position, option_map, ◌||◌}
 use Rattle.std.proofs.lemmas.Bool.Decides.{nat_tests}

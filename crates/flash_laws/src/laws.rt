@@ -10,10 +10,9 @@ use iol_laws::laws;
 
 /// The bytes that the server offers for a request are the next bytes of the response to it, for
 /// the outcome of the calls made for it. The first of these calls opens the file of its name. Each
-/// reply reduces the rank of the request, unless its call is retried later; so the number of calls
-/// is bounded if only finitely many are retried. The law is about single steps, calm or not,
-/// during which no call consumes or moves what the connection uses. That this holds over a whole
-/// run is another law.
+/// reply reduces the rank of the request, unless its call is retried later; so only finitely many
+/// of its calls are not retried. The law is about single steps, calm or not, during which no call
+/// consumes or moves what the connection uses. That this is so over a whole run is not stated here.
 pub fn offers_law()
     ensures { OffersTheResponse }
 {

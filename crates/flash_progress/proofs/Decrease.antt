@@ -1,5 +1,5 @@
--- When turns of one process end: each turn that does something decreases a measure, and between two of these the process polls a bounded
--- number of times.
+-- The end of turns of one process: each turn with an effect decreases a measure, and between two of these the process polls a
+-- bounded number of times.
 use Rattle.std.specs.Prelude.{◌≡◌, ◌≤◌, ◌<◌, ℕ, true, false, Bool, length}
 use Rattle.std.specs.List.{AllByRecursion}
 use Rattle.iol_core.specs.State.{State}

@@ -1,4 +1,4 @@
--- A world of files becomes idle: turns in rounds, none of which lacks a resource, end where all is idle, if their number suffices.
+-- A world of files becomes idle: turns in rounds without lack of a resource end with all idle, if their number suffices.
 use Rattle.std.proofs.Common.{inl, inr, ◌≡◌, ℕ, ◌+◌, ◌-◌, ◌<◌, ◌≤◌, List, [], ◌∷◌, ◌++◌, length, ap, ◌∙◌, refl, sym, subst, arith, Option, Some, None, true, false, Bool, slice_get, slice_set, if◌then◌else◌}
 use Rattle.std.specs.Prelude.{nat_lt}
 use Rattle.std.specs.List.{AllByRecursion}

@@ -1,4 +1,4 @@
--- Turns of one process end where it is idle.
+-- Turns of one process end when it is idle.
 use Rattle.std.proofs.Common.{◌≡◌, ◌≤◌, ◌<◌, ℕ, zero, suc, ◌+◌, ◌*◌, ◌%◌, List, [], ◌∷◌, length, take, replicate, ap, ◌∙◌, refl, sym, subst, arith, true, false, Bool}
 use Rattle.std.proofs.lemmas.Bool.Decides.{nat_tests}
 use Rattle.std.proofs.Math.Nat.{mul-le-mul_left}

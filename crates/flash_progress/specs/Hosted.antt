@@ -15,9 +15,9 @@ use Rattle.flash_progress.specs.Bound.{turns_that_suffice}
 use Rattle.flash_progress.specs.Served.{AreServed, CanPlace, NoneLacksResource, clients_in}
 
 module _ (crew : Crew) where
-  -- A new world of files runs choices whose calls from outside are mild; calls are refused as the shelf says. Then it has turns in
-  -- rounds, at most `most`. Where these begin the server's default pool is open, and `most` suffices. None of them is refused for lack
-  -- of table entries, pages or memory, or by a fault that the shelf does not allow.
+  -- A new world of files executes choices with mild external calls; calls are refused as the site contents permit. Then it
+  -- takes turns in rounds, at most `most`. When these begin, the server's default pool is open, and `most` suffices. None of
+  -- them is refused for lack of table entries, pages or memory, or with a fault that the site contents do not permit.
   pub record HostsLongEnough (shelf : Shelf) (xs : List Choice) (rs : List Reply) (w mid : Stage State (Actor crew.Worker)) (most : ℕ)
       (idle : Bool) (after : Stage State (Actor crew.Worker)) : Type 0 where
     pub files : crew.count ≡ 0
@@ -31,7 +31,7 @@ module _ (crew : Crew) where
     pub fair_rounds : AreFair shelf.refuses (rounds (domains_of mid.seats) 0 (length ends.went)) (map (λ t. t.1) ends.went)
     pub suffices : turns_that_suffice mid.machine (clients_in mid) ≤ most
 
-  -- All becomes idle, and each connection of the net is served.
+  -- All become idle, and each connection of the net is served.
   abbrev pub HostedBecomesIdle : Type 0
   HostedBecomesIdle = (shelf : Shelf) (xs : List Choice) (rs : List Reply) (w mid : Stage State (Actor crew.Worker)) (most : ℕ)
       (idle : Bool) (after : Stage State (Actor crew.Worker)) → (has : HostsLongEnough shelf xs rs w mid most idle after)

@@ -1,4 +1,4 @@
--- The response that is due may come, with what is known.
+-- The due response is possible, given the known results.
 use Rattle.std.proofs.Common.{inl, inr, ◌≡◌, ℕ, List, [], ◌∷◌, ◌++◌, ap, ◌∙◌, refl, sym, subst, Option, Some, None, true, false, Bool}
 use Rattle.std.specs.Prelude.{is_some, if◌then◌else◌}
 use Rattle.iol_core.specs.State.{State}

@@ -1,4 +1,4 @@
--- Where nothing is refused a request has one response, and a stream one answer.
+-- If nothing is refused, a request has one response, and a stream one answer.
 use Rattle.std.proofs.Common.{inl, inr, ◌≡◌, ◌⊎◌, ℕ, List, [], ◌∷◌, ◌++◌, ◌+◌, length, map, ap, ◌∙◌, refl, sym, subst, arith, Option, Some, None, true, false, Bool, append-nil, append_assoc, length-append}
 use Rattle.std.specs.Prelude.{◌&&◌, not}
 use Rattle.std.specs.List.{concat}

@@ -1,4 +1,4 @@
--- The worker that runs scripts is as the law needs it.
+-- The worker that runs scripts meets the requirements of the law.
 use Rattle.std.proofs.Common.{inl, inr, ◌≡◌, ◌⊎◌, ℕ, List, ◌++◌, ap, ◌∙◌, refl, sym, subst, Option, Some, true, false, Bool}
 use Rattle.std.specs.Prelude.{unwrap_or}
 use Rattle.iol_core.specs.Text.{bytes_of}

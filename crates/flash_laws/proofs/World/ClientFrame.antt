@@ -1,4 +1,4 @@
--- What others leave of a client, and of the worker that runs its script.
+-- The parts of a client, and of the worker that runs its script, that others leave unchanged.
 use Rattle.std.proofs.Common.{inl, inr, ◌≡◌, ◌⊎◌, ℕ, ◌==◌, List, ◌++◌, ap, ◌∙◌, refl, sym, subst, Option, Some, None, true, false, append_assoc}
 use Rattle.std.specs.Prelude.{is_none, length, ◌≤◌}
 use Rattle.iol_core.specs.Text.{bytes_of}

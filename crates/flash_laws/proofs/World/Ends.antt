@@ -1,4 +1,5 @@
--- Which ends of pipes a client with a run has: the read end of its pipe, and the write end until its worker has it; none is of a desk.
+-- The pipe ends of a client with a run: the read end of its pipe, and the write end until its worker has it; none is that of a
+-- job pipe.
 use Rattle.std.proofs.Common.{inl, inr, ◌≡◌, ◌<◌, ◌⊎◌, ℕ, ◌==◌, List, ap, ◌∙◌, refl, sym, subst, Option, Some, None, true, false, Bool}
 use Rattle.std.specs.Prelude.{◌||◌, ◌&&◌}
 use Rattle.iol_core.specs.State.{State, descriptor}

@@ -1,4 +1,4 @@
--- A smooth run is fair, and so is any run, where the refusals are allowed that its turns had.
+-- A run without resource refusals is fair, and any run is fair if the refusals that its turns got are allowed.
 use Rattle.std.proofs.Common.{◌≡◌, ◌≢◌, ℕ, ◌==◌, List, [], ◌∷◌, ◌++◌, length, ap, refl, sym, subst, arith, true, false, Bool, if◌then◌else◌}
 use Rattle.std.specs.Prelude.{◌&&◌, ◌||◌, not}
 use Rattle.iol_core.specs.declared.events.Reply.{Reply}

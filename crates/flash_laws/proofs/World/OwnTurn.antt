@@ -1,4 +1,4 @@
--- The server's own call for a client leaves all other clients, and all workers, tied.
+-- The server's own call for a client preserves the invariants of all other clients, and of all workers.
 use Rattle.std.proofs.Common.{inl, inr, ◌≡◌, ◌≢◌, ◌<◌, ℕ, ◌==◌, ◌⊎◌, List, [], ap, ◌∙◌, refl, sym, subst, Option, Some, None, true, false, Bool, append-nil, slice_get}
 use Rattle.std.proofs.lemmas.Bool.{cases_eq}
 use Rattle.iol_core.specs.Text.{bytes_of}

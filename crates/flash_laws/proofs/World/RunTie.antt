@@ -1,4 +1,5 @@
--- The bytes of a response while a script runs: over the server's own call what was written stays the beginning of the answer.
+-- The bytes of a response while a script runs: over the server's own call, the written bytes remain the beginning of the
+-- answer.
 use Rattle.std.proofs.Common.{inl, inr, ◌≡◌, ◌⊎◌, ℕ, ◌+◌, ◌==◌, List, [], ◌∷◌, ◌++◌, length, take, drop, ap, ◌∙◌, refl, sym, subst, arith, Some, None, true, false, Bool, append_assoc, append-nil, if◌then◌else◌}
 use Rattle.std.proofs.lemmas.Bool.Decides.{nat_tests}
 use Rattle.std.proofs.lemmas.List.{take_all}

@@ -1,4 +1,4 @@
--- A turn of the server keeps all tied, whichever call it makes.
+-- A turn of the server preserves the invariant, whichever call it makes.
 use Rattle.std.proofs.Common.{inl, inr, ◌≡◌, ℕ, List, [], ap, ◌∙◌, refl, sym, subst, Option, Some, None, true, if◌then◌else◌}
 use Rattle.std.specs.Prelude.{unwrap_or}
 use Rattle.iol_core.specs.NumberedLists.{in_place}

@@ -1,4 +1,4 @@
--- Each calm step of a world with workers keeps its tie.
+-- Each calm step of a world with workers preserves its invariant.
 use Rattle.std.proofs.Common.{inl, inr, ◌≡◌, ◌≢◌, ◌<◌, ℕ, zero, suc, ◌≤◌, List, [], ◌∷◌, ◌++◌, map, ap, ◌∙◌, refl, sym, subst, arith, Option, Some, false, Bool, append-nil, append_assoc, slice_get, slice_set}
 use Rattle.iol_core.specs.Run.{StepsTo}
 use Rattle.iol_core.specs.State.{State}

@@ -1,4 +1,4 @@
--- What ties a client to its connection stays, as the connection goes on: or the peer is gone, and what was sent begins the answer.
+-- The invariant of a client remains as its connection continues; or the peer is gone, and the bytes sent begin the answer.
 use Rattle.std.proofs.Common.{inl, inr, ◌≡◌, ℕ, ◌+◌, List, [], ◌∷◌, ◌++◌, take, ◌∙◌, subst, true, false}
 use Rattle.std.specs.Prelude.{is_none}
 use Rattle.iol_core.specs.Text.{bytes_of}

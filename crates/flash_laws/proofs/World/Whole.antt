@@ -1,4 +1,5 @@
--- A new world with workers is tied, and where the tie holds each connection is answered.
+-- A new world with workers has the invariant, and in a world with the invariant the output of each connection begins its
+-- answer.
 use Rattle.std.proofs.Common.{inl, inr, ◌≡◌, ℕ, ◌⊎◌, List, [], ◌++◌, ap, refl, sym, subst, Option, Some, None, true, false}
 use Rattle.iol_core.specs.NumberedLists.{in_place}
 use Rattle.iol_core.specs.Text.{bytes_of}
@@ -30,7 +31,7 @@ use Rattle.flash_laws.proofs.Site.OpenDescriptors.{not-closed, conn-same}
 use Rattle.flash_laws.proofs.Site.Due.{shown-may}
 use Rattle.flash_laws.proofs.World.Responses.{begins-none, begins-append, begins-tie, begins-run}
 
--- A new world is tied.
+-- A new world has the invariant.
 pub first_tied : (shelf : Shelf) (crew : Crew) (w : Stage State (Actor crew.Worker)) → IsNew shelf crew w → Tied shelf crew [] [] w
 unfolding stream_over sent_over tells_over made_over gone_over given_over
 first_tied shelf crew w new = record {

@@ -1,4 +1,4 @@
--- A worker's turn leaves all clients tied.
+-- A worker's turn preserves the invariants of all clients.
 use Rattle.std.proofs.Common.{inl, inr, ◌≡◌, ◌≢◌, ◌<◌, ◌⊎◌, ◌≤◌, ℕ, List, ap, ◌∙◌, refl, sym, subst, arith, Option, Some, true, false, Bool, slice_get, slice_set}
 use Rattle.std.proofs.lemmas.Bool.{cases_eq}
 use Rattle.iol_core.specs.NumberedLists.{in_place}

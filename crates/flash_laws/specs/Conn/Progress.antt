@@ -1,7 +1,7 @@
 -- Each reply brings a request nearer to its end, unless its call is to be retried later.
 --
 -- The rank, a pair of numbers, is the distance from the end: each such reply reduces the first, or the second and leaves the
--- first. So the number of such replies is bounded.
+-- first. So the number of such replies is finite.
 use Rattle.std.specs.Prelude.{◌≡◌, ◌≤◌, ◌<◌, ◌⊎◌, ℕ, Bool, true, false, List, length, Some}
 use Rattle.iol_core.specs.State.{State, domain, pool}
 use Rattle.iol_core.specs.declared.limits.TheConstants.{MAX_AGGREGATE_BYTES}

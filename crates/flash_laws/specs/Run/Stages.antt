@@ -1,4 +1,4 @@
--- How far a script has come that runs for a client: what its worker has of it, and what of its output was heard.
+-- The progress of a client's script: what its worker has of it, and how much of its output was read.
 use Rattle.std.specs.Prelude.{◌≡◌, ◌≢◌, ◌<◌, ℕ, Bool, true, false, List, ◌++◌, Some, slice_get}
 use Rattle.iol_core.specs.State.{State, descriptor, text, pipe_at, new_pipe}
 use Rattle.iol_core.specs.declared.descriptors.Descriptor.TheVariants as on
@@ -16,13 +16,13 @@ use Rattle.flash_laws.specs.declared.script_run.Step.TheVariants.{Gives, Makes, 
 use Rattle.flash_laws.specs.declared.script_run.Running.{Running}
 use Rattle.flash_laws.specs.declared.script_run.Running.TheVariants.{Awaits, Runs}
 
--- of this output this is still to come, behind what was heard; once nobody takes the response any more it counts for nothing
+-- the rest of this output after the bytes read; arbitrary once the response is aborted
 abbrev pub IsToCome : Progress → (output more : List ℕ) → Type 0
 IsToCome (Ran heard ended past) output more = (ended ≡ false) × (output ≡ heard ++ more)
 IsToCome Broken output more = Unit {0}
 IsToCome (NotRun status past) output more = ⊥
 
--- all of it was heard, and its end
+-- all of it was read, and its end
 abbrev pub IsHeardWhole : Progress → (output : List ℕ) → Type 0
 IsHeardWhole (Ran heard ended past) output = (ended ≡ true) × (output ≡ heard)
 IsHeardWhole Broken output = Unit {0}
@@ -37,31 +37,31 @@ is_starting (Runs run (Hands j f)) = true
 is_starting y = false
 
 module _ (crew : Crew) where
-  -- The pipe that the server reads, by which no jobs come.
+  -- The pipe that the server reads, which is no job pipe.
   pub record HasPipeOf (m : State) (run : Run) : Type 0 where
     pub pipe : ℕ
     pub reads : descriptor m server run.from ≡ Some (on.ReadEnd pipe)
     pub apart : (k : ℕ) → k < crew.count → crew.desk k ≢ pipe
 
-  -- the worker is free, and nothing lies in the pipe
+  -- the worker is free, and the pipe is empty
   pub record IsReadyFor (m : State) (seat : Seat crew.Worker) (run : Run) : Type 0 where
     pub free : crew.Free m (crew.desk run.worker) seat
     pub has : HasPipeOf m run
     pub new : pipe_at m has.pipe ≡ new_pipe
 
-  -- and it has the write end
+  -- the same, and it has the write end
   pub record IsGiven (m : State) (seat : Seat crew.Worker) (run : Run) (fd : ℕ) : Type 0 where
     pub ready : IsReadyFor m seat run
     pub writes : descriptor m seat.by fd ≡ Some (on.WriteEnd ready.has.pipe)
 
-  -- it has the job, and what it still puts out is what is to come
+  -- it has the job, and its further output is the rest
   pub record IsPuttingOut (m : State) (seat : Seat crew.Worker) (run : Run) (made : Made) (o : Progress) : Type 0 where
     pub has : HasPipeOf m run
     pub more : List ℕ
     pub puts_out : puts.PutsOut crew.turns crew.pools crew.Free crew.Due m (crew.desk run.worker) has.pipe seat made more
     pub to_come : IsToCome o (text_of made) more
 
-  -- it is free again, and all was heard
+  -- it is free again, and all was read
   pub record HasPutOut (m : State) (seat : Seat crew.Worker) (run : Run) (made : Made) (o : Progress) : Type 0 where
     pub free : crew.Free m (crew.desk run.worker) seat
     pub whole : IsHeardWhole o (text_of made)
@@ -70,7 +70,7 @@ module _ (crew : Crew) where
   OutputFrom true m seat run made o = HasPutOut m seat run made o
   OutputFrom false m seat run made o = IsPuttingOut m seat run made o
 
-  -- What the worker that sits here has of a run. That it may not have the pipe, or not the job, cannot be.
+  -- What the worker in this seat has of a run. It is impossible that the pipe or the job could not be handed over.
   abbrev pub Stage : State → Seat crew.Worker → Run → (made : Made) → Progress → Step → Type 0
   Stage m seat run made o (Gives write) = IsReadyFor m seat run
   Stage m seat run made o (Makes f) = IsGiven m seat run f
@@ -87,7 +87,7 @@ module _ (crew : Crew) where
     pub sits : slice_get seats run.worker ≡ Some seat
     pub stage : Stage m seat run made o step
 
-  -- of a run, if it has a worker
+  -- the same for a run, if it has a worker
   abbrev pub HasWorkerAt : State → (seats : List (Seat crew.Worker)) → (made : Made) → Progress → Running → Type 0
   HasWorkerAt m seats made o (Runs run step) = AtDesk m seats run made o step
   HasWorkerAt m seats made o y = Unit {0}

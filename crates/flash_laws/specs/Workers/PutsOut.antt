@@ -1,4 +1,4 @@
--- A script's text on its way to whoever reads its pipe: what is due of its worker, or what lies in the pipe once all is written.
+-- A script's text on its way to the reader of its pipe: it is due from its worker, or in the pipe once all is written.
 use Rattle.std.specs.Prelude.{◌≡◌, ◌⊎◌, ◌<◌, ℕ, Bool, true, false, List, [], ◌++◌, Some}
 use Rattle.iol_core.specs.Text.{bytes_of}
 use Rattle.iol_core.specs.State.{State, descriptor, pipe_at}
@@ -25,14 +25,14 @@ use Rattle.flash_cgi.specs.OutputPools.{HoldFiles}
 -- Free and Due are those of `WorkersRun`.
 module _ {W : Type 0} (works : Account W) (pools : ℕ → Bool) (Free : State → (j : ℕ) → Seat W → Type 0)
     (Due : State → (j p : ℕ) → Seat W → Made → (text : List ℕ) → Type 0) where
-  -- all of the text lies in the pipe, to which nobody writes any more, and its worker is free
+  -- all of the text is in the pipe, which has no writer any more, and its worker is free
   pub record IsAllThere (m : State) (j p : ℕ) (seat : Seat W) (text : List ℕ) : Type 0 where
     pub all : text ≡ bytes_of (pipe_at m p).queue
     pub closed : (pipe_at m p).writing ≡ false
     pub free : Free m j seat
     pub lies : lie_in pools (pipe_at m p).queue ≡ true
 
-  -- of what the script puts out this text is still to be had from pipe p, and then its end
+  -- of the output of the script, this text is due from pipe p, followed by its end
   abbrev pub PutsOut : State → (j p : ℕ) → Seat W → Made → (text : List ℕ) → Type 0
   PutsOut m j p seat made text = Due m j p seat made text ⊎ IsAllThere m j p seat text
 
@@ -42,7 +42,7 @@ module _ {W : Type 0} (works : Account W) (pools : ℕ → Bool) (Free : State �
     pub splits : text ≡ bytes ++ rest
     pub puts_out : PutsOut n j p seat made rest
 
-  -- after a turn with this reply it is the same, or one that was exchanged for it
+  -- after a turn with this reply it is the same, or its replacement
   pub record PutsOutStill (n : State) (j p : ℕ) (next : Seat W) (made : Made) (text : List ℕ) (r : Reply) : Type 0 where
     pub after : Made
     pub later : List ℕ
@@ -50,12 +50,12 @@ module _ {W : Type 0} (works : Account W) (pools : ℕ → Bool) (Free : State �
     pub puts_out : PutsOut n j p next after later
 
   pub record TextsArePutOut : Type 0 where
-    -- a turn of the worker leaves the text, or one that was exchanged for it, as long as somebody reads
+    -- a turn of the worker preserves the text, or replaces it, while the pipe has a reader
     pub turns : (m n : State) (j p : ℕ) (seat next : Seat W) (yields : Bool) (r : Reply) (made : Made) (text : List ℕ) → IsOrderly m
         → ArePlaced m → AreFiles m → HoldFiles pools m seat.by → PutsOut m j p seat made text
         → SeatTurn copying works m seat yields r n next → (pipe_at m p).reading ≡ true → (pipe_at n p).reading ≡ true
         → PutsOutStill n j p next made text r
-    -- so do others that leave the files and both pipes
+    -- the same for events of others that do not change the files and both pipes
     pub left : (m n : State) (j p : ℕ) (seat : Seat W) (e : Event) (r : Reply) (made : Made) (text : List ℕ) → IsOrderly m
         → ArePlaced m → StepsTo m e r n → is_call_of e seat.by ≡ false → LeavesFiles m seat.by n → pipe_at n j ≡ pipe_at m j
         → pipe_at n p ≡ pipe_at m p → PutsOut m j p seat made text → PutsOut n j p seat made text
@@ -65,14 +65,14 @@ module _ {W : Type 0} (works : Account W) (pools : ℕ → Bool) (Free : State �
         → is_call_of (event.Call by (call.IolRead fd count)) seat.by ≡ false
         → descriptor m by fd ≡ Some (on.ReadEnd p) → LeavesFiles m seat.by n → pipe_at n j ≡ pipe_at m j
         → lent_at n by a ≡ Some bytes → PutsOut m j p seat made text → HasRead n j p seat made text bytes
-    -- one that gives nothing tells the end: nothing more is to be had, and the worker is free
+    -- a read of no bytes means the end: nothing more is due, and the worker is free
     pub ends : (m n : State) (j p by fd count a : ℕ) (seat : Seat W) (made : Made) (text : List ℕ) → IsOrderly m → ArePlaced m
         → 0 < count
         → StepsTo m (event.Call by (call.IolRead fd count)) (reply.Agg a) n
         → is_call_of (event.Call by (call.IolRead fd count)) seat.by ≡ false
         → descriptor m by fd ≡ Some (on.ReadEnd p) → LeavesFiles m seat.by n → pipe_at n j ≡ pipe_at m j
         → lent_at n by a ≡ Some [] → PutsOut m j p seat made text → (text ≡ []) × Free n j seat
-    -- and who may read these pools is never denied one
+    -- and a domain that may read these pools is never denied a read
     pub undenied : (m n : State) (j p by fd count q : ℕ) (seat : Seat W) (made : Made) (text : List ℕ) → MayReadAll m by pools
         → descriptor m by fd ≡ Some (on.ReadEnd p) → PutsOut m j p seat made text
         → StepsTo m (event.Call by (call.IolRead fd count)) (reply.Refused (Denied q)) n → ⊥

@@ -1,5 +1,5 @@
--- Runs that are fair by what is known of them: one in which nothing was refused; any run, where any refusal is allowed; and any run,
--- where those are allowed that its turns had.
+-- Sufficient conditions for fair runs: no refusal occurred; any refusal is allowed; or the refusals that the turns got are
+-- allowed.
 use Rattle.std.specs.Prelude.{◌≡◌, ◌==◌, ◌&&◌, ◌||◌, not, Bool, true, false, List, ◌∷◌, ◌++◌, length}
 use Rattle.iol_core.specs.declared.events.Reply.{Reply}
 use Rattle.iol_core.specs.declared.events.Reply.TheVariants as reply
@@ -29,31 +29,31 @@ is_same (refusal.Fault f) (refusal.Fault g) = f == g
 is_same refusal.Memory refusal.Memory = true
 is_same x y = false
 
--- whether a reply refuses by this
+-- whether a reply is this refusal
 abbrev pub refuses_by : Reply → Refusal → Bool
 refuses_by (reply.Refused y) x = is_same y x
 refuses_by r x = false
 
--- whether this refused a turn of the server, or one of another domain
+-- whether a turn of the server, or one of another domain, got this refusal
 unfoldable pub refused_in : (of_server : Bool) → List Choice → List Reply → Refusal → Bool
 refused_in true (choice.Turn by ∷ xs) (r ∷ rs) x = ((by == server) && refuses_by r x) || refused_in true xs rs x
 refused_in false (choice.Turn by ∷ xs) (r ∷ rs) x = (not (by == server) && refuses_by r x) || refused_in false xs rs x
 refused_in b (choice.Outside e ∷ xs) (r ∷ rs) x = refused_in b xs rs x
 refused_in b xs rs x = false
 
--- the refusals by TooMany, NoRoom, Fault and Memory that the turns of these choices had
+-- the refusals among TooMany, NoRoom, Fault and Memory that the turns of these choices got
 abbrev pub refusals_in : List Choice → List Reply → Refusals
 refusals_in xs rs = record { of_server = λ x. refused_in true xs rs x; of_workers = λ x. refused_in false xs rs x }
 
--- Choices of which no turn was rough are fair where no refusal is allowed.
+-- Choices without a resource refusal are fair if no refusal is allowed.
 abbrev pub SmoothIsFair : Type 0
 SmoothIsFair = (xs : List Choice) (rs : List Reply) → AreSmooth xs rs → AreFair no_refusal xs rs
 
--- Any choices are fair where TooMany, NoRoom, Fault and Memory are allowed.
+-- All choices are fair if TooMany, NoRoom, Fault and Memory are allowed.
 abbrev pub AnyIsFair : Type 0
 AnyIsFair = (xs : List Choice) (rs : List Reply) → AreFair any_refusal xs rs
 
--- They are where the refusals are allowed that their turns had, and so is each part of them.
+-- They are fair if the refusals that their turns got are allowed, and so is each part of them.
 abbrev pub OwnIsFair : Type 0
 OwnIsFair = (xs ys : List Choice) (rs ss : List Reply) → length xs ≡ length rs
     → AreFair (refusals_in (xs ++ ys) (rs ++ ss)) xs rs × AreFair (refusals_in (xs ++ ys) (rs ++ ss)) ys ss

@@ -1,4 +1,4 @@
--- Each phase of a client for which no script runs, from the call that it wants to what it is after the reply.
+-- Each phase of a client without running script, from its next call to its state after the reply.
 use Rattle.std.proofs.Common.{inl, inr, ◌≡◌, ℕ, ◌+◌, ◌==◌, List, [], ◌∷◌, ◌++◌, take, drop, ap, ◌∙◌, refl, sym, subst, Option, Some, None, true, false, Bool, if◌then◌else◌}
 use Rattle.std.specs.Prelude.{nat_lt, nat_le, ◌||◌, is_some}
 use Rattle.std.specs.List.{list_any}

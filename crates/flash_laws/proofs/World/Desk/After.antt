@@ -1,4 +1,4 @@
--- What is so of the worker of a run after the server's own call for it.
+-- The worker of a run after the server's own call for it.
 use Rattle.std.proofs.Common.{◌≡◌, ℕ, List, Some, true, false, slice_get, ap, ◌∙◌, refl, sym, subst}
 use Rattle.std.specs.Prelude.{◌==◌}
 use Rattle.iol_core.specs.State.{State, conn_at, is_gone}

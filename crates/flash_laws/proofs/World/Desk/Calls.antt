@@ -1,4 +1,4 @@
--- The server's own call, and what it leaves of a worker: its pipes stay, its files, and what it has.
+-- The parts of a worker that the server's own call leaves unchanged: its pipes, its files, and what it has.
 use Rattle.std.proofs.Common.{◌≡◌, ℕ, List, [], ◌∷◌, ap, ◌∙◌, refl, sym, subst, arith, Some, true, false, slice_get}
 use Rattle.std.specs.Prelude.{◌==◌, ◌||◌}
 use Rattle.std.specs.List.{list_any}

@@ -1,4 +1,4 @@
--- What others leave of a worker, and of the script that it runs.
+-- The parts of a worker, and of the script that it runs, that others leave unchanged.
 use Rattle.std.proofs.Common.{◌≡◌, ◌≢◌, ◌<◌, ℕ, ◌==◌, List, [], ap, ◌∙◌, refl, sym, subst, Option, Some, None, true, false, if◌then◌else◌}
 use Rattle.std.specs.Prelude.{◌&&◌, ◌||◌, option_map, unwrap_or}
 use Rattle.iol_core.specs.Positions.{ArePlaced}

@@ -1,4 +1,4 @@
--- The worker of a run until it has its job: it is hired, is given the pipe, and its job is made and written.
+-- The worker of a run until it has its job: it is assigned, gets the pipe, and its job is made and written.
 use Rattle.std.proofs.Common.{inl, inr, ◌≡◌, ◌≢◌, ◌<◌, ◌≤◌, ℕ, List, [], ◌∷◌, ◌++◌, length, ap, ◌∙◌, refl, sym, subst, arith, Option, Some, None, true, false, Bool, slice_get, if◌then◌else◌}
 use Rattle.std.specs.Prelude.{◌==◌, ◌&&◌, nat_le, unwrap_or}
 use Rattle.std.specs.List.{AllByRecursion}

@@ -1,4 +1,4 @@
--- The worker of a script that runs, over the server's own call for it: what it has, and when it is free again.
+-- The worker of a running script, over the server's own call for it: its objects, and the time when it is free again.
 use Rattle.std.proofs.Common.{◌≡◌, ◌≢◌, ◌<◌, ℕ, List, refl, sym, subst, Some, true, false, slice_get}
 use Rattle.iol_core.specs.State.{State, descriptor, pipe_at}
 use Rattle.iol_core.specs.Run.{StepsTo}

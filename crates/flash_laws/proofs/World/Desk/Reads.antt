@@ -1,4 +1,4 @@
--- The worker of a run while its output is read: what it still puts out is what is still to come.
+-- The worker of a run while its output is read: its further output is the rest.
 use Rattle.std.proofs.Common.{inl, inr, ◌≡◌, ◌<◌, ℕ, ◌-◌, List, [], ◌∷◌, ◌++◌, ap, ◌∙◌, refl, sym, subst, arith, Option, Some, None, true, false, Bool, slice_get, append-nil, append_assoc, if◌then◌else◌}
 use Rattle.std.specs.Prelude.{◌&&◌, nat_lt}
 use Rattle.iol_core.specs.Text.{Text}

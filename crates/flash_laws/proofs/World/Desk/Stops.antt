@@ -1,4 +1,4 @@
--- The worker of a run once all of its made was heard: it is free, and stays so to the end of the run.
+-- The worker of a run after all of its output was read: it is free, and stays so to the end of the run.
 use Rattle.std.proofs.Common.{◌≡◌, ℕ, List, [], ◌∷◌, ap, ◌∙◌, refl, sym, subst, arith, Option, Some, None, true, false, Bool, slice_get}
 use Rattle.std.specs.Prelude.{◌==◌, ◌||◌}
 use Rattle.std.specs.List.{list_any}

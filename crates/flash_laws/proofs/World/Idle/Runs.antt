@@ -1,4 +1,4 @@
--- What is left to do for a client for which a script runs, where its call would block and its worker is idle: it is held up.
+-- The state of a client with a running script whose call would block while its worker is idle: its output queue is full.
 use Rattle.std.proofs.Common.{inl, inr, ◌≡◌, ◌≤◌, ℕ, ◌-◌, List, [], length, ap, refl, arith, Option, Some, false, slice_get}
 use Rattle.iol_core.specs.Text.{Text}
 use Rattle.iol_core.specs.State.{State, descriptor, pipe_at}

@@ -1,4 +1,4 @@
--- Where everything that the server and its workers poll would block, nothing is left to do.
+-- If all calls of the server and its workers would block, nothing is left to do.
 use Rattle.std.proofs.Common.{inl, inr, ◌≡◌, ◌<◌, ℕ, suc, ◌+◌, ◌⊎◌, List, [], ◌∷◌, ◌++◌, take, drop, map, ap, ◌∙◌, refl, sym, subst, arith, Option, Some, None, true, false, Bool, slice_get}
 use Rattle.std.specs.Prelude.{option_map, ◌&&◌}
 use Rattle.std.proofs.lemmas.Bool.Decides.{nat_tests}

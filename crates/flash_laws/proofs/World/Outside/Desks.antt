@@ -1,4 +1,4 @@
--- What is no call of the server or a worker leaves of the desks, and of the pipes of scripts that run.
+-- The effect of events other than calls of the server or a worker on the job pipes, and on the pipes of running scripts.
 use Rattle.std.proofs.Common.{inl, inr, ◌≡◌, ◌≢◌, ◌<◌, ℕ, List, ◌∙◌, refl, sym, subst, Option, Some, true, false, slice_get}
 use Rattle.std.specs.Prelude.{◌||◌}
 use Rattle.iol_core.specs.State.{State, descriptor, pipe_at}
