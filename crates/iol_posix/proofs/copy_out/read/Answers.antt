@@ -1,5 +1,4 @@
-use Rattle.std.proofs.Common.{◌≡◌, ◌-◌, ◌^◌, length, min, subst, arith}
-use Rattle.iol_posix.specs.Reads.{ReadsInto}
+use Rattle.std.proofs.Common.{◌≡◌, length, min, arith}
 use Rattle.iol_posix.proofs.Fronts.{over_front}
 use Rattle.iol_posix.proofs.copy_out.read.Goals as goal
 
