@@ -9,7 +9,7 @@ use Rattle.iol_hold.specs.Places.{byte_len, places, slice_places}
 use Rattle.iol_hold.specs.Releases.{Releases}
 use Rattle.iol_hold.specs.Texts.{AllReadable, bufs_of, text_of}
 use Rattle.iol_hold.specs.declared.slices.Slice.{Slice}
-use Rattle.iol_pipe.specs.Queue.{first_parts}
+use Rattle.iol_pipe.specs.Prelude.{first_parts}
 use Rattle.iol_sum.specs.Prelude.{IsRight}
 use Rattle.iol_sum.specs.Sums.{Sums, UsesEach}
 use Rattle.iol_sock.specs.declared.drain_to.Drained.{Drained}
