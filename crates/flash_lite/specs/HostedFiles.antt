@@ -16,8 +16,8 @@ use Rattle.flash_lite.specs.Library.{library_of}
 use Rattle.flash_lite.specs.Setup.{workers_used}
 use Rattle.flash_lite.specs.declared.site.Site.{Site}
 
--- The site has no scripts, and calls from outside are mild. Where the turns in rounds begin the pool `work` is open, and their number
--- suffices. None of them is refused for lack of table entries, pages or memory.
+-- The site has no scripts, and external calls are mild. When the turns in rounds begin, the pool `work` is open, and their
+-- number suffices. None of them is refused for lack of table entries, pages or memory.
 pub record IsHostedLongEnough (s : Site) (slots : List (List ℕ)) (xs : List Choice) (rs : List Reply) (turns : ℕ) (idle : Bool)
     (after : Stage State (Actor Worker)) (hosts : Hosts s slots xs rs turns idle after) : Type 0 where
   pub files : workers_used s ≡ 0
@@ -26,8 +26,8 @@ pub record IsHostedLongEnough (s : Site) (slots : List (List ℕ)) (xs : List Ch
   pub lacks_none : NoneLacksResource hosts.ends.went
   pub suffices : turns_that_suffice hosts.mid.machine (clients_in hosts.mid) ≤ turns
 
--- All becomes idle. Where its turns had no other refusals than these, each connection of the net is served, with responses as these
--- refusals allow.
+-- All become idle. If its turns got no other refusals than these, each connection of the net is served, with responses that
+-- these refusals permit.
 abbrev pub HostedFilesBecomeIdle : Type 0
 HostedFilesBecomeIdle = (s : Site) (slots : List (List ℕ)) (xs : List Choice) (rs : List Reply) (turns : ℕ)
     (idle : Bool) (after : Stage State (Actor Worker)) (hosts : Hosts s slots xs rs turns idle after)

@@ -1,4 +1,4 @@
--- Connections that are made and served one after another are answered.
+-- Connections that are created and served one after another have their answers.
 use Rattle.std.proofs.Common.{◌≡◌, ℕ, ◌==◌, List, [], ◌∷◌, ◌++◌, ap, ◌∙◌, refl, sym, subst, arith, true, false, Bool, append_assoc, append-nil, Option}
 use Rattle.std.specs.Prelude.{◌||◌, ◌&&◌}
 use Rattle.iol_core.specs.Calls.Outside.{lacks_conn}

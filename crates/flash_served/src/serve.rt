@@ -1,4 +1,4 @@
-//! One client of the server, from the making of its connection to its end.
+//! Serves one client of the server, from the creation of its connection to its end.
 ghost use Rattle.std.specs.Prelude.{◌≡◌, IfNone, IfSome};
 ghost use Rattle.iol_back.specs.Prelude.{IfHonest};
 ghost use Rattle.iol_proc.specs.Prelude.{KeepsHonesty, copied};
@@ -15,14 +15,14 @@ use iol_serve::ending::Ending;
 use iol_serve::serve::serve_connection;
 use std::io::{Read, Write};
 
-/// The pool that connections take their bytes into.
+/// The pool for the input of connections.
 const NET: u32 = 2;
 
-/// Makes a connection of the net and serves it, from a reader and to a writer: how that ended, or
-/// nothing where there is no place or no memory for it. Over an honest store what the writer
-/// accepts begins an answer to what the reader supplies, and is all of it where the ending is
-/// `Over`, if the world satisfies the server's invariant; and it does so afterwards, also where no
-/// connection was made.
+/// Creates a connection of the net and serves it, from a reader and to a writer. Returns its
+/// ending, or none if there is no room or no memory for it. Over an honest store, the bytes that
+/// the writer accepts begin an answer to the bytes that the reader supplies, and are all of it if
+/// the ending is `Over`, if the world satisfies the server's invariant. The world satisfies it
+/// afterwards, also if no connection was created.
 pub fn serve_client<B: Backing + Drop, R: Read, W: Write>(
     world: &mut World<B, Actor>,
     reader: &mut R,

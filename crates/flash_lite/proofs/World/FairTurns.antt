@@ -1,4 +1,5 @@
--- The turns of what was hosted are fair: where the world is not rough, where any refusal is allowed, and where those are that they had.
+-- The turns of a hosted site are fair: if the world's rough flag is clear, if any refusal is allowed, or if those are allowed
+-- that they got.
 use Rattle.std.proofs.Common.{◌≡◌, ℕ, List, length, map, Bool, false}
 use Rattle.iol_core.specs.State.{State}
 use Rattle.iol_core.specs.declared.events.Reply.{Reply}

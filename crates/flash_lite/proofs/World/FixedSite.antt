@@ -1,4 +1,5 @@
--- The machine of a site that was set up is fixed for the law over whole worlds: for the server and for each worker.
+-- The machine of a site that was set up meets the fixed conditions of the law over whole worlds: for the server and for each
+-- worker.
 use Rattle.std.proofs.Common.{◌≡◌, ℕ, zero, suc, ◌+◌, ◌-◌, ◌==◌, ◌≤◌, ◌<◌, List, [], length, map, refl, sym, subst, ap, ◌∙◌, arith, Option, Some, None, true, false, Bool}
 use Rattle.std.specs.Prelude.{◌||◌, not, bytes_eq, nat_lt, option_map, position, slice_index_or, if◌then◌else◌}
 use Rattle.std.specs.List.{list_any, range_with_len, slice_get}

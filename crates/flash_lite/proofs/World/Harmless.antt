@@ -1,4 +1,5 @@
--- Harmless choices are mild in a tied world, and what holds of a run that ends with turns holds of what was before them.
+-- Harmless choices are mild in a world with the invariant, and properties of a run that ends with turns apply to the run before
+-- them.
 use Rattle.std.proofs.Common.{◌≡◌, ◌<◌, ℕ, zero, suc, ◌+◌, ◌%◌, List, [], ◌∷◌, ◌++◌, length, map, ap, ◌∙◌, refl, sym, subst, arith, Some, true, false, Bool, slice_get, slice_index, append-nil, append_assoc}
 use Rattle.std.specs.List.{AllByRecursion}
 use Rattle.iol_core.specs.State.{State, conn_at}
