@@ -1,6 +1,7 @@
 -- A turn of the server: the reply to the call that is out is filed, a client is picked, and its next call is made.
 pub mod Rounds
 pub mod GoesRound
+pub mod FairTurns
 pub mod Wants
 use Rattle.std.specs.Prelude.{◌≡◌, ℕ, true, List, [], Option, Some, unwrap_or}
 use Rattle.iol_core.specs.NumberedLists.{in_place}

@@ -1,4 +1,5 @@
 //! Laws of the server's calls and turns. The functions do nothing; their contracts are the laws.
+ghost use Rattle.flash_laws.specs.Serves.FairTurns.{TurnsAreFair};
 ghost use Rattle.flash_laws.specs.Serves.GoesRound.{TurnsGoRound};
 ghost use Rattle.flash_laws.specs.Conn.Holdings.{KeepsNothing};
 ghost use Rattle.flash_laws.specs.Conn.OfferedBytes.{OffersTheResponse};
@@ -49,6 +50,14 @@ pub fn site_law()
 /// answered.
 pub fn rounds_law()
     ensures { TurnsGoRound }
+{}
+
+/// Turns are fair: from the turn with whose reply all of a response is taken, to the turn in which
+/// the same client begins its next request, each other client that may have its turn throughout has
+/// one. So no client, however many requests it pipelines, has two responses while another that can
+/// proceed waits for its turn. It is said of any consecutive turns by the account of the server.
+pub fn turns_are_fair()
+    ensures { TurnsAreFair }
 {}
 
 /// Each script that runs has a worker of its own, whichever call the server picks: so it is of a
