@@ -1,5 +1,5 @@
 -- What comes of the files that a script names, with the files and lists as they are.
-use Rattle.std.specs.Prelude.{◌≡◌, ℕ, ◌-◌, ◌≤◌, true, false, List, [], ◌∷◌, ◌++◌, length, drop, Option, Some, None, if◌then◌else◌}
+use Rattle.std.specs.Prelude.{◌≡◌, ◌⊎◌, ℕ, ◌-◌, ◌≤◌, true, List, [], ◌∷◌, ◌++◌, length, drop, Option, Some, None, if◌then◌else◌}
 use Rattle.iol_core.specs.State.{State, descriptor, file, content, may_read, is_pool}
 use Rattle.iol_core.specs.Calls.Files.{file_called}
 use Rattle.iol_core.specs.NumberedLists.{is_numbered}
@@ -11,6 +11,8 @@ use Rattle.iol_core.specs.declared.descriptors.Mode.TheVariants.{Read}
 use Rattle.iol_core.specs.declared.refusals.Refusal.TheVariants.{NoFile, Denied}
 use Rattle.iol_core.specs.declared.events.Event.TheVariants as event
 use Rattle.iol_core.specs.declared.events.Reply.{Reply}
+use Rattle.iol_core.specs.declared.events.Reply.TheVariants as reply
+use Rattle.iol_core.specs.declared.refusals.Refusal.{Refusal}
 use Rattle.iol_laws.specs.Caller.{lent_at, is_rough}
 use Rattle.iol_laws.specs.Order.{IsOrderly}
 use Rattle.flash_cgi.specs.Job.{Task}
@@ -59,9 +61,19 @@ abbrev pub ReadsNamed : State → (d : ℕ) → Task → (begun : ℕ) → Doing
 ReadsNamed m d job begun (doing.Reads file u) = IsReading m d job begun file
 ReadsNamed m d job begun x = Unit {0}
 
--- by a reply that is not rough, what is settled is what was to come
+-- what is settled is what was to come
 pub record SettlesTruly (m : State) (d : ℕ) (job : Task) (step : Step) (r : Reply) (n : State) (next : Step) : Type 0 where
   pub same : to_come m d job step ≡ settled job step (lent_at n d) r ++ to_come n d job next
+  pub reads : ReadsNamed n d job next.begun next.doing
+
+-- The call for a file was refused by TooMany, NoRoom, Fault or Memory: this refusal is settled, in place of the file's outcome.
+pub record SettlesByRefusal (m : State) (d : ℕ) (job : Task) (step : Step) (r : Reply) (n : State) (next : Step) : Type 0 where
+  pub why : Refusal
+  pub answer : r ≡ reply.Refused why
+  pub rough : is_rough r ≡ true
+  pub instead : Outcome
+  pub was : to_come m d job step ≡ instead ∷ to_come n d job next
+  pub settles : settled job step (lent_at n d) r ≡ Failed why ∷ []
   pub reads : ReadsNamed n d job next.begun next.doing
 
 -- files are within their limit, and of pools that there are
@@ -69,9 +81,10 @@ pub record AreFiles (m : State) : Type 0 where
   pub lengths : (f : ℕ) → is_numbered m.files f ≡ true → length (content m f) ≤ MAX_FILE_BYTES
   pub pooled : (name : List ℕ) (f : ℕ) → file_called m name ≡ Some f → is_pool m (file m f).pool ≡ true
 
--- The outcomes that a worker's calls settle are those of the files that its lines name.
+-- The outcomes that a worker's calls settle are those of the files that its lines name; where the call for a file is refused by
+-- TooMany, NoRoom, Fault or Memory, it is this refusal in place of the file's.
 abbrev pub OutcomesAreTrue : Type 0
 OutcomesAreTrue = (m n : State) (d p : ℕ) (job : Task) (step next : Step) (r : Reply) (unseen : List Outcome → List ℕ)
     → IsOrderly m → ArePlaced m → AreFiles m → Feeds m d p job step unseen → ReadsNamed m d job step.begun step.doing
-    → StepsTo m (event.Call d (call_at job step)) r n → is_rough r ≡ false
-    → told job step (lent_at n d) r ≡ Some next → SettlesTruly m d job step r n next
+    → StepsTo m (event.Call d (call_at job step)) r n → told job step (lent_at n d) r ≡ Some next
+    → SettlesTruly m d job step r n next ⊎ SettlesByRefusal m d job step r n next

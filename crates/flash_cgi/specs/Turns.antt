@@ -1,18 +1,19 @@
 -- A script over the turns of its worker: from the moment at which its job waits to the end of its output.
-use Rattle.std.specs.Prelude.{◌≡◌, ◌⊎◌, ℕ, Bool, true, false, List, ◌++◌, Option, Some, None}
+use Rattle.std.specs.Prelude.{◌≡◌, ◌⊎◌, ℕ, Bool, true, false, List, [], ◌∷◌, ◌++◌, Option, Some, None}
 use mathlib.Core.Logic.{inl, inr}
 use Rattle.iol_core.specs.Text.{bytes_of}
 use Rattle.iol_core.specs.State.{State, pipe_at}
 use Rattle.iol_core.specs.Positions.{ArePlaced}
 use Rattle.iol_core.specs.declared.events.Reply.{Reply}
 use Rattle.iol_core.specs.declared.events.Reply.TheVariants as reply
+use Rattle.iol_core.specs.declared.refusals.Refusal.{Refusal}
 use Rattle.iol_laws.specs.Caller.{lent_at, is_rough}
 use Rattle.iol_laws.specs.Order.{IsOrderly}
 use Rattle.iol_proc.specs.Turns.{SeatTurn}
 use Rattle.iol_proc.specs.World.{copying}
 use Rattle.iol_proc.specs.declared.seat.Seat.{Seat}
 use Rattle.flash_cgi.specs.Job.{Task}
-use Rattle.flash_cgi.specs.Output.{Outcome, output}
+use Rattle.flash_cgi.specs.Output.{Outcome, Failed, output}
 use Rattle.flash_cgi.specs.Outcomes.{AreFiles, outcomes_in, to_come, ReadsNamed}
 use Rattle.flash_cgi.specs.WorkerSteps.{told}
 use Rattle.flash_cgi.specs.Works.{worker_turns}
@@ -94,13 +95,26 @@ ReadsItsFile m p seat unseen (inl h) = Unit {0}
 ReadsItsFile m p seat unseen (inr (inl h)) = Unit {0}
 ReadsItsFile m p seat unseen (inr (inr i)) = ReadsNamed m seat.by seat.process.job (step_of m seat).begun (step_of m seat).doing
 
--- It goes on, where some outcome may be settled: by a reply that is not rough one of those that were to come.
+-- A call for a file was refused by TooMany, NoRoom, Fault or Memory: this is settled, in place of the first that was to come.
+pub record IsRefused (r : Reply) (due settled coming : List Outcome) : Type 0 where
+  pub why : Refusal
+  pub answer : r ≡ reply.Refused why
+  pub rough : is_rough r ≡ true
+  pub instead : Outcome
+  pub was : due ≡ instead ∷ coming
+  pub is : settled ≡ Failed why ∷ []
+
+-- what was to come is settled, or a refusal in place of the first of it
+abbrev pub Settles : Reply → (due settled coming : List Outcome) → Type 0
+Settles r due settled coming = (due ≡ settled ++ coming) ⊎ IsRefused r due settled coming
+
+-- It goes on, where some outcome may be settled.
 pub record GoesOn (m n : State) (p : ℕ) (next : Seat Worker) (r : Reply) (unseen : List Outcome → List ℕ)
     (due : List Outcome) (Reads : Type 0) : Type 0 where
   pub settled : List Outcome
   pub runs : RunsJob n p next (λ os. unseen (settled ++ os))
-  pub truly : ArePlaced m → AreFiles m → is_rough r ≡ false → Reads
-      → (due ≡ settled ++ outcomes_to_come n p next (λ os. unseen (settled ++ os)) runs)
+  pub truly : ArePlaced m → AreFiles m → Reads
+      → Settles r due settled (outcomes_to_come n p next (λ os. unseen (settled ++ os)) runs)
       × ReadsItsFile n p next (λ os. unseen (settled ++ os)) runs
 
 -- all of its output is written, the pipe's write end is closed, and it is free for the next job

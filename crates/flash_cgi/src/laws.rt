@@ -34,7 +34,8 @@ pub fn workers_feed_pipes()
 }
 
 /// So does each turn of a worker, from the moment at which its job waits until it is free for the
-/// next one. Where a turn is not rough, the outcomes that it settles are those that the files have.
+/// next one. The outcomes that it settles are those that the files have; where TooMany, NoRoom, Fault
+/// or Memory refuses the call for a file, it is this refusal.
 pub fn turns_feed()
     ensures { TurnsFeed }
 {
@@ -54,7 +55,8 @@ pub fn others_hear()
     laws::others_leave_pipes();
 }
 
-/// The outcomes that a worker's calls settle are those of the files that its lines name.
+/// The outcomes that a worker's calls settle are those of the files that its lines name; where
+/// TooMany, NoRoom, Fault or Memory refuses the call for a file, it is this refusal.
 pub fn outcomes_are_true()
     ensures { OutcomesAreTrue }
 {
@@ -63,8 +65,10 @@ pub fn outcomes_are_true()
 }
 
 /// With the files as they are a script puts out one text: the output of its lines, in order, from its
-/// job to its end. Each turn of its worker that is not rough leaves it due, and what others take is
-/// its front. Once the job is read nothing lies in its job pipe.
+/// job to its end. Each turn of its worker leaves it due, and what others take is its front. A turn
+/// whose call for a file is refused by TooMany, NoRoom, Fault or Memory exchanges it for another
+/// text: that of the same lines with the refusal in place of the file, which begins with what went
+/// already. Once the job is read nothing lies in its job pipe.
 pub fn scripts_put_out()
     ensures { ScriptsPutOut }
 {

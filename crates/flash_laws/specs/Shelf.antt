@@ -21,6 +21,11 @@ use Rattle.flash_laws.specs.Conn.{status_of}
 use Rattle.flash_laws.specs.Answers.{Outcome, Found, Failed, response, outcome_of, script_text, Reads, last_may_close, last_closes}
 use Rattle.flash_laws.specs.Shelf.Due.{Seen, due, outcomes_by}
 
+-- Which of the refusals TooMany, NoRoom, Fault and Memory calls for files may get: those of the server, and those of workers.
+pub record Refusals : Type 0 where
+  pub of_server : Refusal → Bool
+  pub of_workers : Refusal → Bool
+
 pub record Shelf : Type 0 where
   -- the outcome of each name for the server
   pub finds : (name : List ℕ) → Outcome
@@ -28,21 +33,22 @@ pub record Shelf : Type 0 where
   pub shows : Seen
   -- whether scripts are run
   pub scripts : Bool
-  -- which of the refusals TooMany, NoRoom, Fault and Memory the calls for files may get
-  pub refuses : Refusal → Bool
+  -- by which refusals calls for files may be refused
+  pub refuses : Refusals
 
 -- the response that is due to a request, where nothing is refused
 abbrev pub due_to : Shelf → Answer → List ℕ
 due_to shelf q = due shelf.scripts shelf.finds shelf.shows q
 
 module _ (shelf : Shelf) where
-  -- What the server's calls for a file may give where this is there: it, or the status of a refusal (503, or 500 for a fault).
+  -- What the server's calls for a file may give where this is there: it, or the status of a refusal that its calls may get (503, or
+  -- 500 for a fault).
   abbrev pub MayFind : (there got : Outcome) → Type 0
-  MayFind there got = (got ≡ there) ⊎ ((x : Refusal) × (shelf.refuses x ≡ true) × (got ≡ Failed (status_of x)))
+  MayFind there got = (got ≡ there) ⊎ ((x : Refusal) × (shelf.refuses.of_server x ≡ true) × (got ≡ Failed (status_of x)))
 
-  -- What a script's calls for a file may give: it, or a refusal.
+  -- What a worker's calls for a file may give: it, or a refusal that calls of workers may get.
   abbrev pub MayShow : (there got : script.Outcome) → Type 0
-  MayShow there got = (got ≡ there) ⊎ ((x : Refusal) × (shelf.refuses x ≡ true) × (got ≡ script.Failed x))
+  MayShow there got = (got ≡ there) ⊎ ((x : Refusal) × (shelf.refuses.of_workers x ≡ true) × (got ≡ script.Failed x))
 
   -- of each file that it names
   abbrev pub AllMayShow : (there got : List script.Outcome) → Type 0

@@ -7,7 +7,7 @@ pub mod Remains
 pub mod Done
 pub mod Fair
 pub mod Host
-use Rattle.std.specs.Prelude.{◌≡◌, ◌≢◌, Bool, ◌<◌, ℕ, true, false, List, [], ◌∷◌, ◌++◌, length, map, Some, None, slice_get}
+use Rattle.std.specs.Prelude.{◌≡◌, ◌==◌, Bool, ◌<◌, ℕ, true, false, List, [], ◌∷◌, ◌++◌, length, map, Some, None, slice_get, if◌then◌else◌}
 use Rattle.iol_core.specs.Text.{bytes_of}
 use Rattle.iol_core.specs.State.{State, conn_at, no_conn}
 use Rattle.iol_core.specs.declared.events.Reply.{Reply}
@@ -27,9 +27,8 @@ use Rattle.flash_laws.specs.Site.Places.{filed}
 use Rattle.flash_laws.specs.Serves.Rounds.{in_rounds}
 use Rattle.flash_laws.specs.Site.ClientTies.{AreAtDesks, AllFit, AreOwned}
 use Rattle.flash_laws.specs.Serves.{Server, new_server, Policy}
-use Rattle.flash_laws.specs.Shelf.{Shelf, Begins, IsAnswer, IsAmong}
+use Rattle.flash_laws.specs.Shelf.{Shelf, Refusals, Begins, IsAnswer, IsAmong}
 use Rattle.iol_core.specs.declared.refusals.Refusal.{Refusal}
-use Rattle.iol_laws.specs.Caller.{is_rough}
 use Rattle.iol_proc.specs.declared.choice.Choice.TheVariants as choice
 use Rattle.flash_laws.specs.Site.{server}
 use Rattle.flash_laws.specs.World.Tie.{past_of, made_over, gone_over, Actor, Serving, Working, actor_turns}
@@ -93,10 +92,14 @@ ClosedAreWhole shelf xs rs m = (c : ℕ) → made_over c xs rs ≡ true → (con
     → gone_over c xs rs ≡ false
     → IsAnswer shelf (stream_over c xs rs) (sent_over c xs rs ++ bytes_of (conn_at m c).outgoing)
 
--- Of choices with these replies each turn is fair: where TooMany, NoRoom, Fault or Memory refused the server's, it is one of these
--- refusals; none of them refused a worker's.
-abbrev pub AreFair : (refuses : Refusal → Bool) → List Choice → List Reply → Type 0
-AreFair refuses (choice.Turn by ∷ xs) (r ∷ rs) = IsAmong refuses r × (by ≢ server → is_rough r ≡ false) × AreFair refuses xs rs
+-- by which refusals a turn of this domain may be refused
+abbrev pub may_refuse : Refusals → (by : ℕ) → Refusal → Bool
+may_refuse refuses by = if by == server then refuses.of_server else refuses.of_workers
+
+-- Of choices with these replies each turn is fair: where TooMany, NoRoom, Fault or Memory refused it, it is one of the refusals that
+-- it may get.
+abbrev pub AreFair : Refusals → List Choice → List Reply → Type 0
+AreFair refuses (choice.Turn by ∷ xs) (r ∷ rs) = IsAmong (may_refuse refuses by) r × AreFair refuses xs rs
 AreFair refuses (choice.Outside e ∷ xs) (r ∷ rs) = AreFair refuses xs rs
 AreFair refuses xs rs = Unit {0}
 

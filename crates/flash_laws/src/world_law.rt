@@ -5,6 +5,7 @@ ghost use Rattle.iol_core.specs.Prelude.{State};
 ghost use Rattle.iol_core.specs.declared.events.Reply.{Reply};
 ghost use Rattle.iol_proc.specs.Prelude.{Settles, Account};
 ghost use Rattle.iol_proc.specs.declared.seat.Seat.{Seat};
+ghost use Rattle.flash_cgi.specs.Prelude.{Made};
 ghost use Rattle.flash_laws.specs.Workers.Crews.{OfEach, OfSome};
 ghost use Rattle.flash_laws.specs.World.Settles.{ActorsSettle};
 ghost use Rattle.flash_laws.specs.Serves.Rounds.{in_rounds};
@@ -31,8 +32,9 @@ pub trait RunsScripts: Drop {
     /// One that is free, where what it puts out lies in these pools, and its jobs come by this pipe.
     ghost free: { (ℕ → Bool) → State → ℕ → Seat Self → Type 0 };
 
-    /// One of which a text is still to be had: its pools, the machine, the pipes of its jobs and of the text, and the text.
-    ghost due: { (ℕ → Bool) → State → ℕ → ℕ → Seat Self → List ℕ → Type 0 };
+    /// One of which a text is still to be had: its pools, the machine, the pipes of its jobs and of the text, what its script puts
+    /// out, and the text.
+    ghost due: { (ℕ → Bool) → State → ℕ → ℕ → Seat Self → Made → List ℕ → Type 0 };
 
     /// Shows that what a script puts out is one text. The function does nothing.
     fn runs()
@@ -45,7 +47,7 @@ pub trait RunsScripts: Drop {
 
 /// Connections do not meet, with any number of workers, whose desks are apart. A new world is tied; each step keeps the tie, and so
 /// does a run, be it in rounds or whichever call the server likes, if calls from outside are mild and turns are fair (`AreFair`):
-/// the server's are refused by TooMany, NoRoom, Fault and Memory only as the shelf says, and a worker's never. Where the tie holds,
+/// they are refused by TooMany, NoRoom, Fault and Memory only as the shelf says. Where the tie holds,
 /// what was sent on each connection of the net begins an answer to what came on it, of files and of what scripts output, and is all
 /// of it once the connection is closed, unless its peer left; and the server has no aggregate but what its clients use, or what
 /// calls from outside gave it (`IsServing`). Where all is idle nothing is left to do, but for a client that takes nothing, for one

@@ -8,9 +8,7 @@ use Rattle.iol_core.specs.declared.descriptors.Descriptor.TheVariants as on
 use Rattle.iol_core.specs.declared.events.Event.{Event}
 use Rattle.iol_core.specs.declared.events.Reply.{Reply}
 use Rattle.iol_core.specs.declared.events.Reply.TheVariants as reply
-use Rattle.iol_core.specs.declared.refusals.Refusal.{Refusal}
 use Rattle.iol_core.specs.declared.refusals.Refusal.TheVariants.{TooMany, NoRoom, Memory}
-use Rattle.iol_laws.specs.Caller.{is_rough}
 use Rattle.iol_laws.specs.Labels.{AreAtHome}
 use Rattle.iol_laws.specs.Order.{IsOrderly}
 use Rattle.iol_proc.specs.Idle.{Idles, Went, rounds}
@@ -25,7 +23,7 @@ use Rattle.flash_laws.specs.Shelf.{Shelf, IsAnswer}
 use Rattle.flash_laws.specs.Site.{server}
 use Rattle.flash_laws.specs.Site.Past.{Past}
 use Rattle.flash_laws.specs.Workers.Crew.{Crew}
-use Rattle.flash_laws.specs.World.{Tied}
+use Rattle.flash_laws.specs.World.{AreFair, Tied}
 use Rattle.flash_laws.specs.World.Done.{IsHeldUp}
 use Rattle.flash_laws.specs.World.Remains.{IsFull}
 use Rattle.flash_laws.specs.World.Tie.{Actor, Serving, Working, actor_turns, past_of}
@@ -82,17 +80,18 @@ IsServed shelf m p clients c = IsAnswer shelf (p.came c) (p.sent c ++ bytes_of (
     ⊎ (p.gone c ≡ true) ⊎ IsHeldUp m c ⊎ (((conn_at m c).accepted ≡ false) × IsFull m clients)
 
 module _ (crew : Crew) where
-  -- A tied world of files has turns in rounds, at most `most`. Before them any call may have been refused. None of them is refused for
-  -- lack of table entries, pages or memory, and `most` suffices for the state in which they begin.
+  -- A tied world of files has turns in rounds, at most `most`. Before them calls may have been refused as the shelf says. None of them
+  -- is refused for lack of table entries, pages or memory, or by a fault that the shelf does not allow, and `most` suffices for the
+  -- state in which they begin.
   pub record RunsLongEnough (shelf : Shelf) (xs : List Choice) (rs : List Reply) (w : Stage State (Actor crew.Worker)) (most : ℕ)
       (idle : Bool) (after : Stage State (Actor crew.Worker)) : Type 0 where
     pub files : crew.count ≡ 0
-    pub any : (x : Refusal) → is_rough (reply.Refused x) ≡ true → shelf.refuses x ≡ true
     pub tied : Tied shelf crew xs rs w
     pub reads : CanRead w.machine
     pub places : CanPlace w.machine
     pub ends : Idles copying (actor_turns in_rounds crew.turns) w most idle after
     pub lacks_none : NoneLacksResource ends.went
+    pub fair : AreFair shelf.refuses (rounds (domains_of w.seats) 0 (length ends.went)) (map (λ t. t.1) ends.went)
     pub suffices : turns_that_suffice w.machine (clients_in w) ≤ most
 
   -- All becomes idle.

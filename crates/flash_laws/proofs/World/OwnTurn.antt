@@ -69,7 +69,7 @@ pub record IsOwnTurn (shelf : Shelf) (crew : Crew) (m n : State) (p : Past) (cli
   pub there : in_place clients fd ≡ Some x
   pub waits : IsAwaiting x
   pub goes : may_go (has_free crew.count clients) x ≡ true
-  pub among : IsAmong shelf.refuses r
+  pub among : IsAmong shelf.refuses.of_server r
   pub step : StepsTo m (event.Call server (wants shelf.scripts fd x)) r n
   pub names : Names n r heard
 

@@ -9,9 +9,11 @@ use Rattle.iol_proc.specs.declared.seat.Seat.{Seat}
 use Rattle.flash_http.specs.declared.windows.Window.TheVariants.{Wait}
 use Rattle.flash_http.specs.Window.{window_in}
 use Rattle.flash_http.specs.Request.{Answer, serve, refuse, Wanted}
-use Rattle.flash_cgi.specs.Output.{output}
+use Rattle.flash_cgi.specs.Due.{Made, text_of as output_of}
+use Rattle.flash_cgi.specs.Output.{Outcome}
 use Rattle.flash_cgi.specs.Script.{script_of}
 use Rattle.flash_cgi.specs.declared.line.Line.{Line}
+use Rattle.flash_laws.specs.Answers.Scripts.{script_response}
 use Rattle.flash_laws.specs.Answers.{Found, keeps, Reads, last_may_close, last_closes}
 use Rattle.flash_laws.specs.Client.{Client, is_for_script, can_run, job_of, keeps_text}
 use Rattle.flash_laws.specs.Conn.{most_kept, most_read, name_of, text_of, is_head_only}
@@ -25,9 +27,9 @@ use Rattle.flash_laws.specs.Run.Fits as run
 use Rattle.flash_laws.specs.Run.Fits.{Progress, HasRun}
 use Rattle.flash_laws.specs.Run.OfferedBytes.{past_of, taken_by, breaks_off}
 use Rattle.flash_laws.specs.Run.{is_over}
-use Rattle.flash_laws.specs.Shelf.{Shelf, due_to, MayBeDue, Responds, Begins}
+use Rattle.flash_laws.specs.Shelf.{Shelf, MayBeDue, AllMayShow, Responds, Begins}
 use Rattle.flash_laws.specs.Site.{server}
-use Rattle.flash_laws.specs.Run.Stages.{HasWorkerAt}
+use Rattle.flash_laws.specs.Run.Stages.{HasWorkerAt, is_starting}
 use Rattle.flash_laws.specs.declared.phase.Learnt.TheVariants.{Text}
 use Rattle.flash_laws.specs.declared.phase.Content.TheVariants.{Script}
 use Rattle.flash_laws.specs.declared.phase.Doing.{Doing}
@@ -135,6 +137,14 @@ module _ (shelf : Shelf) where
 
 -- ---- with the run of a script
 
+-- what it puts out where its files gave this, or are to give it
+abbrev pub made_of : Wanted → List Line → (shown : List Outcome) → Made
+made_of w lines shown = record { before = []; query = w.query; lines = lines; outcomes = shown }
+
+-- and the response to that
+abbrev pub response_to : Wanted → Made → List ℕ
+response_to w made = script_response w (output_of made)
+
 module _ (shelf : Shelf) where
   -- The script that a client asked for, and what it puts out.
   pub record IsScript (x : Client) (w : Wanted) : Type 0 where
@@ -148,17 +158,14 @@ module _ (shelf : Shelf) where
     pub is_script : script_of text ≡ Some lines
     pub proper : IsProper (serve w)
 
-  abbrev pub output_of : Wanted → List Line → List ℕ
-  output_of w lines = output w.query lines (outcomes_by shelf.shows lines)
-
   -- the response that is due may be the one that is being sent
-  pub record GoesOn (took out kept : List ℕ) (w : Wanted) (o : Progress) (y : Running) : Type 0 where
-    pub answers : Answers shelf took out kept (serve w ∷ []) (take (past_of o + taken_by y) (due_to shelf (serve w)))
-    pub may : run.MayAnswer w o (due_to shelf (serve w))
+  pub record GoesOn (due : List ℕ) (took out kept : List ℕ) (w : Wanted) (o : Progress) (y : Running) : Type 0 where
+    pub answers : Answers shelf took out kept (serve w ∷ []) (take (past_of o + taken_by y) due)
+    pub may : run.MayAnswer w o due
     pub whole : breaks_off y ≡ false
 
-  abbrev pub TieRun : Connection → (took sent kept : List ℕ) → Wanted → Progress → Running → Type 0
-  TieRun k took sent kept w o y = GoesOn took (sent ++ bytes_of k.outgoing) kept w o y
+  abbrev pub TieRun : (due : List ℕ) → Connection → (took sent kept : List ℕ) → Wanted → Progress → Running → Type 0
+  TieRun due k took sent kept w o y = GoesOn due took (sent ++ bytes_of k.outgoing) kept w o y
       ⊎ IsLeftAlone shelf k took (sent ++ bytes_of k.outgoing)
 
 module _ (shelf : Shelf) (crew : Crew) where
@@ -170,12 +177,16 @@ module _ (shelf : Shelf) (crew : Crew) where
     pub came_is : came ≡ took ++ bytes_of (conn_at m c).incoming
     pub wanted : Wanted
     pub script : IsScript shelf x wanted
+    -- what its files gave, or are to give: until the worker has the job what is there
+    pub shown : List Outcome
+    pub may_show : AllMayShow shelf (outcomes_by shelf.shows script.lines) shown
+    pub fresh : is_starting y ≡ true → shown ≡ outcomes_by shelf.shows script.lines
     pub kept : keeps_text y ≡ true → x.script ≡ script.text
     pub so_far : Progress
     pub has : HasRun (job_of wanted script.text) m wanted so_far y
     pub ongoing : is_over y ≡ false
-    pub tie : TieRun shelf (conn_at m c) took sent x.conn.kept wanted so_far y
-    pub desk : HasWorkerAt crew m seats (output_of shelf wanted script.lines) so_far y
+    pub tie : TieRun shelf (response_to wanted (made_of wanted script.lines shown)) (conn_at m c) took sent x.conn.kept wanted so_far y
+    pub desk : HasWorkerAt crew m seats (made_of wanted script.lines shown) so_far y
 
   abbrev pub FitsBy : Option Running → State → (came sent : List ℕ) → (fd c : ℕ) → Client → List (Seat crew.Worker) → Type 0
   FitsBy None m came sent fd c x seats = FitsAlone shelf m came sent fd c x

@@ -4,6 +4,7 @@ use Rattle.iol_core.specs.State.{State, descriptor, text, pipe_at, new_pipe}
 use Rattle.iol_core.specs.declared.descriptors.Descriptor.TheVariants as on
 use Rattle.iol_laws.specs.Sources.{lie_in}
 use Rattle.iol_proc.specs.declared.seat.Seat.{Seat}
+use Rattle.flash_cgi.specs.Due.{Made, text_of}
 use Rattle.flash_laws.specs.Workers.Crew.{Crew}
 use Rattle.flash_laws.specs.Workers.PutsOut as puts
 use Rattle.flash_laws.specs.Run.Fits.{Progress, Ran, Broken, NotRun}
@@ -13,7 +14,7 @@ use Rattle.flash_laws.specs.declared.script_run.Run.{Run}
 use Rattle.flash_laws.specs.declared.script_run.Step.{Step}
 use Rattle.flash_laws.specs.declared.script_run.Step.TheVariants.{Gives, Makes, Hands, Returns, Lapses, Fails}
 use Rattle.flash_laws.specs.declared.script_run.Running.{Running}
-use Rattle.flash_laws.specs.declared.script_run.Running.TheVariants.{Runs}
+use Rattle.flash_laws.specs.declared.script_run.Running.TheVariants.{Awaits, Runs}
 
 -- of this output this is still to come, behind what was heard; once nobody takes the response any more it counts for nothing
 abbrev pub IsToCome : Progress → (output more : List ℕ) → Type 0
@@ -26,6 +27,14 @@ abbrev pub IsHeardWhole : Progress → (output : List ℕ) → Type 0
 IsHeardWhole (Ran heard ended past) output = (ended ≡ true) × (output ≡ heard)
 IsHeardWhole Broken output = Unit {0}
 IsHeardWhole (NotRun status past) output = ⊥
+
+-- whether the worker does not yet have the job
+abbrev pub is_starting : Running → Bool
+is_starting Awaits = true
+is_starting (Runs run (Gives write)) = true
+is_starting (Runs run (Makes f)) = true
+is_starting (Runs run (Hands j f)) = true
+is_starting y = false
 
 module _ (crew : Crew) where
   -- The pipe that the server reads, by which no jobs come.
@@ -46,39 +55,39 @@ module _ (crew : Crew) where
     pub writes : descriptor m seat.by fd ≡ Some (on.WriteEnd ready.has.pipe)
 
   -- it has the job, and what it still puts out is what is to come
-  pub record IsPuttingOut (m : State) (seat : Seat crew.Worker) (run : Run) (output : List ℕ) (o : Progress) : Type 0 where
+  pub record IsPuttingOut (m : State) (seat : Seat crew.Worker) (run : Run) (made : Made) (o : Progress) : Type 0 where
     pub has : HasPipeOf m run
     pub more : List ℕ
-    pub puts_out : puts.PutsOut crew.turns crew.pools crew.Free crew.Due m (crew.desk run.worker) has.pipe seat more
-    pub to_come : IsToCome o output more
+    pub puts_out : puts.PutsOut crew.turns crew.pools crew.Free crew.Due m (crew.desk run.worker) has.pipe seat made more
+    pub to_come : IsToCome o (text_of made) more
 
   -- it is free again, and all was heard
-  pub record HasPutOut (m : State) (seat : Seat crew.Worker) (run : Run) (output : List ℕ) (o : Progress) : Type 0 where
+  pub record HasPutOut (m : State) (seat : Seat crew.Worker) (run : Run) (made : Made) (o : Progress) : Type 0 where
     pub free : crew.Free m (crew.desk run.worker) seat
-    pub whole : IsHeardWhole o output
+    pub whole : IsHeardWhole o (text_of made)
 
-  abbrev pub OutputFrom : (stops : Bool) → State → Seat crew.Worker → Run → (output : List ℕ) → Progress → Type 0
-  OutputFrom true m seat run output o = HasPutOut m seat run output o
-  OutputFrom false m seat run output o = IsPuttingOut m seat run output o
+  abbrev pub OutputFrom : (stops : Bool) → State → Seat crew.Worker → Run → (made : Made) → Progress → Type 0
+  OutputFrom true m seat run made o = HasPutOut m seat run made o
+  OutputFrom false m seat run made o = IsPuttingOut m seat run made o
 
   -- What the worker that sits here has of a run. That it may not have the pipe, or not the job, cannot be.
-  abbrev pub Stage : State → Seat crew.Worker → Run → (output : List ℕ) → Progress → Step → Type 0
-  Stage m seat run output o (Gives write) = IsReadyFor m seat run
-  Stage m seat run output o (Makes f) = IsGiven m seat run f
-  Stage m seat run output o (Hands j f) = IsGiven m seat run f × (lie_in crew.jobs (text m server j) ≡ true)
-  Stage m seat run output o (Returns write) = ⊥
-  Stage m seat run output o (Lapses j) = ⊥
-  Stage m seat run output o Fails = ⊥
-  Stage m seat run output o step = OutputFrom (is_stopping (Runs run step)) m seat run output o
+  abbrev pub Stage : State → Seat crew.Worker → Run → (made : Made) → Progress → Step → Type 0
+  Stage m seat run made o (Gives write) = IsReadyFor m seat run
+  Stage m seat run made o (Makes f) = IsGiven m seat run f
+  Stage m seat run made o (Hands j f) = IsGiven m seat run f × (lie_in crew.jobs (text m server j) ≡ true)
+  Stage m seat run made o (Returns write) = ⊥
+  Stage m seat run made o (Lapses j) = ⊥
+  Stage m seat run made o Fails = ⊥
+  Stage m seat run made o step = OutputFrom (is_stopping (Runs run step)) m seat run made o
 
   -- the worker of a run, and what it has of it
-  pub record AtDesk (m : State) (seats : List (Seat crew.Worker)) (run : Run) (output : List ℕ) (o : Progress)
+  pub record AtDesk (m : State) (seats : List (Seat crew.Worker)) (run : Run) (made : Made) (o : Progress)
       (step : Step) : Type 0 where
     pub seat : Seat crew.Worker
     pub sits : slice_get seats run.worker ≡ Some seat
-    pub stage : Stage m seat run output o step
+    pub stage : Stage m seat run made o step
 
   -- of a run, if it has a worker
-  abbrev pub HasWorkerAt : State → (seats : List (Seat crew.Worker)) → (output : List ℕ) → Progress → Running → Type 0
-  HasWorkerAt m seats output o (Runs run step) = AtDesk m seats run output o step
-  HasWorkerAt m seats output o y = Unit {0}
+  abbrev pub HasWorkerAt : State → (seats : List (Seat crew.Worker)) → (made : Made) → Progress → Running → Type 0
+  HasWorkerAt m seats made o (Runs run step) = AtDesk m seats run made o step
+  HasWorkerAt m seats made o y = Unit {0}

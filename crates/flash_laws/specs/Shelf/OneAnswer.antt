@@ -6,7 +6,7 @@ use Rattle.flash_laws.specs.Shelf.{Shelf, due_to, MayBeDue, Begins, IsAnswer}
 
 -- nothing is refused
 abbrev pub RefusesNothing : Shelf → Type 0
-RefusesNothing shelf = (x : Refusal) → shelf.refuses x ≡ false
+RefusesNothing shelf = (x : Refusal) → (shelf.refuses.of_server x ≡ false) × (shelf.refuses.of_workers x ≡ false)
 
 pub record StreamsHaveOneAnswer : Type 0 where
   -- A request may have the response by the files as they are, whatever is refused.

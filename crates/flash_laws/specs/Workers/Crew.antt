@@ -9,6 +9,7 @@ use Rattle.iol_laws.specs.Sources.{MayReadAll}
 use Rattle.iol_proc.specs.Settlement.{Claim}
 use Rattle.iol_proc.specs.Turns.{Account}
 use Rattle.iol_proc.specs.declared.seat.Seat.{Seat}
+use Rattle.flash_cgi.specs.Due.{Made}
 use Rattle.flash_cgi.specs.Outcomes.{AreFiles, outcome_in}
 use Rattle.flash_cgi.specs.OutputPools.{HoldFiles}
 use Rattle.flash_laws.specs.Site.Places.{runs_scripts}
@@ -31,8 +32,8 @@ pub record Crew : Type 1 where
   pub jobs : ℕ → Bool
   -- one that is free, whose jobs come by this pipe
   pub Free : State → (j : ℕ) → Seat Worker → Type 0
-  -- one of which this text is still to be had, from pipe p, and whose jobs come by pipe j
-  pub Due : State → (j p : ℕ) → Seat Worker → (text : List ℕ) → Type 0
+  -- one whose script puts this out, of which this text is still to be had, from pipe p, and whose jobs come by pipe j
+  pub Due : State → (j p : ℕ) → Seat Worker → Made → (text : List ℕ) → Type 0
 
 -- What stays as it is: the files and who may read them are those of the shelf, for the server and for each worker; what
 -- workers put out the server may read, and jobs the workers.

@@ -4,11 +4,12 @@ use Rattle.iol_core.specs.State.{State}
 use Rattle.iol_proc.specs.Settlement.{Claim}
 use Rattle.iol_proc.specs.Turns.{Account}
 use Rattle.iol_proc.specs.declared.seat.Seat.{Seat}
+use Rattle.flash_cgi.specs.Due.{Made}
 use Rattle.flash_laws.specs.Workers.Crew.{Crew}
 use Rattle.flash_laws.specs.World.{DesksAreApart}
 
 module _ {W : Type 0} (turns : Account W) (settled : Claim W) (free : (pools : ℕ → Bool) → State → (j : ℕ) → Seat W → Type 0)
-    (due : (pools : ℕ → Bool) → State → (j p : ℕ) → Seat W → (text : List ℕ) → Type 0) where
+    (due : (pools : ℕ → Bool) → State → (j p : ℕ) → Seat W → Made → (text : List ℕ) → Type 0) where
   -- so many of them, at these desks, where what they put out lies in these pools, and their jobs in those
   abbrev pub crew_with : (count : ℕ) → (desk : ℕ → ℕ) → (pools jobs : ℕ → Bool) → Crew
   crew_with count desk pools jobs = record {
