@@ -281,4 +281,4 @@ run_wants_on scripts worker x y z d r heard is going now z_is over d_is wants =
     let told : run_told worker x.conn.q x y r heard ≡ ended x d = over-told worker x y z r heard is going z_is over ∙ ap (λ (e : Doing). ended x e) (sym d_is) in
     inr (ap (λ (t : Client). leaves_off (left_over t) r) told ∙ (leaves-now (left_over (ended x d)) r now ∙ wants.0), ap (λ (t : Client). needs_memory t) told ∙ wants.1)
 
-pub ruleset run_rules = (run_stays, run_waits, run_goes, run_ends, goes_wants, run_wants_on)
+pub ruleset run_rules = (run_stays, run_waits, run_answers, run_goes, run_ends, goes_wants, run_wants_on)
