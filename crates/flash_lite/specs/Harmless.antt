@@ -6,18 +6,18 @@ use Rattle.iol_core.specs.declared.events.Call.{Call}
 use Rattle.iol_core.specs.declared.events.Call.TheVariants as call
 use Rattle.iol_core.specs.declared.events.Event.TheVariants as event
 use Rattle.iol_core.specs.declared.events.Reply.{Reply}
-use Rattle.iol_core.specs.declared.refusals.Refusal.{Refusal}
 use Rattle.iol_proc.specs.World.{Stage}
 use Rattle.iol_proc.specs.declared.choice.Choice.{Choice}
 use Rattle.iol_proc.specs.declared.choice.Choice.TheVariants as choice
 use Rattle.flash_cgi.specs.declared.worker.Worker.{Worker}
+use Rattle.flash_laws.specs.Shelf.{Refusals}
 use Rattle.flash_laws.specs.Site.{server}
 use Rattle.flash_laws.specs.World.Tie.{Actor}
 use Rattle.flash_laws.specs.World.{AreFair}
 use Rattle.flash_laws.specs.World.Fair.{any_refusal, no_refusal}
 use Rattle.flash_laws.specs.World.Host.{IsRight}
 use Rattle.flash_lite.specs.Crew.{crew_of}
-use Rattle.flash_lite.specs.HostedSite.{HasFairTurns, Hosts, IsMildlyUsed}
+use Rattle.flash_lite.specs.HostedSite.{HasFairTurns, Hosts, IsMildlyUsed, refusals_of}
 use Rattle.flash_lite.specs.Library.{library_of}
 use Rattle.flash_lite.specs.Setup.{workers_used}
 use Rattle.flash_lite.specs.declared.site.Site.{Site}
@@ -42,23 +42,25 @@ AreHarmless s xs = AllByRecursion (λ x. IsHarmless (workers_used s) x) xs
 abbrev pub HarmlessIsMild : Type 0
 HarmlessIsMild = (s : Site) (slots : List (List ℕ)) (xs : List Choice) (rs : List Reply) (turns : ℕ)
     (idle : Bool) (after : Stage State (Actor Worker)) (hosts : Hosts s slots xs rs turns idle after)
-    → (refuses : Refusal → Bool) → AreHarmless s xs → AreFair refuses xs rs
+    → (refuses : Refusals) → AreHarmless s xs → AreFair refuses xs rs
     → IsMildlyUsed s slots xs rs turns idle after hosts
 
 -- So what is hosted with them is right, of what came by these choices: the turns in rounds behind them bring nothing in.
 module _ (s : Site) (slots : List (List ℕ)) (xs : List Choice) (rs : List Reply) (turns : ℕ) (idle : Bool)
     (after : Stage State (Actor Worker)) (hosts : Hosts s slots xs rs turns idle after) where
-  abbrev pub IsRightNow : (refuses : Refusal → Bool) → Type 0
+  abbrev pub IsRightNow : (refuses : Refusals) → Type 0
   IsRightNow refuses = IsRight (crew_of s) (library_of s slots refuses) xs rs idle after
 
   pub record IsRightIfHarmless : Type 0 where
-    -- with the refusals that its turns had
-    pub fair : (refuses : Refusal → Bool) → AreHarmless s xs → HasFairTurns s slots xs rs turns idle after hosts refuses
+    -- where its turns had no other refusals
+    pub fair : (refuses : Refusals) → AreHarmless s xs → HasFairTurns s slots xs rs turns idle after hosts refuses
         → IsRightNow refuses
     -- with none, where the world says that it is not rough
     pub smooth : AreHarmless s xs → after.rough ≡ false → IsRightNow no_refusal
-    -- with TooMany, NoRoom, Fault and Memory, whatever was refused, where no scripts run
-    pub files : AreHarmless s xs → workers_used s ≡ 0 → IsRightNow any_refusal
+    -- with those that its turns had, the server's and the workers', whatever was refused
+    pub own : AreHarmless s xs → IsRightNow (refusals_of s slots xs rs turns idle after hosts)
+    -- with TooMany, NoRoom, Fault and Memory, whatever was refused
+    pub any : AreHarmless s xs → IsRightNow any_refusal
 
 abbrev pub HarmlessIsRight : Type 0
 HarmlessIsRight = (s : Site) (slots : List (List ℕ)) (xs : List Choice) (rs : List Reply) (turns : ℕ)

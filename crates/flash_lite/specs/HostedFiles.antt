@@ -6,12 +6,12 @@ use Rattle.iol_proc.specs.Idle.{rounds}
 use Rattle.iol_proc.specs.World.{Stage, domains_of}
 use Rattle.iol_proc.specs.declared.choice.Choice.{Choice}
 use Rattle.flash_cgi.specs.declared.worker.Worker.{Worker}
-use Rattle.flash_laws.specs.World.Fair.{any_refusal}
+use Rattle.flash_laws.specs.Shelf.{Refusals}
 use Rattle.flash_laws.specs.World.Tie.{Actor}
 use Rattle.flash_progress.specs.Bound.{turns_that_suffice}
 use Rattle.flash_progress.specs.Served.{AreServed, CanPlace, NoneLacksResource, clients_in}
 use Rattle.flash_lite.specs.Crew.{crew_of}
-use Rattle.flash_lite.specs.HostedSite.{Hosts, IsMildlyUsed}
+use Rattle.flash_lite.specs.HostedSite.{HasFairTurns, Hosts, IsMildlyUsed}
 use Rattle.flash_lite.specs.Library.{library_of}
 use Rattle.flash_lite.specs.Setup.{workers_used}
 use Rattle.flash_lite.specs.declared.site.Site.{Site}
@@ -26,11 +26,13 @@ pub record IsHostedLongEnough (s : Site) (slots : List (List ℕ)) (xs : List Ch
   pub lacks_none : NoneLacksResource hosts.ends.went
   pub suffices : turns_that_suffice hosts.mid.machine (clients_in hosts.mid) ≤ turns
 
--- All becomes idle, and each connection of the net is served.
+-- All becomes idle. Where its turns had no other refusals than these, each connection of the net is served, with responses as these
+-- refusals allow.
 abbrev pub HostedFilesBecomeIdle : Type 0
 HostedFilesBecomeIdle = (s : Site) (slots : List (List ℕ)) (xs : List Choice) (rs : List Reply) (turns : ℕ)
     (idle : Bool) (after : Stage State (Actor Worker)) (hosts : Hosts s slots xs rs turns idle after)
     → IsHostedLongEnough s slots xs rs turns idle after hosts
     → (idle ≡ true)
-    × AreServed (crew_of s) (library_of s slots any_refusal)
-    (xs ++ rounds (domains_of hosts.mid.seats) 0 (length hosts.ends.went)) (rs ++ map (λ t. t.1) hosts.ends.went) after
+    × ((refuses : Refusals) → HasFairTurns s slots xs rs turns idle after hosts refuses
+    → AreServed (crew_of s) (library_of s slots refuses)
+    (xs ++ rounds (domains_of hosts.mid.seats) 0 (length hosts.ends.went)) (rs ++ map (λ t. t.1) hosts.ends.went) after)

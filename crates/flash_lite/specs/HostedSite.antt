@@ -4,7 +4,6 @@ use Rattle.iol_back.specs.Disk.{Disk, IfHonest}
 use Rattle.iol_core.specs.State.{State}
 use Rattle.iol_core.specs.declared.configuration.Config.{Config}
 use Rattle.iol_core.specs.declared.events.Reply.{Reply}
-use Rattle.iol_core.specs.declared.refusals.Refusal.{Refusal}
 use Rattle.iol_proc.specs.Idle.{Idles, rounds}
 use Rattle.iol_proc.specs.Laws.{HasEvents}
 use Rattle.iol_kernel.specs.Readings.{slots_of}
@@ -12,16 +11,16 @@ use Rattle.iol_proc.specs.World.{Stage, copied, copying, sharing, WorldRun, doma
 use Rattle.iol_proc.specs.declared.choice.Choice.{Choice}
 use Rattle.iol_system.specs.Machine.{SystemState}
 use Rattle.flash_cgi.specs.declared.worker.Worker.{Worker}
+use Rattle.flash_laws.specs.Shelf.{Refusals}
 use Rattle.flash_laws.specs.World.Calm.{AreMild}
 use Rattle.flash_laws.specs.Serves.Rounds.{in_rounds}
 use Rattle.flash_laws.specs.World.Tie.{Actor, actor_turns}
 use Rattle.flash_laws.specs.World.{AreFair, IsNew}
-use Rattle.flash_laws.specs.World.Fair.{any_refusal, no_refusal}
+use Rattle.flash_laws.specs.World.Fair.{any_refusal, no_refusal, refusals_in}
 use Rattle.flash_laws.specs.World.Host.{IsRight}
 use Rattle.flash_lite.specs.Crew.{crew_of}
 use Rattle.flash_lite.specs.Library.{library_of}
 use Rattle.flash_lite.specs.NewWorld.{AreSeated}
-use Rattle.flash_lite.specs.Setup.{workers_used}
 use Rattle.flash_lite.specs.SiteState.{state_of}
 use Rattle.flash_lite.specs.SiteStart.{Starts}
 use Rattle.flash_lite.specs.Workers.{worker_turns}
@@ -33,7 +32,7 @@ pub record IsNewWorld (s : Site) (slots : List (List ℕ)) (w : Stage State (Act
   pub machine : w.machine ≡ state_of s slots
   pub seats : AreSeated s w.seats
   pub smooth : w.rough ≡ false
-  pub new : (refuses : Refusal → Bool) → IsNew (library_of s slots refuses) (crew_of s) w
+  pub new : (refuses : Refusals) → IsNew (library_of s slots refuses) (crew_of s) w
 
 -- A site over these slots makes its choices, which are answered so, and then has at most so many turns in rounds.
 pub record Hosts (s : Site) (slots : List (List ℕ)) (xs : List Choice) (rs : List Reply)
@@ -72,24 +71,30 @@ module _ (s : Site) (slots : List (List ℕ)) (xs : List Choice) (rs : List Repl
   IsMildlyUsed = AreMild (actor_turns in_rounds worker_turns) hosts.first xs rs hosts.mid hosts.run
 
   -- the turns among the choices, and those in rounds, were fair where these refusals are allowed
-  abbrev pub HasFairTurns : (refuses : Refusal → Bool) → Type 0
+  abbrev pub HasFairTurns : (refuses : Refusals) → Type 0
   HasFairTurns refuses = AreFair refuses xs rs
       × AreFair refuses (rounds (domains_of hosts.mid.seats) 0 (length hosts.ends.went)) (map (λ t. t.1) hosts.ends.went)
 
+  -- the refusals by TooMany, NoRoom, Fault and Memory that its turns had
+  abbrev pub refusals_of : Refusals
+  refusals_of = refusals_in (xs ++ rounds (domains_of hosts.mid.seats) 0 (length hosts.ends.went)) (rs ++ map (λ t. t.1) hosts.ends.went)
+
   -- All that came of it is right where these refusals are allowed.
-  abbrev pub IsRightAfter : (refuses : Refusal → Bool) → Type 0
+  abbrev pub IsRightAfter : (refuses : Refusals) → Type 0
   IsRightAfter refuses = IsRight (crew_of s) (library_of s slots refuses)
       (xs ++ rounds (domains_of hosts.mid.seats) 0 (length hosts.ends.went))
       (rs ++ map (λ t. t.1) hosts.ends.went) idle after
 
   -- What was hosted is right, where calls from outside were mild.
   pub record IsRightAsHosted : Type 0 where
-    -- with the refusals that its turns had
-    pub fair : (refuses : Refusal → Bool) → IsMildlyUsed → HasFairTurns refuses → IsRightAfter refuses
+    -- where its turns had no other refusals
+    pub fair : (refuses : Refusals) → IsMildlyUsed → HasFairTurns refuses → IsRightAfter refuses
     -- with none, where the world says that it is not rough
     pub smooth : IsMildlyUsed → after.rough ≡ false → IsRightAfter no_refusal
-    -- with TooMany, NoRoom, Fault and Memory, whatever was refused, where no scripts run
-    pub files : IsMildlyUsed → workers_used s ≡ 0 → IsRightAfter any_refusal
+    -- with those that its turns had, the server's and the workers', whatever was refused
+    pub own : IsMildlyUsed → IsRightAfter refusals_of
+    -- with TooMany, NoRoom, Fault and Memory, whatever was refused
+    pub any : IsMildlyUsed → IsRightAfter any_refusal
 
 abbrev pub HostedIsRight : Type 0
 HostedIsRight = (s : Site) (slots : List (List ℕ)) (xs : List Choice) (rs : List Reply) (turns : ℕ)

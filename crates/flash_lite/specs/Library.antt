@@ -1,11 +1,10 @@
 -- What lies on the shelf of a site for the server and for its scripts.
-use Rattle.std.specs.Prelude.{ℕ, List, [], Bool, Option, Some, None, if◌then◌else◌, position, bytes_eq, slice_index_or}
+use Rattle.std.specs.Prelude.{ℕ, List, [], Option, Some, None, if◌then◌else◌, position, bytes_eq, slice_index_or}
 use Rattle.std.specs.List.{slice_get}
-use Rattle.iol_core.specs.declared.refusals.Refusal.{Refusal}
 use Rattle.iol_core.specs.declared.refusals.Refusal.TheVariants.{Denied, NoFile}
 use Rattle.flash_cgi.specs.Output.{Outcome, Failed, Found}
 use Rattle.flash_laws.specs.Shelf.Due.{Seen}
-use Rattle.flash_laws.specs.Shelf.{Shelf}
+use Rattle.flash_laws.specs.Shelf.{Shelf, Refusals}
 use Rattle.flash_lite.specs.Setup.{has_script}
 use Rattle.flash_lite.specs.Shelf.{shelf_of}
 use Rattle.flash_lite.specs.declared.site.Site.{Site}
@@ -26,7 +25,7 @@ abbrev pub seen_of : Site → (slots : List (List ℕ)) → Seen
 seen_of s slots name = seen_at s slots (position (λ f. bytes_eq f.name.items name) s.files.items)
 
 -- For both, where scripts are run if there is one, and where calls may be refused by these refusals.
-abbrev pub library_of : Site → (slots : List (List ℕ)) → (refuses : Refusal → Bool) → Shelf
+abbrev pub library_of : Site → (slots : List (List ℕ)) → Refusals → Shelf
 library_of s slots refuses = record {
   finds = shelf_of s slots;
   shows = seen_of s slots;

@@ -3,10 +3,10 @@ use Rattle.std.specs.Prelude.{◌≡◌, ◌≤◌, ℕ, Bool, true, List, lengt
 use Rattle.iol_back.specs.Disk.{IfHonest}
 use Rattle.iol_core.specs.State.{State, new_state}
 use Rattle.iol_core.specs.declared.limits.TheConstants.{MAX_FILES}
-use Rattle.iol_core.specs.declared.refusals.Refusal.{Refusal}
 use Rattle.iol_proc.specs.World.{Stage}
 use Rattle.iol_system.specs.Machine.{SystemState, machine_of}
 use Rattle.flash_cgi.specs.declared.worker.Worker.{Worker}
+use Rattle.flash_laws.specs.Shelf.{Refusals}
 use Rattle.flash_laws.specs.World.Tie.{Actor}
 use Rattle.flash_laws.specs.World.{IsNew}
 use Rattle.flash_lite.specs.Crew.{crew_of}
@@ -18,7 +18,7 @@ use Rattle.flash_lite.specs.declared.site.Site.{Site}
 -- The world is new, with the files that the slots had and the workers of the site, if the machine was new and had slots enough,
 -- whatever calls may be refused by later.
 abbrev pub IsNewFor : Site → (old : State) → Stage State (Actor Worker) → Type 0
-IsNewFor s old w = (slots : List (List ℕ)) (refuses : Refusal → Bool) → old ≡ new_state slots → MAX_FILES ≤ length slots
+IsNewFor s old w = (slots : List (List ℕ)) (refuses : Refusals) → old ≡ new_state slots → MAX_FILES ≤ length slots
     → IsNew (library_of s slots refuses) (crew_of s) w
 
 -- each world of the site's processes on this machine is new, with what the slots had, if the machine was new and had slots enough

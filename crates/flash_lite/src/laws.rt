@@ -19,9 +19,8 @@ use iol_proc::laws::{idle_is_settled, smooth_runs};
 
 /// Connections do not meet, whatever the site, with scripts or without: of the account that `Actor`
 /// has as a process. A new world is tied; each step keeps the tie, and so does a run, if calls from
-/// outside are mild and turns are fair: the server's are refused by TooMany, NoRoom, Fault and
-/// Memory only as the shelf says, and a worker's never. Where it holds, what was sent on each
-/// connection of the net begins an answer to what came on it, of files and of what scripts output,
+/// outside are mild and turns are fair: they are refused by TooMany, NoRoom, Fault and Memory only
+/// as the shelf says. Where it holds, what was sent on each connection of the net begins an answer to what came on it, of files and of what scripts output,
 /// and is all of it once the connection is closed, unless its peer left. Where all is idle nothing
 /// is left to do, but what waits for others: full queues, clients that wait for workers of such,
 /// and connections while the server has as many as it may; and the server has no aggregate but what
@@ -55,23 +54,23 @@ pub fn set_up_is_a_new_world()
 /// calls from outside were mild: what was sent on each connection of the net begins an answer to what
 /// came on it, be it for files or for scripts, and is all of it once it is closed, unless its peer
 /// left; where all is idle nothing is left to do, but what waits for others (`IsDone`). In an answer
-/// a refusal by TooMany, NoRoom, Fault or Memory may stand in place of a file: one that the turns had
-/// (`fair`); none, where the world is not rough (`smooth`); any, where no scripts run, whatever was
-/// refused (`files`).
+/// a refusal by TooMany, NoRoom, Fault or Memory may stand in place of a file: one that turns of the
+/// server had in place of a file of the site, and one that turns of workers had in place of a file
+/// that a script names (`own`, `fair`); none, where the world is not rough (`smooth`). No premise is
+/// about refusals.
 pub fn hosted_is_right()
     ensures { HostedIsRight }
 {
     connections_do_not_meet();
     idle_is_settled::<Actor>();
     smooth_runs::<Actor>();
-    runs_are_fair::<Worker>();
+    runs_are_fair();
 }
 
 /// Whether calls from outside were mild can be read off the choices: they were, if each is by a
 /// domain behind those of the processes, a guest's, and is none of `file_new`, `iol_write`, `write`
-/// and `pool_admit`, and if the turns were fair. So what is hosted with such choices is right: with
-/// the refusals that its turns had, with none where its world is not rough, and where no scripts run
-/// with any, whatever was refused.
+/// and `pool_admit`. So what is hosted with such choices is right, whatever was refused: with the
+/// refusals that its turns had, and with none where its world is not rough.
 pub fn harmless_is_right()
     ensures mild { HarmlessIsMild }
     ensures right { HarmlessIsRight }
@@ -80,17 +79,18 @@ pub fn harmless_is_right()
     hosted_is_right();
     site_law();
     smooth_runs::<Actor>();
-    runs_are_fair::<Worker>();
+    runs_are_fair();
 }
 
 /// A site without scripts that [`host`](crate::host::host) hosts over an honest store becomes idle,
 /// whatever was refused before, if calls from outside are mild, the pool `work` is still open where
 /// `until_idle` begins, its number of turns suffices for that state (`turns_that_suffice`), and
 /// none of them is refused for lack of table entries, pages or memory. Then each connection of the
-/// net is served: all requests that arrived on it are answered, or its peer left, or its queue is
+/// net is served, with responses as the refusals allow that its turns had: all requests that arrived on it are answered, or its peer left, or its queue is
 /// full, or it is not accepted and the server has as many connections as it may.
 pub fn hosted_files_become_idle()
     ensures { HostedFilesBecomeIdle }
 {
     file_server_becomes_idle::<Worker>();
+    runs_are_fair();
 }
