@@ -1,5 +1,5 @@
 -- Connections that are served in a world that satisfies the server's invariant: what was sent begins an answer to what arrived.
-use Rattle.std.specs.Prelude.{◌≡◌, ℕ, Bool, true, false, List, [], ◌∷◌, ◌++◌, Option}
+use Rattle.std.specs.Prelude.{◌≡◌, ℕ, true, false, List, [], ◌∷◌, ◌++◌, Option}
 use Rattle.std.specs.Io.KnownBytes.{Appends, Consumes}
 use Rattle.std.specs.List.{AllByRecursion}
 use Rattle.iol_core.specs.Calls.Outside.{lacks_conn}
@@ -7,23 +7,22 @@ use Rattle.iol_core.specs.State.{State}
 use Rattle.iol_core.specs.declared.events.Event.TheVariants as event
 use Rattle.iol_core.specs.declared.events.Reply.{Reply}
 use Rattle.iol_core.specs.declared.events.Reply.TheVariants as reply
-use Rattle.iol_core.specs.declared.refusals.Refusal.{Refusal}
 use Rattle.iol_proc.specs.Histories.{stream_over, sent_over}
 use Rattle.iol_proc.specs.World.{OutsideStep, Stage, copying}
 use Rattle.iol_proc.specs.declared.choice.Choice.{Choice}
+use Rattle.iol_proc.specs.declared.choice.Choice.TheVariants as choice
 use Rattle.iol_serve.specs.Service.{GoesOn, Serves, hung_up}
 use Rattle.iol_serve.specs.declared.ending.Ending.{Ending}
 use Rattle.iol_serve.specs.declared.ending.Ending.TheVariants.{Over}
 use Rattle.flash_cgi.specs.declared.worker.Worker.{Worker}
 use Rattle.flash_laws.specs.Serves.Rounds.{in_rounds}
-use Rattle.flash_laws.specs.Shelf.{Begins, IsAnswer, Shelf}
+use Rattle.flash_laws.specs.Shelf.{Begins, IsAnswer, Refusals, Shelf}
 use Rattle.flash_laws.specs.Site.{net_pool}
 use Rattle.flash_laws.specs.World.{AreFair, Tied}
 use Rattle.flash_laws.specs.World.Fair.{any_refusal, no_refusal}
 use Rattle.flash_laws.specs.World.Tie.{Actor, actor_turns, gone_over, made_over}
 use Rattle.flash_lite.specs.Crew.{crew_of}
 use Rattle.flash_lite.specs.Library.{library_of}
-use Rattle.flash_lite.specs.Setup.{workers_used}
 use Rattle.flash_lite.specs.Workers.{worker_turns}
 use Rattle.flash_lite.specs.declared.site.Site.{Site}
 
@@ -58,7 +57,7 @@ AreSessions [] w after = after ≡ w
 AreSessions (it ∷ more) w after = (mid : Stage State (Actor Worker)) × IsSession it w mid × AreSessions more mid after
 
 -- the turns of each are fair where these refusals are allowed
-abbrev pub AreFairSessions : (refuses : Refusal → Bool) → (its : List Session) → (w after : Stage State (Actor Worker))
+abbrev pub AreFairSessions : (refuses : Refusals) → (its : List Session) → (w after : Stage State (Actor Worker))
     → AreSessions its w after → Type 0
 AreFairSessions refuses [] w after is = Unit {0}
 AreFairSessions refuses (it ∷ more) w after is = AreFair refuses is.1.goes_on.choices is.1.goes_on.replies
@@ -66,7 +65,7 @@ AreFairSessions refuses (it ∷ more) w after is = AreFair refuses is.1.goes_on.
 
 module _ (s : Site) (slots : List (List ℕ)) where
   -- The server's invariant, where these refusals are allowed.
-  abbrev pub Holds : (refuses : Refusal → Bool) → List Choice → List Reply → Stage State (Actor Worker) → Type 0
+  abbrev pub Holds : (refuses : Refusals) → List Choice → List Reply → Stage State (Actor Worker) → Type 0
   Holds refuses past ps w = Tied (library_of s slots refuses) (crew_of s) past ps w
 
   -- ---- one connection
@@ -75,23 +74,23 @@ module _ (s : Site) (slots : List (List ℕ)) where
       (w after : Stage State (Actor Worker))
       (served : Serves (actor_turns in_rounds worker_turns) c (hung_up ending) left rest held now w after) where
     -- the invariant holds afterwards, and what was sent is right
-    abbrev pub IsRight : (refuses : Refusal → Bool) → Type 0
+    abbrev pub IsRight : (refuses : Refusals) → Type 0
     IsRight refuses = Holds refuses (past ++ served.goes_on.choices) (ps ++ served.goes_on.replies) after
         × IsAnswered (library_of s slots refuses) ending served.came served.sent
 
     pub record IsServedRight : Type 0 where
-      -- with the refusals that its turns had
-      pub fair : (refuses : Refusal → Bool) → Holds refuses past ps w → AreFair refuses served.goes_on.choices served.goes_on.replies
+      -- where its turns had no other refusals
+      pub fair : (refuses : Refusals) → Holds refuses past ps w → AreFair refuses served.goes_on.choices served.goes_on.replies
           → IsRight refuses
       -- with none, where the world is not rough at the end
       pub smooth : Holds no_refusal past ps w → after.rough ≡ false → IsRight no_refusal
-      -- with TooMany, NoRoom, Fault and Memory, whatever was refused, where no scripts run
-      pub files : Holds any_refusal past ps w → workers_used s ≡ 0 → IsRight any_refusal
+      -- with TooMany, NoRoom, Fault and Memory, whatever was refused
+      pub any : Holds any_refusal past ps w → IsRight any_refusal
 
   -- ---- connections one after another
 
   -- what was sent to each is right, and the invariant holds afterwards
-  pub record AreRight (refuses : Refusal → Bool) (past : List Choice) (ps : List Reply) (its : List Session)
+  pub record AreRight (refuses : Refusals) (past : List Choice) (ps : List Reply) (its : List Session)
       (after : Stage State (Actor Worker)) : Type 0 where
     pub answered : AllByRecursion (λ it. IsAnswered (library_of s slots refuses) it.ending it.came it.sent) its
     pub choices : List Choice
@@ -100,9 +99,9 @@ module _ (s : Site) (slots : List (List ℕ)) where
 
   pub record AreServedRight (past : List Choice) (ps : List Reply) (its : List Session) (w after : Stage State (Actor Worker))
       (sessions : AreSessions its w after) : Type 0 where
-    pub fair : (refuses : Refusal → Bool) → Holds refuses past ps w → AreFairSessions refuses its w after sessions
+    pub fair : (refuses : Refusals) → Holds refuses past ps w → AreFairSessions refuses its w after sessions
         → AreRight refuses past ps its after
-    pub files : Holds any_refusal past ps w → workers_used s ≡ 0 → AreRight any_refusal past ps its after
+    pub any : Holds any_refusal past ps w → AreRight any_refusal past ps its after
 
 -- A connection without a history is served; where its ending is `Over`, it is not there any more. Then it is served right.
 abbrev pub ServedIsRight : Type 0
@@ -121,13 +120,21 @@ pub record ServesRight (ending : Ending) (left rest held now : Option (List ℕ)
   pub given : Consumes left rest session.came
   pub taken : Appends held now session.sent
   pub serves : IsSession session w after
-  -- with the refusals that its turns had
-  pub fair : (s : Site) (slots : List (List ℕ)) (refuses : Refusal → Bool) (past : List Choice) (ps : List Reply)
+  -- where its turns had no other refusals
+  pub fair : (s : Site) (slots : List (List ℕ)) (refuses : Refusals) (past : List Choice) (ps : List Reply)
       → Holds s slots refuses past ps w → AreFair refuses serves.goes_on.choices serves.goes_on.replies
       → AreRight s slots refuses past ps (session ∷ []) after
-  -- with TooMany, NoRoom, Fault and Memory, whatever was refused, where no scripts run
-  pub files : (s : Site) (slots : List (List ℕ)) (past : List Choice) (ps : List Reply) → Holds s slots any_refusal past ps w
-      → workers_used s ≡ 0 → AreRight s slots any_refusal past ps (session ∷ []) after
+  -- with TooMany, NoRoom, Fault and Memory, whatever was refused
+  pub any : (s : Site) (slots : List (List ℕ)) (past : List Choice) (ps : List Reply) → Holds s slots any_refusal past ps w
+      → AreRight s slots any_refusal past ps (session ∷ []) after
+
+-- No connection is made: the world satisfies the invariant afterwards, if it did before, whatever the site and the past.
+pub record ServesNone (w after : Stage State (Actor Worker)) : Type 0 where
+  pub reply : Reply
+  pub refused : OutsideStep copying (actor_turns in_rounds worker_turns) w (event.ConnNew net_pool) reply after
+  pub holds : (s : Site) (slots : List (List ℕ)) (refuses : Refusals) (past : List Choice) (ps : List Reply)
+      → Holds s slots refuses past ps w
+      → Holds s slots refuses (past ++ choice.Outside (event.ConnNew net_pool) ∷ []) (ps ++ reply ∷ []) after
 
 -- Connections that are made in the net and served, one after another, are served right.
 abbrev pub SessionsAreRight : Type 0

@@ -11,7 +11,7 @@
 ghost use Rattle.flash_served.specs.Served.{ServedIsRight, SessionsAreRight};
 
 use flash_laws::answer_laws::runs_are_fair;
-use flash_lite::actor::{Actor, Worker};
+use flash_lite::actor::Actor;
 use flash_lite::laws::connections_do_not_meet;
 use iol_laws::laws::connection_numbers_rise;
 use iol_proc::laws::smooth_runs;
@@ -24,21 +24,21 @@ pub mod serve;
 /// sent begins an answer to what arrived, and is all of it where the ending is `Over`; and the
 /// invariant holds afterwards. In the answer a refusal by TooMany, NoRoom, Fault or Memory may
 /// stand in place of a file: one that the turns had (`fair`); none, where the world is not rough
-/// (`smooth`); any, where no scripts run, whatever was refused (`files`).
+/// (`smooth`); any, whatever was refused (`any`).
 pub fn served_is_right()
     ensures { ServedIsRight }
 {
     connections_do_not_meet();
-    runs_are_fair::<Worker>();
+    runs_are_fair();
     smooth_runs::<Actor>();
 }
 
 /// So is each of connections that are made in the pool `net` and served, one after another: with
-/// the refusals that the turns had, and where no scripts run with any, whatever was refused.
+/// the refusals that the turns had, and with any, whatever was refused.
 pub fn sessions_are_right()
     ensures { SessionsAreRight }
 {
     connections_do_not_meet();
     connection_numbers_rise();
-    runs_are_fair::<Worker>();
+    runs_are_fair();
 }

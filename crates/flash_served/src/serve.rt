@@ -2,10 +2,11 @@
 ghost use Rattle.std.specs.Prelude.{◌≡◌, IfNone, IfSome};
 ghost use Rattle.iol_back.specs.Prelude.{IfHonest};
 ghost use Rattle.iol_proc.specs.Prelude.{KeepsHonesty, copied};
-ghost use Rattle.flash_served.specs.Served.{ServesRight};
+ghost use Rattle.flash_served.specs.Served.{ServesNone, ServesRight};
 
 use crate::sessions_are_right;
 use flash_lite::actor::Actor;
+use flash_lite::laws::connections_do_not_meet;
 use iol_back::backing::Backing;
 use iol_core::events::{Event, Reply};
 use iol_core::numbers::PoolId;
@@ -20,7 +21,8 @@ const NET: u32 = 2;
 /// Makes a connection of the net and serves it, from a reader and to a writer: how that ended, or
 /// nothing where there is no place or no memory for it. Over an honest store what the writer
 /// accepts begins an answer to what the reader supplies, and is all of it where the ending is
-/// `Over`, if the world satisfies the server's invariant; and it does so afterwards.
+/// `Over`, if the world satisfies the server's invariant; and it does so afterwards, also where no
+/// connection was made.
 pub fn serve_client<B: Backing + Drop, R: Read, W: Write>(
     world: &mut World<B, Actor>,
     reader: &mut R,
@@ -31,8 +33,10 @@ pub fn serve_client<B: Backing + Drop, R: Read, W: Write>(
         (R.remaining reader.old) (R.remaining reader.new)
         (W.contents writer.old) (W.contents writer.new) (copied world.old) (copied world.new))) }
     ensures none { IfNone result ((reader.new ≡ reader.old) × (writer.new ≡ writer.old)) }
+    ensures kept { IfHonest world.old.machine.disk (IfNone result (ServesNone (copied world.old) (copied world.new))) }
 {
     sessions_are_right();
+    connections_do_not_meet();
     let pool = PoolId::new(NET);
     let reply = world.step_outside(Event::ConnNew { pool });
     match &reply {
