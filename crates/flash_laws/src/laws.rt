@@ -44,10 +44,10 @@ pub fn site_law()
 }
 
 /// Turns go round: a client whose call is to be made again later is passed, and so is one that has
-/// to wait for a worker, or for which nothing is left to do but to read more; the next turn is that
-/// of the first behind it that may have one; past all places connections are accepted while there
-/// are any, and then the server yields. So a client waits for another only while that is being
-/// answered.
+/// to wait for a worker, whose response is taken whole while more of its stream is kept, or for
+/// which nothing is left to do but to read more; the next turn is that of the first behind it that
+/// may have one; past all places connections are accepted while there are any, and then the server
+/// yields. So a client waits for another only while one response of that is made and taken.
 pub fn rounds_law()
     ensures { TurnsGoRound }
 {}

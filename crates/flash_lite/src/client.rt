@@ -311,7 +311,11 @@ impl Client {
     {
         match *running {
             Running::Leaves { doing } => {
-                if self.conn.has_answered(&doing) { Some(doing) } else { None }
+                if self.conn.has_answered(&doing) {
+                    Some(doing)
+                } else {
+                    None
+                }
             }
             _ => None,
         }

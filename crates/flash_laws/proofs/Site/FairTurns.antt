@@ -307,8 +307,8 @@ stays-filed fd s x stays =
     let heard = heard_of x.last x.lent in
     let after = left_over (told (runs_scripts s.workers) (first_free s.workers s.clients) stays.client x.last (heard_of x.last x.lent)) in
     let is : in_place (clients_in s x) fd ≡ left_over (told (runs_scripts s.workers) (first_free s.workers s.clients) stays.client x.last (heard_of x.last x.lent)) =
-        ap (λ (w : Flight). in_place (filed s.workers s.clients w x.last heard) fd) stays.turn
-        ∙ (ap (λ (o : Option Client). in_place (told_at s.workers s.clients fd o x.last heard) fd) stays.there ∙ at-same s.clients fd after) in
+    ap (λ (w : Flight). in_place (filed s.workers s.clients w x.last heard) fd) stays.turn
+    ∙ (ap (λ (o : Option Client). in_place (told_at s.workers s.clients fd o x.last heard) fd) stays.there ∙ at-same s.clients fd after) in
     subst (λ (o : Option Client). IsStill o) (sym is)
     (busy-told (runs_scripts s.workers) (first_free s.workers s.clients) c.conn.kept c.conn.q c.conn.doing c.run c.script x.last heard stays.busy)
 
@@ -351,14 +351,14 @@ turns-pass s x fd gd other turn still goes did = by (in_place (clients_in s x) f
     on c is stays calm =
         let busy = on-busy c.conn.kept c.conn.q c.conn.doing c.run c.script x.last stays calm in
         let may : goes_in (has_free s.workers (clients_in s x)) (in_place (clients_in s x) fd) ≡ true =
-            ap (λ (o : Option Client). goes_in (has_free s.workers (clients_in s x)) o) is
-            ∙ busy-goes (has_free s.workers (clients_in s x)) c.conn.kept c.conn.q c.conn.doing c.run c.script busy in
+        ap (λ (o : Option Client). goes_in (has_free s.workers (clients_in s x)) o) is
+        ∙ busy-goes (has_free s.workers (clients_in s x)) c.conn.kept c.conn.q c.conn.doing c.run c.script busy in
         let r = reaches s.workers (clients_in s x) fd may fd (omega arith) in
         let low = r.low in
         let high = r.high in
         let same : r.place ≡ fd = omega (arith, low, high) in
         let flies : x.after.flight ≡ At fd =
-            leaves fd (ap (λ (z : Option Client). place_after fd z x.last) is ∙ ap (λ b. if b then fd + 1 else fd) stays) ∙ (r.is ∙ ap (λ k. At k) same) in
+        leaves fd (ap (λ (z : Option Client). place_after fd z x.last) is ∙ ap (λ b. if b then fd + 1 else fd) stays) ∙ (r.is ∙ ap (λ k. At k) same) in
         inr (inr (picked-stays s.workers (clients_in s x) fd x.made x.after c is busy flies
         (subst (λ (w : Flight). Picks s.workers (clients_in s x) w x.made x.after.clients) flies did.1)))
 

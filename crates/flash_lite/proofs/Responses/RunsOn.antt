@@ -219,8 +219,8 @@ run_answers worker x y z d r heard is going z_is small phase has =
     let on : is_over (Leaves d) ≡ false = ap (λ b. not b) (answered-left x.conn d now) in
     let text : keeps_text y ≡ false = no-text worker x.conn.q y r heard d (sym z_is ∙ phase) in
     let same : run_told worker x.conn.q x y r heard ≡ left_with x (Continues d) =
-        on-told worker x y z r heard is going z_is (ap (λ (v : Running). is_over v) phase ∙ on)
-        ∙ (ap (λ (v : Running). goes_on false false x y v) phase ∙ ap (λ b. record { conn = x.conn; run = Some (Leaves d); script = text_on b false x.script }) text) in
+    on-told worker x y z r heard is going z_is (ap (λ (v : Running). is_over v) phase ∙ on)
+    ∙ (ap (λ (v : Running). goes_on false false x y v) phase ∙ ap (λ b. record { conn = x.conn; run = Some (Leaves d); script = text_on b false x.script }) text) in
     record {
       passed = ap (λ (t : Client). leaves_off (left_over t) r) same
           ∙ (leaves-run x.conn (Some (Leaves d)) x.script (Leaves d) r refl ∙ (ap (λ b. is_later r || (b || false)) now ∙ or-after (is_later r)));
