@@ -1,4 +1,5 @@
-//! Laws of the server's calls and turns. The functions do nothing; their contracts are the laws.
+//! Laws of the server's calls and turns. The functions have no effect; their contracts are the
+//! laws.
 ghost use Rattle.flash_laws.specs.Serves.FairTurns.{TurnsAreFair};
 ghost use Rattle.flash_laws.specs.Serves.GoesRound.{TurnsGoRound};
 ghost use Rattle.flash_laws.specs.Conn.Holdings.{KeepsNothing};
@@ -43,25 +44,26 @@ pub fn site_law()
     laws::each_step_leaves_the_rest();
 }
 
-/// Turns go round: a client whose call is to be made again later is passed, and so is one that has
-/// to wait for a worker, whose response is taken whole while more of its stream is kept, or for
-/// which nothing is left to do but to read more; the next turn is that of the first behind it that
-/// may have one; past all places connections are accepted while there are any, and then the server
-/// yields. So a client waits for another only while one response of that is made and taken.
+/// Turns are given in rounds. A client is passed over if its call is to be retried later, if it
+/// waits for a worker, if its response was taken whole while more of its input is buffered, or if
+/// it only reads more input; the next turn is that of the first client after it that may take one.
+/// After the last client, connections are accepted while any are waiting, and then the server
+/// yields. So a client waits for another only while the server advances one response of that one.
 pub fn rounds_law()
     ensures { TurnsGoRound }
 {}
 
-/// Turns are fair: from the turn with whose reply all of a response is taken, to the turn in which
-/// the same client begins its next request, each other client that may have its turn throughout has
-/// one. So no client, however many requests it pipelines, has two responses while another that can
-/// proceed waits for its turn. It is said of any consecutive turns by the account of the server.
+/// Turns are fair: from the turn whose reply completes a response of a client, to the turn in
+/// which the same client begins its next request, each other client that may take a turn
+/// throughout takes one. So no client, however many requests it pipelines, gets two responses
+/// while another client that can proceed waits for a turn. The law is about any consecutive turns
+/// of the server's account.
 pub fn turns_are_fair()
     ensures { TurnsAreFair }
 {}
 
-/// Each script that runs has a worker of its own, whichever call the server picks: so it is of a
-/// new server, however many workers it has, and each turn leaves it so. For a server that has no
+/// Each running script has a worker of its own, whichever call the server picks: this holds for a
+/// new server, with any number of workers, and each turn preserves it. For a server without
 /// workers no script runs.
 pub fn sharing_law()
     ensures { WorkersAreShared }

@@ -90,12 +90,12 @@ call_of_run fd x script y = run_wants fd x.conn.q script y
 abbrev pub with_run : Client → Running → (script : List ℕ) → Client
 with_run x y script = record { conn = x.conn; run = Some y; script = script }
 
--- whether all of the response is taken by this run, and more of the stream is kept
+-- whether the response of this run was taken whole, and more input is buffered
 abbrev pub has_answered_by : Conn → Running → Bool
 has_answered_by c (Parts d) = has_answered (record c { doing = d })
 has_answered_by c y = false
 
--- its run is over, and its connection in this phase
+-- its run is over, and its connection is in this phase
 abbrev pub ended : Client → Doing → Client
 ended x d = record { conn = record x.conn { doing = d }; run = None; script = [] }
 

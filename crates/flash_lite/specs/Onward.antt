@@ -1,4 +1,4 @@
--- What a connection does after a reply to its call.
+-- The action of a connection after a reply to its call.
 use Rattle.std.specs.Prelude.{◌≡◌, ℕ, ◌||◌, Bool, true, false, List, [], Some, drop}
 use Rattle.iol_core.specs.declared.events.Reply.{Reply}
 use Rattle.iol_core.specs.declared.events.Reply.TheVariants.{Agg}
@@ -64,11 +64,12 @@ Frees fd x (Leaves d) y = (d ≡ Rests) × (x.kept ≡ []) × (y ≡ x)
 abbrev pub WantsToStart : Conn → Type 0
 WantsToStart x = (is_bare (record x { doing = Rests }) ≡ false) × (can_begin (window_in x.kept) ≡ true)
 
--- whether it is left to others in this phase: its call is to be made again later, or all of its response is taken and more is kept
+-- whether the turn passes to others in this phase: its call is to be retried later, or its response was taken whole and more input
+-- is buffered
 abbrev pub passes : Conn → Doing → Reply → Bool
 passes x d r = is_later r || has_answered (in_doing x d)
 
--- Where something is: it goes on with it, or will.
+-- From a phase that is not idle: it continues now or later.
 abbrev pub GoesWith : (fd : ℕ) → Conn → Reply → Doing → Onward → Conn → Type 0
 GoesWith fd x r d (Asks call) y = (passes x d r ≡ false) × (y ≡ in_doing x d) × (call ≡ wants fd y)
 GoesWith fd x r d (Leaves e) y = (passes x d r ≡ true) × (e ≡ d) × (y ≡ x)

@@ -1,6 +1,6 @@
 //! One client: its connection, and the script that runs for the request in progress.
 //!
-//! A script is found as any file; then its run has the connection until all is sent.
+//! A script is found like any file; then its run has the connection until all is sent.
 ghost use Rattle.std.specs.Prelude.{◌≡◌, ◌≢◌, ◌<◌, [], IfNone, IfOk, IfSome, OnErr, OnSome, None, Some, false, true};
 ghost use Rattle.flash_laws.specs.Client as spec;
 ghost use Rattle.flash_laws.specs.Prelude.{has_bytes, makes_bytes, makes_any, is_over};
@@ -40,10 +40,10 @@ pub enum Left {
     /// A run begins: it waits for a worker.
     Begins,
 
-    /// Its run goes on with this phase of its response. It has no worker.
+    /// Its run continues with this phase of its response. It has no worker.
     Continues { doing: Doing },
 
-    /// Its call is made again.
+    /// Unchanged: its call is retried.
     Stays,
 }
 
@@ -302,7 +302,7 @@ impl Client {
         }
     }
 
-    // The phase of a run in which all of the response is taken, where more of the stream is kept.
+    // The phase of a run whose response was taken whole, if more input is buffered.
     fn answered(&self, running: &Running) -> Option<Doing>
         ensures none { IfNone result (has_answered_by self.now.conn running.now ≡ false) }
         ensures some { OnSome result (has_answered_by self.now.conn running.now ≡ true) }

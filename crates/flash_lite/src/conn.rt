@@ -274,15 +274,15 @@ impl Conn {
         Ok(call)
     }
 
-    /// Whether all of the response is taken in this phase, and more of the stream is kept.
+    /// Whether the response was taken whole in this phase, and more input is buffered.
     pub(crate) fn has_answered(&self, doing: &Doing) -> bool
         ensures { result ≡ has_answered (in_doing self.now doing.now) }
     {
         matches!(*doing, Doing::Sent { more: None, .. }) && !self.kept.is_empty()
     }
 
-    // Goes on with a phase in which something is in progress, unless its call is to be made again
-    // later, or all of its response is taken and more is kept.
+    // Continues with a phase that is not idle, unless its call is to be retried later, or its
+    // response was taken whole and more input is buffered.
     fn go_on_with(&mut self, fd: Fd, doing: Doing, last: &Reply) -> Result<Onward, AllocError>
         requires { (doing ≢ Rests) × IsSmall doing }
         ensures goes { IfOk result (λ o. GoesWith fd self.old last.now doing o self.new) }
@@ -358,10 +358,11 @@ impl Conn {
         }
     }
 
-    /// What it does after the reply to its call, with the bytes of the aggregate that the reply
-    /// names. It goes on at once, unless the call is to be made again later, all of its response is
-    /// taken and more is kept, nothing is in progress and nothing kept, or it is over. For want of memory it stays as it was; it wants memory only
-    /// to keep the bytes that came, to begin a request, or for a call that has bytes of its own.
+    /// The action after the reply to its call, with the bytes of the aggregate that the reply
+    /// names. It continues at once, unless the call is to be retried later, its response was taken
+    /// whole and more input is buffered, it only reads more input, or it is over. If memory runs
+    /// out it is unchanged; it needs memory only to keep received bytes, to begin a request, or for
+    /// a call that has bytes of its own.
     pub fn go_on(
         &mut self,
         fd: Fd,

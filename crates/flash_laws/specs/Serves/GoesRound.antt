@@ -22,13 +22,13 @@ IsBefore (At gd) fd = fd < gd
 IsBefore w fd = Unit {0}
 
 pub record TurnsGoRound : Type 0 where
-  -- a client has the next turn, too, only where its call was answered, it waits for no worker, more is left to do for it than
-  -- to read, and no response of it is taken whole while more is kept
+  -- a client takes the next turn, too, only if its call succeeded, it does not wait for a worker, it does more than read, and
+  -- no response of it was taken whole while more input is buffered
   pub passes : (workers : ℕ) (clients : List (Option Client)) (fd : ℕ) (last : Reply)
       → in_rounds workers clients (At fd) last (At fd)
       → (x : Client) × (in_place clients fd ≡ Some x) × (is_later last ≡ false) × (awaits x ≡ false)
       × (is_bare x ≡ false) × (has_answered x ≡ false)
-  -- else it is one in a later place
+  -- otherwise the next one has a higher index
   pub rises : (workers : ℕ) (clients : List (Option Client)) (fd gd : ℕ) (last : Reply)
       → in_rounds workers clients (At fd) last (At gd) → fd ≤ gd
   -- and no client between them that may take a turn is skipped
