@@ -219,3 +219,12 @@ is_bare x = by x.run
     by : Option Running → Bool
     by None = policy.is_bare x.conn
     by (Some y) = false
+
+-- whether its response is taken whole, of a file or of its script, and more input is buffered
+abbrev pub has_answered : Client → Bool
+has_answered x = by x.run
+  where
+    by : Option Running → Bool
+    by None = policy.has_answered x.conn
+    by (Some (Leaves d)) = policy.has_answered (record x.conn { doing = d })
+    by (Some y) = false

@@ -1,5 +1,6 @@
 //! Laws of the server's calls and turns. The functions have no effect; their contracts are the
 //! laws.
+ghost use Rattle.flash_laws.specs.Serves.FairTurns.{TurnsAreFair};
 ghost use Rattle.flash_laws.specs.Serves.GoesRound.{TurnsGoRound};
 ghost use Rattle.flash_laws.specs.Conn.Holdings.{KeepsNothing};
 ghost use Rattle.flash_laws.specs.Conn.OfferedBytes.{OffersTheResponse};
@@ -44,12 +45,21 @@ pub fn site_law()
 }
 
 /// Turns are given in rounds. A client is passed over if its call is to be retried later, if it
-/// waits for a worker, or if it only reads more input; the next turn is that of the first client
-/// after it that may take one. After the last client, connections are accepted while any are
-/// waiting, and then the server yields. So a client waits for another only while the server
-/// advances that one's response.
+/// waits for a worker, if its response is taken whole and more input is buffered, or if it only
+/// reads more input; the next turn is that of the first client after it that may take one. After
+/// the last client, connections are accepted while any are waiting, and then the server yields. So
+/// a client waits for another only while the server advances one response of that client.
 pub fn rounds_law()
     ensures { TurnsGoRound }
+{}
+
+/// Turns are fair. Between the reply with which a response to a client is taken whole, and the
+/// first call for the next request of that client, each other client that may take a turn during
+/// all of that time takes one. So a client that pipelines, with any number of requests, does not
+/// keep others from their turns. This holds for all consecutive turns by the server's transition
+/// relation.
+pub fn turns_are_fair()
+    ensures { TurnsAreFair }
 {}
 
 /// Each running script has a worker of its own, whichever call the server picks: this holds for a
