@@ -1,8 +1,11 @@
-//! Calls by name: one method for each call of a domain, whose result has the call's own type.
+//! Calls and outside events by name: one method for each, whose result has the type of the call or event.
 //!
 //! [`Domain`](domain::Domain) borrows a system and makes the calls of one of its domains. A method returns what the call's reply
 //! carries, or its refusal; `docs/RULES.md` lists the refusals of each call. Each contract is that of
 //! [`System::step`](iol_system::system::System::step), with the reply as a typed result.
+//!
+//! [`Outside`](outside::Outside) does the same for what happens outside a world: a peer connects, bytes arrive, a peer closes.
+//! Each contract is that of [`World::step_outside`](iol_proc::world::World::step_outside).
 //!
 //!     let store = MemoryBacking::new(Slots::new(alloc));
 //!     let mut system = System::new(alloc, Config::DEFAULT, store)?;
@@ -17,4 +20,5 @@
 #![tactic(auto)]
 
 pub mod domain;
+pub mod outside;
 mod replies;
