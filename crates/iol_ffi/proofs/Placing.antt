@@ -1,7 +1,7 @@
 -- How the places of parts are written, one part after another.
-use Rattle.std.proofs.Common.{inl, inr, ◌≡◌, ◌≢◌, ◌⊎◌, ◌+◌, ◌-◌, ◌<◌, ◌≤◌, ℕ, zero, suc, List, [], ◌∷◌, length, drop, Option, None, Some, slice_get, slice_set, refl, sym, ap, ◌∙◌, subst, arith}
+use Rattle.std.proofs.Common.{inl, inr, ◌≡◌, ◌≢◌, ◌⊎◌, ◌+◌, ◌-◌, ◌<◌, ◌≤◌, ℕ, zero, suc, List, [], ◌∷◌, length, drop, min, Option, None, Some, slice_get, slice_set, refl, sym, ap, ◌∙◌, subst, arith}
 use denote.RawPtr.{Ptr, block_ptr}
-use Rattle.iol_ffi.specs.Parts.{HasPart, IsPart, PlacesPart, WritesBelow}
+use Rattle.iol_ffi.specs.Parts.{HasPart, IsPart, PlacesPart, WritesBelow, WritesPart}
 use Rattle.iol_ffi.specs.declared.borrowed.IolPart.{IolPart}
 
 set_same : {A : Type 0} (xs : List A) (i : ℕ) (y : A) → i < length xs → slice_get (slice_set xs i y) i ≡ Some y
@@ -37,12 +37,12 @@ left_rest (y ∷ xs) rest (suc k) x is = left_rest xs rest k x is
 pub writes_none : (parts : List (List ℕ)) (skip : ℕ) (old : List IolPart) → WritesBelow 0 parts skip old old
 writes_none parts skip old = record { len = refl; written = λ i bytes there below is. absurd (omega (arith, below)); kept = λ i above. refl }
 
--- a part that is skipped
-pub writes_skipped : (k : ℕ) (parts : List (List ℕ)) (skip : ℕ) (old new : List IolPart) → k < skip → WritesBelow k parts skip old new → WritesBelow (k + 1) parts skip old new
-writes_skipped k parts skip old new before h = record {
+-- no place is for a number below `skip`
+writes_under : (k l : ℕ) (parts : List (List ℕ)) (skip : ℕ) (old new : List IolPart) → k < skip → l ≤ skip → WritesBelow k parts skip old new → WritesBelow l parts skip old new
+writes_under k l parts skip old new before within h = record {
   len = h.len;
-  written = λ i bytes there below is. absurd (omega (arith, below, before));
-  kept = λ i above. h.kept i (omega (arith, above));
+  written = λ i bytes there below is. absurd (omega (arith, below, within));
+  kept = λ i above. h.kept i (omega (arith, before));
 }
 
 -- where there is no place for a part, there is none for it that is written
@@ -103,3 +103,24 @@ writes_next k parts skip old mid new bytes block offset past is (inl (full, same
     subst (λ l. WritesBelow (k + 1) parts skip old l) (sym same) (writes_full k parts skip old mid past full h)
 writes_next k parts skip old mid new bytes block offset past is (inr (x, there, at, len, set)) h =
     writes_placed k parts skip old mid new bytes block offset x past is there at len set h
+
+-- a turn of the loop: the next part is written, and counted
+pub writes_turn : (k l : ℕ) (parts left rest : List (List ℕ)) (bytes : List ℕ) (skip : ℕ) (old mid new : List IolPart) → l ≡ min (k + 1) 18446744073709551615 → k ≤ 18446744073709551615
+    → (k < 18446744073709551615 → left ≡ drop k parts) → left ≡ bytes ∷ rest → WritesPart bytes k skip mid new → WritesBelow k parts skip old mid → WritesBelow l parts skip old new
+writes_turn k l parts left rest bytes skip old mid new next fits at first (inl (before, same)) h =
+    subst (λ r. WritesBelow l parts skip old r) (sym same) (writes_under k l parts skip old mid before (omega (arith, next, before)) h)
+writes_turn k l parts left rest bytes skip old mid new next fits at first (inr (inl (last, same))) h =
+    let stays : k ≡ l = omega (arith, next, fits, last) in
+    subst (λ n. WritesBelow n parts skip old new) stays (subst (λ r. WritesBelow k parts skip old r) (sym same) h)
+writes_turn k l parts left rest bytes skip old mid new next fits at first (inr (inr (past, few, block, offset, places))) h =
+    let more : k + 1 ≡ l = omega (arith, next, few) in
+    let is : slice_get parts k ≡ Some bytes = left_first parts rest k bytes (sym (at few) ∙ first) in
+    subst (λ n. WritesBelow n parts skip old new) more (writes_next k parts skip old mid new bytes block offset past is places h)
+
+-- what is left after a turn
+pub left_turn : (k l : ℕ) (parts left rest : List (List ℕ)) (bytes : List ℕ) → l ≡ min (k + 1) 18446744073709551615 → (k < 18446744073709551615 → left ≡ drop k parts) → left ≡ bytes ∷ rest
+    → l < 18446744073709551615 → rest ≡ drop l parts
+left_turn k l parts left rest bytes next at first few =
+    let more : k + 1 ≡ l = omega (arith, next, few) in
+    let before : k < 18446744073709551615 = omega (arith, next, few) in
+    subst (λ n. rest ≡ drop n parts) more (sym (left_rest parts rest k bytes (sym (at before) ∙ first)))

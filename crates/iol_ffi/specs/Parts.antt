@@ -1,5 +1,5 @@
 -- The parts of an aggregate, borrowed in place by C.
-use Rattle.std.specs.Prelude.{◌≡◌, ◌⊎◌, ◌+◌, ◌<◌, ◌≤◌, ℕ, List, length, min, slice_get, slice_set, Option, None, Some, Result, Ok, Err}
+use Rattle.std.specs.Prelude.{◌≡◌, ◌⊎◌, ◌+◌, ◌-◌, ◌<◌, ◌≤◌, ℕ, List, length, min, slice_get, slice_set, Option, None, Some, Result, Ok, Err}
 use Rattle.std.specs.List.{concat}
 use denote.Bor.{Bor}
 use denote.RawPtr.{Ptr, block_ptr}
@@ -20,6 +20,12 @@ AreCounted parts r = IsDone r (min (length parts) 18446744073709551615) (min (le
 abbrev pub PlacesPart : (bytes : List ℕ) → Ptr → (at : ℕ) → (old new : List IolPart) → Type 0
 PlacesPart bytes p at old new = ((length old ≤ at) × (new ≡ old))
     ⊎ ((x : IolPart) × (at < length old) × (x.at ≡ p) × (x.len ≡ length bytes) × (new ≡ slice_set old at x))
+
+-- Place n - skip gets an address and the length of these bytes, or there is no such place. No place is for a number below `skip`, and none
+-- for 2^64 - 1.
+abbrev pub WritesPart : (bytes : List ℕ) → (n skip : ℕ) → (old new : List IolPart) → Type 0
+WritesPart bytes n skip old new = ((n < skip) × (new ≡ old)) ⊎ (((18446744073709551615 ≤ n) × (new ≡ old))
+    ⊎ ((skip ≤ n) × (n < 18446744073709551615) × ((block : ℕ) × (offset : ℕ) × PlacesPart bytes (block_ptr block offset) (n - skip) old new)))
 
 -- the address of a slice with these bytes, and their number
 pub record IsPart (bytes : List ℕ) (x : IolPart) : Type 0 where

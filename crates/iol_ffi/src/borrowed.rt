@@ -1,6 +1,6 @@
 //! The bytes of an aggregate, borrowed in place by C.
 ghost use Rattle.std.specs.Prelude.{◌≡◌, length};
-ghost use Rattle.iol_ffi.specs.Parts.{AreCounted, Borrows, PlacesPart, WritesParts};
+ghost use Rattle.iol_ffi.specs.Parts.{AreCounted, Borrows, PlacesPart, WritesPart, WritesParts};
 ghost use denote.RawPtr.{block_ptr};
 
 use crate::address::start_of;
@@ -30,6 +30,17 @@ fn place(part: &[u8], at: usize, room: &mut [IolPart])
     }
 }
 
+// Puts the part of this number into `room`, whose first place is for number `skip`. The last number is not written: it
+// may be that of several parts.
+fn place_numbered(part: &[u8], number: u64, skip: usize, room: &mut [IolPart])
+    ensures { WritesPart part.now number skip room.old room.new }
+{
+    let first = skip as u64;
+    if number >= first && number < u64::MAX {
+        place(part, (number - first) as usize, room);
+    }
+}
+
 // Puts the address and the length of each part from number `skip` on into `room`, as many as it has. The reply counts all.
 fn place_all(parts: Parts<'_>, skip: usize, room: &mut [IolPart]) -> IolReply
     ensures counted { AreCounted parts.entry result }
@@ -38,9 +49,7 @@ fn place_all(parts: Parts<'_>, skip: usize, room: &mut [IolPart]) -> IolReply
     let mut count = 0u64;
     let mut len = 0u64;
     for part in parts {
-        if count >= skip as u64 && count < u64::MAX {
-            place(part, (count - skip as u64) as usize, room);
-        }
+        place_numbered(part, count, skip, room);
         count = count.saturating_add(1);
         len = len.saturating_add(part.len() as u64);
     }
