@@ -28,7 +28,7 @@ left_first [] rest (suc k) x is = absurd (cc)
 left_first (y ∷ xs) rest zero x is = cc
 left_first (y ∷ xs) rest (suc k) x is = left_first xs rest k x is
 
-pub left_rest : {A : Type 0} (xs rest : List A) (k : ℕ) (x : A) → drop k xs ≡ x ∷ rest → drop (k + 1) xs ≡ rest
+pub left_rest : {A : Type 0} (xs rest : List A) (k : ℕ) (x : A) → drop k xs ≡ x ∷ rest → drop (suc k) xs ≡ rest
 left_rest [] rest zero x is = absurd (cc)
 left_rest [] rest (suc k) x is = absurd (cc)
 left_rest (y ∷ xs) rest zero x is = cc
@@ -112,7 +112,7 @@ writes_turn k l parts left rest bytes skip old mid new next fits at first (inl (
 writes_turn k l parts left rest bytes skip old mid new next fits at first (inr (inl (last, same))) h =
     let stays : k ≡ l = omega (arith, next, fits, last) in
     subst (λ n. WritesBelow n parts skip old new) stays (subst (λ r. WritesBelow k parts skip old r) (sym same) h)
-writes_turn k l parts left rest bytes skip old mid new next fits at first (inr (inr (past, few, block, offset, places))) h =
+writes_turn k l parts left rest bytes skip old mid new next fits at first (inr (inr (past, few, (block, offset, places)))) h =
     let more : k + 1 ≡ l = omega (arith, next, few) in
     let is : slice_get parts k ≡ Some bytes = left_first parts rest k bytes (sym (at few) ∙ first) in
     subst (λ n. WritesBelow n parts skip old new) more (writes_next k parts skip old mid new bytes block offset past is places h)
@@ -121,6 +121,6 @@ writes_turn k l parts left rest bytes skip old mid new next fits at first (inr (
 pub left_turn : (k l : ℕ) (parts left rest : List (List ℕ)) (bytes : List ℕ) → l ≡ min (k + 1) 18446744073709551615 → (k < 18446744073709551615 → left ≡ drop k parts) → left ≡ bytes ∷ rest
     → l < 18446744073709551615 → rest ≡ drop l parts
 left_turn k l parts left rest bytes next at first few =
-    let more : k + 1 ≡ l = omega (arith, next, few) in
+    let more : suc k ≡ l = omega (arith, next, few) in
     let before : k < 18446744073709551615 = omega (arith, next, few) in
     subst (λ n. rest ≡ drop n parts) more (sym (left_rest parts rest k bytes (sym (at before) ∙ first)))

@@ -61,7 +61,7 @@ read_most s by (Some (on.WriteEnd p)) n = queue_most (may_read s by) n (unread s
 read_most s by (Some (on.Connection c)) n = queue_most (may_read s by) n (unread s (Some (on.Connection c)))
 
 -- the bytes that a reply has
-bytes_in : Reply → List ℕ
+abbrev bytes_in : Reply → List ℕ
 bytes_in (reply.Bytes bs) = bs
 bytes_in (reply.Segment bs sum) = bs
 bytes_in r = []
@@ -104,9 +104,9 @@ done_not : (refused : ℕ) → refused ≡ 0 → refused ≡ 101 → ⊥
 done_not n zero_it is = omega (arith, zero_it, is)
 
 -- bytes that have room are returned
-bytes_fit : (bs : List ℕ) (m : ℕ) (r : IolReply) (out : List ℕ) (most : ℕ) → length bs ≤ most → most ≤ length out → ReturnsBytes bs m r out → r.refusal ≡ 101 → ⊥
-bytes_fit bs m r out most few room (inl (done, same)) is = done_not r.refusal done.0 is
-bytes_fit bs m r out most few room (inr (no, number, short)) is = omega (arith, few, room, short)
+bytes_fit : (bs : List ℕ) (m : ℕ) (r : IolReply) (out : List ℕ) (bound : ℕ) → length bs ≤ bound → bound ≤ length out → ReturnsBytes bs m r out → r.refusal ≡ 101 → ⊥
+bytes_fit bs m r out bound few room (inl (done, same)) is = done_not r.refusal done.0 is
+bytes_fit bs m r out bound few room (inr (refused, number, short)) is = omega (arith, few, room, short)
 
 fits_in : (e : Event) (x : Reply) (r : IolReply) (out : List ℕ) → Answered e x → Encodes x r out → most_bytes e ≤ length out → TakesBytes e → r.refusal ≡ 101 → ⊥
 fits_in e reply.Done r out a en room t is = done_not r.refusal en.0 is

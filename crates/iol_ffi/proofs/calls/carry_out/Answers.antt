@@ -5,8 +5,8 @@ use Rattle.iol_ffi.proofs.calls.carry_out.Goals as goal
 
 pub returns-clause-takes : goal.returns-clause-takes
 returns-clause-takes c = record {
-  reply = c.advance.result;
-  steps = c.advance.ensures;
+  reply = c.advance-reply.result;
+  steps = c.advance-reply.ensures;
   encodes = c.reply_of.ensures.encodes;
-  fits = fits c.args.handle.now.value c.advance.new.handle.value c.args.event c.advance.result c.reply_of.result c.reply_of.new.out c.advance.ensures c.reply_of.ensures.encodes (omega (arith, c.requires.room, c.reply_of.ensures.len));
+  fits = fits c.args.handle.now.value c.advance-reply.new.handle.value c.args.event c.advance-reply.result c.reply_of.result c.reply_of.new.out c.advance-reply.ensures c.reply_of.ensures.encodes (omega (arith, c.requires.room, c.reply_of.ensures.len));
 }
