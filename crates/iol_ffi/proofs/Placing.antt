@@ -1,6 +1,6 @@
 -- How the places of parts are written, one part after another.
 use Rattle.std.proofs.Common.{inl, inr, ◌≡◌, ◌≢◌, ◌⊎◌, ◌+◌, ◌-◌, ◌<◌, ◌≤◌, ℕ, zero, suc, List, [], ◌∷◌, length, drop, min, Option, None, Some, slice_get, slice_set, refl, sym, ap, ◌∙◌, subst, arith}
-use denote.RawPtr.{Ptr, block_ptr}
+use denote.RawPtr.{block_ptr}
 use Rattle.iol_ffi.specs.Parts.{HasPart, IsPart, PlacesPart, WritesBelow, WritesPart}
 use Rattle.iol_ffi.specs.declared.borrowed.IolPart.{IolPart}
 

@@ -1,5 +1,5 @@
 -- The bytes that an event takes are at most those that it asks for, so they fit where there is room for these.
-use Rattle.std.proofs.Common.{inl, inr, ◌≡◌, ◌≤◌, ◌<◌, ◌⊎◌, Bool, ℕ, zero, suc, List, [], ◌∷◌, length, take, drop, map, Option, None, Some, Result, Ok, Err, refl, sym, ap, ◌∙◌, subst, arith}
+use Rattle.std.proofs.Common.{inl, inr, ◌≡◌, ◌≤◌, Bool, ℕ, zero, suc, List, [], ◌∷◌, length, take, drop, Option, None, Some, refl, sym, ap, ◌∙◌, subst, arith}
 use Rattle.std.specs.List.{prefix_len}
 use Rattle.iol_core.specs.Meaning.{Step}
 use Rattle.iol_core.specs.Run.{meaning, outcome}
