@@ -1,8 +1,9 @@
-//! Calls and outside events by name: one method for each, whose result has the type of the call or event.
+//! Typed calls and outside events: one method for each, with a result of the call's or event's own type.
 //!
-//! [`Domain`](domain::Domain) borrows a system and makes the calls of one of its domains. A method returns what the call's reply
-//! carries, or its refusal; `docs/RULES.md` lists the refusals of each call. Each contract is that of
-//! [`System::step`](iol_system::system::System::step), with the reply as a typed result.
+//! [`Domain`](domain::Domain) borrows a system and makes the calls of one of its domains. A method
+//! returns the value in the call's reply, or its refusal; `docs/RULES.md` lists the refusals of
+//! each call. Each contract is that of [`System::step`](iol_system::system::System::step), with
+//! the reply as a typed result.
 //!
 //! [`Outside`](outside::Outside) does the same for what happens outside a world: a peer connects, bytes arrive, a peer closes.
 //! Each contract is that of [`World::step_outside`](iol_proc::world::World::step_outside).

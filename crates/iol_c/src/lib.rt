@@ -1,6 +1,6 @@
 //! The system for programs in C: eight exported functions, each a call of `iol_ffi` with the contract of that call.
 //!
-//! `bindings/c/iolite.h` declares them. `docs/BINDINGS.md` lists what a caller in C owes.
+//! `bindings/c/iolite.h` declares them. `docs/BINDINGS.md` lists the obligations of a caller in C.
 #![tactic(auto)]
 
 ghost use Rattle.std.specs.Prelude.{◌≡◌, IsSome, None};
@@ -18,7 +18,8 @@ use iol_ffi::replies::IolReply;
 use iol_ffi::report::{IolPool, IolReport};
 use std::alloc::Global;
 
-/// Makes a system over an empty store in memory. Returns 0, or the number of the refusal: `out` then stays empty.
+/// Creates a system over an empty store in memory. Returns 0, or the number of the refusal: then
+/// `out` stays empty.
 #[unsafe(no_mangle)]
 pub extern "C" fn iol_system_new(
     alloc: Global,
@@ -33,8 +34,8 @@ pub extern "C" fn iol_system_new(
     calls::system_new(alloc, chunks, generations, sums, out)
 }
 
-/// Makes a system over open descriptors: file N of the store is descriptor N - 1, of the length that stands there in
-/// `lens`. Returns 0, or the number of the refusal: `out` then stays empty.
+/// Creates a system over open descriptors: file N of the store is descriptor N - 1, with its
+/// length in `lens`. Returns 0, or the number of the refusal: then `out` stays empty.
 #[unsafe(no_mangle)]
 pub extern "C" fn iol_system_over(
     alloc: Global,
@@ -51,7 +52,7 @@ pub extern "C" fn iol_system_over(
     calls::system_over(alloc, chunks, generations, sums, fds, lens, out)
 }
 
-/// Frees the system. The handle is then empty.
+/// Frees the system. The handle is empty afterwards.
 #[unsafe(no_mangle)]
 pub extern "C" fn iol_system_free(alloc: Global, handle: &mut Handle)
     requires { IsSome handle.old.value }
@@ -60,7 +61,7 @@ pub extern "C" fn iol_system_free(alloc: Global, handle: &mut Handle)
     calls::system_free(alloc, handle);
 }
 
-/// Carries out one event. The bytes of its reply go to `out`.
+/// Executes one event. The bytes of its reply are written to `out`.
 #[unsafe(no_mangle)]
 pub extern "C" fn iol_step(
     alloc: Global,
@@ -77,8 +78,9 @@ pub extern "C" fn iol_step(
     calls::step(alloc, handle, e, bytes, names, out, reply);
 }
 
-/// Borrows the bytes of an aggregate in place: the address and the length of each of its parts, from part `skip` on, as
-/// many as `room` has. Replies the number of all its parts, and of all its bytes.
+/// Borrows the bytes of an aggregate in place: the address and the length of each of its parts,
+/// from part `skip` on, as many as fit into `room`. The reply has the number of all its parts and
+/// of all its bytes.
 #[unsafe(no_mangle)]
 pub extern "C" fn iol_parts(
     alloc: Global,
@@ -96,8 +98,8 @@ pub extern "C" fn iol_parts(
     calls::parts(alloc, handle, by, agg, skip, room, reply);
 }
 
-/// Counts what is in the system: its live buffers, its extents of files and those that are dirty, and the pages of each
-/// pool that still has chunks, as many pools as `room` has.
+/// Counts the resources of the system: live buffers, file extents, dirty extents, and the pages of
+/// each pool that still has chunks, as many pools as fit into `room`.
 #[unsafe(no_mangle)]
 pub extern "C" fn iol_report(
     alloc: Global,
@@ -112,8 +114,9 @@ pub extern "C" fn iol_report(
     calls::report(alloc, handle, room, report);
 }
 
-/// Reads once from a descriptor straight into a page, at most `max` bytes, which arrive on a connection. Replies how many
-/// arrived, and 1 at the descriptor's end, 2 where the read failed, else 0.
+/// Reads once from a descriptor directly into a page, at most `max` bytes, which arrive on a
+/// connection. The reply has the number of bytes that arrived, and 1 at the descriptor's end, 2 if
+/// the read failed, otherwise 0.
 #[unsafe(no_mangle)]
 pub extern "C" fn iol_arrive_from(
     alloc: Global,
@@ -129,8 +132,9 @@ pub extern "C" fn iol_arrive_from(
     calls::arrive_from(alloc, handle, conn, fd, max, reply);
 }
 
-/// Writes the first bytes to be sent on a connection to a descriptor, from their pages, at most `max`. Replies how many it
-/// took, and 1 where it failed or took none of what it was offered, else 0.
+/// Writes the first bytes queued on a connection to a descriptor, from their pages, at most `max`.
+/// The reply has the number of bytes taken, and 1 if the descriptor failed or took none of the
+/// offered bytes, otherwise 0.
 #[unsafe(no_mangle)]
 pub extern "C" fn iol_drain_to(
     alloc: Global,

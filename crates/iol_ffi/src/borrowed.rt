@@ -10,7 +10,7 @@ use iol_agg::Parts;
 use iol_core::numbers::{AggId, DomainId};
 use iol_system::system::System;
 
-/// Bytes of a page, borrowed.
+/// Borrowed bytes of a page.
 #[repr(C)]
 #[derive(Drop)]
 pub struct IolPart {
@@ -18,7 +18,7 @@ pub struct IolPart {
     pub len: usize,
 }
 
-// Puts the address and the length of a part into place `at` of `room`, if it has that place.
+// Writes the address and the length of a part into place `at` of `room`, if it has that place.
 fn place(part: &[u8], at: usize, room: &mut [IolPart])
     ensures { PlacesPart part.now (block_ptr part.entry.ref_ptr.0 part.entry.ref_ptr.1) at room.old room.new }
 {
@@ -30,8 +30,8 @@ fn place(part: &[u8], at: usize, room: &mut [IolPart])
     }
 }
 
-// Puts the part of this number into `room`, whose first place is for number `skip`. The last number is not written: it
-// may be that of several parts.
+// Writes the part of this number into `room`, whose first place is for number `skip`. The last number
+// is not written: it may be that of several parts.
 fn place_numbered(part: &[u8], number: u64, skip: usize, room: &mut [IolPart])
     ensures { WritesPart part.now number skip room.old room.new }
 {
@@ -41,7 +41,8 @@ fn place_numbered(part: &[u8], number: u64, skip: usize, room: &mut [IolPart])
     }
 }
 
-// Puts the address and the length of each part from number `skip` on into `room`, as many as it has. The reply counts all.
+// Writes the address and the length of each part from number `skip` on into `room`, as many as
+// fit. The reply counts all parts.
 fn place_all(parts: Parts<'_>, skip: usize, room: &mut [IolPart]) -> IolReply
     ensures counted { AreCounted parts.entry result }
     ensures written { WritesParts parts.entry skip room.old room.new }

@@ -24,7 +24,7 @@ use iol_system::system::System;
 use std::alloc::Global;
 use std::mem;
 
-// A new system in a box.
+// Creates a boxed system.
 fn start(alloc: Global, config: Config, store: HostStore) -> Result<Box<Machine>, Refusal>
     ensures { IsCreated config (disk_of store) result }
 {
@@ -35,7 +35,7 @@ fn start(alloc: Global, config: Config, store: HostStore) -> Result<Box<Machine>
     }
 }
 
-// Puts a new system into a handle. Returns 0, or the number of the refusal.
+// Stores a new system in a handle. Returns 0, or the number of the refusal.
 fn start_in(alloc: Global, config: Config, store: HostStore, out: &mut Handle) -> u32
     requires { out.old.value ≡ None }
     ensures { Creates config (disk_of store) result out.new.value }
@@ -49,7 +49,7 @@ fn start_in(alloc: Global, config: Config, store: HostStore, out: &mut Handle) -
     }
 }
 
-// Puts a new system over open files into a handle. Returns 0, or the number of the refusal.
+// Stores a new system over open files in a handle. Returns 0, or the number of the refusal.
 fn start_over(alloc: Global, config: Config, files: OpenFiles, out: &mut Handle) -> u32
     requires empty { out.old.value ≡ None }
     requires unfailed { files.failures ≡ 0 }
@@ -58,7 +58,7 @@ fn start_over(alloc: Global, config: Config, files: OpenFiles, out: &mut Handle)
     start_in(alloc, config, HostStore::Opened(files), out)
 }
 
-// Has the machine take a step by one event.
+// Executes one event.
 fn advance(alloc: Global, handle: &mut Handle, event: Event) -> Reply
     requires { IsSome handle.old.value }
     ensures { Steps handle.old.value event result handle.new.value }
@@ -69,7 +69,7 @@ fn advance(alloc: Global, handle: &mut Handle, event: Event) -> Reply
     reply
 }
 
-// Carries out an event for whose bytes `out` has room.
+// Executes an event for whose bytes `out` has room.
 fn carry_out(alloc: Global, handle: &mut Handle, event: Event, out: &mut [u8]) -> IolReply
     requires held { IsSome handle.old.value }
     requires room { spec.most_bytes event ≤ length out.old }
@@ -80,7 +80,8 @@ fn carry_out(alloc: Global, handle: &mut Handle, event: Event, out: &mut [u8]) -
     reply_of(&reply, out)
 }
 
-/// Makes a system over an empty store in memory. Returns 0, or the number of the refusal: `out` then stays empty.
+/// Creates a system over an empty store in memory. Returns 0, or the number of the refusal: then
+/// `out` stays empty.
 pub fn system_new(alloc: Global, chunks: u32, generations: u32, sums: u32, out: &mut Handle) -> u32
     requires { out.old.value ≡ None }
     ensures { CreatesInMemory (sizes chunks generations sums) result out.new.value }
@@ -94,8 +95,8 @@ pub fn system_new(alloc: Global, chunks: u32, generations: u32, sums: u32, out: 
     start_in(alloc, config, store, out)
 }
 
-/// Makes a system over open descriptors: file N of the store is descriptor N - 1, of the length that stands there in
-/// `lens`. Returns 0, or the number of the refusal: `out` then stays empty.
+/// Creates a system over open descriptors: file N of the store is descriptor N - 1, with its
+/// length in `lens`. Returns 0, or the number of the refusal: then `out` stays empty.
 pub fn system_over(
     alloc: Global,
     chunks: u32,
@@ -124,7 +125,7 @@ pub fn system_over(
     start_over(alloc, config, files, out)
 }
 
-/// Frees the system. The handle is then empty.
+/// Frees the system. The handle is empty afterwards.
 pub fn system_free(alloc: Global, handle: &mut Handle)
     requires { IsSome handle.old.value }
     ensures { handle.new.value ≡ None }
@@ -133,7 +134,7 @@ pub fn system_free(alloc: Global, handle: &mut Handle)
     drop(machine);
 }
 
-/// Carries out one event. The bytes of its reply go to `out`.
+/// Executes one event. The bytes of its reply are written to `out`.
 pub fn step(
     alloc: Global,
     handle: &mut Handle,
@@ -163,8 +164,9 @@ pub fn step(
     }
 }
 
-/// Borrows the bytes of an aggregate in place: the address and the length of each of its parts, from part `skip` on, as
-/// many as `room` has. Replies the number of all its parts, and of all its bytes.
+/// Borrows the bytes of an aggregate in place: the address and the length of each of its parts,
+/// from part `skip` on, as many as fit into `room`. The reply has the number of all its parts and
+/// of all its bytes.
 pub fn parts(
     alloc: Global,
     handle: &mut Handle,
@@ -183,8 +185,8 @@ pub fn parts(
     *handle = Handle::of(machine);
 }
 
-/// Counts what is in the system: its live buffers, its extents of files and those that are dirty, and the pages of each
-/// pool that still has chunks, as many pools as `room` has.
+/// Counts the resources of the system: live buffers, file extents, dirty extents, and the pages of
+/// each pool that still has chunks, as many pools as fit into `room`.
 pub fn report(alloc: Global, handle: &mut Handle, room: &mut [IolPool], report: &mut IolReport)
     requires { IsSome handle.old.value }
     ensures same { handle.new.value ≡ handle.old.value }
@@ -195,8 +197,9 @@ pub fn report(alloc: Global, handle: &mut Handle, room: &mut [IolPool], report: 
     *handle = Handle::of(machine);
 }
 
-/// Reads once from a descriptor straight into a page, at most `max` bytes, which arrive on a connection. Replies how many
-/// arrived, and 1 at the descriptor's end, 2 where the read failed, else 0.
+/// Reads once from a descriptor directly into a page, at most `max` bytes, which arrive on a
+/// connection. The reply has the number of bytes that arrived, and 1 at the descriptor's end, 2 if
+/// the read failed, otherwise 0.
 pub fn arrive_from(
     alloc: Global,
     handle: &mut Handle,
@@ -213,8 +216,9 @@ pub fn arrive_from(
     *handle = Handle::of(machine);
 }
 
-/// Writes the first bytes to be sent on a connection to a descriptor, from their pages, at most `max`. Replies how many it
-/// took, and 1 where it failed or took none of what it was offered, else 0.
+/// Writes the first bytes queued on a connection to a descriptor, from their pages, at most `max`.
+/// The reply has the number of bytes taken, and 1 if the descriptor failed or took none of the
+/// offered bytes, otherwise 0.
 pub fn drain_to(
     alloc: Global,
     handle: &mut Handle,
