@@ -3,5 +3,3 @@
 
 #[cfg(test)]
 mod calls;
-#[cfg(test)]
-mod outside;
