@@ -12,7 +12,7 @@ fn first_of(free: &[bool]) -> Option<usize>
     free.iter().position(|free| *free)
 }
 
-/// The first free one of `workers` workers, or their number if none is free.
+/// The first free one of `workers` workers, or their number if all are busy.
 #[tactic(auto, using(crate::proofs::Turns::Firsts::first_some, crate::proofs::Turns::Firsts::first_none))]
 pub(crate) fn first_free(free: &[bool; 8], workers: u32) -> u32
     requires { workers ≤ MAX_WORKERS }
@@ -48,6 +48,6 @@ pub(crate) fn worker_left(left: &Left, worker: Option<u32>) -> Option<u32>
 {
     match *left {
         Left::Goes { doing: _ } | Left::Stays => worker,
-        Left::Ends { doing: _ } | Left::Begins => None,
+        Left::Ends { doing: _ } | Left::Begins | Left::Continues { doing: _ } => None,
     }
 }
