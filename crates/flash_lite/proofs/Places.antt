@@ -1,4 +1,4 @@
--- Places, and what is picked from them.
+-- Indices, and the choice among them.
 use Rattle.std.proofs.Common.{◌≡◌, ℕ, zero, suc, ◌+◌, ◌-◌, ◌<◌, ◌≤◌, List, [], ◌∷◌, ◌++◌, length, drop, ap, ◌∙◌, append-nil, add-one, arith, Option, Some, None, Bool, true, false, sym, refl, subst, if◌then◌else◌}
 use Rattle.std.specs.Prelude.{replicate, slice_set, position, option_map, nat_lt}
 use Rattle.std.specs.List.{position_or_len}
@@ -247,6 +247,7 @@ door_left clients fd x l there =
     by (left.Goes d) = going d (left_with x (left.Goes d))
     by (left.Ends d) = ap (λ k. door_to clients k) (same d) ∙ going d (left_with x (left.Ends d))
     by left.Begins = kept (left_with x left.Begins)
+    by (left.Continues d) = kept (left_with x (left.Continues d))
     by left.Stays = kept x
 
 -- ---- the policy
