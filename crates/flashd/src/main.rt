@@ -1,7 +1,6 @@
 //! `flashd`: the files below a folder, served by HTTP/1.1 to many clients at once.
 #![tactic(auto)]
 
-mod framing;
 mod notices;
 mod options;
 mod serve;

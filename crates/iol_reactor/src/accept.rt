@@ -32,9 +32,10 @@ pub struct Acceptor<L> {
     /// Any number, if it is none.
     pub left: Option<u32>,
 
-    // Whether a client may wait to be accepted, and when one is accepted again after a failure.
+    // Whether a client may wait to be accepted, when one is accepted again after a failure, and what that was.
     is_open: bool,
     open_at: Option<u64>,
+    failure: Option<ErrorKind>,
 }
 
 impl<L> Acceptor<L> {
@@ -48,6 +49,7 @@ impl<L> Acceptor<L> {
             left,
             is_open: true,
             open_at: None,
+            failure: None,
         }
     }
 
@@ -68,6 +70,20 @@ impl<L> Acceptor<L> {
     /// When a listener that failed is tried again, if it failed.
     pub fn open_at(&self) -> Option<u64> {
         self.open_at
+    }
+
+    /// Why the last client that waited was not accepted, if it was not.
+    pub fn failure(&self) -> Option<ErrorKind> {
+        self.failure
+    }
+
+    /// No client is accepted until some time has passed.
+    pub fn pause(&mut self, now: u64)
+        ensures listener { self.new.listener ≡ self.old.listener }
+        ensures left { self.new.left ≡ self.old.left }
+    {
+        self.is_open = false;
+        self.open_at = Some(now.saturating_add(ACCEPT_MILLIS));
     }
 
     /// The listener was reported ready.
@@ -103,6 +119,7 @@ impl<L> Acceptor<L> {
         }
         match self.listener.accept_next() {
             Ok(client) => {
+                self.failure = None;
                 self.count();
                 Some(client)
             }
@@ -133,8 +150,8 @@ impl<L> Acceptor<L> {
             ErrorKind::ConnectionAborted | ErrorKind::Interrupted => {}
             ErrorKind::WouldBlock => self.is_open = false,
             _ => {
-                self.is_open = false;
-                self.open_at = Some(now.saturating_add(ACCEPT_MILLIS));
+                self.failure = Some(kind);
+                self.pause(now);
             }
         }
     }
