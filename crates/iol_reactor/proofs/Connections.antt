@@ -1,6 +1,6 @@
 -- A table of connections, no two of which are the same.
-use Rattle.std.proofs.Common.{◌≡◌, inl, inr, ◌∙◌, ◌==◌, ◌||◌, ◌&&◌, ◌<◌, ◌+◌, ◌++◌, ◌∷◌, [], ℕ, zero, suc, Bool, true, false, nat_lt, nat_le, List, Option, None, Some, get_or, set, length, sym, ap, refl, subst, arith}
-use Rattle.std.proofs.lemmas.Bool.{cases_eq}
+use Rattle.std.proofs.Common.{◌≡◌, inl, inr, ◌∙◌, ◌==◌, ◌||◌, ◌&&◌, ◌<◌, ◌≤◌, ◌+◌, ◌++◌, ◌∷◌, [], ℕ, zero, suc, Bool, true, false, nat_lt, nat_le, List, Option, None, Some, get_or, set, length, sym, ap, refl, subst, arith}
+use Rattle.std.proofs.lemmas.Bool.{cases_eq, cases_lt}
 use Rattle.std.proofs.lemmas.Bool.Decides.{nat_tests}
 use Rattle.std.proofs.lemmas.List.{get_or-set_same, get_or-set_other}
 use Rattle.iol_reactor.specs.Connections.{link_at, AreApart, HaveCome, has_come}
@@ -41,9 +41,9 @@ come_none generation last = λ i l at. absurd (none_some l None refl at)
 not_there : (generation last : ℕ) (table : List (Option Link)) (l : Link) → HaveCome generation last table → has_come generation last l ≡ false → (i : ℕ) → link_at table i ≡ Some l → ⊥
 not_there generation last table l come new i at = let is = come i l at in cc (is, new)
 
-pub apart_given : (generation last : ℕ) (table : List (Option Link)) (k : ℕ) (l : Link) → k < length table → HaveCome generation last table → has_come generation last l ≡ false
+apart_within : (generation last : ℕ) (table : List (Option Link)) (k : ℕ) (l : Link) → k < length table → HaveCome generation last table → has_come generation last l ≡ false
     → AreApart table → AreApart (set table k (Some l))
-apart_given generation last table k l within come new apart = λ i j m at other. elim (cases_eq i k) [
+apart_within generation last table k l within come new apart = λ i j m at other. elim (cases_eq i k) [
   | inl e ↦ elim (cases_eq j k) [
     | inl f ↦ e ∙ sym f
     | inr f ↦ absurd (
@@ -58,18 +58,38 @@ apart_given generation last table k l within come new apart = λ i j m at other.
   ]
 ]
 
+-- a place that is not there
+set_past : (table : List (Option Link)) (k : ℕ) (x : Option Link) → length table ≤ k → set table k x ≡ table
+set_past [] k x h = refl
+set_past (y ∷ table) zero x h = absurd (omega (arith, h))
+set_past (y ∷ table) (suc k) x h = ap (λ (t : List (Option Link)). y ∷ t) (set_past table k x (omega (arith, h)))
+
+pub apart_given : (generation last : ℕ) (table : List (Option Link)) (k : ℕ) (l : Link) → HaveCome generation last table → has_come generation last l ≡ false
+    → AreApart table → AreApart (set table k (Some l))
+apart_given generation last table k l come new apart = elim (cases_lt k (length table)) [
+  | inl within ↦ apart_within generation last table k l within come new apart
+  | inr past ↦ subst (λ (t : List (Option Link)). AreApart t) (sym (set_past table k (Some l) past)) apart
+]
+
 -- what had come has come later
 later : (generation last : ℕ) (l : Link) (now : ℕ) → last < now → has_come generation last l ≡ true → has_come generation now l ≡ true
 later generation last l now more is = grind (arith, nat_tests, more, is)
 
-pub come_given : (generation last : ℕ) (table : List (Option Link)) (k : ℕ) (l : Link) → k < length table → l.generation ≡ generation → last < l.conn → HaveCome generation last table
+come_within : (generation last : ℕ) (table : List (Option Link)) (k : ℕ) (l : Link) → k < length table → l.generation ≡ generation → last < l.conn → HaveCome generation last table
     → HaveCome generation l.conn (set table k (Some l))
-come_given generation last table k l within own more come = λ i m at. elim (cases_eq i k) [
+come_within generation last table k l within own more come = λ i m at. elim (cases_eq i k) [
   | inl e ↦ (
       let same : l ≡ m = same_link l m (sym (get_or-set_same table k (Some l) None within) ∙ (ap (λ n. get_or (set table k (Some l)) n None) (sym e) ∙ at)) in
       let is : has_come generation l.conn l ≡ true = grind (arith, nat_tests, own) in
       subst (λ (n : Link). has_come generation l.conn n ≡ true) same is)
   | inr e ↦ later generation last m l.conn more (come i m (sym (get_or-set_other table k i (Some l) None e) ∙ at))
+]
+
+pub come_given : (generation last : ℕ) (table : List (Option Link)) (k : ℕ) (l : Link) → l.generation ≡ generation → last < l.conn → HaveCome generation last table
+    → HaveCome generation l.conn (set table k (Some l))
+come_given generation last table k l own more come = elim (cases_lt k (length table)) [
+  | inl within ↦ come_within generation last table k l within own more come
+  | inr past ↦ subst (λ (t : List (Option Link)). HaveCome generation l.conn t) (sym (set_past table k (Some l) past)) (λ i m at. later generation last m l.conn more (come i m at))
 ]
 
 pub new_link : (generation last : ℕ) (l : Link) → l.generation ≡ generation → last < l.conn → has_come generation last l ≡ false

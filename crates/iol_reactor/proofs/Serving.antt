@@ -1,12 +1,11 @@
 -- A world that serves, one step after another.
-use Rattle.std.proofs.Common.{◌≡◌, ◌∙◌, ℕ, Bool, false, List, [], ◌∷◌, ◌++◌, Some, refl, sym, ap, append_assoc}
+use Rattle.std.proofs.Common.{◌≡◌, ◌∙◌, ℕ, Bool, false, List, [], ◌∷◌, ◌++◌, length, refl, sym, ap, append_assoc}
 use Rattle.std.proofs.Math.Logic.{∥∥₁_map}
 use Rattle.iol_back.specs.Disk.{IfHonest}
 use Rattle.iol_core.specs.State.{State}
 use Rattle.iol_core.specs.declared.descriptors.How.{How}
 use Rattle.iol_core.specs.declared.events.Event.TheVariants as event
 use Rattle.iol_core.specs.declared.events.Reply.{Reply}
-use Rattle.iol_kernel.specs.Streams.{TakesIn}
 use Rattle.iol_system.specs.Machine.{SystemState}
 use Rattle.iol_proc.specs.Laws.{KeepsHonesty}
 use Rattle.iol_proc.specs.Streams.{ArrivesAs}
@@ -66,8 +65,8 @@ module _ {P : Type 0} (turns : Account P) where
   pub arrives_refused : (c : ℕ) (bytes rest : List ℕ) (w after : Stage State P) → rest ≡ bytes → after ≡ w → Arrives turns c bytes rest w after
   arrives_refused c bytes rest w after still same = record { came = []; split = sym still; goes_on = goes_none turns c w after same }
 
-  pub arrives_page : (c n : ℕ) (bytes rest : List ℕ) (w after : Stage State P) → TakesIn (Some bytes) (Some rest) n (λ b. ArrivesAs turns c n b w after) → Arrives turns c bytes rest w after
-  arrives_page c n bytes rest w after t = record { came = t.bytes; split = t.given; goes_on = goes_arrived turns c n t.bytes w after t.count t.arrives }
+  pub arrives_page : (c n : ℕ) (bytes rest came : List ℕ) (w after : Stage State P) → bytes ≡ came ++ rest → length came ≡ n → ArrivesAs turns c n came w after → Arrives turns c bytes rest w after
+  arrives_page c n bytes rest came w after split count step = record { came = came; split = split; goes_on = goes_arrived turns c n came w after count step }
 
   pub arrives_then : (c : ℕ) (bytes more rest : List ℕ) (w mid after : Stage State P) → Arrives turns c bytes more w mid → Arrives turns c more rest mid after → Arrives turns c bytes rest w after
   arrives_then c bytes more rest w mid after a b = record {

@@ -32,7 +32,7 @@ pub struct Acceptor<L> {
     /// Any number, if it is none.
     pub left: Option<u32>,
 
-    // Whether a client may wait to be accepted, when one is accepted again after a failure, and what that was.
+    // Whether a client may wait to be accepted, when one is accepted again after a failure, and the failure of this attempt.
     is_open: bool,
     open_at: Option<u64>,
     failure: Option<ErrorKind>,
@@ -72,7 +72,7 @@ impl<L> Acceptor<L> {
         self.open_at
     }
 
-    /// Why the last client that waited was not accepted, if it was not.
+    /// How accepting failed in this attempt, if it did.
     pub fn failure(&self) -> Option<ErrorKind> {
         self.failure
     }
@@ -94,11 +94,12 @@ impl<L> Acceptor<L> {
         self.is_open = true;
     }
 
-    /// A listener that had failed is tried again once that is due.
+    /// A new attempt to accept clients begins. A listener that had failed is tried again once that is due.
     pub fn reopen(&mut self, now: u64)
         ensures listener { self.new.listener ≡ self.old.listener }
         ensures left { self.new.left ≡ self.old.left }
     {
+        self.failure = None;
         if let Some(at) = self.open_at {
             if at <= now {
                 self.open_at = None;
@@ -119,7 +120,6 @@ impl<L> Acceptor<L> {
         }
         match self.listener.accept_next() {
             Ok(client) => {
-                self.failure = None;
                 self.count();
                 Some(client)
             }

@@ -8,10 +8,19 @@ use std::alloc::{AllocError, Global};
 /// A connection of a world.
 #[derive(Clone, Copy, Debug, PartialEq, Eq)]
 pub struct Link {
-    pub conn: ConnId,
+    conn: ConnId,
 
-    /// The number of its world, counted as they come.
-    pub generation: u64,
+    // The number of its world, counted as they come.
+    generation: u64,
+}
+
+impl Link {
+    /// Its number in its world.
+    pub fn conn(&self) -> ConnId
+        ensures { result ≡ self.now.conn }
+    {
+        self.conn
+    }
 }
 
 /// The connection of each client that has one, by the client's place. No two clients have the same.

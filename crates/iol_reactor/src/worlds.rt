@@ -140,10 +140,12 @@ impl<B: Backing + Drop, P: Process, V: Service<B, P>> Worlds<B, P, V> {
         let Some(link) = self.links.get(slot) else {
             return;
         };
-        if self.links.is_current(link) {
-            self.current.close(link.conn);
+        let is_current = self.links.is_current(link);
+        let conn = link.conn();
+        if is_current {
+            self.current.close(conn);
         } else if let Some(world) = &mut self.retiring {
-            world.close(link.conn);
+            world.close(conn);
         }
     }
 
@@ -152,10 +154,12 @@ impl<B: Backing + Drop, P: Process, V: Service<B, P>> Worlds<B, P, V> {
         let Some(link) = self.links.get(slot) else {
             return;
         };
-        if self.links.is_current(link) {
-            self.current.hang_up(link.conn);
+        let is_current = self.links.is_current(link);
+        let conn = link.conn();
+        if is_current {
+            self.current.hang_up(conn);
         } else if let Some(world) = &mut self.retiring {
-            world.hang_up(link.conn);
+            world.hang_up(conn);
         }
     }
 
@@ -164,11 +168,13 @@ impl<B: Backing + Drop, P: Process, V: Service<B, P>> Worlds<B, P, V> {
         let Some(link) = self.links.get(slot) else {
             return true;
         };
-        if self.links.is_current(link) {
-            return self.current.is_over(link.conn);
+        let is_current = self.links.is_current(link);
+        let conn = link.conn();
+        if is_current {
+            return self.current.is_over(conn);
         }
         match &mut self.retiring {
-            Some(world) => world.is_over(link.conn),
+            Some(world) => world.is_over(conn),
             None => true,
         }
     }
@@ -178,11 +184,13 @@ impl<B: Backing + Drop, P: Process, V: Service<B, P>> Worlds<B, P, V> {
         let Some(link) = self.links.get(slot) else {
             return bytes;
         };
-        if self.links.is_current(link) {
-            return self.current.hand_in(link.conn, bytes);
+        let is_current = self.links.is_current(link);
+        let conn = link.conn();
+        if is_current {
+            return self.current.hand_in(conn, bytes);
         }
         match &mut self.retiring {
-            Some(world) => world.hand_in(link.conn, bytes),
+            Some(world) => world.hand_in(conn, bytes),
             None => bytes,
         }
     }
@@ -191,11 +199,13 @@ impl<B: Backing + Drop, P: Process, V: Service<B, P>> Worlds<B, P, V> {
     /// none if the client has no connection or the processes have closed it.
     pub fn collect(&mut self, slot: usize, outbox: &mut Outbox, most: u32) -> Option<u32> {
         let link = self.links.get(slot)?;
-        if self.links.is_current(link) {
-            return self.current.collect(link.conn, outbox, most);
+        let is_current = self.links.is_current(link);
+        let conn = link.conn();
+        if is_current {
+            return self.current.collect(conn, outbox, most);
         }
         match &mut self.retiring {
-            Some(world) => world.collect(link.conn, outbox, most),
+            Some(world) => world.collect(conn, outbox, most),
             None => None,
         }
     }
