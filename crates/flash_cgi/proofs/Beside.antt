@@ -1,4 +1,4 @@
--- What others do beside a worker with a job: they leave what it is still to write, and what is read is heard from the front.
+-- The effect of others on a worker with a job: they preserve its pending output, and reads take it from the front.
 use Rattle.std.proofs.Common.{inl, inr, ◌≡◌, ℕ, ◌==◌, List, [], ◌∷◌, ◌++◌, ◌-◌, length, drop, arith, ap, ◌∙◌, refl, sym, subst, Option, Some, None, true, false, Bool, if◌then◌else◌, append_assoc, ◌≤◌}
 use Rattle.std.specs.Prelude.{unwrap_or, option_map, nat_le, ◌&&◌, ◌||◌}
 use Rattle.std.specs.List.{AllByRecursion}

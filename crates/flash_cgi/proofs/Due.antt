@@ -1,5 +1,6 @@
--- With the files as they are a script puts out one text.
-use Rattle.std.proofs.Common.{inl, inr, ◌≡◌, ◌⊎◌, ℕ, List, [], ◌++◌, ap, ◌∙◌, refl, sym, subst, Some, true, false, Bool}
+-- If the files do not change, a script outputs one text.
+use Rattle.std.proofs.Common.{inl, inr, ◌≡◌, ◌⊎◌, ℕ, List, [], ◌∷◌, ◌++◌, append_assoc, ap, ◌∙◌, refl, sym, subst, Some, true, false, Bool}
+use Rattle.std.proofs.lemmas.List.{append_cancel_right}
 use Rattle.iol_core.specs.Text.{bytes_of}
 use Rattle.iol_core.specs.State.{State, Pipe, descriptor, pipe_at, is_live}
 use Rattle.iol_core.specs.Positions.{ArePlaced}
@@ -8,21 +9,21 @@ use Rattle.iol_core.specs.declared.descriptors.Descriptor.TheVariants as on
 use Rattle.iol_core.specs.declared.events.Event.{Event}
 use Rattle.iol_core.specs.declared.events.Reply.{Reply}
 use Rattle.iol_core.specs.declared.events.Reply.TheVariants as reply
-use Rattle.iol_laws.specs.Caller.{CallsServeTheirDomain, ClosesWriteEnd, is_rough}
+use Rattle.iol_laws.specs.Caller.{CallsServeTheirDomain, ClosesWriteEnd}
 use Rattle.iol_laws.specs.Order.{IsOrderly}
 use Rattle.iol_laws.specs.Others.{GoesFromFront}
 use Rattle.iol_proc.specs.Turns.{SeatTurn}
 use Rattle.iol_proc.specs.World.{copying}
 use Rattle.iol_proc.specs.declared.seat.Seat.{Seat}
 use Rattle.flash_cgi.specs.Beside.{is_call_of, LeavesFiles, LeavesJobs, LeavesWorker, Hears, OthersHear}
-use Rattle.flash_cgi.specs.Due.{HasDesk, HasRest, IsDue, IsWritten, GaveFront, ScriptsPutOut}
+use Rattle.flash_cgi.specs.Due.{Made, text_of, HasDesk, HasRest, IsDue, IsWritten, GaveFront, Goes, ScriptsPutOut}
 use Rattle.flash_cgi.specs.Feeds.{Needs}
 use Rattle.flash_cgi.specs.Free.{HasNoJob}
 use Rattle.flash_cgi.specs.Frame.{LeavesAllBut, WorkersAreQuiet}
 use Rattle.flash_cgi.specs.Outcomes.{AreFiles, outcomes_in}
-use Rattle.flash_cgi.specs.Output.{Outcome, output}
+use Rattle.flash_cgi.specs.Output.{Outcome, Failed, output}
 use Rattle.flash_cgi.specs.JobStart.{HasJob}
-use Rattle.flash_cgi.specs.Turns.{IsFree, is_given, step_of, Awaits, RunsJob, outcomes_to_come, ReadsItsFile, GoesOn, IsOver, TurnsFeed}
+use Rattle.flash_cgi.specs.Turns.{IsFree, is_given, step_of, Awaits, RunsJob, outcomes_to_come, ReadsItsFile, Settles, GoesOn, IsOver, TurnsFeed}
 use Rattle.flash_cgi.specs.Works.{worker_turns}
 use Rattle.flash_cgi.specs.declared.line.Line.{Line}
 use Rattle.flash_cgi.specs.declared.phase.Doing.{Doing}
@@ -34,12 +35,18 @@ use Rattle.flash_cgi.proofs.Free.{FreeTurn, free_turn}
 use Rattle.flash_cgi.proofs.JobStart.{all_taken}
 
 begins : (m : State) (j p fd : ℕ) (seat : Seat Worker) (query script : List ℕ) (lines : List Line) → IsFree m seat → HasJob m seat.by j p fd query script lines
-    → (pipe_at m j).writing ≡ true → IsDue m j p seat (bytes_of (pipe_at m p).queue ++ output query lines (outcomes_in m seat.by lines))
+    → (pipe_at m j).writing ≡ true
+    → IsDue m j p seat (record { before = bytes_of (pipe_at m p).queue; query = query; lines = lines; outcomes = outcomes_in m seat.by lines })
+    (bytes_of (pipe_at m p).queue ++ output query lines (outcomes_in m seat.by lines))
 begins m j p fd seat query script lines free has writing = record {
   unseen = λ os. bytes_of (pipe_at m p).queue ++ output query lines os;
   runs = inl (record { jobs = j; fd = fd; query = query; script = script; lines = lines; free = free; has = has; is = λ os. refl });
   reads = tt;
   is = refl;
+  settled = [];
+  gave = refl;
+  past = [];
+  all = λ os. refl;
   desk = record { jobs = has.jobs; writing = writing; apart = has.apart };
   rest = tt;
 }
@@ -166,10 +173,9 @@ writing m p seat unseen (inr (inr i)) = (seat.process.job.fd, i.feeds.open_on)
 closed_now : (m n : State) (p : ℕ) (r : Reply) → r ≡ reply.Done → ClosesWriteEnd m p r n → (pipe_at n p).writing ≡ false
 closed_now m n p r done closes = (subst (λ (l : Reply). ClosesWriteEnd m p l n) done closes).0
 
-turns : TurnsFeed → CallsServeTheirDomain → WorkersAreQuiet → (m n : State) (j p : ℕ) (seat next : Seat Worker) (yields : Bool) (r : Reply) (text : List ℕ) → IsOrderly m → ArePlaced m → AreFiles m
-    → IsDue m j p seat text → SeatTurn copying worker_turns m seat yields r n next → is_rough r ≡ false
-    → IsDue n j p next text ⊎ IsWritten m n j p next text r ⊎ ((pipe_at n p).reading ≡ false)
-turns feeds own quiet m n j p seat next yields r text order placed good due did smooth = by (feeds m n p seat next yields r due.unseen order due.runs did)
+turns : TurnsFeed → CallsServeTheirDomain → WorkersAreQuiet → (m n : State) (j p : ℕ) (seat next : Seat Worker) (yields : Bool) (r : Reply) (made : Made) (text : List ℕ) → IsOrderly m → ArePlaced m → AreFiles m
+    → IsDue m j p seat made text → SeatTurn copying worker_turns m seat yields r n next → Goes m n j p next made text r
+turns feeds own quiet m n j p seat next yields r made text order placed good due did = by (feeds m n p seat next yields r due.unseen order due.runs did)
   where
     left : Leaves own quiet m n j p seat next yields r order did due.desk
     left = leaves own quiet m n j p seat next yields r order did due.desk due.unseen due.runs due.rest
@@ -177,27 +183,73 @@ turns feeds own quiet m n j p seat next yields r text order placed good due did 
     open_yet : (pipe_at m p).writing ≡ true
     open_yet = (let w = writing m p seat due.unseen due.runs in order.all_stand seat.by w.0 (on.WriteEnd p) w.1)
 
+    -- it goes on, with what is put out as it was
+    same : IsDue n j p next made text ⊎ IsWritten m n j p next text r ⊎ ((pipe_at n p).reading ≡ false) → Goes m n j p next made text r
+    same goes = record { after = made; later = text; instead = inl (refl, refl); goes = goes }
+
+    goes-due : (g : GoesOn m n p next r due.unseen (outcomes_to_come m p seat due.unseen due.runs) (ReadsItsFile m p seat due.unseen due.runs)) (after : Made) (later : List ℕ)
+        → after.before ≡ made.before → after.query ≡ made.query → after.lines ≡ made.lines
+        → after.outcomes ≡ due.settled ++ (g.settled ++ outcomes_to_come n p next (λ os. due.unseen (g.settled ++ os)) g.runs)
+        → later ≡ due.unseen (g.settled ++ outcomes_to_come n p next (λ os. due.unseen (g.settled ++ os)) g.runs)
+        → ReadsItsFile n p next (λ os. due.unseen (g.settled ++ os)) g.runs → IsDue n j p next after later
+    goes-due g after later before query lines outcomes is reads = record {
+      unseen = λ os. due.unseen (g.settled ++ os);
+      runs = g.runs;
+      reads = reads;
+      is = is;
+      settled = due.settled ++ g.settled;
+      gave = outcomes ∙ sym (append_assoc due.settled g.settled (outcomes_to_come n p next (λ os. due.unseen (g.settled ++ os)) g.runs));
+      past = due.past;
+      all = λ os. ap (λ (l : List ℕ). l ++ output after.query after.lines ((due.settled ++ g.settled) ++ os)) before
+          ∙ (ap (λ (q : List ℕ). made.before ++ output q after.lines ((due.settled ++ g.settled) ++ os)) query
+          ∙ (ap (λ (ls : List Line). made.before ++ output made.query ls ((due.settled ++ g.settled) ++ os)) lines
+          ∙ (ap (λ (l : List Outcome). made.before ++ output made.query made.lines l) (append_assoc due.settled g.settled os) ∙ due.all (g.settled ++ os))));
+      desk = desk_after own quiet m n j p seat next yields r order did due.desk left;
+      rest = rest_after own quiet m n j p seat next yields r order did due.desk left (λ os. due.unseen (g.settled ++ os)) g.runs;
+    }
+
+    went : (g : GoesOn m n p next r due.unseen (outcomes_to_come m p seat due.unseen due.runs) (ReadsItsFile m p seat due.unseen due.runs))
+        → Settles r (outcomes_to_come m p seat due.unseen due.runs) g.settled (outcomes_to_come n p next (λ os. due.unseen (g.settled ++ os)) g.runs)
+        → ReadsItsFile n p next (λ os. due.unseen (g.settled ++ os)) g.runs → Goes m n j p next made text r
+    went g (inl is) reads = same (inl (goes-due g made text refl refl refl (due.gave ∙ ap (λ (os : List Outcome). due.settled ++ os) is) (due.is ∙ ap (λ (os : List Outcome). due.unseen os) is) reads))
+    went g (inr x) reads = record {
+      after = record made { outcomes = due.settled ++ Failed x.why ∷ later_on };
+      later = due.unseen (Failed x.why ∷ later_on);
+      instead = inr (record {
+        refused = record {
+          why = x.why;
+          answer = x.answer;
+          rough = x.rough;
+          past = due.settled;
+          instead = x.instead;
+          rest = later_on;
+          was = due.gave ∙ ap (λ (os : List Outcome). due.settled ++ os) x.was;
+          is = refl;
+        };
+        begins = λ front is.
+            let was : text_of made ≡ due.past ++ text = ap (λ (os : List Outcome). made.before ++ output made.query made.lines os) due.gave ∙ (due.all (outcomes_to_come m p seat due.unseen due.runs) ∙ ap (λ (l : List ℕ). due.past ++ l) (sym due.is)) in
+            let one : due.past ≡ front = append_cancel_right due.past front text (sym was ∙ is) in
+            due.all (Failed x.why ∷ later_on) ∙ ap (λ (l : List ℕ). l ++ due.unseen (Failed x.why ∷ later_on)) one;
+      });
+      goes = inl (goes-due g (record made { outcomes = due.settled ++ Failed x.why ∷ later_on }) (due.unseen (Failed x.why ∷ later_on)) refl refl refl
+          (ap (λ (os : List Outcome). due.settled ++ (os ++ later_on)) (sym x.is)) (ap (λ (os : List Outcome). due.unseen (os ++ later_on)) (sym x.is)) reads);
+    }
+      where
+        later_on : List Outcome
+        later_on = outcomes_to_come n p next (λ os. due.unseen (g.settled ++ os)) g.runs
+
     by : GoesOn m n p next r due.unseen (outcomes_to_come m p seat due.unseen due.runs) (ReadsItsFile m p seat due.unseen due.runs)
         ⊎ IsOver m n seat.by p next due.unseen r ⊎ ((pipe_at n p).reading ≡ false)
-        → IsDue n j p next text ⊎ IsWritten m n j p next text r ⊎ ((pipe_at n p).reading ≡ false)
-    by (inl g) =
-        let t = g.truly placed good smooth due.reads in
-        inl (record {
-          unseen = λ os. due.unseen (g.settled ++ os);
-          runs = g.runs;
-          reads = t.1;
-          is = due.is ∙ ap (λ (os : List Outcome). due.unseen os) t.0;
-          desk = desk_after own quiet m n j p seat next yields r order did due.desk left;
-          rest = rest_after own quiet m n j p seat next yields r order did due.desk left (λ os. due.unseen (g.settled ++ os)) g.runs;
-        })
-    by (inr (inl over)) = inr (inl (record {
+        → Goes m n j p next made text r
+    by (inl g) = (let t = g.truly placed good due.reads in went g t.0 t.1)
+    by (inr (inl over)) = same (inr (inl (record {
       all = due.is ∙ over.ends.all (outcomes_to_come m p seat due.unseen due.runs);
       done = over.ends.done;
       closes = over.ends.closes;
       free = over.free;
       none = none_after own quiet m n j p seat next yields r order did due.desk left open_yet (closed_now m n p r over.ends.done over.ends.closes);
-    }))
-    by (inr (inr gone)) = inr (inr gone)
+    })))
+    by (inr (inr gone)) = same (inr (inr gone))
 
 -- ---- others leave the job pipe
 
@@ -213,9 +265,9 @@ rest_stays : (m n : State) (j p : ℕ) (seat : Seat Worker) (unseen after : List
 rest_stays m n j p seat unseen after (inl h) now rest same = free_has_rest n j p seat after now (free_still m n seat h.free)
 rest_stays m n j p seat unseen after (inr h) now rest same = nothing_left n j p seat after now (ap (λ (x : Pipe). x.queue) same ∙ rest)
 
-others : OthersHear → (m n : State) (j p : ℕ) (seat : Seat Worker) (e : Event) (r : Reply) (text : List ℕ) → IsOrderly m → ArePlaced m → StepsTo m e r n → is_call_of e seat.by ≡ false
-    → LeavesFiles m seat.by n → pipe_at n j ≡ pipe_at m j → IsDue m j p seat text → GaveFront m n j p seat text
-others law m n j p seat e r text order placed step other files same due = record {
+others : OthersHear → (m n : State) (j p : ℕ) (seat : Seat Worker) (e : Event) (r : Reply) (made : Made) (text : List ℕ) → IsOrderly m → ArePlaced m → StepsTo m e r n → is_call_of e seat.by ≡ false
+    → LeavesFiles m seat.by n → pipe_at n j ≡ pipe_at m j → IsDue m j p seat made text → GaveFront m n j p seat made text
+others law m n j p seat e r made text order placed step other files same due = record {
   goes = goes;
   rest = hears.after (outcomes_to_come n p seat hears.after hears.runs);
   splits = due.is ∙ (hears.splits (outcomes_to_come m p seat due.unseen due.runs)
@@ -225,6 +277,10 @@ others law m n j p seat e r text order placed step other files same due = record
     runs = hears.runs;
     reads = hears.reads files due.reads;
     is = refl;
+    settled = due.settled;
+    gave = due.gave ∙ ap (λ (os : List Outcome). due.settled ++ os) (sym (hears.outcomes files));
+    past = due.past ++ bytes_of goes.gone;
+    all = λ os. due.all os ∙ (ap (λ (l : List ℕ). due.past ++ l) (hears.splits os) ∙ sym (append_assoc due.past (bytes_of goes.gone) (hears.after os)));
     desk = desk_stays m n j p seat left due.desk same;
     rest = rest_stays m n j p seat due.unseen hears.after due.runs hears.runs due.rest same;
   };

@@ -1,4 +1,4 @@
--- Text and bytes of files go behind what is collected, and what each call makes of it is the same text.
+-- Text and bytes of files are appended to the buffered output, and each call that makes it gives the same text.
 use Rattle.std.proofs.Common.{inl, inr, ◌⊎◌, ◌≡◌, ◌≢◌, ℕ, ◌≤◌, List, [], ◌∷◌, ◌++◌, length, take, drop, refl, sym, ap, ◌∙◌, subst, arith, Option, Some, None, Bool, true, false, append_assoc, append-nil, length-append}
 use Rattle.std.specs.Prelude.{◌==◌, ◌&&◌, if◌then◌else◌, is_none, nat_lt, unwrap_or}
 use Rattle.std.proofs.lemmas.List.{take-append-le, drop-append-le, length-take}

@@ -1,4 +1,4 @@
--- A job's text, as it is written, is read as that job.
+-- Parsing the text of a job gives that job.
 use Rattle.std.proofs.Common.{◌≡◌, ℕ, suc, ◌+◌, ◌^◌, ◌<◌, ◌≤◌, Bool, true, false, cond, List, [], ◌∷◌, ◌++◌, length, take, drop, Some, None, refl, ap, ◌∙◌, arith, append_assoc, length-append}
 use Rattle.std.specs.Prelude.{not, nat_lt, ◌==◌}
 use Rattle.std.specs.List.{position, position_or_len}

@@ -1,4 +1,4 @@
--- What a domain has not open stays so over the calls of a worker, but for what a call opens.
+-- A descriptor that is not open stays so over the calls of a worker, except for those that a call opens.
 use Rattle.std.proofs.Common.{inl, inr, ◌⊎◌, ◌≡◌, ◌≢◌, ℕ, ◌+◌, List, ◌++◌, length, take, drop, ap, ◌∙◌, refl, subst, Option, Some, None}
 use Rattle.std.specs.Prelude.{slice_set}
 use Rattle.std.proofs.lemmas.Bool.{cases_eq}

@@ -1,4 +1,4 @@
--- A worker's call leaves what is unseen of its output: phase by phase.
+-- A worker's call preserves its pending output: phase by phase.
 use Rattle.std.proofs.Common.{inl, inr, ◌≡◌, ◌≢◌, ℕ, ◌+◌, ◌-◌, ◌==◌, ◌⊎◌, List, [], ◌∷◌, ◌++◌, length, take, drop, ap, ◌∙◌, refl, sym, subst, arith, Option, Some, None, true, false, Bool, if◌then◌else◌, append_assoc, append-nil}
 use Rattle.std.specs.Prelude.{◌||◌, ◌&&◌, not, is_some, nat_le, slice_range, slice_get}
 use Rattle.std.proofs.lemmas.Bool.Decides.{nat_tests}

@@ -1,4 +1,4 @@
--- A worker's turn leaves what is unseen of its output, from the moment at which its job waits.
+-- A worker's turn preserves its pending output, from the time when its job waits.
 use Rattle.std.proofs.Common.{inl, inr, ◌≡◌, ◌⊎◌, ℕ, List, [], ◌∷◌, ◌++◌, ap, ◌∙◌, refl, sym, subst, Option, Some, None, true, false, Bool, if◌then◌else◌}
 use Rattle.std.specs.Prelude.{unwrap_or}
 use Rattle.iol_core.specs.Text.{bytes_of}
@@ -9,7 +9,7 @@ use Rattle.iol_core.specs.declared.events.Event.TheVariants as event
 use Rattle.iol_core.specs.declared.events.Reply.{Reply}
 use Rattle.iol_core.specs.declared.events.Reply.TheVariants as reply
 use Rattle.iol_core.specs.Positions.{ArePlaced}
-use Rattle.iol_laws.specs.Caller.{CallsServeTheirDomain, ReadsPipe, lent_at, is_rough}
+use Rattle.iol_laws.specs.Caller.{CallsServeTheirDomain, ReadsPipe, lent_at}
 use Rattle.iol_laws.specs.Frame.{EachStepLeavesTheRest}
 use Rattle.iol_laws.specs.Order.{IsOrderly}
 use Rattle.iol_proc.specs.LentBytes.{lent_to}
@@ -24,9 +24,9 @@ use Rattle.flash_cgi.specs.WorkerSteps.{call_at, doing_call, told, told_doing, b
 use Rattle.flash_cgi.specs.Works.{works, works_as, files, goes_on, takes, with_job, with_text, worker_turns}
 use Rattle.flash_cgi.specs.Standstill.{is_over}
 use Rattle.flash_cgi.specs.Feeds.{Feeds, ComesTo, FeedsOn, settled, Needs}
-use Rattle.flash_cgi.specs.Outcomes.{AreFiles, OutcomesAreTrue, SettlesTruly, outcomes_in, to_come, ReadsNamed}
+use Rattle.flash_cgi.specs.Outcomes.{AreFiles, OutcomesAreTrue, SettlesByRefusal, SettlesTruly, outcomes_in, to_come, ReadsNamed}
 use Rattle.flash_cgi.specs.JobStart.{HasJob, Begins, JobsAreTaken}
-use Rattle.flash_cgi.specs.Turns.{IsFree, is_given, Awaits, or_again, filed_step, RunsJob, outcomes_to_come, ReadsItsFile, GoesOn, IsOver, TurnsFeed}
+use Rattle.flash_cgi.specs.Turns.{IsFree, is_given, Awaits, or_again, filed_step, RunsJob, outcomes_to_come, ReadsItsFile, Settles, GoesOn, IsOver, TurnsFeed}
 use Rattle.flash_cgi.specs.declared.phase.Doing.{Doing}
 use Rattle.flash_cgi.specs.declared.phase.Doing.TheVariants as doing
 use Rattle.flash_cgi.specs.declared.phase.Standing.{Standing}
@@ -69,14 +69,14 @@ module _ (feeds_on : FeedsOn) (taken : JobsAreTaken) (true_to : OutcomesAreTrue)
   -- it goes on at a step, its reply taken as filed
   abbrev goes_at : (m n : State) (d p : ℕ) (v : Worker) (r : Reply) (unseen : List Outcome → List ℕ) (due : List Outcome) (Reads : Type 0) (settles : List Outcome) (step : Step)
       → is_over v.standing ≡ false → filed_step v.standing v (lent_at n d) r ≡ step → Feeds n d p v.job step (λ os. unseen (settles ++ os))
-      → (ArePlaced m → AreFiles m → is_rough r ≡ false → Reads → (due ≡ settles ++ to_come n d v.job step) × ReadsNamed n d v.job step.begun step.doing)
+      → (ArePlaced m → AreFiles m → Reads → Settles r due settles (to_come n d v.job step) × ReadsNamed n d v.job step.begun step.doing)
       → GoesOn m n p (seat_at d v r) r unseen due Reads
   goes_at m n d p v r unseen due Reads settles step goes is f truly = record {
     settled = settles;
     runs = inr (inr (record { not_over = goes; feeds = subst (λ (s : Step). Feeds n d p v.job s (λ os. unseen (settles ++ os))) (sym is) f }));
-    truly = λ placed good smooth reads.
-        let t = truly placed good smooth reads in
-        (t.0 ∙ ap (λ (s : Step). settles ++ to_come n d v.job s) (sym is), subst (λ (s : Step). ReadsNamed n d v.job s.begun s.doing) (sym is) t.1);
+    truly = λ placed good reads.
+        let t = truly placed good reads in
+        (subst (λ (s : Step). Settles r due settles (to_come n d v.job s)) (sym is) t.0, subst (λ (s : Step). ReadsNamed n d v.job s.begun s.doing) (sym is) t.1);
   }
 
   -- the call of a step is made
@@ -90,11 +90,16 @@ module _ (feeds_on : FeedsOn) (taken : JobsAreTaken) (true_to : OutcomesAreTrue)
       filed : (o : Option Step) → told v.job v.step (lent_at n d) r ≡ o → filed_step v.standing v (lent_at n d) r ≡ or_again o v.step
       filed o is = ap (λ (s : Standing). filed_step s v (lent_at n d) r) asked ∙ ap (λ (x : Option Step). or_again x v.step) is
 
+      which : (next : Step) → SettlesTruly m d v.job v.step r n next ⊎ SettlesByRefusal m d v.job v.step r n next
+          → Settles r (to_come m d v.job v.step) (settled v.job v.step (lent_at n d) r) (to_come n d v.job next) × ReadsNamed n d v.job next.begun next.doing
+      which next (inl t) = (inl t.same, t.reads)
+      which next (inr t) = (inr (record { why = t.why; answer = t.answer; rough = t.rough; instead = t.instead; was = t.was; is = t.settles }), t.reads)
+
       by : (o : Option Step) → told v.job v.step (lent_at n d) r ≡ o → ComesTo m d p v.job v.step unseen r n o → WentFrom m n d p v r unseen v.job v.step
       by None is same = inl (goes_at m n d p v r unseen _ _ [] v.step goes (filed None is) (subst (λ (s : State). Feeds s d p v.job v.step unseen) (sym same) f)
-          (λ placed good smooth reads. (ap (λ (s : State). to_come s d v.job v.step) (sym same), subst (λ (s : State). ReadsNamed s d v.job v.step.begun v.step.doing) (sym same) reads)))
+          (λ placed good reads. (inl (ap (λ (s : State). to_come s d v.job v.step) (sym same)), subst (λ (s : State). ReadsNamed s d v.job v.step.begun v.step.doing) (sym same) reads)))
       by (Some next) is (inl g) = inl (goes_at m n d p v r unseen _ _ (settled v.job v.step (lent_at n d) r) next goes (filed (Some next) is) g
-          (λ placed good smooth reads. let t : SettlesTruly m d v.job v.step r n next = true_to m n d p v.job v.step next r unseen order placed good f reads step smooth is in (t.same, t.reads)))
+          (λ placed good reads. which next (true_to m n d p v.job v.step next r unseen order placed good f reads step is)))
       by (Some next) is (inr (inl over)) = inr (inl (record {
         step = next;
         ends = over;
@@ -124,7 +129,7 @@ module _ (feeds_on : FeedsOn) (taken : JobsAreTaken) (true_to : OutcomesAreTrue)
         again : t ≡ turn.Yield → v ≡ record w { standing = standing.Asks } → Feeds m d p w.job w.step unseen → WentFrom m n d p v r unseen w.job w.step
         again yields v_is g = subst (λ (y : Worker). WentFrom m n d p y r unseen w.job w.step) (sym v_is)
             (inl (goes_at m n d p (record w { standing = standing.Asks }) r unseen _ _ [] w.step refl refl (subst (λ (x : State). Feeds x d p w.job w.step unseen) (sym (yielded yields)) g)
-            (λ placed good smooth reads. (ap (λ (x : State). to_come x d w.job w.step) (sym (yielded yields)), subst (λ (x : State). ReadsNamed x d w.job w.step.begun w.step.doing) (sym (yielded yields)) reads))))
+            (λ placed good reads. (inl (ap (λ (x : State). to_come x d w.job w.step) (sym (yielded yields))), subst (λ (x : State). ReadsNamed x d w.job w.step.begun w.step.doing) (sym (yielded yields)) reads))))
 
         on : (o : Option Step) → Feeds m d p w.job (or_again o w.step) unseen → goes_on w o t v → WentFrom m n d p v r unseen w.job (or_again o w.step)
         on (Some next) g did = makes (record w { step = next }) unseen is did.0 did.1 g
@@ -169,7 +174,7 @@ module _ (feeds_on : FeedsOn) (taken : JobsAreTaken) (true_to : OutcomesAreTrue)
           runs = inl (awaits_still m n p (seat_at d w last) (seat_at d x r) unseen unseen h free
               (subst (λ (s : State). HasJob s d h.jobs p h.fd h.query h.script h.lines) (sym same) h.has)
               (subst (λ (s : State). (os : List Outcome) → unseen os ≡ bytes_of (pipe_at s p).queue ++ output h.query h.lines os) (sym same) h.is));
-          truly = λ placed good smooth reads. (ap (λ (s : State). outcomes_in s d h.lines) (sym same), tt);
+          truly = λ placed good reads. (inl (ap (λ (s : State). outcomes_in s d h.lines) (sym same)), tt);
         }))
 
         begun : (a : ℕ) → Begins n d p job a (λ os. bytes_of (pipe_at m p).queue ++ output h.query h.lines os) → Begins n d p job a unseen
@@ -201,7 +206,7 @@ module _ (feeds_on : FeedsOn) (taken : JobsAreTaken) (true_to : OutcomesAreTrue)
             last = is;
             begins = begun a (taken m n d h.jobs p h.fd a h.query h.script h.lines h.has step takes);
           }));
-          truly = λ placed good smooth reads. (plain steps m n d job (call.IolRead 0 65536) (reply.Agg a) step good refl (λ q. refl) 0, tt);
+          truly = λ placed good reads. (inl (plain steps m n d job (call.IolRead 0 65536) (reply.Agg a) step good refl (λ q. refl) 0), tt);
         }))
         read x v_is asked at (reply.Refused y) is step same = still x v_is (free_of x (reply.Refused y) asked at refl is) same
         read x v_is asked at l is step did = absurd did
@@ -237,7 +242,7 @@ module _ (feeds_on : FeedsOn) (taken : JobsAreTaken) (true_to : OutcomesAreTrue)
   turn_feeds m n p seat next yields r unseen order job (inl starved) = inl (
       subst (λ (s : State). GoesOn m s p next r unseen (outcomes_to_come m p seat unseen job) (ReadsItsFile m p seat unseen job)) (sym starved.machine_stays)
       (subst (λ (x : Seat Worker). GoesOn m m p x r unseen (outcomes_to_come m p seat unseen job) (ReadsItsFile m p seat unseen job)) (sym starved.seat_stays)
-      (record { settled = []; runs = job; truly = λ placed good smooth reads. (refl, reads) })))
+      (record { settled = []; runs = job; truly = λ placed good reads. (inl refl, reads) })))
   turn_feeds m n p seat next yields r unseen order job (inr did) =
       let goes = subst (λ (l : ℕ → Option (List ℕ)). works seat.process seat.last l did.turn next.process) (lent-live m seat.by (has_life m p seat unseen job)) did.goes_on in
       let same : seat_at seat.by next.process r ≡ next = ap (λ (x : ℕ). seat_at x next.process r) (sym did.domain_stays) ∙ ap (λ (l : Reply). seat_at next.by next.process l) (sym did.told) in

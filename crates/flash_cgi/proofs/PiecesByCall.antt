@@ -1,4 +1,4 @@
--- What is collected is made: a text, and then the bytes of files set into it.
+-- Making the buffered output: a text, with the bytes of files inserted.
 use Rattle.std.proofs.Common.{inl, ◌≡◌, ◌≢◌, ℕ, ◌+◌, ◌-◌, ◌==◌, ◌⊎◌, List, [], ◌∷◌, ◌++◌, length, take, drop, ap, ◌∙◌, refl, sym, subst, arith, ◌≤◌, Option, Some, None, false, append_assoc}
 use Rattle.std.specs.Prelude.{not}
 use Rattle.iol_core.specs.Text.{Text, bytes_of}

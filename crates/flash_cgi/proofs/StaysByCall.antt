@@ -1,4 +1,4 @@
--- What stays over a worker's call: plain facts, and a call that leaves the pipe of its output.
+-- Invariants of a worker's call, and a call that does not change its output pipe.
 use Rattle.std.proofs.Common.{inl, inr, ◌≡◌, ◌≢◌, ℕ, zero, suc, ◌+◌, ◌-◌, ◌==◌, ◌⊎◌, List, [], ◌∷◌, ◌++◌, length, take, drop, ap, ◌∙◌, refl, sym, arith, Option, Some, None, true, false, Bool, append_assoc, length-drop}
 use Rattle.std.specs.Prelude.{unwrap_or, option_map, ◌||◌, ◌&&◌, not, slice_range, slice_get}
 use Rattle.std.specs.List.{list_any}

@@ -1,4 +1,4 @@
--- A worker's call leaves it with what it uses then, and nothing else.
+-- After its call a worker has exactly what it then uses.
 use Rattle.std.proofs.Common.{◌≡◌, ◌≢◌, ℕ, ◌+◌, ◌==◌, List, length, ap, ◌∙◌, refl, subst, arith, Option, Some, None, true, false, Bool, if◌then◌else◌}
 use Rattle.std.specs.Prelude.{◌||◌, ◌&&◌, not, is_some, nat_le, slice_get}
 use Rattle.std.proofs.lemmas.Bool.Decides.{nat_tests}

@@ -1,4 +1,4 @@
--- A worker's turn leaves it with what it uses then, and nothing else.
+-- After its turn a worker has exactly what it then uses.
 use Rattle.std.proofs.Common.{inl, inr, ◌≡◌, ℕ, ◌+◌, ◌==◌, List, [], ◌∷◌, length, ap, ◌∙◌, refl, sym, subst, Option, Some, None, true, false, Bool}
 use Rattle.std.specs.Prelude.{◌&&◌, ◌||◌, if◌then◌else◌, nat_le, not, slice_get}
 use Rattle.iol_core.specs.State.{State, descriptor, is_live}

@@ -1,4 +1,4 @@
--- What others do beside a worker: calls of other domains, and what happens outside.
+-- The effect of others on a worker: calls of other domains, and external events.
 use Rattle.std.specs.Prelude.{◌≡◌, ℕ, ◌==◌, Bool, true, false, List, ◌++◌, Some}
 use Rattle.iol_core.specs.Text.{bytes_of}
 use Rattle.iol_core.specs.State.{State, content, descriptor, pipe_at, file, may_read, is_live}
@@ -25,7 +25,7 @@ abbrev pub is_call_of : Event → (d : ℕ) → Bool
 is_call_of (event.Call by c) d = by == d
 is_call_of e d = false
 
--- what a domain has stays: its descriptors, its bytes, and what it may read
+-- the domain keeps its descriptors, its aggregates, and its access to pools
 pub record LeavesWorker (m : State) (d : ℕ) (n : State) : Type 0 where
   pub live : is_live m d ≡ true → is_live n d ≡ true
   pub fds : (fd : ℕ) (x : Descriptor) → descriptor m d fd ≡ Some x → descriptor n d fd ≡ Some x
@@ -34,16 +34,16 @@ pub record LeavesWorker (m : State) (d : ℕ) (n : State) : Type 0 where
   pub may : (fd number place : ℕ) (mode : Mode) → descriptor m d fd ≡ Some (on.File number place mode)
       → may_read m d (file m number).pool ≡ true → may_read n d (file n number).pool ≡ true
 
--- so do the outcomes of files for it, and the bytes of each file
+-- the outcomes of files for the domain, and the bytes of each file, are unchanged
 pub record LeavesFiles (m : State) (d : ℕ) (n : State) : Type 0 where
   pub outcomes : (name : List ℕ) → outcome_in n d name ≡ outcome_in m d name
   pub contents : (f : ℕ) → content n f ≡ content m f
 
--- and what waits in its job pipe, as long as it has not read it
+-- the bytes of its job pipe are unchanged until the worker reads them
 pub record LeavesJobs (m : State) (seat : Seat Worker) (n : State) : Type 0 where
   pub same : (j : ℕ) → IsFree m seat → descriptor m seat.by 0 ≡ Some (on.ReadEnd j) → pipe_at n j ≡ pipe_at m j
 
--- What went from the pipe of its output stood in front of what is unseen then. Where files are left, so are the outcomes to come.
+-- Bytes removed from its output pipe were the front of the pending output. If files are unchanged, the outcomes to come are unchanged.
 pub record Hears (m n : State) (p : ℕ) (seat : Seat Worker) (unseen : List Outcome → List ℕ)
     (was : RunsJob m p seat unseen) (heard : List ℕ) : Type 0 where
   pub after : List Outcome → List ℕ
@@ -52,19 +52,19 @@ pub record Hears (m n : State) (p : ℕ) (seat : Seat Worker) (unseen : List Out
   pub outcomes : LeavesFiles m seat.by n → outcomes_to_come n p seat after runs ≡ outcomes_to_come m p seat unseen was
   pub reads : LeavesFiles m seat.by n → ReadsItsFile m p seat unseen was → ReadsItsFile n p seat after runs
 
--- Others leave a worker with its job, but for what goes from the front of the pipe that its output goes to.
+-- Others leave a worker with its job unchanged, except for the front of its output pipe.
 pub record OthersHear : Type 0 where
   pub leave : (m n : State) (d : ℕ) (e : Event) (r : Reply) → ArePlaced m → StepsTo m e r n → is_call_of e d ≡ false
       → LeavesWorker m d n
-  -- a step that may change no file, and that admits nobody to a pool, leaves the files
+  -- a step that may not change a file, and that admits no domain to a pool, leaves the files unchanged
   pub files : (m n : State) (d : ℕ) (e : Event) (r : Reply) → AreFiles m → StepsTo m e r n → changes_files m e ≡ false
       → ((q : ℕ) → admits_to e q ≡ false) → LeavesFiles m d n
-  -- a pipe to which a worker writes loses bytes from its front alone
+  -- bytes of a pipe to which a worker writes are removed only from its front
   pub front : (m n : State) (d p fd : ℕ) (e : Event) (r : Reply) → IsOrderly m → StepsTo m e r n → is_call_of e d ≡ false
       → descriptor m d fd ≡ Some (on.WriteEnd p) → GoesFromFront m p n
   pub gone : (m n : State) (p : ℕ) (seat : Seat Worker) (unseen : List Outcome → List ℕ) → LeavesWorker m seat.by n
       → LeavesJobs m seat n → (was : RunsJob m p seat unseen) → (goes : GoesFromFront m p n)
       → Hears m n p seat unseen was (bytes_of goes.gone)
-  -- and what a read of it gives is what went
+  -- a read of the pipe returns the bytes removed
   pub heard : (m n : State) (p by count a : ℕ) (bytes : List ℕ) → TakesFromPipe m by p count a n → lent_at n by a ≡ Some bytes
       → (goes : GoesFromFront m p n) → bytes_of goes.gone ≡ bytes

@@ -1,11 +1,11 @@
--- What a worker has collected and not yet written: a text, and bytes of files that stand in it by reference.
+-- The buffered output of a worker: a text, with bytes of files by reference.
 use Rattle.std.specs.Prelude.{ℕ, ◌+◌, ◌==◌, ◌&&◌, ◌||◌, not, nat_le, nat_lt, Bool, List, [], ◌∷◌, ◌++◌, length, take, drop, Option, Some, None, is_none, is_some, unwrap_or, if◌then◌else◌}
 use Rattle.flash_cgi.specs.declared.line.Line.{Line}
 use Rattle.flash_cgi.specs.declared.piece.Place.{Place}
 use Rattle.flash_cgi.specs.declared.piece.TheConstants.{MIN_PIECE_BYTES, MAX_COLLECTED_BYTES}
 
--- A place says behind how many bytes of the text a file's bytes stand, and behind how many of the bytes of all collected files, which
--- are held one behind the other. The last place is the first of the list. A file that is too long comes behind all of it.
+-- A place has the number of bytes of text before a file's bytes, and the number of bytes of all buffered files before them. The
+-- last place is the first of the list. A file that is too long follows all other bytes.
 pub record Collected : Type 0 where
   pub text : List ℕ
   pub held : Option ℕ
@@ -19,9 +19,9 @@ nothing = record { text = []; held = None; files = 0; places = []; next = None }
 abbrev pub is_nothing : Collected → Bool
 is_nothing x = (length x.text == 0) && (length x.places == 0) && is_none x.held && is_none x.next
 
--- ---- what all of it is
+-- ---- the whole output
 
--- the text with the bytes of files in it, the last first
+-- the text with the bytes of files inserted, the last first
 abbrev pub interleaved : (text : List ℕ) → List Place → (files : List ℕ) → List ℕ
 interleaved text [] files = text
 interleaved text (p ∷ ps) files = interleaved (take p.at text) ps (take p.from files) ++ (drop p.from files ++ drop p.at text)
@@ -39,16 +39,16 @@ collected lent x = collected_in lent x.text x
 
 -- ---- when it is written
 
--- from so many bytes on
+-- it has at least the minimum number of bytes
 abbrev pub is_full : Collected → Bool
 is_full x = nat_le MIN_PIECE_BYTES (length x.text + x.files)
 
--- before this line, or after the last one: where it is full, a file waits behind it, or no line is left
+-- it is written before this line, or after the last one: it is full, a file follows it, or no line is left
 abbrev pub is_due : Collected → Option Line → Bool
 is_due x (Some l) = is_full x || is_some x.next
 is_due x None = not (is_nothing x)
 
--- ---- what is added, and taken
+-- ---- additions and removals
 
 abbrev pub with_text : Collected → List ℕ → Collected
 with_text x text = record x { text = x.text ++ text }
@@ -59,11 +59,11 @@ with_line x text = with_text x (text ++ 10 ∷ [])
 abbrev pub without_text : Collected → Collected
 without_text x = record x { text = [] }
 
--- where a file stands behind a text of so many bytes, which is not full
+-- the place of a file after a text of len bytes, which is not full
 abbrev pub place_behind : (len : ℕ) → ℕ
 place_behind len = if nat_lt len MAX_COLLECTED_BYTES then len else MAX_COLLECTED_BYTES
 
--- with so many bytes of a file behind so many of those before
+-- with len bytes of a file after the from bytes of earlier files
 abbrev pub with_file : Collected → (held from len : ℕ) → Collected
 with_file x held from len = record x {
   held = Some held;

@@ -1,5 +1,5 @@
--- The text that a script puts out, from its job to its end, beside whatever others do.
-use Rattle.std.specs.Prelude.{◌≡◌, ◌≢◌, ◌⊎◌, ℕ, Bool, true, false, List, [], ◌++◌, Some}
+-- The text that a script outputs, from its job to its end, whatever others do.
+use Rattle.std.specs.Prelude.{◌≡◌, ◌≢◌, ◌⊎◌, ℕ, Bool, true, false, List, [], ◌∷◌, ◌++◌, Some}
 use mathlib.Core.Logic.{inl, inr}
 use Rattle.iol_core.specs.Text.{bytes_of}
 use Rattle.iol_core.specs.State.{State, descriptor, pipe_at}
@@ -9,6 +9,7 @@ use Rattle.iol_core.specs.declared.descriptors.Descriptor.TheVariants as on
 use Rattle.iol_core.specs.declared.events.Event.{Event}
 use Rattle.iol_core.specs.declared.events.Reply.{Reply}
 use Rattle.iol_core.specs.declared.events.Reply.TheVariants as reply
+use Rattle.iol_core.specs.declared.refusals.Refusal.{Refusal}
 use Rattle.iol_laws.specs.Caller.{is_rough, ClosesWriteEnd}
 use Rattle.iol_laws.specs.Order.{IsOrderly}
 use Rattle.iol_laws.specs.Others.{GoesFromFront}
@@ -18,36 +19,73 @@ use Rattle.iol_proc.specs.declared.seat.Seat.{Seat}
 use Rattle.flash_cgi.specs.Beside.{is_call_of, LeavesFiles}
 use Rattle.flash_cgi.specs.Free.{HasNoJob}
 use Rattle.flash_cgi.specs.Outcomes.{AreFiles, outcomes_in}
-use Rattle.flash_cgi.specs.Output.{Outcome, output}
+use Rattle.flash_cgi.specs.Output.{Outcome, Failed, output}
 use Rattle.flash_cgi.specs.JobStart.{HasJob}
 use Rattle.flash_cgi.specs.Turns.{IsFree, RunsJob, outcomes_to_come, ReadsItsFile}
 use Rattle.flash_cgi.specs.Works.{worker_turns}
 use Rattle.flash_cgi.specs.declared.line.Line.{Line}
 use Rattle.flash_cgi.specs.declared.worker.Worker.{Worker}
 
--- The job pipe of the worker in domain d, which is not the pipe of its output: it reads it, and somebody may write to it.
+-- The output of a script: the bytes in the pipe before, followed by the output of its lines, with the outcome of each file that
+-- they name, past or to come.
+pub record Made : Type 0 where
+  pub before : List ℕ
+  pub query : List ℕ
+  pub lines : List Line
+  pub outcomes : List Outcome
+
+abbrev pub text_of : Made → List ℕ
+text_of made = made.before ++ output made.query made.lines made.outcomes
+
+-- One of its files gets the refusal of the reply, TooMany, NoRoom, Fault or Memory, instead of the outcome to come.
+pub record IsRefusedIn (r : Reply) (made after : Made) : Type 0 where
+  pub why : Refusal
+  pub answer : r ≡ reply.Refused why
+  pub rough : is_rough r ≡ true
+  pub past : List Outcome
+  pub instead : Outcome
+  pub rest : List Outcome
+  pub was : made.outcomes ≡ past ++ instead ∷ rest
+  pub is : after ≡ record made { outcomes = past ++ Failed why ∷ rest }
+
+-- So the output is another text: the part of the old one that was taken begins it, and the rest of this replaces the rest of
+-- that.
+pub record IsExchanged (r : Reply) (made after : Made) (text later : List ℕ) : Type 0 where
+  pub refused : IsRefusedIn r made after
+  pub begins : (front : List ℕ) → text_of made ≡ front ++ text → text_of after ≡ front ++ later
+
+-- the output and the rest of it are unchanged; or one of its files got the refusal
+abbrev pub Instead : Reply → (made after : Made) → (text later : List ℕ) → Type 0
+Instead r made after text later = ((after ≡ made) × (later ≡ text)) ⊎ IsExchanged r made after text later
+
+-- The job pipe of the worker in domain d: the worker has its read end, it has a writer, and it is not the output pipe.
 pub record HasDesk (m : State) (d j p : ℕ) : Type 0 where
   pub jobs : descriptor m d 0 ≡ Some (on.ReadEnd j)
   pub writing : (pipe_at m j).writing ≡ true
   pub apart : j ≢ p
 
--- what lies there is the job, until it is read, and then nothing
+-- the job pipe has the job until it is read, and is empty afterwards
 abbrev pub HasRest : (m : State) → (j p : ℕ) → (seat : Seat Worker) → (unseen : List Outcome → List ℕ) → RunsJob m p seat unseen
     → Type 0
 HasRest m j p seat unseen (inl h) = Unit {0}
 HasRest m j p seat unseen (inr h) = (pipe_at m j).queue ≡ []
 
--- This text is still to be had from pipe p: what is unseen of the output of the script that runs here, where each file that it is
--- still to read comes out as it would now. Its job came from pipe j.
-pub record IsDue (m : State) (j p : ℕ) (seat : Seat Worker) (text : List ℕ) : Type 0 where
+-- Of the output of the running script this text is due from pipe p, with the current contents of each file that is still to be
+-- read. The job came from pipe j.
+pub record IsDue (m : State) (j p : ℕ) (seat : Seat Worker) (made : Made) (text : List ℕ) : Type 0 where
   pub unseen : List Outcome → List ℕ
   pub runs : RunsJob m p seat unseen
   pub reads : ReadsItsFile m p seat unseen runs
   pub is : text ≡ unseen (outcomes_to_come m p seat unseen runs)
+  -- the outcomes of its files so far, and the part of its output that was taken
+  pub settled : List Outcome
+  pub gave : made.outcomes ≡ settled ++ outcomes_to_come m p seat unseen runs
+  pub past : List ℕ
+  pub all : (os : List Outcome) → made.before ++ output made.query made.lines (settled ++ os) ≡ past ++ unseen os
   pub desk : HasDesk m seat.by j p
   pub rest : HasRest m j p seat unseen runs
 
--- all of it lies in the pipe, whose write end is closed, and the worker is free for the next job, which is still to come
+-- all of the text is in the pipe, the write end is closed, and the worker is free for the next job, which has not arrived
 pub record IsWritten (m n : State) (j p : ℕ) (next : Seat Worker) (text : List ℕ) (r : Reply) : Type 0 where
   pub all : text ≡ bytes_of (pipe_at m p).queue
   pub done : r ≡ reply.Done
@@ -55,25 +93,35 @@ pub record IsWritten (m n : State) (j p : ℕ) (next : Seat Worker) (text : List
   pub free : IsFree n next
   pub none : HasNoJob n next.by j
 
--- what went from the pipe was the front of the text, and the rest is due
-pub record GaveFront (m n : State) (j p : ℕ) (seat : Seat Worker) (text : List ℕ) : Type 0 where
+-- the bytes removed from the pipe were the front of the text, and the rest is due
+pub record GaveFront (m n : State) (j p : ℕ) (seat : Seat Worker) (made : Made) (text : List ℕ) : Type 0 where
   pub goes : GoesFromFront m p n
   pub rest : List ℕ
   pub splits : text ≡ bytes_of goes.gone ++ rest
-  pub due : IsDue n j p seat rest
+  pub due : IsDue n j p seat made rest
 
--- With the files as they are a script puts out one text.
+-- A turn of its worker keeps a text due, the same or its replacement, until all is written, or the pipe has no reader.
+pub record Goes (m n : State) (j p : ℕ) (next : Seat Worker) (made : Made) (text : List ℕ) (r : Reply) : Type 0 where
+  pub after : Made
+  pub later : List ℕ
+  pub instead : Instead r made after text later
+  pub goes : IsDue n j p next after later ⊎ IsWritten m n j p next later r ⊎ ((pipe_at n p).reading ≡ false)
+
+-- If the files do not change, a script outputs one text, with a refusal instead of a file if its worker's call for this file
+-- got it.
 pub record ScriptsPutOut : Type 0 where
-  -- of a job that waits for a free worker: the output of its lines, behind what is in the pipe
+  -- for a job that waits for a free worker: the output of its lines, after the bytes already in the pipe
   pub begins : (m : State) (j p fd : ℕ) (seat : Seat Worker) (query script : List ℕ) (lines : List Line) → IsFree m seat
       → HasJob m seat.by j p fd query script lines → (pipe_at m j).writing ≡ true
-      → IsDue m j p seat (bytes_of (pipe_at m p).queue ++ output query lines (outcomes_in m seat.by lines))
-  -- a turn of the worker leaves it due, until all is written, or nobody reads; it is not rough
-  pub turns : (m n : State) (j p : ℕ) (seat next : Seat Worker) (yields : Bool) (r : Reply) (text : List ℕ)
-      → IsOrderly m → ArePlaced m
-      → AreFiles m → IsDue m j p seat text → SeatTurn copying worker_turns m seat yields r n next → is_rough r ≡ false
-      → IsDue n j p next text ⊎ IsWritten m n j p next text r ⊎ ((pipe_at n p).reading ≡ false)
-  -- calls of others and what happens outside take its front, as long as they leave the files, and the job pipe
-  pub others : (m n : State) (j p : ℕ) (seat : Seat Worker) (e : Event) (r : Reply) (text : List ℕ) → IsOrderly m → ArePlaced m
+      → IsDue m j p seat
+      (record { before = bytes_of (pipe_at m p).queue; query = query; lines = lines; outcomes = outcomes_in m seat.by lines })
+      (bytes_of (pipe_at m p).queue ++ output query lines (outcomes_in m seat.by lines))
+  -- a turn of the worker keeps it due, until all is written, or the pipe has no reader, whatever its reply
+  pub turns : (m n : State) (j p : ℕ) (seat next : Seat Worker) (yields : Bool) (r : Reply) (made : Made) (text : List ℕ)
+      → IsOrderly m → ArePlaced m → AreFiles m → IsDue m j p seat made text
+      → SeatTurn copying worker_turns m seat yields r n next → Goes m n j p next made text r
+  -- calls of others and external events take the front of the text, if they do not change the files and the job pipe
+  pub others : (m n : State) (j p : ℕ) (seat : Seat Worker) (e : Event) (r : Reply) (made : Made) (text : List ℕ) → IsOrderly m
+      → ArePlaced m
       → StepsTo m e r n → is_call_of e seat.by ≡ false → LeavesFiles m seat.by n → pipe_at n j ≡ pipe_at m j
-      → IsDue m j p seat text → GaveFront m n j p seat text
+      → IsDue m j p seat made text → GaveFront m n j p seat made text

@@ -1,4 +1,4 @@
--- What a running script is still to put out: what waits in its pipe, and what its worker is still to write.
+-- The pending output of a running script: the bytes in its pipe, followed by the bytes that its worker has still to write.
 use Rattle.std.specs.Prelude.{◌≡◌, ◌≢◌, ◌⊎◌, ℕ, Bool, true, false, List, [], ◌∷◌, ◌++◌, length, take, drop, Option, Some, None, slice_get}
 use Rattle.iol_core.specs.Text.{bytes_of}
 use Rattle.iol_core.specs.State.{State, descriptor, pipe_at, file, may_read, is_live}
@@ -23,21 +23,21 @@ use Rattle.flash_cgi.specs.declared.phase.Doing.{Doing}
 use Rattle.flash_cgi.specs.declared.phase.Doing.TheVariants as doing
 use Rattle.flash_cgi.specs.declared.phase.Step.{Step}
 
--- ---- what it is still to write
+-- ---- the bytes still to be written
 
 abbrev pub put_out : Purpose → Outcome → List ℕ
 put_out purpose.Cat o = cat_of o
 put_out purpose.Wc o = wc_of o
 
--- by the lines that it has not begun
+-- of the lines not yet begun
 abbrev pub rest_of : Task → (begun : ℕ) → List Outcome → List ℕ
 rest_of job begun os = output job.query (drop begun job.lines) os
 
--- what is collected, and then these
+-- the buffered output, followed by these
 abbrev pub then_rest : Task → (begun : ℕ) → (ℕ → Option (List ℕ)) → Collected → List Outcome → List ℕ
 then_rest job begun lent x os = collected lent x ++ rest_of job begun os
 
--- the text with these bytes at this place
+-- the text with these bytes inserted at this place
 abbrev pub set_in : (text : List ℕ) → (at : ℕ) → (bytes : List ℕ) → List ℕ
 set_in text at bytes = take at text ++ (bytes ++ drop at text)
 
@@ -65,16 +65,16 @@ still_doing job begun lent x (doing.Writes agg) os = bytes_at lent agg ++ then_r
 still_doing job begun lent x (doing.Cuts agg from to) os = drop from (bytes_at lent agg) ++ then_rest job begun lent x os
 still_doing job begun lent x (doing.Swaps agg rest) os = bytes_at lent rest ++ then_rest job begun lent x os
 
--- where the files that are still to be read have these outcomes
+-- the bytes still to be written, with these outcomes of the files still to be read
 abbrev pub still : Task → (ℕ → Option (List ℕ)) → Step → List Outcome → List ℕ
 still job lent step os = still_doing job step.begun lent step.piece step.doing os
 
--- ---- what it needs of the machine
+-- ---- requirements on the machine
 
 abbrev pub HasBytes : State → (d agg : ℕ) → Type 0
 HasBytes m d agg = (bytes : List ℕ) × (lent_at m d agg ≡ Some bytes)
 
--- a file that it may read is open under this number
+-- a file that the domain may read is open under this number
 pub record IsOpenFile (m : State) (d fd : ℕ) : Type 0 where
   pub number : ℕ
   pub place : ℕ
@@ -104,8 +104,8 @@ Needs m d (doing.Writes agg) = HasBytes m d agg
 Needs m d (doing.Cuts agg from to) = (bytes : List ℕ) × (lent_at m d agg ≡ Some bytes) × (to ≡ length bytes)
 Needs m d (doing.Swaps agg rest) = HasBytes m d rest × (agg ≢ rest)
 
--- The worker in domain d runs a job whose output goes to pipe p: whatever the outcomes to come, what is unseen is what waits
--- there, and then what is still to be written.
+-- The worker in domain d runs a job with its output to pipe p: for all outcomes to come, the pending output is the bytes in the
+-- pipe, followed by the bytes still to be written.
 pub record Feeds (m : State) (d p : ℕ) (job : Task) (step : Step) (unseen : List Outcome → List ℕ) : Type 0 where
   pub live : is_live m d ≡ true
   pub open_on : descriptor m d job.fd ≡ Some (on.WriteEnd p)
@@ -128,7 +128,7 @@ abbrev pub settled_read : (ℕ → Option (List ℕ)) → Reply → List Outcome
 settled_read lent (reply.Agg agg) = Found (bytes_at lent agg) ∷ []
 settled_read lent r = failed r
 
--- to make what is collected settles none
+-- making an aggregate of the buffered text settles none
 abbrev pub settled_begun : (due : Bool) → Option Line → Reply → List Outcome
 settled_begun true l r = []
 settled_begun false l r = settled_open l r
@@ -138,7 +138,7 @@ settled_doing job x begun lent doing.Runs r = settled_begun (due_now job x begun
 settled_doing job x begun lent (doing.Reads file p) r = settled_read lent r
 settled_doing job x begun lent d r = []
 
--- the outcome that a reply settles, if it does
+-- the outcome that a reply settles, if any
 abbrev pub settled : Task → Step → (ℕ → Option (List ℕ)) → Reply → List Outcome
 settled job step lent r = settled_doing job step.piece step.begun lent step.doing r
 
@@ -149,7 +149,7 @@ pub record Ends (m : State) (d p : ℕ) (unseen : List Outcome → List ℕ) (r 
   pub done : r ≡ reply.Done
   pub closes : ClosesWriteEnd m p r n
 
--- from m, by the reply r, to n
+-- the result of the reply r, from m to n
 abbrev pub ComesTo : (m : State) → (d p : ℕ) → Task → Step → (List Outcome → List ℕ) → (r : Reply) → (n : State)
     → Option Step → Type 0
 ComesTo m d p job step unseen r n None = n ≡ m
@@ -160,7 +160,7 @@ ComesTo m d p job step unseen r n (Some next) =
 abbrev pub Comes : (m : State) → (d p : ℕ) → Task → Step → (List Outcome → List ℕ) → (r : Reply) → (n : State) → Type 0
 Comes m d p job step unseen r n = ComesTo m d p job step unseen r n (told job step (lent_at n d) r)
 
--- A worker's call leaves what is unseen, until all of it is written or nobody reads it any more.
+-- A worker's call preserves the pending output, until all of it is written or the pipe has no reader.
 abbrev pub FeedsOn : Type 0
 FeedsOn = (m n : State) (d p : ℕ) (job : Task) (step : Step) (r : Reply) (unseen : List Outcome → List ℕ) → IsOrderly m
     → Feeds m d p job step unseen → StepsTo m (event.Call d (call_at job step)) r n → Comes m d p job step unseen r n

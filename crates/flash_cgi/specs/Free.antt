@@ -1,4 +1,4 @@
--- A worker without a job: it stays free until one comes, and is free again after what is none.
+-- A worker without a job: it stays free until a job arrives, and is free again after a text that is no job.
 use Rattle.std.specs.Prelude.{◌≡◌, ◌⊎◌, ℕ, Bool, true, List, [], ◌∷◌, Some, None}
 use Rattle.iol_core.specs.State.{State, descriptor, pipe_at, is_live}
 use Rattle.iol_core.specs.declared.descriptors.Descriptor.TheVariants as on
@@ -16,7 +16,7 @@ use Rattle.flash_cgi.specs.declared.phase.Doing.TheVariants as doing
 use Rattle.flash_cgi.specs.declared.phase.Standing.TheVariants as standing
 use Rattle.flash_cgi.specs.declared.worker.Worker.{Worker}
 
--- nothing lies in its job pipe, and something may come
+-- its job pipe is empty and has a writer
 pub record HasNoJob (m : State) (d j : ℕ) : Type 0 where
   pub live : is_live m d ≡ true
   pub jobs : descriptor m d 0 ≡ Some (on.ReadEnd j)
@@ -26,12 +26,13 @@ pub record HasNoJob (m : State) (d j : ℕ) : Type 0 where
 pub record WorkersStayFree : Type 0 where
   -- a new one is free
   pub new : (m : State) (d : ℕ) (w : Worker) → IsNew w → IsFree m (seat_of (d, w))
-  -- its turn changes nothing while there is no job, and leaves it free
+  -- its turn changes nothing while there is no job, and it stays free
   pub turns : (m n : State) (j : ℕ) (seat next : Seat Worker) (yields : Bool) (r : Reply) → IsOrderly m → HasNoJob m seat.by j
       → IsFree m seat → SeatTurn copying worker_turns m seat yields r n next → (n ≡ m) × IsFree n next
-  -- so does all that others do
+  -- the same for events of others
   pub others : (m n : State) (seat : Seat Worker) → IsFree m seat → IsFree n seat
-  -- one that was given what is no job is free after its turn, or found no memory and will be told so again
+  -- a worker that has read a text that is no job is free after its turn, or ran out of memory and will be called again with the
+  -- same reply
   pub skips : (m n : State) (agg b : ℕ) (bs : List ℕ) (seat next : Seat Worker) (yields : Bool) (r : Reply)
       → is_live m seat.by ≡ true
       → seat.process.step.doing ≡ doing.Waits → seat.process.standing ≡ standing.Asked → seat.last ≡ reply.Agg agg

@@ -1,4 +1,4 @@
--- A worker that has a job where all is idle: the pipe of its output is full.
+-- A worker that has a job when all are idle: its output pipe is full.
 use Rattle.std.specs.Prelude.{ℕ, ◌≤◌, List, length}
 use Rattle.iol_core.specs.Access.{HasAccess}
 use Rattle.iol_core.specs.State.{State, pipe_at}
@@ -10,7 +10,7 @@ use Rattle.flash_cgi.specs.Turns.{RunsJob}
 use Rattle.flash_cgi.specs.Standstill.{HasWaited}
 use Rattle.flash_cgi.specs.declared.worker.Worker.{Worker}
 
--- It waits for nothing else: a job that it has not read would be read, and of its calls a write to the pipe alone may block.
+-- Nothing else can block it: an unread job can be read, and of its calls only a write to the pipe may block.
 abbrev pub RunningIsFull : Type 0
 RunningIsFull = (m : State) (p : ℕ) (seat : Seat Worker) (unseen : List Outcome → List ℕ) → IsOrderly m → HasAccess m
     → RunsJob m p seat unseen → HasWaited 2 seat.by seat.process seat.last m → MAX_QUEUE_BYTES ≤ length (pipe_at m p).queue

@@ -1,4 +1,4 @@
--- A worker takes its job: from the moment at which the job waits in its pipe.
+-- A worker takes its job, from the time when the job waits in its pipe.
 use Rattle.std.specs.Prelude.{◌≡◌, ◌≢◌, ℕ, ◌<◌, ◌≤◌, ◌^◌, true, List, ◌++◌, length, Some}
 use Rattle.std.specs.List.{AllByRecursion}
 use Rattle.iol_core.specs.Text.{bytes_of}
@@ -17,7 +17,7 @@ use Rattle.flash_cgi.specs.Feeds.{Feeds}
 use Rattle.flash_cgi.specs.declared.line.Line.{Line}
 use Rattle.flash_cgi.specs.declared.phase.Doing.TheVariants as doing
 
--- A job waits for the worker in domain d, in pipe j: the text of this script with this query, whose output goes to pipe p.
+-- A job waits in pipe j for the worker in domain d: the text of this script with this query, with its output to pipe p.
 pub record HasJob (m : State) (d j p fd : ℕ) (query script : List ℕ) (lines : List Line) : Type 0 where
   pub live : is_live m d ≡ true
   pub jobs : descriptor m d 0 ≡ Some (on.ReadEnd j)
@@ -29,14 +29,14 @@ pub record HasJob (m : State) (d j p fd : ℕ) (query script : List ℕ) (lines 
   pub is_script : script_of script ≡ Some lines
   pub fds : fd < 10 ^ 9
 
--- The worker has read it as this aggregate: it is going to run this job, and nothing of its output was written yet.
+-- The worker has read the job as this aggregate: it will run this job, and none of its output is written yet.
 pub record Begins (m : State) (d p : ℕ) (job : Task) (agg : ℕ) (unseen : List Outcome → List ℕ) : Type 0 where
   pub bytes : List ℕ
   pub lends : lent_at m d agg ≡ Some bytes
   pub is_job : job_of bytes ≡ Some job
   pub feeds : Feeds m d p job (record { doing = doing.Drops agg; begun = 0; piece = nothing }) unseen
 
--- The read of a job that waits gives just this job, and all of the output of its lines is unseen yet.
+-- Reading a waiting job gives exactly this job, and all of the output of its lines is pending.
 abbrev pub JobsAreTaken : Type 0
 JobsAreTaken = (m n : State) (d j p fd agg : ℕ) (query script : List ℕ) (lines : List Line)
     → HasJob m d j p fd query script lines

@@ -1,4 +1,4 @@
--- Laws of scripts and workers: those of texts stand here, the others in the files of their subjects.
+-- Laws of scripts and workers: this file has those of texts, other files those of their subjects.
 use Rattle.std.specs.Prelude.{◌≡◌, ℕ, ◌<◌, ◌^◌, List, length}
 use Rattle.flash_cgi.specs.Script.{script_of}
 use Rattle.flash_cgi.specs.Job.{job_text, job_of, task_of}
@@ -18,7 +18,7 @@ pub use Rattle.flash_cgi.specs.JobStart.{JobsAreTaken}
 pub use Rattle.flash_cgi.specs.Turns.{TurnsFeed}
 pub use Rattle.flash_cgi.specs.Standstill.{WaitingIsEmpty}
 
--- a job's text is read as that job
+-- parsing the text of a job gives that job
 abbrev pub JobsAreRead : Type 0
 JobsAreRead = (fd : ℕ) (query script : List ℕ) → fd < 10 ^ 9 → length query < 10 ^ 9 → length script < 10 ^ 9
     → job_of (job_text fd query script) ≡ task_of fd query (script_of script)

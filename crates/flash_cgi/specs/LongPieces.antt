@@ -1,11 +1,11 @@
--- How long what a worker writes is: it has at least so many bytes, but for what it writes last.
+-- The minimum length of a worker's writes: all except the last have at least this length.
 use Rattle.std.specs.Prelude.{◌≡◌, ◌≢◌, ◌⊎◌, ℕ, ◌≤◌, true, List, [], ◌∷◌, ◌++◌, length, Option, Some, None}
 use Rattle.flash_cgi.specs.Collecting.{Collected, bytes_of_one, collected, is_due, nothing, with_file, with_text}
 use Rattle.flash_cgi.specs.declared.line.Line.{Line}
 use Rattle.flash_cgi.specs.declared.piece.Place.{Place}
 use Rattle.flash_cgi.specs.declared.piece.TheConstants.{MIN_PIECE_BYTES}
 
--- so many bytes have places: the last stand behind those of the places before
+-- the places cover this many bytes: the last are after those of the earlier places
 abbrev pub HavePlaces : List Place → (files : ℕ) → Type 0
 HavePlaces [] files = files ≡ 0
 HavePlaces (p ∷ ps) files = (p.from ≤ files) × HavePlaces ps p.from
@@ -16,12 +16,12 @@ pub record IsCounted (lent : ℕ → Option (List ℕ)) (x : Collected) : Type 0
   pub places : HavePlaces x.places x.files
 
 pub record PiecesAreLong : Type 0 where
-  -- so they are as texts and files are collected: a file's bytes are held behind those of the files before
+  -- the invariant is preserved as texts and files are buffered: a file's bytes are appended to those of earlier files
   pub starts : (lent : ℕ → Option (List ℕ)) → IsCounted lent nothing
   pub texts : (lent : ℕ → Option (List ℕ)) (x : Collected) (text : List ℕ) → IsCounted lent x → IsCounted lent (with_text x text)
   pub files : (lent now : ℕ → Option (List ℕ)) (x : Collected) (a : ℕ) (bytes : List ℕ) → IsCounted lent x
       → now a ≡ Some (bytes_of_one lent x.held ++ bytes)
       → IsCounted now (with_file x a (length (bytes_of_one lent x.held)) (length bytes))
-  -- what is written before a line is long, or a file of its own comes behind it
+  -- a write before a line is long, or a file of its own follows it
   pub long : (lent : ℕ → Option (List ℕ)) (x : Collected) (l : Line) → IsCounted lent x → is_due x (Some l) ≡ true
       → (MIN_PIECE_BYTES ≤ length (collected lent x)) ⊎ (x.next ≢ None)

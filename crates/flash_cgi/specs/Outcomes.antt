@@ -1,5 +1,5 @@
--- What comes of the files that a script names, with the files and lists as they are.
-use Rattle.std.specs.Prelude.{◌≡◌, ℕ, ◌-◌, ◌≤◌, true, false, List, [], ◌∷◌, ◌++◌, length, drop, Option, Some, None, if◌then◌else◌}
+-- The outcomes of the files that a script names, with the current files and lists.
+use Rattle.std.specs.Prelude.{◌≡◌, ◌⊎◌, ℕ, ◌-◌, ◌≤◌, true, List, [], ◌∷◌, ◌++◌, length, drop, Option, Some, None, if◌then◌else◌}
 use Rattle.iol_core.specs.State.{State, descriptor, file, content, may_read, is_pool}
 use Rattle.iol_core.specs.Calls.Files.{file_called}
 use Rattle.iol_core.specs.NumberedLists.{is_numbered}
@@ -11,6 +11,8 @@ use Rattle.iol_core.specs.declared.descriptors.Mode.TheVariants.{Read}
 use Rattle.iol_core.specs.declared.refusals.Refusal.TheVariants.{NoFile, Denied}
 use Rattle.iol_core.specs.declared.events.Event.TheVariants as event
 use Rattle.iol_core.specs.declared.events.Reply.{Reply}
+use Rattle.iol_core.specs.declared.events.Reply.TheVariants as reply
+use Rattle.iol_core.specs.declared.refusals.Refusal.{Refusal}
 use Rattle.iol_laws.specs.Caller.{lent_at, is_rough}
 use Rattle.iol_laws.specs.Order.{IsOrderly}
 use Rattle.flash_cgi.specs.Job.{Task}
@@ -31,7 +33,7 @@ outcome_of m d None = Failed NoFile
 abbrev pub outcome_in : State → (d : ℕ) → (name : List ℕ) → Outcome
 outcome_in m d name = outcome_of m d (file_called m name)
 
--- of each line that names one
+-- the outcomes of the lines that name a file
 abbrev pub outcomes_in : State → (d : ℕ) → List Line → List Outcome
 outcomes_in m d [] = []
 outcomes_in m d (line.Emit text ∷ lines) = outcomes_in m d lines
@@ -40,7 +42,7 @@ outcomes_in m d (line.Cat name ∷ lines) = outcome_in m d name ∷ outcomes_in 
 outcomes_in m d (line.Wc name ∷ lines) = outcome_in m d name ∷ outcomes_in m d lines
 outcomes_in m d (line.Pause ∷ lines) = outcomes_in m d lines
 
--- of the lines whose files are still to be opened, and of the file that is being read
+-- the outcomes of the lines with files still to be opened, and of the file that is being read
 abbrev pub to_come_doing : State → (d : ℕ) → Task → (begun : ℕ) → Doing → List Outcome
 to_come_doing m d job begun (doing.Reads file u) = outcomes_in m d (drop (begun - 1) job.lines)
 to_come_doing m d job begun doing.Waits = []
@@ -49,7 +51,7 @@ to_come_doing m d job begun x = outcomes_in m d (drop begun job.lines)
 abbrev pub to_come : State → (d : ℕ) → Task → Step → List Outcome
 to_come m d job step = to_come_doing m d job step.begun step.doing
 
--- the file that is being read is the one that the last line begun names, and it is read from its start
+-- the file that is being read is the one that the last begun line names, and it is read from its start
 pub record IsReading (m : State) (d : ℕ) (job : Task) (begun fd : ℕ) : Type 0 where
   pub number : ℕ
   pub open_on : descriptor m d fd ≡ Some (on.File number 0 Read)
@@ -59,19 +61,30 @@ abbrev pub ReadsNamed : State → (d : ℕ) → Task → (begun : ℕ) → Doing
 ReadsNamed m d job begun (doing.Reads file u) = IsReading m d job begun file
 ReadsNamed m d job begun x = Unit {0}
 
--- by a reply that is not rough, what is settled is what was to come
+-- the settled outcome is the one that was to come
 pub record SettlesTruly (m : State) (d : ℕ) (job : Task) (step : Step) (r : Reply) (n : State) (next : Step) : Type 0 where
   pub same : to_come m d job step ≡ settled job step (lent_at n d) r ++ to_come n d job next
   pub reads : ReadsNamed n d job next.begun next.doing
 
--- files are within their limit, and of pools that there are
+-- The call for a file was refused with TooMany, NoRoom, Fault or Memory: it settles this refusal instead of the file's outcome.
+pub record SettlesByRefusal (m : State) (d : ℕ) (job : Task) (step : Step) (r : Reply) (n : State) (next : Step) : Type 0 where
+  pub why : Refusal
+  pub answer : r ≡ reply.Refused why
+  pub rough : is_rough r ≡ true
+  pub instead : Outcome
+  pub was : to_come m d job step ≡ instead ∷ to_come n d job next
+  pub settles : settled job step (lent_at n d) r ≡ Failed why ∷ []
+  pub reads : ReadsNamed n d job next.begun next.doing
+
+-- files are within their limit, and have existing pools
 pub record AreFiles (m : State) : Type 0 where
   pub lengths : (f : ℕ) → is_numbered m.files f ≡ true → length (content m f) ≤ MAX_FILE_BYTES
   pub pooled : (name : List ℕ) (f : ℕ) → file_called m name ≡ Some f → is_pool m (file m f).pool ≡ true
 
--- The outcomes that a worker's calls settle are those of the files that its lines name.
+-- The outcomes that a worker's calls settle are those of the files that its lines name. If the call for a file is refused with
+-- TooMany, NoRoom, Fault or Memory, the outcome is this refusal.
 abbrev pub OutcomesAreTrue : Type 0
 OutcomesAreTrue = (m n : State) (d p : ℕ) (job : Task) (step next : Step) (r : Reply) (unseen : List Outcome → List ℕ)
     → IsOrderly m → ArePlaced m → AreFiles m → Feeds m d p job step unseen → ReadsNamed m d job step.begun step.doing
-    → StepsTo m (event.Call d (call_at job step)) r n → is_rough r ≡ false
-    → told job step (lent_at n d) r ≡ Some next → SettlesTruly m d job step r n next
+    → StepsTo m (event.Call d (call_at job step)) r n → told job step (lent_at n d) r ≡ Some next
+    → SettlesTruly m d job step r n next ⊎ SettlesByRefusal m d job step r n next

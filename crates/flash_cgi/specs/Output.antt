@@ -1,4 +1,4 @@
--- What a script puts out.
+-- The output of a script.
 use Rattle.std.specs.Prelude.{ℕ, List, [], ◌∷◌, ◌++◌}
 use Rattle.iol_core.specs.declared.refusals.Refusal.{Refusal}
 use Rattle.flash_cgi.specs.declared.line.Line.{Line}
@@ -6,7 +6,7 @@ use Rattle.flash_cgi.specs.declared.line.Line.TheVariants.{Emit, Query, Cat, Wc,
 use Rattle.flash_cgi.specs.declared.counts.Said.TheVariants.{Refused, Counted}
 use Rattle.flash_cgi.specs.WorkerSteps.{line_text, said_text, counts_of}
 
--- what comes of opening and reading a file: its bytes, or why it was refused
+-- the outcome of opening and reading a file: its bytes, or the refusal
 pub data Outcome : Type 0 where
   Found : (bytes : List ℕ) → Outcome
   Failed : (why : Refusal) → Outcome
@@ -19,13 +19,13 @@ abbrev pub wc_of : Outcome → List ℕ
 wc_of (Found bytes) = said_text (Counted (counts_of bytes))
 wc_of (Failed why) = said_text (Refused why)
 
--- what is put out by the first outcome, and what follows by the others
+-- the output of the first outcome, followed by that of the others
 abbrev pub by_first : (Outcome → List ℕ) → (List Outcome → List ℕ) → List Outcome → List ℕ
 by_first text rest [] = []
 by_first text rest (o ∷ os) = text o ++ rest os
 
--- The output of a script with this query, where the files that its lines name have these outcomes, in order: one for each `cat`
--- or `wc`. Outcomes that are still to come have no output yet, nor has what follows them.
+-- The output of a script with this query, if the files that its lines name have these outcomes, in order: one for each `cat` or
+-- `wc`. A line with an outcome that is still to come, and all later lines, have no output yet.
 abbrev pub output : (query : List ℕ) → List Line → List Outcome → List ℕ
 output query [] os = []
 output query (Emit text ∷ lines) os = line_text text ++ output query lines os

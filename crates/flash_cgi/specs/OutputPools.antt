@@ -1,6 +1,6 @@
--- Where lies what a worker writes: in the pools of the files that it reads, and in its default pool.
+-- The pools of a worker's output: those of the files that it reads, and its default pool.
 --
--- Whoever may read these is never denied its output.
+-- A domain that may read these is never denied the output.
 use Rattle.std.specs.Prelude.{◌≡◌, ℕ, Bool, true, false, List, Option, Some, None}
 use Rattle.iol_core.specs.State.{State, descriptor, file, may_read, pipe_at, text}
 use Rattle.iol_core.specs.Calls.Files.{file_called}
@@ -25,7 +25,7 @@ use Rattle.flash_cgi.specs.declared.phase.Doing.{Doing}
 use Rattle.flash_cgi.specs.declared.phase.Doing.TheVariants as doing
 use Rattle.flash_cgi.specs.declared.worker.Worker.{Worker}
 
--- the pools are those of all files that the domain may read, and the one that a pause sets
+-- the pools include those of all files that the domain may read, and the one that a pause sets
 pub record HoldFiles (pools : ℕ → Bool) (m : State) (d : ℕ) : Type 0 where
   pub files : (name : List ℕ) (f : ℕ) → file_called m name ≡ Some f → may_read m d (file m f).pool ≡ true
       → pools (file m f).pool ≡ true
@@ -35,11 +35,11 @@ abbrev pub OneLies : (pools : ℕ → Bool) → State → (d : ℕ) → Option �
 OneLies pools m d None = Unit {0}
 OneLies pools m d (Some a) = lie_in pools (text m d a) ≡ true
 
--- what it has collected lies in them
+-- its buffered output is in these pools
 abbrev pub PieceLies : (pools : ℕ → Bool) → State → (d : ℕ) → Collected → Type 0
 PieceLies pools m d x = OneLies pools m d x.held × OneLies pools m d x.next
 
--- so does the file that it reads, or what it is to write
+-- the same for the file that it reads, and the bytes that it writes
 abbrev pub PhaseLies : (pools : ℕ → Bool) → State → (d : ℕ) → Doing → Type 0
 PhaseLies pools m d (doing.Reads fd u) =
     (f at : ℕ) (mode : Mode) → descriptor m d fd ≡ Some (on.File f at mode) → pools (file m f).pool ≡ true
@@ -55,22 +55,22 @@ PhaseLies pools m d (doing.Cuts a from to) = lie_in pools (text m d a) ≡ true
 PhaseLies pools m d (doing.Swaps a rest) = lie_in pools (text m d rest) ≡ true
 PhaseLies pools m d x = Unit {0}
 
--- while it has a job
+-- for a worker with a job
 abbrev pub LiesIn : (pools : ℕ → Bool) → State → (d : ℕ) → Collected → Doing → Type 0
 LiesIn pools m d x doing.Waits = Unit {0}
 LiesIn pools m d x y = PieceLies pools m d x × PhaseLies pools m d y
 
--- so does what it wrote to pipe p, and what it will make
+-- the bytes that it wrote to pipe p, and those that it will make, are in these pools
 pub record IsShown (pools : ℕ → Bool) (m : State) (p : ℕ) (seat : Seat Worker) : Type 0 where
   pub default : pools (default_pool m seat.by) ≡ true
   pub output : lie_in pools (pipe_at m p).queue ≡ true
   pub lies : LiesIn pools m seat.by (step_of m seat).piece (step_of m seat).doing
 
 pub record OutputsAreShown : Type 0 where
-  -- of a worker that is free, and a pipe to which nothing else was written
+  -- for a worker that is free, and a pipe to which no other bytes were written
   pub free : (pools : ℕ → Bool) (m : State) (p : ℕ) (seat : Seat Worker) → IsFree m seat
       → pools (default_pool m seat.by) ≡ true → lie_in pools (pipe_at m p).queue ≡ true → IsShown pools m p seat
-  -- its turns leave it so, and so does all that others do
+  -- its turns and events of others preserve this
   pub turns : (pools : ℕ → Bool) (m n : State) (p : ℕ) (seat next : Seat Worker) (yields : Bool) (r : Reply)
       (unseen : List Outcome → List ℕ) → IsOrderly m → HoldFiles pools m seat.by → RunsJob m p seat unseen
       → IsShown pools m p seat → SeatTurn copying worker_turns m seat yields r n next → IsShown pools n p next

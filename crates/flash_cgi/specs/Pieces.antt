@@ -1,4 +1,4 @@
--- What holds of what a worker has collected, where its domain lends bytes under numbers.
+-- Invariants of the buffered output of a worker, given the bytes of its domain's aggregates by number.
 use Rattle.std.specs.Prelude.{◌≡◌, ◌≢◌, ℕ, ◌≤◌, List, [], ◌∷◌, length, drop, Option, Some, None}
 use Rattle.flash_cgi.specs.Collecting.{Collected, but_last, bytes_of_one, without_last}
 use Rattle.flash_cgi.specs.declared.phase.Doing.{Doing}
@@ -6,7 +6,7 @@ use Rattle.flash_cgi.specs.declared.phase.Doing.TheVariants as doing
 use Rattle.flash_cgi.specs.declared.piece.Place.{Place}
 use Rattle.flash_cgi.specs.WorkerSteps.{bytes_at}
 
--- places stand in their order, within so many bytes of text
+-- places are in order, within a text of this length
 abbrev pub AreWithin : ℕ → List Place → Type 0
 AreWithin n [] = Unit {0}
 AreWithin n (p ∷ ps) = (p.at ≤ n) × AreWithin p.at ps
@@ -14,7 +14,7 @@ AreWithin n (p ∷ ps) = (p.at ≤ n) × AreWithin p.at ps
 abbrev pub Lends : (ℕ → Option (List ℕ)) → (a : ℕ) → Type 0
 Lends lent a = (bytes : List ℕ) × (lent a ≡ Some bytes)
 
--- the bytes of files are there, where files have places
+-- the bytes of files exist, if files have places
 abbrev pub LendsFiles : (ℕ → Option (List ℕ)) → (held : Option ℕ) → List Place → Type 0
 LendsFiles lent None ps = ps ≡ []
 LendsFiles lent (Some held) ps = Lends lent held
@@ -23,25 +23,25 @@ abbrev pub LendsNext : (ℕ → Option (List ℕ)) → (held next : Option ℕ) 
 LendsNext lent held None = Unit {0}
 LendsNext lent held (Some next) = Lends lent next × (held ≢ Some next)
 
--- what is collected is there, with its places within a text of so many bytes
+-- the buffered output exists, with its places within a text of len bytes
 pub record HasPiece (lent : ℕ → Option (List ℕ)) (len : ℕ) (x : Collected) : Type 0 where
   pub files : LendsFiles lent x.held x.places
   pub within : AreWithin len x.places
   pub next : LendsNext lent x.held x.next
 
--- this aggregate is none of what is collected
+-- this aggregate is not part of the buffered output
 abbrev pub IsApart : Collected → (a : ℕ) → Type 0
 IsApart x a = (x.held ≢ Some a) × (x.next ≢ Some a)
 
--- ---- phase by phase
+-- ---- by phase
 
--- a file may be collected: no file waits behind what is, and the place behind its text is known
+-- a file may be buffered: no long file waits after it, and the place after its text is defined
 pub record Gathers (lent : ℕ → Option (List ℕ)) (x : Collected) : Type 0 where
   pub piece : HasPiece lent (length x.text) x
   pub none_next : x.next ≡ None
   pub short : length x.text ≤ 4096
 
--- of what was collected nothing is left but the file that is too long
+-- only the file that is too long is left of the buffered output
 pub record IsRest (lent : ℕ → Option (List ℕ)) (x : Collected) : Type 0 where
   pub piece : HasPiece lent (length x.text) x
   pub no_text : x.text ≡ []
@@ -53,7 +53,7 @@ pub record Joins (lent : ℕ → Option (List ℕ)) (x : Collected) (held agg fr
   pub lends : Lends lent agg
   pub from_is : from ≡ length (bytes_of_one lent x.held)
 
--- this text is made of it, and the bytes of the last place are to be set into it
+-- this aggregate is made of the text, and the bytes of the last place are to be inserted
 pub record Cuts (lent : ℕ → Option (List ℕ)) (x : Collected) (held agg from : ℕ) : Type 0 where
   pub place : Place
   pub lends : Lends lent agg

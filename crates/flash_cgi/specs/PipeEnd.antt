@@ -1,4 +1,4 @@
--- What a worker does once its job pipe has ended.
+-- The behavior of a worker after the end of its job pipe.
 use Rattle.std.specs.Prelude.{◌≡◌, ℕ, true, false, List, [], Option, Some}
 use Rattle.iol_core.specs.State.{State, descriptor, pipe_at}
 use Rattle.iol_core.specs.Run.{StepsTo}
@@ -27,16 +27,16 @@ pub record ReadNothing (w : Worker) (last : Reply) (lent : ℕ → Option (List 
   pub nothing : bytes_at lent agg ≡ []
 
 pub record WorkersStop : Type 0 where
-  -- a read that gives no bytes tells that the job pipe is empty and that nobody writes to it any more
+  -- a read of no bytes means that the job pipe is empty and has no writer any more
   pub tells : (m n : State) (d j a : ℕ) → IsOrderly m → descriptor m d 0 ≡ Some (on.ReadEnd j)
       → StepsTo m (event.Call d (call.IolRead 0 65536)) (reply.Agg a) n → bytes_at (lent_at n d) a ≡ []
       → ((pipe_at m j).queue ≡ []) × ((pipe_at m j).writing ≡ false)
-  -- the worker that is told so gives the aggregate up, and is over
+  -- a worker with such a reply drops the aggregate, and is over
   pub ends : (w v : Worker) (last : Reply) (lent : ℕ → Option (List ℕ)) (t : Turn) → (is : ReadNothing w last lent)
       → works w last lent t v → (t ≡ turn.Make (call.AggDrop is.agg)) × (v.standing ≡ standing.Over)
-  -- no other is
+  -- no other worker becomes over
   pub only : (w v : Worker) (last : Reply) (lent : ℕ → Option (List ℕ)) (t : Turn) → is_over w.standing ≡ false
       → works w last lent t v → is_over v.standing ≡ true → ReadNothing w last lent
-  -- and from then on it yields, and stays as it is
+  -- from then on it yields, and does not change
   pub stops : (w v : Worker) (last : Reply) (lent : ℕ → Option (List ℕ)) (t : Turn) → is_over w.standing ≡ true
       → works w last lent t v → (t ≡ turn.Yield) × (v ≡ w)

@@ -1,3 +1,4 @@
--- The words that contracts of other crates cite, passed on from one place. Declares nothing.
+-- Re-exports the definitions that contracts of other crates cite. It declares nothing.
 pub use Rattle.flash_cgi.specs.Standstill.{HasWaited}
 pub use Rattle.flash_cgi.specs.Works.{IsNew, worker_turns}
+pub use Rattle.flash_cgi.specs.Due.{Made}

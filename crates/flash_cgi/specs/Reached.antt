@@ -1,4 +1,4 @@
--- What the code says of a step: a phase, how many lines are begun, and what is collected, where that changes.
+-- The value of a step in the code: a phase, the number of lines begun, and the buffered output, if it changes.
 use Rattle.std.specs.Prelude.{ℕ, List, Option, Some, None, unwrap_or}
 use Rattle.iol_core.specs.declared.refusals.Refusal.TheVariants.{BrokenPipe}
 use Rattle.iol_core.specs.declared.events.Reply.{Reply}
@@ -15,7 +15,7 @@ use Rattle.flash_cgi.specs.declared.replies.After.{After}
 abbrev pub after_of : Doing → (begun : ℕ) → Option Collected → Option After
 after_of d begun x = Some (record { doing = d; begun = begun; piece = x })
 
--- the step that it is, from what was collected
+-- the step, given the previous buffered output
 abbrev pub reached_by : Collected → After → Step
 reached_by x a = step_with a.doing a.begun (unwrap_or a.piece x)
 
@@ -23,7 +23,7 @@ abbrev pub reached : Collected → Option After → Option Step
 reached x (Some a) = Some (reached_by x a)
 reached x None = None
 
--- those after which what is collected stays the same
+-- the steps after which the buffered output is unchanged
 abbrev pub read_after : (ℕ → Option (List ℕ)) → (file : ℕ) → Purpose → (begun : ℕ) → Reply → Option After
 read_after lent file p begun (reply.Agg agg) = after_of (got lent file agg p) begun None
 read_after lent file p begun (reply.Refused why) = after_of (doing.ShutsToSay file (said.Refused why)) begun None

@@ -1,4 +1,4 @@
--- When a worker is settled: the call that it is at would block, or it makes no more calls.
+-- The condition of an idle worker: its current call would block, or it makes no more calls.
 use Rattle.std.specs.Prelude.{◌≡◌, ℕ, zero, suc, Bool, true, false, [], Some}
 use Rattle.iol_core.specs.State.{State, descriptor, pipe_at}
 use Rattle.iol_core.specs.Run.{StepsTo}
@@ -16,18 +16,18 @@ use Rattle.flash_cgi.specs.declared.worker.Worker.{Worker}
 abbrev pub IsBlocked : State → (by : ℕ) → Worker → Type 0
 IsBlocked m by w = StepsTo m (event.Call by (call_at w.job w.step)) (reply.Refused WouldBlock) m
 
--- its job pipe has ended, or its call would block; if it made the call, it is told so
+-- its job pipe has ended, or its call would block; if it made the call, this is its last reply
 abbrev pub IsStuck : State → (by : ℕ) → Worker → (last : Reply) → Standing → Type 0
 IsStuck m by w last standing.Over = Unit {0}
 IsStuck m by w last standing.Asks = IsBlocked m by w
 IsStuck m by w last standing.Asked = IsBlocked m by w × (last ≡ reply.Refused WouldBlock)
 
--- the call that it made, if it made one, was refused in this state, and it is told so
+-- the call that it made, if any, was refused in this state, and this is its last reply
 abbrev pub IsRefused : State → (by : ℕ) → Worker → (last : Reply) → Standing → Type 0
 IsRefused m by w last standing.Asked = IsBlocked m by w × (last ≡ reply.Refused WouldBlock)
 IsRefused m by w last s = Unit {0}
 
--- what holds of it after so many yields
+-- the condition after n yields
 abbrev pub HasWaited : (n by : ℕ) → Worker → Reply → State → Type 0
 HasWaited zero by w last m = Unit {0}
 HasWaited (suc zero) by w last m = IsRefused m by w last w.standing
@@ -37,7 +37,7 @@ abbrev pub is_over : Standing → Bool
 is_over standing.Over = true
 is_over s = false
 
--- One that waits for a job where all is idle: nothing is in its job pipe, and something may come.
+-- If a worker waits for a job when all are idle, its job pipe is empty and has a writer.
 abbrev pub WaitingIsEmpty : Type 0
 WaitingIsEmpty = (m : State) (by j : ℕ) (w : Worker) (last : Reply) → HasWaited 2 by w last m
     → w.step.doing ≡ doing.Waits → is_over w.standing ≡ false → descriptor m by 0 ≡ Some (on.ReadEnd j)

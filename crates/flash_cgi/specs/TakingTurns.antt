@@ -1,4 +1,4 @@
--- How a worker takes a turn, or finds no memory: whichever part of its account it goes by.
+-- Results of the parts of a worker's turn: a turn, or out of memory.
 use Rattle.std.specs.Prelude.{◌≡◌, ◌<◌, ℕ, true, List, length, Option, IfOk, OnErr, Result}
 use Rattle.iol_core.specs.declared.events.Reply.{Reply}
 use Rattle.iol_proc.specs.Quiet.{IsQuiet}
@@ -9,8 +9,8 @@ use Rattle.flash_cgi.specs.Works.{asks, files, goes_on, takes}
 use Rattle.flash_cgi.specs.declared.phase.Step.{Step}
 use Rattle.flash_cgi.specs.declared.worker.Worker.{Worker}
 
--- A worker takes such a turn, which makes no call that is answered by a copy of bytes. Or it finds no memory, where it may want
--- some (`may_want`), and stays as it was.
+-- The worker takes such a turn, with no call that returns a copy of bytes. Or it runs out of memory, which `may_want` permits,
+-- and is unchanged.
 pub record TakesTurn {E : Type 0} (goes : Turn → Worker → Type 0) (may_want : Type 0) (old : Worker) (result : Result Turn E)
     (new : Worker) : Type 0 where
   pub turn : IfOk result (λ made. goes made new)
@@ -18,28 +18,28 @@ pub record TakesTurn {E : Type 0} (goes : Turn → Worker → Type 0) (may_want 
   pub err : OnErr result (new ≡ old)
   pub wants : OnErr result may_want
 
--- it makes the call that it is at
+-- it makes the call of its step
 abbrev pub MakesItsCall : {E : Type 0} → (old : Worker) → Result Turn E → (new : Worker) → Type 0
 MakesItsCall old result new = TakesTurn (asks old) (has_bytes old.job old.step ≡ true) old result new
 
--- it goes on with a step, or makes its call again
+-- it advances to a step, or makes its call again
 abbrev pub StepsOn : {E : Type 0} → (old : Worker) → Option Step → Result Turn E → (new : Worker) → Type 0
 StepsOn old next result new = TakesTurn (goes_on old next) (WantsOn old.job next) old result new
 
--- the step that it is at after the reply to its call; none where the call is to be made again
+-- the step after the reply to its call; none if the call is retried
 abbrev pub next_step : Worker → Reply → (ℕ → Option (List ℕ)) → Option Step
 next_step w last lent = told w.job w.step lent last
 
--- it goes on by the reply
+-- it continues by the reply
 abbrev pub GoesOnBy : {E : Type 0} → (old : Worker) → Reply → (ℕ → Option (List ℕ)) → Result Turn E → (new : Worker) → Type 0
 GoesOnBy old last lent result new =
     TakesTurn (goes_on old (next_step old last lent)) (WantsByReply old last lent) old result new
 
--- it takes this text, which came on its job pipe under this number
+-- it takes this text, read from its job pipe under this number
 abbrev pub TakesText : {E : Type 0} → (old : Worker) → (text : List ℕ) → (agg : ℕ) → Result Turn E → (new : Worker) → Type 0
 TakesText old text agg result new = TakesTurn (takes old text agg) (0 < length text) old result new
 
--- it files the reply to its call
+-- it processes the reply to its call
 abbrev pub FilesReply : {E : Type 0} → (old : Worker) → Reply → (ℕ → Option (List ℕ)) → Result Turn E → (new : Worker) → Type 0
 FilesReply old last lent result new =
     TakesTurn (files old old.step.doing last lent) (WantsToFile old old.step.doing last lent) old result new

@@ -1,18 +1,19 @@
--- A script over the turns of its worker: from the moment at which its job waits to the end of its output.
-use Rattle.std.specs.Prelude.{◌≡◌, ◌⊎◌, ℕ, Bool, true, false, List, ◌++◌, Option, Some, None}
+-- A script over the turns of its worker: from the time when its job waits to the end of its output.
+use Rattle.std.specs.Prelude.{◌≡◌, ◌⊎◌, ℕ, Bool, true, false, List, [], ◌∷◌, ◌++◌, Option, Some, None}
 use mathlib.Core.Logic.{inl, inr}
 use Rattle.iol_core.specs.Text.{bytes_of}
 use Rattle.iol_core.specs.State.{State, pipe_at}
 use Rattle.iol_core.specs.Positions.{ArePlaced}
 use Rattle.iol_core.specs.declared.events.Reply.{Reply}
 use Rattle.iol_core.specs.declared.events.Reply.TheVariants as reply
+use Rattle.iol_core.specs.declared.refusals.Refusal.{Refusal}
 use Rattle.iol_laws.specs.Caller.{lent_at, is_rough}
 use Rattle.iol_laws.specs.Order.{IsOrderly}
 use Rattle.iol_proc.specs.Turns.{SeatTurn}
 use Rattle.iol_proc.specs.World.{copying}
 use Rattle.iol_proc.specs.declared.seat.Seat.{Seat}
 use Rattle.flash_cgi.specs.Job.{Task}
-use Rattle.flash_cgi.specs.Output.{Outcome, output}
+use Rattle.flash_cgi.specs.Output.{Outcome, Failed, output}
 use Rattle.flash_cgi.specs.Outcomes.{AreFiles, outcomes_in, to_come, ReadsNamed}
 use Rattle.flash_cgi.specs.WorkerSteps.{told}
 use Rattle.flash_cgi.specs.Works.{worker_turns}
@@ -27,7 +28,7 @@ use Rattle.flash_cgi.specs.declared.phase.Standing.TheVariants as standing
 use Rattle.flash_cgi.specs.declared.phase.Step.{Step}
 use Rattle.flash_cgi.specs.declared.worker.Worker.{Worker}
 
--- what a worker is at once its last reply is filed: it goes on, or is to make its call again
+-- the step after its last reply is processed: a new step, or the same call again
 abbrev pub or_again : Option Step → Step → Step
 or_again (Some next) step = next
 or_again None step = step
@@ -44,13 +45,13 @@ abbrev pub is_given : Doing → Reply → Bool
 is_given doing.Waits (reply.Agg agg) = true
 is_given x r = false
 
--- The worker that sits here has no job: its next call is to read one.
+-- The worker in this seat has no job: its next call reads one.
 pub record IsFree (m : State) (seat : Seat Worker) : Type 0 where
   pub not_over : is_over seat.process.standing ≡ false
   pub waits : (step_of m seat).doing ≡ doing.Waits
   pub not_given : seat.process.standing ≡ standing.Asked → is_given seat.process.step.doing seat.last ≡ false
 
--- A job waits for it, and it has not read it.
+-- A job waits for it, and is not yet read.
 pub record Awaits (m : State) (p : ℕ) (seat : Seat Worker) (unseen : List Outcome → List ℕ) : Type 0 where
   pub jobs : ℕ
   pub fd : ℕ
@@ -61,7 +62,7 @@ pub record Awaits (m : State) (p : ℕ) (seat : Seat Worker) (unseen : List Outc
   pub has : HasJob m seat.by jobs p fd query script lines
   pub is : (os : List Outcome) → unseen os ≡ bytes_of (pipe_at m p).queue ++ output query lines os
 
--- It has read it, and is told so in its next turn.
+-- It has read the job, and its next turn processes that reply.
 pub record HasRead (m : State) (p : ℕ) (seat : Seat Worker) (unseen : List Outcome → List ℕ) : Type 0 where
   pub job : Task
   pub agg : ℕ
@@ -70,37 +71,51 @@ pub record HasRead (m : State) (p : ℕ) (seat : Seat Worker) (unseen : List Out
   pub last : seat.last ≡ reply.Agg agg
   pub begins : Begins m seat.by p job agg unseen
 
--- It runs the script, its last reply taken as filed.
+-- It runs the script; its last reply counts as processed.
 pub record IsRunning (m : State) (p : ℕ) (seat : Seat Worker) (unseen : List Outcome → List ℕ) : Type 0 where
   pub not_over : is_over seat.process.standing ≡ false
   pub feeds : Feeds m seat.by p seat.process.job (step_of m seat) unseen
 
--- The worker that sits here has a job whose output goes to pipe p: whatever the outcomes of the files that it is still to read,
--- what is unseen is what waits there, and then what is still to be written.
+-- The worker in this seat has a job with output to pipe p: for all outcomes of the files still to be read, the pending output
+-- is the bytes in the pipe, followed by the bytes still to be written.
 abbrev pub RunsJob : (m : State) → (p : ℕ) → Seat Worker → (unseen : List Outcome → List ℕ) → Type 0
 RunsJob m p seat unseen = Awaits m p seat unseen ⊎ HasRead m p seat unseen ⊎ IsRunning m p seat unseen
 
--- the outcomes that are still to come, with the files and lists as they are
+-- the outcomes to come, with the current files and lists
 abbrev pub outcomes_to_come : (m : State) (p : ℕ) (seat : Seat Worker) (unseen : List Outcome → List ℕ) → RunsJob m p seat unseen
     → List Outcome
 outcomes_to_come m p seat unseen (inl h) = outcomes_in m seat.by h.lines
 outcomes_to_come m p seat unseen (inr (inl h)) = outcomes_in m seat.by h.job.lines
 outcomes_to_come m p seat unseen (inr (inr i)) = to_come m seat.by seat.process.job (step_of m seat)
 
--- the file that it is reading, if it is reading one, is the one that its line names
+-- the file that it is reading, if any, is the one that its line names
 abbrev pub ReadsItsFile : (m : State) (p : ℕ) (seat : Seat Worker) (unseen : List Outcome → List ℕ)
     → RunsJob m p seat unseen → Type 0
 ReadsItsFile m p seat unseen (inl h) = Unit {0}
 ReadsItsFile m p seat unseen (inr (inl h)) = Unit {0}
 ReadsItsFile m p seat unseen (inr (inr i)) = ReadsNamed m seat.by seat.process.job (step_of m seat).begun (step_of m seat).doing
 
--- It goes on, where some outcome may be settled: by a reply that is not rough one of those that were to come.
+-- A call for a file was refused with TooMany, NoRoom, Fault or Memory: it settles this refusal instead of the first outcome to
+-- come.
+pub record IsRefused (r : Reply) (due settled coming : List Outcome) : Type 0 where
+  pub why : Refusal
+  pub answer : r ≡ reply.Refused why
+  pub rough : is_rough r ≡ true
+  pub instead : Outcome
+  pub was : due ≡ instead ∷ coming
+  pub is : settled ≡ Failed why ∷ []
+
+-- the outcome to come is settled, or a refusal instead of it
+abbrev pub Settles : Reply → (due settled coming : List Outcome) → Type 0
+Settles r due settled coming = (due ≡ settled ++ coming) ⊎ IsRefused r due settled coming
+
+-- It continues, and may settle an outcome.
 pub record GoesOn (m n : State) (p : ℕ) (next : Seat Worker) (r : Reply) (unseen : List Outcome → List ℕ)
     (due : List Outcome) (Reads : Type 0) : Type 0 where
   pub settled : List Outcome
   pub runs : RunsJob n p next (λ os. unseen (settled ++ os))
-  pub truly : ArePlaced m → AreFiles m → is_rough r ≡ false → Reads
-      → (due ≡ settled ++ outcomes_to_come n p next (λ os. unseen (settled ++ os)) runs)
+  pub truly : ArePlaced m → AreFiles m → Reads
+      → Settles r due settled (outcomes_to_come n p next (λ os. unseen (settled ++ os)) runs)
       × ReadsItsFile n p next (λ os. unseen (settled ++ os)) runs
 
 -- all of its output is written, the pipe's write end is closed, and it is free for the next job
@@ -109,7 +124,7 @@ pub record IsOver (m n : State) (d p : ℕ) (next : Seat Worker) (unseen : List 
   pub ends : Ends m d p unseen r step n
   pub free : IsFree n next
 
--- A turn of a worker leaves what is unseen, until all of it is written or nobody reads it any more.
+-- A turn of a worker preserves the pending output, until all of it is written or the pipe has no reader.
 abbrev pub TurnsFeed : Type 0
 TurnsFeed = (m n : State) (p : ℕ) (seat next : Seat Worker) (yields : Bool) (r : Reply) (unseen : List Outcome → List ℕ)
     → IsOrderly m → (runs : RunsJob m p seat unseen) → SeatTurn copying worker_turns m seat yields r n next

@@ -1,4 +1,4 @@
--- What a worker has: what it uses for the call that it is at, and nothing else.
+-- The descriptors and aggregates of a worker: exactly those that its current call uses.
 use Rattle.std.specs.Prelude.{◌≡◌, ℕ, ◌==◌, ◌||◌, ◌&&◌, not, Bool, true, false, Option, Some, None}
 use Rattle.iol_core.specs.State.{State, descriptor, is_live}
 use Rattle.iol_core.specs.Run.{StepsTo}
@@ -22,7 +22,7 @@ use Rattle.flash_cgi.specs.declared.phase.Standing.TheVariants as standing
 use Rattle.flash_cgi.specs.declared.phase.Step.{Step}
 use Rattle.flash_cgi.specs.declared.worker.Worker.{Worker}
 
--- whether it uses this descriptor: the one that takes its output, while it has a job, and a file that is open
+-- whether it uses this descriptor: that of the output, while it has a job, or of an open file
 abbrev pub uses_fd : Task → Doing → (fd : ℕ) → Bool
 uses_fd job doing.Waits fd = false
 uses_fd job (doing.Skips agg) fd = false
@@ -36,7 +36,7 @@ abbrev pub is_one : Option ℕ → (agg : ℕ) → Bool
 is_one None a = false
 is_one (Some b) a = b == a
 
--- whether it has collected this aggregate, of the bytes of files or of the one that is too long
+-- whether this aggregate is part of the buffered output
 abbrev pub has_collected : Collected → (agg : ℕ) → Bool
 has_collected x a = is_one x.held a || is_one x.next a
 
@@ -60,14 +60,14 @@ uses_agg x (doing.Drops agg) a = (agg == a) || has_collected x a
 uses_agg x (doing.Breaks agg) a = (agg == a) || has_collected x a
 uses_agg x (doing.Swaps agg rest) a = (agg == a) || ((rest == a) || has_collected x a)
 
--- beside the descriptors and aggregates of these numbers it has those that it uses alone
+-- in addition to the descriptors and aggregates of these numbers, it has only those that it uses
 pub record HasJust (m : State) (d : ℕ) (fds aggs : ℕ → Bool) (job : Task) (x : Collected) (doing : Doing) : Type 0 where
   pub no_fd : (fd : ℕ) → fds fd ≡ false → uses_fd job doing fd ≡ false → descriptor m d fd ≡ None
   pub no_agg : (a : ℕ) → aggs a ≡ false → uses_agg x doing a ≡ false → lent_at m d a ≡ None
 
--- ---- as it sits between two turns
+-- ---- between two turns
 
--- what it is at, as far as what it has goes, once its last reply is filed: a text that it was given is no job of its own yet
+-- its phase after its last reply is processed, for the question of what it has: a text just read does not yet count as a job
 abbrev pub held_doing : Standing → Doing → Reply → Step → Doing
 held_doing standing.Asked doing.Waits (reply.Agg agg) step = doing.Skips agg
 held_doing s x r step = step.doing
@@ -76,18 +76,19 @@ abbrev pub KeepsJust : State → (fds aggs : ℕ → Bool) → Seat Worker → T
 KeepsJust m fds aggs seat = HasJust m seat.by fds aggs seat.process.job (step_of m seat).piece
     (held_doing seat.process.standing seat.process.step.doing seat.last (step_of m seat))
 
--- A worker has what it uses, and nothing else. So where its script has ended, and it waits, it has what it had without a job:
--- of its own nothing but its job pipe.
+-- A worker has what it uses, and nothing else. So after the end of its script, while it waits, it has what it had before its
+-- job: only its job pipe.
 pub record WorkersKeepNothing : Type 0 where
-  -- its call leaves it with what it uses then
+  -- after its call it has what it then uses
   pub calls : (m n : State) (d : ℕ) (fds aggs : ℕ → Bool) (job : Task) (step next : Step) (r : Reply) → IsOrderly m
       → is_live m d ≡ true → HasJust m d fds aggs job step.piece step.doing → StepsTo m (event.Call d (call_at job step)) r n
       → told job step (lent_at n d) r ≡ Some next → HasJust n d fds aggs job next.piece next.doing
-  -- and so does each of its turns, those in which it reads a job or finds none among them
+  -- the same after each of its turns, including those that read a job or a text that is no job
   pub turns : (m n : State) (fds aggs : ℕ → Bool) (seat next : Seat Worker) (yields : Bool) (r : Reply) → IsOrderly m
       → is_live m seat.by ≡ true → KeepsJust m fds aggs seat → SeatTurn copying worker_turns m seat yields r n next
       → KeepsJust n fds aggs next
-  -- what takes its output is its job's own, though others gave it: so it has that no more once its script has ended
+  -- the output descriptor belongs to the job, though another domain gave it: after the script the worker does not have it any
+  -- more
   pub output : (m : State) (d : ℕ) (fds aggs : ℕ → Bool) (job : Task) (x : Collected) (doing : Doing)
       → uses_fd job doing job.fd ≡ true → HasJust m d fds aggs job x doing
       → HasJust m d (λ fd. fds fd && not (job.fd == fd)) aggs job x doing

@@ -1,4 +1,4 @@
--- What a worker wants memory for: to read a job, for the bytes of a call, and to collect.
+-- The uses of memory by a worker: to parse a job, for the bytes of a call, and to buffer output.
 use Rattle.std.specs.Prelude.{◌≡◌, ◌<◌, ℕ, Bool, true, false, List, length, Option, Some, None, is_some, slice_get, if◌then◌else◌}
 use Rattle.iol_core.specs.declared.events.Reply.{Reply}
 use Rattle.iol_core.specs.declared.events.Reply.TheVariants as reply
@@ -24,7 +24,7 @@ abbrev pub next_has_bytes : Option Line → Bool
 next_has_bytes None = false
 next_has_bytes (Some l) = line_has_bytes l
 
--- or makes the text that is collected
+-- whether the next call has bytes: it begins such a line, or makes an aggregate of the buffered text
 abbrev pub begins_with_bytes : Task → Collected → (begun : ℕ) → Bool
 begins_with_bytes job x begun = if due_now job x begun then true else next_has_bytes (slice_get job.lines begun)
 
@@ -32,11 +32,11 @@ abbrev pub doing_has_bytes : Task → Collected → (begun : ℕ) → Doing → 
 doing_has_bytes job x begun doing.Runs = begins_with_bytes job x begun
 doing_has_bytes job x begun d = false
 
--- whether the call of a step has
+-- whether the call of a step has bytes
 abbrev pub has_bytes : Task → Step → Bool
 has_bytes job step = doing_has_bytes job step.piece step.begun step.doing
 
--- whether what is collected may change after the reply, and is copied
+-- whether the buffered output may change after the reply, and is copied
 abbrev pub may_copy : Collected → Doing → Bool
 may_copy x doing.Runs = true
 may_copy x (doing.Shuts file agg) = true
@@ -49,16 +49,16 @@ may_copy x (doing.Drops agg) = is_some x.next
 may_copy x (doing.Breaks agg) = is_some x.next
 may_copy x d = false
 
--- it goes on with a call that has, or makes its call again
+-- it continues with a call that has bytes, or makes its call again
 abbrev pub WantsOn : Task → Option Step → Type 0
 WantsOn job None = ⊥
 WantsOn job (Some step) = has_bytes job step ≡ true
 
--- where it copies nothing, it wants memory for its next call alone
+-- if it copies nothing, it needs memory only for its next call
 abbrev pub WantsByReply : Worker → Reply → (ℕ → Option (List ℕ)) → Type 0
 WantsByReply w last lent = may_copy w.step.piece w.step.doing ≡ false → WantsOn w.job (told w.job w.step lent last)
 
--- it files a reply: what came for a job is read, if a byte did
+-- it processes a reply: a text of at least one byte is parsed as a job
 abbrev pub WantsToFile : Worker → Doing → Reply → (ℕ → Option (List ℕ)) → Type 0
 WantsToFile w doing.Waits (reply.Agg agg) lent = 0 < length (bytes_at lent agg)
 WantsToFile w d last lent = WantsByReply w last lent

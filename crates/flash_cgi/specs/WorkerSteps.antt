@@ -1,6 +1,6 @@
--- What a worker does, step by step: the call that it makes, and what it is at after the reply, and has collected.
+-- The steps of a worker: the call that it makes, and its phase and buffered output after the reply.
 --
--- A reply that is no answer to its call, and no outcome of a file, leaves it where it is: the call is made again.
+-- If a reply does not fit the call and is no outcome of a file, the step is unchanged: the call is retried.
 use Rattle.std.specs.Prelude.{ℕ, ◌+◌, ◌==◌, nat_le, Bool, List, [], ◌∷◌, ◌++◌, length, count_by, Option, Some, None, unwrap_or, if◌then◌else◌, slice_get}
 use Rattle.std.specs.Fmt.{decimal}
 use Rattle.iol_core.specs.Refusals.{name_of}
@@ -34,27 +34,27 @@ line_text text = text ++ 10 ∷ []
 abbrev pub counts_of : List ℕ → Counts
 counts_of text = record { lines = count_by is_line_feed text; bytes = length text }
 
--- the name of a refusal in brackets, or how many line feeds and bytes there are
+-- the name of a refusal in brackets, or the number of line feeds and bytes
 abbrev pub said_text : Said → List ℕ
 said_text (said.Refused x) = 91 ∷ name_of x ++ 93 ∷ 10 ∷ []
 said_text (said.Counted c) = decimal c.lines ++ 32 ∷ decimal c.bytes ++ 10 ∷ []
 
--- the bytes under a number; none where it names nothing
+-- the bytes under a number; empty if there is no aggregate
 abbrev pub bytes_at : (ℕ → Option (List ℕ)) → ℕ → List ℕ
 bytes_at lent agg = unwrap_or (lent agg) []
 
--- ---- the call that is made
+-- ---- the call of a step
 
 abbrev pub open_call : List ℕ → Call
 open_call name = call.OpenFile name Read
 
--- the call that begins a line; a text needs none, and is collected
+-- the call that begins a line; a text needs none, and is buffered
 abbrev pub line_call : Line → Call
 line_call (line.Cat name) = open_call name
 line_call (line.Wc name) = open_call name
 line_call l = call.SetPool 3
 
--- of the next line, or the close of the output
+-- the call for the next line, or the close of the output
 abbrev pub next_call : Task → Option Line → Call
 next_call job (Some l) = line_call l
 next_call job None = call.Close job.fd
@@ -62,7 +62,7 @@ next_call job None = call.Close job.fd
 abbrev pub make_call : List ℕ → Call
 make_call text = call.AggMake text
 
--- whether what is collected is to be written before the next line
+-- whether the buffered output is written before the next line
 abbrev pub due_now : Task → Collected → (begun : ℕ) → Bool
 due_now job x begun = is_due x (slice_get job.lines begun)
 
@@ -91,7 +91,7 @@ doing_call job x begun (doing.Breaks agg) = call.AggDrop agg
 abbrev pub call_at : Task → Step → Call
 call_at job step = doing_call job step.piece step.begun step.doing
 
--- ---- what it is at after the reply; none where the call is to be made again
+-- ---- the step after the reply; none if the call is retried
 
 abbrev pub step_with : Doing → (begun : ℕ) → Collected → Step
 step_with d begun x = record { doing = d; begun = begun; piece = x }
@@ -99,7 +99,7 @@ step_with d begun x = record { doing = d; begun = begun; piece = x }
 abbrev pub at : Doing → (begun : ℕ) → Collected → Option Step
 at d begun x = Some (step_with d begun x)
 
--- a text is collected
+-- a text is buffered
 abbrev pub said_collected : (begun : ℕ) → Collected → Said → Option Step
 said_collected begun x s = at doing.Runs begun (with_text x (said_text s))
 
@@ -119,7 +119,7 @@ abbrev pub told_next : Task → Collected → Option Line → (begun : ℕ) → 
 told_next job x (Some l) begun r = told_line job x l (begun + 1) r
 told_next job x None begun r = at doing.Waits 0 x
 
--- this text is made: the bytes of the last file are to be set into it, or all of them are
+-- after this text is made: the bytes of the last file are to be inserted, or all are inserted
 abbrev pub interleave_by : Option ℕ → Option Place → (begun : ℕ) → Collected → (agg : ℕ) → Step
 interleave_by None place begun x agg = step_with (doing.Writes agg) begun x
 interleave_by (Some held) None begun x agg = step_with (doing.Swaps held agg) begun (without_files x)
@@ -136,7 +136,7 @@ abbrev pub told_begun : Task → Collected → (begun : ℕ) → Reply → Optio
 told_begun job x begun r =
     if due_now job x begun then told_made x begun r else told_next job x (slice_get job.lines begun) begun r
 
--- the bytes of a file were joined to those that are held
+-- after the bytes of a file were joined to those of earlier files
 abbrev pub told_joined : Collected → (from len begun : ℕ) → Reply → Option Step
 told_joined x from len begun (reply.Agg held) = at doing.Runs begun (with_file x held from len)
 told_joined x from len begun r = None
@@ -145,13 +145,13 @@ abbrev pub place_at : Option Place → ℕ
 place_at None = 0
 place_at (Some place) = place.at
 
--- those of the last file were cut off
+-- after those of the last file were cut off
 abbrev pub told_parted : Collected → (agg begun : ℕ) → Reply → Option Step
 told_parted x agg begun (reply.Aggs held part) =
     at (doing.ReplacingPart agg part (place_at (last_place x.places))) begun (with_held x held)
 told_parted x agg begun r = None
 
--- and are set into the text
+-- after they were inserted into the text
 abbrev pub told_replaced : Collected → (agg part begun : ℕ) → Reply → Option Step
 told_replaced x agg part begun (reply.Agg made) = at (doing.DroppingText agg part made) begun (without_last x)
 told_replaced x agg part begun r = None
@@ -160,7 +160,7 @@ abbrev pub told_cut : Collected → (agg begun : ℕ) → Reply → Option Step
 told_cut x agg begun (reply.Agg rest) = at (doing.Swaps agg rest) begun x
 told_cut x agg begun r = None
 
--- of so many bytes so many were taken
+-- after taken of to bytes were taken
 abbrev pub taken_of : (agg taken to : ℕ) → Doing
 taken_of agg taken to = if taken == to then doing.Drops agg else doing.Cuts agg taken to
 
@@ -169,29 +169,29 @@ told_written x agg len begun (reply.Count taken) = at (taken_of agg taken len) b
 told_written x agg len begun (reply.Refused BrokenPipe) = at (doing.Breaks agg) begun x
 told_written x agg len begun r = None
 
--- all of something is written: the file that was too long is, or the script goes on
+-- after all of an aggregate is written: the file that is too long is written, or the script continues
 abbrev pub told_dropped : Collected → Option ℕ → (begun : ℕ) → Option Step
 told_dropped x (Some agg) begun = at (doing.Writes agg) begun (without_next x)
 told_dropped x None begun = at doing.Runs begun x
 
--- nobody reads: what is left is given up, and the script is at its end
+-- without reader, the rest is dropped, and the script ends
 abbrev pub told_broken : Task → Collected → Option ℕ → (begun : ℕ) → Option Step
 told_broken job x (Some agg) begun = at (doing.Breaks agg) begun (without_next x)
 told_broken job x None begun = at doing.Runs (length job.lines) x
 
--- a file of so many bytes is closed, behind so many that are held: its bytes are collected
+-- a file of len bytes is closed, and its bytes are buffered after from bytes
 abbrev pub file_collected : Collected → Option ℕ → (from agg len begun : ℕ) → Option Step
 file_collected x None from agg len begun = at doing.Runs begun (with_file x agg 0 len)
 file_collected x (Some held) from agg len begun = at (doing.JoiningFile held agg from len) begun x
 
--- or it is too long, and is written by itself
+-- the same, or it is too long, and is written by itself
 abbrev pub shut_by : Collected → (from agg len begun : ℕ) → Option Step
 shut_by x from agg len begun =
     if nat_le len MAX_COLLECTED_BYTES then file_collected x x.held from agg len begun
     else (if is_nothing x then at (doing.Writes agg) begun x else at doing.Runs begun (with_next x agg))
 
 module _ (lent : ℕ → Option (List ℕ)) where
-  -- bytes were read
+  -- after bytes were read
   abbrev pub got : (file agg : ℕ) → Purpose → Doing
   got file agg purpose.Cat = doing.Shuts file agg
   got file agg purpose.Wc = doing.Counted file agg (said.Counted (counts_of (bytes_at lent agg)))
@@ -201,7 +201,7 @@ module _ (lent : ℕ → Option (List ℕ)) where
   told_read x file p begun (reply.Refused why) = at (doing.ShutsToSay file (said.Refused why)) begun x
   told_read x file p begun r = None
 
-  -- a file is closed
+  -- after a file is closed
   abbrev pub told_shut : Collected → (agg begun : ℕ) → Option Step
   told_shut x agg begun = shut_by x (length (bytes_of_one lent x.held)) agg (length (bytes_at lent agg)) begun
 

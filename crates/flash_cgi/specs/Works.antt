@@ -1,4 +1,4 @@
--- The account of a worker: the turns that it takes, and when it may want memory.
+-- The account of a worker: the turns that it takes, and when it may need memory.
 use Rattle.std.specs.Prelude.{◌≡◌, ℕ, List, [], ◌∷◌, Option, Some, None}
 use Rattle.iol_core.specs.declared.events.Call.TheVariants as call
 use Rattle.iol_core.specs.declared.events.Reply.{Reply}
@@ -17,27 +17,27 @@ use Rattle.flash_cgi.specs.declared.phase.Standing.TheVariants as standing
 use Rattle.flash_cgi.specs.declared.phase.Step.{Step}
 use Rattle.flash_cgi.specs.declared.worker.Worker.{Worker}
 
--- it waits for a job, and has asked for none
+-- it waits for a job, and has not yet made the call
 pub record IsNew (w : Worker) : Type 0 where
   pub job : w.job ≡ no_task
   pub step : w.step ≡ record { doing = doing.Waits; begun = 0; piece = nothing }
   pub standing : w.standing ≡ standing.Asks
 
--- it makes the call that it is at
+-- it makes the call of its step
 abbrev pub asks : Worker → Turn → Worker → Type 0
 asks w t v = (t ≡ turn.Make (call_at w.job w.step)) × (v ≡ record w { standing = standing.Asked })
 
--- it goes on with what it is at now, or yields, to make its call again
+-- it makes the call of the next step, or yields, to make its call again
 abbrev pub goes_on : Worker → Option Step → Turn → Worker → Type 0
 goes_on w (Some step) t v = (t ≡ turn.Make (call_at w.job step)) × (v ≡ record w { step = step })
 goes_on w None t v = (t ≡ turn.Yield) × (v ≡ record w { standing = standing.Asks })
 
--- the worker with this job, if there is one, whose text is under this number
+-- the worker with this job, if any, read as the aggregate of this number
 abbrev pub with_job : Worker → Option Task → (agg : ℕ) → Worker
 with_job w (Some job) agg = record w { job = job; step = record { doing = doing.Drops agg; begun = 0; piece = nothing } }
 with_job w None agg = record w { step = record { doing = doing.Skips agg; begun = w.step.begun; piece = w.step.piece } }
 
--- the worker that has read this text on its job pipe; no text is the pipe's end
+-- the worker that has read this text from its job pipe; an empty text is the pipe's end
 abbrev pub with_text : Worker → (text : List ℕ) → (agg : ℕ) → Worker
 with_text w [] agg = record w { standing = standing.Over }
 with_text w (b ∷ bs) agg = with_job w (job_of (b ∷ bs)) agg
@@ -45,7 +45,7 @@ with_text w (b ∷ bs) agg = with_job w (job_of (b ∷ bs)) agg
 abbrev pub takes : Worker → (text : List ℕ) → (agg : ℕ) → Turn → Worker → Type 0
 takes w text agg t v = (t ≡ turn.Make (call.AggDrop agg)) × (v ≡ with_text w text agg)
 
--- it files the reply to its call
+-- it processes the reply to its call
 abbrev pub files : Worker → Doing → Reply → (ℕ → Option (List ℕ)) → Turn → Worker → Type 0
 files w doing.Waits (reply.Agg agg) lent t v = takes w (bytes_at lent agg) agg t v
 files w d last lent t v = goes_on w (told w.job w.step lent last) t v
@@ -55,8 +55,8 @@ works_as standing.Asks w last lent t v = asks w t v
 works_as standing.Asked w last lent t v = files w w.step.doing last lent t v
 works_as standing.Over w last lent t v = (t ≡ turn.Yield) × (v ≡ w)
 
--- The turn that it takes, by its last reply: the call that it is at, if it was not made yet; else what comes of the reply. Once
--- its job pipe has ended it yields.
+-- The turn that it takes, by its last reply: the call of its step, if it was not made yet, otherwise the result of the reply.
+-- After the end of its job pipe it yields.
 abbrev pub works : Worker → Reply → (ℕ → Option (List ℕ)) → Turn → Worker → Type 0
 works w last lent t v = works_as w.standing w last lent t v
 

@@ -13,19 +13,19 @@ use iol_core::lists::Bytes;
 use iol_core::numbers::{Fd, PoolId};
 use std::alloc::{AllocError, Global};
 
-/// The descriptor on which a worker's jobs come.
+/// The descriptor of a worker's job pipe.
 pub const JOBS: u32 = 0;
 
-/// The bytes of a job at most: as many as wait in a pipe.
+/// The maximum number of bytes of a job: the capacity of a pipe.
 pub const MAX_JOB_BYTES: u32 = 65_536;
 
-/// The bytes of a file at most.
+/// The maximum number of bytes of a file.
 pub const MAX_FILE_BYTES: u32 = 0x100_0000;
 
-/// The pool in which a worker places bytes: it is set again by a pause, which changes nothing.
+/// The pool in which a worker places bytes. A pause sets it again, which changes nothing.
 pub const WORK_POOL: u32 = 3;
 
-/// Whether what is collected is written before the next line.
+/// Returns whether the buffered output is written before the next line.
 pub(crate) fn is_due(job: &Job, piece: &Piece, begun: usize) -> bool
     ensures { result ≡ spec.due_now job.now piece.now begun }
 {
@@ -45,7 +45,7 @@ fn open_call(alloc: Global, name: &[u8]) -> Result<Call, AllocError>
     })
 }
 
-// The call that begins a line. A text needs none: it is collected.
+// The call that begins a line. A text needs none: it is buffered.
 fn line_call(alloc: Global, line: &Line) -> Result<Call, AllocError>
     ensures call { IfOk result (λ call. call ≡ spec.line_call line.now) }
     ensures wants { OnErr result (line_has_bytes line.now ≡ true) }
@@ -66,8 +66,8 @@ fn make_call(alloc: Global, text: &[u8]) -> Result<Call, AllocError>
     Ok(Call::AggMake { bytes })
 }
 
-// The call that makes the text that is collected, where that is due; else it begins the next line, or
-// closes the output after the last one.
+// The call that makes an aggregate of the buffered text, if it is due. Otherwise the call that
+// begins the next line, or closes the output after the last line.
 fn begin_call(alloc: Global, job: &Job, piece: &Piece, begun: usize) -> Result<Call, AllocError>
     ensures call { IfOk result (λ call. call ≡ spec.begin_call job.now piece.now begun) }
     ensures wants { OnErr result (begins_with_bytes job.now piece.now begun ≡ true) }
@@ -81,7 +81,7 @@ fn begin_call(alloc: Global, job: &Job, piece: &Piece, begun: usize) -> Result<C
     }
 }
 
-/// The call of a phase, with what is collected.
+/// The call of a phase, given the buffered output.
 pub(crate) fn call_of(
     alloc: Global,
     job: &Job,

@@ -1,4 +1,4 @@
-//! What is said of a file in place of its bytes.
+//! The output of a `wc` line.
 ghost use Rattle.std.specs.Prelude.{◌≡◌, IfOk};
 ghost use Rattle.flash_cgi.specs.WorkerSteps as spec;
 
@@ -6,25 +6,25 @@ use iol_core::lists::Bytes;
 use iol_core::refusals::Refusal;
 use std::alloc::{AllocError, Global};
 
-/// How many line feeds and how many bytes a text has.
+/// The number of line feeds and of bytes of a text.
 #[derive(Clone, Copy, Debug, PartialEq, Eq)]
 pub struct Counts {
     pub lines: u32,
     pub bytes: u32,
 }
 
-/// What is said of a file.
+/// The result of a `wc` line for a file.
 #[derive(Clone, Copy, Debug)]
 pub enum Said {
-    /// That it could not be opened or read.
+    /// The file could not be opened or read.
     Refused(Refusal),
 
-    /// What it has.
+    /// The counts of the file.
     Counted(Counts),
 }
 
 impl Said {
-    /// The text in which it is said: a line.
+    /// The result as a line of text.
     pub fn text(self, alloc: Global) -> Result<Bytes, AllocError>
         ensures { IfOk result (λ text. text ≡ spec.said_text self) }
     {

@@ -1,4 +1,4 @@
-//! What a worker sees of its aggregates, where they lie.
+//! A worker's view of its aggregates, in place.
 ghost use Rattle.std.specs.Prelude.{◌≡◌, ◌<◌, count_by, length, IfOk, OnErr};
 ghost use Rattle.std.specs.List.{concat};
 ghost use Rattle.iol_proc.specs.Prelude.{lent};
@@ -16,7 +16,7 @@ fn line_feeds(text: &[u8]) -> usize
     text.iter().filter(|b| **b == b'\n').count()
 }
 
-// How many line feeds lie in these pieces, which have so many bytes.
+// The number of line feeds in these pieces, which have `len` bytes.
 fn line_feeds_in(parts: Parts<'_>, len: u32) -> u32
     requires { length (concat parts) ≡ len }
     ensures { result ≡ count_by spec.is_line_feed (concat parts.entry) }
@@ -28,14 +28,14 @@ fn line_feeds_in(parts: Parts<'_>, len: u32) -> u32
     count
 }
 
-/// How many bytes an aggregate has: none where there is no such aggregate.
+/// The length of an aggregate in bytes; 0 if there is no such aggregate.
 pub(crate) fn len_of(look: &Look<'_>, agg: AggId) -> u32
     ensures { result ≡ length (spec.bytes_at (lent look.now) agg) }
 {
     look.len(agg).unwrap_or(0)
 }
 
-/// How many line feeds and bytes it has.
+/// The number of line feeds and bytes of an aggregate.
 pub(crate) fn counts(look: &Look<'_>, agg: AggId) -> Counts
     ensures { result ≡ spec.counts_of (spec.bytes_at (lent look.now) agg) }
 {
@@ -49,7 +49,7 @@ pub(crate) fn counts(look: &Look<'_>, agg: AggId) -> Counts
     }
 }
 
-// A text that lies in these pieces, as one.
+// The text of these pieces, contiguous.
 fn joined(alloc: Global, parts: Parts<'_>) -> Result<Vec<u8>, AllocError>
     ensures text { IfOk result (λ text. text.items ≡ concat parts.entry) }
     ensures wants { OnErr result (0 < length (concat parts.entry)) }
@@ -61,7 +61,7 @@ fn joined(alloc: Global, parts: Parts<'_>) -> Result<Vec<u8>, AllocError>
     Ok(text)
 }
 
-/// A copy of its bytes. No bytes take no memory.
+/// A copy of the bytes of an aggregate. An empty copy allocates nothing.
 pub(crate) fn text_of(alloc: Global, look: &Look<'_>, agg: AggId) -> Result<Vec<u8>, AllocError>
     ensures text { IfOk result (λ text. text.items ≡ spec.bytes_at (lent look.now) agg) }
     ensures wants { OnErr result (0 < length (spec.bytes_at (lent look.now) agg)) }

@@ -1,4 +1,4 @@
-//! What a worker is given to do.
+//! Jobs of workers.
 ghost use Rattle.std.specs.Prelude.{◌≡◌, ◌==◌, ◌≤◌, IfNone, IfOk, IfSome, Some, None, length, true};
 ghost use Rattle.std.specs.List.{list_all, position};
 ghost use Rattle.std.specs.Char.{is_ascii_digit};
@@ -11,10 +11,10 @@ use std::alloc::{AllocError, Global};
 use std::marker::Model;
 use std::str;
 
-/// The digits that a number in a job may have.
+/// The maximum number of digits of a number in a job.
 pub const MAX_DIGITS: usize = 9;
 
-/// A script that is to be run for a request: where its output goes, the query, and its lines.
+/// A script to be run for a request: the descriptor of its output, the query, and its lines.
 #[derive(Debug, Drop)]
 pub struct Job {
     pub(crate) fd: Fd,
@@ -44,7 +44,7 @@ fn parse_digits(digits: &str) -> Option<u32>
     digits.parse().ok()
 }
 
-// The number that digits write.
+// The number that the digits represent.
 fn number_of(digits: &[u8]) -> Option<u32>
     ensures { result ≡ spec.number digits.now }
 {
@@ -63,7 +63,7 @@ fn place_of(text: &[u8], byte: u8) -> Option<usize>
     text.iter().position(|b| *b == byte)
 }
 
-// The number before the first byte of this kind, and what stands after that.
+// The number before the first byte of this value, and the text after it.
 fn number_before(text: &[u8], byte: u8) -> Option<(u32, &[u8])>
     ensures none { IfNone result (spec.number_before byte text.now ≡ None) }
     ensures some { IfSome result (λ r. spec.number_before byte text.now ≡ Some (r.0, r.1.now)) }
@@ -73,7 +73,7 @@ fn number_before(text: &[u8], byte: u8) -> Option<(u32, &[u8])>
     Some((number, &text[end + 1..]))
 }
 
-// The job of this descriptor and these sizes.
+// The job of this descriptor and these lengths.
 fn job_with(
     alloc: Global,
     fd: u32,
@@ -101,7 +101,7 @@ fn job_with(
 }
 
 impl Job {
-    /// Nothing to do.
+    /// The empty job.
     pub(crate) fn nothing(alloc: Global) -> Job
         ensures { result ≡ spec.no_task }
     {
@@ -115,7 +115,7 @@ impl Job {
         }
     }
 
-    /// The job that a text is, if it is one.
+    /// Parses a job, if the text is one.
     pub fn read(alloc: Global, text: &[u8]) -> Result<Option<Job>, AllocError>
         ensures { IfOk result (λ job. job ≡ spec.job_of text.now) }
     {

@@ -1,29 +1,28 @@
-//! Laws of scripts and workers. The functions do nothing; their contracts are the laws.
+//! Laws of scripts and workers. The functions have no effect; their contracts are the laws.
 ghost use Rattle.flash_cgi.specs.Laws.{OthersHear, ScriptsPutOut, WorkersStop, FeedsOn, WorkersStayFree, RunningIsFull, WorkersKeepNothing, JobsAreRead, WorkersAreQuiet, OutcomesAreTrue, OutputsAreShown, JobsAreTaken, PiecesAreLong, TurnsFeed, WaitingIsEmpty};
 
 use iol_laws::laws;
 
-/// A job's text is read as that job.
+/// Parsing the text of a job gives that job.
 pub fn jobs_are_read()
     ensures { JobsAreRead }
 {}
 
-/// What a worker has collected, and writes before its next line, has at least
-/// [`MIN_PIECE_BYTES`](crate::piece::MIN_PIECE_BYTES) bytes, or a file of its own comes behind it.
+/// If a worker writes its buffered output before a line, it has at least
+/// [`MIN_PIECE_BYTES`](crate::piece::MIN_PIECE_BYTES) bytes, or is followed by a file of its own.
 pub fn pieces_are_long()
     ensures { PiecesAreLong }
 {}
 
-/// The worker that reads a job which waits for it runs that job, and all of its output is unseen
-/// yet.
+/// A worker that reads a waiting job runs that job, and all of its output is pending.
 pub fn jobs_are_taken()
     ensures { JobsAreTaken }
 {
     laws::each_step_leaves_the_rest();
 }
 
-/// A worker's call leaves what is unseen of its output, until all of it is written or nobody reads
-/// it any more.
+/// A worker's call preserves its pending output, until all of it is written or the pipe has no
+/// reader.
 pub fn workers_feed_pipes()
     ensures { FeedsOn }
 {
@@ -33,8 +32,9 @@ pub fn workers_feed_pipes()
     laws::refusals_tell_why();
 }
 
-/// So does each turn of a worker, from the moment at which its job waits until it is free for the
-/// next one. Where a turn is not rough, the outcomes that it settles are those that the files have.
+/// The same for each turn of a worker, from the time when its job waits until it is free for the
+/// next one. The outcomes that it settles are those of the files; if the call for a file is
+/// refused with TooMany, NoRoom, Fault or Memory, the outcome is this refusal.
 pub fn turns_feed()
     ensures { TurnsFeed }
 {
@@ -45,8 +45,9 @@ pub fn turns_feed()
     laws::each_step_leaves_the_rest();
 }
 
-/// Others leave a worker with its job, but for what goes from the front of the pipe to which it
-/// writes: that stood in front of what is unseen then, and is what a read of the pipe gives.
+/// Events of others preserve a worker's job and its pending output, except for bytes taken from
+/// the front of its output pipe: these were the front of the pending output, and are the result of
+/// a read of the pipe.
 pub fn others_hear()
     ensures { OthersHear }
 {
@@ -54,7 +55,8 @@ pub fn others_hear()
     laws::others_leave_pipes();
 }
 
-/// The outcomes that a worker's calls settle are those of the files that its lines name.
+/// The outcomes that a worker's calls settle are those of the files that its lines name. If the
+/// call for a file is refused with TooMany, NoRoom, Fault or Memory, the outcome is this refusal.
 pub fn outcomes_are_true()
     ensures { OutcomesAreTrue }
 {
@@ -62,9 +64,11 @@ pub fn outcomes_are_true()
     laws::file_calls_serve_their_domain();
 }
 
-/// With the files as they are a script puts out one text: the output of its lines, in order, from its
-/// job to its end. Each turn of its worker that is not rough leaves it due, and what others take is
-/// its front. Once the job is read nothing lies in its job pipe.
+/// If the files do not change, a script outputs one text: the output of its lines, in order, from
+/// its job to its end. Each turn of its worker keeps the rest of the text due, and the bytes that
+/// others take are its front. A turn whose call for a file is refused with TooMany, NoRoom, Fault
+/// or Memory replaces the text by another: that of the same lines with the refusal instead of the
+/// file, which begins with the bytes already taken. After the job is read, its job pipe is empty.
 pub fn scripts_put_out()
     ensures { ScriptsPutOut }
 {
@@ -74,15 +78,14 @@ pub fn scripts_put_out()
     laws::calls_serve_their_domain();
 }
 
-/// A worker that waits for a job where all is idle: nothing is in its job pipe, and something may
-/// come.
+/// If a worker waits for a job when all are idle, its job pipe is empty and has a writer.
 pub fn waiting_is_empty()
     ensures { WaitingIsEmpty }
 {
     laws::refusals_tell_why();
 }
 
-/// A worker that has a job where all is idle writes to the pipe of its output, which is full.
+/// If a worker has a job when all are idle, it is writing to its output pipe, which is full.
 pub fn running_is_full()
     ensures { RunningIsFull }
 {
@@ -91,23 +94,24 @@ pub fn running_is_full()
     laws::file_calls_serve_their_domain();
 }
 
-/// A worker without a job stays free, as a new one is, whatever others do: until one comes, or its job
-/// pipe ends. After what is no job it is free again.
+/// A new worker is free. A worker without a job stays free, whatever others do, until a job
+/// arrives or its job pipe ends. After a text that is no job it is free again.
 pub fn workers_stay_free()
     ensures { WorkersStayFree }
 {
     laws::calls_serve_their_domain();
 }
 
-/// A worker whose job pipe has ended makes no more calls, and no other stops.
+/// A worker whose job pipe has ended makes no more calls; any other continues.
 pub fn workers_stop()
     ensures { WorkersStop }
 {
     laws::calls_serve_their_domain();
 }
 
-/// A worker has what it uses for the call that it is at, and nothing else, call by call and turn by
-/// turn: so one that ended its script, and waits for a job, has nothing of its own but its job pipe.
+/// After each call and each turn, a worker has only the descriptors and aggregates that its
+/// current call uses. So a worker that has ended its script and waits for a job has nothing except
+/// its job pipe.
 pub fn workers_keep_nothing()
     ensures { WorkersKeepNothing }
 {
@@ -116,8 +120,8 @@ pub fn workers_keep_nothing()
     laws::aggregates_come_and_go();
 }
 
-/// A worker's turn leaves all but what is its own and one pipe: its job pipe while it is free, and
-/// then the pipe of its output.
+/// A worker's turn changes only its own domain and one pipe: its job pipe while it is free, then
+/// its output pipe.
 pub fn workers_are_quiet()
     ensures { WorkersAreQuiet }
 {
@@ -126,7 +130,7 @@ pub fn workers_are_quiet()
     laws::descriptors_come_by_replies();
 }
 
-/// What a worker writes lies in the pools of the files, and in its default pool: so whoever may
+/// A worker's output is in the pools of the files and in its default pool. So a domain that may
 /// read these is never denied its output.
 pub fn outputs_are_shown()
     ensures { OutputsAreShown }

@@ -1,56 +1,56 @@
-//! What a worker is at.
+//! The state of a worker within a script.
 use crate::counts::Said;
 use crate::piece::Piece;
 use iol_core::numbers::{AggId, Fd};
 
-/// What a file is read for.
+/// The purpose of reading a file.
 #[derive(Clone, Copy, Debug)]
 pub enum Purpose {
     Cat,
     Wc,
 }
 
-/// What a worker is at: the call that it makes next, and what that is for.
+/// The phase of a worker: its next call and the purpose of this call.
 #[derive(Clone, Copy, Debug)]
 pub enum Doing {
-    /// It waits for a job.
+    /// Waits for a job.
     Waits,
 
-    /// It gives up the aggregate of what was no job.
+    /// Drops the aggregate of a text that is no job.
     Skips {
         agg: AggId,
     },
 
-    /// It makes the text that is collected, where that is due; else it begins its next line, or closes
-    /// its output after the last one.
+    /// Makes an aggregate of the buffered text, if it is due. Otherwise begins the next line, or
+    /// closes the output after the last line.
     Runs,
 
-    /// It reads an open file.
+    /// Reads an open file.
     Reads {
         file: Fd,
         purpose: Purpose,
     },
 
-    /// It gives up the bytes of a file, of which this is to be said.
+    /// Drops the bytes of a file, after they were counted.
     Counted {
         file: Fd,
         agg: AggId,
         said: Said,
     },
 
-    /// It closes a file, whose bytes it has.
+    /// Closes a file whose bytes were read.
     Shuts {
         file: Fd,
         agg: AggId,
     },
 
-    /// It closes a file, of which this is to be said.
+    /// Closes a file, with this result of its `wc` line.
     ShutsToSay {
         file: Fd,
         said: Said,
     },
 
-    /// It joins the bytes of a file, so many, to those that are held, so many.
+    /// Joins `len` bytes of a file to the `from` bytes of earlier files.
     JoiningFile {
         held: AggId,
         agg: AggId,
@@ -58,63 +58,63 @@ pub enum Doing {
         len: u32,
     },
 
-    /// It cuts off the held bytes that stand at the last place of this text.
+    /// Cuts off the bytes of the last file from those of all buffered files.
     CuttingPart {
         held: AggId,
         agg: AggId,
         from: u32,
     },
 
-    /// It sets them into it.
+    /// Inserts them into the text at their place.
     ReplacingPart {
         agg: AggId,
         part: AggId,
         at: u32,
     },
 
-    /// It gives up the text without them.
+    /// Drops the text without the inserted bytes.
     DroppingText {
         agg: AggId,
         part: AggId,
         made: AggId,
     },
 
-    /// It gives up what was cut off.
+    /// Drops the bytes that were cut off.
     DroppingPart {
         part: AggId,
         made: AggId,
     },
 
-    /// It writes an aggregate.
+    /// Writes an aggregate.
     Writes {
         agg: AggId,
     },
 
-    /// It cuts off what of an aggregate was not taken.
+    /// Cuts off the part of an aggregate that was not taken.
     Cuts {
         agg: AggId,
         from: u32,
         to: u32,
     },
 
-    /// It gives up an aggregate, of which the rest is to be written.
+    /// Drops an aggregate after its rest was cut off, to be written.
     Swaps {
         agg: AggId,
         rest: AggId,
     },
 
-    /// It gives up an aggregate, and goes on.
+    /// Drops an aggregate, and continues the script.
     Drops {
         agg: AggId,
     },
 
-    /// It gives up an aggregate that nobody reads, and ends its script.
+    /// Drops an aggregate without a reader, and ends the script.
     Breaks {
         agg: AggId,
     },
 }
 
-/// What a worker is at, how many lines of its script it has begun, and what it has collected.
+/// The phase of a worker, the number of lines that it has begun, and its buffered output.
 #[derive(Debug, Drop)]
 pub struct Step {
     pub doing: Doing,
@@ -122,15 +122,15 @@ pub struct Step {
     pub piece: Piece,
 }
 
-/// Whether the call that a worker is at was made.
+/// Whether the worker has made the call of its phase.
 #[derive(Clone, Copy, Debug)]
 pub enum Standing {
-    /// It is to be made.
+    /// Not yet.
     Asks,
 
-    /// It was made: the last reply is that call's.
+    /// The call was made: the last reply is that of the call.
     Asked,
 
-    /// Its job pipe has ended: it makes no more calls.
+    /// The job pipe has ended: the worker makes no more calls.
     Over,
 }

@@ -1,4 +1,4 @@
-//! What a worker has collected and not yet written: a text, and bytes of files that stand in it by reference.
+//! The buffered output of a worker: a text, with bytes of files by reference.
 ghost use Rattle.std.specs.Prelude.{◌≡◌, IfOk};
 ghost use Rattle.flash_cgi.specs.Collecting as spec;
 
@@ -7,25 +7,24 @@ use iol_core::numbers::AggId;
 use std::alloc::{AllocError, Global};
 use std::marker::Model;
 
-/// A piece of so many bytes is written before the next line: all but 32 of the bytes of a page, so that
-/// the text of one more `wc` line, or a refusal, lies in that page, too.
+/// From this many bytes on, buffered output is written before the next line. It is 32 bytes less
+/// than a page, so that the text of one more `wc` line, or of a refusal, is in the same page.
 pub const MIN_PIECE_BYTES: usize = 4064;
 
-/// The bytes that a file has at most which is collected: as many as lie in a page. A longer one is
-/// written by itself.
+/// The maximum length of a file that is buffered: one page. A longer file is written by itself.
 pub const MAX_COLLECTED_BYTES: usize = PAGE_BYTES;
 
-/// Where the bytes of a file stand: behind how many bytes of the text, and behind how many of the bytes
-/// of all collected files.
+/// The place of a file's bytes: the number of bytes of text before them, and the number of bytes
+/// of all buffered files before them.
 #[derive(Clone, Copy, Debug)]
 pub struct Place {
     pub at: u32,
     pub from: u32,
 }
 
-/// What is collected. `held` is the aggregate of the bytes of all collected files, one behind the other,
-/// and `files` is how many these are. `places` tells where each file's bytes stand, those of the last
-/// file first. `next` is a file that is too long, and comes behind all of it.
+/// Buffered output. `held` is an aggregate of the bytes of all buffered files, in order, and
+/// `files` is their number of bytes. `places` has the place of each file, the last file first.
+/// `next` is a file that is too long, and follows all other bytes.
 #[derive(Debug, Drop)]
 pub struct Piece {
     pub(crate) text: Vec<u8>,
@@ -49,7 +48,7 @@ impl Model for Piece {
     } };
 }
 
-// The place behind a text of so many bytes, which has room for a file.
+// The place after a text of `len` bytes, if there is room for a file.
 fn place_behind(len: usize) -> u32
     ensures { result ≡ spec.place_behind len }
 {
@@ -60,7 +59,7 @@ fn place_behind(len: usize) -> u32
     }
 }
 
-// All places but the last, which comes first.
+// All places except the last, which is the first of the list.
 fn but_last(alloc: Global, places: &[Place]) -> Result<Vec<Place>, AllocError>
     ensures { IfOk result (λ left. left.items ≡ spec.but_last places.now) }
 {
@@ -71,7 +70,7 @@ fn but_last(alloc: Global, places: &[Place]) -> Result<Vec<Place>, AllocError>
 }
 
 impl Piece {
-    /// Nothing is collected.
+    /// No buffered output.
     pub(crate) fn nothing(alloc: Global) -> Piece
         ensures { result ≡ spec.nothing }
     {
@@ -84,14 +83,14 @@ impl Piece {
         }
     }
 
-    /// Whether nothing is.
+    /// Returns whether nothing is buffered.
     pub(crate) fn is_nothing(&self) -> bool
         ensures { result ≡ spec.is_nothing self.now }
     {
         self.text.is_empty() && self.places.is_empty() && self.held.is_none() && self.next.is_none()
     }
 
-    /// Whether it has so many bytes that it is written before the next line.
+    /// Returns whether there are enough bytes to write before the next line.
     pub(crate) fn is_full(&self) -> bool
         ensures { result ≡ spec.is_full self.now }
     {
@@ -103,7 +102,7 @@ impl Piece {
         }
     }
 
-    /// Where the last file's bytes stand.
+    /// The place of the last file.
     pub(crate) fn last(&self) -> Option<Place>
         ensures { result ≡ spec.last_place self.now.places }
     {
@@ -113,7 +112,8 @@ impl Piece {
         }
     }
 
-    /// A copy. A turn that finds no memory leaves the worker as it was, so what is added is added to a copy.
+    /// Copies the piece. A turn that runs out of memory must not change the worker, so additions
+    /// are made to a copy.
     pub(crate) fn copy(&self, alloc: Global) -> Result<Piece, AllocError>
         ensures { IfOk result (λ piece. piece ≡ self.now) }
     {
@@ -128,7 +128,7 @@ impl Piece {
         })
     }
 
-    /// With more text.
+    /// A copy with more text.
     pub(crate) fn with_text(&self, alloc: Global, more: &[u8]) -> Result<Piece, AllocError>
         ensures { IfOk result (λ piece. piece ≡ spec.with_text self.now more.now) }
     {
@@ -137,7 +137,7 @@ impl Piece {
         Ok(piece)
     }
 
-    /// With a line more.
+    /// A copy with one more line.
     pub(crate) fn with_line(&self, alloc: Global, line: &[u8]) -> Result<Piece, AllocError>
         ensures { IfOk result (λ piece. piece ≡ spec.with_line self.now line.now) }
     {
@@ -147,8 +147,8 @@ impl Piece {
         Ok(piece)
     }
 
-    /// With a file more, of `len` bytes. `held` is an aggregate of the `from` bytes that were held, and
-    /// of its bytes.
+    /// A copy with one more file, of `len` bytes. `held` is an aggregate of the `from` bytes of
+    /// the earlier files, followed by those of this one.
     pub(crate) fn with_file(
         &self,
         alloc: Global,
@@ -172,7 +172,7 @@ impl Piece {
         })
     }
 
-    /// With a file that is too long.
+    /// A copy with a file that is too long.
     pub(crate) fn with_next(&self, alloc: Global, next: AggId) -> Result<Piece, AllocError>
         ensures { IfOk result (λ piece. piece ≡ spec.with_next self.now next) }
     {
@@ -181,7 +181,7 @@ impl Piece {
         Ok(piece)
     }
 
-    /// Without that file.
+    /// A copy without that file.
     pub(crate) fn without_next(&self, alloc: Global) -> Result<Piece, AllocError>
         ensures { IfOk result (λ piece. piece ≡ spec.without_next self.now) }
     {
@@ -190,7 +190,7 @@ impl Piece {
         Ok(piece)
     }
 
-    /// Without its text, which is made.
+    /// A copy without its text, of which an aggregate was made.
     pub(crate) fn without_text(&self, alloc: Global) -> Result<Piece, AllocError>
         ensures { IfOk result (λ piece. piece ≡ spec.without_text self.now) }
     {
@@ -204,7 +204,8 @@ impl Piece {
         })
     }
 
-    /// With this aggregate of what is still held, as the last file's bytes are cut off.
+    /// A copy with this aggregate of the bytes of the remaining files, after the last file's bytes
+    /// were cut off.
     pub(crate) fn with_held(&self, alloc: Global, held: AggId) -> Result<Piece, AllocError>
         ensures { IfOk result (λ piece. piece ≡ spec.with_held self.now held) }
     {
@@ -213,7 +214,7 @@ impl Piece {
         Ok(piece)
     }
 
-    /// Without the last place, whose bytes are set into the text.
+    /// A copy without the last place, whose bytes were inserted into the text.
     pub(crate) fn without_last(&self, alloc: Global) -> Result<Piece, AllocError>
         ensures { IfOk result (λ piece. piece ≡ spec.without_last self.now) }
     {
@@ -228,7 +229,7 @@ impl Piece {
         })
     }
 
-    /// Without the files, whose bytes all stand in the text.
+    /// A copy without files, whose bytes were all inserted into the text.
     pub(crate) fn without_files(&self, alloc: Global) -> Result<Piece, AllocError>
         ensures { IfOk result (λ piece. piece ≡ spec.without_files self.now) }
     {

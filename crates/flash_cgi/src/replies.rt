@@ -1,4 +1,4 @@
-//! What a worker is at after the reply to its call.
+//! The step of a worker after the reply to its call.
 ghost use Rattle.std.specs.Prelude.{◌≡◌, IfOk, OnErr, Some, None, is_some, length, true};
 ghost use Rattle.iol_proc.specs.Prelude.{lent};
 ghost use Rattle.flash_cgi.specs.Collecting.{bytes_of_one, with_line};
@@ -20,7 +20,8 @@ use iol_core::refusals::Refusal;
 use iol_proc::look::Look;
 use std::alloc::{AllocError, Global};
 
-/// What a worker is at after a reply: a phase, how many lines it has begun, and what it has collected, where that changes.
+/// The step after a reply: the phase, the number of lines begun, and the buffered output, if it
+/// changes.
 #[derive(Drop)]
 pub(crate) struct After {
     pub doing: Doing,
@@ -28,10 +29,10 @@ pub(crate) struct After {
     pub piece: Option<Piece>,
 }
 
-/// It is to make the same call again, or goes on.
+/// The next step, or none if the same call is retried.
 type Told = Result<Option<After>, AllocError>;
 
-// With what it has collected.
+// A step with unchanged buffered output.
 fn at(doing: Doing, begun: usize) -> Option<After>
     ensures { result ≡ after_of doing begun None }
 {
@@ -42,7 +43,7 @@ fn at(doing: Doing, begun: usize) -> Option<After>
     })
 }
 
-// With this piece.
+// A step with this buffered output.
 fn with(doing: Doing, begun: usize, piece: Piece) -> Option<After>
     ensures { result ≡ after_of doing begun (Some piece) }
 {
@@ -53,7 +54,7 @@ fn with(doing: Doing, begun: usize, piece: Piece) -> Option<After>
     })
 }
 
-// What is said of a file is collected.
+// Buffers the result of a `wc` line.
 fn collect_said(alloc: Global, piece: &Piece, said: Said, begun: usize) -> Told
     ensures { IfOk result (λ after. reached piece.now after ≡ spec.said_collected begun piece.now said) }
 {
@@ -62,7 +63,7 @@ fn collect_said(alloc: Global, piece: &Piece, said: Said, begun: usize) -> Told
     Ok(with(Doing::Runs, begun, piece))
 }
 
-// A file was opened, or is refused.
+// After opening a file, or its refusal.
 fn told_opened(alloc: Global, piece: &Piece, purpose: Purpose, begun: usize, last: &Reply) -> Told
     ensures { IfOk result (λ after. reached piece.now after ≡ spec.told_opened piece.now purpose begun last.now) }
 {
@@ -79,7 +80,7 @@ fn told_opened(alloc: Global, piece: &Piece, purpose: Purpose, begun: usize, las
     }
 }
 
-// A text is collected, as a line.
+// Buffers a text, as a line.
 fn collect_line(alloc: Global, piece: &Piece, text: &[u8], begun: usize) -> Told
     ensures { IfOk result (λ after. reached piece.now after ≡ spec.at doing.Runs begun (with_line piece.now text.now)) }
 {
@@ -87,7 +88,7 @@ fn collect_line(alloc: Global, piece: &Piece, text: &[u8], begun: usize) -> Told
     Ok(with(Doing::Runs, begun, piece))
 }
 
-// A line was begun, which `begun` counts.
+// After the call that begins a line; `begun` includes this line.
 fn told_line(
     alloc: Global,
     job: &Job,
@@ -107,7 +108,8 @@ fn told_line(
     }
 }
 
-// This text is made of what was collected: the bytes of the last file are set into it, or all of them are.
+// After an aggregate of the buffered text was made: inserts the bytes of the last file, or all are
+// inserted.
 fn interleave(alloc: Global, piece: Piece, agg: AggId, begun: usize) -> Result<Step, AllocError>
     ensures { IfOk result (λ step. step ≡ spec.interleave_on begun piece agg) }
 {
@@ -144,7 +146,7 @@ fn interleave(alloc: Global, piece: Piece, agg: AggId, begun: usize) -> Result<S
     }
 }
 
-// The text that was collected is made.
+// After making an aggregate of the buffered text.
 fn told_made(alloc: Global, piece: &Piece, begun: usize, last: &Reply) -> Told
     ensures { IfOk result (λ after. reached piece.now after ≡ spec.told_made piece.now begun last.now) }
 {
@@ -158,7 +160,8 @@ fn told_made(alloc: Global, piece: &Piece, begun: usize, last: &Reply) -> Told
     }
 }
 
-// What was collected is made, the next line begun, or the output closed.
+// After the call that makes an aggregate of the buffered text, begins the next line, or closes the
+// output.
 fn told_begun(alloc: Global, job: &Job, piece: &Piece, begun: usize, last: &Reply) -> Told
     ensures { IfOk result (λ after. reached piece.now after ≡ spec.told_begun job.now piece.now begun last.now) }
 {
@@ -171,7 +174,7 @@ fn told_begun(alloc: Global, job: &Job, piece: &Piece, begun: usize, last: &Repl
     }
 }
 
-// What follows where the bytes of a file are read.
+// The phase after reading the bytes of a file.
 fn got(file: Fd, agg: AggId, purpose: Purpose, look: &Look<'_>) -> Doing
     ensures { result ≡ spec.got (lent look.now) file agg purpose }
 {
@@ -185,7 +188,7 @@ fn got(file: Fd, agg: AggId, purpose: Purpose, look: &Look<'_>) -> Doing
     }
 }
 
-// A file was read, or is refused.
+// After reading a file, or its refusal.
 fn told_read(
     file: Fd,
     purpose: Purpose,
@@ -208,7 +211,7 @@ fn told_read(
     }
 }
 
-// The file is closed whose bytes it has, so many: they are collected, behind those that are held, so many.
+// Buffers `len` bytes of a file, which is closed, after the `from` bytes of the earlier files.
 fn collect_file(alloc: Global, piece: &Piece, from: u32, agg: AggId, len: u32, begun: usize) -> Told
     ensures { IfOk result
         (λ after. reached piece.now after ≡ spec.file_collected piece.now piece.now.held from agg len begun) }
@@ -230,7 +233,7 @@ fn collect_file(alloc: Global, piece: &Piece, from: u32, agg: AggId, len: u32, b
     }
 }
 
-// How many bytes are held.
+// The number of bytes of all buffered files.
 fn held_bytes(piece: &Piece, look: &Look<'_>) -> u32
     ensures { result ≡ length (bytes_of_one (lent look.now) piece.now.held) }
 {
@@ -240,7 +243,7 @@ fn held_bytes(piece: &Piece, look: &Look<'_>) -> u32
     }
 }
 
-// The file is closed: its bytes are collected, or are written by themselves, behind what is collected.
+// After closing a file: buffers its bytes, or writes them by themselves after the buffered output.
 fn told_shut(alloc: Global, piece: &Piece, agg: AggId, begun: usize, look: &Look<'_>) -> Told
     ensures { IfOk result (λ after. reached piece.now after ≡ spec.told_shut (lent look.now) piece.now agg begun) }
 {
@@ -255,7 +258,7 @@ fn told_shut(alloc: Global, piece: &Piece, agg: AggId, begun: usize, look: &Look
     Ok(with(Doing::Runs, begun, piece))
 }
 
-// The bytes of a file were joined to those that are held.
+// After joining the bytes of a file to those of the earlier files.
 fn told_joined(
     alloc: Global,
     piece: &Piece,
@@ -284,7 +287,7 @@ fn place_at(place: Option<Place>) -> u32
     }
 }
 
-// The bytes of the last file were cut off: they are set into this text.
+// After cutting off the bytes of the last file: inserts them into this text.
 fn told_parted(alloc: Global, piece: &Piece, agg: AggId, begun: usize, last: &Reply) -> Told
     ensures { IfOk result (λ after. reached piece.now after ≡ spec.told_parted piece.now agg begun last.now) }
 {
@@ -299,7 +302,7 @@ fn told_parted(alloc: Global, piece: &Piece, agg: AggId, begun: usize, last: &Re
     }
 }
 
-// They were set into it.
+// After inserting them.
 fn told_replaced(
     alloc: Global,
     piece: &Piece,
@@ -320,7 +323,7 @@ fn told_replaced(
     }
 }
 
-// What was cut off is given up: the bytes of the file before are set into the text.
+// After dropping the bytes that were cut off: inserts the bytes of the file before.
 fn told_part_dropped(alloc: Global, piece: &Piece, made: AggId, begun: usize) -> Told
     ensures { IfOk result (λ after. reached piece.now after ≡ Some (spec.interleave_on begun piece.now made)) }
 {
@@ -329,7 +332,7 @@ fn told_part_dropped(alloc: Global, piece: &Piece, made: AggId, begun: usize) ->
     Ok(with(step.doing, step.begun, step.piece))
 }
 
-// What follows where so many of an aggregate's bytes were taken.
+// The phase after `taken` of an aggregate's bytes were taken.
 fn taken_of(agg: AggId, taken: u32, to: u32) -> Doing
     ensures { result ≡ spec.taken_of agg taken to }
 {
@@ -344,7 +347,7 @@ fn taken_of(agg: AggId, taken: u32, to: u32) -> Doing
     }
 }
 
-// An aggregate of so many bytes was written, or nobody reads it.
+// After writing an aggregate of `len` bytes, or a refusal because there is no reader.
 fn told_written(agg: AggId, len: u32, begun: usize, last: &Reply) -> Option<After>
     ensures { result ≡ written_after agg len begun last.now }
 {
@@ -355,7 +358,7 @@ fn told_written(agg: AggId, len: u32, begun: usize, last: &Reply) -> Option<Afte
     }
 }
 
-// The rest of an aggregate was cut off.
+// After cutting off the rest of an aggregate.
 fn told_cut(agg: AggId, begun: usize, last: &Reply) -> Option<After>
     ensures { result ≡ cut_after agg begun last.now }
 {
@@ -365,7 +368,7 @@ fn told_cut(agg: AggId, begun: usize, last: &Reply) -> Option<After>
     }
 }
 
-// All of something is written: the file that was too long is, or the script goes on.
+// After writing all of an aggregate: writes the file that is too long, or continues the script.
 fn told_dropped(alloc: Global, piece: &Piece, begun: usize) -> Told
     ensures after { IfOk result (λ after. reached piece.now after ≡ spec.told_dropped piece.now piece.now.next begun) }
     ensures wants { OnErr result (is_some piece.now.next ≡ true) }
@@ -379,7 +382,7 @@ fn told_dropped(alloc: Global, piece: &Piece, begun: usize) -> Told
     }
 }
 
-// Nobody reads: what is left is given up, and the script is at its end.
+// After a write without reader: drops the rest, and ends the script.
 fn told_broken(alloc: Global, job: &Job, piece: &Piece, begun: usize) -> Told
     ensures after { IfOk result (λ after. reached piece.now after ≡ spec.told_broken job.now piece.now piece.now.next begun) }
     ensures wants { OnErr result (is_some piece.now.next ≡ true) }
@@ -393,7 +396,7 @@ fn told_broken(alloc: Global, job: &Job, piece: &Piece, begun: usize) -> Told
     }
 }
 
-/// What it is at after the reply; none where the call is to be made again.
+/// The step after the reply; none if the call is retried.
 pub(crate) fn told(
     alloc: Global,
     job: &Job,

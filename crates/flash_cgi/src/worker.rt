@@ -20,8 +20,8 @@ use iol_proc::look::Look;
 use iol_proc::process::{Process, Turn};
 use std::alloc::{AllocError, Global};
 
-/// Runs the scripts of the jobs that come on its descriptor 0, one after another. Once its job pipe
-/// has ended it makes no more calls.
+/// Runs the scripts of the jobs that arrive on its descriptor 0, one after another. After the end
+/// of its job pipe it makes no more calls.
 #[derive(Drop)]
 pub struct Worker {
     alloc: Global,
@@ -31,7 +31,7 @@ pub struct Worker {
 }
 
 impl Worker {
-    /// A worker that waits for its first job.
+    /// Creates a worker that waits for its first job.
     pub fn new(alloc: Global) -> Worker
         ensures { account.IsNew result }
     {
@@ -47,7 +47,7 @@ impl Worker {
         }
     }
 
-    // Makes the call that it is at.
+    // Makes the call of its current step.
     fn ask(&mut self) -> Result<Turn, AllocError>
         ensures { MakesItsCall self.old result self.new }
     {
@@ -57,7 +57,7 @@ impl Worker {
         Ok(Turn::Make(call))
     }
 
-    // Makes the call of a phase, with what it has collected.
+    // Makes the call of a phase, with unchanged buffered output.
     fn make(&mut self, doing: Doing, begun: usize) -> Result<Turn, AllocError>
         ensures { StepsOn self.old (Some (step_with doing begun self.old.step.piece)) result self.new }
     {
@@ -67,7 +67,7 @@ impl Worker {
         Ok(Turn::Make(call))
     }
 
-    // Makes the call of a phase with this piece, which it has collected then.
+    // Makes the call of a phase with this piece as the new buffered output.
     fn make_with(&mut self, doing: Doing, begun: usize, piece: Piece) -> Result<Turn, AllocError>
         ensures { StepsOn self.old (Some (step_with doing begun piece)) result self.new }
     {
@@ -81,7 +81,7 @@ impl Worker {
         Ok(Turn::Make(call))
     }
 
-    // Makes the call of what it is at after a reply.
+    // Makes the call of the step after a reply.
     fn advance(&mut self, after: After) -> Result<Turn, AllocError>
         ensures { StepsOn self.old (Some (reached_by self.old.step.piece after)) result self.new }
     {
@@ -96,7 +96,7 @@ impl Worker {
         }
     }
 
-    // Goes on by the reply, or yields, to make the same call again.
+    // Continues by the reply, or yields, to make the same call again.
     fn go_on(&mut self, last: &Reply, look: &Look<'_>) -> Result<Turn, AllocError>
         ensures { GoesOnBy self.old last.now (lent look.now) result self.new }
     {
@@ -118,7 +118,7 @@ impl Worker {
         }
     }
 
-    // Takes the job that this text is, if it is one. No text is the end of its job pipe.
+    // Takes the job of this text, if it is one. An empty text is the end of the job pipe.
     fn take_text(&mut self, text: &[u8], agg: AggId) -> Result<(), AllocError>
         ensures taken { IfOk result
             (λ _. self.new ≡ account.with_text self.old text.now agg) }
@@ -143,7 +143,7 @@ impl Worker {
         Ok(())
     }
 
-    // Takes what came on its job pipe, and gives up the aggregate.
+    // Takes the text read from its job pipe, and drops the aggregate.
     fn take(&mut self, agg: AggId, look: &Look<'_>) -> Result<Turn, AllocError>
         ensures { TakesText self.old (bytes_at (lent look.now) agg) agg result self.new }
     {
@@ -152,7 +152,7 @@ impl Worker {
         Ok(Turn::Make(Call::AggDrop { agg }))
     }
 
-    // Files the reply to its call.
+    // Processes the reply to its call.
     fn file(&mut self, last: &Reply, look: &Look<'_>) -> Result<Turn, AllocError>
         ensures { FilesReply self.old last.now (lent look.now) result self.new }
     {
@@ -173,7 +173,7 @@ impl Process for Worker {
         ensures quiet { IfOk result IsQuiet }
         ensures err { OnErr result (self.new ≡ self.old) }
 
-        // It wants memory only to read what came for a job, if a byte did, and for the bytes of a call.
+        // It needs memory only to parse a text of at least one byte, and for the bytes of a call.
         ensures wants { OnErr result (memory.Wants self.old last.now (lent look.now)) }
     {
         match self.standing {

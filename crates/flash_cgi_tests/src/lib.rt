@@ -1,7 +1,7 @@
-//! Scripts that a worker runs, whole: what comes of each of their lines, with files in memory.
+//! Tests of scripts and their worker: the whole output of each kind of line, with files in memory.
 //!
-//! Inputs are made before the world is there, which stands behind a type that says nothing of it:
-//! so the tests are quick to prove.
+//! Inputs are made before the world, and the world is a type without contracts, so that the tests
+//! are quick to prove.
 #![tactic(auto)]
 
 #[cfg(test)]

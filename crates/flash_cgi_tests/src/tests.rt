@@ -1,4 +1,4 @@
-//! What workers make of scripts.
+//! The output of scripts.
 mod ample;
 mod ends;
 mod outputs;

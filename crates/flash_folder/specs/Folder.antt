@@ -3,7 +3,7 @@ use Rattle.std.specs.Prelude.{◌≡◌, ℕ, false, List, map}
 use Rattle.std.specs.List.{list_any}
 use Rattle.flash_lite.specs.declared.site.SiteFile.{SiteFile}
 
--- files of these names, in their order, for everybody
+-- files of these names, in order, readable by all
 pub record AreFilesOf (names : List (List ℕ)) (files : List SiteFile) : Type 0 where
   pub named : map (λ f. f.name.items) files ≡ names
   pub shared : list_any (λ f. f.private) files ≡ false

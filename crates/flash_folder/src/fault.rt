@@ -1,4 +1,4 @@
-//! Why a server of a folder ends without doing all that it was asked for.
+//! Faults that end a server of a folder early.
 ghost use Rattle.std.specs.Prelude.{◌≡◌, ◌≢◌, ◌⊎◌, OnOk};
 ghost use Rattle.std.specs.IoError.{error_kind};
 ghost use Rattle.std.specs.Io.KnownBytes.{Appends};
@@ -7,16 +7,16 @@ ghost use Rattle.flash_folder.specs.Fault.{fault_line, status_of, word_of};
 use std::io::{ErrorKind, Write};
 use std::{fmt, io};
 
-/// The exit status of a program that did all that it was asked for.
+/// The exit status after success.
 pub const DONE: u8 = 0;
 
-/// The exit status of one that met a fault.
+/// The exit status after a fault.
 pub const FAULT: u8 = 3;
 
-/// Why a server of a folder ends early. It prints as the line that goes to standard error.
+/// The fault that ends a server of a folder early. It prints as a line for standard error.
 #[derive(Clone, Copy, Debug, PartialEq, Eq)]
 pub enum Fault {
-    /// The port cannot be listened on.
+    /// The server cannot listen on the port.
     Listen,
 
     /// No connection can be accepted.
@@ -31,12 +31,12 @@ pub enum Fault {
     /// The output could not be written.
     Output,
 
-    /// The allocator refused to give memory.
+    /// The allocator refused memory.
     Memory,
 }
 
 impl Fault {
-    /// The fault that an error is: want of memory, or `otherwise`.
+    /// The fault of an error: out of memory, or `otherwise`.
     pub fn of(error: &io::Error, otherwise: Fault) -> Fault
         ensures memory { error_kind error.now ≡ ErrorKind.OutOfMemory → result ≡ Fault.Memory }
         ensures otherwise { error_kind error.now ≢ ErrorKind.OutOfMemory → result ≡ otherwise }
@@ -49,7 +49,7 @@ impl Fault {
         }
     }
 
-    // Its word.
+    // The word for the fault in its printed text.
     fn word(self) -> &'static str
         ensures { result.now ≡ word_of self }
     {
@@ -76,7 +76,8 @@ impl fmt::Display for Fault {
     }
 }
 
-/// Tells what ended a program early, where that can be written: its exit status.
+/// The exit status of a program. Writes its fault, if any, to `errors`; an error of that write is
+/// ignored.
 pub fn ended<E: Write>(done: Result<(), Fault>, errors: &mut E) -> u8
     ensures status { result ≡ status_of done }
     ensures silent { OnOk done (errors.new ≡ errors.old) }
@@ -90,7 +91,7 @@ pub fn ended<E: Write>(done: Result<(), Fault>, errors: &mut E) -> u8
     }
 }
 
-// Writes the line that a fault is told as.
+// Writes the line that reports a fault.
 fn tell<E: Write>(fault: Fault, errors: &mut E) -> io::Result<()>
     ensures { OnOk result (Appends (E.contents errors.old) (E.contents errors.new)
         (fault_line fault)) }

@@ -1,4 +1,4 @@
--- Facts on the fields of a head.
+-- Lemmas on the fields of a head.
 use Rattle.std.proofs.Common.{◌≡◌, ℕ, Bool, List, map, rules}
 use Rattle.std.specs.Prelude.{◌↔◌, IsTrue}
 use Rattle.std.specs.Char.{to_ascii_lowercase}

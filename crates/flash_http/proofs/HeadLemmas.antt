@@ -1,4 +1,4 @@
--- From what is read of a head to what the head asks for.
+-- From the parse of a head to its answer.
 use Rattle.std.proofs.Common.{◌≡◌, ℕ, List, false, Some, None, Result, Ok, Err}
 use Rattle.std.specs.Prelude.{IfOk, OnErr}
 use Rattle.flash_http.specs.declared.requests.Asked.{Asked}

@@ -1,4 +1,4 @@
--- A head has one answer, since the readings of a head and of a target are one.
+-- A head has one answer, since parses of a head and of a target are unique.
 use Rattle.std.proofs.Common.{◌≡◌, ℕ, List, [], Option, Some, None, refl, sym, ap, ◌∙◌}
 use Rattle.std.specs.Prelude.{MatchOption, unwrap_or}
 use Rattle.httparse.proofs.GrammarLemmas.{request_unique}

@@ -1,4 +1,4 @@
--- What a request selects of a file lies in it.
+-- The selection of a file is within the file.
 use Rattle.std.proofs.Common.{◌≡◌, ℕ, ◌-◌, ◌==◌, ◌<◌, ◌≤◌, refl, arith, Some, None, true, false, Bool}
 use Rattle.std.specs.Prelude.{min, nat_le, nat_lt, if◌then◌else◌}
 use Rattle.std.proofs.lemmas.Bool.Decides.{nat_tests}

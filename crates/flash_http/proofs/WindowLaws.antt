@@ -1,4 +1,4 @@
--- The window of a stream that goes on.
+-- The window of a stream when more bytes arrive.
 use Rattle.std.proofs.Common.{◌≡◌, ℕ, ◌+◌, ◌<◌, ◌≤◌, ◌==◌, Bool, true, false, cond, List, [], ◌∷◌, ◌++◌, length, Option, Some, None, IfSome, refl, sym, ap, ◌∙◌, arith, inl, inr, length-append, append-nil}
 use Rattle.std.specs.Prelude.{◌⊎◌, ◌≢◌, nat_lt, nat_le}
 use Rattle.std.proofs.lemmas.Bool.Decides.{nat_tests}

@@ -1,4 +1,4 @@
--- Chunks: a body of unknown length, piece by piece (RFC 9112, section 7.1).
+-- Chunks: a body of unknown length in pieces (RFC 9112, section 7.1).
 use Rattle.std.specs.Prelude.{◌≡◌, ℕ, false, List, [], ◌++◌, length, codes}
 use Rattle.std.specs.List.{flat_map}
 use Rattle.std.specs.Fmt.{digits}
@@ -19,10 +19,10 @@ chunk bytes = chunk_head (length bytes) ++ (bytes ++ chunk_end)
 abbrev pub last_chunk : List ℕ
 last_chunk = codes "0\r\n\r\n"
 
--- A body in these pieces.
+-- A body of these pieces.
 abbrev pub chunked_body : (pieces : List (List ℕ)) → List ℕ
 chunked_body pieces = flat_map chunk pieces ++ last_chunk
 
--- the line reads as this size, by the grammar of `httparse`
+-- by the grammar of `httparse`, the line is this size
 abbrev pub ReadsAsSize : List ℕ → (len : ℕ) → Type 0
 ReadsAsSize line len = (l : ChunkLine) × ReadsChunkLine line l [] × (chunk_size l ≡ len)

@@ -1,4 +1,4 @@
--- The fields and the method of a head, and what they say.
+-- The fields and the method of a head, and their meaning.
 use Rattle.std.specs.Prelude.{◌≡◌, ℕ, ◌&&◌, ◌||◌, ◌==◌, not, Bool, false, List, [], ◌∷◌, length, map, filter, codes, bytes_eq, Option, Some, None, if◌then◌else◌}
 use Rattle.std.specs.List.{list_all, list_any, slice_split}
 use Rattle.std.specs.Int.{is_in_range}
@@ -11,7 +11,7 @@ use Rattle.httparse.specs.declared.spans.HeaderSpan.{HeaderSpan}
 abbrev pub Field : Type 0
 Field = List ℕ × List ℕ
 
--- the name in any case (section 5.1)
+-- the name, case-insensitive (section 5.1)
 abbrev pub is_named : List ℕ → Field → Bool
 is_named name field = str_eq_ignore_ascii_case field.0 name
 
@@ -19,11 +19,11 @@ is_named name field = str_eq_ignore_ascii_case field.0 name
 abbrev pub values_of : List ℕ → List Field → List (List ℕ)
 values_of name fields = map (λ field. field.1) (filter (is_named name) fields)
 
--- the same, where the fields lie in a head at these places
+-- the same for fields given as ranges of a head
 abbrev pub values_at : (name head : List ℕ) → List HeaderSpan → List (List ℕ)
 values_at name head spans = values_of name (map (header_bytes head) spans)
 
--- of the values of a name in the fields at these places this is the first, and those in the fields at the other places come after
+-- value is the first value of the name in spans, and the values in rest are the remaining ones
 abbrev pub ComesFirst : (name head : List ℕ) → List HeaderSpan → (value : List ℕ) → (rest : List HeaderSpan) → Type 0
 ComesFirst name head spans value rest = values_at name head spans ≡ value ∷ values_at name head rest
 
@@ -32,7 +32,7 @@ lacks name fields = length (values_of name fields) == 0
 
 -- ---- Host (RFC 9110, section 7.2; RFC 9112, section 3.2: exactly one)
 
--- visible ASCII but for `/`, `?`, `#` and `@`, which end an authority or its user information (RFC 3986, section 3.2)
+-- visible ASCII except `/`, `?`, `#` and `@`, which end an authority or its user information (RFC 3986, section 3.2)
 abbrev pub is_host_byte : ℕ → Bool
 is_host_byte b = is_in_range 33 126 b && not (b == 47 || b == 63 || b == 35 || b == 64)
 
@@ -56,7 +56,7 @@ has_content fields =
 
 -- ---- Connection (RFC 9110, section 7.6.1; RFC 9112, section 9.3)
 
--- one of its options, between commas, is `close`, in any case
+-- one of its comma-separated options is `close`, case-insensitive
 abbrev pub names_close : List ℕ → Bool
 names_close value =
     list_any (λ option. str_eq_ignore_ascii_case (trim_ows option) (codes "close")) (slice_split (λ b. b == 44) value)
@@ -71,11 +71,11 @@ only [] = None
 only (value ∷ []) = Some value
 only (value ∷ other ∷ others) = None
 
--- the value of the one Range field; none where a condition goes with it
+-- the value of the only Range field; none if the request has a condition
 abbrev pub one_range : List Field → Option (List ℕ)
 one_range fields = if lacks (codes "if-range") fields then only (values_of (codes "range") fields) else None
 
--- ---- methods, whose case counts (RFC 9110, section 9.1)
+-- ---- methods, which are case-sensitive (RFC 9110, section 9.1)
 
 abbrev pub is_served_method : List ℕ → Bool
 is_served_method m = bytes_eq m (codes "GET") || bytes_eq m (codes "HEAD")

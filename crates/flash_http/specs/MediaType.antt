@@ -1,4 +1,4 @@
--- Media types (RFC 9110, section 8.3), and what the end of a file's name says.
+-- Media types (RFC 9110, section 8.3), by the suffix of a file's name.
 use Rattle.std.specs.Prelude.{ℕ, Bool, List, codes, nat_eq, if◌then◌else◌}
 use Rattle.std.specs.List.{ends_with}
 use Rattle.flash_http.specs.declared.names.MediaType.{MediaType}

@@ -1,4 +1,4 @@
--- What a head asks for, as a relation between its bytes and an answer.
+-- The meaning of a head, as a relation between its bytes and an answer.
 use Rattle.std.specs.Prelude.{◌≡◌, ◌≢◌, ℕ, ◌≤◌, ◌||◌, ◌==◌, not, string_bytes, Bool, true, false, List, [], length, map, codes, bytes_eq, Option, Some, None, MatchOption, option_and_then, if◌then◌else◌}
 use Rattle.std.specs.List.{list_any}
 use Rattle.httparse.specs.Grammar.{RequestHead, ReadsRequest}
@@ -13,7 +13,7 @@ use Rattle.flash_http.specs.Target.{TargetIs, has_fragment, segments, is_dot_seg
 use Rattle.flash_http.specs.Range.{part_of_value}
 use Rattle.flash_http.specs.MediaType.{is_script}
 
--- what is served: a `Request`, without where its text lies in memory
+-- a request that is served: a `Request`, with its texts as values
 pub record Wanted : Type 0 where
   pub head_only : Bool
   pub name : List ℕ
@@ -22,7 +22,7 @@ pub record Wanted : Type 0 where
   pub range : Option Part
   pub chunked : Bool
 
--- what a head comes to: to serve a file, or to refuse with a status; whether with no body; whether with a close
+-- the answer to a head: serve a file, or refuse with a status, whether without body, and whether the connection closes
 pub data Answer : Type 0 where
   serve : Wanted → Answer
   refuse : (status : ℕ) → (head_only close : Bool) → Answer
@@ -43,7 +43,7 @@ answer (asked.Refuse status head_only close) = refuse status head_only close
 
 -- ---- the head (RFC 9112, sections 2.1, 3 and 5, as `httparse` writes them)
 
--- what is looked at of a head; minor is that of its version
+-- the interpreted parts of a head; minor is the minor version
 pub record Reading : Type 0 where
   pub method : List ℕ
   pub target : List ℕ
@@ -57,21 +57,21 @@ reading_of h = record { method = h.method; target = h.target; minor = h.minor; f
 abbrev pub IsHead : List ℕ → RequestHead → Type 0
 IsHead bytes h = ReadsRequest bytes h [] × (length h.fields ≤ MAX_FIELDS)
 
--- what is read in the bytes, or nothing
+-- the result of parsing the bytes, if they parse
 abbrev pub Reads : List ℕ → Option Reading → Type 0
 Reads bytes None = (h : RequestHead) → IsHead bytes h → ⊥
 Reads bytes (Some reading) = (h : RequestHead) × IsHead bytes h × (reading ≡ reading_of h)
 
--- ---- what it says
+-- ---- its meaning
 
 abbrev pub is_head_only : Reading → Bool
 is_head_only r = bytes_eq r.method (codes "HEAD")
 
--- a connection stays open in HTTP/1.1 unless it is asked to close (RFC 9112, section 9.3)
+-- in HTTP/1.1 a connection stays open unless the request asks to close it (RFC 9112, section 9.3)
 abbrev pub closes : Reading → Bool
 closes r = r.minor == 0 || asks_to_close r.fields
 
--- HTTP/1.1 wants exactly one (RFC 9112, section 3.2); with HTTP/1.0 the field is not looked at
+-- HTTP/1.1 requires exactly one (RFC 9112, section 3.2); for HTTP/1.0 the field is ignored
 abbrev pub is_host_fine : Reading → Bool
 is_host_fine r = r.minor == 0 || has_one_host r.fields
 
@@ -79,19 +79,19 @@ is_host_fine r = r.minor == 0 || has_one_host r.fields
 abbrev pub bad_request : Reading → Answer
 bad_request r = refuse 400 (is_head_only r) true
 
--- what the fields and the method refuse: 400, 405 Method Not Allowed or 501 Not Implemented
+-- the refusal by the fields and the method: 400, 405 Method Not Allowed or 501 Not Implemented
 abbrev pub refusal : Reading → Option Answer
 refusal r =
     if not (is_host_fine r) || has_content r.fields then Some (bad_request r)
     else (if is_served_method r.method then None
     else Some (refuse (if is_known_method r.method then 405 else 501) (is_head_only r) (closes r)))
 
--- the part of the file that is asked for: with GET, and of no script
+-- the requested part of the file: only with GET, and not for a script
 abbrev pub range_of : Reading → (name : List ℕ) → Option Part
 range_of r name =
     if is_head_only r || is_script name then None else option_and_then part_of_value (one_range r.fields)
 
--- ---- all of it
+-- ---- the answer
 
 abbrev pub served : Reading → Option (List ℕ × List ℕ) → Answer
 served r None = bad_request r
@@ -111,37 +111,37 @@ Asks (Some r) a =
     ((file : Option (List ℕ × List ℕ)) × TargetIs r.target file × (a ≡ served r file))
     (λ refused. a ≡ refused)
 
--- What a head asks for: the first check that fails refuses it.
+-- The answer to a head: the first check that fails determines the refusal.
 abbrev pub IsAnswerTo : List ℕ → Answer → Type 0
 IsAnswerTo bytes a = (reading : Option Reading) × Reads bytes reading × Asks reading a
 
--- a head whose target is to be read: its fields and its method refuse nothing, and the target has no fragment
+-- the target of a head is interpreted: its fields and method refuse nothing, and the target has no fragment
 abbrev pub LooksAtTarget : List ℕ → Type 0
 LooksAtTarget bytes =
     (reading : Reading) × Reads bytes (Some reading) × (refusal reading ≡ None) × (has_fragment reading.target ≡ false)
 
--- a head has one answer
+-- a head has exactly one answer
 abbrev pub OneAnswer : Type 0
 OneAnswer = (head : List ℕ) (a b : Answer) → IsAnswerTo head a → IsAnswerTo head b → a ≡ b
 
--- a name is not empty, has no NUL, and none of its parts between slashes is `.` or `..`
+-- a name is not empty, has no NUL, and none of its segments is `.` or `..`
 pub record IsPlainName (name : List ℕ) : Type 0 where
   pub some : name ≢ []
   pub no_nul : list_any (λ b. b == 0) name ≡ false
   pub no_dots : list_any is_dot_segment (segments name) ≡ false
 
--- whatever the head, a file that is served has a plain name
+-- for every head: a served file has a plain name
 abbrev pub NamesArePlain : Type 0
 NamesArePlain = (head : List ℕ) (w : Wanted) → IsAnswerTo head (serve w) → IsPlainName w.name
 
--- whatever the head, a connection on which no chunks may be sent closes
+-- for every head: if no chunks may be sent, the connection closes
 abbrev pub ClosesWithoutChunks : Type 0
 ClosesWithoutChunks = (head : List ℕ) (w : Wanted) → IsAnswerTo head (serve w) → w.chunked ≡ false → w.keep ≡ false
 
--- whatever the head, HEAD asks for all of the file
+-- for every head: HEAD has no range
 abbrev pub HeadsHaveNoRange : Type 0
 HeadsHaveNoRange = (head : List ℕ) (w : Wanted) → IsAnswerTo head (serve w) → w.head_only ≡ true → w.range ≡ None
 
--- whatever the head, a query is no longer than it
+-- for every head: a query is no longer than the head
 abbrev pub QueriesFit : Type 0
 QueriesFit = (head : List ℕ) (w : Wanted) → IsAnswerTo head (serve w) → length w.query ≤ length head

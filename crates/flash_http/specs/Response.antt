@@ -1,4 +1,4 @@
--- The head of an answer, and the body of a refusal (RFC 9110; RFC 9112, sections 4 to 6: a line ends with CR LF).
+-- The head of a response, and the body of a refusal (RFC 9110; RFC 9112, sections 4 to 6: a line ends with CR LF).
 use Rattle.std.specs.Prelude.{ℕ, ◌+◌, ◌-◌, ◌==◌, ◌||◌, not, Bool, List, [], ◌++◌, length, codes, decimal, Option, Some, None, if◌then◌else◌}
 use Rattle.http.specs.StatusCode.{status_text}
 use Rattle.flash_http.specs.declared.names.MediaType.{MediaType}
@@ -12,9 +12,9 @@ use Rattle.flash_http.specs.declared.responses.ContentRange.TheVariants.{Bytes, 
 use Rattle.flash_http.specs.declared.responses.ResponseHead.{ResponseHead}
 use Rattle.flash_http.specs.MediaType.{media_text}
 
--- ---- the lines, each with its end, or none
+-- ---- the lines, each with its end; an absent line is empty
 
--- how the end of the body is told (RFC 9112, section 6.3)
+-- the indication of the end of the body (RFC 9112, section 6.3)
 abbrev pub framing_line : Framing → List ℕ
 framing_line (Length len) = codes "Content-Length: " ++ (decimal len ++ codes "\r\n")
 framing_line Chunked = codes "Transfer-Encoding: chunked\r\n"
@@ -44,7 +44,7 @@ head_text h =
     ++ (codes "\r\n" ++ (framing_line h.framing ++ (range_line h.range
     ++ (allow_line h.status ++ (connection_line h.close ++ codes "\r\n"))))))))
 
--- ---- which head
+-- ---- the heads by kind of response
 
 -- the body of a refusal: its status line
 abbrev pub error_body : (status : ℕ) → List ℕ
@@ -59,7 +59,7 @@ refusal_head status close = record {
   close = close;
 }
 
--- of a file of len bytes: 200 OK, 206 Partial Content or 416 Range Not Satisfiable (RFC 9110, section 15)
+-- for a file of len bytes: 200 OK, 206 Partial Content or 416 Range Not Satisfiable (RFC 9110, section 15)
 abbrev pub file_head : MediaType → Selection → (len : ℕ) → (close : Bool) → ResponseHead
 file_head media select.Whole len close = record {
   status = 200;
@@ -77,8 +77,8 @@ file_head media (select.Bytes first last) len close = record {
 }
 file_head media select.Unsatisfiable len close = record (refusal_head 416 close) { range = Some (Unsatisfied len) }
 
--- of a script, whose output is text of unknown length: in chunks, or up to the close of the connection, which it then
--- tells (RFC 9112, section 6.3)
+-- for a script, whose output has unknown length: in chunks, or up to the close of the connection, which the head then announces
+-- (RFC 9112, section 6.3)
 abbrev pub script_head : (chunked close : Bool) → ResponseHead
 script_head chunked close = record {
   status = 200;

@@ -1,4 +1,4 @@
--- The search for a head byte by byte, as the code goes: not needed to understand what a window is.
+-- The search for a head byte by byte, as the code does it: not needed to understand the definition of a window.
 use Rattle.std.specs.Prelude.{◌≡◌, ℕ, ◌+◌, ◌==◌, Bool, true, false, List, [], ◌∷◌, ◌++◌, length, Option, Some, None, if◌then◌else◌}
 use Rattle.flash_http.specs.declared.windows.Window.{Window}
 use Rattle.flash_http.specs.declared.scan.Line.{Line}
@@ -16,11 +16,11 @@ is_text Fresh = false
 is_text Return = false
 is_text Text = true
 
--- the bytes that were searched
+-- the number of bytes searched
 abbrev pub searched : Scan → ℕ
 searched s = s.skip + s.len
 
--- the head that is found from here on
+-- the head found in the remaining bytes
 abbrev pub found_from : (begun : Bool) → (skip len : ℕ) → Line → List ℕ → Option (ℕ × ℕ)
 found_from begun skip len line [] = None
 found_from begun skip len line (b ∷ bytes) =
@@ -29,14 +29,14 @@ found_from begun skip len line (b ∷ bytes) =
     else (if begun then Some (skip, len + 1) else found_from false (skip + (len + 1)) 0 Fresh bytes))
     else found_from begun skip (len + 1) (next_line line b) bytes
 
--- the window of a stream of which so much was searched, with the bytes that come after
+-- the window of a stream from a state of the search and the remaining bytes
 abbrev pub window_from : Scan → List ℕ → Window
 window_from s bytes = window_at (found_from s.begun s.skip s.len s.line bytes) (searched s + length bytes)
 
--- these bytes settle the window, whatever comes after them
+-- these bytes determine the window, whatever follows
 abbrev pub Finds : Scan → (bytes : List ℕ) → Window → Type 0
 Finds s bytes w = (rest : List ℕ) → window_from s (bytes ++ rest) ≡ w
 
--- the search goes on after these bytes
+-- the search continues after these bytes
 abbrev pub GoesOn : (old : Scan) → (bytes : List ℕ) → (new : Scan) → Type 0
 GoesOn old bytes new = (rest : List ℕ) → window_from old (bytes ++ rest) ≡ window_from new rest

@@ -8,17 +8,17 @@ use Rattle.percent_encoding.specs.Percent.{percent_decode}
 
 -- ---- the form (RFC 9112, section 3.2)
 
--- the origin form, or the absolute form of `http` or `https`; not the authority form, and not `*`
+-- the origin form, or the absolute form of `http` or `https`; not the authority form or `*`
 abbrev pub is_served_form : (target : List ℕ) → (scheme authority : Option (List ℕ)) → Bool
 is_served_form target None None = not (bytes_eq target (codes "*"))
 is_served_form target None (Some authority) = false
 is_served_form target (Some scheme) authority = bytes_eq scheme (codes "http") || bytes_eq scheme (codes "https")
 
--- the target has a `#`, which no request target may have (RFC 9112, section 3.2)
+-- the target has a `#`, which is not permitted in a request target (RFC 9112, section 3.2)
 abbrev pub has_fragment : (target : List ℕ) → Bool
 has_fragment target = list_any (λ b. b == 35) target
 
--- the target spells this URI, which is of such a form and has no fragment
+-- the target represents this URI, which has such a form and no fragment
 pub record IsServedUri (target : List ℕ) (uri : Uri) : Type 0 where
   pub no_fragment : has_fragment target ≡ false
   pub spells : Spells target uri
@@ -31,12 +31,12 @@ begins_with_hex_digits [] = false
 begins_with_hex_digits (high ∷ []) = false
 begins_with_hex_digits (high ∷ low ∷ bytes) = is_ascii_hexdigit high && is_ascii_hexdigit low
 
--- each `%` stands before two hexadecimal digits
+-- each `%` precedes two hexadecimal digits
 abbrev pub is_escaped : List ℕ → Bool
 is_escaped [] = true
 is_escaped (b ∷ bytes) = (not (b == 37) || begins_with_hex_digits bytes) && is_escaped bytes
 
--- the text between the slashes of a path
+-- the texts between the slashes of a path
 abbrev pub segments : List ℕ → List (List ℕ)
 segments path = slice_split (λ b. b == 47) path
 
@@ -44,7 +44,7 @@ segments path = slice_split (λ b. b == 47) path
 abbrev pub is_dot_segment : List ℕ → Bool
 is_dot_segment segment = bytes_eq segment (codes ".") || bytes_eq segment (codes "..")
 
--- well escaped; decoded once it is text without NUL and without dot segments
+-- valid escapes, decoded once to text without NUL and without dot segments
 pub record IsFilePath (path : List ℕ) : Type 0 where
   pub escaped : is_escaped path ≡ true
   pub text : IsUtf8 (percent_decode path)
@@ -65,7 +65,7 @@ or_index (b ∷ name) = b ∷ name
 abbrev pub file_name : List ℕ → List ℕ
 file_name path = or_index (without_slash (percent_decode path))
 
--- the text after the question mark, as it came (RFC 3986, section 3.4)
+-- the undecoded text after the question mark (RFC 3986, section 3.4)
 abbrev pub query_text : Uri → List ℕ
 query_text uri = unwrap_or (uri_query uri) []
 
@@ -77,12 +77,12 @@ pub record Names (target name query : List ℕ) : Type 0 where
   pub is_name : name ≡ file_name (uri_path uri)
   pub is_query : query ≡ query_text uri
 
--- what the target names: a file and a query, or nothing
+-- the file and query that the target names, or None
 abbrev pub TargetIs : (target : List ℕ) → Option (List ℕ × List ℕ) → Type 0
 TargetIs target None = (name query : List ℕ) → Names target name query → ⊥
 TargetIs target (Some file) = Names target file.0 file.1
 
--- ---- the same in two steps: the URI of the target, and the name of its path
+-- ---- the same in two steps: the URI of the target, and the file name of its path
 
 abbrev pub UriIs : (target : List ℕ) → Option Uri → Type 0
 UriIs target None = (uri : Uri) → IsServedUri target uri → ⊥

@@ -1,4 +1,4 @@
--- What the private types of the reader stand for.
+-- The values that the private types of the parser represent.
 use Rattle.std.specs.Prelude.{ℕ, List, string_bytes}
 use Rattle.flash_http.specs.declared.heads.Parsed.{Parsed}
 use Rattle.flash_http.specs.declared.targets.File.{File}

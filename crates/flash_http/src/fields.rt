@@ -1,4 +1,4 @@
-//! The fields of a head, and what they say.
+//! The header fields of a head, and their meaning.
 ghost use Rattle.std.specs.Prelude.{◌≡◌, [], List, ℕ, All, IfNone, IfSome, codes, length, map, not, option_map, reverse};
 ghost use Rattle.std.specs.Iterator.{YieldsFirstRef, item_count};
 ghost use Rattle.std.specs.List.{list_all, list_any};
@@ -14,7 +14,7 @@ use httparse::is_space_or_tab;
 use httparse::spans::HeaderSpan;
 use std::marker::Model;
 
-// The fields of a head, where they lie in it.
+// The header fields of a head, as ranges in it.
 #[derive(Drop)]
 pub(crate) struct Fields<'a> {
     head: &'a [u8],
@@ -59,7 +59,7 @@ fn eq_ignore_case(a: &[u8], b: &[u8]) -> bool
     a.eq_ignore_ascii_case(b)
 }
 
-// The value of the first field of a name, and the fields after it.
+// The value of the first field of a name, and the remaining fields.
 fn next_value<'a>(
     head: &'a [u8],
     mut spans: &'a [HeaderSpan],
@@ -148,7 +148,7 @@ impl<'a> Fields<'a> {
         self.values(CONNECTION).any(|value| names_close(value))
     }
 
-    // The value of the one Range field, where there is no If-Range.
+    // The value of the only Range field, if there is no If-Range.
     pub(crate) fn range(&self) -> Option<&'a [u8]>
         ensures { option_map (λ range. range.now) result ≡ spec.one_range self.now }
     {
@@ -200,7 +200,7 @@ fn trim_end(mut text: &[u8]) -> &[u8]
     text
 }
 
-// The text without the white space at its ends.
+// Trims white space at both ends.
 #[tactic(auto, unfolding(httparse::specs::Grammar::trim_ows))]
 fn trim_ows(text: &[u8]) -> &[u8]
     ensures { result.now ≡ trim_ows text.now }
@@ -208,7 +208,7 @@ fn trim_ows(text: &[u8]) -> &[u8]
     trim_end(trim_start(text))
 }
 
-// Whether `close` is among the options between commas.
+// Returns whether `close` is one of the comma-separated options.
 fn names_close(value: &[u8]) -> bool
     ensures { result ≡ spec.names_close value.now }
 {

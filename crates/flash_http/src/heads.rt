@@ -1,4 +1,4 @@
-//! What a head asks for.
+//! Interprets the head of a request.
 ghost use Rattle.std.specs.Prelude.{◌≡◌, ◌≤◌, true, false, Some, None, IfOk, OnErr, length, option_map};
 ghost use Rattle.httparse.specs.Spans.{IsRequestWithin, IsRequestOf};
 ghost use Rattle.flash_http.specs.Request as spec;
@@ -16,10 +16,10 @@ use httparse::Status;
 use httparse::spans::{EMPTY_HEADER_SPAN, HeaderSpan, RequestSpans, parse_request};
 use std::alloc::{AllocError, Global};
 
-/// The fields that a head may have.
+/// The maximum number of fields of a head.
 pub const MAX_FIELDS: usize = 64;
 
-// What is looked at of a head, where it lies in it.
+// The parts of a head that are interpreted, as ranges in it.
 #[derive(Drop)]
 pub(crate) struct Parsed<'a> {
     pub(crate) method: &'a [u8],
@@ -51,7 +51,7 @@ impl Parsed<'_> {
         self.minor == 0 || self.fields.has_one_host()
     }
 
-    // What the fields and the method refuse.
+    // The refusal that follows from the fields and the method.
     fn refusal(&self) -> Option<Asked>
         ensures { option_map spec.answer result ≡ spec.refusal (reading self.now) }
     {
@@ -74,7 +74,7 @@ impl Parsed<'_> {
         })
     }
 
-    // The part of the file of this name that is asked for.
+    // The requested part of the file of this name.
     fn range_of(&self, name: &str) -> Option<Part>
         ensures { result ≡ spec.range_of (reading self.now) name.now }
     {
@@ -109,7 +109,7 @@ impl Parsed<'_> {
     }
 }
 
-// The parts of a head that was read whole.
+// The parts of a head that was parsed completely.
 fn parts_of<'a>(head: &'a [u8], found: RequestSpans, spans: &'a [HeaderSpan]) -> Parsed<'a>
     requires within { IsRequestWithin head.now spans.now found }
     requires complete { IsRequestOf head.now spans.now found }
@@ -125,11 +125,11 @@ fn parts_of<'a>(head: &'a [u8], found: RequestSpans, spans: &'a [HeaderSpan]) ->
     }
 }
 
-/// Says what a head asks for: `head` is the whole head, from its first line to the empty line at its end.
+/// Interprets `head`, a whole head from its first line to the empty line at its end.
 ///
-/// It follows RFC 9110, RFC 9112 and RFC 3986 by the profile of docs/HTTP.md. Memory is wanted for the target alone, and
-/// only where the fields and the method refuse nothing and the target has no `#`. Where it is refused, the same call may
-/// be made again.
+/// It follows RFC 9110, RFC 9112 and RFC 3986, with the profile of docs/HTTP.md. Only the target
+/// needs memory, and only if the fields and the method refuse nothing and the target has no `#`.
+/// If memory is refused, the call can be retried.
 pub fn read_head(alloc: Global, head: &[u8]) -> Result<Asked, AllocError>
     ensures answer { IfOk result (λ asked. spec.IsAnswerTo head.now (spec.answer asked)) }
     ensures memory { OnErr result (spec.LooksAtTarget head.now) }
@@ -143,13 +143,14 @@ pub fn read_head(alloc: Global, head: &[u8]) -> Result<Asked, AllocError>
     }
 }
 
-/// A head has one answer. A law: the call does nothing.
+/// A head has exactly one answer. A law: the function has no effect.
 pub fn one_answer()
     ensures { spec.OneAnswer }
 {}
 
-/// What is served, whatever the head: its name is plain, where no chunks may be sent the connection closes, HEAD has no range,
-/// and its query is no longer than the head. A law: the call does nothing.
+/// For every head with the answer `Serve`: its name is plain, the connection closes if no chunks
+/// may be sent, HEAD has no range, and the query is no longer than the head. A law: the function
+/// has no effect.
 pub fn served_requests()
     ensures names { spec.NamesArePlain }
     ensures closes { spec.ClosesWithoutChunks }

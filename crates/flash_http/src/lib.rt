@@ -1,13 +1,18 @@
-//! HTTP/1.1 heads: where the next one of a stream lies, what it asks for, and the heads of answers.
+//! HTTP/1.1 heads: finding the next head of a stream, interpreting it, and writing the heads of
+//! responses.
 //!
-//! `window` and `window_of` find the next head, whatever pieces the stream comes in; a window that was found stays
-//! (`window_stays`), and lies within the stream (`window_fits`). `read_head` says what a head asks for, by RFC 9110, RFC
-//! 9112 and the profile of docs/HTTP.md; a head has one answer (`one_answer`), and a name that is served has no dot segment
-//! (`served_requests`). `select` says what is sent of a file, always a part of it (`selections_lie_within`), `ResponseHead`
-//! writes the head of an answer, `error_body` the body of a refusal, `chunk_head` the line before a chunk. Bytes in, text
-//! out: nothing here waits, reads or writes, and where memory is refused the same call may be made again.
+//! `window` and `window_of` find the next head, however the stream is divided. A window that was
+//! found does not change when more bytes arrive (`window_stays`), and is within the stream
+//! (`window_fits`). `read_head` interprets a head by RFC 9110, RFC 9112 and the profile of
+//! docs/HTTP.md. A head has exactly one answer (`one_answer`), and the name of a served file has
+//! no dot segment (`served_requests`). `select` gives the part of a file that is sent, which is
+//! always within the file (`selections_lie_within`). `ResponseHead` writes the head of a response,
+//! `error_body` the body of a refusal, `chunk_head` the line before a chunk. All functions map
+//! bytes to text: none blocks or does input or output. If memory is refused, the call can be
+//! retried.
 //!
-//! `let Window::Head { skip, len } = window_of(stream) else { .. }; read_head(alloc, &stream[skip..skip + len])?`
+//!     let Window::Head { skip, len } = window_of(stream) else { .. };
+//!     let asked = read_head(alloc, &stream[skip..skip + len])?;
 #![tactic(auto)]
 
 mod chunks;

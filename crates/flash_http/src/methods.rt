@@ -1,4 +1,4 @@
-//! The methods of requests.
+//! Request methods.
 ghost use Rattle.std.specs.Prelude.{◌≡◌, bytes_eq, codes};
 ghost use Rattle.flash_http.specs.Fields as spec;
 
@@ -10,21 +10,21 @@ fn is(method: &[u8], known: &Method) -> bool
     method == known.as_str().as_bytes()
 }
 
-// Whether the method asks for a head alone.
+// Returns whether the method requests only a head.
 pub(crate) fn is_head_only(method: &[u8]) -> bool
     ensures { result ≡ bytes_eq method.now (codes "HEAD") }
 {
     is(method, &Method::HEAD)
 }
 
-// Whether files are served by this method.
+// Returns whether files are served for this method.
 pub(crate) fn is_served_method(method: &[u8]) -> bool
     ensures { result ≡ spec.is_served_method method.now }
 {
     is(method, &Method::GET) || is_head_only(method)
 }
 
-// Whether the method is known, but not for these files.
+// Returns whether the method is known, but not allowed for files.
 pub(crate) fn is_known_method(method: &[u8]) -> bool
     ensures { result ≡ spec.is_known_method method.now }
 {

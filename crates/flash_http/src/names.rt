@@ -1,9 +1,9 @@
-//! What the end of a file's name says.
+//! Media types and scripts, by the end of a file's name.
 ghost use Rattle.std.specs.Prelude.{◌≡◌, nat_eq};
 ghost use Rattle.std.specs.List.{ends_with};
 ghost use Rattle.flash_http.specs.MediaType as spec;
 
-/// The media type of an answer (RFC 9110, section 8.3).
+/// The media type of a response (RFC 9110, section 8.3).
 #[derive(Clone, Copy, Debug, PartialEq, Eq)]
 pub enum MediaType {
     Html,
@@ -22,7 +22,7 @@ fn ends_with(name: &str, end: &str) -> bool
     name.as_bytes().ends_with(end.as_bytes())
 }
 
-// Whether the name is a script's.
+// Returns whether the name is that of a script.
 pub(crate) fn is_script(name: &str) -> bool
     ensures { result ≡ spec.is_script name.now }
 {
@@ -30,7 +30,7 @@ pub(crate) fn is_script(name: &str) -> bool
 }
 
 impl MediaType {
-    /// The media type of a file by the end of its name, whose case counts.
+    /// The media type of a file by the suffix of its name, which is case-sensitive.
     pub fn of_name(name: &str) -> MediaType
         ensures { result ≡ spec.media_type name.now }
     {
@@ -53,7 +53,7 @@ impl MediaType {
         }
     }
 
-    // The media type as it stands in a head.
+    // The media type as it is written in a head.
     pub(crate) fn as_str(self) -> &'static str
         ensures { result.now ≡ spec.media_text self }
     {

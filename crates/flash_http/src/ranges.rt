@@ -1,4 +1,4 @@
-//! Byte ranges: the part of a file that a field asks for, and what is sent of it.
+//! Byte ranges: the part of a file that a field requests, and the part that is sent.
 ghost use Rattle.std.specs.Prelude.{◌≡◌, ◌≤◌, length, true};
 ghost use Rattle.std.specs.List.{list_all, position};
 ghost use Rattle.std.specs.Char.{is_ascii_digit};
@@ -7,17 +7,17 @@ ghost use Rattle.flash_http.specs.Range as spec;
 use crate::requests::Part;
 use std::str;
 
-/// The digits that a number in a Range field may have.
+/// The maximum number of digits of a number in a Range field.
 pub const MAX_DIGITS: usize = 15;
 
-/// What is sent of a file (RFC 9110, section 14.1.2). Places count from 0.
+/// The part of a file that is sent (RFC 9110, section 14.1.2). Positions count from 0.
 #[derive(Clone, Copy, Debug, PartialEq, Eq)]
 pub enum Selection {
-    /// All of it, by status 200.
+    /// The whole file, with status 200.
     Whole,
-    /// The bytes from place `first` up to place `last` and with it, by status 206.
+    /// The bytes from position `first` to position `last`, inclusive, with status 206.
     Bytes { first: u64, last: u64 },
-    /// Nothing that was asked for is there, status 416.
+    /// The file has none of the requested bytes: status 416.
     Unsatisfiable,
 }
 
@@ -35,7 +35,7 @@ fn parse_digits(digits: &str) -> Option<u64>
     digits.parse().ok()
 }
 
-// The number that digits write.
+// The number that the digits represent.
 fn number_of(digits: &[u8]) -> Option<u64>
     ensures { result ≡ spec.number digits.now }
 {
@@ -48,7 +48,7 @@ fn number_of(digits: &[u8]) -> Option<u64>
     }
 }
 
-// The part that is meant by what stands before and after the hyphen.
+// The part given by the texts before and after the hyphen.
 fn part_between(first: &[u8], last: &[u8]) -> Option<Part>
     ensures { result ≡ spec.part_between first.now last.now }
 {
@@ -80,7 +80,7 @@ fn hyphen_in(range: &[u8]) -> Option<usize>
     range.iter().position(|b| *b == b'-')
 }
 
-// The part that one range spells.
+// The part that one range specifies.
 fn part_in(range: &[u8]) -> Option<Part>
     ensures { result ≡ spec.part_in range.now }
 {
@@ -88,7 +88,7 @@ fn part_in(range: &[u8]) -> Option<Part>
     part_between(&range[..hyphen], &range[hyphen + 1..])
 }
 
-// The part that the value of a Range field asks for.
+// The part that the value of a Range field requests.
 pub(crate) fn part_of_value(value: &[u8]) -> Option<Part>
     ensures { result ≡ spec.part_of_value value.now }
 {
@@ -109,9 +109,9 @@ fn bytes_between(first: u64, last: u64, len: u64) -> Selection
     }
 }
 
-/// What is sent of a file of `len` bytes where this part is asked for.
+/// The part of a file of `len` bytes that is sent for a request of `part`.
 ///
-/// It is all of an empty file, and where the part ends before it begins.
+/// It is the whole file if the file is empty, or if the part ends before it begins.
 pub fn select(part: Option<Part>, len: u64) -> Selection
     ensures selection { result ≡ spec.selected part len }
     ensures within { spec.LiesWithin len result }
@@ -142,7 +142,7 @@ pub fn select(part: Option<Part>, len: u64) -> Selection
     }
 }
 
-/// What is sent lies in the file, and there is some. A law: the call does nothing.
+/// A selected range is within the file and not empty. A law: the function has no effect.
 pub fn selections_lie_within()
     ensures { spec.SelectionsLieWithin }
 {}

@@ -1,4 +1,4 @@
-//! The heads of answers, and the bodies of refusals.
+//! The heads of responses, and the bodies of refusals.
 ghost use Rattle.std.specs.Prelude.{◌≡◌, IfOk, codes, length, string_bytes, unwrap_or};
 ghost use Rattle.http.specs.StatusCode.{reason_phrase};
 ghost use Rattle.flash_http.specs.Range.{LiesWithin};
@@ -10,36 +10,37 @@ use http::StatusCode;
 use std::alloc::{AllocError, Global};
 use std::fmt;
 
-/// How the end of an answer's body is told (RFC 9112, section 6.3).
+/// The indication of the end of a response's body (RFC 9112, section 6.3).
 #[derive(Clone, Copy, Debug, PartialEq, Eq)]
 pub enum Framing {
-    /// By its bytes.
+    /// Its length in bytes.
     Length(u64),
-    /// By a last chunk.
+    /// The last chunk.
     Chunked,
-    /// By the close of the connection.
+    /// The close of the connection.
     UntilClose,
 }
 
-/// The bytes of a file that an answer carries (RFC 9110, section 14.4). Places count from 0.
+/// The bytes of a file in a response (RFC 9110, section 14.4). Positions count from 0.
 #[derive(Clone, Copy, Debug, PartialEq, Eq)]
 pub enum ContentRange {
-    /// Those from place `first` up to place `last` and with it, of a file of `len` bytes.
+    /// Those from position `first` to position `last`, inclusive, of a file of `len` bytes.
     Bytes { first: u64, last: u64, len: u64 },
-    /// None: the file has `len` bytes, and those that were asked for are not among them.
+    /// None: the file has `len` bytes, and none of the requested ones.
     Unsatisfied { len: u64 },
 }
 
-/// The head of an answer.
+/// The head of a response.
 #[derive(Clone, Copy, Debug, PartialEq, Eq)]
 pub struct ResponseHead {
-    /// The status; its phrase is written beside it, and the methods that are served with a 405.
+    /// The status, written with its phrase, and for 405 with the allowed methods.
     pub status: StatusCode,
     pub media_type: MediaType,
     pub framing: Framing,
-    /// Which bytes of a file the body has (206), or that it has none of those asked for (416).
+    /// The bytes of a file in the body (206), or that the file has none of the requested ones
+    /// (416).
     pub range: Option<ContentRange>,
-    /// Whether the connection closes after the answer.
+    /// Whether the connection closes after the response.
     pub close: bool,
 }
 
@@ -108,12 +109,12 @@ fn phrase_of(status: StatusCode) -> &'static str
     status.canonical_reason().unwrap_or("<unknown status code>")
 }
 
-// The bytes of a refusal's body: the code, a space, the phrase and a line feed.
+// The length of a refusal's body: the code, a space, the phrase and a line feed.
 #[tactic(auto, using(crate::proofs::StatusTexts::error_body_len))]
 fn error_len(status: StatusCode) -> u64
     ensures { result ≡ length (spec.error_body status) }
 {
-    // Reading the code tells the proof that it has three digits.
+    // The proof needs this call: it shows that the code has three digits.
     let _code = status.as_u16();
     (status.as_str().len() + phrase_of(status).len() + 2) as u64
 }
@@ -126,7 +127,7 @@ pub fn error_body(alloc: Global, status: StatusCode) -> Result<String, AllocErro
 }
 
 impl ResponseHead {
-    /// The head for a refusal, whose body is its `error_body`.
+    /// The head of a refusal, whose body is its `error_body`.
     pub fn of_refusal(status: StatusCode, close: bool) -> ResponseHead
         ensures { result ≡ spec.refusal_head status close }
     {
@@ -139,7 +140,8 @@ impl ResponseHead {
         }
     }
 
-    /// The head for what is sent of a file of `len` bytes; where nothing is, the body is the `error_body` of 416.
+    /// The head for the selected part of a file of `len` bytes. If nothing is selected, the body
+    /// is the `error_body` of 416.
     pub fn of_file(
         media_type: MediaType,
         selection: Selection,
@@ -172,8 +174,8 @@ impl ResponseHead {
         }
     }
 
-    /// The head for a script's output, which comes in chunks, or up to the close of the connection: the head then says
-    /// that it closes.
+    /// The head for the output of a script, sent in chunks, or up to the close of the connection:
+    /// then the head announces the close.
     pub fn of_script(chunked: bool, close: bool) -> ResponseHead
         ensures { result ≡ spec.script_head chunked close }
     {
@@ -190,7 +192,8 @@ impl ResponseHead {
         }
     }
 
-    /// The text of the head, the empty line at its end among it. Where memory is refused, the same call may be made again.
+    /// The text of the head, including the empty line at its end. If memory is refused, the call
+    /// can be retried.
     pub fn to_text(&self, alloc: Global) -> Result<String, AllocError>
         ensures { IfOk result (λ text. string_bytes text ≡ spec.head_text self.now) }
     {

@@ -1,4 +1,4 @@
-//! Where the next head of a stream lies.
+//! Finds the next head of a stream.
 ghost use Rattle.std.specs.Prelude.{◌≡◌, ◌<◌, ◌+◌, ◌∷◌, [], IfSome, IfNone, length};
 ghost use Rattle.std.specs.List.{concat};
 ghost use Rattle.flash_http.specs.Window.{window_in, FitsIn, WindowsStay, WindowsFit};
@@ -7,7 +7,7 @@ ghost use Rattle.flash_http.specs.Scan.{next_line, searched, Finds, GoesOn};
 use crate::windows::{MAX_HEAD_BYTES, Window};
 use iol_agg::Parts;
 
-// What has come of a line.
+// The state of the current line: empty, one carriage return, or any other text.
 #[derive(Clone, Copy)]
 enum Line {
     Fresh,
@@ -15,8 +15,8 @@ enum Line {
     Text,
 }
 
-// A search through the bytes of a stream: the bytes of the empty lines at its front, those after them, whether one of
-// these belongs to a whole line of a head, and the line that the search is in.
+// The state of a search in a stream: the number of bytes in leading empty lines, the number of
+// bytes after them, whether these include a whole line of a head, and the current line.
 #[derive(Clone, Copy)]
 struct Scan {
     skip: usize,
@@ -42,7 +42,7 @@ fn line_with(line: Line, byte: u8) -> Line
 }
 
 impl Scan {
-    // Takes a byte, whatever the limit.
+    // Processes one byte, without the limit.
     fn step(&mut self, byte: u8) -> Option<Window>
         requires { searched self.old < MAX_HEAD_BYTES }
         ensures count { IfNone result (searched self.new ≡ searched self.old + 1) }
@@ -71,7 +71,7 @@ impl Scan {
         None
     }
 
-    // Takes a byte, and stops at the limit.
+    // Processes one byte, and stops at the limit.
     #[tactic(auto, using(crate::proofs::ScanLemmas::window_full))]
     fn feed(&mut self, byte: u8) -> Option<Window>
         requires { searched self.old < MAX_HEAD_BYTES }
@@ -87,7 +87,7 @@ impl Scan {
         }
     }
 
-    // Takes bytes, up to the first that settles the window.
+    // Processes bytes, up to the first that determines the window.
     fn feed_all(&mut self, bytes: &[u8]) -> Option<Window>
         requires { searched self.old < MAX_HEAD_BYTES }
         ensures room { IfNone result (searched self.new < MAX_HEAD_BYTES) }
@@ -104,7 +104,7 @@ impl Scan {
     }
 }
 
-/// The window of a stream whose bytes so far are these.
+/// The window of a stream of which these bytes have been received.
 pub fn window_of(stream: &[u8]) -> Window
     ensures window { result ≡ window_in stream.now }
     ensures fits { FitsIn (length stream.now) result }
@@ -116,7 +116,7 @@ pub fn window_of(stream: &[u8]) -> Window
     }
 }
 
-/// The window of a stream whose bytes so far lie in these pieces, however it was cut.
+/// The window of a stream of which these pieces have been received, however it was divided.
 #[tactic(auto, using(crate::proofs::WindowLaws::window_fits))]
 pub fn window(parts: Parts<'_>) -> Window
     ensures window { result ≡ window_in (concat parts.entry) }
@@ -131,12 +131,13 @@ pub fn window(parts: Parts<'_>) -> Window
     Window::Wait
 }
 
-/// What has come of a stream settles its window, unless it is to wait for more. A law: the call does nothing.
+/// Unless it is `Wait`, the window of a stream does not change when more bytes arrive. A law: the
+/// function has no effect.
 pub fn window_stays()
     ensures { WindowsStay }
 {}
 
-/// A head lies within the stream and the limit. A law: the call does nothing.
+/// A head is within the stream and the limit. A law: the function has no effect.
 pub fn window_fits()
     ensures { WindowsFit }
 {}

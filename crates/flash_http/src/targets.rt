@@ -1,4 +1,4 @@
-//! Which file a request target names.
+//! The file that a request target names.
 ghost use Rattle.std.specs.Prelude.{◌≡◌, ◌==◌, false, IfOk, OnErr, option_map, string_bytes};
 ghost use Rattle.std.specs.List.{list_any};
 ghost use Rattle.http_uri.specs.Uri.{uri_scheme, uri_authority};
@@ -22,7 +22,7 @@ fn has_byte(bytes: &[u8], byte: u8) -> bool
     bytes.iter().any(|b| *b == byte)
 }
 
-// Whether the target is a path, or a URL of http or https.
+// Returns whether the target is a path, or a URL of http or https.
 fn is_served_form(target: &[u8], uri: &Uri) -> bool
     ensures { result
         ≡ spec.is_served_form target.now (uri_scheme uri.now) (uri_authority uri.now) }
@@ -57,7 +57,7 @@ fn begins_with_hex_digits(bytes: &[u8]) -> bool
     }
 }
 
-// Whether each `%` stands before two hexadecimal digits.
+// Returns whether each `%` precedes two hexadecimal digits.
 fn is_escaped(mut bytes: &[u8]) -> bool
     ensures { result ≡ spec.is_escaped bytes.now }
 {
@@ -92,7 +92,7 @@ fn without_slash(path: &str) -> &str
     }
 }
 
-// The name that a decoded path gives a file.
+// The file name for a decoded path: the path without its first slash, or the index.
 fn or_index(path: &str) -> &str
     ensures { result.now ≡ spec.or_index (spec.without_slash path.now) }
 {
@@ -100,7 +100,7 @@ fn or_index(path: &str) -> &str
     if name.is_empty() { "index.html" } else { name }
 }
 
-// The name of the file at a path, if that is one.
+// The file name for a path, if the path is valid.
 fn name_of(alloc: Global, path: &str) -> Result<Option<String>, AllocError>
     ensures { IfOk result (λ name. spec.NameIs path.now (option_map string_bytes name)) }
 {

@@ -1,15 +1,17 @@
-//! What a stream so far says of its next head.
+//! The result of the search for the next head of a stream.
 
-/// The bytes that a head may take, together with the empty lines before it.
+/// The limit of a head in bytes, including the empty lines before it.
 pub const MAX_HEAD_BYTES: usize = 8192;
 
-/// What the bytes of a stream so far say of its next head.
+/// The result of the search in the bytes received so far.
 #[derive(Clone, Copy, Debug, PartialEq, Eq)]
 pub enum Window {
-    /// More bytes may complete a head.
+    /// No head is complete yet.
     Wait,
-    /// The head has `len` bytes, the empty line at its end among them, and stands after `skip` bytes of empty lines.
+    /// The head has `len` bytes, including the empty line at its end, after `skip` bytes of empty
+    /// lines.
     Head { skip: usize, len: usize },
-    /// No head fits into the first `MAX_HEAD_BYTES` bytes. The answer is 431, and the connection closes.
+    /// The first `MAX_HEAD_BYTES` bytes contain no whole head. The response is 431, and the
+    /// connection closes.
     TooLarge,
 }

@@ -1,5 +1,5 @@
--- What is given of a script's response does not tell what its worker still puts out: so another outcome of a file that is still to
--- be read leaves it.
+-- The part of a script's response that was given does not depend on the further output of its worker, nor on the outcomes of
+-- files still to be read.
 use Rattle.std.proofs.Common.{◌≡◌, ℕ, ◌+◌, ◌≤◌, List, [], ◌++◌, length, take, ap, ◌∙◌, refl, sym, arith, true, false, Bool, length-append}
 use Rattle.std.proofs.lemmas.List.{take-append-le}
 use Rattle.iol_core.specs.State.{State}

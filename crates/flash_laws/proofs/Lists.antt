@@ -1,4 +1,4 @@
--- Lists, numbers and tests: what the proofs of phases use.
+-- Lists, numbers and tests, for the proofs of phases.
 use Rattle.std.proofs.Common.{◌≡◌, ◌≢◌, ℕ, zero, suc, ◌+◌, ◌-◌, ◌==◌, ◌<◌, ◌≤◌, List, [], ◌∷◌, ◌++◌, length, take, drop, ap, ◌∙◌, refl, sym, arith, true, false, Bool, length-append, length-drop}
 use Rattle.std.specs.Prelude.{min, nat_lt, ◌||◌, ◌&&◌, not, slice_range}
 use Rattle.std.proofs.lemmas.List.{take-append-le, drop-append-le, drop_all, drop-drop, length-take, length-take-le}

@@ -16,3 +16,4 @@ pub mod Holdings
 pub mod Alone
 pub mod ReplyUse
 pub mod Ends
+pub mod Starts

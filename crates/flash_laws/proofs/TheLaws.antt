@@ -1,4 +1,4 @@
--- The laws of the machine and of windows that the proofs of a server rest on, together.
+-- The laws of the machine and of windows for the proofs of a server.
 use Rattle.std.specs.Prelude.{◌≤◌}
 use Rattle.iol_core.specs.State.{State}
 use Rattle.iol_core.specs.Run.{StepsTo}

@@ -1,4 +1,4 @@
--- The premises of the law can be met: a small site, a new world on it with the server alone, and a calm run of that world.
+-- The premises of the law can be met: a small site, a new world with only the server, and a calm run of that world.
 use Rattle.std.proofs.Common.{inl, inr, ◌≡◌, ◌≢◌, ℕ, zero, suc, ◌+◌, ◌≤◌, ◌<◌, ◌⊎◌, List, [], ◌∷◌, length, replicate, ap, refl, sym, subst, arith, Some, true, false, Bool}
 use Rattle.std.specs.Prelude.{codes, bytes_eq, position, option_map, ◌||◌}
 use Rattle.std.proofs.lemmas.Bool.Decides.{nat_tests}
@@ -25,6 +25,7 @@ use Rattle.iol_proc.specs.declared.choice.Choice.{Choice}
 use Rattle.iol_proc.specs.declared.choice.Choice.TheVariants as choice
 use Rattle.iol_proc.specs.declared.process.Turn.TheVariants as turn
 use Rattle.iol_proc.specs.declared.seat.Seat.{Seat}
+use Rattle.flash_cgi.specs.Due.{Made}
 use Rattle.flash_cgi.specs.Outcomes.{AreFiles}
 use Rattle.flash_cgi.specs.Output as script
 use Rattle.flash_laws.specs.Answers.{Found, Failed}
@@ -34,6 +35,7 @@ use Rattle.flash_laws.specs.Workers.Crew.{Crew, IsFixedFor}
 use Rattle.flash_laws.specs.Workers.Crews.{crew_with, OfSome}
 use Rattle.flash_laws.specs.Serves.{new_server}
 use Rattle.flash_laws.specs.Shelf.{Shelf}
+use Rattle.flash_laws.specs.World.Fair.{no_refusal}
 use Rattle.flash_laws.specs.Site.{server, outcome_in, IsFixed}
 use Rattle.flash_laws.specs.World.Tie.{tells_over, made_over, Actor, Serving}
 use Rattle.flash_laws.specs.World.{IsNew, ARunIsCalm}
@@ -165,11 +167,11 @@ site_files = record {
 
 -- nothing is shown, since no script runs
 abbrev shelf : Shelf
-shelf = record { finds = outcome_in site; shows = λ name. script.Failed refusal.NoFile; scripts = false; refuses = λ x. false }
+shelf = record { finds = outcome_in site; shows = λ name. script.Failed refusal.NoFile; scripts = false; refuses = no_refusal }
 
 -- A world with the server alone: it is new. A connection comes, and is accepted: this run is calm, and the connection is the net's.
 module _ (orders : EachStepKeepsOrder) (descriptors : DescriptorsComeByReplies) {W : Type 0} (works : Account W) (settled : Claim W)
-    (free : (ℕ → Bool) → State → ℕ → Seat W → Type 0) (due : (ℕ → Bool) → State → ℕ → ℕ → Seat W → List ℕ → Type 0) where
+    (free : (ℕ → Bool) → State → ℕ → Seat W → Type 0) (due : (ℕ → Bool) → State → ℕ → ℕ → Seat W → Made → List ℕ → Type 0) where
   -- no workers, and so no desks, and no pools of theirs
   abbrev alone : Crew
   alone = crew_with works settled free due 0 (λ k. 0) (λ q. false) (λ q. true)

@@ -1,5 +1,5 @@
--- What a stream is answered: the responses to its requests, in order, up to the first after which the connection closes
--- (RFC 9112, sections 9.3.2 and 9.6).
+-- The answer to a stream: the responses to its requests, in order, up to the first after which the connection closes (RFC 9112,
+-- sections 9.3.2 and 9.6).
 pub mod Scripts
 use Rattle.std.specs.Prelude.{◌≡◌, ℕ, ◌+◌, Bool, true, false, not, ◌&&◌, List, [], ◌∷◌, ◌++◌, length, take, drop, slice_range}
 use Rattle.flash_http.specs.declared.windows.Window.{Window}
@@ -14,7 +14,7 @@ use Rattle.flash_http.specs.Response.{head_text, file_head, refusal_head, script
 
 -- ---- the response to a request
 
--- what the calls that are made for a request give: the bytes of its file, or the status of an error (RFC 9110, section 15)
+-- the result of the calls for a request: the bytes of its file, or the status of an error (RFC 9110, section 15)
 pub data Outcome : Type 0 where
   Found : (bytes : List ℕ) → Outcome
   Failed : (status : ℕ) → Outcome
@@ -29,7 +29,7 @@ abbrev pub body_unless : (head_only : Bool) → List ℕ → List ℕ
 body_unless true body = []
 body_unless false body = body
 
--- the text of the head for a file of so many bytes
+-- the text of the head for a file of len bytes
 unfoldable pub file_text : Wanted → (len : ℕ) → List ℕ
 file_text w len = head_text (file_head (media_type w.name) (selected w.range len) len (not w.keep))
 
@@ -41,11 +41,11 @@ error_text status head_only close = head_text (refusal_head status close) ++ bod
 unfoldable pub unsatisfiable : List ℕ
 unsatisfiable = error_body 416
 
--- the text of the head for what a script puts out (RFC 9112, sections 6.3 and 7.1)
+-- the text of the head for the output of a script (RFC 9112, sections 6.3 and 7.1)
 unfoldable pub script_text : Wanted → List ℕ
 script_text w = head_text (script_head w.chunked (not w.keep))
 
--- the bytes that are sent of a file: all, or the part that is asked for (RFC 9110, section 14)
+-- the bytes of a file that are sent: all, or the requested part (RFC 9110, section 14)
 abbrev pub chosen : Selection → List ℕ → List ℕ
 chosen Whole bytes = bytes
 chosen (Bytes first last) bytes = slice_range bytes first (last + 1)
@@ -58,7 +58,7 @@ response (serve w) (Found bytes) = file_text w (length bytes)
 response (serve w) (Failed status) = error_text status w.head_only (not w.keep)
 response (refuse status head_only close) outcome = error_text status head_only close
 
--- the files of a site by name: the outcome of each name, as long as no file and no pool's list changes
+-- the files of a site by name: the outcome of each name, while no file and no pool's list changes
 abbrev pub Shelf : Type 0
 Shelf = List ℕ → Outcome
 
@@ -66,7 +66,7 @@ abbrev pub outcome_of : Shelf → Answer → Outcome
 outcome_of shelf (serve w) = shelf w.name
 outcome_of shelf (refuse status head_only close) = Failed status
 
--- the response that is due to a request, where the files are these
+-- the response that is due to a request, for these files
 abbrev pub due_to : Shelf → Answer → List ℕ
 due_to shelf q = response q (outcome_of shelf q)
 
@@ -78,22 +78,22 @@ NextIn (Head skip len) s q rest = IsAnswerTo (take len (drop skip s)) q
     × (rest ≡ drop (skip + len) s)
 NextIn TooLarge s q rest = (q ≡ refuse 431 false true) × (rest ≡ s)
 
--- The stream's next request is q, and rest comes after it. A head that is too long is one, too, which is refused.
+-- The stream's next request is q, followed by rest. A head that is too long is also a request, which is refused.
 abbrev pub Next : List ℕ → Answer → (rest : List ℕ) → Type 0
 Next s q rest = NextIn (window_in s) s q rest
 
--- its next requests are qs, in order, and rest comes after them
+-- its next requests are qs, in order, followed by rest
 abbrev pub Reads : List ℕ → List Answer → (rest : List ℕ) → Type 0
 Reads s [] rest = rest ≡ s
 Reads s (q ∷ qs) rest = (next : List ℕ) × Next s q next × Reads next qs rest
 
--- after none but the last the connection closes
+-- the connection closes after none of these except possibly the last
 abbrev pub last_may_close : List Answer → Bool
 last_may_close [] = true
 last_may_close (q ∷ []) = true
 last_may_close (q ∷ p ∷ qs) = keeps q && last_may_close (p ∷ qs)
 
--- after the last it does
+-- the connection closes after the last
 abbrev pub last_closes : List Answer → Bool
 last_closes [] = false
 last_closes (q ∷ []) = not (keeps q)

@@ -1,7 +1,7 @@
--- One client as the server sees it: its connection, and the script that runs for the request in progress.
+-- One client of the server: its connection, and the script that runs for the request in progress.
 --
--- A server that has workers answers a request for a name that ends in `.cgi` with what the script puts out. The script is
--- opened and read as any file; then its run has the connection until all is sent.
+-- A server with workers answers a request for a name that ends in `.cgi` by the output of the script. The script is opened and
+-- read like any file; then its run has the connection until all is sent.
 pub mod ResponseState
 pub mod Fits
 pub mod OfferedBytes
@@ -31,11 +31,11 @@ use Rattle.flash_laws.specs.declared.script_run.Running.{Running}
 use Rattle.flash_laws.specs.declared.script_run.Running.TheVariants.{Awaits, Runs, Leaves}
 
 pub record Client : Type 0 where
-  -- its connection; while a script runs, its phase stands still
+  -- its connection; while a script runs, its phase does not change
   pub conn : Conn
-  -- the run of the script that is asked for, if it has begun and is not over
+  -- the run of the requested script, if it has begun and is not over
   pub run : Option Running
-  -- the text of that script, from the moment that it is read until the job is made
+  -- the text of that script, from the time when it is read until the job is made
   pub script : List ℕ
 
 abbrev pub new_client : Client
@@ -57,14 +57,14 @@ uses_fd x g = by x.run
     by None = conn.uses_fd x.conn.doing g
     by (Some y) = running.uses_fd y g
 
--- ---- what it wants
+-- ---- its next call
 
--- whether a request is for a script, if scripts are run at all
+-- whether a request is for a script, if scripts are run
 abbrev pub is_for_script : (scripts : Bool) → Answer → Bool
 is_for_script scripts (serve w) = scripts && is_script w.name
 is_for_script scripts (refuse status head_only close) = false
 
--- a script is read whole, for HEAD too
+-- a script is read whole, also for HEAD
 abbrev pub script_wants : (fd : ℕ) → Conn → Call
 script_wants fd x = by x.doing
   where
@@ -76,7 +76,7 @@ abbrev pub conn_wants : (script : Bool) → (fd : ℕ) → Conn → Call
 conn_wants false fd x = conn.wants fd x
 conn_wants true fd x = script_wants fd x
 
--- the text of the job for a request whose script has this text, by the descriptor that takes the output
+-- the text of the job for a request whose script has this text, with the descriptor of the output
 abbrev pub job_of : Wanted → (script : List ℕ) → (fd : ℕ) → List ℕ
 job_of w script fd = job_text fd w.query script
 
@@ -92,7 +92,7 @@ wants scripts fd x = by x.run
     by None = conn_wants (is_for_script scripts x.conn.q) fd x.conn
     by (Some y) = run_wants fd x.conn.q x.script y
 
--- ---- how an answer begins
+-- ---- the beginning of a response
 
 abbrev pub Readies : Client → Client → Type 0
 Readies x y = by x.run
@@ -101,7 +101,7 @@ Readies x y = by x.run
     by None = (ready : Conn) × conn.Readies x.conn ready × (y ≡ record { conn = ready; run = None; script = x.script })
     by (Some z) = y ≡ x
 
--- whether a connection that reads has no request that could begin
+-- whether a reading connection has no request that could begin
 abbrev pub IsAwaiting : Client → Type 0
 IsAwaiting x = by x.run
   where
@@ -109,7 +109,7 @@ IsAwaiting x = by x.run
     by None = conn.IsAwaiting x.conn
     by (Some y) = Unit {0}
 
--- ---- what it is after the reply to its call; `heard` is what the aggregate of the reply holds
+-- ---- its state after the reply to its call; `heard` is the contents of the aggregate in the reply
 
 -- whether a text is a script
 abbrev pub can_run : List ℕ → Bool
@@ -119,7 +119,7 @@ abbrev pub told_text : (file : ℕ) → Reply → (heard : List ℕ) → Doing
 told_text f (reply.Agg n) heard = doing.Shuts f (Text n (can_run heard))
 told_text f r heard = conn.told_reads f r heard
 
--- the text that is kept: one that will run
+-- the text that is kept: that of a script that will run
 abbrev pub kept_if : (head_only runs : Bool) → List ℕ → List ℕ
 kept_if false true text = text
 kept_if head_only runs text = []
@@ -128,7 +128,7 @@ abbrev pub kept_text : (head_only : Bool) → (was : List ℕ) → Reply → (he
 kept_text head_only was (reply.Agg n) heard = kept_if head_only (can_run heard) heard
 kept_text head_only was r heard = was
 
--- what was read is dropped: but for HEAD the run begins
+-- the aggregate of the script is dropped: the run begins, unless the request is HEAD
 abbrev pub told_spares : (head_only : Bool) → Reply → Option Running
 told_spares false reply.Done = Some Awaits
 told_spares head_only r = None
@@ -163,17 +163,17 @@ keeps_text (Runs run (Gives write)) = true
 keeps_text (Runs run (Makes f)) = true
 keeps_text y = false
 
--- from then on the text is kept no more
+-- after that the text is not kept any more
 abbrev pub text_on : (was now : Bool) → List ℕ → List ℕ
 text_on true false text = []
 text_on was now text = text
 
--- where the connection is once the run is over
+-- the phase of the connection once the run is over
 abbrev pub after_run : Running → Doing
 after_run (Leaves d) = d
 after_run y = doing.Closes
 
--- the run goes on from y to z, or is over with it
+-- the run advances from y to z, or is over with it
 abbrev pub goes_on : (was over : Bool) → Client → (y z : Running) → Client
 goes_on false true x y z = record { conn = record x.conn { doing = after_run z }; run = None; script = [] }
 goes_on was over x y z = record { conn = x.conn; run = Some z; script = text_on (keeps_text y) (keeps_text z) x.script }
@@ -185,7 +185,7 @@ abbrev pub run_told : (worker : ℕ) → Answer → Client → Running → Reply
 run_told worker (serve w) x y r heard = run_on x y (running.told worker w y r heard)
 run_told worker (refuse status head_only close) x y r heard = x
 
--- What it is after the reply to its call, where `worker` is one that is free.
+-- Its state after the reply to its call; `worker` is a free worker.
 abbrev pub told : (scripts : Bool) → (worker : ℕ) → Client → Reply → (heard : List ℕ) → Client
 told scripts worker x r heard = by x.run
   where
@@ -193,7 +193,7 @@ told scripts worker x r heard = by x.run
     by None = file_told (is_for_script scripts x.conn.q) x r heard
     by (Some y) = run_told worker x.conn.q x y r heard
 
--- one that is over is forgotten
+-- a client that is over is removed
 abbrev pub left_over : Client → Option Client
 left_over x = by x.run
   where
@@ -212,7 +212,7 @@ awaits x = by x.run
     by (Some Awaits) = true
     by (Some y) = false
 
--- whether nothing is in progress for it, and nothing is kept
+-- whether it is idle and has no buffered input
 abbrev pub is_bare : Client → Bool
 is_bare x = by x.run
   where

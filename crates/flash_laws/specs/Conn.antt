@@ -1,4 +1,4 @@
--- One connection as the server sees it: what is kept of it, the call that is wanted next, and what it is after the reply.
+-- One connection of the server: its buffered input, its next call, and its state after the reply.
 pub mod Fits
 pub mod OfferedBytes
 pub mod Progress
@@ -29,7 +29,7 @@ use Rattle.flash_laws.specs.declared.phase.Doing.{Doing}
 use Rattle.flash_laws.specs.declared.phase.Doing.TheVariants.{Rests, Got, Opens, Reads, Shuts, Picks, Spares, Heads, Joins, Sends, Cuts, Offers, Swaps, Sent, Breaks, Drops, Closes, Over}
 use Rattle.flash_laws.specs.Answers.{keeps, body_unless, file_text, script_text, error_text, unsatisfiable, Next}
 
--- the aggregate that is to be sent after the one that is sent now, and its bytes
+-- the aggregate to be sent after the current one, with its length
 abbrev pub Following : Type 0
 Following = Option (ℕ × ℕ)
 
@@ -40,11 +40,11 @@ pub record Conn : Type 0 where
   pub q : Answer
   pub doing : Doing
 
--- one that was just accepted; `q` stands for no request until one is begun
+-- a newly accepted connection; `q` is no request until one begins
 abbrev pub new_connection : Conn
 new_connection = record { kept = []; q = refuse 431 false true; doing = Rests }
 
--- ---- the aggregates and the file's descriptor that it has of its own
+-- ---- the aggregates and the file descriptor that it has
 
 abbrev pub has_followed : Following → (a : ℕ) → Bool
 has_followed None a = false
@@ -80,13 +80,13 @@ uses_fd (Reads f) g = f == g
 uses_fd (Shuts f k) g = f == g
 uses_fd d g = false
 
--- ---- what it wants
+-- ---- its next call
 
--- the bytes of a stream that are kept at most
+-- the maximum number of buffered bytes of a stream
 abbrev pub most_kept : ℕ
 most_kept = 8192
 
--- the bytes that a file has at most
+-- the maximum number of bytes of a file
 abbrev pub most_read : ℕ
 most_read = 16777216
 
@@ -98,11 +98,11 @@ abbrev pub name_of : Answer → List ℕ
 name_of (serve w) = w.name
 name_of (refuse status head_only close) = []
 
--- how many bytes are heard, as a number of 32 bits
+-- the number of bytes read, as a 32-bit number
 abbrev pub count_of : List ℕ → ℕ
 count_of bytes = min (length bytes) 4294967295
 
--- what is made of new bytes: the head, and the body where no aggregate has it
+-- the new bytes of a response: the head, and the body if no aggregate has it
 abbrev pub text_of : Answer → Content → List ℕ
 text_of (serve w) (Body agg size len) = file_text w len
 text_of (serve w) (Bare len) = file_text w len ++ body_unless w.head_only unsatisfiable
@@ -110,7 +110,7 @@ text_of (serve w) (Error status) = error_text status w.head_only (not w.keep)
 text_of (serve w) Script = script_text w
 text_of (refuse status head_only close) k = error_text status head_only close
 
--- where the next piece ends: it has as many bytes as a queue takes, or all that are left
+-- the end of the next piece: it has as many bytes as a queue holds, or all that are left
 abbrev pub piece_end : (from len : ℕ) → ℕ
 piece_end from len = min (from + MAX_QUEUE_BYTES) len
 
@@ -138,13 +138,13 @@ wants fd x = by x.doing
     by Closes = call.Close fd
     by Over = call.Close fd
 
--- ---- how an answer begins
+-- ---- the beginning of a response
 
 abbrev pub begins : Answer → Doing
 begins (serve w) = Opens
 begins (refuse status head_only close) = Heads (Error status)
 
--- Where nothing is in progress the first request that is kept is begun, if there is one: from x to y.
+-- An idle connection begins its first buffered request, if there is one: from x to y.
 abbrev pub Starts : Conn → Conn → Type 0
 Starts x y =
     ((window_in x.kept ≡ Wait) × (y ≡ x))
@@ -158,7 +158,7 @@ Readies x y = by x.doing
     by Rests = Starts x y
     by d = y ≡ x
 
--- whether a connection that reads has no request that could begin
+-- whether a reading connection has no request that could begin
 abbrev pub IsAwaiting : Conn → Type 0
 IsAwaiting x = by x.doing
   where
@@ -166,9 +166,9 @@ IsAwaiting x = by x.doing
     by Rests = window_in x.kept ≡ Wait
     by d = Unit {0}
 
--- ---- what it is after the reply to its call; `heard` is what the aggregate of the reply holds
+-- ---- its state after the reply to its call; `heard` is the contents of the aggregate in the reply
 
--- the status of an answer where opening or reading was refused
+-- the status of a response if opening or reading was refused
 abbrev pub status_of : Refusal → ℕ
 status_of no.NoFile = 404
 status_of (no.Denied p) = 403
@@ -193,7 +193,7 @@ told_reads f (reply.Refused no.WouldBlock) heard = Reads f
 told_reads f (reply.Refused x) heard = Shuts f (Fails (status_of x))
 told_reads f r heard = Reads f
 
--- what is sent of a file that was read
+-- the phase that sends the selected part of a file that was read
 abbrev pub sends_of : Selection → (agg len : ℕ) → Doing
 sends_of Whole a len = Heads (Body a len len)
 sends_of (Bytes first last) a len = Picks a first (last + 1) len
@@ -227,7 +227,7 @@ abbrev pub following : Content → Following
 following (Body b size len) = Some (b, size)
 following k = None
 
--- a head of so many bytes is joined with its body, where both fit into an aggregate
+-- a head of head bytes is joined with its body, if both fit into an aggregate
 abbrev pub headed : (head size : ℕ) → Following → Doing
 headed a size None = Sends a size 0 None
 headed a size (Some x) = if nat_le (size + x.1) MAX_AGGREGATE_BYTES then Joins a size x.0 x.1 else Sends a size 0 (Some x)
@@ -240,7 +240,7 @@ abbrev pub told_joins : (head size body len : ℕ) → Reply → Doing
 told_joins a size body len (reply.Agg n) = Sends n (size + len) 0 None
 told_joins a size body len r = Joins a size body len
 
--- all is taken, or the rest goes in pieces
+-- all is taken, or the rest is sent in pieces
 abbrev pub told_sends : (agg len taken : ℕ) → Following → Reply → Doing
 told_sends a len taken more (reply.Count n) = if nat_lt n len then Cuts a n len (taken + n) more else Sent a (taken + len) more
 told_sends a len taken more (reply.Refused no.BrokenPipe) = Drops a more
@@ -250,7 +250,7 @@ abbrev pub told_cuts : (agg from len taken : ℕ) → Following → Reply → Do
 told_cuts a from len taken more (reply.Agg n) = Offers a from len n taken more
 told_cuts a from len taken more r = Cuts a from len taken more
 
--- so many more bytes are taken
+-- count more bytes are taken
 abbrev pub moved_on : (agg from len piece taken : ℕ) → Following → (count : ℕ) → Doing
 moved_on a from len piece taken more count = Swaps a (from + count) len piece (taken + count) more
 
@@ -263,7 +263,7 @@ abbrev pub told_swaps : (agg from len piece taken : ℕ) → Following → Reply
 told_swaps a from len piece taken more reply.Done = if nat_lt from len then Cuts a from len taken more else Sent a taken more
 told_swaps a from len piece taken more r = Swaps a from len piece taken more
 
--- what comes after it, or the end of the answer
+-- the aggregate after it, or the end of the response
 abbrev pub goes_on : Answer → (taken : ℕ) → Following → Doing
 goes_on q taken (Some x) = Sends x.0 x.1 taken None
 goes_on q taken None = if keeps q then Rests else Closes

@@ -1,4 +1,4 @@
--- The words that contracts of other crates cite, passed on from one place. Declares nothing.
+-- Re-exports the definitions that contracts of other crates cite. It declares nothing.
 pub use Rattle.flash_laws.specs.Answers.{keeps}
 pub use Rattle.flash_laws.specs.Answers.Scripts.{end_around, frame_of, place_in_frame, script_text}
 pub use Rattle.flash_laws.specs.Client.{Client, new_client}

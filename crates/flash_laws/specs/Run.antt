@@ -1,7 +1,7 @@
--- A run of a script, by itself: what it uses, its next call, and what it is after the reply.
+-- The run of a script by itself: what it uses, its next call, and its state after the reply.
 --
--- It begins once the text of the script is read, and is the answer to a request that is served and is no HEAD. `job` is the
--- text of the job, which names the descriptor at which the worker has the pipe's write end.
+-- It begins once the text of the script is read, and answers a request that is served and is not HEAD. `job` is the text of the
+-- job, which names the worker's descriptor of the pipe's write end.
 pub mod Fits
 pub mod OfferedBytes
 pub mod Holdings
@@ -37,7 +37,7 @@ worker_domain worker = worker + 2
 abbrev pub job_pipe : (worker : ℕ) → ℕ
 job_pipe worker = worker + 1
 
--- whether what is left of a response is still to be made, or to be sent
+-- whether the rest of a response is still to be made, or to be sent
 abbrev pub is_left : Doing → Bool
 is_left (doing.Heads k) = true
 is_left (doing.Sends a len taken more) = true
@@ -95,7 +95,7 @@ step_fd (Gives write) g = write == g
 step_fd (Returns write) g = write == g
 step_fd s g = false
 
--- the ends of the pipe that the server has
+-- the pipe ends that the server has
 abbrev pub ends_of : Run → Step → (g : ℕ) → Bool
 ends_of run step g = (is_reading step && (run.from == g)) || step_fd step g
 
@@ -111,13 +111,13 @@ uses_fd (Runs run step) g = (job_pipe run.worker == g) || ends_of run step g
 uses_fd (Leaves d) g = conn.uses_fd d g
 uses_fd Closes g = false
 
--- ---- what it wants
+-- ---- its next call
 
 abbrev pub held_size : Following → ℕ
 held_size None = 0
 held_size (Some x) = x.1
 
--- a connection in this phase, for the words of any response
+-- a connection in this phase, for the definitions on responses
 abbrev pub in_phase : Wanted → Doing → Conn
 in_phase w d = record { kept = []; q = serve w; doing = d }
 
@@ -154,9 +154,9 @@ module _ (job : (fd : ℕ) → List ℕ) where
   wants fd w (Leaves d) = conn.wants fd (in_phase w d)
   wants fd w Closes = call.Close fd
 
--- ---- what it is after the reply to its call; `heard` is what the aggregate of the reply holds
+-- ---- its state after the reply to its call; `heard` is the contents of the aggregate in the reply
 
--- whether the call is made again
+-- whether the call is retried
 abbrev pub is_again : Refusal → Bool
 is_again no.WouldBlock = true
 is_again no.TooMany = true
@@ -168,7 +168,7 @@ is_again x = false
 abbrev pub broken : Run → Run
 broken run = record run { broken = true }
 
--- a worker that is free runs it
+-- a free worker runs it
 abbrev pub told_awaits : (worker : ℕ) → Reply → Running
 told_awaits worker (reply.Fds from write) = Runs (record { worker = worker; from = from; broken = false }) (Gives write)
 told_awaits worker r = Awaits
@@ -195,7 +195,7 @@ abbrev pub told_heads : Reply → (heard : List ℕ) → Step
 told_heads (reply.Agg n) heard = Sending (doing.Sends n (count_of heard) 0 None) None
 told_heads r heard = Heads
 
--- a part goes on being sent as a file's response does
+-- a part is sent by the same phases as the response of a file
 abbrev pub told_part : Doing → Reply → Doing
 told_part (doing.Sends a len taken more) r = conn.told_sends a len taken more r
 told_part (doing.Cuts a from len taken more) r = conn.told_cuts a from len taken more r
@@ -204,7 +204,7 @@ told_part (doing.Swaps a from len piece taken more) r = conn.told_swaps a from l
 told_part (doing.Breaks piece a more) r = conn.told_breaks piece a more r
 told_part d r = d
 
--- once it is sent, or nobody takes it, output is read
+-- after it was sent, or aborted, output is read
 abbrev pub told_sending : Run → Doing → (frame : Option ℕ) → Reply → Running
 told_sending run (doing.Sent a taken None) frame reply.Done = Runs run (Hears None frame)
 told_sending run (doing.Drops a None) frame reply.Done = Runs (broken run) (Hears None frame)
@@ -214,7 +214,7 @@ abbrev pub filled : (held : ℕ) → (frame : Option ℕ) → Step
 filled held None = Frames held
 filled held (Some f) = Wraps held f
 
--- so many bytes are held: once they are a chunk's, it is made
+-- held bytes are buffered: if they are those of a chunk, it is made
 abbrev pub holding : (held size : ℕ) → (frame : Option ℕ) → Step
 holding held size frame = if nat_lt size CHUNK_BYTES then Hears (Some (held, size)) frame else filled held frame
 
@@ -225,7 +225,7 @@ hearing false false held frame a len = Sending (doing.Sends a len 0 None) frame
 hearing false true None frame a len = holding a len frame
 hearing false true (Some x) frame a len = Gathers x.0 x.1 a len frame
 
--- it may not be read
+-- the output may not be read
 abbrev pub unread : Following → (frame : Option ℕ) → Step
 unread None frame = Stops None frame
 unread (Some x) frame = Unholds x.0 frame
@@ -241,7 +241,7 @@ abbrev pub told_spills : (agg : ℕ) → (frame : Option ℕ) → Reply → Step
 told_spills a frame reply.Done = Hears None frame
 told_spills a frame r = Spills a frame
 
--- how many bytes two aggregates have, as a number of 32 bits
+-- the total length of two aggregates, as a 32-bit number
 abbrev pub both : (size len : ℕ) → ℕ
 both size len = min (size + len) 4294967295
 
@@ -269,7 +269,7 @@ abbrev pub told_unholds : (held : ℕ) → (frame : Option ℕ) → Reply → St
 told_unholds held frame reply.Done = Stops None frame
 told_unholds held frame r = Unholds held frame
 
--- the end of the body is to be made, where its chunks tell it, and somebody takes it
+-- the end of the body is made, if the body is in chunks and is still sent
 abbrev pub finishing : (broken chunked : Bool) → Run → Following → Running
 finishing false true run held = Runs run (Lasts held)
 finishing b c run held = Closes
@@ -286,7 +286,7 @@ abbrev pub told_unframes : Wanted → Run → (frame : ℕ) → Following → Re
 told_unframes w run f held reply.Done = finishing run.broken w.chunked run held
 told_unframes w run f held r = Runs run (Unframes f held)
 
--- the end of the body alone is sent, or it is set around what is held
+-- the end of the body is sent by itself, or is set around the buffered output
 abbrev pub ending : Run → Following → (agg len : ℕ) → Running
 ending run None a len = Leaves (doing.Sends a len 0 None)
 ending run (Some x) a len = Runs run (WrapsLast x.0 x.1 a)
@@ -315,7 +315,7 @@ abbrev pub told_lapses : (job : ℕ) → Reply → Step
 told_lapses j reply.Done = Fails
 told_lapses j r = Lapses j
 
--- a script that cannot run now is answered with an error (RFC 9110, section 15.6.4)
+-- a script that cannot run now gets an error response (RFC 9110, section 15.6.4)
 abbrev pub told_fails : Run → Reply → Running
 told_fails run reply.Done = Leaves (doing.Heads (Error 503))
 told_fails run r = Runs run Fails
@@ -345,7 +345,7 @@ told_step w run (Returns write) r heard = Runs run (told_returns write r)
 told_step w run (Lapses j) r heard = Runs run (told_lapses j r)
 told_step w run Fails r heard = told_fails run r
 
--- What it is after the reply to its call, where `worker` is one that is free.
+-- Its state after the reply to its call; `worker` is a free worker.
 abbrev pub told : (worker : ℕ) → Wanted → Running → Reply → (heard : List ℕ) → Running
 told worker w Awaits r heard = told_awaits worker r
 told worker w (Runs run step) r heard = told_step w run step r heard

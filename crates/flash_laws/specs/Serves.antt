@@ -1,4 +1,4 @@
--- A turn of the server: the reply to the call that is out is filed, a client is picked, and its next call is made.
+-- A turn of the server: it processes the reply to the pending call, picks a client, and makes its next call.
 pub mod Rounds
 pub mod GoesRound
 pub mod Wants
@@ -19,13 +19,14 @@ use Rattle.flash_laws.specs.Site.OtherConns.{with_at}
 use Rattle.flash_laws.specs.declared.phase.Flight.{Flight}
 use Rattle.flash_laws.specs.declared.phase.Flight.TheVariants.{Nothing, Accepting, At}
 
--- what the server keeps: the client at each of its descriptors, which call is out, and how many workers run scripts for it
+-- the state of the server: the client of each of its descriptors, the pending call, and the number of workers that run its
+-- scripts
 pub record Server : Type 0 where
   pub clients : List (Option Client)
   pub flight : Flight
   pub workers : ℕ
 
--- one that has no workers: to it a script is a file like any other
+-- a server without workers, for which a script is a file like any other
 abbrev pub new_server : Server
 new_server = record { clients = []; flight = Nothing; workers = 0 }
 
@@ -34,7 +35,8 @@ abbrev pub heard_of : Reply → (lent : ℕ → Option (List ℕ)) → List ℕ
 heard_of (reply.Agg a) lent = unwrap_or (lent a) []
 heard_of r lent = []
 
--- The client at this place is made ready, and its call is made. One that waits for a worker has its turn only where one is free.
+-- The client at this index becomes ready, and its call is made. A client that waits for a worker takes a turn only if one is
+-- free.
 pub record PicksAt (workers : ℕ) (clients : List (Option Client)) (fd : ℕ) (made : Turn)
     (after : List (Option Client)) : Type 0 where
   pub was : Client
@@ -45,33 +47,33 @@ pub record PicksAt (workers : ℕ) (clients : List (Option Client)) (fd : ℕ) (
   pub goes : may_go (has_free workers after) ready ≡ true
   pub call_is : made ≡ turn.Make (wants (runs_scripts workers) fd ready)
 
--- one of these is picked: to yield, to accept, or the client at a place
+-- the choices: to yield, to accept, or the client at an index
 abbrev pub Picks : (workers : ℕ) → List (Option Client) → Flight → (made : Turn) → (after : List (Option Client))
     → Type 0
 Picks workers clients Nothing made after = (after ≡ clients) × (made ≡ turn.Yield)
 Picks workers clients Accepting made after = (after ≡ clients) × (made ≡ turn.Make call.Accept)
 Picks workers clients (At fd) made after = PicksAt workers clients fd made after
 
--- Which may be picked next, where there are so many workers, and the clients are these, once the last reply is filed, and
--- which call it answered.
+-- The choices that are permitted next, given the number of workers, the clients after the last reply is processed, and the call
+-- to which it belongs.
 abbrev pub Policy : Type 1
 Policy = (workers : ℕ) → List (Option Client) → (was : Flight) → (last : Reply) → (next : Flight) → Type 0
 
--- whichever it likes
+-- all choices
 abbrev pub any : Policy
 any workers clients was last next = Unit {0}
 
--- the clients, once the last reply is filed
+-- the clients after the last reply is processed
 abbrev pub filed_in : Server → (last : Reply) → (lent : ℕ → Option (List ℕ)) → List (Option Client)
 filed_in s last lent = filed s.workers s.clients s.flight last (heard_of last lent)
 
--- What the server does by its account: one that the policy allows is picked, and what it asks for is done.
+-- The account of the server: a choice that the policy permits is made, with its call.
 abbrev pub server_turns : Policy → Server → Reply → (lent : ℕ → Option (List ℕ)) → Turn → Server → Type 0
 server_turns may s last lent made t = may s.workers (filed_in s last lent) s.flight last t.flight
     × Picks s.workers (filed_in s last lent) t.flight made t.clients
     × (t.workers ≡ s.workers)
 
--- what comes of a turn
+-- the result of a turn
 abbrev pub Made : State → Turn → Reply → State → Type 0
 Made m turn.Yield r n = (r ≡ reply.Done) × (n ≡ m)
 Made m (turn.Make k) r n = StepsTo m (event.Call server k) r n

@@ -1,5 +1,5 @@
--- What lies on the shelf of a site: the response that is due to each request, by the files as they are; the responses that it may have
--- where calls are refused; and so the answers to a stream.
+-- The contents of a site: the response that is due to each request, by the current files; the responses that are possible if
+-- calls are refused; and so the answers to a stream.
 pub mod Due
 pub mod OneAnswer
 use Rattle.std.specs.Prelude.{◌≡◌, ℕ, ◌⊎◌, Bool, true, false, List, [], ◌∷◌, ◌++◌, Option, Some, None}
@@ -21,6 +21,11 @@ use Rattle.flash_laws.specs.Conn.{status_of}
 use Rattle.flash_laws.specs.Answers.{Outcome, Found, Failed, response, outcome_of, script_text, Reads, last_may_close, last_closes}
 use Rattle.flash_laws.specs.Shelf.Due.{Seen, due, outcomes_by}
 
+-- The refusals among TooMany, NoRoom, Fault and Memory that calls for files may get: those of the server, and those of workers.
+pub record Refusals : Type 0 where
+  pub of_server : Refusal → Bool
+  pub of_workers : Refusal → Bool
+
 pub record Shelf : Type 0 where
   -- the outcome of each name for the server
   pub finds : (name : List ℕ) → Outcome
@@ -28,64 +33,64 @@ pub record Shelf : Type 0 where
   pub shows : Seen
   -- whether scripts are run
   pub scripts : Bool
-  -- which of the refusals TooMany, NoRoom, Fault and Memory the calls for files may get
-  pub refuses : Refusal → Bool
+  -- the refusals that calls for files may get
+  pub refuses : Refusals
 
--- the response that is due to a request, where nothing is refused
+-- the response that is due to a request, if nothing is refused
 abbrev pub due_to : Shelf → Answer → List ℕ
 due_to shelf q = due shelf.scripts shelf.finds shelf.shows q
 
 module _ (shelf : Shelf) where
-  -- What the server's calls for a file may give where this is there: it, or the status of a refusal (503, or 500 for a fault).
+  -- The possible results of the server's calls for a file with this outcome: the outcome, or the status of a refusal that its
+  -- calls may get (503, or 500 for a fault).
   abbrev pub MayFind : (there got : Outcome) → Type 0
-  MayFind there got = (got ≡ there) ⊎ ((x : Refusal) × (shelf.refuses x ≡ true) × (got ≡ Failed (status_of x)))
+  MayFind there got = (got ≡ there) ⊎ ((x : Refusal) × (shelf.refuses.of_server x ≡ true) × (got ≡ Failed (status_of x)))
 
-  -- What a script's calls for a file may give: it, or a refusal.
+  -- The possible results of a worker's calls for a file: its outcome, or a refusal that calls of workers may get.
   abbrev pub MayShow : (there got : script.Outcome) → Type 0
-  MayShow there got = (got ≡ there) ⊎ ((x : Refusal) × (shelf.refuses x ≡ true) × (got ≡ script.Failed x))
+  MayShow there got = (got ≡ there) ⊎ ((x : Refusal) × (shelf.refuses.of_workers x ≡ true) × (got ≡ script.Failed x))
 
-  -- of each file that it names
+  -- the same for each file that it names
   abbrev pub AllMayShow : (there got : List script.Outcome) → Type 0
   AllMayShow [] [] = Unit {0}
   AllMayShow (o ∷ os) (p ∷ ps) = MayShow o p × AllMayShow os ps
   AllMayShow [] (p ∷ ps) = ⊥
   AllMayShow (o ∷ os) [] = ⊥
 
-  -- the response with what these lines may put out; to HEAD the head alone
+  -- the response with a possible output of these lines; for HEAD only the head
   abbrev pub MayRun : (head_only : Bool) → Wanted → List Line → List ℕ → Type 0
   MayRun true w lines r = r ≡ script_text w
   MayRun false w lines r = (os : List script.Outcome) × AllMayShow (outcomes_by shelf.shows lines) os
       × (r ≡ script_response w (output w.query lines os))
 
-  -- a text that is no script is answered with 500
+  -- a text that is no script gets the response 500
   abbrev pub MayAnswerText : Wanted → Option (List Line) → List ℕ → Type 0
   MayAnswerText w (Some lines) r = MayRun w.head_only w lines r
   MayAnswerText w None r = r ≡ response (serve w) (Failed 500)
 
-  -- the response where the calls for the request's file gave this
+  -- the response with this result of the calls for the request's file
   abbrev pub MayGive : (script : Bool) → Answer → Outcome → List ℕ → Type 0
   MayGive true (serve w) (Found text) r = MayAnswerText w (script_of text) r
   MayGive script q o r = r ≡ response q o
 
-  -- The response that a request may have.
+  -- A possible response to a request.
   abbrev pub MayBeDue : Answer → List ℕ → Type 0
   MayBeDue q r = (o : Outcome) × MayFind (outcome_of shelf.finds q) o × MayGive (is_for_script shelf.scripts q) q o r
 
-  -- each of these requests may have the response in its place
+  -- a possible response to each of these requests, in order
   abbrev pub AllMayBeDue : List Answer → List (List ℕ) → Type 0
   AllMayBeDue [] [] = Unit {0}
   AllMayBeDue (q ∷ qs) (r ∷ rs) = MayBeDue q r × AllMayBeDue qs rs
   AllMayBeDue [] (r ∷ rs) = ⊥
   AllMayBeDue (q ∷ qs) [] = ⊥
 
-  -- these bytes are responses that these requests may have, in order
+  -- these bytes are possible responses to these requests, in order
   pub record Responds (qs : List Answer) (bytes : List ℕ) : Type 0 where
     pub responses : List (List ℕ)
     pub each : AllMayBeDue qs responses
     pub all : bytes ≡ concat responses
 
--- These bytes begin an answer to the stream: they are responses that its first requests may have, in order, or the beginning of
--- these.
+-- These bytes begin an answer to the stream: they are a prefix of possible responses to its first requests, in order.
 pub record Begins (shelf : Shelf) (s bytes : List ℕ) : Type 0 where
   pub qs : List Answer
   pub rest : List ℕ
@@ -96,7 +101,7 @@ pub record Begins (shelf : Shelf) (s bytes : List ℕ) : Type 0 where
   pub more : List ℕ
   pub all : whole ≡ bytes ++ more
 
--- These bytes are an answer to the stream: no further request is there, or the connection closes after the last one.
+-- These bytes are an answer to the stream: there is no further request, or the connection closes after the last one.
 pub record IsAnswer (shelf : Shelf) (s bytes : List ℕ) : Type 0 where
   pub qs : List Answer
   pub rest : List ℕ
@@ -105,7 +110,7 @@ pub record IsAnswer (shelf : Shelf) (s bytes : List ℕ) : Type 0 where
   pub responds : Responds shelf qs bytes
   pub no_more : (window_in rest ≡ Wait) ⊎ (last_closes qs ≡ true)
 
--- a reply that refuses by TooMany, NoRoom, Fault or Memory does so by one of these
+-- a reply with TooMany, NoRoom, Fault or Memory is one of these refusals
 abbrev pub IsAmong : (refuses : Refusal → Bool) → Reply → Type 0
 IsAmong refuses (reply.Refused x) = is_rough (reply.Refused x) ≡ true → refuses x ≡ true
 IsAmong refuses r = Unit {0}

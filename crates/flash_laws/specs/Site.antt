@@ -1,4 +1,4 @@
--- The files of a site, and who may read them: what a list of outcomes by name stands for, and what leaves it so.
+-- The files of a site and their access lists: the meaning of a list of outcomes by name, and the steps that leave it unchanged.
 pub mod Past
 pub mod OtherConns
 pub mod Places
@@ -17,11 +17,11 @@ use Rattle.flash_laws.specs.Conn.{most_read}
 abbrev pub server : ℕ
 server = 1
 
--- the pool `net`, which names the server alone
+-- the pool `net`, which lists only the server
 abbrev pub net_pool : ℕ
 net_pool = 2
 
--- what opening and reading a file gives the server, with no want of anything
+-- the result of opening and reading a file for the server, without resource refusals
 abbrev pub found_in : State → Option ℕ → Outcome
 found_in m None = Failed 404
 found_in m (Some f) = if may_read m server (file m f).pool then Found (content m f) else Failed 403
@@ -29,8 +29,8 @@ found_in m (Some f) = if may_read m server (file m f).pool then Found (content m
 abbrev pub outcome_in : State → (name : List ℕ) → Outcome
 outcome_in m name = found_in m (file_called m name)
 
--- The files, and who may read them, are those of the shelf; none is longer than the server reads at once, and each is in a pool
--- that somebody may read; the net is read by the server alone; and the server is there.
+-- The files and their access lists are those of the site contents; each file is within the limit of one read of the server and
+-- in a pool with a reader; only the server may read the net; and the server is live.
 pub record IsFixed (shelf : Shelf) (m : State) : Type 0 where
   pub lives : is_live m server ≡ true
   pub outcomes : (name : List ℕ) → outcome_in m name ≡ shelf name
@@ -41,7 +41,7 @@ pub record IsFixed (shelf : Shelf) (m : State) : Type 0 where
   pub net_read : may_read m server net_pool ≡ true
   pub net_alone : (d : ℕ) → d ≢ server → may_read m d net_pool ≡ false
 
--- No file is made or written, and nobody is admitted to the net or to a file's pool: the site stays as it is.
+-- No file is made or written, and no domain is admitted to the net or to a file's pool: the site is unchanged.
 pub record KeepsSite (m n : State) : Type 0 where
   pub files : n.files ≡ m.files
   pub slots : n.slots ≡ m.slots
@@ -49,7 +49,7 @@ pub record KeepsSite (m n : State) : Type 0 where
   pub readers : (name : List ℕ) (f d : ℕ) → file_called m name ≡ Some f
       → may_read n d (file m f).pool ≡ may_read m d (file m f).pool
 
--- so it does over each step that may change no file, and that admits nobody to a pool
+-- each step that may change no file, and that admits no domain to a pool, leaves the site unchanged
 abbrev pub SiteStays : Type 0
 SiteStays = (shelf : Shelf) (m n : State) (e : Event) (r : Reply) → IsFixed shelf m → StepsTo m e r n
     → changes_files m e ≡ false → ((p : ℕ) → admits_to e p ≡ false) → KeepsSite m n

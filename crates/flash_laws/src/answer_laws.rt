@@ -1,21 +1,21 @@
-//! What refusals leave of the answers: which runs are fair, and that a stream has one answer where
-//! nothing is refused. The functions do nothing; their contracts are the laws.
+//! Laws of refusals and answers: the runs that are fair, and that a stream has one answer if
+//! nothing is refused. The functions have no effect; their contracts are the laws.
 ghost use Rattle.flash_laws.specs.Shelf.OneAnswer.{StreamsHaveOneAnswer};
-ghost use Rattle.flash_laws.specs.Workers.Crews.{OfEach};
-ghost use Rattle.flash_laws.specs.World.Fair.{FilesAreFair, SmoothIsFair};
+ghost use Rattle.flash_laws.specs.World.Fair.{AnyIsFair, OwnIsFair, SmoothIsFair};
 
-use crate::world_law::RunsScripts;
 use flash_http::one_answer;
 
-/// The premise on refusals holds of a run in which no turn was refused by TooMany, NoRoom, Fault or Memory,
-/// with no refusal allowed; and of any run of a site without workers, with these four allowed.
-pub fn runs_are_fair<W: RunsScripts>()
+/// The premise on refusals holds for a run in which no turn got TooMany, NoRoom, Fault or Memory,
+/// with no refusal allowed; for any run with these four allowed; and for any run, and its parts,
+/// with the refusals allowed that its turns got.
+pub fn runs_are_fair()
     ensures smooth { SmoothIsFair }
-    ensures files { OfEach W.turns W.settled W.free W.due FilesAreFair }
+    ensures any { AnyIsFair }
+    ensures own { OwnIsFair }
 {}
 
-/// A request may have the response by the files as they are, whatever is refused. Where nothing is, it has no
-/// other, and a stream has one answer; what begins an answer to it begins that one.
+/// The response by the current files is possible, whatever is refused. If nothing is refused, it
+/// is the only one, and a stream has one answer; bytes that begin an answer to it begin that one.
 pub fn streams_have_one_answer()
     ensures { StreamsHaveOneAnswer }
 {

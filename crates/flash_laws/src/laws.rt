@@ -1,4 +1,5 @@
-//! Laws of the server's calls and turns. The functions do nothing; their contracts are the laws.
+//! Laws of the server's calls and turns. The functions have no effect; their contracts are the
+//! laws.
 ghost use Rattle.flash_laws.specs.Serves.GoesRound.{TurnsGoRound};
 ghost use Rattle.flash_laws.specs.Conn.Holdings.{KeepsNothing};
 ghost use Rattle.flash_laws.specs.Conn.OfferedBytes.{OffersTheResponse};
@@ -7,11 +8,11 @@ ghost use Rattle.flash_laws.specs.Site.{SiteStays};
 
 use iol_laws::laws;
 
-/// What the server offers for a request is the next bytes of the response to it, with the outcome
-/// of the calls that it made for it, the first of which opens the file of its name. With each reply
-/// the request comes nearer to its end, but where its call is to be made again later; so it makes
-/// only so many calls. It is said of each step, calm or not, while nobody gives up or moves what
-/// the connection uses; that over a whole run nobody does is not.
+/// The bytes that the server offers for a request are the next bytes of the response to it, for
+/// the outcome of the calls made for it. The first of these calls opens the file of its name. Each
+/// reply reduces the rank of the request, unless its call is retried later; so only finitely many
+/// of its calls are not retried. The law is about single steps, calm or not, during which no call
+/// consumes or moves what the connection uses. That this is so over a whole run is not stated here.
 pub fn offers_law()
     ensures { OffersTheResponse }
 {
@@ -22,10 +23,10 @@ pub fn offers_law()
     laws::refusals_that_are_left();
 }
 
-/// The server keeps nothing of an answer that is over: what a call brings is used by the connection
-/// that it was made for, and what that connection uses no more, aggregates and descriptors of
-/// files, is given up. Its calls touch nothing but what it has. It is said of each call of the
-/// server, calm or not; what others give the server is not spoken of.
+/// The server keeps nothing of a finished response: the result of a call belongs to the connection
+/// for which it was made, and aggregates and file descriptors that the connection no longer uses
+/// are dropped or closed. Its calls touch only what it has. The law is about each call of the
+/// server, calm or not, and not about what other domains give to the server.
 pub fn keeping_law()
     ensures { KeepsNothing }
 {
@@ -34,25 +35,25 @@ pub fn keeping_law()
     laws::file_calls_serve_their_domain();
 }
 
-/// A step that may change no file, and that admits nobody to a pool, leaves the site as it is: so a
-/// call from outside that is none of `file_new`, `pool_admit` and a write to a file is mild.
+/// A step that may change no file, and that admits no domain to a pool, leaves the site unchanged.
+/// So an external call is mild unless it is `file_new`, `pool_admit` or a write to a file.
 pub fn site_law()
     ensures { SiteStays }
 {
     laws::each_step_leaves_the_rest();
 }
 
-/// Turns go round: a client whose call is to be made again later is passed, and so is one that has
-/// to wait for a worker, or for which nothing is left to do but to read more; the next turn is that
-/// of the first behind it that may have one; past all places connections are accepted while there
-/// are any, and then the server yields. So a client waits for another only while that is being
-/// answered.
+/// Turns are given in rounds. A client is passed over if its call is to be retried later, if it
+/// waits for a worker, or if it only reads more input; the next turn is that of the first client
+/// after it that may take one. After the last client, connections are accepted while any are
+/// waiting, and then the server yields. So a client waits for another only while the server
+/// advances that one's response.
 pub fn rounds_law()
     ensures { TurnsGoRound }
 {}
 
-/// Each script that runs has a worker of its own, whichever call the server picks: so it is of a
-/// new server, however many workers it has, and each turn leaves it so. For a server that has no
+/// Each running script has a worker of its own, whichever call the server picks: this holds for a
+/// new server, with any number of workers, and each turn preserves it. For a server without
 /// workers no script runs.
 pub fn sharing_law()
     ensures { WorkersAreShared }

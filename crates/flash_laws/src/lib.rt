@@ -1,18 +1,24 @@
-//! The file server Flash-Lite: its words, and the law that connections do not meet.
+//! The file server Flash-Lite: its specification, and the law that connections do not interfere.
 //!
-//! There is no code here but the phases of a connection ([`phase`]), and the steps of a script's
-//! run ([`script_run`]). What the server does in a turn is a relation (`specs/Serves`,
-//! `server_turns`): the last reply is filed, a client is picked, and its next call is made; when
-//! it may want memory is said beside it (`specs/Serves/Wants`). A client is a connection, and the
-//! run of a script while that has it (`specs/Client`). What is said of each call for a client
-//! stands in [`run_laws`]; that turns go round and each script has a worker of its own, in
-//! [`laws`]; what a worker and the files give, in [`worker_laws`]. The law ([`world_law`]) is
-//! about every process with such turns, beside any number of workers that run scripts
-//! ([`world_law::RunsScripts`]), and none, too: what is sent on each connection begins an answer
-//! to what came on it, as if it were alone, whatever the order of turns, and whatever calls of
-//! the server are refused ([`answer_laws`]). It stands below the server's code, which meets these
-//! words with a contract for each phase; so an edit of that code does not check the law again.
+//! The only code is the phases of a connection ([`phase`]), and the steps of a script's run
+//! ([`script_run`]). A turn of the server is a relation (`specs/Serves`, `server_turns`): it
+//! processes the last reply, picks a client, and makes its next call. `specs/Serves/Wants` states
+//! when it may need memory. A client is a connection, together with the run of a script while that
+//! has the connection (`specs/Client`). [`run_laws`] has the laws of single calls for a client;
+//! [`laws`] those of rounds and of the assignment of workers; [`worker_laws`] those of workers and
+//! files. The main law ([`world_law`]) is about every process with such turns, together with any
+//! number of workers that run scripts ([`world_law::RunsScripts`]), possibly none. The bytes sent
+//! on each connection begin an answer to its own input, for every order of turns, and whichever
+//! calls of the server are refused ([`answer_laws`]). The crate is below the server's code, which
+//! has a contract for each phase in these terms; so a change of that code does not require the law
+//! to be proved again.
 //!
+//! A law is the contract of a function without effect. A proof in a crate above uses the law by a
+//! call of that function:
+//!
+//! ```text
+//! world_law::world_law::<Worker>(); // the answers cite c.world_law.ensures.run
+//! ```
 //! A law is the contract of a function that does nothing, so a proof in a crate above has it by a
 //! call of that function:
 //!

@@ -1,10 +1,10 @@
-//! What is in progress on a connection, and which call of the server is out.
+//! The phases of a connection, and the pending call of the server.
 use http::StatusCode;
 use iol_core::numbers::{AggId, Fd};
 
-/// What is learnt of a file: all its bytes lie in an aggregate, or it has so many, or a call was
-/// refused, and the answer is an error. Of a script the text lies in an aggregate, and `runs` says
-/// whether it is one that can run.
+/// The result of reading a file: an aggregate of all its bytes, its length, or a refusal, for
+/// which the response is an error. For a script, an aggregate of its text, and `runs` is whether
+/// the script can run.
 #[derive(Clone, Copy, Debug, PartialEq, Eq)]
 pub enum Learnt {
     File { agg: AggId, len: u32 },
@@ -13,8 +13,8 @@ pub enum Learnt {
     Text { agg: AggId, runs: bool },
 }
 
-/// What is sent: `size` bytes of a file of `len` bytes, which lie in an aggregate; of such a file
-/// none; an error; or what a script puts out.
+/// The body of a response: `size` bytes of a file of `len` bytes, in an aggregate; none of the
+/// bytes of such a file; an error; or the output of a script.
 #[derive(Clone, Copy, Debug, PartialEq, Eq)]
 pub enum Content {
     Body { agg: AggId, size: u32, len: u32 },
@@ -23,35 +23,35 @@ pub enum Content {
     Script,
 }
 
-/// What is in progress on a connection: the call that it wants next. The request that is answered stands beside it.
+/// The phase of a connection: its next call. The request in progress is stored separately.
 ///
-/// While an answer is sent, `taken` bytes of it are taken, and `more` is the aggregate that comes
-/// after the one that is sent, with the number of its bytes.
+/// While a response is sent, `taken` of its bytes are taken, and `more` is the aggregate after the
+/// one that is being sent, with its length.
 #[derive(Clone, Copy, Debug, PartialEq, Eq)]
 pub enum Doing {
-    /// Nothing: the first request that is kept begins, or more of the stream is read.
+    /// Idle: begins the first buffered request, or reads more of the stream.
     Rests,
 
-    /// What was read is kept, and its aggregate is to be dropped.
+    /// Drops the aggregate of a read, whose bytes are buffered.
     Got {
         agg: AggId,
     },
 
-    /// The file is to be opened.
+    /// Opens the file.
     Opens,
 
-    /// It is to be read, or its length asked for.
+    /// Reads the file, or asks for its length.
     Reads {
         file: Fd,
     },
 
-    /// It is to be closed.
+    /// Closes the file.
     Shuts {
         file: Fd,
         learnt: Learnt,
     },
 
-    /// Of what was read a part is to be cut.
+    /// Cuts a part of the bytes read.
     Picks {
         agg: AggId,
         first: u32,
@@ -59,18 +59,18 @@ pub enum Doing {
         len: u32,
     },
 
-    /// The whole is to be dropped.
+    /// Drops the whole of the bytes read.
     Spares {
         agg: AggId,
         content: Content,
     },
 
-    /// The head is to be made.
+    /// Makes the head.
     Heads {
         content: Content,
     },
 
-    /// A head of `size` bytes and a body of `len` are to be one aggregate.
+    /// Joins a head of `size` bytes and a body of `len` bytes.
     Joins {
         head: AggId,
         size: u32,
@@ -78,7 +78,7 @@ pub enum Doing {
         len: u32,
     },
 
-    /// An aggregate of `len` bytes is to be offered.
+    /// Offers an aggregate of `len` bytes.
     Sends {
         agg: AggId,
         len: u32,
@@ -86,7 +86,7 @@ pub enum Doing {
         more: Option<(AggId, u32)>,
     },
 
-    /// Its bytes before `from` are taken: the next piece is to be cut.
+    /// Cuts the next piece: the bytes before `from` are taken.
     Cuts {
         agg: AggId,
         from: u32,
@@ -95,7 +95,7 @@ pub enum Doing {
         more: Option<(AggId, u32)>,
     },
 
-    /// The piece is to be offered.
+    /// Offers the piece.
     Offers {
         agg: AggId,
         from: u32,
@@ -105,7 +105,7 @@ pub enum Doing {
         more: Option<(AggId, u32)>,
     },
 
-    /// The piece is to be dropped; now its bytes before `from` are taken.
+    /// Drops the piece, after which the bytes before `from` are taken.
     Swaps {
         agg: AggId,
         from: u32,
@@ -115,34 +115,34 @@ pub enum Doing {
         more: Option<(AggId, u32)>,
     },
 
-    /// All of it was taken, and it is to be dropped.
+    /// Drops the aggregate, all of which was taken.
     Sent {
         agg: AggId,
         taken: u64,
         more: Option<(AggId, u32)>,
     },
 
-    /// Nothing more is sent: the piece is to be dropped, and then the rest.
+    /// Stops sending: drops the piece, and then the rest.
     Breaks {
         piece: AggId,
         agg: AggId,
         more: Option<(AggId, u32)>,
     },
 
-    /// Nothing more is sent: what is held is to be dropped, and the connection then closed.
+    /// Stops sending: drops the aggregate, and then closes the connection.
     Drops {
         agg: AggId,
         more: Option<(AggId, u32)>,
     },
 
-    /// The connection is to be closed.
+    /// Closes the connection.
     Closes,
 
-    /// It is closed.
+    /// Closed.
     Over,
 }
 
-/// Which call is out: none, an accept, or one for the connection at a descriptor.
+/// The pending call: none, an accept, or one for the connection of a descriptor.
 #[derive(Clone, Copy, Debug, PartialEq, Eq)]
 pub enum Flight {
     Nothing,

@@ -1,5 +1,5 @@
-//! The laws of a script's run, and of a client for whose requests scripts run. The functions do
-//! nothing; their contracts are the laws.
+//! Laws of a script's run, and of a client with requests of scripts. The functions have no effect;
+//! their contracts are the laws.
 ghost use Rattle.flash_laws.specs.Client.Holdings.{ClientsLeaveNothing};
 ghost use Rattle.flash_laws.specs.Client.OfferedBytes.{ClientsAreOfferedTheResponse};
 ghost use Rattle.flash_laws.specs.Run.Holdings.{RunsKeepNothing};
@@ -7,16 +7,16 @@ ghost use Rattle.flash_laws.specs.Run.OfferedBytes.{RunsOfferTheResponse};
 
 use iol_laws::laws;
 
-/// What the server offers for a script is the next bytes of the response, whatever its output will
-/// be; once the end of the output was seen, of the response to that output. It is said of each step
-/// of a run by itself, calm or not, while nobody gives up or moves what the run uses: a run begins
-/// so, and after the reply to its own call the machine has what is needed then. As much counts as
-/// taken as the connection took, until the response is broken off, which is where its peer is gone
-/// or the output may not be read. A script is given up before it runs, and only where its worker
-/// does not live or nobody reads its jobs. The worker gets the pipe that the server reads, and then
-/// the job that names it. No output is read while the bytes of a whole chunk are held. With each
-/// reply it comes nearer to its end, but where more output was read, or its call is to be made
-/// again later.
+/// The bytes that the server offers for a script are the next bytes of the response, for every
+/// further output; once the end of the output was read, of the response to that output. The law is
+/// about single steps of a run, calm or not, during which no call consumes or moves what the run
+/// uses: it holds when a run begins, and after the reply to its own call the machine has what the
+/// next step needs. The bytes that the connection took count as taken, until the response is
+/// aborted, which happens only if the peer is gone or the output may not be read. A script is
+/// given up before it runs only if its worker's domain has ended or its job pipe has no reader.
+/// The worker gets the pipe that the server reads, and then the job that names it. No output is
+/// read while the bytes of a whole chunk are buffered. Each reply reduces the rank, unless more
+/// output was read, or the call is retried later.
 pub fn runs_law()
     ensures { RunsOfferTheResponse }
 {
@@ -26,11 +26,10 @@ pub fn runs_law()
     laws::refusals_that_are_left();
 }
 
-/// A run keeps nothing that it does not use: what a call brings is used by the run that it was made
-/// for, and what a run uses no more, aggregates and the ends of its pipe, is given up. And it keeps
-/// to itself: its calls give up and move only what it has, and touch no connection and no pipe but
-/// its own. It is said of each call of the server, calm or not; what others give the server is not
-/// spoken of.
+/// A run keeps only what it uses: the result of a call belongs to the run for which it was made,
+/// and aggregates and pipe ends that the run no longer uses are dropped or closed. Its calls
+/// consume and move only what it has, and touch only its own connection and pipe. The law is about
+/// each call of the server, calm or not, and not about what other domains give to the server.
 pub fn run_keeping_law()
     ensures { RunsKeepNothing }
 {
@@ -38,14 +37,14 @@ pub fn run_keeping_law()
     laws::calls_serve_their_domain();
 }
 
-/// What the server offers a client for a request, be it for a file or for a script, is the next
-/// bytes of the response: of a file there is one, of a script it is whatever it will be. It is said
-/// of each call for the client, calm or not, while nobody gives up or moves what it uses: the
-/// file's name is asked for first, a script is read whole and runs with its own text and the query
-/// of its request, and HEAD runs none. As much counts as taken as its connection took. While a
-/// script runs the client is as its run. The request stays with each reply, and so does what is
-/// kept of the stream, but that what is heard is added. With each reply a request comes nearer to
-/// its end, but where more of the output was read, or its call is to be made again later.
+/// The bytes that the server offers a client for a request, of a file or of a script, are the next
+/// bytes of the response: for a file there is one response, for a script it depends on the further
+/// output. The law is about each call for the client, calm or not, during which no call consumes
+/// or moves what it uses. The file's name is opened first; a script is read whole and runs with
+/// its own text and the query of its request; HEAD runs none. The bytes that its connection took
+/// count as taken. While a script runs the client behaves as its run. Replies leave the request
+/// unchanged, and the buffered stream except that bytes read are appended. Each reply reduces the
+/// rank of a request, unless more of the output was read, or its call is retried later.
 pub fn clients_law()
     ensures { ClientsAreOfferedTheResponse }
 {
@@ -55,11 +54,11 @@ pub fn clients_law()
     laws::refusals_that_are_left();
 }
 
-/// The server keeps nothing of an answer that is over, be it of a file or of a script: what a call
-/// brings is used by the client that it was made for, and what that uses no more, aggregates,
-/// descriptors of files and ends of pipes, is given up. No text of a script is held but by a client
-/// that is to run it. It is said of each call of the server, calm or not; what others give the
-/// server is not spoken of.
+/// The server keeps nothing of a finished response, of a file or of a script: the result of a call
+/// belongs to the client for which it was made, and aggregates, file descriptors and pipe ends
+/// that the client no longer uses are dropped or closed. Only a client that will run a script
+/// holds its text. The law is about each call of the server, calm or not, and not about what other
+/// domains give to the server.
 pub fn client_keeping_law()
     ensures { ClientsLeaveNothing }
 {

@@ -1,72 +1,73 @@
-//! What is in progress for a script: its run, from the moment that its text is read to the last bytes of its output.
+//! The state of a script: its run, from the time when its text is read to the last bytes of its
+//! output.
 use crate::phase::Doing;
 use iol_core::numbers::{AggId, Fd};
 
-/// The bytes of a chunk of a script's output, but for the last one.
+/// The number of bytes of a chunk of a script's output, except for the last one.
 pub const CHUNK_BYTES: u32 = 4096;
 
-/// A script that runs.
+/// A running script.
 #[derive(Clone, Copy, Debug, PartialEq, Eq)]
 pub struct Run {
-    /// The worker that runs it, counted from 0. It runs no other.
+    /// The worker that runs it, counted from 0. It runs no other script.
     pub worker: u32,
 
-    /// Where its output is read.
+    /// The descriptor from which its output is read.
     pub from: Fd,
 
-    /// Whether nobody takes its output any more: the rest is read and dropped.
+    /// Whether its output is no longer sent: the rest is read and dropped.
     pub broken: bool,
 }
 
-/// What a script's run does next, and what it has for that.
+/// The next call of a script's run, with the data for it.
 ///
-/// `held` is output that was read and not yet offered, with the number of its bytes, and `frame`
-/// what stands around the bytes of a whole chunk, once it is made.
+/// `held` is output that was read and not yet offered, with its length, and `frame` the text
+/// around the bytes of a whole chunk, once it is made.
 #[derive(Clone, Copy, Debug, PartialEq, Eq)]
 pub enum Step {
-    /// The pipe's write end is to be given to the worker.
+    /// Gives the pipe's write end to the worker.
     Gives {
         write: Fd,
     },
 
-    /// The job is to be made. The worker has the write end at its descriptor `fd`.
+    /// Makes the job. The worker has the write end at its descriptor `fd`.
     Makes {
         fd: Fd,
     },
 
-    /// It is to be written into the worker's job pipe. It names the descriptor `fd`.
+    /// Writes the job into the worker's job pipe. It names the descriptor `fd`.
     Hands {
         job: AggId,
         fd: Fd,
     },
 
-    /// It is to be dropped.
+    /// Drops the job.
     Lets {
         job: AggId,
     },
 
-    /// The head of the response is to be made.
+    /// Makes the head of the response.
     Heads,
 
-    /// A part of the response is being sent, by the phases of any response.
+    /// Sends a part of the response, by the phases of any response.
     Sending {
         doing: Doing,
         frame: Option<AggId>,
     },
 
-    /// Output is to be read.
+    /// Reads output.
     Hears {
         held: Option<(AggId, u32)>,
         frame: Option<AggId>,
     },
 
-    /// Output that nobody takes is to be dropped.
+    /// Drops output that is not sent.
     Spills {
         agg: AggId,
         frame: Option<AggId>,
     },
 
-    /// A piece of output, of `len` bytes, is to be joined to what is held.
+    /// Joins a piece of output, of `len` bytes, to the buffered output.
     Gathers {
         held: AggId,
         size: u32,
@@ -75,18 +76,18 @@ pub enum Step {
         frame: Option<AggId>,
     },
 
-    /// The bytes of a whole chunk are held. The frame is to be made.
+    /// Makes the frame: the bytes of a whole chunk are buffered.
     Frames {
         held: AggId,
     },
 
-    /// They are to be set into the frame.
+    /// Inserts them into the frame.
     Wraps {
         held: AggId,
         frame: AggId,
     },
 
-    /// What was held is to be dropped: the chunk, of `len` bytes, has it.
+    /// Drops the buffered output, which is in the chunk, of `len` bytes.
     Trims {
         held: AggId,
         chunk: AggId,
@@ -94,44 +95,44 @@ pub enum Step {
         frame: AggId,
     },
 
-    /// The output is at its end. The aggregate of no bytes that tells it is to be dropped.
+    /// Drops the empty aggregate of the last read, after the end of the output.
     Ended {
         agg: AggId,
         held: Option<(AggId, u32)>,
         frame: Option<AggId>,
     },
 
-    /// Nothing more is sent: what is held is to be dropped.
+    /// Stops sending: drops the buffered output.
     Unholds {
         held: AggId,
         frame: Option<AggId>,
     },
 
-    /// No more is read: the read end is to be closed.
+    /// Stops reading: closes the read end.
     Stops {
         held: Option<(AggId, u32)>,
         frame: Option<AggId>,
     },
 
-    /// It is closed. The frame is to be dropped.
+    /// Drops the frame, after the close.
     Unframes {
         frame: AggId,
         held: Option<(AggId, u32)>,
     },
 
-    /// The end of the body is to be made, around what is held.
+    /// Makes the end of the body, around the buffered output.
     Lasts {
         held: Option<(AggId, u32)>,
     },
 
-    /// What is held is to be set into that end.
+    /// Inserts the buffered output into that end.
     WrapsLast {
         held: AggId,
         size: u32,
         frame: AggId,
     },
 
-    /// What was held is to be dropped.
+    /// Drops the buffered output.
     TrimsLast {
         held: AggId,
         chunk: AggId,
@@ -139,39 +140,40 @@ pub enum Step {
         frame: AggId,
     },
 
-    /// The end alone is to be dropped.
+    /// Drops the end, which is not needed without buffered output.
     Unwraps {
         frame: AggId,
         chunk: AggId,
         len: u32,
     },
 
-    /// The worker could not be given the write end, which is to be closed.
+    /// Closes the write end, which could not be given to the worker.
     Returns {
         write: Fd,
     },
 
-    /// The job could not be written, and is to be dropped.
+    /// Drops the job, which could not be written.
     Lapses {
         job: AggId,
     },
 
-    /// The script cannot run: the read end is to be closed.
+    /// Closes the read end: the script cannot run.
     Fails,
 }
 
 /// A run of a script.
 #[derive(Clone, Copy, Debug, PartialEq, Eq)]
 pub enum Running {
-    /// It waits for a worker that is free; then a pipe is to be made for its output.
+    /// Waits for a free worker; then makes a pipe for the output.
     Awaits,
 
-    /// It has a worker and a pipe.
+    /// Has a worker and a pipe.
     Runs { run: Run, step: Step },
 
-    /// Its worker is free, and what is left of the response, or an error, is sent as for a file.
+    /// The worker is free, and the rest of the response, or an error, is sent as for a file.
     Leaves { doing: Doing },
 
-    /// Its worker is free, and the connection is to be closed: all of the response is taken, or nobody takes it.
+    /// The worker is free, and the connection is to be closed: all of the response is taken, or it
+    /// is not sent any more.
     Closes,
 }

@@ -1,5 +1,5 @@
-//! What the law over a world with workers needs of them, and of the response that is due. The
-//! functions do nothing; their contracts are the laws.
+//! Properties of workers, and of the response due to a request, that the law over a world with
+//! workers needs. The functions have no effect; their contracts are the laws.
 ghost use Rattle.std.specs.Prelude.{ℕ, Bool};
 ghost use Rattle.flash_cgi.specs.Prelude.{HasWaited, worker_turns};
 ghost use Rattle.flash_laws.specs.Shelf.Due.{DueMayCome};
@@ -9,9 +9,9 @@ ghost use Rattle.flash_laws.specs.Workers.{IsDueOf, IsFreeFor, WorkersRun};
 use flash_cgi::laws as scripts;
 use iol_laws::laws;
 
-/// The worker that runs scripts is as the law needs it, whichever pools hold the files: what a
-/// script puts out is one text, which lies in these pools, and its worker waits for nothing but
-/// room in its pipe. A worker touches nothing else, and is free again after it.
+/// The worker that runs scripts meets the requirements of the law, for all pools of the files: a
+/// script outputs one text, which is in these pools, and only a full pipe can block its worker. A
+/// worker changes nothing else, and is free again after the script.
 pub fn workers_run()
     ensures { (pools : ℕ → Bool) → WorkersRun worker_turns HasWaited pools (IsFreeFor pools) (IsDueOf pools) }
 {
@@ -24,15 +24,15 @@ pub fn workers_run()
     laws::each_step_leaves_the_rest();
 }
 
-/// With the files as they are one response is due to a request, be it for a file or for a script;
-/// and at each moment that response may come, with what the calls for the request gave so far.
+/// If the files do not change, one response is due to a request, of a file or of a script, and at
+/// each time it is a possible response, given the results of the calls for the request so far.
 pub fn due_may_come()
     ensures { DueMayCome }
 {}
 
-/// What a script puts out comes to whoever reads its pipe, in order and to its end: each read gives
-/// the front of what is still to be had, one that gives nothing tells that all was read and that
-/// the worker is free, and none is denied. Meanwhile the worker's turns and others leave the rest.
+/// A reader of the pipe gets the output of a script in order and to its end. Each read gives the
+/// front of the remaining text; a read of no bytes means that all was read and that the worker is
+/// free; and no read is denied. Turns of the worker and events of others preserve the rest.
 pub fn texts_are_put_out()
     ensures { (pools : ℕ → Bool) → TextsArePutOut worker_turns pools (IsFreeFor pools) (IsDueOf pools) }
 {

@@ -1,10 +1,11 @@
-//! The law over a world in which scripts run: connections do not meet, be it for files or for what scripts put out. The function does
-//! nothing; its contract is the law.
+//! The law over a world in which scripts run: connections do not interfere, for files and for the
+//! output of scripts. The function has no effect; its contract is the law.
 ghost use Rattle.std.specs.Prelude.{ℕ, Bool, List};
 ghost use Rattle.iol_core.specs.Prelude.{State};
 ghost use Rattle.iol_core.specs.declared.events.Reply.{Reply};
 ghost use Rattle.iol_proc.specs.Prelude.{Settles, Account};
 ghost use Rattle.iol_proc.specs.declared.seat.Seat.{Seat};
+ghost use Rattle.flash_cgi.specs.Prelude.{Made};
 ghost use Rattle.flash_laws.specs.Workers.Crews.{OfEach, OfSome};
 ghost use Rattle.flash_laws.specs.World.Settles.{ActorsSettle};
 ghost use Rattle.flash_laws.specs.Serves.Rounds.{in_rounds};
@@ -20,37 +21,41 @@ use flash_cgi::laws::others_hear;
 use flash_http::{served_requests, window_fits, window_stays};
 use iol_laws::laws;
 
-/// What the law needs of workers that run scripts.
+/// The requirements of the law on workers that run scripts.
 pub trait RunsScripts: Drop {
-    /// Its account: the turns that it may take, and when it may find no memory.
+    /// Its account: the turns that it may take, and when it may run out of memory.
     ghost turns: { Account Self };
 
-    /// Its condition for idle moments, as `iol_proc::idle::Settling` has it.
+    /// Its condition when idle, as in `iol_proc::idle::Settling`.
     ghost settled: { ℕ → ℕ → Self → Reply → State → Type 0 };
 
-    /// One that is free, where what it puts out lies in these pools, and its jobs come by this pipe.
+    /// A free worker, with its output in these pools, and with this job pipe.
     ghost free: { (ℕ → Bool) → State → ℕ → Seat Self → Type 0 };
 
-    /// One of which a text is still to be had: its pools, the machine, the pipes of its jobs and of the text, and the text.
-    ghost due: { (ℕ → Bool) → State → ℕ → ℕ → Seat Self → List ℕ → Type 0 };
+    /// A worker with a due text: its pools, the machine, the pipes of its jobs and of the text,
+    /// the output of its script, and the text.
+    ghost due: { (ℕ → Bool) → State → ℕ → ℕ → Seat Self → Made → List ℕ → Type 0 };
 
-    /// Shows that what a script puts out is one text. The function does nothing.
+    /// Shows that a script outputs one text. The function has no effect.
     fn runs()
         ensures { (pools : ℕ → Bool) → WorkersRun turns settled pools (free pools) (due pools) };
 
-    /// Shows that it keeps its condition. The function does nothing.
+    /// Shows that it preserves its condition. The function has no effect.
     fn settles()
         ensures { Settles settled turns };
 }
 
-/// Connections do not meet, with any number of workers, whose desks are apart. A new world is tied; each step keeps the tie, and so
-/// does a run, be it in rounds or whichever call the server likes, if calls from outside are mild and turns are fair (`AreFair`):
-/// the server's are refused by TooMany, NoRoom, Fault and Memory only as the shelf says, and a worker's never. Where the tie holds,
-/// what was sent on each connection of the net begins an answer to what came on it, of files and of what scripts output, and is all
-/// of it once the connection is closed, unless its peer left; and the server has no aggregate but what its clients use, or what
-/// calls from outside gave it (`IsServing`). Where all is idle nothing is left to do, but for a client that takes nothing, for one
-/// that waits for a worker while each runs the script of such a client, and for connections that wait while the server has as many
-/// as it may; and each aggregate that the server has is used by a client that takes nothing, or came from outside.
+/// Connections do not interfere, with any number of workers with distinct job pipes. A new world
+/// has the invariant. Each step preserves it, and so does a run, in rounds or with any policy of
+/// the server, if external calls are mild and turns are fair (`AreFair`): they get TooMany,
+/// NoRoom, Fault and Memory only as the site contents permit. In a world with the invariant, the
+/// bytes sent on each connection of the net begin an answer to its input, with files and output of
+/// scripts, and are all of it once the connection is closed, unless its peer left; and the server
+/// has only the aggregates that its clients use, or that external calls gave it (`IsServing`).
+/// When all are idle, nothing is left to do, except for clients with a full output queue, clients
+/// that wait for a worker while each worker runs the script of such a client, and connections that
+/// wait while the server has the maximum number; and each aggregate of the server is used by a
+/// client with a full output queue, or came from outside.
 pub fn world_law<W: RunsScripts>()
     ensures first { OfEach W.turns W.settled W.free W.due TiedAtFirst }
     ensures step { OfEach W.turns W.settled W.free W.due (StepKeepsTie in_rounds) }
@@ -87,8 +92,8 @@ pub fn world_law<W: RunsScripts>()
     window_fits();
 }
 
-/// The premises of the law can be met, whatever the workers are: there is a new world, with the server alone, and a calm run of it in
-/// which a connection of the net comes and is accepted.
+/// The premises of the law can be met, for all workers: there is a new world, with only the
+/// server, and a calm run of it in which a connection of the net is created and accepted.
 pub fn premises_can_be_met<W: RunsScripts>()
     ensures { OfSome W.turns W.settled W.free W.due ARunIsCalm }
 {

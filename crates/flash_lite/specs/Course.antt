@@ -1,4 +1,4 @@
--- What a client does after a reply to its call, where `t` is what it is by the words, once the reply is filed.
+-- The action of a client after a reply to its call; `t` is the client after the reply is processed, by the specification.
 use Rattle.std.specs.Prelude.{◌≡◌, ◌<◌, ℕ, Bool, true, false, not, if◌then◌else◌, List, [], length, Option, Some, None, Result, IfOk, OnErr}
 use Rattle.iol_core.specs.declared.events.Call.{Call}
 use Rattle.iol_core.specs.declared.events.Call.TheVariants as call
@@ -29,40 +29,40 @@ use Rattle.flash_lite.specs.declared.client.Left.TheVariants.{Goes, Ends, Begins
 use Rattle.flash_lite.specs.declared.scripts.Found.{Found}
 use Rattle.flash_lite.specs.declared.scripts.Found.TheVariants as tells
 
--- a run that goes on is small, and not over
+-- a run that continues is small, and not over
 abbrev pub GoesAsRun : Option Running → Type 0
 GoesAsRun None = Unit {0}
 GoesAsRun (Some y) = IsSmallRunning y × (is_over y ≡ false)
 
--- ---- a script is found
+-- ---- finding a script
 
--- whether its run begins, once what was read is dropped
+-- whether its run begins, after the aggregate of its text is dropped
 abbrev pub runs : Reply → (head_only : Bool) → Bool
 runs reply.Done head_only = not head_only
 runs r head_only = false
 
--- what a reply to the reading of a script tells
+-- the result of a reply to reading a script
 abbrev pub read : (file : ℕ) → Reply → Found
 read f (reply.Agg n) = tells.Text f n
 read f r = tells.AsFile
 
--- what one to the dropping of what is not sent tells
+-- the result of a reply to dropping the bytes that are not sent
 abbrev pub spared : Content → Reply → (head_only : Bool) → Found
 spared Script r head_only = if runs r head_only then tells.Runs else tells.AsFile
 spared k r head_only = tells.AsFile
 
--- what a reply tells of a script: its text is read, or it runs, or nothing but what it tells of any file
+-- the result of a reply for a script: its text is read, it runs, or the same as for any file
 abbrev pub found : (script : Bool) → Doing → Reply → (head_only : Bool) → Found
 found true (Reads f) r head_only = read f r
 found true (Spares a k) r head_only = spared k r head_only
 found script d r head_only = tells.AsFile
 
--- the call for a file is that for a script, but that a script is read whole
+-- the call for a script, given that for a file: a script is read whole
 abbrev pub whole : (script : Bool) → Doing → Call → Call
 whole true (Reads f) k = call.IolRead f most_read
 whole script d k = k
 
--- what is kept of a text: all of it, if it is a script that is to run
+-- the text that is kept: all of it, if it is a script that will run
 abbrev pub kept_script : (head_only : Bool) → List ℕ → List ℕ
 kept_script head_only text = kept_if head_only (can_run text) text
 
@@ -76,7 +76,7 @@ text_heard x f n heard = record {
 
 -- ---- its run
 
--- what a run is after the reply to its call
+-- the run after the reply to its call
 abbrev pub run_after : (worker : ℕ) → Answer → Running → Reply → (heard : List ℕ) → Running
 run_after worker (serve w) y r heard = running.told worker w y r heard
 run_after worker (refuse status head_only close) y r heard = y
@@ -89,13 +89,13 @@ call_of_run fd x script y = run_wants fd x.conn.q script y
 abbrev pub with_run : Client → Running → (script : List ℕ) → Client
 with_run x y script = record { conn = x.conn; run = Some y; script = script }
 
--- its run is over, and its connection in this phase
+-- its run is over, and its connection is in this phase
 abbrev pub ended : Client → Doing → Client
 ended x d = record { conn = record x.conn { doing = d }; run = None; script = [] }
 
--- ---- it is left to others
+-- ---- its turn passes to others
 
--- what it goes on with then
+-- the client in the state in which it continues
 abbrev pub left_with : Client → Left → Client
 left_with x (Goes d) = record { conn = record x.conn { doing = d }; run = x.run; script = x.script }
 left_with x (Ends d) = ended x d
@@ -107,13 +107,13 @@ CanRest x (Goes d) = conn.CanRest x.conn d
 CanRest x (Ends d) = conn.CanRest x.conn d
 CanRest x l = Unit {0}
 
--- one whose connection is over is forgotten then
+-- a client whose connection is over is removed
 abbrev pub remains : Left → Client → Option Client
 remains (Goes d) t = left_by d t
 remains (Ends d) t = left_by d t
 remains l t = Some t
 
--- it is left as it was, and the reply is filed by what it goes on with
+-- it is unchanged, and the reply is processed by the state in which it continues
 pub record IsLeft (t x : Client) (r : Reply) (l : Left) (y : Client) : Type 0 where
   pub passed : leaves_off (left_over t) r ≡ true
   pub told_is : t ≡ left_with x l
@@ -121,7 +121,7 @@ pub record IsLeft (t x : Client) (r : Reply) (l : Left) (y : Client) : Type 0 wh
   pub can_rest : CanRest x l
   pub as_it_was : y ≡ x
 
--- ---- or it goes on at once: the reply is filed, and it is made ready
+-- ---- or it continues at once: the reply is processed, and it becomes ready
 
 pub record GoesOn (t : Client) (r : Reply) (y : Client) : Type 0 where
   pub on : leaves_off (left_over t) r ≡ false
@@ -134,7 +134,7 @@ IsCourse scripts fd t x r (Leaves l) y = IsLeft t x r l y
 
 -- ---- its worker
 
--- the worker that runs its script, if one does
+-- the worker that runs its script, if any
 abbrev pub worker_of : Client → Option ℕ
 worker_of x = by x.run
   where
@@ -142,55 +142,55 @@ worker_of x = by x.run
     by None = None
     by (Some y) = run_worker y
 
--- ---- it takes a course, or finds no memory
+-- ---- it takes an action, or runs out of memory
 
--- A client that is told to be `t` takes a course. Or it finds no memory, where it may want some (`may_want`), and stays as it
--- was.
+-- A client with the state `t` after the reply takes an action. Or it runs out of memory, which `may_want` permits, and is
+-- unchanged.
 pub record TakesCourse {E : Type 0} (scripts : Bool) (fd : ℕ) (t x : Client) (r : Reply) (may_want : Type 0)
     (result : Result Course E) (y : Client) : Type 0 where
   pub course : IfOk result (λ o. IsCourse scripts fd t x r o y)
   pub err : OnErr result (y ≡ x)
   pub wants : OnErr result may_want
 
--- A client takes a course, and may want memory to keep the bytes that it heard, or to go on at once.
+-- A client takes an action, and may need memory to buffer bytes that it read, or to continue at once.
 abbrev pub TakesAsTold : {E : Type 0} → (scripts : Bool) → (fd : ℕ) → (t x : Client) → Reply → (heard : List ℕ) → Result Course E
     → (y : Client) → Type 0
 TakesAsTold scripts fd t x r heard result y = TakesCourse scripts fd t x r (WantsOn scripts t x r heard) result y
 
--- What a client does after a reply to its call, where `worker` is free.
+-- The action of a client after a reply to its call; `worker` is free.
 abbrev pub GoesOnTold : {E : Type 0} → (scripts : Bool) → (fd worker : ℕ) → (x : Client) → Reply → (heard : List ℕ)
     → Result Course E → (y : Client) → Type 0
 GoesOnTold scripts fd worker x r heard result y = TakesAsTold scripts fd (told scripts worker x r heard) x r heard result y
 
--- What a client does after a reply to the call of its run, which is this.
+-- The action of a client after a reply to the call of its run, which is this.
 abbrev pub RunsOn : {E : Type 0} → (scripts : Bool) → (fd worker : ℕ) → Running → (x : Client) → Reply → (heard : List ℕ)
     → Result Course E → (y : Client) → Type 0
 RunsOn scripts fd worker run x r heard result y =
     TakesAsTold scripts fd (run_told worker x.conn.q x run r heard) x r heard result y
 
--- What a client does after a reply to a call for a file, or for a script that does not run yet.
+-- The action of a client after a reply to a call for a file, or for a script that does not run yet.
 abbrev pub GoesOnFile : {E : Type 0} → (scripts : Bool) → (fd : ℕ) → (x : Client) → Reply → (heard : List ℕ) → Result Course E
     → (y : Client) → Type 0
 GoesOnFile scripts fd x r heard result y =
     TakesAsTold scripts fd (file_told (is_for_script scripts x.conn.q) x r heard) x r heard result y
 
--- What a client does after a reply that its connection alone is told.
+-- The action of a client after a reply that concerns only its connection.
 abbrev pub GoesOnAlone : {E : Type 0} → (scripts : Bool) → (fd : ℕ) → (x : Client) → Reply → (heard : List ℕ) → Result Course E
     → (y : Client) → Type 0
 GoesOnAlone scripts fd x r heard result y =
     TakesCourse scripts fd (conn_told x r heard) x r (wanting.WantsOn x.conn r heard) result y
 
--- What a client does once the text of a script was read: it may want memory where a byte of it came.
+-- The action of a client after the text of a script was read: it may need memory if a byte was read.
 abbrev pub HearsText : {E : Type 0} → (scripts : Bool) → (fd file agg : ℕ) → (x : Client) → (heard : List ℕ) → Result Course E
     → (y : Client) → Type 0
 HearsText scripts fd file agg x heard result y =
     TakesCourse scripts fd (text_heard x file agg heard) x reply.Done (0 < length heard) result y
 
--- What a client does once its run is over, and its connection is in this phase.
+-- The action of a client after its run is over, with its connection in this phase.
 abbrev pub EndsRun : {E : Type 0} → (scripts : Bool) → (fd : ℕ) → Doing → (x : Client) → (may_want : Type 0) → Result Course E
     → (y : Client) → Type 0
 EndsRun scripts fd d x may_want result y = TakesCourse scripts fd (ended x d) x reply.Done may_want result y
 
--- once its run is over a client goes on at once, and begins a request or makes a call that has bytes of its own
+-- after its run is over a client continues at once, and begins a request or makes a call with bytes of its own
 abbrev pub WantsToEnd : Client → Doing → Type 0
 WantsToEnd x d = (leaves_off (left_over (ended x d)) reply.Done ≡ false) × (needs_memory (ended x d) ≡ true)

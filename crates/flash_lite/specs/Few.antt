@@ -1,4 +1,4 @@
--- How many connections the server holds.
+-- The number of connections of the server.
 use Rattle.std.specs.Prelude.{ℕ, ◌≤◌, List, Option}
 use Rattle.iol_core.specs.NumberedLists.{taken}
 use Rattle.flash_laws.specs.declared.phase.Flight.{Flight}

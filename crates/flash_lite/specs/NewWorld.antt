@@ -7,7 +7,7 @@ use Rattle.flash_laws.specs.World.Tie.{Actor}
 use Rattle.flash_lite.specs.Setup.{AreActors}
 use Rattle.flash_lite.specs.declared.site.Site.{Site}
 
--- the processes of a site, each told Done
+-- the processes of a site, each with Done as its last reply
 pub record AreSeated (s : Site) (seats : List (Seat (Actor Worker))) : Type 0 where
   pub actors : List (ℕ × Actor Worker)
   pub are : AreActors s actors

@@ -1,4 +1,4 @@
--- What a turn of the server offers to a client.
+-- The bytes that a turn of the server offers to a client.
 use Rattle.std.specs.Prelude.{◌≡◌, ◌⊎◌, ℕ, Some}
 use Rattle.iol_core.specs.NumberedLists.{in_place}
 use Rattle.iol_core.specs.State.{State}
@@ -12,9 +12,9 @@ use Rattle.flash_laws.specs.Site.Places.{runs_scripts}
 use Rattle.flash_laws.specs.Serves.{Server}
 use Rattle.flash_laws.specs.declared.phase.Flight.TheVariants.{At}
 
--- What it writes it writes to the connection of the client that it picked, and that is the next bytes of the response to the
--- request in progress, with what is known of it; or it writes the job of that client's script to a worker. So it is over any
--- machine that has what is needed of this response.
+-- A write goes to the connection of the client that was picked, and its bytes are the next bytes of the response to the request
+-- in progress, with the known results; or it writes the job of that client's script to a worker. This holds over any machine
+-- that has what this response needs.
 abbrev pub OffersNext : Server → Turn → Type 0
 OffersNext t made = (m : State) (fd g a : ℕ) (x : Client) (known : Known) → t.flight ≡ At fd → in_place t.clients fd ≡ Some x
     → made ≡ turn.Make (call.IolWrite g a) → HasKnown (runs_scripts t.workers) m x known

@@ -1,4 +1,4 @@
--- What a connection does after a reply to its call.
+-- The action of a connection after a reply to its call.
 use Rattle.std.specs.Prelude.{◌≡◌, ℕ, Bool, true, false, List, [], Some, drop}
 use Rattle.iol_core.specs.declared.events.Reply.{Reply}
 use Rattle.iol_core.specs.declared.events.Reply.TheVariants.{Agg}
@@ -26,22 +26,22 @@ in_doing x d = record x { doing = d }
 abbrev pub with_heard : Conn → (agg : ℕ) → (heard : List ℕ) → Conn
 with_heard x agg heard = told_rests x.kept x.q (Agg agg) heard
 
--- a request was begun, whose head ends after so many of the bytes that were kept
+-- a request was begun, whose head ends after the first len bytes of the buffered input
 abbrev pub begun_with : (len : ℕ) → Answer → Conn → Conn
 begun_with len q x = record { kept = drop len x.kept; q = q; doing = begins q }
 
--- a phase in which a connection may be left to others
+-- a phase in which the turn of a connection may pass to others
 pub record CanRest (x : Conn) (d : Doing) : Type 0 where
   pub small : IsSmall d
   pub awaits : IsAwaiting (record x { doing = d })
 
--- it goes on at once: the reply is filed, it is made ready, and this is its call
+-- it continues at once: the reply is processed, it becomes ready, and this is its call
 pub record GoesOn (x : Conn) (r : Reply) (heard : List ℕ) (y : Conn) : Type 0 where
   pub on : leaves_off (left_over (told x r heard)) r ≡ false
   pub stays : left_over (told x r heard) ≡ Some (told x r heard)
   pub readies : Readies (told x r heard) y
 
--- it is left to others as it was, and the reply is filed by what it goes on with
+-- its turn passes to others, it is unchanged, and the reply is processed by the phase in which it continues
 pub record IsLeft (x : Conn) (r : Reply) (heard : List ℕ) (d : Doing) (y : Conn) : Type 0 where
   pub off : leaves_off (left_over (told x r heard)) r ≡ true
   pub told_is : told x r heard ≡ record x { doing = d }
@@ -52,7 +52,7 @@ abbrev pub IsOnward : (fd : ℕ) → Conn → Reply → (heard : List ℕ) → O
 IsOnward fd x r heard (Asks call) y = GoesOn x r heard y × (call ≡ wants fd y)
 IsOnward fd x r heard (Leaves d) y = IsLeft x r heard d y
 
--- Where nothing is in progress any more: what is kept begins, or nothing is kept.
+-- From a phase that becomes idle: the first buffered request begins, or there is none.
 abbrev pub Frees : (fd : ℕ) → Conn → Onward → Conn → Type 0
 Frees fd x (Asks call) y =
     (is_bare (record x { doing = Rests }) ≡ false)
@@ -60,11 +60,11 @@ Frees fd x (Asks call) y =
     × (call ≡ wants fd y)
 Frees fd x (Leaves d) y = (d ≡ Rests) × (x.kept ≡ []) × (y ≡ x)
 
--- a connection that rests has kept something, and a request can begin
+-- an idle connection has buffered input, and a request can begin
 abbrev pub WantsToStart : Conn → Type 0
 WantsToStart x = (is_bare (record x { doing = Rests }) ≡ false) × (can_begin (window_in x.kept) ≡ true)
 
--- Where something is: it goes on with it, or will.
+-- From a phase that is not idle: it continues now or later.
 abbrev pub GoesWith : (fd : ℕ) → Conn → Reply → Doing → Onward → Conn → Type 0
 GoesWith fd x r d (Asks call) y = (is_later r ≡ false) × (y ≡ record x { doing = d }) × (call ≡ wants fd y)
 GoesWith fd x r d (Leaves e) y = (is_later r ≡ true) × (e ≡ d) × (y ≡ x)

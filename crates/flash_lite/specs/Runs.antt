@@ -1,4 +1,4 @@
--- The calls of a script's run, and that its numbers are small.
+-- The calls of a script's run, and the bounds of its numbers.
 use Rattle.std.specs.Prelude.{◌≡◌, ◌<◌, ◌==◌, ℕ, Bool, true, false, List, Option, Some, None, if◌then◌else◌}
 use Rattle.iol_core.specs.declared.events.Call.{Call}
 use Rattle.iol_core.specs.declared.events.Reply.{Reply}
@@ -17,12 +17,12 @@ use Rattle.flash_laws.specs.declared.script_run.Running.TheVariants.{Awaits, Run
 use Rattle.flash_lite.specs.Small.{IsSmall}
 use Rattle.flash_lite.specs.declared.site.TheConstants.{MAX_WORKERS}
 
--- what is held has some bytes, and fewer than a chunk
+-- the buffered output has some bytes, and fewer than a chunk
 abbrev pub IsPiece : Following → Type 0
 IsPiece None = Unit {0}
 IsPiece (Some x) = (0 < x.1) × (x.1 < CHUNK_BYTES)
 
--- what is left of a response is being made or sent
+-- the rest of a response is being made or sent
 pub record IsGoing (d : Doing) : Type 0 where
   pub small : IsSmall d
   pub left : is_left d ≡ true
@@ -68,7 +68,7 @@ call_for w script fd y = wants (job_for w script) fd w y
 abbrev pub step_call : Wanted → (script : List ℕ) → (fd : ℕ) → Run → Step → Call
 step_call w script fd run step = step_wants (job_for w script) fd w run step
 
--- the call of a part of the response, as a connection in this phase makes it
+-- the call of a part of the response, as made by a connection in this phase
 abbrev pub part_call_for : (fd : ℕ) → Wanted → Doing → Call
 part_call_for fd w d = conn.wants fd (in_phase w d)
 
@@ -76,6 +76,6 @@ part_call_for fd w d = conn.wants fd (in_phase w d)
 abbrev pub told_left : Wanted → Doing → Reply → (heard : List ℕ) → Doing
 told_left w d r heard = (conn.told (in_phase w d) r heard).doing
 
--- output was read, so many bytes, or its end was seen
+-- len bytes of output were read, or its end
 abbrev pub reading : (broken chunked : Bool) → (held : Following) → (frame : Option ℕ) → (agg len : ℕ) → Step
 reading broken chunked held frame a len = if len == 0 then Ended a held frame else hearing broken chunked held frame a len

@@ -23,9 +23,9 @@ use Rattle.flash_lite.specs.declared.client.Left.TheVariants.{Goes, Ends, Stays}
 use Rattle.flash_lite.specs.declared.server.TheConstants.{MAX_CONNS}
 use Rattle.flash_lite.specs.declared.site.TheConstants.{MAX_WORKERS}
 
--- ---- one client goes on
+-- ---- the action of one client
 
--- the client in a place, and what it does after a reply, where `worker` is free
+-- the client at an index, and its action after a reply; `worker` is free
 pub record CourseAt (scripts : Bool) (worker : ℕ) (clients : List (Option Client)) (fd : ℕ) (r : Reply) (heard : List ℕ)
     (o : Course) (after : List (Option Client)) : Type 0 where
   pub was : Client
@@ -35,13 +35,13 @@ pub record CourseAt (scripts : Bool) (worker : ℕ) (clients : List (Option Clie
   pub course : IsCourse scripts fd (told scripts worker was r heard) was r o now
   pub after_is : after ≡ slice_set clients fd (Some now)
 
--- or none is there
+-- the same, or there is no client
 abbrev pub CourseIn : (scripts : Bool) → (worker : ℕ) → List (Option Client) → (fd : ℕ) → Reply → (heard : List ℕ)
     → Option Course → (after : List (Option Client)) → Type 0
 CourseIn scripts worker clients fd r heard None after = (in_place clients fd ≡ None) × (after ≡ clients)
 CourseIn scripts worker clients fd r heard (Some o) after = CourseAt scripts worker clients fd r heard o after
 
--- what stands in a place, once it is left to others
+-- the element at an index, after its turn passes to others
 abbrev pub left_as : Option Client → Left → Option Client
 left_as None l = None
 left_as (Some x) l = remains l (left_with x l)
@@ -49,14 +49,14 @@ left_as (Some x) l = remains l (left_with x l)
 abbrev pub left_at : List (Option Client) → (fd : ℕ) → Left → List (Option Client)
 left_at clients fd l = slice_set clients fd (left_as (in_place clients fd) l)
 
--- a client stands in a place, and may be left so
+-- there is a client at an index, and its turn may pass to others in this state
 abbrev pub MayRest : Option Client → Left → Type 0
 MayRest None l = ⊥
 MayRest (Some x) l = CanRest x l
 
 -- ---- workers
 
--- the worker that runs the script of the client in a place
+-- the worker that runs the script of the client at an index
 abbrev pub worker_in : Option Client → Option ℕ
 worker_in None = None
 worker_in (Some x) = worker_of x
@@ -64,7 +64,7 @@ worker_in (Some x) = worker_of x
 abbrev pub worker_at : List (Option Client) → (fd : ℕ) → Option ℕ
 worker_at clients fd = worker_in (in_place clients fd)
 
--- the worker that a client is left with
+-- the worker that a client has in this state
 abbrev pub worker_left : Left → Option ℕ → Option ℕ
 worker_left (Goes d) worker = worker
 worker_left Stays worker = worker
@@ -74,22 +74,22 @@ abbrev pub is_worker : Option ℕ → (worker : ℕ) → Bool
 is_worker None worker = false
 is_worker (Some k) worker = k == worker
 
--- the first of so many that is free, or their number where none is
+-- the first free one of workers, or their number if all are busy
 abbrev pub first_in : (workers : ℕ) → (free : List Bool) → ℕ
 first_in workers free = position_or_len (λ b. b) (take workers free)
 
 abbrev pub has_in : (workers : ℕ) → (free : List Bool) → Bool
 has_in workers free = nat_lt (first_in workers free) workers
 
--- one client had a worker and has another now, or none: who is free then
+-- one client had a worker and now has another, or none: the free workers afterwards
 pub record TurnsFree (free : List Bool) (was now : Option ℕ) (after : List Bool) : Type 0 where
   pub long : length after ≡ length free
   pub each : (worker : ℕ) → worker < MAX_WORKERS
       → get_or after worker false ≡ not (is_worker now worker) && (is_worker was worker || get_or free worker false)
 
--- ---- the next is picked
+-- ---- the next client
 
--- the call of the client in a place
+-- the call of the client at an index
 pub record CallAt (scripts : Bool) (clients : List (Option Client)) (place : ℕ) (made : Call) : Type 0 where
   pub was : Client
   pub there : in_place clients place ≡ Some was
@@ -101,13 +101,13 @@ Makes scripts clients from Nothing made = made ≡ turn.Yield
 Makes scripts clients from Accepting made = made ≡ turn.Make call.Accept
 Makes scripts clients from (At place) made = (from ≤ place) × (k : Call) × (made ≡ turn.Make k) × CallAt scripts clients place k
 
--- past all places one is accepted, or the round is over
+-- after the last index a connection is accepted, or the round is over
 abbrev pub AtDoor : Flight → Turn → Type 0
 AtDoor Nothing made = made ≡ turn.Yield
 AtDoor Accepting made = made ≡ turn.Make call.Accept
 AtDoor (At place) made = ⊥
 
--- which of both, where so many connections may be held
+-- the choice between them, if most connections may be held
 abbrev pub door_to : List (Option Client) → (most : ℕ) → Flight
 door_to clients most = if nat_lt (taken clients) most then Accepting else Nothing
 
@@ -115,7 +115,7 @@ abbrev pub flight_by : List (Option Client) → (most : ℕ) → Option ℕ → 
 flight_by clients most (Some place) = At place
 flight_by clients most None = door_to clients most
 
--- the first client from a place on is picked, or past all of them one is accepted
+-- the first client from an index on is picked, or after the last index a connection is accepted
 pub record PicksFrom (scripts free : Bool) (clients : List (Option Client)) (from most : ℕ) (flight : Flight)
     (made : Turn) : Type 0 where
   pub flight_is : flight ≡ flight_by clients most (next_in free clients from)
@@ -127,42 +127,41 @@ ends (Goes Over) = true
 ends (Ends Over) = true
 ends l = false
 
--- as many as may be held, and one more where one is over
+-- the maximum number of connections, and one more if a connection is over
 abbrev pub most_with : Left → ℕ
 most_with l = if ends l then MAX_CONNS + 1 else MAX_CONNS
 
 -- ---- a turn
 
--- the clients, once the reply is filed
+-- the clients after the reply is processed
 abbrev pub filed_by : Table → Reply → (heard : List ℕ) → List (Option Client)
 filed_by t r heard = filed t.workers t.clients t.flight r heard
 
--- what is picked then, in rounds
+-- the choice then, in rounds
 pub record Turns (s : Table) (r : Reply) (heard : List ℕ) (made : Turn) (t : Table) : Type 0 where
   pub policy : in_rounds s.workers (filed_by s r heard) s.flight r t.flight
   pub picks : Picks s.workers (filed_by s r heard) t.flight made t.clients
   pub hired : t.workers ≡ s.workers
   pub tells : TellsFree t.free t.clients
 
--- ---- parts of a turn, or they find no memory
+-- ---- parts of a turn, with or without memory
 
--- The client in a place goes on after a reply, if one is there. Or it finds no memory, where it may want some, and all clients
--- stay as they were.
+-- The action of the client at an index after a reply, if there is a client. Or it runs out of memory, if it may need some, and
+-- all clients are unchanged.
 pub record GoesOnAt {E : Type 0} (scripts : Bool) (worker : ℕ) (clients : List (Option Client)) (fd : ℕ) (r : Reply)
     (heard : List ℕ) (result : Result (Option Course) E) (after : List (Option Client)) : Type 0 where
   pub course : IfOk result (λ o. CourseIn scripts worker clients fd r heard o after)
   pub err : OnErr result (after ≡ clients)
   pub wants : OnErr result (WantsHere scripts worker (in_place clients fd) r heard)
 
--- The call of the client in a place is made, if one is there. Or there is no memory for its bytes, where it has some.
+-- The call of the client at an index is made, if there is a client. Or there is no memory for its bytes, if it has some.
 pub record MakesCallAt {E : Type 0} (scripts : Bool) (clients : List (Option Client)) (place : ℕ)
     (result : Result (Option Call) E) : Type 0 where
   pub call : IfOk result (λ found. MatchOption found (in_place clients place ≡ None) (λ k. CallAt scripts clients place k))
   pub wants : OnErr result (wants_there (in_place clients place) ≡ true)
 
--- The first client from a place on that may have its turn is picked; or past all of them one is accepted, or the round is over,
--- and nothing else changes but which call is out. Or there is no memory for a call that has bytes of its own, and all stays as it
--- was.
+-- The first client from an index on that may take a turn is picked; or after the last index a connection is accepted, or the
+-- round is over. Only the pending call changes. Or there is no memory for a call with bytes of its own, and nothing changes.
 pub record PicksNext {E : Type 0} (from : ℕ) (s : Table) (result : Result Turn E) (t : Table) : Type 0 where
   pub picks : IfOk result
       (λ made. PicksFrom (runs_scripts s.workers) (has_in s.workers s.free) s.clients from MAX_CONNS t.flight made)
@@ -170,9 +169,10 @@ pub record PicksNext {E : Type 0} (from : ℕ) (s : Table) (result : Result Turn
   pub err : OnErr result (t ≡ s)
   pub wants : OnErr result (WantsFrom (has_in s.workers s.free) s.clients from)
 
--- The client in a place is left to others, `free` tells which workers are free then, and the first client behind that place that
--- may have its turn is picked; or past all of them one is accepted, or the round is over; a client whose connection is over makes
--- room for one more. Or there is no memory for a call that has bytes of its own, and all stays as it was.
+-- The turn of the client at an index passes to others, `free` has the workers that are free then, and the first client after
+-- that index that may take a turn is picked; or after the last index a connection is accepted, or the round is over. A client
+-- whose connection is over makes room for one more. Or there is no memory for a call with bytes of its own, and nothing
+-- changes.
 pub record LeavesPlace {E : Type 0} (fd : ℕ) (l : Left) (free : List Bool) (s : Table) (result : Result Turn E)
     (t : Table) : Type 0 where
   pub picks : IfOk result
@@ -182,6 +182,6 @@ pub record LeavesPlace {E : Type 0} (fd : ℕ) (l : Left) (free : List Bool) (s 
   pub err : OnErr result (t ≡ s)
   pub wants : OnErr result (WantsFrom (has_in s.workers free) s.clients (fd + 1))
 
--- when a turn may want memory, after a reply to the call that is out
+-- when a turn may need memory, after a reply to the pending call
 abbrev pub WantsAt : Table → Flight → Reply → (heard : List ℕ) → Type 0
 WantsAt s flight r heard = MayWant s.workers s.clients flight r heard

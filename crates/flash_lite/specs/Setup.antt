@@ -1,4 +1,4 @@
--- What a site is set up by.
+-- The calls that set a site up.
 use Rattle.std.specs.Prelude.{◌≡◌, ◌⊎◌, ℕ, ◌+◌, ◌&&◌, ◌||◌, not, nat_le, nat_lt, Bool, true, List, [], ◌∷◌, ◌++◌, length, map, Option, Some, None, if◌then◌else◌}
 use Rattle.std.specs.List.{range_with_len, list_any, flat_map, slice_get}
 use Rattle.iol_core.specs.State.{State}
@@ -27,7 +27,7 @@ use Rattle.flash_lite.specs.declared.site.TheConstants.{MAX_WORKERS, MAX_GUESTS}
 abbrev pub is_private : Site → Bool
 is_private s = list_any (λ f. f.private) s.files.items
 
--- 1 to 8 workers, at most 7 guests, and one where a file is private
+-- 1 to 8 workers, at most 7 guests, and at least one if a file is private
 abbrev pub is_in_range : Site → Bool
 is_in_range s =
     nat_le 1 s.workers && nat_le s.workers MAX_WORKERS && nat_le s.guests MAX_GUESTS
@@ -41,11 +41,11 @@ call_by by c = event.Call by c
 abbrev pub domains_made : (count : ℕ) → List Event
 domains_made count = map (λ k. call_by 1 call.DomainNew) (range_with_len 0 count)
 
--- a pool for so many domains from the first on
+-- a pool for count domains from first on
 abbrev pub pool : (chunks first count : ℕ) → Event
 pool chunks first count = call_by 1 (call.PoolCreate chunks (range_with_len first count))
 
--- 1 `site` and 3 `work` for all, 2 `net` for the server, 4 `vault` for the first guest where a file is private
+-- 1 `site` and 3 `work` for all, 2 `net` for the server, 4 `vault` for the first guest if a file is private
 abbrev pub pools_made : Site → List Event
 pools_made s =
     (pool s.site_chunks 1 (1 + s.workers + s.guests)
@@ -62,7 +62,7 @@ file_named guest f =
     if f.private then call_by guest (call.FileNew f.name.items 4)
     else call_by 1 (call.FileNew f.name.items 1)
 
--- the calls that name the files, in their order
+-- the calls that name the files, in order
 abbrev pub files_named : (guest : ℕ) → List SiteFile → List Event
 files_named guest files = map (λ f. file_named guest f) files
 
@@ -81,7 +81,7 @@ calls s =
     ++ files_named (2 + s.workers) s.files.items)
     ++ pipes_made s.workers
 
--- ---- what comes of them
+-- ---- their results
 
 -- the first refusal among replies
 abbrev pub first_refusal : List Reply → Option Refusal
@@ -89,13 +89,13 @@ first_refusal [] = None
 first_refusal (reply.Refused x ∷ rs) = Some x
 first_refusal (r ∷ rs) = first_refusal rs
 
--- the machine makes all these calls, and none is refused
+-- the machine makes all these calls, without refusal
 pub record SetsUp (s : Site) (old new : State) : Type 0 where
   pub replies : List Reply
   pub run : Run old (calls s) replies new
   pub passed : first_refusal replies ≡ None
 
--- a system makes them, and none is refused
+-- a system makes them, without refusal
 pub record IsMade (s : Site) (old new : SystemState) : Type 0 where
   pub replies : List Reply
   pub chain : Chain old (calls s) replies new
@@ -107,11 +107,11 @@ pub record IsRefused (s : Site) (x : Refusal) (old new : SystemState) : Type 0 w
   pub chain : Chain old (calls s) replies new
   pub refuses : first_refusal replies ≡ Some x
 
--- so it is, or memory was wanting before the first call
+-- the same, or memory ran out before the first call
 abbrev pub WhyRefused : Site → Refusal → (old new : SystemState) → Type 0
 WhyRefused s x old new = ((x ≡ Memory) × (new ≡ old)) ⊎ IsRefused s x old new
 
--- why setting up a site within its limits was refused
+-- the reason for which the setup of a site within its limits was refused
 abbrev pub WhyRefusedWithin : Site → Refusal → (old new : SystemState) → Type 0
 WhyRefusedWithin s x old new = is_in_range s ≡ true → WhyRefused s x old new
 
@@ -120,11 +120,11 @@ WhyRefusedWithin s x old new = is_in_range s ≡ true → WhyRefused s x old new
 abbrev pub has_script : Site → Bool
 has_script s = list_any (λ f. is_script f.name.items) s.files.items
 
--- how many workers run its scripts: none where it has no script
+-- the number of workers that run its scripts: 0 if it has no script
 abbrev pub workers_used : Site → ℕ
 workers_used s = if has_script s then s.workers else 0
 
--- without clients, with so many workers to run scripts for it
+-- without clients, with workers to run its scripts
 abbrev pub server_with : (workers : ℕ) → Server
 server_with workers = record new_server { workers = workers }
 
@@ -133,13 +133,13 @@ abbrev pub IsWorkerAt : (k : ℕ) → ℕ × Actor Worker → Type 0
 IsWorkerAt k (d, Serving s) = ⊥
 IsWorkerAt k (d, Working w) = (d ≡ worker_domain k) × IsNew w
 
--- so many workers behind these processes
+-- count workers after these processes
 pub record HasWorkers (first : List (ℕ × Actor Worker)) (count : ℕ) (ps : List (ℕ × Actor Worker)) : Type 0 where
   pub workers : List (ℕ × Actor Worker)
   pub are : ps ≡ first ++ workers
   pub many : length workers ≡ count
   pub each : (k : ℕ) (p : ℕ × Actor Worker) → slice_get workers k ≡ Some p → IsWorkerAt k p
 
--- The server in its domain, and behind it the workers that run the site's scripts.
+-- The server in its domain, followed by the workers that run the site's scripts.
 abbrev pub AreActors : Site → List (ℕ × Actor Worker) → Type 0
 AreActors s ps = HasWorkers ((server, Serving (server_with (workers_used s))) ∷ []) (workers_used s) ps

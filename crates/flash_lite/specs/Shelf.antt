@@ -1,4 +1,4 @@
--- What lies on the shelf of a site: the outcome for each name.
+-- The contents of a site: the outcome for each name.
 use Rattle.std.specs.Prelude.{ℕ, List, [], Option, Some, None, if◌then◌else◌, position, bytes_eq, slice_index_or}
 use Rattle.std.specs.List.{slice_get}
 use Rattle.flash_laws.specs.Answers.{Outcome, Found, Failed, Shelf}
@@ -10,7 +10,7 @@ abbrev pub shown : Option SiteFile → (bytes : List ℕ) → Outcome
 shown None bytes = Failed 404
 shown (Some f) bytes = if f.private then Failed 403 else Found bytes
 
--- the file in this place of the site's list, which has the slot in the same place
+-- the file at this index of the site's list, with the slot at the same index
 abbrev pub shown_at : Site → (slots : List (List ℕ)) → Option ℕ → Outcome
 shown_at s slots None = Failed 404
 shown_at s slots (Some i) = shown (slice_get s.files.items i) (slice_index_or slots i [])

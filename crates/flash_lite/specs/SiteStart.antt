@@ -1,4 +1,4 @@
--- The world of a site before its first turn, and what makes one refused: of a system, over any store.
+-- The world of a site before its first turn, and the reasons for its refusal, over any store.
 use Rattle.std.specs.Prelude.{◌≡◌, ◌⊎◌, ◌*◌, [], replicate, false}
 use Rattle.iol_arena.specs.State.{no_entry}
 use Rattle.iol_back.specs.Disk.{Disk}
@@ -19,8 +19,7 @@ use Rattle.flash_lite.specs.Setup.{IsMade, IsRefused, is_in_range}
 use Rattle.flash_lite.specs.SiteState.{IsSetUp}
 use Rattle.flash_lite.specs.declared.site.Site.{Site}
 
--- A new system of these sizes over this store: none of its pages was used, no sum is remembered, and nothing of a file
--- is in memory.
+-- A new system with these parameters over this store: none of its pages was used, no sum is remembered, and no file is cached.
 pub record IsNewSystem (config : Config) (store : Disk) (s : SystemState) : Type 0 where
   pub machine : machine_of s ≡ new_state (slots_of store.slots)
   pub disk : s.disk ≡ store
@@ -32,8 +31,8 @@ pub record IsNewSystem (config : Config) (store : Disk) (s : SystemState) : Type
   pub orders : s.kernel.cache.orders ≡ []
   pub safe : IsSafe s
 
--- The world of a site on such a system, which made the calls of the site, none refused: it is set up, and each process is
--- told Done.
+-- The world of a site on such a system, which executed the calls of the site, none refused: it is set up, and each process has
+-- Done as its last reply.
 pub record Starts (config : Config) (store : Disk) (s : Site) (w : Stage SystemState (Actor Worker)) : Type 0 where
   pub begun : SystemState
   pub new : IsNewSystem config store begun
@@ -42,18 +41,18 @@ pub record Starts (config : Config) (store : Disk) (s : Site) (w : Stage SystemS
   pub seats : AreSeated s w.seats
   pub smooth : w.rough ≡ false
 
--- sizes, or a site, out of their limits
+-- parameters, or a site, outside their limits
 abbrev pub IsOutOfRange : Config → Site → Type 0
 IsOutOfRange config s = (IsInRange config → ⊥) ⊎ (is_in_range s ≡ false)
 
--- such a system makes the calls of the site, and this is the first refusal
+-- such a system executes the calls of the site, and this is the first refusal
 pub record IsRefusedNew (config : Config) (store : Disk) (s : Site) (x : Refusal) : Type 0 where
   pub begun : SystemState
   pub after : SystemState
   pub new : IsNewSystem config store begun
   pub refused : IsRefused s x begun after
 
--- why no world is made: something is out of its limits, memory is wanting, or a call of the site is refused
+-- the reason for which there is no world: something is outside its limits, memory ran out, or a call of the site is refused
 abbrev pub WhyNone : Config → (store : Disk) → Site → Refusal → Type 0
 WhyNone config store s x =
     ((x ≡ BadRange) × IsOutOfRange config s) ⊎ (x ≡ Memory) ⊎ IsRefusedNew config store s x

@@ -1,4 +1,4 @@
--- The calls of a phase, and that its numbers are small.
+-- The calls of a phase, and the bounds of its numbers.
 use Rattle.std.specs.Prelude.{ℕ, ◌+◌, ◌-◌, ◌≤◌, ◌^◌, Some, None, if◌then◌else◌}
 use Rattle.iol_core.specs.declared.descriptors.Mode.TheVariants as modes
 use Rattle.iol_core.specs.declared.events.Call.{Call}
@@ -32,6 +32,6 @@ abbrev pub first_call : Answer → Call
 first_call (serve w) = call.OpenFile w.name modes.Read
 first_call (refuse status head_only close) = call.AggMake (text_of (refuse status head_only close) (Error status))
 
--- a file is read, or its length asked for where only the head is wanted
+-- a file is read, or its length requested if only the head is requested
 abbrev pub read_call : Answer → (file : ℕ) → Call
 read_call q file = if is_head_only q then call.Length file else call.IolRead file most_read

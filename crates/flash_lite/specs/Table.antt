@@ -1,4 +1,4 @@
--- What the server keeps: its clients, which call is out, and which of its workers are free.
+-- The state of the server: its clients, the pending call, and the free workers.
 use Rattle.std.specs.Prelude.{◌≡◌, ◌<◌, ◌≤◌, ℕ, Bool, true, false, List, [], length, get_or, replicate, Option}
 use Rattle.flash_laws.specs.Client.{Client}
 use Rattle.flash_laws.specs.Site.Places.{NoneRuns, is_free}
@@ -13,18 +13,18 @@ pub record Table : Type 0 where
   pub clients : List (Option Client)
   pub flight : Flight
   pub workers : ℕ
-  -- of each number that a worker may have, whether it is free
+  -- for each possible number of a worker, whether it is free
   pub free : List Bool
 
--- without clients, and with so many workers, each of them free
+-- without clients, and with workers workers, all free
 abbrev pub new_table : (workers : ℕ) → Table
 new_table workers = record { clients = []; flight = Nothing; workers = workers; free = replicate 8 true }
 
--- the server that it is
+-- the state of the server that it represents
 abbrev pub serving : Table → Server
 serving t = record { clients = t.clients; flight = t.flight; workers = t.workers }
 
--- the list tells which workers run none of these clients' scripts
+-- the list has the workers that run none of these clients' scripts
 pub record TellsFree (free : List Bool) (clients : List (Option Client)) : Type 0 where
   pub long : length free ≡ MAX_WORKERS
   pub each : (worker : ℕ) → worker < MAX_WORKERS → get_or free worker false ≡ is_free clients worker

@@ -18,7 +18,8 @@ use iol_proc::process::{Process, Turn};
 use std::alloc::{AllocError, Global};
 use std::marker::Model;
 
-/// A worker, which runs scripts: that of `flash_cgi`, of which the law of the server speaks here.
+/// A worker, which runs scripts: that of `flash_cgi`, as a type to which the law of the server
+/// applies.
 #[derive(Drop)]
 pub struct Worker {
     runner: Runner,
@@ -33,7 +34,7 @@ impl Model for Worker {
 }
 
 impl Worker {
-    /// A worker that waits for its first job.
+    /// Creates a worker that waits for its first job.
     pub fn new(alloc: Global) -> Worker
         ensures { IsNew result }
     {
@@ -52,7 +53,7 @@ impl Process for Worker {
         ensures quiet { IfOk result IsQuiet }
         ensures err { OnErr result (self.new ≡ self.old) }
 
-        // It wants memory only to read a job, and for the bytes of its calls.
+        // It needs memory only to parse a job, and for the bytes of its calls.
         ensures wants { OnErr result (worker_turns.may_want self.old last.now (lent look.now)) }
     {
         self.runner.next(last, look)
@@ -111,8 +112,8 @@ impl Process for Actor {
         ensures quiet { IfOk result IsQuiet }
         ensures err { OnErr result (self.new ≡ self.old) }
 
-        // The server wants memory only for what it keeps, and for the bytes of its calls, and a
-        // worker for a job, and for the bytes of its calls.
+        // The server needs memory only for its buffers and the bytes of its calls, and a worker
+        // for a job and the bytes of its calls.
         ensures wants { OnErr result (actor_wants worker_turns self.old last.now (lent look.now)) }
     {
         match &mut self.role {

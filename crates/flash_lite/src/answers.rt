@@ -1,4 +1,4 @@
-//! The bytes of answers that the server makes itself.
+//! The bytes of responses that the server makes itself.
 ghost use Rattle.std.specs.Prelude.{◌≡◌, ◌++◌, IfOk, OnOk};
 ghost use Rattle.flash_http.specs.Prelude.{wanted, answer, head_text};
 ghost use Rattle.flash_lite.specs.Texts as texts;
@@ -20,7 +20,7 @@ fn bytes_of_head(alloc: Global, head: &ResponseHead) -> Result<Vec<u8>, AllocErr
     Ok(text.into_bytes())
 }
 
-// The head for a file of so many bytes.
+// The head for a file of `len` bytes.
 fn head_for(request: &Request, len: u64) -> ResponseHead
     ensures { result ≡ texts.head_for (wanted request.now) len }
 {
@@ -38,7 +38,7 @@ fn file_text(alloc: Global, request: &Request, len: u64) -> Result<Vec<u8>, Allo
     Ok(bytes_of_head(alloc, &head)?)
 }
 
-// With the body of a refusal, unless there is to be none.
+// Appends the body of a refusal, unless the response has no body.
 fn add_body(
     alloc: Global,
     bytes: &mut Vec<u8>,
@@ -54,7 +54,7 @@ fn add_body(
     Ok(())
 }
 
-// All of an answer that is the status of a refusal.
+// The whole response with the status of a refusal.
 #[tactic(auto, using(crate::proofs::Responses::Texts::error_text_is))]
 fn error_text(
     alloc: Global,
@@ -70,7 +70,7 @@ fn error_text(
     Ok(bytes)
 }
 
-// All of an answer for a file of which nothing is sent.
+// The whole response for a file without body.
 #[tactic(auto, unfolding(flash_laws::specs::Answers::unsatisfiable))]
 fn bare_text(alloc: Global, request: &Request, len: u32) -> Result<Vec<u8>, AllocError>
     ensures { IfOk result (λ bytes. bytes.items ≡ texts.text_for (wanted request.now) (Bare len)) }
@@ -81,7 +81,7 @@ fn bare_text(alloc: Global, request: &Request, len: u32) -> Result<Vec<u8>, Allo
     Ok(bytes)
 }
 
-/// What is made of new bytes for a request for a file.
+/// The new bytes of the response to a request for a file.
 pub(crate) fn served_text(
     alloc: Global,
     request: &Request,
@@ -102,7 +102,7 @@ pub(crate) fn served_text(
     }
 }
 
-/// What is made of new bytes: the head, and the body where no aggregate has it.
+/// The new bytes of a response: the head, and the body if no aggregate has it.
 pub(crate) fn text_of(
     alloc: Global,
     asked: &Asked,

@@ -1,6 +1,6 @@
 //! One client: its connection, and the script that runs for the request in progress.
 //!
-//! A script is found as any file; then its run has the connection until all is sent.
+//! A script is found like any file; then its run has the connection until all is sent.
 ghost use Rattle.std.specs.Prelude.{◌≡◌, ◌≢◌, ◌<◌, [], IfOk, IfSome, OnErr, None, Some, false, true};
 ghost use Rattle.flash_laws.specs.Client as spec;
 ghost use Rattle.flash_laws.specs.Prelude.{has_bytes, makes_bytes, makes_any, is_over};
@@ -26,35 +26,34 @@ use iol_core::numbers::{AggId, Fd};
 use std::alloc::{AllocError, Global};
 use std::marker::Model;
 
-/// What a client goes on with, once others had their turns.
+/// The state of a client whose turn passes to others.
 #[derive(Clone, Copy, Debug, PartialEq, Eq)]
 pub enum Left {
     /// Its connection is in this phase.
     Goes { doing: Doing },
 
-    /// Its run is over, and its connection in this phase.
+    /// Its run is over, and its connection is in this phase.
     Ends { doing: Doing },
 
     /// A run begins: it waits for a worker.
     Begins,
 
-    /// Its call is made again.
+    /// Unchanged: its call is retried.
     Stays,
 }
 
-/// What a client does after a reply.
+/// The action of a client after a reply.
 #[derive(Drop)]
 pub enum Course {
     /// It makes its next call at once.
     Asks(Call),
 
-    /// Others have their turns, and this is what it goes on with then.
+    /// Its turn passes to others, and it continues in this state afterwards.
     Leaves(Left),
 }
 
-/// One client of the server: its connection, the run of the script that was asked for, if it has
-/// begun and is not over, and the script's text, from the moment that it is read until the job is
-/// made.
+/// One client of the server: its connection, the run of the requested script, if it has begun and
+/// is not over, and the script's text, from the time when it is read until the job is made.
 #[derive(Drop)]
 pub struct Client {
     alloc: Global,
@@ -75,7 +74,7 @@ impl Model for Client {
 }
 
 impl Client {
-    /// One that was just accepted.
+    /// A newly accepted client.
     pub fn new(alloc: Global) -> Client
         ensures { result ≡ spec.new_client }
     {
@@ -87,7 +86,7 @@ impl Client {
         }
     }
 
-    // Its call where no script runs, if its connection wants this one.
+    // The next call if no script runs; `call` is that of its connection.
     #[tactic(auto, using(crate::proofs::Responses::Clients::whole_wants))]
     fn file_call(&self, scripts: bool, fd: Fd, call: Call) -> Call
         requires { call ≡ conn.wants fd self.now.conn }
@@ -98,7 +97,7 @@ impl Client {
         whole(script, self.conn.doing(), call)
     }
 
-    // What its connection does, where no script runs.
+    // The action of its connection, if no script runs.
     #[tactic(auto, using(crate::proofs::Responses::Clients::asks_alone, crate::proofs::Responses::Clients::leaves_alone))]
     fn go_on_alone(
         &mut self,
@@ -116,7 +115,7 @@ impl Client {
         }
     }
 
-    // The text of a script was read: it is kept, if it is to run, and the file is closed.
+    // After reading the text of a script: keeps it, if it will run, and closes the file.
     #[tactic(auto, using(crate::proofs::Responses::Clients::heard_goes))]
     fn hear(
         &mut self,
@@ -137,7 +136,7 @@ impl Client {
         Ok(Course::Asks(self.file_call(scripts, fd, call)))
     }
 
-    // No script runs for it: what it does after the reply to a call for a file, or a script's text.
+    // The action after the reply to a call for a file, or for a script's text, if no script runs.
     #[tactic(auto, using(crate::proofs::Responses::Clients::file_rules))]
     fn go_on_file(
         &mut self,
@@ -164,7 +163,7 @@ impl Client {
         }
     }
 
-    // What its run is after the reply to its call.
+    // The run after the reply to its call.
     fn run_after(
         &self,
         worker: u32,
@@ -205,7 +204,7 @@ impl Client {
         }
     }
 
-    // Its run goes on with this, and its text is kept.
+    // The run advances to this state, and the text is kept.
     fn run_with(&mut self, fd: Fd, next: Running) -> Result<Call, AllocError>
         requires { IsSmallRunning next × (is_over next ≡ false) }
         ensures on { IfOk result (λ _. self.new ≡ with_run self.old next self.old.script) }
@@ -219,7 +218,7 @@ impl Client {
         Ok(call)
     }
 
-    // Its run goes on with this, and its text is kept no more, nor the memory that it took.
+    // The run advances to this state, and the text and its memory are released.
     fn run_without(&mut self, fd: Fd, next: Running) -> Result<Call, AllocError>
         requires { IsSmallRunning next × (is_over next ≡ false) }
         ensures on { IfOk result (λ _. self.new ≡ with_run self.old next []) }
@@ -233,7 +232,7 @@ impl Client {
         Ok(call)
     }
 
-    // Its run goes on from one to the next.
+    // The run advances from one state to the next.
     fn run_on(&mut self, fd: Fd, was: &Running, next: Running) -> Result<Call, AllocError>
         requires { IsSmallRunning next × (is_over next ≡ false) }
         ensures on { IfOk result
@@ -252,7 +251,7 @@ impl Client {
         self.run_with(fd, next)
     }
 
-    // Its run is over, and all is sent: what is kept of its stream goes on.
+    // The run is over, and all is sent: continues with the buffered stream.
     #[tactic(auto, using(crate::proofs::Responses::Clients::rest_rules))]
     fn end_free(&mut self, scripts: bool, fd: Fd) -> Result<Course, AllocError>
         ensures { EndsRun scripts fd Rests self.old (WantsToEnd self.old Rests) result self.new }
@@ -267,7 +266,7 @@ impl Client {
         }
     }
 
-    // Its run is over, and its connection goes on with this.
+    // The run is over, and the connection continues in this phase.
     #[tactic(auto, using(crate::proofs::Responses::Clients::ends_asks, crate::proofs::Responses::Clients::ends_wants))]
     fn end_with(&mut self, scripts: bool, fd: Fd, doing: Doing) -> Result<Course, AllocError>
         requires { (doing ≢ Rests) × (doing ≢ Over) × IsSmall doing }
@@ -279,7 +278,7 @@ impl Client {
         Ok(Course::Asks(self.file_call(scripts, fd, call)))
     }
 
-    // Its run is over.
+    // The run is over.
     #[tactic(auto, using(crate::proofs::Responses::Clients::over_leaves, crate::proofs::Responses::Clients::ends_wants))]
     fn end(&mut self, scripts: bool, fd: Fd, doing: Doing) -> Result<Course, AllocError>
         requires { IsSmall doing }
@@ -298,7 +297,7 @@ impl Client {
         }
     }
 
-    // What it does after the reply to the call of its run.
+    // The action after the reply to the call of its run.
     #[tactic(auto, using(crate::proofs::Responses::RunsOn::run_rules))]
     fn go_on_running(
         &mut self,
@@ -333,10 +332,10 @@ impl Client {
         }
     }
 
-    /// What it does after the reply to its call, with the bytes of the aggregate that the reply
-    /// names. `scripts` says whether scripts are run, and `worker` is one that is free, if it waits
-    /// for one. For want of memory it stays as it was; it wants memory only to keep the bytes that
-    /// came, to begin a request, or for a call that has bytes of its own.
+    /// The action after the reply to its call, with the bytes of the aggregate in the reply.
+    /// `scripts` is whether scripts are run, and `worker` is a free worker, if the client waits
+    /// for one. If memory runs out it is unchanged. It needs memory only to buffer bytes that it
+    /// reads, to begin a request, or for a call with bytes of its own.
     pub fn go_on(
         &mut self,
         scripts: bool,
@@ -360,7 +359,7 @@ impl Client {
         }
     }
 
-    /// Whether it waits for a worker.
+    /// Returns whether it waits for a worker.
     pub fn awaits(&self) -> bool
         ensures { result ≡ spec.awaits self.now }
     {
@@ -370,7 +369,7 @@ impl Client {
         }
     }
 
-    /// The worker that runs its script, if one does.
+    /// The worker that runs its script, if any.
     pub fn worker(&self) -> Option<u32>
         ensures worker { result ≡ worker_of self.now }
         ensures within { IfSome result (λ worker. worker < MAX_WORKERS) }
@@ -381,7 +380,7 @@ impl Client {
         }
     }
 
-    /// It is left to others, and goes on with this then.
+    /// Its turn passes to others, and it continues in this state afterwards.
     pub fn leave(&mut self, left: Left)
         requires { CanRest self.old left }
         ensures { self.new ≡ left_with self.old left }

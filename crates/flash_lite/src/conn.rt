@@ -25,18 +25,17 @@ use iol_core::refusals::Refusal;
 use std::alloc::{AllocError, Global};
 use std::marker::Model;
 
-/// What a connection does after a reply.
+/// The action of a connection after a reply.
 #[derive(Drop)]
 pub enum Onward {
     /// It makes its next call at once.
     Asks(Call),
 
-    /// Others have their turns, and this is what it goes on with then.
+    /// Its turn passes to others, and it continues in this phase afterwards.
     Leaves(Doing),
 }
 
-/// One connection of the server: what it keeps of its stream, what was asked for last, and what is
-/// in progress for it.
+/// One connection of the server: its buffered input, the last request, and its phase.
 #[derive(Drop)]
 pub struct Conn {
     alloc: Global,
@@ -58,7 +57,7 @@ impl Model for Conn {
         × IsAwaiting (record { kept = x.kept.items; q = answer x.asked; doing = x.doing }) };
 }
 
-/// Whether the call is to be made again at a later turn.
+/// Returns whether the call is retried in a later turn.
 pub(crate) fn is_later(last: &Reply) -> bool
     ensures { result ≡ is_later last.now }
 {
@@ -75,21 +74,21 @@ pub(crate) fn is_later(last: &Reply) -> bool
     }
 }
 
-// Forgets the first bytes of a list.
+// Removes the first bytes of a list.
 fn drop_first(list: &mut Vec<u8>, count: usize)
     ensures { list.new.items ≡ drop count list.old.items }
 {
     list.drain(..count.min(list.len()));
 }
 
-/// Where the next piece ends: it has as many bytes as a queue takes, or all that are left.
+/// The end of the next piece: it has as many bytes as a queue holds, or all that are left.
 pub(crate) fn piece_end(from: u32, len: u32) -> u32
     ensures { result ≡ spec.piece_end from len }
 {
     len.min(from.saturating_add(MAX_QUEUE_BYTES as u32))
 }
 
-// A request that has not begun: nothing was asked for.
+// The placeholder before the first request.
 fn no_request() -> Asked
     ensures { answer result ≡ refuse 431 false true }
 {
@@ -101,7 +100,7 @@ fn no_request() -> Asked
 }
 
 impl Conn {
-    /// A connection that was just accepted.
+    /// A newly accepted connection.
     pub fn new(alloc: Global) -> Conn
         ensures { result ≡ spec.new_connection }
     {
@@ -113,21 +112,21 @@ impl Conn {
         }
     }
 
-    /// What was asked for.
+    /// The last request.
     pub(crate) fn asked(&self) -> &Asked
         ensures { answer result.now ≡ self.now.q }
     {
         &self.asked
     }
 
-    /// What is in progress.
+    /// The phase.
     pub(crate) fn doing(&self) -> Doing
         ensures { result ≡ self.now.doing }
     {
         self.doing
     }
 
-    // More of the stream was read. Where nothing came it is at its end.
+    // After reading more of the stream. No bytes are its end.
     #[tactic(auto, using(crate::proofs::Responses::FirstCall::rests_heard))]
     fn hear(&mut self, fd: Fd, agg: AggId, parts: Option<Parts<'_>>) -> Result<Call, AllocError>
         ensures told { IfOk result
@@ -147,7 +146,7 @@ impl Conn {
         Ok(Call::AggDrop { agg })
     }
 
-    // What follows the reply to the call of a phase in which something is in progress.
+    // The phase after the reply to the call of a phase that is not idle.
     fn next_doing(&self, last: &Reply, parts: Option<Parts<'_>>) -> Doing
         requires { self.now.doing ≢ Rests }
         ensures told { spec.told self.now last.now (heard parts.entry) ≡ in_doing self.now result }
@@ -185,7 +184,7 @@ impl Conn {
         }
     }
 
-    // A request begins, after so many bytes: its first call.
+    // Begins a request whose head ends after `len` bytes, and returns its first call.
     #[tactic(auto, using(crate::proofs::Responses::FirstCall::first_wants))]
     fn begin(&mut self, fd: Fd, asked: Asked, len: usize) -> Result<Call, AllocError>
         ensures begun { IfOk result (λ _. self.new ≡ begun_with len (answer asked) self.old) }
@@ -199,7 +198,7 @@ impl Conn {
         Ok(call)
     }
 
-    // How much of the stream is read.
+    // The call that reads more of the stream.
     fn read(&self, fd: Fd) -> Call
         ensures { result ≡ IolRead fd (spec.most_kept - length self.now.kept) }
     {
@@ -207,8 +206,7 @@ impl Conn {
         Call::IolRead { fd, count }
     }
 
-    // With nothing in progress: the first request that is kept begins, or more of the stream is
-    // read.
+    // From an idle phase, begins the first buffered request, or reads more of the stream.
     fn start(&mut self, fd: Fd) -> Result<Call, AllocError>
         ensures starts { IfOk result
             (λ _. spec.Starts (record self.old { doing = Rests }) self.new) }
@@ -261,7 +259,7 @@ impl Conn {
         })
     }
 
-    /// Goes on with a phase in which something is in progress.
+    /// Continues with a phase that is not idle.
     #[tactic(auto, using(crate::proofs::Responses::Waits::busy_awaits))]
     pub(crate) fn proceed(&mut self, fd: Fd, doing: Doing) -> Result<Call, AllocError>
         requires { (doing ≢ Rests) × IsSmall doing }
@@ -275,8 +273,7 @@ impl Conn {
         Ok(call)
     }
 
-    // Goes on with a phase in which something is in progress, unless its call is to be made again
-    // later.
+    // Continues with a phase that is not idle, unless its call is retried later.
     fn go_on_with(&mut self, fd: Fd, doing: Doing, last: &Reply) -> Result<Onward, AllocError>
         requires { (doing ≢ Rests) × IsSmall doing }
         ensures goes { IfOk result (λ o. GoesWith fd self.old last.now doing o self.new) }
@@ -290,7 +287,7 @@ impl Conn {
         Ok(Onward::Asks(call))
     }
 
-    /// Nothing is in progress after a reply, though it was: what is kept goes on.
+    /// A phase that was not idle becomes idle after a reply: continues with the buffered stream.
     pub(crate) fn go_on_free(&mut self, fd: Fd) -> Result<Onward, AllocError>
         ensures asks { IfOk result (λ o. Frees fd self.old o self.new) }
         ensures err { OnErr result (self.new ≡ self.old) }
@@ -303,7 +300,7 @@ impl Conn {
         Ok(Onward::Asks(call))
     }
 
-    // Something was in progress.
+    // After the reply to a call of a phase that was not idle.
     fn go_on_busy(
         &mut self,
         fd: Fd,
@@ -324,7 +321,7 @@ impl Conn {
         }
     }
 
-    // The stream was read, or it could not be.
+    // After reading the stream, or its refusal.
     fn go_on_resting(
         &mut self,
         fd: Fd,
@@ -352,10 +349,10 @@ impl Conn {
         }
     }
 
-    /// What it does after the reply to its call, with the bytes of the aggregate that the reply
-    /// names. It goes on at once, unless the call is to be made again later, nothing is in progress
-    /// and nothing kept, or it is over. For want of memory it stays as it was; it wants memory only
-    /// to keep the bytes that came, to begin a request, or for a call that has bytes of its own.
+    /// The action after the reply to its call, with the bytes of the aggregate in the reply. It
+    /// continues at once, unless the call is retried later, it is idle without buffered input, or
+    /// it is over. If memory runs out it is unchanged. It needs memory only to buffer bytes that
+    /// it reads, to begin a request, or for a call with bytes of its own.
     pub fn go_on(
         &mut self,
         fd: Fd,
@@ -373,7 +370,7 @@ impl Conn {
         }
     }
 
-    /// It is left to others, and goes on with this then.
+    /// Its turn passes to others, and it continues in this phase afterwards.
     pub fn leave(&mut self, doing: Doing)
         requires { CanRest self.old doing }
         ensures { self.new ≡ record self.old { doing = doing } }

@@ -1,4 +1,4 @@
-//! What follows each call that finds what a request asks for: its stream is read, its file opened,
+//! The phases after each call that finds the requested file: its stream is read, its file opened,
 //! read and closed.
 ghost use Rattle.std.specs.Prelude.{◌≡◌};
 ghost use Rattle.flash_http.specs.Prelude.{wanted, answer, selected};
@@ -15,7 +15,7 @@ use iol_core::events::Reply;
 use iol_core::numbers::{AggId, Fd};
 use iol_core::refusals::Refusal;
 
-// The status of an answer where the file is not opened or read.
+// The status of a response if opening or reading the file was refused.
 fn status_of(refusal: Refusal) -> StatusCode
     ensures { result ≡ spec.status_of refusal }
 {
@@ -27,7 +27,7 @@ fn status_of(refusal: Refusal) -> StatusCode
     }
 }
 
-/// What a request begins with.
+/// The first phase of a request.
 pub(crate) fn begins(asked: &Asked) -> Doing
     ensures begins { result ≡ spec.begins (answer asked.now) }
     ensures small { IsSmall result }
@@ -44,7 +44,7 @@ pub(crate) fn begins(asked: &Asked) -> Doing
     }
 }
 
-/// After the reply to the dropping of what was read of the stream.
+/// After dropping the aggregate of a read of the stream.
 pub(crate) fn told_got(agg: AggId, last: &Reply) -> Doing
     ensures told { result ≡ spec.told_got agg last.now }
     ensures small { IsSmall result }
@@ -55,7 +55,7 @@ pub(crate) fn told_got(agg: AggId, last: &Reply) -> Doing
     }
 }
 
-/// After the reply to the opening of the file.
+/// After opening the file.
 pub(crate) fn told_opens(last: &Reply) -> Doing
     ensures told { result ≡ spec.told_opens last.now }
     ensures small { IsSmall result }
@@ -72,7 +72,7 @@ pub(crate) fn told_opens(last: &Reply) -> Doing
     }
 }
 
-/// After the reply to its reading, or to the question for its length.
+/// After reading the file, or asking for its length.
 pub(crate) fn told_reads(file: Fd, last: &Reply, parts: Option<Parts<'_>>) -> Doing
     ensures told { result ≡ spec.told_reads file last.now (heard parts.entry) }
     ensures small { IsSmall result }
@@ -92,7 +92,7 @@ pub(crate) fn told_reads(file: Fd, last: &Reply, parts: Option<Parts<'_>>) -> Do
     Doing::Shuts { file, learnt }
 }
 
-// What is sent of a file that was read.
+// The phase that sends the selected part of a file that was read.
 fn sends_of(request: &Request, agg: AggId, len: u32) -> Doing
     ensures sends { result ≡ spec.sends_of (selected (wanted request.now).range len) agg len }
     ensures small { IsSmall result }
@@ -118,7 +118,7 @@ fn sends_of(request: &Request, agg: AggId, len: u32) -> Doing
     }
 }
 
-// What is sent of a text: what it puts out, where it is a script.
+// The body of the response to a request of a script: its output, if it can run.
 fn put_out(runs: bool) -> Content
     ensures { result ≡ spec.put_out runs }
 {
@@ -131,7 +131,7 @@ fn put_out(runs: bool) -> Content
     }
 }
 
-// What follows where the file is closed.
+// The phase after the file is closed.
 fn settled(asked: &Asked, learnt: Learnt) -> Doing
     ensures settled { result ≡ spec.settled (answer asked.now) learnt }
     ensures small { IsSmall result }
@@ -164,7 +164,7 @@ fn settled(asked: &Asked, learnt: Learnt) -> Doing
     }
 }
 
-/// After the reply to the closing of the file.
+/// After closing the file.
 pub(crate) fn told_shuts(asked: &Asked, file: Fd, learnt: Learnt, last: &Reply) -> Doing
     ensures told { result ≡ spec.told_shuts (answer asked.now) file learnt last.now }
     ensures small { IsSmall result }
@@ -175,7 +175,7 @@ pub(crate) fn told_shuts(asked: &Asked, file: Fd, learnt: Learnt, last: &Reply) 
     }
 }
 
-/// After the reply to the cutting of the part that is asked for.
+/// After cutting the requested part.
 pub(crate) fn told_picks(agg: AggId, from: u32, to: u32, len: u32, last: &Reply) -> Doing
     ensures told { result ≡ spec.told_picks agg from to len last.now }
     ensures small { IsSmall result }
@@ -198,7 +198,7 @@ pub(crate) fn told_picks(agg: AggId, from: u32, to: u32, len: u32, last: &Reply)
     }
 }
 
-/// After the reply to the dropping of what is not sent.
+/// After dropping the bytes that are not sent.
 pub(crate) fn told_spares(agg: AggId, content: Content, last: &Reply) -> Doing
     ensures told { result ≡ spec.told_spares agg content last.now }
     ensures small { IsSmall result }

@@ -1,5 +1,5 @@
-//! The clients, each in the place of its descriptor. Which of them may have its turn is found in a
-//! few steps, however many places there are.
+//! The clients, by the index of their descriptors. The next client that may take a turn is found
+//! in a few steps, whatever the number of indices.
 ghost use Rattle.std.specs.Prelude.{◌≡◌, ◌<◌, ◌≤◌, ◌+◌, ◌^◌, [], IfOk, IfSome, OnOk};
 ghost use Rattle.std.specs.Prelude.{OnErr, Some, length, true, false};
 ghost use Rattle.std.specs.Vec.{vec_capacity};
@@ -19,8 +19,8 @@ use iol_core::numbers::Fd;
 use std::alloc::{AllocError, Global};
 use std::marker::Model;
 
-/// The clients, each in the place of its descriptor; beside them, in ascending order, the places of
-/// all of them, and of those that may go while no worker is free.
+/// The clients, by the index of their descriptors; also, in ascending order, the indices of all
+/// clients, and of those that may take a turn while no worker is free.
 #[derive(Drop)]
 pub(crate) struct Clients {
     alloc: Global,
@@ -43,8 +43,8 @@ impl Model for Clients {
         s.held.items s.going.items (vec_capacity s.held) (vec_capacity s.going) };
 }
 
-// Whether a client stands in a place that may have its turn. One that waits for a worker has it
-// only where one is free.
+// Returns whether there is a client that may take a turn. A client that waits for a worker may do
+// so only if one is free.
 fn goes_in(free: bool, place: &Option<Client>) -> bool
     ensures { result ≡ goes_in free place.now }
 {
@@ -54,14 +54,14 @@ fn goes_in(free: bool, place: &Option<Client>) -> bool
     }
 }
 
-// Whether the client in a place may have its turn, if one is there.
+// Returns whether there is a client at an index that may take a turn.
 fn goes_at(free: bool, clients: &[Option<Client>], place: usize) -> bool
     ensures { result ≡ goes_in free (in_place clients.now place) }
 {
     place < clients.len() && goes_in(free, &clients[place])
 }
 
-// Makes places up to this one. Where it is there, that takes no memory.
+// Extends the list up to this index. If the index exists, it allocates nothing.
 fn reach(clients: &mut Vec<Option<Client>>, place: u32) -> Result<(), AllocError>
     ensures ok { IfOk result (λ _. clients.new.items ≡ grown clients.old.items place) }
     ensures err { OnErr result (clients.new.items ≡ clients.old.items) }
@@ -75,7 +75,7 @@ fn reach(clients: &mut Vec<Option<Client>>, place: u32) -> Result<(), AllocError
     Ok(())
 }
 
-// With a new client in a place.
+// Adds a new client at an index.
 fn admit(alloc: Global, clients: &mut Vec<Option<Client>>, place: u32) -> Result<(), AllocError>
     requires { length clients.old.items ≤ 2 ^ 32 }
     ensures ok { OnOk result
@@ -89,7 +89,7 @@ fn admit(alloc: Global, clients: &mut Vec<Option<Client>>, place: u32) -> Result
     Ok(())
 }
 
-// The worker that runs the script of the client in a place, if one does.
+// The worker that runs the script of the client at an index, if any.
 fn worker_at(clients: &[Option<Client>], place: u32) -> Option<u32>
     ensures worker { result ≡ worker_at clients.now place }
     ensures within { IfSome result (λ worker. worker < MAX_WORKERS) }
@@ -104,7 +104,7 @@ fn worker_at(clients: &[Option<Client>], place: u32) -> Option<u32>
     }
 }
 
-// What the client in a place does after the reply to its call, if one is there.
+// The action of the client at an index after the reply to its call, if there is a client.
 fn go_on_at(
     scripts: bool,
     worker: u32,
@@ -131,7 +131,8 @@ fn go_on_at(
     }
 }
 
-// What is in a place is left to others. A client whose connection is over is forgotten.
+// The turn of the client at an index passes to others. A client whose connection is over is
+// removed.
 fn leave_at(clients: &mut Vec<Option<Client>>, fd: u32, left: Left)
     requires within { fd < length clients.old.items }
     requires rests { MayRest (in_place clients.old.items fd) left }
@@ -146,7 +147,7 @@ fn leave_at(clients: &mut Vec<Option<Client>>, fd: u32, left: Left)
     }
 }
 
-// The next call of the client in a place.
+// The next call of the client at an index.
 fn call_at(
     scripts: bool,
     clients: &[Option<Client>],
@@ -164,7 +165,7 @@ fn call_at(
     }
 }
 
-// Makes room for the numbers of all places up to this one.
+// Reserves room for all indices up to this one.
 fn make_room(places: &mut Vec<u32>, place: u32) -> Result<(), AllocError>
     ensures items { places.new.items ≡ places.old.items }
     ensures room { vec_capacity places.old ≤ vec_capacity places.new }
@@ -175,7 +176,8 @@ fn make_room(places: &mut Vec<u32>, place: u32) -> Result<(), AllocError>
     places.reserve(more)
 }
 
-// Whether a client is in a place, and whether it may go while no worker is free.
+// Returns whether there is a client at an index, and whether it may take a turn while no worker is
+// free.
 fn noted(clients: &[Option<Client>], place: u32) -> (bool, bool)
     ensures held { result.0 ≡ goes_in true (in_place clients.now place) }
     ensures going { result.1 ≡ goes_in false (in_place clients.now place) }
@@ -184,7 +186,7 @@ fn noted(clients: &[Option<Client>], place: u32) -> (bool, bool)
     (goes_at(true, clients, at), goes_at(false, clients, at))
 }
 
-// Notes both for a place where they are not as they were; else no list is searched.
+// Updates both lists for an index, if they change; otherwise no list is searched.
 fn note(
     clients: &[Option<Client>],
     was: (bool, bool),
@@ -206,7 +208,7 @@ fn note(
 }
 
 impl Clients {
-    /// None.
+    /// No clients.
     pub(crate) fn new(alloc: Global) -> Clients
         ensures { result ≡ [] }
     {
@@ -218,15 +220,15 @@ impl Clients {
         }
     }
 
-    /// How many there are.
+    /// The number of clients.
     pub(crate) fn count(&self) -> usize
         ensures { result ≡ taken self.now }
     {
         self.held.len()
     }
 
-    /// The first place from here on that has one that may go, where a worker is free or none. Mostly
-    /// it is this one.
+    /// The first index from here on with a client that may take a turn; `free` is whether a worker
+    /// is free. In most cases it is this index.
     pub(crate) fn next(&self, free: bool, from: usize) -> Option<u32>
         ensures place { result ≡ next_in free self.now from }
         ensures within { IfSome result (λ place. place < length self.now) }
@@ -238,7 +240,7 @@ impl Clients {
         }
     }
 
-    // The same, by the list of the places of those that may go.
+    // The same, by the list of indices.
     fn seek(&self, free: bool, from: usize) -> Option<u32>
         ensures place { result ≡ next_in free self.now from }
         ensures within { IfSome result (λ place. place < length self.now) }
@@ -250,7 +252,7 @@ impl Clients {
         }
     }
 
-    /// The next call of the client in a place.
+    /// The next call of the client at an index.
     pub(crate) fn call_at(&self, scripts: bool, place: u32) -> Result<Option<Call>, AllocError>
         requires { place < length self.now }
         ensures { MakesCallAt scripts self.now place result }
@@ -258,7 +260,7 @@ impl Clients {
         call_at(scripts, self.places.as_slice(), place)
     }
 
-    /// The worker that runs the script of the client in a place, if one does.
+    /// The worker that runs the script of the client at an index, if any.
     pub(crate) fn worker_at(&self, place: u32) -> Option<u32>
         ensures worker { result ≡ worker_at self.now place }
         ensures within { IfSome result (λ worker. worker < MAX_WORKERS) }
@@ -266,7 +268,7 @@ impl Clients {
         worker_at(self.places.as_slice(), place)
     }
 
-    /// With a new client in a place. Where that place was there, it takes no memory.
+    /// Adds a new client at an index. If the index exists, it allocates nothing.
     pub(crate) fn admit(&mut self, place: u32) -> Result<(), AllocError>
         ensures ok { IfOk result (λ _. self.new ≡ with_at self.old place (Some new_client)) }
         ensures err { OnErr result (self.new ≡ self.old) }
@@ -286,7 +288,7 @@ impl Clients {
         Ok(())
     }
 
-    /// What the client in a place does after the reply to its call, if one is there.
+    /// The action of the client at an index after the reply to its call, if there is a client.
     pub(crate) fn go_on_at(
         &mut self,
         scripts: bool,
@@ -314,7 +316,8 @@ impl Clients {
         }
     }
 
-    /// What is in a place is left to others. A client whose connection is over is forgotten.
+    /// The turn of the client at an index passes to others. A client whose connection is over is
+    /// removed.
     pub(crate) fn leave_at(&mut self, fd: u32, left: Left)
         requires within { fd < length self.old }
         requires rests { MayRest (in_place self.old fd) left }

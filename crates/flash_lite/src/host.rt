@@ -1,4 +1,4 @@
-//! Hosting a site: a system of its own, and its processes in turns.
+//! Hosts a site: a system of its own, and its processes in turns.
 ghost use Rattle.std.specs.Prelude.{◌≡◌, true, false, Err, IfErr, IfOk, OnOk};
 ghost use Rattle.iol_core.specs.Prelude.{IsInRange};
 ghost use Rattle.flash_lite.specs.HostedSite.{HostsIfHonest, HostsOver, IsNewIfHonest};
@@ -17,29 +17,29 @@ use iol_proc::world::World;
 use iol_system::system::System;
 use std::alloc::Global;
 
-/// A site that was hosted.
+/// The result of hosting a site.
 #[derive(Drop)]
 pub struct Hosted<B: Backing> {
-    /// Its system and processes, as they are at the end.
+    /// Its system and processes, in their final state.
     pub world: World<B, Actor>,
 
-    /// What each choice was answered.
+    /// The reply to each choice.
     pub replies: Vec<Reply>,
 
-    /// Whether all was idle at the end.
+    /// Whether all were idle at the end.
     pub idle: bool,
 }
 
-/// Sets a site up in a new system of these sizes over a store, makes these choices come true in its
-/// world, and then gives it turns in rounds, at most so many, until all is idle. Sizes or a site out
-/// of their limits are `BadRange`. Any other refusal is that of the first call of the setup that was
-/// refused, or `Memory`; it drops all.
+/// Sets a site up in a new system with these parameters over a store, executes these choices in
+/// its world, and then gives turns in rounds, up to a maximum number, until all are idle. Invalid
+/// parameters or an invalid site are `BadRange`. Any other refusal is that of the first refused
+/// call of the setup, or `Memory`; then all is dropped.
 ///
-/// With an honest store, and where calls from outside leave the site and its processes alone, what
-/// comes of it is right: [`hosted_is_right`](crate::laws::hosted_is_right), and
-/// [`harmless_is_right`](crate::laws::harmless_is_right) of choices that can be seen to leave them alone.
-/// Without scripts all becomes idle if the number of turns suffices, and each connection is served:
-/// [`hosted_files_become_idle`](crate::laws::hosted_files_become_idle).
+/// With an honest store, if external calls leave the site and its processes unchanged, the result
+/// is right: [`hosted_is_right`](crate::laws::hosted_is_right), and
+/// [`harmless_is_right`](crate::laws::harmless_is_right) for choices that can be recognized as
+/// such. Without scripts all become idle if the number of turns suffices, and each connection is
+/// served: [`hosted_files_become_idle`](crate::laws::hosted_files_become_idle).
 pub fn host<B: Backing + Drop>(
     alloc: Global,
     config: Config,
@@ -53,8 +53,9 @@ pub fn host<B: Backing + Drop>(
     ensures in_range { OnOk result (IsInRange config × (spec.is_in_range site.now ≡ true)) }
     ensures refused { IfErr result (WhyNone config (B.disk backing) site.now) }
 
-    // Over any store the world is run by a new system of these sizes, in which the site was set up.
-    // Over an honest one it is that of the site, and its run one over the copying machine.
+    // Over any store, the world is run by a new system with these parameters, in which the site
+    // was set up. Over an honest store it is the world of the site, and its run is one over the
+    // copying machine.
     ensures shared { IfOk result (λ h. HostsOver config (B.disk backing) site.now choices.now
         h.replies.items turns h.idle h.world) }
     ensures hosts { IfOk result (λ h. HostsIfHonest (B.disk backing) site.now choices.now
@@ -76,7 +77,7 @@ pub fn host<B: Backing + Drop>(
     })
 }
 
-// The world of a site that is set up.
+// Creates the world of a site that is set up.
 fn new_world<B: Backing + Drop>(
     alloc: Global,
     config: Config,

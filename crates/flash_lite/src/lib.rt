@@ -1,10 +1,10 @@
-//! Flash-Lite: a file server as a process, by one call of the system a turn.
+//! Flash-Lite: a file server as a process that makes one call of the system per turn.
 //!
-//! `setup` makes a site's domains, pools, files and pipes in a new system, and gives the processes
-//! for a `World`. The server accepts connections of the pool `net`, reads their streams, and
-//! answers each request for a file by HTTP/1.1: a head that it makes, and then the file's own
-//! bytes, which it never copies. What it does in a turn is `Server`'s account; that connections do
-//! not meet is the law `connections_do_not_meet`.
+//! `setup` creates a site's domains, pools, files and pipes in a new system, and returns the
+//! processes for a `World`. The server accepts connections of the pool `net`, reads their streams,
+//! and answers each request for a file by HTTP/1.1: a head that it makes, followed by the file's
+//! own bytes, which it never copies. Its behavior in a turn is the account of `Server`; the law
+//! `connections_do_not_meet` states that connections do not interfere.
 //!
 //!     let actors = setup(alloc, &mut system, &site)?;
 //!     let mut world = World::new(alloc, system, actors)?;

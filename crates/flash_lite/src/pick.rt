@@ -1,5 +1,5 @@
-//! Which client has its turn: the first from a place on that has one that may go, and past all
-//! places one is accepted.
+//! The choice of the next client: the first from an index on that may take a turn; after the last
+//! index a connection is accepted.
 ghost use Rattle.std.specs.Prelude.{◌≡◌, ◌<◌, ◌+◌, IfOk, None, OnErr};
 ghost use Rattle.flash_laws.specs.Prelude.{WantsFrom};
 ghost use Rattle.flash_lite.specs.ServerTurn.{AtDoor, PicksFrom, door_to, ends, most_with};
@@ -12,7 +12,7 @@ use iol_core::events::Call;
 use iol_proc::process::Turn;
 use std::alloc::AllocError;
 
-/// Past all places: the next connection is accepted, if fewer than so many are held.
+/// After the last index: accepts the next connection, if fewer than `most` are held.
 pub(crate) fn door(clients: &Clients, most: usize) -> (Flight, Turn)
     ensures flight { result.0 ≡ door_to clients.now most }
     ensures makes { AtDoor result.0 result.1 }
@@ -24,8 +24,8 @@ pub(crate) fn door(clients: &Clients, most: usize) -> (Flight, Turn)
     }
 }
 
-/// The call that is next: that of the first client from this place on, and past all of them one is
-/// accepted. `free` says whether a worker is free.
+/// The next call: that of the first client from this index on, or an accept after the last index.
+/// `free` is whether a worker is free.
 #[tactic(auto, using(crate::proofs::Places::never_none, crate::proofs::Places::door_makes))]
 pub(crate) fn pick(
     scripts: bool,
@@ -46,7 +46,7 @@ pub(crate) fn pick(
     }
 }
 
-/// Whether a client's connection is over, once it is left so.
+/// Returns whether a client's connection is over in this state.
 pub(crate) fn ends(left: &Left) -> bool
     ensures { result ≡ ends left.now }
 {
@@ -57,8 +57,8 @@ pub(crate) fn ends(left: &Left) -> bool
     }
 }
 
-/// As many as may be held where others are to be accepted: one that is over makes room for one
-/// more.
+/// The maximum number of connections to be held before another is accepted: one that is over makes
+/// room for one more.
 pub(crate) fn most_with(left: &Left) -> usize
     ensures { result ≡ most_with left.now }
 {

@@ -1,10 +1,10 @@
-//! Numbers of places in ascending order: one is found among them in a few steps.
+//! Indices in ascending order: one is found among them in a few steps.
 ghost use Rattle.std.specs.Prelude.{◌≡◌, ◌<◌, ◌≤◌, drop, filter, find, insert, length, nat_le, nat_lt, take};
 ghost use Rattle.std.specs.List.Sorted.{IsStrictlyIncreasing};
 ghost use Rattle.std.specs.Vec.{vec_capacity};
 ghost use Rattle.flash_lite.specs.Order.{CanMark, marked};
 
-// How many of these places are below that one.
+// The number of these indices below that one.
 fn count_below(places: &[u32], place: usize) -> usize
     requires { IsStrictlyIncreasing places.now }
     ensures below { take result places.now ≡ filter (λ k. nat_lt k place) places.now }
@@ -14,7 +14,7 @@ fn count_below(places: &[u32], place: usize) -> usize
     places.partition_point(|k| (*k as usize) < place)
 }
 
-/// The first of these places from here on.
+/// The first of these indices from here on.
 pub(crate) fn first_from(places: &[u32], from: usize) -> Option<u32>
     requires { IsStrictlyIncreasing places.now }
     ensures { result ≡ find (λ k. nat_le from k) places.now }
@@ -27,7 +27,7 @@ pub(crate) fn first_from(places: &[u32], from: usize) -> Option<u32>
     }
 }
 
-// Puts a place in. There is room for it.
+// Inserts an index. There is room for it.
 fn put(places: &mut Vec<u32>, at: usize, place: u32)
     requires within { at ≤ length places.old.items }
     requires room { length places.old.items < vec_capacity places.old }
@@ -37,7 +37,7 @@ fn put(places: &mut Vec<u32>, at: usize, place: u32)
     let _put = places.insert(at, place).is_ok();
 }
 
-/// Puts a place among these, or takes it out. `was` says whether it stands there.
+/// Inserts an index, or removes it. `was` is whether it is in the list.
 pub(crate) fn mark(places: &mut Vec<u32>, place: u32, was: bool, there: bool)
     requires { CanMark places.old.items place was there (vec_capacity places.old) }
     ensures marked { places.new.items ≡ marked places.old.items place there }

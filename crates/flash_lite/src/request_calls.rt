@@ -1,4 +1,4 @@
-//! Calls for a request: its file is opened and read, and the head of its answer is made.
+//! The calls for a request: to open and read its file, and to make the head of its response.
 ghost use Rattle.std.specs.Prelude.{◌≡◌, IfOk};
 ghost use Rattle.iol_core.specs.declared.descriptors.Mode.TheVariants as modes;
 ghost use Rattle.iol_core.specs.declared.events.Call.TheVariants.{OpenFile, AggMake, AggCut, AggJoin};
@@ -15,10 +15,10 @@ use iol_core::lists::Bytes;
 use iol_core::numbers::{AggId, Fd};
 use std::alloc::{AllocError, Global};
 
-/// The bytes that are read of a file: all that it may have.
+/// The maximum number of bytes of a read: those of the longest file.
 pub(crate) const MAX_READ_BYTES: u32 = 16_777_216;
 
-/// The file that is asked for is opened.
+/// Opens the requested file.
 pub(crate) fn open_call(alloc: Global, asked: &Asked) -> Result<Call, AllocError>
     ensures { IfOk result (λ call. call ≡ OpenFile (spec.name_of (answer asked.now)) modes.Read) }
 {
@@ -36,7 +36,7 @@ pub(crate) fn open_call(alloc: Global, asked: &Asked) -> Result<Call, AllocError
     })
 }
 
-/// Whether only the head of the answer is wanted.
+/// Returns whether only the head of the response is requested.
 pub(crate) fn is_head_only(asked: &Asked) -> bool
     ensures { result ≡ spec.is_head_only (answer asked.now) }
 {
@@ -50,7 +50,7 @@ pub(crate) fn is_head_only(asked: &Asked) -> bool
     }
 }
 
-/// It is read, or its length asked for where only the head is wanted.
+/// Reads the file, or asks for its length if only the head is requested.
 pub(crate) fn read_call(asked: &Asked, file: Fd) -> Call
     ensures { result ≡ read_call (answer asked.now) file }
 {
@@ -64,7 +64,7 @@ pub(crate) fn read_call(asked: &Asked, file: Fd) -> Call
     }
 }
 
-/// The head is made, with the body where that is no file's.
+/// Makes the head, with the body if it is not that of a file.
 pub(crate) fn make_call(alloc: Global, asked: &Asked, content: &Content) -> Result<Call, AllocError>
     ensures { IfOk result
         (λ call. call ≡ AggMake (spec.text_of (answer asked.now) content.now)) }
@@ -75,14 +75,14 @@ pub(crate) fn make_call(alloc: Global, asked: &Asked, content: &Content) -> Resu
     })
 }
 
-/// The bytes of an aggregate from one place to another are cut.
+/// Cuts the bytes of an aggregate from one position to another.
 pub(crate) fn cut_call(agg: AggId, from: u32, to: u32) -> Call
     ensures { result ≡ AggCut agg from to }
 {
     Call::AggCut { agg, from, to }
 }
 
-/// Two aggregates become one.
+/// Joins two aggregates.
 pub(crate) fn join_call(first: AggId, second: AggId) -> Call
     ensures { result ≡ AggJoin first second }
 {

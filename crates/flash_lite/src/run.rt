@@ -1,7 +1,7 @@
-//! A run of a script: what it is after each reply, and its next call.
+//! The run of a script: its state after each reply, and its next call.
 //!
-//! Each phase has a function, in the file of its subject: a run is started, output is heard, chunks
-//! are made of it and sent, and it ends.
+//! Each phase has a function, in the file of its subject: starting a run, reading output, making
+//! and sending chunks, and the end.
 ghost use Rattle.std.specs.Prelude.{◌≡◌, ◌<◌, IfNone, IfOk, IfSome, OnErr, OnSome, false, true};
 ghost use Rattle.flash_http.specs.Prelude.{wanted};
 ghost use Rattle.flash_laws.specs.Client as client;
@@ -99,8 +99,8 @@ fn told_step(
     Running::Runs { run, step }
 }
 
-/// What a run is after the reply to its call, with the bytes of the aggregate that the reply names.
-/// `worker` is one that is free.
+/// The state of a run after the reply to its call, with the bytes of the aggregate in the reply.
+/// `worker` is a free worker.
 pub(crate) fn told(
     worker: u32,
     request: &Request,
@@ -125,8 +125,8 @@ pub(crate) fn told(
     }
 }
 
-/// Its next call. `script` is the script's text, and `fd` the descriptor of the connection. It
-/// wants memory only for a call that has bytes of its own.
+/// The next call. `script` is the script's text, and `fd` the descriptor of the connection. It
+/// needs memory only for a call with bytes of its own.
 pub(crate) fn next_call(
     alloc: Global,
     fd: Fd,
@@ -148,7 +148,7 @@ pub(crate) fn next_call(
     }
 }
 
-// Whether what is left of a response is still to be made, or to be sent.
+// Returns whether the rest of a response is still to be made, or to be sent.
 fn is_left(doing: &Doing) -> bool
     ensures { result ≡ spec.is_left doing.now }
 {
@@ -165,7 +165,7 @@ fn is_left(doing: &Doing) -> bool
     )
 }
 
-/// Where the connection is once the run is over, if it is.
+/// The phase of the connection once the run is over, if it is.
 pub(crate) fn after_run(running: &Running) -> Option<Doing>
     requires { IsSmallRunning running.now }
     ensures none { IfNone result (spec.is_over running.now ≡ false) }
@@ -180,7 +180,7 @@ pub(crate) fn after_run(running: &Running) -> Option<Doing>
     }
 }
 
-/// Whether the job is still to be made, for which the script's text is kept.
+/// Returns whether the job is still to be made, for which the script's text is kept.
 pub(crate) fn keeps_text(running: &Running) -> bool
     ensures { result ≡ client.keeps_text running.now }
 {
@@ -191,14 +191,14 @@ pub(crate) fn keeps_text(running: &Running) -> bool
     }
 }
 
-/// Whether it waits for a worker.
+/// Returns whether it waits for a worker.
 pub(crate) fn waits(running: &Running) -> bool
     ensures { result ≡ waits running.now }
 {
     matches!(*running, Running::Awaits)
 }
 
-/// The worker that runs it, if one does.
+/// The worker that runs it, if any.
 pub(crate) fn run_worker(running: &Running) -> Option<u32>
     requires { IsSmallRunning running.now }
     ensures worker { result ≡ run_worker running.now }

@@ -1,4 +1,4 @@
-//! A script is found: it is opened, read and closed as any file, but read whole for HEAD too, and
+//! Finds a script: it is opened, read and closed like any file, but read whole also for HEAD, and
 //! its text is kept until the job is made.
 ghost use Rattle.std.specs.Prelude.{◌≡◌, ◌<◌, IfNone, IfOk, IfSome, OnErr, length};
 ghost use Rattle.std.specs.List.{concat};
@@ -17,27 +17,27 @@ use iol_core::events::{Call, Reply};
 use iol_core::numbers::{AggId, Fd};
 use std::alloc::{AllocError, Global};
 
-/// What a reply tells of a script.
+/// The result of a reply for a script.
 #[derive(Clone, Copy, Debug, PartialEq, Eq)]
 pub(crate) enum Found {
-    /// Its text is read, and the file is to be closed.
+    /// The text is read, and the file is to be closed.
     Text { file: Fd, agg: AggId },
 
-    /// What was read is dropped, and the run begins.
+    /// The aggregate of the text is dropped, and the run begins.
     Runs,
 
-    /// Nothing but what it tells of any file.
+    /// The same as for any file.
     AsFile,
 }
 
-// Whether the name is a script's.
+// Returns whether the name is that of a script.
 fn is_script(name: &str) -> bool
     ensures { result ≡ names.is_script name.now }
 {
     name.as_bytes().ends_with(".cgi".as_bytes())
 }
 
-/// Whether a request is for a script, if scripts are run at all.
+/// Returns whether a request is for a script, if scripts are run.
 pub(crate) fn is_for_script(scripts: bool, asked: &Asked) -> bool
     ensures { result ≡ spec.is_for_script scripts (answer asked.now) }
 {
@@ -51,7 +51,7 @@ pub(crate) fn is_for_script(scripts: bool, asked: &Asked) -> bool
     }
 }
 
-// What the reply to the reading of a script tells.
+// The result of the reply to reading a script.
 fn reads(file: Fd, last: &Reply) -> Found
     ensures { result ≡ course.read file last.now }
 {
@@ -61,7 +61,7 @@ fn reads(file: Fd, last: &Reply) -> Found
     }
 }
 
-// Whether the reply to the dropping of a script's text lets its run begin.
+// Returns whether the reply to dropping the aggregate of a script lets its run begin.
 fn runs(last: &Reply, head_only: bool) -> bool
     ensures { result ≡ course.runs last.now head_only }
 {
@@ -71,7 +71,7 @@ fn runs(last: &Reply, head_only: bool) -> bool
     }
 }
 
-// What the reply to the dropping of what is not sent tells.
+// The result of the reply to dropping the bytes that are not sent.
 fn spares(content: Content, last: &Reply, head_only: bool) -> Found
     ensures { result ≡ course.spared content last.now head_only }
 {
@@ -87,7 +87,7 @@ fn spares(content: Content, last: &Reply, head_only: bool) -> Found
     }
 }
 
-/// What a reply tells of a file that is found, if it is a script.
+/// The result of a reply for a file, if it is a script.
 pub(crate) fn tells(script: bool, doing: Doing, last: &Reply, head_only: bool) -> Found
     ensures { result ≡ course.found script doing last.now head_only }
 {
@@ -101,7 +101,7 @@ pub(crate) fn tells(script: bool, doing: Doing, last: &Reply, head_only: bool) -
     }
 }
 
-/// The call for a script, if that for a file is this one: a script is read whole.
+/// The call for a script, given that for a file: a script is read whole.
 pub(crate) fn whole(script: bool, doing: Doing, call: Call) -> Call
     ensures { result ≡ course.whole script doing call }
 {
@@ -117,7 +117,7 @@ pub(crate) fn whole(script: bool, doing: Doing, call: Call) -> Call
     }
 }
 
-// The bytes of these parts, if they are no more than so many.
+// The bytes of these parts, if they are at most `most`.
 fn gather_all(alloc: Global, parts: Parts<'_>, most: usize) -> Result<Option<Vec<u8>>, AllocError>
     ensures long { IfOk result (λ o. IfNone o (most < length (concat parts.entry))) }
     ensures bytes { IfOk result (λ o. IfSome o (λ bytes. bytes.items ≡ concat parts.entry)) }
@@ -133,7 +133,7 @@ fn gather_all(alloc: Global, parts: Parts<'_>, most: usize) -> Result<Option<Vec
     Ok(Some(bytes))
 }
 
-// The bytes that were read, if they are no more than so many.
+// The bytes that were read, if they are at most the limit.
 fn gather(
     alloc: Global,
     parts: Option<Parts<'_>>,
@@ -149,7 +149,7 @@ fn gather(
     }
 }
 
-// Whether a text is a script. No text is one, without a line.
+// Returns whether a text is a script. An empty text is one, without a line.
 #[tactic(auto, using(crate::proofs::Responses::Clients::empty_runs))]
 fn can_run(alloc: Global, text: &[u8]) -> Result<bool, AllocError>
     ensures runs { IfOk result (λ runs. runs ≡ spec.can_run text.now) }
@@ -162,7 +162,7 @@ fn can_run(alloc: Global, text: &[u8]) -> Result<bool, AllocError>
     Ok(script.is_some())
 }
 
-// The text that is kept: one that will run.
+// The text that is kept: that of a script that will run.
 fn kept_if(alloc: Global, head_only: bool, runs: bool, text: Vec<u8>) -> Vec<u8>
     ensures { result.items ≡ spec.kept_if head_only runs text.items }
 {
@@ -173,8 +173,8 @@ fn kept_if(alloc: Global, head_only: bool, runs: bool, text: Vec<u8>) -> Vec<u8>
     }
 }
 
-/// Whether the text that was read is a script, and what is kept of it. One that is too long for a
-/// script is not gathered, and no text takes no memory.
+/// Returns whether the text that was read is a script, and the text to be kept. A text that
+/// exceeds the limit of a script is not copied, and an empty text needs no memory.
 #[tactic(auto, using(crate::proofs::Responses::Clients::long_runs, crate::proofs::Responses::Clients::long_kept))]
 pub(crate) fn heard_text(
     alloc: Global,

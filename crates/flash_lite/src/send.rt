@@ -1,5 +1,5 @@
-//! What follows each call that sends an answer: its head is made, and what is taken of it is
-//! counted.
+//! The phases after each call that sends a response: making its head, and counting the bytes
+//! taken.
 ghost use Rattle.std.specs.Prelude.{◌≡◌, ◌≤◌, ◌+◌, ◌^◌, Some};
 ghost use Rattle.iol_core.specs.declared.events.Reply.TheVariants.{Agg, Count, Done, Refused};
 ghost use Rattle.iol_core.specs.declared.refusals.Refusal.TheVariants.{BrokenPipe};
@@ -20,10 +20,10 @@ use iol_core::limits::MAX_AGGREGATE_BYTES;
 use iol_core::numbers::AggId;
 use iol_core::refusals::Refusal;
 
-/// The aggregate that is to be sent after the one that is sent now, and its bytes.
+/// The aggregate to be sent after the current one, with its length.
 pub(crate) type Following = Option<(AggId, u32)>;
 
-// What is sent after the head.
+// The aggregate that is sent after the head.
 fn following(content: &Content) -> Following
     ensures { result ≡ spec.following content.now }
 {
@@ -35,7 +35,7 @@ fn following(content: &Content) -> Following
     }
 }
 
-// A head is joined with its body, where both fit into an aggregate; else the body is sent after it.
+// Joins a head with its body, if both fit into an aggregate; otherwise the body is sent after it.
 fn with_body(head: AggId, size: u32, body: AggId, len: u32) -> Doing
     ensures headed { result ≡ spec.headed head size (Some (body, len)) }
     ensures small { IsSmall result }
@@ -57,7 +57,7 @@ fn with_body(head: AggId, size: u32, body: AggId, len: u32) -> Doing
     }
 }
 
-// What is sent: a head, and what follows it.
+// The phase that sends a head and the aggregate after it.
 fn headed(head: AggId, size: u32, more: Following) -> Doing
     ensures headed { result ≡ spec.headed head size more }
     ensures small { IsSmall result }
@@ -73,7 +73,7 @@ fn headed(head: AggId, size: u32, more: Following) -> Doing
     }
 }
 
-/// After the reply to the making of the head.
+/// After making the head.
 pub(crate) fn told_heads(content: Content, last: &Reply, parts: Option<Parts<'_>>) -> Doing
     ensures told { result ≡ spec.told_heads content last.now (heard parts.entry) }
     ensures small { IsSmall result }
@@ -84,7 +84,7 @@ pub(crate) fn told_heads(content: Content, last: &Reply, parts: Option<Parts<'_>
     }
 }
 
-/// After the reply to the joining of head and body.
+/// After joining head and body.
 pub(crate) fn told_joins(head: AggId, size: u32, body: AggId, len: u32, last: &Reply) -> Doing
     requires { IsSmall (Joins head size body len) }
     ensures told { result ≡ spec.told_joins head size body len last.now }
@@ -106,7 +106,8 @@ pub(crate) fn told_joins(head: AggId, size: u32, body: AggId, len: u32, last: &R
     }
 }
 
-// So many bytes were taken of an aggregate that was offered whole: all, or the rest goes in pieces.
+// After `taken` bytes of an aggregate that was offered whole were taken: all, or the rest is sent
+// in pieces.
 fn taken_of(agg: AggId, count: u32, len: u32, taken: u64, more: Following) -> Doing
     requires { IsSmall (Sends agg len taken more) }
     ensures told { result ≡ told_part (Sends agg len taken more) (Count count) }
@@ -129,7 +130,7 @@ fn taken_of(agg: AggId, count: u32, len: u32, taken: u64, more: Following) -> Do
     }
 }
 
-// So many bytes were taken of what was offered.
+// After `count` bytes of the offered ones were taken.
 fn counted(doing: Doing, count: u32) -> Doing
     requires { IsGoing doing }
     ensures told { result ≡ told_part doing (Count count) }
@@ -164,7 +165,7 @@ fn counted(doing: Doing, count: u32) -> Doing
     }
 }
 
-// The next piece was cut: it is to be offered.
+// After cutting the next piece: it is to be offered.
 fn cut(doing: Doing, piece: AggId) -> Doing
     requires { IsGoing doing }
     ensures told { result ≡ told_part doing (Agg piece) }
@@ -189,7 +190,7 @@ fn cut(doing: Doing, piece: AggId) -> Doing
     }
 }
 
-// A piece was dropped: the next one is to be cut, or all is sent, or nothing more is.
+// After dropping a piece: the next one is to be cut, or all is sent, or sending stops.
 fn dropped(doing: Doing) -> Doing
     requires { IsGoing doing }
     ensures told { result ≡ told_part doing Done }
@@ -221,7 +222,7 @@ fn dropped(doing: Doing) -> Doing
     }
 }
 
-// Nobody is there to take what was offered.
+// The peer is gone, and the offered bytes are not taken.
 fn broken_off(doing: Doing) -> Doing
     requires { IsGoing doing }
     ensures told { result ≡ told_part doing (Refused BrokenPipe) }
@@ -239,8 +240,8 @@ fn broken_off(doing: Doing) -> Doing
     }
 }
 
-/// What a part of the response is after the reply to its call, unless it is sent or nobody takes it.
-/// Where the reply says nothing of it, it is as it was.
+/// The phase of a part of the response after the reply to its call, unless it is sent or aborted.
+/// An unrelated reply leaves it unchanged.
 pub(crate) fn told_part(doing: Doing, last: &Reply) -> Doing
     requires { IsGoing doing }
     ensures told { result ≡ told_part doing last.now }
@@ -255,7 +256,7 @@ pub(crate) fn told_part(doing: Doing, last: &Reply) -> Doing
     }
 }
 
-// Whether the connection stays open after the response.
+// Returns whether the connection stays open after the response.
 fn keeps(asked: &Asked) -> bool
     ensures { result ≡ keeps (answer asked.now) }
 {
@@ -269,8 +270,8 @@ fn keeps(asked: &Asked) -> bool
     }
 }
 
-/// What follows where all of an aggregate was taken: the body, the next request where the connection
-/// is kept, or the end.
+/// The phase after all of an aggregate was taken: the body, the next request if the connection
+/// stays open, or the end.
 pub(crate) fn goes_on(keep: bool, taken: u64, more: Following) -> Doing
     requires { taken + size_of more ≤ 2 ^ 40 }
     ensures goes { (q : Answer) → keeps q ≡ keep → result ≡ spec.goes_on q taken more }
@@ -287,7 +288,7 @@ pub(crate) fn goes_on(keep: bool, taken: u64, more: Following) -> Doing
     }
 }
 
-/// After the reply to the dropping of what was taken whole.
+/// After dropping an aggregate that was taken whole.
 pub(crate) fn told_sent(
     asked: &Asked,
     agg: AggId,
@@ -305,7 +306,7 @@ pub(crate) fn told_sent(
     }
 }
 
-/// After the reply to the dropping of what is not sent any more.
+/// After dropping the bytes that are not sent any more.
 pub(crate) fn told_drops(agg: AggId, more: Following, last: &Reply) -> Doing
     ensures told { result ≡ spec.told_drops agg more last.now }
     ensures small { IsSmall result }
@@ -319,7 +320,7 @@ pub(crate) fn told_drops(agg: AggId, more: Following, last: &Reply) -> Doing
     }
 }
 
-/// After the reply to the closing of the connection.
+/// After closing the connection.
 pub(crate) fn told_closes(last: &Reply) -> Doing
     ensures told { result ≡ spec.told_closes last.now }
     ensures small { IsSmall result }

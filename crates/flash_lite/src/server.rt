@@ -1,4 +1,4 @@
-//! The server: all clients, by one call a turn.
+//! The server: all clients, with one call per turn.
 ghost use Rattle.std.specs.Prelude.{◌≡◌, IfOk, OnErr, OnOk, min};
 ghost use Rattle.iol_proc.specs.Prelude.{lent, IsQuiet};
 ghost use Rattle.flash_laws.specs.Prelude.{NoneRuns, in_rounds, new_server, heard_of, IsShared, server_account, server_wants};
@@ -18,10 +18,10 @@ use iol_proc::process::{Process, Turn};
 use std::alloc::{AllocError, Global};
 use std::marker::Model;
 
-/// The connections that the server holds at most.
+/// The maximum number of connections of the server.
 pub const MAX_CONNS: usize = 256;
 
-// What lies in the aggregate that a reply names.
+// The contents of the aggregate in a reply.
 fn lent_by<'a>(last: &Reply, look: &Look<'a>) -> Option<Parts<'a>>
     ensures { heard result ≡ heard_of last.now (lent look.now) }
 {
@@ -31,8 +31,8 @@ fn lent_by<'a>(last: &Reply, look: &Look<'a>) -> Option<Parts<'a>>
     }
 }
 
-/// The server: its clients, which call is out, and how many workers run scripts for them. Where it
-/// has none, a script is a file like any other.
+/// The server: its clients, the pending call, and the number of workers that run its scripts.
+/// Without workers, a script is a file like any other.
 #[derive(Drop)]
 pub struct Server {
     table: Table,
@@ -57,8 +57,9 @@ impl Server {
         Server::with_workers(alloc, 0)
     }
 
-    /// A server without connections that has so many workers, but at most eight: worker k, counted
-    /// from 0, is domain k + 2, and the write end of its job pipe is the server's descriptor k + 1.
+    /// A server without connections that has `workers` workers, at most eight: worker k, counted
+    /// from 0, is domain k + 2, and the write end of its job pipe is the server's descriptor k +
+    /// 1.
     pub fn with_workers(alloc: Global, workers: u32) -> Server
         ensures { result ≡ record new_server { workers = min workers MAX_WORKERS } }
     {
@@ -77,11 +78,11 @@ impl Process for Server {
         ensures quiet { IfOk result IsQuiet }
         ensures err { OnErr result (self.new ≡ self.old) }
 
-        // It wants memory only to keep the bytes that came, for a place, to begin a request, and for
-        // the bytes of a call.
+        // It needs memory only to buffer bytes that it reads, for a new index, to begin a request,
+        // and for the bytes of a call.
         ensures wants { OnErr result (server_wants self.old last.now (lent look.now)) }
 
-        // What is offered is the next bytes of the response to the request.
+        // The offered bytes are the next bytes of the response to the request.
         ensures offers { IfOk result (λ turn. OffersNext self.new turn) }
 
         // It holds at most 256 connections, and one fewer while another is being accepted.
@@ -90,7 +91,7 @@ impl Process for Server {
         // Each script that runs has a worker of its own.
         ensures shared { OnOk result (IsShared self.new) }
 
-        // Where it has no workers no script runs.
+        // Without workers no script runs.
         ensures none { OnOk result (self.old.workers ≡ 0 → NoneRuns self.new.clients) }
     {
         clients_law();

@@ -1,4 +1,4 @@
-//! Setting a site up.
+//! Sets a site up.
 ghost use Rattle.std.specs.Prelude.{◌≡◌, ◌<◌, ◌≤◌, ◌+◌, ◌++◌, true, false, Err, IfErr, IfOk, OnOk, map, nat_eq};
 ghost use Rattle.std.specs.List.{IsDistinct, range_with_len};
 ghost use Rattle.iol_system.specs.Prelude.{machine_of};
@@ -19,14 +19,14 @@ use iol_core::refusals::Refusal;
 use iol_system::system::System;
 use std::alloc::{AllocError, Global};
 
-// Whether a file is the first guest's alone.
+// Returns whether a file is private to the first guest.
 fn is_private(site: &Site) -> bool
     ensures { result ≡ spec.is_private site.now }
 {
     site.files.iter().any(|file| file.private)
 }
 
-// Whether its numbers are within their limits.
+// Returns whether its numbers are within their limits.
 pub(crate) fn is_in_range(site: &Site) -> bool
     ensures { result ≡ spec.is_in_range site.now }
 {
@@ -45,7 +45,7 @@ fn call(by: u32, call: Call) -> Event
     }
 }
 
-// So many domains from the first on.
+// `count` domains from `first` on.
 fn domains(alloc: Global, first: u32, count: u32) -> Result<Domains, AllocError>
     requires { first + count < 1000 }
     ensures { IfOk result (λ domains. domains ≡ range_with_len first count) }
@@ -57,7 +57,7 @@ fn domains(alloc: Global, first: u32, count: u32) -> Result<Domains, AllocError>
     Ok(Domains::from_vec(list))
 }
 
-// A pool for so many domains from the first on.
+// A pool for `count` domains from `first` on.
 fn pool(alloc: Global, chunks: u32, first: u32, count: u32) -> Result<Event, AllocError>
     requires { first + count < 1000 }
     ensures { IfOk result (λ e. e ≡ spec.pool chunks first count) }
@@ -66,7 +66,7 @@ fn pool(alloc: Global, chunks: u32, first: u32, count: u32) -> Result<Event, All
     Ok(call(1, Call::PoolCreate { chunks, domains }))
 }
 
-// Domains are made.
+// Creates domains.
 fn add_domains(events: &mut Vec<Event>, count: u32) -> Result<(), AllocError>
     ensures { OnOk result (events.new.items ≡ events.old.items ++ spec.domains_made count) }
 {
@@ -76,7 +76,7 @@ fn add_domains(events: &mut Vec<Event>, count: u32) -> Result<(), AllocError>
     Ok(())
 }
 
-// Pools are made: `site` and `work` for all, `net` for the server, `vault` for the first guest.
+// Creates pools: `site` and `work` for all, `net` for the server, `vault` for the first guest.
 fn add_pools(alloc: Global, events: &mut Vec<Event>, site: &Site) -> Result<(), AllocError>
     requires { spec.is_in_range site.now ≡ true }
     ensures { OnOk result (events.new.items ≡ events.old.items ++ spec.pools_made site.now) }
@@ -103,7 +103,7 @@ fn add_defaults(events: &mut Vec<Event>, count: u32) -> Result<(), AllocError>
     Ok(())
 }
 
-// A file is named.
+// Names a file.
 fn file_call(alloc: Global, file: &SiteFile, guest: u32) -> Result<Event, AllocError>
     ensures { IfOk result (λ e. e ≡ spec.file_named guest file.now) }
 {
@@ -113,7 +113,7 @@ fn file_call(alloc: Global, file: &SiteFile, guest: u32) -> Result<Event, AllocE
     Ok(call(by, Call::FileNew { name, pool }))
 }
 
-// The files are named.
+// Names the files.
 fn add_files(
     alloc: Global,
     events: &mut Vec<Event>,
@@ -130,7 +130,7 @@ fn add_files(
     Ok(())
 }
 
-// Each worker gets the read end of a pipe.
+// Gives each worker the read end of a pipe.
 fn add_pipes(events: &mut Vec<Event>, workers: u32) -> Result<(), AllocError>
     requires { workers < 1000 }
     ensures { OnOk result (events.new.items ≡ events.old.items ++ spec.pipes_made workers) }
@@ -170,10 +170,10 @@ fn refusal_in(replies: &[Reply]) -> Option<Refusal>
     None
 }
 
-/// Sets a site up in a new system, and gives its processes: the server, and where the site has a
-/// script its workers. Numbers out of their limits are
-/// `BadRange`, before anything is done. Any other refusal is that of the first call that was
-/// refused, or `Memory` before the first call; the system is to be dropped then.
+/// Sets a site up in a new system, and returns its processes: the server and, if the site has a
+/// script, its workers. Numbers outside their limits are `BadRange`, before anything is done. Any
+/// other refusal is that of the first refused call, or `Memory` before the first call; then the
+/// system should be dropped.
 pub fn setup<B: Backing + Drop>(
     alloc: Global,
     system: &mut System<B>,
@@ -187,8 +187,8 @@ pub fn setup<B: Backing + Drop>(
     ensures made { OnOk result (spec.IsMade site.now system.old system.new) }
     ensures honest { system.new.disk.honest ≡ system.old.disk.honest }
 
-    // In a new system the machine is then that of the site, over any store. An honest one keeps
-    // what it has, and a world of these processes is new.
+    // In a new system the machine is then that of the site, over any store. An honest store is
+    // unchanged, and a world of these processes is new.
     ensures leaves { OnOk result
         (LeavesSite site.now (machine_of system.old) (machine_of system.new)) }
     ensures over_honest { OnOk result (SetsUpIfHonest site.now system.old system.new) }
@@ -209,7 +209,7 @@ pub fn setup<B: Backing + Drop>(
     }
 }
 
-// So many workers, each in its domain.
+// Adds `workers` workers, each in its domain.
 fn add_workers(
     alloc: Global,
     actors: &mut Vec<(DomainId, Actor)>,

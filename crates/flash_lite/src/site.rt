@@ -1,15 +1,15 @@
-//! What a server is set up for.
+//! The parameters of a site.
 ghost use Rattle.std.specs.Prelude.{◌≡◌};
 ghost use Rattle.flash_http.specs.MediaType as names;
 ghost use Rattle.flash_lite.specs.Setup as spec;
 
-/// The workers of a site at most.
+/// The maximum number of workers of a site.
 pub const MAX_WORKERS: u32 = 8;
 
-/// The guests of a site at most.
+/// The maximum number of guests of a site.
 pub const MAX_GUESTS: u32 = 7;
 
-/// A file of the site: its name, and whether the first guest alone may read it.
+/// A file of the site: its name, and whether it is private to the first guest.
 #[derive(Drop)]
 pub struct SiteFile {
     pub name: Vec<u8>,
@@ -17,7 +17,7 @@ pub struct SiteFile {
 }
 
 impl SiteFile {
-    /// Whether its name is that of a script: it ends in `.cgi`.
+    /// Returns whether its name is that of a script: it ends in `.cgi`.
     pub fn is_script(&self) -> bool
         ensures { result ≡ names.is_script self.now.name.items }
     {
@@ -25,8 +25,8 @@ impl SiteFile {
     }
 }
 
-/// How many workers (1 to 8) and guests (0 to 7) there are, how many chunks each pool has, and the
-/// files, by the store's slots.
+/// The number of workers (1 to 8) and guests (0 to 7), the chunks of each pool, and the files, by
+/// the store's slots.
 #[derive(Drop)]
 pub struct Site {
     pub workers: u32,
@@ -39,14 +39,14 @@ pub struct Site {
 }
 
 impl Site {
-    /// Whether one of its files is a script.
+    /// Returns whether one of its files is a script.
     pub fn has_script(&self) -> bool
         ensures { result ≡ spec.has_script self.now }
     {
         self.files.iter().any(|file| file.is_script())
     }
 
-    /// How many workers run its scripts: none where it has no script.
+    /// The number of workers that run its scripts: 0 if it has no script.
     pub fn workers_used(&self) -> u32
         ensures { result ≡ spec.workers_used self.now }
     {

@@ -1,4 +1,4 @@
-//! What the server keeps: its clients, which call is out, and which of its workers are free.
+//! The state of the server: its clients, the pending call, and the free workers.
 ghost use Rattle.std.specs.Prelude.{◌≡◌, ◌<◌, ◌≤◌, [], IfOk, OnErr, length, min};
 ghost use Rattle.iol_core.specs.Prelude.{in_place};
 ghost use Rattle.flash_laws.specs.Prelude.{runs_scripts, WantsPlace};
@@ -21,7 +21,7 @@ use iol_proc::process::Turn;
 use std::alloc::{AllocError, Global};
 use std::marker::Model;
 
-/// The clients, each in the place of its descriptor, which call is out, and of each worker whether
+/// The clients, by the index of their descriptors, the pending call, and for each worker whether
 /// it is free.
 #[derive(Drop)]
 pub(crate) struct Table {
@@ -49,7 +49,7 @@ impl Model for Table {
 }
 
 impl Table {
-    /// Without clients, and with so many workers, of which none runs a script.
+    /// No clients, and `workers` workers, all free.
     pub(crate) fn new(alloc: Global, workers: u32) -> Table
         requires { workers ≤ MAX_WORKERS }
         ensures { result ≡ new_table workers }
@@ -62,21 +62,21 @@ impl Table {
         }
     }
 
-    // Whether scripts are run at all.
+    // Returns whether scripts are run.
     fn scripts(&self) -> bool
         ensures { result ≡ runs_scripts self.now.workers }
     {
         0 < self.workers
     }
 
-    // Whether a worker is free, by a list that tells it.
+    // Returns whether a worker is free.
     fn has_free(&self, free: &[bool; 8]) -> bool
         ensures { result ≡ has_in self.now.workers free.now }
     {
         first_free(free, self.workers) < self.workers
     }
 
-    // A worker that is free, if one is.
+    // A free worker, if any.
     fn worker(&self) -> u32
         ensures worker { result ≡ min (first_in self.now.workers self.now.free) 7 }
         ensures within { result < MAX_WORKERS }
@@ -84,7 +84,7 @@ impl Table {
         first_free(&self.free, self.workers).min(MAX_WORKERS - 1)
     }
 
-    // The first client from a place on is picked.
+    // Picks the first client from an index on.
     fn pick_from(&mut self, from: usize) -> Result<Turn, AllocError>
         ensures { PicksNext from self.old result self.new }
     {
@@ -95,7 +95,8 @@ impl Table {
         Ok(turn)
     }
 
-    // After the reply to `accept`: the next one is accepted, or where none waits the round is over.
+    // After the reply to `accept`: accepts the next connection, or ends the round if none is
+    // waiting.
     #[tactic(auto, using(crate::proofs::Turns::TurnParts::accepted_turns, crate::proofs::Turns::TurnParts::over_turns))]
     fn go_on_accepting(&mut self, last: &Reply) -> Result<Turn, AllocError>
         requires accepts { self.old.flight ≡ Accepting }
@@ -121,8 +122,9 @@ impl Table {
         }
     }
 
-    // What is in a place is left to others, and the next call is another's. A client whose
-    // connection is over makes room for one more. `free` tells which workers are free then.
+    // The turn of the client at an index passes to others, and the next call is that of another. A
+    // client whose connection is over makes room for one more. `free` has the workers that are
+    // free then.
     fn leave(&mut self, fd: u32, left: Left, free: [bool; 8]) -> Result<Turn, AllocError>
         requires within { fd < length self.old.clients }
         requires rests { MayRest (in_place self.old.clients fd) left }
@@ -137,7 +139,7 @@ impl Table {
         Ok(turn)
     }
 
-    // What follows the reply to the call of the client in a place.
+    // The next call after the reply to the call of the client at an index.
     #[tactic(auto, using(crate::proofs::Turns::TurnParts::place_rules, crate::proofs::Turns::Wants::place_rules))]
     fn go_on_at(
         &mut self,
@@ -169,7 +171,7 @@ impl Table {
         }
     }
 
-    /// What follows the reply to the call that is out, and the next call.
+    /// The next call after the reply to the pending call.
     #[tactic(auto, using(crate::proofs::Turns::TurnParts::silent_rules, crate::proofs::Turns::Wants::nothing_wants))]
     pub(crate) fn go_on(
         &mut self,

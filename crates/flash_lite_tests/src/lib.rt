@@ -1,7 +1,7 @@
-//! Rows of the file server, run: requests and whole replies, over a site in memory.
+//! Rows of the file server, run: requests and whole responses, over a site in memory.
 //!
-//! Inputs are made before the world is there, which stands behind a type that says nothing of it:
-//! so the tests are quick to prove.
+//! Inputs are made before the world, and the world is a type without contracts, so that the tests
+//! are quick to prove.
 #![tactic(auto)]
 
 #[cfg(test)]

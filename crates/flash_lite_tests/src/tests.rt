@@ -1,4 +1,4 @@
-//! Requests to a site in memory, and what is answered.
+//! Requests to a site in memory, and the responses.
 mod answers;
 mod crowds;
 mod ends;

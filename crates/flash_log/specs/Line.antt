@@ -8,8 +8,8 @@ use Rattle.flash_log.specs.declared.lines.Entry.{Entry}
 abbrev pub hex_digit : ℕ → ℕ
 hex_digit n = if nat_lt n 10 then 48 + n else 87 + n
 
--- A byte as a log shows it: a quotation mark and a backslash behind a backslash, printable ASCII as it is, any other as `\x` and
--- two digits.
+-- A byte in a log: a backslash precedes a quotation mark and a backslash, other printable ASCII is unchanged, and any other
+-- byte is `\x` and two digits.
 abbrev pub escaped_byte : ℕ → List ℕ
 escaped_byte b =
     if (b == 34) || (b == 92) then 92 ∷ b ∷ []
@@ -19,11 +19,11 @@ escaped_byte b =
 abbrev pub escaped : List ℕ → List ℕ
 escaped bytes = flat_map escaped_byte bytes
 
--- a number of bytes; none is `-`
+-- a number of bytes, or `-` for 0
 abbrev pub count_of : ℕ → List ℕ
 count_of n = if n == 0 then codes "-" else decimal n
 
--- up to the request, and from there on
+-- the line up to the request, and from there on
 abbrev pub first_of : Entry → List ℕ
 first_of e = escaped e.host.now ++ codes " - - [" ++ escaped e.date.now ++ codes "] \"" ++ escaped e.request_line.now
 

@@ -1,7 +1,8 @@
-//! What an access log tells of a request and a response, and where a response's body begins.
+//! The parts of requests and responses that an access log needs.
 ghost use Rattle.std.specs.Prelude.{◌≤◌, IfSome, length};
 
-/// The first line of a request that has bytes, without its end. Empty lines before it are passed over.
+/// The first line of a request that is not empty, without its end. Empty lines before it are
+/// ignored.
 pub fn request_line(request: &[u8]) -> &[u8] {
     for line in request.split(|byte| *byte == b'\n') {
         let line = line.strip_suffix(b"\r".as_slice()).unwrap_or(line);
@@ -12,7 +13,7 @@ pub fn request_line(request: &[u8]) -> &[u8] {
     &[]
 }
 
-/// The three digits of a response's status, or `-` where the response has no line of a status.
+/// The three digits of a response's status, or `-` if the response has no status line.
 pub fn status_of(head: &[u8]) -> &[u8] {
     match head.get(9..12) {
         Some(status) => status,
@@ -20,7 +21,8 @@ pub fn status_of(head: &[u8]) -> &[u8] {
     }
 }
 
-/// The length of a head, with the empty line at its end, if these bytes begin with a whole one.
+/// The length of a head, including the empty line at its end, if these bytes begin with a whole
+/// one.
 pub fn head_length(bytes: &[u8]) -> Option<usize>
     ensures { IfSome result (λ n. n ≤ length bytes.now) }
 {
@@ -32,7 +34,7 @@ pub fn head_length(bytes: &[u8]) -> Option<usize>
     None
 }
 
-/// Whether one of a head's lines is this one.
+/// Returns whether a head contains this line.
 pub fn has_line(head: &[u8], wanted: &[u8]) -> bool {
     head.split(|byte| *byte == b'\n')
         .any(|line| line.strip_suffix(b"\r".as_slice()) == Some(wanted))
@@ -48,7 +50,7 @@ pub fn content_length(head: &[u8]) -> Option<u64> {
     None
 }
 
-// The number that decimal digits stand for.
+// The number that decimal digits represent.
 fn number_of(digits: &[u8]) -> Option<u64> {
     let mut number = 0u64;
     for digit in digits {

@@ -1,4 +1,5 @@
-//! The access log of a web server, in the Common Log Format, and what it needs to read of requests and responses.
+//! The access log of a web server, in the Common Log Format, with the parsing of requests and
+//! responses that it needs.
 //!
 //!     let mut log = AccessLog::new(alloc, writer);
 //!     log.add(&Entry { host, date, request_line, status, body })?;

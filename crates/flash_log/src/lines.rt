@@ -5,13 +5,13 @@ ghost use Rattle.flash_log.specs.Line.{IsOneLine};
 
 use std::alloc::{AllocError, Global};
 
-/// What is logged of a request and its response.
+/// The logged data of a request and its response.
 #[derive(Clone, Copy, Debug)]
 pub struct Entry<'a> {
     /// The client's address.
     pub host: &'a [u8],
 
-    /// When the response ended.
+    /// The time at which the response ended.
     pub date: &'a [u8],
 
     /// The first line of the request, without its end.
@@ -24,8 +24,8 @@ pub struct Entry<'a> {
     pub body: u64,
 }
 
-/// The line of an entry: `HOST - - [DATE] "REQUEST" STATUS BYTES`. Whatever a client sent, it is one line of printable ASCII, in
-/// which a quotation mark of the request is behind a backslash.
+/// The line of an entry: `HOST - - [DATE] "REQUEST" STATUS BYTES`. For every request it is one
+/// line of printable ASCII, in which a backslash precedes each quotation mark of the request.
 pub fn line_of(alloc: Global, entry: &Entry<'_>) -> Result<Vec<u8>, AllocError>
     ensures text { IfOk result (λ line. line.items ≡ spec.line_of entry.now) }
     ensures one { IfOk result (λ line. IsOneLine line.items) }
@@ -58,7 +58,7 @@ fn push_last(line: &mut Vec<u8>, entry: &Entry<'_>, count: &[u8]) -> Result<(), 
     push_escaped(line, count)
 }
 
-// A number of bytes in decimal digits; none is `-`.
+// A number of bytes in decimal digits, or `-` for 0.
 fn count_of(alloc: Global, bytes: u64) -> Result<String, AllocError>
     ensures { IfOk result (λ text. string_bytes text ≡ spec.count_of bytes) }
 {
@@ -68,7 +68,7 @@ fn count_of(alloc: Global, bytes: u64) -> Result<String, AllocError>
     format!(in alloc; "{bytes}")
 }
 
-// Adds bytes, each as `escaped_byte` has it.
+// Adds bytes, each escaped as by `escaped_byte`.
 fn push_escaped(line: &mut Vec<u8>, bytes: &[u8]) -> Result<(), AllocError>
     ensures { OnOk result (line.new.items ≡ line.old.items ++ spec.escaped bytes.now) }
 {
@@ -78,8 +78,8 @@ fn push_escaped(line: &mut Vec<u8>, bytes: &[u8]) -> Result<(), AllocError>
     Ok(())
 }
 
-// A quotation mark and a backslash stand behind a backslash, and a byte that is not printable ASCII is `\x` and two hexadecimal
-// digits.
+// Escapes a quotation mark and a backslash by a backslash. A byte that is not printable ASCII
+// becomes `\x` and two hexadecimal digits.
 fn push_byte(line: &mut Vec<u8>, byte: u8) -> Result<(), AllocError>
     ensures { OnOk result (line.new.items ≡ line.old.items ++ spec.escaped_byte byte) }
 {

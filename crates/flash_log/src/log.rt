@@ -1,4 +1,4 @@
-//! An access log that is written some time later.
+//! An access log that buffers its lines.
 ghost use Rattle.std.specs.Prelude.{◌≡◌, ◌++◌, [], OnOk, OnErr};
 ghost use Rattle.flash_log.specs.Line as spec;
 
@@ -7,10 +7,10 @@ use std::alloc::{AllocError, Global};
 use std::io::Write;
 use std::marker::Model;
 
-/// The bytes of lines after which a log is full.
+/// A log with this many bytes is full.
 const FULL_BYTES: usize = 32_768;
 
-/// Lines for a writer. Those that cannot be written are dropped.
+/// Lines for a writer. Lines that cannot be written are dropped.
 #[derive(Drop)]
 pub struct AccessLog<W> {
     writer: W,
@@ -38,7 +38,7 @@ impl<W: Write> AccessLog<W> {
         }
     }
 
-    /// Adds the line of an entry, to be written later. Refused, it adds nothing.
+    /// Adds the line of an entry, to be written later. If memory runs out, adds nothing.
     pub fn add(&mut self, entry: &Entry<'_>) -> Result<(), AllocError>
         ensures added { OnOk result (self.new ≡ self.old ++ spec.line_of entry.now) }
         ensures refused { OnErr result (self.new ≡ self.old) }
@@ -47,7 +47,7 @@ impl<W: Write> AccessLog<W> {
         self.lines.extend_from_slice(&line)
     }
 
-    /// Whether so much was added that it is to be written now.
+    /// Returns whether the log has enough bytes to be written now.
     pub fn is_full(&self) -> bool {
         self.lines.len() >= FULL_BYTES
     }

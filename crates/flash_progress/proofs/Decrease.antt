@@ -1,6 +1,7 @@
--- When turns of one process end: each turn that does something decreases a measure, and between two of these the process polls a bounded
--- number of times.
+-- The end of turns of one process: each turn with an effect decreases a measure, and between two of these the process polls a
+-- bounded number of times.
 use Rattle.std.specs.Prelude.{◌≡◌, ◌≤◌, ◌<◌, ℕ, true, false, Bool, length}
+use Rattle.std.specs.List.{AllByRecursion}
 use Rattle.iol_core.specs.State.{State}
 use Rattle.iol_core.specs.declared.events.Reply.{Reply}
 use Rattle.iol_core.specs.declared.events.Reply.TheVariants as reply
@@ -9,28 +10,27 @@ use Rattle.iol_proc.specs.Idle.{Idles}
 use Rattle.iol_proc.specs.Turns.{Account, is_would_block}
 use Rattle.iol_proc.specs.World.{Stage, copying, PlaceTurn}
 use Rattle.flash_progress.specs.Bound.{turns_in_rounds}
-use Rattle.flash_progress.specs.Served.{lacks_resource, NoneLacksResource}
 
 -- `left` is the measure of a world with one process, and `polls` the number of calls that the process still makes before it yields, as
--- long as each returns WouldBlock. `Holds` is the invariant of the world.
-pub record Decreases {P : Type 0} (turns : Account P) (Holds : Stage State P → Type 0) (left polls : Stage State P → ℕ) (round : ℕ) : Type 0 where
+-- long as each returns WouldBlock. `Holds` is the invariant of the world, and `Allows` says which replies its turns may have.
+pub record Decreases {P : Type 0} (turns : Account P) (Holds : Stage State P → Type 0) (Allows : Reply → Type 0) (left polls : Stage State P → ℕ) (round : ℕ) : Type 0 where
   pub one : (w : Stage State P) → Holds w → length w.seats ≡ 1
-  -- a turn that lacks no resource keeps the invariant
+  -- a turn with an allowed reply keeps the invariant
   pub keeps : (w after : Stage State P) (yields : Bool) (r : Reply) → Holds w → PlaceTurn copying turns w 0 yields r after
-      → lacks_resource r ≡ false → Holds after
-  -- a call that returns anything but WouldBlock decreases the measure
-  pub falls : (w after : Stage State P) (r : Reply) → Holds w → PlaceTurn copying turns w 0 false r after → lacks_resource r ≡ false
+      → Allows r → Holds after
+  -- a call that returns another allowed reply than WouldBlock decreases the measure
+  pub falls : (w after : Stage State P) (r : Reply) → Holds w → PlaceTurn copying turns w 0 false r after → Allows r
       → is_would_block r ≡ false → left after < left w
   -- a call that returns WouldBlock does not increase it, and leaves fewer calls before the yield
   pub waits : (w after : Stage State P) → Holds w → PlaceTurn copying turns w 0 false (reply.Refused WouldBlock) after
       → (left after ≤ left w) × (polls after < polls w)
   -- a yield does not increase it
   pub yields : (w after : Stage State P) (r : Reply) → Holds w → PlaceTurn copying turns w 0 true r after
-      → lacks_resource r ≡ false → left after ≤ left w
+      → Allows r → left after ≤ left w
   -- in a round at most `round` calls are made
   pub most : (w : Stage State P) → Holds w → polls w ≤ round
 
--- Turns in rounds, none of which lacks a resource, end where all is idle, if their number suffices.
-abbrev pub IdleComes : {P : Type 0} → Account P → (Stage State P → Type 0) → (left : Stage State P → ℕ) → (round : ℕ) → Type 0
-IdleComes {P} turns Holds left round = (w after : Stage State P) (most : ℕ) (idle : Bool) → Holds w
-    → (ends : Idles copying turns w most idle after) → NoneLacksResource ends.went → turns_in_rounds (left w) round ≤ most → idle ≡ true
+-- Turns in rounds, each with an allowed reply, end where all is idle, if their number suffices.
+abbrev pub IdleComes : {P : Type 0} → Account P → (Stage State P → Type 0) → (Reply → Type 0) → (left : Stage State P → ℕ) → (round : ℕ) → Type 0
+IdleComes {P} turns Holds Allows left round = (w after : Stage State P) (most : ℕ) (idle : Bool) → Holds w
+    → (ends : Idles copying turns w most idle after) → AllByRecursion (λ t. Allows t.1) ends.went → turns_in_rounds (left w) round ≤ most → idle ≡ true

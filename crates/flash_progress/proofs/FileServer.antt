@@ -1,6 +1,7 @@
--- A world of files becomes idle: turns in rounds, none of which lacks a resource, end where all is idle, if their number suffices.
+-- A world of files becomes idle: turns in rounds without lack of a resource end with all idle, if their number suffices.
 use Rattle.std.proofs.Common.{inl, inr, ◌≡◌, ℕ, ◌+◌, ◌-◌, ◌<◌, ◌≤◌, List, [], ◌∷◌, ◌++◌, length, ap, ◌∙◌, refl, sym, subst, arith, Option, Some, None, true, false, Bool, slice_get, slice_set, if◌then◌else◌}
 use Rattle.std.specs.Prelude.{nat_lt}
+use Rattle.std.specs.List.{AllByRecursion}
 use Rattle.iol_core.specs.NumberedLists.{in_place, taken}
 use Rattle.iol_core.specs.State.{State}
 use Rattle.iol_core.specs.declared.limits.TheConstants.{MAX_OPEN}
@@ -10,7 +11,6 @@ use Rattle.iol_core.specs.declared.events.Call.{Call}
 use Rattle.iol_core.specs.declared.events.Event.TheVariants as event
 use Rattle.iol_core.specs.declared.events.Reply.{Reply}
 use Rattle.iol_core.specs.declared.events.Reply.TheVariants as reply
-use Rattle.iol_laws.specs.Caller.{is_rough}
 use Rattle.iol_proc.specs.Idle.{Went, RoundRun}
 use Rattle.iol_proc.specs.LentBytes.{lent_to}
 use Rattle.iol_proc.specs.Turns.{Comes, SeatTurn, is_would_block}
@@ -35,7 +35,7 @@ use Rattle.flash_laws.specs.declared.phase.Flight.{Flight}
 use Rattle.flash_laws.specs.declared.phase.Flight.TheVariants.{Nothing, Accepting, At}
 use Rattle.flash_laws.proofs.Conn.Responses.{some-inj}
 use Rattle.flash_progress.specs.Bound.{sum_to, turns_at, turns_of_waiting}
-use Rattle.flash_progress.specs.Served.{lacks_resource, NoneLacksResource, CanPlace, CanRead, clients_by, clients_in}
+use Rattle.flash_progress.specs.Served.{lacks_resource, CanPlace, CanRead, clients_by, clients_in}
 use Rattle.flash_progress.proofs.TurnsLeft.{AreShort, all_left}
 use Rattle.flash_progress.proofs.Decrease.{Decreases, IdleComes}
 use Rattle.flash_progress.proofs.BoundProof.{left-within}
@@ -45,6 +45,7 @@ use Rattle.flash_progress.proofs.Invariant.{MoreLaws, AreFew, known-of, read-ste
 use Rattle.flash_laws.proofs.World.Calls.{opens-on}
 use Rattle.flash_laws.proofs.Site.Rounds.{from-there}
 use Rattle.flash_laws.proofs.World.AllLaws.{AllLaws}
+use Rattle.flash_laws.proofs.World.Fair.{among-server}
 use Rattle.flash_laws.proofs.World.FixedState.{fixed-on}
 use Rattle.flash_laws.proofs.World.ServerTurn.{heard-is, server_turn}
 use Rattle.flash_laws.proofs.World.Steps.{step_keeps}
@@ -58,10 +59,13 @@ not-later (reply.Refused (no.NoRoom p)) smooth on opened = absurd (cc (smooth))
 not-later (reply.Refused no.Memory) smooth on opened = absurd (cc (smooth))
 not-later r smooth on opened = refl
 
--- where any of the four refusals is allowed, each reply is allowed
-pub any-among : (shelf : Shelf) → ((x : Refusal) → is_rough (reply.Refused x) ≡ true → shelf.refuses x ≡ true) → (r : Reply) → IsAmong shelf.refuses r
-any-among shelf any (reply.Refused x) = any x
-any-among shelf any r = tt
+-- a call that would block is allowed
+blocks-among : (refuses : Refusal → Bool) → IsAmong refuses (reply.Refused no.WouldBlock)
+blocks-among refuses rough = absurd (cc (rough))
+
+-- the replies that the turns may have: none lacks a resource, and each is as the shelf says
+abbrev pub Allowed : Shelf → Reply → Type 0
+Allowed shelf r = (lacks_resource r ≡ false) × IsAmong shelf.refuses.of_server r
 
 -- the number of polls that are left in this round, by which is next
 abbrev asks : (places : ℕ) → Flight → ℕ
@@ -82,7 +86,6 @@ asks-on places from free clients workers low = by (next_place workers clients fr
     by None later = door (nat_lt (taken clients) most_conns)
 
 module _ (shelf : Shelf) (crew : Crew) (laws : AllLaws crew) (more : MoreLaws) (files : shelf.scripts ≡ false) (none : crew.count ≡ 0)
-    (any : (x : Refusal) → is_rough (reply.Refused x) ≡ true → shelf.refuses x ≡ true)
     (longest : ℕ) (short : AreShort shelf longest) (conns : ℕ) where
   -- the invariant
   pub record Quiet (w : Stage State (Actor crew.Worker)) : Type 0 where
@@ -190,12 +193,12 @@ module _ (shelf : Shelf) (crew : Crew) (laws : AllLaws crew) (more : MoreLaws) (
     after-left after yields r d = ap (λ (l : List (Seat (Actor crew.Worker))). first_of turns_left_by after.machine l) d.now
 
     -- a call that is answered
-    falls : (after : Stage State (Actor crew.Worker)) (r : Reply) → PlaceTurn copying (actor_turns in_rounds crew.turns) w 0 false r after → lacks_resource r ≡ false → is_would_block r ≡ false
+    falls : (after : Stage State (Actor crew.Worker)) (r : Reply) → PlaceTurn copying (actor_turns in_rounds crew.turns) w 0 false r after → Allowed shelf r → is_would_block r ≡ false
         → left after < left w
-    falls after r place smooth on = called d.made refl d.comes
+    falls after r place allowed on = called d.made refl d.comes
       where
         d : Turned after false r
-        d = turned after false r place smooth
+        d = turned after false r place allowed.0
 
         called : (made : Turn) → d.made ≡ made → Comes copying (actor_turns in_rounds crew.turns) w.machine server made false r after.machine → left after < left w
         called turn.Yield is comes = absurd (let bad = comes.0 in cc (bad))
@@ -203,14 +206,14 @@ module _ (shelf : Shelf) (crew : Crew) (laws : AllLaws crew) (more : MoreLaws) (
             let did : Made w.machine (turn.Make k) r after.machine = comes.1 in
             let picks : Picks q.tied.seated.state.workers clients d.state.flight (turn.Make k) d.state.clients = subst (λ (z : Turn). Picks q.tied.seated.state.workers clients d.state.flight z d.state.clients) is d.goes.1 in
             let went = server_turn shelf crew laws w.machine after.machine (past_of q.xs q.rs) q.tied.seated.state d.state q.tied.seated.last r (turn.Make k) q.tied.seated.workers q.tied.order q.tied.fixed
-            q.tied.seated.serves picks d.goes.2 (any-among shelf any r) did in
+            q.tied.seated.serves picks d.goes.2 allowed.1 did in
             let lives = (fixed-on shelf crew laws w.machine after.machine went.0 q.tied.fixed).site.lives in
             let same = heard-is shelf crew laws after.machine r went.1.heard lives went.1.names d.state.workers d.state.clients d.state.flight in
             let picked : Picks crew.count clients d.state.flight (turn.Make k) d.state.clients = subst (λ j. Picks j clients d.state.flight (turn.Make k) d.state.clients) workers-is picks in
             let opened = server-open shelf crew laws files longest short MAX_OPEN conns w.machine after.machine (past_of q.xs q.rs) clients d.state.clients d.state.flight r k q.tied.seated.workers q.tied.order q.tied.fixed fit
-            known (any-among shelf any r) did picked went.1.heard went.1.names in
+            known allowed.1 did picked went.1.heard went.1.names in
             let fell = server-falls shelf crew laws files longest short MAX_OPEN conns w.machine after.machine (past_of q.xs q.rs) clients d.state.clients d.state.flight r k q.tied.seated.workers q.tied.order q.tied.fixed fit
-            known (any-among shelf any r) did (not-later r smooth on opened) picked went.1.heard went.1.names in
+            known allowed.1 did (not-later r allowed.0 on opened) picked went.1.heard went.1.names in
             let here = after-left after false r d in
             let one = ap (λ (l : List (Option Client)). all_left longest MAX_OPEN conns after.machine l) same in
             let two = ap (λ j. all_left longest MAX_OPEN conns after.machine (filed j d.state.clients d.state.flight r went.1.heard)) (d.goes.2 ∙ workers-is) in
@@ -218,11 +221,11 @@ module _ (shelf : Shelf) (crew : Crew) (laws : AllLaws crew) (more : MoreLaws) (
             omega (arith, fell, here, one, two, was)
 
     -- a yield
-    yields : (after : Stage State (Actor crew.Worker)) (r : Reply) → PlaceTurn copying (actor_turns in_rounds crew.turns) w 0 true r after → lacks_resource r ≡ false → left after ≤ left w
-    yields after r place smooth = yielded d.made refl d.comes
+    yields : (after : Stage State (Actor crew.Worker)) (r : Reply) → PlaceTurn copying (actor_turns in_rounds crew.turns) w 0 true r after → Allowed shelf r → left after ≤ left w
+    yields after r place allowed = yielded d.made refl d.comes
       where
         d : Turned after true r
-        d = turned after true r place smooth
+        d = turned after true r place allowed.0
 
         nothing : (f : Flight) → d.state.flight ≡ f → Picks q.tied.seated.state.workers clients f turn.Yield d.state.clients → (d.state.flight ≡ Nothing) × (d.state.clients ≡ clients)
         nothing Nothing is picks = (is, picks.0)
@@ -275,11 +278,11 @@ module _ (shelf : Shelf) (crew : Crew) (laws : AllLaws crew) (more : MoreLaws) (
             let did : Made w.machine (turn.Make k) (reply.Refused no.WouldBlock) after.machine = comes.1 in
             let picks : Picks q.tied.seated.state.workers clients d.state.flight (turn.Make k) d.state.clients = subst (λ (z : Turn). Picks q.tied.seated.state.workers clients d.state.flight z d.state.clients) is d.goes.1 in
             let went = server_turn shelf crew laws w.machine after.machine (past_of q.xs q.rs) q.tied.seated.state d.state q.tied.seated.last (reply.Refused no.WouldBlock) (turn.Make k) q.tied.seated.workers q.tied.order q.tied.fixed
-            q.tied.seated.serves picks d.goes.2 (any-among shelf any (reply.Refused no.WouldBlock)) did in
+            q.tied.seated.serves picks d.goes.2 (blocks-among shelf.refuses.of_server) did in
             let lives = (fixed-on shelf crew laws w.machine after.machine went.0 q.tied.fixed).site.lives in
             let same = heard-is shelf crew laws after.machine (reply.Refused no.WouldBlock) went.1.heard lives went.1.names d.state.workers d.state.clients d.state.flight in
             let kept_left = server-waits shelf crew laws files longest short MAX_OPEN conns w.machine after.machine (past_of q.xs q.rs) clients d.state.clients d.state.flight (reply.Refused no.WouldBlock) k q.tied.seated.workers q.tied.order q.tied.fixed fit
-            known (any-among shelf any (reply.Refused no.WouldBlock)) did refl did.1 (subst (λ j. Picks j clients d.state.flight (turn.Make k) d.state.clients) workers-is picks) went.1.heard went.1.names in
+            known (blocks-among shelf.refuses.of_server) did refl did.1 (subst (λ j. Picks j clients d.state.flight (turn.Make k) d.state.clients) workers-is picks) went.1.heard went.1.names in
             let here = after-left after false (reply.Refused no.WouldBlock) d in
             let one = ap (λ (l : List (Option Client)). all_left longest MAX_OPEN conns after.machine l) same in
             let two = ap (λ j. all_left longest MAX_OPEN conns after.machine (filed j d.state.clients d.state.flight (reply.Refused no.WouldBlock) went.1.heard)) (d.goes.2 ∙ workers-is) in
@@ -298,9 +301,9 @@ module _ (shelf : Shelf) (crew : Crew) (laws : AllLaws crew) (more : MoreLaws) (
         few-asked Accepting = omega arith
         few-asked (At fd) = omega arith
 
-    -- a turn that lacks no resource keeps the invariant
-    next-known : (after : Stage State (Actor crew.Worker)) (yields : Bool) (r : Reply) → Turned after yields r → CanRead after.machine × CanPlace after.machine × AreFew conns after.machine
-    next-known after yields r d = of d.made refl d.comes
+    -- a turn with an allowed reply keeps the invariant
+    next-known : (after : Stage State (Actor crew.Worker)) (yields : Bool) (r : Reply) → IsAmong shelf.refuses.of_server r → Turned after yields r → CanRead after.machine × CanPlace after.machine × AreFew conns after.machine
+    next-known after yields r among d = of d.made refl d.comes
       where
         of : (made : Turn) → d.made ≡ made → Comes copying (actor_turns in_rounds crew.turns) w.machine server made yields r after.machine
             → CanRead after.machine × CanPlace after.machine × AreFew conns after.machine
@@ -310,46 +313,46 @@ module _ (shelf : Shelf) (crew : Crew) (laws : AllLaws crew) (more : MoreLaws) (
             let picks : Picks q.tied.seated.state.workers clients d.state.flight (turn.Make k) d.state.clients = subst (λ (z : Turn). Picks q.tied.seated.state.workers clients d.state.flight z d.state.clients) is d.goes.1 in
             let picked : Picks crew.count clients d.state.flight (turn.Make k) d.state.clients = subst (λ j. Picks j clients d.state.flight (turn.Make k) d.state.clients) workers-is picks in
             let went = server_turn shelf crew laws w.machine after.machine (past_of q.xs q.rs) q.tied.seated.state d.state q.tied.seated.last r (turn.Make k) q.tied.seated.workers q.tied.order q.tied.fixed
-            q.tied.seated.serves picks d.goes.2 (any-among shelf any r) did in
+            q.tied.seated.serves picks d.goes.2 among did in
             let kind = server-kind shelf crew laws files longest short MAX_OPEN conns w.machine after.machine (past_of q.xs q.rs) clients d.state.clients d.state.flight r k q.tied.seated.workers q.tied.order q.tied.fixed fit
-            known (any-among shelf any r) did picked went.1.heard went.1.names in (
+            known among did picked went.1.heard went.1.names in (
               read-step more.homes laws.the.steps laws.the.orders w.machine after.machine (event.Call server k) r q.tied.order q.reads did,
               places-on shelf crew laws w.machine after.machine k r q.tied.order q.tied.fixed did q.places kind.0 kind.1,
               few-calls shelf crew laws w.machine after.machine k r q.tied.order q.tied.fixed did conns q.few,
             )
 
-    quiet-on : (after : Stage State (Actor crew.Worker)) (yields : Bool) (r : Reply) → PlaceTurn copying (actor_turns in_rounds crew.turns) w 0 yields r after → lacks_resource r ≡ false → Quiet after
-    quiet-on after yields r place smooth = record {
+    quiet-on : (after : Stage State (Actor crew.Worker)) (yields : Bool) (r : Reply) → PlaceTurn copying (actor_turns in_rounds crew.turns) w 0 yields r after → Allowed shelf r → Quiet after
+    quiet-on after yields r place allowed = record {
       xs = q.xs ++ choice.Turn place.seat.by ∷ [];
       rs = q.rs ++ r ∷ [];
       tied = step_keeps in_rounds shelf crew laws q.xs q.rs (choice.Turn place.seat.by) r w after (inr (record { place = 0; yields = yields; turn = place; domain = refl })) tt
-          (any-among shelf any r, (λ apart. absurd (apart by-server)), tt) q.tied;
-      reads = (next-known after yields r (turned after yields r place smooth)).0;
-      places = (next-known after yields r (turned after yields r place smooth)).1;
-      few = (next-known after yields r (turned after yields r place smooth)).2;
+          (among-server shelf.refuses place.seat.by r by-server allowed.1, tt) q.tied;
+      reads = (next-known after yields r allowed.1 (turned after yields r place allowed.0)).0;
+      places = (next-known after yields r allowed.1 (turned after yields r place allowed.0)).1;
+      few = (next-known after yields r allowed.1 (turned after yields r place allowed.0)).2;
     }
       where
         by-server : place.seat.by ≡ server
         by-server = ap (λ (z : Seat (Actor crew.Worker)). z.by) (sym (some-inj first place.seat (sym (ap (λ (l : List (Seat (Actor crew.Worker))). slice_get l 0) alone) ∙ place.sits)))
 
-  decreases : Decreases (actor_turns in_rounds crew.turns) Quiet left polls (MAX_OPEN + 2)
+  decreases : Decreases (actor_turns in_rounds crew.turns) Quiet (Allowed shelf) left polls (MAX_OPEN + 2)
   decreases = record {
     one = λ w q. ap (λ (l : List (Seat (Actor crew.Worker))). length l) (alone w q);
-    keeps = λ w after yields r q place smooth. quiet-on w q after yields r place smooth;
-    falls = λ w after r q place smooth on. falls w q after r place smooth on;
+    keeps = λ w after yields r q place allowed. quiet-on w q after yields r place allowed;
+    falls = λ w after r q place allowed on. falls w q after r place allowed on;
     waits = λ w after q place. waits w q after place;
-    yields = λ w after r q place smooth. yields w q after r place smooth;
+    yields = λ w after r q place allowed. yields w q after r place allowed;
     most = λ w q. most w q;
   }
 
-  -- Turns in rounds, none of which lacks a resource, end where all is idle, if their number suffices for the measure.
-  pub file_server_becomes_idle : IdleComes (actor_turns in_rounds crew.turns) Quiet left (MAX_OPEN + 2)
-  file_server_becomes_idle = idle_comes (actor_turns in_rounds crew.turns) Quiet left polls (MAX_OPEN + 2) decreases
+  -- Turns in rounds with allowed replies end where all is idle, if their number suffices for the measure.
+  pub file_server_becomes_idle : IdleComes (actor_turns in_rounds crew.turns) Quiet (Allowed shelf) left (MAX_OPEN + 2)
+  file_server_becomes_idle = idle_comes (actor_turns in_rounds crew.turns) Quiet (Allowed shelf) left polls (MAX_OPEN + 2) decreases
 
   -- The invariant holds there.
   pub quiet_after : (w after : Stage State (Actor crew.Worker)) (i : ℕ) (ts : List Went) → Quiet w → RoundRun copying (actor_turns in_rounds crew.turns) w i ts after
-      → NoneLacksResource ts → Quiet after
-  quiet_after = holds-after (actor_turns in_rounds crew.turns) Quiet left polls (MAX_OPEN + 2) decreases
+      → AllByRecursion (λ t. Allowed shelf t.1) ts → Quiet after
+  quiet_after = holds-after (actor_turns in_rounds crew.turns) Quiet (Allowed shelf) left polls (MAX_OPEN + 2) decreases
 
   -- The measure is at most what the bound counts.
   pub left-most-of : (w : Stage State (Actor crew.Worker)) → Quiet w

@@ -1,5 +1,5 @@
 -- Heads are short: each names a file that the server reads at once, or an error status of this server.
-use Rattle.std.proofs.Common.{◌≡◌, ℕ, ◌+◌, ◌-◌, ◌^◌, ◌<◌, ◌≤◌, ◌==◌, ◌||◌, List, [], ◌∷◌, ◌++◌, length, ap, refl, subst, arith, Option, Some, true, false, Bool, length-append, if◌then◌else◌}
+use Rattle.std.proofs.Common.{◌≡◌, ℕ, ◌+◌, ◌^◌, ◌<◌, ◌≤◌, ◌==◌, ◌||◌, List, [], ◌∷◌, ◌++◌, length, ap, refl, subst, arith, Option, Some, true, false, Bool, length-append, if◌then◌else◌}
 use Rattle.std.specs.Prelude.{codes, decimal, unwrap_or, not}
 use Rattle.std.specs.List.{list_any}
 use Rattle.std.proofs.lemmas.Bool.Decides.{nat_tests}

@@ -5,7 +5,7 @@ use Rattle.std.specs.Option.{option_map_or}
 use Rattle.std.proofs.lemmas.Bool.{cases_eq}
 use Rattle.iol_core.specs.Text.{Text}
 use Rattle.iol_core.specs.NumberedLists.{in_place, lowest, placed}
-use Rattle.iol_core.specs.State.{State, Domain, Connection, domain, descriptor, may_read, content, conn_at, new_domain, no_domain, new_state, text, with_domain, with_pipe, with_conn, with_content}
+use Rattle.iol_core.specs.State.{State, Domain, Connection, domain, descriptor, may_read, conn_at, new_domain, no_domain, new_state, text, with_domain, with_conn, with_content}
 use Rattle.iol_core.specs.Meaning.{first}
 use Rattle.iol_core.specs.Run.{called, meaning, StepsTo}
 use Rattle.iol_core.specs.Calls.Aggregates as aggs

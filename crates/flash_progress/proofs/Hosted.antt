@@ -27,13 +27,12 @@ use Rattle.flash_laws.specs.Workers.Crew.{Crew}
 use Rattle.flash_laws.specs.World.{Tied}
 use Rattle.flash_laws.specs.World.Tie.{actor_turns}
 use Rattle.flash_laws.proofs.World.AllLaws.{AllLaws}
-use Rattle.flash_laws.proofs.World.Fair.{files_are_fair}
 use Rattle.flash_laws.proofs.World.Steps.{run_keeps}
 use Rattle.flash_laws.proofs.World.Whole.{first_tied}
 use Rattle.flash_progress.specs.Hosted.{HostedBecomesIdle}
 use Rattle.flash_progress.specs.Served.{CanRead, RunsLongEnough}
 use Rattle.flash_progress.proofs.Invariant.{MoreLaws, read-step}
-use Rattle.flash_progress.proofs.Served.{fair-any, becomes_idle, serves_all}
+use Rattle.flash_progress.proofs.Served.{becomes_idle, serves_all}
 
 -- ---- what came can be read, from a new world on
 
@@ -112,8 +111,7 @@ module _ (crew : Crew) (laws : AllLaws crew) (more : MoreLaws) where
       first = first_tied shelf crew w has.new
 
       tied : Tied shelf crew xs rs mid
-      tied = run_keeps in_rounds shelf crew laws xs rs w mid [] [] has.run has.mild
-          (fair-any shelf has.any xs rs (files_are_fair crew has.files shelf [] xs [] rs w mid first has.run)) first
+      tied = run_keeps in_rounds shelf crew laws xs rs w mid [] [] has.run has.mild has.fair first
 
       reads : CanRead mid.machine
       reads = reads-run (actor_turns in_rounds crew.turns)
@@ -123,11 +121,11 @@ module _ (crew : Crew) (laws : AllLaws crew) (more : MoreLaws) where
       turns_in_rounds : RunsLongEnough crew shelf xs rs mid most idle after
       turns_in_rounds = record {
         files = has.files;
-        any = has.any;
         tied = tied;
         reads = reads;
         places = has.places;
         ends = has.ends;
         lacks_none = has.lacks_none;
+        fair = has.fair_rounds;
         suffices = has.suffices;
       }

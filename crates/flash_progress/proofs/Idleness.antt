@@ -1,8 +1,9 @@
--- Turns of one process end where it is idle.
+-- Turns of one process end when it is idle.
 use Rattle.std.proofs.Common.{◌≡◌, ◌≤◌, ◌<◌, ℕ, zero, suc, ◌+◌, ◌*◌, ◌%◌, List, [], ◌∷◌, length, take, replicate, ap, ◌∙◌, refl, sym, subst, arith, true, false, Bool}
 use Rattle.std.proofs.lemmas.Bool.Decides.{nat_tests}
 use Rattle.std.proofs.Math.Nat.{mul-le-mul_left}
 use Rattle.std.specs.Prelude.{if◌then◌else◌}
+use Rattle.std.specs.List.{AllByRecursion}
 use Rattle.iol_core.specs.State.{State}
 use Rattle.iol_core.specs.declared.events.Reply.{Reply}
 use Rattle.iol_core.specs.declared.events.Reply.TheVariants as reply
@@ -10,7 +11,6 @@ use Rattle.iol_core.specs.declared.refusals.Refusal.TheVariants.{WouldBlock}
 use Rattle.iol_proc.specs.Idle.{Went, RoundRun, counted, counted_over, is_idle}
 use Rattle.iol_proc.specs.Turns.{Account, is_would_block}
 use Rattle.iol_proc.specs.World.{Stage, copying, PlaceTurn}
-use Rattle.flash_progress.specs.Served.{lacks_resource, NoneLacksResource}
 use Rattle.flash_progress.proofs.Decrease.{Decreases, IdleComes}
 
 -- the most turns that a process has before it has yielded twice, after this number of yields, if none of them does anything
@@ -47,8 +47,8 @@ idle_two n = grind (arith, nat_tests)
 first_place : (i : ℕ) → i % 1 ≡ 0
 first_place i = omega arith
 
-module _ {P : Type 0} (turns : Account P) (Holds : Stage State P → Type 0) (left polls : Stage State P → ℕ) (round : ℕ)
-    (d : Decreases turns Holds left polls round) where
+module _ {P : Type 0} (turns : Account P) (Holds : Stage State P → Type 0) (Allows : Reply → Type 0) (left polls : Stage State P → ℕ) (round : ℕ)
+    (d : Decreases turns Holds Allows left polls round) where
   abbrev bound : (n : ℕ) → Stage State P → ℕ
   bound n w = all_turns round (left w) n (polls w)
 
@@ -63,24 +63,24 @@ module _ {P : Type 0} (turns : Account P) (Holds : Stage State P → Type 0) (le
       subst (λ (k : ℕ). PlaceTurn copying turns w k yields r mid) (ap (λ (k : ℕ). i % k) (d.one w holds) ∙ first_place i) turn
 
   -- each turn lowers the bound, as long as it has not yielded twice
-  lowers : (w mid : Stage State P) (n : ℕ) (t : Went) → Holds w → PlaceTurn copying turns w 0 t.0 t.1 mid → lacks_resource t.1 ≡ false
+  lowers : (w mid : Stage State P) (n : ℕ) (t : Went) → Holds w → PlaceTurn copying turns w 0 t.0 t.1 mid → Allows t.1
       → is_idle (n ∷ []) ≡ false → (k : ℕ) × (counted (n ∷ []) 0 t ≡ k ∷ []) × (bound k mid < bound n w)
-  lowers w mid n (true, r) holds turn smooth busy = by n busy
+  lowers w mid n (true, r) holds turn allowed busy = by n busy
     where
       les : left mid ≤ left w
-      les = d.yields w mid r holds turn smooth
+      les = d.yields w mid r holds turn allowed
 
       few : polls mid ≤ round
-      few = d.most mid (d.keeps w mid true r holds turn smooth)
+      few = d.most mid (d.keeps w mid true r holds turn allowed)
 
       by : (n : ℕ) → is_idle (n ∷ []) ≡ false → (k : ℕ) × (counted (n ∷ []) 0 (true, r) ≡ k ∷ []) × (bound k mid < bound n w)
       by zero busy = (1, refl, no_more_left (2 * round + 3) (left mid) (left w) (polls mid + 1) (polls w + (round + 2)) les (omega (arith, few)))
       by (suc zero) busy = (2, refl, no_more_left (2 * round + 3) (left mid) (left w) 0 (polls w + 1) les (omega arith))
       by (suc (suc n)) busy = absurd (let e = sym (idle_two n) ∙ busy in cc (e))
-  lowers w mid n (false, r) holds turn smooth busy = which (is_would_block r) refl
+  lowers w mid n (false, r) holds turn allowed busy = which (is_would_block r) refl
     where
       few : polls mid ≤ round
-      few = d.most mid (d.keeps w mid false r holds turn smooth)
+      few = d.most mid (d.keeps w mid false r holds turn allowed)
 
       asks : (n : ℕ) → is_idle (n ∷ []) ≡ false → polls mid < polls w → own_turns round n (polls mid) < own_turns round n (polls w)
       asks zero busy less = omega (arith, less)
@@ -92,24 +92,24 @@ module _ {P : Type 0} (turns : Account P) (Holds : Stage State P → Type 0) (le
           let waited = d.waits w mid holds (subst (λ (x : Reply). PlaceTurn copying turns w 0 false x mid) (is_wb r is) turn) in
           (n, ap (λ (b : Bool). if b then n ∷ [] else replicate 1 0) is, no_more_left (2 * round + 3) (left mid) (left w) (own_turns round n (polls mid)) (own_turns round n (polls w)) waited.0 (asks n busy waited.1))
       which false is =
-          let less = d.falls w mid r holds turn smooth is in
+          let less = d.falls w mid r holds turn allowed is in
           (0, ap (λ (b : Bool). if b then n ∷ [] else replicate 1 0) is, less_left (2 * round + 3) (left mid) (left w) (polls mid + (round + 2)) (own_turns round n (polls w)) less (omega (arith, few)))
 
   -- so their number is bounded
-  few_turns : (ts : List Went) (n i : ℕ) (w after : Stage State P) → Holds w → RoundRun copying turns w i ts after → NoneLacksResource ts
+  few_turns : (ts : List Went) (n i : ℕ) (w after : Stage State P) → Holds w → RoundRun copying turns w i ts after → AllByRecursion (λ u. Allows u.1) ts
       → NeverIdle n i ts → length ts ≤ bound n w
-  few_turns [] n i w after holds ran smooth never = omega arith
-  few_turns (t ∷ ts) n i w after holds ran smooth never =
+  few_turns [] n i w after holds ran allowed never = omega arith
+  few_turns (t ∷ ts) n i w after holds ran allowed never =
       let here = at_first w ran.0 i t.0 t.1 holds ran.1 in
       let busy : is_idle (n ∷ []) ≡ false = never 0 (omega arith) in
-      let low = lowers w ran.0 n t holds here smooth.0 busy in
-      let rest = few_turns ts low.0 (suc i) ran.0 after (d.keeps w ran.0 t.0 t.1 holds here smooth.0) ran.2 smooth.1
+      let low = lowers w ran.0 n t holds here allowed.0 busy in
+      let rest = few_turns ts low.0 (suc i) ran.0 after (d.keeps w ran.0 t.0 t.1 holds here allowed.0) ran.2 allowed.1
       (λ j lt. subst (λ (l : List ℕ). is_idle (counted_over l (suc i) (take j ts)) ≡ false) (ap (λ (k : ℕ). counted (n ∷ []) k t) (first_place i) ∙ low.1) (never (suc j) (omega (arith, lt)))) in
       let less = low.2 in
       omega (arith, rest, less)
 
-  pub idle_comes : IdleComes turns Holds left round
-  idle_comes w after most idle holds ends smooth enough_turns = by idle refl
+  pub idle_comes : IdleComes turns Holds Allows left round
+  idle_comes w after most idle holds ends allowed enough_turns = by idle refl
     where
       single : length w.seats ≡ 1
       single = d.one w holds
@@ -121,13 +121,13 @@ module _ {P : Type 0} (turns : Account P) (Holds : Stage State P → Type 0) (le
       by true is = is
       by false is =
           let all = ends.all_taken is in
-          let few = few_turns ends.went 0 0 w after holds ends.ran smooth never in
+          let few = few_turns ends.went 0 0 w after holds ends.ran allowed never in
           let asked = d.most w holds in
           let split : (2 * round + 3) * (left w + 1) ≡ (2 * round + 3) * left w + (2 * round + 3) = grind (arith) in
           absurd (omega (arith, all, few, asked, split, enough_turns))
 
   -- The invariant holds where they end.
-  pub holds-after : (w after : Stage State P) (i : ℕ) (ts : List Went) → Holds w → RoundRun copying turns w i ts after → NoneLacksResource ts → Holds after
+  pub holds-after : (w after : Stage State P) (i : ℕ) (ts : List Went) → Holds w → RoundRun copying turns w i ts after → AllByRecursion (λ u. Allows u.1) ts → Holds after
   holds-after w after i [] holds ran none = subst (λ (v : Stage State P). Holds v) (sym ran) holds
   holds-after w after i (t ∷ ts) holds ran none =
       holds-after ran.0 after (suc i) ts (d.keeps w ran.0 t.0 t.1 holds (at_first w ran.0 i t.0 t.1 holds ran.1) none.0) ran.2 none.1

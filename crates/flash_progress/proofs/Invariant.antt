@@ -1,4 +1,4 @@
--- What the server needs of the machine holds after each of its own turns; and what follows from it.
+-- The server's requirements on the machine hold after each of its own turns; and their consequences.
 use Rattle.std.proofs.Common.{◌≡◌, ℕ, ◌<◌, ◌≤◌, ◌==◌, List, [], ◌∷◌, length, ap, ◌∙◌, refl, sym, subst, arith, Some, true, false, Bool, length-append}
 use Rattle.std.specs.Prelude.{nat_lt, ◌&&◌}
 use Rattle.std.specs.List.{list_all}

@@ -1,6 +1,6 @@
 -- Each call for a connection of files that is not retried later decreases the measure of the connection.
-use Rattle.std.proofs.Common.{inl, inr, ◌≡◌, ℕ, suc, ◌+◌, ◌*◌, ◌-◌, ◌<◌, ◌≤◌, List, [], ◌∷◌, ◌++◌, length, drop, take, ap, ◌∙◌, refl, sym, subst, arith, Some, None, true, false, Bool, length-append, length-drop, if◌then◌else◌}
-use Rattle.std.specs.Prelude.{nat_lt, nat_le, slice_range, not}
+use Rattle.std.proofs.Common.{inl, inr, ◌≡◌, ℕ, suc, ◌+◌, ◌*◌, ◌-◌, ◌<◌, ◌≤◌, List, [], ◌∷◌, ◌++◌, length, ap, ◌∙◌, refl, sym, subst, arith, Some, None, true, false, Bool, length-append, length-drop, if◌then◌else◌}
+use Rattle.std.specs.Prelude.{nat_lt, nat_le, slice_range}
 use Rattle.std.proofs.Math.Nat.{mul-le-mul_left}
 use Rattle.iol_core.specs.State.{State, Connection, descriptor, is_live, conn_at}
 use Rattle.iol_core.specs.Text.{Text, bytes_of}

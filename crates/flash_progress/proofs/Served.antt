@@ -1,30 +1,29 @@
 -- Progress of a server of files: it becomes idle, and then each connection is served.
-use Rattle.std.proofs.Common.{inl, inr, ◌≡◌, ℕ, ◌+◌, ◌*◌, ◌≤◌, List, [], ◌∷◌, ◌++◌, length, map, ap, ◌∙◌, refl, sym, subst, arith, true, false, Bool}
+use Rattle.std.proofs.Common.{inl, inr, ◌≡◌, ℕ, suc, ◌+◌, ◌*◌, ◌%◌, ◌≤◌, List, [], ◌∷◌, ◌++◌, length, map, ap, ◌∙◌, refl, sym, subst, arith, true, false, Bool}
 use Rattle.std.proofs.Math.Nat.{mul-le-mul_left}
+use Rattle.std.specs.List.{AllByRecursion}
+use Rattle.std.specs.Prelude.{slice_index}
 use Rattle.iol_core.specs.State.{State, conn_at, new_state}
 use Rattle.iol_core.specs.Run.{Run}
 use Rattle.iol_core.specs.declared.events.Event.{Event}
 use Rattle.iol_core.specs.declared.events.Reply.{Reply}
-use Rattle.iol_core.specs.declared.events.Reply.TheVariants as reply
 use Rattle.iol_core.specs.declared.limits.TheConstants.{MAX_OPEN}
-use Rattle.iol_core.specs.declared.refusals.Refusal.{Refusal}
-use Rattle.iol_laws.specs.Caller.{is_rough}
 use Rattle.iol_laws.specs.Frame.{EachStepLeavesTheRest}
 use Rattle.iol_laws.specs.Labels.{ArrivalsLieInTheirPool}
 use Rattle.iol_laws.specs.Order.{IsOrderly, EachStepKeepsOrder}
-use Rattle.iol_proc.specs.Idle.{Idles, rounds}
+use Rattle.iol_proc.specs.Idle.{Idles, Went, rounds}
 use Rattle.iol_proc.specs.Settlement.{Settles}
 use Rattle.iol_proc.specs.World.{Stage, copying, domains_of}
 use Rattle.iol_proc.specs.declared.choice.Choice.{Choice}
-use Rattle.iol_proc.specs.declared.choice.Choice.TheVariants as choice
+use Rattle.iol_proc.specs.declared.seat.Seat.{Seat}
 use Rattle.iol_proc.proofs.Settlement.{settled_idle, each_settled}
 use Rattle.flash_laws.specs.Serves.Rounds.{in_rounds}
 use Rattle.flash_laws.specs.Shelf.{Shelf}
+use Rattle.flash_laws.specs.Site.{server}
 use Rattle.flash_laws.specs.Site.Places.{runs_scripts}
 use Rattle.flash_laws.specs.Workers.Crew.{Crew, IsFixedFor}
 use Rattle.flash_laws.specs.World.{AreFair, Tied}
 use Rattle.flash_laws.specs.World.Done.{IsDone}
-use Rattle.flash_laws.specs.World.Fair.{any_refusal}
 use Rattle.flash_laws.specs.World.Idle.{actor_settled}
 use Rattle.flash_laws.specs.World.Remains.{IsFull}
 use Rattle.flash_laws.specs.World.Settles.{ActorsAreSettled}
@@ -33,15 +32,15 @@ use Rattle.flash_laws.proofs.Site.IdleMoments.{actor_settles}
 use Rattle.flash_laws.proofs.Site.MildTurns.{rounds-mild}
 use Rattle.flash_laws.proofs.World.AllLaws.{AllLaws}
 use Rattle.flash_laws.proofs.World.Idle.Whole.{idle_done}
-use Rattle.flash_laws.proofs.World.Fair.{files_are_fair}
+use Rattle.flash_laws.proofs.World.Fair.{server-among}
 use Rattle.flash_laws.proofs.World.Steps.{run_keeps}
 use Rattle.flash_progress.specs.Bound.{turns_in_rounds, turns_of_all, longest_response}
-use Rattle.flash_progress.specs.Served.{CanRead, clients_in, RunsLongEnough, IsServed, BecomesIdle, ServesAll, ArrivalsCanBeRead}
+use Rattle.flash_progress.specs.Served.{CanRead, NoneLacksResource, clients_in, RunsLongEnough, IsServed, BecomesIdle, ServesAll, ArrivalsCanBeRead}
 use Rattle.flash_progress.proofs.TurnsLeft.{AreShort}
 use Rattle.flash_progress.proofs.Lengths.{are-short}
 use Rattle.flash_progress.proofs.Holders.{holds-new}
 use Rattle.flash_progress.proofs.Invariant.{MoreLaws, few-now, read-step}
-use Rattle.flash_progress.proofs.FileServer.{Quiet, any-among, file_server_becomes_idle, left, left-most-of}
+use Rattle.flash_progress.proofs.FileServer.{Allowed, Quiet, alone, file_server_becomes_idle, left, left-most-of}
 
 -- ---- what came can be read
 
@@ -65,14 +64,18 @@ arrivals_can_be_read homes steps orders = record {
 
 -- ---- the theorem
 
--- runs that are fair where TooMany, NoRoom, Fault and Memory are allowed are fair where these are among what is
-pub fair-any : (shelf : Shelf) → ((x : Refusal) → is_rough (reply.Refused x) ≡ true → shelf.refuses x ≡ true) → (xs : List Choice) (rs : List Reply)
-    → AreFair any_refusal xs rs → AreFair shelf.refuses xs rs
-fair-any shelf any [] rs fair = tt
-fair-any shelf any (choice.Turn by ∷ xs) (r ∷ rs) fair = (any-among shelf any r, fair.1, fair-any shelf any xs rs fair.2)
-fair-any shelf any (choice.Outside e ∷ xs) (r ∷ rs) fair = fair-any shelf any xs rs fair
-fair-any shelf any (choice.Turn by ∷ xs) [] fair = tt
-fair-any shelf any (choice.Outside e ∷ xs) [] fair = tt
+-- Turns of the server, none of which lacks a resource, that are fair have allowed replies.
+allowed-all : (shelf : Shelf) (ds : List ℕ) → ds ≡ server ∷ [] → (i : ℕ) (ts : List Went) → NoneLacksResource ts
+    → AreFair shelf.refuses (rounds ds i (length ts)) (map (λ t. t.1) ts) → AllByRecursion (λ t. Allowed shelf t.1) ts
+allowed-all shelf ds is i [] none fair = tt
+allowed-all shelf ds is i (t ∷ ts) none fair =
+    ((none.0, server-among shelf.refuses (slice_index ds (i % length ds)) t.1 here fair.0), allowed-all shelf ds is (suc i) ts none.1 fair.1)
+  where
+    first : i % 1 ≡ 0
+    first = omega arith
+
+    here : slice_index ds (i % length ds) ≡ server
+    here = ap (λ (l : List ℕ). slice_index l (i % length l)) is ∙ ap (λ k. slice_index (server ∷ []) k) first
 
 module _ (crew : Crew) (laws : AllLaws crew) (more : MoreLaws) where
   no-scripts : (shelf : Shelf) (m : State) → IsFixedFor shelf crew m → crew.count ≡ 0 → shelf.scripts ≡ false
@@ -86,19 +89,25 @@ module _ (crew : Crew) (laws : AllLaws crew) (more : MoreLaws) where
     short : AreShort shelf (longest_response w.machine)
     short = are-short shelf w.machine has.tied.fixed.site plain crew laws
 
-    quiet : Quiet shelf crew laws more plain has.files has.any (longest_response w.machine) short w.machine.next_conn w
+    quiet : Quiet shelf crew laws more plain has.files (longest_response w.machine) short w.machine.next_conn w
     quiet = record { xs = xs; rs = rs; tied = has.tied; reads = has.reads; places = has.places; few = few-now w.machine has.tied.order }
 
-    suffices : turns_in_rounds (left shelf crew laws more plain has.files has.any (longest_response w.machine) short w.machine.next_conn w) (MAX_OPEN + 2) ≤ most
+    suffices : turns_in_rounds (left shelf crew laws more plain has.files (longest_response w.machine) short w.machine.next_conn w) (MAX_OPEN + 2) ≤ most
     suffices =
-        let less = left-most-of shelf crew laws more plain has.files has.any (longest_response w.machine) short w.machine.next_conn w quiet in
+        let less = left-most-of shelf crew laws more plain has.files (longest_response w.machine) short w.machine.next_conn w quiet in
         let all = has.suffices in
-        let product : (2 * (MAX_OPEN + 2) + 3) * (left shelf crew laws more plain has.files has.any (longest_response w.machine) short w.machine.next_conn w + 1) ≤ (2 * (MAX_OPEN + 2) + 3) * (turns_of_all w.machine (clients_in w) + 1) =
+        let product : (2 * (MAX_OPEN + 2) + 3) * (left shelf crew laws more plain has.files (longest_response w.machine) short w.machine.next_conn w + 1) ≤ (2 * (MAX_OPEN + 2) + 3) * (turns_of_all w.machine (clients_in w) + 1) =
         mul-le-mul_left (2 * (MAX_OPEN + 2) + 3) (omega (arith, less)) in
         omega (arith, all, product)
 
+    allowed : AllByRecursion (λ t. Allowed shelf t.1) has.ends.went
+    allowed = allowed-all shelf (domains_of w.seats) one 0 has.ends.went has.lacks_none has.fair
+      where
+        one : domains_of w.seats ≡ server ∷ []
+        one = ap (λ (l : List (Seat (Actor crew.Worker))). domains_of l) (alone shelf crew laws more plain has.files (longest_response w.machine) short w.machine.next_conn w quiet)
+
     rests : idle ≡ true
-    rests = file_server_becomes_idle shelf crew laws more plain has.files has.any (longest_response w.machine) short w.machine.next_conn w after most idle quiet has.ends has.lacks_none suffices
+    rests = file_server_becomes_idle shelf crew laws more plain has.files (longest_response w.machine) short w.machine.next_conn w after most idle quiet has.ends allowed suffices
 
     abbrev choices : List Choice
     choices = rounds (domains_of w.seats) 0 (length has.ends.went)
@@ -106,12 +115,9 @@ module _ (crew : Crew) (laws : AllLaws crew) (more : MoreLaws) where
     abbrev replies : List Reply
     replies = map (λ t. t.1) has.ends.went
 
-    fair : AreFair shelf.refuses choices replies
-    fair = fair-any shelf has.any choices replies (files_are_fair crew has.files shelf xs choices rs replies w after has.tied has.ends.run)
-
     tied_after : Tied shelf crew (xs ++ choices) (rs ++ replies) after
     tied_after = run_keeps in_rounds shelf crew laws choices replies w after xs rs has.ends.run
-        (rounds-mild (actor_turns in_rounds crew.turns) (domains_of w.seats) 0 (length has.ends.went) replies w after has.ends.run) fair has.tied
+        (rounds-mild (actor_turns in_rounds crew.turns) (domains_of w.seats) 0 (length has.ends.went) replies w after has.ends.run) has.fair has.tied
 
     module _ (settles : Settles crew.settled crew.turns) where
       settled : ActorsAreSettled crew.turns crew.settled

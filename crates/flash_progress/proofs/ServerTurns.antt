@@ -78,7 +78,7 @@ closes-none fd kept q d p = refl
 
 module _ (shelf : Shelf) (crew : Crew) (laws : AllLaws crew) (files : shelf.scripts ≡ false) (longest : ℕ) (short : AreShort shelf longest) (places conns : ℕ) (m n : State) (p : Past) (clients after : List (Option Client))
     (next : Flight) (r : Reply) (k : Call) (seats : List (Seat crew.Worker)) (order : IsOrderly m) (fixed : IsFixedFor shelf crew m) (fit : AllFit shelf crew m p clients seats)
-    (known : IsKnown places conns m) (among : IsAmong shelf.refuses r) (did : Made m (turn.Make k) r n) where
+    (known : IsKnown places conns m) (among : IsAmong shelf.refuses.of_server r) (did : Made m (turn.Make k) r n) where
   -- what is left once the reply is filed
   abbrev Falls : (heard : List ℕ) → Type 0
   Falls heard = all_left longest places conns n (filed crew.count after next r heard) < all_left longest places conns m clients

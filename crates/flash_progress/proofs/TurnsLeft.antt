@@ -154,7 +154,7 @@ left-most longest unread d x = omega arith
 
 module _ (shelf : Shelf) (crew : Crew) (laws : AllLaws crew) (files : shelf.scripts ≡ false) (longest places conns : ℕ) (m n : State) (p : Past) (clients : List (Option Client)) (fd : ℕ)
     (cn : Conn) (script : List ℕ) (r : Reply) (heard : List ℕ) (seats : List (Seat crew.Worker)) (order : IsOrderly m) (fixed : IsFixedFor shelf crew m) (fit : AllFit shelf crew m p clients seats)
-    (there : in_place clients fd ≡ Some (of cn None script)) (waits : IsAwaiting (of cn None script)) (among : IsAmong shelf.refuses r)
+    (there : in_place clients fd ≡ Some (of cn None script)) (waits : IsAwaiting (of cn None script)) (among : IsAmong shelf.refuses.of_server r)
     (step : StepsTo m (event.Call server (wants shelf.scripts fd (of cn None script))) r n) (names : Names n r heard) where
   abbrev c : ℕ
   c = (fit.each fd (of cn None script) there).conn

@@ -17,7 +17,7 @@ abbrev pub longest_of : List (List ℕ) → ℕ
 longest_of [] = 0
 longest_of (text ∷ texts) = max (length text) (longest_of texts)
 
--- the most bytes of a head, with the body of an error
+-- the maximum number of bytes of a head, with the body of an error
 abbrev pub most_head : ℕ
 most_head = 256
 
@@ -39,7 +39,7 @@ conn_of x = 0
 abbrev pub unread_at : State → (fd : ℕ) → ℕ
 unread_at m fd = length (conn_at m (conn_of (descriptor m server fd))).incoming
 
--- of the client in a place, whose stream has kept and unread bytes
+-- the turns of the client at an index, by the buffered and the unread bytes of its stream
 abbrev pub turns_of : (longest unread : ℕ) → Option Client → ℕ
 turns_of longest unread None = 0
 turns_of longest unread (Some x) = turns_for longest (length x.conn.kept + unread)
@@ -47,7 +47,7 @@ turns_of longest unread (Some x) = turns_for longest (length x.conn.kept + unrea
 abbrev pub turns_at : (longest : ℕ) → State → List (Option Client) → (fd : ℕ) → ℕ
 turns_at longest m clients fd = turns_of longest (unread_at m fd) (in_place clients fd)
 
--- of a connection that is not yet accepted
+-- the turns of a connection that is not yet accepted
 abbrev pub turns_of_waiting : (longest : ℕ) → State → (c : ℕ) → ℕ
 turns_of_waiting longest m c = if (conn_at m c).accepted then 0 else turns_for longest (length (conn_at m c).incoming)
 
@@ -62,11 +62,11 @@ abbrev pub turns_of_all : State → List (Option Client) → ℕ
 turns_of_all m clients = sum_to MAX_OPEN (turns_at (longest_response m) m clients)
     + sum_to m.next_conn (turns_of_waiting (longest_response m) m)
 
--- The server polls at most `round` times in a round, and then yields. Between two of the `left` turns that do something it polls
+-- The server polls at most `round` times in a round, and then yields. Between two of the `left` turns with an effect it polls
 -- for one round, and before it is idle for two more.
 abbrev pub turns_in_rounds : (left round : ℕ) → ℕ
 turns_in_rounds left round = (2 * round + 3) * (left + 1)
 
--- In a round the server polls each place, and accepts.
+-- In a round the server polls each index, and accepts.
 abbrev pub turns_that_suffice : State → List (Option Client) → ℕ
 turns_that_suffice m clients = turns_in_rounds (turns_of_all m clients) (MAX_OPEN + 2)

@@ -1,5 +1,5 @@
--- Progress of a server of files: if the number of turns suffices, all becomes idle, and then each request that arrived is answered,
--- with the exceptions that `IsServed` names.
+-- Progress of a server of files: if the number of turns suffices, all become idle, and then each request that arrived has its
+-- response, with the exceptions in `IsServed`.
 use Rattle.std.specs.Prelude.{◌≡◌, ◌≤◌, ◌⊎◌, ℕ, Bool, true, false, List, [], ◌∷◌, ◌++◌, length, map, Option, Some}
 use Rattle.iol_core.specs.Text.{bytes_of}
 use Rattle.iol_core.specs.State.{State, domain, pool, descriptor, may_read, conn_at, new_state}
@@ -8,9 +8,7 @@ use Rattle.iol_core.specs.declared.descriptors.Descriptor.TheVariants as on
 use Rattle.iol_core.specs.declared.events.Event.{Event}
 use Rattle.iol_core.specs.declared.events.Reply.{Reply}
 use Rattle.iol_core.specs.declared.events.Reply.TheVariants as reply
-use Rattle.iol_core.specs.declared.refusals.Refusal.{Refusal}
 use Rattle.iol_core.specs.declared.refusals.Refusal.TheVariants.{TooMany, NoRoom, Memory}
-use Rattle.iol_laws.specs.Caller.{is_rough}
 use Rattle.iol_laws.specs.Labels.{AreAtHome}
 use Rattle.iol_laws.specs.Order.{IsOrderly}
 use Rattle.iol_proc.specs.Idle.{Idles, Went, rounds}
@@ -25,7 +23,7 @@ use Rattle.flash_laws.specs.Shelf.{Shelf, IsAnswer}
 use Rattle.flash_laws.specs.Site.{server}
 use Rattle.flash_laws.specs.Site.Past.{Past}
 use Rattle.flash_laws.specs.Workers.Crew.{Crew}
-use Rattle.flash_laws.specs.World.{Tied}
+use Rattle.flash_laws.specs.World.{AreFair, Tied}
 use Rattle.flash_laws.specs.World.Done.{IsHeldUp}
 use Rattle.flash_laws.specs.World.Remains.{IsFull}
 use Rattle.flash_laws.specs.World.Tie.{Actor, Serving, Working, actor_turns, past_of}
@@ -33,19 +31,19 @@ use Rattle.flash_progress.specs.Bound.{turns_that_suffice}
 
 -- ---- the premises
 
--- whether a call is refused for lack of table entries, pages or memory; a fault of the store is none of these
+-- whether a call is refused for lack of table entries, pages or memory, not for a fault of the store
 abbrev pub lacks_resource : Reply → Bool
 lacks_resource (reply.Refused TooMany) = true
 lacks_resource (reply.Refused (NoRoom p)) = true
 lacks_resource (reply.Refused Memory) = true
 lacks_resource r = false
 
--- none of these turns is refused so
+-- no turn is refused for lack of a resource
 abbrev pub NoneLacksResource : List Went → Type 0
 NoneLacksResource [] = Unit {0}
 NoneLacksResource (t ∷ ts) = (lacks_resource t.1 ≡ false) × NoneLacksResource ts
 
--- the clients of the first process, if it is the server, after its last reply is filed
+-- the clients of the first process, if it is the server, after its last reply is processed
 abbrev pub clients_of : {W : Type 0} → State → Reply → Actor W → List (Option Client)
 clients_of m last (Serving s) = filed_in s last (λ a. lent_to m server a)
 clients_of m last (Working v) = []
@@ -73,34 +71,35 @@ pub record CanPlace (m : State) : Type 0 where
   pub default : (domain m server).default ≡ Some place
   pub open_yet : (pool m place).closed ≡ false
 
--- ---- what follows
+-- ---- consequences
 
--- A connection is served: all requests that arrived on it are answered, or its peer left, or its queue is full, or it is not accepted
--- and the server has as many connections as it may.
+-- A connection is served: all requests that arrived on it have their responses, or its peer left, or its queue is full, or it
+-- is not accepted and the server has the maximum number of connections.
 abbrev pub IsServed : Shelf → State → Past → List (Option Client) → (c : ℕ) → Type 0
 IsServed shelf m p clients c = IsAnswer shelf (p.came c) (p.sent c ++ bytes_of (conn_at m c).outgoing)
     ⊎ (p.gone c ≡ true) ⊎ IsHeldUp m c ⊎ (((conn_at m c).accepted ≡ false) × IsFull m clients)
 
 module _ (crew : Crew) where
-  -- A tied world of files has turns in rounds, at most `most`. Before them any call may have been refused. None of them is refused for
-  -- lack of table entries, pages or memory, and `most` suffices for the state in which they begin.
+  -- A world of files with the invariant takes turns in rounds, at most `most`. Before them calls may have been refused as the
+  -- site contents permit. None of them is refused for lack of table entries, pages or memory, or with a fault that the site
+  -- contents do not permit, and `most` suffices for the state in which they begin.
   pub record RunsLongEnough (shelf : Shelf) (xs : List Choice) (rs : List Reply) (w : Stage State (Actor crew.Worker)) (most : ℕ)
       (idle : Bool) (after : Stage State (Actor crew.Worker)) : Type 0 where
     pub files : crew.count ≡ 0
-    pub any : (x : Refusal) → is_rough (reply.Refused x) ≡ true → shelf.refuses x ≡ true
     pub tied : Tied shelf crew xs rs w
     pub reads : CanRead w.machine
     pub places : CanPlace w.machine
     pub ends : Idles copying (actor_turns in_rounds crew.turns) w most idle after
     pub lacks_none : NoneLacksResource ends.went
+    pub fair : AreFair shelf.refuses (rounds (domains_of w.seats) 0 (length ends.went)) (map (λ t. t.1) ends.went)
     pub suffices : turns_that_suffice w.machine (clients_in w) ≤ most
 
-  -- All becomes idle.
+  -- All become idle.
   abbrev pub BecomesIdle : Type 0
   BecomesIdle = (shelf : Shelf) (xs : List Choice) (rs : List Reply) (w : Stage State (Actor crew.Worker)) (most : ℕ)
       (idle : Bool) (after : Stage State (Actor crew.Worker)) → RunsLongEnough shelf xs rs w most idle after → idle ≡ true
 
-  -- The world is tied, and each connection of the net is served.
+  -- The world has the invariant, and each connection of the net is served.
   pub record AreServed (shelf : Shelf) (xs : List Choice) (rs : List Reply) (after : Stage State (Actor crew.Worker)) : Type 0 where
     pub tied : Tied shelf crew xs rs after
     pub each : (c : ℕ) → (past_of xs rs).net c ≡ true → IsServed shelf after.machine (past_of xs rs) tied.seated.state.clients c

@@ -1,4 +1,4 @@
-//! The laws of progress. The functions do nothing; their contracts are the laws.
+//! Laws of progress. The functions have no effect; their contracts are the laws.
 ghost use Rattle.flash_laws.specs.Workers.Crews.{OfEach};
 ghost use Rattle.flash_progress.specs.Hosted.{HostedBecomesIdle};
 ghost use Rattle.flash_progress.specs.Served.{ArrivalsCanBeRead, BecomesIdle, ServesAll};
@@ -10,15 +10,15 @@ use flash_laws::worker_laws::due_may_come;
 use flash_laws::world_law::RunsScripts;
 use iol_laws::laws;
 
-/// A server without workers makes progress in each tied world, whatever was refused before. If the
-/// number of turns in rounds suffices for the state (`turns_that_suffice`) and none of them is
-/// refused for lack of table entries, pages or memory, all becomes idle (`idle`). Then each
-/// connection of the net is served (`served`): all requests that arrived on it are answered, or its
-/// peer left, or its queue is full, or it is not accepted and the server has as many connections as
-/// it may. Two premises are about the state in which the turns begin: the server's default pool is
-/// open (`CanPlace`), and arrivals can be read (`CanRead`), which [`arrivals_can_be_read`] gives of
-/// each reachable state. `hosted` says the same of a new world that first ran choices whose calls
-/// from outside are mild.
+/// A server without workers makes progress in each world with the invariant, whichever calls were
+/// refused before. If the number of turns in rounds suffices for the state (`turns_that_suffice`)
+/// and none of them is refused for lack of table entries, pages or memory, all become idle
+/// (`idle`). Then each connection of the net is served (`served`): all requests that arrived on it
+/// have their responses, or its peer left, or its queue is full, or it is not accepted and the
+/// server has the maximum number of connections. Two premises are about the state in which the
+/// turns begin: the server's default pool is open (`CanPlace`), and arrivals can be read
+/// (`CanRead`), which [`arrivals_can_be_read`] gives for each reachable state. `hosted` states the
+/// same for a new world that first executed choices with mild external calls.
 pub fn file_server_becomes_idle<W: RunsScripts>()
     ensures idle { OfEach W.turns W.settled W.free W.due BecomesIdle }
     ensures served { OfEach W.turns W.settled W.free W.due ServesAll }

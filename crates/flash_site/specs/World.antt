@@ -12,13 +12,13 @@ use Rattle.flash_lite.specs.HostedSite.{HostsIfHonest, HostsOver}
 use Rattle.flash_lite.specs.declared.site.Site.{Site}
 use Rattle.flash_lite.specs.declared.site.SiteFile.{SiteFile}
 
--- files of these names, in their order, for everybody
+-- files of these names, in order, readable by all
 pub record AreFilesOf (names : List (List ℕ)) (files : List SiteFile) : Type 0 where
   pub named : map (λ f. f.name.items) files ≡ names
   pub shared : list_any (λ f. f.private) files ≡ false
 
--- The world of a site of these files over a store, before its first turn: it was set up in a new system, and nobody did anything
--- else in it. Over an honest store it is that of the site as the copying machine has it, to which the server's laws apply.
+-- The world of a site of these files over a store, before its first turn: it was set up in a new system without any other
+-- event. Over an honest store it is the site's world in the copying machine, to which the server's laws apply.
 pub record IsWorldOf (names : List (List ℕ)) (store : Disk) (world : Stage SystemState (Actor Worker)) : Type 0 where
   pub site : Site
   pub files : AreFilesOf names site.files.items

@@ -15,10 +15,10 @@ use iol_tree::index::Index;
 use std::alloc::{AllocError, Global};
 use std::rt::Files;
 
-/// The number of the pool that connections of a site's world take their bytes into.
+/// The number of the pool for the input of connections of a site's world.
 pub const NET_POOL: u32 = 2;
 
-// The files of an index, in their order, for everybody.
+// The files of an index, in order, readable by all.
 fn files_of(alloc: Global, index: &Index) -> Result<Vec<SiteFile>, AllocError>
     ensures { IfOk result (λ files. AreFilesOf index.now.names files.items) }
 {
@@ -29,7 +29,7 @@ fn files_of(alloc: Global, index: &Index) -> Result<Vec<SiteFile>, AllocError>
     Ok(files)
 }
 
-// The file in a place.
+// The file at a position of the index.
 fn file_at(alloc: Global, index: &Index, place: usize) -> Result<SiteFile, AllocError>
     requires { place < length index.now.names }
     ensures name { IfOk result (λ f. slice_get index.now.names place ≡ Some f.name.items) }
@@ -40,7 +40,7 @@ fn file_at(alloc: Global, index: &Index, place: usize) -> Result<SiteFile, Alloc
     Ok(SiteFile { name, private })
 }
 
-// Four workers, and every file for everybody. The chunks are those of the system, all of them.
+// A site with four workers, with every file readable by all, and with all chunks of the system.
 fn site_of(alloc: Global, index: &Index) -> Result<Site, AllocError>
     ensures files { IfOk result (λ site. AreFilesOf index.now.names site.files.items) }
     ensures range { IfOk result (λ site. is_in_range site ≡ true) }
@@ -56,7 +56,7 @@ fn site_of(alloc: Global, index: &Index) -> Result<Site, AllocError>
     })
 }
 
-/// A new world that serves the files of a store to everybody, over that store.
+/// Creates a world that serves the files of a store to all, over that store.
 pub fn world_of<R: Files + Drop>(
     alloc: Global,
     store: TreeBacking<R>,

@@ -1,4 +1,5 @@
-//! Tests of the web server's libraries, in a crate of their own since a crate with tests is proved twice.
+//! Tests of the web server's libraries. They are a crate of their own since a crate with tests is
+//! proved twice.
 #![tactic(auto)]
 
 #[cfg(test)]

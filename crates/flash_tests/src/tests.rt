@@ -1,4 +1,4 @@
-//! What the libraries of the web server make of heads, ranges and texts.
+//! The results of the web server's libraries for heads, ranges and texts.
 mod answers;
 mod calls;
 mod chunks;

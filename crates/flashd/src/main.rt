@@ -1,4 +1,4 @@
-//! `flashd`: the files below a folder, served by HTTP/1.1 to many clients at once.
+//! `flashd`: serves the files below a folder by HTTP/1.1 to many concurrent clients.
 #![tactic(auto)]
 
 mod notices;
@@ -13,10 +13,10 @@ use std::process::ExitCode;
 use std::rt::Env;
 use std::{env, io};
 
-/// The exit status of a program that was given words that it does not accept.
+/// The exit status for words that are not accepted.
 const BAD_WORDS: u8 = 2;
 
-/// The exit status of one that met a fault.
+/// The exit status after a fault.
 const FAULT: u8 = 3;
 
 /// The words of the command line, the program's own first.
@@ -28,7 +28,7 @@ fn words_of<R: Env + AllocGlobal>(rt: &R) -> io::Result<Vec<String>> {
     Ok(words)
 }
 
-/// Runs the program that the words ask for: its exit status.
+/// Runs the program that the words request, and returns its exit status.
 fn run(rt: &HostRuntime, words: &[String]) -> io::Result<u8> {
     let command = command(rt.alloc())?;
     let matches = match command.try_get_matches_from(words) {
@@ -51,7 +51,7 @@ fn run(rt: &HostRuntime, words: &[String]) -> io::Result<u8> {
     Ok(0)
 }
 
-/// Runs the program, and tells on standard error what ended it early.
+/// Runs the program, and reports on standard error the fault that ended it early.
 fn main(rt: HostRuntime) -> ExitCode {
     let done = match words_of(&rt) {
         Ok(words) => run(&rt, &words),

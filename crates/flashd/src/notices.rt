@@ -1,9 +1,9 @@
-//! What the program tells about a site on standard error. What cannot be written there is dropped.
+//! Notices about a site on standard error. An error of such a write is ignored.
 use flash_site::source::Summary;
 use std::io;
 use std::io::Eprint;
 
-/// Tells what a client of a site would not expect.
+/// Reports properties of a site that a client would not expect.
 pub fn tell_site<R: Eprint>(rt: &R, root: &str, summary: &Summary) {
     if !summary.is_in_memory {
         let _ = tell_folder(rt, root);

@@ -1,4 +1,4 @@
-//! What the command line asks for.
+//! The options of the command line.
 use clap::{Arg, ArgAction, ArgMatches, Command, value_parser};
 use flash_site::source::PRELOAD_BYTES;
 use iol_reactor::limits::Limits;
@@ -17,7 +17,7 @@ const DAY: i64 = 86_400;
 
 const MILLIS: u64 = 1_000;
 
-/// What the command line asks for.
+/// The options of the command line.
 #[derive(Clone, Copy, Debug)]
 pub struct Options<'a> {
     /// The address to listen on.
@@ -26,17 +26,17 @@ pub struct Options<'a> {
     /// The folder whose files are served.
     pub root: &'a str,
 
-    /// Where the access log is written to: `-` is standard output.
+    /// The path of the access log: `-` is standard output.
     pub access_log: Option<&'a str>,
 
-    /// The bytes of files that are read into memory at most, if any are to be.
+    /// The maximum number of bytes of files that are read into memory, if any.
     pub preload: Option<u64>,
 
     pub limits: Limits,
 }
 
 impl<'a> Options<'a> {
-    /// What was asked for. None: the address to listen on is none.
+    /// The options. None: the address to listen on is invalid.
     pub fn of(matches: &ArgMatches<'a>) -> Option<Options<'a>> {
         let listen = matches.get_one::<SocketAddr>("listen")?;
         let root = matches.get_str("root")?;
@@ -62,7 +62,7 @@ fn preload_of(matches: &ArgMatches<'_>) -> Option<u64> {
     }
 }
 
-// The limits of the event loop, changed where another was asked for.
+// The limits of the event loop, with the given changes.
 fn limits_of(matches: &ArgMatches<'_>) -> Limits {
     let mut limits = Limits::DEFAULT;
     limits.stop_after = matches.get_one::<u32>("stop-after");
@@ -81,7 +81,7 @@ fn limits_of(matches: &ArgMatches<'_>) -> Limits {
     limits
 }
 
-/// The command line: its options, and what help tells of them.
+/// The command line: its options, and their help texts.
 pub fn command<'a>(alloc: Global) -> Result<Command<'a>, AllocError> {
     let command = Command::new(alloc, "flashd")
         .version(VERSION)
@@ -92,7 +92,7 @@ pub fn command<'a>(alloc: Global) -> Result<Command<'a>, AllocError> {
     files_arguments(alloc, clients_arguments(alloc, command)?)
 }
 
-// Those that bound what clients may do.
+// The options that limit clients.
 fn clients_arguments<'a>(alloc: Global, command: Command<'a>) -> Result<Command<'a>, AllocError> {
     command
         .arg(stop_after(alloc))?
@@ -102,7 +102,7 @@ fn clients_arguments<'a>(alloc: Global, command: Command<'a>) -> Result<Command<
         .arg(min_rate(alloc))
 }
 
-// Those of files.
+// The options for files.
 fn files_arguments<'a>(alloc: Global, command: Command<'a>) -> Result<Command<'a>, AllocError> {
     command
         .arg(access_log(alloc))?

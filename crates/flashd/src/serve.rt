@@ -21,7 +21,8 @@ type SiteReactor<W> = Reactor<
     SiteService<HostRuntime, W>,
 >;
 
-/// Serves a site as the command line asks for, until as many clients came and went as it says.
+/// Serves a site with the options of the command line, until the given number of clients was
+/// served.
 pub fn serve(rt: &HostRuntime, options: &Options<'_>) -> io::Result<()> {
     let log = match options.access_log {
         Some("-") => return serve_site(rt, options, Some(AccessLog::new(rt.alloc(), rt.stdout()))),
@@ -31,7 +32,7 @@ pub fn serve(rt: &HostRuntime, options: &Options<'_>) -> io::Result<()> {
     serve_site(rt, options, log)
 }
 
-// The file that the log is appended to.
+// Opens the log file for appending.
 fn open_log(rt: &HostRuntime, path: &str) -> io::Result<File> {
     OpenOptions::new().append(true).create(true).open(rt, path)
 }
@@ -52,7 +53,7 @@ fn serve_site<W: Write + Drop>(
     served
 }
 
-// Prints where it listens, and serves.
+// Prints its address, and serves.
 fn serve_clients<W: Write + Drop>(
     rt: &HostRuntime,
     service: io::Result<SiteService<HostRuntime, W>>,
@@ -67,7 +68,7 @@ fn serve_clients<W: Write + Drop>(
     served
 }
 
-// Prints the line that tells where it listens.
+// Prints the line with its address.
 fn tell_address<W: Write + Drop>(rt: &HostRuntime, reactor: &SiteReactor<W>) -> io::Result<()> {
     let address = reactor.local_addr()?;
     let mut output = rt.stdout();

@@ -9,7 +9,7 @@ use Rattle.iol_hold.specs.Texts.{bufs_of}
 use Rattle.iol_hold.specs.declared.slices.Slice.{Slice}
 use Rattle.iol_agg.specs.Pours.{AreShareable, meeting}
 
--- the place lies `rest` bytes past the first `whole` slices, within the next one
+-- the place is `rest` bytes past the first `whole` slices, within the next one
 pub record IsPlaceOf (xs : List Slice) (place whole rest : ℕ) : Type 0 where
   pub within : whole ≤ length xs
   pub at : byte_len (take whole xs) + rest ≡ place
@@ -31,8 +31,8 @@ pub record Divides (s t : Stored) (x first rest : Slice) (n : ℕ) : Type 0 wher
   pub kept_hold : rest.hold ≡ x.hold
   pub shares : Shares s t [] (x.hold.buf ∷ [])
 
--- The first n bytes of slices may go to another list: they are none, or fewer than the first slice has, and what the slices hold
--- is held so often, and can be so often once more.
+-- The first n bytes of slices may go to another list: n is 0, or less than the length of the first slice, and each buffer of the
+-- slices has their holds, and can get as many again.
 pub record MayMoveBytes (s : Stored) (xs : List Slice) (n : ℕ) : Type 0 where
   pub there : 0 < n → 0 < length xs
   pub inside : (d : Slice) → 0 < n → n < (slice_index_or xs 0 d).len
@@ -47,8 +47,8 @@ pub record MovesBytes {Z : Type 0} (s t : Stored) (first second longer rest : Ve
   pub left_bufs : bufs_of rest.items ≡ bufs_of second.items
   pub shares : Shares s t (bufs_of first.items ++ bufs_of second.items) (bufs_of longer.items ++ bufs_of rest.items)
 
--- An aggregate was split: the bytes before a place, and those from it on. No slice was divided but the one over the place.
--- Where there is no memory it is given back whole.
+-- An aggregate was split: the bytes before a place, and those from it on. No slice was divided except the one over the place.
+-- If there is no memory, it is returned whole.
 pub record Splits (s t : Stored) (xs : List Slice) (place : ℕ)
     (r : Result (List Slice × List Slice) (AllocFailed (List Slice))) : Type 0 where
   pub first : IfOk r (λ a. places_of a.0 ≡ take place (places_of xs))

@@ -1,4 +1,4 @@
--- How often buffers are held, where all holds are known.
+-- The number of holds on buffers, if all holds are known.
 use Rattle.std.specs.Prelude.{◌≡◌, List}
 use Rattle.iol_core.specs.declared.numbers.BufId.{BufId}
 use Rattle.iol_hold.specs.StoreState.{Stored, count_of}

@@ -1,3 +1,3 @@
--- The words that contracts of other crates cite, passed on from one place. Declares nothing.
+-- Re-exports the definitions that contracts of other crates cite.
 pub use Rattle.iol_agg.specs.KnownHolds.{IsHeldBy}
 pub use Rattle.iol_agg.specs.Pours.{AreShareable}

@@ -30,7 +30,7 @@ pub record AreWhole (s : Stored) (xs : List Slice) (holds : List Buffer) : Type 
   pub readable : AllReadable s xs
   pub bufs : bufs_of xs ≡ held_bufs holds
 
--- An aggregate of these bytes was made, in new buffers on the lowest free pages of pool p, in which no others lie. Where it was
+-- An aggregate of these bytes was made, in new buffers on the lowest free pages of pool p, which have no other bytes. If it was
 -- not, nothing changed: there was no room for them, or no memory.
 pub record FillsAgg (s t : Stored) (p : ℕ) (bytes : List ℕ) (r : Result (List Slice) Refusal) : Type 0 where
   pub text : IfOk r (λ a. text_of t a ≡ labelled p bytes)

@@ -9,7 +9,7 @@ ghost use Rattle.iol_agg.specs.Parts.{parts_of, whole_texts};
 ghost use Rattle.iol_agg.specs.Wholes.{AreWhole, FillsAgg, MayAddWhole};
 
 use crate::parts::Parts;
-use iol_core::limits::{MAX_AGGREGATE_BYTES, PAGE_BYTES};
+use iol_core::limits::PAGE_BYTES;
 use iol_core::numbers::PoolId;
 use iol_core::refusals::Refusal;
 use iol_hold::{Holds, Slice, Store};
@@ -63,7 +63,8 @@ impl Agg {
     }
 
     /// Makes an aggregate of these bytes by copying them into new buffers on the lowest free pages of an open pool. No bytes take
-    /// no page. Refused `NoRoom` where the pool has too few free pages, and `Memory`.
+    /// no page. Returns `NoRoom` only if the pool has fewer free pages than the bytes need, which is always so for more than
+    /// `MAX_AGGREGATE_BYTES`, and `Memory`. An error changes nothing.
     pub fn fill(
         alloc: Global,
         store: &mut Store,
@@ -71,7 +72,6 @@ impl Agg {
         bytes: &[u8],
     ) -> Result<Agg, Refusal>
         requires open { (pool_in store.old.pools pool).closed ≡ false }
-        requires small { length bytes.now ≤ MAX_AGGREGATE_BYTES }
         ensures { FillsAgg store.old store.new pool bytes.now result }
     {
         let slices = Vec::with_capacity(alloc, bytes.len().div_ceil(PAGE_BYTES))?;
@@ -80,7 +80,7 @@ impl Agg {
     }
 
     /// The bytes of whole buffers, one after another, as slices in a list that has room for them. The holds become the
-    /// aggregate's. No memory is taken.
+    /// aggregate's. It takes no memory.
     pub fn of_holds(slices: Vec<Slice>, store: &Store, holds: Holds) -> Agg
         requires none { slices.items ≡ [] }
         requires filled { All (IsFilled store.now) holds }
@@ -114,7 +114,7 @@ impl Agg {
         self.slices.as_slice()
     }
 
-    /// The bytes where they lie, slice by slice.
+    /// The bytes in place, slice by slice. No byte is copied.
     pub fn parts<'a>(&'a self, store: &'a Store) -> Parts<'a>
         requires { AllReadable store.now self.now }
         ensures { result ≡ parts_of store.now self.now }
@@ -146,7 +146,7 @@ impl Agg {
     }
 }
 
-// Adds a slice for each of the buffers, whole.
+// Adds one slice for each whole buffer.
 fn add_whole(slices: &mut Vec<Slice>, store: &Store, holds: Holds)
     requires { MayAddWhole store.now slices.old holds }
     ensures { AreWhole store.now slices.new.items holds }

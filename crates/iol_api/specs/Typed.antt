@@ -1,4 +1,4 @@
--- What a typed call returns: the reply of its event, as a value of the call's own type or a refusal.
+-- The result of a typed call: the reply of its event, as a value of the call's own type or a refusal.
 use Rattle.std.specs.Prelude.{◌≡◌, ◌⊎◌, ℕ, Result, Err}
 use Rattle.iol_api.specs.declared.domain.Domain.{Domain}
 use Rattle.iol_core.specs.declared.events.Call.{Call}
@@ -14,18 +14,18 @@ use Rattle.iol_system.specs.Replies.{told}
 abbrev pub IsReply : {A : Type 0} → (A → Reply) → Reply → Type 0
 IsReply {A} f r = ((a : A) × (r ≡ f a)) ⊎ ((x : Refusal) × (r ≡ reply.Refused x))
 
--- What a call by a handle of a domain promises: the handle stays that of the same domain and system, the call is carried out with all
--- that `System::step` promises of its event, and the reply is this result.
+-- The guarantee of a call by a handle: the handle keeps its domain and system, the call has all guarantees of `System::step`
+-- for its event, and the reply is this result.
 pub record Answers {B : Type 0} {A : Type 0} (f : A → Reply) (old : Domain B) (c : Call) (result : Result A Refusal) (new : Domain B) : Type 0 where
   pub same_reference : new.system.ghost_name ≡ old.system.ghost_name
   pub by : new.by ≡ old.by
   pub promises : Promises old.system.now (event.Call old.by c) (told f result) new.system.now
 
--- The same, or there is no memory for the bytes or names that the call carries, and nothing is done.
+-- The same, or there is no memory for the bytes or names in the call, and nothing changes.
 abbrev pub AnswersIfHeld : {B : Type 0} {A : Type 0} → (A → Reply) → Domain B → Call → Result A Refusal → Domain B → Type 0
 AnswersIfHeld f old c result new = Answers f old c result new ⊎ ((result ≡ Err Memory) × (new ≡ old))
 
--- what a call without a value returns
+-- the result of a call without a value
 abbrev pub done : Unit {0} → Reply
 done u = reply.Done
 

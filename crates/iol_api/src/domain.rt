@@ -17,7 +17,7 @@ use iol_core::refusals::Refusal;
 use iol_system::system::System;
 use std::alloc::{AllocError, Global};
 
-/// A domain of a system, by which calls are made. It borrows the system until it is dropped.
+/// A handle of a domain, with one method for each call. It borrows the system until it is dropped.
 #[derive(Drop)]
 pub struct Domain<'a, B: Backing> {
     alloc: Global,
@@ -26,7 +26,8 @@ pub struct Domain<'a, B: Backing> {
 }
 
 impl<'a, B: Backing> Domain<'a, B> {
-    /// The domain of this number. Where it is not live, each of its calls returns `NoDomain`.
+    /// A handle of the domain of this number. If the domain is not live, each call returns
+    /// `NoDomain`.
     pub fn new(alloc: Global, system: &'a mut System<B>, by: DomainId) -> Domain<'a, B>
         ensures same_reference { result.system.ghost_name ≡ system.entry.ghost_name }
         ensures system { result.system.now ≡ system.old }
@@ -35,7 +36,7 @@ impl<'a, B: Backing> Domain<'a, B> {
         Domain { alloc, system, by }
     }
 
-    // Carries out one call.
+    // Executes one call.
     fn call(&mut self, call: Call) -> Reply
         ensures same_reference { self.new.system.ghost_name ≡ self.old.system.ghost_name }
         ensures by { self.new.by ≡ self.old.by }
@@ -46,22 +47,23 @@ impl<'a, B: Backing> Domain<'a, B> {
         self.system.step(Event::Call { by, call })
     }
 
-    /// Makes a domain, with no aggregate and no open descriptor. Returns its number: the next one.
+    /// Creates a domain that has no aggregate and no open descriptor. Returns its number: the next
+    /// one.
     pub fn domain_new(&mut self) -> Result<DomainId, Refusal>
         ensures { Answers reply.Domain self.old call.DomainNew result self.new }
     {
         replies::domain(self.call(Call::DomainNew))
     }
 
-    /// Ends this domain. Its aggregates are dropped and its descriptors closed.
+    /// Ends this domain. Drops its aggregates and closes its descriptors.
     pub fn exit(&mut self) -> Result<(), Refusal>
         ensures { Answers spec.done self.old call.Exit result self.new }
     {
         replies::done(self.call(Call::Exit))
     }
 
-    /// Makes a pool of 1 to 256 chunks of 64 KiB, which 1 to 16 live domains may read. Returns its number: the
-    /// next one.
+    /// Creates a pool of 1 to 256 chunks of 64 KiB, which 1 to 16 live domains may read. Returns
+    /// its number: the next one.
     pub fn pool_create(&mut self, chunks: u32, domains: &[DomainId]) -> Result<PoolId, Refusal>
         ensures { AnswersIfHeld reply.Pool self.old (call.PoolCreate chunks domains.now) result self.new }
     {
@@ -69,22 +71,21 @@ impl<'a, B: Backing> Domain<'a, B> {
         self.create_pool(chunks, domains)
     }
 
-    /// Closes a pool: no byte is placed in it any more, and those in it stay readable.
+    /// Closes a pool: no byte is placed in it any more, and the bytes in it stay readable.
     pub fn pool_close(&mut self, pool: PoolId) -> Result<(), Refusal>
         ensures { Answers spec.done self.old (call.PoolClose pool) result self.new }
     {
         replies::done(self.call(Call::PoolClose { pool }))
     }
 
-    /// Adds a live domain to the domains that may read a pool, of which this domain is one. A list holds at most
-    /// 16 domains.
+    /// Adds a live domain to the readers of a pool, at most 16. This domain must be one of them.
     pub fn pool_admit(&mut self, pool: PoolId, domain: DomainId) -> Result<(), Refusal>
         ensures { Answers spec.done self.old (call.PoolAdmit pool domain) result self.new }
     {
         replies::done(self.call(Call::PoolAdmit { pool, domain }))
     }
 
-    /// Makes a pool this domain's default, where the bytes that it makes are placed.
+    /// Makes a pool this domain's default pool, in which the bytes that it creates are placed.
     pub fn set_pool(&mut self, pool: PoolId) -> Result<(), Refusal>
         ensures { Answers spec.done self.old (call.SetPool pool) result self.new }
     {
@@ -106,29 +107,29 @@ impl<'a, B: Backing> Domain<'a, B> {
         replies::agg(self.call(Call::AggDup { agg }))
     }
 
-    /// Makes an aggregate of the bytes from `from` up to `to`. No byte is copied.
+    /// Makes an aggregate of the bytes from `from` up to, not including, `to`. No byte is copied.
     pub fn agg_cut(&mut self, agg: AggId, from: u32, to: u32) -> Result<AggId, Refusal>
         ensures { Answers reply.Agg self.old (call.AggCut agg from to) result self.new }
     {
         replies::agg(self.call(Call::AggCut { agg, from, to }))
     }
 
-    /// Splits an aggregate, which is given up, at byte `at`. No byte is copied.
+    /// Splits an aggregate at byte `at` and consumes it. No byte is copied.
     pub fn agg_split(&mut self, agg: AggId, at: u32) -> Result<(AggId, AggId), Refusal>
         ensures { Answers spec.aggs self.old (call.AggSplit agg at) result self.new }
     {
         replies::aggs(self.call(Call::AggSplit { agg, at }))
     }
 
-    /// Joins two aggregates, which are given up, to one of at most 2^24 bytes. No byte is copied.
+    /// Joins two aggregates into one of at most 2^24 bytes and consumes both. No byte is copied.
     pub fn agg_join(&mut self, first: AggId, second: AggId) -> Result<AggId, Refusal>
         ensures { Answers reply.Agg self.old (call.AggJoin first second) result self.new }
     {
         replies::agg(self.call(Call::AggJoin { first, second }))
     }
 
-    /// Makes an aggregate of the bytes of `agg`, those from `from` up to `to` replaced by those of `with`. No byte
-    /// is copied.
+    /// Makes an aggregate of the bytes of `agg`, with those from `from` up to `to` replaced by the
+    /// bytes of `with`. No byte is copied.
     pub fn agg_replace(
         &mut self,
         agg: AggId,
@@ -146,28 +147,29 @@ impl<'a, B: Backing> Domain<'a, B> {
         }))
     }
 
-    /// Gives an aggregate up.
+    /// Drops an aggregate.
     pub fn agg_drop(&mut self, agg: AggId) -> Result<(), Refusal>
         ensures { Answers spec.done self.old (call.AggDrop agg) result self.new }
     {
         replies::done(self.call(Call::AggDrop { agg }))
     }
 
-    /// Gives an aggregate to a domain that may read all of its bytes. Returns the receiver's number of it.
+    /// Moves an aggregate to a domain that may read all of its bytes. Returns the receiver's
+    /// number.
     pub fn agg_give(&mut self, agg: AggId, to: DomainId) -> Result<AggId, Refusal>
         ensures { Answers reply.Agg self.old (call.AggGive agg to) result self.new }
     {
         replies::agg(self.call(Call::AggGive { agg, to }))
     }
 
-    /// Copies an aggregate's bytes out.
+    /// Returns a copy of an aggregate's bytes.
     pub fn show(&mut self, agg: AggId) -> Result<Bytes, Refusal>
         ensures { Answers reply.Bytes self.old (call.Show agg) result self.new }
     {
         replies::bytes(self.call(Call::Show { agg }))
     }
 
-    /// Gives the store's next slot a name of 1 to 255 bytes, and a pool for its bytes.
+    /// Gives the next slot of the store a name of 1 to 255 bytes, and a pool for its bytes.
     pub fn file_new(&mut self, name: &[u8], pool: PoolId) -> Result<FileId, Refusal>
         ensures { AnswersIfHeld reply.File self.old (call.FileNew name.now pool) result self.new }
     {
@@ -183,7 +185,7 @@ impl<'a, B: Backing> Domain<'a, B> {
         self.open_named(name, mode)
     }
 
-    /// Makes a pipe, which holds at most 65,536 bytes. Returns its read end and its write end.
+    /// Creates a pipe, which holds at most 65,536 bytes. Returns its read end and its write end.
     pub fn pipe(&mut self) -> Result<(Fd, Fd), Refusal>
         ensures { Answers spec.fds self.old call.Pipe result self.new }
     {
@@ -204,7 +206,7 @@ impl<'a, B: Backing> Domain<'a, B> {
         replies::done(self.call(Call::Close { fd }))
     }
 
-    /// Sets the position of a file's descriptor, at most the file's length.
+    /// Sets the position of a descriptor on a file, at most the file's length.
     pub fn seek(&mut self, fd: Fd, at: u32) -> Result<(), Refusal>
         ensures { Answers spec.done self.old (call.Seek fd at) result self.new }
     {
@@ -218,22 +220,23 @@ impl<'a, B: Backing> Domain<'a, B> {
         replies::count(self.call(Call::Length { fd }))
     }
 
-    /// Reads at most `count` bytes. Bytes that are in memory are not copied.
+    /// Reads at most `count` bytes and copies none that are in memory.
     pub fn iol_read(&mut self, fd: Fd, count: u32) -> Result<AggId, Refusal>
         ensures { Answers reply.Agg self.old (call.IolRead fd count) result self.new }
     {
         replies::agg(self.call(Call::IolRead { fd, count }))
     }
 
-    /// Writes an aggregate's bytes, and leaves the aggregate. A queue takes as many as fit, and copies none; a file
-    /// takes all, and copies those that are in another pool than its own. Returns how many were taken.
+    /// Writes the bytes of an aggregate, which remains. A queue takes as many as fit and copies
+    /// none. A file takes all, and copies those whose pool is not the file's. Returns the number
+    /// of bytes taken.
     pub fn iol_write(&mut self, fd: Fd, agg: AggId) -> Result<u32, Refusal>
         ensures { Answers reply.Count self.old (call.IolWrite fd agg) result self.new }
     {
         replies::count(self.call(Call::IolWrite { fd, agg }))
     }
 
-    /// Writes all dirty bytes of a file back to the store.
+    /// Writes all dirty extents of a file to the store.
     pub fn fsync(&mut self, fd: Fd) -> Result<(), Refusal>
         ensures { Answers spec.done self.old (call.Fsync fd) result self.new }
     {
@@ -247,7 +250,8 @@ impl<'a, B: Backing> Domain<'a, B> {
         replies::bytes(self.call(Call::Read { fd, count }))
     }
 
-    /// Writes these bytes by copying them: to a queue as many as fit, to a file all. Returns how many were taken.
+    /// Writes these bytes by copying them: to a queue as many as fit, to a file all. Returns the
+    /// number of bytes taken.
     pub fn write(&mut self, fd: Fd, bytes: &[u8]) -> Result<u32, Refusal>
         ensures { AnswersIfHeld reply.Count self.old (call.Write fd bytes.now) result self.new }
     {
@@ -255,42 +259,43 @@ impl<'a, B: Backing> Domain<'a, B> {
         self.write_held(fd, bytes)
     }
 
-    /// Accepts the lowest waiting connection whose pool names this domain. Returns the lowest free descriptor.
+    /// Accepts the waiting connection of the lowest number whose pool this domain may read.
+    /// Returns the lowest free descriptor.
     pub fn accept(&mut self) -> Result<Fd, Refusal>
         ensures { Answers reply.Fd self.old call.Accept result self.new }
     {
         replies::fd(self.call(Call::Accept))
     }
 
-    // [`Domain::pool_create`] of a list that is held.
+    // [`Domain::pool_create`] of an owned list.
     fn create_pool(&mut self, chunks: u32, domains: Domains) -> Result<PoolId, Refusal>
         ensures { Answers reply.Pool self.old (call.PoolCreate chunks domains) result self.new }
     {
         replies::pool(self.call(Call::PoolCreate { chunks, domains }))
     }
 
-    // [`Domain::agg_make`] of a list that is held.
+    // [`Domain::agg_make`] of owned bytes.
     fn make_agg(&mut self, bytes: Bytes) -> Result<AggId, Refusal>
         ensures { Answers reply.Agg self.old (call.AggMake bytes) result self.new }
     {
         replies::agg(self.call(Call::AggMake { bytes }))
     }
 
-    // [`Domain::file_new`] of a list that is held.
+    // [`Domain::file_new`] of an owned name.
     fn new_file(&mut self, name: Bytes, pool: PoolId) -> Result<FileId, Refusal>
         ensures { Answers reply.File self.old (call.FileNew name pool) result self.new }
     {
         replies::file(self.call(Call::FileNew { name, pool }))
     }
 
-    // [`Domain::open_file`] of a list that is held.
+    // [`Domain::open_file`] of an owned name.
     fn open_named(&mut self, name: Bytes, mode: Mode) -> Result<Fd, Refusal>
         ensures { Answers reply.Fd self.old (call.OpenFile name mode) result self.new }
     {
         replies::fd(self.call(Call::OpenFile { name, mode }))
     }
 
-    // [`Domain::write`] of a list that is held.
+    // [`Domain::write`] of owned bytes.
     fn write_held(&mut self, fd: Fd, bytes: Bytes) -> Result<u32, Refusal>
         ensures { Answers reply.Count self.old (call.Write fd bytes) result self.new }
     {

@@ -1,8 +1,9 @@
-//! Calls by name: one method for each call of a domain, whose result has the call's own type.
+//! Typed calls: one method for each call of a domain, with a result of the call's own type.
 //!
-//! [`Domain`](domain::Domain) borrows a system and makes the calls of one of its domains. A method returns what the call's reply
-//! carries, or its refusal; `docs/RULES.md` lists the refusals of each call. Each contract is that of
-//! [`System::step`](iol_system::system::System::step), with the reply as a typed result.
+//! [`Domain`](domain::Domain) borrows a system and makes the calls of one of its domains. A method
+//! returns the value in the call's reply, or its refusal; `docs/RULES.md` lists the refusals of
+//! each call. Each contract is that of [`System::step`](iol_system::system::System::step), with
+//! the reply as a typed result.
 //!
 //!     let store = MemoryBacking::new(Slots::new(alloc));
 //!     let mut system = System::new(alloc, Config::DEFAULT, store)?;

@@ -1,4 +1,4 @@
-//! Two domains, a pipe and an aggregate, by calls with names.
+//! Two domains, a pipe and an aggregate, by typed calls.
 use iol_api::domain::Domain;
 use iol_back::memory::MemoryBacking;
 use iol_back::slots::Slots;
@@ -29,13 +29,13 @@ fn receive(alloc: Global, system: &mut System<MemoryBacking>, read: Fd) -> Resul
     second.show(front)
 }
 
-// What domain 2 gets when it drops an aggregate that it has not.
+// The refusal of domain 2 when it drops an aggregate that it does not have.
 fn drops_nothing(alloc: Global, system: &mut System<MemoryBacking>) -> bool {
     let mut second = Domain::new(alloc, system, DomainId::new(2));
     matches!(second.agg_drop(AggId::new(9)), Err(Refusal::BadAgg))
 }
 
-// Whether all of it goes as the rules say.
+// Returns whether all calls have the specified results.
 fn passes(alloc: Global, system: &mut System<MemoryBacking>) -> bool {
     let Ok(read) = send(alloc, system) else {
         return false;

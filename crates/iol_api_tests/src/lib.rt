@@ -1,4 +1,4 @@
-//! Tests of calls by name, in a crate of their own since a crate with tests is proved twice.
+//! Tests of typed calls. They are a crate of their own since a crate with tests is proved twice.
 #![tactic(auto)]
 
 #[cfg(test)]

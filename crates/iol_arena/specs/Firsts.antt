@@ -1,9 +1,9 @@
--- Where the buffer on a page begins.
+-- The first page of the buffer on a page.
 use Rattle.std.specs.Prelude.{ℕ, Option, Some, None}
 use Rattle.iol_arena.specs.declared.pages.PageKind as kind
 use Rattle.iol_arena.specs.declared.pages.PageKind.TheVariants.{Free, Pending, Head, Tail}
 
--- the page at which the buffer on page q begins, by what stands on q: none where q is in no buffer
+-- the first page of the buffer on page q, by the kind of q: none if q is in no buffer
 abbrev pub first_on : kind.PageKind → (q : ℕ) → Option ℕ
 first_on Free q = None
 first_on Pending q = None

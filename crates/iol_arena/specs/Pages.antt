@@ -1,4 +1,4 @@
--- What becomes of pages: which were raised, which stayed, and which buffers were made on them.
+-- Changes of pages: which were raised, which are unchanged, and which buffers were made on them.
 use Rattle.std.specs.Prelude.{◌≡◌, ℕ, ◌+◌, ◌≤◌, true, List, [], ◌∷◌, length, take, map, flat_map}
 use Rattle.std.specs.List.{Contains}
 use Rattle.iol_core.specs.declared.limits.TheConstants.{PAGE_BYTES}
@@ -15,11 +15,11 @@ pub record Raises (old new : State) (placed : List ℕ) : Type 0 where
   pub raised : (q : ℕ) → Contains placed q → generation_at new q ≡ generation_at old q + 1
   pub kept : (q : ℕ) → (Contains placed q → ⊥) → generation_at new q ≡ generation_at old q
 
--- all pages but those of the list are as they were
+-- all pages except those of the list are unchanged
 pub record IsSameBut (pages : List ℕ) (old new : State) : Type 0 where
   pub each : (q : ℕ) → (Contains pages q → ⊥) → entry_at new q ≡ entry_at old q
 
--- what lies on all pages but those of the list lies there still
+-- the memory of all pages except those of the list is unchanged
 pub record KeepsMemory (pages : List ℕ) (old new : State) : Type 0 where
   pub each : (q : ℕ) → (Contains pages q → ⊥) → memory_at new q PAGE_BYTES ≡ memory_at old q PAGE_BYTES
 

@@ -1,4 +1,4 @@
--- The words that contracts of other crates cite, passed on from one place. Declares nothing.
+-- Re-exports the definitions that contracts of other crates cite.
 pub use Rattle.iol_arena.specs.Adds.{Adds, IsNew}
 pub use Rattle.iol_arena.specs.Buffers.{Grows, HasRange, IsLive, IsUnraised, SharesNoPage, bytes_in, bytes_of, len_of, live_pages}
 pub use Rattle.iol_arena.specs.Chunks.{free_chunks, free_pages, is_unused, retired_pages, usable}

@@ -18,7 +18,7 @@ pub record AddsPage (old new : List Part) (page : ℕ) : Type 0 where
   pub apart : AreApart 0 new
   pub end : end_of 0 new ≡ page + 1
 
--- The search has come to page `from` with these parts, and goes on up to page `to`: it has no more pages than are needed.
+-- The search is at page `from` with these parts, and continues up to page `to`: it has no more pages than are needed.
 pub record IsSearching (s : State) (ps : List Part) (from to had need : ℕ) : Type 0 where
   pub within : to ≤ page_count s
   pub have : had ≤ need

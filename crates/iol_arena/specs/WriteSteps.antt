@@ -1,4 +1,4 @@
--- What one step of the arena writes. No public clause has these words.
+-- The writes of one step of the arena. No public clause cites these definitions.
 use Rattle.std.specs.Prelude.{◌≡◌, ℕ, ◌+◌, ◌-◌, ◌*◌, ◌≤◌, Bool, List, [], ◌∷◌, length, take, if◌then◌else◌}
 use Rattle.iol_core.specs.declared.limits.TheConstants.{PAGE_BYTES}
 use Rattle.iol_core.specs.declared.numbers.BufId.{BufId}
@@ -12,7 +12,7 @@ use Rattle.iol_arena.specs.declared.pages.PageKind.TheVariants.{Free, Pending, H
 use Rattle.iol_arena.specs.declared.pages.Entry.{Entry}
 use Rattle.iol_arena.specs.declared.pages.Part.{Part}
 
--- what stands on a page that is reserved, or is not
+-- the kind of a page that is reserved, or is not
 abbrev pub reserved_kind : Bool → PageKind
 reserved_kind reserved = if reserved then Pending else Free
 
@@ -31,7 +31,7 @@ pub record MarksAll (k : PageKind) (ps : List Part) (old new : State) : Type 0 w
   pub grows : Grows old new
   pub spares : Spares old new
 
--- The bytes stand at the start of the part, all of which lies in the memory, and each live buffer stays.
+-- The bytes are at the start of the part, all of which is in the memory, and each live buffer is unchanged.
 pub record WritesPart (old new : State) (p : Part) (bytes : List ℕ) : Type 0 where
   pub arena : new ≡ filled old p bytes
   pub grows : Grows old new

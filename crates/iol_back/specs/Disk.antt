@@ -3,10 +3,10 @@ use Rattle.std.specs.Prelude.{◌≡◌, ◌≢◌, ℕ, ◌+◌, ◌<◌, ◌�
 use Rattle.iol_core.specs.NumberedLists.{numbered_or}
 use Rattle.iol_core.specs.declared.limits.TheConstants.{MAX_FILES}
 
--- The bytes of each file, how often the store failed, whether it is honest, and how many bytes it
--- tells that each file has. An honest store gives back what was written to it, and nobody else
--- writes it. Of any other only its failures are known, and that it tells one length of a file until
--- it is read or written.
+-- The bytes of each file, the number of failures, whether the store is honest, and the length that
+-- it reports for each file. An honest store returns what was written to it, and only its user
+-- writes it. Of any other store only its failures are known, and that it reports the same length of
+-- a file until it is read or written.
 pub record Disk : Type 0 where
   pub slots : List (List ℕ)
   pub failures : ℕ
@@ -29,7 +29,7 @@ length_told told f = numbered_or told f 0
 abbrev pub lengths_of : (slots : List (List ℕ)) → List ℕ
 lengths_of slots = map (λ bytes. min (length bytes) (2 ^ 32 - 1)) slots
 
--- failures are counted up to here: a store that failed so often fails from then on
+-- failures are counted up to here: a store that failed that often always fails
 abbrev pub last_failure : ℕ
 last_failure = 2 ^ 64 - 1
 
@@ -37,7 +37,7 @@ last_failure = 2 ^ 64 - 1
 abbrev pub raised : ℕ → ℕ
 raised n = min (n + 1) last_failure
 
--- a call that did not fail: the count stays, and had not reached its last
+-- a call that did not fail: the count does not change, and was not at its maximum
 abbrev pub Succeeds : (old new : Disk) → Type 0
 Succeeds old new = (new.failures ≡ old.failures) × (old.failures < last_failure)
 
@@ -50,7 +50,7 @@ Counts old new (Err e) = new.failures ≡ raised old.failures
 abbrev pub IfHonest : Disk → Type 0 → Type 0
 IfHonest disk P = disk.honest ≡ true → P
 
--- where a store is honest, n is the length of a file, or 2^32 - 1 where that is more
+-- if a store is honest, n is the length of a file, or 2^32 - 1 if that is more
 abbrev pub IsHonestLength : Disk → (file n : ℕ) → Type 0
 IsHonestLength disk file n = IfHonest disk (n ≡ min (length (content disk.slots file)) (2 ^ 32 - 1))
 
@@ -59,7 +59,7 @@ abbrev pub CanRead : Disk → (file at count : ℕ) → Type 0
 CanRead disk file at count =
     (disk.failures < last_failure) × IsSlot file × (at + count ≤ length (content disk.slots file))
 
--- a read that succeeded: its range lies in the file, and it gave the bytes there
+-- a read that succeeded: its range is in the file, and it returned the bytes there
 pub record Reads (at : ℕ) (bytes old new : List ℕ) : Type 0 where
   pub within : at + length old ≤ length bytes
   pub read : new ≡ take (length old) (drop at bytes)
@@ -72,7 +72,7 @@ pub record AllStay (old new : List (List ℕ)) : Type 0 where
 pub record OthersStay (file : ℕ) (old new : List (List ℕ)) : Type 0 where
   pub each : (f : ℕ) → f ≢ file → content new f ≡ content old f
 
--- bytes written from `at` on, in place of those that were there; past the end the file grows
+-- bytes written from `at` on, over the old ones; past the end the file grows
 abbrev pub overwritten : (at : ℕ) → (bytes old : List ℕ) → List ℕ
 overwritten at bytes old = take at old ++ bytes ++ drop (at + length bytes) old
 
@@ -81,16 +81,16 @@ pub record Writes (at : ℕ) (bytes old new : List ℕ) : Type 0 where
   pub begins : at ≤ length old
   pub written : new ≡ overwritten at bytes old
 
--- A write of n bytes from `at` on that failed: outside of its range all is as it was, inside is
--- anything. The length is the old one, the range's end, or between the two.
+-- A write of n bytes from `at` on that failed: the bytes outside its range are unchanged, those inside
+-- are arbitrary. The length is the old one, the range's end, or between the two.
 pub record Tears (at n : ℕ) (old new : List ℕ) : Type 0 where
   pub each : (i : ℕ) → (i < at) ⊎ (at + n ≤ i) → slice_index new i ≡ slice_index old i
   pub no_shorter : length old ≤ length new
   pub no_longer : length new ≤ max (length old) (at + n)
 
--- A call reads a file from `at` on, into bytes that were `was` and are `now`. It counts as `Counts` says, succeeds only where
--- the file has a slot, and leaves the store as honest as it was. An honest store has the bytes that it had, and where the call
--- succeeded, `now` are those of the range, which lies in the file.
+-- A call reads a file from `at` on, into bytes that were `was` and are `now`. It counts as `Counts` says, succeeds only if the
+-- file has a slot, and does not change whether the store is honest. An honest store keeps its bytes, and if the call succeeded,
+-- `now` are those of the range, which is in the file.
 pub record ReadsAt {E : Type 0} (file at : ℕ) (old new : Disk) (was now : List ℕ)
     (r : Result (Unit {0}) E) : Type 0 where
   pub honest : new.honest ≡ old.honest
@@ -99,9 +99,9 @@ pub record ReadsAt {E : Type 0} (file at : ℕ) (old new : Disk) (was now : List
   pub slots : IfHonest old (new.slots ≡ old.slots)
   pub read : IfHonest old (OnOk r (Reads at (content old.slots file) was now))
 
--- A call writes bytes to a file from `at` on. It counts as `Counts` says, succeeds only where the file has a slot, and leaves
--- the store as honest as it was. In an honest store all other files have the bytes that they had. This one has the new bytes
--- over its own where the call succeeded, which then did not begin past its end; where the call failed, it is as `Tears` says.
+-- A call writes bytes to a file from `at` on. It counts as `Counts` says, succeeds only if the file has a slot, and does not
+-- change whether the store is honest. In an honest store all other files keep their bytes. This one has the new bytes over its
+-- own if the call succeeded, which then did not begin past its end; if the call failed, it is as `Tears` says.
 pub record WritesAt {E : Type 0} (file at : ℕ) (bytes : List ℕ) (old new : Disk)
     (r : Result (Unit {0}) E) : Type 0 where
   pub honest : new.honest ≡ old.honest

@@ -7,18 +7,18 @@ use Rattle.iol_back.specs.declared.faulty.FaultyBacking.{FaultyBacking}
 abbrev pub inner_of : {B : Type 0} → FaultyBacking B → B
 inner_of f = f.inner
 
--- which of the calls to come fails: with 1 the next, with 0 none
+-- which of the next calls fails: with 1 the next one, with 0 none
 abbrev pub calls_to_fault : {B : Type 0} → FaultyBacking B → ℕ
 calls_to_fault f = f.left
 
--- As a store: the bytes, the honesty and the lengths of the one below, and its own failures, among them each call that
--- failed below. What the one below had failed before is not counted.
+-- As a store: the bytes, the honesty and the lengths of the store below, and its own failures, which include each call that
+-- failed below. Earlier failures of the store below are not counted.
 abbrev pub disk_over : {B : Type 0} → (B → Disk) → FaultyBacking B → Disk
 disk_over disk f =
     record { slots = (disk f.inner).slots; failures = f.failed; honest = (disk f.inner).honest; told = (disk f.inner).told }
 
--- One call fewer is left to the one that fails. The call that is due fails; any other fails where the store
--- below does. That one is not asked any more once this store failed too often.
+-- The countdown to the failing call decreases by one. The failing call fails; any other fails if the store below
+-- fails. Once this store has failed too often, it no longer calls the store below.
 pub record CountsDown {B E : Type 0} (disk : B → Disk) (old new : FaultyBacking B)
     (r : Result (Unit {0}) E) : Type 0 where
   pub calls : calls_to_fault new ≡ calls_to_fault old - 1
@@ -42,7 +42,7 @@ WritesFaulty disk file at bytes old new r = WritesAt file at bytes (disk_over di
 abbrev pub first_half : List ℕ → List ℕ
 first_half bytes = take (length bytes / 2) bytes
 
--- The write that is due puts the first half of its bytes into the store below, where that is honest and does not fail.
+-- The failing write writes the first half of its bytes to the store below, if that is honest and does not fail.
 abbrev pub WritesHalf : {B : Type 0} → (B → Disk) → (file at : ℕ) → (bytes : List ℕ) → (old new : FaultyBacking B) → Type 0
 WritesHalf disk file at bytes old new =
     calls_to_fault old ≡ 1 → Succeeds (disk (inner_of old)) (disk (inner_of new))

@@ -23,7 +23,7 @@ AreRising names = AllPairs Precedes names
 abbrev pub AreDistinct : List (List ℕ) → Type 0
 AreDistinct names = AllPairs (λ first second. first ≢ second) names
 
--- a file of this name may stand behind those of these names
+-- a file of this name may be added after those of these names
 pub record MayFollow (names : List (List ℕ)) (name : List ℕ) : Type 0 where
   pub room : length names < MAX_FILES
   pub sized : IsSized name
@@ -35,23 +35,23 @@ pub record AreNames (names : List (List ℕ)) : Type 0 where
   pub sized : All IsSized names
   pub rising : AreRising names
 
--- the names of the files of a folder, and their lengths when they were looked at last
+-- the names of the files of a folder, and their last seen lengths
 pub record Listed : Type 0 where
   pub names : List (List ℕ)
   pub lengths : List ℕ
 
--- the names of files, and as many lengths
+-- the names of files, and one length for each
 pub record AreListed (names : List (List ℕ)) (lengths : List ℕ) : Type 0 where
   pub is : AreNames names
   pub count : length lengths ≡ length names
 
--- The names of the files, the lengths that are told of them, and how often the store failed.
+-- The names of the files, their reported lengths, and the number of failures.
 pub record Folder : Type 0 where
   pub names : List (List ℕ)
   pub lengths : List ℕ
   pub failures : ℕ
 
--- As a store: of the files' bytes nothing is known, and it is not honest, since others write the
--- files too.
+-- As a store: nothing is known about the files' bytes, and it is not honest, because others write
+-- the files too.
 abbrev pub disk_of : Folder → Disk
 disk_of f = record { slots = []; failures = f.failures; honest = false; told = f.lengths }

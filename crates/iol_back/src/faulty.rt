@@ -5,7 +5,7 @@ ghost use Rattle.iol_back.specs.Disk.{raised};
 use crate::backing::{Backing, StoreFault};
 use iol_core::numbers::FileId;
 
-/// A store over another, whose k-th read or write fails: a read before it reads, a write after it wrote half of its
+/// A store over another, whose k-th read or write fails: a read before it reads, a write after it has written half of its
 /// bytes, rounded down.
 #[derive(Drop)]
 pub struct FaultyBacking<B> {
@@ -17,7 +17,7 @@ pub struct FaultyBacking<B> {
 impl<B: Backing> FaultyBacking<B> {
     ghost use Rattle.iol_back.specs.Faulty.{inner_of, calls_to_fault, disk_over};
 
-    /// A store whose k-th call to come fails, counted from 1. With 0 none does.
+    /// A store whose k-th call from now on fails, counted from 1. With 0 no call fails by this.
     pub fn new(inner: B, k: u64) -> FaultyBacking<B>
         ensures inner { inner_of result ≡ inner }
         ensures calls { calls_to_fault result ≡ k }
@@ -30,7 +30,7 @@ impl<B: Backing> FaultyBacking<B> {
         }
     }
 
-    // Counts a call, and tells whether it is the one that fails.
+    // Counts a call, and returns whether it is the one that fails.
     fn count_call(&mut self) -> bool
         ensures due { IsTrue result ↔ (self.old.left ≡ 1) }
         ensures left { self.new ≡ record self.old { left = self.old.left - 1 } }
@@ -62,7 +62,7 @@ impl<B: Backing> Backing for FaultyBacking<B> {
         ensures reads { ReadsFaulty B.disk file at self.old self.new into.old into.new result }
         ensures calls { CountsDown B.disk self.old self.new result }
 
-        // The call that is due reads nothing.
+        // The failing call reads nothing.
         ensures unread { calls_to_fault self.old ≡ 1 → inner_of self.new ≡ inner_of self.old }
     {
         let due = self.count_call();
@@ -76,7 +76,7 @@ impl<B: Backing> Backing for FaultyBacking<B> {
         ensures writes { WritesFaulty B.disk file at bytes.now self.old self.new result }
         ensures calls { CountsDown B.disk self.old self.new result }
 
-        // The call that is due fails after the store below took half of the bytes.
+        // The failing call fails after the store below has taken half of the bytes.
         ensures half { WritesHalf B.disk file at bytes.now self.old self.new }
     {
         let due = self.count_call();

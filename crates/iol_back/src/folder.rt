@@ -14,11 +14,11 @@ use std::io::{ErrorKind, Read, Seek, SeekFrom, Write};
 use std::marker::Model;
 use std::rt::Files;
 
-/// The regular files that lie directly in a folder, as a store: those with a name in UTF-8 and at most 2^24 bytes, by byte
-/// order of names, the first 1,024. It promises nothing of their bytes.
+/// The regular files directly in a folder, as a store: those with a name in UTF-8 and at most 2^24 bytes, by byte order of
+/// names, the first 1,024. It promises nothing about their bytes.
 ///
-/// No file is held open. While one is gone, or another file or something else lies in its place, or it has another length
-/// or time of last writing than this store left it, each read and each write of it fails.
+/// No file is held open. While a file does not exist, or something else is in its place, or its length or time of the last
+/// write differs from what this store left, each read and each write of it fails.
 #[derive(Drop)]
 pub struct FolderBacking<R: Files> {
     files: R,
@@ -39,7 +39,7 @@ impl<R: Files> Model for FolderBacking<R> {
 }
 
 impl<R: Files + AllocGlobal + Clone + Drop> FolderBacking<R> {
-    /// The files of a folder, as they are now. The error is of the kind `OutOfMemory` where memory was wanting.
+    /// The files of a folder, as they are now. The error has the kind `OutOfMemory` if memory ran out.
     pub fn new(rt: &R, root: &str) -> io::Result<FolderBacking<R>>
         ensures failures { IfOk result (λ f. f.failures ≡ 0) }
     {
@@ -54,7 +54,7 @@ impl<R: Files + AllocGlobal + Clone + Drop> FolderBacking<R> {
 }
 
 impl<R: Files> FolderBacking<R> {
-    /// How many files there are. They have the slots from 1 on.
+    /// The number of files. They have the slots from 1 on.
     pub fn count(&self) -> usize
         ensures count { result ≡ length self.now.names }
         ensures names { AreNames self.now.names }
@@ -73,7 +73,7 @@ impl<R: Files> FolderBacking<R> {
         Some(self.listing.name(place))
     }
 
-    // Where a file stands in the list.
+    // The index of a file in the list.
     fn place(&self, slot: FileId) -> Option<usize>
         ensures which { IsSome result ↔ ((0 < slot) × (slot ≤ length self.now.names)) }
         ensures slot { IfSome result (λ place. IsSlot slot × (place ≡ slot - 1)) }
@@ -97,7 +97,7 @@ impl<R: Files> FolderBacking<R> {
         StoreFault
     }
 
-    // Opens a file that is still as it was. It is looked at first: to open a pipe would be to wait for its other end.
+    // Opens an unchanged file. Looks at it first, because opening a pipe would wait for its other end.
     fn open(&self, place: usize, how: &OpenOptions) -> io::Result<R::File>
         requires { place < length self.now.names }
     {
@@ -110,7 +110,7 @@ impl<R: Files> FolderBacking<R> {
         Ok(file)
     }
 
-    // Fails if an open file is not as it was.
+    // Fails if an open file has changed.
     fn check(&self, place: usize, file: &R::File) -> io::Result<()>
         requires { place < length self.now.names }
     {
@@ -121,7 +121,7 @@ impl<R: Files> FolderBacking<R> {
         }
     }
 
-    // Reads bytes of a file that is as it was, before and after.
+    // Reads bytes of a file that is unchanged before and after.
     fn read(&self, place: usize, at: u32, into: &mut [u8]) -> io::Result<()>
         requires { place < length self.now.names }
     {
@@ -131,7 +131,7 @@ impl<R: Files> FolderBacking<R> {
         self.check(place, &file)
     }
 
-    // Writes bytes to a file that is as it was.
+    // Writes bytes to an unchanged file.
     fn write(&mut self, place: usize, at: u32, bytes: &[u8]) -> io::Result<()>
         requires { place < length self.old.names }
         ensures failures { self.new.failures ≡ self.old.failures }
@@ -144,7 +144,7 @@ impl<R: Files> FolderBacking<R> {
         let mut file = self.open(place, OpenOptions::new().write(true))?;
         file.seek(SeekFrom::Start(u64::from(at)))?;
         let written = file.write_all(bytes);
-        // Where a write failed half way, the file may have grown all the same.
+        // After a write that failed part way, the file may have grown.
         if let Some(stamp) = Stamp::of(&file.metadata()?) {
             self.listing.set_stamp(place, stamp);
         }
@@ -157,7 +157,7 @@ impl<R: Files> Backing for FolderBacking<R> {
 
     ghost disk = { disk_of };
 
-    /// The length that the file had when it was found, or was written here last; 0 where there is no file.
+    /// The length that the file had when it was found, or after the last write here; 0 if there is no such file.
     fn length(&self, file: FileId) -> u32
         ensures told { result ≡ length_told (disk_of self.now).told file }
         ensures honest { IsHonestLength (disk_of self.now) file result }
@@ -173,7 +173,7 @@ impl<R: Files> Backing for FolderBacking<R> {
         ensures reads { ReadsAt file at (disk_of self.old) (disk_of self.new)
             into.old into.new result }
 
-        // Of a file of the folder alone, and the names stay.
+        // Only for a file of the folder. The names do not change.
         ensures file { OnOk result (file ≤ length self.old.names) }
         ensures names { self.new.names ≡ self.old.names }
     {
@@ -192,7 +192,7 @@ impl<R: Files> Backing for FolderBacking<R> {
     fn write_at(&mut self, file: FileId, at: u32, bytes: &[u8]) -> Result<(), StoreFault>
         ensures writes { WritesAt file at bytes.now (disk_of self.old) (disk_of self.new) result }
 
-        // Of a file of the folder alone, and the names stay.
+        // Only for a file of the folder. The names do not change.
         ensures file { OnOk result (file ≤ length self.old.names) }
         ensures names { self.new.names ≡ self.old.names }
     {

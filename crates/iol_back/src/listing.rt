@@ -1,4 +1,4 @@
-//! The files that lie in a folder.
+//! The files in a folder.
 ghost use Rattle.std.specs.Prelude.{◌≡◌, ◌+◌, ◌-◌, ◌<◌, ◌≤◌, [], length, All, Some, IsTrue, slice_get, string_bytes, map};
 ghost use Rattle.iol_back.specs.Folder.{AreNames, MayFollow, Precedes};
 ghost use Rattle.iol_core.specs.declared.limits.TheConstants.{MAX_FILE_BYTES};
@@ -13,7 +13,7 @@ use std::os::unix::fs::MetadataExt;
 use std::rt::Files;
 use std::{fs, io};
 
-/// By what a file is told from the one that it was: which one it is, how long it is, and when its bytes were written last.
+/// By which a change of a file is detected: its identity, its length, and the time of the last write.
 #[derive(Clone, Copy, Debug, PartialEq, Eq)]
 pub struct Stamp {
     device: u64,
@@ -25,7 +25,7 @@ pub struct Stamp {
 }
 
 impl Stamp {
-    /// The stamp of what is found at a path: of a regular file that is not too long alone.
+    /// The stamp of the file at a path, if it is a regular file that is not too long.
     pub fn of(found: &Metadata) -> Option<Stamp> {
         if !found.is_file() || found.len() > MAX_FILE_BYTES as u64 {
             return None;
@@ -38,7 +38,7 @@ impl Stamp {
         })
     }
 
-    /// How many bytes the file has.
+    /// The length of the file in bytes.
     pub fn length(&self) -> u32
         ensures length { result ≡ self.now.length }
         ensures short { result ≤ MAX_FILE_BYTES }
@@ -54,7 +54,7 @@ struct Entry {
     path: String,
 }
 
-/// Files of a folder, by byte order of their names, each with the stamp that it had when it was looked at last.
+/// Files of a folder, by byte order of their names, each with its last seen stamp.
 #[derive(Drop)]
 pub struct Listing {
     entries: Vec<Entry>,
@@ -86,7 +86,7 @@ impl Listing {
         }
     }
 
-    /// How many files there are.
+    /// The number of files.
     pub fn count(&self) -> usize
         ensures count { result ≡ length self.now.names }
         ensures names { AreNames self.now.names }
@@ -103,14 +103,14 @@ impl Listing {
         self.entries[place].name.as_str()
     }
 
-    /// Where a file lies.
+    /// The path of a file.
     pub fn path(&self, place: usize) -> &str
         requires { place < length self.now.names }
     {
         self.entries[place].path.as_str()
     }
 
-    /// What a file was like when it was looked at last.
+    /// The last seen stamp of a file.
     pub fn stamp(&self, place: usize) -> Stamp
         requires { place < length self.now.names }
         ensures { slice_get self.now.lengths place ≡ Some result.length }
@@ -118,7 +118,7 @@ impl Listing {
         self.stamps[place]
     }
 
-    /// Notes what a file is like now.
+    /// Sets the last seen stamp of a file.
     pub fn set_stamp(&mut self, place: usize, stamp: Stamp)
         requires { place < length self.old.names }
         ensures { self.new.names ≡ self.old.names }
@@ -126,7 +126,7 @@ impl Listing {
         self.stamps[place] = stamp;
     }
 
-    // Whether a file of this name may stand behind the others.
+    // Whether a file of this name may be added after the others.
     fn takes(&self, name: &str) -> bool
         ensures { IsTrue result → MayFollow self.now.names name.now }
     {
@@ -134,7 +134,7 @@ impl Listing {
         is_sized && self.entries.len() < MAX_FILES && self.is_last(name)
     }
 
-    // Whether a name is behind the others in byte order.
+    // Whether a name is after the others in byte order.
     fn is_last(&self, name: &str) -> bool
         ensures { IsTrue result → All (λ other. Precedes other name.now) self.now.names }
     {
@@ -145,7 +145,7 @@ impl Listing {
         matches!(self.name(count - 1).cmp(name), Ordering::Less)
     }
 
-    // Adds a file behind the others.
+    // Adds a file after the others.
     fn add(&mut self, entry: Entry, stamp: Stamp) -> Result<(), AllocError>
         requires { MayFollow self.old.names (string_bytes entry.name) }
     {
@@ -157,8 +157,8 @@ impl Listing {
     }
 }
 
-/// The files that lie directly in a folder, as they are now: the regular ones of at most 2^24 bytes with a name in UTF-8,
-/// by byte order of names, the first 1,024. The error is of the kind `OutOfMemory` where memory was wanting.
+/// The files directly in a folder, as they are now: the regular files of at most 2^24 bytes with a name in UTF-8, by byte
+/// order of names, the first 1,024. The error has the kind `OutOfMemory` if memory ran out.
 pub fn listed<R: Files + AllocGlobal + Clone + Drop>(rt: &R, root: &str) -> io::Result<Listing> {
     let mut listing = Listing::new(rt.alloc());
     for name in names_in(rt, root)? {
@@ -174,13 +174,13 @@ pub fn listed<R: Files + AllocGlobal + Clone + Drop>(rt: &R, root: &str) -> io::
     Ok(listing)
 }
 
-/// What lies at a path, if it is a file that can be served. A link is none, whatever it leads to.
+/// The file at a path, if it can be served. A link cannot, whatever it leads to.
 pub fn stamp_at<R: Files>(rt: &R, path: &str) -> Option<Stamp> {
     let found = fs::symlink_metadata(rt, path).ok()?;
     Stamp::of(&found)
 }
 
-// The names in a folder, by byte order. Those that are not UTF-8 are passed over.
+// The names in a folder, by byte order, without those that are not UTF-8.
 fn names_in<R: Files + AllocGlobal + Clone + Drop>(rt: &R, root: &str) -> io::Result<Vec<String>> {
     let mut names = Vec::new(rt.alloc());
     for entry in fs::read_dir(rt, root)? {

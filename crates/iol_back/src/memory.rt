@@ -10,7 +10,7 @@ use iol_core::numbers::FileId;
 use std::alloc::AllocError;
 use std::marker::Model;
 
-/// Lists of bytes in memory, as a store. It is honest, and a growth of a list that is refused is a failure.
+/// Lists of bytes in memory, as a store. It is honest. If memory for the growth of a list runs out, the call fails.
 #[derive(Drop)]
 pub struct MemoryBacking {
     slots: Slots,
@@ -32,7 +32,7 @@ impl Model for MemoryBacking {
 }
 
 impl MemoryBacking {
-    /// A store of these lists.
+    /// A store with these lists.
     pub fn new(slots: Slots) -> MemoryBacking
         ensures slots { result.slots ≡ slots }
         ensures failures { result.failures ≡ 0 }
@@ -42,7 +42,7 @@ impl MemoryBacking {
         MemoryBacking { slots, failures: 0 }
     }
 
-    // Whether there are so many bytes from `at` on, and the store still answers.
+    // Whether the file has that many bytes from `at` on, and the store has not failed too often.
     fn can_read(&self, file: FileId, at: u32, count: usize) -> bool
         ensures { IsTrue result ↔ CanRead self.now file at count }
     {

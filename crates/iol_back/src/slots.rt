@@ -27,7 +27,7 @@ impl Model for Slots {
     ghost invariant = { λ s. length s.lists.items ≤ MAX_FILES };
 }
 
-// Puts bytes over those from `at` on. Refused, it changes nothing.
+// Writes bytes over those from `at` on. An error changes nothing.
 fn overwrite(list: &mut Vec<u8>, at: usize, bytes: &[u8]) -> Result<(), AllocError>
     requires { at ≤ length list.old.items }
     ensures { Overwrites at bytes.now list.old.items list.new.items result }
@@ -39,7 +39,7 @@ fn overwrite(list: &mut Vec<u8>, at: usize, bytes: &[u8]) -> Result<(), AllocErr
     Ok(())
 }
 
-// Adds empty lists until there is one of this number.
+// Adds empty lists until there is one with this number.
 fn reach(lists: &mut Vec<Vec<u8>>, alloc: Global, number: usize) -> Result<(), AllocError>
     requires number { number ≤ MAX_FILES }
     requires few { length lists.old.items ≤ MAX_FILES }
@@ -52,7 +52,7 @@ fn reach(lists: &mut Vec<Vec<u8>>, alloc: Global, number: usize) -> Result<(), A
     Ok(())
 }
 
-// Puts bytes over those of a list from `at` on. Refused, it changes no list's bytes.
+// Writes bytes over those of a list from `at` on. An error changes no list's bytes.
 fn write_list(
     lists: &mut Vec<Vec<u8>>,
     alloc: Global,
@@ -93,7 +93,7 @@ impl Slots {
         self.lists[number - 1].as_slice()
     }
 
-    /// Puts bytes at the end of a file. Refused, it changes nothing; no bytes want no memory.
+    /// Appends bytes to a file. An error changes nothing. Appending no bytes needs no memory.
     pub fn append(&mut self, file: FileId, bytes: &[u8]) -> Result<(), AllocError>
         requires { IsSlot file }
         ensures { Appends file bytes.now self.old self.new result }
@@ -102,8 +102,7 @@ impl Slots {
         self.overwrite(file, end, bytes)
     }
 
-    /// Puts bytes over those of a file from `at` on. Refused, it changes nothing; where the file need not grow it is
-    /// never refused.
+    /// Writes bytes over those of a file from `at` on. An error changes nothing. Never fails if the file need not grow.
     pub(crate) fn overwrite(
         &mut self,
         file: FileId,

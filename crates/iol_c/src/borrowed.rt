@@ -8,7 +8,7 @@ use iol_agg::Parts;
 use iol_core::numbers::{AggId, DomainId};
 use iol_system::system::System;
 
-/// Bytes of a page, borrowed.
+/// Borrowed bytes of a page.
 #[repr(C)]
 #[derive(Drop)]
 pub struct IolPart {
@@ -16,7 +16,8 @@ pub struct IolPart {
     pub len: usize,
 }
 
-// Puts the address and the length of each part from number `skip` on into `room`, as many as it has. The reply counts all.
+// Writes the address and the length of each part from number `skip` on into `room`, as many as
+// fit. The reply counts all parts.
 fn place_all(parts: Parts<'_>, skip: usize, room: &mut [IolPart]) -> IolReply
     ensures { AreCounted parts.entry result }
 {

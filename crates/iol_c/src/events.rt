@@ -1,4 +1,4 @@
-//! Events as C passes them: a struct of numbers, and slices for bytes and domains.
+//! Events as passed by C: a struct of numbers, and slices for bytes and domains.
 ghost use Rattle.std.specs.Prelude.{◌≡◌, ◌<◌, ◌≤◌, IfErr, IfNone, IfOk, IfSome};
 ghost use Rattle.iol_c.specs.Events.{IfBad, IsCall, IsEvent, IsNoCall, IsNoEvent, IsNoPlainKind, IsPlainCall, TakesBytes, how_number, mode_number};
 
@@ -9,7 +9,7 @@ use iol_core::lists::{Bytes, Domains};
 use iol_core::numbers::{AggId, ConnId, DomainId, Fd, PoolId};
 use std::alloc::{AllocError, Global};
 
-/// An event. `iolite.h` says which fields each kind reads; the others are ignored.
+/// An event. `iolite.h` documents the fields that each kind reads; all others are ignored.
 #[repr(C)]
 #[derive(Drop)]
 pub struct IolEvent {
@@ -23,7 +23,7 @@ pub struct IolEvent {
     pub until: u32,
 }
 
-/// Why no event is made of what C passed.
+/// The reason for which C's arguments are no event.
 #[derive(Drop)]
 pub(crate) enum Unread {
     /// There is no memory for the event's bytes.
@@ -131,7 +131,7 @@ fn plain_call(e: &IolEvent) -> Option<Call>
     Some(call)
 }
 
-// The call of an event, also one that reads bytes or domains.
+// The call of an event, including those that read bytes or domains.
 fn call_of(alloc: Global, e: &IolEvent, bytes: &[u8], names: &[u32]) -> Result<Call, Unread>
     ensures ok { IfOk result (λ c. IsCall c e.now bytes.now names.now) }
     ensures bad { IfErr result (λ why. IfBad why (IsNoCall e.now)) }
@@ -166,7 +166,7 @@ fn call_of(alloc: Global, e: &IolEvent, bytes: &[u8], names: &[u32]) -> Result<C
     }
 }
 
-/// The event that C's struct and slices denote.
+/// The event that C's struct and slices represent.
 pub(crate) fn event_of(
     alloc: Global,
     e: &IolEvent,
@@ -199,7 +199,8 @@ pub(crate) fn event_of(
     }
 }
 
-/// The number of bytes that the reply to this event may have, where carrying it out again would not return them again.
+/// The maximum number of bytes in the reply to this event, if they could not be read again;
+/// otherwise 0.
 pub(crate) fn room_for(e: &IolEvent) -> usize
     ensures { 0 < result → TakesBytes e.now × (result ≤ e.now.from) }
 {

@@ -1,4 +1,4 @@
-//! The handle that C holds: nothing, or a machine in a box.
+//! The handle that C holds: empty, or a boxed machine.
 ghost use Rattle.std.specs.Prelude.{◌≡◌, Option, Some, None, IsSome, IfSome};
 ghost use Rattle.iol_c.specs.declared.Machine.{Machine};
 ghost use Rattle.iol_c.specs.Handles.{held_coded, handle_owns};
@@ -9,7 +9,7 @@ use std::alloc::Global;
 use std::marker::Model;
 use std::ptr;
 
-/// The handle that C holds: a pointer to a boxed machine, or none. C sees the pointer only.
+/// The handle that C holds: a pointer to a boxed machine, or none. It is opaque to C.
 #[repr(C)]
 #[derive(Drop)]
 pub struct Handle {

@@ -1,6 +1,7 @@
-//! The system for programs in C: eight exported functions over a system behind a handle, and what they promise.
+//! The system for programs in C: eight exported functions over a system behind a handle, with
+//! their contracts.
 //!
-//! `bindings/c/iolite.h` declares them. `docs/BINDINGS.md` lists what a caller in C owes.
+//! `bindings/c/iolite.h` declares them. `docs/BINDINGS.md` lists the obligations of a caller in C.
 #![tactic(auto)]
 
 ghost use Rattle.std.specs.Prelude.{◌≡◌, IsSome, None};
@@ -44,7 +45,7 @@ pub struct Machine {
     system: System<HostStore>,
 }
 
-// A new system in a box.
+// Creates a boxed system.
 fn start(alloc: Global, config: Config, store: HostStore) -> Result<Box<Machine>, Refusal>
     ensures { IsCreated config (disk_of store) result }
 {
@@ -55,7 +56,7 @@ fn start(alloc: Global, config: Config, store: HostStore) -> Result<Box<Machine>
     }
 }
 
-// Puts a new system into a handle. Returns 0, or the number of the refusal.
+// Stores a new system in a handle. Returns 0, or the number of the refusal.
 fn start_in(alloc: Global, config: Config, store: HostStore, out: &mut Handle) -> u32
     requires { out.old.value ≡ None }
     ensures { Creates config (disk_of store) result out.new.value }
@@ -69,7 +70,7 @@ fn start_in(alloc: Global, config: Config, store: HostStore, out: &mut Handle) -
     }
 }
 
-// Carries out one event.
+// Executes one event.
 fn step(alloc: Global, handle: &mut Handle, event: Event) -> Reply
     requires { IsSome handle.old.value }
     ensures { Steps handle.old.value event result handle.new.value }
@@ -80,7 +81,8 @@ fn step(alloc: Global, handle: &mut Handle, event: Event) -> Reply
     reply
 }
 
-/// Makes a system over an empty store in memory. Returns 0, or the number of the refusal: `out` then stays empty.
+/// Creates a system over an empty store in memory. Returns 0, or the number of the refusal: then
+/// `out` stays empty.
 #[unsafe(no_mangle)]
 pub extern "C" fn iol_system_new(
     alloc: Global,
@@ -101,8 +103,8 @@ pub extern "C" fn iol_system_new(
     start_in(alloc, config, store, out)
 }
 
-/// Makes a system over open descriptors: file N of the store is descriptor N - 1, of the length that stands there in
-/// `lens`. Returns 0, or the number of the refusal: `out` then stays empty.
+/// Creates a system over open descriptors: file N of the store is descriptor N - 1, with its
+/// length in `lens`. Returns 0, or the number of the refusal: then `out` stays empty.
 #[unsafe(no_mangle)]
 pub extern "C" fn iol_system_over(
     alloc: Global,
@@ -132,7 +134,7 @@ pub extern "C" fn iol_system_over(
     start_in(alloc, config, HostStore::Opened(opened), out)
 }
 
-/// Frees the system. The handle is then empty.
+/// Frees the system. The handle is empty afterwards.
 #[unsafe(no_mangle)]
 pub extern "C" fn iol_system_free(alloc: Global, handle: &mut Handle)
     requires { IsSome handle.old.value }
@@ -142,7 +144,7 @@ pub extern "C" fn iol_system_free(alloc: Global, handle: &mut Handle)
     drop(machine);
 }
 
-/// Carries out one event. The bytes of its reply go to `out`.
+/// Executes one event. The bytes of its reply are written to `out`.
 #[unsafe(no_mangle)]
 pub extern "C" fn iol_step(
     alloc: Global,
@@ -174,8 +176,9 @@ pub extern "C" fn iol_step(
     }
 }
 
-/// Borrows the bytes of an aggregate in place: the address and the length of each of its parts, from part `skip` on, as
-/// many as `room` has. Replies the number of all its parts, and of all its bytes.
+/// Borrows the bytes of an aggregate in place: the address and the length of each of its parts,
+/// from part `skip` on, as many as fit into `room`. The reply has the number of all its parts and
+/// of all its bytes.
 #[unsafe(no_mangle)]
 pub extern "C" fn iol_parts(
     alloc: Global,
@@ -195,8 +198,8 @@ pub extern "C" fn iol_parts(
     *handle = Handle::of(machine);
 }
 
-/// Counts what is in the system: its live buffers, its extents of files and those that are dirty, and the pages of each
-/// pool that still has chunks, as many pools as `room` has.
+/// Counts the resources of the system: live buffers, file extents, dirty extents, and the pages of
+/// each pool that still has chunks, as many pools as fit into `room`.
 #[unsafe(no_mangle)]
 pub extern "C" fn iol_report(
     alloc: Global,
@@ -213,8 +216,9 @@ pub extern "C" fn iol_report(
     *handle = Handle::of(machine);
 }
 
-/// Reads once from a descriptor straight into a page, at most `max` bytes, which arrive on a connection. Replies how many
-/// arrived, and 1 at the descriptor's end, 2 where the read failed, else 0.
+/// Reads once from a descriptor directly into a page, at most `max` bytes, which arrive on a
+/// connection. The reply has the number of bytes that arrived, and 1 at the descriptor's end, 2 if
+/// the read failed, otherwise 0.
 #[unsafe(no_mangle)]
 pub extern "C" fn iol_arrive_from(
     alloc: Global,
@@ -232,8 +236,9 @@ pub extern "C" fn iol_arrive_from(
     *handle = Handle::of(machine);
 }
 
-/// Writes the first bytes to be sent on a connection to a descriptor, from their pages, at most `max`. Replies how many it
-/// took, and 1 where it failed or took none of what it was offered, else 0.
+/// Writes the first bytes queued on a connection to a descriptor, from their pages, at most `max`.
+/// The reply has the number of bytes taken, and 1 if the descriptor failed or took none of the
+/// offered bytes, otherwise 0.
 #[unsafe(no_mangle)]
 pub extern "C" fn iol_drain_to(
     alloc: Global,

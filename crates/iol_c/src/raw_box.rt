@@ -5,7 +5,7 @@ ghost use Rattle.std.specs.Box.Ownership.{box_owns};
 use std::alloc::Allocator;
 use std::marker::Model;
 
-/// The pointer and the allocator of a box. It owns what the box owned.
+/// The pointer and the allocator of a box. It owns the contents of the box.
 pub struct RawBox<T, A: Allocator> {
     pub(crate) ptr: *mut T,
     pub(crate) alloc: A,

@@ -1,11 +1,11 @@
-//! Replies as C gets them: a struct of numbers, and a slice for bytes.
+//! Replies for C: a struct of numbers, and a slice for bytes.
 ghost use Rattle.std.specs.Prelude.{◌≡◌, ◌<◌, IsFalse, IsTrue, length, take};
 ghost use Rattle.iol_c.specs.Replies.{Encodes, IsDone, IsRefusal, ReturnsBytes, about_of, number_of};
 
 use iol_core::events::Reply;
 use iol_core::refusals::Refusal;
 
-/// A reply. `refusal` is 0 where the event was carried out.
+/// A reply. `refusal` is 0 if the event succeeded.
 #[repr(C)]
 #[derive(Drop)]
 pub struct IolReply {
@@ -21,7 +21,7 @@ pub(crate) const MEMORY: u32 = 17;
 /// No event has this kind, or a number that it reads is out of its range.
 pub(crate) const BAD_EVENT: u32 = 100;
 
-/// There is no room for the bytes of the reply.
+/// `out` is too small for the bytes of the reply.
 pub(crate) const SMALL_ROOM: u32 = 101;
 
 /// The number of a refusal.
@@ -49,7 +49,7 @@ pub(crate) fn refusal_number(refusal: Refusal) -> u32
     }
 }
 
-// The pool or file that a refusal names, or 0.
+// The pool or file in a refusal, or 0.
 fn refusal_about(refusal: Refusal) -> u32
     ensures { result ≡ about_of refusal }
 {
@@ -63,7 +63,7 @@ fn refusal_about(refusal: Refusal) -> u32
     }
 }
 
-/// The reply to an event that was carried out, with these two numbers.
+/// The reply to an event that succeeded, with these two numbers.
 pub(crate) fn done(number: u64, second: u64) -> IolReply
     ensures { IsDone result number second }
 {
@@ -75,7 +75,7 @@ pub(crate) fn done(number: u64, second: u64) -> IolReply
     }
 }
 
-/// The reply where nothing was done, or where `number` bytes have no room.
+/// The reply if nothing was done, or if `out` is too small for `number` bytes.
 pub(crate) fn not_done(refusal: u32, number: u64) -> IolReply
     ensures { (result.refusal ≡ refusal) × (result.number ≡ number) }
 {
@@ -99,7 +99,7 @@ pub(crate) fn refused(refusal: &Refusal) -> IolReply
     }
 }
 
-// Copies bytes to the front of `out`, where there is room for them.
+// Copies bytes to the front of `out`, if they fit.
 fn put(bytes: &[u8], out: &mut [u8]) -> bool
     ensures fits { IsTrue result → take (length bytes.now) out.new ≡ bytes.now }
     ensures full { IsFalse result → length out.new < length bytes.now }
@@ -111,7 +111,7 @@ fn put(bytes: &[u8], out: &mut [u8]) -> bool
     true
 }
 
-// The reply that returns bytes.
+// The reply with these bytes.
 fn with_bytes(bytes: &[u8], second: u64, out: &mut [u8]) -> IolReply
     ensures { ReturnsBytes bytes.now second result out.new }
 {
@@ -123,7 +123,7 @@ fn with_bytes(bytes: &[u8], second: u64, out: &mut [u8]) -> IolReply
     }
 }
 
-/// The numbers of a reply. Its bytes go to `out`.
+/// Encodes a reply. Its bytes are written to `out`.
 pub(crate) fn reply_of(reply: &Reply, out: &mut [u8]) -> IolReply
     ensures { Encodes reply.now result out.new }
 {

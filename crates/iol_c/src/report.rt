@@ -1,4 +1,4 @@
-//! A report as C gets it.
+//! Reports for C.
 ghost use Rattle.iol_c.specs.Reports.{HasCounts, IsReported};
 
 use crate::replies::MEMORY;
@@ -17,7 +17,8 @@ pub struct IolPool {
     pub retired: u32,
 }
 
-/// What is in a system, counted. `refusal` is 0, or says that there was no memory to count.
+/// The resource counts of a system. `refusal` is 0, or reports that there was no memory for the
+/// count.
 #[repr(C)]
 #[derive(Drop)]
 pub struct IolReport {
@@ -28,7 +29,7 @@ pub struct IolReport {
     pub pools: u64,
 }
 
-// Puts the pages of pools into `room`, as many as it has.
+// Writes the pages of pools into `room`, as many as fit.
 fn place_all(pools: &[PoolReport], room: &mut [IolPool]) {
     for (at, pool) in pools.iter().enumerate() {
         if let Some(place) = room.get_mut(at) {
@@ -55,7 +56,8 @@ fn counts_of(report: &Report) -> IolReport
     }
 }
 
-/// Counts what is in a system. The pools go to `room`, by rising number and as many as it has room for.
+/// Counts the resources of a system. The pools are written to `room`, in ascending order and as
+/// many as fit.
 pub(crate) fn report_of(system: &System<HostStore>, room: &mut [IolPool]) -> IolReport
     ensures { IsReported system.now.kernel result }
 {

@@ -1,4 +1,4 @@
-//! The store under a system that C makes: in memory, or over descriptors that C has opened.
+//! The store of a system created by C: in memory, or over descriptors that C has opened.
 ghost use Rattle.std.specs.Prelude.{◌≡◌, IfSome};
 ghost use Rattle.iol_back.specs.Disk.{IsSlot, ReadsAt, WritesAt, length_told, raised};
 ghost use Rattle.iol_c.specs.Store.{disk_of};
@@ -9,7 +9,8 @@ use iol_back::memory::MemoryBacking;
 use iol_core::limits::{MAX_FILE_BYTES, MAX_FILES};
 use iol_core::numbers::FileId;
 
-/// The descriptors of files that C has opened, with the length of each. Nothing is promised of their bytes.
+/// The descriptors of files that C has opened, with the length of each. Contracts state nothing
+/// about their bytes.
 #[derive(Drop)]
 pub struct OpenFiles {
     pub fds: Vec<i32>,
@@ -52,7 +53,7 @@ impl OpenFiles {
         }
     }
 
-    // Raises the length of a file to `end`, where it is shorter.
+    // Raises the length of a file to `end`, if it is shorter.
     fn grow_to(&mut self, file: FileId, end: u32)
         ensures { self.new.failures ≡ self.old.failures }
     {

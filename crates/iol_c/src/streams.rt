@@ -11,13 +11,13 @@ use iol_system::system::System;
 use std::io;
 use std::io::{Error, ErrorKind, Read, Write};
 
-/// A descriptor that C has opened and closes. No contract says which bytes it gives or takes.
+/// A descriptor that C opens and closes. Contracts state nothing about the bytes read or written.
 #[derive(Drop)]
 pub(crate) struct Descriptor {
     pub(crate) fd: i32,
 }
 
-// The number of bytes that a system call moved.
+// The number of bytes that a system call transferred.
 fn counted(moved: isize, len: usize) -> io::Result<usize>
     ensures { IfOk result (λ n. n ≤ len) }
 {
@@ -45,7 +45,7 @@ impl Write for Descriptor {
     }
 }
 
-// How a read ended: 2 where it failed, 1 at the reader's end, else 0.
+// How a read ended: 2 if it failed, 1 at the reader's end, otherwise 0.
 fn ending(arrived: &Arrived) -> u64
     ensures { result ≡ ending_number arrived.now.end arrived.now.failed }
 {
@@ -56,7 +56,7 @@ fn ending(arrived: &Arrived) -> u64
     }
 }
 
-// The reply where a reader brought bytes, or did not.
+// The reply for the outcome of a read.
 fn arrived(outcome: Result<Arrived, Refusal>) -> IolReply
     ensures { SaysArrived outcome result }
 {
@@ -66,7 +66,7 @@ fn arrived(outcome: Result<Arrived, Refusal>) -> IolReply
     }
 }
 
-// The reply where a writer took bytes, or did not.
+// The reply for the outcome of a write.
 fn drained(outcome: Result<Drained, Refusal>) -> IolReply
     ensures { SaysDrained outcome result }
 {
@@ -79,7 +79,7 @@ fn drained(outcome: Result<Drained, Refusal>) -> IolReply
     }
 }
 
-/// Has the bytes of one read of a descriptor arrive on a connection.
+/// Reads once from a descriptor; the bytes arrive on a connection.
 #[tactic(auto, unfolding(crate::specs::Streams::ArrivesBetween))]
 pub(crate) fn arrive_from(system: &mut System<HostStore>, conn: u32, fd: i32, max: u32) -> IolReply
     ensures { ArrivesBetween conn max result system.old system.new }
@@ -88,7 +88,7 @@ pub(crate) fn arrive_from(system: &mut System<HostStore>, conn: u32, fd: i32, ma
     arrived(system.arrive_from(ConnId::new(conn), &mut reader, max))
 }
 
-/// Has a descriptor take the first bytes to be sent on a connection.
+/// Writes the first bytes queued on a connection to a descriptor.
 pub(crate) fn drain_to(system: &mut System<HostStore>, conn: u32, fd: i32, max: u32) -> IolReply
     ensures { Drains conn max result system.old system.new }
 {

@@ -4,6 +4,8 @@ pub mod OnePool
 pub mod TakenBack
 pub mod FilledGaps
 pub mod SharedBytes
+pub mod SlicesOver
+pub mod SliceCounts
 pub mod PutExtents
 pub mod WholeRange
 pub mod CompleteFile

@@ -10,8 +10,8 @@ use Rattle.iol_evict.specs.Order.{Ranking, evicted_at, is_at}
 use Rattle.iol_evict.specs.declared.entry.Entry.{Entry}
 use Rattle.iol_cache.specs.declared.files.CachedFile.{CachedFile}
 
--- The files by slot, for each pool the order in which clean extents of its files are evicted, and for each page how
--- often clean extents hold the buffer that begins there.
+-- The files by number, for each pool the order in which clean extents of its files are evicted, and for each page the
+-- number of references by clean extents to the buffer that begins there.
 pub record Cached : Type 0 where
   pub files : List CachedFile
   pub orders : List Ranking
@@ -63,7 +63,7 @@ clean_in es = flat_map clean_parts es
 unfoldable pub held : List CachedFile → List BufId
 held fs = flat_map (λ f. bufs_of (all_parts f.extents.extents)) fs
 
--- those that clean extents hold
+-- the buffers that clean extents hold
 unfoldable pub clean_held : List CachedFile → List BufId
 clean_held fs = flat_map (λ f. bufs_of (clean_in f.extents.extents)) fs
 
@@ -72,18 +72,18 @@ clean_held fs = flat_map (λ f. bufs_of (clean_in f.extents.extents)) fs
 abbrev pub begins_clean : (at : ℕ) → Extent → ℕ
 begins_clean at e = cond (eqb e.at at && not e.dirty) 1 0
 
--- how many clean extents begin at a place
+-- the number of clean extents that begin at a place
 abbrev pub clean_at : (at : ℕ) → List Extent → ℕ
 clean_at at es = sum_by (begins_clean at) es
 
 abbrev pub entry_one : (f at : ℕ) → Entry → ℕ
 entry_one f at e = cond (is_at e f at) 1 0
 
--- how many entries are of a place
+-- the number of entries of a place
 abbrev pub entries_at : (f at : ℕ) → List Entry → ℕ
 entries_at f at es = sum_by (entry_one f at) es
 
--- how many clean extents of a file begin at a place, if the file is of the pool
+-- the number of clean extents of a file that begin at a place, if the file is of the pool
 abbrev pub clean_of : List CachedFile → (p f at : ℕ) → ℕ
 clean_of fs p f at = cond (eqb (file_in fs f).pool p) (clean_at at (extents_in fs f)) 0
 
@@ -91,9 +91,9 @@ clean_of fs p f at = cond (eqb (file_in fs f).pool p) (clean_at at (extents_in f
 pub record AreRanked (fs : List CachedFile) (os : List Ranking) : Type 0 where
   pub each : (p f at : ℕ) → entries_at f at (order_in os p).entries ≡ clean_of fs p f at
 
--- Dirty extents, each of which has a place in the order that is kept for it.
+-- Dirty extents. The order keeps a place for each.
 
--- how many extents of a file are dirty, if the file is of the pool
+-- the number of dirty extents of a file, if the file is of the pool
 abbrev pub dirty_of : (p : ℕ) → CachedFile → ℕ
 dirty_of p x = cond (eqb x.pool p) (dirty_count x.extents.extents) 0
 
@@ -101,14 +101,14 @@ dirty_of p x = cond (eqb x.pool p) (dirty_count x.extents.extents) 0
 pub record AreReady (fs : List CachedFile) (os : List Ranking) : Type 0 where
   pub each : (p : ℕ) → (order_in os p).kept ≡ sum_by (dirty_of p) fs
 
--- how many extents there are of all files, and how many of them are dirty
+-- the number of extents of all files, and of those that are dirty
 abbrev pub extents_in_all : List CachedFile → ℕ
 extents_in_all fs = sum_by (λ x. length x.extents.extents) fs
 
 abbrev pub dirty_in_all : List CachedFile → ℕ
 dirty_in_all fs = sum_by (λ x. dirty_count x.extents.extents) fs
 
--- An extent goes.
+-- Removal of an extent.
 
 abbrev pub lacking : CachedFile → (at : ℕ) → CachedFile
 lacking x at = record { pool = x.pool; extents = record { extents = without_at x.extents.extents at; room = x.extents.room + 1 } }
@@ -121,11 +121,11 @@ without_extent fs f at = with_file fs f (lacking (file_in fs f) at)
 abbrev pub with_evicted : List Ranking → (p f at : ℕ) → List Ranking
 with_evicted os p f at = with_order os p (evicted_at (order_in os p) f at)
 
--- a file of the pool, of which nothing is in memory
+-- a file of the pool, without extents
 abbrev pub new_file : (pool : ℕ) → CachedFile
 new_file p = record { pool = p; extents = record { extents = []; room = 0 } }
 
--- Empty orders came after those that were there, if need be, until there were n. Refused, none.
+-- Empty orders were appended, if needed, up to a total of n. An error appends none.
 pub record AddsOrders {A E : Type 0} (n : ℕ) (old new : List Ranking) (r : Result A E) : Type 0 where
   pub same : (p : ℕ) → order_in new p ≡ order_in old p
   pub enough : OnOk r (n ≤ length new)

@@ -27,14 +27,14 @@ pages_after run p (x ∷ xs) =
 abbrev pub copied_pages : (pool : ℕ) → List Slice → ℕ
 copied_pages p xs = pages_after 0 p xs
 
--- as many bytes as those of the source, of which those that lay in the pool already lie where they lay
+-- as many bytes as the source has; those already in the pool are in the same places
 pub record KeepsOwn (pool : ℕ) (source out : List Place) : Type 0 where
   pub long : length out ≡ length source
   pub each : (i : ℕ) → i < length source → (slice_index_or source i no_place).pool ≡ pool
       → slice_index_or out i no_place ≡ slice_index_or source i no_place
 
--- The same bytes as those of the source, all in the pool. Its own are shared, and the others lie on the lowest k pages that
--- were free.
+-- The same bytes as those of the source, all in the pool. Those of the pool are shared, and the others are on the lowest k pages
+-- that were free.
 pub record Composes (s t : Stored) (pool k : ℕ) (source out : List Slice) : Type 0 where
   pub moves : Moves s t [] (bufs_of out)
   pub is : text_of t out ≡ text.labelled pool (text.bytes_of (text_of s source))
@@ -61,7 +61,7 @@ pub record MayCompose (s : Stored) (n pool : ℕ) (source : List Slice) : Type 0
   pub readable : AllReadable s source
   pub tidy : IsTidy s
 
--- A source's bytes were composed in a pool. Refused, for want of room or memory, what was placed is gone.
+-- A source's bytes were composed in a pool. After an error, for lack of room or memory, the placed bytes are released.
 pub record ComposesOrReleases (s t : Stored) (pool : ℕ) (source : List Slice)
     (r : Result (List Slice) Refusal) : Type 0 where
   pub composes : IfOk r (Composes s t pool (copied_pages pool source) source)
@@ -70,7 +70,7 @@ pub record ComposesOrReleases (s t : Stored) (pool : ℕ) (source : List Slice)
 
 -- One run of the source.
 
--- the first slices that are all of the pool, or all of others: how many there are, and how many bytes they have
+-- the first slices that are all of the pool, or all of other pools: the number of slices and of bytes
 pub record IsFirstRun (pool : ℕ) (own : Bool) (xs : List Slice) (n size : ℕ) : Type 0 where
   pub within : n ≤ length xs
   pub bytes : size ≡ byte_len (take n xs)
@@ -85,7 +85,7 @@ pub record MayCopy (s : Stored) (pool : ℕ) (run : List Slice) : Type 0 where
   pub tidy : IsTidy s
   pub others : All (λ (x : Slice). (x.hold.pool == pool) ≡ false) run
 
--- A run of slices was copied to a pool. A refusal, for want of room or memory, changes nothing, and NoRoom tells that fewer pages
+-- A run of slices was copied to a pool. An error, for lack of room or memory, changes nothing, and NoRoom means that fewer pages
 -- are free than the run's bytes need.
 pub record CopiesOrKeeps (s t : Stored) (pool : ℕ) (run : List Slice) (r : Result (List Slice) Refusal) : Type 0 where
   pub composes : IfOk r (Composes s t pool (pages_for (byte_len run)) run)
@@ -93,13 +93,13 @@ pub record CopiesOrKeeps (s t : Stored) (pool : ℕ) (run : List Slice) (r : Res
   pub late : IfErr r (WantOfRoom pool)
   pub err : OnErr r (t ≡ s)
 
--- the i-th slice is there, and so many bytes stand before it
+-- there is an i-th slice, and that many bytes are before it
 pub record IsSliceAt (source : List Slice) (i at : ℕ) : Type 0 where
   pub there : i < length source
   pub before : at ≡ byte_len (take i source)
 
--- The run that begins with the i-th slice was composed; which slice is next is told, and how many bytes stand before that. A
--- refusal, for want of room or memory, changes nothing, and NoRoom tells that fewer pages are free than what is left needs.
+-- The run that begins with the i-th slice was composed. The result is the index of the next slice, and the number of bytes before
+-- it. An error, for lack of room or memory, changes nothing, and NoRoom means that fewer pages are free than the rest needs.
 pub record ComposesRunOrKeeps (s t : Stored) (pool : ℕ) (source : List Slice) (i : ℕ)
     (r : Result (ℕ × ℕ × List Slice) Refusal) : Type 0 where
   pub further : IfOk r (λ x. i < x.0)

@@ -9,7 +9,7 @@ use Rattle.iol_extent.specs.Extents.{Extent, Cell, cover, last_end}
 use Rattle.iol_cache.specs.declared.files.CachedFile.{CachedFile}
 use Rattle.iol_cache.specs.CacheState.{extents_in}
 
--- what g reads at the place that lies there, or else what is stored
+-- the byte that g reads at the place of an extent's byte, or else the stored byte
 abbrev pub read_or : (g : Place → ℕ) → (stored : ℕ) → Option Cell → ℕ
 read_or g stored None = stored
 read_or g stored (Some c) = g c.place
@@ -21,11 +21,11 @@ file_byte g stored es i = read_or g (slice_index stored i) (cover es i)
 abbrev pub file_len : (stored : List ℕ) → List Extent → ℕ
 file_len stored es = max (length stored) (last_end es)
 
--- a file: its length is that of what is stored, or the end of its last extent
+-- the bytes of a file: its length is the stored length or the end of its last extent, whichever is greater
 abbrev pub file_bytes : (g : Place → ℕ) → (stored : List ℕ) → List Extent → List ℕ
 file_bytes g stored es = map (file_byte g stored es) (range_with_len 0 (file_len stored es))
 
--- the byte that lies at a place
+-- the byte at a place
 abbrev pub byte_in : Stored → Place → ℕ
 byte_in s p = (byte_at s p).0
 
@@ -33,7 +33,7 @@ byte_in s p = (byte_at s p).0
 abbrev pub bytes_in_slot : Stored → (slots : List (List ℕ)) → List CachedFile → (f : ℕ) → List ℕ
 bytes_in_slot s slots fs f = file_bytes (byte_in s) (content slots f) (extents_in fs f)
 
--- what lies over byte i is dirty, or the store has it
+-- the extent over byte i is dirty, or the store has the same byte
 abbrev pub IsStored : Stored → (stored : List ℕ) → (i : ℕ) → Option Cell → Type 0
 IsStored s stored i None = Unit {0}
 IsStored s stored i (Some c) = c.dirty ≡ false → (i < length stored) × (byte_in s c.place ≡ slice_index stored i)
@@ -42,11 +42,11 @@ IsStored s stored i (Some c) = c.dirty ≡ false → (i < length stored) × (byt
 pub record AreStored (s : Stored) (stored : List ℕ) (es : List Extent) : Type 0 where
   pub each : (i : ℕ) → IsStored s stored i (cover es i)
 
--- under all clean extents of all files
+-- the store has the same bytes under all clean extents of all files
 pub record Mirrors (s : Stored) (slots : List (List ℕ)) (fs : List CachedFile) : Type 0 where
   pub each : (f : ℕ) → AreStored s (content slots f) (extents_in fs f)
 
--- every file has the bytes that it had
+-- every file keeps its bytes
 pub record SameFiles (s : Stored) (fs : List CachedFile) (t : Stored) (gs : List CachedFile)
     (slots : List (List ℕ)) : Type 0 where
   pub each : (f : ℕ) → bytes_in_slot t slots gs f ≡ bytes_in_slot s slots fs f

@@ -29,18 +29,18 @@ pub record CutsRight (es : List Extent) (to : ℕ) (x : Extent) : Type 0 where
   pub cut : MatchOption (extent_over es (to - 1)) (x.parts ≡ []) (IsAfter to x)
   pub begins : x.at ≡ to
 
--- Parts of these extents may be shared: they are held, and few times.
+-- Parts of these extents may be shared: they are held, and not too often.
 pub record MayCut (s : Stored) (es : List Extent) : Type 0 where
   pub held : Covers s (bufs_of (all_parts es))
   pub few : CountsBelow s (2 ^ 62)
 
--- A part of which `is_cut` holds is shared. Refused, nothing changed.
+-- A part for which `is_cut` holds is shared. An error changes nothing.
 pub record SharesPart {E : Type 0} (is_cut : Extent → Type 0) (s t : Stored) (r : Result Extent E) : Type 0 where
   pub cut : IfOk r is_cut
   pub shares : IfOk r (λ x. Shares s t [] (bufs_of x.parts))
   pub err : OnErr r (t ≡ s)
 
--- A range that has a byte: the parts of extents on both sides of it, and an extent that lies over just it.
+-- A range that has a byte: the parts of extents on both sides of it, and an extent over exactly this range.
 pub record CutsAround (es : List Extent) (from to : ℕ) (left right e : Extent) : Type 0 where
   pub some : from < to
   pub before : CutsLeft es from left

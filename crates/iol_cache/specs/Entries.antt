@@ -9,7 +9,7 @@ use Rattle.iol_cache.specs.CacheState.{entries_at, parts_in}
 use Rattle.iol_cache.specs.Marks.{AreWithin, HasMarksLeft, Marks}
 use Rattle.iol_cache.specs.RangeReads.{AllBeginAt, AllWithin, AreAbsent, all_entered, parts_of_spans}
 
--- An extent of file f begins at a place, and may come in: the order has none there, and room, and its pages can be marked.
+-- An extent of file f begins at a place, and may enter the order: the order has no entry there, and room, and its pages can be marked.
 pub record MayEnter (f at : ℕ) (es : List Extent) (r : Ranking) (marks : List ℕ) : Type 0 where
   pub apart : IsApart 0 es
   pub begins : IsSome (begins_at es at)
@@ -18,7 +18,7 @@ pub record MayEnter (f at : ℕ) (es : List Extent) (r : Ranking) (marks : List 
   pub within : AreWithin (length marks) (parts_in (begins_at es at))
   pub few : HasMarksLeft marks (parts_in (begins_at es at))
 
--- the extent of file f that begins at a place came into the order with the height of a new entry, and is marked
+-- the extent of file f that begins at a place entered the order with the height of a new entry, and is marked
 pub record Enters (f at : ℕ) (es : List Extent) (r t : Ranking) (old new : List ℕ) : Type 0 where
   pub order : t ≡ entered r f at (byte_len (parts_in (begins_at es at))) 1
   pub marks : Marks old new (parts_in (begins_at es at))
@@ -34,7 +34,7 @@ pub record MayEnterAll (f : ℕ) (es : List Extent) (ss : List Span) (r : Rankin
   pub within : AllWithin (length marks) es
   pub few : HasMarksLeft marks (parts_of_spans es ss)
 
--- the extents of file f that begin where these spans do came into the order, one after another, and are marked
+-- the extents of file f that begin where these spans begin entered the order, one after another, and are marked
 pub record EntersAll (f : ℕ) (es : List Extent) (ss : List Span) (r t : Ranking) (old new : List ℕ) : Type 0 where
   pub order : t ≡ all_entered r f es ss
   pub marks : Marks old new (parts_of_spans es ss)

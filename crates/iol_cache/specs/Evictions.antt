@@ -22,19 +22,19 @@ pub record Holding : Type 0 where
   pub store : Stored
   pub cache : Cached
 
--- so many pages of a pool are free, or would be if clean extents were evicted
+-- n pages of a pool are free, or would be if clean extents were evicted
 abbrev pub HasPages : (p n : ℕ) → Holding → Type 0
 HasPages p n h = pinned_beside h.store (clean_held h.cache.files) p + n ≤ length (pages_of h.store p)
 
--- whether a buffer of the extent that begins there is held by anything but clean extents
+-- whether anything except clean extents holds a buffer of the extent that begins there
 unfoldable pub in_use : Stored → List CachedFile → (f at : ℕ) → Bool
 in_use s fs f at = list_any (λ x. is_held_beside s (clean_held fs) x.hold.buf) (parts_at fs f at)
 
--- the clean extents that lie below this rank in a pool's order are in use
+-- the clean extents below this rank in a pool's order are in use
 abbrev pub ArePassed : Rank → (p : ℕ) → Holding → Type 0
 ArePassed rank p h = AreUsedBelow (in_use h.store h.cache.files) rank (order_in h.cache.orders p).entries
 
--- the clean extent that goes first of those of the pool's files, if there is one; those below this rank are in use
+-- the clean extent of the pool's files to evict next, if there is one; those below this rank are in use
 pub record FindsVictim (rank : Rank) (p : ℕ) (h : Holding) (victim : Option (ℕ × ℕ)) : Type 0 where
   pub first : let entries = (order_in h.cache.orders p).entries in
       MatchOption victim (entries ≡ []) (IsVictim (in_use h.store h.cache.files) entries)
@@ -56,26 +56,26 @@ pub record Evicts (f at : ℕ) (old new : Holding) : Type 0 where
   pub lists : SameLists old.store new.store
   pub settles : AllSettled old.store → AllSettled new.store
 
--- A clean extent is evicted, and the cache is sound. Where those of its pool's files below one rank were in use, those below the
--- other are.
+-- A clean extent is evicted, and the cache is sound. If those of its pool's files below one rank were in use, those below the other
+-- are.
 pub record EvictsOne (f at : ℕ) (was now : Rank) (old new : Holding) : Type 0 where
   pub evicts : Evicts f at old new
   pub sound : IsSound new.store new.cache
   pub below : let p = (file_in old.cache.files f).pool in ArePassed was p old → ArePassed now p new
 
--- fewer pages of the pool are free than wanted, if a number of them is wanted
+-- fewer pages of the pool are free than requested, if a number is requested
 abbrev pub IsWanted : (pool : ℕ) → (wanted : Option ℕ) → Stored → Type 0
 IsWanted p None s = Unit {0}
 IsWanted p (Some n) s = length (free_of s p) < n
 
--- the extent that goes first of those of the pool's files
+-- the extent of the pool's files to evict next
 pub record EvictsNext (p : ℕ) (wanted : Option ℕ) (place : ℕ × ℕ) (old new : Holding) : Type 0 where
   pub wants : IsWanted p wanted old.store
   pub pool : (file_in old.cache.files place.0).pool ≡ p
   pub first : IsVictim (in_use old.store old.cache.files) (order_in old.cache.orders p).entries place
   pub evicts : Evicts place.0 place.1 old new
 
--- extents of the pool's files that were evicted, the last first, each as long as pages are wanted
+-- extents of the pool's files that were evicted, the last first, each while pages were missing
 abbrev pub AreEvicted : (p : ℕ) → (wanted : Option ℕ) → List (ℕ × ℕ) → (old new : Holding) → Type 0
 AreEvicted p wanted [] old new = new ≡ old
 AreEvicted p wanted (v ∷ earlier) old new = (mid : Holding) × AreEvicted p wanted earlier old mid × EvictsNext p wanted v mid new
@@ -94,7 +94,7 @@ abbrev pub AllDirty : List Extent → Type 0
 AllDirty [] = Unit {0}
 AllDirty (e ∷ es) = (e.dirty ≡ true) × AllDirty es
 
--- no file came or went, nothing lies where nothing lay, and there is no less room for extents and entries
+-- the files are the same, no new byte is covered, and there is no less room for extents and entries
 pub record KeepsPlaces (old new : Cached) : Type 0 where
   pub count : length new.files ≡ length old.files
   pub pools : (f : ℕ) → (file_in new.files f).pool ≡ (file_in old.files f).pool
@@ -102,7 +102,7 @@ pub record KeepsPlaces (old new : Cached) : Type 0 where
   pub rooms : (f : ℕ) → (file_in old.files f).extents.room ≤ (file_in new.files f).extents.room
   pub entries : (p : ℕ) → (order_in old.orders p).room ≤ (order_in new.orders p).room
 
--- What evictions leave, whichever they were: slices of clean extents were released, and every file has its bytes.
+-- The effect of any evictions: slices of clean extents were released, and every file keeps its bytes.
 pub record GivesUp (old new : Holding) : Type 0 where
   pub moves : Moves old.store new.store (held old.cache.files) (held new.cache.files)
   pub clean : Counts old.store new.store (clean_held old.cache.files) (clean_held new.cache.files)
@@ -115,8 +115,8 @@ pub record GivesUp (old new : Holding) : Type 0 where
       → SameFiles old.store old.cache.files new.store new.cache.files slots
   pub keeps : KeepsPlaces old.cache new.cache
 
--- Clean extents of the pool's files were evicted until n pages of the pool were free, or all of them, where there is no room for
--- so many.
+-- Clean extents of the pool's files were evicted until n pages of the pool were free, or all of them if there is no room for n
+-- pages.
 pub record MakesFree (p n : ℕ) (old new : Holding) (has_room : Bool) : Type 0 where
   pub room : IsTrue has_room ↔ HasPages p n old
   pub free : IsTrue has_room → n ≤ length (free_of new.store p)
@@ -124,7 +124,7 @@ pub record MakesFree (p n : ℕ) (old new : Holding) (has_room : Bool) : Type 0 
   pub gives_up : GivesUp old new
   pub sound : IsSound new.store new.cache
 
--- All clean extents of the pool's files were evicted: its order is empty, and the other orders are as they were.
+-- All clean extents of the pool's files were evicted: its order is empty, and the other orders are unchanged.
 pub record DropsClean (p : ℕ) (old new : Holding) : Type 0 where
   pub none : (order_in new.cache.orders p).entries ≡ []
   pub others : (q : ℕ) → q ≢ p → order_in new.cache.orders q ≡ order_in old.cache.orders q
@@ -133,9 +133,9 @@ pub record DropsClean (p : ℕ) (old new : Holding) : Type 0 where
   pub gives_up : GivesUp old new
   pub sound : IsSound new.store new.cache
 
--- Clean extents of the pool's files were evicted, those that go first, as long as fewer than n pages of the pool were free. It is
--- told whether the pool has room for so many: where it has, they are free, and where it has not, nothing changed. Every file has
--- the bytes that it had, and the cache is sound.
+-- Clean extents of the pool's files were evicted, in the order of eviction, while fewer than n pages of the pool were free. The
+-- result is whether the pool has room for n pages: if it has, they are free, and if not, nothing changed. Every file keeps its
+-- bytes, and the cache is sound.
 pub record FreesOrKeeps (p n : ℕ) (old new : Holding) (has_room : Bool) : Type 0 where
   pub room : IsTrue has_room ↔ HasPages p n old
   pub free : IsTrue has_room → n ≤ length (free_of new.store p)
@@ -144,7 +144,7 @@ pub record FreesOrKeeps (p n : ℕ) (old new : Holding) (has_room : Bool) : Type
   pub sound : IsSound new.store new.cache
   pub refused : has_room ≡ false → new ≡ old
 
--- All clean extents were evicted, pool by pool. Every file has the bytes that it had, and the cache is sound.
+-- All clean extents were evicted, pool by pool. Every file keeps its bytes, and the cache is sound.
 pub record DropsAll (old new : Holding) : Type 0 where
   pub none : (f : ℕ) → AllDirty (extents_in new.cache.files f)
   pub victims : EvictsPools (length old.cache.orders) old new

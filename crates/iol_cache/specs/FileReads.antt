@@ -1,4 +1,4 @@
--- What reads of files want and do, and their steps on a part of a file.
+-- Conditions and effects of reads of files, and their steps on a part of a file.
 use Rattle.std.specs.Prelude.{◌≡◌, ℕ, ◌≤◌, ◌^◌, true, List, [], length, Result, IfErr, IfOk, OnErr}
 use Rattle.iol_core.specs.NumberedLists.{is_numbered}
 use Rattle.iol_core.specs.Prelude.{WantOfRoomOrFault}
@@ -24,8 +24,8 @@ use Rattle.iol_cache.specs.ReadResults.{FillsPinned, IsBacked, IsEnd, NoRoomToRe
 use Rattle.iol_cache.specs.SharedBytes.{CountsBelow}
 use Rattle.iol_cache.specs.Sound.{IsSound}
 
--- A part of a file may be filled, or is: its gaps are read, and it is put together with slices that are as long as what lies
--- beside them. With pins, room is made for the gaps, and they are released after.
+-- A part of a file may be filled, or is: its gaps are read, and it is assembled from them and from slices that have as many bytes
+-- as the part outside the gaps. With pins, room is made for the gaps, and the pins are released at the end.
 
 abbrev pub MayFillPart : FilePart → (gaps : List Span) → (beside : List Slice) → Holding → Type 0
 MayFillPart part gaps beside h = MayFill part.file part.from part.to gaps beside h
@@ -48,19 +48,19 @@ pub record MayReadFile (f : ℕ) (h : Holding) : Type 0 where
   pub file : is_numbered h.cache.files f ≡ true
   pub few : CountsBelow h.store (2 ^ 59)
 
--- At most n bytes of a file were read from `at` on, as far as it goes: where the store backs the cache, the file's own. Or the
--- read was refused: for want of room where there is none, for want of memory, or by a fault of the store. Either way the cache is
--- sound, and over an honest store every file has the bytes that it had. Beside extents, only what is given came to be held.
+-- At most n bytes of a file were read from `at` on, up to the end of the file: if the store backs the cache, the file's own bytes.
+-- Or the read was refused: for lack of room only if there is none, for lack of memory, or by a fault of the store. In each case the
+-- cache is sound, and over an honest store every file keeps its bytes. Except for extents, only the result holds new references.
 pub record ServesRead (f at n : ℕ) (disk : Disk) (s : Stored) (c : Cache) (r : Result (List Slice) Refusal) (after : Disk)
     (t : Stored) (d : Cache) : Type 0 where
-  -- what is read
+  -- the bytes that are read
   pub text : IsBacked disk (holding s c)
       → IfOk r (λ a. text_of t a ≡ labelled (file_in (cached_of c).files f).pool (bytes_read s disk.slots (cached_of c) f at n))
   pub readable : IfOk r (AllReadable t)
   pub pool : IfOk r (AreOf (file_in (cached_of c).files f).pool)
   pub short : IfOk r (λ a. byte_len a ≤ n)
   pub reads : IfOk r (ReadsFile f at n disk (holding s c) (holding t d))
-  -- what stays
+  -- what does not change
   pub backed : IsBacked disk (holding s c) → IsBacked after (holding t d)
   pub goes : IfOk r (λ a. Goes disk [] (bufs_of a) (holding s c) (holding t d))
   pub gone : OnErr r (Goes disk [] [] (holding s c) (holding t d))

@@ -21,7 +21,7 @@ use Rattle.iol_hold.specs.Texts.{text_of, bufs_of, AllReadable}
 use Rattle.iol_hold.specs.declared.slices.Slice.{Slice}
 use Rattle.iol_pool.specs.Pools.{pool_in}
 
--- how many pages gaps need: each has pages of its own
+-- the number of pages that gaps need: each gap has pages of its own
 abbrev pub gap_pages : List Span → ℕ
 gap_pages [] = 0
 gap_pages (g ∷ gs) = pages_for (g.to - g.from) + gap_pages gs
@@ -34,7 +34,7 @@ pub record HasGaps (s : Stored) (m : ExtentMap) (pool low high : ℕ) (gaps : Li
   pub room : length gaps ≤ m.room
   pub opened : (pool_in s.pools pool).closed ≡ false
 
--- with these extents more, put in one after another
+-- with these extents added, one after another
 unfoldable pub all_put : List Extent → List Extent → List Extent
 all_put es [] = es
 all_put es (e ∷ made) = all_put (put_in es e) made
@@ -43,11 +43,11 @@ all_put es (e ∷ made) = all_put (put_in es e) made
 pub record AreOf (pool : ℕ) (xs : List Slice) : Type 0 where
   pub each : All (λ x. x.hold.pool ≡ pool) xs
 
--- buffers made since
+-- buffers created since
 pub record AreNew (old new : Stored) (xs : List Slice) : Type 0 where
   pub each : All (IsNew old.arena new.arena) (bufs_of xs)
 
--- a clean extent over the gap, of bytes of the pool in buffers made since
+-- a clean extent over the gap, of bytes of the pool in buffers created since
 pub record IsMade (old new : Stored) (pool : ℕ) (g : Span) (e : Extent) : Type 0 where
   pub begins : e.at ≡ g.from
   pub ends : end_of e ≡ g.to
@@ -60,7 +60,7 @@ pub record IsMade (old new : Stored) (pool : ℕ) (g : Span) (e : Extent) : Type
 pub record AreMade (old new : Stored) (pool : ℕ) (gaps : List Span) (made : List Extent) : Type 0 where
   pub each : AllZip (IsMade old new pool) gaps made
 
--- the bytes of the extent are those that the store has there
+-- the bytes of the extent are those of the store
 pub record Mirrors (s : Stored) (pool : ℕ) (stored : List ℕ) (e : Extent) : Type 0 where
   pub within : end_of e ≤ length stored
   pub is : text_of s e.parts ≡ text.labelled pool (slice_range stored e.at (end_of e))
@@ -78,7 +78,7 @@ pub record LoadsSlices (pool file : ℕ) (gap : Span) (disk : Disk) (s t : Store
       (text_of t xs ≡ text.labelled pool (take (gap.to - gap.from) (drop gap.from (content disk.slots file))))
   pub inside : IfHonest disk (gap.from + (gap.to - gap.from) ≤ length (content disk.slots file))
 
--- a gap was read into new buffers of the pool, and stands as a clean extent
+-- a gap was read into new buffers of the pool, and is a clean extent
 pub record FillsGap (s t : Stored) (old new : ExtentMap) (pool : ℕ) (gap : Span) (disk : Disk) (file : ℕ) : Type 0 where
   pub made : Extent
   pub is : IsMade s t pool gap made
@@ -91,7 +91,7 @@ pub record FillsGap (s t : Stored) (old new : ExtentMap) (pool : ℕ) (gap : Spa
   pub places : PlacesPages s t pool (pages_for (gap.to - gap.from))
   pub mirrors : IfHonest disk (Mirrors t pool (content disk.slots file) made)
 
--- each gap was read into new buffers of the pool, and stands as a clean extent
+-- each gap was read into new buffers of the pool, and is a clean extent
 pub record FillsGaps (s t : Stored) (old new : ExtentMap) (pool : ℕ) (gaps : List Span) (disk : Disk) (file : ℕ) : Type 0 where
   pub made : List Extent
   pub each : AreMade s t pool gaps made
@@ -102,8 +102,8 @@ pub record FillsGaps (s t : Stored) (old new : ExtentMap) (pool : ℕ) (gaps : L
   pub places : PlacesPages s t pool (gap_pages gaps)
   pub mirrors : IfHonest disk (AllMirror t pool (content disk.slots file) made)
 
--- A call that reads these gaps of a file into pages of a pool, all of them or none, and asks the store for each. Refused, what
--- stays is as it was, and nothing is left of what was placed.
+-- A call that reads these gaps of a file into pages of a pool, all of them or none, with one read of the store for each. After an
+-- error, everything else is unchanged, and the placed bytes are released.
 pub record ReadsAllGaps {A : Type 0} (pool file : ℕ) (gaps : List Span) (stays : Type 0) (disk after : Disk) (old new : Stored)
     (r : Result A Refusal) : Type 0 where
   pub same : OnErr r stays
@@ -111,7 +111,7 @@ pub record ReadsAllGaps {A : Type 0} (pool file : ℕ) (gaps : List Span) (stays
   pub asks : Asks (length gaps) disk after r
   pub late : IfErr r (WantOfRoomOrFault pool file)
 
--- without the extents that begin where these spans do: the last goes first
+-- without the extents that begin where these spans begin: the last is removed first
 abbrev pub without_spans : List Extent → List Span → List Extent
 without_spans es [] = es
 without_spans es (g ∷ gs) = without_at (without_spans es gs) g.from
@@ -126,7 +126,7 @@ abbrev pub AllBegin : List Extent → List Span → Type 0
 AllBegin es [] = Unit {0}
 AllBegin es (g ∷ gs) = AllBegin es gs × IsSome (begins_at (without_spans es gs) g.from)
 
--- these extents are taken away, the last first, and released
+-- these extents are removed, the last first, and released
 pub record TakesBack (s t : Stored) (old new : ExtentMap) (spans : List Span) : Type 0 where
   pub extents : new.extents ≡ without_spans old.extents spans
   pub room : new.room ≡ old.room + length spans
@@ -135,8 +135,8 @@ pub record TakesBack (s t : Stored) (old new : ExtentMap) (spans : List Span) : 
   pub frees : FreesOnly s t
   pub settles : AllReadable s (parts_back old.extents spans) → AllSettled s → AllSettled t
 
--- Each gap of a file was read into new buffers of the pool and stands as a clean extent; or, refused, the extents are as they
--- were.
+-- Each gap of a file was read into new buffers of the pool and is a clean extent; or, after an error, the extents are
+-- unchanged.
 pub record FillsGapsOrKeeps {A : Type 0} (pool file : ℕ) (gaps : List Span) (disk after : Disk) (s t : Stored)
     (old new : ExtentMap) (r : Result A Refusal) : Type 0 where
   pub fills : OnOk r (FillsGaps s t old new pool gaps disk file)

@@ -1,4 +1,4 @@
--- What the words of the contracts determine.
+-- Laws about the definitions of the contracts.
 use Rattle.std.specs.Prelude.{◌≡◌, ℕ}
 use Rattle.iol_back.specs.Disk.{Disk}
 use Rattle.iol_hold.specs.StoreState.{Stored}
@@ -8,7 +8,7 @@ use Rattle.iol_cache.specs.ReadSteps.{HasRoom, LacksRoom, Pins, wanted_pages}
 use Rattle.iol_cache.specs.ReadResults.{IsEnd, NoRoomToRead, RoomToRead}
 use Rattle.iol_cache.specs.Sound.{IsSound}
 
--- in whichever slices the hits of a range are held, as many pages are pinned and wanted
+-- the number of pinned and needed pages does not depend on the slices that hold the hits of a range
 abbrev pub WantsOneNumber : Type 0
 WantsOneNumber = (s : Stored) (c : Cached) (f from to : ℕ) → IsSound s c → (x y : Pins s c f from to)
     → wanted_pages x ≡ wanted_pages y

@@ -26,20 +26,20 @@ abbrev pub ReadCounts : {A E : Type 0} → (old new : Disk) → Result A E → T
 ReadCounts old new (Ok x) = Succeeds old new
 ReadCounts old new (Err e) = new.failures ≡ raised old.failures
 
--- the store was read: its bytes stay
+-- the store was read: its bytes do not change
 pub record IsRead {A E : Type 0} (old new : Disk) (r : Result A E) : Type 0 where
   pub honest : new.honest ≡ old.honest
   pub slots : IfHonest old (new.slots ≡ old.slots)
   pub counts : ReadCounts old new r
 
--- The store was read into memory, which has these bytes then. Where it did not fail there are n at least, and of an honest one
--- the first n are those of the file from `at` on.
+-- The store was read into memory, which has these bytes then. If it did not fail there are at least n, and if it is honest the
+-- first n are those of the file from `at` on.
 pub record ReadsInto {A E : Type 0} (disk : Disk) (file at n : ℕ) (bytes : List ℕ) (r : Result A E) : Type 0 where
   pub whole : OnOk r (n ≤ length bytes)
   pub read : IfHonest disk (OnOk r (take n bytes ≡ take n (drop at (content disk.slots file))))
   pub inside : IfHonest disk (OnOk r (at + n ≤ length (content disk.slots file)))
 
--- memory of a filling was written, and it waits as before
+-- memory of a filling was written, and the filling is still open
 pub record WritesFilling (f g : Fill) : Type 0 where
   pub reserved : g.reserved ≡ f.reserved
   pub same_reference : filling_lender g ≡ filling_lender f
@@ -67,8 +67,8 @@ pub record IsBegunFor (f : Fill) (at n : ℕ) : Type 0 where
   pub filling : IsFilling f
   pub long : length (part_pages (filling_parts f)) ≡ pages_for n
 
--- A call that reads so many ranges of the store. It fails by the store's failure, which it counts once, or before it asks;
--- where it had to ask and did not fail, the store still answers.
+-- A call that reads n ranges of the store. It fails by a failure of the store, which is counted once, or before it reads; if it
+-- had to read and did not fail, the store has not failed too often.
 abbrev pub AskCounts : {A : Type 0} → (ranges : ℕ) → (old new : Disk) → Result A Refusal → Type 0
 AskCounts ranges old new (Ok x) = (new.failures ≡ old.failures) × (0 < ranges → old.failures < last_failure)
 AskCounts ranges old new (Err (Fault f)) = (new.failures ≡ raised old.failures) × (0 < ranges)
@@ -79,7 +79,7 @@ pub record Asks {A : Type 0} (ranges : ℕ) (old new : Disk) (r : Result A Refus
   pub slots : IfHonest old (new.slots ≡ old.slots)
   pub counts : AskCounts ranges old new r
 
--- the lowest k free pages of a pool were filled: each was raised by one, buffers stand on them, and all others are as they were
+-- the lowest k free pages of a pool were filled: each generation was raised by one, buffers are on them, and all others are unchanged
 pub record PlacesPages (old new : Stored) (pool k : ℕ) : Type 0 where
   pub enough : k ≤ length (free_of old pool)
   pub pages : KeepsPages old new (take k (free_of old pool))
@@ -88,7 +88,7 @@ pub record PlacesPages (old new : Stored) (pool k : ℕ) : Type 0 where
   pub free : free_of new pool ≡ drop k (free_of old pool)
   pub pools : new.pools ≡ old.pools
 
--- some of the lowest free pages of a pool were filled, at most so many, and what was made on them is gone
+-- some of the lowest free pages of a pool were filled, at most k, and the buffers made on them are released
 pub record PlacesSome (old new : Stored) (pool most : ℕ) : Type 0 where
   pub count : ℕ
   pub few : count ≤ most
@@ -118,9 +118,9 @@ pub record LoadsHolds (old new : Stored) (pool n : ℕ) (disk : Disk) (file at :
   pub value : IfHonest disk (bytes_in new.arena (held_bufs holds) ≡ take n (drop at (content disk.slots file)))
   pub inside : IfHonest disk (at + n ≤ length (content disk.slots file))
 
--- What stays as n bytes of a file are read into a pool, or are not: the pools, and that no closed one keeps its chunks where
--- nothing lies in any of them. Refused, for want of room or memory or by a fault at the file, no hold is another than before and
--- pages were at most freed, and NoRoom tells that fewer pages are free than n bytes need.
+-- What does not change when n bytes of a file are read into a pool, or are not: the pools, and that no closed pool keeps its chunks
+-- if all of them are empty. After an error, for lack of room or memory or by a fault at the file, the references are unchanged and
+-- pages were at most freed, and NoRoom means that fewer pages are free than n bytes need.
 pub record LoadsOrKeeps {A : Type 0} (pool n file : ℕ) (old new : Stored) (r : Result A Refusal) : Type 0 where
   pub none : OnErr r (Moves old new [] [])
   pub kept : OnErr r (KeepsPages old new [])
@@ -129,8 +129,8 @@ pub record LoadsOrKeeps {A : Type 0} (pool n file : ℕ) (old new : Stored) (r :
   pub no_room : IfErr r (λ x. (p : ℕ) → x ≡ NoRoom p → length (free_of old pool) < pages_for n)
   pub late : IfErr r (WantOfRoomOrFault pool file)
 
--- Bytes are placed on so many pages of a pool. Refused, no hold is another than before, what was placed is gone, and NoRoom tells
--- that fewer pages are free.
+-- Bytes are placed on n pages of a pool. After an error the references are unchanged, the placed bytes are released, and NoRoom
+-- means that fewer pages are free.
 pub record PlacesOrReleases {A : Type 0} (pool n : ℕ) (old new : Stored) (r : Result A Refusal) : Type 0 where
   pub none : OnErr r (Moves old new [] [])
   pub given_back : OnErr r (PlacesSome old new pool n)

@@ -7,16 +7,16 @@ use Rattle.iol_hold.specs.Moves.{tally}
 use Rattle.iol_hold.specs.Texts.{bufs_of}
 use Rattle.iol_hold.specs.declared.slices.Slice.{Slice}
 
--- 1 where the buffer begins at page p
+-- 1 if the buffer begins at page p
 abbrev pub one_at : (p : ℕ) → BufId → ℕ
 one_at p b = cond (eqb b.page p) 1 0
 
--- how many of these buffers begin at page p
+-- the number of these buffers that begin at page p
 unfoldable pub at_page : (p : ℕ) → List BufId → ℕ
 at_page p [] = 0
 at_page p (b ∷ bs) = one_at p b + at_page p bs
 
--- the table counts just these buffers
+-- the table counts exactly these buffers
 pub record Counted (marks : List ℕ) (bufs : List BufId) : Type 0 where
   pub each : (p : ℕ) → slice_index marks p ≡ at_page p bufs
 
@@ -25,7 +25,7 @@ pub record Marks (old new : List ℕ) (xs : List Slice) : Type 0 where
   pub each : (p : ℕ) → slice_index new p ≡ slice_index old p + at_page p (bufs_of xs)
   pub long : length new ≡ length old
 
--- and are no longer
+-- the slices are no longer counted
 pub record Unmarks (old new : List ℕ) (xs : List Slice) : Type 0 where
   pub each : (p : ℕ) → slice_index new p + at_page p (bufs_of xs) ≡ slice_index old p
   pub long : length new ≡ length old
@@ -39,7 +39,7 @@ pub record HaveMarks (marks : List ℕ) (xs : List Slice) : Type 0 where
 pub record HasMarksLeft (marks : List ℕ) (xs : List Slice) : Type 0 where
   pub each : (p : ℕ) → slice_index marks p + at_page p (bufs_of xs) < 2 ^ 63
 
--- Slices of an extent that becomes clean, or is so no longer: they can be counted, or uncounted, and were.
+-- Slices of an extent that becomes clean, or is no longer clean: they can be counted, or subtracted, and were.
 
 abbrev pub CanTurn : (is_clean : Bool) → (marks : List ℕ) → List Slice → Type 0
 CanTurn true marks xs = HasMarksLeft marks xs
@@ -64,7 +64,7 @@ turned false n = n - 1
 abbrev pub with_turned : (is_clean : Bool) → (marks : List ℕ) → (page : ℕ) → List ℕ
 with_turned is_clean marks page = slice_set marks page (turned is_clean (slice_index marks page))
 
--- the buffer is held by more than clean extents
+-- anything except clean extents holds the buffer
 abbrev pub is_held_more : Stored → List ℕ → BufId → Bool
 is_held_more s marks b = nat_lt (slice_index marks b.page) (count_of s b)
 

@@ -1,4 +1,4 @@
--- What a write leaves of files and of extents.
+-- The effects of a write on files and on extents.
 use Rattle.std.specs.Prelude.{◌≡◌, ◌≢◌, ◌⊎◌, ℕ, ◌+◌, ◌<◌, ◌≤◌, ◌^◌, ◌++◌, true, List, length, Option, Some, None, Result, Err, IfErr, OnErr, OnOk}
 use Rattle.iol_back.specs.Disk.{overwritten}
 use Rattle.iol_core.specs.Meaning.{WantOfRoom}
@@ -38,7 +38,7 @@ bytes_in h slots f = bytes_in_slot h.store slots h.cache.files f
 abbrev pub MirrorsIn : Holding → (slots : List (List ℕ)) → Type 0
 MirrorsIn h slots = Mirrors h.store slots h.cache.files
 
--- the bytes of the source stand in the file from a place on, which is at most its end
+-- the bytes of the source are in the file from a place on, which is at most its end
 pub record IsWritten (f at : ℕ) (source : List Slice) (old new : Holding) : Type 0 where
   pub each : (slots : List (List ℕ)) → MirrorsIn old slots → at ≤ length (bytes_in old slots f)
       → bytes_in new slots f ≡ overwritten at (text.bytes_of (text_of old.store source)) (bytes_in old slots f)
@@ -51,7 +51,7 @@ pub record KeepsOthers (f : ℕ) (old new : Holding) : Type 0 where
 pub record KeepsFiles (old new : Holding) : Type 0 where
   pub each : (slots : List (List ℕ)) → MirrorsIn old slots → SameFiles old.store old.cache.files new.store new.cache.files slots
 
--- what lies under clean extents is what the store has, if it was before
+-- the store has the same bytes under clean extents, if it had before
 pub record KeepsMirrors (old new : Holding) : Type 0 where
   pub each : (slots : List (List ℕ)) → MirrorsIn old slots → MirrorsIn new slots
 
@@ -59,13 +59,13 @@ abbrev pub is_dirty : Option Cell → Type 0
 is_dirty None = ⊥
 is_dirty (Some c) = c.dirty ≡ true
 
--- The bytes of a range lie under dirty extents; those of the source that lay in the file's pool lie where they lay.
+-- The bytes of a range are under dirty extents; those of the source in the file's pool are in the same places.
 pub record LiesDirty (f at : ℕ) (source : List Slice) (cache : Cached) : Type 0 where
   pub dirty : (i : ℕ) → at ≤ i → i < at + byte_len source → is_dirty (cover (extents_in cache.files f) i)
   pub own : KeepsOwn (file_in cache.files f).pool (places source)
       (places_over (extents_in cache.files f) at (at + byte_len source))
 
--- Room for extents and entries was reserved, and clean extents of the pool's files were evicted, if need be until n pages
+-- Room for extents and entries was reserved, and clean extents of the pool's files were evicted, if needed, until n pages
 -- were free.
 pub record MakesRoom (pool n : ℕ) (old new : Holding) : Type 0 where
   pub reserved : Cached
@@ -78,8 +78,8 @@ pub record LeavesAll (old new : Holding) : Type 0 where
   pub store : new.store ≡ old.store
   pub same : SameButRoom old.cache new.cache
 
--- Room was made, and nothing else became of the cache: what was placed in the pool is gone. Extents went, and pages were
--- filled, only where so many pages could be had.
+-- Room was made, and nothing else changed: bytes placed in the pool are released. Extents were evicted, and pages filled, only
+-- if n pages could be made free.
 pub record OnlyMakesRoom (pool n : ℕ) (old new : Holding) : Type 0 where
   pub mid : Holding
   pub room : MakesRoom pool n old mid
@@ -104,13 +104,13 @@ pub record WritesFile (f at : ℕ) (source : List Slice) (old new : Holding) : T
   pub room : let p = (file_in old.cache.files f).pool in MakesRoom p (copied_pages p source) old mid
   pub over : Overwrites f at source mid new
 
--- What a call that writes wants and does.
+-- Conditions and effects of calls that write.
 
 -- the pool of a file
 abbrev pub pool_of : Cache → (f : ℕ) → ℕ
 pool_of c f = (file_in c.files.items f).pool
 
--- how many pages of a file's pool the bytes of a source need, of which those of other pools are copied
+-- the number of pages of a file's pool that the bytes of a source need, if those of other pools are copied
 abbrev pub pages_copied : Cache → (f : ℕ) → List Slice → ℕ
 pages_copied c f source = copied_pages (pool_of c f) source
 
@@ -122,8 +122,8 @@ pub record MayMakePlace (f : ℕ) (source : List Slice) (h : Holding) : Type 0 w
   pub small : byte_len source ≤ MAX_FILE_BYTES
 
 -- Room was made for a write of these bytes to a file, for three extents, for their entries, and in the file's pool for the pages
--- of the bytes that are copied; or no page, extent, entry or height changed. It is refused for want of memory or of room in that
--- pool, and for want of room only where pinned pages and those for the copies are more than the pool has. The cache is sound.
+-- of the copied bytes; or no page, extent, entry or height changed. The error is for lack of memory or of room in that pool, and for
+-- lack of room only if pinned pages and those for the copies are more than the pool has. The cache is sound.
 pub record MakesPlace {A : Type 0} (f : ℕ) (source : List Slice) (s : Stored) (c : Cache) (t : Stored) (d : Cache)
     (r : Result A Refusal) : Type 0 where
   pub room : MakesRoom (pool_of c f) (pages_copied c f source) (holding s c) (holding t d)
@@ -151,8 +151,8 @@ pub record MayOverwrite (f at : ℕ) (source : List Slice) (h : Holding) : Type 
   pub some : 0 < byte_len source
   pub places : HasPlaces 3 (indexing_in h.cache f)
 
--- The bytes of a source were written over those of a file from a place on. Refused, for want of room or memory, the cache is as
--- it was, and what was placed is gone again. The cache is sound.
+-- The bytes of a source were written over those of a file from a place on. After an error, for lack of room or memory, the cache is
+-- unchanged, and the placed bytes are released. The cache is sound.
 pub record OverwritesOrReleases {A : Type 0} (f at : ℕ) (source : List Slice) (s : Stored) (c : Cache) (t : Stored) (d : Cache)
     (r : Result A Refusal) : Type 0 where
   pub overwrites : OnOk r (Overwrites f at source (holding s c) (holding t d))
@@ -161,8 +161,8 @@ pub record OverwritesOrReleases {A : Type 0} (f at : ℕ) (source : List Slice) 
   pub late : IfErr r (WantOfRoom (pool_of c f))
   pub sound : IsSound t (cached_of d)
 
--- The bytes of a source were written over those of a file from a place on; without any nothing changed. Refused, every file has
--- the bytes that it had.
+-- The bytes of a source were written over those of a file from a place on. If there are no bytes, nothing changed. After an error
+-- every file keeps its bytes.
 pub record Writes {A : Type 0} (f at : ℕ) (source : List Slice) (s : Stored) (c : Cache) (t : Stored) (d : Cache)
     (r : Result A Refusal) : Type 0 where
   -- The bytes of files.
@@ -170,18 +170,18 @@ pub record Writes {A : Type 0} (f at : ℕ) (source : List Slice) (s : Stored) (
   pub others : KeepsOthers f (holding s c) (holding t d)
   pub refused : OnErr r (KeepsFiles (holding s c) (holding t d))
   pub mirrors : KeepsMirrors (holding s c) (holding t d)
-  -- Which extents there are then.
+  -- The new extents.
   pub lies : OnOk r (LiesDirty f at source (cached_of d))
   pub writes : 0 < byte_len source → OnOk r (WritesFile f at source (holding s c) (holding t d))
   pub evicts : OnErr r (OnlyMakesRoom (pool_of c f) (pages_copied c f source) (holding s c) (holding t d))
   pub nothing : byte_len source ≡ 0 → holding t d ≡ holding s c
-  -- It is carried out only where the pages can be had, and refused for want of room only where they cannot: then all is left.
-  -- Else it is refused for want of memory.
+  -- It succeeds only if the pages can be made free, and is refused for lack of room only if they cannot: then nothing changes.
+  -- Any other error is for lack of memory.
   pub room : OnOk r (HasPages (pool_of c f) (pages_copied c f source) (holding s c))
   pub no_room : (q : ℕ) → r ≡ Err (NoRoom q) → LacksPages (pool_of c f) (pages_copied c f source) (holding s c)
   pub kept : (q : ℕ) → r ≡ Err (NoRoom q) → LeavesAll (holding s c) (holding t d)
   pub late : IfErr r (WantOfRoom (pool_of c f))
-  -- Holds come and go with the extents alone, live buffers keep their bytes, and of the pool's free pages the lowest are filled.
+  -- References change only with the extents, live buffers keep their bytes, and the lowest free pages of the pool are filled.
   pub moves : Moves s t (held c.files.items) (held d.files.items)
   pub pages : FillsLowest (pool_of c f) s t
   pub lists : SameLists s t

@@ -1,4 +1,4 @@
--- What a write puts in place of a range of a file.
+-- The replacement of a range of a file by a write.
 use Rattle.std.specs.Prelude.{◌≡◌, ℕ, ◌+◌, ◌<◌, ◌^◌, true, List, [], ◌++◌, Result, IfErr, IfOk}
 use Rattle.iol_core.specs.Meaning.{WantOfRoom}
 use Rattle.iol_core.specs.declared.refusals.Refusal.{Refusal}
@@ -35,8 +35,8 @@ pub record MayPrepare (s : Stored) (pool : ℕ) (es : List Extent) (at : ℕ) (s
   pub bytes : MayCompose s (2 ^ 61) pool source
   pub extents : AreHeld s es
 
--- The bytes of a source, and the parts of extents on both sides of them, were prepared. Refused, for want of room or memory, all
--- of them are released.
+-- The bytes of a source, and the parts of extents on both sides of them, were prepared. After an error, for lack of room or memory,
+-- all of them are released.
 pub record PreparesOrReleases (s t : Stored) (pool : ℕ) (es : List Extent) (at : ℕ) (source : List Slice)
     (r : Result Replacement Refusal) : Type 0 where
   pub prepares : IfOk r (λ x. Prepares s t pool es at source x.left x.right x.bytes)

@@ -20,10 +20,10 @@ use Rattle.iol_cache.specs.Gaps.{FillsGaps, HasGaps, ReadsAllGaps}
 use Rattle.iol_cache.specs.Marks.{AreWithin}
 use Rattle.iol_cache.specs.SharedBytes.{CountsBelow}
 use Rattle.iol_cache.specs.Sound.{IsSound}
-use Rattle.iol_cache.specs.Weave.{LieBeside, len_beside, woven}
+use Rattle.iol_cache.specs.Weave.{HasSlicesWoven, LieBeside, len_beside, woven}
 use Rattle.iol_cache.specs.CacheState.{Cached, file_in, extents_in, order_in, parts_in, all_parts, held, clean_held, clean_at, entries_at}
 
--- nothing changed but how many more can come in without memory
+-- nothing changed except the reserved room
 pub record SameButRoom (old new : Cached) : Type 0 where
   pub pools : (f : ℕ) → (file_in new.files f).pool ≡ (file_in old.files f).pool
   pub extents : (f : ℕ) → extents_in new.files f ≡ extents_in old.files f
@@ -38,7 +38,7 @@ pub record SameButRoom (old new : Cached) : Type 0 where
 
 -- Hits.
 
--- a hit on an extent counts where it is clean
+-- a hit on an extent counts if the extent is clean
 abbrev pub hit_counted : Ranking → (f : ℕ) → Option Extent → Ranking
 hit_counted r f None = r
 hit_counted r f (Some e) = if e.dirty then r else hit_at r f e.at
@@ -48,11 +48,11 @@ abbrev pub hits_counted : Ranking → (f : ℕ) → List Extent → List Span �
 hits_counted r f es [] = r
 hits_counted r f es (s ∷ ss) = hits_counted (hit_counted r f (extent_over es s.from)) f es ss
 
--- an order has just the file's clean extents, as far as the file goes
+-- of the entries of the file, an order has exactly those of its clean extents
 pub record RanksFile (r : Ranking) (f : ℕ) (es : List Extent) : Type 0 where
   pub each : (at : ℕ) → entries_at f at r.entries ≡ clean_at at es
 
--- Extents that come in where spans begin.
+-- Extents that are inserted where spans begin.
 
 abbrev pub parts_from : List Extent → Span → List Slice
 parts_from es s = parts_in (begins_at es s.from)
@@ -61,7 +61,7 @@ parts_from es s = parts_in (begins_at es s.from)
 abbrev pub parts_of_spans : List Extent → List Span → List Slice
 parts_of_spans es ss = flat_map (parts_from es) ss
 
--- an order after the extents that begin where these spans do came in, one after another
+-- an order after the extents that begin where these spans begin entered, one after another
 abbrev pub all_entered : Ranking → (f : ℕ) → List Extent → List Span → Ranking
 all_entered r f es [] = r
 all_entered r f es (s ∷ ss) = all_entered (entered r f s.from (byte_len (parts_from es s)) 1) f es ss
@@ -80,7 +80,7 @@ abbrev pub AreAbsent : Ranking → (f : ℕ) → List Span → Type 0
 AreAbsent r f [] = Unit {0}
 AreAbsent r f (s ∷ ss) = (entries_at f s.from r.entries ≡ 0) × AreAbsent r f ss
 
--- Gaps of a range that were read, and the range put together from what was shared beside them, and from them.
+-- Gaps of a range were read, and the range was assembled from the shared bytes outside the gaps, and from the gaps.
 pub record FillsRange (s t : Stored) (old new : ExtentMap) (pool : ℕ) (beside : List Place) (gaps : List Span)
     (from to : ℕ) (disk : Disk) (file : ℕ) (xs : List Slice) : Type 0 where
   pub mid : Stored
@@ -88,8 +88,8 @@ pub record FillsRange (s t : Stored) (old new : ExtentMap) (pool : ℕ) (beside 
   pub shares : Shares mid t [] (bufs_of xs)
   pub lies : places xs ≡ woven beside new.extents from to gaps
 
--- The gaps of a range of a file in memory may be filled, and the range put together with these slices, which are as long as what
--- lies beside the gaps.
+-- The gaps of a range of a file in memory may be filled, and the range assembled with these slices, which have as many bytes as the
+-- range outside the gaps.
 pub record MayFillRange (s : Stored) (x : CachedFile) (from to : ℕ) (gs : List Span) (xs : List Slice) : Type 0 where
   pub gaps : HasGaps s x.extents x.pool from to gs
   pub end : to ≤ MAX_FILE_BYTES
@@ -98,11 +98,12 @@ pub record MayFillRange (s : Stored) (x : CachedFile) (from to : ℕ) (gs : List
   pub beside : LieBeside s from to gs xs
   pub few : CountsBelow s (2 ^ 60)
 
--- The gaps of a part of a file in memory are filled, all of them or none, and the part is put together with these slices beside
--- them.
+-- The gaps of a part of a file in memory are filled, all of them or none, and the part is assembled with these slices, which have
+-- the bytes outside the gaps.
 pub record FillsAll (part : FilePart) (gs : List Span) (xs : List Slice) (disk after : Disk) (s t : Stored) (x y : CachedFile)
     (r : Result (List Slice) Refusal) : Type 0 where
   pub fills : IfOk r (FillsRange s t x.extents y.extents x.pool (places xs) gs part.from part.to disk part.file)
+  pub parts : IfOk r (HasSlicesWoven xs y.extents.extents part.from part.to gs)
   pub pool : y.pool ≡ x.pool
   pub reads : ReadsAllGaps x.pool part.file gs (y ≡ x) disk after s t r
 
@@ -116,8 +117,8 @@ pub record CanFill (c : Cached) (f from to : ℕ) (gs : List Span) : Type 0 wher
   pub room : length gs ≤ (file_in c.files f).extents.room
   pub entries : length gs ≤ (order_in c.orders (file_in c.files f).pool).room
 
--- A range of a file may be filled: these are its gaps, and these slices, which are held beside all that the cache holds and can
--- be read, are as long as what lies beside the gaps.
+-- A range of a file may be filled: these are its gaps, and these slices, which are held in addition to all that the cache holds and
+-- can be read, have as many bytes as the range outside the gaps.
 pub record MayFill (f from to : ℕ) (gs : List Span) (xs : List Slice) (h : Holding) : Type 0 where
   pub sound : IsSound h.store h.cache
   pub range : CanFill h.cache f from to gs

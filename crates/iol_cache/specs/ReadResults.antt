@@ -1,4 +1,4 @@
--- What a read of a file does to a store and a cache over it.
+-- The effects of a read of a file on a store and a cache over it.
 use Rattle.std.specs.Prelude.{◌≡◌, ◌⊎◌, ℕ, ◌+◌, ◌<◌, ◌≤◌, min, max, true, List, [], length, take, drop, Result, Ok, Err, IfOk, IfErr, OnErr}
 use Rattle.iol_core.specs.NumberedLists.{is_numbered}
 use Rattle.iol_core.specs.Prelude.{WantOfRoomOrFault}
@@ -26,23 +26,22 @@ use Rattle.iol_cache.specs.PinnedPages.{pinned_beside}
 use Rattle.iol_cache.specs.Ranges.{CompletesRange, FillsAfter, PinsRange, UndoesAfter}
 use Rattle.iol_cache.specs.RangeReads.{SameButRoom}
 use Rattle.iol_cache.specs.Sound.{IsSound}
-use Rattle.iol_cache.specs.Weave.{places_read}
+use Rattle.iol_cache.specs.Weave.{places_read, slices_read}
 
--- A call that wants pages is refused for want of room only where it lacks room. It succeeds, or meets a fault, only where it
--- has room.
+-- A call that needs pages is refused for lack of room only if it lacks room. It succeeds, or returns a fault, only if it has room.
 abbrev pub TellsRoom : {A : Type 0} → (has lacks : Type 0) → Result A Refusal → Type 0
 TellsRoom has lacks (Ok x) = has
 TellsRoom has lacks (Err (Fault f)) = has
 TellsRoom has lacks (Err (NoRoom p)) = lacks
 TellsRoom has lacks (Err x) = Unit {0}
 
--- a failure was counted just where a fault is answered
+-- a failure was counted exactly if the result is a fault
 abbrev pub FaultCounts : {A : Type 0} → (old new : Disk) → Result A Refusal → Type 0
 FaultCounts old new (Ok x) = new.failures ≡ old.failures
 FaultCounts old new (Err (Fault f)) = new.failures ≡ raised old.failures
 FaultCounts old new (Err x) = new.failures ≡ old.failures
 
--- The store was read, so an honest one keeps its bytes. A fault is answered just where one failure more was counted.
+-- The store was read, so an honest one keeps its bytes. The result is a fault exactly if one more failure was counted.
 pub record TellsFault {A : Type 0} (old new : Disk) (r : Result A Refusal) : Type 0 where
   pub honest : new.honest ≡ old.honest
   pub slots : IfHonest old (new.slots ≡ old.slots)
@@ -54,14 +53,14 @@ pub record IsBacked (disk : Disk) (h : Holding) : Type 0 where
   pub short : (f : ℕ) → is_numbered h.cache.files f ≡ true → length (content disk.slots f) ≤ MAX_FILE_BYTES
   pub mirrors : Mirrors h.store disk.slots h.cache.files
 
--- The end of a file for a read: that of what the store tells of it, as far as a file may go, or of the last extent. An
--- honest store tells what is stored.
+-- The end of a file for a read: the length that the store reports, up to the limit of files, or the end of the last extent,
+-- whichever is greater. An honest store reports the stored length.
 pub record IsEnd (disk : Disk) (c : Cached) (f end : ℕ) : Type 0 where
   pub short : end ≤ MAX_FILE_BYTES
   pub is : end ≡ max (min (length_told disk.told f) MAX_FILE_BYTES) (last_end (extents_in c.files f))
   pub stored : IfHonest disk (end ≡ max (min (length (content disk.slots f)) MAX_FILE_BYTES) (last_end (extents_in c.files f)))
 
--- n bytes from `at` on, as far as the file goes
+-- n bytes from `at` on, up to the end of the file
 pub record Range (disk : Disk) (c : Cached) (f at n : ℕ) : Type 0 where
   pub end : ℕ
   pub ends : IsEnd disk c f end
@@ -70,13 +69,13 @@ pub record Range (disk : Disk) (c : Cached) (f at n : ℕ) : Type 0 where
   pub to : ℕ
   pub stops : to ≡ min (at + n) end
 
--- so many pages of a pool are not free, and cannot be by evictions
+-- n pages of a pool are not free, and evictions cannot free them
 abbrev pub LacksPages : (p n : ℕ) → Holding → Type 0
 LacksPages p n h = length (pages_of h.store p) < pinned_beside h.store (clean_held h.cache.files) p + n
 
--- Room is made for the gaps of a range, if there is room; they are filled, all of them or none, and the range is put together
--- with what was shared beside them, which is released, also where this is refused. With these holds gone, and the range's made,
--- the cache is sound, and over an honest store every file has the bytes that it had.
+-- Room is made for the gaps of a range, if there is room; they are filled, all of them or none, and the range is assembled with the
+-- shared bytes outside them, which are released in each case. After the release the cache is sound, and over an honest store every
+-- file keeps its bytes.
 pub record FillsPinned (f from to : ℕ) (pins : List Slice) (gaps : List Span) (disk after : Disk) (old new : Holding)
     (r : Result (List Slice) Refusal) : Type 0 where
   pub filled : IfOk r (FillsAfter f from to pins gaps disk old new)
@@ -90,8 +89,9 @@ pub record FillsPinned (f from to : ℕ) (pins : List Slice) (gaps : List Span) 
   pub asks : Asks (length gaps) disk after r
   pub late : IfErr r (WantOfRoomOrFault (file_in old.cache.files f).pool f)
 
--- The hits of a range were shared and counted. Where there are gaps, extents went to make room for them, and they stand as
--- clean extents now. Its bytes lie over hits where they lay, over gaps in the new extents.
+-- The hits of a range were shared and counted. If there are gaps, extents were evicted to make room for them, and they are clean
+-- extents now. Bytes of hits are where they were, and bytes of gaps are in the new extents. There is one slice for each slice of
+-- an extent that has a byte of the range, and at most one more for each gap (`pinned` and `completed` state the slices exactly).
 pub record ReadsRange (f from to : ℕ) (disk : Disk) (old new : Holding) (xs : List Slice) : Type 0 where
   pub pins : List Slice
   pub gaps : List Span
@@ -99,10 +99,11 @@ pub record ReadsRange (f from to : ℕ) (disk : Disk) (old new : Holding) (xs : 
   pub pinned : PinsRange f from to old hit pins gaps
   pub completed : CompletesRange f from to pins gaps disk hit new xs
   pub lies : places xs ≡ places_read (extents_in old.cache.files f) (extents_in new.cache.files f) from to gaps
+  pub parts : length xs ≤ length (slices_read (extents_in old.cache.files f) (extents_in new.cache.files f) from to gaps) + length gaps
   pub answers : 0 < length gaps → disk.failures < last_failure
 
--- The hits of a range were shared and counted, and extents went to make room for its gaps. What was made of these is gone,
--- and what was shared was released. Where nothing was missing there is neither a fault nor want of room.
+-- The hits of a range were shared and counted, and extents were evicted to make room for its gaps. The gaps that were read and the
+-- shared bytes were released. If no byte was missing, the error is neither a fault nor lack of room.
 pub record GivesBack (f from to : ℕ) (old new : Holding) (x : Refusal) : Type 0 where
   pub pins : List Slice
   pub gaps : List Span
@@ -112,17 +113,17 @@ pub record GivesBack (f from to : ℕ) (old new : Holding) (x : Refusal) : Type 
   pub pinned : PinsRange f from to old hit pins gaps
   pub undone : UndoesAfter f pins gaps hit new x
 
--- Nothing changed but room for what may come.
+-- Nothing changed except the reserved room.
 pub record ReservesOnly (old new : Holding) : Type 0 where
   pub same : SameButRoom old.cache new.cache
   pub moves : Moves old.store new.store [] []
   pub frees : FreesOnly old.store new.store
 
--- A read of a range was refused: for want of memory before its hits were shared, or after that.
+-- A read of a range was refused: for lack of memory before its hits were shared, or after that.
 abbrev pub LeavesRange : (f from to : ℕ) → (old new : Holding) → Refusal → Type 0
 LeavesRange f from to old new x = ((x ≡ Memory) × ReservesOnly old new) ⊎ GivesBack f from to old new x
 
--- A file was read: n bytes from `at` on, as far as it goes.
+-- A file was read: n bytes from `at` on, up to its end.
 pub record ReadsFile (f at n : ℕ) (disk : Disk) (old new : Holding) (xs : List Slice) : Type 0 where
   pub range : Range disk old.cache f at n
   pub reads : ReadsRange f range.from range.to disk old new xs
@@ -132,7 +133,7 @@ pub record RefusesRead (f at n : ℕ) (disk : Disk) (old new : Holding) (x : Ref
   pub range : Range disk old.cache f at n
   pub leaves : LeavesRange f range.from range.to old new x
 
--- The pages that are pinned while such a read holds its hits, and those that its gaps want, fit the pool.
+-- The pages that are pinned while such a read holds its hits, and those that its gaps need, fit the pool.
 pub record RoomToRead (f at n : ℕ) (disk : Disk) (old : Holding) : Type 0 where
   pub range : Range disk old.cache f at n
   pub room : HasRoom old.store old.cache f range.from range.to

@@ -1,4 +1,4 @@
--- What a read does to a store and a cache over it, at each of its steps.
+-- The effects of each step of a read on a store and a cache over it.
 use Rattle.std.specs.Prelude.{◌≡◌, ℕ, ◌+◌, ◌<◌, ◌≤◌, List, [], ◌++◌, length, Result, IfOk}
 use Rattle.iol_core.specs.declared.numbers.BufId.{BufId}
 use Rattle.iol_core.specs.declared.refusals.Refusal.{Refusal}
@@ -21,10 +21,10 @@ use Rattle.iol_cache.specs.PinnedPages.{pinned_beside}
 use Rattle.iol_cache.specs.Marks.{Marks}
 use Rattle.iol_cache.specs.RangeReads.{FillsRange, SameButRoom, hits_counted, all_entered, parts_of_spans}
 use Rattle.iol_cache.specs.Sound.{IsSound}
-use Rattle.iol_cache.specs.Weave.{places_beside}
+use Rattle.iol_cache.specs.Weave.{HasSlicesWoven, places_beside}
 
--- The holds `taken`, beside those of the extents, became the holds `given` beside theirs. With an honest store every
--- file has its bytes, and clean extents are as stored.
+-- In addition to the references of the extents, the references `taken` became the references `given`. With an honest store every
+-- file keeps its bytes, and clean extents have the stored bytes.
 pub record Goes (disk : Disk) (taken given : List BufId) (old new : Holding) : Type 0 where
   pub moves : Moves old.store new.store (held old.cache.files ++ taken) (held new.cache.files ++ given)
   pub lists : SameLists old.store new.store
@@ -43,7 +43,7 @@ pub record CountsHits (f : ℕ) (hits : List Span) (old new : Cached) : Type 0 w
   pub orders : let p = (file_in old.files f).pool in
       new.orders ≡ with_order old.orders p (hits_counted (order_in old.orders p) f (extents_in old.files f) hits)
 
--- The hits of a range, held once more, and the gaps; which pages are pinned then, and how many are wanted.
+-- The hits of a range with one more reference each, and the gaps; which pages are pinned then, and the number of needed pages.
 pub record Pins (s : Stored) (c : Cached) (f from to : ℕ) : Type 0 where
   pub hits : List Span
   pub gaps : List Span
@@ -53,7 +53,7 @@ pub record Pins (s : Stored) (c : Cached) (f from to : ℕ) : Type 0 where
   pub lies : places pins ≡ places_beside (extents_in c.files f) from to gaps
   pub shares : Shares s mid [] (bufs_of pins)
 
--- the pages of the file's pool that are pinned while the range is read, and those that its gaps want
+-- the number of pages of the file's pool that are pinned while the range is read, and of those that its gaps need
 abbrev pub wanted_pages : {s : Stored} {c : Cached} {f from to : ℕ} → Pins s c f from to → ℕ
 wanted_pages {c = c} {f = f} x = pinned_beside x.mid (clean_held c.files) (file_in c.files f).pool + gap_pages x.gaps
 
@@ -66,8 +66,8 @@ pub record LacksRoom (s : Stored) (c : Cached) (f from to : ℕ) : Type 0 where
   pub pinned : Pins s c f from to
   pub lacks : length (pages_of s (file_in c.files f).pool) < wanted_pages pinned
 
--- The gaps of a range of a file were read, and stand as clean extents, which are marked and in the order; the range was
--- put together.
+-- The gaps of a range of a file were read, and are clean extents, which are marked and in the order; the range was
+-- assembled.
 pub record FillsFile (f from to : ℕ) (beside : List Place) (gaps : List Span) (disk : Disk) (old new : Holding)
     (xs : List Slice) : Type 0 where
   pub extents : ExtentMap
@@ -79,10 +79,12 @@ pub record FillsFile (f from to : ℕ) (beside : List Place) (gaps : List Span) 
       new.cache.orders ≡ with_order old.cache.orders p (all_entered (order_in old.cache.orders p) f extents.extents gaps)
   pub marks : Marks old.cache.marks new.cache.marks (parts_of_spans extents.extents gaps)
 
--- The gaps of a range of a file are filled, all of them or none, and the range is put together with these slices beside them.
+-- The gaps of a range of a file are filled, all of them or none, and the range is assembled with these slices, which have the bytes
+-- outside the gaps.
 pub record FillsAllOf (f from to : ℕ) (gaps : List Span) (xs : List Slice) (disk after : Disk) (old new : Holding)
     (r : Result (List Slice) Refusal) : Type 0 where
   pub filled : IfOk r (FillsFile f from to (places xs) gaps disk old new)
+  pub parts : IfOk r (HasSlicesWoven xs (extents_in new.cache.files f) from to gaps)
   pub sound : IsSound new.store new.cache
   pub reads : ReadsAllGaps (file_in old.cache.files f).pool f gaps (SameButRoom old.cache new.cache) disk after
       old.store new.store r

@@ -8,7 +8,7 @@ use Rattle.iol_cache.specs.RangeReads.{SameButRoom}
 abbrev pub HasOrder : (f : ℕ) → Cached → Type 0
 HasOrder f c = is_numbered c.orders (file_in c.files f).pool ≡ true
 
--- Where it succeeds, there is room for n extents more of a file, and for their entries. Nothing changed but such room.
+-- If it succeeds, there is room for n more extents of a file, and for their entries. Nothing else changed.
 pub record ReservesPlaces {A E : Type 0} (f n : ℕ) (old new : Cached) (r : Result A E) : Type 0 where
   pub same : SameButRoom old new
   pub extents : OnOk r (n ≤ (file_in new.files f).extents.room)

@@ -19,24 +19,24 @@ abbrev pub Each : {A : Type 0} → (A → Type 0) → List A → Type 0
 Each P [] = Unit {0}
 Each P (x ∷ xs) = P x × Each P xs
 
--- an extent's slices lie in live buffers of the pool
+-- an extent's slices are in live buffers of the pool
 pub record IsLaid (s : Stored) (pool : ℕ) (e : Extent) : Type 0 where
   pub readable : AllReadable s e.parts
   pub home : All (λ (x : Slice). x.hold.pool ≡ pool) e.parts
 
--- a file's extents are apart, lie in its pool, and end within the limit
+-- a file's extents do not overlap, are in its pool, and end within the limit
 pub record IsFiled (s : Stored) (x : CachedFile) : Type 0 where
   pub apart : IsApart 0 x.extents.extents
   pub laid : Each (IsLaid s x.pool) x.extents.extents
   pub short : last_end x.extents.extents ≤ MAX_FILE_BYTES
 
--- a file that stands is of an open pool, which has an order
+-- each file is of an open pool, which has an order
 pub record IsOpened (s : Stored) (c : Cached) (f : ℕ) : Type 0 where
   pub is_open : (pool_in s.pools (file_in c.files f).pool).closed ≡ false
   pub ordered : is_numbered c.orders (file_in c.files f).pool ≡ true
 
--- each buffer is held by each slice of an extent, clean extents are marked and stand in the orders, which keep a place for
--- each dirty one
+-- each slice of an extent holds its buffer, clean extents are marked and are in the orders, which keep a place for each
+-- dirty one
 pub record IsSound (s : Stored) (c : Cached) : Type 0 where
   pub files : (f : ℕ) → IsFiled s (file_in c.files f)
   pub opened : (f : ℕ) → is_numbered c.files f ≡ true → IsOpened s c f
@@ -57,14 +57,14 @@ pub record IsUsable (s : Stored) (fs : List CachedFile) (marks : List ℕ) : Typ
   pub marked : Counted marks (clean_held fs)
   pub pages : length marks ≡ page_count s.arena
 
--- There is no file and no order. The cache is sound over each store of so many pages that is tidy and still.
+-- There is no file and no order. The cache is sound over each store with that many pages that is tidy and still.
 pub record HasNoFile (pages : ℕ) (c : Cached) : Type 0 where
   pub files : c.files ≡ []
   pub orders : c.orders ≡ []
   pub sound : (s : Stored) → page_count s.arena ≡ pages → IsTidy s → IsStill s.arena → IsSound s c
 
--- A file of the pool came, in the next slot, of which nothing is in memory; or, refused, nothing changed. Each pool's order is as
--- it was, and a cache that was sound stays so, where the pool is open.
+-- A file of the pool was added, with the next number and without extents; or, after an error, nothing changed. Each pool's order is
+-- unchanged, and a cache that was sound is sound, if the pool is open.
 pub record AddsFile {E : Type 0} (pool : ℕ) (old new : Cached) (r : Result ℕ E) : Type 0 where
   pub number : IfOk r (λ f. f ≡ length old.files + 1)
   pub added : OnOk r (new.files ≡ old.files ++ new_file pool ∷ [])

@@ -7,6 +7,6 @@ use Rattle.iol_cache.specs.Sound.{IsUsable}
 abbrev pub is_used : Users → (f at : ℕ) → Bool
 is_used u f at = in_use u.store.now u.files.now f at
 
--- it may be asked of clean extents
+-- `is_in_use` may be called for clean extents
 abbrev pub CanAsk : Users → (f at : ℕ) → Type 0
 CanAsk u f at = IsUsable u.store.now u.files.now u.marks.now × IsCleanAt u.files.now f at

@@ -27,7 +27,7 @@ use Rattle.iol_cache.specs.declared.sync.Flushed.TheVariants.{Nothing, Wrote}
 
 -- Bytes of the store.
 
--- the bytes stand from a place on, and all others are as they were
+-- the bytes are in the file from a place on, and all others are unchanged
 pub record Stores (at : ℕ) (bytes old new : List ℕ) : Type 0 where
   pub beside : (i : ℕ) → (i < at) ⊎ (at + length bytes ≤ i) → slice_index new i ≡ slice_index old i
   pub inside : (i : ℕ) → i < length bytes → slice_index new (at + i) ≡ slice_index bytes i
@@ -46,8 +46,8 @@ pub record MayWriteBack (s : Stored) (at : ℕ) (xs : List Slice) : Type 0 where
   pub fits : at + byte_len xs < 2 ^ 32
   pub readable : AllReadable s xs
 
--- The bytes of these slices were written to a file from a place on, slice by slice. Where a write failed, what lies in their
--- range is anything.
+-- The bytes of these slices were written to a file from a place on, slice by slice. If a write failed, the bytes in their range
+-- are arbitrary.
 pub record WritesBack {A E : Type 0} (file at : ℕ) (s : Stored) (xs : List Slice) (old new : Disk)
     (r : Result A E) : Type 0 where
   pub honest : new.honest ≡ old.honest
@@ -69,16 +69,16 @@ first_cleaned (suc n) (e ∷ es) = if e.dirty then as_clean e ∷ first_cleaned 
 abbrev pub all_cleaned : List Extent → List Extent
 all_cleaned es = map as_clean es
 
--- What stays, where an honest store is written.
+-- What does not change when an honest store is written.
 
--- every file has the bytes that it had
+-- every file keeps its bytes
 pub record SameContents (s : Stored) (old new : Cached) (d e : Disk) : Type 0 where
   pub each : (f : ℕ) → bytes_in_slot s e.slots new.files f ≡ bytes_in_slot s d.slots old.files f
 
 abbrev pub KeepsBytes : (s : Stored) (old new : Cached) (d e : Disk) → Type 0
 KeepsBytes s old new d e = IfHonest d (SameContents s old new d e)
 
--- what lies under clean extents is what the store has, if it was before
+-- the store has the same bytes under clean extents, if it had before
 abbrev pub KeepsStored : (s : Stored) (old new : Cached) (d e : Disk) → Type 0
 KeepsStored s old new d e = IfHonest d (Mirrors s d.slots old.files → Mirrors s e.slots new.files)
 
@@ -98,15 +98,14 @@ pub record MaySettle (f at : ℕ) (old : ExtentMap) (r : Ranking) (marks : List 
   pub within : AreWithin (length marks) (parts_in (begins_at old.extents at))
   pub few : HasMarksLeft marks (parts_in (begins_at old.extents at))
 
--- The first dirty extent of a file is clean where it stands, is marked, and came into the order with the height of a new entry.
+-- The first dirty extent of a file became clean, is marked, and entered the order with the height of a new entry.
 pub record Settles (f at : ℕ) (old new : ExtentMap) (r t : Ranking) (marks marked : List ℕ) : Type 0 where
   pub extents : new.extents ≡ cleaned_at old.extents at
   pub apart : IsApart 0 new.extents
   pub follows : Reindexes f old.extents new.extents r t marks marked
   pub order : IfSome (dirty_in old.extents) (λ e. t ≡ entered (with_one_given_back r) f e.at (byte_len e.parts) 1)
 
--- the first dirty extent of a file was written, is clean, and stands in the order, where it came in with the height of a new
--- entry
+-- the first dirty extent of a file was written, is clean, and entered the order with the height of a new entry
 pub record Cleans (s : Stored) (f : ℕ) (old new : Cached) (d e : Disk) : Type 0 where
   pub extent : Extent
   pub first : dirty_in (extents_in old.files f) ≡ Some extent
@@ -135,7 +134,7 @@ pub record Fails (f : ℕ) (old new : Cached) (d e : Disk) : Type 0 where
   pub others : IfHonest d (OthersStay f d.slots e.slots)
   pub torn : IfHonest d (Tears extent.at (byte_len extent.parts) (content d.slots f) (content e.slots f))
 
--- or there is none, and nothing was done
+-- or no extent is dirty, and nothing was done
 pub record IsClean (f : ℕ) (old new : Cached) (d e : Disk) : Type 0 where
   pub none : dirty_in (extents_in old.files f) ≡ None
   pub same : new ≡ old
@@ -163,7 +162,7 @@ abbrev pub AreCleaned : (s : Stored) (f n : ℕ) (old new : Cached) (d e : Disk)
 AreCleaned s f zero old new d e = (new ≡ old) × (e ≡ d)
 AreCleaned s f (suc n) old new d e = (mid : Cached) × (m : Disk) × AreCleaned s f n old mid d m × Cleans s f mid new m e
 
--- none is left, or the store failed
+-- no dirty extent is left, or the store failed
 abbrev pub EndsSync : {A : Type 0} → (f : ℕ) (old new : Cached) (d e : Disk) → Result A Refusal → Type 0
 EndsSync f old new d e (Ok x) = IsClean f old new d e
 EndsSync f old new d e (Err x) = Fails f old new d e × (x ≡ Fault f)
@@ -202,16 +201,16 @@ Flushes s old new d e (Err x) = ⊥
 
 -- The calls.
 
--- The dirty extents of a file were written back, in the order of offsets, and those that were written are clean: all of them, or
--- those before one at which the store failed, which is told as a fault at the file. Over an honest store each file has the bytes
--- that it had. The cache is sound.
+-- The dirty extents of a file were written back, in the order of offsets, and the written extents are clean: all of them, or those
+-- before one at which the store failed; then the result is a fault at the file. Over an honest store each file keeps its bytes. The
+-- cache is sound.
 pub record WritesAll {A : Type 0} (f : ℕ) (s : Stored) (old new : Cache) (d e : Disk)
     (r : Result A Refusal) : Type 0 where
-  -- which extents are clean then
+  -- the extents that became clean
   pub writes : WritesDirty s f (cached_of old) (cached_of new) d e r
   pub clean : OnOk r (dirty_in (extents_in (cached_of new).files f) ≡ None)
   pub syncs : Syncs s f (cached_of old) (cached_of new) d e
-  -- what stays
+  -- what does not change
   pub files : KeepsBytes s (cached_of old) (cached_of new) d e
   pub mirrors : KeepsStored s (cached_of old) (cached_of new) d e
   pub sound : IsSound s (cached_of new)
@@ -220,8 +219,8 @@ pub record WritesAll {A : Type 0} (f : ℕ) (s : Stored) (old new : Cache) (d e 
   pub succeeds : OnOk r (e.failures ≡ d.failures)
   pub late : IfErr r (FaultOf f)
 
--- The dirty extent of least file and offset was written back, if there is one, or the store failed at it. Over an honest store
--- each file has the bytes that it had. The cache is sound.
+-- The dirty extent with the least file and offset was written back, if there is one, or the store failed at it. Over an honest store
+-- each file keeps its bytes. The cache is sound.
 pub record WritesOne (s : Stored) (old new : Cache) (d e : Disk) (r : Result Flushed Refusal) : Type 0 where
   pub flushes : Flushes s (cached_of old) (cached_of new) d e r
   pub files : KeepsBytes s (cached_of old) (cached_of new) d e

@@ -1,4 +1,4 @@
--- What a write does to a store and a cache over it.
+-- The effects of a write on a store and a cache over it.
 use Rattle.std.specs.Prelude.{◌≡◌, ℕ, ◌≤◌, ◌^◌, true, false, List, ◌++◌}
 use Rattle.iol_core.specs.NumberedLists.{is_numbered}
 use Rattle.iol_core.specs.declared.limits.TheConstants.{MAX_FILE_BYTES}
@@ -84,7 +84,7 @@ pub record PutsOver (f : ℕ) (range : Span) (put : Replacement) (old new : Hold
   pub lists : SameLists old.store new.store
   pub settles : AllSettled old.store → AllSettled new.store
 
--- The extents of a file changed, and with them its order and the marks; slices that somebody held became parts of extents.
+-- The extents of a file changed, and with them its order and the marks; slices held by the caller became parts of extents.
 pub record Changes (f : ℕ) (own : List Slice) (old new : Holding) : Type 0 where
   pub extents : ExtentMap
   pub order : Ranking

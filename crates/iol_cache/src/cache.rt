@@ -12,24 +12,24 @@ use iol_evict::order::Order;
 use iol_extent::extents::Extents;
 use std::alloc::{AllocError, Global};
 
-/// The extents of files, and for each pool of files the order in which clean extents are evicted.
+/// The extents of all files, and for each pool the order in which clean extents of its files are evicted.
 #[derive(Drop)]
 pub struct Cache {
-    // By slot, from 1.
+    // By file number, from 1.
     pub(crate) files: Vec<CachedFile>,
-    // By pool, from 1.
+    // By pool number, from 1.
     pub(crate) orders: Vec<Order>,
     pub(crate) marks: CleanHolds,
 }
 
-/// What is in memory: how many extents, and how many of them are dirty.
+/// The number of extents in memory, and of those that are dirty.
 #[derive(Clone, Copy, Debug, PartialEq, Eq)]
 pub struct CacheReport {
     pub extents: usize,
     pub dirty: usize,
 }
 
-// Empty orders, until there are so many. For want of memory, none.
+// Appends empty orders up to a total of `count`. If memory runs out, appends none.
 fn add_orders(orders: &mut Vec<Order>, alloc: Global, count: usize) -> Result<(), AllocError>
     ensures { AddsOrders count orders.old.items orders.new.items result }
 {
@@ -46,7 +46,7 @@ fn add_orders(orders: &mut Vec<Order>, alloc: Global, count: usize) -> Result<()
 impl Cache {
     ghost use Rattle.iol_cache.specs.Cache.{cached_of};
 
-    /// A cache with no file, over an arena of `pages` pages.
+    /// A cache without files, over an arena of `pages` pages.
     pub fn new(alloc: Global, pages: usize) -> Result<Cache, AllocError>
         ensures { IfOk result (λ c. HasNoFile pages (cached_of c)) }
     {
@@ -57,7 +57,7 @@ impl Cache {
         })
     }
 
-    /// Adds a file of an open pool, in the next slot. Nothing of it is in memory.
+    /// Adds a file of an open pool and returns its number, the next one. No byte of it is in memory.
     pub fn add_file(&mut self, alloc: Global, pool: PoolId) -> Result<FileId, AllocError>
         requires { length (cached_of self.old).files < MAX_FILES }
         ensures { AddsFile pool (cached_of self.old) (cached_of self.new) result }

@@ -12,7 +12,8 @@ use iol_evict::entry::Rank;
 use iol_hold::Store;
 
 impl Cache {
-    // The clean extent that goes first of those of the pool's files. Those that lie below `passed` in its order are in use.
+    // The clean extent of the pool's files to evict next: the first in the order that is not in use, or else the first. Those
+    // below `passed` in the order are in use.
     fn victim(&self, store: &Store, pool: PoolId, passed: &mut Rank) -> Option<(FileId, u32)>
         requires sound { IsSound store.now (cached_of self.now) }
         requires below { ArePassed passed.old pool (holding store.now self.now) }
@@ -33,7 +34,7 @@ impl Cache {
         self.orders[number - 1].least(&users, passed)
     }
 
-    // Evicts the clean extent of a file that begins at a place. Those of its pool's files below `passed` stay in use.
+    // Evicts the clean extent of a file that begins at byte `at`. The extents below `passed` in the order stay in use.
     fn evict(&mut self, store: &mut Store, file: FileId, at: u32, passed: &mut Rank)
         requires sound { IsSound store.old (cached_of self.old) }
         requires clean { IsCleanAt self.old.files.items file at }
@@ -47,8 +48,8 @@ impl Cache {
         agg.release(store);
     }
 
-    // Evicts clean extents of the pool's files, those that go first, until so many pages of the pool are free. False:
-    // there is no room for so many.
+    // Evicts clean extents of the pool's files, in the order of eviction, until `pages` pages of the pool are free. Returns
+    // false if there is no room for that many.
     fn evict_for(&mut self, store: &mut Store, pool: PoolId, pages: u32) -> bool
         requires sound { IsSound store.old (cached_of self.old) }
         requires open { (pool_in store.old.pools pool).closed ≡ false }
@@ -56,7 +57,7 @@ impl Cache {
             result }
     {
         let mut passed = Rank::least();
-        while store.free_count(pool) < pages {
+        while !store.has_free(pool, pages) {
             let Some(place) = self.victim(store, pool, &mut passed) else {
                 return false;
             };
@@ -65,20 +66,20 @@ impl Cache {
         true
     }
 
-    // Whether so many pages of the pool are free, or would be if clean extents were evicted.
+    // Whether that many pages of the pool are free, or would be if clean extents were evicted.
     fn has_room(&self, store: &Store, pool: PoolId, pages: u32) -> bool
         requires sound { IsSound store.now (cached_of self.now) }
         requires open { (pool_in store.now.pools pool).closed ≡ false }
         ensures { IsTrue result ↔ HasPages pool pages (holding store.now self.now) }
     {
-        if pages <= store.free_count(pool) {
+        if store.has_free(pool, pages) {
             return true;
         }
         store.can_free(pool, pages, self.marks.as_slice())
     }
 
-    /// Evicts clean extents of the pool's files, those that go first, until so many pages of the pool are free. False:
-    /// there is no room for so many, and nothing has changed.
+    /// Evicts clean extents of the pool's files, in the order of eviction, until `pages` pages of the pool are free. Returns
+    /// false, and changes nothing, if there is no room for that many.
     pub fn make_room(&mut self, store: &mut Store, pool: PoolId, pages: u32) -> bool
         requires sound { IsSound store.old (cached_of self.old) }
         requires open { (pool_in store.old.pools pool).closed ≡ false }
@@ -94,7 +95,7 @@ impl Cache {
         self.evict_for(store, pool, pages)
     }
 
-    // Evicts all clean extents of the pool's files, those that go first before the others.
+    // Evicts all clean extents of the pool's files, in the order of eviction.
     fn drop_clean_of(&mut self, store: &mut Store, pool: PoolId)
         requires { IsSound store.old (cached_of self.old) }
         ensures { DropsClean pool (holding store.old self.old) (holding store.new self.new) }
@@ -105,7 +106,7 @@ impl Cache {
         }
     }
 
-    /// Evicts all clean extents, pool by pool, those that go first before the others.
+    /// Evicts all clean extents, pool by pool, in the order of eviction.
     pub fn drop_clean(&mut self, store: &mut Store)
         requires { IsSound store.old (cached_of self.old) }
         ensures { DropsAll (holding store.old self.old) (holding store.new self.new) }

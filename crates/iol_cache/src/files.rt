@@ -2,14 +2,14 @@
 use iol_core::numbers::{FileId, PoolId};
 use iol_extent::extents::Extents;
 
-/// A file: the pool of its bytes, and those of them that are in memory.
+/// A file: the pool of its bytes, and its extents in memory.
 #[derive(Drop)]
 pub(crate) struct CachedFile {
     pub(crate) pool: PoolId,
     pub(crate) extents: Extents,
 }
 
-/// A part of a file: its bytes from `from` up to `to`.
+/// A part of a file: its bytes `from..to`.
 #[derive(Clone, Copy)]
 pub(crate) struct FilePart {
     pub(crate) file: FileId,

@@ -1,7 +1,7 @@
-//! What the words of the contracts determine. The functions do nothing; their contracts are the laws.
+//! Laws about the definitions of the contracts. The functions do nothing; their contracts are the laws.
 ghost use Rattle.iol_cache.specs.Laws.{HasOneEnd, HasOrLacksRoom, ReadsOrLacksRoom, WantsOneNumber};
 
-/// The pages that a read wants are one number, and so is the end of a file, so a read has room or lacks it, and never both.
+/// A read has room or lacks room, and never both: the number of pages that it needs and the end of the file are unique.
 pub fn room_is_one()
     ensures wanted { WantsOneNumber }
     ensures range { HasOrLacksRoom }

@@ -21,7 +21,7 @@ impl Model for CleanHolds {
     ghost view = { λ c. c.marks.items };
 }
 
-// One slice more of the buffer that begins at the page, or one fewer.
+// Counts one slice more, or one fewer, of the buffer that begins at the page.
 fn turn_one(marks: &mut Vec<u64>, page: usize, is_clean: bool)
     requires { CanTurnAt is_clean marks.old.items page }
     ensures { marks.new.items ≡ with_turned is_clean marks.old.items page }
@@ -33,7 +33,7 @@ fn turn_one(marks: &mut Vec<u64>, page: usize, is_clean: bool)
     }
 }
 
-// Whether the buffer of a slice is held by more than the clean extents.
+// Whether anything except clean extents holds the buffer of a slice.
 fn is_held_more(marks: &Vec<u64>, store: &Store, slice: &Slice) -> bool
     requires within { slice.now.hold.buf.page < length marks.now.items }
     requires live { 0 < count_of store.now slice.now.hold.buf }
@@ -44,7 +44,7 @@ fn is_held_more(marks: &Vec<u64>, store: &Store, slice: &Slice) -> bool
 }
 
 impl CleanHolds {
-    /// None, for so many pages.
+    /// Counts of 0 for `pages` pages.
     pub(crate) fn new(alloc: Global, pages: usize) -> Result<CleanHolds, AllocError>
         ensures { IfOk result (λ c. c ≡ replicate pages 0) }
     {
@@ -52,14 +52,14 @@ impl CleanHolds {
         Ok(CleanHolds { marks })
     }
 
-    /// For each page, how many there are.
+    /// The counts by page.
     pub(crate) fn as_slice(&self) -> &[u64]
         ensures { result.now ≡ self.now }
     {
         self.marks.as_slice()
     }
 
-    /// Counts the slices of an extent that becomes clean, or of one that is so no longer.
+    /// Adds the slices of an extent that becomes clean, or subtracts those of one that is no longer clean.
     pub(crate) fn set_clean(&mut self, slices: &[Slice], is_clean: bool)
         requires within { AreWithin (length self.old) slices.now }
         requires can { CanTurn is_clean self.old slices.now }
@@ -70,7 +70,7 @@ impl CleanHolds {
         }
     }
 
-    /// Whether one of the slices' buffers is held by anything but clean extents.
+    /// Whether anything except clean extents holds the buffer of one of the slices.
     pub(crate) fn is_in_use(&self, store: &Store, slices: &[Slice]) -> bool
         requires within { AreWithin (length self.now) slices.now }
         requires covered { Covers store.now (bufs_of slices.now) }

@@ -1,4 +1,4 @@
-//! Extents of a file in the order of its pool: hits that count, and extents that come in.
+//! Extents of a file in the order of its pool: hits that are counted, and entries that are inserted.
 ghost use Rattle.std.specs.Prelude.{◌≡◌};
 ghost use Rattle.iol_extent.specs.Prelude.{IsApart};
 ghost use Rattle.iol_cache.specs.Entries.{Enters, EntersAll, MayEnter, MayEnterAll};
@@ -10,7 +10,7 @@ use iol_evict::order::Order;
 use iol_extent::extents::Extents;
 use iol_extent::spans::Span;
 
-/// Counts hits on the clean extents over the beginnings of spans.
+/// Counts a hit on the extent over the first byte of each span, if that extent is clean.
 pub(crate) fn count_hits(order: &mut Order, extents: &Extents, file: FileId, hits: &[Span])
     requires apart { IsApart 0 extents.now.extents }
     requires ranked { RanksFile order.old file extents.now.extents }
@@ -25,7 +25,7 @@ pub(crate) fn count_hits(order: &mut Order, extents: &Extents, file: FileId, hit
     }
 }
 
-/// Marks the extent that begins at a place, and lets it into the order.
+/// Marks the extent that begins at byte `at`, and inserts it into the order.
 pub(crate) fn enter_one(
     order: &mut Order,
     marks: &mut CleanHolds,
@@ -43,7 +43,7 @@ pub(crate) fn enter_one(
     order.enter(file, at, agg.len(), 1);
 }
 
-/// Marks the extents that begin where spans do, and lets them into the order.
+/// Marks the extents that begin where the spans begin, and inserts them into the order.
 pub(crate) fn enter_all(
     order: &mut Order,
     marks: &mut CleanHolds,

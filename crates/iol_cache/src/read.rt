@@ -1,4 +1,4 @@
-//! Reads of files: what is in memory is shared, room is made for the gaps, and these are read.
+//! Reads of files: the bytes in memory are shared, room is made for the gaps, and the gaps are read.
 ghost use Rattle.std.specs.Prelude.{◌≡◌, ◌≤◌, true};
 ghost use Rattle.iol_core.specs.Prelude.{is_numbered};
 ghost use Rattle.iol_extent.specs.Prelude.{last_end};
@@ -26,8 +26,8 @@ use iol_hold::Store;
 use std::alloc::Global;
 
 impl Cache {
-    // Makes room for the gaps of a range, reads them, and puts the range together from them and from what was shared
-    // beside them, which is released.
+    // Makes room for the gaps of a range, reads them, and assembles the range from them and from `pins`, the shared bytes
+    // outside the gaps. Releases `pins` in each case.
     fn fill_pinned<B: Backing>(
         &mut self,
         alloc: Global,
@@ -52,7 +52,7 @@ impl Cache {
         filled
     }
 
-    // The end of a file: that of what the store tells of it, or of the last extent.
+    // The end of a file: the length that the store reports or the end of the last extent, whichever is greater.
     fn file_end<B: Backing>(&self, backing: &B, file: FileId) -> u32
         requires file { is_numbered self.now.files.items file ≡ true }
         requires short { last_end (extents_in self.now.files.items file) ≤ MAX_FILE_BYTES }
@@ -63,7 +63,7 @@ impl Cache {
         stored.max(self.files[place].extents.end())
     }
 
-    /// How many bytes a file has. Of a store that is not honest, it is where a read of the file would end now.
+    /// The length of a file in bytes. If the store is not honest, the place where a read of the file would end now.
     pub fn file_length<B: Backing>(&self, backing: &B, file: FileId) -> u32
         requires file { is_numbered (cached_of self.now).files file ≡ true }
         requires short { last_end (extents_in (cached_of self.now).files file) ≤ MAX_FILE_BYTES }
@@ -72,12 +72,14 @@ impl Cache {
         self.file_end(backing, file)
     }
 
-    /// Reads at most `count` bytes of a file from place `at` on, as far as the file goes.
+    /// Reads at most `count` bytes of a file from byte `at`, up to the end of the file.
     ///
-    /// The bytes that are in memory are shared. Room is made for the others, which are read into clean extents: all of
-    /// them, or none. It is refused where the pages that are pinned and wanted do not fit the file's pool (`NoRoom`), where
-    /// the store fails (`Fault`), and for want of memory. A refusal leaves no extent, only evictions and hits that count:
-    /// where they do not fit, no evictions either. Where nothing is missing neither room nor the store is asked for.
+    /// The bytes in memory are shared. Room is made for the others, which are read into clean extents: all of them, or
+    /// none. If no byte is missing, the read needs no room and does not use the store.
+    ///
+    /// Errors: `NoRoom`, only if the pinned pages and the pages for the missing bytes do not fit the file's pool; `Fault`,
+    /// only if the store fails; `Memory`. If the pages do not fit, the error is `NoRoom` or `Memory`. An error leaves no new
+    /// extent. It may leave hits that were counted and, if the pages fit, evictions.
     pub fn read<B: Backing>(
         &mut self,
         alloc: Global,

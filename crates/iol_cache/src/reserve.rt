@@ -9,7 +9,7 @@ use iol_core::numbers::FileId;
 use std::alloc::AllocError;
 
 impl Cache {
-    /// Room for so many extents more of a file, and for their entries.
+    /// Reserves room for `count` more extents of a file, and for their entries.
     pub(crate) fn reserve_places(&mut self, file: FileId, count: usize) -> Result<(), AllocError>
         requires file { is_numbered self.old.files.items file ≡ true }
         requires order { HasOrder file (cached_of self.old) }

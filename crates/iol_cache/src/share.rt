@@ -6,7 +6,8 @@ use iol_extent::extents::Extents;
 use iol_hold::Store;
 use std::alloc::AllocError;
 
-/// Adds the bytes of a range that lies under extents. Refused, all is released.
+/// Adds the bytes of a range that extents cover, one slice for each slice that has a byte of it. On an error, releases all
+/// slices, also those of `so_far`.
 pub(crate) fn share_over(
     extents: &Extents,
     store: &mut Store,

@@ -16,16 +16,16 @@ use iol_evict::order::Order;
 use iol_extent::extents::Extents;
 use iol_hold::{Slice, Store};
 
-/// What was written back.
+/// The result of `flush_one`.
 #[derive(Clone, Copy, Debug, PartialEq, Eq)]
 pub enum Flushed {
-    /// Nothing is dirty.
+    /// No extent is dirty.
     Nothing,
-    /// An extent of this file, the first that was dirty.
+    /// The first dirty extent was written. It is of this file.
     Wrote { file: FileId },
 }
 
-// Writes slices back to the bytes of a file from place `at` on, one write for each, up to the first that fails.
+// Writes slices back to a file from byte `at`, one write per slice, up to the first that fails.
 fn write_back<B: Backing>(
     store: &Store,
     backing: &mut B,
@@ -48,8 +48,8 @@ fn write_back<B: Backing>(
     Ok(())
 }
 
-// The first dirty extent becomes clean where it stands, which begins at a place: it is marked, and enters the order in the place that was
-// kept for it.
+// Makes the first dirty extent clean, which begins at byte `at`: marks its pages, and inserts its entry into the order, in the
+// room kept for it.
 fn settle(order: &mut Order, marks: &mut CleanHolds, extents: &mut Extents, file: FileId, at: u32)
     requires { MaySettle file at extents.old order.old marks.old }
     ensures { Settles file at extents.old extents.new order.old order.new marks.old marks.new }
@@ -60,7 +60,7 @@ fn settle(order: &mut Order, marks: &mut CleanHolds, extents: &mut Extents, file
 }
 
 impl Cache {
-    // Writes the first dirty extent of a file back, which is clean then. False: none is dirty.
+    // Writes the first dirty extent of a file back and makes it clean. Returns false if no extent is dirty.
     fn store_first<B: Backing>(
         &mut self,
         store: &Store,
@@ -89,10 +89,10 @@ impl Cache {
         Ok(true)
     }
 
-    /// Writes all dirty extents of a file back, in the order of offsets, up to the first that fails. Those that were written
-    /// are clean then. It wants no memory.
+    /// Writes all dirty extents of a file back, in the order of offsets, up to the first write that fails. The written
+    /// extents become clean. Needs no memory.
     ///
-    /// Refused with `Fault` where the store fails: the extent that it failed at, and those after it, are dirty as before.
+    /// Returns `Fault` if the store fails. The extent whose write failed and those after it stay dirty.
     pub fn sync<B: Backing>(
         &mut self,
         store: &Store,
@@ -115,9 +115,9 @@ impl Cache {
         Ok(())
     }
 
-    /// Writes the dirty extent of least file and offset back, which is clean then. It wants no memory.
+    /// Writes the dirty extent with the least file and offset back and makes it clean. Needs no memory.
     ///
-    /// Refused with `Fault` of the extent's file where the store fails: nothing has become clean.
+    /// Returns `Fault` of the extent's file if the store fails. Then no extent has become clean.
     pub fn flush_one<B: Backing>(
         &mut self,
         store: &Store,

@@ -6,7 +6,7 @@ use iol_core::numbers::FileId;
 use iol_evict::users::InUse;
 use iol_hold::Store;
 
-/// Tells whether a buffer of an extent is held by anything but clean extents.
+/// Decides whether anything except clean extents holds a buffer of an extent.
 #[derive(Drop)]
 pub(crate) struct Users<'a> {
     pub(crate) store: &'a Store,

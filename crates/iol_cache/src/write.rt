@@ -22,7 +22,7 @@ use iol_hold::Store;
 use std::alloc::Global;
 
 impl Cache {
-    // Replaces a range of a file, in room that was made for its parts and the new bytes. No memory is taken.
+    // Replaces a range of a file, in room reserved for its parts and the new bytes. Allocates no memory.
     fn put_over(&mut self, store: &mut Store, file: FileId, range: Span, put: Replacement)
         requires { MayPutOver file range put (holding store.old self.old) }
         ensures puts { PutsOver file range put (holding store.old self.old)
@@ -42,7 +42,7 @@ impl Cache {
         );
     }
 
-    // Room for the extents of a write, for their entries and for the pages of the bytes that are copied.
+    // Reserves room for the extents of a write and their entries, and frees the pages for the copied bytes.
     fn make_place(&mut self, store: &mut Store, file: FileId, source: &Agg) -> Result<(), Refusal>
         requires { MayMakePlace file source.now (holding store.old self.old) }
         ensures { MakesPlace file source.now store.old self.old store.new self.new result }
@@ -58,7 +58,7 @@ impl Cache {
         Err(Refusal::NoRoom { pool })
     }
 
-    // Replaces a range of a file by the bytes of an aggregate, in room that was made for extents and entries.
+    // Replaces a range of a file by the bytes of an aggregate, in room reserved for extents and entries.
     fn overwrite(
         &mut self,
         alloc: Global,
@@ -85,11 +85,12 @@ impl Cache {
         Ok(())
     }
 
-    /// Writes the bytes of an aggregate over those of a file, from byte `at` on, as one dirty extent. Those that lie in the
-    /// file's pool are shared, and the others are copied there.
+    /// Writes the bytes of an aggregate over those of a file, from byte `at`, as one dirty extent. The bytes in the file's
+    /// pool are shared, and the others are copied there.
     ///
-    /// Refused, no file has changed: `NoRoom` where pinned pages and those for the copies are more than the pool has, which
-    /// leaves each extent and the order, and `Memory`, before which clean extents may have gone where they are not more.
+    /// Errors, after which no file has changed: `NoRoom`, only if the pinned pages and those for the copies are more than
+    /// the pool has; it leaves each extent and the order. `Memory`; clean extents may have been evicted before, but only if
+    /// the pages fit the pool.
     pub fn write(
         &mut self,
         alloc: Global,

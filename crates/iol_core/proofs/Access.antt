@@ -1,4 +1,4 @@
--- Every call keeps access, and so does every run of the machine from its first state on.
+-- Every call preserves access, and so does every run of the machine from its first state on.
 use Rattle.std.proofs.Common.{inl, inr, ◌≡◌, ℕ, ◌+◌, ◌-◌, ◌==◌, List, [], ◌∷◌, ◌++◌, length, take, drop, ap, ◌∙◌, refl, sym, subst, Option, Some, None, true, false, Bool}
 use Rattle.std.specs.Prelude.{fold, if◌then◌else◌, option_map, unwrap_or, is_none, Result, Ok, Err}
 use Rattle.std.specs.Option.{option_map_or}

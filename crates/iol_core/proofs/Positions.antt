@@ -1,4 +1,4 @@
--- Every call leaves positions within files.
+-- Every call keeps positions within files.
 use Rattle.std.proofs.Common.{inl, inr, ◌≡◌, ℕ, ◌+◌, ◌≤◌, ◌<◌, ◌==◌, List, [], ◌∷◌, ◌++◌, length, take, drop, ap, ◌∙◌, refl, sym, subst, arith, Option, Some, None, true, false, Bool}
 use Rattle.std.specs.Prelude.{fold, slice_set, option_map, unwrap_or, if◌then◌else◌, nat_lt, nat_le, is_none, position, bytes_eq, Result, Ok, Err}
 use Rattle.std.specs.Option.{option_map_or}

@@ -1,4 +1,4 @@
--- Lists of which each element passes, and refusals that did not hold.
+-- Lists whose elements all pass a test, and refusals whose conditions did not hold.
 use Rattle.std.proofs.Common.{inl, inr, ◌≡◌, ℕ, suc, zero, cond, List, [], ◌∷◌, ◌++◌, take, drop, ap, ◌∙◌, refl, arith, Option, Some, None, true, false, Bool}
 use Rattle.std.specs.Prelude.{option_map, not, slice_index_or, unwrap_or, take_while}
 use Rattle.std.specs.List.{list_all}

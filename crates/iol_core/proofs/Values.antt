@@ -1,4 +1,4 @@
--- Every call leaves the values of aggregates as they are, but of those that it gives up.
+-- Every call leaves the values of aggregates unchanged, except of those that it consumes.
 use Rattle.std.proofs.Common.{inl, inr, ◌≡◌, ◌≢◌, ℕ, ◌+◌, ◌==◌, List, [], ◌∷◌, ◌++◌, length, take, drop, ap, ◌∙◌, refl, sym, subst, arith, Option, Some, None, true, false, Bool}
 use Rattle.std.specs.Prelude.{fold, ◌&&◌, ◌||◌, slice_set, option_map, unwrap_or, if◌then◌else◌, Result, Ok, Err}
 use Rattle.std.specs.List.{list_any}

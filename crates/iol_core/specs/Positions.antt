@@ -1,4 +1,4 @@
--- Positions lie within files: each descriptor on a file is open on one that there is, at a place up to its length.
+-- Invariant of positions: each descriptor on a file refers to an existing file, at a position of at most its length.
 use Rattle.std.specs.Prelude.{◌≡◌, ℕ, ◌≤◌, true, length, Some}
 use Rattle.iol_core.specs.NumberedLists.{is_numbered}
 use Rattle.iol_core.specs.State.{State, descriptor, content}
@@ -6,11 +6,11 @@ use Rattle.iol_core.specs.declared.descriptors.Descriptor.TheVariants as on
 use Rattle.iol_core.specs.declared.descriptors.Mode.{Mode}
 use Rattle.iol_core.specs.declared.limits.TheConstants.{MAX_FILES}
 
--- a place in a file
+-- a position in a file
 abbrev pub IsPlace : State → (f at : ℕ) → Type 0
 IsPlace s f at = (is_numbered s.files f ≡ true) × (at ≤ length (content s f))
 
--- each file has a slot, and what is open on it is at a place in it
+-- each file has a slot, and the position of each descriptor is within its file
 pub record ArePlaced (s : State) : Type 0 where
   pub slots : MAX_FILES ≤ length s.slots
   pub few : length s.files ≤ MAX_FILES

@@ -1,4 +1,4 @@
--- The words that contracts of other crates cite, passed on from one place. Declares nothing.
+-- Re-exports the definitions that contracts of other crates cite. It declares nothing.
 pub use Rattle.iol_core.specs.Calls.Aggregates.{default_pool, lacks_agg, show, too_many_aggs}
 pub use Rattle.iol_core.specs.Calls.Descriptors.{closed_on, freed, too_many_open, with_fds}
 pub use Rattle.iol_core.specs.Calls.Files.{file_called, file_on, open_on}

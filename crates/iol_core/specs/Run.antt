@@ -1,4 +1,4 @@
--- The copying machine: what each event means, one step, and a run of events.
+-- The copying machine: the meaning of each event, one step, and a run of events.
 use Rattle.std.specs.Prelude.{◌≡◌, ℕ, List, [], ◌∷◌, Result, Ok, Err}
 use Rattle.iol_core.specs.State.{State}
 use Rattle.iol_core.specs.Meaning.{Meaning, Step}
@@ -18,14 +18,14 @@ use Rattle.iol_core.specs.declared.events.Event.TheVariants as event
 use Rattle.iol_core.specs.declared.events.Reply.{Reply}
 use Rattle.iol_core.specs.declared.events.Reply.TheVariants as reply
 
--- with the answer as a reply
+-- with the result as a reply
 abbrev pub replied : {A : Type 0} → (A → Reply) → Meaning A → Meaning Reply
 replied f m = record { refusals = m.refusals; Late = m.Late; answer = f m.answer; after = m.after }
 
 abbrev pub done : Unit {0} → Reply
 done u = reply.Done
 
--- what a call of a domain means
+-- the meaning of a domain's call
 abbrev pub called : State → (by : ℕ) → Call → Meaning Reply
 called s by call.DomainNew = replied reply.Domain (domain_new s by)
 called s by call.Exit = replied done (exit s by)
@@ -56,7 +56,7 @@ called s by (call.Read fd n) = replied reply.Bytes (read s by fd n)
 called s by (call.Write fd bytes) = replied reply.Count (write s by fd bytes)
 called s by call.Accept = replied reply.Fd (accept s by)
 
--- what an event means
+-- the meaning of an event
 abbrev pub meaning : State → Event → Meaning Reply
 meaning s (event.Call by c) = called s by c
 meaning s (event.ConnNew p) = replied reply.Conn (conn_new s p)
@@ -66,16 +66,16 @@ meaning s (event.Transmit c max) = replied (λ x. reply.Segment x.0 x.1) (transm
 meaning s event.Flush = replied done (flush s)
 meaning s event.DropClean = replied done (drop_clean s)
 
--- a reply as an answer or a refusal
+-- a reply as a result or a refusal
 abbrev pub outcome : Reply → Result Reply Refusal
 outcome (reply.Refused x) = Err x
 outcome r = Ok r
 
--- From old, the machine may give this reply to the event, going on to new.
+-- one step of the machine: from old, it may give this reply to the event, with the new state
 abbrev pub StepsTo : State → Event → Reply → State → Type 0
 StepsTo old e r new = Step (meaning old e) old (outcome r) new
 
--- From old, it may give these replies to these events, one after another, ending in new.
+-- a run of the machine: from old, it may give these replies to these events, in order, with the new state at the end
 abbrev pub Run : State → List Event → List Reply → State → Type 0
 Run old [] [] new = new ≡ old
 Run old (e ∷ es) (r ∷ rs) new = (mid : State) × StepsTo old e r mid × Run mid es rs new

@@ -1,12 +1,12 @@
--- Sharing: a call that hands out bytes that lie somewhere already copies none of them.
+-- Sharing: a call that passes on bytes that are already in memory copies none of them.
 --
--- A text is a list of pairs of a number and a pool, and such a call never looks at the numbers: it moves the pairs,
--- whatever they stand for. So a state can be read in two ways. As values, each number is a byte. As a layout, it is the
--- number of the place where the byte lies, and a text lists the places of its bytes, in order.
+-- A text is a list of pairs of a number and a pool. Such a call never looks at the numbers: it only moves the pairs. So a state
+-- can be read in two ways. As values, each number is a byte. As a layout, each number is the address of a byte, and a text
+-- lists the addresses of its bytes, in order.
 --
--- On a layout the call's own meaning tells where the bytes of its result lie: where one aggregate lies in the places 7
--- and 8 and another in 3, the two joined lie in 7, 8 and 3. They were not copied, since a copy would lie in other
--- places. A system shares if its layouts take the steps that its values take.
+-- On a layout the meaning of a call determines the addresses of the bytes of its result. If one aggregate is at addresses 7 and
+-- 8 and another at 3, the joined aggregate is at 7, 8 and 3. No byte was copied, since a copy would have another address. A
+-- system shares if its layouts take the same steps as its values.
 use Rattle.std.specs.Prelude.{Bool, true, false, not}
 use Rattle.iol_core.specs.State.{State, descriptor}
 use Rattle.iol_core.specs.Calls.Writes.{is_file}
@@ -16,8 +16,8 @@ use Rattle.iol_core.specs.declared.events.Event.{Event}
 use Rattle.iol_core.specs.declared.events.Event.TheVariants as event
 use Rattle.iol_core.specs.declared.events.Reply.{Reply}
 
--- Whether the event hands on bytes that lie in memory already, and so is to share them. What a file has may lie in the store,
--- and what is written to it may have to lie in the file's pool: these two are no sharing calls on files.
+-- Whether the event passes on bytes that are already in memory, and so must share them. Reads and writes of files are not
+-- included: the bytes of a file may be only in the store, and written bytes may have to be copied into the file's pool.
 abbrev pub is_sharing : State → Event → Bool
 is_sharing s (event.Call by (call.AggDup a)) = true
 is_sharing s (event.Call by (call.AggCut a from to)) = true
@@ -29,6 +29,6 @@ is_sharing s (event.Call by (call.IolRead fd n)) = not (is_file (descriptor s by
 is_sharing s (event.Call by (call.IolWrite fd a)) = not (is_file (descriptor s by fd))
 is_sharing s e = false
 
--- Old and new are layouts: what the event means for bytes it means for the places where they lie.
+-- old and new are layouts: the event does to addresses what it does to bytes
 abbrev pub LaysOut : State → Event → Reply → State → Type 0
 LaysOut old e r new = StepsTo old e r new

@@ -4,68 +4,76 @@ use crate::lists::{Bytes, Domains};
 use crate::numbers::{AggId, ConnId, DomainId, Fd, FileId, PoolId};
 use crate::refusals::Refusal;
 
-/// A call of a domain, with what it does and answers where it is not refused. `docs/RULES.md` has its refusals, in order.
+/// A call of a domain, with its effect and its reply if it succeeds. `docs/RULES.md` lists the
+/// refusals of each call, in order.
 #[derive(Debug, Drop)]
 pub enum Call {
-    /// Makes a domain, with no aggregate and no open descriptor. Answers `Domain`: the next number.
+    /// Creates a domain that has no aggregate and no open descriptor. Returns `Domain`: the next
+    /// number.
     DomainNew,
 
-    /// Ends the caller. Its aggregates are dropped and its descriptors closed, by rising number. Answers `Done`.
+    /// Ends the caller. Drops its aggregates and closes its descriptors, in ascending order.
+    /// Returns `Done`.
     Exit,
 
-    /// Makes a pool of 1 to 256 chunks, which 1 to 16 live domains may read. Answers `Pool`: the next number.
+    /// Creates a pool of 1 to 256 chunks, which 1 to 16 live domains may read. Returns `Pool`: the
+    /// next number.
     PoolCreate {
         chunks: u32,
         domains: Domains,
     },
 
-    /// Closes a pool: no byte is placed in it any more, and those in it stay readable. Answers `Done`.
+    /// Closes a pool: no byte is placed in it any more, and the bytes in it stay readable. Returns
+    /// `Done`.
     PoolClose {
         pool: PoolId,
     },
 
-    /// Adds a live domain to the at most 16 that may read a pool, of which the caller is one. Answers `Done`.
+    /// Adds a live domain to the readers of a pool, at most 16. The caller must be one of them.
+    /// Returns `Done`.
     PoolAdmit {
         pool: PoolId,
         domain: DomainId,
     },
 
-    /// Makes a pool the caller's default, where the bytes that it makes are placed. Answers `Done`.
+    /// Makes a pool the caller's default pool, in which the bytes that it creates are placed.
+    /// Returns `Done`.
     SetPool {
         pool: PoolId,
     },
 
-    /// Makes an aggregate of these bytes, at most 2^24, in the caller's default pool. Answers `Agg`.
+    /// Makes an aggregate of these bytes, at most 2^24, in the caller's default pool. Returns
+    /// `Agg`.
     AggMake {
         bytes: Bytes,
     },
 
-    /// Makes a second aggregate of the same bytes. Answers `Agg`.
+    /// Makes a second aggregate of the same bytes. Returns `Agg`.
     AggDup {
         agg: AggId,
     },
 
-    /// Makes an aggregate of the bytes from `from` up to `to`. Answers `Agg`.
+    /// Makes an aggregate of the bytes from `from` up to, not including, `to`. Returns `Agg`.
     AggCut {
         agg: AggId,
         from: u32,
         to: u32,
     },
 
-    /// Splits an aggregate, which is given up, at byte `at`. Answers `Aggs`.
+    /// Splits an aggregate at byte `at` and consumes it. Returns `Aggs`.
     AggSplit {
         agg: AggId,
         at: u32,
     },
 
-    /// Joins two aggregates, which are given up, to one of at most 2^24 bytes. Answers `Agg`.
+    /// Joins two aggregates into one of at most 2^24 bytes and consumes both. Returns `Agg`.
     AggJoin {
         first: AggId,
         second: AggId,
     },
 
-    /// Makes an aggregate of the bytes of `agg`, those from `from` up to `to` replaced by those of `with`.
-    /// Answers `Agg`.
+    /// Makes an aggregate of the bytes of `agg`, with those from `from` up to `to` replaced by the
+    /// bytes of `with`. Returns `Agg`.
     AggReplace {
         agg: AggId,
         from: u32,
@@ -73,119 +81,126 @@ pub enum Call {
         with: AggId,
     },
 
-    /// Gives an aggregate up. Answers `Done`.
+    /// Drops an aggregate. Returns `Done`.
     AggDrop {
         agg: AggId,
     },
 
-    /// Gives an aggregate to a domain that may read all of its bytes. Answers `Agg`: the receiver's number.
+    /// Moves an aggregate to a domain that may read all of its bytes. Returns `Agg`: the
+    /// receiver's number.
     AggGive {
         agg: AggId,
         to: DomainId,
     },
 
-    /// Copies an aggregate's bytes out. Answers `Bytes`.
+    /// Returns a copy of an aggregate's bytes as `Bytes`.
     Show {
         agg: AggId,
     },
 
-    /// Gives the store's next slot a name of 1 to 255 bytes, and a pool for its bytes. Answers `File`.
+    /// Gives the next slot of the store a name of 1 to 255 bytes, and a pool for its bytes.
+    /// Returns `File`.
     FileNew {
         name: Bytes,
         pool: PoolId,
     },
 
-    /// Opens the file of this name at position 0. Answers `Fd`: the caller's lowest free number.
+    /// Opens the file of this name at position 0. Returns `Fd`: the caller's lowest free number.
     OpenFile {
         name: Bytes,
         mode: Mode,
     },
 
-    /// Makes a pipe, which holds at most 65,536 bytes. Answers `Fds`: its read end and its write end.
+    /// Creates a pipe, which holds at most 65,536 bytes. Returns `Fds`: its read end and its write
+    /// end.
     Pipe,
 
-    /// Moves a descriptor to a domain. Answers `Fd`: the receiver's lowest free number.
+    /// Moves a descriptor to a domain. Returns `Fd`: the receiver's lowest free number.
     GiveFd {
         fd: Fd,
         to: DomainId,
     },
 
-    /// Closes a descriptor. Answers `Done`.
+    /// Closes a descriptor. Returns `Done`.
     Close {
         fd: Fd,
     },
 
-    /// Sets the position of a file's descriptor, at most the file's length. Answers `Done`.
+    /// Sets the position of a descriptor on a file, at most the file's length. Returns `Done`.
     Seek {
         fd: Fd,
         at: u32,
     },
 
-    /// Tells the length of a file in bytes. Answers `Count`.
+    /// Returns the length of a file in bytes as `Count`.
     Length {
         fd: Fd,
     },
 
-    /// Reads at most `count` bytes without copying any that are in memory. Answers `Agg`.
+    /// Reads at most `count` bytes and copies none that are in memory. Returns `Agg`.
     IolRead {
         fd: Fd,
         count: u32,
     },
 
-    /// Writes an aggregate's bytes and leaves the aggregate. To a queue as many go as fit, and none is copied; to a file all
-    /// go, and those alone are copied that lie in another pool than the file's. Answers `Count`: how many were taken.
+    /// Writes the bytes of an aggregate, which remains. A queue takes as many as fit and copies
+    /// none. A file takes all, and copies only those whose pool is not the file's. Returns
+    /// `Count`: the number of bytes taken.
     IolWrite {
         fd: Fd,
         agg: AggId,
     },
 
-    /// Writes all of a file that is dirty back to the store. Answers `Done`.
+    /// Writes all dirty extents of a file to the store. Returns `Done`.
     Fsync {
         fd: Fd,
     },
 
-    /// Reads at most `count` bytes by copying them. Answers `Bytes`.
+    /// Reads at most `count` bytes by copying them. Returns `Bytes`.
     Read {
         fd: Fd,
         count: u32,
     },
 
-    /// Writes these bytes by copying them: to a queue as many as fit, to a file all. Answers `Count`.
+    /// Writes these bytes by copying them: to a queue as many as fit, to a file all. Returns
+    /// `Count`.
     Write {
         fd: Fd,
         bytes: Bytes,
     },
 
-    /// Accepts the lowest waiting connection whose pool names the caller. Answers `Fd`.
+    /// Accepts the waiting connection of the lowest number whose pool the caller may read. Returns
+    /// `Fd`.
     Accept,
 }
 
-/// What happens to a system: one atomic step.
+/// An event of a system: one atomic step.
 #[derive(Debug, Drop)]
 pub enum Event {
     Call { by: DomainId, call: Call },
 
-    /// A connection comes up. What arrives on it will lie in the pool.
+    /// A connection is established. The bytes that arrive on it are placed in the pool.
     ConnNew { pool: PoolId },
 
-    /// Bytes come in on a connection, as many as fit.
+    /// Bytes arrive on a connection, as many as fit.
     Arrive { conn: ConnId, bytes: Bytes },
 
-    /// The peer of a connection sends no more, or also takes no more.
+    /// The peer of a connection stops sending, or also stops receiving.
     PeerClosed { conn: ConnId, how: How },
 
-    /// A connection sends its first bytes, `max` or all where fewer wait.
+    /// A connection sends its first `max` bytes, or all if fewer are queued.
     Transmit { conn: ConnId, max: u32 },
 
-    /// Writes one dirty extent back to the store: of the file of the least number that has any, the first. Without a dirty
-    /// extent nothing is done.
+    /// Writes one dirty extent to the store: the first of the lowest-numbered file that has one.
+    /// If no extent is dirty, it has no effect.
     Flush,
 
-    /// Forgets all clean extents: the bytes of files in memory that the store has, too.
+    /// Drops all clean extents: the cached bytes of files that the store also has.
     DropClean,
 }
 
-/// The answer to an event. Numbers are the caller's own, but for those of domains, pools, files and connections.
+/// The reply to an event. Aggregate and descriptor numbers are relative to the caller; domains,
+/// pools, files and connections have numbers that are the same for all.
 #[derive(Debug, Drop)]
 pub enum Reply {
     Done,
@@ -202,7 +217,7 @@ pub enum Reply {
     Count(u32),
     Bytes(Bytes),
 
-    /// Bytes sent, with the Internet checksum of these alone.
+    /// The bytes sent, with the Internet checksum of these bytes only.
     Segment { bytes: Bytes, checksum: u16 },
     Refused(Refusal),
 }

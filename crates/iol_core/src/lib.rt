@@ -1,8 +1,8 @@
 //! The plain data of the system, and the definitions that every contract cites.
 //!
-//! The code here is numbers, refusals, calls, events, replies and limits. What a system promises is
-//! defined in `specs/`: the copying machine, which has no pages, counts, sharing or caches. Read
-//! `Text`, `State` and `Meaning` first, then one file of `Calls` for each kind of call, and `Run`.
+//! The code defines numbers, refusals, calls, events, replies and limits. The specification is in
+//! `specs/`: the copying machine, which has no pages, reference counts, sharing or caches. Read
+//! `Text`, `State` and `Meaning` first, then `Run` and one file of `Calls` for each kind of call.
 #![tactic(auto)]
 
 pub mod configuration;

@@ -1,4 +1,4 @@
--- What places and entries become where a value of them is lent.
+-- Places and entries after a value of theirs was borrowed.
 use Rattle.std.specs.Prelude.{ℕ, Option, Some, slice_set}
 use Rattle.std.specs.contracts.option.Option as option
 use Rattle.std.specs.Borrow.{Lends, Fml, MutBor, RattleType}

@@ -10,7 +10,7 @@ pub record IsLowest {A : Type 0} (xs : List (Option A)) (n : ℕ) : Type 0 where
   pub few : n ≤ taken xs
   pub lowest : n ≡ lowest xs
 
--- Place n holds `held`, and every other place what it held before. There is no less room.
+-- Place n holds `held`, and every other place is unchanged. There is no less room.
 pub record SetsPlace {A : Type 0} (old new : Vec (Option A)) (n : ℕ) (held : Option A) : Type 0 where
   pub items : new.items ≡ slice_set old.items n held
   pub room : vec_capacity old - vec_len old ≤ vec_capacity new - vec_len new
@@ -35,15 +35,15 @@ pub record MovesLower {A : Type 0} (old new : Vec (Option A)) (n : ℕ) (x : A) 
   pub room : vec_capacity old - vec_len old ≤ vec_capacity new - vec_len new
   pub lowest : m ≡ lowest (slice_set old.items n None)
 
--- The places are as they were, and there is no less room; on success there is room for so many more. A refusal comes only where
--- there was room for fewer.
+-- The places are unchanged, and there is no less room. On success there is room for that many more. It is refused only if there
+-- was room for fewer.
 pub record ReservesPlaces {A V E : Type 0} (old new : Slots A) (count : ℕ) (r : Result V E) : Type 0 where
   pub same : new.places ≡ old.places
   pub room : OnOk r (count ≤ new.room)
   pub no_less : old.room ≤ new.room
   pub needed : OnErr r (old.room < count)
 
--- The value is in the lowest place that was free: n.
+-- The value was put in the lowest free place: n.
 pub record PutsLowest {A : Type 0} (old new : Slots A) (x : A) (n : ℕ) : Type 0 where
   pub place : n ≡ lowest old.places
   pub few : n ≤ taken old.places

@@ -1,4 +1,4 @@
--- The table of domains, whatever an aggregate is.
+-- The table of domains, generic in the type of an aggregate.
 use Rattle.std.specs.Prelude.{◌≡◌, ◌≢◌, ◌<◌, ◌≤◌, ◌^◌, ℕ, ◌+◌, ◌==◌, ◌||◌, Bool, nat_lt, List, [], ◌∷◌, ◌++◌, length, Option, Some, None, map, sum_by, slice_set, Result, IfOk, OnOk, OnErr}
 use Rattle.std.specs.List.{AllByRecursion, position_or_len}
 use Rattle.iol_core.specs.State.{Domain, no_domain}
@@ -8,7 +8,7 @@ use Rattle.iol_core.specs.declared.descriptors.Descriptor.{Descriptor}
 use Rattle.iol_core.specs.declared.descriptors.Descriptor.TheVariants as on
 use Rattle.iol_core.specs.declared.limits.TheConstants.{MAX_AGGREGATES, LAST_AGGREGATE}
 
--- a domain, and how many aggregates more it can take without asking for memory
+-- a domain, and the number of aggregates that it can add without allocating
 pub record Row (A : Type 0) : Type 0 where
   pub domain : Domain A
   pub room : ℕ
@@ -18,7 +18,7 @@ pub record KeepsAggs {A : Type 0} (old new : Row A) : Type 0 where
   pub room : old.room ≤ new.room
   pub count : length new.domain.aggs ≡ length old.domain.aggs
 
--- places, some of them free, and how many more can be taken without asking for memory
+-- places, some of which are free, and the number of places that can be taken without allocating
 pub record Slots (A : Type 0) : Type 0 where
   pub places : List (Option A)
   pub room : ℕ
@@ -66,11 +66,11 @@ with_agg_in ds d x = with_domain_in ds d (with_next (domain_in ds d) x)
 abbrev pub without_agg_in : {A : Type 0} → List (Domain A) → (d a : ℕ) → List (Domain A)
 without_agg_in ds d a = with_aggs_in ds d (without (domain_in ds d).aggs a)
 
--- the place of the entry of this number, or the length where there is none
+-- the index of the entry of this number, or the length if there is none
 abbrev pub place_in : {A : Type 0} → List (ℕ × A) → (n : ℕ) → ℕ
 place_in es n = position_or_len (λ e. e.0 == n) es
 
--- with x in place of what the number stands for
+-- with x as the value of the number
 abbrev pub exchanged : {A : Type 0} → List (ℕ × A) → (n : ℕ) → A → List (ℕ × A)
 exchanged es n x = slice_set es (place_in es n) (n, x)
 
@@ -119,7 +119,7 @@ pub record SwapsAggIn {A : Type 0} (old new : List (Row A)) (d a : ℕ) (other x
 abbrev pub live_aggs_in : {A : Type 0} → List (Domain A) → ℕ
 live_aggs_in ds = sum_by (λ d. length d.aggs) ds
 
--- so many aggregates are live, and no domain has more than a list can have
+-- that many aggregates are live, and no domain has more than a list can have
 pub record IsCounted {A : Type 0} (live : ℕ) (rows : List (Row A)) : Type 0 where
   pub count : live ≡ live_aggs_in (domains_of rows)
   pub short : AllByRecursion (λ r. length r.domain.aggs < 2 ^ 64) rows
@@ -170,34 +170,34 @@ pub record HasNothing {A : Type 0} (d : Domain A) : Type 0 where
   pub no_aggs : d.aggs ≡ []
   pub no_fds : taken d.fds ≡ 0
 
--- Of these descriptors, whatever has them (as `put` says), the lowest that was free is open, and its number is the answer. A
--- refusal changes nothing.
+-- Among the descriptors of an object, which `put` puts into it, the lowest free number was opened, and is returned. A refusal
+-- changes nothing.
 pub record OpensNext {S E : Type 0} (old new : S) (put : List (Option Descriptor) → S) (fds : List (Option Descriptor))
     (x : Descriptor) (r : Result ℕ E) : Type 0 where
   pub number : IfOk r (λ n. n ≡ lowest fds)
   pub opened : OnOk r (new ≡ put (with_next_fd fds x))
   pub err : OnErr r (new ≡ old)
 
--- Of these descriptors, whatever has them (as `put` says), both ends of a pipe are open, first the read end and then the write
--- end under the lowest number that is free, and these numbers are the answer. A refusal changes nothing.
+-- Among the descriptors of an object, which `put` puts into it, both ends of a pipe were opened under the lowest free number,
+-- first the read end and then the write end. These numbers are returned. A refusal changes nothing.
 pub record OpensEnds {S E : Type 0} (old new : S) (put : List (Option Descriptor) → S) (fds : List (Option Descriptor))
     (pipe : ℕ) (r : Result (ℕ × ℕ) E) : Type 0 where
   pub numbers : IfOk r (λ ends. ends ≡ next_ends fds pipe)
   pub opened : OnOk r (new ≡ put (with_ends fds pipe))
   pub err : OnErr r (new ≡ old)
 
--- Of these descriptors, whatever has them (as `put` says), fd is closed, and then x opened under the lowest free number: n.
+-- Among the descriptors of an object, which `put` puts into it, fd was closed, and then x opened under the lowest free number: n.
 pub record MovesFd {S : Type 0} (new : S) (put : List (Option Descriptor) → S) (fds : List (Option Descriptor)) (fd : ℕ)
     (x : Descriptor) (n : ℕ) : Type 0 where
   pub number : n ≡ lowest (slice_set fds fd None)
   pub moved : new ≡ put (with_next_fd (slice_set fds fd None) x)
 
--- A domain opens x under its lowest free number, which is the answer. A refusal changes nothing.
+-- A domain opens x under its lowest free number, which is returned. A refusal changes nothing.
 abbrev pub OpensNextOf : {A E : Type 0} → (old new : Domain A) → Descriptor → Result ℕ E → Type 0
 OpensNextOf old new x r = OpensNext old new (λ fds. record old { fds = fds }) old.fds x r
 
--- A domain opens both ends of a pipe, first the read end and then the write end under its lowest free number, and these
--- numbers are the answer. A refusal changes nothing.
+-- A domain opens both ends of a pipe under its lowest free number, first the read end and then the write end. These numbers are
+-- returned. A refusal changes nothing.
 abbrev pub OpensEndsOf : {A E : Type 0} → (old new : Domain A) → (pipe : ℕ) → Result (ℕ × ℕ) E → Type 0
 OpensEndsOf old new pipe r = OpensEnds old new (λ fds. record old { fds = fds }) old.fds pipe r
 
@@ -205,14 +205,14 @@ OpensEndsOf old new pipe r = OpensEnds old new (λ fds. record old { fds = fds }
 abbrev pub MovesFdOf : {A : Type 0} → (old new : Domain A) → (fd : ℕ) → Descriptor → (n : ℕ) → Type 0
 MovesFdOf old new fd x n = MovesFd new (λ fds. record old { fds = fds }) old.fds fd x n
 
--- Domain d of a table opens x under its lowest free number, which is the answer, and no other domain changes. A refusal changes
+-- Domain d of a table opens x under its lowest free number, which is returned, and no other domain changes. A refusal changes
 -- none.
 abbrev pub OpensNextIn : {A E : Type 0} → (old new : List (Row A)) → (d : ℕ) → Descriptor → Result ℕ E → Type 0
 OpensNextIn old new d x r =
     OpensNext (domains_of old) (domains_of new) (with_fds_in (domains_of old) d) (fds_in (domains_of old) d) x r
 
--- Domain d of a table opens both ends of a pipe, first the read end and then the write end under its lowest free number, and
--- these numbers are the answer. No other domain changes, and a refusal changes none.
+-- Domain d of a table opens both ends of a pipe under its lowest free number, first the read end and then the write end. These
+-- numbers are returned. No other domain changes, and a refusal changes none.
 abbrev pub OpensEndsIn : {A E : Type 0} → (old new : List (Row A)) → (d pipe : ℕ) → Result (ℕ × ℕ) E → Type 0
 OpensEndsIn old new d pipe r =
     OpensEnds (domains_of old) (domains_of new) (with_fds_in (domains_of old) d) (fds_in (domains_of old) d) pipe r

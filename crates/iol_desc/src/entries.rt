@@ -1,4 +1,4 @@
-//! Values under rising numbers, found by a binary search.
+//! Values under rising numbers, found by binary search.
 ghost use Rattle.std.specs.Prelude.{◌≡◌, ◌≢◌, ◌-◌, ◌<◌, ◌≤◌, length, [], ◌++◌, Some, None, filter, is_some, vec_len, vec_capacity};
 ghost use Rattle.std.specs.Option.{option_copied, option_to_list};
 ghost use Rattle.std.specs.Borrow.{sem};
@@ -13,10 +13,10 @@ use std::alloc::{AllocError, Global};
 use std::marker::Model;
 use std::mem;
 
-/// The last number of an entry.
+/// The largest number of an entry.
 pub const LAST_ENTRY: u64 = u64::MAX - 1;
 
-/// The place of the entry of this number, or the length where there is none.
+/// The index of the entry of this number, or the length if there is none.
 pub fn place_of<X>(list: &[(u64, X)], number: u64) -> usize
     requires { IsRising list.now }
     ensures { result ≡ place_in list.now number }
@@ -28,7 +28,7 @@ pub fn place_of<X>(list: &[(u64, X)], number: u64) -> usize
     list.len()
 }
 
-/// What the entry of this number holds.
+/// The value of the entry of this number.
 #[tactic(auto, using(crate::proofs::Holes::found_rules))]
 fn entry<A>(list: &[(u64, Option<A>)], number: u64) -> Option<&A>
     requires { IsRising list.now }
@@ -38,7 +38,7 @@ fn entry<A>(list: &[(u64, Option<A>)], number: u64) -> Option<&A>
     found.1.as_ref()
 }
 
-/// Puts something else in the entry of this number.
+/// Replaces the value of the entry of this number.
 #[tactic(auto, using(crate::proofs::Holes::found_rules))]
 fn replace<A: Drop>(list: &mut Vec<(u64, Option<A>)>, number: u64, other: Option<A>) -> A
     requires rising { IsRising list.old.items }
@@ -51,7 +51,7 @@ fn replace<A: Drop>(list: &mut Vec<(u64, Option<A>)>, number: u64, other: Option
     given.unwrap()
 }
 
-/// Closes the holes.
+/// Removes the holes.
 fn close_holes<A: Drop>(list: &mut Vec<(u64, Option<A>)>)
     ensures items { list.new.items ≡ filter (λ e. is_some e.1) list.old.items }
     ensures capacity { vec_capacity list.new ≡ vec_capacity list.old }
@@ -59,7 +59,7 @@ fn close_holes<A: Drop>(list: &mut Vec<(u64, Option<A>)>)
     list.retain(|entry| entry.1.is_some());
 }
 
-/// Drops the last entry where it is a hole.
+/// Drops the last entry if it is a hole.
 fn drop_hole<A: Drop>(list: &mut Vec<(u64, Option<A>)>) -> bool
     ensures hole { DropsHole result list.old.items list.new.items }
     ensures room { vec_capacity list.old - vec_len list.old ≤ vec_capacity list.new - vec_len list.new }
@@ -74,7 +74,7 @@ fn drop_hole<A: Drop>(list: &mut Vec<(u64, Option<A>)>) -> bool
     false
 }
 
-/// Takes the last entry that is no hole, and the holes after it.
+/// Takes the last entry that is not a hole, and drops the holes after it.
 #[tactic(auto, using(crate::proofs::Holes::end_rules, crate::proofs::Holes::pop_rules))]
 fn pop_held<A: Drop>(list: &mut Vec<(u64, Option<A>)>) -> Option<(u64, A)>
     ensures given { there list.old.items ≡ there list.new.items ++ option_to_list result }
@@ -88,10 +88,10 @@ fn pop_held<A: Drop>(list: &mut Vec<(u64, Option<A>)>) -> Option<(u64, A)>
     None
 }
 
-/// Values by number, the newest last. One that is taken leaves a hole.
+/// Values by number, the newest last. Taking a value leaves a hole.
 #[derive(Drop)]
 pub struct Entries<A> {
-    // By rising number; None is a hole.
+    // By rising number; `None` is a hole.
     list: Vec<(u64, Option<A>)>,
     holes: usize,
     next: u64,
@@ -113,7 +113,7 @@ impl<A> Model for Entries<A> {
 }
 
 impl<A: Drop> Entries<A> {
-    /// None yet, the first to be number 1.
+    /// An empty list, whose first entry will have number 1.
     pub fn new(alloc: Global) -> Entries<A>
         ensures entries { result.entries ≡ [] }
         ensures next { result.next ≡ 1 }
@@ -135,7 +135,7 @@ impl<A: Drop> Entries<A> {
         self.next = 1;
     }
 
-    /// How many there are.
+    /// The number of values.
     pub fn len(&self) -> usize
         ensures { result ≡ length self.now.entries }
     {
@@ -156,14 +156,14 @@ impl<A: Drop> Entries<A> {
         entry(&self.list, number)
     }
 
-    /// The entries, the holes among them.
+    /// The entries, including the holes.
     pub fn list(&self) -> &[(u64, Option<A>)]
         ensures { there result.now ≡ self.now.entries }
     {
         &self.list
     }
 
-    /// Closes the holes.
+    /// Removes the holes.
     #[tactic(auto, using(crate::proofs::Holes::method_rules))]
     fn compact(&mut self)
         ensures entries { self.new.entries ≡ self.old.entries }
@@ -174,8 +174,8 @@ impl<A: Drop> Entries<A> {
         self.holes = 0;
     }
 
-    /// Reserves room for so many more. Where there is so much room, it is not refused; where half of the list is holes, it
-    /// need not grow.
+    /// Reserves room for that many more values. If there is that much room, it is not refused. If
+    /// half of the list is holes, the list need not grow.
     pub fn reserve(&mut self, count: usize) -> Result<(), AllocError>
         ensures { ReservesEntries self.old self.new count result }
     {
@@ -241,7 +241,7 @@ impl<A: Drop> Entries<A> {
         given
     }
 
-    /// Puts another value under this number.
+    /// Replaces the value of this number.
     #[tactic(auto, using(crate::proofs::Holes::method_rules))]
     pub fn swap(&mut self, number: u64, other: A) -> A
         requires { lookup self.old.entries number ≢ None }
@@ -269,7 +269,7 @@ impl<A: Drop> Entries<A> {
         let _next = &self.next;
     }
 
-    /// Takes all.
+    /// Takes all values.
     pub fn take_all(&mut self, alloc: Global) -> Taken<A>
         ensures given { result ≡ self.old.entries }
         ensures entries { self.new.entries ≡ [] }
@@ -298,7 +298,7 @@ impl<A> Model for Taken<A> {
 }
 
 impl<A: Drop> Taken<A> {
-    /// Gives the last out.
+    /// Takes the last one.
     #[tactic(auto, using(crate::proofs::Holes::pop_rules))]
     pub fn pop(&mut self) -> Option<(AggId, A)>
         ensures given { self.old ≡ self.new ++ option_to_list result }

@@ -1,4 +1,4 @@
-//! Lists of places, some of them free.
+//! Lists of places, some of which are free.
 ghost use Rattle.std.specs.Prelude.{◌≡◌, ◌≢◌, ◌<◌, ◌≤◌, length, [], None, Some, slice_set, vec_len, vec_capacity};
 ghost use Rattle.std.specs.Option.{option_copied};
 ghost use Rattle.std.specs.Borrow.{sem};
@@ -37,7 +37,7 @@ pub fn put<T: Drop>(places: &mut Vec<Option<T>>, place: usize, value: T)
     }
 }
 
-/// The lowest free place, where none below a given one is free.
+/// The lowest free place, if no place below a given one is free.
 #[tactic(auto, using(crate::proofs::TakenPlaces::from_rules))]
 fn lowest_from<T>(places: &[Option<T>], from: usize) -> usize
     requires { from ≤ lowest places.now }
@@ -47,7 +47,7 @@ fn lowest_from<T>(places: &[Option<T>], from: usize) -> usize
     from + lowest_place(rest)
 }
 
-/// Leaves a place free.
+/// Frees a place.
 fn set_free<T: Drop>(places: &mut Vec<Option<T>>, place: usize)
     requires { place < length places.old.items }
     ensures { SetsPlace places.old places.new place None }
@@ -63,7 +63,7 @@ fn set_taken<T: Drop>(places: &mut Vec<Option<T>>, place: usize, value: T)
     places[place] = Some(value);
 }
 
-/// Leaves a place free, and puts a value in the lowest.
+/// Frees a place, and puts a value in the lowest free place.
 #[tactic(auto, using(crate::proofs::TakenPlaces::lower_rules))]
 fn set_lower<T: Drop>(places: &mut Vec<Option<T>>, place: usize, from: usize, value: T) -> usize
     requires { CanLower places.old.items place from }
@@ -87,12 +87,12 @@ pub(crate) fn occupant<T>(place: &mut Option<T>) -> &mut T
     }
 }
 
-/// Places from 0, some of them free. A value goes into the lowest.
+/// Places, numbered from 0, some of which are free. A new value is put in the lowest free place.
 #[derive(Drop)]
 pub struct Places<T> {
     list: Vec<Option<T>>,
     count: usize,
-    // None below it is free.
+    // No place below it is free.
     low: usize,
 }
 
@@ -123,7 +123,7 @@ impl<T: Drop> Places<T> {
         }
     }
 
-    /// What is in a place.
+    /// The value in a place, if it is taken.
     pub fn get(&self, place: usize) -> Option<&T>
         ensures { option_copied result ≡ in_place self.now.places place }
     {
@@ -140,7 +140,7 @@ impl<T: Drop> Places<T> {
         occupant(&mut self.list[place])
     }
 
-    /// How many places are taken.
+    /// The number of places that are taken.
     pub fn count(&self) -> usize
         ensures { result ≡ taken self.now.places }
     {
@@ -154,7 +154,7 @@ impl<T: Drop> Places<T> {
         lowest_from(&self.list, self.low)
     }
 
-    /// Reserves room for so many values more. Where there is so much room, it is not refused.
+    /// Reserves room for that many more values. If there is that much room, it is not refused.
     pub fn reserve(&mut self, count: usize) -> Result<(), AllocError>
         ensures { ReservesPlaces self.old self.new count result }
     {
@@ -187,7 +187,7 @@ impl<T: Drop> Places<T> {
         self.low = self.low.min(place);
     }
 
-    /// Frees a place that is taken, and puts a value in the lowest that is free then.
+    /// Frees a place that is taken, and puts a value in the lowest place that is free then.
     #[tactic(auto, using(crate::proofs::TakenPlaces::moved_rules))]
     pub fn put_lower(&mut self, place: usize, value: T) -> usize
         requires { in_place self.old.places place ≢ None }
@@ -199,7 +199,7 @@ impl<T: Drop> Places<T> {
         lower
     }
 
-    /// Takes what is in all places.
+    /// Takes the values of all places.
     pub fn take(&mut self, alloc: Global) -> Vec<Option<T>>
         ensures given { result.items ≡ self.old.places }
         ensures rest { self.new.places ≡ [] }

@@ -12,7 +12,7 @@ use iol_core::numbers::{AggId, Fd, PipeId, PoolId};
 use std::alloc::{AllocError, Global};
 use std::marker::Model;
 
-/// A domain: its aggregates by number, and what its descriptors are open on.
+/// A domain: its aggregates by number, and the objects that its descriptors are open on.
 #[derive(Drop)]
 pub(crate) struct Domain<A> {
     pub(crate) live: bool,
@@ -60,7 +60,7 @@ fn open_next(fds: &mut Places<Descriptor>, on: Descriptor) -> Result<Fd, AllocEr
 }
 
 impl<A: Drop> Domain<A> {
-    /// A live domain that has nothing yet.
+    /// A live domain with no aggregate and no descriptor.
     pub(crate) fn new(alloc: Global) -> Domain<A>
         ensures { result.domain ≡ new_domain }
     {
@@ -72,7 +72,7 @@ impl<A: Drop> Domain<A> {
         }
     }
 
-    /// Ends: nothing is left of it.
+    /// Ends the domain: it has no aggregate and no descriptor afterwards.
     pub(crate) fn end(&mut self)
         requires { HasNothing self.old.domain }
         ensures ended { self.new.domain ≡ no_domain }
@@ -91,7 +91,7 @@ impl<A: Drop> Domain<A> {
         self.aggs.get(agg.number())
     }
 
-    /// Reserves room for so many aggregates more.
+    /// Reserves room for that many more aggregates.
     pub(crate) fn reserve_aggs(&mut self, count: usize) -> Result<(), AllocError>
         ensures domain { self.new.domain ≡ self.old.domain }
         ensures room { OnOk result (count ≤ self.new.room) }
@@ -119,7 +119,7 @@ impl<A: Drop> Domain<A> {
         self.aggs.take(agg.number())
     }
 
-    /// Puts another aggregate under this number.
+    /// Replaces the aggregate of this number.
     pub(crate) fn swap_agg(&mut self, agg: AggId, other: A) -> A
         requires { lookup self.old.domain.aggs agg ≢ None }
         ensures { SwapsAgg self.old self.new agg other result }
@@ -127,7 +127,7 @@ impl<A: Drop> Domain<A> {
         self.aggs.swap(agg.number(), other)
     }
 
-    /// How many aggregates there are.
+    /// The number of aggregates.
     pub(crate) fn agg_count(&self) -> usize
         ensures { result ≡ length self.now.domain.aggs }
     {
@@ -142,7 +142,7 @@ impl<A: Drop> Domain<A> {
         self.aggs.take_all(alloc)
     }
 
-    /// Takes what the numbers are open on: none is open any more.
+    /// Takes all descriptors: none is open afterwards.
     pub(crate) fn take_fds(&mut self, alloc: Global) -> Vec<Option<Descriptor>>
         ensures given { result.items ≡ self.old.domain.fds }
         ensures rest { self.new.domain ≡ record self.old.domain { fds = [] } }
@@ -151,14 +151,14 @@ impl<A: Drop> Domain<A> {
         self.fds.take(alloc)
     }
 
-    /// What a descriptor is open on.
+    /// The object that a descriptor is open on.
     pub(crate) fn descriptor(&self, fd: Fd) -> Option<Descriptor>
         ensures { result ≡ in_place self.now.domain.fds fd }
     {
         self.fds.get(fd.number() as usize).copied()
     }
 
-    /// Whether so many more descriptors are too many.
+    /// Whether that many more descriptors are too many.
     pub(crate) fn is_open_beyond(&self, made: usize) -> bool
         requires made { made ≤ 2 }
         ensures { result ≡ nat_lt MAX_OPEN (taken self.now.domain.fds + made) }
@@ -194,7 +194,7 @@ impl<A: Drop> Domain<A> {
         self.fds.free(fd.number() as usize);
     }
 
-    /// Opens an open number on something else.
+    /// Opens an open number on another object.
     pub(crate) fn set_fd(&mut self, fd: Fd, on: Descriptor)
         requires { in_place self.old.domain.fds fd ≢ None }
         ensures set { self.new.domain ≡ with_fd self.old.domain fd on }
@@ -203,7 +203,7 @@ impl<A: Drop> Domain<A> {
         *self.fds.value_mut(fd.number() as usize) = on;
     }
 
-    /// Closes an open number, and opens the lowest.
+    /// Closes an open number, and opens the lowest number that is free then.
     pub(crate) fn move_fd(&mut self, fd: Fd, on: Descriptor) -> Fd
         requires { in_place self.old.domain.fds fd ≢ None }
         ensures moves { MovesFdOf self.old.domain self.new.domain fd on result }

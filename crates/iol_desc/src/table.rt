@@ -14,12 +14,13 @@ use iol_core::numbers::{AggId, DomainId, Fd, PipeId, PoolId};
 use std::alloc::{AllocError, Global};
 use std::marker::Model;
 
-/// Domains numbered from 1, and what each has. `A` is what an aggregate is.
+/// Domains, numbered from 1, with their aggregates and descriptors. `A` is the type of an
+/// aggregate.
 #[derive(Drop)]
 pub struct Table<A> {
     alloc: Global,
     rows: Vec<Domain<A>>,
-    // The aggregates of all rows.
+    // The number of aggregates of all rows.
     live_aggs: u128,
 }
 
@@ -46,14 +47,14 @@ impl<A: Drop> Table<A> {
         }
     }
 
-    /// How many domains were ever added.
+    /// The number of domains that were ever added.
     pub fn len(&self) -> usize
         ensures { result ≡ length self.now }
     {
         self.rows.len()
     }
 
-    /// Adds a live domain that has nothing yet.
+    /// Adds a live domain with no aggregate and no descriptor.
     pub fn add_domain(&mut self) -> Result<(), AllocError>
         ensures ok { OnOk result (domains_of self.new ≡ domains_of self.old ++ new_domain ∷ []) }
         ensures err { OnErr result (self.new ≡ self.old) }
@@ -83,7 +84,7 @@ impl<A: Drop> Table<A> {
         domain.live
     }
 
-    /// Ends a domain that has no aggregate and no open descriptor: nothing is left of it.
+    /// Ends a domain that has no aggregate and no open descriptor.
     pub fn end_domain(&mut self, d: DomainId)
         requires live { (domain_in (domains_of self.old) d).live ≡ true }
         requires no_aggs { aggs_in (domains_of self.old) d ≡ [] }
@@ -104,8 +105,8 @@ impl<A: Drop> Table<A> {
         domain.agg(agg)
     }
 
-    /// Whether a domain is refused `made` new aggregates where `given` are given up: over 65,536 would be live in all, or its
-    /// numbers would pass their last. Both counts are at most 2.
+    /// Whether a domain that gives up `given` aggregates is refused `made` new ones: over 65,536
+    /// would be live in all, or its numbers would exceed the last one. Both counts are at most 2.
     pub fn is_too_many(&self, d: DomainId, made: u64, given: u64) -> bool
         requires live { (domain_in (domains_of self.now) d).live ≡ true }
         requires made { made ≤ 2 }
@@ -118,7 +119,7 @@ impl<A: Drop> Table<A> {
             || LAST_AGGREGATE as u128 + 1 < next as u128 + (made as u128)
     }
 
-    /// Reserves room for so many aggregates more of a domain.
+    /// Reserves room for that many more aggregates of a domain.
     pub fn reserve_aggs(&mut self, d: DomainId, count: usize) -> Result<(), AllocError>
         requires { (domain_in (domains_of self.old) d).live ≡ true }
         ensures same { domains_of self.new ≡ domains_of self.old }
@@ -158,7 +159,7 @@ impl<A: Drop> Table<A> {
         given
     }
 
-    /// Puts another aggregate under the number of one, and gives that.
+    /// Replaces an aggregate under its number, and returns the old one.
     #[tactic(auto, using(std::proofs::lemmas::Grind::common_steps, crate::proofs::Rows::row_rules, crate::proofs::LiveCounts::counted_rules), unfolding(crate::specs::Tables::domain_in, crate::specs::Tables::with_domain_in, crate::specs::Tables::row_in))]
     pub fn swap_agg(&mut self, d: DomainId, agg: AggId, other: A) -> A
         requires live { (domain_in (domains_of self.old) d).live ≡ true }
@@ -185,7 +186,7 @@ impl<A: Drop> Table<A> {
         given
     }
 
-    /// The pool that a domain places bytes in.
+    /// The default pool of a domain, in which its new bytes are placed.
     pub fn default_of(&self, d: DomainId) -> Option<PoolId>
         requires { (domain_in (domains_of self.now) d).live ≡ true }
         ensures { result ≡ (domain_in (domains_of self.now) d).default }
@@ -194,7 +195,7 @@ impl<A: Drop> Table<A> {
         domain.default
     }
 
-    /// Has a domain place bytes in a pool.
+    /// Sets the default pool of a domain.
     pub fn set_default(&mut self, d: DomainId, pool: PoolId)
         requires { (domain_in (domains_of self.old) d).live ≡ true }
         ensures { domains_of self.new ≡ with_default_in (domains_of self.old) d pool }
@@ -204,7 +205,7 @@ impl<A: Drop> Table<A> {
         domain.default = Some(pool);
     }
 
-    /// What a domain's descriptor is open on.
+    /// The object that a domain's descriptor is open on.
     pub fn descriptor(&self, d: DomainId, fd: Fd) -> Option<Descriptor>
         requires { (domain_in (domains_of self.now) d).live ≡ true }
         ensures { result ≡ in_place (fds_in (domains_of self.now) d) fd }
@@ -213,7 +214,7 @@ impl<A: Drop> Table<A> {
         domain.descriptor(fd)
     }
 
-    /// Whether so many more open descriptors are too many.
+    /// Whether that many more open descriptors are too many.
     pub fn is_open_beyond(&self, d: DomainId, made: usize) -> bool
         requires live { (domain_in (domains_of self.now) d).live ≡ true }
         requires made { made ≤ 2 }
@@ -234,7 +235,8 @@ impl<A: Drop> Table<A> {
         domain.add_fd(on)
     }
 
-    /// Opens both ends of a pipe in a domain, the read end under the lowest free number, then the write end.
+    /// Opens both ends of a pipe in a domain, the read end under the lowest free number, then the
+    /// write end.
     pub fn add_ends(&mut self, d: DomainId, pipe: PipeId) -> Result<(Fd, Fd), AllocError>
         requires live { (domain_in (domains_of self.old) d).live ≡ true }
         requires few { taken (fds_in (domains_of self.old) d) ≤ MAX_OPEN }
@@ -256,7 +258,7 @@ impl<A: Drop> Table<A> {
         domain.take_fd(fd);
     }
 
-    /// Opens a domain's descriptor on something else. Room for aggregates stays.
+    /// Opens a domain's descriptor on another object. Reserved room for aggregates is unchanged.
     pub fn set_fd(&mut self, d: DomainId, fd: Fd, on: Descriptor)
         requires live { (domain_in (domains_of self.old) d).live ≡ true }
         requires there { in_place (fds_in (domains_of self.old) d) fd ≢ None }
@@ -268,7 +270,8 @@ impl<A: Drop> Table<A> {
         domain.set_fd(fd, on);
     }
 
-    /// Takes all descriptors of a domain, by rising number, with `None` for a number that is free. None is open afterwards.
+    /// Takes all descriptors of a domain, by rising number, with `None` for a free number. No
+    /// descriptor is open afterwards.
     pub fn take_fds(&mut self, d: DomainId) -> Vec<Option<Descriptor>>
         requires { (domain_in (domains_of self.old) d).live ≡ true }
         ensures given { result.items ≡ fds_in (domains_of self.old) d }
@@ -280,8 +283,8 @@ impl<A: Drop> Table<A> {
         domain.take_fds(alloc)
     }
 
-    /// Gives a domain's descriptor to the domain itself: number `fd` is freed, and what `on` says is opened under the lowest
-    /// free number, which is the answer.
+    /// Gives a domain's descriptor to the domain itself: number `fd` is freed, then `on` is opened
+    /// under the lowest free number, which is returned.
     pub fn move_fd(&mut self, d: DomainId, fd: Fd, on: Descriptor) -> Fd
         requires live { (domain_in (domains_of self.old) d).live ≡ true }
         requires there { in_place (fds_in (domains_of self.old) d) fd ≢ None }

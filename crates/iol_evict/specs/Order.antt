@@ -4,20 +4,20 @@ use Rattle.std.specs.Prelude.{◌≡◌, ℕ, ◌+◌, ◌-◌, ◌*◌, ◌/◌
 use Rattle.iol_evict.specs.declared.entry.Entry.{Entry}
 use Rattle.iol_evict.specs.declared.entry.TheConstants.{MAX_LOW}
 
--- the entries in the order of file and place, and how many more may come in without memory
+-- the entries in the order of file and place, and the number of entries that can be inserted without allocating
 pub record Table : Type 0 where
   pub entries : List Entry
   pub room : ℕ
 
--- L, the entries in the order of file and place, how many more may enter without memory, and how many places beside
--- these are kept for entries to come
+-- L, the entries in the order of file and place, the number of entries that can enter without allocating, and the
+-- number of places kept in addition for later entries
 pub record Ranking : Type 0 where
   pub low : ℕ
   pub entries : List Entry
   pub room : ℕ
   pub kept : ℕ
 
--- how far above L an entry begins: its cost divided by its size in bytes, in units of 2^-24
+-- the height above L of a new entry: its cost divided by its size in bytes, in units of 2^-24
 abbrev pub worth : (size cost : ℕ) → ℕ
 worth size cost = cost * 2 ^ 24 / size
 
@@ -34,7 +34,7 @@ entry_at es file at = find (λ e. is_at e file at) es
 abbrev pub no_entry : Entry
 no_entry = record { file = 0; at = 0; size = 0; cost = 0; height = 0 }
 
--- the entry at a place, where one lies
+-- the entry at a place, if there is one
 abbrev pub entry_or : List Entry → (file at : ℕ) → Entry
 entry_or es file at = unwrap_or (entry_at es file at) no_entry
 
@@ -66,26 +66,26 @@ without_entry t file at = record { entries = without t.entries file at; room = t
 abbrev pub with_height_at : Table → (file at height : ℕ) → Table
 with_height_at t file at height = record t { entries = with_height t.entries file at height }
 
--- an entry comes in, its worth above L
+-- an entry is inserted, its worth above L
 abbrev pub entered : Ranking → (file at size cost : ℕ) → Ranking
 entered r file at size cost =
     let e : Entry = record { file = file; at = at; size = size; cost = cost; height = r.low + worth size cost } in
     record r { entries = put_in r.entries e; room = r.room - 1 }
 
--- an entry is used: it has the height that it would enter with
+-- an entry is used: it gets the height with which it would enter now
 abbrev pub hit_at : Ranking → (file at : ℕ) → Ranking
 hit_at r file at =
     let e : Entry = entry_or r.entries file at in
     record r { entries = with_height r.entries file at (r.low + worth e.size e.cost) }
 
--- an entry goes, and L stays
+-- an entry is removed, and L does not change
 abbrev pub left_at : Ranking → (file at : ℕ) → Ranking
 left_at r file at = record r { entries = without r.entries file at; room = r.room + 1 }
 
 abbrev pub lowered_by : (low : ℕ) → Entry → Entry
 lowered_by low e = record e { height = e.height - low }
 
--- past 2^62, L is taken from every height and from itself; a height below it becomes 0
+-- above 2^62, L is subtracted from every height and from itself; a height below it becomes 0
 abbrev pub lowered : Ranking → Ranking
 lowered r =
     if nat_lt MAX_LOW r.low
@@ -110,14 +110,14 @@ pub record MayPut (t : Table) (e : Entry) : Type 0 where
   pub absent : entry_at t.entries e.file e.at ≡ None
   pub sized : 0 < e.size
 
--- No room is lost where so much is wanted: where there is as much it is not refused, and refused, it
--- stays as it was.
+-- The room does not decrease. If there is as much as requested there is no error, and an error leaves it
+-- unchanged.
 pub record KeepsRoom {E : Type 0} (count old new : ℕ) (r : Result (Unit {0}) E) : Type 0 where
   pub no_less : old ≤ new
   pub err : OnErr r (new ≡ old)
   pub succeeds : count ≤ old → IsOk r
 
--- Room was made for so many entries more, and those that are there stay.
+-- Room was reserved for that many more entries, and the entries are unchanged.
 pub record Reserves {E : Type 0} (count : ℕ) (old new : Table) (r : Result (Unit {0}) E)
     : Type 0 where
   pub room : OnOk r (count ≤ new.room)

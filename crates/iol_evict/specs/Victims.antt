@@ -1,4 +1,4 @@
--- Which entry goes first.
+-- The entry to evict next.
 use Rattle.std.specs.Prelude.{◌≡◌, ℕ, ◌<◌, ◌≤◌, ◌⊎◌, Bool, true, false, List, [], length, slice_index, All, Contains, Option, MatchOption}
 use Rattle.slab.specs.Slab.{Slab}
 use Rattle.iol_evict.specs.declared.entry.Entry.{Entry}
@@ -19,29 +19,29 @@ Precedes in_use a b =
     ((in_use a.file a.at ≡ false) × (in_use b.file b.at ≡ true))
     ⊎ ((in_use a.file a.at ≡ in_use b.file b.at) × KeyLe a b)
 
--- the place of the entry that goes first
+-- the place of the entry to evict next
 pub record IsVictim (in_use : ℕ → ℕ → Bool) (es : List Entry) (place : ℕ × ℕ) : Type 0 where
   pub victim : Entry
   pub there : Contains es victim
   pub first : All (Precedes in_use victim) es
   pub lies : place ≡ (victim.file, victim.at)
 
--- all of these entries that lie below a rank are in use
+-- all of these entries below a rank are in use
 pub record AreUsedBelow (in_use : ℕ → ℕ → Bool) (rank : Rank) (es : List Entry) : Type 0 where
   pub each : All (λ e. RankLt (rank_by Height e) rank → in_use e.file e.at ≡ true) es
 
--- Whoever is in use: where all of the old entries below one rank are, all of the new ones below the other are.
+-- For any predicate `in use`: if all of the old entries below one rank are in use, so are all of the new ones below the other.
 abbrev pub KeepsUsedBelow : (was now : Rank) → (old new : List Entry) → Type 0
 KeepsUsedBelow was now old new = (in_use : ℕ → ℕ → Bool) → AreUsedBelow in_use was old → AreUsedBelow in_use now new
 
--- of each of these entries it may be asked whether it is in use
+-- for each of these entries `is_in_use` may be called
 pub record CanAskOf (can_ask : ℕ → ℕ → Type 0) (s : Slab Entry) (keys : List ℕ) : Type 0 where
   pub each : (i : ℕ) → i < length keys → can_ask (entry_of s (slice_index keys i)).file (entry_of s (slice_index keys i)).at
 
 abbrev pub is_used : (in_use : ℕ → ℕ → Bool) → Slab Entry → List ℕ → (i : ℕ) → Bool
 is_used in_use s keys i = in_use (entry_of s (slice_index keys i)).file (entry_of s (slice_index keys i)).at
 
--- the first of the entries that is not in use, or the first where all are
+-- the first of the entries that is not in use, or the first if all are
 pub record GoesFirst (in_use : ℕ → ℕ → Bool) (s : Slab Entry) (keys : List ℕ) (place : ℕ × ℕ) : Type 0 where
   pub index : ℕ
   pub within : index < length keys
@@ -49,22 +49,22 @@ pub record GoesFirst (in_use : ℕ → ℕ → Bool) (s : Slab Entry) (keys : Li
   pub before : (i : ℕ) → i < index → is_used in_use s keys i ≡ true
   pub idle : (is_used in_use s keys index ≡ false) ⊎ ((index ≡ 0) × ((i : ℕ) → i < length keys → is_used in_use s keys i ≡ true))
 
--- the place of the entry that goes first, if there are any keys
+-- the place of the entry to evict next, if there are any keys
 abbrev pub FindsIdle : (in_use : ℕ → ℕ → Bool) → Slab Entry → List ℕ → (found : Option (ℕ × ℕ)) → Type 0
 FindsIdle in_use s keys found = MatchOption found (length keys ≡ 0) (GoesFirst in_use s keys)
 
--- all of these keys whose entries lie below a rank are in use
+-- all of these keys with entries below a rank are in use
 pub record KeysUsedBelow (in_use : ℕ → ℕ → Bool) (rank : Rank) (s : Slab Entry) (keys : List ℕ) : Type 0 where
   pub each : (i : ℕ) → i < length keys → RankLt (rank_at Height s keys i) rank → is_used in_use s keys i ≡ true
 
--- Keys may be searched from this rank on for the entry that goes first.
+-- Keys may be searched from this rank on for the entry to evict next.
 pub record MaySearch (can_ask : ℕ → ℕ → Type 0) (in_use : ℕ → ℕ → Bool) (rank : Rank)
     (s : Slab Entry) (keys : List ℕ) : Type 0 where
   pub index : IsIndex Height s keys
   pub ask : CanAskOf can_ask s keys
   pub below : KeysUsedBelow in_use rank s keys
 
--- The entry that goes first was found, if there are any, and all below this rank are in use.
+-- The entry to evict next was found, if there are any, and all below this rank are in use.
 pub record FindsFirst (in_use : ℕ → ℕ → Bool) (rank : Rank) (es : List Entry)
     (found : Option (ℕ × ℕ)) : Type 0 where
   pub first : MatchOption found (es ≡ []) (IsVictim in_use es)

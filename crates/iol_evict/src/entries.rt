@@ -18,9 +18,9 @@ use std::alloc::{AllocError, Global};
 use std::collections::VecDeque;
 use std::marker::Model;
 
-/// Entries in a slab, and its keys in the order of file and place, and in that of height, file and place.
+/// Entries in a slab, with an index of its keys by file and place, and one by height, file and place.
 ///
-/// A key that goes or comes moves those on its shorter side alone, so that taking one near the front costs little.
+/// Inserting or removing a key moves only the keys on its shorter side, so removing one near the front costs little.
 #[derive(Drop)]
 pub(crate) struct Entries {
     slab: Slab<Entry>,
@@ -50,7 +50,7 @@ impl Model for Entries {
     } };
 }
 
-// The rank of a place.
+// The rank of a place in the index by file and place.
 fn place_of(file: FileId, at: u32) -> Rank
     ensures { result ≡ record { height = 0; file = file; at = at } }
 {
@@ -61,7 +61,7 @@ fn place_of(file: FileId, at: u32) -> Rank
     }
 }
 
-// Makes room for so many more, in each.
+// Reserves room for `count` more, in each.
 fn reserve_each(
     slab: &mut Slab<Entry>,
     by_place: &mut VecDeque<usize>,
@@ -79,7 +79,7 @@ fn reserve_each(
 }
 
 impl Entries {
-    /// No entries.
+    /// A table without entries.
     pub(crate) fn new(alloc: Global) -> Entries
         ensures { result ≡ record { entries = []; room = 0 } }
     {
@@ -91,7 +91,7 @@ impl Entries {
         }
     }
 
-    /// Makes room for so many more.
+    /// Reserves room for `count` more entries.
     pub(crate) fn reserve(&mut self, count: usize) -> Result<(), AllocError>
         ensures { Reserves count self.old self.new result }
     {
@@ -108,7 +108,7 @@ impl Entries {
         Ok(())
     }
 
-    /// How many more may come in without memory.
+    /// The number of entries that can be inserted without allocating.
     pub(crate) fn room(&self) -> usize
         ensures { result ≡ self.now.room }
     {
@@ -125,7 +125,7 @@ impl Entries {
         read_entry(&self.slab, key)
     }
 
-    /// Puts an entry in, in room that is there.
+    /// Inserts an entry, in reserved room.
     pub(crate) fn insert(&mut self, entry: Entry)
         requires { MayPut self.old entry }
         ensures { self.new ≡ with_entry self.old entry }
@@ -136,7 +136,7 @@ impl Entries {
         self.room -= 1;
     }
 
-    /// Takes out the entry at a place.
+    /// Removes the entry at a place.
     pub(crate) fn remove(&mut self, file: FileId, at: u32) -> Entry
         requires { entry_at self.old.entries file at ≢ None }
         ensures entry { result ≡ entry_or self.old.entries file at }
@@ -160,7 +160,7 @@ impl Entries {
         entry
     }
 
-    /// Gives the entry at a place a height. Where it has that already, no key moves.
+    /// Sets the height of the entry at a place. If it has that height already, no key moves.
     pub(crate) fn set_height(&mut self, file: FileId, at: u32, height: u64)
         requires { entry_at self.old.entries file at ≢ None }
         ensures { self.new ≡ with_height_at self.old file at height }
@@ -180,8 +180,8 @@ impl Entries {
         insert_key(&self.slab, &mut self.by_height, By::Height, key);
     }
 
-    /// Takes `low` from every height; one below it becomes 0. All keys are sorted by height anew: the caller does this
-    /// seldom.
+    /// Subtracts `low` from every height; one below it becomes 0. Sorts all keys by height again, so callers should do this
+    /// rarely.
     pub(crate) fn lower(&mut self, low: u64)
         ensures { self.new ≡ record self.old { entries = map (lowered_by low) self.old.entries } }
     {
@@ -190,7 +190,7 @@ impl Entries {
         insert_all(&self.slab, &self.by_place, &mut self.by_height);
     }
 
-    /// The place of the entry that goes first. All below `passed` are in use.
+    /// The place of the entry to evict next. All entries below `passed` are in use.
     pub(crate) fn least<U: InUse>(&self, users: &U, passed: &mut Rank) -> Option<(FileId, u32)>
         requires ask { All (λ e. U.can_ask users.now e.file e.at) self.now.entries }
         requires below { AreUsedBelow (U.in_use users.now) passed.old self.now.entries }

@@ -1,11 +1,11 @@
 //! A part of a file in an order.
 use iol_core::numbers::FileId;
 
-/// The greatest L, 2^62. L is the height of the last entry that was evicted. Where it would pass this, L is subtracted from
-/// every height and becomes 0, so that no height overflows; the order of the entries stays.
+/// The greatest L, 2^62. L is the height of the last evicted entry. If it would exceed this, L is subtracted from every
+/// height and becomes 0, so that no height overflows; the order of the entries does not change.
 pub const MAX_LOW: u64 = 0x4000_0000_0000_0000;
 
-/// A part of a file: where it begins, its bytes, what it costs to read it again, and its height in the order.
+/// A part of a file: where it begins, its size in bytes, the cost of reading it again, and its height in the order.
 #[derive(Clone, Copy, Debug, PartialEq, Eq)]
 pub struct Entry {
     pub file: FileId,
@@ -15,14 +15,14 @@ pub struct Entry {
     pub height: u64,
 }
 
-/// What an index is sorted by: file and place, or height, file and place.
+/// The key of an index: file and place, or height, file and place.
 #[derive(Clone, Copy)]
 pub(crate) enum By {
     Place,
     Height,
 }
 
-/// What an index compares: height, file and place. By place all have height 0.
+/// The rank of an entry in an index: height, file and place. In the index by file and place each height is 0.
 #[derive(Clone, Copy)]
 pub struct Rank {
     pub(crate) height: u64,

@@ -16,7 +16,7 @@ pub(crate) fn read_entry(entries: &Slab<Entry>, key: usize) -> Entry
     entries[key]
 }
 
-/// Gives the entry at a key another height.
+/// Sets the height of the entry at a key.
 pub(crate) fn write_height(slab: &mut Slab<Entry>, key: usize, height: u64)
     requires { ContainsKey slab.old key }
     ensures { SetsHeight slab.old slab.new key height }
@@ -24,7 +24,7 @@ pub(crate) fn write_height(slab: &mut Slab<Entry>, key: usize, height: u64)
     slab[key].height = height;
 }
 
-/// How many keys come before a rank.
+/// The number of keys before a rank.
 pub(crate) fn position(entries: &Slab<Entry>, keys: &VecDeque<usize>, by: By, rank: &Rank) -> usize
     requires { IsIndex by entries.now keys.now.items }
     ensures { IsPlace by entries.now keys.now.items rank.now result }
@@ -52,7 +52,7 @@ pub(crate) fn find_key(entries: &Slab<Entry>, keys: &VecDeque<usize>, by: By, ra
     keys[position(entries, keys, by, rank)]
 }
 
-/// Puts a key in its place, in room that is there.
+/// Inserts a key in its place, in reserved room.
 pub(crate) fn insert_key(entries: &Slab<Entry>, keys: &mut VecDeque<usize>, by: By, key: usize)
     requires index { IsIndex by entries.now keys.old.items }
     requires may { MayAdd entries.now key keys.old }
@@ -63,7 +63,7 @@ pub(crate) fn insert_key(entries: &Slab<Entry>, keys: &mut VecDeque<usize>, by: 
     let _inserted = keys.insert(place, key);
 }
 
-/// Takes away the key whose entry has this rank.
+/// Removes the key whose entry has this rank.
 pub(crate) fn remove_key(
     entries: &Slab<Entry>,
     keys: &mut VecDeque<usize>,

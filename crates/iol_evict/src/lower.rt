@@ -1,4 +1,4 @@
-//! Taking the same from every height.
+//! Subtracting the same number from every height.
 ghost use Rattle.std.specs.Prelude.{◌<◌, length};
 ghost use Rattle.iol_evict.specs.declared.entry.By.TheVariants.{Place};
 ghost use Rattle.iol_evict.specs.Indexes.{HasRoomAlone, IsIndex, Lowers, SortsAll};
@@ -8,7 +8,7 @@ use crate::index::{insert_key, read_entry, write_height};
 use slab::Slab;
 use std::collections::VecDeque;
 
-/// Takes `low` from the height of each entry; one below it becomes 0.
+/// Subtracts `low` from the height of each entry; a height below it becomes 0.
 pub(crate) fn lower_each(slab: &mut Slab<Entry>, keys: &VecDeque<usize>, low: u64)
     requires { IsIndex Place slab.old keys.now.items }
     ensures { Lowers low keys.now.items (length keys.now.items) slab.old slab.new }
@@ -20,7 +20,7 @@ pub(crate) fn lower_each(slab: &mut Slab<Entry>, keys: &VecDeque<usize>, low: u6
     }
 }
 
-/// Puts all keys into an empty index by height, in room that is there.
+/// Inserts all keys into an empty index by height, in reserved room.
 pub(crate) fn insert_all(
     slab: &Slab<Entry>,
     keys: &VecDeque<usize>,

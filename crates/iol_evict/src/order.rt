@@ -12,14 +12,14 @@ use std::marker::Model;
 
 /// Parts of files, in the order in which they are evicted.
 ///
-/// A contract sees L, the entries in the order of file and place, the room: how many more may enter without memory,
-/// and how many places are kept beside it. No call but `reserve` wants memory, and none walks the entries, but `least`
-/// those in use that go first, and `evict` once L is past 2^62.
+/// A contract sees L, the entries in the order of file and place, the room (the number of entries that can enter without
+/// allocating), and the number of places kept in addition to it. Only `reserve` needs memory. Only `least` and `evict` go
+/// through entries: `least` through those in use at the front, and `evict` through all once L exceeds 2^62.
 #[derive(Drop)]
 pub struct Order {
     entries: Entries,
     low: u64,
-    // Of the room for entries, so much is kept.
+    // The number of kept places, a part of the room of the entries.
     kept: usize,
 }
 
@@ -43,7 +43,7 @@ impl Model for Order {
     } };
 }
 
-// How far above L an entry begins.
+// The height above L of a new entry.
 fn worth_of(size: u32, cost: u32) -> u64
     requires { 0 < size }
     ensures worth { result ≡ worth size cost }
@@ -53,7 +53,7 @@ fn worth_of(size: u32, cost: u32) -> u64
 }
 
 impl Order {
-    /// An order without entries and room, and with L at 0.
+    /// An order without entries and room. L is 0.
     pub fn new(alloc: Global) -> Order
         ensures { result ≡ record { low = 0; entries = []; room = 0; kept = 0 } }
     {
@@ -64,8 +64,8 @@ impl Order {
         }
     }
 
-    /// Makes room for so many entries more, beside the places that are kept. Where there is as much already, it wants no
-    /// memory. Refused, it leaves the room that there was.
+    /// Reserves room for `count` more entries, in addition to the kept places. Needs no memory if there is as much room
+    /// already. An error leaves the room unchanged.
     pub fn reserve(&mut self, count: usize) -> Result<(), AllocError>
         ensures room { OnOk result (count ≤ self.new.room) }
         ensures same { self.new ≡ record self.old { room = self.new.room } }
@@ -81,17 +81,17 @@ impl Order {
         Ok(())
     }
 
-    /// Keeps a place of the room for an entry to come, until it is given back.
+    /// Keeps a place of the room for a later entry, until it is given back.
     pub fn keep(&mut self)
         requires { 0 < self.old.room }
         ensures { self.new ≡ with_one_kept self.old }
     {
-        // What is kept is a part of the room, which is counted in a usize.
+        // The kept places are a part of the room, which is counted in a usize.
         let _places = self.entries.room();
         self.kept += 1;
     }
 
-    /// Gives a place back that was kept.
+    /// Gives a kept place back.
     pub fn give_back(&mut self)
         requires { 0 < self.old.kept }
         ensures { self.new ≡ with_one_given_back self.old }
@@ -99,7 +99,7 @@ impl Order {
         self.kept -= 1;
     }
 
-    /// Puts the part of a file that begins at `at` in, in room that was made for it.
+    /// Inserts the part of a file that begins at `at`, in reserved room.
     pub fn enter(&mut self, file: FileId, at: u32, size: u32, cost: u32)
         requires room { 0 < self.old.room }
         requires absent { entry_at self.old.entries file at ≡ None }
@@ -117,7 +117,7 @@ impl Order {
         self.entries.insert(entry);
     }
 
-    /// Counts a use of an entry: it has the height that it would enter with.
+    /// Counts a use of an entry: it gets the height with which it would enter now.
     pub fn hit(&mut self, file: FileId, at: u32)
         requires { entry_at self.old.entries file at ≢ None }
         ensures { self.new ≡ hit_at self.old file at }
@@ -127,7 +127,7 @@ impl Order {
         self.entries.set_height(file, at, height);
     }
 
-    /// Takes out an entry that is there, for another reason than eviction: L stays.
+    /// Removes an entry for another reason than eviction: L does not change.
     pub fn leave(&mut self, file: FileId, at: u32)
         requires { entry_at self.old.entries file at ≢ None }
         ensures { self.new ≡ left_at self.old file at }
@@ -135,9 +135,8 @@ impl Order {
         let _entry = self.entries.remove(file, at);
     }
 
-    /// Evicts an entry that is there: it is taken out, and L becomes its height. Where that is above 2^62, it is subtracted from
-    /// every height, and L is 0. `passed` is where `least` may begin its search: it goes back to the least rank where heights
-    /// change.
+    /// Evicts an entry: removes it, and sets L to its height. If that exceeds 2^62, it is subtracted from every height, and L
+    /// is 0. `passed` is the rank where `least` may begin its search: it becomes the least rank if heights change.
     pub fn evict(&mut self, file: FileId, at: u32, passed: &mut Rank)
         requires { entry_at self.old.entries file at ≢ None }
         ensures evicted { self.new ≡ evicted_at self.old file at }
@@ -154,8 +153,8 @@ impl Order {
     }
 
     /// The file and place of the entry to evict next: the least by height, file and place of those that are not in use, or of
-    /// all where each is in use. The search begins at `passed`, below which each entry has to be in use, and leaves in `passed`
-    /// where the next search may begin.
+    /// all entries if each is in use. The search begins at `passed`, below which each entry has to be in use, and stores in
+    /// `passed` where the next search may begin.
     pub fn least<U: InUse>(&self, users: &U, passed: &mut Rank) -> Option<(FileId, u32)>
         requires ask { All (λ e. U.can_ask users.now e.file e.at) self.now.entries }
         requires below { AreUsedBelow (U.in_use users.now) passed.old self.now.entries }
@@ -164,7 +163,7 @@ impl Order {
         self.entries.least(users, passed)
     }
 
-    /// L: the height of the last entry that was evicted.
+    /// L, the height of the last evicted entry.
     pub fn low(&self) -> u64
         ensures low { result ≡ self.now.low }
         ensures most { result ≤ MAX_LOW }

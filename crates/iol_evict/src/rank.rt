@@ -6,7 +6,7 @@ use crate::entry::{By, Entry, Rank};
 use iol_core::numbers::FileId;
 
 impl Rank {
-    /// The least rank, below which no entry lies.
+    /// The least rank. No entry is below it.
     pub fn least() -> Rank
         ensures { result ≡ least_rank }
     {

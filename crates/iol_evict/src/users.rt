@@ -3,12 +3,12 @@ ghost use Rattle.std.specs.Prelude.{◌≡◌, ℕ, Bool};
 
 use iol_core::numbers::FileId;
 
-/// Who tells whether a part of a file is in use.
+/// Decides whether a part of a file is in use.
 pub trait InUse {
     // Whether the part of a file that begins at a place is in use.
     ghost in_use: { Self → ℕ → ℕ → Bool };
 
-    // Of which parts, by file and place, this may be asked.
+    // The parts, by file and place, for which `is_in_use` may be called.
     ghost can_ask: { Self → ℕ → ℕ → Type 0 };
 
     /// Whether the part of the file that begins at `at` is in use.

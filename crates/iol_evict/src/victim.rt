@@ -1,4 +1,4 @@
-//! Finding the entry that goes first.
+//! Finding the entry to evict next.
 ghost use Rattle.std.specs.Prelude.{◌<◌};
 ghost use Rattle.iol_evict.specs.Victims.{FindsIdle, KeysUsedBelow, MaySearch};
 
@@ -10,8 +10,8 @@ use iol_core::numbers::FileId;
 use slab::Slab;
 use std::collections::VecDeque;
 
-/// The place of the first entry that is not in use, or else of the first. All below `passed` are in use: the search begins
-/// there, and moves it up to where it ends.
+/// The place of the first entry that is not in use, or else of the first entry. All entries below `passed` are in use: the
+/// search begins there, and moves `passed` to the entry where it ends.
 pub(crate) fn first_idle<U: InUse>(
     slab: &Slab<Entry>,
     keys: &VecDeque<usize>,

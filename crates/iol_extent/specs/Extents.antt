@@ -4,7 +4,7 @@ use Rattle.std.specs.Borrow.{Bor}
 use Rattle.iol_hold.specs.declared.slices.Slice.{Slice}
 use Rattle.iol_hold.specs.Places.{Place, places, byte_len}
 
--- where nothing lies
+-- the place of a byte that no extent covers
 abbrev pub no_place : Place
 no_place = record { pool = 0; buf = record { page = 0; generation = 0 }; at = 0 }
 
@@ -14,23 +14,23 @@ pub record Extent : Type 0 where
   pub parts : List Slice
   pub dirty : Bool
 
--- the extents of a file in the order of offsets, and how many more may come in without memory
+-- the extents of a file in the order of offsets, and the number of extents that can be inserted without allocating
 pub record ExtentMap : Type 0 where
   pub extents : List Extent
   pub room : ℕ
 
--- what lies over a byte of a file: a place in a buffer, and whether it is dirty
+-- the cover of a byte of a file: a place in a buffer, and whether it is dirty
 pub record Cell : Type 0 where
   pub place : Place
   pub dirty : Bool
 
--- no room is lost where so much is wanted: it is refused only where there is less, and then stays as it was
+-- The room does not decrease. There is an error only if there is less than requested, and then it is unchanged.
 pub record KeepsRoom {A E : Type 0} (count old new : ℕ) (r : Result A E) : Type 0 where
   pub no_less : old ≤ new
   pub needed : OnErr r (old < count)
   pub err : OnErr r (new ≡ old)
 
--- room was made for so many more, and the extents are as they were
+-- room was reserved for that many more extents, and the extents are unchanged
 pub record Reserves {A E : Type 0} (count : ℕ) (old new : ExtentMap) (r : Result A E) : Type 0 where
   pub room : OnOk r (count ≤ new.room)
   pub same : new ≡ record old { room = new.room }
@@ -56,7 +56,7 @@ extent_in found = extent_of found.0 found.1.now found.2
 abbrev pub cell_in : ℕ × Bor (List Slice) × Bool → ℕ → Cell
 cell_in found i = cell_at (extent_in found) i
 
--- what lies over byte i
+-- the cover of byte i
 abbrev pub cover : List Extent → ℕ → Option Cell
 cover [] i = None
 cover (e ∷ es) i = if is_over e i then Some (cell_at e i) else cover es i
@@ -84,11 +84,11 @@ abbrev pub last_end : List Extent → ℕ
 last_end [] = 0
 last_end (e ∷ es) = max (end_of e) (last_end es)
 
--- nothing lies over the bytes from..to
+-- no extent covers a byte of from..to
 pub record IsGap (es : List Extent) (from to : ℕ) : Type 0 where
   pub each : (i : ℕ) → from ≤ i → i < to → cover es i ≡ None
 
--- es' has the extent beside what es has
+-- es' has the extents of es, and this one in addition
 pub record Adds (es : List Extent) (e : Extent) (es' : List Extent) : Type 0 where
   pub each : (i : ℕ) → cover es' i ≡ (if is_over e i then Some (cell_at e i) else cover es i)
 
@@ -154,7 +154,7 @@ cleaned_at (e ∷ es) at = if e.at == at then as_clean e ∷ es else e ∷ clean
 abbrev pub dirty_count : List Extent → ℕ
 dirty_count es = sum_by one_dirty es
 
--- with an extent more, in the order of places
+-- with one more extent, in the order of places
 abbrev pub put_in : List Extent → Extent → List Extent
 put_in [] e = e ∷ []
 put_in (x ∷ xs) e = if nat_lt e.at x.at then e ∷ x ∷ xs else x ∷ put_in xs e

@@ -13,7 +13,7 @@ abbrev pub LiesIn : (i : ℕ) → List Span → Type 0
 LiesIn i [] = ⊥
 LiesIn i (s ∷ ss) = ((s.from ≤ i) × (i < s.to)) ⊎ LiesIn i ss
 
--- a span under one extent, which goes on to the end of the extent or of the range
+-- a span under one extent, which ends at the end of the extent or of the range
 pub record IsHit (es : List Extent) (to : ℕ) (s : Span) : Type 0 where
   pub index : ℕ
   pub extent : Extent
@@ -25,11 +25,11 @@ pub record IsHit (es : List Extent) (to : ℕ) (s : Span) : Type 0 where
 abbrev pub IsGapSpan : List Extent → Span → Type 0
 IsGapSpan es s = IsGap es s.from s.to
 
--- a gap goes on to the next extent, or to the end of the range
+-- a gap ends at the next extent, or at the end of the range
 pub record IsWhole (es : List Extent) (to : ℕ) (s : Span) : Type 0 where
   pub ends : s.to < to → IsSome (cover es s.to)
 
--- The hit or the gap of a range that begins at a place, and which it is.
+-- The hit or the gap of a range that begins at a place, and whether it is a hit.
 pub record BeginsAt (es : List Extent) (at to : ℕ) (s : Span) (is_hit : Bool) : Type 0 where
   pub from : s.from ≡ at
   pub further : at < s.to
@@ -46,3 +46,8 @@ pub record Tile (es : List Extent) (from to : ℕ) (found missed : List Span) : 
   pub empty : All (IsGapSpan es) missed
   pub whole : All (IsWhole es to) missed
   pub each : (i : ℕ) → from ≤ i → i < to → LiesIn i found ⊎ LiesIn i missed
+
+-- Hits and gaps of a range were found. An empty or reversed range has none.
+pub record Finds (es : List Extent) (from to : ℕ) (found missed : List Span) : Type 0 where
+  pub tile : from ≤ to → Tile es from to found missed
+  pub none : to ≤ from → (found ≡ []) × (missed ≡ [])

@@ -2,7 +2,7 @@
 ghost use Rattle.std.specs.Prelude.{◌≡◌, ◌+◌, ◌-◌, ◌<◌, ◌≤◌, ◌^◌, [], length, All, IfOk, IfSome, OnOk, insert, remove, max, cond, IsSome, true, false};
 ghost use Rattle.iol_hold.specs.Prelude.{byte_len};
 ghost use Rattle.iol_extent.specs.Extents.{Extent, extent_of, dirty_count, Adds, EndsAtLater, FindsDirty, FindsMet, HasCellOver, IsApart, IsExtentOver, IsFirstDirty, IsGap, KeepsRoom, LacksAt, begins_at, cleaned_at, last_end, put_in, without_at};
-ghost use Rattle.iol_extent.specs.Spans.{BeginsAt, Tile};
+ghost use Rattle.iol_extent.specs.Spans.{BeginsAt, Finds};
 
 use crate::piece::Piece;
 use crate::pieces::{Pieces, count_before};
@@ -13,13 +13,13 @@ use std::marker::Model;
 
 /// The extents of a file, in the order of offsets.
 ///
-/// A contract sees them as a list, and the room: how many more may come in without memory. No call but `reserve` and
-/// `find` wants memory.
+/// A contract sees them as a list, and the room: the number of extents that can be inserted without allocating. Only
+/// `reserve` and `find` need memory.
 #[derive(Drop)]
 pub struct Extents {
     pieces: Pieces,
 
-    // How many are dirty, and a place before which none begins that is.
+    // The number of dirty extents, and a place before which no dirty extent begins.
     dirty: usize,
     clean_to: u32,
 }
@@ -39,14 +39,14 @@ impl Model for Extents {
     } };
 }
 
-// How many dirty extents one is.
+// 1 if an extent is dirty, else 0.
 fn count_dirty(dirty: bool) -> usize
     ensures { result ≡ cond dirty 1 0 }
 {
     if dirty { 1 } else { 0 }
 }
 
-// A place before which no extent is dirty, with one more.
+// A place before which no dirty extent begins, after an extent is added at `at`.
 fn clean_with(clean_to: u32, at: u32, dirty: bool) -> u32
     ensures lower { result ≤ clean_to }
     ensures clean { at < result → dirty ≡ false }
@@ -58,7 +58,7 @@ fn clean_with(clean_to: u32, at: u32, dirty: bool) -> u32
 }
 
 impl Extents {
-    /// No extents.
+    /// A file without extents.
     pub fn new(alloc: Global) -> Extents
         ensures { result ≡ record { extents = []; room = 0 } }
     {
@@ -69,8 +69,8 @@ impl Extents {
         }
     }
 
-    /// Makes room for so many extents more. Where there is so much room, it is not refused; refused, it leaves the room
-    /// that there was.
+    /// Reserves room for `count` more extents. Never fails if there is as much room already. An error leaves the room
+    /// unchanged.
     pub fn reserve(&mut self, count: usize) -> Result<(), AllocError>
         ensures room { OnOk result (count ≤ self.new.room) }
         ensures same { self.new ≡ record self.old { room = self.new.room } }
@@ -95,7 +95,7 @@ impl Extents {
         Some((piece.at, &piece.agg, piece.dirty))
     }
 
-    /// How many extents there are. Each has a byte.
+    /// The number of extents. Each has at least one byte.
     pub fn count(&self) -> usize
         ensures count { result ≡ length self.now.extents }
         ensures few { result ≤ last_end self.now.extents }
@@ -103,12 +103,12 @@ impl Extents {
         self.pieces.len()
     }
 
-    /// How many of them are dirty.
+    /// The number of dirty extents.
     pub fn count_dirty(&self) -> usize
         ensures count { result ≡ dirty_count self.now.extents }
         ensures few { result ≤ length self.now.extents }
     {
-        // Tells how few there are.
+        // Brings the bound of the count.
         let _count = self.pieces.len();
         self.dirty
     }
@@ -125,7 +125,7 @@ impl Extents {
         piece.end()
     }
 
-    /// Where the first dirty extent begins, and its bytes. The search goes on where the last one became clean.
+    /// Where the first dirty extent begins, and its bytes. The search begins where the last extent became clean.
     pub fn first_dirty(&self) -> Option<(u32, &Agg)>
         ensures { FindsDirty self.now.extents result }
     {
@@ -142,8 +142,8 @@ impl Extents {
         None
     }
 
-    /// The place at which the first extent begins that has a byte of the range `from..to`. For an empty range that is the extent
-    /// with bytes on both sides of it.
+    /// The place where the first extent begins that has a byte of the range `from..to`. For an empty range, the extent with
+    /// bytes on both sides of it.
     pub fn first_met(&self, from: u32, to: u32) -> Option<u32>
         ensures { FindsMet self.now.extents from to result }
     {
@@ -158,7 +158,7 @@ impl Extents {
         Some(piece.at)
     }
 
-    // The hit or the gap that begins at a place, and which it is.
+    // The hit or the gap that begins at `at`, and whether it is a hit.
     fn span_at(&self, at: u32, to: u32) -> (Span, bool)
         requires { at < to }
         ensures { BeginsAt self.now.extents at to result.0 result.1 }
@@ -182,11 +182,11 @@ impl Extents {
         (span, true)
     }
 
-    /// The hits and the gaps of a range: one hit for each extent that it meets, and each gap as long as it can be.
+    /// The hits and the gaps of a range: one hit for each extent that it meets, and each gap as long as it can be. An
+    /// empty or reversed range has none.
     pub fn find(&self, alloc: Global, from: u32, to: u32) -> Result<Found, AllocError>
-        requires { from ≤ to }
         ensures { IfOk result (λ found.
-            Tile self.now.extents from to found.hits.items found.gaps.items) }
+            Finds self.now.extents from to found.hits.items found.gaps.items) }
     {
         let mut hits = Vec::new(alloc);
         let mut gaps = Vec::new(alloc);
@@ -203,7 +203,7 @@ impl Extents {
         Ok(Found { hits, gaps })
     }
 
-    /// Puts an extent where nothing lies, in room that was made for it.
+    /// Inserts an extent into a gap, in reserved room.
     pub fn put(&mut self, at: u32, agg: Agg, dirty: bool)
         requires room { 0 < self.old.room }
         requires some { 0 < byte_len agg }
@@ -213,7 +213,7 @@ impl Extents {
         ensures room { self.new.room ≡ self.old.room - 1 }
         ensures apart { IsApart 0 self.new.extents }
 
-        // What lies over each byte, and where the last one ends.
+        // The cover of each byte, and the end of the last extent.
         ensures adds { Adds self.old.extents (extent_of at agg dirty) self.new.extents }
         ensures ends { last_end self.new.extents ≡
             max (at + byte_len agg) (last_end self.old.extents) }
@@ -224,7 +224,7 @@ impl Extents {
         self.clean_to = clean_with(self.clean_to, at, dirty);
     }
 
-    /// The first dirty extent, which begins at a place, is clean then, where it stands.
+    /// Makes the first dirty extent clean, which begins at `at`.
     pub fn clean(&mut self, at: u32)
         requires { IsFirstDirty self.old.extents at }
         ensures extents { self.new.extents ≡ cleaned_at self.old.extents at }
@@ -237,7 +237,7 @@ impl Extents {
         self.clean_to = at;
     }
 
-    /// Takes the extent that begins at a place away.
+    /// Removes the extent that begins at `at`.
     pub fn remove(&mut self, at: u32) -> Agg
         requires { IsSome (begins_at self.old.extents at) }
         ensures given { IfSome (begins_at self.old.extents at) (λ e. result ≡ e.parts) }
@@ -245,7 +245,7 @@ impl Extents {
         ensures room { self.new.room ≡ self.old.room + 1 }
         ensures apart { IsApart 0 self.new.extents }
 
-        // What lies over each byte, and where the last one ends.
+        // The cover of each byte, and the end of the last extent.
         ensures lacks { LacksAt self.old.extents at self.new.extents }
         ensures ends { EndsAtLater self.old.extents at self.new.extents }
     {

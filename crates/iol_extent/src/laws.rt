@@ -1,7 +1,7 @@
-//! What the words of the contracts determine. The functions do nothing; their contracts are the laws.
+//! Laws about the definitions of the contracts. The functions do nothing; their contracts are the laws.
 ghost use Rattle.iol_extent.specs.Laws.{HasOneTiling};
 
-/// A range of a file has its gaps in one way. So how many pages they need is one number.
+/// The gaps of a range of a file are unique. So the number of pages that they need is unique.
 pub fn gaps_are_one()
     ensures { HasOneTiling }
 {}

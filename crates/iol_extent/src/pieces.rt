@@ -11,7 +11,7 @@ use std::alloc::{AllocError, Global};
 use std::marker::Model;
 use std::ops::Index;
 
-/// Pieces in a slab, and their keys in order. Where one comes or goes, few keys move, wherever it stands.
+/// Pieces in a slab, and their keys in order. Inserting or removing a piece moves few keys, wherever it is.
 #[derive(Drop)]
 pub(crate) struct Pieces {
     slab: Slab<Piece>,
@@ -51,7 +51,7 @@ impl Index<usize> for Pieces {
 }
 
 impl Pieces {
-    /// No pieces.
+    /// A list without pieces.
     pub(crate) fn new(alloc: Global) -> Pieces
         ensures { result ≡ record { extents = []; room = 0 } }
     {
@@ -62,8 +62,8 @@ impl Pieces {
         }
     }
 
-    /// Makes room for so many more. Where there is so much room, it is not refused; refused, it leaves the room that
-    /// there was.
+    /// Reserves room for `count` more pieces. Never fails if there is as much room already. An error leaves the room
+    /// unchanged.
     pub(crate) fn reserve(&mut self, count: usize) -> Result<(), AllocError>
         ensures { Reserves count self.old self.new result }
     {
@@ -82,7 +82,7 @@ impl Pieces {
         self.keys.len()
     }
 
-    /// Puts a piece in, in room that is there.
+    /// Inserts a piece, in reserved room.
     pub(crate) fn insert(&mut self, place: usize, piece: Piece)
         requires place { place ≤ length self.old.extents }
         requires room { 0 < self.old.room }
@@ -93,7 +93,7 @@ impl Pieces {
         self.room -= 1;
     }
 
-    /// Takes a piece out.
+    /// Removes a piece.
     pub(crate) fn remove(&mut self, place: usize) -> Piece
         requires { place < length self.old.extents }
         ensures { Removes place result self.old self.new }
@@ -103,7 +103,7 @@ impl Pieces {
         self.slab.remove(key)
     }
 
-    /// A piece is clean then.
+    /// Makes a piece clean.
     pub(crate) fn clean(&mut self, place: usize)
         requires { place < length self.old.extents }
         ensures extents { CleansPlace place self.old.extents self.new.extents }
@@ -114,7 +114,7 @@ impl Pieces {
     }
 }
 
-// The piece at a key is clean then.
+// Makes the piece at a key clean.
 fn clean_at(slab: &mut Slab<Piece>, key: usize)
     requires { ContainsKey slab.old key }
     ensures { Cleans slab.old slab.new key }
@@ -122,7 +122,7 @@ fn clean_at(slab: &mut Slab<Piece>, key: usize)
     slab[key].dirty = false;
 }
 
-/// How many end at a place or before it.
+/// The number of pieces that end at a place or before it.
 pub(crate) fn count_before(pieces: &Pieces, at: u32) -> usize
     requires { IsApart 0 pieces.now.extents }
     ensures { EndBefore at pieces.now.extents result }

@@ -1,6 +1,7 @@
-//! The store over a folder that is made for the test: what no clause says, since none speaks of what lies on a disk.
+//! Tests of the store over a folder that is made for the test: contracts do not cover the contents
+//! of a disk.
 //!
-//! Functions tell whether all was as it should be, and the test alone passes or fails by that.
+//! Functions return whether the result is as expected, and only the test passes or fails by that.
 use iol_back::backing::Backing;
 use iol_back::folder::FolderBacking;
 use iol_core::limits::{MAX_FILE_BYTES, MAX_FILES};
@@ -17,7 +18,7 @@ use test_parts::checks::pass;
 
 type Store = FolderBacking<HostRuntime>;
 
-// A folder with these files, each of these bytes. One that an earlier run left goes first.
+// Makes a folder with these files and their bytes. A folder of an earlier run is deleted first.
 fn make(rt: &HostRuntime, alloc: Global, root: &str, files: &[(&str, &str)]) -> io::Result<()> {
     let _ = fs::remove_dir_all(rt, root);
     fs::create_dir(rt, root)?;
@@ -28,7 +29,7 @@ fn make(rt: &HostRuntime, alloc: Global, root: &str, files: &[(&str, &str)]) -> 
     Ok(())
 }
 
-// Reads up to eight bytes; none is a store that failed.
+// Reads up to eight bytes; none if the store failed.
 fn read<R: Files>(
     store: &mut FolderBacking<R>,
     slot: u32,
@@ -42,12 +43,12 @@ fn read<R: Files>(
     }
 }
 
-// Whether the first byte of the first file can be read.
+// Returns whether the first byte of the first file can be read.
 fn is_read<R: Files>(store: &mut FolderBacking<R>) -> bool {
     read(store, 1, 0, 1).is_some()
 }
 
-// Whether these bytes can be written to a place.
+// Returns whether these bytes can be written to a position.
 fn writes<R: Files>(store: &mut FolderBacking<R>, slot: u32, at: u32, bytes: &[u8]) -> bool {
     store.write_at(FileId::new(slot), at, bytes).is_ok()
 }
@@ -82,14 +83,14 @@ const IN_ORDER: [Row; 5] = [
     (4, None, 0),
 ];
 
-// What lies within the files is read.
+// Reads within the files succeed.
 fn reads_within<R: Files>(store: &mut FolderBacking<R>) -> bool {
     read(store, 1, 2, 3) == Some([b'c', b'd', b'e', 0, 0, 0, 0, 0])
         && read(store, 2, 0, 0) == Some([0; 8])
         && store.failures() == 0
 }
 
-// What lies past a file's end, and a file that is not there, is not.
+// Reads past a file's end, and reads of a file that does not exist, fail.
 fn fails_outside<R: Files>(store: &mut FolderBacking<R>) -> bool {
     read(store, 1, 4, 3).is_none()
         && read(store, 4, 0, 0).is_none()
@@ -108,7 +109,7 @@ fn finds_three(rt: &HostRuntime) -> io::Result<bool> {
     Ok(all)
 }
 
-// A socket lies among the files meanwhile.
+// A socket is among the files during this test.
 fn finds_three_beside_a_socket(rt: &HostRuntime) -> io::Result<bool> {
     let listener = UnixListener::bind(rt, "order/e")?;
     let found = finds_three(rt);
@@ -127,7 +128,7 @@ fn lists_in_order(rt: &HostRuntime) -> io::Result<bool> {
     Ok(all)
 }
 
-// Links, folders and sockets are no files, whatever their names; nor is what lies deeper.
+// Links, folders and sockets are no files, whatever their names; nor are files in subfolders.
 #[test]
 fn files_in_byte_order(rt: HostRuntime) -> Result<(), Fail> {
     pass(lists_in_order(&rt))
@@ -161,7 +162,7 @@ const OF_MANY: [Row; 4] = [
     (1025, None, 0),
 ];
 
-// The last bytes of the long file are there.
+// The last bytes of the long file can be read.
 fn has_many<R: Files>(store: &mut FolderBacking<R>) -> bool {
     store.count() == MAX_FILES
         && has_files(store, &OF_MANY)
@@ -190,13 +191,13 @@ fn many_and_long_files(rt: HostRuntime) -> Result<(), Fail> {
     pass(lists_first(&rt))
 }
 
-// Whether a file has this text.
+// Returns whether a file has this text.
 fn has_text(rt: &HostRuntime, path: &str, want: &str) -> io::Result<bool> {
     let text = fs::read_to_string(rt, path)?;
     Ok(text.as_str() == want)
 }
 
-// Over the end of a file, and nothing at its end.
+// Writes that replace and extend the end of a file, and one of no bytes at its end.
 fn writes_within<R: Files>(store: &mut FolderBacking<R>) -> bool {
     writes(store, 1, 4, b"XYZ")
         && store.length(FileId::new(1)) == 7
@@ -204,7 +205,7 @@ fn writes_within<R: Files>(store: &mut FolderBacking<R>) -> bool {
         && writes(store, 1, 7, b"")
 }
 
-// Past the end, and to a file that is not there.
+// Writes past the end, and to a file that does not exist.
 fn writes_none_outside<R: Files>(store: &mut FolderBacking<R>) -> bool {
     !writes(store, 1, 8, b"X") && !writes(store, 2, 0, b"X") && store.failures() == 2
 }
@@ -232,7 +233,7 @@ fn writes_through(rt: HostRuntime) -> Result<(), Fail> {
     pass(is_written_through(&rt))
 }
 
-// The file went, and a folder has its name.
+// The file was deleted, and a folder has its name.
 fn fails_at_folder(rt: &HostRuntime, store: &mut Store) -> io::Result<bool> {
     fs::rename(rt, "changed/a", "changed/kept")?;
     let is_gone = !is_read(store);
@@ -300,7 +301,8 @@ fn all_changes_fail(rt: &HostRuntime) -> io::Result<bool> {
     Ok(all)
 }
 
-// A file that grew, shrank, went, was replaced or became a folder, a link or a socket fails, and counts.
+// A file that grew, shrank, was deleted or replaced, or became a folder, a link or a socket fails,
+// and is counted.
 #[test]
 fn changed_by_others(rt: HostRuntime) -> Result<(), Fail> {
     pass(all_changes_fail(&rt))
@@ -332,13 +334,13 @@ fn time_is_known(rt: &HostRuntime) -> io::Result<bool> {
     Ok(all)
 }
 
-// Other bytes in place of as many are known by their time alone.
+// Other bytes of the same length are detected only by their time.
 #[test]
 fn written_at_another_time(rt: HostRuntime) -> Result<(), Fail> {
     pass(time_is_known(&rt))
 }
 
-// How many files a store over this folder has, where there is one.
+// The number of files of a store over this folder, if there is one.
 fn count_of(rt: &HostRuntime, root: &str) -> io::Result<usize> {
     let store: Store = FolderBacking::new(rt, root)?;
     let count = store.count();

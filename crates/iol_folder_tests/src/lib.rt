@@ -1,4 +1,5 @@
-//! Tests of the store over a folder, in a crate of their own since a crate with tests is proved twice.
+//! Tests of the store over a folder. They are a crate of their own since a crate with tests is
+//! proved twice.
 #![tactic(auto)]
 
 #[cfg(test)]

@@ -17,4 +17,3 @@ pub mod AtPlaces
 pub mod Releases
 pub mod PageChanges
 pub mod EmptyPools
-pub mod LoosePages

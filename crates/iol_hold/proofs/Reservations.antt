@@ -142,6 +142,7 @@ none_filled s p tidy = record {
   settles = λ h. h;
   pool = λ k d h. absurd (omega arith);
   few = omega arith;
+  small = omega arith;
   grows = grows_none s.arena;
   lowest = sym (ap (λ n. drop n (free_of s p)) no_pages);
   pools = refl;

@@ -24,25 +24,24 @@ use Rattle.iol_hold.specs.declared.parts.Reserved.{Reserved}
 use Rattle.iol_hold.specs.contracts.parts.Reserved as reserved
 use Rattle.iol_hold.specs.contracts.filling.Filling as filling
 
--- the reserved parts wait to be published, apart from one another and in the pool's chunks, and there is room for the names of
--- their buffers
+-- the reserved parts are pending, disjoint and in the pool's chunks, and there is room for the identities of their buffers
 pub record IsHeld (s : Stored) (r : Reserved) : Type 0 where
   pub pages : IsReserved s.arena r.reservation
   pub inside : (q : ℕ) → Contains (part_pages r.reservation.parts.items) q
       → Contains (pool_in s.pools r.pool).chunks (q / CHUNK_PAGES)
 
--- The lowest free pages of pool p that n bytes need are reserved, and only zeros lie on them.
+-- The lowest free pages of pool p that n bytes need are reserved, and their memory is zero.
 pub record ReservesZeroed (s t : Stored) (p n : ℕ) (r : Reserved) : Type 0 where
   pub held : IsHeld t r
   pub zeroed : All (IsZero t.arena) r.reservation.parts.items
   pub reserves : Reserves s t p n r.reservation
   pub pool : r.pool ≡ p
 
--- what `Filling<'_>` is
+-- the type of `Filling<'_>` in contracts
 abbrev pub Fill : Type 0
 Fill = Filling Reserved
 
--- the store, as a filling has it so far
+-- the current store of a filling
 abbrev pub filling_store : Fill → Stored
 filling_store f = f.store.now
 
@@ -64,17 +63,18 @@ filling_part f i = slice_index_or (filling_parts f) i no_part
 abbrev pub filling_bytes : Fill → List ℕ
 filling_bytes f = flat_map (part_bytes (filling_store f).arena) (filling_parts f)
 
--- the parts of a filling wait in its pool's chunks to be published, apart from one another, and it has room for the names of
--- their buffers, of which there are none yet
+-- the parts of a filling are pending, disjoint and in its pool's chunks, and it has room for the identities of their buffers,
+-- and none yet
 abbrev pub IsFilling : Fill → Type 0
 IsFilling f = IsHeld (filling_store f) f.reserved
 
--- only zeros lie on the parts of a filling
+-- the memory of a filling is zero
 abbrev pub IsZeroed : Fill → Type 0
 IsZeroed f = All (IsZero (filling_store f).arena) (filling_parts f)
 
 -- A filling was begun, on the lowest free pages of pool p for n bytes, all zeros: no buffer was made or freed, no other page
--- changed, and it borrows the reference of this name. Or none was, for want of room, only where there is none, or of memory.
+-- changed, and it borrows the reference of this name. Or none was begun, for lack of memory, or for lack of room, and then
+-- there is none.
 pub record BeginsFilling (old : Stored) (lender : GName) (p n : ℕ) (r : Result Fill Refusal) : Type 0 where
   pub filling : IfOk r IsFilling
   pub zeroed : IfOk r IsZeroed
@@ -90,19 +90,19 @@ pub record BeginsFilling (old : Stored) (lender : GName) (p n : ℕ) (r : Result
   pub no_room : (q : ℕ) → r ≡ Err (NoRoom q) → has_room old p n ≡ false
   pub late : IfErr r (WantOfRoom p)
 
--- a filling has a part of this number, and its parts wait to be published
+-- a filling has a part of this number, and its parts are pending
 pub record HasPart (f : Fill) (i : ℕ) : Type 0 where
   pub within : i < length (filling_parts f)
   pub filling : IsFilling f
 
--- The bytes of a live buffer, from place `from` up to `to`, may be copied to place `at` of part i of a filling.
+-- The bytes `from..to` of a live buffer may be copied to offset `at` of part i of a filling.
 pub record MayCopyIn (f : Fill) (i at : ℕ) (h : Buffer) (from to : ℕ) : Type 0 where
   pub within : i < length (filling_parts f)
   pub filling : IsFilling f
   pub copies : MayCopy (filling_store f).arena (filling_part f i) at h.buf from to
 
--- The bytes of a live buffer, from place `from` up to `to`, were copied to place `at` of part i of a filling, f: it is g now,
--- with the same parts.
+-- The bytes `from..to` of a live buffer were copied to offset `at` of part i of the filling f, which became g, with the same
+-- parts.
 pub record CopiesIn (f g : Fill) (i at : ℕ) (h : Buffer) (from to : ℕ) : Type 0 where
   pub copies : Copies (filling_store f) (filling_store g) (filling_part f i) at h.buf from to
   pub parts : filling_parts g ≡ filling_parts f
@@ -111,15 +111,15 @@ pub record CopiesIn (f g : Fill) (i at : ℕ) (h : Buffer) (from to : ℕ) : Typ
   pub fills : Fills (filling_store f) (filling_store g) (filling_parts f)
   pub same_reference : filling_lender g ≡ filling_lender f
 
--- f with this store
+-- the filling f with this store
 abbrev pub with_store : Fill → Stored → Fill
 with_store f s = record f { store = record f.store { now = s } }
 
--- once the borrow r ends, the memory from page p on holds what r showed last
+-- once the borrow r ends, the memory from page p on has the last bytes of r
 abbrev pub LendsPart : MutBor Fill → ℕ → MutBor (List ℕ) → Fml
 LendsPart f p r = Lends (filling.the_row (record { mir = named 1; lft = [] }) reserved.the_row) (Array u8 0) f r
     (λ w. with_store f.now (with_arena (filling_store f.now) (with_bytes (filling_store f.now).arena p w)))
 
--- where no filling is begun, the store stays as it was
+-- if no filling is begun, the store is unchanged
 abbrev pub rests_if_refused : {E : Type 0} → MutBor Stored → Result Fill E → Fml
 rests_if_refused s r = RestsIfErr the_row s filling_lender r (λ n. n ≡ s.now)

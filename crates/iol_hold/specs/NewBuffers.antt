@@ -1,4 +1,4 @@
--- Buffers that are made on pages that waited.
+-- Buffers that are made on pending pages.
 use Rattle.std.specs.Prelude.{◌≡◌, ℕ, ◌≤◌, true, false, List, [], ◌∷◌, length, take, flat_map, Result, Err, IfOk, IfErr, OnOk, OnErr}
 use Rattle.std.specs.List.{All, Contains}
 use Rattle.smallvec.specs.SmallVec.{SmallVec}
@@ -17,7 +17,7 @@ use Rattle.iol_hold.specs.Texts.{IsFilled}
 use Rattle.iol_hold.specs.PendingPages.{FreesNone, Publishes, all_held}
 use Rattle.iol_hold.specs.declared.parts.Reserved.{Reserved}
 
--- A buffer of these bytes was made on the part, whole. It is held once.
+-- A buffer of these bytes was made on all pages of the part. It is held once.
 pub record FillsPart (s t : Stored) (p : Part) (bytes : List ℕ) (b : BufId) : Type 0 where
   pub adds : Adds s.arena t.arena (b ∷ []) bytes
   pub begun : b ≡ begun_on s.arena p
@@ -27,8 +27,8 @@ pub record FillsPart (s t : Stored) (p : Part) (bytes : List ℕ) (b : BufId) : 
   pub pools : t.pools ≡ s.pools
   pub counts : t.counts ≡ all_held s.counts (b ∷ [])
 
--- n bytes may be filled into parts: these wait, apart from one another, all their pages are needed, and an empty list has room
--- for their buffers.
+-- n bytes may be filled into parts: these are pending and disjoint, all their pages are needed, and an empty list has room for
+-- their buffers.
 pub record MayFillParts (s : State) (ps : List Part) (bufs : SmallVec BufId) (n : ℕ) : Type 0 where
   pub reserved : AreReserved s ps bufs
   pub pages : length (part_pages ps) ≡ pages_for n
@@ -45,8 +45,8 @@ pub record FillsParts (s t : Stored) (ps : List Part) (bytes : List ℕ) (bufs :
   pub made_on : MadeOn s.arena t.arena bufs (part_pages ps)
   pub others : IsSameBut (part_pages ps) s.arena t.arena
 
--- Bytes were filled into new buffers on the lowest free pages of pool p. Where they were not, nothing changed: there was no
--- room for them, or no memory.
+-- Bytes, at most 2^24, were filled into new buffers on the lowest free pages of pool p. If they were not, nothing changed:
+-- there was no room for them, or no memory.
 pub record FillsHolds (s t : Stored) (p : ℕ) (bytes : List ℕ) (r : Result (List Buffer) Refusal) : Type 0 where
   pub moves : IfOk r (λ holds. Moves s t [] (held_bufs holds))
   pub made : IfOk r (λ holds. All (IsNew s.arena t.arena) (held_bufs holds))
@@ -57,6 +57,7 @@ pub record FillsHolds (s t : Stored) (p : ℕ) (bytes : List ℕ) (r : Result (L
   pub settles : AllSettled s → AllSettled t
   pub pool : IfOk r (λ holds. All (λ h. h.pool ≡ p) holds)
   pub few : IfOk r (λ holds. length holds ≤ pages_for (length bytes))
+  pub small : OnOk r (length bytes ≤ MAX_AGGREGATE_BYTES)
   pub grows : OnOk r (Grows s.arena t.arena)
   pub lowest : OnOk r (free_pages t.arena (pool_in s.pools p).chunks ≡ others_of s p (length bytes))
   pub pools : t.pools ≡ s.pools
@@ -70,8 +71,8 @@ pub record FillsHolds (s t : Stored) (p : ℕ) (bytes : List ℕ) (r : Result (L
 abbrev pub reserved_parts : Reserved → List Part
 reserved_parts r = r.reservation.parts.items
 
--- Buffers of the pool were made of the first n bytes that lay on the reserved parts. Each is held once, and pages that got none
--- are free again, unraised.
+-- Buffers of the pool were made of the first n bytes of the reserved parts. Each is held once, and pages that got no byte are
+-- free again, unraised.
 pub record PublishesFirst (s t : Stored) (r : Reserved) (n : ℕ) (holds : List Buffer) : Type 0 where
   pub publishes : Publishes s t (reserved_parts r) (held_bufs holds)
   pub made : All (IsNew s.arena t.arena) (held_bufs holds)

@@ -1,4 +1,4 @@
--- What becomes of pages and chunks over a step, whatever the step.
+-- The effect of any step on pages and chunks.
 use Rattle.std.specs.Prelude.{◌≡◌, ◌⊎◌, ℕ, true, false, List}
 use Rattle.std.specs.List.{Contains}
 use Rattle.iol_arena.specs.State.{entry_at, page_count}
@@ -8,9 +8,8 @@ use Rattle.iol_pool.specs.Pools.{pool_in}
 use Rattle.iol_hold.specs.Releases.{HasAllOrNone}
 use Rattle.iol_hold.specs.StoreState.{Stored}
 
--- Buffers were made on these pages (in most steps on none): each of them was raised by one, and no other page was. What
--- stands on all others stands there still, or they are free. An open pool keeps its chunks, and a closed one keeps all of them or
--- none.
+-- Buffers were made on these pages (in most steps on none): each of them was raised by one, and no other page was. Each other
+-- page is unchanged, or is free now. An open pool keeps its chunks, and a closed one keeps all of them or none.
 pub record KeepsPages (old new : Stored) (placed : List ℕ) : Type 0 where
   pub count : page_count new.arena ≡ page_count old.arena
   pub limit : new.arena.limit ≡ old.arena.limit

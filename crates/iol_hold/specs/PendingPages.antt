@@ -1,4 +1,4 @@
--- Pages that wait to be published.
+-- Pending pages: reserved, and not published yet.
 use Rattle.std.specs.Prelude.{◌≡◌, ℕ, ◌<◌, ◌≤◌, true, false, List, [], ◌∷◌, length, slice_set}
 use Rattle.std.specs.List.{Contains}
 use Rattle.iol_arena.specs.State.{State, entry_at, pages_for}
@@ -16,11 +16,11 @@ use Rattle.iol_hold.specs.StoreState.{Stored, IsStill}
 use Rattle.iol_hold.specs.Moves.{Counts}
 use Rattle.iol_hold.specs.Room.{has_room, lowest_of, others_of, free_of}
 
--- no page waits but those of these parts
+-- no page is pending except those of these parts
 pub record PendingOn (s : State) (ps : List Part) : Type 0 where
   pub each : (q : ℕ) → (entry_at s q).kind ≡ Pending → Contains (part_pages ps) q
 
--- No buffer was made or freed, and no more pages wait than those of these parts.
+-- No buffer was made or freed, and no page is pending except those of these parts, if that was so before.
 pub record Fills (old new : Stored) (ps : List Part) : Type 0 where
   pub counts : Counts old new [] []
   pub grows : Grows old.arena new.arena
@@ -28,12 +28,12 @@ pub record Fills (old new : Stored) (ps : List Part) : Type 0 where
   pub pools : new.pools ≡ old.pools
   pub waits : PendingOn old.arena ps → PendingOn new.arena ps
 
--- n bytes may be placed in a pool: it is open, and there are some.
+-- n bytes may be placed in a pool: it is open, and n is not 0.
 pub record MayPlace (s : Stored) (pool n : ℕ) : Type 0 where
   pub some : 0 < n
   pub opened : (pool_in s.pools pool).closed ≡ false
 
--- The parts of a reservation are the lowest free pages of a pool, those that n bytes need, and wait.
+-- The parts of a reservation are the lowest free pages of a pool that n bytes need, and are pending.
 pub record Reserves (old new : Stored) (pool n : ℕ) (r : Reservation) : Type 0 where
   pub reserved : IsReserved new.arena r
   pub some : 0 < length r.parts.items
@@ -44,7 +44,7 @@ pub record Reserves (old new : Stored) (pool n : ℕ) (r : Reservation) : Type 0
   pub room : has_room old pool n ≡ true
   pub enough : pages_for n ≤ length (free_of old pool)
 
--- The parts wait no more: buffers were made on them, each of which is held once, or none.
+-- The parts are no longer pending: these buffers were made on them, each held once, or none.
 pub record Publishes (old new : Stored) (ps : List Part) (given : List BufId) : Type 0 where
   pub counts : Counts old new [] given
   pub grows : Grows old.arena new.arena
@@ -56,6 +56,6 @@ abbrev pub all_held : List ℕ → List BufId → List ℕ
 all_held counts [] = counts
 all_held counts (b ∷ bs) = all_held (slice_set counts b.page 1) bs
 
--- all pages of the parts are needed for n bytes: then no page but those was or is free
+-- if n bytes need all pages of the parts, the same pages are free before and after
 pub record FreesNone (old new : State) (ps : List Part) (n : ℕ) : Type 0 where
   pub each : length (part_pages ps) ≡ pages_for n → (q : ℕ) → usable new q ≡ usable old q

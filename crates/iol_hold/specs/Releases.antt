@@ -1,4 +1,4 @@
--- What a release does to pages.
+-- The effect of a release on pages.
 use Rattle.std.specs.Prelude.{◌≡◌, ◌⊎◌, ℕ, false, List, [], ◌∷◌, Some, None}
 use Rattle.iol_core.specs.declared.numbers.BufId.{BufId}
 use Rattle.iol_arena.specs.Firsts.{first_on}
@@ -15,11 +15,11 @@ use Rattle.iol_hold.specs.declared.slices.Slice.{Slice}
 abbrev pub buf_at : State → ℕ → BufId
 buf_at s p = record { page = p; generation = generation_at s p }
 
--- the pool has all chunks that it had, or none any more
+-- the pool has all chunks that it had, or no chunks
 abbrev pub HasAllOrNone : (old new : Stored) → (p : ℕ) → Type 0
 HasAllOrNone old new p = ((pool_in new.pools p).chunks ≡ (pool_in old.pools p).chunks) ⊎ ((pool_in new.pools p).chunks ≡ [])
 
--- Each page is as it was, or was freed: then the buffer on it is no longer held. An open pool keeps its chunks, and a closed one
+-- Each page is unchanged, or was freed: then the buffer on it is no longer held. An open pool keeps its chunks, and a closed one
 -- keeps all of them or none.
 pub record FreesOnly (old new : Stored) : Type 0 where
   pub count : page_count new.arena ≡ page_count old.arena
@@ -32,15 +32,15 @@ pub record FreesOnly (old new : Stored) : Type 0 where
   pub chunks : (p : ℕ) → HasAllOrNone old new p
   pub runs : HasRuns old.arena.entries → HasRuns new.arena.entries
 
--- What slices held was released, but for what those that are left hold, and no list changed. Where the slices could be read, no
--- closed pool keeps chunks in which nothing lies, if none did before.
+-- The holds of slices were released, except those of the slices that are left, and no list changed. If the slices could be read,
+-- no closed pool keeps chunks whose pages are all empty, if none did before.
 pub record Releases (s t : Stored) (slices left : List Slice) : Type 0 where
   pub moves : Moves s t (bufs_of slices) (bufs_of left)
   pub lists : SameLists s t
   pub frees : FreesOnly s t
   pub settles : AllReadable s slices → AllSettled s → AllSettled t
 
--- A buffer that was held once was freed. Its own pool alone may have chunks to return since.
+-- A buffer that was held once was freed. Only its own pool may now have chunks to return.
 pub record FreesBuffer (s t : Stored) (b : BufId) : Type 0 where
   pub moves : Moves s t (b ∷ []) []
   pub pools : t.pools ≡ s.pools
@@ -48,7 +48,7 @@ pub record FreesBuffer (s t : Stored) (b : BufId) : Type 0 where
   pub others : (p : ℕ) → IsHome s p b → AllSettled s → AllSettledBut p t
   pub tidy : IsTidy t
 
--- A pool that is closed returned its chunks, if nothing stood on them.
+-- A pool returned its chunks, if it is closed and all their pages are empty.
 pub record Settles (s t : Stored) (p : ℕ) : Type 0 where
   pub moves : Moves s t [] []
   pub lists : SameLists s t
@@ -57,7 +57,7 @@ pub record Settles (s t : Stored) (p : ℕ) : Type 0 where
   pub frees : FreesOnly s t
   pub tidy : IsTidy t
 
--- A hold was released. With the last one of its buffer a closed pool returned its chunks, if nothing else lay in them.
+-- A hold was released. With the last hold of its buffer a closed pool returned its chunks, if all their pages are empty.
 pub record ReleasesHold (s t : Stored) (h : Buffer) : Type 0 where
   pub moves : Moves s t (h.buf ∷ []) []
   pub frees : FreesOnly s t

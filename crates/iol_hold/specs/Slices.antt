@@ -12,14 +12,14 @@ pub record IsWhole (s : Stored) (h : Buffer) (x : Slice) : Type 0 where
   pub from : x.from ≡ 0
   pub len : x.len ≡ length (bytes_of s.arena h.buf)
 
--- The slice y has the bytes of x, and holds their buffer once more.
+-- The slice y has the bytes of x, and a further hold on their buffer.
 pub record SharesSlice (s t : Stored) (x y : Slice) : Type 0 where
   pub hold : y.hold ≡ x.hold
   pub places : slice_places y ≡ slice_places x
   pub len : y.len ≡ x.len
   pub shares : Shares s t [] (x.hold.buf ∷ [])
 
--- y is x from place `from` up to `to`
+-- y has the bytes `from..to` of x
 pub record IsCut (x y : Slice) (from to : ℕ) : Type 0 where
   pub hold : y.hold ≡ x.hold
   pub places : slice_places y ≡ slice_range (slice_places x) from to

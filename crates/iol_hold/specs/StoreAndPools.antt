@@ -11,8 +11,8 @@ use Rattle.iol_hold.specs.Moves.{Moves, pool_meant}
 use Rattle.iol_hold.specs.Pages.{KeepsPages}
 use Rattle.iol_hold.specs.StoreState.{Stored, AllSettled, IsSettled, IsTidy}
 
--- A store is made as it is configured, without pools: no chunk is taken, and all pages are free and unraised. It is refused where
--- the configuration is out of its ranges, and only there or for want of memory.
+-- A store is made as configured, without pools: no chunk is taken, and all pages are free and unraised. `BadRange` is returned
+-- exactly if the configuration is out of its ranges. The only other error is `Memory`.
 pub record MakesStore (config : Config) (r : Result Stored Refusal) : Type 0 where
   pub range : (r ≡ Err BadRange) ↔ (IsInRange config → ⊥)
   pub errors : IfErr r (λ e. (e ≡ BadRange) ⊎ (e ≡ Memory))
@@ -21,10 +21,9 @@ pub record MakesStore (config : Config) (r : Result Stored Refusal) : Type 0 whe
   pub tidy : IfOk r IsTidy
   pub settled : IfOk r AllSettled
 
--- A pool of so many chunks, the lowest that are free, was made for the domains of a list: its number is the next. No page was
--- raised, and what stood on a page stands there still, or the page is free; no hold was made or released, and no closed pool
--- keeps its chunks where nothing lies in any of them, if none did before. It is refused, and changes nothing, for want of room,
--- only where fewer are free, and for want of memory.
+-- A pool of `count` chunks, the lowest free ones, was made for the domains of a list: its number is the next. No page was raised,
+-- and each page is unchanged or free now; no hold was made or released, and no closed pool keeps chunks whose pages are all
+-- empty, if none did before. An error changes nothing: `NoRoom`, only if fewer chunks are free, or `Memory`.
 pub record MakesPool (s t : Stored) (count : ℕ) (list : List ℕ) (r : Result ℕ Refusal) : Type 0 where
   pub number : IfOk r (λ n. n ≡ length s.pools + 1)
   pub added : OnOk r (map pool_meant t.pools ≡ map pool_meant s.pools ++ record { domains = list; closed = false } ∷ [])
@@ -38,9 +37,8 @@ pub record MakesPool (s t : Stored) (count : ℕ) (list : List ℕ) (r : Result 
   pub late : IfErr r (WantOfRoom (length s.pools + 1))
   pub err : OnErr r (t ≡ s)
 
--- The pool is closed, and keeps no chunks where nothing lies in any of them; nor does any closed pool, if none did before. No
--- hold was released or made, no page was raised, what stood on a page stands there still or the page is free, and no other pool
--- changed.
+-- The pool is closed, and keeps no chunks whose pages are all empty; nor does any closed pool, if none did before. No hold was
+-- released or made, no page was raised, each page is unchanged or free now, and no other pool changed.
 pub record ClosesPool (s t : Stored) (p : ℕ) : Type 0 where
   pub closed : map pool_meant t.pools ≡ map pool_meant (with_closed s.pools p)
   pub moves : Moves s t [] []

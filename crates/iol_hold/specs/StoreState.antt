@@ -1,4 +1,4 @@
--- What a contract sees of a store: pages, pools, and how often each buffer is held.
+-- A store in contracts: pages, pools, and the number of holds on each buffer.
 use Rattle.std.specs.Prelude.{◌≡◌, ◌≢◌, ℕ, ◌/◌, ◌<◌, ◌⊎◌, true, cond, eqb, List, [], map, slice_index, slice_set}
 use Rattle.std.specs.List.{Contains}
 use Rattle.iol_core.specs.declared.limits.TheConstants.{CHUNK_PAGES}
@@ -10,7 +10,7 @@ use Rattle.iol_arena.specs.declared.pages.PageKind.TheVariants.{Free, Pending}
 use Rattle.iol_pool.specs.Owners.{AreOwned}
 use Rattle.iol_pool.specs.Pools.{Pool, pool_in, goes_back}
 
--- the pages, the pools, and for each page how often the buffer that begins there is held
+-- the pages, the pools, and for each page the number of holds on the buffer that begins there
 pub record Stored : Type 0 where
   pub arena : State
   pub pools : List Pool
@@ -25,31 +25,31 @@ pub record Buffer : Type 0 where
 abbrev pub held_in : (pool : ℕ) → List BufId → List Buffer
 held_in p bufs = map (λ b. record { pool = p; buf = b }) bufs
 
--- the names of these buffers
+-- the identities of these buffers
 abbrev pub held_bufs : List Buffer → List BufId
 held_bufs holds = map (λ h. h.buf) holds
 
--- n where the page begins the buffer of generation g
+-- n if the buffer of generation g begins at the page, else 0
 abbrev pub count_in : Entry → (n g : ℕ) → ℕ
 count_in e n g = cond (kind_head e.kind) (cond (eqb e.generation g) n 0) 0
 
--- how often the buffer is held: 0 where it is not live
+-- the number of holds on the buffer: 0 if it is not live
 unfoldable pub count_of : Stored → BufId → ℕ
 count_of s b = count_in (entry_at s.arena b.page) (slice_index s.counts b.page) b.generation
 
--- the buffer lies in a chunk of the pool
+-- the buffer is in a chunk of the pool
 abbrev pub IsHome : Stored → (p : ℕ) → BufId → Type 0
 IsHome s p b = Contains (pool_in s.pools p).chunks (b.page / CHUNK_PAGES)
 
--- the pool has no chunks left that it should have returned
+-- the pool has no chunks that it should have returned
 abbrev pub IsSettled : Stored → (p : ℕ) → Type 0
 IsSettled s p = goes_back s.arena s.pools p ≡ true → (pool_in s.pools p).chunks ≡ []
 
--- no closed pool keeps its chunks where nothing lies in any of them
+-- no closed pool keeps chunks whose pages are all empty
 pub record AllSettled (s : Stored) : Type 0 where
   pub each : (p : ℕ) → IsSettled s p
 
--- no closed pool but one keeps its chunks where nothing lies in any of them
+-- no closed pool except one keeps chunks whose pages are all empty
 pub record AllSettledBut (but : ℕ) (s : Stored) : Type 0 where
   pub each : (p : ℕ) → p ≢ but → IsSettled s p
 
@@ -57,12 +57,12 @@ pub record AllSettledBut (but : ℕ) (s : Stored) : Type 0 where
 abbrev pub IsInBuffer : State → (q : ℕ) → Type 0
 IsInBuffer s q = (b : BufId) × IsLive s b × LiesOn s b q
 
--- nothing stands on page q, or it waits to be published, or it is part of a live buffer
+-- page q is empty, or pending, or part of a live buffer
 abbrev pub IsPlaced : State → (q : ℕ) → Type 0
 IsPlaced s q = ((entry_at s q).kind ≡ Free) ⊎ ((entry_at s q).kind ≡ Pending) ⊎ IsInBuffer s q
 
--- Every live buffer is held, each page is free or waits or lies in just one live buffer, whole in its chunk, and each
--- chunk that is taken has just one pool.
+-- Every live buffer is held and is in one chunk, each page is empty, is pending or is in exactly one live buffer, and each taken
+-- chunk has exactly one pool.
 pub record IsTidy (s : Stored) : Type 0 where
   pub held : (b : BufId) → IsLive s.arena b → 0 < count_of s b
   pub placed : (q : ℕ) → IsPlaced s.arena q
@@ -70,7 +70,7 @@ pub record IsTidy (s : Stored) : Type 0 where
   pub runs : HasRuns s.arena.entries
   pub owned : AreOwned s.arena s.pools
 
--- no page waits to be published
+-- no page is pending
 pub record IsStill (s : State) : Type 0 where
   pub each : (q : ℕ) → (entry_at s q).kind ≢ Pending
 
@@ -83,7 +83,7 @@ with_pools s ps = record { arena = s.arena; pools = ps; counts = s.counts }
 abbrev pub with_count : Stored → (page n : ℕ) → Stored
 with_count s p n = record { arena = s.arena; pools = s.pools; counts = slice_set s.counts p n }
 
--- The count that is kept for a page is n now, and nothing else changed.
+-- The count of a page was set to n, and nothing else changed.
 pub record SetsCount (s t : Stored) (page n : ℕ) : Type 0 where
   pub set : t ≡ with_count s page n
   pub tidy : IsTidy t

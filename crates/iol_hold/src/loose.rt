@@ -1,4 +1,4 @@
-//! Which pages of a pool can be had.
+//! Pages of a pool that are free or would become free.
 ghost use Rattle.std.specs.Prelude.{◌≡◌, ◌↔◌, ◌<◌, ◌≤◌, [], ◌∷◌, length, slice_index, true, IsTrue};
 ghost use Rattle.iol_core.specs.Prelude.{is_numbered};
 ghost use Rattle.iol_arena.specs.Prelude.{chunk_count, page_count};
@@ -10,7 +10,7 @@ use iol_core::numbers::{ChunkNo, PoolId};
 
 const CHUNK: u32 = CHUNK_PAGES as u32;
 
-// What stands at a place of a table, and 0 past its end.
+// The entry of a table at an index, and 0 past its end.
 fn entry_or_none(table: &[u64], place: u32) -> u64
     ensures { result ≡ slice_index table.now place }
 {
@@ -22,7 +22,7 @@ fn entry_or_none(table: &[u64], place: u32) -> u64
 }
 
 impl Store {
-    // Whether the buffer that begins at a page is held by those that are spared alone.
+    // Whether the buffer that begins at a page has only the holds that `spared` counts.
     fn is_spared(&self, first: Option<u32>, spared: &[u64]) -> bool
         ensures { result ≡ is_spared self.now spared.now first }
     {
@@ -32,7 +32,7 @@ impl Store {
         }
     }
 
-    // Whether a page can be had.
+    // Whether a page is free, or would become free with the holds that `spared` counts.
     fn is_loose(&self, page: u32, spared: &[u64]) -> bool
         requires { page < page_count self.now.arena }
         ensures { result ≡ is_loose self.now spared.now page }
@@ -40,12 +40,12 @@ impl Store {
         !self.arena.is_last(page) && self.is_spared(self.arena.first_on(page), spared)
     }
 
-    // How many pages of a chunk can be had.
+    // The number of such pages of a chunk.
     fn loose_in(&self, chunk: ChunkNo, spared: &[u64]) -> u32
         requires { chunk < chunk_count self.now.arena }
         ensures { result ≡ length (loose_in self.now spared.now (chunk ∷ [])) }
     {
-        // Tells how many pages there are.
+        // Shows how many pages there are.
         let _pages = self.arena.page_count();
         let mut count = 0;
         for i in 0..CHUNK {
@@ -56,8 +56,8 @@ impl Store {
         count
     }
 
-    /// Whether so many pages of a pool can be had: they may be used, or would come free with the holds that `spared` counts for
-    /// each buffer, by the page at which it begins. It looks at pages one after another, as far as it must.
+    /// Whether at least `pages` pages of a pool may be used, or would become free with the holds that `spared` counts for each
+    /// buffer, by the buffer's first page. It reads pages in order, and stops at the first chunk that completes the number.
     pub fn can_free(&self, p: PoolId, pages: u32, spared: &[u64]) -> bool
         requires { is_numbered self.now.pools p ≡ true }
         ensures { IsTrue result ↔ (pages ≤ length (loose_pages self.now spared.now p)) }

@@ -5,12 +5,12 @@ use crate::holds::Hold;
 use crate::store::Store;
 use iol_core::numbers::BufId;
 
-/// A part of one buffer, which it holds once. It has a byte at least.
+/// A part of one buffer, which it holds once. It has at least one byte.
 #[derive(Drop)]
 pub struct Slice {
     /// The hold on the buffer.
     pub hold: Hold,
-    /// The place of the first byte, counted from 0 in the buffer.
+    /// The offset of the first byte in the buffer.
     pub from: u32,
     /// The number of bytes.
     pub len: u32,
@@ -40,7 +40,7 @@ impl Slice {
         self.hold.buf()
     }
 
-    /// The same bytes, held once more.
+    /// The same bytes, with a further hold on their buffer.
     pub fn share(&self, store: &mut Store) -> Slice
         requires live { 0 < count_of store.old self.now.hold.buf }
         requires few { count_of store.old self.now.hold.buf < 2 ^ 63 }
@@ -53,7 +53,7 @@ impl Slice {
         }
     }
 
-    /// The bytes from place `from` up to `to` of the slice, in place of all.
+    /// Reduces the slice to its bytes `from..to`, at least one.
     pub fn cut(self, from: u32, to: u32) -> Slice
         requires some { from < to }
         requires within { to ≤ self.len }
@@ -74,7 +74,7 @@ impl Slice {
         store.release(self.hold);
     }
 
-    /// The bytes, where they lie.
+    /// The bytes, in place: no byte is copied.
     pub fn bytes<'a>(&self, store: &'a Store) -> &'a [u8]
         requires { IsReadable store.now self.now }
         ensures { result.now ≡ slice_bytes store.now self.now }

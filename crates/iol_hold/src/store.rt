@@ -1,4 +1,4 @@
-//! The store: pages, pools, and how often each buffer is held.
+//! The store: pages, pools, and the number of holds on each buffer.
 ghost use Rattle.std.specs.Prelude.{◌≡◌, ◌<◌, ◌^◌, length, slice_range};
 ghost use Rattle.iol_arena.specs.Prelude.{HasRange, IsLive, SharesNoPage, bytes_of, live_pages};
 ghost use Rattle.iol_hold.specs.StoreAndPools.{MakesStore};
@@ -16,7 +16,7 @@ use iol_pool::pools::Pools;
 use std::alloc::Global;
 use std::marker::Model;
 
-/// Pages, pools, and how often each buffer is held.
+/// Pages, pools, and the number of holds on each buffer.
 #[derive(Drop)]
 pub struct Store {
     pub(crate) arena: Arena,
@@ -39,7 +39,7 @@ impl Model for Store {
 }
 
 impl Store {
-    /// A store of free pages without pools.
+    /// A store of free pages without pools. Returns `BadRange` exactly if the configuration is out of its ranges, and `Memory`.
     pub fn new(alloc: Global, config: Config) -> Result<Store, Refusal>
         ensures { MakesStore config result }
     {
@@ -53,7 +53,7 @@ impl Store {
         })
     }
 
-    // How often the buffer that begins at the page is held.
+    // The number of holds on a live buffer.
     fn count_at(&self, buf: BufId) -> u64
         requires { 0 < count_of self.now buf }
         ensures { result ≡ count_of self.now buf }
@@ -69,7 +69,7 @@ impl Store {
         self.counts[buf.page as usize] = count;
     }
 
-    /// How often a live buffer is held.
+    /// The number of holds on a live buffer.
     pub fn count(&self, buf: BufId) -> u64
         requires { 0 < count_of self.now buf }
         ensures { result ≡ count_of self.now buf }
@@ -77,7 +77,7 @@ impl Store {
         self.count_at(buf)
     }
 
-    /// One more hold on the same buffer. A count stays below 2^63.
+    /// A further hold on the same buffer, which must have fewer than 2^63.
     pub fn share(&mut self, hold: &Hold) -> Hold
         requires live { 0 < count_of self.old hold.now.buf }
         requires few { count_of self.old hold.now.buf < 2 ^ 63 }
@@ -89,7 +89,7 @@ impl Store {
         Hold::new(hold.pool(), buf)
     }
 
-    // Frees a buffer that is held once.
+    // Frees a buffer that has one hold.
     fn free(&mut self, buf: BufId)
         requires { count_of self.old buf ≡ 1 }
         ensures { FreesBuffer self.old self.new buf }
@@ -97,15 +97,15 @@ impl Store {
         self.arena.free(buf);
     }
 
-    // Returns the chunks of a closed pool, if nothing stands on them.
+    // Returns the chunks of a closed pool, if all their pages are empty.
     fn settle(&mut self, pool: PoolId)
         ensures { Settles self.old self.new pool }
     {
         self.pools.settle(&mut self.arena, pool);
     }
 
-    /// Releases a hold. With the last one the buffer's pages are free at once, and the chunks of a closed pool are
-    /// returned if nothing else lies in them.
+    /// Releases a hold. With the last hold the buffer's pages are free at once, and the chunks of a closed pool are
+    /// returned if all their pages are empty.
     pub fn release(&mut self, hold: Hold)
         requires { 0 < count_of self.old hold.buf }
         ensures { ReleasesHold self.old self.new hold }
@@ -120,7 +120,7 @@ impl Store {
         }
     }
 
-    /// How many bytes a live buffer has.
+    /// The number of bytes of a live buffer.
     pub fn len(&self, hold: &Hold) -> u32
         requires { IsLive self.now.arena hold.now.buf }
         ensures { result ≡ length (bytes_of self.now.arena hold.now.buf) }
@@ -128,7 +128,7 @@ impl Store {
         self.arena.len(hold.buf())
     }
 
-    /// The bytes of a live buffer, from place `from` up to `to`.
+    /// The bytes `from..to` of a live buffer, in place.
     pub fn bytes(&self, hold: &Hold, from: u32, to: u32) -> &[u8]
         requires { HasRange self.now.arena hold.now.buf from to }
         ensures { result.now ≡ slice_range (bytes_of self.now.arena hold.now.buf) from to }
@@ -136,7 +136,7 @@ impl Store {
         self.arena.bytes(hold.buf(), from, to)
     }
 
-    /// How many buffers are live. No two of them share a page.
+    /// The number of live buffers. No two of them share a page.
     pub fn buffer_count(&self) -> u32
         ensures count { result ≡ length (live_pages self.now.arena) }
         ensures alone { SharesNoPage self.now.arena }

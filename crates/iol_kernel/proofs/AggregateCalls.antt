@@ -1,6 +1,7 @@
 pub mod NewAggregates
 pub mod DomainEnd
 pub mod Slices
+pub mod SliceCounts
 pub mod Additions
 pub mod Exchanges
 pub mod SliceMoves

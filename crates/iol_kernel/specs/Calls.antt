@@ -1,4 +1,4 @@
--- What a call does to what a system holds, said of the copying machine whatever is read at the places of bytes.
+-- The effect of a call on the state of the system, in terms of the copying machine, for each reading of the places of bytes.
 use Rattle.std.specs.Prelude.{◌≡◌, ℕ, ◌+◌, ◌≤◌, Bool, nat_lt, length, ◌⊎◌, ◌++◌, true, false, List, [], ◌∷◌, None, Some, Result, Ok, Err, IfOk, IfErr, OnOk, OnErr}
 use Rattle.iol_core.specs.Text.{Text, labelled}
 use Rattle.iol_core.specs.State.{State, is_live, text, descriptor, conn_at, with_conn}
@@ -29,32 +29,32 @@ use Rattle.iol_kernel.specs.FileCalls.{IsBackedBy, StepsBeside}
 use Rattle.iol_kernel.specs.KernelState.{KernelState, read_of, machine_of, IsSound}
 use Rattle.iol_kernel.specs.Readings.{Reading, read, KeepsPools}
 
--- the machine's step, whatever is stored
+-- the machine's step, for each content of the store under the files
 abbrev pub Steps : {A : Type 0} → (State → Meaning A) → KernelState → Result A Refusal → KernelState → Type 0
 Steps m old r new = (stored : List (List ℕ)) → Step (m (machine_of stored old)) (machine_of stored old) r (machine_of stored new)
 
--- a domain gets these bytes as its next aggregate, whatever is stored
+-- a domain gets these bytes as its next aggregate, for each content of the store under the files
 abbrev pub AddsBytes : (d pool : ℕ) → List ℕ → (old new : KernelState) → Type 0
 AddsBytes d pool bytes old new = (stored : List (List ℕ)) → machine_of stored new
     ≡ with_agg (machine_of stored old) d (labelled pool bytes)
 
--- these are the bytes that `show` answers, whatever is stored
+-- these are the bytes that `show` returns, for each content of the store under the files
 abbrev pub Shows : (d a : ℕ) → List ℕ → KernelState → Type 0
 Shows d a bytes h = (stored : List (List ℕ))
     → (first (show (machine_of stored h) d a).refusals ≡ None) × (bytes ≡ (show (machine_of stored h) d a).answer)
 
--- so many bytes `show` answers, whatever is stored
+-- n is the number of bytes that `show` returns, for each content of the store under the files
 abbrev pub ShowsSoMany : (d a n : ℕ) → KernelState → Type 0
 ShowsSoMany d a n h = (stored : List (List ℕ))
     → (first (show (machine_of stored h) d a).refusals ≡ None) × (n ≡ length (show (machine_of stored h) d a).answer)
 
--- `show` refuses so, whatever is read
+-- `show` returns this refusal, for each reading
 abbrev pub RefusesShow : (d a : ℕ) → Refusal → KernelState → Type 0
 RefusesShow d a x h = (f : Reading) → first (show (read_of f h) d a).refusals ≡ Some x
 
--- The machine's step whatever is read: of bytes it is the step that the call means; of places it says that the bytes
--- of its result lie where its meaning says, so that none was copied, and that nothing else moved.
--- The pages, the pools and the remembered sums are as they were.
+-- The machine's step for each reading. A reading of bytes gives the meaning of the call. A reading of places says that each
+-- byte of the result is at the place that the meaning names, so that no byte was copied or moved. Pages, pools and remembered
+-- sums are unchanged.
 pub record CarriesOut {A : Type 0} (m : State → Meaning A) (old : KernelState) (r : Result A Refusal)
     (new : KernelState) : Type 0 where
   pub step : (f : Reading) → KeepsPools f → Step (m (read_of f old)) (read_of f old) r (read_of f new)
@@ -67,9 +67,9 @@ pub record CarriesOut {A : Type 0} (m : State → Meaning A) (old : KernelState)
   pub sound : IsSound new
   pub stays : Stays old.store new.store
 
--- The machine's step, of bytes and of places: what the call leaves lies where it lay.
--- Pages and chunks may be freed or taken, and lists may grow; no page is raised, an open pool keeps its chunks, and remembered
--- sums stay.
+-- The machine's step, of bytes and of places: every byte that the call leaves keeps its place. Pages and chunks may be freed
+-- or taken, and lists may grow. No page's generation is incremented, an open pool keeps its chunks, and the remembered sums
+-- are unchanged.
 pub record KeepsPlaces {A : Type 0} (m : State → Meaning A) (old : KernelState) (r : Result A Refusal)
     (new : KernelState) : Type 0 where
   pub step : Steps m old r new
@@ -81,15 +81,15 @@ pub record KeepsPlaces {A : Type 0} (m : State → Meaning A) (old : KernelState
   pub sound : IsSound new
   pub stays : Stays old.store new.store
 
--- A file came of which nothing is in memory. The others are as they were, and so is each order of eviction.
+-- A file was added, with no extent in memory. The other files and the orders of eviction are unchanged.
 pub record AddsEmpty (old new : Cached) : Type 0 where
   pub pool : ℕ
   pub files : new.files ≡ old.files ++ new_file pool ∷ []
   pub orders : (p : ℕ) → order_in new.orders p ≡ order_in old.orders p
 
--- The machine's step on files, where the store under them is honest, and the bytes of files aside over any store. Nothing
--- changes but the list of files and what memory has of them: pages, pools and remembered sums are as they were, and all bytes
--- lie where they lay.
+-- The machine's step on files if the store under them is honest; over any store, the step except for the bytes of files. Only
+-- the list of files and their extents in memory change: pages, pools and remembered sums are unchanged, and every byte keeps
+-- its place.
 pub record Names {A : Type 0} (disk : Disk) (m : State → Meaning A) (old : KernelState) (r : Result A Refusal)
     (new : KernelState) : Type 0 where
   pub step : IfHonest disk (Step (m (machine_of disk.slots old)) (machine_of disk.slots old) r (machine_of disk.slots new))
@@ -105,13 +105,13 @@ pub record Names {A : Type 0} (disk : Disk) (m : State → Meaning A) (old : Ker
   pub added : OnOk r (AddsEmpty old.cache new.cache)
   pub sound : IsSound new
 
--- with some bytes in the next slot, this tells whether they are more than a file may have
+-- for some content of the next slot, this says whether it is longer than a file may be
 pub record TellsNext (h : KernelState) (long : Bool) : Type 0 where
   pub stored : List (List ℕ)
   pub is : (f : Reading) → f.stored ≡ stored
       → long ≡ nat_lt MAX_FILE_BYTES (length (machine.content (read_of f h) (length (read_of f h).files + 1)))
 
--- A file was added: the answer and the state after it. Nothing of it is in memory.
+-- A file was added: the answer and the state after it. It has no extent in memory.
 pub record AddsFile {A : Type 0} (m : State → Meaning A) (old : KernelState) (a : A) (new : KernelState) : Type 0 where
   pub answer : (f : Reading) → KeepsPools f → a ≡ (m (read_of f old)).answer
   pub after : (f : Reading) → KeepsPools f → read_of f new ≡ (m (read_of f old)).after
@@ -124,7 +124,7 @@ pub record AddsFile {A : Type 0} (m : State → Meaning A) (old : KernelState) (
   pub added : AddsEmpty old.cache new.cache
   pub sound : IsSound new
 
--- A call is refused by the first of its tests that holds, and never for want of room.
+-- A call is refused by the first of its tests that holds, and the refusal is not NoRoom.
 pub record Refuses {A : Type 0} (m : State → Meaning A) (x : Refusal) (h : KernelState) : Type 0 where
   pub refused : (f : Reading) → first (m (read_of f h)).refusals ≡ Some x
   pub roomy : (p : ℕ) → x ≡ NoRoom p → ⊥
@@ -140,7 +140,7 @@ pub record Answers {A : Type 0} (m : State → Meaning A) (old : KernelState) (a
   pub sound : IsSound new
   pub stays : Stays old.store new.store
 
--- An effect that may want memory: its answer and the state after it. Refused, it changed nothing.
+-- An effect that may need memory: its answer and the state after it. A refusal changes nothing.
 pub record Attempts {A E : Type 0} (m : State → Meaning A) (old : KernelState) (r : Result A E)
     (new : KernelState) : Type 0 where
   pub done : IfOk r (λ a. Answers m old a new)
@@ -156,16 +156,17 @@ pub record Leaves (after : State → State) (old new : KernelState) : Type 0 whe
   pub sound : IsSound new
   pub stays : Stays old.store new.store
 
--- a pool's list names the domain, too, and nothing else is changed
+-- the state in which the pool's list also names the domain, and nothing else is changed
 abbrev pub with_reader : KernelState → (p d : ℕ) → KernelState
 with_reader h p d = record h { store = with_pools h.store (with_admitted h.store.pools p d) }
 
--- with bytes at the end of what came in on a connection
+-- the state with bytes at the end of the incoming queue of a connection
 abbrev pub with_incoming : (c : ℕ) → State → Text → State
 with_incoming c s t = with_conn s c (record (conn_at s c) { incoming = (conn_at s c).incoming ++ t })
 
--- n new bytes come into a pool, put where `put` says, and nothing else changes: whatever is read, the rest lies where it
--- lay. Their buffers are made on the lowest free pages of the pool, each of which is raised by one.
+-- n new bytes are placed in a pool and stored where `put` says, and nothing else changes: for each reading, every other byte
+-- keeps its place. Their buffers are made on the lowest free pages of the pool, and the generation of each of these pages is
+-- incremented.
 pub record MakesBytes (put : State → Text → State) (pool n : ℕ) (old new : KernelState) : Type 0 where
   pub slices : List Slice
   pub each : (f : Reading) → read_of f new ≡ put (read_of f old) (read f slices)
@@ -174,11 +175,11 @@ pub record MakesBytes (put : State → Text → State) (pool n : ℕ) (old new :
   pub made_on : MadeOn old.store.arena new.store.arena (bufs_of slices) (lowest_of old.store pool n)
   pub pages : KeepsPages old.store new.store (lowest_of old.store pool n)
 
--- a domain gets them as its next aggregate
+-- a domain gets the new bytes as its next aggregate
 abbrev pub MakesAgg : (d pool n : ℕ) → (old new : KernelState) → Type 0
 MakesAgg d pool n old new = MakesBytes (λ s t. with_agg s d t) pool n old new
 
--- Bytes pass the tests of `agg_make`, and would lie in this pool.
+-- Bytes pass the tests of `agg_make`, and are to be placed in this pool.
 pub record MayMake (by : ℕ) (bytes : List ℕ) (pool : ℕ) (h : KernelState) : Type 0 where
   pub passed : (f : Reading) → first (agg_make (read_of f h) by bytes).refusals ≡ None
   pub lands : (f : Reading) → default_pool (read_of f h) by ≡ pool
@@ -187,7 +188,7 @@ pub record MayMake (by : ℕ) (bytes : List ℕ) (pool : ℕ) (h : KernelState) 
   pub small : length bytes ≤ MAX_AGGREGATE_BYTES
   pub opened : (machine.pool (machine_of [] h) pool).closed ≡ false
 
--- New bytes of a pool become a domain's next aggregate; or there is no room for them, or no memory, and nothing changed.
+-- New bytes of a pool become a domain's next aggregate; or there is no room or no memory for them, and nothing changed.
 pub record MakesNext (by pool : ℕ) (bytes : List ℕ) (old : KernelState) (r : Result ℕ Refusal) (new : KernelState) : Type 0 where
   pub number : IfOk r (λ n. (f : Reading) → n ≡ next_agg (read_of f old) by)
   pub placed : OnOk r (AddsBytes by pool bytes old new)
@@ -199,11 +200,11 @@ pub record MakesNext (by pool : ℕ) (bytes : List ℕ) (old : KernelState) (r :
   pub late : IfErr r (WantOfRoom pool)
   pub err : OnErr r (new ≡ old)
 
--- a connection gets them at the end of what came in
+-- a connection gets the new bytes at the end of its incoming queue
 abbrev pub Arrives : (c n : ℕ) → (old new : KernelState) → Type 0
 Arrives c n old new = MakesBytes (with_incoming c) (conn_at (machine_of [] old) c).pool n old new
 
--- Bytes pass the tests of `arrive`: so many of them fit, and would lie in this pool.
+-- Bytes pass the tests of `arrive`: `count` of them fit, and are to be placed in this pool.
 pub record MayArrive (c : ℕ) (bytes : List ℕ) (pool count : ℕ) (h : KernelState) : Type 0 where
   pub sound : IsSound h
   pub passed : (f : Reading) → first (arrive (read_of f h) c bytes).refusals ≡ None
@@ -211,38 +212,38 @@ pub record MayArrive (c : ℕ) (bytes : List ℕ) (pool count : ℕ) (h : Kernel
   pub fits : (f : Reading) → (arrive (read_of f h) c bytes).answer ≡ count
   pub opened : (pool_in h.store.pools pool).closed ≡ false
 
--- the domain is live, and its aggregate is these slices
+-- the domain is live, and its aggregate has these slices
 pub record IsFound (h : KernelState) (d a : ℕ) (xs : List Slice) : Type 0 where
   pub found : Some xs ≡ agg_in h.domains d a
   pub live : (f : Reading) → is_live (read_of f h) d ≡ true
   pub there : (f : Reading) → lacks_agg (read_of f h) d a ≡ false
   pub text : (f : Reading) → text (read_of f h) d a ≡ read f xs
 
--- the domain is live, and its aggregate is so long
+-- the domain is live, and its aggregate has n bytes
 pub record IsSoLong (h : KernelState) (d a n : ℕ) : Type 0 where
   pub live : (f : Reading) → is_live (read_of f h) d ≡ true
   pub there : (f : Reading) → lacks_agg (read_of f h) d a ≡ false
   pub len : (f : Reading) → n ≡ length (text (read_of f h) d a)
 
--- the refusal where there is no such domain, or no such aggregate of it
+-- the refusal if there is no such domain, or no such aggregate of it
 abbrev pub IsMissing : KernelState → (d a : ℕ) → Refusal → Type 0
 IsMissing h d a x =
     ((x ≡ NoDomain) × ((f : Reading) → is_live (read_of f h) d ≡ false))
     ⊎ ((x ≡ BadAgg) × ((f : Reading) → (is_live (read_of f h) d ≡ true) × (lacks_agg (read_of f h) d a ≡ true)))
 
--- the refusal where there is no such domain, or no such descriptor of it
+-- the refusal if there is no such domain, or no such descriptor of it
 abbrev pub IsUnopened : KernelState → (d fd : ℕ) → Refusal → Type 0
 IsUnopened h d fd x =
     ((x ≡ NoDomain) × ((f : Reading) → is_live (read_of f h) d ≡ false))
     ⊎ ((x ≡ BadFd) × ((f : Reading) → (is_live (read_of f h) d ≡ true) × (descriptor (read_of f h) d fd ≡ None)))
 
--- what was sent, as the bytes and their checksum
+-- the segment sent, as its bytes and their checksum
 abbrev pub told : Result Segment Refusal → Result (List ℕ × ℕ) Refusal
 told (Ok g) = Ok (g.bytes, g.checksum)
 told (Err x) = Err x
 
--- The machine's `transmit`: what is left lies where it lay, and of the pages some may be freed. The sum of each slice that
--- was sent is used, in order; a refusal changes nothing.
+-- The machine's `transmit`: the remaining bytes keep their places, and pages may be freed. The sum of each slice sent is
+-- used, in order. A refusal changes nothing.
 pub record Transmits (c max : ℕ) (old : KernelState) (r : Result (List ℕ × ℕ) Refusal) (new : KernelState) : Type 0 where
   pub step : Steps (λ s. transmit s c max) old r new
   pub places : OnOk r ((f : Reading) → KeepsPools f → read_of f new ≡ (transmit (read_of f old) c max).after)

@@ -1,4 +1,4 @@
--- What a domain may not read: the pool that it is denied.
+-- The pool for which a domain is denied access.
 use Rattle.std.specs.Prelude.{◌≡◌, ℕ, not, List, Option, option_map, find}
 use Rattle.iol_core.specs.State.{State, may_read}
 use Rattle.iol_core.specs.Calls.Descriptors.{denied_by}
@@ -9,14 +9,14 @@ use Rattle.iol_hold.specs.declared.slices.Slice.{Slice}
 use Rattle.iol_kernel.specs.KernelState.{KernelState, read_of}
 use Rattle.iol_kernel.specs.Readings.{Reading, read, KeepsPools}
 
--- the pool of the first of these slices that lies in one which does not name the domain
+-- the pool of the first of these slices whose pool does not name the domain
 abbrev pub pool_hidden : List Pool → (d : ℕ) → List Slice → Option ℕ
 pool_hidden pools d xs = option_map (λ x. x.hold.pool) (find (λ x. not (names_in pools x.hold.pool d)) xs)
 
--- This is the pool of the first byte of these slices that the domain may not read, or none where it may read all.
+-- This is the pool of the first byte of these slices that the domain may not read, or None if it may read all of them.
 abbrev pub TellsBarred : KernelState → (d : ℕ) → List Slice → Option ℕ → Type 0
 TellsBarred h d xs r = (f : Reading) → KeepsPools f → r ≡ barred (may_read (read_of f h) d) (read f xs)
 
--- This is the pool that the domain needs, where it may not read it; or none where it may, or needs none.
+-- This is the pool that the domain needs to read and may not read; or None if it may read it, or needs no pool.
 abbrev pub TellsDenied : KernelState → (d : ℕ) → (needed : State → Option ℕ) → Option ℕ → Type 0
 TellsDenied h d needed r = (f : Reading) → option_map (λ p. Denied p) r ≡ denied_by (read_of f h) d (needed (read_of f h))

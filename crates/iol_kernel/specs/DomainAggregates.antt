@@ -1,16 +1,16 @@
--- What a domain has between two events, and what may be made of its aggregates once a call passed its tests.
+-- The aggregates of a domain between two events, and the preconditions of calls on them after their tests.
 use Rattle.std.specs.Prelude.{◌≡◌, ◌≢◌, ℕ, ◌+◌, ◌≤◌, [], length, true, false}
 use Rattle.iol_core.specs.Prelude.{is_live, lacks_agg, text, too_many_aggs}
 use Rattle.iol_core.specs.declared.limits.TheConstants.{MAX_AGGREGATE_BYTES}
 use Rattle.iol_kernel.specs.NewAggregates.{replaced}
 use Rattle.iol_kernel.specs.KernelState.{KernelState, IsSound, machine_of}
 
--- Between two events: the domain lives.
+-- Between two events: the domain is live.
 pub record Lives (h : KernelState) (d : ℕ) : Type 0 where
   pub sound : IsSound h
   pub live : is_live (machine_of [] h) d ≡ true
 
--- Between two events: the domain lives, and has this aggregate.
+-- Between two events: the domain is live, and has this aggregate.
 pub record HasAgg (h : KernelState) (d a : ℕ) : Type 0 where
   pub lives : Lives h d
   pub there : lacks_agg (machine_of [] h) d a ≡ false
@@ -29,7 +29,7 @@ pub record MayReplace (d a from to b : ℕ) (h : KernelState) : Type 0 where
   pub small : length (replaced (text (machine_of [] h) d a) from to (text (machine_of [] h) d b))
       ≤ MAX_AGGREGATE_BYTES
 
--- A domain's aggregate may be split there.
+-- A domain's aggregate may be split at this index.
 pub record MaySplit (d a at : ℕ) (h : KernelState) : Type 0 where
   pub has : HasAgg h d a
   pub within : at ≤ length (text (machine_of [] h) d a)
@@ -44,7 +44,7 @@ pub record MayJoin (d a b : ℕ) (h : KernelState) : Type 0 where
       ≤ MAX_AGGREGATE_BYTES
   pub few : too_many_aggs (machine_of [] h) d 1 2 ≡ false
 
--- A domain's aggregate may go to the domain e, but for what that may read.
+-- A gift of a domain's aggregate to the domain e passes its tests, except for the test of access.
 pub record MayGive (d a e : ℕ) (h : KernelState) : Type 0 where
   pub has : HasAgg h d a
   pub to : is_live (machine_of [] h) e ≡ true

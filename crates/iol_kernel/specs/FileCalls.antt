@@ -1,4 +1,4 @@
--- Calls where files are: what they do with an honest store behind the files, and what they do over any store.
+-- Calls on files: their effect with an honest store under the files, and over any store.
 use Rattle.std.specs.Prelude.{◌≡◌, ℕ, List, [], Result, Err, OnErr, OnOk}
 use Rattle.iol_core.specs.State.{State}
 use Rattle.iol_core.specs.Meaning.{Meaning, Step}
@@ -16,24 +16,24 @@ use Rattle.iol_kernel.specs.Readings.{Reading, KeepsPools}
 abbrev pub holding_of : KernelState → Holding
 holding_of h = record { store = h.store; cache = h.cache }
 
--- the store under the files is honest, and has the same bytes under clean extents
+-- the store under the files is honest, and has the same bytes as the clean extents in memory
 abbrev pub IsBackedBy : Disk → KernelState → Type 0
 IsBackedBy disk h = IsBacked disk (holding_of h)
 
--- what the kernel stands for, but for the bytes of its files: these are in their place
+-- the machine state of the kernel, with these bytes in the slots of its files
 unfoldable pub with_slots : (slots : List (List ℕ)) → KernelState → State
 with_slots slots h = record (machine_of [] h) { slots = slots }
 
--- The bytes of files aside, the call is the machine's step: there are bytes that files may have with which it is.
--- So it is over any store, whatever that answers.
+-- Except for the bytes of files, the call is the machine's step: there are contents of files with which it is. This holds
+-- over any store, whatever it answers.
 pub record StepsBeside {A : Type 0} (m : State → Meaning A) (old : KernelState) (r : Result A Refusal)
     (new : KernelState) : Type 0 where
   pub before : List (List ℕ)
   pub after : List (List ℕ)
   pub step : Step (m (with_slots before old)) (with_slots before old) r (with_slots after new)
 
--- A call that may ask the store under the files. With an honest store it is the machine's step, of the files' bytes, too, if
--- positions are in files, as they are from the start on.
+-- A call that may use the store under the files. With an honest store it is the machine's step, including the bytes of files,
+-- if positions are within files; they are in every state reached from the start.
 pub record Serves {A : Type 0} (m : State → Meaning A) (disk : Disk) (old : KernelState) (r : Result A Refusal)
     (after : Disk) (new : KernelState) : Type 0 where
   pub step : IsBackedBy disk old → ArePlaced (machine_of disk.slots old)
@@ -45,8 +45,8 @@ pub record Serves {A : Type 0} (m : State → Meaning A) (disk : Disk) (old : Ke
   pub sound : IsSound new
   pub stays : Stays old.store new.store
 
--- A call that asks the store under the files for a length at most. Pages and what is cached are as they were, all bytes lie
--- where they lay, and a refused call changes nothing.
+-- A call that at most asks the store under the files for a length. Pages and cached extents are unchanged, every byte keeps
+-- its place, and a refused call changes nothing.
 pub record LooksUp {A : Type 0} (m : State → Meaning A) (disk : Disk) (old : KernelState) (r : Result A Refusal)
     (new : KernelState) : Type 0 where
   pub serves : Serves m disk old r disk new

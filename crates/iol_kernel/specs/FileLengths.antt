@@ -1,4 +1,5 @@
--- Where a file ends, over any store: what the calls that ask for a length say of it, by what the store tells then.
+-- The end of a file, over any store: what the calls that ask for a length say of it, in terms of the length that the store
+-- reports.
 use Rattle.std.specs.Prelude.{◌≡◌, ℕ, ◌+◌, ◌<◌, ◌≤◌, Bool, true, false, [], length, nat_lt, if◌then◌else◌, Option, Some, None, Result, Ok, Err, OnOk, IfOk, IfErr, OnErr, ⊤}
 use Rattle.iol_core.specs.Prelude.{content, is_live, open_on}
 use Rattle.iol_core.specs.Meaning.{first}
@@ -25,18 +26,18 @@ pub record HasFile (h : KernelState) (f : ℕ) : Type 0 where
   pub sound : IsSound h
   pub there : is_numbered h.files f ≡ true
 
--- Between two events: the domain lives, and the file is there.
+-- Between two events: the domain is live, and the file exists.
 pub record HasFileFor (h : KernelState) (d f : ℕ) : Type 0 where
   pub file : HasFile h f
   pub live : is_live (machine_of [] h) d ≡ true
 
--- n is where a read of a file ends now; where the store backs what is in memory, that is the length of the file.
+-- n is the end of the file for a read now; if the store backs the extents in memory, it is the length of the file.
 pub record IsLengthOf (disk : Disk) (h : KernelState) (f n : ℕ) : Type 0 where
   pub is : IsBackedBy disk h → n ≡ length (content (machine_of disk.slots h) f)
   pub end : IsEnd disk h.cache f n
 
--- The file was looked for that a descriptor is open on. It is refused as asking for the file's
--- length is, and only where the descriptor is open on no file.
+-- The result of looking for the file that a descriptor is open on. It is refused as `length` is, and only if the descriptor
+-- is not open on a file.
 pub record FindsFile (d fd : ℕ) (h : KernelState) (r : Result OpenFile Refusal) : Type 0 where
   pub found : IfOk r (λ x. IsOnFile h d fd x.file x.at x.mode)
   pub refused : IfErr r (λ x. (f : Reading) → first (file_length (read_of f h) d fd).refusals ≡ Some x)
@@ -51,38 +52,38 @@ EndsOn _ end disk h = ⊤
 abbrev pub EndsAt : (d fd end : ℕ) → Disk → KernelState → Type 0
 EndsAt d fd end disk h = EndsOn (held_by (machine_of [] h) d fd) end disk h
 
--- A position was asked for in a file. It was given only where it is not past the file's end, and BadRange was answered only
--- where it is.
+-- The result of seeking a position in a file: success only if it is not past the file's end, and BadRange only if it is.
 pub record SeeksTo {A : Type 0} (f at : ℕ) (disk : Disk) (c : Cached) (r : Result A Refusal) : Type 0 where
   pub end : ℕ
   pub ends : IsEnd disk c f end
   pub within : OnOk r (at ≤ end)
   pub beyond : r ≡ Err BadRange → end < at
 
--- a position was asked for in what a descriptor is open on, where that is a file
+-- the result of seeking a position, if the descriptor is open on a file
 abbrev pub SeeksOn : {A : Type 0} → Option Descriptor → (at : ℕ) → Disk → KernelState → Result A Refusal → Type 0
 SeeksOn (Some (on.File f was mode)) at disk h r = SeeksTo f at disk h.cache r
 SeeksOn _ at disk h r = ⊤
 
--- a position was asked for in what a live domain's descriptor is open on, where that is a file
+-- the result of seeking a position, if a live domain's descriptor is open on a file
 abbrev pub SeeksAt : {A : Type 0} → (d fd at : ℕ) → Disk → KernelState → Result A Refusal → Type 0
 SeeksAt d fd at disk h r = SeeksOn (held_by (machine_of [] h) d fd) at disk h r
 
--- whether the store tells of the next slot that it has more bytes than a file may have; past the last slot there is none
+-- whether the store reports more bytes for the next slot than a file may have; false if there is no next slot
 abbrev pub is_next_long : Disk → KernelState → Bool
 is_next_long disk h = if nat_lt (length h.files) MAX_FILES
     then nat_lt MAX_FILE_BYTES (length_told disk.told (length h.files + 1)) else false
 
--- Asked whether the next slot has more bytes than a file may have: yes where the store tells so of its length, and no past the
--- last slot. Of an honest store it is so of what it has there, and of any store of some bytes that might be there.
+-- The result of asking whether the next slot has more bytes than a file may have: true if the store reports such a length,
+-- and false past the last slot. For an honest store this is true of the slot's content, and for any store of some possible
+-- content.
 pub record AsksNext (disk : Disk) (h : KernelState) (more : Bool) : Type 0 where
   pub honest : IfHonest disk ((f : Reading) → f.stored ≡ disk.slots
       → more ≡ nat_lt MAX_FILE_BYTES (length (content (read_of f h) (length (read_of f h).files + 1))))
   pub told : TellsNext h more
   pub long : more ≡ is_next_long disk h
 
--- A name was given to the next slot. TooLong was answered only where the store tells that it has too many bytes; where it was
--- done, or refused by what is tested after that, it tells of no more than a file may have.
+-- The result of naming the next slot. TooLong is returned only if the store reports too many bytes for it; success and the
+-- refusals tested after TooLong are returned only if it does not.
 abbrev pub FitsNext : {A : Type 0} → Disk → KernelState → Result A Refusal → Type 0
 FitsNext disk h (Ok x) = is_next_long disk h ≡ false
 FitsNext disk h (Err TooLong) = is_next_long disk h ≡ true

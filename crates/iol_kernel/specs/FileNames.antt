@@ -1,4 +1,4 @@
--- Files are named and opened: what that wants, and what the tables of files have then.
+-- Naming and opening files: the preconditions, and the tables of files afterwards.
 use Rattle.std.specs.Prelude.{◌≡◌, ℕ, ◌+◌, ◌<◌, ◌++◌, ◌∷◌, false, true, bytes_eq, is_some, List, [], length, Option, IfSome, Result, IfOk, OnOk, OnErr}
 use Rattle.std.specs.List.{list_any}
 use Rattle.iol_core.specs.NumberedLists.{is_numbered}
@@ -19,21 +19,21 @@ use Rattle.iol_kernel.specs.KernelState.{KernelState, IsSound, machine_of, read_
 use Rattle.iol_kernel.specs.Readings.{Reading}
 use Rattle.iol_kernel.specs.declared.files.Files.{Files}
 
--- There is no file, nothing in memory of any, and no order of eviction. Over a store of so many pages that is tidy and still
--- the cache is in order.
+-- There is no file, no extent in memory, and no order of eviction. Over any store of this many pages that is tidy and still,
+-- the cache is sound.
 pub record HasNone (pages : ℕ) (x : Files) : Type 0 where
   pub none : x.table.files ≡ []
   pub cached : (cached_of x.cache).files ≡ []
   pub orders : (cached_of x.cache).orders ≡ []
   pub sound : (s : Stored) → page_count s.arena ≡ pages → IsTidy s → IsStill s.arena → cache.IsSound s (cached_of x.cache)
 
--- A file of this name may come after those that there are: none of them has the name, and a slot is free.
+-- A file of this name may be added after the present ones: none of them has the name, and a slot is free.
 pub record MayName (name : List ℕ) (x : Files) : Type 0 where
   pub unnamed : list_any (λ f. bytes_eq f.name name) x.table.files ≡ false
   pub few : length (cached_of x.cache).files < MAX_FILES
 
--- A file of this name and pool came in the next slot, and nothing of it is in memory; refused, files and cache are as they were.
--- Each order of eviction stays, and so does the cache's order over a store in which the pool is open.
+-- A file of this name and pool was added in the next slot, with no extent in memory; after a refusal, files and cache are
+-- unchanged. Each order of eviction is unchanged, and the cache stays sound over a store in which the pool is open.
 pub record AddsNamed {E : Type 0} (name : List ℕ) (pool : ℕ) (old : Files) (r : Result ℕ E) (new : Files) : Type 0 where
   pub number : IfOk r (λ n. n ≡ length (cached_of old.cache).files + 1)
   pub list : OnOk r (new.table.files ≡ with_named old.table.files name pool)
@@ -44,25 +44,25 @@ pub record AddsNamed {E : Type 0} (name : List ℕ) (pool : ℕ) (old : Files) (
   pub err_list : OnErr r (new.table.files ≡ old.table.files)
   pub err_cache : OnErr r (cached_of new.cache ≡ cached_of old.cache)
 
--- A file may come in the next slot, under a name that no other has, in a pool that is open.
+-- A file may be added in the next slot, under a name that no other file has, in a pool that is open.
 pub record MayAddFile (name : List ℕ) (pool : ℕ) (h : KernelState) : Type 0 where
   pub sound : IsSound h
   pub few : length (machine_of [] h).files < MAX_FILES
   pub unnamed : is_some (file_called (machine_of [] h) name) ≡ false
   pub opened : (machine.pool (machine_of [] h) pool).closed ≡ false
 
--- A file of this name and pool came in the next slot; or memory was wanting, and nothing changed.
+-- A file of this name and pool was added in the next slot; or there was no memory, and nothing changed.
 pub record TriesFile {E : Type 0} (d : ℕ) (name : List ℕ) (pool : ℕ) (old : KernelState) (r : Result ℕ E)
     (new : KernelState) : Type 0 where
   pub done : IfOk r (λ n. AddsFile (λ s. file_new s d name pool) old n new)
   pub err : OnErr r (new ≡ old)
 
--- The file of a name was looked for: it is there, where there is one.
+-- The result of looking for the file of a name: it is found if it exists.
 pub record FindsNamed (name : List ℕ) (h : KernelState) (r : Option ℕ) : Type 0 where
   pub called : (f : Reading) → r ≡ file_called (read_of f h) name
   pub there : IfSome r (λ n. is_numbered h.files n ≡ true)
 
--- A live domain may have one more descriptor, on a file that is there.
+-- A live domain may have one more descriptor, on a file that exists.
 pub record MayOpenFile (d f : ℕ) (h : KernelState) : Type 0 where
   pub has : HasFileFor h d f
   pub few : too_many_open (machine_of [] h) d 1 ≡ false

@@ -1,4 +1,4 @@
--- What a write to a file leaves, beside what it means.
+-- The state that a write to a file leaves, in addition to its meaning.
 use Rattle.std.specs.Prelude.{◌≡◌, ◌⊎◌, ℕ, ◌+◌, ◌<◌, ◌≤◌, List, [], length, slice_set, Option, Some, Result, Err, IfErr, OnErr, OnOk, true, false, ⊤}
 use Rattle.iol_arena.specs.State.{pages_for}
 use Rattle.iol_core.specs.Meaning.{WantOfRoom}
@@ -38,14 +38,14 @@ use Rattle.iol_kernel.specs.declared.open_file.OpenFile.{OpenFile}
 abbrev pub pool_of_file : KernelState → (f : ℕ) → ℕ
 pool_of_file h f = (file_in h.cache.files f).pool
 
--- the pages of its pool that something else than clean extents holds, and those for the bytes that are copied there
+-- the pages of the file's pool that something other than clean extents holds, and those for the bytes that are copied there
 abbrev pub pages_to_write : KernelState → (f : ℕ) → List Slice → ℕ
 pages_to_write h f source = pinned_beside h.store (clean_held h.cache.files) (pool_of_file h f)
     + copied_pages (pool_of_file h f) source
 
--- A refused write. One that was refused before it made room changed nothing. A late one made room at most, the first extents
--- before the others, and what it placed is gone; for want of room, and wherever the pages to write cannot be had, no extent went,
--- and no page was filled.
+-- The state after a refused write. A refusal before room was made changed nothing. A late refusal at most evicted extents, in
+-- the order of eviction, and the bytes placed are released. After NoRoom, and whenever the pages needed cannot be had, no
+-- extent was evicted and no page was filled.
 abbrev pub LeavesUnwritten : (f : ℕ) (source : List Slice) (old new : KernelState) → Refusal → Type 0
 LeavesUnwritten f source old new x =
     (new ≡ old)
@@ -53,18 +53,18 @@ LeavesUnwritten f source old new x =
     × OnlyMakesRoom (pool_of_file old f) (copied_pages (pool_of_file old f) source) (holding_of old) (holding_of new)
     × ((p : ℕ) → x ≡ NoRoom p → LeavesAll (holding_of old) (holding_of new)))
 
--- Of the tables one descriptor changed, which is open on the file: its position is that after so many bytes from `at` on.
+-- In the tables one descriptor changed, which is open on the file: its position moved from `at` by `len` bytes.
 pub record OnlyMoves (f at len : ℕ) (old new : List (Domain (List Slice))) : Type 0 where
   pub domain : ℕ
   pub fd : ℕ
   pub mode : Mode
   pub is : new ≡ with_fds_in old domain (slice_set (fds_in old domain) fd (Some (on.File f (at + len) mode)))
 
--- The bytes of the source lie dirty over those of the file from `at` on: those of the file's pool where they lay, copies of
--- the others on the lowest pages that were free once there was room. Every other byte that was in memory lies where it lay,
--- but that clean ones of the file's pool may have given way where the copies want more pages than were free. It was refused
--- for want of room only where the pages wanted are more than the pool has, and done only where they are not. No bytes change
--- nothing of pages and files. Nothing else changed but the caller's descriptor.
+-- The bytes of the source are dirty in place of those of the file from `at` on: those of the file's pool at the same places,
+-- the others as copies on the lowest pages that were free after room was made. Every other byte in memory keeps its place,
+-- except that clean ones of the file's pool may have been evicted if the copies need more pages than were free. NoRoom is
+-- returned only if the pages needed are more than the pool has, and success only if they are not. A write of no bytes changes
+-- no pages and no files. Nothing else changed except the caller's descriptor.
 pub record WritesOver {A : Type 0} (f at : ℕ) (source : List Slice) (old : KernelState) (r : Result A Refusal)
     (new : KernelState) : Type 0 where
   pub lies : OnOk r (LiesDirty f at source new.cache)
@@ -81,26 +81,26 @@ pub record WritesOver {A : Type 0} (f at : ℕ) (source : List Slice) (old : Ker
   pub refused : OnErr r (new.domains ≡ old.domains)
   pub leaves : IfErr r (LeavesUnwritten f source old new)
 
--- An aggregate is written over the bytes of the file that a descriptor is open on: what that means, and what it leaves.
+-- An aggregate is written over the bytes of the file that a descriptor is open on: the meaning, and the state after it.
 pub record WritesAgg (d fd a f at : ℕ) (old : KernelState) (r : Result ℕ Refusal) (new : KernelState) : Type 0 where
   pub serves : (disk : Disk) → Serves (λ s. iol_write s d fd a) disk old r disk new
   pub over : WritesOver f at (slices_in old.domains d a) old r new
 
--- A write of an aggregate, by what the descriptor is open on.
+-- A write of an aggregate, by the descriptor's object.
 abbrev pub WritesOn : (d fd a : ℕ) → Option Descriptor → (old : KernelState) → Result ℕ Refusal → (new : KernelState) → Type 0
 WritesOn d fd a (Some (on.File f at mode)) old r new = WritesOver f at (slices_in old.domains d a) old r new
 WritesOn d fd a _ old r new = CarriesOut (λ s. iol_write s d fd a) old r new
 
--- So many bytes were written to a file from `at` on: they filled the lowest pages of the pool that were free once there was room
--- for them, and no others. Done or refused, every other byte of files that was in memory lies where it lay, but that clean ones
--- of the pool's files may have given way where more pages were wanted than were free.
+-- `count` bytes were written to a file from `at` on: they filled the lowest pages of the pool that were free after room was
+-- made, and no others. Whatever the result, every other byte of files that was in memory keeps its place, except that clean
+-- ones of the pool's files may have been evicted if more pages were needed than were free.
 pub record PutsInFile {A : Type 0} (f at pool count : ℕ) (old : KernelState) (r : Result A Refusal)
     (new : KernelState) : Type 0 where
   pub fills : OnOk r (AfterRoom pool count old (λ roomy. KeepsPages roomy.store new.store (lowest_of roomy.store pool count)))
   pub beside : KeepsBeside f at count pool (LacksPages old pool (pages_for count)) old.cache new.cache
 
--- New bytes lie on the lowest free pages of a pool, each run of these a buffer, as slices that nobody else holds. These pages
--- were raised by one, and no other page, pool or list changed.
+-- New bytes are on the lowest free pages of a pool, in one buffer per run of adjacent pages, as slices that have the only
+-- references. The generation of each of these pages is incremented, and no other page, pool or list changed.
 pub record PlacesNew (pool : ℕ) (bytes : List ℕ) (old placed : Stored) (slices : List Slice) : Type 0 where
   pub text : text_of placed slices ≡ labelled pool bytes
   pub made : MadeOn old.arena placed.arena (bufs_of slices) (lowest_of old pool (length bytes))
@@ -108,12 +108,12 @@ pub record PlacesNew (pool : ℕ) (bytes : List ℕ) (old placed : Stored) (slic
   pub pages : KeepsPages old placed (lowest_of old pool (length bytes))
   pub lists : SameLists old placed
 
--- what is in memory of a kernel's files, over these pages
+-- the extents in memory of a kernel's files, over these pages
 abbrev pub over_pages : Stored → KernelState → Holding
 over_pages s h = record { store = s; cache = h.cache }
 
--- New bytes came over those of a file from `at` on, dirty and as any write of their slices does; the slices were then released.
--- Of all else one descriptor's position changed.
+-- New bytes replaced those of a file from `at` on, dirty and as any write of their slices does; the slices were then
+-- released. Otherwise only one descriptor's position changed.
 pub record LaysOver (f at pool : ℕ) (bytes : List ℕ) (old new : KernelState) : Type 0 where
   pub slices : List Slice
   pub placed : Stored
@@ -127,7 +127,7 @@ pub record LaysOver (f at pool : ℕ) (bytes : List ℕ) (old new : KernelState)
   pub moves : OnlyMoves f at (length bytes) old.domains new.domains
   pub rest : new ≡ record old { store = new.store; cache = new.cache; domains = new.domains }
 
--- New bytes were placed and given up again. No extent is gone, and none came.
+-- New bytes were placed and released again. No extent was evicted or added.
 pub record GivesUpNew (pool : ℕ) (bytes : List ℕ) (old new : KernelState) : Type 0 where
   pub slices : List Slice
   pub placed : Stored
@@ -139,26 +139,26 @@ pub record GivesUpNew (pool : ℕ) (bytes : List ℕ) (old new : KernelState) : 
   pub lists : SameLists left new.store
   pub rest : new ≡ record old { store = new.store; cache = new.cache }
 
--- A write of bytes that fit in the pool, refused for want of memory: it made room at most, the first extents before the others,
--- and what it placed is gone.
+-- A write of bytes that fit in the pool was refused for lack of memory: it at most evicted extents, in the order of eviction,
+-- and the bytes placed are released.
 pub record UnlaidRoomy (pool : ℕ) (bytes : List ℕ) (old new : KernelState) (x : Refusal) : Type 0 where
   pub memory : x ≡ Memory
   pub fits : can_fit old pool (length bytes) ≡ true
   pub left : AfterRoom pool (length bytes) old (λ roomy. (new ≡ roomy) ⊎ GivesUpNew pool bytes roomy new)
 
--- A refused write. One that was refused before it made room, or for want of it, changed nothing. One for want of memory made
--- room at most, and only where the bytes fit.
+-- The state after a refused write. A refusal before room was made, or NoRoom, changed nothing. A refusal for lack of memory
+-- at most evicted extents, and only if the bytes fit.
 abbrev pub LeavesUnlaid : (pool : ℕ) (bytes : List ℕ) (old new : KernelState) → Refusal → Type 0
 LeavesUnlaid pool bytes old new x = (new ≡ old) ⊎ UnlaidRoomy pool bytes old new x
 
--- Room was made for new bytes, and they came over those of a file; or they did not, and nothing else became of the file.
+-- Room was made for new bytes, and they replaced those of a file; or the write was refused, and the file is unchanged.
 pub record LaysInFile {A : Type 0} (f at pool : ℕ) (bytes : List ℕ) (old : KernelState) (r : Result A Refusal)
     (new : KernelState) : Type 0 where
   pub lays : OnOk r (AfterRoom pool (length bytes) old (λ roomy. LaysOver f at pool bytes roomy new))
   pub leaves : IfErr r (LeavesUnlaid pool bytes old new)
 
--- New bytes are written over those of a file that was found open, where its pool has room for them: what that means, and
--- where they lie then, and other bytes. It is refused for want of memory alone, and what was placed is gone.
+-- New bytes are written over those of a file that was found open and whose pool has room for them: the meaning, and the
+-- places of these and of other bytes afterwards. The only refusal is Memory, and then the bytes placed are released.
 pub record FillsFile (d fd : ℕ) (x : OpenFile) (pool : ℕ) (bytes : List ℕ) (old : KernelState) (r : Result ℕ Refusal)
     (new : KernelState) : Type 0 where
   pub serves : (disk : Disk) → Serves (λ s. write s d fd bytes) disk old r disk new
@@ -169,25 +169,26 @@ pub record FillsFile (d fd : ℕ) (x : OpenFile) (pool : ℕ) (bytes : List ℕ)
   pub lays : OnOk r (LaysOver x.file x.at pool bytes old new)
   pub leaves : IfErr r (λ y. (new ≡ old) ⊎ GivesUpNew pool bytes old new)
 
--- New bytes are written over those of a file that was found open, once clean extents of files of the pool gave way: what that
--- means, and where they lie then, and other bytes. It is refused for want of room only where the bytes do not fit, and done only
--- where they do; else for want of memory.
+-- New bytes are written over those of a file that was found open, after clean extents of the pool's files were evicted: the
+-- meaning, and the places of these and of other bytes afterwards. NoRoom is returned only if the bytes do not fit, success
+-- and Memory only if they do. There is no other refusal.
 pub record PutsOver (d fd : ℕ) (x : OpenFile) (pool : ℕ) (bytes : List ℕ) (old : KernelState) (r : Result ℕ Refusal)
     (new : KernelState) : Type 0 where
   pub serves : (disk : Disk) → Serves (λ s. write s d fd bytes) disk old r disk new
   pub room : OnOk r (can_fit old pool (length bytes) ≡ true)
   pub no_room : (p : ℕ) → r ≡ Err (NoRoom p) → can_fit old pool (length bytes) ≡ false
+  pub memory : r ≡ Err Memory → can_fit old pool (length bytes) ≡ true
   pub late : IfErr r (WantOfRoom pool)
   pub puts : PutsInFile x.file x.at pool (length bytes) old r new
   pub lays : LaysInFile x.file x.at pool bytes old r new
 
--- A write of these bytes by copying, where the descriptor is open on a file.
+-- A write of these bytes by copying, if the descriptor is open on a file.
 abbrev pub LaysOn : Option Descriptor → (pool : ℕ) (bytes : List ℕ) → (old : KernelState) → Result ℕ Refusal
     → (new : KernelState) → Type 0
 LaysOn (Some (on.File f at mode)) pool bytes old r new = LaysInFile f at pool bytes old r new
 LaysOn _ pool bytes old r new = ⊤
 
--- A write of so many bytes by copying, where the descriptor is open on a file.
+-- A write of `count` bytes by copying, if the descriptor is open on a file.
 abbrev pub PutsOn : Option Descriptor → (pool count : ℕ) → (old : KernelState) → Result ℕ Refusal → (new : KernelState) → Type 0
 PutsOn (Some (on.File f at mode)) pool count old r new = PutsInFile f at pool count old r new
 PutsOn _ pool count old r new = ⊤

@@ -1,4 +1,4 @@
--- Files by name, and what opening one means.
+-- Files by name, and the effect of opening one.
 use Rattle.std.specs.Prelude.{◌≡◌, ◌==◌, ℕ, ◌+◌, ◌++◌, ◌∷◌, List, [], map, nat_eq, bytes_eq, Option, option_map, position}
 use Rattle.std.specs.List.{list_any}
 use Rattle.std.specs.Global.{Vec}
@@ -8,7 +8,7 @@ use Rattle.iol_core.specs.State as machine
 use Rattle.iol_core.specs.State.{State}
 use Rattle.iol_core.specs.declared.descriptors.Descriptor.{Descriptor}
 
--- the files by slot, and how many more can be added without asking for memory
+-- the files by slot, and the number of files that can be added without a request for memory
 pub record NamedFiles : Type 0 where
   pub files : List machine.File
   pub room : ℕ
@@ -32,6 +32,6 @@ with_named files name pool = files ++ record { name = name; pool = pool } ∷ []
 pub record AreUsed (files : List machine.File) (used : List ℕ) : Type 0 where
   pub each : (p : ℕ) → list_any (nat_eq p) used ≡ list_any (λ f. f.pool == p) files
 
--- x is open as the domain's next descriptor; refused for want of memory alone
+-- x is open as the domain's next descriptor; the only refusal is for lack of memory
 abbrev pub opens : State → (d : ℕ) → Descriptor → Meaning ℕ
 opens s d x = record { refusals = []; Late = WantOfMemory; answer = next_fd s d; after = opened s d x }

@@ -1,4 +1,4 @@
--- A connection is served in place, from a reader and to a writer: what each of these calls does.
+-- The calls that serve a connection in place, from a reader and to a writer.
 use Rattle.std.specs.Prelude.{◌≡◌, ℕ, List, Option, Result, Ok, IfOk, OnErr}
 use Rattle.iol_core.specs.Calls.Outside.{arrive}
 use Rattle.iol_core.specs.declared.refusals.Refusal.{Refusal}
@@ -11,9 +11,9 @@ use Rattle.iol_kernel.specs.Kernel.{Serves, machine, state_of}
 use Rattle.iol_kernel.specs.KernelState.{IsSound}
 use Rattle.iol_kernel.specs.declared.kernel.Kernel.{Kernel}
 
--- One read of a reader comes in on connection c, at most max bytes: what comes in arrives, and clean extents may have given way
--- to it. Where it is refused, the reader is as it was. `left` tells what a reader has left, where that is known. All that stays
--- lies where it lay.
+-- One read of a reader arrives on connection c, at most max bytes. Clean extents may have been evicted for it. After a
+-- refusal the reader is unchanged. `left` gives the bytes that a reader has left, if they are known. Every byte that remains
+-- keeps its place.
 pub record TakesFromReader {R : Type 0} (c max : ℕ) (left : R → Option (List ℕ)) (reader after : R) (old : Kernel)
     (r : Result Arrived Refusal) (new : Kernel) : Type 0 where
   pub refuses : RefusesArrival c max (state_of old) (state_of new) reader after r
@@ -23,15 +23,15 @@ pub record TakesFromReader {R : Type 0} (c max : ℕ) (left : R → Option (List
   pub sound : IsSound (state_of new)
   pub stays : Stays old.store new.store
 
--- One read of a reader comes in on connection c, at most max bytes, and no extent goes for it. Where it is refused, the reader
--- is as it was.
+-- One read of a reader arrives on connection c, at most max bytes, and no extent is evicted for it. After a refusal the
+-- reader is unchanged.
 pub record ReadsFromReader {R : Type 0} (c max : ℕ) (left : R → Option (List ℕ)) (reader after : R) (old : Kernel)
     (r : Result Arrived Refusal) (new : Kernel) : Type 0 where
   pub takes : TakesRead c max (left reader) (left after) (state_of old) r (state_of new)
   pub err_reader : OnErr r (after ≡ reader)
 
--- What waits to be sent on connection c is drained to a writer, at most max bytes, where there is such a connection. `held`
--- tells what a writer has, where that is known. All that stays lies where it lay.
+-- The bytes queued for sending on connection c are drained to a writer, at most max bytes, if there is such a connection.
+-- `held` gives the bytes that a writer has, if they are known. Every byte that remains keeps its place.
 pub record DrainsToWriter {W : Type 0} (c max : ℕ) (held : W → Option (List ℕ)) (writer after : W) (old : Kernel)
     (r : Result Drained Refusal) (new : Kernel) : Type 0 where
   pub refuses : RefusesDrain (machine old) c (state_of old) (state_of new) writer after r
@@ -39,7 +39,7 @@ pub record DrainsToWriter {W : Type 0} (c max : ℕ) (held : W → Option (List 
   pub sound : IsSound (state_of new)
   pub stays : Stays old.store new.store
 
--- What waits to be sent on connection c is drained to a writer, at most max bytes.
+-- The bytes queued for sending on connection c are drained to a writer, at most max bytes.
 abbrev pub LendsToWriter : {W : Type 0} → (c max : ℕ) (held : W → Option (List ℕ)) (writer after : W) (old new : Kernel) → Drained
     → Type 0
 LendsToWriter c max held writer after old new d = DrainsTo c max (held writer) (held after) (state_of old) (state_of new) d

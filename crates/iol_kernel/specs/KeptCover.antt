@@ -1,4 +1,4 @@
--- Which bytes of files lie where they lay, where clean extents may give way to new bytes.
+-- The bytes of files that keep their places when clean extents may be evicted for new bytes.
 use Rattle.std.specs.Prelude.{◌≡◌, ◌⊎◌, ℕ, ◌+◌, ◌<◌, ◌≤◌, false, List, length, Some}
 use Rattle.iol_back.specs.Disk.{Disk}
 use Rattle.iol_extent.specs.Extents.{Cell, cover}
@@ -11,11 +11,11 @@ use Rattle.iol_cache.specs.Gaps.{gap_pages}
 use Rattle.iol_cache.specs.ReadResults.{Range}
 use Rattle.iol_kernel.specs.KernelState.{KernelState}
 
--- fewer pages of the pool are free than are wanted
+-- fewer pages of the pool are free than are needed
 abbrev pub LacksPages : KernelState → (pool wanted : ℕ) → Type 0
 LacksPages h p wanted = length (free_of h.store p) < wanted
 
--- A read of n bytes of a file from `at` on wants more pages for what is not in memory than are free.
+-- A read of n bytes of a file from `at` on needs more pages for the bytes that are not in memory than are free.
 pub record LacksPagesToRead (f at n : ℕ) (disk : Disk) (old : Holding) : Type 0 where
   pub range : Range disk old.cache f at n
   pub hits : List Span
@@ -23,18 +23,18 @@ pub record LacksPagesToRead (f at n : ℕ) (disk : Disk) (old : Holding) : Type 
   pub tile : Tile (extents_in old.cache.files f) range.from range.to hits gaps
   pub lacks : length (free_of old.store (file_in old.cache.files f).pool) < gap_pages gaps
 
--- What lay over a byte of file f gave way: it was clean, the file is of the pool, and there pages were wanting.
+-- The cell over a byte of file f was evicted: it was clean, the file is of the pool, and pages were needed.
 pub record GaveWay (pool : ℕ) (Lacks : Type 0) (old : Cached) (f : ℕ) (c : Cell) : Type 0 where
   pub clean : c.dirty ≡ false
   pub pooled : (file_in old.files f).pool ≡ pool
   pub lacks : Lacks
 
--- each byte that lies under an extent lies where it lay, or gave way
+-- each byte under an extent keeps its place, or was evicted
 pub record KeepsUnless (pool : ℕ) (Lacks : Type 0) (old new : Cached) : Type 0 where
   pub each : (f i : ℕ) (c : Cell) → cover (extents_in old.files f) i ≡ Some c
       → (cover (extents_in new.files f) i ≡ Some c) ⊎ GaveWay pool Lacks old f c
 
--- each byte that lies under an extent, and is none of the n of file f from `at` on, lies where it lay, or gave way
+-- each byte under an extent that is not one of the n bytes of file f from `at` on keeps its place, or was evicted
 pub record KeepsBeside (f at n pool : ℕ) (Lacks : Type 0) (old new : Cached) : Type 0 where
   pub each : (g i : ℕ) (c : Cell) → (g ≡ f → (i < at) ⊎ (at + n ≤ i)) → cover (extents_in old.files g) i ≡ Some c
       → (cover (extents_in new.files g) i ≡ Some c) ⊎ GaveWay pool Lacks old g c

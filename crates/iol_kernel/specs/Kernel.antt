@@ -1,4 +1,4 @@
--- The fields of the kernel, as what it holds; and the words of contracts, said of kernels.
+-- The fields of the kernel as a `KernelState`, and the contracts' predicates on kernels.
 use Rattle.std.specs.Prelude.{◌≡◌, ℕ, List, [], Result, IfOk, OnErr}
 use Rattle.iol_core.specs.State.{State}
 use Rattle.iol_core.specs.Text.{Text}
@@ -36,11 +36,11 @@ state_of k = record {
   cache = cached_of k.files.cache;
 }
 
--- the copying machine's state, with the bytes that lie there, over an empty store
+-- the copying machine's state, with the bytes in memory, over an empty store
 abbrev pub machine : Kernel → State
 machine k = machine_of [] (state_of k)
 
--- and with what f reads at each place
+-- the copying machine's state with the content that f reads at each place
 abbrev pub as_read : Reading → Kernel → State
 as_read f k = read_of f (state_of k)
 
@@ -65,7 +65,7 @@ Steps m old r new = calls.Steps m (state_of old) r (state_of new)
 abbrev pub Names : {A : Type 0} → Disk → (State → Meaning A) → Kernel → Result A Refusal → Kernel → Type 0
 Names disk m old r new = calls.Names disk m (state_of old) r (state_of new)
 
--- the next slot of the store under files is given this name and this pool
+-- the next slot of the store under the files is given this name and this pool
 abbrev pub NamesNext : Disk → (d : ℕ) → (name : List ℕ) → (p : ℕ) → Kernel → Result ℕ Refusal → Kernel → Type 0
 NamesNext disk d name p old r new = Names disk (λ s. file_new s d name p) old r new
 
@@ -76,7 +76,7 @@ Serves m disk old r after new = backed.Serves m disk (state_of old) r after (sta
 abbrev pub LooksUp : {A : Type 0} → (State → Meaning A) → Disk → Kernel → Result A Refusal → Kernel → Type 0
 LooksUp m disk old r new = backed.LooksUp m disk (state_of old) r (state_of new)
 
--- what comes of a read by copying of what was found open
+-- the result of a read by copying from the file that was found open
 abbrev pub CopiesFile : (d fd : ℕ) → OpenFile → (n : ℕ) → Disk → Kernel → Result (List ℕ) Refusal → Disk → Kernel → Type 0
 CopiesFile d fd found n disk old r after new =
     files.CopiesFromFile (read_at d fd found n) disk (state_of old) r after (state_of new)
@@ -132,8 +132,7 @@ IsSource k end = ends.IsSource (state_of k) end
 abbrev pub GivesFront : Descriptor → (d n : ℕ) → Kernel → Kernel → List Slice → Type 0
 GivesFront end d n old new slices = ends.GivesFront end d n (state_of old) (state_of new) slices
 
--- The front of a queue was taken off it, or memory was wanting and nothing changed. The table of
--- domains is as it was.
+-- The front of a queue was taken off it, or there was no memory and nothing changed. The table of domains is unchanged.
 pub record TakesOff {E : Type 0} (end : Descriptor) (d n : ℕ) (old : Kernel) (r : Result (List Slice) E)
     (new : Kernel) : Type 0 where
   pub given : IfOk r (λ a. GivesFront end d n old new a)

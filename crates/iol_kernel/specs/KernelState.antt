@@ -1,4 +1,4 @@
--- What a system holds, and the state of the copying machine that it stands for.
+-- The state of a system, and the state of the copying machine that it represents.
 use Rattle.std.specs.Prelude.{◌≡◌, ℕ, ◌+◌, ◌≤◌, true, false, length, List, [], ◌∷◌, flat_map, map, Option, Some, None, unwrap_or}
 use Rattle.iol_core.specs.NumberedLists.{is_numbered}
 use Rattle.iol_core.specs.State as machine
@@ -25,8 +25,8 @@ use Rattle.iol_kernel.specs.Views.{Pipe, Objects, pipe_in, state_view}
 use Rattle.iol_kernel.specs.HoldCounts.{IsCounted}
 use Rattle.iol_kernel.specs.EndCounts.{IsOpenOnce}
 
--- the layers' values: an aggregate and a queue are lists of slices of the store's buffers, sums are remembered, and parts of
--- files are in a cache
+-- the values of the layers: an aggregate and a queue are lists of slices of the store's buffers, sums are remembered, and
+-- parts of files are in a cache
 pub record KernelState : Type 0 where
   pub store : Stored
   pub domains : List (machine.Domain (List Slice))
@@ -41,15 +41,15 @@ pub record KernelState : Type 0 where
 abbrev pub objects_of : KernelState → Objects (List Slice)
 objects_of h = record { pipes = h.pipes; conns = h.conns; next_conn = h.next_conn; files = h.files; cached = h.cache.files }
 
--- the copying machine's state, with what f reads
+-- the copying machine's state, with the content that f reads
 unfoldable pub read_of : Reading → KernelState → machine.State
 read_of f h = state_view f h.domains h.store.pools (objects_of h)
 
--- with the bytes that lie there, over a store with these slots: what the system stands for
+-- the machine state that the system represents: with the bytes in memory, over a store with these slots
 abbrev pub machine_of : (stored : List (List ℕ)) → KernelState → machine.State
 machine_of stored h = read_of (bytes_over stored h.store) h
 
--- with the number of the place of each byte, and nothing where only the store has it
+-- the machine state with the number of the place of each byte, and no bytes for those that only the store has
 abbrev pub layout_of : KernelState → machine.State
 layout_of h = read_of (record { at = number_at; stored = [] }) h
 
@@ -57,35 +57,35 @@ layout_of h = read_of (record { at = number_at; stored = [] }) h
 abbrev pub joined : List (List ℕ) → List ℕ
 joined parts = flat_map (λ w. w) parts
 
--- P holds of each of a list
+-- P holds for each element of a list
 abbrev pub Each : {A : Type 0} → (A → Type 0) → List A → Type 0
 Each P [] = Unit {0}
 Each P (x ∷ xs) = P x × Each P xs
 
--- what its aggregates name lies in live buffers of their pools
+-- the slices of a domain's aggregates are in live buffers of their pools
 abbrev pub IsDomainReadable : Stored → machine.Domain (List Slice) → Type 0
 IsDomainReadable s d = Each (λ e. AllReadable s e.1) d.aggs
 
--- what a pipe's queue names lies in live buffers of their pools
+-- the slices of a pipe's queue are in live buffers of their pools
 abbrev pub IsPipeReadable : Stored → Option (Pipe (List Slice)) → Type 0
 IsPipeReadable s None = Unit {0}
 IsPipeReadable s (Some p) = AllReadable s p.queue
 
--- what a connection's queues name lies in live buffers of their pools
+-- the slices of a connection's queues are in live buffers of their pools
 abbrev pub IsConnReadable : Stored → ℕ × Conn (List Slice) → Type 0
 IsConnReadable s e = AllReadable s e.1.incoming × AllReadable s e.1.outgoing
 
--- what the extents of the file in slot n name lies in live buffers of its pool
+-- the extents of the file in slot n are in live buffers of its pool
 pub record IsFileReadable (s : Stored) (cached : List CachedFile) (n : ℕ) : Type 0 where
   pub laid : cache.Each (cache.IsLaid s (file_in cached n).pool) (extents_in cached n)
 
--- what all queues and extents name lies there
+-- the slices of all queues and extents are in live buffers of their pools
 pub record AreReadable (s : Stored) (objects : Objects (List Slice)) : Type 0 where
   pub pipes : Each (IsPipeReadable s) objects.pipes
   pub conns : Each (IsConnReadable s) objects.conns
   pub files : (n : ℕ) → IsFileReadable s objects.cached n
 
--- the slices of a domain's aggregate: none where there is no such aggregate
+-- the slices of a domain's aggregate: empty if there is no such aggregate
 abbrev pub slices_in : List (machine.Domain (List Slice)) → (d a : ℕ) → List Slice
 slices_in ds d a = unwrap_or (agg_in ds d a) []
 
@@ -93,8 +93,8 @@ slices_in ds d a = unwrap_or (agg_in ds d a) []
 abbrev pub queue_at : List (Option (Pipe (List Slice))) → (p : ℕ) → Pipe (List Slice)
 queue_at pipes p = pipe_in [] pipes p
 
--- an open descriptor is an end of a pipe, which is open there, or on a connection that was accepted and not closed, or on a
--- file, at a position that no file goes beyond
+-- a descriptor is open on an open end of a pipe, or on a connection that was accepted and not closed, or on a file, at a
+-- position within the limit of a file
 abbrev pub IsOpenEnd : Objects (List Slice) → Option Descriptor → Type 0
 IsOpenEnd objects None = Unit {0}
 IsOpenEnd objects (Some (on.ReadEnd p)) = (queue_at objects.pipes p).reading ≡ true
@@ -114,12 +114,12 @@ pub record IsConn (e : ℕ × Conn (List Slice)) : Type 0 where
   pub outgoing : byte_len e.1.outgoing ≤ MAX_QUEUE_BYTES
   pub waits : e.1.accepted ≡ false → e.1.closed ≡ false
 
--- a file's extents lie one after another, and end within the limit
+-- a file's extents are in order without overlap, and end within the limit
 pub record IsFile (x : CachedFile) : Type 0 where
   pub apart : IsApart 0 x.extents.extents
   pub short : last_end x.extents.extents ≤ MAX_FILE_BYTES
 
--- pipes, connections and files within the limits; the numbers of connections rise, and are below the next
+-- pipes, connections and files are within the limits; the numbers of connections rise, and are below the next
 pub record AreLimited (objects : Objects (List Slice)) : Type 0 where
   pub queues : Each IsShort objects.pipes
   pub few_pipes : length objects.pipes ≤ MAX_PIPES
@@ -130,30 +130,30 @@ pub record AreLimited (objects : Objects (List Slice)) : Type 0 where
   pub cached : Each IsFile objects.cached
   pub few_files : length objects.cached ≤ MAX_FILES
 
--- aggregates, queues and files within the limits, which keep every count far below 2^63
+-- aggregates, queues and files are within the limits, which keep every count far below 2^63
 pub record IsLimited (domains : List (machine.Domain (List Slice))) (all : Objects (List Slice)) : Type 0 where
   pub aggs : Each (λ d. Each (λ e. byte_len e.1 ≤ MAX_AGGREGATE_BYTES) d.aggs) domains
   pub few : live_aggs_in domains ≤ MAX_AGGREGATES
   pub objects : AreLimited all
 
--- there are no more pools than there may be, and those of each connection and each file are open
+-- there are at most MAX_POOLS pools, and those of each connection and each file are open
 pub record ArePooled (pools : List Pool) (conns : List (ℕ × Conn (List Slice))) (cached : List CachedFile) : Type 0 where
   pub few : length pools ≤ MAX_POOLS
   pub opened : Each (λ e. (pool_in pools e.1.pool).closed ≡ false) conns
   pub files_open : (n : ℕ) → is_numbered cached n ≡ true → (pool_in pools (file_in cached n).pool).closed ≡ false
 
--- the cache has the files that there are, each in its pool
+-- the cache has the same files, each in its pool
 abbrev pub AreFiled : List machine.File → List CachedFile → Type 0
 AreFiled files cached = map (λ x. x.pool) cached ≡ map (λ x. x.pool) files
 
--- the cache of files is in order, over this store
+-- the cache of files is sound, over this store
 unfoldable pub IsCached : Stored → Cached → Type 0
 IsCached s c = cache.IsSound s c
 
--- Between any two events: what aggregates, queues and extents of files name lies in live buffers of their pools, each buffer
--- is counted for each of its slices, no page is lost and no closed pool keeps chunks in which nothing lies, descriptors are
--- open on open ends of pipes and on accepted connections, each on one of its own, and on files, remembered sums are right,
--- and the cache of files is in order.
+-- The invariant between any two events: slices of aggregates and queues and extents of files are in live buffers of their
+-- pools, each buffer is counted once per slice, no page is lost and no closed pool keeps unused chunks, descriptors are open
+-- on open ends of pipes and on accepted connections, each on one of its own, and on files, the remembered sums are right, and
+-- the cache of files is sound.
 pub record IsSound (h : KernelState) : Type 0 where
   pub domains : Each (IsDomainReadable h.store) h.domains
   pub objects : AreReadable h.store (objects_of h)

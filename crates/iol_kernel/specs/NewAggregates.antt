@@ -1,4 +1,4 @@
--- A domain gets an aggregate: of new bytes, of bytes that lie there already, or of the front of a queue.
+-- A domain gets an aggregate: of new bytes, of bytes that are in memory already, or of the front of a queue.
 use Rattle.std.specs.Prelude.{◌≡◌, ℕ, ◌++◌, List, [], take, drop, take_while}
 use Rattle.iol_core.specs.Text.{Text}
 use Rattle.iol_core.specs.State.{Domain}
@@ -12,11 +12,11 @@ use Rattle.iol_hold.specs.declared.slices.Slice.{Slice}
 use Rattle.iol_pipe.specs.Queue.{may_see}
 use Rattle.iol_desc.specs.Tables.{with_agg_in}
 
--- xs with ys in place of what lies from..to
+-- xs with ys in place of the elements from..to
 abbrev pub replaced : {A : Type 0} → List A → (from to : ℕ) → List A → List A
 replaced xs from to ys = take from xs ++ ys ++ drop to xs
 
--- a domain got an aggregate of the bytes at these places, whose buffers are held once more
+-- a domain got an aggregate of the bytes at these places, whose buffers have one more reference per slice
 pub record AddsShared (s t : Stored) (old new : List (Domain (List Slice))) (d : ℕ) (bytes : List Place) : Type 0 where
   pub slices : List Slice
   pub is_there : places slices ≡ bytes

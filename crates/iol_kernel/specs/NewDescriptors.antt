@@ -1,4 +1,4 @@
--- Descriptors that a domain is to get: on a new pipe, of another domain, or on a connection that waits.
+-- Preconditions of new descriptors: on a new pipe, of another domain, or on a waiting connection.
 use Rattle.std.specs.Prelude.{◌≡◌, ℕ, ◌<◌, ◌==◌, ◌&&◌, not, true, false, [], Some}
 use Rattle.iol_core.specs.NumberedLists.{taken}
 use Rattle.iol_core.specs.State.{is_live}
@@ -15,13 +15,13 @@ pub record MayPipe (d : ℕ) (h : KernelState) : Type 0 where
   pub few : too_many_open (machine_of [] h) d 2 ≡ false
   pub few_pipes : taken (machine_of [] h).pipes < MAX_PIPES
 
--- A domain may give its descriptor, which is open on x, to the domain e, but for what that may read.
+-- A gift of a domain's descriptor, which is open on x, to the domain e passes its tests, except for the test of access.
 pub record MayGiveFd (d fd e : ℕ) (x : Descriptor) (h : KernelState) : Type 0 where
   pub held : IsOpenOn h d fd x
   pub to : is_live (machine_of [] h) e ≡ true
   pub few : (not (d == e) && too_many_open (machine_of [] h) e 1) ≡ false
 
--- A domain may accept this connection: it is the first that waits for it.
+-- A domain may accept this connection: it is the first one that waits for the domain.
 pub record MayAccept (d c : ℕ) (h : KernelState) : Type 0 where
   pub lives : Lives h d
   pub few : too_many_open (machine_of [] h) d 1 ≡ false

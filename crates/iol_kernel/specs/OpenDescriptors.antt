@@ -1,4 +1,4 @@
--- What a call's descriptor is open on, whatever is read of the kernel.
+-- The object that a call's descriptor is open on, for each reading of the kernel.
 use Rattle.std.specs.Prelude.{◌≡◌, ℕ, ◌≤◌, true, false, Some}
 use Rattle.iol_core.specs.NumberedLists.{is_numbered}
 use Rattle.iol_core.specs.State.{is_live, descriptor}
@@ -10,13 +10,13 @@ use Rattle.iol_core.specs.declared.limits.TheConstants.{MAX_FILE_BYTES}
 use Rattle.iol_kernel.specs.KernelState.{KernelState, IsSound, read_of}
 use Rattle.iol_kernel.specs.Readings.{Reading}
 
--- Between two events: the domain lives, and its descriptor is open on this.
+-- Between two events: the domain is live, and its descriptor is open on `end`.
 pub record IsOpenOn (h : KernelState) (d fd : ℕ) (end : Descriptor) : Type 0 where
   pub sound : IsSound h
   pub live : (f : Reading) → is_live (read_of f h) d ≡ true
   pub from : (f : Reading) → descriptor (read_of f h) d fd ≡ Some end
 
--- Between two events: a live domain's descriptor is open on a file that is there, at a position that no file goes beyond.
+-- Between two events: a live domain's descriptor is open on a file that exists, at a position within the limit of a file.
 pub record IsOnFile (h : KernelState) (d fd f at : ℕ) (mode : Mode) : Type 0 where
   pub held : IsOpenOn h d fd (on.File f at mode)
   pub there : is_numbered h.files f ≡ true

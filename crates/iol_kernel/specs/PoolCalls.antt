@@ -1,4 +1,4 @@
--- Pools are made and used, admit a domain and are closed: what these calls want and do.
+-- Calls that make, use, admit to and close pools: their preconditions and effects.
 use Rattle.std.specs.Prelude.{◌≡◌, ℕ, ◌+◌, ◌<◌, ◌≤◌, ◌&&◌, Bool, length, true, false, List, [], ◌∷◌, ◌++◌, None, Result, Err, IfOk, IfErr, OnOk, OnErr}
 use Rattle.std.specs.List.{list_all}
 use Rattle.iol_core.specs.Meaning.{WantOfRoom}
@@ -14,34 +14,35 @@ use Rattle.iol_kernel.specs.Calls.{KeepsPlaces, Leaves, Refuses}
 use Rattle.iol_kernel.specs.KernelState.{KernelState, IsSound, machine_of, read_of}
 use Rattle.iol_kernel.specs.Readings.{Reading}
 
--- A domain lives, and may place in the pool, or close it: it is open, and names the domain.
+-- A domain is live, and may place in the pool, or close it: the pool is open, and names the domain.
 pub record MayUse (d p : ℕ) (h : KernelState) : Type 0 where
   pub passed : (f : Reading) → first (set_pool (read_of f h) d p).refusals ≡ None
   pub live : is_live (machine_of [] h) d ≡ true
   pub there : is_pool (machine_of [] h) p ≡ true
 
--- Whether a domain may place in the pool, or close it, was tested: it may, or it is refused as `set_pool` is.
+-- The result of testing whether a domain may place in the pool, or close it: success, or the refusal of `set_pool`.
 pub record TestsUse {A : Type 0} (d p : ℕ) (h : KernelState) (r : Result A Refusal) : Type 0 where
   pub may : OnOk r (MayUse d p h)
   pub refused : IfErr r (λ x. Refuses (λ s. set_pool s d p) x h)
 
--- whether a domain and all of a list live
+-- whether a domain and all domains of a list are live
 abbrev pub are_all_live : State → (d : ℕ) → List ℕ → Bool
 are_all_live s d list = is_live s d && list_all (λ e. is_live s e) list
 
--- A domain may make a pool of n chunks for these domains of a list, each once.
+-- A domain may make a pool of n chunks for these domains of a list, without duplicates.
 pub record MayCreate (d n : ℕ) (list names : List ℕ) (h : KernelState) : Type 0 where
   pub passed : (f : Reading) → first (pool_create (read_of f h) d n list).refusals ≡ None
   pub few : (f : Reading) → length (read_of f h).pools < MAX_POOLS
   pub each_once : names ≡ distinct list
 
--- Whether a domain may make a pool of n chunks for a list was tested: for these domains, each once, or why not.
+-- The result of testing whether a domain may make a pool of n chunks for a list: the domains without duplicates, or the
+-- refusal.
 pub record TestsCreate (d n : ℕ) (list : List ℕ) (h : KernelState) (r : Result (List ℕ) Refusal) : Type 0 where
   pub may : IfOk r (λ names. MayCreate d n list names h)
   pub refused : IfErr r (λ x. Refuses (λ s. pool_create s d n list) x h)
 
--- A pool of n chunks comes, for these domains. It comes only where n chunks are free, and is refused for want of room only
--- where they are not. A refusal, for want of room or memory alone, changes nothing.
+-- A pool of n chunks is added, for these domains. This succeeds only if n chunks are free, and NoRoom is returned only if
+-- they are not. The only refusals are NoRoom and Memory, and they change nothing.
 pub record Creates (n : ℕ) (names : List ℕ) (old : KernelState) (r : Result ℕ Refusal)
     (new : KernelState) : Type 0 where
   pub number : IfOk r (λ p. (f : Reading) → p ≡ length (read_of f old).pools + 1)
@@ -53,8 +54,8 @@ pub record Creates (n : ℕ) (names : List ℕ) (old : KernelState) (r : Result 
   pub late : IfErr r (λ x. (f : Reading) → WantOfRoom (length (read_of f old).pools + 1) x)
   pub err : OnErr r (new ≡ old)
 
--- A domain makes a pool of n chunks for the domains of a list: what that means, and which chunks it has. It is done only where
--- n chunks are free, and refused for want of room only where they are not.
+-- A domain makes a pool of n chunks for the domains of a list: the meaning, and the chunks of the pool. This succeeds only if
+-- n chunks are free, and NoRoom is returned only if they are not.
 pub record CreatesPool (d n : ℕ) (list : List ℕ) (old : KernelState) (r : Result ℕ Refusal)
     (new : KernelState) : Type 0 where
   pub create : KeepsPlaces (λ s. pool_create s d n list) old r new
@@ -62,17 +63,17 @@ pub record CreatesPool (d n : ℕ) (list : List ℕ) (old : KernelState) (r : Re
   pub room : OnOk r (n ≤ length (free_chunks old.store.arena))
   pub no_room : (p : ℕ) → r ≡ Err (NoRoom p) → length (free_chunks old.store.arena) < n
 
--- Between two events: the pool's list names the domain, or has a place for it.
+-- Between two events: the pool's list names the domain, or has a free entry for it.
 pub record MayAdmit (p d : ℕ) (h : KernelState) : Type 0 where
   pub sound : IsSound h
   pub there : is_pool (machine_of [] h) p ≡ true
   pub place : has_place (pool (machine_of [] h) p).domains d ≡ true
 
--- the state in which a pool's list names the domain, too
+-- the state in which a pool's list also names the domain
 abbrev pub with_pool_admitting : (p d : ℕ) → State → State
 with_pool_admitting p d s = record s { pools = with_numbered s.pools p (admitting (pool s p) d) }
 
--- Between two events: the pool is there, and no file and no connection is of it.
+-- Between two events: the pool exists, and no file and no connection is of it.
 pub record IsIdle (h : KernelState) (p : ℕ) : Type 0 where
   pub sound : IsSound h
   pub there : is_pool (machine_of [] h) p ≡ true

@@ -1,4 +1,4 @@
--- The words that contracts of other crates cite, passed on from one place. Declares nothing.
+-- The definitions that contracts of other crates cite, re-exported. Declares nothing.
 pub use Rattle.iol_kernel.specs.Streams.{BringsIn, DrainsTo, RefusesArrival, RefusesDrain, TakesIn}
 pub use Rattle.iol_kernel.specs.ReadsByCopy.{Copies, IsOnNoFile, ReadsOut}
 pub use Rattle.iol_kernel.specs.Kernel.{ReadsList, Serves, state_of}

@@ -1,4 +1,4 @@
--- What a descriptor is open on, to read from it.
+-- The object that a descriptor is open on, for reading.
 use Rattle.std.specs.Prelude.{◌≡◌, ℕ, ◌<◌, true, false, List, [], Option, Some, option_map}
 use Rattle.std.specs.List.{slice_get}
 use Rattle.iol_core.specs.Text.{Text}
@@ -19,15 +19,15 @@ use Rattle.iol_kernel.specs.Readings.{Reading, KeepsPools}
 abbrev pub pool_of_first : Text → Option ℕ
 pool_of_first t = option_map (λ b. b.1) (slice_get t 0)
 
--- this is the pool of the first byte that waits to be read, or none where none waits
+-- this is the pool of the first byte queued for reading, or None if the queue is empty
 abbrev pub IsFirstPool : Descriptor → KernelState → Option ℕ → Type 0
 IsFirstPool end h r = (f : Reading) → KeepsPools f → r ≡ pool_of_first (unread (read_of f h) (Some end))
 
--- this is the pool for which the domain is denied a read of n bytes, or none where it is not denied
+-- this is the pool for which the domain is denied a read of n bytes, or None if it is not denied
 abbrev pub IsBarredPool : (d : ℕ) → Descriptor → (n : ℕ) → KernelState → Option ℕ → Type 0
 IsBarredPool d end n h r = (f : Reading) → KeepsPools f → option_map (λ p. Denied p) r ≡ read_denied (read_of f h) d (Some end) n
 
--- Between two events: it is open, and a queue is read by it.
+-- Between two events: the descriptor is open, and a queue is read through it.
 pub record IsSource (h : KernelState) (end : Descriptor) : Type 0 where
   pub sound : IsSound h
   pub opened : IsOpenEnd (objects_of h) (Some end)
@@ -40,8 +40,8 @@ pub record MayTake (d fd : ℕ) (end : Descriptor) (h : KernelState) : Type 0 wh
   pub source : IsSource h end
   pub few : too_many_aggs (machine_of [] h) d 1 0 ≡ false
 
--- Of the first n bytes of a queue those that the domain may see were taken off it: these slices. Added to the domain, they
--- answer its read.
+-- Of the first n bytes of a queue the prefix that the domain may see was taken off it, as these slices. Added to the domain,
+-- they answer its read.
 pub record GivesFront (end : Descriptor) (d n : ℕ) (old new : KernelState) (slices : List Slice) : Type 0 where
   pub answers : (fd : ℕ) → IsOpenOn old d fd end → live_aggs_in old.domains < MAX_AGGREGATES
       → Answers (λ s. iol_read s d fd n) old (domain_in old.domains d).next_agg

@@ -1,4 +1,4 @@
--- What is read of a kernel's state: at the places of bytes, and in the store under the files.
+-- Readings of a kernel's state: the content at the places of bytes, and in the store under the files.
 use Rattle.std.specs.Prelude.{ℕ, List, map}
 use Rattle.std.specs.List.{range_with_len}
 use Rattle.iol_core.specs.Text.{Text}
@@ -13,24 +13,24 @@ use Rattle.iol_cache.specs.CacheState.{extents_in}
 use Rattle.iol_cache.specs.Contents.{file_bytes}
 use Rattle.iol_cache.specs.declared.files.CachedFile.{CachedFile}
 
--- at each place a number, and whose it is; and what is stored in each slot
+-- a number and a pool at each place, and the content of each slot of the store
 pub record Reading : Type 0 where
   pub at : Place → ℕ × ℕ
   pub stored : List (List ℕ)
 
--- slices, byte by byte
+-- the text of slices, byte by byte
 abbrev pub read : Reading → List Slice → Text
 read f xs = places.read f.at xs
 
--- what is read at a place has the pool of the place
+-- the content read at a place has the pool of the place
 abbrev pub KeepsPools : Reading → Type 0
 KeepsPools f = places.KeepsPools f.at
 
--- the bytes that lie in memory, over a store with these slots
+-- the bytes in memory, over a store with these slots
 abbrev pub bytes_over : (stored : List (List ℕ)) → Stored → Reading
 bytes_over stored s = record { at = byte_at s; stored = stored }
 
--- the file in slot n: its extents as they are read, and else what is stored
+-- the content of the file in slot n: its extents as they are read, and elsewhere the content of the store
 abbrev pub slot_read : Reading → List CachedFile → (n : ℕ) → List ℕ
 slot_read f fs n = file_bytes (λ p. (f.at p).0) (content f.stored n) (extents_in fs n)
 

@@ -1,4 +1,4 @@
--- What reads by copying do to what a system holds.
+-- The effect of reads by copying on the state of the system.
 use Rattle.std.specs.Prelude.{◌≡◌, ◌++◌, ℕ, true, min, List, [], length, drop, Option, Some, None}
 use Rattle.std.specs.Prelude.{Result, Err, IfErr, IfOk, OnErr, OnOk}
 use Rattle.iol_core.specs.State.{is_live, descriptor}
@@ -18,13 +18,13 @@ use Rattle.iol_kernel.specs.FileReads.{CopiesFileAs, file_read, held_by}
 use Rattle.iol_kernel.specs.KernelState.{KernelState, IsSound, read_of, machine_of}
 use Rattle.iol_kernel.specs.Readings.{Reading, KeepsPools}
 
--- Between two events: the descriptor is open on no file.
+-- Between two events: the descriptor is not open on a file.
 pub record IsOnNoFile (h : KernelState) (d fd : ℕ) : Type 0 where
   pub sound : IsSound h
   pub no_file : (f : Reading) → open_on (held_by (read_of f h) d fd) ≡ None
 
--- The machine's `read` of n bytes of a queue, over each store: what is left lies where it lay, of the pages some may be freed,
--- and what memory has of files stays. A refusal changes nothing.
+-- The machine's `read` of n bytes of a queue, over each store: the remaining bytes keep their places, pages may be freed, and
+-- the extents of files in memory are unchanged. A refusal changes nothing.
 pub record ReadsOut (by fd n : ℕ) (old : KernelState) (r : Result (List ℕ) Refusal) (new : KernelState) : Type 0 where
   pub serves : (disk : Disk) → Serves (λ s. read s by fd n) disk old r disk new
   pub places : OnOk r ((f : Reading) → KeepsPools f → read_of f new ≡ (read (read_of f old) by fd n).after)
@@ -33,7 +33,7 @@ pub record ReadsOut (by fd n : ℕ) (old : KernelState) (r : Result (List ℕ) R
   pub cache : new.cache ≡ old.cache
   pub refused : OnErr r (new ≡ old)
 
--- what a read of n bytes by copying does, by what the descriptor is open on
+-- the effect of a read of n bytes by copying, by the descriptor's object
 abbrev pub CopiesOn : (by fd n : ℕ) → Option Descriptor → Disk → KernelState → Result (List ℕ) Refusal → Disk
     → KernelState → Type 0
 CopiesOn by fd n (Some (on.File f at mode)) disk old r after new = CopiesFileAs (file_read by fd f at mode n) disk old r after new
@@ -42,14 +42,14 @@ CopiesOn by fd n _ disk old r after new = ReadsOut by fd n old r new × (after �
 abbrev pub Copies : (by fd n : ℕ) → Disk → KernelState → Result (List ℕ) Refusal → Disk → KernelState → Type 0
 Copies by fd n disk old r after new = CopiesOn by fd n (held_by (machine_of [] old) by fd) disk old r after new
 
--- Up to n bytes were read as a list of their own: the machine's step, and what it did, by what the descriptor is open on.
+-- Up to n bytes were read as a separate list: the machine's step, and the effect, by the descriptor's object.
 pub record ReadsList (by fd n : ℕ) (disk : Disk) (old : KernelState) (r : Result (List ℕ) Refusal) (after : Disk)
     (new : KernelState) : Type 0 where
   pub serves : Serves (λ s. read s by fd n) disk old r after new
   pub copies : Copies by fd n disk old r after new
 
--- It was asked how many of n bytes wait to be read: as many as do, at most n. It was answered only where a read of n passes its
--- tests, and so the domain lives and its descriptor may be read, and refused as that read is.
+-- The result of asking how many of n bytes are queued for reading: their number, at most n. It succeeds only if a read of n
+-- passes its tests, so that the domain is live and its descriptor readable, and is refused as that read is.
 pub record CountsWaiting (d fd n : ℕ) (h : KernelState) (r : Result ℕ Refusal) : Type 0 where
   pub passed : OnOk r (IsPassed (read (machine_of [] h) d fd n).refusals)
   pub live : OnOk r (is_live (machine_of [] h) d ≡ true)
@@ -57,21 +57,21 @@ pub record CountsWaiting (d fd n : ℕ) (h : KernelState) (r : Result ℕ Refusa
   pub refused : IfErr r (IsRefused (read (machine_of [] h) d fd n).refusals Never)
   pub some : IfOk r (λ many. (f : Reading) → many ≡ min n (length (unread (read_of f h) (descriptor (read_of f h) d fd))))
 
--- Between two events: the domain lives, and its descriptor is open on a queue, for reading.
+-- Between two events: the domain is live, and its descriptor is open on a queue, for reading.
 pub record MayTakeInto (d fd : ℕ) (h : KernelState) : Type 0 where
   pub queue : IsOnNoFile h d fd
   pub live : is_live (machine_of [] h) d ≡ true
   pub readable : can_read (descriptor (machine_of [] h) d fd) ≡ true
 
--- What the machine's read answers, of as many bytes as a memory has room for, came off the queue to the memory's front: n bytes.
--- The rest of the memory is as it was, and the system as that read leaves it.
+-- The answer of the machine's read, of as many bytes as a memory has room for, was moved from the queue to the front of the
+-- memory: n bytes. The rest of the memory is unchanged, and the system is in the state that the read leaves.
 pub record TakesInto (d fd : ℕ) (memory filled : List ℕ) (old : KernelState) (n : ℕ) (new : KernelState) : Type 0 where
   pub copied : filled ≡ (read (machine_of [] old) d fd (length memory)).answer ++ drop n memory
   pub count : n ≡ length (read (machine_of [] old) d fd (length memory)).answer
   pub left : Leaves (λ s. (read s d fd (length memory)).after) old new
 
--- The first bytes of a queue that the domain may read, as many as a memory has room for, were copied to its front: n bytes. The
--- rest of the memory is as it was.
+-- The first bytes of a queue that the domain may read, as many as a memory has room for, were copied to its front: n bytes.
+-- The rest of the memory is unchanged.
 pub record CopiesFrontOf (end : Descriptor) (d : ℕ) (h : KernelState) (memory filled : List ℕ) (n : ℕ) : Type 0 where
   pub copied : filled ≡ bytes_of (read_text (machine_of [] h) d (Some end) (length memory)) ++ drop n memory
   pub count : (f : Reading) → KeepsPools f → n ≡ length (read_text (read_of f h) d (Some end) (length memory))

@@ -1,4 +1,4 @@
--- What a report tells.
+-- The content of a report.
 use Rattle.std.specs.Prelude.{ℕ, ◌≡◌, ◌*◌, ◌==◌, Bool, not, List, map, length, Result, IfOk}
 use Rattle.std.specs.List.{filter, range_with_len}
 use Rattle.iol_arena.specs.Buffers.{SharesNoPage, live_pages}
@@ -18,7 +18,7 @@ chunks_in s p = (pool_in s.pools p).chunks
 abbrev pub stands : Stored → (p : ℕ) → Bool
 stands s p = not (length (chunks_in s p) == 0)
 
--- a pool's pages: all, those that may be used, and those that are retired
+-- a pool's pages: all pages, the usable ones, and the retired ones
 abbrev pub pool_report : Stored → (p : ℕ) → PoolReport
 pool_report s p = record {
   pool = p;
@@ -27,19 +27,19 @@ pool_report s p = record {
   retired = length (retired_pages s.arena (chunks_in s p));
 }
 
--- the first n pools, but for those whose chunks went back
+-- the first n pools, except those whose chunks were returned
 abbrev pub reports_of : Stored → (n : ℕ) → List PoolReport
 reports_of s n = map (pool_report s) (filter (stands s) (range_with_len 1 n))
 
--- the report counts what lies there
+-- the report has the counts of the system
 pub record Counts (h : KernelState) (r : Report) : Type 0 where
   pub pools : r.pools.items ≡ reports_of h.store (length h.store.pools)
   pub buffers : r.buffers ≡ length (live_pages h.store.arena)
   pub extents : r.extents ≡ extents_in_all h.cache.files
   pub dirty : r.dirty ≡ dirty_in_all h.cache.files
 
--- Asked for a report, one that counts what lies there is answered, where there is memory for it. Whatever is answered, no two
--- live buffers share a page.
+-- The result of asking for a report: one with the counts of the system, if there is memory for it. Whatever the result, no
+-- two live buffers share a page.
 pub record Reports {E : Type 0} (h : KernelState) (r : Result Report E) : Type 0 where
   pub counts : IfOk r (Counts h)
   pub alone : SharesNoPage h.store.arena

@@ -1,4 +1,4 @@
--- The state of the copying machine that a system's tables stand for.
+-- The state of the copying machine that a system's tables represent.
 use Rattle.std.specs.Prelude.{ℕ, Bool, false, List, Option, option_map, map, unwrap_or}
 use Rattle.iol_core.specs.Text.{Text}
 use Rattle.iol_core.specs.NumberedLists.{in_place}
@@ -11,7 +11,7 @@ use Rattle.iol_sock.specs.Connections.{Conn, conn_view}
 use Rattle.iol_cache.specs.declared.files.CachedFile.{CachedFile}
 use Rattle.iol_kernel.specs.Readings.{Reading, read, slots_read}
 
--- a domain with each aggregate as what it means
+-- a domain with each aggregate as its text
 abbrev pub domain_view : {A B : Type 0} → (A → B) → Domain A → Domain B
 domain_view g d = record {
   live = d.live;
@@ -21,7 +21,7 @@ domain_view g d = record {
   default = d.default;
 }
 
--- a pipe; A is what its queue is
+-- a pipe; A is the type of its queue
 pub record Pipe (A : Type 0) : Type 0 where
   pub queue : A
   pub reading : Bool
@@ -31,8 +31,8 @@ pub record Pipe (A : Type 0) : Type 0 where
 abbrev pub pipe_view : {A : Type 0} → (A → Text) → Pipe A → machine.Pipe
 pipe_view g p = record { queue = g p.queue; reading = p.reading; writing = p.writing }
 
--- what descriptors are open on: pipes in places, connections under rising numbers, and files by slot, with what of each is in
--- memory; A is what a queue is
+-- the objects that descriptors are open on: pipes by slot, connections under rising numbers, and files by slot, with the
+-- extents of each in memory; A is the type of a queue
 pub record Objects (A : Type 0) : Type 0 where
   pub pipes : List (Option (Pipe A))
   pub conns : List (ℕ × Conn A)
@@ -40,7 +40,7 @@ pub record Objects (A : Type 0) : Type 0 where
   pub files : List machine.File
   pub cached : List CachedFile
 
--- with each aggregate and queue, and each file, as f reads it
+-- the state with each aggregate and queue, and each file, as f reads it
 unfoldable pub state_view : Reading → List (Domain (List Slice)) → List Pool → Objects (List Slice) → State
 state_view f domains pools objects = record {
   domains = map (domain_view (read f)) domains;
@@ -52,6 +52,6 @@ state_view f domains pools objects = record {
   next_conn = objects.next_conn;
 }
 
--- the pipe in a place; where there is none, a pipe of that queue whose ends are closed
+-- the pipe in a slot; if there is none, a pipe of that queue whose ends are closed
 abbrev pub pipe_in : {A : Type 0} → A → List (Option (Pipe A)) → (p : ℕ) → Pipe A
 pipe_in none pipes p = unwrap_or (in_place pipes p) (record { queue = none; reading = false; writing = false })

@@ -1,4 +1,4 @@
-//! The calls of domains and the acts from outside, by subject: one method of the kernel each.
+//! The calls of domains and the external events, by subject: each is one method of the kernel.
 mod aggregates;
 mod descriptors;
 mod domains;

@@ -1,4 +1,4 @@
-//! The files' names and the pools of their bytes: found by name, by slot, and by pool.
+//! The files' names and pools: look-ups by name, by slot, and by pool.
 ghost use Rattle.std.specs.Prelude.{◌≡◌, ◌==◌, ◌<◌, ◌≤◌, [], length, true, false, bytes_eq, OnOk};
 ghost use Rattle.std.specs.List.{list_any};
 ghost use Rattle.iol_core.specs.Prelude.{is_numbered, numbered_or};
@@ -11,7 +11,7 @@ use iol_core::numbers::{FileId, PoolId};
 use std::alloc::{AllocError, Global};
 use std::marker::Model;
 
-/// The files in slots from 1: each has a name of its own, and the pool of its bytes.
+/// The files in slots from 1: each has a distinct name, and a pool for its bytes.
 #[derive(Drop)]
 pub(crate) struct FileTable {
     // The pools by name, in the order of slots.
@@ -34,7 +34,7 @@ impl Model for FileTable {
 }
 
 impl FileTable {
-    /// No files.
+    /// An empty table.
     pub(crate) fn new(alloc: Global) -> FileTable
         ensures { result.files ≡ [] }
     {
@@ -44,7 +44,7 @@ impl FileTable {
         }
     }
 
-    /// How many files there are.
+    /// The number of files.
     pub(crate) fn len(&self) -> usize
         ensures { result ≡ length self.now.files }
     {
@@ -78,14 +78,14 @@ impl FileTable {
         *pool
     }
 
-    /// Whether a file is of the pool.
+    /// Whether a file has this pool.
     pub(crate) fn is_any_of(&self, pool: PoolId) -> bool
         ensures { result ≡ list_any (λ f. f.pool == pool) self.now.files }
     {
         self.used.contains(&pool.number())
     }
 
-    /// Makes room for one file more.
+    /// Reserves memory for one more file.
     pub(crate) fn reserve(&mut self) -> Result<(), AllocError>
         ensures room { OnOk result (0 < self.new.room) }
         ensures files { self.new.files ≡ self.old.files }
@@ -94,7 +94,7 @@ impl FileTable {
         self.used.reserve(1)
     }
 
-    /// Adds a file in the next slot, under a name that no other has.
+    /// Adds a file in the next slot, under a name that no other file has.
     pub(crate) fn add(&mut self, name: Vec<u8>, pool: PoolId)
         requires new { list_any (λ f. bytes_eq f.name name.items) self.old.files ≡ false }
         requires room { 0 < self.old.room }

@@ -1,4 +1,4 @@
-//! The files by slot: their names and pools, and the cache of what is in memory.
+//! The files by slot: their names and pools, and the cache of their extents in memory.
 ghost use Rattle.std.specs.Prelude.{IfOk};
 
 use crate::file_table::FileTable;
@@ -6,7 +6,7 @@ use iol_cache::Cache;
 use iol_core::numbers::{FileId, PoolId};
 use std::alloc::{AllocError, Global};
 
-/// The files in slots from 1, with what is in memory of them.
+/// The files in slots from 1, with their extents in memory.
 #[derive(Drop)]
 pub(crate) struct Files {
     pub(crate) table: FileTable,
@@ -16,7 +16,7 @@ pub(crate) struct Files {
 impl Files {
     ghost use Rattle.iol_kernel.specs.FileNames.{AddsNamed, HasNone, MayName};
 
-    /// No files, over so many pages.
+    /// No files, over `pages` pages.
     pub(crate) fn new(alloc: Global, pages: usize) -> Result<Files, AllocError>
         ensures { IfOk result (λ f. HasNone pages f) }
     {
@@ -27,7 +27,7 @@ impl Files {
         })
     }
 
-    /// Adds a file of an open pool in the next slot, under a name that no other has.
+    /// Adds a file of an open pool in the next slot, under a name that no other file has.
     pub(crate) fn add(
         &mut self,
         alloc: Global,

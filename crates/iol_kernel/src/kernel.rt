@@ -1,4 +1,4 @@
-//! What a system holds, and the tests that its calls make.
+//! The state of a system, and the tests that its calls make.
 ghost use Rattle.std.specs.Prelude.{IfOk, IfErr, OnOk, ◌≡◌, ◌≤◌, max, true, Some};
 ghost use Rattle.iol_core.specs.Prelude.{is_live, may_read, descriptor, too_many_aggs, too_many_open};
 ghost use Rattle.iol_kernel.specs.Report.{Reports};
@@ -20,8 +20,8 @@ use iol_sock::Connections;
 use iol_sum::SumCache;
 use std::alloc::{AllocError, Global};
 
-/// What a system holds: pages and pools, domains with their aggregates and descriptors, pipes, connections, the sums that
-/// are remembered, and files.
+/// The state of a system: pages and pools, domains with their aggregates and descriptors, pipes,
+/// connections, the remembered sums, and files.
 #[derive(Drop)]
 pub struct Kernel {
     pub(crate) alloc: Global,
@@ -67,7 +67,7 @@ impl Kernel {
         self.domains.live(d)
     }
 
-    /// A domain's aggregate. `NoDomain` where the domain is not live, `BadAgg` where it has no such
+    /// A domain's aggregate. `NoDomain` if the domain is not live, `BadAgg` if it has no such
     /// aggregate.
     pub(crate) fn find(&self, d: DomainId, agg: AggId) -> Result<&Agg, Refusal>
         ensures ok { IfOk result (λ x. IsFound self.now d agg x.now) }
@@ -82,7 +82,7 @@ impl Kernel {
         }
     }
 
-    /// How long a domain's aggregate is. It is refused as `find` is.
+    /// The length of a domain's aggregate in bytes. Refused as `find` is.
     #[tactic(auto, using(crate::proofs::State::ReadOf::length_rules))]
     pub(crate) fn find_len(&self, d: DomainId, agg: AggId) -> Result<u32, Refusal>
         ensures ok { IfOk result (λ n. IsSoLong self.now d agg n) }
@@ -92,8 +92,8 @@ impl Kernel {
         Ok(found.len())
     }
 
-    /// What a domain's descriptor is open on. `NoDomain` where the domain is not live, `BadFd` where it has no such
-    /// descriptor.
+    /// The object that a domain's descriptor is open on. `NoDomain` if the domain is not live,
+    /// `BadFd` if it has no such descriptor.
     pub(crate) fn opened(&self, d: DomainId, fd: Fd) -> Result<Descriptor, Refusal>
         ensures live { OnOk result ((f : Reading) → is_live (as_read f self.now) d ≡ true) }
         ensures open { IfOk result (λ x. (f : Reading) → descriptor (as_read f self.now) d fd ≡ Some
@@ -109,7 +109,7 @@ impl Kernel {
         }
     }
 
-    /// Whether so many new aggregates, with so many given up, are too many.
+    /// Whether `made` new aggregates, after `given` are dropped, exceed the limits.
     #[tactic(auto, using(crate::proofs::State::Views::domain_rules), unfolding(crate::specs::KernelState::read_of))]
     pub(crate) fn is_too_many(&self, d: DomainId, made: u64, given: u64) -> bool
         requires live { is_live (machine self.now) d ≡ true }
@@ -119,7 +119,7 @@ impl Kernel {
         self.domains.is_too_many(d, made, given)
     }
 
-    /// What the domain's descriptor is open on.
+    /// The object that the domain's descriptor is open on.
     #[tactic(auto, using(crate::proofs::State::Views::domain_rules), unfolding(crate::specs::KernelState::read_of))]
     pub(crate) fn descriptor(&self, d: DomainId, fd: Fd) -> Option<Descriptor>
         requires { is_live (machine self.now) d ≡ true }
@@ -128,7 +128,7 @@ impl Kernel {
         self.domains.descriptor(d, fd)
     }
 
-    /// Whether so many more descriptors are too many.
+    /// Whether `made` more descriptors exceed the limit.
     #[tactic(auto, using(crate::proofs::State::Views::domain_rules), unfolding(crate::specs::KernelState::read_of))]
     pub(crate) fn is_open_beyond(&self, d: DomainId, made: usize) -> bool
         requires live { is_live (machine self.now) d ≡ true }
@@ -146,7 +146,7 @@ impl Kernel {
         self.store.pools().names(p, d)
     }
 
-    /// What lies there, counted.
+    /// The counts of pools, extents and buffers.
     pub fn report(&self) -> Result<Report, AllocError>
         requires { IsSound (state_of self.now) }
         ensures { Reports (state_of self.now) result }

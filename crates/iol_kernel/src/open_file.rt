@@ -1,4 +1,4 @@
-//! What a descriptor on a file says: which file, where it reads and writes on, and how it was opened.
+//! Descriptors on files: the file, the position of the next read or write, and the mode.
 ghost use Rattle.std.specs.Prelude.{◌≡◌, ◌+◌, ◌≤◌, false, IfSome, None, Some};
 ghost use Rattle.iol_core.specs.Calls.Reads as reading;
 ghost use Rattle.iol_core.specs.Calls.Writes as writing;
@@ -33,7 +33,7 @@ impl OpenFile {
         }
     }
 
-    /// What the descriptor is open on once its position moved over so many bytes.
+    /// The descriptor's object after its position moved by `len` bytes.
     pub(crate) fn moved_by(self, len: u32) -> Descriptor
         requires { self.at + len ≤ MAX_FILE_BYTES }
         ensures { result ≡ Descriptor.File self.file (self.at + len) self.mode }
@@ -46,7 +46,7 @@ impl OpenFile {
     }
 }
 
-/// Whether a file that is open so may be read.
+/// Whether a file that is open in this mode may be read.
 pub(crate) fn may_be_read(mode: Mode) -> bool
     ensures { result ≡ reading.reads mode }
 {

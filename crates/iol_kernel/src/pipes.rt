@@ -1,4 +1,4 @@
-//! Pipes: bounded queues, each in a place of its own, with a read end and a write end.
+//! Pipes: bounded queues, each in a slot, with a read end and a write end.
 ghost use Rattle.std.specs.Prelude.{◌≡◌, ◌<◌, ◌≤◌, ◌^◌, true, [], OnOk, false};
 ghost use Rattle.iol_core.specs.Prelude.{lowest, placed, taken};
 ghost use Rattle.iol_hold.specs.Prelude.{Covers, byte_len, bufs_of, AllReadable};
@@ -37,7 +37,7 @@ impl Model for Pipe {
 }
 
 impl Pipe {
-    /// Closes the read end and releases what waits. Returns whether the write end is open.
+    /// Closes the read end and releases the queued bytes. Returns whether the write end is open.
     fn close_reader(&mut self, store: &mut Store) -> bool
         requires { Covers store.old (bufs_of self.old.queue) }
         ensures stays { result ≡ self.old.writing }
@@ -48,8 +48,8 @@ impl Pipe {
         self.writing
     }
 
-    /// Closes the write end, and releases what waits where nobody reads. Returns whether the read
-    /// end is open.
+    /// Closes the write end, and releases the queued bytes if the read end is closed. Returns
+    /// whether the read end is open.
     #[tactic(auto, using(crate::proofs::Queues::ClosedEnds::same_rules))]
     fn close_writer(&mut self, store: &mut Store) -> bool
         requires { Covers store.old (bufs_of self.old.queue) }
@@ -65,7 +65,7 @@ impl Pipe {
     }
 }
 
-/// The live pipes. A new one is in the lowest free place.
+/// The live pipes. A new one takes the lowest free slot.
 #[derive(Drop)]
 pub(crate) struct Pipes {
     places: Places<Pipe>,
@@ -83,7 +83,7 @@ impl Model for Pipes {
 }
 
 impl Pipes {
-    /// No pipes.
+    /// An empty table.
     pub(crate) fn new(alloc: Global) -> Pipes
         ensures { result.places ≡ [] }
     {
@@ -92,7 +92,7 @@ impl Pipes {
         }
     }
 
-    /// How many pipes are live.
+    /// The number of live pipes.
     pub(crate) fn count(&self) -> usize
         ensures { result ≡ taken self.now.places }
     {
@@ -107,7 +107,7 @@ impl Pipes {
         PipeId::new(self.places.lowest() as u32)
     }
 
-    /// Reserves room for a pipe more.
+    /// Reserves memory for one more pipe.
     pub(crate) fn reserve(&mut self) -> Result<(), AllocError>
         ensures same { self.new.places ≡ self.old.places }
         ensures room { OnOk result (0 < self.new.room) }
@@ -115,7 +115,7 @@ impl Pipes {
         self.places.reserve(1)
     }
 
-    /// Adds an empty pipe whose ends are open, in room that is reserved.
+    /// Adds an empty pipe whose ends are open, in reserved memory.
     pub(crate) fn add(&mut self, alloc: Global)
         requires { 0 < self.old.room }
         ensures { self.new.places ≡ placed self.old.places (lowest self.old.places) empty_pipe }
@@ -127,7 +127,7 @@ impl Pipes {
         });
     }
 
-    /// How many bytes wait in a pipe.
+    /// The number of bytes queued in a pipe.
     pub(crate) fn len(&self, p: PipeId) -> u32
         ensures len { result ≡ byte_len (queue_at self.now.places p).queue }
         ensures most { result ≤ MAX_QUEUE_BYTES }
@@ -138,7 +138,7 @@ impl Pipes {
         }
     }
 
-    /// The pool of the first byte that waits in a pipe.
+    /// The pool of the first byte queued in a pipe.
     pub(crate) fn first_pool(&self, p: PipeId) -> Option<PoolId>
         ensures { result ≡ first_pool (queue_at self.now.places p).queue }
     {
@@ -165,7 +165,7 @@ impl Pipes {
         }
     }
 
-    /// Adds the longest prefix that fits to a pipe's queue. Returns how many bytes that is.
+    /// Adds the longest prefix that fits to a pipe's queue. Returns its length in bytes.
     #[tactic(auto, using(crate::proofs::Queues::EndCounts::there_rules))]
     pub(crate) fn push(
         &mut self,
@@ -181,8 +181,8 @@ impl Pipes {
         pipe.queue.push(store, from)
     }
 
-    /// Adds new bytes of an open pool to a pipe's queue, as many as fit, and tells how many that is. They lie in new buffers
-    /// on the lowest free pages of the pool.
+    /// Adds as many new bytes of an open pool to a pipe's queue as fit, and returns their number.
+    /// They are placed in new buffers on the lowest free pages of the pool.
     #[tactic(auto, using(crate::proofs::Queues::EndCounts::there_rules))]
     pub(crate) fn fill(
         &mut self,
@@ -219,8 +219,8 @@ impl Pipes {
         pipe.queue.front(alloc, store, n, d)
     }
 
-    /// Copies the longest prefix of what waits in a pipe whose pools all name the domain, as much of it as there is room
-    /// for, and tells how many bytes that is. All still wait.
+    /// Copies the longest prefix of a pipe's queue whose pools all name the domain, at most
+    /// `into.len()` bytes, and returns its length. The queue is unchanged.
     pub(crate) fn copy_front(&self, store: &Store, p: PipeId, d: DomainId, into: &mut [u8]) -> u32
         requires readable { AllReadable store.now (queue_at self.now.places p).queue }
         requires reading { (queue_at self.now.places p).reading ≡ true }
@@ -232,7 +232,7 @@ impl Pipes {
         pipe.queue.copy_front(store, d, into)
     }
 
-    /// Releases the first `n` bytes that wait in a pipe, or all where fewer wait.
+    /// Releases the first `n` bytes of a pipe's queue, or all if there are fewer.
     #[tactic(auto, using(crate::proofs::Queues::EndCounts::there_rules))]
     pub(crate) fn skip(&mut self, store: &mut Store, p: PipeId, n: u32)
         requires { IsTakenFrom store.old self.old.places p }
@@ -244,7 +244,7 @@ impl Pipes {
             .skip(store, n);
     }
 
-    /// Closes the read end of a pipe, which goes where its write end is closed.
+    /// Closes the read end of a pipe, and removes the pipe if its write end is closed.
     #[tactic(auto, using(crate::proofs::Queues::EndCounts::there_rules))]
     pub(crate) fn close_reader(&mut self, store: &mut Store, p: PipeId)
         requires { IsTakenFrom store.old self.old.places p }
@@ -257,7 +257,7 @@ impl Pipes {
         }
     }
 
-    /// Closes the write end of a pipe, which goes where its read end is closed.
+    /// Closes the write end of a pipe, and removes the pipe if its read end is closed.
     #[tactic(auto, using(crate::proofs::Queues::EndCounts::there_rules))]
     pub(crate) fn close_writer(&mut self, store: &mut Store, p: PipeId)
         requires covered { Covers store.old (bufs_of (queue_at self.old.places p).queue) }

@@ -1,5 +1,6 @@
-//! What a descriptor reads from and writes to. Here alone a pipe and a connection are told apart where bytes are read and
-//! written: each look-up is a word of the copying machine (`iol_core`, `specs/Calls/Reads` and `Writes`), of any descriptor.
+//! The objects that descriptors read from and write to. Only this module distinguishes pipes from
+//! connections for reading and writing: each look-up is a definition of the copying machine
+//! (`iol_core`, `specs/Calls/Reads` and `Writes`), for any descriptor.
 ghost use Rattle.std.specs.Prelude.{◌≡◌, ◌≤◌, false, length, Some};
 ghost use Rattle.iol_core.specs.Calls.Reads as reading;
 ghost use Rattle.iol_core.specs.Calls.Writes as writing;
@@ -34,7 +35,7 @@ pub(crate) fn can_write(to: &Descriptor) -> bool
     }
 }
 
-/// Whether a file would pass its limit if so many bytes were written to it.
+/// Whether a file would pass its limit if `count` bytes were written to it.
 pub(crate) fn is_too_long(to: &Descriptor, count: u32) -> bool
     ensures { result ≡ writing.is_too_long (Some to.now) count }
 {
@@ -48,7 +49,7 @@ pub(crate) fn is_too_long(to: &Descriptor, count: u32) -> bool
 impl Kernel {
     ghost use Rattle.iol_kernel.specs.Kernel.{as_read, state_of};
 
-    /// How many bytes wait to be read.
+    /// The number of bytes queued for reading.
     pub(crate) fn unread(&self, from: &Descriptor) -> u32
         ensures { (f : Reading) → result ≡ length (reading.unread (as_read f self.now) (Some
             from.now)) }
@@ -63,7 +64,7 @@ impl Kernel {
         }
     }
 
-    /// The pool of the first byte that waits to be read.
+    /// The pool of the first byte queued for reading.
     fn first_pool(&self, from: &Descriptor) -> Option<PoolId>
         ensures { IsFirstPool from.now (state_of self.now) result }
     {
@@ -74,7 +75,7 @@ impl Kernel {
         }
     }
 
-    /// Whether more may come to be read.
+    /// Whether more bytes may arrive for reading.
     fn may_grow(&self, from: &Descriptor) -> bool
         ensures { (f : Reading) → result ≡ reading.may_grow (as_read f self.now) (Some from.now) }
     {
@@ -88,7 +89,7 @@ impl Kernel {
         }
     }
 
-    /// Whether bytes are asked for, none wait, and some may come.
+    /// Whether bytes are requested, none are queued, and more may arrive.
     pub(crate) fn must_wait(&self, from: &Descriptor, count: usize) -> bool
         ensures { (f : Reading) → result ≡ reading.must_wait (as_read f self.now) (Some from.now)
             count }
@@ -96,7 +97,7 @@ impl Kernel {
         count > 0 && self.unread(from) == 0 && self.may_grow(from)
     }
 
-    /// The pool of the first byte of a queue that is asked for, where the reader may not read it.
+    /// The pool of the first byte requested from a queue, if the reader may not read it.
     pub(crate) fn first_barred(
         &self,
         by: DomainId,
@@ -116,7 +117,7 @@ impl Kernel {
         Some(pool)
     }
 
-    /// How many bytes were written to a queue and are not yet taken.
+    /// The number of bytes that were written to a queue and not yet taken.
     fn unsent(&self, to: &Descriptor) -> u32
         ensures len { (f : Reading) → result ≡ length (writing.unsent (as_read f self.now) (Some
             to.now)) }
@@ -132,7 +133,7 @@ impl Kernel {
         }
     }
 
-    /// Whether nobody will take what is written.
+    /// Whether no reader is left to take the bytes written.
     pub(crate) fn is_broken(&self, to: &Descriptor) -> bool
         ensures { (f : Reading) → result ≡ writing.is_broken (as_read f self.now) (Some to.now) }
     {
@@ -146,7 +147,7 @@ impl Kernel {
         }
     }
 
-    /// How many of so many bytes are taken: by a file all, by a queue what fits.
+    /// How many of `count` bytes are taken: by a file all, by a queue as many as fit.
     pub(crate) fn fitting(&self, to: &Descriptor, count: usize) -> usize
         ensures { (f : Reading) → result ≡ writing.fitting (as_read f self.now) (Some to.now)
             count }
@@ -157,7 +158,7 @@ impl Kernel {
         count.min(MAX_QUEUE_BYTES - self.unsent(to) as usize)
     }
 
-    /// Whether bytes are offered and none fits.
+    /// Whether bytes are offered and none of them fits.
     pub(crate) fn takes_none(&self, to: &Descriptor, count: usize) -> bool
         ensures { (f : Reading) → result ≡ writing.takes_none (as_read f self.now) (Some to.now)
             count }

@@ -1,4 +1,4 @@
-//! What lies in a system, counted.
+//! The counts of a system.
 ghost use Rattle.std.specs.Prelude.{◌≡◌, ◌≤◌, length, IfOk};
 ghost use Rattle.iol_core.specs.declared.limits.TheConstants.{MAX_POOLS};
 ghost use Rattle.iol_kernel.specs.Report.{reports_of};
@@ -8,16 +8,16 @@ use iol_hold::Store;
 use iol_pool::report::PoolReport;
 use std::alloc::{AllocError, Global};
 
-/// How much lies in a system.
+/// The counts of a system's pools, extents and buffers.
 #[derive(Debug, Drop)]
 pub struct Report {
-    /// The pools by rising number, but for those whose chunks went back.
+    /// The pools by rising number, except those whose chunks were returned.
     pub pools: Vec<PoolReport>,
-    /// The extents of files.
+    /// The number of extents of files.
     pub extents: usize,
-    /// Those of them that are not written back.
+    /// The number of extents that are not written back.
     pub dirty: usize,
-    /// The live buffers.
+    /// The number of live buffers.
     pub buffers: u32,
 }
 

@@ -1,4 +1,4 @@
-//! Clean extents of files give way to new bytes.
+//! Clean extents of files are evicted to make room for new bytes.
 ghost use Rattle.std.specs.Prelude.{◌≡◌};
 ghost use Rattle.iol_arena.specs.Prelude.{pages_for};
 ghost use Rattle.iol_kernel.specs.Room.{AsksRoom, AsksToFit, MayPlaceIn};
@@ -7,7 +7,7 @@ use crate::kernel::Kernel;
 use iol_arena::pages::count_pages;
 use iol_core::numbers::PoolId;
 
-// How many pages so many bytes need.
+// The number of pages that this many bytes need.
 fn pages_to_hold(bytes: u32) -> u32
     ensures { result ≡ pages_for bytes }
 {
@@ -20,7 +20,8 @@ fn pages_to_hold(bytes: u32) -> u32
 impl Kernel {
     ghost use Rattle.iol_kernel.specs.Kernel.{state_of};
 
-    /// Evicts clean extents of a pool's files, until so many pages of the pool are free. False: there is no room for so many.
+    /// Evicts clean extents of a pool's files until `pages` pages of the pool are free. Returns
+    /// false if there is no room for them; then nothing changes.
     pub(crate) fn make_room(&mut self, pool: PoolId, pages: u32) -> bool
         requires { MayPlaceIn pool (state_of self.old) }
         ensures { AsksRoom pool pages (state_of self.old) result (state_of self.new) }
@@ -28,7 +29,8 @@ impl Kernel {
         self.files.cache.make_room(&mut self.store, pool, pages)
     }
 
-    /// Evicts clean extents of a pool's files, until so many bytes more fit in the pool. False: they do not fit.
+    /// Evicts clean extents of a pool's files until `bytes` more bytes fit in the pool. Returns
+    /// false if they do not fit; then nothing changes.
     pub(crate) fn make_room_for(&mut self, pool: PoolId, bytes: u32) -> bool
         requires { MayPlaceIn pool (state_of self.old) }
         ensures { AsksToFit pool bytes (state_of self.old) result (state_of self.new) }

@@ -1,5 +1,5 @@
-//! Effects on the table of domains, whose aggregates are slices of a store. Room is reserved
-//! first, so that a refusal has changed nothing.
+//! Effects on the table of domains, whose aggregates are slices of a store. Memory is reserved
+//! first, so that a refusal changes nothing.
 ghost use Rattle.std.specs.Prelude.{◌≡◌, []};
 ghost use Rattle.std.specs.List.{list_all};
 ghost use Rattle.iol_hold.specs.Prelude.{Covers};
@@ -92,7 +92,7 @@ pub(crate) fn first_hidden(slices: &[Slice], pools: &Pools, d: DomainId) -> Opti
     Some(hidden.hold.pool())
 }
 
-/// Takes an aggregate from its domain, and adds it to one as its next.
+/// Takes an aggregate from one domain, and adds it to another as its next one.
 pub(crate) fn move_agg(
     domains: &mut Table<Agg>,
     from: DomainId,
@@ -107,7 +107,7 @@ pub(crate) fn move_agg(
     Ok(domains.add_agg(to, given))
 }
 
-/// Releases all holds of aggregates.
+/// Releases all references that aggregates hold.
 #[tactic(auto, using(crate::proofs::Queues::ClosedEnds::same_rules))]
 pub(crate) fn release_all(store: &mut Store, aggs: Taken<Agg>)
     requires { Covers store.old (bufs_in aggs) }

@@ -1,4 +1,4 @@
--- What holds of each domain's aggregates and of its next number, and stays so after each event.
+-- Invariants of each domain's aggregates and of its next number, preserved by each event.
 use Rattle.std.proofs.Common.{inl, inr, ◌≡◌, ℕ, ◌+◌, List, [], ◌∷◌, ◌++◌, length, take, drop, ap, refl, sym, subst, arith, Option, Some, None, append_assoc}
 use Rattle.std.specs.Prelude.{unwrap_or, fold, slice_set}
 use Rattle.std.specs.Option.{option_map_or}

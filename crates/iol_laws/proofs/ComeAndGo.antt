@@ -1,4 +1,4 @@
--- Aggregates come by the numbers that replies give, and what is given up is gone.
+-- Aggregates are added under the numbers in replies, and consumed ones are gone.
 use Rattle.std.proofs.Common.{inl, inr, ◌≡◌, ◌≢◌, ◌≤◌, ℕ, ◌+◌, ◌==◌, ◌⊎◌, List, [], ◌∷◌, ◌++◌, take, drop, ap, ◌∙◌, refl, sym, subst, arith, Option, Some, None, true, false, Bool, append_assoc}
 use Rattle.std.specs.Prelude.{option_map, not, is_none, fold, ◌&&◌, ◌||◌}
 use Rattle.std.proofs.lemmas.Bool.Decides.{nat_tests}

@@ -1,4 +1,4 @@
--- What calls do to connections: they change some of them, one after another, each in one of four ways.
+-- The effect of calls on connections: they change some of them, one after another, each in one of four ways.
 use Rattle.std.proofs.Common.{◌≡◌, ℕ, List, [], ◌∷◌, ◌++◌, length, take, drop, ap, refl, Option, Some, None, true, false}
 use Rattle.std.specs.Prelude.{unwrap_or, if◌then◌else◌, fold}
 use Rattle.std.specs.Option.{option_map_or}

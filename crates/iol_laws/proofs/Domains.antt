@@ -1,4 +1,4 @@
--- What a domain has after a change.
+-- The contents of a domain after a change.
 use Rattle.std.proofs.Common.{inl, inr, ◌≡◌, ◌≢◌, ℕ, ◌-◌, ◌<◌, ◌≤◌, ◌⊎◌, List, [], ◌∷◌, length, ap, ◌∙◌, refl, sym, subst, arith, Option, Some, None, true}
 use Rattle.std.specs.Prelude.{not, fold}
 use Rattle.std.proofs.lemmas.Bool.{cases_eq, cases_lt}

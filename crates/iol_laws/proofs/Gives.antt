@@ -1,4 +1,4 @@
--- What is given to a domain comes to itself or to another: what holds in both cases holds.
+-- Giving to the same domain or to another: properties of both cases.
 use Rattle.std.proofs.Common.{◌≡◌, ℕ, true, false, Bool, refl}
 use Rattle.std.specs.Prelude.{◌==◌, if◌then◌else◌}
 use Rattle.iol_core.specs.NumberedLists.{without, lowest, placed}

@@ -1,4 +1,4 @@
--- The numbers that a domain is given by its calls are new ones.
+-- The numbers that a domain gets from its calls are new.
 use Rattle.std.proofs.Common.{◌≡◌, ℕ, ◌+◌, ◌==◌, List, length, drop, ap, ◌∙◌, refl, sym, arith, Option, Some, None, true, false}
 use Rattle.std.specs.Prelude.{option_map, slice_set}
 use Rattle.iol_core.specs.Text.{Text, bytes_of}

@@ -1,4 +1,4 @@
--- Numbers in replies, and what stands under a new one.
+-- Numbers in replies, and the objects under new numbers.
 use Rattle.std.proofs.Common.{◌≡◌, ℕ, List, [], ap, ◌∙◌, refl, sym, Option, Some, None, true, false}
 use Rattle.std.specs.Prelude.{option_map, unwrap_or, is_none}
 use Rattle.iol_core.specs.Text.{Text, bytes_of}

@@ -1,4 +1,4 @@
--- What holds over runs: what each step keeps, and what is told of events, one after another.
+-- Properties of runs: invariants of each step, and functions of events in order.
 use Rattle.std.proofs.Common.{◌≡◌, ◌∙◌, ℕ, List, [], ◌∷◌, ◌++◌, length, ap, refl, sym, subst, arith, append_assoc, append-nil}
 use Rattle.iol_core.specs.State.{State}
 use Rattle.iol_core.specs.Run.{StepsTo, Run}

@@ -1,4 +1,4 @@
--- Where nothing can be taken, nothing is there, and nothing comes any more.
+-- If nothing can be taken, the queue is empty and no more arrives.
 use Rattle.std.proofs.Common.{zero, suc, ◌≡◌, ℕ, ◌==◌, ◌<◌, [], ◌∷◌, length, take, ap, ◌∙◌, refl, sym, subst, arith, None, true, false, Bool}
 use Rattle.std.specs.Prelude.{option_map, nat_lt, min, ◌&&◌}
 use Rattle.std.proofs.lemmas.Bool.Decides.{nat_tests}

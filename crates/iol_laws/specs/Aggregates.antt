@@ -1,4 +1,4 @@
--- Aggregates come and go: a domain has more of them only by a number that a reply gives it, and what it gives up is gone.
+-- Aggregates are added and removed: a domain gets one only under a number in a reply, and a consumed one is gone.
 use Rattle.std.specs.Prelude.{◌≡◌, ℕ, ◌==◌, ◌&&◌, ◌||◌, Bool, true, false, None}
 use Rattle.iol_core.specs.State.{State}
 use Rattle.iol_core.specs.Run.{StepsTo}
@@ -11,7 +11,7 @@ use Rattle.iol_core.specs.declared.events.Reply.TheVariants as reply
 use Rattle.iol_laws.specs.Order.{IsOrderly}
 use Rattle.iol_laws.specs.Caller.{lent_at}
 
--- whether the reply gives the domain this number of an aggregate: to the caller, or to the receiver of what is given away
+-- whether the reply gives the domain this number of an aggregate: as the caller, or as the receiver of a given aggregate
 abbrev pub brings : Event → Reply → (d a : ℕ) → Bool
 brings (event.Call by (call.AggGive b to)) (reply.Agg n) d a = (to == d) && (n == a)
 brings (event.Call by k) (reply.Agg n) d a = (by == d) && (n == a)
@@ -23,9 +23,9 @@ is_refusal (reply.Refused x) = true
 is_refusal r = false
 
 pub record AggregatesComeAndGo : Type 0 where
-  -- what a domain has not under a number it has not after a step that does not give it this number
+  -- a number without aggregate has none after a step that does not give the domain this number
   pub none : (s t : State) (e : Event) (r : Reply) (d a : ℕ) → StepsTo s e r t → lent_at s d a ≡ None
       → brings e r d a ≡ false → lent_at t d a ≡ None
-  -- what a domain gives up by a call that is not refused it has no more
+  -- an aggregate that a successful call consumes is gone
   pub gone : (s t : State) (e : Event) (r : Reply) (d a : ℕ) → IsOrderly s → StepsTo s e r t → gives_up e d a ≡ true
       → is_refusal r ≡ false → lent_at t d a ≡ None

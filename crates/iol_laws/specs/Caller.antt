@@ -1,7 +1,7 @@
--- What a call does for the domain that makes it, as that domain sees it: bytes by number, descriptors, connections.
+-- The effect of a call for its caller, in terms that the caller observes: bytes by number, descriptors, connections.
 --
--- Each word says of a reply what is then so: of an answer what it brought, of a refusal that nothing changed, and of any
--- other reply that it cannot come.
+-- Each definition has three cases for the reply: its effect if the call succeeds, an unchanged state if it is refused, and that
+-- no other reply is possible.
 use Rattle.std.specs.Prelude.{◌≡◌, ◌≢◌, ℕ, ◌-◌, ◌<◌, ◌≤◌, ◌==◌, min, Bool, true, false, if◌then◌else◌, List, [], ◌++◌, is_none, length, take, drop, Option, Some, None, option_map, slice_range}
 use Rattle.iol_core.specs.Text.{Text, bytes_of, admitted}
 use Rattle.iol_core.specs.State.{State, Connection, aggregate, descriptor, may_read, conn_at, pipe_at, new_pipe, no_conn, is_gone, is_over}
@@ -21,7 +21,7 @@ use Rattle.iol_laws.specs.Order.{IsOrderly}
 abbrev pub lent_at : State → (d a : ℕ) → Option (List ℕ)
 lent_at s d a = option_map bytes_of (aggregate s d a)
 
--- whether it is a refusal for want of numbers, of room, of a working store or of memory
+-- whether the reply is a resource refusal: out of numbers, pages or memory, or a fault of the store
 abbrev pub is_rough : Reply → Bool
 is_rough (reply.Refused TooMany) = true
 is_rough (reply.Refused (NoRoom p)) = true
@@ -35,22 +35,22 @@ Makes s d bytes (reply.Agg n) t = (lent_at t d n ≡ Some bytes) × (lent_at s d
 Makes s d bytes (reply.Refused x) t = t ≡ s
 Makes s d bytes r t = ⊥
 
--- aggregates of these bytes and of those are made, under two new numbers
+-- two aggregates of these bytes are made, under two new numbers
 abbrev pub MakesTwo : State → (d : ℕ) → (front back : List ℕ) → Reply → State → Type 0
 MakesTwo s d front back (reply.Aggs n m) t = (lent_at t d n ≡ Some front) × (lent_at t d m ≡ Some back)
     × (lent_at s d n ≡ None) × (lent_at s d m ≡ None)
 MakesTwo s d front back (reply.Refused x) t = t ≡ s
 MakesTwo s d front back r t = ⊥
 
--- of a connection the first bytes that came in are taken, at most so many, as aggregate n; where some are asked for and none
--- is there to be taken, the peer sends no more
+-- the first bytes of a connection's input, at most count, are taken as aggregate n; if count is positive and no byte is taken,
+-- the peer sends no more
 pub record Takes (s : State) (d c count n : ℕ) (t : State) : Type 0 where
   pub text : Text
   pub incoming : Text
   pub lends : lent_at t d n ≡ Some (bytes_of text)
   pub new : lent_at s d n ≡ None
   pub was : (conn_at s c).incoming ≡ text ++ incoming
-  -- as long a beginning as may be: the domain may read each byte of it
+  -- the longest prefix that the domain may read
   pub most : text ≡ admitted (may_read s d) (take count (conn_at s c).incoming)
   pub conn : conn_at t c ≡ record (conn_at s c) { incoming = incoming }
   pub ended : 0 < count → text ≡ [] → ((conn_at s c).incoming ≡ []) × (is_none (conn_at s c).peer ≡ false)
@@ -60,7 +60,7 @@ ReadsConn s d c count (reply.Agg n) t = Takes s d c count n t
 ReadsConn s d c count (reply.Refused x) t = t ≡ s
 ReadsConn s d c count r t = ⊥
 
--- the first k of these bytes are to be sent on a connection
+-- the first k of these bytes are queued for sending on a connection
 pub record Puts (s : State) (c : ℕ) (bytes : List ℕ) (k : ℕ) (t : State) : Type 0 where
   pub text : Text
   pub within : k ≤ length bytes
@@ -75,15 +75,15 @@ WritesConn s c bytes (reply.Count k) t = Puts s c bytes k t
 WritesConn s c bytes (reply.Refused x) t = t ≡ s
 WritesConn s c bytes r t = ⊥
 
--- of a pipe the first bytes are taken, at most so many, as aggregate n; where some are asked for and none is there to be taken,
--- nobody writes any more
+-- the first bytes of a pipe, at most count, are taken as aggregate n; if count is positive and no byte is taken, the pipe has
+-- no writer any more
 pub record TakesFromPipe (s : State) (d p count n : ℕ) (t : State) : Type 0 where
   pub text : Text
   pub rest : Text
   pub lends : lent_at t d n ≡ Some (bytes_of text)
   pub new : lent_at s d n ≡ None
   pub was : (pipe_at s p).queue ≡ text ++ rest
-  -- as long a beginning as may be: the domain may read each byte of it
+  -- the longest prefix that the domain may read
   pub most : text ≡ admitted (may_read s d) (take count (pipe_at s p).queue)
   pub pipe : pipe_at t p ≡ record (pipe_at s p) { queue = rest }
   pub ended : 0 < count → text ≡ [] → ((pipe_at s p).queue ≡ []) × ((pipe_at s p).writing ≡ false)
@@ -93,7 +93,7 @@ ReadsPipe s d p count (reply.Agg n) t = TakesFromPipe s d p count n t
 ReadsPipe s d p count (reply.Refused x) t = t ≡ s
 ReadsPipe s d p count r t = ⊥
 
--- the first k of these bytes stand at the end of a pipe
+-- the first k of these bytes are appended to a pipe
 pub record PutsInPipe (s : State) (p : ℕ) (bytes : List ℕ) (k : ℕ) (t : State) : Type 0 where
   pub text : Text
   pub within : k ≤ length bytes
@@ -108,7 +108,7 @@ WritesPipe s p bytes (reply.Count k) t = PutsInPipe s p bytes k t
 WritesPipe s p bytes (reply.Refused x) t = t ≡ s
 WritesPipe s p bytes r t = ⊥
 
--- a new pipe is open for reading as one new descriptor, and for writing as another
+-- a new pipe is open for reading under one new descriptor, and for writing under another
 pub record OpensPipe (s : State) (d reads writes : ℕ) (t : State) : Type 0 where
   pub pipe : ℕ
   pub empty : pipe_at t pipe ≡ new_pipe
@@ -122,13 +122,13 @@ MakesPipe s d (reply.Fds reads writes) t = OpensPipe s d reads writes t
 MakesPipe s d (reply.Refused x) t = t ≡ s
 MakesPipe s d r t = ⊥
 
--- the bytes are told, and nothing changes
+-- the reply is these bytes, and nothing changes
 abbrev pub Shows : State → List ℕ → Reply → State → Type 0
 Shows s bytes (reply.Bytes found) t = (found ≡ bytes) × (t ≡ s)
 Shows s bytes (reply.Refused x) t = t ≡ s
 Shows s bytes r t = ⊥
 
--- an aggregate is given up
+-- an aggregate is dropped
 abbrev pub Drops : State → (d a : ℕ) → Reply → State → Type 0
 Drops s d a reply.Done t = lent_at t d a ≡ None
 Drops s d a (reply.Refused x) t = t ≡ s
@@ -140,7 +140,8 @@ Closes s d fd reply.Done t = descriptor t d fd ≡ None
 Closes s d fd (reply.Refused x) t = t ≡ s
 Closes s d fd r t = ⊥
 
--- what a descriptor is open on is handed to a domain, as descriptor g; one given to another domain is new there, and closed here
+-- the object of a descriptor is given to a domain as its descriptor g; if that is another domain, g is new there, and fd is
+-- closed here
 pub record HandsOn (s : State) (d fd to : ℕ) (x : Descriptor) (g : ℕ) (t : State) : Type 0 where
   pub open_on : descriptor t to g ≡ Some x
   pub new : d ≢ to → descriptor s to g ≡ None
@@ -151,38 +152,37 @@ GivesFd s d fd to x (reply.Fd g) t = HandsOn s d fd to x g t
 GivesFd s d fd to x (reply.Refused y) t = t ≡ s
 GivesFd s d fd to x r t = ⊥
 
--- an aggregate is handed to a domain, under a new number of it
+-- an aggregate is given to a domain, under a new number there
 abbrev pub GivesAgg : State → (to : ℕ) → List ℕ → Reply → State → Type 0
 GivesAgg s to bytes (reply.Agg n) t = (lent_at t to n ≡ Some bytes) × (lent_at s to n ≡ None)
 GivesAgg s to bytes (reply.Refused x) t = t ≡ s
 GivesAgg s to bytes r t = ⊥
 
--- what remains of a connection: one that is over is forgotten, and no other
+-- the rest of a connection: it is removed exactly if it is over
 abbrev pub remains : Connection → Connection
 remains x = if is_over x then no_conn else x
 
--- A connection that is closed loses what came in and is unread, and no other field of it changes. One that is over then is
--- forgotten.
+-- A connection that is closed loses its unread input; no other field changes. It is then removed if it is over.
 abbrev pub ClosesConn : State → (c : ℕ) → Reply → State → Type 0
 ClosesConn s c reply.Done t = conn_at t c ≡ remains (record (conn_at s c) { incoming = []; closed = true })
 ClosesConn s c (reply.Refused x) t = t ≡ s
 ClosesConn s c r t = ⊥
 
--- a pipe whose write end is closed keeps what is to be read, as long as somebody may read it
+-- a pipe whose write end is closed keeps its bytes while its read end is open
 abbrev pub ClosesWriteEnd : State → (p : ℕ) → Reply → State → Type 0
 ClosesWriteEnd s p reply.Done t = ((pipe_at t p).writing ≡ false)
     × ((pipe_at s p).reading ≡ true → pipe_at t p ≡ record (pipe_at s p) { writing = false })
 ClosesWriteEnd s p (reply.Refused x) t = t ≡ s
 ClosesWriteEnd s p r t = ⊥
 
--- a pipe whose read end is closed loses what is to be read
+-- a pipe whose read end is closed loses its bytes
 abbrev pub ClosesReadEnd : State → (p : ℕ) → Reply → State → Type 0
 ClosesReadEnd s p reply.Done t = ((pipe_at t p).reading ≡ false) × ((pipe_at t p).queue ≡ [])
     × ((pipe_at t p).writing ≡ (pipe_at s p).writing)
 ClosesReadEnd s p (reply.Refused x) t = t ≡ s
 ClosesReadEnd s p r t = ⊥
 
--- a connection that waits is accepted, as descriptor fd
+-- a waiting connection is accepted, as descriptor fd
 pub record TakesConn (s : State) (d fd : ℕ) (t : State) : Type 0 where
   pub conn : ℕ
   pub waited : (conn_at s conn).accepted ≡ false
@@ -240,7 +240,7 @@ pub record CallsServeTheirDomain : Type 0 where
       → StepsTo s (event.Call d (call.Close fd)) r t → ClosesConn s c r t
   pub accepts : (s t : State) (d : ℕ) (r : Reply) → IsOrderly s → StepsTo s (event.Call d call.Accept) r t → Accepts s d r t
 
--- whether the reply gives this number of an aggregate, or of a descriptor
+-- whether the reply has this number of an aggregate, or of a descriptor
 abbrev pub is_agg : Reply → (a : ℕ) → Bool
 is_agg (reply.Agg b) a = b == a
 is_agg r a = false
@@ -255,7 +255,7 @@ gives_away (call.AggGive a to) = true
 gives_away (call.GiveFd f to) = true
 gives_away k = false
 
--- The numbers that a domain is given by its calls are new ones, and what an aggregate's number names is there.
+-- The numbers that a domain gets from its calls are new, and the number of an aggregate names an existing one.
 pub record NumbersAreNew : Type 0 where
   pub agg : (s t : State) (d : ℕ) (k : Call) (r : Reply) (a : ℕ) → IsOrderly s → StepsTo s (event.Call d k) r t
       → gives_away k ≡ false → is_agg r a ≡ true → lent_at s d a ≡ None

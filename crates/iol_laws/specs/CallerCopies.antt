@@ -1,5 +1,5 @@
--- What the calls that copy do for the domain that makes them: `write` of bytes of its own, and `read` without an aggregate.
--- They write and read what `iol_write` and `iol_read` do.
+-- The effect of the copying calls for their caller: `write` of its own bytes, and `read` without an aggregate. They write and
+-- read the same bytes as `iol_write` and `iol_read`.
 use Rattle.std.specs.Prelude.{◌≡◌, ℕ, ◌+◌, ◌<◌, true, false, List, [], ◌++◌, length, take, drop, Some, is_none}
 use Rattle.iol_core.specs.Text.{Text, bytes_of, admitted}
 use Rattle.iol_core.specs.State.{State, descriptor, content, file, may_read, conn_at, pipe_at, is_live}
@@ -17,11 +17,11 @@ use Rattle.iol_laws.specs.Order.{IsOrderly}
 use Rattle.iol_laws.specs.Caller.{lent_at, is_rough, WritesConn, WritesPipe}
 use Rattle.iol_laws.specs.CallerFiles.{WritesFile}
 
--- whatever the domain has it keeps
+-- the domain keeps all its aggregates
 abbrev pub SameLent : State → (d : ℕ) → State → Type 0
 SameLent s d t = (a : ℕ) → lent_at t d a ≡ lent_at s d a
 
--- these bytes of a file are told, and the position moves past them
+-- the reply is these bytes of a file, and the position moves past them
 pub record TellsFile (s : State) (d fd f at : ℕ) (mode : Mode) (bytes found : List ℕ) (t : State) : Type 0 where
   pub found_is : found ≡ bytes
   pub goes_on : descriptor t d fd ≡ Some (on.File f (at + length bytes) mode)
@@ -32,14 +32,14 @@ CopiesFile s d fd f at mode bytes (reply.Bytes found) t = TellsFile s d fd f at 
 CopiesFile s d fd f at mode bytes (reply.Refused x) t = (is_rough (reply.Refused x) ≡ true) × (t ≡ s)
 CopiesFile s d fd f at mode bytes r t = ⊥
 
--- of a connection the first bytes that came in are told and taken, at most so many; where some are asked for and none is told,
--- the peer sends no more
+-- the reply is the first bytes of a connection's input, at most count, which are removed; if count is positive and there are
+-- none, the peer sends no more
 pub record TellsConn (s : State) (d c count : ℕ) (found : List ℕ) (t : State) : Type 0 where
   pub text : Text
   pub incoming : Text
   pub found_is : found ≡ bytes_of text
   pub was : (conn_at s c).incoming ≡ text ++ incoming
-  -- as long a beginning as may be: the domain may read each byte of it
+  -- the longest prefix that the domain may read
   pub most : text ≡ admitted (may_read s d) (take count (conn_at s c).incoming)
   pub conn : conn_at t c ≡ record (conn_at s c) { incoming = incoming }
   pub lent : SameLent s d t
@@ -50,13 +50,13 @@ CopiesConn s d c count (reply.Bytes found) t = TellsConn s d c count found t
 CopiesConn s d c count (reply.Refused x) t = t ≡ s
 CopiesConn s d c count r t = ⊥
 
--- of a pipe the same; where some are asked for and none is told, nobody writes any more
+-- the same for a pipe; if count is positive and there are none, the pipe has no writer any more
 pub record TellsPipe (s : State) (d p count : ℕ) (found : List ℕ) (t : State) : Type 0 where
   pub text : Text
   pub rest : Text
   pub found_is : found ≡ bytes_of text
   pub was : (pipe_at s p).queue ≡ text ++ rest
-  -- as long a beginning as may be: the domain may read each byte of it
+  -- the longest prefix that the domain may read
   pub most : text ≡ admitted (may_read s d) (take count (pipe_at s p).queue)
   pub pipe : pipe_at t p ≡ record (pipe_at s p) { queue = rest }
   pub lent : SameLent s d t
@@ -67,7 +67,7 @@ CopiesPipe s d p count (reply.Bytes found) t = TellsPipe s d p count found t
 CopiesPipe s d p count (reply.Refused x) t = t ≡ s
 CopiesPipe s d p count r t = ⊥
 
--- Each of the two, on a file, a connection and a pipe.
+-- Each of the two calls, on a file, a connection and a pipe.
 pub record CopyingCallsServeTheirDomain : Type 0 where
   pub write_file : (s t : State) (d fd f at : ℕ) (mode : Mode) (bytes : List ℕ) (r : Reply) → ArePlaced s
       → is_live s d ≡ true → writes mode ≡ true → descriptor s d fd ≡ Some (on.File f at mode)

@@ -1,4 +1,4 @@
--- What calls that make and end domains, and those on pools, do for the domain that makes them.
+-- The effect of calls that create and end domains, and of calls on pools, for their caller.
 use Rattle.std.specs.Prelude.{◌≡◌, ◌≢◌, ℕ, ◌==◌, ◌||◌, true, false, List, [], Some}
 use Rattle.std.specs.List.{list_any}
 use Rattle.iol_core.specs.State.{State, domain, new_domain, no_domain, is_live, pool, is_pool, may_read, descriptor, pipe_at, conn_at}
@@ -13,7 +13,7 @@ use Rattle.iol_laws.specs.Order.{IsOrderly}
 use Rattle.iol_laws.specs.Caller.{is_rough, remains, ClosesReadEnd, ClosesWriteEnd}
 use Rattle.iol_laws.specs.Others.{HasNotEnd}
 
--- a new domain is live and has nothing, and the others are as they were
+-- a new domain is live and has nothing, and all other domains are unchanged
 pub record StartsDomain (s : State) (n : ℕ) (t : State) : Type 0 where
   pub new : is_live s n ≡ false
   pub empty : domain t n ≡ new_domain
@@ -24,8 +24,8 @@ MakesDomain s (reply.Domain n) t = StartsDomain s n t
 MakesDomain s (reply.Refused x) t = (is_rough (reply.Refused x) ≡ true) × (t ≡ s)
 MakesDomain s r t = ⊥
 
--- The domain has nothing any more, and each of its descriptors is closed: of a connection what is still to be sent stays, of
--- a pipe what is still to be read, unless the read end was its own. What it had is closed as by `close`.
+-- The domain has nothing any more, and each of its descriptors is closed as by `close`. Queued output of a connection remains.
+-- The bytes of a pipe remain, unless the domain had the read end.
 pub record EndsDomain (s : State) (d : ℕ) (t : State) : Type 0 where
   pub nothing : domain t d ≡ no_domain
   pub others : (e : ℕ) → d ≢ e → domain t e ≡ domain s e
@@ -38,18 +38,18 @@ pub record EndsDomain (s : State) (d : ℕ) (t : State) : Type 0 where
       → ((pipe_at t p).reading ≡ true) × ((pipe_at t p).queue ≡ (pipe_at s p).queue)
   pub conns_remain : (fd c : ℕ) → descriptor s d fd ≡ Some (on.Connection c)
       → conn_at t c ≡ remains (record (conn_at s c) { incoming = []; closed = true })
-  -- of a pipe of which it had one end
+  -- for a pipe of which it had one end
   pub closes_read_end : (fd p : ℕ) → descriptor s d fd ≡ Some (on.ReadEnd p) → HasNotEnd s d (on.WriteEnd p)
       → ClosesReadEnd s p reply.Done t
   pub closes_write_end : (fd p : ℕ) → descriptor s d fd ≡ Some (on.WriteEnd p) → HasNotEnd s d (on.ReadEnd p)
       → ClosesWriteEnd s p reply.Done t
 
--- it is never refused
+-- `exit` is never refused
 abbrev pub Exits : State → (d : ℕ) → Reply → State → Type 0
 Exits s d reply.Done t = EndsDomain s d t
 Exits s d r t = ⊥
 
--- a new pool is open, just these domains may read it, and the other pools are as they were
+-- a new pool is open, exactly these domains may read it, and all other pools are unchanged
 pub record OpensPool (s : State) (list : List ℕ) (p : ℕ) (t : State) : Type 0 where
   pub new : is_pool s p ≡ false
   pub there : is_pool t p ≡ true
@@ -62,7 +62,7 @@ MakesPool s list (reply.Pool p) t = OpensPool s list p t
 MakesPool s list (reply.Refused x) t = t ≡ s
 MakesPool s list r t = ⊥
 
--- a pool that was open is closed, the same domains may read it, and the other pools are as they were
+-- an open pool is closed, its readers and all other pools are unchanged
 pub record ShutsPool (s : State) (d p : ℕ) (t : State) : Type 0 where
   pub was_open : (pool s p).closed ≡ false
   pub may : may_read s d p ≡ true
@@ -74,8 +74,8 @@ ClosesPool s d p reply.Done t = ShutsPool s d p t
 ClosesPool s d p (reply.Refused x) t = t ≡ s
 ClosesPool s d p r t = ⊥
 
--- The pool, which is open and the caller may read, is read by one domain more, and nothing else changed: nothing at all where
--- that domain could read it before.
+-- One more domain may read an open pool that the caller may read, and nothing else changes. If the domain could read it before,
+-- nothing changes.
 pub record AdmitsDomain (s : State) (d p e : ℕ) (t : State) : Type 0 where
   pub may_admit : may_read s d p ≡ true
   pub open_yet : (pool s p).closed ≡ false
@@ -86,13 +86,13 @@ pub record AdmitsDomain (s : State) (d p e : ℕ) (t : State) : Type 0 where
   pub rest : t ≡ record s { pools = t.pools }
   pub again : may_read s e p ≡ true → t ≡ s
 
--- it wants no memory
+-- it needs no memory
 abbrev pub Admits : State → (d p e : ℕ) → Reply → State → Type 0
 Admits s d p e reply.Done t = AdmitsDomain s d p e t
 Admits s d p e (reply.Refused x) t = (x ≢ Memory) × (t ≡ s)
 Admits s d p e r t = ⊥
 
--- what the domain makes from now on lies in this pool, which is open and which it may read
+-- the bytes that the domain creates from now on are placed in this pool, which is open and which the domain may read
 pub record TakesPool (s : State) (d p : ℕ) (t : State) : Type 0 where
   pub default_is : (domain t d).default ≡ Some p
   pub may : may_read s d p ≡ true

@@ -1,5 +1,5 @@
--- What calls on files do for the domain that makes them. The domain is a live one, and knows which file its descriptor is
--- open on, at which position: so each word says which refusals may come, too.
+-- The effect of file calls for their caller, a live domain with a known file and position of its descriptor. So each definition
+-- also lists the possible refusals.
 use Rattle.std.specs.Prelude.{◌≡◌, ℕ, ◌+◌, ◌<◌, ◌≤◌, true, false, List, ◌++◌, length, take, drop, Some, None}
 use Rattle.iol_core.specs.NumberedLists.{is_numbered}
 use Rattle.iol_core.specs.State.{State, descriptor, content, file, may_read, is_live}
@@ -19,7 +19,7 @@ use Rattle.iol_core.specs.declared.events.Reply.TheVariants as reply
 use Rattle.iol_laws.specs.Order.{IsOrderly}
 use Rattle.iol_laws.specs.Caller.{lent_at, is_rough}
 
--- the next number is a file of this name and pool, and has the bytes that stand in its slot
+-- the next file has this name and pool, and the bytes of its slot
 pub record NamesFile (s : State) (d : ℕ) (name : List ℕ) (p f : ℕ) (t : State) : Type 0 where
   pub new : is_numbered s.files f ≡ false
   pub unknown : file_called s name ≡ None
@@ -33,7 +33,7 @@ MakesFile s d name p (reply.File f) t = NamesFile s d name p f t
 MakesFile s d name p (reply.Refused x) t = t ≡ s
 MakesFile s d name p r t = ⊥
 
--- the file of this name is open at its start, under a new number
+-- the file of this name is open at position 0, under a new number
 pub record OpensFile (s : State) (d : ℕ) (name : List ℕ) (mode : Mode) (fd : ℕ) (t : State) : Type 0 where
   pub file_is : ℕ
   pub found : file_called s name ≡ Some file_is
@@ -41,7 +41,7 @@ pub record OpensFile (s : State) (d : ℕ) (name : List ℕ) (mode : Mode) (fd :
   pub open_on : descriptor t d fd ≡ Some (on.File file_is 0 mode)
   pub new : descriptor s d fd ≡ None
 
--- the file of this name is of a pool that the domain may not read
+-- the pool of the file of this name is one that the domain may not read
 pub record IsBarred (s : State) (d : ℕ) (name : List ℕ) (p : ℕ) : Type 0 where
   pub file_is : ℕ
   pub found : file_called s name ≡ Some file_is
@@ -55,24 +55,24 @@ Opening s d name mode (reply.Refused (Denied p)) t = IsBarred s d name p × (t �
 Opening s d name mode (reply.Refused x) t = (is_rough (reply.Refused x) ≡ true) × (t ≡ s)
 Opening s d name mode r t = ⊥
 
--- the position is the one asked for, which lies in the file or at its end
+-- the position is the requested one, which is at most the file's length
 abbrev pub Seeks : State → (d fd f at : ℕ) → Mode → Reply → State → Type 0
 Seeks s d fd f at mode reply.Done t = (at ≤ length (content s f)) × (descriptor t d fd ≡ Some (on.File f at mode))
 Seeks s d fd f at mode (reply.Refused x) t = (x ≡ BadRange) × (length (content s f) < at) × (t ≡ s)
 Seeks s d fd f at mode r t = ⊥
 
--- a number is told, and nothing changes; it is never refused
+-- the reply is this number, and nothing changes; the call is never refused
 abbrev pub Tells : State → ℕ → Reply → State → Type 0
 Tells s n (reply.Count k) t = (k ≡ n) × (t ≡ s)
 Tells s n r t = ⊥
 
--- nothing changes; refused is it where the store fails at this file alone
+-- nothing changes; the call is refused only if the store fails at this file
 abbrev pub Syncs : State → (f : ℕ) → Reply → State → Type 0
 Syncs s f reply.Done t = t ≡ s
 Syncs s f (reply.Refused x) t = (x ≡ Fault f) × (t ≡ s)
 Syncs s f r t = ⊥
 
--- these bytes of a file are lent as aggregate n, and the position moves past them
+-- these bytes of a file are returned as aggregate n, and the position moves past them
 pub record LendsFile (s : State) (d fd f at : ℕ) (mode : Mode) (bytes : List ℕ) (n : ℕ) (t : State) : Type 0 where
   pub lends : lent_at t d n ≡ Some bytes
   pub new : lent_at s d n ≡ None
@@ -83,7 +83,7 @@ ReadsFile s d fd f at mode bytes (reply.Agg n) t = LendsFile s d fd f at mode by
 ReadsFile s d fd f at mode bytes (reply.Refused x) t = (is_rough (reply.Refused x) ≡ true) × (t ≡ s)
 ReadsFile s d fd f at mode bytes r t = ⊥
 
--- bytes over what there was from a position on
+-- bytes that replace those of a list from a position on, or extend it
 abbrev pub laid_over : List ℕ → (at : ℕ) → List ℕ → List ℕ
 laid_over was at bytes = take at was ++ bytes ++ drop (at + length bytes) was
 
@@ -99,7 +99,7 @@ WritesFile s d fd f at mode bytes (reply.Refused TooLong) t = (MAX_FILE_BYTES < 
 WritesFile s d fd f at mode bytes (reply.Refused x) t = (is_rough (reply.Refused x) ≡ true) × (t ≡ s)
 WritesFile s d fd f at mode bytes r t = ⊥
 
--- Each call on a file. What holds between events of positions is asked for only where bytes are written.
+-- Each call on a file. The invariant of positions is a premise only if bytes are written.
 pub record FileCallsServeTheirDomain : Type 0 where
   pub makes : (s t : State) (d : ℕ) (name : List ℕ) (p : ℕ) (r : Reply) → StepsTo s (event.Call d (call.FileNew name p)) r t
       → MakesFile s d name p r t

@@ -1,4 +1,5 @@
--- What a step leaves as it was: connections, pipes, descriptors, files, pools and domains that the event does not touch.
+-- The parts of the state that a step leaves unchanged: connections, pipes, descriptors, files, pools and domains that its event
+-- does not touch.
 use Rattle.std.specs.Prelude.{◌≡◌, ℕ, ◌≤◌, ◌==◌, ◌&&◌, ◌||◌, Bool, true, false, List, [], ◌∷◌, ◌++◌, length, Option, Some, unwrap_or}
 use Rattle.std.specs.List.{list_any}
 use Rattle.iol_core.specs.NumberedLists.{lowest, is_numbered}
@@ -15,7 +16,7 @@ use Rattle.iol_core.specs.declared.events.Reply.{Reply}
 use Rattle.iol_core.specs.Run.{StepsTo}
 use Rattle.iol_core.specs.Values.{ValuesStay}
 
--- the caller's descriptors that a call uses up, moves, reads or writes
+-- the descriptors of the caller that a call closes, reads or writes
 abbrev pub operands : State → Event → List (Option Descriptor)
 operands s (event.Call by call.Exit) = (domain s by).fds
 operands s (event.Call by (call.Close fd)) = descriptor s by fd ∷ []
@@ -34,7 +35,7 @@ is_end p (Some (on.ReadEnd q)) = q == p
 is_end p (Some (on.WriteEnd q)) = q == p
 is_end p o = false
 
--- the connection that an event names itself, or that it makes or accepts
+-- the connection that an event names, makes or accepts
 abbrev pub names_conn : State → Event → (c : ℕ) → Bool
 names_conn s (event.Call by call.Accept) c = unwrap_or (waiting s by) 0 == c
 names_conn s (event.ConnNew p) c = s.next_conn == c
@@ -53,7 +54,7 @@ makes_pipe s e p = false
 abbrev pub touches_pipe : State → Event → (p : ℕ) → Bool
 touches_pipe s e p = list_any (is_end p) (operands s e) || makes_pipe s e p
 
--- whether a domain's number is closed or given away, or is open on a file whose position moves
+-- whether a descriptor is closed or given away, or the position of its file moves
 abbrev pub touches_fd : State → Event → (d fd : ℕ) → Bool
 touches_fd s (event.Call by call.Exit) d fd = by == d
 touches_fd s (event.Call by (call.Close f)) d fd = (by == d) && (f == fd)
@@ -65,7 +66,7 @@ touches_fd s (event.Call by (call.Read f n)) d fd = (by == d) && (f == fd) && is
 touches_fd s (event.Call by (call.Write f bytes)) d fd = (by == d) && (f == fd) && is_file (descriptor s by f)
 touches_fd s e d fd = false
 
--- whether it may make or write a file
+-- whether the event may make or write a file
 abbrev pub changes_files : State → Event → Bool
 changes_files s (event.Call by (call.FileNew name p)) = true
 changes_files s (event.Call by (call.IolWrite fd a)) = is_file (descriptor s by fd)
@@ -76,40 +77,40 @@ abbrev pub is_on_file : (f : ℕ) → Option Descriptor → Bool
 is_on_file f (Some (on.File g at mode)) = g == f
 is_on_file f o = false
 
--- whether it may write this file
+-- whether the event may write this file
 abbrev pub writes_file : State → Event → (f : ℕ) → Bool
 writes_file s (event.Call by (call.IolWrite fd a)) f = is_on_file f (descriptor s by fd)
 writes_file s (event.Call by (call.Write fd bytes)) f = is_on_file f (descriptor s by fd)
 writes_file s e f = false
 
--- whether it may close this pool
+-- whether the event may close this pool
 abbrev pub closes_pool : Event → (p : ℕ) → Bool
 closes_pool (event.Call by (call.PoolClose q)) p = q == p
 closes_pool e p = false
 
--- whether it may have this pool's list name a domain more
+-- whether the event may add a domain to the list of this pool
 abbrev pub admits_to : Event → (p : ℕ) → Bool
 admits_to (event.Call by (call.PoolAdmit q d)) p = q == p
 admits_to e p = false
 
--- a list with at most one more behind: nobody is taken off it
+-- a list with at most one more element at its end; none is removed
 pub record Grows (old new : List ℕ) : Type 0 where
   pub more : List ℕ
   pub few : length more ≤ 1
   pub is : new ≡ old ++ more
 
--- whether the domain may end by it
+-- whether the event may end the domain
 abbrev pub ends : Event → (d : ℕ) → Bool
 ends (event.Call by call.Exit) d = by == d
 ends e d = false
 
--- whether the domain may have another default pool after it
+-- whether the event may change the domain's default pool
 abbrev pub sets_default : Event → (d : ℕ) → Bool
 sets_default (event.Call by call.Exit) d = by == d
 sets_default (event.Call by (call.SetPool p)) d = by == d
 sets_default e d = false
 
--- from old to new, by this event
+-- the unchanged parts, for this event from old to new
 pub record Leaves (old : State) (e : Event) (new : State) : Type 0 where
   pub conns : (c : ℕ) → touches_conn old e c ≡ false → conn_at new c ≡ conn_at old c
   pub pipes : (p : ℕ) → touches_pipe old e p ≡ false → pipe_at new p ≡ pipe_at old p
@@ -120,18 +121,18 @@ pub record Leaves (old : State) (e : Event) (new : State) : Type 0 where
   -- a file keeps its name, its number and its pool
   pub known : (f : ℕ) → is_numbered old.files f ≡ true → file new f ≡ file old f
   pub called : (name : List ℕ) (f : ℕ) → file_called old name ≡ Some f → file_called new name ≡ Some f
-  -- a pool that is there stays one
+  -- an existing pool remains
   pub numbered : (p : ℕ) → is_pool old p ≡ true → is_pool new p ≡ true
   pub lists : (p : ℕ) → is_pool old p ≡ true → Grows (pool old p).domains (pool new p).domains
-  -- who may read a pool may go on to
+  -- a domain that may read a pool keeps this right
   pub readers : (d p : ℕ) → may_read old d p ≡ true → may_read new d p ≡ true
   pub pools : (p : ℕ) → is_pool old p ≡ true → closes_pool e p ≡ false → admits_to e p ≡ false → pool new p ≡ pool old p
-  -- a pool that is closed, too, keeps its list, unless a domain is admitted to it
+  -- a pool, closed or not, keeps its list, unless a domain is admitted to it
   pub listed : (p : ℕ) → is_pool old p ≡ true → admits_to e p ≡ false → (pool new p).domains ≡ (pool old p).domains
   pub lives : (d : ℕ) → is_live old d ≡ true → ends e d ≡ false → is_live new d ≡ true
   pub defaults : (d : ℕ) → is_live old d ≡ true → sets_default e d ≡ false → (domain new d).default ≡ (domain old d).default
 
--- every step leaves what its event does not touch, and the values of aggregates
+-- every step leaves unchanged what its event does not touch, and the values of aggregates
 pub record EachStepLeavesTheRest : Type 0 where
   pub leaves : (old new : State) (e : Event) (r : Reply) → StepsTo old e r new → Leaves old e new
   pub values : (old new : State) (e : Event) (r : Reply) → StepsTo old e r new → ValuesStay old e new

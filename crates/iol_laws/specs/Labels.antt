@@ -1,4 +1,4 @@
--- Where lies what came in on a connection.
+-- The pool of the bytes received on a connection.
 use Rattle.std.specs.Prelude.{◌≡◌, ℕ, ◌==◌, Bool, true, List, Some}
 use Rattle.std.specs.List.{list_all}
 use Rattle.iol_core.specs.Text.{Text}
@@ -12,22 +12,22 @@ use Rattle.iol_core.specs.declared.events.Event.TheVariants as event
 use Rattle.iol_core.specs.declared.events.Reply.{Reply}
 use Rattle.iol_core.specs.declared.events.Reply.TheVariants as reply
 
--- whether each byte lies in this pool
+-- whether each byte is in this pool
 abbrev pub lies_in : (pool : ℕ) → Text → Bool
 lies_in pool t = list_all (λ b. b.1 == pool) t
 
--- what is unread on each connection lies in its pool
+-- the unread bytes of each connection are in the connection's pool
 abbrev pub AreAtHome : State → Type 0
 AreAtHome s = list_all (λ e. lies_in e.1.pool e.1.incoming) s.conns ≡ true
 
 pub record ArrivalsLieInTheirPool : Type 0 where
   pub new : (slots : List (List ℕ)) → AreAtHome (new_state slots)
   pub step : (s t : State) (e : Event) (r : Reply) → AreAtHome s → StepsTo s e r t → AreAtHome t
-  -- so in each state that is reached
+  -- the same in each reachable state
   pub reached : (slots : List (List ℕ)) (t : State) (es : List Event) (rs : List Reply) → Run (new_state slots) es rs t
       → AreAtHome t
   pub each : (s : State) (c : ℕ) → AreAtHome s → lies_in (conn_at s c).pool (conn_at s c).incoming ≡ true
-  -- and a domain that may read the pool is never denied a read
+  -- a domain that may read the pool is never denied a read
   pub reads : (s t : State) (d fd c n p : ℕ) → AreAtHome s → descriptor s d fd ≡ Some (on.Connection c)
       → may_read s d (conn_at s c).pool ≡ true → StepsTo s (event.Call d (call.IolRead fd n)) (reply.Refused (Denied p)) t
       → ⊥

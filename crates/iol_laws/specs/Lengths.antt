@@ -1,4 +1,4 @@
--- How long files, aggregates and queues are.
+-- Length limits of files, aggregates and queues.
 use Rattle.std.specs.Prelude.{◌≡◌, ℕ, ◌≤◌, ◌&&◌, Bool, true, List, length, Some, nat_le}
 use Rattle.std.specs.List.{list_all}
 use Rattle.iol_core.specs.Text.{Text}
@@ -11,11 +11,11 @@ use Rattle.iol_core.specs.declared.events.Event.{Event}
 use Rattle.iol_core.specs.declared.events.Reply.{Reply}
 use Rattle.iol_laws.specs.Caller.{lent_at}
 
--- whether it is no longer than an aggregate may be
+-- whether the text is within the limit of an aggregate
 abbrev pub fits_aggregate : Text → Bool
 fits_aggregate t = nat_le (length t) MAX_AGGREGATE_BYTES
 
--- or than a queue may be
+-- whether the text is within the limit of a queue
 abbrev pub fits_queue : Text → Bool
 fits_queue t = nat_le (length t) MAX_QUEUE_BYTES
 
@@ -23,22 +23,22 @@ abbrev pub both_fit : Connection → Bool
 both_fit k = fits_queue k.incoming && fits_queue k.outgoing
 
 pub record AreShort (s : State) : Type 0 where
-  -- no file is longer than a file may be; a slot that has no file yet may be
+  -- each file is within its limit; a slot without a file may exceed it
   pub files : (f : ℕ) → is_numbered s.files f ≡ true → length (content s f) ≤ MAX_FILE_BYTES
-  -- no aggregate of a domain is longer than one may be
+  -- each aggregate of a domain is within its limit
   pub aggs : (d : ℕ) → list_all (λ e. fits_aggregate e.1) (domain s d).aggs ≡ true
-  -- nor is the queue of a pipe, or either of a connection
+  -- the queue of a pipe, and both queues of a connection, are within theirs
   pub pipes : (p : ℕ) → fits_queue (pipe_at s p).queue ≡ true
   pub conns : list_all (λ e. both_fit e.1) s.conns ≡ true
 
 pub record LengthsStayBounded : Type 0 where
   pub new : (slots : List (List ℕ)) → AreShort (new_state slots)
-  -- where positions lie within files
+  -- if positions are within files
   pub step : (s t : State) (e : Event) (r : Reply) → ArePlaced s → AreShort s → StepsTo s e r t → AreShort t
-  -- so in each state that is reached
+  -- the same in each reachable state
   pub reached : (slots : List (List ℕ)) (t : State) (es : List Event) (rs : List Reply) → MAX_FILES ≤ length slots
       → Run (new_state slots) es rs t → AreShort t
-  -- what a domain has under a number, and what waits in a queue
+  -- the aggregate that a domain has under a number, and the bytes in a queue
   pub lent : (s : State) (d a : ℕ) (bytes : List ℕ) → AreShort s → lent_at s d a ≡ Some bytes
       → length bytes ≤ MAX_AGGREGATE_BYTES
   pub written : (s : State) (p : ℕ) → AreShort s → length (pipe_at s p).queue ≤ MAX_QUEUE_BYTES

@@ -1,4 +1,4 @@
--- What others do to a connection or a pipe: calls of other domains, and what happens outside.
+-- The effect on a connection or a pipe of calls of other domains and of external events.
 use Rattle.std.specs.Prelude.{◌≡◌, ℕ, ◌-◌, min, ◌⊎◌, ◌||◌, true, false, List, [], ◌++◌, length, take, drop, Some, None}
 use Rattle.iol_core.specs.Text.{Text, bytes_of}
 use Rattle.iol_core.specs.Checksum.{checksum}
@@ -16,7 +16,7 @@ use Rattle.iol_core.specs.declared.events.Reply.TheVariants as reply
 use Rattle.iol_laws.specs.Order.{IsOrderly}
 use Rattle.iol_laws.specs.Caller.{remains}
 
--- a new connection waits: nothing came in, and nothing is to be sent
+-- a new connection waits, with empty input and output
 pub record Connects (s : State) (p c : ℕ) (t : State) : Type 0 where
   pub new : conn_at s c ≡ no_conn
   pub conn : conn_at t c ≡ new_conn p
@@ -27,7 +27,7 @@ MakesConn s p (reply.Conn c) t = Connects s p c t
 MakesConn s p (reply.Refused x) t = t ≡ s
 MakesConn s p r t = ⊥
 
--- bytes came in
+-- bytes are received
 pub record ComesIn (s : State) (c : ℕ) (bytes : List ℕ) (t : State) : Type 0 where
   pub open_yet : (conn_at s c).closed ≡ false
   -- and the peer did not close
@@ -41,7 +41,7 @@ Arrives s c bytes (reply.Count k) t = ComesIn s c (take k bytes) t
 Arrives s c bytes (reply.Refused x) t = t ≡ s
 Arrives s c bytes r t = ⊥
 
--- the first bytes that were to be sent went out, at most so many; a connection that is over then is forgotten
+-- the first queued bytes, at most max, are sent; a connection that is then over is removed
 pub record GoesOut (s : State) (c max : ℕ) (bytes : List ℕ) (t : State) : Type 0 where
   pub bytes_are : bytes ≡ bytes_of (take max (conn_at s c).outgoing)
   pub some : ((conn_at s c).outgoing ≡ []) → ⊥
@@ -52,24 +52,24 @@ Transmits s c max (reply.Segment bytes sum) t = GoesOut s c max bytes t
 Transmits s c max (reply.Refused x) t = t ≡ s
 Transmits s c max r t = ⊥
 
--- the peer closed; a connection that is over then is forgotten
+-- the peer closed; a connection that is then over is removed
 abbrev pub PeerCloses : State → (c : ℕ) → How → Reply → State → Type 0
 PeerCloses s c how reply.Done t = conn_at t c ≡ remains (closed_by (conn_at s c) how)
 PeerCloses s c how (reply.Refused x) t = t ≡ s
 PeerCloses s c how r t = ⊥
 
 pub record OthersLeaveConnections : Type 0 where
-  -- a call leaves each connection that its domain neither has nor may accept
+  -- a call does not change a connection that its domain neither has nor may accept
   pub conn : (s t : State) (d : ℕ) (k : Call) (r : Reply) (c : ℕ) → IsOrderly s → StepsTo s (event.Call d k) r t
       → ((f : ℕ) → descriptor s d f ≡ Some (on.Connection c) → ⊥)
       → ((conn_at s c).accepted ≡ true) ⊎ (may_read s d (conn_at s c).pool ≡ false) → conn_at t c ≡ conn_at s c
-  -- a connection that waits is left by a call, or accepted
+  -- a call does not change a waiting connection, or accepts it
   pub waiting : (s t : State) (d : ℕ) (k : Call) (r : Reply) (c : ℕ) → IsOrderly s → StepsTo s (event.Call d k) r t
       → (conn_at s c).accepted ≡ false → (conn_at t c ≡ conn_at s c) ⊎ ((conn_at t c).accepted ≡ true)
-  -- what is accepted stays so
+  -- an accepted connection stays accepted
   pub accepted : (s t : State) (d : ℕ) (k : Call) (r : Reply) (c : ℕ) → IsOrderly s → StepsTo s (event.Call d k) r t
       → (conn_at s c).accepted ≡ true → (conn_at t c).accepted ≡ true
-  -- what happens outside, to the connection that it makes or names
+  -- the effect of an external event on the connection that it makes or names
   pub connect : (s t : State) (p : ℕ) (r : Reply) → IsOrderly s → StepsTo s (event.ConnNew p) r t → MakesConn s p r t
   pub arrive : (s t : State) (c : ℕ) (bytes : List ℕ) (r : Reply) → IsOrderly s → StepsTo s (event.Arrive c bytes) r t
       → Arrives s c bytes r t
@@ -80,18 +80,18 @@ pub record OthersLeaveConnections : Type 0 where
   -- as many bytes come in as fit
   pub arrive_count : (s t : State) (c : ℕ) (bytes : List ℕ) (k : ℕ) → StepsTo s (event.Arrive c bytes) (reply.Count k) t
       → k ≡ min (length bytes) (MAX_QUEUE_BYTES - length (conn_at s c).incoming)
-  -- a segment has as many bytes as it may, or all that are to be sent, and their checksum
+  -- a segment has max bytes, or all queued bytes if these are fewer, and their checksum
   pub transmit_count : (s t : State) (c max : ℕ) (bytes : List ℕ) (sum : ℕ)
       → StepsTo s (event.Transmit c max) (reply.Segment bytes sum) t
       → (length bytes ≡ min max (length (conn_at s c).outgoing)) × (sum ≡ checksum bytes)
 
--- what is still to be read of a pipe stays where it is, and more may come behind it
+-- the unread bytes of a pipe remain in place, and more may be appended
 pub record StaysUnread (s : State) (p : ℕ) (t : State) : Type 0 where
   pub more : Text
   pub queue : (pipe_at t p).queue ≡ (pipe_at s p).queue ++ more
   pub reading : (pipe_at t p).reading ≡ true
 
--- what was written to a pipe goes from its front alone
+-- bytes of a pipe are removed only from its front
 pub record GoesFromFront (s : State) (p : ℕ) (t : State) : Type 0 where
   pub gone : Text
   pub queue : (pipe_at s p).queue ≡ gone ++ (pipe_at t p).queue
@@ -100,15 +100,15 @@ pub record GoesFromFront (s : State) (p : ℕ) (t : State) : Type 0 where
 abbrev pub HasNotEnd : State → (d : ℕ) → Descriptor → Type 0
 HasNotEnd s d x = (fd : ℕ) → descriptor s d fd ≡ Some x → ⊥
 
--- Calls of a domain that has not both ends of a pipe.
+-- Calls of a domain that does not have both ends of a pipe.
 pub record OthersLeavePipes : Type 0 where
-  -- one that has neither leaves it
+  -- a domain with neither end does not change it
   pub pipe : (s t : State) (d : ℕ) (k : Call) (r : Reply) (p : ℕ) → StepsTo s (event.Call d k) r t
       → HasNotEnd s d (on.ReadEnd p) → HasNotEnd s d (on.WriteEnd p)
       → ((pipe_at s p).reading || (pipe_at s p).writing) ≡ true → pipe_at t p ≡ pipe_at s p
-  -- one that cannot read it takes nothing from it
+  -- a domain without the read end takes nothing from it
   pub unread : (s t : State) (d : ℕ) (k : Call) (r : Reply) (p : ℕ) → StepsTo s (event.Call d k) r t
       → HasNotEnd s d (on.ReadEnd p) → (pipe_at s p).reading ≡ true → StaysUnread s p t
-  -- one that cannot write to it adds nothing
+  -- a domain without the write end adds nothing
   pub written : (s t : State) (d : ℕ) (k : Call) (r : Reply) (p : ℕ) → StepsTo s (event.Call d k) r t
       → HasNotEnd s d (on.WriteEnd p) → (pipe_at s p).writing ≡ true → GoesFromFront s p t

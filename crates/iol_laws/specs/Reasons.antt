@@ -1,5 +1,5 @@
--- What a refusal tells the domain that is refused: why nothing can be read, written or accepted now. And which calls are not
--- refused.
+-- The condition that a refusal reports to its caller: why nothing can be read, written or accepted now. Also the calls that are
+-- never refused.
 use Rattle.std.specs.Prelude.{◌≡◌, ℕ, ◌≤◌, ◌⊎◌, true, false, List, [], ◌∷◌, length, Some, None, is_some}
 use Rattle.iol_core.specs.Text.{Text}
 use Rattle.iol_core.specs.State.{State, descriptor, may_read, conn_at, pipe_at, is_gone, is_live}
@@ -14,7 +14,7 @@ use Rattle.iol_core.specs.declared.events.Reply.{Reply}
 use Rattle.iol_core.specs.declared.events.Reply.TheVariants as reply
 use Rattle.iol_laws.specs.Caller.{lent_at}
 
--- the first byte is of this pool, which the domain may not read
+-- the first byte is in this pool, which the domain may not read
 pub record IsHidden (s : State) (d p : ℕ) (text : Text) : Type 0 where
   pub byte : ℕ
   pub rest : Text
@@ -22,43 +22,43 @@ pub record IsHidden (s : State) (d p : ℕ) (text : Text) : Type 0 where
   pub may_not : may_read s d p ≡ false
 
 pub record RefusalsTellWhy : Type 0 where
-  -- nothing is there to be read, and something may come
+  -- nothing can be read, but bytes may still arrive
   pub conn_is_empty : (s t : State) (d fd c n : ℕ) → descriptor s d fd ≡ Some (on.Connection c)
       → StepsTo s (event.Call d (call.IolRead fd n)) (reply.Refused WouldBlock) t
       → ((conn_at s c).incoming ≡ []) × ((conn_at s c).peer ≡ None)
   pub pipe_is_empty : (s t : State) (d fd p n : ℕ) → descriptor s d fd ≡ Some (on.ReadEnd p)
       → StepsTo s (event.Call d (call.IolRead fd n)) (reply.Refused WouldBlock) t
       → ((pipe_at s p).queue ≡ []) × ((pipe_at s p).writing ≡ true)
-  -- what is there the domain may not read
+  -- the domain may not read the first byte
   pub conn_is_hidden : (s t : State) (d fd c n q : ℕ) → descriptor s d fd ≡ Some (on.Connection c)
       → StepsTo s (event.Call d (call.IolRead fd n)) (reply.Refused (Denied q)) t → IsHidden s d q (conn_at s c).incoming
   pub pipe_is_hidden : (s t : State) (d fd p n q : ℕ) → descriptor s d fd ≡ Some (on.ReadEnd p)
       → StepsTo s (event.Call d (call.IolRead fd n)) (reply.Refused (Denied q)) t → IsHidden s d q (pipe_at s p).queue
-  -- as much waits as may
+  -- the queue is full
   pub conn_is_full : (s t : State) (d fd c a : ℕ) → descriptor s d fd ≡ Some (on.Connection c)
       → StepsTo s (event.Call d (call.IolWrite fd a)) (reply.Refused WouldBlock) t
       → MAX_QUEUE_BYTES ≤ length (conn_at s c).outgoing
   pub pipe_is_full : (s t : State) (d fd p a : ℕ) → descriptor s d fd ≡ Some (on.WriteEnd p)
       → StepsTo s (event.Call d (call.IolWrite fd a)) (reply.Refused WouldBlock) t
       → MAX_QUEUE_BYTES ≤ length (pipe_at s p).queue
-  -- nobody takes it any more
+  -- the peer receives no more
   pub peer_is_gone : (s t : State) (d fd c a : ℕ) → descriptor s d fd ≡ Some (on.Connection c)
       → StepsTo s (event.Call d (call.IolWrite fd a)) (reply.Refused BrokenPipe) t → is_gone (conn_at s c).peer ≡ true
   pub nobody_reads : (s t : State) (d fd p a : ℕ) → descriptor s d fd ≡ Some (on.WriteEnd p)
       → StepsTo s (event.Call d (call.IolWrite fd a)) (reply.Refused BrokenPipe) t → (pipe_at s p).reading ≡ false
-  -- as much came in as may, and nothing is to be sent
+  -- the input queue is full, or there is nothing to send
   pub arrival_is_full : (s t : State) (c : ℕ) (bytes : List ℕ)
       → StepsTo s (event.Arrive c bytes) (reply.Refused WouldBlock) t → MAX_QUEUE_BYTES ≤ length (conn_at s c).incoming
   pub segment_is_empty : (s t : State) (c max : ℕ) → StepsTo s (event.Transmit c max) (reply.Refused WouldBlock) t
       → (conn_at s c).outgoing ≡ []
-  -- its peer closed, or it is closed itself
+  -- the peer closed the connection, or its domain did
   pub arrival_is_broken : (s t : State) (c : ℕ) (bytes : List ℕ)
       → StepsTo s (event.Arrive c bytes) (reply.Refused BrokenPipe) t
       → (is_some (conn_at s c).peer ≡ true) ⊎ ((conn_at s c).closed ≡ true)
-  -- each connection that waits is one that the domain may not accept
+  -- the domain may accept none of the waiting connections
   pub nobody_waits : (s t : State) (d c : ℕ) → StepsTo s (event.Call d call.Accept) (reply.Refused WouldBlock) t
       → (conn_at s c).accepted ≡ false → may_read s d (conn_at s c).pool ≡ false
-  -- what is there is closed or dropped, at once
+  -- an existing object is closed or dropped without refusal
   pub close_is_done : (s t : State) (d fd : ℕ) (x : Descriptor) (r : Reply) → is_live s d ≡ true
       → descriptor s d fd ≡ Some x → StepsTo s (event.Call d (call.Close fd)) r t → r ≡ reply.Done
   pub drop_is_done : (s t : State) (d a : ℕ) (bytes : List ℕ) (r : Reply) → is_live s d ≡ true → lent_at s d a ≡ Some bytes

@@ -1,5 +1,5 @@
--- Which refusals a call can still get, where the domain lives and what the call names is there and fits: a word for each set of
--- them. And which calls may be told to wait.
+-- The refusals that a call may still get if the domain lives and the objects and arguments of the call are valid, with one
+-- definition for each set of refusals. Also the calls that may get WouldBlock.
 use Rattle.std.specs.Prelude.{◌≡◌, ◌≢◌, ℕ, ◌+◌, ◌≤◌, ◌<◌, Bool, true, false, List, ◌++◌, length, take, drop, Some, None, ⊤}
 use Rattle.std.specs.List.{list_all}
 use Rattle.iol_core.specs.State.{State, domain, descriptor, file, content, conn_at, is_live, is_pool, may_read, pool}
@@ -24,7 +24,7 @@ use Rattle.iol_core.specs.declared.events.Event.TheVariants as event
 use Rattle.iol_core.specs.declared.events.Reply.TheVariants as reply
 use Rattle.iol_laws.specs.Caller.{lent_at}
 
--- the calls that may be told to wait
+-- the calls that may get WouldBlock
 abbrev pub may_wait : Call → Bool
 may_wait call.Accept = true
 may_wait (call.IolRead fd n) = true
@@ -33,105 +33,105 @@ may_wait (call.Read fd n) = true
 may_wait (call.Write fd bytes) = true
 may_wait k = false
 
--- and of what happens outside
+-- the events that may get WouldBlock
 abbrev pub event_may_wait : Event → Bool
 event_may_wait (event.Call d k) = may_wait k
 event_may_wait (event.Arrive c bytes) = true
 event_may_wait (event.Transmit c max) = true
 event_may_wait e = false
 
--- want of numbers or of memory
+-- out of numbers or of memory
 abbrev pub LacksNumbers : Refusal → Type 0
 LacksNumbers TooMany = ⊤
 LacksNumbers Memory = ⊤
 LacksNumbers x = ⊥
 
--- or of room in this pool
+-- out of numbers, of pages in this pool, or of memory
 abbrev pub LacksNumbersOrRoom : (pool : ℕ) → Refusal → Type 0
 LacksNumbersOrRoom pool TooMany = ⊤
 LacksNumbersOrRoom pool (NoRoom p) = p ≡ pool
 LacksNumbersOrRoom pool Memory = ⊤
 LacksNumbersOrRoom pool x = ⊥
 
--- or the receiver may not read it
+-- out of numbers or of memory, or the receiver may not read the aggregate
 abbrev pub LacksNumbersOrIsDenied : Refusal → Type 0
 LacksNumbersOrIsDenied TooMany = ⊤
 LacksNumbersOrIsDenied (Denied p) = ⊤
 LacksNumbersOrIsDenied Memory = ⊤
 LacksNumbersOrIsDenied x = ⊥
 
--- or nobody waits
+-- out of numbers or of memory, or no connection is waiting
 abbrev pub LacksNumbersOrWaits : Refusal → Type 0
 LacksNumbersOrWaits TooMany = ⊤
 LacksNumbersOrWaits WouldBlock = ⊤
 LacksNumbersOrWaits Memory = ⊤
 LacksNumbersOrWaits x = ⊥
 
--- nothing is there to be read, or nothing that the domain may read; or want of memory
+-- there is nothing to read, or nothing that the domain may read; or out of memory
 abbrev pub HasNothingToRead : Refusal → Type 0
 HasNothingToRead (Denied p) = ⊤
 HasNothingToRead WouldBlock = ⊤
 HasNothingToRead Memory = ⊤
 HasNothingToRead x = ⊥
 
--- or of a number for what is read
+-- the same, or out of numbers for the result
 abbrev pub LacksNumbersOrHasNothingToRead : Refusal → Type 0
 LacksNumbersOrHasNothingToRead TooMany = ⊤
 LacksNumbersOrHasNothingToRead x = HasNothingToRead x
 
--- nobody takes it, or not now; or want of memory
+-- there is no reader, or the queue is full; or out of memory
 abbrev pub CannotPut : Refusal → Type 0
 CannotPut BrokenPipe = ⊤
 CannotPut WouldBlock = ⊤
 CannotPut Memory = ⊤
 CannotPut x = ⊥
 
--- or of room in this pool
+-- the same, or out of pages in this pool
 abbrev pub CannotPutOrLacksRoom : (pool : ℕ) → Refusal → Type 0
 CannotPutOrLacksRoom pool (NoRoom p) = p ≡ pool
 CannotPutOrLacksRoom pool x = CannotPut x
 
--- a fault at this file, or want of memory or of room in its pool
+-- a fault at this file, or out of memory or of pages in its pool
 abbrev pub CannotLoad : (pool file : ℕ) → Refusal → Type 0
 CannotLoad pool file (NoRoom p) = p ≡ pool
 CannotLoad pool file (Fault f) = f ≡ file
 CannotLoad pool file Memory = ⊤
 CannotLoad pool file x = ⊥
 
--- or of a number for what is read
+-- the same, or out of numbers for the result
 abbrev pub CannotFetch : (pool file : ℕ) → Refusal → Type 0
 CannotFetch pool file TooMany = ⊤
 CannotFetch pool file x = CannotLoad pool file x
 
--- want of memory or of room in this pool
+-- out of memory or of pages in this pool
 abbrev pub LacksRoom : (pool : ℕ) → Refusal → Type 0
 LacksRoom pool (NoRoom p) = p ≡ pool
 LacksRoom pool Memory = ⊤
 LacksRoom pool x = ⊥
 
--- nothing is to be sent, or want of memory
+-- there is nothing to send, or out of memory
 abbrev pub HasNothingToSend : Refusal → Type 0
 HasNothingToSend WouldBlock = ⊤
 HasNothingToSend Memory = ⊤
 HasNothingToSend x = ⊥
 
--- the pool is that of a file or of a live connection
+-- a file or a live connection uses the pool
 abbrev pub IsInUse : State → (p : ℕ) → Refusal → Type 0
 IsInUse s p (PoolBusy q) = (q ≡ p) × (is_busy s p ≡ true)
 IsInUse s p x = ⊥
 
--- the pool's list is full, and has not the domain's name
+-- the pool's list is full, and does not have the domain
 abbrev pub HasNoPlace : State → (p d : ℕ) → Refusal → Type 0
 HasNoPlace s p d TooMany = has_place (pool s p).domains d ≡ false
 HasNoPlace s p d x = ⊥
 
 pub record RefusalsThatAreLeft : Type 0 where
   pub waits : (s t : State) (d : ℕ) (k : Call) → StepsTo s (event.Call d k) (reply.Refused WouldBlock) t → may_wait k ≡ true
-  -- what is told to wait changes nothing
+  -- an event that gets WouldBlock changes nothing
   pub event_waits : (s t : State) (e : Event) → StepsTo s e (reply.Refused WouldBlock) t → (event_may_wait e ≡ true) × (t ≡ s)
   pub domain_new : (s t : State) (d : ℕ) (x : Refusal) → is_live s d ≡ true
       → StepsTo s (event.Call d call.DomainNew) (reply.Refused x) t → LacksNumbers x
-  -- the domain has a default pool, which is open
+  -- if the domain has a default pool, which is open
   pub make : (s t : State) (d p : ℕ) (bytes : List ℕ) (x : Refusal) → is_live s d ≡ true → (domain s d).default ≡ Some p
       → (pool s p).closed ≡ false → length bytes ≤ MAX_AGGREGATE_BYTES
       → StepsTo s (event.Call d (call.AggMake bytes)) (reply.Refused x) t → LacksNumbersOrRoom p x
@@ -156,14 +156,14 @@ pub record RefusalsThatAreLeft : Type 0 where
       → LacksNumbersOrIsDenied x
   pub accepts : (s t : State) (d : ℕ) (x : Refusal) → is_live s d ≡ true
       → StepsTo s (event.Call d call.Accept) (reply.Refused x) t → LacksNumbersOrWaits x
-  -- of a pipe's read end or a connection
+  -- for a pipe's read end or a connection
   pub reads_queue : (s t : State) (d fd n : ℕ) (y : Descriptor) (x : Refusal) → is_live s d ≡ true
       → descriptor s d fd ≡ Some y → is_file (Some y) ≡ false → can_read (Some y) ≡ true
       → StepsTo s (event.Call d (call.IolRead fd n)) (reply.Refused x) t → LacksNumbersOrHasNothingToRead x
   pub copies_queue : (s t : State) (d fd n : ℕ) (y : Descriptor) (x : Refusal) → is_live s d ≡ true
       → descriptor s d fd ≡ Some y → is_file (Some y) ≡ false → can_read (Some y) ≡ true
       → StepsTo s (event.Call d (call.Read fd n)) (reply.Refused x) t → HasNothingToRead x
-  -- to a pipe's write end or a connection
+  -- for a pipe's write end or a connection
   pub writes_queue : (s t : State) (d fd a : ℕ) (y : Descriptor) (bytes : List ℕ) (x : Refusal) → is_live s d ≡ true
       → descriptor s d fd ≡ Some y → is_file (Some y) ≡ false → can_write (Some y) ≡ true → lent_at s d a ≡ Some bytes
       → StepsTo s (event.Call d (call.IolWrite fd a)) (reply.Refused x) t → CannotPut x
@@ -171,14 +171,14 @@ pub record RefusalsThatAreLeft : Type 0 where
       → descriptor s d fd ≡ Some y → is_file (Some y) ≡ false → can_write (Some y) ≡ true → (domain s d).default ≡ Some p
       → (pool s p).closed ≡ false → StepsTo s (event.Call d (call.Write fd bytes)) (reply.Refused x) t
       → CannotPutOrLacksRoom p x
-  -- of a file whose pool the domain may read
+  -- for a file whose pool the domain may read
   pub reads_file : (s t : State) (d fd f at n : ℕ) (mode : Mode) (x : Refusal) → is_live s d ≡ true
       → descriptor s d fd ≡ Some (on.File f at mode) → reads mode ≡ true → may_read s d (file s f).pool ≡ true
       → StepsTo s (event.Call d (call.IolRead fd n)) (reply.Refused x) t → CannotFetch (file s f).pool f x
   pub copies_file : (s t : State) (d fd f at n : ℕ) (mode : Mode) (x : Refusal) → is_live s d ≡ true
       → descriptor s d fd ≡ Some (on.File f at mode) → reads mode ≡ true → may_read s d (file s f).pool ≡ true
       → StepsTo s (event.Call d (call.Read fd n)) (reply.Refused x) t → CannotLoad (file s f).pool f x
-  -- to a file, which stays within its limit
+  -- for a file that stays within its limit
   pub writes_file : (s t : State) (d fd f at a : ℕ) (mode : Mode) (bytes : List ℕ) (x : Refusal) → is_live s d ≡ true
       → descriptor s d fd ≡ Some (on.File f at mode) → writes mode ≡ true → lent_at s d a ≡ Some bytes
       → at + length bytes ≤ MAX_FILE_BYTES → StepsTo s (event.Call d (call.IolWrite fd a)) (reply.Refused x) t
@@ -186,7 +186,7 @@ pub record RefusalsThatAreLeft : Type 0 where
   pub copies_to_file : (s t : State) (d fd f at : ℕ) (mode : Mode) (bytes : List ℕ) (x : Refusal) → is_live s d ≡ true
       → descriptor s d fd ≡ Some (on.File f at mode) → writes mode ≡ true → at + length bytes ≤ MAX_FILE_BYTES
       → StepsTo s (event.Call d (call.Write fd bytes)) (reply.Refused x) t → LacksRoom (file s f).pool x
-  -- a name that no file has yet, for a slot whose bytes are within the limit
+  -- for a name that no file has yet, and a slot whose bytes are within the limit
   pub file_new : (s t : State) (d p : ℕ) (name : List ℕ) (x : Refusal) → is_live s d ≡ true → file_called s name ≡ None
       → 0 < length name → length name ≤ MAX_NAME_BYTES → length (content s (length s.files + 1)) ≤ MAX_FILE_BYTES
       → may_read s d p ≡ true → (pool s p).closed ≡ false
@@ -201,18 +201,18 @@ pub record RefusalsThatAreLeft : Type 0 where
       → lent_at s d a ≡ Some xs → lent_at s d b ≡ Some ys → from ≤ to → to ≤ length xs
       → length (take from xs ++ ys ++ drop to xs) ≤ MAX_AGGREGATE_BYTES
       → StepsTo s (event.Call d (call.AggReplace a from to b)) (reply.Refused x) t → LacksNumbers x
-  -- for domains that live; TooMany also where these are more than a list may name
+  -- for live domains; TooMany also if they exceed the limit of a list
   pub pool_create : (s t : State) (d chunks : ℕ) (list : List ℕ) (x : Refusal) → is_live s d ≡ true
       → list_all (λ e. is_live s e) list ≡ true → 0 < length list → 0 < chunks → chunks ≤ MAX_CHUNKS
       → StepsTo s (event.Call d (call.PoolCreate chunks list)) (reply.Refused x) t
       → LacksNumbersOrRoom (length s.pools + 1) x
-  -- an open pool that the domain may read
+  -- for an open pool that the domain may read
   pub pool_close : (s t : State) (d p : ℕ) (x : Refusal) → is_live s d ≡ true → may_read s d p ≡ true
       → (pool s p).closed ≡ false → StepsTo s (event.Call d (call.PoolClose p)) (reply.Refused x) t → IsInUse s p x
   pub pool_admit : (s t : State) (d p e : ℕ) (x : Refusal) → is_live s d ≡ true → is_live s e ≡ true
       → may_read s d p ≡ true → (pool s p).closed ≡ false
       → StepsTo s (event.Call d (call.PoolAdmit p e)) (reply.Refused x) t → HasNoPlace s p e x
-  -- what happens outside: to an open pool, to a connection that is there, and to the store
+  -- external events on an open pool, on an existing connection, and on the store
   pub connects : (s t : State) (p : ℕ) (x : Refusal) → is_pool s p ≡ true → (pool s p).closed ≡ false
       → StepsTo s (event.ConnNew p) (reply.Refused x) t → LacksNumbers x
   pub arrives : (s t : State) (c : ℕ) (bytes : List ℕ) (x : Refusal) → lacks_conn s c ≡ false
@@ -220,7 +220,7 @@ pub record RefusalsThatAreLeft : Type 0 where
   pub transmits : (s t : State) (c max : ℕ) (x : Refusal) → lacks_conn s c ≡ false → 0 < max
       → StepsTo s (event.Transmit c max) (reply.Refused x) t → HasNothingToSend x
   pub flushes : (s t : State) (x : Refusal) → StepsTo s event.Flush (reply.Refused x) t → FaultIn s x
-  -- and these are never refused
+  -- these calls are never refused
   pub set_pool : (s t : State) (d p : ℕ) (x : Refusal) → is_live s d ≡ true → may_read s d p ≡ true
       → (pool s p).closed ≡ false → StepsTo s (event.Call d (call.SetPool p)) (reply.Refused x) t → ⊥
   pub seeks : (s t : State) (d fd f was at : ℕ) (mode : Mode) (x : Refusal) → is_live s d ≡ true

@@ -1,4 +1,4 @@
--- Where lies what calls make and write: in the pools of what they take it from.
+-- The pools of the bytes that calls make and write: those of their source.
 use Rattle.std.specs.Prelude.{◌≡◌, ℕ, ◌==◌, Bool, true, false, List, [], ◌++◌, take, Option, Some}
 use Rattle.std.specs.List.{list_all}
 use Rattle.iol_core.specs.Text.{Text, labelled, admitted}
@@ -17,16 +17,16 @@ use Rattle.iol_core.specs.declared.events.Reply.TheVariants as reply
 use Rattle.iol_laws.specs.Order.{IsOrderly}
 use Rattle.iol_laws.specs.Aggregates.{brings}
 
--- whether each byte lies in one of these pools
+-- whether each byte is in one of these pools
 abbrev pub lie_in : (pools : ℕ → Bool) → Text → Bool
 lie_in pools t = list_all (λ b. pools b.1) t
 
--- what a read takes its bytes from: the file, or what waits in a pipe or on a connection
+-- the bytes that a read takes from: the file, or the queue of a pipe or connection
 abbrev pub read_from : State → Option Descriptor → Text
 read_from s (Some (on.File f at mode)) = labelled (file s f).pool (content s f)
 read_from s o = unread s o
 
--- what an event takes the aggregates from that it makes, and the bytes that it puts in a queue
+-- the source of an event's new aggregates, and of the bytes that it adds to a queue
 abbrev pub taken_from : State → Event → Text
 taken_from s (event.Call by (call.AggMake bytes)) = labelled (default_pool s by) bytes
 taken_from s (event.Call by (call.AggDup a)) = text s by a
@@ -44,7 +44,7 @@ abbrev pub is_write_end : (p : ℕ) → Option Descriptor → Bool
 is_write_end p (Some (on.WriteEnd q)) = q == p
 is_write_end p o = false
 
--- whether it may write to this pipe
+-- whether the event may write to this pipe
 abbrev pub writes_pipe : State → Event → (p : ℕ) → Bool
 writes_pipe s (event.Call by (call.IolWrite fd a)) p = is_write_end p (descriptor s by fd)
 writes_pipe s (event.Call by (call.Write fd bytes)) p = is_write_end p (descriptor s by fd)
@@ -54,20 +54,20 @@ writes_pipe s e p = false
 abbrev pub MayReadAll : State → (d : ℕ) → (pools : ℕ → Bool) → Type 0
 MayReadAll s d pools = (q : ℕ) → pools q ≡ true → may_read s d q ≡ true
 
--- Bytes keep the pool that they were made in, whoever cuts, joins, passes or reads them.
+-- Bytes keep the pool in which they were created when they are cut, joined, passed on or read.
 pub record LabelsFollow : Type 0 where
-  -- an aggregate lies in these pools after an event where what it is made from does, or, if it is not new, where it did before
+  -- an aggregate is in these pools after an event if its source is, or, if it is not new, if it was before
   pub aggs : (pools : ℕ → Bool) (s t : State) (e : Event) (r : Reply) (d a : ℕ) → IsOrderly s → StepsTo s e r t
       → (brings e r d a ≡ true → lie_in pools (taken_from s e) ≡ true)
       → (brings e r d a ≡ false → lie_in pools (text s d a) ≡ true) → lie_in pools (text t d a) ≡ true
-  -- so does what waits in a pipe
+  -- the same for the bytes of a pipe
   pub pipes : (pools : ℕ → Bool) (s t : State) (e : Event) (r : Reply) (p : ℕ) → StepsTo s e r t
       → (writes_pipe s e p ≡ true → lie_in pools (taken_from s e) ≡ true) → lie_in pools (pipe_at s p).queue ≡ true
       → lie_in pools (pipe_at t p).queue ≡ true
-  -- new bytes lie in the pool that they are made in, and two texts where each of them does
+  -- new bytes are in the pool in which they are created, and two joined texts are in these pools if each is
   pub fresh : (pools : ℕ → Bool) (p : ℕ) (bytes : List ℕ) → pools p ≡ true → lie_in pools (labelled p bytes) ≡ true
   pub both : (pools : ℕ → Bool) (x y : Text) → lie_in pools x ≡ true → lie_in pools y ≡ true → lie_in pools (x ++ y) ≡ true
-  -- a domain that may read all these pools is never denied what lies in them, and takes of it all that it asks for
+  -- a domain that may read all these pools is never denied bytes in them, and gets all bytes that it asks for
   pub reads : (pools : ℕ → Bool) (s t : State) (d fd p n q : ℕ) → MayReadAll s d pools
       → lie_in pools (pipe_at s p).queue ≡ true → descriptor s d fd ≡ Some (on.ReadEnd p)
       → StepsTo s (event.Call d (call.IolRead fd n)) (reply.Refused (Denied q)) t → ⊥

@@ -1,4 +1,4 @@
-//! The laws. The functions do nothing; their contracts are the laws.
+//! Laws of the copying machine. The functions have no effect; their contracts are the laws.
 ghost use Rattle.iol_laws.specs.Aggregates.{AggregatesComeAndGo};
 ghost use Rattle.iol_laws.specs.Caller.{CallsServeTheirDomain, NumbersAreNew};
 ghost use Rattle.iol_laws.specs.CallerCopies.{CopyingCallsServeTheirDomain};
@@ -16,115 +16,127 @@ ghost use Rattle.iol_laws.specs.RefusalsLeft.{RefusalsThatAreLeft};
 ghost use Rattle.iol_laws.specs.ConnNumbers.{ConnectionNumbersRise};
 ghost use Rattle.iol_laws.specs.Sources.{LabelsFollow};
 
-/// Each step leaves what its event does not touch: connections, pipes, descriptors, files, pools, which domains live and where
-/// what they make lies, and the aggregates that nobody gives up. A pool's list grows by one name at most, and loses none.
+/// A step changes only what its event touches. All other connections, pipes, descriptors, files
+/// and pools are unchanged, and so are the domains that live, their default pools, and the
+/// aggregates that no call consumes. The list of a pool gains at most one domain per step and
+/// loses none.
 pub fn each_step_leaves_the_rest()
     ensures { EachStepLeavesTheRest }
 {}
 
-/// A new state is orderly, and each step keeps it so: each end of a pipe and each connection is open in one descriptor
-/// at most, what is open stands, and what stands is open in a domain that lives; a pipe that is there has an open end,
-/// nothing is left of a domain that ended, numbers that are still to come are not used yet, and a pool's list has sixteen names at
-/// most. What domains have they may read, and positions are within files, from a new state on, too.
+/// A new state is orderly, and each step preserves this. Each pipe end and each connection is open
+/// in at most one descriptor. The object of each open descriptor exists, and each existing end or
+/// accepted connection is open in a live domain. Each pipe has an open end. An ended domain has
+/// nothing. No object has a number at or above the next one. A pool's list has at most 16 domains.
+/// From a new state on, domains may read what they have, and positions are within files.
 pub fn each_step_keeps_order()
     ensures { EachStepKeepsOrder }
 {}
 
-/// What a call does for the domain that makes it, in the words that the domain sees: replies, and bytes by number.
+/// The effect of a call for its caller, in terms that the caller observes: replies, and bytes by
+/// number.
 pub fn calls_serve_their_domain()
     ensures { CallsServeTheirDomain }
 {}
 
-/// What a call on a file does for the domain that makes it: which file is opened, what is read and written, and at which
-/// position; and which refusals may come.
+/// The effect of a file call for its caller: the file that is opened, the bytes read and written,
+/// their position, and the possible refusals.
 pub fn file_calls_serve_their_domain()
     ensures { FileCallsServeTheirDomain }
 {}
 
-/// The calls that copy write and read what those on aggregates do, and leave all that their domain has under a number.
+/// The copying calls read and write what the calls on aggregates do, and keep all aggregates of
+/// the caller.
 pub fn copying_calls_serve_their_domain()
     ensures { CopyingCallsServeTheirDomain }
 {}
 
-/// A new domain has nothing, and one that ends leaves nothing open: what it had is closed as by `close`. A new pool is read by just
-/// the domains that were named, and by one more where that is admitted to it; and the pool that a domain sets is its default.
+/// A new domain has nothing. A domain that ends leaves nothing open: its descriptors are closed as
+/// by `close`. Exactly the listed domains may read a new pool, and each `pool_admit` adds one.
+/// `set_pool` sets the default pool of its caller.
 pub fn domains_and_pools_come_and_go()
     ensures { DomainsAndPoolsComeAndGo }
 {}
 
-/// What a refusal tells. A read that would block finds an empty queue, and one that is denied a first byte that the domain may
-/// not read. A write that would block finds a full queue, and one of a broken pipe nobody who will read. An `accept` that would
-/// block finds no waiting connection that the domain may have. Bytes that arrive and would block find a full queue, those of a
-/// broken pipe a connection that it or its peer closed, and a segment finds an empty queue. An open descriptor is closed, and an
-/// aggregate that is there is dropped, without refusal.
+/// The condition that each refusal reports. WouldBlock: a read finds an empty queue; a write finds
+/// a full queue; an `accept` finds no waiting connection that the domain may have; arriving bytes
+/// find a full queue; a segment finds an empty queue. Denied: the domain may not read the first
+/// byte. BrokenPipe: a write finds no reader; for arriving bytes, the connection was closed by its
+/// domain or its peer. An open descriptor is closed, and an existing aggregate is dropped, without
+/// refusal.
 pub fn refusals_tell_why()
     ensures { RefusalsTellWhy }
 {}
 
-/// The numbers that a domain is given by its calls are new ones, and what an aggregate's number names is there.
+/// The numbers that a domain gets from its calls are new, and the number of an aggregate names an
+/// existing one.
 pub fn numbers_are_new()
     ensures { NumbersAreNew }
 {}
 
-/// A connection that a domain neither has nor may accept is left by its calls; one that waits is left or accepted; and
-/// what happens outside makes or changes what its event names. As many bytes come in as fit, a segment has as many as it may, and
-/// a connection that is over then is forgotten, and no other.
+/// A domain's calls do not change a connection that it neither has nor may accept; a waiting
+/// connection is unchanged or accepted. External events create or change the connection that they
+/// name. As many bytes arrive as fit, and a segment has as many bytes as it may. Only a connection
+/// that is then over is removed.
 pub fn others_leave_connections()
     ensures { OthersLeaveConnections }
 {}
 
-/// A pipe of which a domain has no end is left by its calls; one that cannot read it takes nothing from it, and one that cannot
-/// write to it adds nothing.
+/// A domain's calls do not change a pipe of which it has no end. A domain without the read end
+/// takes nothing from the pipe; one without the write end adds nothing.
 pub fn others_leave_pipes()
     ensures { OthersLeavePipes }
 {}
 
-/// What came in on each connection and what was sent on it, over a run's events and replies: what is unread is the end of
-/// what came, and what was to be sent is sent first.
+/// The bytes received and sent on each connection, over the events and replies of a run. The
+/// unread bytes are the last of the bytes received, and queued bytes are sent first.
 pub fn histories_add_up()
     ensures { HistoriesAddUp }
 {}
 
-/// Numbers of connections rise, and a new one gets the next: none is used again.
+/// Numbers of connections ascend. A new connection gets the next number, and no number is used
+/// again.
 pub fn connection_numbers_rise()
     ensures { ConnectionNumbersRise }
 {}
 
-/// Which refusals a call can still get where the domain lives and what the call names is there and fits: each call's own. A fault
-/// is left to reads and `fsync` of a file alone; `set_pool`, `seek`, `length`, `close`, `agg_drop` and `exit` are never refused then.
-/// Only `accept` and the calls that read or write are told to wait, and of what happens outside bytes that arrive and segments; that
-/// changes nothing. So of what happens outside, to what is there: a peer's close and `drop_clean` are never refused.
+/// The refusals that each call may still get if the domain lives and the objects and arguments of
+/// the call are valid. Only reads and `fsync` of a file may get Fault. `set_pool`, `seek`,
+/// `length`, `close`, `agg_drop` and `exit` are then never refused. Only `accept`, reads, writes,
+/// arriving bytes and segments may get WouldBlock, which changes nothing. The same for external
+/// events on existing objects: a peer's close and `drop_clean` are never refused.
 pub fn refusals_that_are_left()
     ensures { RefusalsThatAreLeft }
 {}
 
-/// A domain has an aggregate more only under a number that a reply gives it, its own or that of another's gift; and what it gives
-/// up is gone.
+/// A domain gets an aggregate only under a number in a reply, to its own call or to a call that
+/// gives it away. An aggregate that it consumes is gone.
 pub fn aggregates_come_and_go()
     ensures { AggregatesComeAndGo }
 {}
 
-/// No file, no aggregate and no queue is longer than one may be: of a new state, after each step where positions are within files,
-/// and so in each state that is reached.
+/// No file, aggregate or queue exceeds its limit: in a new state, after each step from a state
+/// with positions within files, and so in each reachable state.
 pub fn lengths_stay_bounded()
     ensures { LengthsStayBounded }
 {}
 
-/// What came in on a connection and is unread lies in the connection's pool, so a domain that may read the pool is never denied
-/// a read of it.
+/// The unread bytes of a connection are labelled with the connection's pool. So a domain that may
+/// read this pool is never denied a read of the connection.
 pub fn arrivals_lie_in_their_pool()
     ensures { ArrivalsLieInTheirPool }
 {}
 
-/// Bytes keep the pool that they were made in, whoever cuts, joins, passes or reads them: what is made, and what is written to a
-/// pipe, lies in the pools of what it is taken from. So a domain that may read these is never denied a read of the pipe, and takes of
-/// it all that it asks for.
+/// Bytes keep the pool in which they were created when they are cut, joined, passed on or read.
+/// The result of a call, and the bytes written to a pipe, are in the pools of their source. So a
+/// domain that may read these pools is never denied a read of the pipe, and gets all bytes that it
+/// asks for.
 pub fn labels_follow()
     ensures { LabelsFollow }
 {}
 
-/// A domain has a descriptor more only under a number that a reply gives it, its own or that of another's gift; and each such number
-/// is below the limit.
+/// A domain gets a descriptor only under a number in a reply, to its own call or to a call that
+/// gives it away. Each such number is below the limit.
 pub fn descriptors_come_by_replies()
     ensures { DescriptorsComeByReplies }
 {}

@@ -1,12 +1,12 @@
-//! Laws of the copying machine, for the proofs of what runs on it: what its events leave as it was, what holds between
-//! any two of them, what a call does for the domain that makes it and others to a connection, and what came in and was
-//! sent over a run.
+//! Laws of the copying machine, for proofs about programs that run on it: the parts of the state
+//! that each event leaves unchanged, the invariants between events, the effect of a call for its
+//! caller and of other events on a connection, and the bytes received and sent over a run.
 //!
-//! There is no code here. A law is the contract of a function that does nothing ([`laws`]), so a proof in a crate above has
-//! it by a call of that function:
+//! The crate has no executable code. A law is the contract of a function without effect
+//! ([`laws`]). A proof in a crate above uses the law by a call of that function:
 //!
 //! ```text
-//! laws::each_step_leaves_the_rest(); // the answers cite c.each_step_leaves_the_rest.ensures.leaves
+//! laws::each_step_leaves_the_rest(); // answers cite c.each_step_leaves_the_rest.ensures.leaves
 //! ```
 #![tactic(auto)]
 

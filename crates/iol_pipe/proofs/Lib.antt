@@ -1,6 +1,7 @@
 pub mod Copies
 pub mod FrontBytes
 pub mod KnownHolds
+pub mod PartCounts
 pub mod Parts
 pub mod Prefixes
 pub mod ReadIn

@@ -1,6 +1,6 @@
 -- The bytes of one read in a new buffer, or a page that is free again.
-use Rattle.std.proofs.Common.{◌≡◌, inl, inr, ℕ, zero, suc, nat_le, ◌+◌, ◌*◌, ◌<◌, ◌≤◌, Bool, true, false, ◌&&◌, Option, Some, None, Ok, List, [], ◌∷◌, length, get_or, take, drop, refl, sym, ap, ◌∙◌, subst, arith, length-append, append-nil}
-use Rattle.std.specs.List.{Contains, All, flat_map, range_with_len}
+use Rattle.std.proofs.Common.{◌≡◌, inl, inr, ℕ, nat_le, ◌+◌, ◌*◌, ◌<◌, ◌≤◌, Bool, true, false, ◌&&◌, Option, Some, None, Ok, List, [], ◌∷◌, length, get_or, take, drop, refl, sym, ap, ◌∙◌, subst, arith, append-nil}
+use Rattle.std.specs.List.{Contains, All, flat_map}
 use Rattle.std.specs.Io.KnownBytes.{Consumes, Keeps}
 use Rattle.std.proofs.lemmas.List.{length-take, length-drop, take-take, take_all, length-take-le}
 use Rattle.iol_arena.specs.State.{State, entry_at, kind_free, pages_for, with_bytes}
@@ -34,6 +34,7 @@ use Rattle.iol_agg.proofs.Wholes.{whole_texts-one}
 use Rattle.iol_pipe.specs.NewBytes.{AddsWhole}
 use Rattle.iol_pipe.specs.Arrivals.{listed, IsOneRead, MakesRead, MayRead, ReadsIn, ReadsOnce}
 use Rattle.iol_pipe.specs.declared.arrive.Arrived.{Arrived}
+use Rattle.iol_pipe.proofs.PartCounts.{few_made, parts_few}
 use Rattle.iol_pipe.proofs.Wholes.{length_added}
 
 -- some bytes, at most a page of them
@@ -51,14 +52,6 @@ kept_consumes (Some x) None h = absurd h
 kept_consumes (Some x) (Some y) h = sym h
 
 -- One part of one page.
-
-length-run : (a n : ℕ) → length (range_with_len a n) ≡ n
-length-run a zero = refl
-length-run a (suc n) = let r = length-run (a + 1) n in omega (arith, r)
-
-parts_few : (low : ℕ) (ps : List Part) → AreApart low ps → length ps ≤ length (part_pages ps)
-parts_few low [] h = omega arith
-parts_few low (p ∷ ps) h = omega (arith, parts_few (p.first + p.count) ps h.1, h.0.some, length-append (range_with_len p.first p.count) (part_pages ps), length-run p.first p.count)
 
 bytes_of_one : (a : State) (ps : List Part) → 0 < length ps → length ps ≤ 1 → flat_map (part_bytes a) ps ≡ part_bytes a (get_or ps 0 no_part)
 bytes_of_one a [] some few = absurd (omega (arith, some))
@@ -197,6 +190,7 @@ module _ (left after : Option (List ℕ)) (s t : Stored) (old new : List Slice) 
     given = made.given;
     added = record {
       slices = adds.slices;
+      few = few_made s s.arena t.arena adds.slices pool (length made.bytes) (subst (λ bs. MadeOn s.arena t.arena bs (lowest_of s pool (length made.bytes))) (sym adds.whole.bufs) made.made_on);
       added = adds.added;
       is_text = adds.whole.text ∙ whole_texts-one t pool holds made.home ∙ ap (text.labelled pool) made.value;
       readable = adds.whole.readable;

@@ -22,6 +22,7 @@ use Rattle.iol_hold.proofs.SlicePlaces.{byte_len-append}
 use Rattle.iol_agg.specs.Parts.{whole_texts}
 use Rattle.iol_agg.proofs.Wholes.{whole_readable, text_whole, whole_texts-one}
 use Rattle.iol_pipe.specs.NewBytes.{AddsBytes, AddsWhole}
+use Rattle.iol_pipe.proofs.PartCounts.{few_made}
 
 -- some of the buffers have their slices, and these are left
 pub record WholeSoFar (s : Stored) (old now : List Slice) (left all : List Buffer) : Type 0 where
@@ -83,6 +84,7 @@ module _ (s t : Stored) (old new : List Slice) (pool : ℕ) (bytes : List ℕ) (
   pub bytes_added : Moves s t [] (held_bufs holds) → MadeOn s.arena t.arena (held_bufs holds) (lowest_of s pool (length bytes)) → IsSameBut (lowest_of s pool (length bytes)) s.arena t.arena → Grows s.arena t.arena → (AllSettled s → AllSettled t) → t.pools ≡ s.pools → AddsBytes s t old new pool bytes
   bytes_added moves made others grows settles pools = record {
     slices = adds.slices;
+    few = few_made s s.arena t.arena adds.slices pool (length bytes) (subst (λ bs. MadeOn s.arena t.arena bs (lowest_of s pool (length bytes))) (sym adds.whole.bufs) made);
     added = adds.added;
     is_text = text_added;
     readable = adds.whole.readable;
@@ -97,6 +99,7 @@ module _ (s t : Stored) (old new : List Slice) (pool : ℕ) (bytes : List ℕ) (
 pub none_added : (s : Stored) (old : List Slice) (pool : ℕ) → AddsBytes s s old old pool []
 none_added s old pool = record {
   slices = [];
+  few = omega arith;
   added = sym (append-nil old);
   is_text = refl;
   readable = readable_none s;

@@ -18,8 +18,8 @@ use Rattle.iol_hold.specs.declared.slices.Slice.{Slice}
 use Rattle.iol_pipe.specs.NewBytes.{AddsBytes}
 use Rattle.iol_pipe.specs.declared.arrive.Arrived.{Arrived}
 
--- A reader gave n bytes of those that it has left, where these are known, and the queue got them. Where it gave none,
--- nothing was raised, and the pages are free again.
+-- A reader gave n of its remaining bytes, where these are known, and the queue got them. If it gave none, no generation was
+-- incremented, and the pages are free again.
 pub record ReadsIn (left after : Option (List ℕ)) (s t : Stored) (old new : List Slice) (pool n : ℕ) : Type 0 where
   pub bytes : List ℕ
   pub count : length bytes ≡ n
@@ -31,8 +31,8 @@ abbrev pub listed : Option (List Buffer) → List Buffer
 listed None = []
 listed (Some holds) = holds
 
--- A reader gave n bytes of those that it has left, where these are known, and they lie in a new buffer of the pool. Where it gave
--- none there is none: nothing was raised, and the pages are free again.
+-- A reader gave n of its remaining bytes, where these are known, and they are stored in a new buffer of the pool. If it gave
+-- none, there is no buffer: no generation was incremented, and the pages are free again.
 pub record MakesRead (left after : Option (List ℕ)) (s t : Stored) (holds : List Buffer) (pool n : ℕ) : Type 0 where
   pub bytes : List ℕ
   pub count : length bytes ≡ n
@@ -47,7 +47,9 @@ pub record MakesRead (left after : Option (List ℕ)) (s t : Stored) (holds : Li
   pub settles : AllSettled s → AllSettled t
   pub pools : t.pools ≡ s.pools
 
--- What one read is told to have brought: some bytes, at most so many; or none, since the reader has ended, or has failed.
+-- What one read reports: at least one byte and at most `bound`; or no byte, since the reader is at its end or since the read
+-- failed. `ended` says of the reader that it is at its end, where its remaining bytes are known. `failed` says of the reader
+-- nothing: the contract of `Read` does not say when a read fails.
 pub record IsOneRead (bound : ℕ) (after : Option (List ℕ)) (a : Arrived) : Type 0 where
   pub most : a.taken ≤ bound
   pub some : a.end ≡ false → a.failed ≡ false → 0 < a.taken
@@ -61,8 +63,8 @@ pub record MayRead (s : Stored) (pool n : ℕ) : Type 0 where
   pub some : 0 < n
   pub page : n ≤ PAGE_BYTES
 
--- Of one read at most n bytes came into a buffer, or there is none where the reader gave none. Where it is refused, for want of
--- room or of memory, the store is as it was.
+-- One read stored at most n bytes in a buffer. If the reader gave none, there is no buffer. If the call is refused, for lack of
+-- room or of memory, the store is unchanged.
 pub record ReadsOnce {R : Type 0} (left : R → Option (List ℕ)) (reader after : R) (s t : Stored) (pool n : ℕ)
     (r : Result (Option (List Buffer) × Arrived) Refusal) : Type 0 where
   pub made : IfOk r (λ x. MakesRead (left reader) (left after) s t (listed x.0) pool x.1.taken)
@@ -71,8 +73,8 @@ pub record ReadsOnce {R : Type 0} (left : R → Option (List ℕ)) (reader after
   pub late : IfErr r (WantOfRoom pool)
   pub err : OnErr r (t ≡ s)
 
--- A queue got the bytes of one read, at most n, where the reader gave any. Where it is refused, for want of room or of memory,
--- nothing changed: it did not read.
+-- A queue got the bytes of one read, at most n, if the reader gave any. If the call is refused, for lack of room or of memory,
+-- nothing changed, the reader included.
 pub record FillsFrom {R : Type 0} (left : R → Option (List ℕ)) (reader after : R) (s t : Stored) (old new : List Slice)
     (pool n : ℕ) (r : Result Arrived Refusal) : Type 0 where
   pub read : IfOk r (λ a. ReadsIn (left reader) (left after) s t old new pool a.taken)
@@ -82,8 +84,8 @@ pub record FillsFrom {R : Type 0} (left : R → Option (List ℕ)) (reader after
   pub err : OnErr r ((new ≡ old) × (t ≡ s))
   pub err_reader : OnErr r (after ≡ reader)
 
--- A reader gave the first bytes of the memory, at most n: none only at its end, or where none was asked for. Where it failed it
--- has those that it had.
+-- A reader wrote the first bytes of the memory, at most n: none only if it is at its end, or if n is 0. If the read failed, the
+-- reader has the same remaining bytes as before.
 pub record ReadsSome {E : Type 0} (left after : Option (List ℕ)) (memory : List ℕ) (n : ℕ) (r : Result ℕ E) : Type 0 where
   pub most : IfOk r (λ k. k ≤ n)
   pub inside : IfOk r (λ k. k ≤ length memory)

@@ -14,16 +14,17 @@ use std::alloc::Global;
 use std::io;
 use std::io::Read;
 
-/// What one read gave.
+/// The result of one read.
 #[derive(Clone, Copy, Debug, PartialEq, Eq)]
 pub struct Arrived {
-    /// The number of bytes.
+    /// The number of bytes received.
     pub taken: u32,
 
     /// Whether the reader is at its end.
     pub end: bool,
 
-    /// Whether it failed.
+    /// Whether the read failed. Then no byte was received. No clause states that it did fail: the
+    /// contract of `Read` does not say when a read fails.
     pub failed: bool,
 }
 
@@ -42,10 +43,11 @@ impl Arrived {
 }
 
 impl Pipe {
-    /// Takes in the bytes of one read, at most `n` and straight into a new buffer on the lowest free page of an open pool.
+    /// Takes in the bytes of one read, at most `n` and straight into a new buffer on the lowest
+    /// free page of an open pool.
     ///
-    /// Room and memory are had before it reads. Where the reader gives no byte, the queue is as it was, and the page is
-    /// free again.
+    /// It reserves room and memory before it reads. If the reader gives no byte, the queue is
+    /// unchanged, and the page is free again.
     pub fn fill_from<R: Read>(
         &mut self,
         alloc: Global,
@@ -72,8 +74,8 @@ impl Pipe {
     }
 }
 
-// Reads at most n bytes at once, into a new buffer of the pool. Where the reader gives none, there is no buffer, and its
-// page is free again.
+// Reads at most n bytes in one read, into a new buffer of the pool. If the reader gives none, there
+// is no buffer, and its page is free again.
 fn read_in<R: Read>(
     alloc: Global,
     store: &mut Store,
@@ -108,7 +110,7 @@ fn read_in<R: Read>(
     }
 }
 
-// Reads at most n bytes at once, to the front of the memory.
+// Reads at most n bytes in one read, to the front of the memory.
 fn read_some<R: Read>(reader: &mut R, memory: &mut [u8], n: usize) -> io::Result<usize>
     requires { n ≤ length memory.old }
     ensures { ReadsSome (R.remaining reader.old) (R.remaining reader.new) memory.new n result }

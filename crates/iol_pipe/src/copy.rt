@@ -9,15 +9,16 @@ use iol_core::numbers::DomainId;
 use iol_hold::Store;
 
 impl Pipe {
-    /// Copies the longest prefix of the bytes that wait whose pools all name the domain, as much of it as there is room
-    /// for, and tells how many bytes that is. All still wait, and no memory is taken.
+    /// Copies the longest prefix of the queued bytes whose pools all name the domain, as much of it
+    /// as `into` has room for, and returns the number of copied bytes. All bytes stay queued, and
+    /// it allocates no memory.
     pub fn copy_front(&self, store: &Store, d: DomainId, into: &mut [u8]) -> u32
         requires { AllReadable store.now self.now }
         ensures count { result ≡ length (front_for store.now.pools d (length into.old) self.now) }
         ensures copied { into.new ≡
             with_first result (bytes_of (text_of store.now self.now)) into.old }
     {
-        // That the queue is bounded bounds the answer.
+        // The bound on the queue bounds the result.
         let _len = self.len;
         let mut at = 0;
         let mut i = 0;
@@ -37,7 +38,7 @@ impl Pipe {
     }
 }
 
-// Puts bytes over those from a place on.
+// Overwrites bytes from an offset on.
 fn put_at(into: &mut [u8], at: usize, bytes: &[u8])
     requires { at + length bytes.now ≤ length into.old }
     ensures { into.new ≡ take at into.old ++ bytes.now ++ drop (at + length bytes.now) into.old }

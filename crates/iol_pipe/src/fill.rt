@@ -17,8 +17,9 @@ use std::alloc::Global;
 use std::collections::VecDeque;
 
 impl Pipe {
-    /// Takes in new bytes of an open pool, as many as fit, and tells how many that was. They lie in new buffers on the
-    /// lowest free pages of the pool. No bytes take no page.
+    /// Takes in new bytes of an open pool, as many as fit, and returns their number. They are
+    /// stored in new buffers on the lowest free pages of the pool. If no byte fits or none is
+    /// given, it takes no page.
     pub fn fill(
         &mut self,
         alloc: Global,
@@ -48,7 +49,7 @@ impl Pipe {
     }
 }
 
-// Adds a slice for each of the buffers, whole.
+// Adds one slice per buffer: the whole buffer.
 pub(crate) fn add_whole(queue: &mut VecDeque<Slice>, store: &Store, holds: Holds)
     requires filled { All (IsFilled store.now) holds }
     requires room { deque_len queue.old + length holds ≤ deque_capacity queue.old }

@@ -1,13 +1,21 @@
 //! Pipes: queues of at most 65,536 bytes, as slices.
 //!
-//! A pipe holds the buffer of each slice that waits in it. What is pushed is shared, and what is taken off moves: no
-//! byte is copied.
+//! A pipe holds a reference to the buffer of each of its slices. Pushed slices are shared, and
+//! slices that are taken off move: no byte is copied.
 //!
-//! The contract. In: `push` (`shares`: the longest prefix that fits), `fill` (`adds`: new bytes on the lowest free pages of a
-//! pool; `room`, `late`), `fill_from` (`read`, `told`: those of one read, in place). Off: `front` (`gives`: the longest
-//! prefix of at most n bytes whose pools all name the domain), `take` (`cuts`: the first n bytes, slice by slice), `skip`
-//! and `clear` (`releases`). Where one is refused, nothing has changed (`err`). And `len`, `is_empty`, `first_pool`,
-//! `slice`. The words are in `specs/Queue`, `specs/NewBytes`, `specs/Arrivals` and iol_hold's.
+//! The contract. Bytes in: `push` (`shares`: the longest prefix that fits), `fill` (`adds`: new
+//! bytes on the lowest free pages of a pool; `room`, `late`), `fill_from` (`read`, `told`: the
+//! bytes of one read, in place). Bytes off: `front` (`gives`: the longest prefix of at most n bytes
+//! whose pools all name the domain), `take` (`cuts`: the first n bytes), `skip` and `clear`
+//! (`releases`). A refused call changes nothing (`err`). Queries: `len`, `is_empty`, `first_pool`,
+//! `slice`. The definitions are in `specs/Queue`, `specs/NewBytes`, `specs/Arrivals` and in
+//! iol_hold.
+//!
+//! The number of slices is part of the contract, since each slice costs a reference, a write and a
+//! remembered sum. `push` adds the slices of the aggregate, of which only the last may be cut
+//! (`parts`); `fill` and `fill_from` add at most one slice per page (`few` of `AddsBytes`); `front`
+//! and `take` give the first slices whole, and of the last one at most a part (`cut`). They and
+//! `skip` leave no more slices than before (`left`, `few`).
 //!
 //! ```
 //! let taken = pipe.push(&mut store, &agg)?;
@@ -66,7 +74,7 @@ impl Pipe {
         }
     }
 
-    /// The number of bytes that wait.
+    /// The number of queued bytes.
     pub fn len(&self) -> u32
         ensures len { result ≡ byte_len self.now }
         ensures most { result ≤ MAX_QUEUE_BYTES }
@@ -74,7 +82,7 @@ impl Pipe {
         self.len
     }
 
-    /// Whether no byte waits.
+    /// Whether no byte is queued.
     pub fn is_empty(&self) -> bool
         ensures { IsTrue result ↔ (byte_len self.now ≡ 0) }
     {
@@ -89,7 +97,8 @@ impl Pipe {
         Some(first.hold.pool())
     }
 
-    /// Takes in the longest prefix that fits, and tells how many bytes that was. Where none fits it wants no memory.
+    /// Takes in the longest prefix that fits, and returns its length in bytes. If no byte fits, it
+    /// needs no memory.
     pub fn push(&mut self, store: &mut Store, from: &Agg) -> Result<u32, AllocError>
         requires covered { Covers store.old (bufs_of from.now) }
         requires countable { IsCountable store.old (bufs_of from.now) }
@@ -106,7 +115,8 @@ impl Pipe {
         Ok(taken)
     }
 
-    /// Takes off the longest prefix of at most `n` bytes whose pools all name the domain. No bytes want no memory.
+    /// Takes off the longest prefix of at most `n` bytes whose pools all name the domain. If `n` is
+    /// 0 or no byte is queued, it needs no memory.
     pub fn front(
         &mut self,
         alloc: Global,
@@ -123,7 +133,8 @@ impl Pipe {
         Ok(self.take_off(alloc, store, n, Some(d))?)
     }
 
-    // Takes off the longest prefix of at most `n` bytes whose pools all name the domain, if one is given.
+    // Takes off the longest prefix of at most `n` bytes whose pools all name the domain, if one is
+    // given.
     fn take_off(
         &mut self,
         alloc: Global,
@@ -142,7 +153,7 @@ impl Pipe {
         Ok(given)
     }
 
-    /// Releases all holds: no byte waits any more.
+    /// Releases all references: the queue is empty afterwards.
     pub fn clear(&mut self, store: &mut Store)
         requires { Covers store.old (bufs_of self.old) }
         ensures empty { self.new ≡ [] }
@@ -153,7 +164,7 @@ impl Pipe {
     }
 }
 
-// Releases all holds.
+// Releases all references.
 fn release_all(queue: &mut VecDeque<Slice>, store: &mut Store)
     requires { Covers store.old (bufs_of queue.old.items) }
     ensures empty { queue.new.items ≡ [] }
@@ -164,7 +175,7 @@ fn release_all(queue: &mut VecDeque<Slice>, store: &mut Store)
     }
 }
 
-// Adds the first n bytes of the slices, held once more.
+// Adds the first n bytes of the slices, and references their buffers again.
 fn add_prefix(queue: &mut VecDeque<Slice>, store: &mut Store, slices: &[Slice], n: u32)
     requires room { deque_len queue.old + min (length slices.now) n ≤ deque_capacity queue.old }
     requires shared { AreShareable store.old (bufs_of slices.now) }
@@ -217,7 +228,8 @@ fn take_prefix(
     }
 }
 
-// Takes off the first slice, or its first bytes where it has more than wanted: then its buffer is held once more.
+// Takes off the first slice. If it is longer than `most`, takes off only its first `most` bytes,
+// and references its buffer again.
 fn take_first(queue: &mut VecDeque<Slice>, store: &mut Store, most: u32) -> Slice
     requires { MayTakeFirst store.old queue.old.items most }
     ensures { TakesSlice store.old store.new queue.old.items queue.new.items most result }

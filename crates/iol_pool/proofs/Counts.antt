@@ -1,7 +1,7 @@
 -- Pages of chunks, counted.
-use Rattle.std.proofs.Common.{◌≡◌, ℕ, suc, ◌+◌, ◌-◌, ◌*◌, ◌<◌, ◌≤◌, Bool, List, [], ◌∷◌, ◌++◌, length, take, get_or, flat_map, sym, ap, ◌∙◌, arith, inl, inr, length-append}
+use Rattle.std.proofs.Common.{◌≡◌, ℕ, suc, ◌+◌, ◌-◌, ◌*◌, ◌<◌, ◌≤◌, Bool, List, [], ◌∷◌, ◌++◌, length, take, drop, get_or, flat_map, refl, sym, ap, ◌∙◌, arith, inl, inr, length-append}
 use Rattle.std.specs.List.{All, filter, range_with_len}
-use Rattle.std.proofs.lemmas.List.{take_more, append-nil}
+use Rattle.std.proofs.lemmas.List.{take_more, take-append-drop, append-nil}
 use Rattle.std.proofs.lemmas.List.Elements.{filter-append}
 use Rattle.std.proofs.lemmas.List.FromFn.{length-range_with_len}
 use Rattle.std.proofs.lemmas.Grind.{flat_map-append}
@@ -16,6 +16,21 @@ pages_more f cs i c h is =
     ∙ ap (λ l. length (filter f l)) (flat_map-append chunk_pages (take i cs) (c ∷ []))
     ∙ ap length (filter-append f (flat_map chunk_pages (take i cs)) (flat_map chunk_pages (c ∷ [])))
     ∙ length-append (filter f (flat_map chunk_pages (take i cs))) (filter f (flat_map chunk_pages (c ∷ [])))
+
+-- all pages of chunks: sixteen for each
+pub pages_length : (cs : List ℕ) → length (flat_map chunk_pages cs) ≡ 16 * length cs
+unfolding chunk_pages
+pages_length [] = refl
+pages_length (c ∷ cs) = omega (arith, pages_length cs, length-append (range_with_len (c * 16) 16) (flat_map chunk_pages cs), length-range_with_len (c * 16) 16)
+
+-- those of the first chunks are at most those of all
+pub take_fewer : (f : ℕ → Bool) (cs : List ℕ) (k : ℕ) → length (filter f (flat_map chunk_pages (take k cs))) ≤ length (filter f (flat_map chunk_pages cs))
+take_fewer f cs k =
+    let all = ap (λ l. length (filter f (flat_map chunk_pages l))) (take-append-drop k cs) in
+    let parts = ap (λ l. length (filter f l)) (flat_map-append chunk_pages (take k cs) (drop k cs))
+    ∙ ap length (filter-append f (flat_map chunk_pages (take k cs)) (flat_map chunk_pages (drop k cs)))
+    ∙ length-append (filter f (flat_map chunk_pages (take k cs))) (filter f (flat_map chunk_pages (drop k cs))) in
+    omega (arith, all, parts)
 
 filter_few : (f : ℕ → Bool) (xs : List ℕ) → length (filter f xs) ≤ length xs
 filter_few f [] = omega arith

@@ -1,4 +1,4 @@
--- What calls do to pools and to their chunks, and what one tells of a pool.
+-- The effect of calls on pools and their chunks, and the page counts of a pool.
 use Rattle.std.specs.Prelude.{◌≡◌, ℕ, ◌+◌, ◌*◌, ◌<◌, ◌≤◌, List, length, Result, Err, IfOk, OnOk, OnErr}
 use Rattle.iol_core.specs.declared.limits.TheConstants.{CHUNK_PAGES}
 use Rattle.iol_arena.specs.Prelude.{State, free_chunks, free_pages, retired_pages}
@@ -19,7 +19,7 @@ pub record CreatesPool (s t : State) (old new : List Pool) (n : ℕ) (list : Lis
   pub err_arena : OnErr r (t ≡ s)
   pub owned : AreOwned t new
 
--- The chunks of pool p were returned, if it is closed and nothing stands on them. Each chunk that is taken has just one pool.
+-- The chunks of pool p were returned, if it is closed and all their pages are empty. Each taken chunk has exactly one pool.
 pub record SettlesPool (s t : State) (old new : List Pool) (p : ℕ) : Type 0 where
   pub pools : new ≡ settled s old p
   pub arena : t ≡ settled_arena s old p

@@ -3,7 +3,7 @@ use Rattle.std.specs.Prelude.{◌≡◌, ℕ, ◌<◌, ◌≤◌, List, length, 
 use Rattle.iol_core.specs.Calls.Pools.{distinct}
 use Rattle.iol_core.specs.declared.limits.TheConstants.{MAX_LISTED}
 
--- The domains of a list were noted, each once, and are at most sixteen; they were not where they are more.
+-- The domains of a list, each once, if they are at most sixteen; `None` exactly if they are more.
 abbrev pub NotesNames : List ℕ → Option (List ℕ) → Type 0
 NotesNames list r =
     MatchOption r (MAX_LISTED < length (distinct list)) (λ n. (n ≡ distinct list) × (length (distinct list) ≤ MAX_LISTED))

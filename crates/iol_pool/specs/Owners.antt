@@ -1,4 +1,4 @@
--- Whose each chunk is.
+-- Which pool has each chunk.
 use Rattle.std.specs.Prelude.{◌≡◌, ℕ, ◌<◌, ◌≤◌, true, List, length}
 use Rattle.std.specs.List.{All, Contains}
 use Rattle.iol_core.specs.declared.limits.TheConstants.{MAX_CHUNKS}
@@ -6,14 +6,14 @@ use Rattle.iol_arena.specs.State.{State, chunk_count}
 use Rattle.iol_arena.specs.Chunks.{is_taken}
 use Rattle.iol_pool.specs.Pools.{Pool, pool_in}
 
--- the chunks of pools are of the arena and taken, and each chunk that is taken has just one pool
+-- the chunks of pools are in the arena and taken, and each taken chunk has exactly one pool
 pub record AreOwned (s : State) (ps : List Pool) : Type 0 where
   pub within : (p c : ℕ) → Contains (pool_in ps p).chunks c → c < chunk_count s
   pub taken : (p c : ℕ) → Contains (pool_in ps p).chunks c → is_taken s c ≡ true
   pub single : (p q c : ℕ) → Contains (pool_in ps p).chunks c → Contains (pool_in ps q).chunks c → p ≡ q
   pub owner : (c : ℕ) → c < chunk_count s → is_taken s c ≡ true → (p : ℕ) × Contains (pool_in ps p).chunks c
 
--- these are the chunks of the pool, all of the arena, and no more than an arena may have
+-- these are the chunks of the pool, all in the arena, and at most MAX_CHUNKS
 pub record AreChunksOf (s : State) (ps : List Pool) (p : ℕ) (cs : List ℕ) : Type 0 where
   pub value : cs ≡ (pool_in ps p).chunks
   pub within : All (λ c. c < chunk_count s) cs

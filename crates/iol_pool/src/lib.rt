@@ -1,16 +1,16 @@
-//! Pools: who may read bytes, and where they lie.
+//! Pools: which domains may read bytes, and which chunks store them.
 //!
-//! A pool has a list of one to sixteen domains, which may read its bytes, and chunks of the arena, which are its
-//! alone. The list grows, and nobody is taken off it. Nothing more is placed in a closed pool, and its chunks are
-//! returned to the arena as soon as nothing stands on them.
+//! A pool has a list of one to sixteen domains, which may read its bytes, and chunks of the arena that no other pool
+//! has. The list only grows. Nothing more is placed in a closed pool, and its chunks are returned to the arena as soon
+//! as all their pages are empty.
 //!
 //! The contract. Lists: `Names::of` (each domain once; more than sixteen are refused), `has`, `has_place`, `add` (the
-//! domain behind the others, unless it is there). Pools: `create` (`number`; `added`: as many chunks as asked, the lowest
-//! free; `enough`, `no_room`, `err`), `admit` (the list names a domain more, and nothing else changes), `close` and
-//! `settle` (`pools`, `arena`: chunks are returned exactly when their pool is closed and nothing stands on them), and on
-//! `create`, `close` and `settle` `owned`: a chunk that is taken has just one pool. Questions: `is_pool`, `is_closed`,
-//! `names`, `has_place`, `admits` (`first`: the first pool that does not name the domain), `chunks`, `free_count`, `report`.
-//! The words are in `specs/Names`, `specs/Pools`, `specs/Owners` and `specs/Calls`.
+//! domain at the end, unless it is listed). Pools: `create` (`number`; `added`: the requested number of chunks, the lowest
+//! free ones; `enough`, `no_room`, `err`), `admit` (the list names one domain more, and nothing else changes), `close` and
+//! `settle` (`pools`, `arena`: chunks are returned exactly when their pool is closed and all their pages are empty), and on
+//! `create`, `close` and `settle` `owned`: each taken chunk has exactly one pool. Questions: `is_pool`, `is_closed`,
+//! `names`, `has_place`, `admits` (`first`: the first pool that does not name the domain), `chunks`, `free_count`,
+//! `has_free`, `report`. The definitions are in `specs/Names`, `specs/Pools`, `specs/Owners` and `specs/Calls`.
 //!
 //! ```
 //! let names = Names::of(&[producer, consumer])?;

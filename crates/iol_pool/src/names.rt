@@ -33,8 +33,8 @@ fn is_named(list: &[DomainId], d: DomainId) -> bool
     list.iter().any(|e| *e == d)
 }
 
-// Notes each domain of a list once, as far as there is room, and tells how many there are: one more than the room
-// where there are too many.
+// Writes each domain of a list once, and returns their number. If they are more than the room, the number is one more than
+// the room.
 fn note_distinct(found: &mut [DomainId; MAX_LISTED], list: &[DomainId]) -> usize
     ensures count { result ≡ min (MAX_LISTED + 1) (length (distinct list.now)) }
     ensures found { result ≤ MAX_LISTED → take result found.new ≡ distinct list.now }
@@ -54,7 +54,7 @@ fn note_distinct(found: &mut [DomainId; MAX_LISTED], list: &[DomainId]) -> usize
 }
 
 impl Names {
-    /// The domains of a list, unless it names more than sixteen.
+    /// The domains of a list, each once. `None` exactly if they are more than sixteen.
     pub fn of(list: &[DomainId]) -> Option<Names>
         ensures { NotesNames list.now result }
     {
@@ -87,7 +87,7 @@ impl Names {
         self.has(d) || self.as_slice().len() < MAX_LISTED
     }
 
-    /// Adds the domain behind the others, unless it is one of them. It takes no memory.
+    /// Adds the domain at the end, unless it is listed. It takes no memory.
     pub fn add(&mut self, d: DomainId)
         requires { has_place self.old d ≡ true }
         ensures { self.new ≡ with_name self.old d }

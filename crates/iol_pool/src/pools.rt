@@ -1,5 +1,5 @@
 //! The table of pools.
-ghost use Rattle.std.specs.Prelude.{◌≡◌, ◌<◌, ◌≤◌, length, true, not, find, Some, None, is_some, IfSome, IfErr, OnOk, [], ◌∷◌, ◌↔◌, IsTrue};
+ghost use Rattle.std.specs.Prelude.{◌≡◌, ◌<◌, ◌≤◌, length, true, not, find, nat_le, Some, None, is_some, IfSome, IfErr, OnOk, [], ◌∷◌, ◌↔◌, IsTrue};
 ghost use Rattle.std.specs.Option.{option_copied};
 ghost use Rattle.std.specs.List.{All, list_all};
 ghost use Rattle.iol_core.specs.Prelude.{is_numbered, has_place};
@@ -18,7 +18,7 @@ use iol_core::numbers::{ChunkNo, DomainId, PoolId};
 use std::alloc::Global;
 use std::marker::Model;
 
-// A pool: who may read its bytes, and where they lie.
+// A pool: the domains that may read its bytes, and the chunks that store them.
 #[derive(Drop)]
 struct Pool {
     names: Names,
@@ -34,7 +34,7 @@ impl Model for Pool {
     ghost view = { λ p. record { domains = p.names; closed = p.closed; chunks = p.chunks } };
 }
 
-/// All pools ever made, by number.
+/// All pools that were made, by number. The first has number 1.
 #[derive(Drop)]
 pub struct Pools {
     alloc: Global,
@@ -75,7 +75,7 @@ fn chunks_of(pools: &[Pool], p: PoolId) -> &ChunkSet
     &pool.chunks
 }
 
-// Adds a domain to a pool's list, unless it is there.
+// Adds a domain to a pool's list, unless it is listed.
 #[tactic(auto, unfolding(crate::specs::Pools::pool_in, crate::specs::Pools::with_admitted))]
 fn add_name(pools: &mut Vec<Pool>, p: PoolId, d: DomainId)
     requires there { is_numbered pools.old.items p ≡ true }
@@ -85,7 +85,7 @@ fn add_name(pools: &mut Vec<Pool>, p: PoolId, d: DomainId)
     pools[p.number() as usize - 1].names.add(d);
 }
 
-// Has nothing more be placed in the pool.
+// Marks the pool as closed.
 #[tactic(auto, unfolding(crate::specs::Pools::pool_in, crate::specs::Pools::with_closed))]
 fn set_closed(pools: &mut Vec<Pool>, p: PoolId)
     requires { is_numbered pools.old.items p ≡ true }
@@ -94,7 +94,7 @@ fn set_closed(pools: &mut Vec<Pool>, p: PoolId)
     pools[p.number() as usize - 1].closed = true;
 }
 
-// Leaves the pool without chunks.
+// Empties the pool's list of chunks.
 #[tactic(auto, unfolding(crate::specs::Pools::pool_in, crate::specs::Pools::with_emptied))]
 fn set_emptied(alloc: Global, pools: &mut Vec<Pool>, p: PoolId)
     requires { is_numbered pools.old.items p ≡ true }
@@ -103,7 +103,7 @@ fn set_emptied(alloc: Global, pools: &mut Vec<Pool>, p: PoolId)
     pools[p.number() as usize - 1].chunks = ChunkSet::new(alloc);
 }
 
-// Whether nothing stands on a page of the chunks.
+// Whether all pages of the chunks are empty.
 fn are_unused(arena: &Arena, chunks: &[ChunkNo]) -> bool
     requires { All (λ c. c < chunk_count arena.now) chunks.now }
     ensures { result ≡ list_all (is_unused arena.now) chunks.now }
@@ -116,7 +116,7 @@ fn are_unused(arena: &Arena, chunks: &[ChunkNo]) -> bool
     true
 }
 
-// Returns the chunks.
+// Returns the chunks to the arena.
 fn return_all(arena: &mut Arena, chunks: &[ChunkNo])
     requires within { All (λ c. c < chunk_count arena.old) chunks.now }
     requires unused { list_all (is_unused arena.old) chunks.now ≡ true }
@@ -127,7 +127,7 @@ fn return_all(arena: &mut Arena, chunks: &[ChunkNo])
     }
 }
 
-// The same of one chunk.
+// The number of retired or of usable pages of a chunk.
 fn count_in(arena: &Arena, chunk: ChunkNo, retired: bool) -> u32
     requires { chunk < chunk_count arena.now }
     ensures { result ≡ length (counted_pages arena.now retired (chunk ∷ [])) }
@@ -138,7 +138,7 @@ fn count_in(arena: &Arena, chunk: ChunkNo, retired: bool) -> u32
     arena.free_in(chunk)
 }
 
-// How many pages of the chunks are retired, or may be used.
+// The number of retired or of usable pages of the chunks.
 fn count_pages(arena: &Arena, chunks: &[ChunkNo], retired: bool) -> u32
     requires within { All (λ c. c < chunk_count arena.now) chunks.now }
     requires few { length chunks.now ≤ MAX_CHUNKS }
@@ -151,8 +151,24 @@ fn count_pages(arena: &Arena, chunks: &[ChunkNo], retired: bool) -> u32
     count
 }
 
+// Whether at least `pages` pages of the chunks may be used.
+fn has_usable(arena: &Arena, chunks: &[ChunkNo], pages: u32) -> bool
+    requires { All (λ c. c < chunk_count arena.now) chunks.now }
+    ensures { result ≡ nat_le pages (length (free_pages arena.now chunks.now)) }
+{
+    let mut left = pages;
+    for chunk in chunks {
+        let here = arena.free_in(*chunk);
+        if left <= here {
+            return true;
+        }
+        left -= here;
+    }
+    left == 0
+}
+
 impl Pools {
-    /// No pool.
+    /// A table without pools. It takes no memory.
     pub fn new(alloc: Global) -> Pools
         ensures { result ≡ [] }
     {
@@ -162,14 +178,14 @@ impl Pools {
         }
     }
 
-    /// How many pools were ever made.
+    /// The number of pools that were made.
     pub fn len(&self) -> usize
         ensures { result ≡ length self.now }
     {
         self.list.len()
     }
 
-    /// Whether no pool was ever made.
+    /// Whether no pool was made.
     pub fn is_empty(&self) -> bool
         ensures { IsTrue result ↔ (self.now ≡ []) }
     {
@@ -183,7 +199,7 @@ impl Pools {
         pool_at(&self.list, p).is_some()
     }
 
-    /// Whether nothing more is placed in the pool. What is no pool is closed.
+    /// Whether the pool is closed. A number without a pool counts as closed.
     pub fn is_closed(&self, p: PoolId) -> bool
         ensures { result ≡ (pool_in self.now p).closed }
     {
@@ -225,18 +241,19 @@ impl Pools {
         chunks_of(&self.list, p)
     }
 
-    // The same: they are few, and of the arena.
+    // The chunks of a pool, with the facts that they are at most `MAX_CHUNKS` and all in the arena.
     fn chunks_in(&self, arena: &Arena, p: PoolId) -> &[ChunkNo]
         requires there { is_numbered self.now p ≡ true }
         requires owned { AreOwned arena.now self.now }
         ensures { AreChunksOf arena.now self.now p result.now }
     {
-        // Tells that a pool has few chunks.
+        // Shows that a pool has at most `MAX_CHUNKS` chunks.
         let _few = arena.chunk_count();
         self.chunks(p).as_slice()
     }
 
-    /// Makes a pool of so many chunks, the lowest that are free, for these domains.
+    /// Makes a pool of `chunks` chunks, the lowest free ones, for these domains, and returns its number, the next. Returns
+    /// `NoRoom` only if fewer chunks are free, and `Memory`. An error changes nothing.
     pub fn create(
         &mut self,
         alloc: Global,
@@ -260,7 +277,7 @@ impl Pools {
         Ok(PoolId::new(self.len() as u32))
     }
 
-    // Whether the pool is closed and nothing stands on its chunks.
+    // Whether the pool is closed and all pages of its chunks are empty.
     fn goes_back(&self, arena: &Arena, p: PoolId) -> bool
         requires there { is_numbered self.now p ≡ true }
         requires owned { AreOwned arena.now self.now }
@@ -269,7 +286,7 @@ impl Pools {
         self.is_closed(p) && are_unused(arena, self.chunks_in(arena, p))
     }
 
-    /// Whether the pool's list names the domain, or has a place for its name.
+    /// Whether the pool's list names the domain, or has a place for it.
     pub fn has_place(&self, p: PoolId, d: DomainId) -> bool
         ensures { result ≡ has_place (pool_in self.now p).domains d }
     {
@@ -279,7 +296,7 @@ impl Pools {
         pool.names.has_place(d)
     }
 
-    /// Has the pool's list name the domain, too. It takes no memory.
+    /// Adds the domain to the pool's list, unless it is listed. It takes no memory.
     pub fn admit(&mut self, p: PoolId, d: DomainId)
         requires there { is_numbered self.old p ≡ true }
         requires place { has_place (pool_in self.old p).domains d ≡ true }
@@ -288,7 +305,7 @@ impl Pools {
         add_name(&mut self.list, p, d);
     }
 
-    /// Returns the chunks of a pool if it is closed and nothing stands on them.
+    /// Returns the chunks of a pool if it is closed and all their pages are empty.
     pub fn settle(&mut self, arena: &mut Arena, p: PoolId)
         requires { AreOwned arena.old self.old }
         ensures { SettlesPool arena.old arena.new self.old self.new p }
@@ -303,7 +320,7 @@ impl Pools {
         set_emptied(self.alloc, &mut self.list, p);
     }
 
-    /// Closes a pool: nothing more is placed in it, and its chunks are returned at once if nothing stands on them.
+    /// Closes a pool: nothing more is placed in it, and its chunks are returned at once if all their pages are empty.
     pub fn close(&mut self, arena: &mut Arena, p: PoolId)
         requires there { is_numbered self.old p ≡ true }
         requires owned { AreOwned arena.old self.old }
@@ -313,7 +330,7 @@ impl Pools {
         self.settle(arena, p);
     }
 
-    /// How many pages of a pool may be used. It costs one look at each of its chunks.
+    /// The number of pages of a pool that may be used. It reads one count for each of the pool's chunks.
     pub fn free_count(&self, arena: &Arena, p: PoolId) -> u32
         requires there { is_numbered self.now p ≡ true }
         requires owned { AreOwned arena.now self.now }
@@ -322,7 +339,17 @@ impl Pools {
         count_pages(arena, self.chunks_in(arena, p), false)
     }
 
-    /// The pages of a pool, counted. Those that are retired cost a look at each page.
+    /// Whether at least `pages` pages of a pool may be used. It looks at the chunks in order, and stops at the first that
+    /// completes the number.
+    pub fn has_free(&self, arena: &Arena, p: PoolId, pages: u32) -> bool
+        requires there { is_numbered self.now p ≡ true }
+        requires owned { AreOwned arena.now self.now }
+        ensures { result ≡ nat_le pages (length (free_pages arena.now (pool_in self.now p).chunks)) }
+    {
+        has_usable(arena, self.chunks_in(arena, p), pages)
+    }
+
+    /// The pages of a pool, counted. The count of retired pages reads each page.
     pub fn report(&self, arena: &Arena, p: PoolId) -> PoolReport
         requires there { is_numbered self.now p ≡ true }
         requires owned { AreOwned arena.now self.now }

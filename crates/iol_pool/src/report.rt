@@ -1,4 +1,4 @@
-//! What pools tell of their pages.
+//! Page counts of a pool.
 use iol_core::numbers::PoolId;
 
 /// The pages of a pool.
@@ -6,12 +6,12 @@ use iol_core::numbers::PoolId;
 pub struct PoolReport {
     pub pool: PoolId,
 
-    /// All of them.
+    /// All pages.
     pub pages: u32,
 
-    /// Those that may be used.
+    /// The pages that may be used for new bytes.
     pub free: u32,
 
-    /// Those that will not be used again: their generation is the last.
+    /// The empty pages that are never used again: their generation is the last.
     pub retired: u32,
 }

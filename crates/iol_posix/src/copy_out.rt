@@ -1,5 +1,5 @@
 //! Reading by copying.
-ghost use Rattle.std.specs.Prelude.{◌≡◌, ◌<◌, ◌≤◌, ◌^◌, ◌++◌, length, drop};
+ghost use Rattle.std.specs.Prelude.{◌≡◌, ◌<◌, ◌≤◌, ◌^◌, ◌-◌, ◌++◌, length, drop, min};
 ghost use Rattle.iol_kernel.specs.Prelude.{state_of, IsOnNoFile, IsSound, ReadsList};
 ghost use Rattle.iol_posix.specs.Reads.{ReadsInto, TakesOut};
 
@@ -9,7 +9,7 @@ use iol_core::numbers::{DomainId, Fd};
 use iol_core::refusals::Refusal;
 use iol_kernel::kernel::Kernel;
 
-// Puts bytes over the first ones of a memory.
+// Copies bytes over the front of a memory.
 fn put_front(into: &mut [u8], bytes: &[u8])
     requires { length bytes.now ≤ length into.old }
     ensures { into.new ≡ bytes.now ++ drop (length bytes.now) into.old }
@@ -17,9 +17,26 @@ fn put_front(into: &mut [u8], bytes: &[u8])
     into[..bytes.len()].copy_from_slice(bytes);
 }
 
-/// Reads into the caller's memory, as much as it has room for, and tells how many bytes that is. Nothing is kept of what was
-/// read. Of a queue no memory is taken, and of a file as much as is read.
+/// Reads into the caller's memory, at most `into.len()` bytes and fewer than 2^32, and returns their
+/// number. No aggregate is made of them. From a queue no memory is requested, from a file as much as is
+/// read.
 pub fn read<B: Backing>(
+    kernel: &mut Kernel,
+    backing: &mut B,
+    by: DomainId,
+    fd: Fd,
+    into: &mut [u8],
+) -> Result<u32, Refusal>
+    requires { IsSound (state_of kernel.old) }
+    ensures { ReadsInto by fd (min (length into.old) (2 ^ 32 - 1)) into.old into.new B.disk backing.old
+        backing.new kernel.old result kernel.new }
+{
+    let most = into.len().min(u32::MAX as usize);
+    read_front(kernel, backing, by, fd, &mut into[..most])
+}
+
+// Reads into a memory of fewer than 2^32 bytes.
+fn read_front<B: Backing>(
     kernel: &mut Kernel,
     backing: &mut B,
     by: DomainId,
@@ -28,8 +45,8 @@ pub fn read<B: Backing>(
 ) -> Result<u32, Refusal>
     requires sound { IsSound (state_of kernel.old) }
     requires short { length into.old < 2 ^ 32 }
-    ensures { ReadsInto by fd into.old into.new B.disk backing.old backing.new kernel.old result
-        kernel.new }
+    ensures { ReadsInto by fd (length into.old) into.old into.new B.disk backing.old backing.new
+        kernel.old result kernel.new }
 {
     let Some(found) = kernel.file_open(by, fd) else {
         return read_queue(kernel, by, fd, into);
@@ -48,8 +65,8 @@ fn read_queue(kernel: &mut Kernel, by: DomainId, fd: Fd, into: &mut [u8]) -> Res
     Ok(kernel.take_into(by, fd, into))
 }
 
-/// Reads up to `count` bytes, as a list of their own: of a queue, or of a file, whose store is asked for what is not in
-/// memory. Of memory it takes as much as it reads.
+/// Reads up to `count` bytes, as a separate list: from a queue, or from a file, whose store is asked for
+/// the bytes that are not in memory. Memory is requested for the bytes read.
 pub fn read_bytes<B: Backing>(
     kernel: &mut Kernel,
     backing: &mut B,

@@ -1,15 +1,18 @@
-//! The copying calls of POSIX, over the kernel: for programs that keep bytes in a memory of their own.
+//! The copying calls of POSIX, over the kernel: for programs that keep bytes in their own memory.
 //!
-//! All mean what they mean to the copying machine (`iol_core`, `specs/Calls`). No aggregate is made of what is read or
-//! written. What of a file is not in memory is asked of the store under the files.
+//! Each call has its meaning for the copying machine (`iol_core`, `specs/Calls`). No aggregate is made of
+//! the bytes read or written. The store under the files is asked for the bytes of a file that are not in
+//! memory.
 //!
-//! The contract. [`read`] is one record, `ReadsInto` (`serves`: with an honest store the machine's step, its bytes at the
-//! front of the caller's memory; `copies`: when there is room, when a fault is answered, and what becomes of pages and of
-//! what memory has of files; `count`: no more than there is room for; `rest`: the others stay; `err`: after a refusal all
-//! do), and so is [`read_bytes`], `ReadsList` (`serves`, `copies`: the same, as a list of their own), and [`write`],
-//! `WritesBytes` (`serves`; `queue`: the bytes that a queue takes, on the lowest free pages of the caller's default pool,
-//! once clean extents gave way; `lays`, `puts`: what becomes of a file; `room`, `no_room`; `refused`: where it is refused and
-//! neither room nor memory was wanting, nothing has changed). The words are in `specs/Reads` and iol_kernel's.
+//! The contract. [`read`] has one record, `ReadsInto` (`serves`: with an honest store the machine's step,
+//! its bytes at the front of the caller's memory; `copies`: when there is room, when Fault is returned,
+//! and the changes of pages and of the extents of files in memory; `count`: at most as many bytes as
+//! there is room for, and fewer than 2^32; `rest`: the other bytes are unchanged; `err`: after a refusal
+//! all are), and so has [`read_bytes`], `ReadsList` (`serves`, `copies`: the same, as a separate list),
+//! and [`write`], `WritesBytes` (`serves`; `queue`: the bytes that a queue takes are on the lowest free
+//! pages of the caller's default pool, after clean extents were evicted; `lays`, `puts`: the changes of a
+//! file; `room`, `no_room`, `memory`; `refused`: any refusal except NoRoom and Memory changed nothing).
+//! The definitions are in `specs/Reads` and in iol_kernel's specs.
 //!
 //! ```text
 //! let taken = write(&mut kernel, by, to, b"hello")?;

@@ -1,4 +1,4 @@
--- What happens in a world is a chain of steps of its system.
+-- The events of a world are a chain of steps of its system.
 use Rattle.std.proofs.Common.{◌≡◌, inl, inr, ℕ, List, [], ◌∷◌, ◌++◌, Bool, refl, subst, ap}
 use Rattle.iol_core.specs.declared.events.Event.{Event}
 use Rattle.iol_core.specs.declared.events.Event.TheVariants as event

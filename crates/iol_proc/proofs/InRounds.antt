@@ -1,4 +1,4 @@
--- How turns in rounds go on, and that they are runs of turns.
+-- Steps of turns in rounds, which are runs of turns.
 use Rattle.std.proofs.Common.{◌≡◌, inl, inr, ℕ, zero, suc, ◌+◌, ◌<◌, ◌%◌, List, [], ◌∷◌, ◌++◌, length, take, map, replicate, Some, Bool, false, refl, sym, subst, ap, ◌∙◌, slice_get, slice_index, add-zero, zero-add, arith}
 use Rattle.std.proofs.lemmas.List.{length-map}
 use Rattle.std.proofs.lemmas.Bool.{cases_lt}

@@ -1,4 +1,4 @@
--- What a look lends is what the machine has, whatever the store under files holds; and the turns that come of it.
+-- A look has the machine's bytes, for every store under files; and the resulting turns.
 use Rattle.std.proofs.Common.{◌≡◌, ◌∙◌, inl, inr, ℕ, true, false, List, [], refl, ap, subst}
 use Rattle.iol_core.specs.State.{domain}
 use Rattle.iol_core.specs.declared.events.Call.{Call}

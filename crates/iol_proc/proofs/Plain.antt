@@ -1,4 +1,4 @@
--- A call that is not `show` or `read` is not answered by a copy of bytes, by any machine.
+-- The reply to a call other than `show` and `read` is no copy of bytes, for any machine.
 use Rattle.std.proofs.Common.{ℕ, sym, subst}
 use Rattle.iol_core.specs.State.{State}
 use Rattle.iol_core.specs.Run.{StepsTo, called}

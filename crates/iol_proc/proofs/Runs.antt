@@ -1,4 +1,4 @@
--- How runs of a world go on.
+-- Steps of runs of a world.
 use Rattle.std.proofs.Common.{◌≡◌, ℕ, ◌+◌, ◌<◌, List, [], ◌∷◌, ◌++◌, length, take, get_or, Option, Some, refl, sym, subst, IfSome, slice_get, slice_set, ◌∙◌, ap}
 use Rattle.std.proofs.lemmas.List.{length-map, take_more}
 use Rattle.std.proofs.Math.Seq.{map-set_same}

@@ -1,4 +1,4 @@
--- Processes by rising domains.
+-- Processes in ascending order of domains.
 use Rattle.std.proofs.Common.{◌≡◌, ℕ, suc, ◌≤◌, false, nat_eq, List, [], ◌∷◌, map, sym, subst, ap, arith, refl}
 use Rattle.std.specs.List.{IsDistinct}
 use Rattle.std.specs.List.Sorted.{IsPermutation, IsNonDecreasingBy}

@@ -1,4 +1,4 @@
--- What settles over turns in rounds holds of all processes once all is idle.
+-- A property that is preserved over turns in rounds holds of all processes once all are idle.
 use Rattle.std.proofs.Common.{◌≡◌, ◌%◌, ◌≤◌, ◌∙◌, ℕ, zero, suc, List, [], ◌∷◌, length, replicate, Some, Bool, true, false, slice_get, slice_set, slice_index, refl, ap, sym, subst, inl, inr, arith, length-set}
 use Rattle.std.proofs.lemmas.Bool.Decides.{nat_tests}
 use Rattle.std.proofs.lemmas.Grind.{common_steps}

@@ -1,4 +1,4 @@
--- A run remembers that a turn was rough.
+-- A run records whether a turn got a resource refusal.
 use Rattle.std.proofs.Common.{inl, inr, ◌≡◌, ◌∙◌, ℕ, List, [], ◌∷◌, Bool, false, sym, ap}
 use Rattle.std.specs.Prelude.{◌||◌}
 use Rattle.std.proofs.lemmas.Bool.{or_parts}

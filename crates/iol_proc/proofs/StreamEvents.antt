@@ -1,4 +1,4 @@
--- What comes in and goes out in place is an event of the copying machine.
+-- Input and output in place are events of the copying machine.
 use Rattle.std.proofs.Common.{◌≡◌, ◌∙◌, ◌≤◌, ℕ, zero, suc, ◌==◌, min, length, List, [], ◌∷◌, Option, None, Bool, true, false, refl, ap, arith}
 use Rattle.std.proofs.lemmas.Bool.Decides.{nat_tests}
 use Rattle.std.specs.Prelude.{Result, Ok, Err, IfOk, OnOk, OnErr}

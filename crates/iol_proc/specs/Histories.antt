@@ -1,7 +1,7 @@
--- What came in on each connection and what was sent on it, by number, over choices and their replies.
+-- The bytes received and sent on each connection, by number, over choices and their replies.
 --
--- Of a single event it is what `iol_laws` says (`History`). A turn brings nothing in and sends nothing: a process reads and
--- writes what waits, and what happens outside fills it and sends it.
+-- For a single event it is the `History` of `iol_laws`. A turn neither receives nor sends: a process reads and writes the
+-- queues, and external events fill and drain them.
 use Rattle.std.specs.Prelude.{◌≡◌, ◌⊎◌, ℕ, Bool, true, false, List, [], ◌∷◌, ◌++◌, length}
 use Rattle.std.specs.List.{list_any}
 use Rattle.iol_core.specs.Text.{bytes_of}
@@ -22,12 +22,12 @@ use Rattle.iol_proc.specs.World.{Stage, copying, sharing, WorldRun}
 use Rattle.iol_proc.specs.declared.choice.Choice.{Choice}
 use Rattle.iol_proc.specs.declared.choice.Choice.TheVariants as choice
 
--- the bytes that a choice brought in on a connection: of those that arrived as many as were taken
+-- the bytes that a choice adds to a connection's input: the first of the arriving bytes, as many as the reply counts
 abbrev pub came_with : (c : ℕ) → Choice → Reply → List ℕ
 came_with c (choice.Outside e) r = came_by c e r
 came_with c (choice.Turn by) r = []
 
--- the bytes that it sent
+-- the bytes that a choice sends
 abbrev pub sent_with : (c : ℕ) → Choice → Reply → List ℕ
 sent_with c (choice.Outside e) r = sent_by c e r
 sent_with c (choice.Turn by) r = []
@@ -41,25 +41,25 @@ unfoldable pub sent_over : (c : ℕ) → List Choice → List Reply → List ℕ
 sent_over c (x ∷ xs) (r ∷ rs) = sent_with c x r ++ sent_over c xs rs
 sent_over c xs rs = []
 
--- whether it drops what is to be sent: the peer takes no more
+-- whether the choice drops queued output: the peer receives no more
 abbrev pub drops_with : Choice → (c : ℕ) → Bool
 drops_with (choice.Outside e) c = drops_unsent e c
 drops_with (choice.Turn by) c = false
 
--- whether a turn that makes no call may be answered so: the process yields, finds no memory, or is not there
+-- whether this may be the reply of a turn without call: the process yields, is out of memory, or does not exist
 abbrev pub may_be_no_call : Reply → Bool
 may_be_no_call reply.Done = true
 may_be_no_call (reply.Refused Memory) = true
 may_be_no_call (reply.Refused NoDomain) = true
 may_be_no_call r = false
 
--- events of which the first is e, answered r
+-- a list of events that begins with e, with the reply r
 abbrev pub Begin : Event → Reply → (List Event → List Reply → Type 0) → List Event → List Reply → Type 0
 Begin e r Rest (f ∷ es) (s ∷ qs) = (f ≡ e) × (s ≡ r) × Rest es qs
 Begin e r Rest es qs = ⊥
 
--- Choices that are answered so bring about just these events, with these replies: what happens outside is an event itself, and
--- a turn is one call of that very domain, or none.
+-- Choices with these replies cause exactly these events, with their replies: an external event is itself an event, and a turn
+-- is one call of its own domain, or none.
 abbrev pub BringAbout : List Choice → List Reply → List Event → List Reply → Type 0
 BringAbout [] [] es qs = (es ≡ []) × (qs ≡ [])
 BringAbout (choice.Outside e ∷ xs) (r ∷ rs) es qs = Begin e r (BringAbout xs rs) es qs
@@ -67,7 +67,7 @@ BringAbout (choice.Turn by ∷ xs) (r ∷ rs) es qs =
     ((may_be_no_call r ≡ true) × BringAbout xs rs es qs) ⊎ ((c : Call) × Begin (event.Call by c) r (BringAbout xs rs) es qs)
 BringAbout xs rs es qs = ⊥
 
--- The choices are events, by processes and outside, in a run of the machine, and each connection has the same history.
+-- The choices are events in a run of the machine, and each connection has the same history.
 pub record RunsAs {M : Type 0} (Runs : M → List Event → List Reply → M → Type 0) (old : M) (xs : List Choice)
     (rs : List Reply) (new : M) : Type 0 where
   pub events : List Event
@@ -78,7 +78,7 @@ pub record RunsAs {M : Type 0} (Runs : M → List Event → List Reply → M →
   pub sent : (c : ℕ) → sent_of c events replies ≡ sent_over c xs rs
   pub drops : (c : ℕ) → list_any (λ e. drops_unsent e c) events ≡ list_any (λ x. drops_with x c) xs
 
--- The machine's run up to here goes on with the choices: each connection's history is what it was, and then what they brought.
+-- The choices extend an earlier run of the machine, and each connection's history is extended by that of the choices.
 pub record GoesOn (first : State) (past : List Event) (ps : List Reply) (xs : List Choice) (rs : List Reply)
     (new : State) : Type 0 where
   pub events : List Event
@@ -89,16 +89,16 @@ pub record GoesOn (first : State) (past : List Event) (ps : List Reply) (xs : Li
   pub sent : (c : ℕ) → sent_of c (past ++ events) (ps ++ replies) ≡ sent_of c past ps ++ sent_over c xs rs
 
 pub record HistoriesOfChoices {P : Type 0} (turns : Account P) : Type 0 where
-  -- a run of a world is one of the machine that copies, and over any store it is one of the system
+  -- a run of a world is a run of the copying machine and, over any store, of the system
   pub machine : (w after : Stage State P) (xs : List Choice) (rs : List Reply) → WorldRun copying turns w xs rs after
       → RunsAs Run w.machine xs rs after.machine
   pub system : (w after : Stage SystemState P) (xs : List Choice) (rs : List Reply) → WorldRun sharing turns w xs rs after
       → RunsAs Chain w.machine xs rs after.machine
-  -- histories go on with what the choices brought and sent
+  -- the choices extend histories by the bytes that they receive and send
   pub goes_on : (first : State) (past : List Event) (ps : List Reply) (w after : Stage State P)
       (xs : List Choice) (rs : List Reply)
       → Run first past ps w.machine → WorldRun copying turns w xs rs after → GoesOn first past ps xs rs after.machine
-  -- a run and then another are one run, whose history is that of the first and then that of the other
+  -- two successive runs are one run, whose history is that of the first followed by that of the second
   pub follows : (w mid after : Stage State P) (past future : List Choice) (rs qs : List Reply)
       → WorldRun copying turns w past rs mid
       → WorldRun copying turns mid future qs after → WorldRun copying turns w (past ++ future) (rs ++ qs) after
@@ -108,20 +108,20 @@ pub record HistoriesOfChoices {P : Type 0} (turns : Account P) : Type 0 where
   pub sent : (w mid : Stage State P) (past future : List Choice) (rs qs : List Reply) (c : ℕ)
       → WorldRun copying turns w past rs mid
       → sent_over c (past ++ future) (rs ++ qs) ≡ sent_over c past rs ++ sent_over c future qs
-  -- one choice more adds what it brought and sent
+  -- one more choice adds the bytes that it receives and sends
   pub stream_more : (xs : List Choice) (rs : List Reply) (x : Choice) (r : Reply) (c : ℕ) → length xs ≡ length rs
       → stream_over c (xs ++ x ∷ []) (rs ++ r ∷ []) ≡ stream_over c xs rs ++ came_with c x r
   pub sent_more : (xs : List Choice) (rs : List Reply) (x : Choice) (r : Reply) (c : ℕ) → length xs ≡ length rs
       → sent_over c (xs ++ x ∷ []) (rs ++ r ∷ []) ≡ sent_over c xs rs ++ sent_with c x r
-  -- what came is read in order, over any run
+  -- the input is read in order, over any run
   pub unread : (w after : Stage State P) (xs : List Choice) (rs : List Reply) (c : ℕ) → IsOrderly w.machine
       → WorldRun copying turns w xs rs after
       → IsEndOf (bytes_of (conn_at w.machine c).incoming) (stream_over c xs rs) (bytes_of (conn_at after.machine c).incoming)
-  -- what was to be sent is sent in order, over a run in which the peer goes on taking it
+  -- the output is sent in order, over a run during which the peer receives
   pub unsent : (w after : Stage State P) (xs : List Choice) (rs : List Reply) (c : ℕ) → IsOrderly w.machine
       → WorldRun copying turns w xs rs after → list_any (λ x. drops_with x c) xs ≡ false
       → GoesFirst (bytes_of (conn_at w.machine c).outgoing) (sent_over c xs rs) (bytes_of (conn_at after.machine c).outgoing)
-  -- over a run at whose end nobody has accepted it yet
+  -- over a run at whose end the connection is not yet accepted
   pub waiting : (w after : Stage State P) (xs : List Choice) (rs : List Reply) (c : ℕ) → IsOrderly w.machine
       → WorldRun copying turns w xs rs after → (conn_at w.machine c).accepted ≡ false → (conn_at after.machine c).accepted ≡ false
       → IsAllUnread w.machine c (stream_over c xs rs) (sent_over c xs rs) after.machine

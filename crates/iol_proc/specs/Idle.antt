@@ -1,4 +1,4 @@
--- What turns in rounds are, and when they stop.
+-- Turns in rounds, and the condition on which they stop.
 use Rattle.std.specs.Prelude.{◌≡◌, ◌<◌, ◌≤◌, ◌+◌, ◌%◌, ℕ, zero, suc, List, [], ◌∷◌, length, map, take, replicate, Bool, false, if◌then◌else◌, nat_lt, nat_le, slice_index, slice_set}
 use Rattle.std.specs.List.{list_all}
 use Rattle.iol_core.specs.declared.events.Reply.{Reply}
@@ -9,11 +9,11 @@ use Rattle.iol_proc.specs.declared.choice.Choice.{Choice}
 use Rattle.iol_proc.specs.declared.choice.Choice.TheVariants as choice
 use Rattle.iol_proc.specs.declared.turn.Outcome.{Outcome}
 
--- a turn as it went: whether the process yielded, and what it was answered
+-- a turn: whether the process yielded, and the reply
 abbrev pub Went : Type 0
 Went = Bool × Reply
 
--- how a turn went, by its outcome
+-- the turn of an outcome
 abbrev pub went : Outcome → Went
 went o = (o.yields, o.reply)
 
@@ -21,8 +21,8 @@ went o = (o.yields, o.reply)
 abbrev pub more_of_two : ℕ → ℕ
 more_of_two n = if nat_lt n 2 then n + 1 else n
 
--- How often each process yielded, counted up to two, after one turn more. A yield counts, WouldBlock leaves the counts, and
--- anything else begins them anew.
+-- The number of yields of each process, up to two, after one more turn. A yield counts, WouldBlock leaves the counts unchanged,
+-- and any other reply resets them.
 abbrev pub counted : List ℕ → (place : ℕ) → Went → List ℕ
 counted ns place t =
     if t.0 then slice_set ns place (more_of_two (slice_index ns place))
@@ -33,7 +33,7 @@ abbrev pub counted_over : List ℕ → (i : ℕ) → List Went → List ℕ
 counted_over ns i [] = ns
 counted_over ns i (t ∷ ts) = counted_over (counted ns (i % length ns) t) (suc i) ts
 
--- how often each of n processes yielded, since the first turn or the last that was answered by anything but WouldBlock
+-- the number of yields of each of n processes, since the first turn or the last whose reply was not WouldBlock
 abbrev pub yields_of : (n : ℕ) → List Went → List ℕ
 yields_of n ts = counted_over (replicate n 0) 0 ts
 
@@ -41,20 +41,20 @@ yields_of n ts = counted_over (replicate n 0) 0 ts
 abbrev pub is_idle : List ℕ → Bool
 is_idle ns = list_all (λ n. nat_le 2 n) ns
 
--- the choices that n turns in rounds are, from the i-th on
+-- the choices of n turns in rounds, from the i-th on
 abbrev pub rounds : (domains : List ℕ) → (i n : ℕ) → List Choice
 rounds ds i zero = []
 rounds ds i (suc n) = choice.Turn (slice_index ds (i % length ds)) ∷ rounds ds (suc i) n
 
 module _ {M P : Type 0} (machine : Machine M) (turns : Account P) where
-  -- Turns in rounds, from the i-th on: the process at each place in turn, and then the first again.
+  -- Turns in rounds, from the i-th on: the processes in order of index, then the first again.
   abbrev pub RoundRun : Stage M P → (i : ℕ) → List Went → Stage M P → Type 0
   RoundRun w i [] after = after ≡ w
   RoundRun w i (t ∷ ts) after = (mid : Stage M P) × PlaceTurn machine turns w (i % length w.seats) t.0 t.1 mid
       × RoundRun mid (suc i) ts after
 
-  -- Turns in rounds of rising domains, as many as are allowed, or until the first moment at which every process has yielded
-  -- twice since the last turn that was answered by anything but WouldBlock.
+  -- Turns in rounds in ascending order of domains, up to the maximum number, or until every process has yielded twice since the
+  -- last turn whose reply was not WouldBlock.
   pub record Idles (w : Stage M P) (most : ℕ) (idle : Bool) (after : Stage M P) : Type 0 where
     pub went : List Went
     pub ran : RoundRun w 0 went after
@@ -65,11 +65,11 @@ module _ {M P : Type 0} (machine : Machine M) (turns : Account P) where
     pub all_taken : idle ≡ false → length went ≡ most
 
 module _ {P : Type 0} (turns : Account P) where
-  -- the process at this place of a world has its turn, which goes so
+  -- a turn of the process at this index of a world, with this outcome
   abbrev pub TurnGoes : Stage SystemState P → (place : ℕ) → Outcome → Stage SystemState P → Type 0
   TurnGoes w place o after = PlaceTurn sharing turns w place o.yields o.reply after
 
-  -- turns in rounds, as a world has them, and as the copying machine does
+  -- turns in rounds, in a world and in the copying machine
   abbrev pub RoundsGo : Stage SystemState P → (most : ℕ) (idle : Bool) → Stage SystemState P → Type 0
   RoundsGo w most idle after = Idles sharing turns w most idle after
 

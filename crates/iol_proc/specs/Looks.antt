@@ -1,4 +1,4 @@
--- What a look lends.
+-- The contents of a look.
 use Rattle.std.specs.Prelude.{ℕ, List, Option}
 use Rattle.iol_system.specs.Machine.{tables_of}
 use Rattle.iol_proc.specs.LentBytes.{lent_to}

@@ -1,4 +1,4 @@
--- The words that contracts of other crates cite, passed on from one place. Declares nothing.
+-- Re-exports the definitions that contracts of other crates cite. It declares nothing.
 pub use Rattle.iol_proc.specs.Laws.{KeepsHonesty}
 pub use Rattle.iol_proc.specs.Looks.{lent}
 pub use Rattle.iol_proc.specs.Quiet.{IsQuiet}

@@ -1,8 +1,8 @@
--- What is carried over turns in rounds to the moment at which all is idle.
+-- An invariant of turns in rounds that leads to a property of idle processes.
 --
--- S says of a process that has yielded so often, up to two, since anything was done: what it is, what it was last answered,
--- and the machine's state. So S 1 may say that what the process polled since its last yield was refused in this very state,
--- and S 2 that this was all that it polls.
+-- S n is a property of a process that has yielded n times, up to two, since the last turn that was not refused with WouldBlock:
+-- a property of the process, its last reply, and the machine's state. So S 1 may say that every call that the process polled
+-- since its last yield was refused in this state, and S 2 that these are all the calls that it polls.
 use Rattle.std.specs.Prelude.{◌≡◌, ◌≤◌, ℕ, true, List, [], ◌∷◌, Some, slice_get}
 use Rattle.std.specs.List.{AllByRecursion}
 use Rattle.iol_core.specs.State.{State}
@@ -19,24 +19,24 @@ use Rattle.iol_proc.specs.World.{Stage, copying}
 use Rattle.iol_proc.specs.declared.process.Turn.TheVariants as turn
 use Rattle.iol_proc.specs.declared.seat.Seat.{Seat}
 
--- what may hold of a process in its domain that has yielded n times
+-- a property of a process in its domain that has yielded n times
 abbrev pub Claim : Type 0 → Type 1
 Claim P = (n by : ℕ) → P → Reply → State → Type 0
 
 module _ {P : Type 0} (S : Claim P) where
-  -- it holds of each process, by how often it has yielded
+  -- the property holds for each process, by its number of yields
   abbrev pub AreSettled : List ℕ → List (Seat P) → State → Type 0
   AreSettled [] [] m = Unit {0}
   AreSettled (n ∷ ns) (s ∷ ss) m = (n ≤ 2) × S n s.by s.process s.last m × AreSettled ns ss m
   AreSettled [] (s ∷ ss) m = ⊥
   AreSettled (n ∷ ns) [] m = ⊥
 
-  -- each process has yielded twice
+  -- the property holds for each process, for two yields
   abbrev pub AllSettled : List (Seat P) → State → Type 0
   AllSettled ss m = AllByRecursion (λ s. S 2 s.by s.process s.last m) ss
 
-  -- What is to be shown of the processes: at first it holds of anything; a call that is answered WouldBlock keeps it, and a
-  -- yield moves it on.
+  -- The obligations for a process: the property holds for zero yields, a call with the reply WouldBlock keeps it, and a yield
+  -- advances it.
   pub record Settles (turns : Account P) : Type 0 where
     pub first : (by : ℕ) (p : P) (l : Reply) (m : State) → S 0 by p l m
     pub blocks : (n by : ℕ) (p q : P) (l : Reply) (m : State) (c : Call) → S n by p l m
@@ -45,7 +45,7 @@ module _ {P : Type 0} (S : Claim P) where
     pub yields : (n by : ℕ) (p q : P) (l : Reply) (m : State) → S n by p l m → turns.goes p l (lent_to m by) turn.Yield q
         → S (more_of_two n) by q reply.Done m
 
-  -- What then holds where all is idle, as `World::until_idle` says it: each process is one that has yielded twice.
+  -- The result when all are idle, as `World::until_idle` returns it: the property holds for each process, for two yields.
   pub record IdleIsSettled (turns : Account P) : Type 0 where
     pub all : (w after : Stage State P) (most : ℕ) → Idles copying turns w most true after → AllSettled after.seats after.machine
     pub each : (w after : Stage State P) (most place : ℕ) (s : Seat P) → Idles copying turns w most true after

@@ -1,7 +1,6 @@
--- Processes in turns on a machine, and what happens outside.
+-- Processes that take turns on a machine, and external events.
 --
--- The same words are used of two machines: of the one that copies at every call, and of a system with all that it
--- promises, over any store.
+-- The definitions are used for two machines: the copying machine, and a system over any store, with all that it guarantees.
 use Rattle.std.specs.Prelude.{◌≡◌, ◌≢◌, ◌⊎◌, ◌<◌, ◌||◌, ℕ, List, [], ◌∷◌, length, map, Some, IfSome, Bool, All, slice_get, slice_set}
 use Rattle.iol_core.specs.State.{State}
 use Rattle.iol_core.specs.Run.{StepsTo}
@@ -22,17 +21,17 @@ use Rattle.iol_proc.specs.declared.seat.Seat.{Seat}
 abbrev pub copying : Machine State
 copying = record { Step = StepsTo; lends = lent_to }
 
--- a system, with all that each step of it promises
+-- a system, with all guarantees of each of its steps
 abbrev pub sharing : Machine SystemState
 sharing = record { Step = Promises; lends = λ s by. lent_to (machine_of s) by }
 
--- a machine, the processes that use it, each with its last reply, and whether a turn was rough
+-- a machine, its processes, each with its last reply, and whether a turn got a resource refusal
 pub record Stage (M P : Type 0) : Type 0 where
   pub machine : M
   pub seats : List (Seat P)
   pub rough : Bool
 
--- a system with processes, as a world has them
+-- the stage of a system with its processes
 abbrev pub staged : {P : Type 0} → SystemState → List (Seat P) → (rough : Bool) → Stage SystemState P
 staged system seats rough = record { machine = system; seats = seats; rough = rough }
 
@@ -58,7 +57,7 @@ IsRising (x ∷ y ∷ ys) = (x < y) × IsRising (y ∷ ys)
 abbrev pub HasNoSeat : {P : Type 0} → List (Seat P) → (by : ℕ) → Type 0
 HasNoSeat seats by = All (λ s. s.by ≢ by) seats
 
--- the process at this place is in this domain
+-- the process at this index is in this domain
 abbrev pub SitsAt : {P : Type 0} → List (Seat P) → (by place : ℕ) → Type 0
 SitsAt seats by place = IfSome (slice_get seats place) (λ seat. seat.by ≡ by) × (place < length seats)
 
@@ -71,7 +70,7 @@ pub record IsSeated {P : Type 0} (seats : List (Seat P)) (by : ℕ) (p : P) : Ty
   pub process : seat.process ≡ p
 
 module _ {M P : Type 0} (machine : Machine M) (turns : Account P) where
-  -- the process at this place has its turn: whether it yielded, and what it was answered
+  -- a turn of the process at this index: whether it yielded, and the reply
   pub record PlaceTurn (w : Stage M P) (place : ℕ) (yields : Bool) (r : Reply) (after : Stage M P) : Type 0 where
     pub seat : Seat P
     pub next : Seat P
@@ -86,7 +85,7 @@ module _ {M P : Type 0} (machine : Machine M) (turns : Account P) where
     pub answer : r ≡ reply.Refused NoDomain
     pub stays : after ≡ w
 
-  -- the process in this domain has its turn
+  -- a turn of the process in this domain
   pub record Present (w : Stage M P) (by : ℕ) (r : Reply) (after : Stage M P) : Type 0 where
     pub place : ℕ
     pub yields : Bool
@@ -97,7 +96,7 @@ module _ {M P : Type 0} (machine : Machine M) (turns : Account P) where
   abbrev pub DomainTurn : Stage M P → (by : ℕ) → Reply → Stage M P → Type 0
   DomainTurn w by r after = Absent w by r after ⊎ Present w by r after
 
-  -- an event that no process brings about
+  -- an external event
   pub record OutsideStep (w : Stage M P) (e : Event) (r : Reply) (after : Stage M P) : Type 0 where
     pub step : machine.Step w.machine e r after.machine
     pub seats_stay : after.seats ≡ w.seats
@@ -108,7 +107,7 @@ module _ {M P : Type 0} (machine : Machine M) (turns : Account P) where
   WorldStep w (choice.Turn by) r after = DomainTurn w by r after
   WorldStep w (choice.Outside e) r after = OutsideStep w e r after
 
-  -- From w, these choices were given these replies, one after another, ending in after.
+  -- From w, these choices get these replies, in order, and lead to after.
   abbrev pub WorldRun : Stage M P → List Choice → List Reply → Stage M P → Type 0
   WorldRun w [] [] after = after ≡ w
   WorldRun w (c ∷ cs) (r ∷ rs) after = (mid : Stage M P) × WorldStep w c r mid × WorldRun mid cs rs after
@@ -116,7 +115,7 @@ module _ {M P : Type 0} (machine : Machine M) (turns : Account P) where
   WorldRun w (c ∷ cs) [] after = ⊥
 
 module _ {P : Type 0} (turns : Account P) where
-  -- An event that no process brings about, and choices one after another, as the copying machine has them.
+  -- An external event, and a list of choices, in the copying machine.
   abbrev pub CopiedStep : Stage SystemState P → Event → Reply → Stage SystemState P → Type 0
   CopiedStep w e r after = OutsideStep copying turns (copied w) e r (copied after)
 

@@ -1,13 +1,13 @@
-//! What may happen next.
+//! The possible next steps of a world.
 use iol_core::events::Event;
 use iol_core::numbers::DomainId;
 
-/// What happens next to a world.
+/// The next step of a world.
 #[derive(Debug, Drop)]
 pub enum Choice {
-    /// The process in a domain has a turn.
+    /// The process of a domain takes a turn.
     Turn(DomainId),
 
-    /// An event that no process brings about.
+    /// An external event: one that no process causes.
     Outside(Event),
 }

@@ -1,4 +1,4 @@
-//! Connections of a world that are served from outside in place, from readers and to writers.
+//! Connections of a world that are served in place, from external readers and to external writers.
 ghost use Rattle.std.specs.Prelude.{◌≡◌, IfOk, OnErr};
 ghost use Rattle.iol_back.specs.Prelude.{IfHonest};
 ghost use Rattle.iol_proc.specs.Streams.{SendsAs, TakenArrive};
@@ -14,9 +14,10 @@ use iol_sock::{Arrived, Drained};
 use std::io::{Read, Write};
 
 impl<B: Backing + Drop, P: Process> World<B, P> {
-    /// The bytes of one read come in from a connection's peer, as [`System::arrive_from`](iol_system::system::System) takes
-    /// them: for the copying machine these bytes arrive. Where the reader is at its end or fails none do, and a refusal
-    /// leaves that machine as it was.
+    /// The bytes of one read arrive on a connection, as with
+    /// [`System::arrive_from`](iol_system::system::System): in the copying machine, the bytes
+    /// taken arrive. At the end of the reader, or if it fails, no bytes arrive. A refusal leaves
+    /// the copying machine unchanged.
     pub fn arrive_from<R: Read>(
         &mut self,
         conn: ConnId,
@@ -30,15 +31,16 @@ impl<B: Backing + Drop, P: Process> World<B, P> {
         ensures seats { self.new.seats ≡ self.old.seats }
         ensures rough { self.new.rough ≡ self.old.rough }
 
-        // What it does to the system.
+        // The effect on the system.
         ensures system { ServesFrom R.remaining reader.old reader.new conn max self.old.machine
             self.new.machine result }
     {
         self.system.arrive_from(conn, reader, max)
     }
 
-    /// Lends the first bytes to be sent on a connection to a writer, as [`System::drain_to`](iol_system::system::System)
-    /// does: for the copying machine those that were taken are sent. No memory is taken.
+    /// Gives a writer the first bytes queued on a connection, as
+    /// [`System::drain_to`](iol_system::system::System) does: in the copying machine, the bytes
+    /// taken are sent. Allocates nothing.
     pub fn drain_to<W: Write>(
         &mut self,
         conn: ConnId,
@@ -50,7 +52,7 @@ impl<B: Backing + Drop, P: Process> World<B, P> {
         ensures seats { self.new.seats ≡ self.old.seats }
         ensures rough { self.new.rough ≡ self.old.rough }
 
-        // What it does to the system.
+        // The effect on the system.
         ensures system { ServesTo W.contents writer.old writer.new conn max self.old.machine
             self.new.machine result }
     {

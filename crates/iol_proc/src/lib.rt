@@ -1,10 +1,12 @@
-//! Processes in turns: programs that use a system by one call at a time.
+//! Processes that take turns: programs that use a system by one call at a time.
 //!
-//! A [`Process`](process::Process) says what it does next, from its last reply and the bytes that it is lent. A
-//! [`World`](world::World) is a system and a process in each of some domains; who has a turn when is a list of
-//! [`Choice`](choice::Choice)s. Whatever the list, with an honest store, replies and state are those of processes with the same
-//! accounts over a machine that copies at every call, each lent that machine's bytes (`World::run`, clause `run`; `specs/World`).
-//! An account also says when its process may find no memory; only there may a turn pass without a yield or a call.
+//! A [`Process`](process::Process) determines its next call from its last reply and the bytes that
+//! it can see. A [`World`](world::World) is a system, with a process in each of some domains. A
+//! list of [`Choice`](choice::Choice)s determines who takes a turn when. For every list, if the
+//! store is honest, replies and state are those of processes with the same accounts over the
+//! copying machine, each of which sees that machine's bytes (`World::run`, clause `run`;
+//! `specs/World`). An account also states when its process may run out of memory; only then may a
+//! turn pass without a yield or a call.
 //!
 //!     let mut world = World::new(alloc, system, processes)?;
 //!     let replies = world.run(&choices)?;

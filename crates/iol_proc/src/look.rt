@@ -1,4 +1,4 @@
-//! What a process is lent.
+//! A process's view of its aggregates.
 ghost use Rattle.std.specs.Prelude.{◌≡◌, Some, None, MatchOption, length, option_map};
 ghost use Rattle.iol_kernel.specs.Prelude.{joined};
 ghost use Rattle.iol_proc.specs.Looks.{lent};
@@ -7,7 +7,7 @@ use iol_agg::Parts;
 use iol_core::numbers::{AggId, DomainId};
 use iol_system::aggregates::Aggregates;
 
-/// The aggregates of one domain, lent until its next call.
+/// The aggregates of one domain, borrowed until its next call.
 #[derive(Drop)]
 pub struct Look<'a> {
     aggregates: Aggregates<'a>,
@@ -22,8 +22,8 @@ impl<'a> Look<'a> {
         Look { aggregates, by }
     }
 
-    /// The bytes of one of the domain's aggregates, where they lie; none where it has no such aggregate. Nothing is copied,
-    /// and no memory is taken.
+    /// The bytes of one of the domain's aggregates, in place; none if it has no such aggregate.
+    /// Copies and allocates nothing.
     pub fn bytes(&self, agg: AggId) -> Option<Parts<'a>>
         ensures { MatchOption result (lent self.now agg ≡ None)
             (λ parts. lent self.now agg ≡ Some (joined parts)) }
@@ -34,8 +34,8 @@ impl<'a> Look<'a> {
         }
     }
 
-    /// How many bytes one of the domain's aggregates has; none where it has no such aggregate. Its slices are not walked, and
-    /// no memory is taken.
+    /// The length of one of the domain's aggregates in bytes; none if it has no such aggregate. It
+    /// does not walk the slices and allocates nothing.
     pub fn len(&self, agg: AggId) -> Option<u32>
         ensures { result ≡ option_map length (lent self.now agg) }
     {

@@ -1,4 +1,4 @@
-//! Replies: one again, and what turns look for in them.
+//! Copies of replies, and their classification for turns.
 ghost use Rattle.std.specs.Prelude.{◌≡◌};
 ghost use Rattle.iol_laws.specs.Prelude.{is_rough};
 ghost use Rattle.iol_proc.specs.Quiet.{IsPlain};
@@ -7,7 +7,7 @@ ghost use Rattle.iol_proc.specs.Turns.{is_would_block};
 use iol_core::events::Reply;
 use iol_core::refusals::Refusal;
 
-/// The same reply again. It takes no memory, as the reply holds no copy of bytes.
+/// Copies a reply. It allocates nothing, as the reply holds no copy of bytes.
 pub(crate) fn again(reply: &Reply) -> Reply
     requires { IsPlain reply.now }
     ensures { result ≡ reply.now }
@@ -28,7 +28,7 @@ pub(crate) fn again(reply: &Reply) -> Reply
     }
 }
 
-/// Whether numbers, pages, a working store or memory were wanting.
+/// Returns whether the reply is out of numbers, pages or memory, or a fault of the store.
 pub(crate) fn is_rough(reply: &Reply) -> bool
     ensures { result ≡ is_rough reply.now }
 {
@@ -41,7 +41,7 @@ pub(crate) fn is_rough(reply: &Reply) -> bool
     }
 }
 
-/// Whether the caller has to wait.
+/// Returns whether the caller has to wait.
 pub(crate) fn is_would_block(reply: &Reply) -> bool
     ensures { result ≡ is_would_block reply.now }
 {

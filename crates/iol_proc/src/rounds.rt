@@ -1,4 +1,4 @@
-//! Turns in rounds, until nothing is left to do.
+//! Turns in rounds, until all processes are idle.
 ghost use Rattle.std.specs.Prelude.{◌≡◌, ◌<◌, length, false};
 ghost use Rattle.iol_proc.specs.Idle.{RoundsGo, counted, is_idle, went};
 ghost use Rattle.iol_proc.specs.World.{domains_of, staged};
@@ -10,7 +10,7 @@ use crate::turn::{Outcome, place_turn};
 use iol_back::backing::Backing;
 use iol_system::system::System;
 
-/// Whether every process has yielded twice.
+/// Returns whether every process has yielded twice.
 fn all_twice(yields: &[u8]) -> bool
     ensures all { result ≡ is_idle yields.now }
     ensures some { result ≡ false → 0 < length yields.now }
@@ -18,7 +18,7 @@ fn all_twice(yields: &[u8]) -> bool
     yields.iter().all(|n| 2 <= *n)
 }
 
-/// Counts a turn of the process at a place.
+/// Counts a turn of the process at an index.
 fn count(yields: &mut Vec<u8>, place: usize, outcome: &Outcome)
     requires { place < length yields.old.items }
     ensures length { length yields.new.items ≡ length yields.old.items }
@@ -33,8 +33,9 @@ fn count(yields: &mut Vec<u8>, place: usize, outcome: &Outcome)
     }
 }
 
-/// Gives turns in rounds, at most so many, until every process has yielded twice since the last turn that was answered by
-/// anything but WouldBlock. Takes the room in which yields are counted, so that it needs no memory.
+/// Runs turns in rounds, up to a maximum number, until every process has yielded twice since the
+/// last turn whose reply was not WouldBlock. The caller provides the space for the counts of
+/// yields, so that no memory is needed.
 pub(crate) fn until_idle<B: Backing + Drop, P: Process>(
     system: &mut System<B>,
     seats: &mut Vec<Seat<P>>,

@@ -13,14 +13,14 @@ use iol_core::events::{Event, Reply};
 use iol_core::refusals::Refusal;
 use iol_system::system::System;
 
-/// How a turn went.
+/// The outcome of a turn.
 #[derive(Drop)]
 pub(crate) struct Outcome {
     pub yields: bool,
     pub reply: Reply,
 }
 
-/// The process in a seat has its turn.
+/// Runs a turn of the process in a seat.
 fn seat_turn<B: Backing + Drop, P: Process>(system: &mut System<B>, seat: &mut Seat<P>) -> Outcome
     ensures domain { seat.new.by ≡ seat.old.by }
     ensures turn { SeatTurn sharing P.turns system.old seat.old result.yields result.reply
@@ -50,7 +50,7 @@ fn seat_turn<B: Backing + Drop, P: Process>(system: &mut System<B>, seat: &mut S
     }
 }
 
-/// The process at a place has its turn.
+/// Runs a turn of the process at an index.
 pub(crate) fn place_turn<B: Backing + Drop, P: Process>(
     system: &mut System<B>,
     seats: &mut Vec<Seat<P>>,

@@ -26,7 +26,7 @@ use iol_system::system::System;
 use std::alloc::{AllocError, Global};
 use std::marker::Model;
 
-/// A system, and a process in each of some domains, by rising domains.
+/// A system, and a process in each of some domains, in ascending order of domains.
 #[derive(Drop)]
 pub struct World<B: Backing, P: Process> {
     alloc: Global,
@@ -34,7 +34,7 @@ pub struct World<B: Backing, P: Process> {
     seats: Vec<Seat<P>>,
     rough: bool,
 
-    // Room in which `until_idle` counts how often each process yielded.
+    // Space for the counts of yields in `until_idle`.
     yields: Vec<u8>,
 }
 
@@ -52,7 +52,8 @@ impl<B: Backing, P: Process> Model for World<B, P> {
 }
 
 impl<B: Backing + Drop, P: Process> World<B, P> {
-    /// A world of this system and these processes, each in its domain and told Done. For want of memory both are dropped.
+    /// Creates a world of this system and these processes, each in its domain, with Done as its
+    /// last reply. If memory runs out, both are dropped.
     pub fn new(
         alloc: Global,
         system: System<B>,
@@ -75,14 +76,14 @@ impl<B: Backing + Drop, P: Process> World<B, P> {
         })
     }
 
-    /// Lends the aggregates of a domain, as its process sees them.
+    /// The aggregates of a domain, as its process sees them.
     pub fn look(&self, by: DomainId) -> Look<'_>
         ensures { lent result ≡ lent_to (machine_of self.now.machine) by }
     {
         Look::new(self.system.aggregates(), by)
     }
 
-    /// Lends the system, which tells what its aggregates and reports are.
+    /// Borrows the system, for its aggregates and reports.
     pub fn system(&self) -> &System<B>
         ensures { result.now ≡ self.now.machine }
     {
@@ -98,7 +99,7 @@ impl<B: Backing + Drop, P: Process> World<B, P> {
         Some(&self.seats[place].process)
     }
 
-    /// Carries out an event that no process brings about.
+    /// Executes an external event.
     pub fn step_outside(&mut self, event: Event) -> Reply
         ensures step { OutsideStep sharing P.turns self.old event result self.new }
         ensures copied { IfHonest self.old.machine.disk
@@ -109,14 +110,14 @@ impl<B: Backing + Drop, P: Process> World<B, P> {
         self.outside(&event)
     }
 
-    /// Carries out an event that no process brings about.
+    /// Executes an external event.
     fn outside(&mut self, event: &Event) -> Reply
         ensures { OutsideStep sharing P.turns self.old event.now result self.new }
     {
         self.system.step_ref(event)
     }
 
-    /// The process in a domain has its turn.
+    /// Runs a turn of the process in a domain.
     fn turn(&mut self, by: DomainId) -> Reply
         ensures { DomainTurn sharing P.turns self.old by result self.new }
     {
@@ -129,7 +130,7 @@ impl<B: Backing + Drop, P: Process> World<B, P> {
         }
     }
 
-    /// Makes one choice come true.
+    /// Executes one choice.
     fn step(&mut self, choice: &Choice) -> Reply
         ensures { WorldStep sharing P.turns self.old choice.now result self.new }
     {
@@ -139,10 +140,12 @@ impl<B: Backing + Drop, P: Process> World<B, P> {
         }
     }
 
-    /// Makes choices come true, in their order. For want of memory for the replies, none: the room for them comes first.
+    /// Executes the choices in order. If memory for the replies runs out, executes none: their
+    /// space is reserved first.
     ///
-    /// A turn is one question to the process and its call. A yield is answered Done; the turn of a process that found no
-    /// memory is answered Memory, and that of a domain without process NoDomain.
+    /// A turn is one call of `Process::next` and the call that it returns. The reply to a yield is
+    /// Done; if the process runs out of memory it is Memory, and for a domain without process it
+    /// is NoDomain.
     pub fn run(&mut self, choices: &[Choice]) -> Result<Vec<Reply>, AllocError>
         ensures shared { IfOk result
             (λ replies. WorldRun sharing P.turns self.old choices.now replies.items self.new) }
@@ -160,9 +163,10 @@ impl<B: Backing + Drop, P: Process> World<B, P> {
         Ok(replies)
     }
 
-    /// Gives turns to the processes, by rising domains, round after round, at most `turns` of them. True at the first moment at which
-    /// every process has yielded twice since the start, or since the last turn that was answered by anything but WouldBlock; false
-    /// after `turns` turns without such a moment.
+    /// Runs turns of the processes in ascending order of domains, round after round, at most
+    /// `turns` in all. Returns true as soon as every process has yielded twice since the start, or
+    /// since the last turn whose reply was not WouldBlock; returns false if that does not happen
+    /// within `turns` turns.
     pub fn until_idle(&mut self, turns: usize) -> bool
         ensures shared { Idles sharing P.turns self.old turns result self.new }
         ensures run { IfHonest self.old.machine.disk
@@ -179,14 +183,15 @@ impl<B: Backing + Drop, P: Process> World<B, P> {
         )
     }
 
-    /// What lies in the system, counted, as [`System::report`] counts it. It changes nothing.
+    /// Usage counts of the system, as by [`System::report`]. It changes nothing.
     pub fn report(&self) -> Result<Report, AllocError>
         ensures { Reports self.now.machine.kernel result }
     {
         self.system.report()
     }
 
-    /// Whether a turn since [`World::new`] was answered TooMany, NoRoom, Fault or Memory. Once true it stays true.
+    /// Returns whether the reply to a turn since [`World::new`] was TooMany, NoRoom, Fault or
+    /// Memory. Once true, it stays true.
     pub fn rough(&self) -> bool
         ensures { result ≡ self.now.rough }
     {
@@ -194,7 +199,7 @@ impl<B: Backing + Drop, P: Process> World<B, P> {
     }
 }
 
-/// The processes in their domains, by rising domains.
+/// Sorts processes by ascending domains.
 fn seats_by_domain<P: Process>(
     alloc: Global,
     processes: Vec<(DomainId, P)>,
@@ -208,7 +213,7 @@ fn seats_by_domain<P: Process>(
     Ok(seats)
 }
 
-/// The processes in their domains, as they were given.
+/// Makes a seat of each process, in the given order.
 fn seats_for<P: Process>(
     alloc: Global,
     processes: Vec<(DomainId, P)>,
@@ -226,7 +231,7 @@ fn seats_for<P: Process>(
     Ok(seats)
 }
 
-/// Where the process of a domain sits.
+/// The index of the process of a domain.
 fn place_of<P: Process>(seats: &[Seat<P>], by: DomainId) -> Option<usize>
     ensures { MatchOption result (HasNoSeat seats.now by) (SitsAt seats.now by) }
 {

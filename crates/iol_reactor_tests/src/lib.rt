@@ -1,4 +1,5 @@
-//! Tests of the event loop over sockets in memory, in a crate of their own since a crate with tests is proved twice.
+//! Tests of the event loop over sockets in memory. They are a crate of their own since a crate
+//! with tests is proved twice.
 #![tactic(auto)]
 
 #[cfg(test)]

@@ -1,4 +1,4 @@
--- A connection whose peer is gone is not there any more, or its peer is gone.
+-- A connection whose peer is reported as gone is removed, or its peer is gone.
 use Rattle.std.proofs.Common.{◌≡◌, ℕ, ◌+◌, ◌<◌, List, [], ◌∷◌, map, Option, None, Some, Result, Ok, Err, MatchOption, ◌⊎◌, Bool, true, false, inl, inr, refl, sym, ap, subst, arith, is_none, unwrap_or, if◌then◌else◌}
 use Rattle.std.proofs.lemmas.Bool.Decides.{nat_tests}
 use Rattle.std.proofs.lemmas.Grind.{common_steps}

@@ -1,4 +1,4 @@
--- What the last round tells.
+-- The result of the last round.
 use Rattle.std.proofs.Common.{◌≡◌, ℕ, Bool, true, ◌||◌, inl, refl}
 use Rattle.iol_core.specs.Calls.Outside.{lacks_conn}
 use Rattle.iol_core.specs.State.{State}

@@ -1,4 +1,4 @@
--- A connection that is over was sent whole.
+-- All bytes of a connection that is over were sent.
 use Rattle.std.proofs.Common.{◌≡◌, ℕ, true, List, [], Option, None, Some, refl, ap, subst, is_none, unwrap_or}
 use Rattle.iol_core.specs.Calls.Outside.{lacks_conn}
 use Rattle.iol_core.specs.NumberedLists.{lookup}

@@ -1,4 +1,4 @@
--- What follows of a connection that was served.
+-- A consequence for a served connection.
 use Rattle.std.specs.Prelude.{◌≡◌, ℕ, true, false, List, [], Option}
 use Rattle.iol_core.specs.Calls.Outside.{lacks_conn}
 use Rattle.iol_core.specs.State.{State, conn_at}
@@ -9,8 +9,8 @@ use Rattle.iol_proc.specs.Turns.{Account}
 use Rattle.iol_proc.specs.World.{Stage}
 use Rattle.iol_serve.specs.Service.{Serves}
 
--- Where its peer was never told to be gone, and it is not there any more, all was sent, in order: what waited to be sent, and
--- what was written since. Nothing is left of it.
+-- If its peer was never reported as gone and the connection was removed, all bytes were sent, in order: those queued before,
+-- then those written since. Nothing of it is left.
 abbrev pub OverIsWhole : {P : Type 0} → Account P → Type 0
 OverIsWhole {P} turns = (c : ℕ) (left rest held now : Option (List ℕ)) (w after : Stage State P) → IsOrderly w.machine
     → (served : Serves turns c false left rest held now w after) → lacks_conn after.machine c ≡ true

@@ -1,4 +1,4 @@
--- What comes of a round.
+-- The result of a round.
 use Rattle.std.specs.Prelude.{ℕ, Bool, true, false, List, Option}
 use Rattle.iol_system.specs.Machine.{SystemState}
 use Rattle.iol_proc.specs.Turns.{Account}
@@ -9,7 +9,7 @@ use Rattle.iol_serve.specs.declared.ending.Ending.TheVariants as ending
 use Rattle.iol_serve.specs.declared.serve.Step.{Step}
 use Rattle.iol_serve.specs.declared.serve.Step.TheVariants.{Moved, Quiet, Failed, Silent, Stalled, Over}
 
--- whether the peer is told to be gone
+-- whether the step is reported as a peer that is gone
 abbrev pub is_gone : Step → Bool
 is_gone Moved = false
 is_gone Quiet = false
@@ -18,7 +18,7 @@ is_gone Silent = true
 is_gone Stalled = true
 is_gone Over = false
 
--- whether it is the last, where the peer had been told to be gone, or had not: the connection is over, or its peer is gone again
+-- whether the round is the last: the connection is over, or its peer is gone and was gone before
 abbrev pub is_last : (was_gone : Bool) → Step → Bool
 is_last was_gone Moved = false
 is_last was_gone Quiet = false
@@ -27,7 +27,7 @@ is_last was_gone Silent = was_gone
 is_last was_gone Stalled = was_gone
 is_last was_gone Over = true
 
--- how it ends, should it end now: as it would have before the round, but for one that would have been over
+-- the ending if this round is the last: the one before the round, unless that was Over
 abbrev pub after : Ending → Step → Ending
 after ending.Over Failed = ending.Failed
 after ending.Over Silent = ending.Silent
@@ -35,7 +35,7 @@ after ending.Over Stalled = ending.Long
 after ending.Over step = ending.Over
 after before step = before
 
--- A world's connection is served by a round that comes to this.
+-- One round, with this step as its result, serves the connection of the world.
 abbrev pub ServesBy : {P R W : Type 0} → Account P → (c : ℕ) → Step → (left : R → Option (List ℕ)) (reader rest : R)
     (held : W → Option (List ℕ)) (writer written : W) (w after : Stage SystemState P) → Type 0
 ServesBy turns c step left reader rest held writer written w after =

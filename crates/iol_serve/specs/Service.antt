@@ -1,4 +1,4 @@
--- What serving a connection of a world is.
+-- Serving a connection of a world.
 use Rattle.std.specs.Prelude.{◌≡◌, ◌⊎◌, ℕ, Bool, true, false, List, [], ◌∷◌, Option}
 use Rattle.std.specs.List.{list_any}
 use Rattle.std.specs.Io.KnownBytes.{Appends, Consumes}
@@ -16,18 +16,18 @@ use Rattle.iol_proc.specs.declared.choice.Choice.TheVariants as choice
 use Rattle.iol_serve.specs.declared.ending.Ending.{Ending}
 use Rattle.iol_serve.specs.declared.ending.Ending.TheVariants.{Over, Failed, Silent, Long}
 
--- nothing more comes of a connection: it is not there any more, or its peer is gone
+-- a connection has ended: it was removed, or its peer is gone
 abbrev pub HasEnded : State → (c : ℕ) → Type 0
 HasEnded s c = (lacks_conn s c ≡ true) ⊎ (is_gone (conn_at s c).peer ≡ true)
 
--- whether the peer was told to be gone
+-- whether the peer was reported as gone
 abbrev pub hung_up : Ending → Bool
 hung_up Over = false
 hung_up Failed = true
 hung_up Silent = true
 hung_up Long = true
 
--- A turn of a process, or something that happens to this connection: bytes arrive, the peer closes it, bytes are sent.
+-- A process turn, or an event of this connection: bytes arrive, the peer closes it, or bytes are sent.
 abbrev pub IsOn : (c : ℕ) → Choice → Type 0
 IsOn c (choice.Turn by) = Unit {0}
 IsOn c (choice.Outside (event.Arrive d bytes)) = d ≡ c
@@ -40,8 +40,8 @@ AreOn c [] = Unit {0}
 AreOn c (x ∷ xs) = IsOn c x × AreOn c xs
 
 module _ {P : Type 0} (turns : Account P) where
-  -- From w, processes have turns and things happen to this connection alone, on which these bytes come in and these are sent, and
-  -- whose peer is told to be gone, or is not.
+  -- From w, the choices are only process turns and events of this connection. These bytes are received and these are sent; gone
+  -- is whether the peer is reported as gone.
   pub record GoesOn (c : ℕ) (came sent : List ℕ) (gone : Bool) (w after : Stage State P) : Type 0 where
     pub choices : List Choice
     pub replies : List Reply
@@ -51,13 +51,13 @@ module _ {P : Type 0} (turns : Account P) where
     pub goes : sent_over c choices replies ≡ sent
     pub tells : list_any (λ x. drops_with x c) choices ≡ gone
 
-  -- What is sent so is what a writer took, in order, where its bytes are known.
+  -- The bytes sent are those that a writer took, in order, if its bytes are known.
   pub record Sends (c : ℕ) (held now : Option (List ℕ)) (w after : Stage State P) : Type 0 where
     pub sent : List ℕ
     pub taken : Appends held now sent
     pub goes_on : GoesOn c [] sent false w after
 
-  -- What comes in so is what a reader gave, and what is sent is what a writer took, each in order and where its bytes are known.
+  -- The bytes received are those that a reader gave, and the bytes sent those that a writer took, in order and if known.
   pub record Serves (c : ℕ) (gone : Bool) (left rest held now : Option (List ℕ)) (w after : Stage State P) : Type 0 where
     pub came : List ℕ
     pub sent : List ℕ
@@ -65,8 +65,8 @@ module _ {P : Type 0} (turns : Account P) where
     pub taken : Appends held now sent
     pub goes_on : GoesOn c came sent gone w after
 
--- How a connection of a world goes on, is sent to, and is served, as the copying machine has it; but for what is sent, where the
--- store is honest. It is told what a reader has left and what a writer holds, where that is known.
+-- Advancing, sending and serving a connection of a world, in terms of the copying machine. All except `SendsIn` require an
+-- honest store. The parameters give the remaining bytes of a reader and the contents of a writer, if known.
 module _ {P : Type 0} (turns : Account P) where
   abbrev pub GoesOnIn : (c : ℕ) (came sent : List ℕ) (gone : Bool) (w after : Stage SystemState P) → Type 0
   GoesOnIn c came sent gone w after = IfHonest w.machine.disk (GoesOn turns c came sent gone (copied w) (copied after))
@@ -80,7 +80,7 @@ module _ {P : Type 0} (turns : Account P) where
   ServesIn c gone left reader rest held writer written w after = IfHonest w.machine.disk
       (Serves turns c gone (left reader) (left rest) (held writer) (held written) (copied w) (copied after))
 
-  -- a connection was served until it came to such an end
+  -- a connection was served, with this ending
   abbrev pub ServesUntil : {R W : Type 0} → (c : ℕ) → Ending → (left : R → Option (List ℕ)) (reader rest : R)
       (held : W → Option (List ℕ)) (writer written : W) (w after : Stage SystemState P) → Type 0
   ServesUntil c ending left reader rest held writer written w after =

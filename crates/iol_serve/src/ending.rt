@@ -1,26 +1,29 @@
-//! How the serving of a connection ends.
+//! The ways in which serving a connection ends.
 ghost use Rattle.std.specs.Prelude.{◌≡◌};
 ghost use Rattle.iol_serve.specs.Service.{hung_up};
 
-/// How the serving of a connection ended. All but the first are a peer that was told to be gone: what was not sent by then is
-/// dropped, and never will be.
+/// The way in which serving a connection ended. In all cases except the first, its peer was
+/// reported as gone: output that was not sent by then is dropped.
 #[derive(Clone, Copy, Debug, PartialEq, Eq)]
 pub enum Ending {
-    /// It is not there any more, and its peer was never told to be gone: all that was written on it was sent.
+    /// The connection was removed, and its peer was never reported as gone: all bytes written on
+    /// it were sent.
     Over,
 
     /// A read, a write or a flush failed.
     Failed,
 
-    /// Its peer sends no more, all that was written on it was sent, and yet nobody closes it: all is idle.
+    /// The peer sends nothing more and all output was sent, but no process closes the connection
+    /// and all are idle.
     Silent,
 
-    /// It was served for as many rounds as one may be, or as may follow one another with nothing sent and the processes not idle.
+    /// The connection reached the limit of rounds, or the limit of successive rounds with nothing
+    /// sent and processes that are not idle.
     Long,
 }
 
 impl Ending {
-    /// Whether the peer was told to be gone.
+    /// Returns whether the peer was reported as gone.
     pub fn is_hung_up(self) -> bool
         ensures { result ≡ hung_up self }
     {

@@ -1,10 +1,11 @@
-//! A law of connections that were served. The function does nothing; its contract is the law.
+//! A law of served connections. The function has no effect; its contract is the law.
 ghost use Rattle.iol_serve.specs.Laws.{OverIsWhole};
 
 use iol_proc::laws::histories_of_choices;
 use iol_proc::process::Process;
 
-/// Of a connection that is over, all that was written on it was sent, in order, if its peer was never told to be gone.
+/// If a connection is over and its peer was never reported as gone, all bytes written on it were
+/// sent, in order.
 pub fn over_is_whole<P: Process>()
     ensures { OverIsWhole P.turns }
 {

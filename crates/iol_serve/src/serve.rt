@@ -1,4 +1,4 @@
-//! A connection of a world, served from a reader and to a writer.
+//! Serves a connection of a world from a reader and to a writer.
 ghost use Rattle.std.specs.Prelude.{◌≡◌, ◌≢◌, ◌||◌, [], true, false};
 ghost use Rattle.std.specs.Io.KnownBytes.{Appends};
 ghost use Rattle.iol_core.specs.Prelude.{lacks_conn};
@@ -19,48 +19,51 @@ use iol_proc::world::World;
 use std::io;
 use std::io::{Read, Write};
 
-/// A connection ends after so many rounds at the latest.
+/// The maximum number of rounds of a connection.
 const MAX_ROUNDS: u32 = 0x10_0000;
 
-/// The turns that the processes have in one round at the most.
+/// The maximum number of process turns in one round.
 const TURNS: usize = 65_536;
 
-/// The rounds, one after another, in which nothing is sent and the processes are not idle, after which all is stalled.
+/// After this many successive rounds with nothing sent and processes not idle, the connection is
+/// stalled.
 const MAX_STALLS: u32 = 32;
 
-/// The bytes of one read, and of one drain, at the most.
+/// The maximum number of bytes of one read and of one send.
 const PIECE: u32 = PAGE_BYTES as u32;
 
-/// How a connection goes on.
+/// The result of a part of a round.
 #[derive(Clone, Copy)]
 enum Step {
-    /// Something came or was sent, or may be later.
+    /// Bytes were received or sent, or may be in a later round.
     Moved,
 
-    /// Nothing is to be sent. After a round: and the processes are not idle.
+    /// Nothing is queued for sending. As the result of a round: and the processes are not idle.
     Quiet,
 
     /// A read, a write or a flush failed.
     Failed,
 
-    /// Nothing will come any more, and all waits for it.
+    /// No more input will arrive, and all processes wait for it.
     Silent,
 
-    /// Round after round nothing was sent, and the processes were not idle.
+    /// In too many successive rounds nothing was sent and the processes were not idle.
     Stalled,
 
-    /// The connection is gone.
+    /// The connection was removed.
     Over,
 }
 
-/// Serves a connection of the world until it is gone, or its peer is: what the reader gives comes in, and what the world
-/// sends goes to the writer, which is flushed before each read. The reader's end is a peer that is done. A fault of the reader or
-/// the writer is a peer that is gone; so is one of which nothing comes any more where all is idle, one to which nothing is sent in 32
-/// rounds, one after another, after which the processes are not idle, and one that is served for 1,048,576 rounds. The answer tells
-/// which it was.
+/// Serves a connection of the world until the connection or its peer is gone. Bytes from the
+/// reader arrive on the connection; its output goes to the writer, which is flushed before each
+/// read. At the end of the reader, the peer is reported as done. The peer is reported as gone
+/// after a fault of the reader or the writer, if no more input will arrive and all processes are
+/// idle, after 32 successive rounds in which nothing is sent and the processes are not idle, and
+/// after 1,048,576 rounds. The result distinguishes these cases.
 ///
-/// A round is turns of the processes until all is idle, at most 65,536; all that is to be sent, at most 4,096 bytes
-/// at a time; and, where all is idle and nothing was sent, one read of at most 4,096 bytes.
+/// A round has three parts: process turns until all are idle, at most 65,536; sending all queued
+/// output, at most 4,096 bytes at a time; and, if all are idle and nothing was sent, one read of
+/// at most 4,096 bytes.
 pub fn serve_connection<B: Backing + Drop, P: Process, R: Read, W: Write>(
     world: &mut World<B, P>,
     conn: ConnId,
@@ -88,7 +91,7 @@ pub fn serve_connection<B: Backing + Drop, P: Process, R: Read, W: Write>(
     long(ending, hang_up(world, conn))
 }
 
-// How it ends, should it end after this round. The first that went wrong tells.
+// The ending, if this round is the last. The first failure determines it.
 fn after(before: Ending, step: Step) -> Ending
     ensures { result ≡ spec.after before step }
 {
@@ -103,7 +106,8 @@ fn after(before: Ending, step: Step) -> Ending
     }
 }
 
-// Whether a round is the last: the connection is over, or its peer is gone, and was before it.
+// Returns whether a round is the last: the connection is over, or its peer is gone now and was
+// before.
 fn is_last(before: Ending, step: Step) -> bool
     ensures { result ≡ spec.is_last (hung_up before) step }
 {
@@ -114,7 +118,8 @@ fn is_last(before: Ending, step: Step) -> bool
     }
 }
 
-// How it ended after the last of all rounds, at which the connection was there, or was not.
+// The ending when the limit of rounds is reached; `was_there` is whether the connection still
+// existed.
 fn long(before: Ending, was_there: bool) -> Ending
     ensures told { hung_up result ≡ (hung_up before || was_there) }
     ensures over { result ≡ Ending.Over → was_there ≡ false }
@@ -129,8 +134,8 @@ fn long(before: Ending, was_there: bool) -> Ending
     }
 }
 
-// Sends the last bytes on their way. What a peer that is gone did not take is not offered again: that could take as long as
-// the first time.
+// Flushes the last bytes. If the peer is gone, the writer is not tried again: it could block as
+// long as before.
 fn finish<W: Write>(writer: &mut W, ending: Ending)
     ensures { Appends (W.contents writer.old) (W.contents writer.new) [] }
 {
@@ -139,7 +144,7 @@ fn finish<W: Write>(writer: &mut W, ending: Ending)
     }
 }
 
-// One round, after which the world knows of a peer that is gone.
+// Runs one round, after which the world knows if the peer is gone.
 fn round<B: Backing + Drop, P: Process, R: Read, W: Write>(
     world: &mut World<B, P>,
     conn: ConnId,
@@ -163,7 +168,7 @@ fn round<B: Backing + Drop, P: Process, R: Read, W: Write>(
     step
 }
 
-// The same step, or that all is stalled, after so many quiet ones.
+// Returns the step, or `Stalled` at the limit of successive quiet steps.
 fn bounded(step: Step, stalls: &mut u32) -> Step
     ensures over { result ≡ Step.Over → step ≡ Step.Over }
 {
@@ -178,14 +183,14 @@ fn bounded(step: Step, stalls: &mut u32) -> Step
     Step::Stalled
 }
 
-// Whether the peer is to be told to be gone.
+// Returns whether the step must be reported as a peer that is gone.
 fn is_gone(step: Step) -> bool
     ensures { result ≡ spec.is_gone step }
 {
     matches!(step, Step::Failed | Step::Silent | Step::Stalled)
 }
 
-// Tells that the peer is gone, if the connection is there.
+// Reports that the peer is gone, if the connection exists.
 fn tell<B: Backing + Drop, P: Process>(world: &mut World<B, P>, conn: ConnId, step: Step) -> Step
     requires { spec.is_gone step ≡ true }
     ensures ended { HasEnded (tables_of world.new.machine.kernel) conn }
@@ -201,7 +206,7 @@ fn tell<B: Backing + Drop, P: Process>(world: &mut World<B, P>, conn: ConnId, st
     }
 }
 
-// Turns, sending, and a read.
+// Runs process turns, then sends, then reads.
 fn exchange<B: Backing + Drop, P: Process, R: Read, W: Write>(
     world: &mut World<B, P>,
     conn: ConnId,
@@ -225,7 +230,7 @@ fn exchange<B: Backing + Drop, P: Process, R: Read, W: Write>(
     }
 }
 
-// Turns of the processes until all is idle, or many.
+// Runs process turns until all are idle, up to the limit.
 fn settle<B: Backing + Drop, P: Process>(world: &mut World<B, P>, conn: ConnId) -> bool
     ensures honest { KeepsHonesty world.old.machine world.new.machine }
     ensures goes_on { GoesOnIn P.turns conn [] [] false world.old world.new }
@@ -234,7 +239,7 @@ fn settle<B: Backing + Drop, P: Process>(world: &mut World<B, P>, conn: ConnId) 
     world.until_idle(TURNS)
 }
 
-// Sends what waits.
+// Sends all queued output.
 fn send<B: Backing + Drop, P: Process, W: Write>(
     world: &mut World<B, P>,
     conn: ConnId,
@@ -256,14 +261,14 @@ fn send<B: Backing + Drop, P: Process, W: Write>(
     progress(has_moved)
 }
 
-// How it goes on where something was sent, or nothing.
+// The step after a send, by whether it sent bytes.
 fn progress(has_moved: bool) -> Step
     ensures { result ≢ Step.Over }
 {
     if has_moved { Step::Moved } else { Step::Quiet }
 }
 
-// Sends the first bytes of what waits.
+// Sends the first bytes of the queued output.
 fn send_piece<B: Backing + Drop, P: Process, W: Write>(
     world: &mut World<B, P>,
     conn: ConnId,
@@ -288,7 +293,7 @@ fn send_piece<B: Backing + Drop, P: Process, W: Write>(
     }
 }
 
-// Sees that what was sent is on its way, and makes one read.
+// Flushes the writer, then makes one read.
 fn receive<B: Backing + Drop, P: Process, R: Read, W: Write>(
     world: &mut World<B, P>,
     conn: ConnId,
@@ -313,14 +318,14 @@ fn receive<B: Backing + Drop, P: Process, R: Read, W: Write>(
             }
             Step::Moved
         }
-        // The peer sends no more, and all waits for it.
+        // The peer sends no more, and all processes wait for it.
         Err(Refusal::BrokenPipe) => Step::Silent,
-        // Made again in the next round, which also finds out where the connection is not there any more.
+        // The next round retries, and detects whether the connection was removed.
         Err(_) => Step::Moved,
     }
 }
 
-// The peer of a connection sends no more.
+// Reports that the peer of a connection sends no more.
 fn close<B: Backing + Drop, P: Process>(world: &mut World<B, P>, conn: ConnId)
     ensures honest { KeepsHonesty world.old.machine world.new.machine }
     ensures goes_on { GoesOnIn P.turns conn [] [] false world.old world.new }
@@ -329,7 +334,7 @@ fn close<B: Backing + Drop, P: Process>(world: &mut World<B, P>, conn: ConnId)
     let _ = world.step_outside(Event::PeerClosed { conn, how });
 }
 
-// The peer of a connection is gone, if that is there: whether it was.
+// Reports that the peer of a connection is gone, and returns whether the connection existed.
 fn hang_up<B: Backing + Drop, P: Process>(world: &mut World<B, P>, conn: ConnId) -> bool
     ensures ended { HasEnded (tables_of world.new.machine.kernel) conn }
     ensures lacks { result ≡ false →
@@ -346,7 +351,7 @@ fn hang_up<B: Backing + Drop, P: Process>(world: &mut World<B, P>, conn: ConnId)
     }
 }
 
-// Whether there is such a connection. It is asked by a drain of no bytes, which changes nothing.
+// Returns whether the connection exists, by sending zero bytes, which changes nothing.
 fn is_there<B: Backing + Drop, P: Process>(world: &mut World<B, P>, conn: ConnId) -> bool
     ensures found { result ≡ true →
         lacks_conn (tables_of world.new.machine.kernel) conn ≡ false }

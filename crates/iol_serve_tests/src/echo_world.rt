@@ -17,10 +17,10 @@ const CONFIG: Config = Config {
     sums: 8,
 };
 
-/// A world of one process that sends back what comes.
+/// A world of one process that sends back its input.
 pub type Echoing = TestWorld<MemoryBacking, Echo>;
 
-// What makes a pool, for these domains.
+// The events that create a pool, for these domains.
 fn beginnings(domains: Domains) -> [Event; 2] {
     let pool = PoolId::new(1);
     [

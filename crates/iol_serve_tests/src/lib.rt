@@ -1,4 +1,5 @@
-//! Tests of connections that are served, in a crate of their own since a crate with tests is proved twice.
+//! Tests of served connections. They are a crate of their own since a crate with tests is proved
+//! twice.
 #![tactic(auto)]
 
 #[cfg(test)]

@@ -1,4 +1,4 @@
-//! What readers and writers see of a connection that is served, to the last read and write; and that it ends.
+//! The reads and writes of a served connection, up to the last, and its ending.
 use crate::echo_world::{Echoing, echoing};
 use iol_core::refusals::Refusal;
 use iol_serve::ending::Ending;
@@ -8,7 +8,7 @@ use std::test::Fail;
 use test_parts::checks::{pass, pass_each};
 use test_parts::streams::{Sink, Source};
 
-// How serving ended, how often the reader was called, and whether the connection is still there.
+// The ending, the number of reads, and whether the connection still exists.
 #[derive(Drop)]
 struct Served {
     ending: Ending,
@@ -18,7 +18,7 @@ struct Served {
 
 const ASKED: &[u8] = b"hello, world: some bytes more";
 
-// A connection is served from reads of 7 bytes, of which number `fails` fails, if it is not 0.
+// Serves a connection from reads of 7 bytes, of which read number `fails` fails, if it is not 0.
 fn serve_in(world: &mut Echoing, fails: u32, writer: &mut Sink) -> Option<Served> {
     let conn = world.connect(1)?;
     let mut reader = Source::new(ASKED, 7, fails);
@@ -39,7 +39,7 @@ fn serve(alloc: Global, fails: u32, writer: &mut Sink) -> Result<Option<Served>,
     Ok(served)
 }
 
-// Whether all is sent back, flushed before each read and at the end.
+// Returns whether all input is sent back, flushed before each read and at the end.
 fn is_ample(served: &Option<Served>, writer: &Sink) -> bool {
     let is_sent = writer.bytes() == ASKED && writer.writes == 9 && writer.flushes == 7;
     match served {
@@ -48,7 +48,7 @@ fn is_ample(served: &Option<Served>, writer: &Sink) -> bool {
     }
 }
 
-// Into a writer that takes 5 bytes at once, of whose writes number `fails` fails, if it is not 0.
+// A writer that takes 5 bytes at once, of whose writes number `fails` fails, if it is not 0.
 fn writer_of(alloc: Global, fails: u32) -> Sink {
     Sink::new(alloc, 5, fails)
 }
@@ -71,7 +71,7 @@ fn has_failed(served: &Option<Served>) -> bool {
     }
 }
 
-// Whether read number k fails, and so many bytes that came before it are answered.
+// Returns whether read number k fails, and the `came` bytes before it are sent back.
 fn read_fails(alloc: Global, k: u32, came: usize) -> Result<bool, Refusal> {
     let mut writer = writer_of(alloc, 0);
     let served = serve(alloc, k, &mut writer)?;
@@ -79,17 +79,17 @@ fn read_fails(alloc: Global, k: u32, came: usize) -> Result<bool, Refusal> {
     Ok(is_answered && has_failed(&served))
 }
 
-// Which read fails, and how many bytes came before it.
+// The number of the read that fails, and the number of bytes before it.
 const READS: [(u32, usize); 6] = [(1, 0), (2, 7), (3, 14), (4, 21), (5, 28), (6, 29)];
 
-// Either way the connection is gone, and its peer was told to be.
+// In either case the connection is removed, and its peer was reported as gone.
 #[test]
 fn each_read_fails(rt: HostRuntime) -> Result<(), Fail> {
     let alloc = rt.alloc();
     pass_each(&READS, |(k, came)| read_fails(alloc, *k, *came))
 }
 
-// Whether write number k fails, and what was written before it was taken.
+// Returns whether write number k fails, and the bytes written before it were taken.
 fn write_fails(alloc: Global, k: u32) -> Result<bool, Refusal> {
     let mut writer = writer_of(alloc, k);
     let served = serve(alloc, 0, &mut writer)?;

@@ -20,7 +20,7 @@ pub record Conn (A : Type 0) : Type 0 where
   pub closed : Bool
   pub peer : Option How
 
--- a connection as the copying machine has it, with the text that g gives for each queue
+-- a connection of the copying machine, with the text that g gives for each queue
 abbrev pub conn_view : {A : Type 0} → (A → Text) → Conn A → machine.Connection
 conn_view g c = record {
   pool = c.pool;
@@ -31,20 +31,20 @@ conn_view g c = record {
   peer = c.peer;
 }
 
--- the buffers that a connection holds, one for each slice
+-- the buffers that a connection references, one for each slice
 abbrev pub held_by : Conn (List Slice) → List BufId
 held_by c = bufs_of c.incoming ++ bufs_of c.outgoing
 
--- a connection that waits to be accepted, on which nothing came in yet
+-- a connection that waits to be accepted, with empty queues
 abbrev pub new_conn : (pool : ℕ) → Conn (List Slice)
 new_conn p = record { pool = p; incoming = []; outgoing = []; accepted = false; closed = false; peer = None }
 
--- A connection whose peer closes it like this: one that is gone stays gone, and what was to be sent to one that is gone now is
--- dropped.
+-- A connection whose peer closes it in this way: a peer that is gone stays gone, and bytes to be sent to a peer that is gone now
+-- are dropped.
 abbrev pub closed_by : Conn (List Slice) → How → Conn (List Slice)
 closed_by c Done = record c { peer = if is_gone c.peer then Some Gone else Some Done }
 closed_by c Gone = record c { outgoing = []; peer = Some Gone }
 
--- whether nothing is left to send, and it was closed, or was never accepted and its peer is gone
+-- whether nothing is left to send, and the connection was closed, or was never accepted and its peer is gone
 abbrev pub is_over : Conn (List Slice) → Bool
 is_over c = (byte_len c.outgoing == 0) && (c.closed || (not c.accepted && is_gone c.peer))

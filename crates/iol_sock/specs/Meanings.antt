@@ -1,4 +1,4 @@
--- The words on a connection are the copying machine's, whatever is read at the places of its bytes.
+-- The definitions on connections agree with the copying machine, for every reading of the places of bytes.
 use Rattle.std.specs.Prelude.{◌≡◌, ℕ, List, [], ◌∷◌, length, Option, Some}
 use Rattle.iol_core.specs.NumberedLists.{lookup}
 use Rattle.iol_core.specs.State as machine
@@ -18,7 +18,7 @@ use Rattle.iol_pipe.specs.Queue.{fitting}
 use Rattle.iol_sock.specs.Connections.{Conn, conn_view, closed_by, is_over}
 use Rattle.iol_sock.specs.Refusals.{arrive_refusals, queue_refusals, segment_refusals, arrive_late}
 
--- what is read at each place: a number, and whose it is
+-- a reading: for each place a byte and its pool
 abbrev pub Reading : Type 0
 Reading = Place → ℕ × ℕ
 
@@ -26,11 +26,11 @@ Reading = Place → ℕ × ℕ
 abbrev pub IsConn : Reading → State → (c : ℕ) → Conn (List Slice) → Type 0
 IsConn f s c x = lookup s.conns c ≡ Some (conn_view (read f) x)
 
--- a connection is over just where the machine's is, as it is read
+-- a connection is over exactly when the machine's connection is, for every reading
 abbrev pub IsOverAsMeant : Type 0
 IsOverAsMeant = (f : Reading) (x : Conn (List Slice)) → machine.is_over (conn_view (read f) x) ≡ is_over x
 
--- a connection whose peer closes it is read as the machine's is whose peer closes it
+-- the reading of a connection whose peer closes it is the machine's connection whose peer closes it
 abbrev pub ClosesAsMeant : Type 0
 ClosesAsMeant = (f : Reading) (x : Conn (List Slice)) (how : How) → outside.closed_by (conn_view (read f) x) how
     ≡ conn_view (read f) (closed_by x how)
@@ -40,7 +40,7 @@ abbrev pub ArrivesAsMeant : Type 0
 ArrivesAsMeant = (f : Reading) (s : State) (c : ℕ) (x : Conn (List Slice)) (bytes : List ℕ) → IsConn f s c x
     → first (outside.arrive s c bytes).refusals ≡ first (arrive_refusals x (length bytes))
 
--- of bytes that arrive as many fit as the machine takes
+-- the number of arriving bytes that fit is the number that the machine takes
 abbrev pub TakesAsMeant : Type 0
 TakesAsMeant = (f : Reading) (s : State) (c : ℕ) (x : Conn (List Slice)) (bytes : List ℕ) → IsConn f s c x
     → (outside.arrive s c bytes).answer ≡ fitting x.incoming (length bytes)
@@ -59,13 +59,13 @@ SendsAsMeant = (f : Reading) (s : State) (c max : ℕ) (x : Conn (List Slice)) �
 abbrev pub open_on : (c : ℕ) → Option Descriptor
 open_on c = Some (on.Connection c)
 
--- the first refusal of bytes that are to be sent is the machine's, to a descriptor that is open on the connection
+-- the first refusal of bytes to be sent is the machine's, for a descriptor that is open on the connection
 abbrev pub QueuesAsMeant : Type 0
 QueuesAsMeant = (f : Reading) (s : State) (c n : ℕ) (x : Conn (List Slice)) → IsConn f s c x →
     first ((BrokenPipe when writing.is_broken s (open_on c)) ∷
     (WouldBlock when writing.takes_none s (open_on c) n) ∷ []) ≡ first (queue_refusals x n)
 
--- of bytes that are to be sent as many fit as the machine takes
+-- the number of bytes to be sent that fit is the number that the machine takes
 abbrev pub FitsAsMeant : Type 0
 FitsAsMeant = (f : Reading) (s : State) (c n : ℕ) (x : Conn (List Slice)) → IsConn f s c x
     → writing.fitting s (open_on c) n ≡ fitting x.outgoing n

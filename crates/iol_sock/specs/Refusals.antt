@@ -1,4 +1,4 @@
--- When calls on a connection are refused, in the copying machine's words.
+-- The refusals of calls on a connection, in terms of the copying machine.
 use Rattle.std.specs.Prelude.{◌≡◌, ℕ, ◌==◌, ◌&&◌, ◌||◌, nat_lt, List, [], ◌∷◌, Option, None, is_some, MatchOption}
 use Rattle.iol_core.specs.Meaning.{◌when◌, first, WantOfRoom}
 use Rattle.iol_core.specs.Prelude.{Never}
@@ -24,7 +24,7 @@ arrive_refusals c n =
     (BrokenPipe when (is_some c.peer || c.closed)) ∷
     (WouldBlock when (nat_lt 0 n && (fitting c.incoming n == 0))) ∷ []
 
--- bytes want room in the connection's pool; no bytes want nothing
+-- bytes need room in the connection's pool; an empty list needs none
 abbrev pub arrive_late : Conn (List Slice) → (bytes : List ℕ) → Refusal → Type 0
 arrive_late c [] = Never
 arrive_late c (b ∷ bytes) = WantOfRoom c.pool
@@ -41,6 +41,6 @@ segment_refusals c max =
     (BadRange when (max == 0)) ∷
     (WouldBlock when (byte_len c.outgoing == 0)) ∷ []
 
--- at most max bytes are read, as they come: refused as one byte that arrives
+-- at most max bytes of one read arrive: the refusals of one byte that arrives
 abbrev pub read_refusals : Conn (List Slice) → (max : ℕ) → List (Option Refusal)
 read_refusals c max = (BadRange when (max == 0)) ∷ arrive_refusals c 1

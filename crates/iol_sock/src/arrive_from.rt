@@ -1,4 +1,4 @@
-//! What arrives from a reader, straight into a page.
+//! Bytes received from a reader, straight into a page.
 ghost use Rattle.std.specs.Prelude.{◌≡◌, false};
 ghost use Rattle.iol_pool.specs.Prelude.{pool_in};
 ghost use Rattle.iol_sock.specs.Calls.{ArrivesFrom};
@@ -12,11 +12,13 @@ use std::alloc::Global;
 use std::io::Read;
 
 impl Connection {
-    /// The bytes of one read come in, straight into a new buffer on the lowest free page of the connection's pool, which
-    /// is open. At most `max` bytes are asked for, a page of them, and what fits.
+    /// Receives the bytes of one read, straight into a new buffer on the lowest free page of the
+    /// connection's pool, which is open. It requests at most `max` bytes, at most one page, and at
+    /// most the bytes that fit.
     ///
-    /// `BadRange` where `max` is 0; else refused as one byte that arrives, before it reads. Where the reader is at its end
-    /// or fails, nothing came in, and the page is free again.
+    /// Errors: `BadRange` if `max` is 0; else the refusals of one byte that arrives, before it
+    /// reads. If the reader is at its end or fails, nothing was received, and the page is free
+    /// again.
     pub fn arrive_from<R: Read>(
         &mut self,
         alloc: Global,

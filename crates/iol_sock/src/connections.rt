@@ -14,7 +14,8 @@ use iol_pipe::Pipe;
 use std::alloc::Global;
 use std::marker::Model;
 
-/// A connection: a queue of what came in, one of what is to be sent, and how each end stands.
+/// A connection: a queue of received bytes, a queue of bytes to be sent, and the state of both
+/// ends.
 #[derive(Drop)]
 pub struct Connection {
     pub(crate) pool: PoolId,
@@ -43,7 +44,7 @@ impl Model for Connection {
 }
 
 impl Connection {
-    /// A connection that waits to be accepted. What arrives on it will lie in the pool.
+    /// A connection that waits to be accepted. Bytes that arrive on it will be stored in the pool.
     pub fn new(alloc: Global, pool: PoolId) -> Connection
         ensures { result ≡ new_conn pool }
     {
@@ -57,14 +58,14 @@ impl Connection {
         }
     }
 
-    /// The pool of what arrives.
+    /// The pool of arriving bytes.
     pub fn pool(&self) -> PoolId
         ensures { result ≡ self.now.pool }
     {
         self.pool
     }
 
-    /// How many bytes came in and are not yet read.
+    /// The number of bytes received and not yet read.
     pub fn unread(&self) -> u32
         ensures len { result ≡ byte_len self.now.incoming }
         ensures most { result ≤ MAX_QUEUE_BYTES }
@@ -72,7 +73,7 @@ impl Connection {
         self.incoming.len()
     }
 
-    /// How many bytes are to be sent.
+    /// The number of bytes to be sent.
     pub fn unsent(&self) -> u32
         ensures len { result ≡ byte_len self.now.outgoing }
         ensures most { result ≤ MAX_QUEUE_BYTES }
@@ -101,7 +102,7 @@ impl Connection {
         self.peer.is_none()
     }
 
-    /// Whether its peer takes no more.
+    /// Whether its peer takes no more bytes.
     pub fn is_gone(&self) -> bool
         ensures { result ≡ is_gone self.now.peer }
     {
@@ -111,15 +112,16 @@ impl Connection {
         }
     }
 
-    /// Whether nothing more may arrive: its peer said so, or its domain closed it.
+    /// Whether no more bytes may arrive: its peer sends no more, or its domain closed it.
     pub fn is_ended(&self) -> bool
         ensures { result ≡ (is_some self.now.peer || self.now.closed) }
     {
         self.peer.is_some() || self.closed
     }
 
-    /// Whether it can be forgotten: nothing is left to send, and it was closed, or was never accepted and its peer is
-    /// gone. What came in may still wait then, so it ends by [`release`](Connection::release).
+    /// Whether it can be forgotten: nothing is left to send, and it was closed, or was never
+    /// accepted and its peer is gone. It may still have unread bytes, so it ends by
+    /// [`release`](Connection::release).
     pub fn is_over(&self) -> bool
         ensures { result ≡ is_over self.now }
     {
@@ -133,7 +135,8 @@ impl Connection {
         self.accepted = true;
     }
 
-    /// The peer sends no more, or also takes no more. What was to be sent to a peer that is gone is dropped.
+    /// The peer sends no more, or also takes no more. Bytes to be sent to a peer that is gone are
+    /// dropped.
     pub fn peer_closed(&mut self, store: &mut Store, how: How)
         requires { Covers store.old (bufs_of self.old.outgoing) }
         ensures { ClosesPeer store.old store.new self.old self.new how }
@@ -151,7 +154,7 @@ impl Connection {
         }
     }
 
-    /// The domain closes it. What came in is dropped, and what is to be sent stays.
+    /// The domain closes it. Unread bytes are dropped, and bytes to be sent stay queued.
     pub fn close(&mut self, store: &mut Store)
         requires { Covers store.old (bufs_of self.old.incoming) }
         ensures { Closes store.old store.new self.old self.new }
@@ -160,7 +163,7 @@ impl Connection {
         self.closed = true;
     }
 
-    /// Releases all that it holds, and ends it.
+    /// Releases all its references, and ends it.
     pub fn release(self, store: &mut Store)
         requires { Covers store.old (held_by self) }
         ensures { ReleasesBoth store.old store.new self.incoming self.outgoing }

@@ -1,4 +1,4 @@
-//! What came in is copied out, and then skipped.
+//! Copies of received bytes, and their removal.
 ghost use Rattle.std.specs.Prelude.{◌≢◌, None};
 ghost use Rattle.iol_core.specs.Prelude.{lookup};
 ghost use Rattle.iol_hold.specs.Prelude.{Covers, bufs_of, AllReadable};
@@ -11,8 +11,9 @@ use iol_core::numbers::{ConnId, DomainId};
 use iol_hold::Store;
 
 impl Connection {
-    /// Copies the longest prefix of what came in whose pools all name the domain, as much of it as there is room for, and
-    /// tells how many bytes that is. All still wait, and no memory is taken.
+    /// Copies the longest prefix of the received bytes whose pools all name the domain, as much of
+    /// it as `into` has room for, and returns the number of copied bytes. All bytes stay queued,
+    /// and it allocates no memory.
     pub fn copy_front(&self, store: &Store, d: DomainId, into: &mut [u8]) -> u32
         requires { AllReadable store.now self.now.incoming }
         ensures { CopiesFront store.now self.now d into.old into.new result }
@@ -20,7 +21,7 @@ impl Connection {
         self.incoming.copy_front(store, d, into)
     }
 
-    /// Releases the first `n` bytes that came in, or all where fewer wait. It takes no memory.
+    /// Releases the first `n` received bytes, or all if there are fewer. It allocates no memory.
     pub fn skip(&mut self, store: &mut Store, n: u32)
         requires { Covers store.old (bufs_of self.old.incoming) }
         ensures { Skips store.old store.new self.old self.new n }
@@ -30,7 +31,8 @@ impl Connection {
 }
 
 impl Connections {
-    /// Releases the first `n` bytes that came in on a connection, or all where fewer wait. It takes no memory.
+    /// Releases the first `n` received bytes of a connection, or all if there are fewer. It
+    /// allocates no memory.
     #[tactic(auto, using(crate::proofs::WaitingList::passing_rules))]
     pub fn skip(&mut self, store: &mut Store, c: ConnId, n: u32)
         requires there { lookup self.old.conns c ≢ None }

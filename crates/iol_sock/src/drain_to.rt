@@ -1,4 +1,4 @@
-//! What a writer takes of what is to be sent, straight from where it lies.
+//! Bytes to be sent, passed to a writer straight from their buffers.
 ghost use Rattle.std.specs.Prelude.{◌≤◌, length, take};
 ghost use Rattle.std.specs.Io.KnownBytes.{Appends};
 ghost use Rattle.iol_hold.specs.Prelude.{Covers, bufs_of, AllReadable};
@@ -10,19 +10,22 @@ use iol_hold::Store;
 use iol_pipe::Pipe;
 use std::io::Write;
 
-/// What a writer took.
+/// The result of a drain.
 #[derive(Clone, Copy, Debug, PartialEq, Eq)]
 pub struct Drained {
-    /// The number of bytes.
+    /// The number of bytes that the writer took.
     pub taken: u32,
 
-    /// Whether it failed, or was offered bytes and took none.
+    /// Whether the writer failed, or was offered bytes and took none. It then took fewer bytes than
+    /// it was offered. No clause states that a write failed: the contract of `Write` does not say
+    /// when it fails.
     pub failed: bool,
 }
 
 impl Connection {
-    /// Lends the first bytes to be sent to a writer, slice by slice and at most `max` in all, until it fails or takes
-    /// none. What it took is sent, and leaves the queue. No memory is taken.
+    /// Passes the first bytes to be sent to a writer, slice by slice and at most `max` in all,
+    /// until it fails or takes none. The bytes that it took leave the queue. It allocates no
+    /// memory.
     pub fn drain_to<W: Write>(&mut self, store: &mut Store, writer: &mut W, max: u32) -> Drained
         requires covered { Covers store.old (bufs_of self.old.outgoing) }
         requires readable { AllReadable store.old self.old.outgoing }
@@ -63,7 +66,7 @@ fn write_first<W: Write>(queue: &Pipe, store: &Store, writer: &mut W, max: u32) 
     }
 }
 
-// Writes bytes until the writer fails or takes none. Tells how many it took.
+// Writes bytes until the writer fails or takes none. Returns the number of bytes that it took.
 fn write_some<W: Write>(writer: &mut W, bytes: &[u8]) -> usize
     ensures most { result ≤ length bytes.now }
     ensures written { Appends (W.contents writer.old) (W.contents writer.new)

@@ -1,4 +1,4 @@
-//! What arrives, and what is read of it.
+//! Arriving bytes, and reading them.
 ghost use Rattle.std.specs.Prelude.{◌≡◌, false, Some, IfErr, OnOk};
 ghost use Rattle.iol_core.specs.Prelude.{first};
 ghost use Rattle.iol_pool.specs.Prelude.{pool_in};
@@ -15,8 +15,8 @@ use iol_hold::Store;
 use std::alloc::{AllocError, Global};
 
 impl Connection {
-    /// Whether `n` bytes may arrive, or which refusal comes first: `BrokenPipe` where nothing more may arrive, `WouldBlock`
-    /// where there is a byte and none fits.
+    /// Whether `n` bytes may arrive, or the first refusal: `BrokenPipe` if no more bytes may
+    /// arrive, `WouldBlock` if `n` is not 0 and no byte fits.
     pub fn may_arrive(&self, n: usize) -> Result<(), Refusal>
         ensures passed { OnOk result (IsPassed (arrive_refusals self.now n)) }
         ensures refused { IfErr result (λ x. first (arrive_refusals self.now n) ≡ Some x) }
@@ -30,11 +30,11 @@ impl Connection {
         Ok(())
     }
 
-    /// Bytes come in from the peer, as many as fit: how many is the answer. They lie in new buffers on the lowest free
-    /// pages of the connection's pool, which is open.
+    /// Receives bytes from the peer, as many as fit, and returns their number. They are stored in
+    /// new buffers on the lowest free pages of the connection's pool, which is open.
     ///
-    /// `BrokenPipe` where nothing more may arrive, `WouldBlock` where bytes are offered and none fits, then `NoRoom` and
-    /// `Memory`. No bytes want neither room nor memory.
+    /// Errors: `BrokenPipe` if no more bytes may arrive, `WouldBlock` if bytes are offered and none
+    /// fits, then `NoRoom` and `Memory`. An empty list needs neither room nor memory.
     pub fn arrive(&mut self, alloc: Global, store: &mut Store, bytes: &[u8]) -> Result<u32, Refusal>
         requires { (pool_in store.old.pools self.old.pool).closed ≡ false }
         ensures { Arrives store.old store.new self.old self.new bytes.now result }
@@ -43,7 +43,7 @@ impl Connection {
         self.incoming.fill(alloc, store, self.pool, bytes)
     }
 
-    /// Takes off the longest prefix of at most `n` bytes that came in, whose pools all name the domain.
+    /// Takes off the longest prefix of at most `n` received bytes whose pools all name the domain.
     pub fn front(
         &mut self,
         alloc: Global,

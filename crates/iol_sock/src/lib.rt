@@ -1,18 +1,21 @@
-//! Connections: what came in and is not yet read, what is to be sent, and the peer.
+//! Connections: the bytes received and not yet read, the bytes to be sent, and the state of the
+//! peer.
 //!
-//! Both are queues of slices ([`iol_pipe`]). What arrives is placed in pages once, and is read and sent without a copy.
-//! What is sent carries the checksum of its payload, put together from sums of slices that are remembered
-//! ([`iol_sum`]).
+//! Both are queues of slices ([`iol_pipe`]). Received bytes are placed in pages once, and are read
+//! and sent without a copy. A segment carries the checksum of its payload, combined from the
+//! remembered sums of its slices ([`iol_sum`]).
 //!
-//! The contract. What each call does to a connection is said by one record (`specs/Calls`), of the connection before and
-//! after: when it is refused, which changes nothing, and what becomes of its queues and of the store. In: `Arrives` (new
-//! bytes of the connection's pool, on its lowest free pages), `ArrivesFrom` (those of one read, in place), `GivesFront` (the
-//! longest prefix whose pools name the reader). Out: `QueuesShared`, `QueuesNew`, `Segments` (bytes with the checksum of
-//! these alone, for every cutting into slices, and which sums are remembered), `Drains` (what a writer took). Ended:
-//! `ClosesPeer`, `Closes`, and `release`. Many: [`Connections`] has the live ones under numbers that rise (`numbers_rise`);
-//! `add`, `get`, `accept`, `forget` are words on that list, `first_waiting` the first that a domain may accept. Each call
-//! above is there by number, and does the same to that connection and nothing to any other (`ChangesAs`). That its words
-//! are the machine's: [`laws`].
+//! The contract. One record per call (`specs/Calls`) relates the connection before and after: when
+//! the call is refused, which changes nothing, and how its queues and the store change. Input:
+//! `Arrives` (new bytes of the connection's pool, on its lowest free pages), `ArrivesFrom` (the
+//! bytes of one read, in place), `GivesFront` (the longest prefix whose pools name the reader).
+//! Output: `QueuesShared`, `QueuesNew`, `Segments` (bytes with the checksum of these bytes only,
+//! for every division into slices, and the remembered sums), `Drains` (the bytes that a writer
+//! took). End: `ClosesPeer`, `Closes`, and `release`. [`Connections`] holds the live connections
+//! under rising numbers (`numbers_rise`): `add`, `get`, `accept` and `forget` change that list, and
+//! `first_waiting` is the first that a domain may accept. Each call above also takes a number; it
+//! has the same effect on that connection, and none on any other (`ChangesAs`). [`laws`] states
+//! that these definitions agree with the copying machine.
 //!
 //! ```text
 //! let taken = conn.arrive(alloc, &mut store, b"GET /")?;

@@ -1,4 +1,4 @@
-//! What is to be sent, and what is sent of it.
+//! Bytes to be sent, and segments of them.
 ghost use Rattle.std.specs.Prelude.{◌≡◌, ◌+◌, ◌≤◌, ◌++◌, false, Some, IfErr, OnOk};
 ghost use Rattle.std.specs.Vec.{vec_len, vec_capacity};
 ghost use Rattle.iol_core.specs.Prelude.{first, bytes_of};
@@ -19,7 +19,7 @@ use iol_pipe::Pipe;
 use iol_sum::{SumCache, checksum};
 use std::alloc::{AllocError, Global};
 
-/// Bytes that are sent at once, with the Internet checksum of these alone.
+/// Bytes that are sent at once, with the Internet checksum of these bytes only.
 #[derive(Debug, Drop)]
 pub struct Segment {
     pub bytes: Bytes,
@@ -27,8 +27,8 @@ pub struct Segment {
 }
 
 impl Connection {
-    /// Whether `n` bytes may be queued, or which refusal comes first: `BrokenPipe` where the peer is gone, `WouldBlock`
-    /// where there is a byte and none fits.
+    /// Whether `n` bytes may be queued, or the first refusal: `BrokenPipe` if the peer is gone,
+    /// `WouldBlock` if `n` is not 0 and no byte fits.
     pub fn may_queue(&self, n: usize) -> Result<(), Refusal>
         ensures passed { OnOk result (IsPassed (queue_refusals self.now n)) }
         ensures refused { IfErr result (λ x. first (queue_refusals self.now n) ≡ Some x) }
@@ -42,10 +42,11 @@ impl Connection {
         Ok(())
     }
 
-    /// Bytes are to be sent, as many as fit: how many is the answer. They are shared, and the aggregate stays.
+    /// Queues bytes to be sent, as many as fit, and returns their number. They are shared with the
+    /// aggregate, which is unchanged.
     ///
-    /// `BrokenPipe` where the peer is gone, `WouldBlock` where bytes are offered and none fits, then `Memory`. No bytes want
-    /// no memory.
+    /// Errors: `BrokenPipe` if the peer is gone, `WouldBlock` if bytes are offered and none fits,
+    /// then `Memory`. An empty aggregate needs no memory.
     pub fn queue(&mut self, store: &mut Store, from: &Agg) -> Result<u32, Refusal>
         requires covered { Covers store.old (bufs_of from.now) }
         requires countable { IsCountable store.old (bufs_of from.now) }
@@ -55,10 +56,10 @@ impl Connection {
         Ok(self.outgoing.push(store, from)?)
     }
 
-    /// New bytes of an open pool are to be sent, as many as fit: how many is the answer. They lie in new buffers on the
-    /// lowest free pages of the pool.
+    /// Queues new bytes of an open pool to be sent, as many as fit, and returns their number. They
+    /// are stored in new buffers on the lowest free pages of the pool.
     ///
-    /// It is refused as [`queue`](Connection::queue) is, and then `NoRoom` and `Memory`.
+    /// Errors: those of [`queue`](Connection::queue), with `NoRoom` before `Memory`.
     pub fn write(
         &mut self,
         alloc: Global,
@@ -73,10 +74,10 @@ impl Connection {
         self.outgoing.fill(alloc, store, pool, bytes)
     }
 
-    /// Sends the first `max` bytes, or all where fewer wait. Their checksum is put together from the sums of the slices
-    /// in which they lie, each of which is used as by [`SumCache::sum`].
+    /// Sends the first `max` bytes, or all if there are fewer. It combines their checksum from the
+    /// sums of their slices, each of which is used as by [`SumCache::sum`].
     ///
-    /// `BadRange` where `max` is 0, `WouldBlock` where nothing is to be sent, then `Memory`.
+    /// Errors: `BadRange` if `max` is 0, `WouldBlock` if nothing is to be sent, then `Memory`.
     pub fn segment(
         &mut self,
         alloc: Global,
@@ -97,7 +98,8 @@ impl Connection {
     }
 }
 
-// Takes the first bytes off a queue, `max` or all, and gives them with the checksum of these alone.
+// Takes the first bytes off a queue, `max` or all, and returns them with the checksum of these
+// bytes only.
 fn send(
     queue: &mut Pipe,
     alloc: Global,

@@ -1,4 +1,4 @@
-//! What comes in on a connection of the table, by its number.
+//! Input of a connection of the table, by its number.
 ghost use Rattle.iol_core.specs.Prelude.{lookup};
 ghost use Rattle.iol_hold.specs.Prelude.{Covers, IsCountable, bufs_of};
 ghost use Rattle.iol_pool.specs.Prelude.{pool_in};
@@ -18,10 +18,10 @@ use std::alloc::{AllocError, Global};
 use std::io::Read;
 
 impl Connections {
-    /// Bytes come in from a connection's peer, as many as fit: how many is the answer. They lie in new buffers on the
-    /// lowest free pages of its pool, which is open.
+    /// Receives bytes from a connection's peer, as many as fit, and returns their number. They are
+    /// stored in new buffers on the lowest free pages of its pool, which is open.
     ///
-    /// It is refused as [`Connection::arrive`] is.
+    /// Errors: those of [`Connection::arrive`].
     #[tactic(auto, using(crate::proofs::WaitingList::passing_rules))]
     pub fn arrive(
         &mut self,
@@ -38,10 +38,10 @@ impl Connections {
         conn_mut(&mut self.live, c).arrive(alloc, store, bytes)
     }
 
-    /// The bytes of one read come in from a connection's peer, straight into a new buffer on the lowest free page of its
-    /// pool, which is open.
+    /// Receives the bytes of one read from a connection's peer, straight into a new buffer on the
+    /// lowest free page of its pool, which is open.
     ///
-    /// It is refused as [`Connection::arrive_from`] is.
+    /// Errors: those of [`Connection::arrive_from`].
     #[tactic(auto, using(crate::proofs::WaitingList::passing_rules))]
     pub fn arrive_from<R: Read>(
         &mut self,
@@ -59,7 +59,8 @@ impl Connections {
         conn_mut(&mut self.live, c).arrive_from(alloc, store, reader, max)
     }
 
-    /// Takes off the longest prefix of at most `n` bytes that came in on a connection, whose pools all name the domain.
+    /// Takes off the longest prefix of at most `n` received bytes of a connection whose pools all
+    /// name the domain.
     #[tactic(auto, using(crate::proofs::WaitingList::passing_rules))]
     pub fn front(
         &mut self,
@@ -78,7 +79,7 @@ impl Connections {
         conn_mut(&mut self.live, c).front(alloc, store, n, d)
     }
 
-    /// The domain closes a connection. What came in is dropped, and what is to be sent stays.
+    /// The domain closes a connection. Unread bytes are dropped, and bytes to be sent stay queued.
     #[tactic(auto, using(crate::proofs::WaitingList::passing_rules))]
     pub fn close(&mut self, store: &mut Store, c: ConnId)
         requires there { lookup self.old.conns c ≢ None }

@@ -1,4 +1,4 @@
-//! What is sent on a connection of the table, by its number, and its peer.
+//! Output of a connection of the table, by its number, and the end of its peer.
 ghost use Rattle.iol_core.specs.Prelude.{lookup};
 ghost use Rattle.iol_hold.specs.Prelude.{Covers, IsCountable, AllReadable, bufs_of};
 ghost use Rattle.iol_pool.specs.Prelude.{pool_in};
@@ -21,10 +21,10 @@ use std::alloc::Global;
 use std::io::Write;
 
 impl Connections {
-    /// Bytes are to be sent on a connection, as many as fit: how many is the answer. They are shared, and the aggregate
-    /// stays.
+    /// Queues bytes to be sent on a connection, as many as fit, and returns their number. They are
+    /// shared with the aggregate, which is unchanged.
     ///
-    /// It is refused as [`Connection::queue`] is.
+    /// Errors: those of [`Connection::queue`].
     #[tactic(auto, using(crate::proofs::WaitingList::passing_rules))]
     pub fn queue(&mut self, store: &mut Store, c: ConnId, from: &Agg) -> Result<u32, Refusal>
         requires there { lookup self.old.conns c ≢ None }
@@ -36,10 +36,10 @@ impl Connections {
         conn_mut(&mut self.live, c).queue(store, from)
     }
 
-    /// New bytes of an open pool are to be sent on a connection, as many as fit: how many is the answer. They lie in new
-    /// buffers on the lowest free pages of the pool.
+    /// Queues new bytes of an open pool to be sent on a connection, as many as fit, and returns
+    /// their number. They are stored in new buffers on the lowest free pages of the pool.
     ///
-    /// It is refused as [`Connection::write`] is.
+    /// Errors: those of [`Connection::write`].
     #[tactic(auto, using(crate::proofs::WaitingList::passing_rules))]
     pub fn write(
         &mut self,
@@ -57,9 +57,10 @@ impl Connections {
         conn_mut(&mut self.live, c).write(alloc, store, pool, bytes)
     }
 
-    /// Sends the first `max` bytes of a connection, or all where fewer wait, with the checksum of these alone.
+    /// Sends the first `max` bytes of a connection, or all if there are fewer, with the checksum of
+    /// these bytes only.
     ///
-    /// It is refused as [`Connection::segment`] is.
+    /// Errors: those of [`Connection::segment`].
     #[tactic(auto, using(crate::proofs::WaitingList::passing_rules))]
     pub fn segment(
         &mut self,
@@ -80,7 +81,8 @@ impl Connections {
         conn_mut(&mut self.live, c).segment(alloc, store, sums, max)
     }
 
-    /// Lends the first bytes to be sent on a connection to a writer, at most `max` in all, and takes off what it took.
+    /// Passes the first bytes to be sent on a connection to a writer, at most `max` in all, and
+    /// removes those that it took.
     #[tactic(auto, using(crate::proofs::WaitingList::passing_rules))]
     pub fn drain_to<W: Write>(
         &mut self,
@@ -98,8 +100,8 @@ impl Connections {
         conn_mut(&mut self.live, c).drain_to(store, writer, max)
     }
 
-    /// The peer of a connection sends no more, or also takes no more. What was to be sent to a peer that is gone is
-    /// dropped.
+    /// The peer of a connection sends no more, or also takes no more. Bytes to be sent to a peer
+    /// that is gone are dropped.
     #[tactic(auto, using(crate::proofs::WaitingList::passing_rules))]
     pub fn peer_closed(&mut self, store: &mut Store, c: ConnId, how: How)
         requires there { lookup self.old.conns c ≢ None }

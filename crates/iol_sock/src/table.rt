@@ -22,12 +22,13 @@ use std::marker::Model;
 
 /// The live connections, under numbers that rise from 1 and are never used again.
 ///
-/// One is found by a binary search. Those that no domain accepted are listed beside, so that the first that a domain may
-/// accept is found without a look at the others.
+/// A connection is found by binary search. Those that no domain accepted are in a second list, so
+/// that the first that a domain may accept is found without a search of the others.
 #[derive(Drop)]
 pub struct Connections {
     pub(crate) live: Entries<Connection>,
-    // Those that no domain accepted, by rising number, each with its pool. Taking one moves those on its shorter side.
+    // The connections that no domain accepted, by rising number, each with its pool. Removal moves
+    // those on the shorter side.
     waiting: VecDeque<(u64, PoolId)>,
 }
 
@@ -50,7 +51,7 @@ impl Model for Connections {
         × (t.live.next ≤ LAST_CONNECTION + 1) };
 }
 
-/// Takes the connection of this number off the list of those that wait.
+/// Removes the connection of this number from the list of waiting connections.
 #[tactic(auto, using(crate::proofs::WaitingList::list_rules))]
 fn unlist(waiting: &mut VecDeque<(u64, PoolId)>, number: u64)
     requires rising { IsRising waiting.old.items }
@@ -83,7 +84,7 @@ fn first_named(waiting: &VecDeque<(u64, PoolId)>, pools: &Pools, d: DomainId) ->
 }
 
 impl Connections {
-    /// No connections: the first will be number 1.
+    /// An empty table: the first connection will have number 1.
     pub fn new(alloc: Global) -> Connections
         ensures none { result.conns ≡ [] }
         ensures next { result.next ≡ 1 }
@@ -94,14 +95,14 @@ impl Connections {
         }
     }
 
-    /// How many are live.
+    /// The number of live connections.
     pub fn count(&self) -> usize
         ensures { result ≡ length self.now.conns }
     {
         self.live.len()
     }
 
-    /// The number of the next, which may be the first past the last.
+    /// The number of the next connection, which may be one more than the last valid number.
     pub fn next(&self) -> ConnId
         ensures number { result ≡ self.now.next }
         ensures last { result ≤ LAST_CONNECTION + 1 }
@@ -116,7 +117,7 @@ impl Connections {
         self.live.numbers_rise();
     }
 
-    /// Reserves room for a connection more. Where there is room already, it is not refused.
+    /// Reserves room for one more connection. If there is room already, it is not refused.
     pub fn reserve(&mut self) -> Result<(), AllocError>
         ensures conns { self.new.conns ≡ self.old.conns }
         ensures next { self.new.next ≡ self.old.next }
@@ -129,7 +130,8 @@ impl Connections {
         Ok(())
     }
 
-    /// Adds a connection that waits to be accepted, in room that is reserved. What arrives on it will lie in the pool.
+    /// Adds a connection that waits to be accepted, in room that is reserved. Bytes that arrive on
+    /// it will be stored in the pool.
     #[tactic(auto, using(crate::proofs::WaitingList::table_rules))]
     pub fn add(&mut self, alloc: Global, pool: PoolId) -> ConnId
         requires few { self.old.next ≤ LAST_CONNECTION }
@@ -151,7 +153,7 @@ impl Connections {
         self.live.get(c.number() as u64)
     }
 
-    /// The first that no domain accepted and whose pool names this one.
+    /// The first connection that no domain accepted and whose pool names this domain.
     #[tactic(auto, using(crate::proofs::WaitingList::table_rules))]
     pub fn first_waiting(&self, store: &Store, d: DomainId) -> Option<ConnId>
         ensures { result ≡ first_waiting store.now.pools d self.now.conns }
@@ -176,7 +178,7 @@ impl Connections {
         self.live.value_mut(number).accept();
     }
 
-    /// Forgets a connection, and gives it out for its caller to release.
+    /// Removes a connection, and returns it for the caller to release.
     #[tactic(auto, using(crate::proofs::WaitingList::table_rules))]
     pub fn forget(&mut self, c: ConnId) -> Connection
         requires { lookup self.old.conns c ≢ None }

@@ -1,7 +1,8 @@
-//! Tests of the libraries below the calls, in a crate of their own since a crate with tests is proved twice.
+//! Tests of the libraries below the calls. They are a crate of their own since a crate with tests
+//! is proved twice.
 //!
-//! Each call that needs memory answers where there is enough: a test named `ample` says so of each library, up to the kernel and the
-//! calls that copy.
+//! Each call that needs memory succeeds if there is enough: a test named `ample` shows this for
+//! each library, up to the kernel and the copying calls.
 #![tactic(auto)]
 
 #[cfg(test)]

@@ -1,4 +1,5 @@
-//! Pages, aggregates, pipes, descriptors, sums, connections, extents, stores of files, caches and kernels.
+//! Tests of pages, aggregates, pipes, descriptors, sums, connections, extents, stores of files,
+//! caches and kernels.
 mod aggregates;
 mod arenas;
 mod backing;

@@ -1,15 +1,15 @@
--- Remembered sums stay right as the store goes on.
+-- Remembered sums stay right while the store changes.
 use Rattle.iol_arena.specs.State.{State}
 use Rattle.iol_arena.specs.Buffers.{Keeps, Grows}
 use Rattle.iol_hold.specs.StoreState.{Stored}
 use Rattle.iol_hold.specs.Moves.{Stays}
 use Rattle.iol_sum.specs.Sums.{Sums, IsRight}
 
--- over whatever changes no live buffer and gives no identity twice
+-- over every change that keeps the live buffers and uses no identity twice
 abbrev pub StayRight : Type 0
 StayRight = (old new : State) (c : Sums) → Keeps old new → IsRight old c → IsRight new c
 
--- over calls that take and give holds
+-- over calls that take and give up references
 abbrev pub StayRightAsHoldsMove : Type 0
 StayRightAsHoldsMove = (old new : Stored) (c : Sums) → Stays old new → IsRight old.arena c → IsRight new.arena c
 

@@ -1,4 +1,4 @@
--- Sums of pieces put together (RFC 1071, section 2 (A) and (B)).
+-- Sums of concatenated pieces (RFC 1071, section 2 (A) and (B)).
 use Rattle.std.specs.Prelude.{◌≡◌, ℕ, ◌+◌, ◌*◌, ◌/◌, ◌%◌, Bool, nat_eq, if◌then◌else◌, List, ◌++◌, length}
 use Rattle.iol_core.specs.Checksum.{word_sum, folded}
 
@@ -9,7 +9,7 @@ swapped n = n % 256 * 256 + n / 256
 abbrev pub is_odd : ℕ → Bool
 is_odd n = nat_eq (n % 2) 1
 
--- the sum of a piece, and after it that of a rest, which begins at an odd place or not
+-- the sum of a piece with sum `sum`, followed by a rest with sum `rest`; `at_odd`: the rest begins at an odd offset
 abbrev pub joined : (sum : ℕ) (at_odd : Bool) (rest : ℕ) → ℕ
 joined sum at_odd rest = folded (sum + (if at_odd then swapped rest else rest))
 
@@ -17,7 +17,7 @@ joined sum at_odd rest = folded (sum + (if at_odd then swapped rest else rest))
 abbrev pub IsSumOf : List ℕ → (sum : ℕ) → Type 0
 IsSumOf bytes sum = sum ≡ folded (word_sum bytes)
 
--- Whatever the piece and the rest are that have these sums, the last number is the sum of both, one after the other.
+-- For every piece and every rest with these sums, `whole` is the sum of the piece followed by the rest.
 abbrev pub JoinsPieces : (sum : ℕ) (at_odd : Bool) (rest whole : ℕ) → Type 0
 JoinsPieces sum at_odd rest whole =
     (xs ys : List ℕ) → IsSumOf xs sum → at_odd ≡ is_odd (length xs) → IsSumOf ys rest → IsSumOf (xs ++ ys) whole

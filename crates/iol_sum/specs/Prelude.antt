@@ -1,2 +1,2 @@
--- The words that contracts of other crates cite, passed on from one place. Declares nothing.
+-- The definitions that contracts of other crates cite, re-exported from one place.
 pub use Rattle.iol_sum.specs.Sums.{IsRight}

@@ -1,4 +1,4 @@
--- Sums that are remembered, the most recently used first.
+-- Remembered sums, the most recently used first.
 use Rattle.std.specs.Prelude.{◌≡◌, ℕ, ◌+◌, ◌-◌, ◌<◌, ◌≤◌, ◌⊎◌, Bool, nat_eq, ◌&&◌, if◌then◌else◌, Option, None, is_some, List, [], ◌∷◌, length, take, slice_range}
 use Rattle.std.specs.List.{All, IsDistinct}
 use Rattle.std.specs.Map.{keys_of, lookup, remove_entry}
@@ -11,7 +11,7 @@ use Rattle.iol_hold.specs.Texts.{slice_bytes}
 use Rattle.iol_hold.specs.declared.slices.Slice.{Slice}
 use Rattle.iol_sum.specs.declared.keys.Key.{Key}
 
--- the remembered sums with their keys, and how many there may be
+-- the remembered sums with their keys, and the largest number of them
 pub record Sums : Type 0 where
   pub entries : List (Key × ℕ)
   pub limit : ℕ
@@ -27,35 +27,36 @@ buf_of k = record { page = k.page; generation = k.generation }
 abbrev pub same : (a b : Key) → Bool
 same a b = nat_eq a.page b.page && (nat_eq a.generation b.generation && (nat_eq a.from b.from && nat_eq a.len b.len))
 
--- what is remembered under a key
+-- the sum that is remembered under a key, if there is one
 abbrev pub sum_kept : Sums → Key → Option ℕ
 sum_kept c k = lookup (same k) c.entries
 
--- the folded sum of the bytes that a key names
+-- the folded sum of the bytes of a key
 abbrev pub sum_at : State → Key → ℕ
 sum_at s k = folded (word_sum (slice_range (bytes_of s (buf_of k)) k.from (k.from + k.len)))
 
--- where the key's buffer is live, the sum is that of its bytes; and that buffer was published already
+-- if the key's buffer is live, the sum is that of the key's bytes; and that buffer was published already
 pub record IsRightSum (s : State) (e : Key × ℕ) : Type 0 where
   pub value : IsLive s (buf_of e.0) → e.1 ≡ sum_at s e.0
   pub published : e.0.generation ≤ generation_at s e.0.page
 
--- each remembered sum is right, each key is there once, and there are no more than may be
+-- each remembered sum is right, the keys are distinct, and there are no more than the limit
 pub record IsRight (s : State) (c : Sums) : Type 0 where
   pub each : All (IsRightSum s) c.entries
   pub distinct : IsDistinct same (keys_of c.entries)
   pub fits : length c.entries ≤ c.limit
   pub some : 0 < c.limit
 
--- the entries after the one that is used: the others, or for a new key all but the last of a full list
+-- the entries after the used one: all others; for a new key in a full list, without the last
 abbrev pub others : Sums → Key → List (Key × ℕ)
 others c k = if is_some (sum_kept c k) then remove_entry (same k) c.entries else take (c.limit - 1) c.entries
 
--- the sum was used: its key comes first
+-- the sum was used: its key is the first
 abbrev pub used : Sums → Key → (sum : ℕ) → Sums
 used c k n = record { entries = (k, n) ∷ others c k; limit = c.limit }
 
--- The sum was used, or its key is new and nothing changed, for want of memory. That it is for nothing else is not said.
+-- The sum was used; or its key is new and nothing changed, for lack of memory. It is not stated that this occurs only for lack
+-- of memory.
 abbrev pub Uses : (old : Sums) → Key → (sum : ℕ) → (new : Sums) → Type 0
 Uses old k n new = (new ≡ used old k n) ⊎ ((new ≡ old) × (sum_kept old k ≡ None))
 

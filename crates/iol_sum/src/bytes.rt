@@ -1,10 +1,11 @@
-//! The sum of bytes that lie in one piece.
+//! The sum of contiguous bytes.
 ghost use Rattle.std.specs.Prelude.{◌≡◌};
 ghost use Rattle.iol_core.specs.Prelude.{folded};
 ghost use Rattle.iol_sum.specs.Pieces.{IsSumOf};
 
-// Folds a total into 16 bits: carries are added at the low end (RFC 1071, section 1), which is the remainder by 65535,
-// but 65535 where that is 0 and the total is not. 2^64 is one more than a multiple of 65535, so the halves add.
+// Folds a total into 16 bits: carries are added at the low end (RFC 1071, section 1), which is the
+// remainder by 65535, but 65535 where that is 0 and the total is not. 2^64 is one more than a
+// multiple of 65535, so the halves add.
 fn fold(total: u128) -> u16
     ensures { result ≡ folded total }
 {
@@ -17,11 +18,11 @@ fn fold(total: u128) -> u16
     rest as u16
 }
 
-/// The folded sum of the bytes, as big-endian words of 16 bits. An odd last byte is the high byte of a word whose
-/// low byte is 0. There may be any number of bytes.
+/// The folded sum of the bytes, as big-endian words of 16 bits. An odd last byte is the high byte
+/// of a word whose low byte is 0. The number of bytes is not limited.
 ///
-/// Eight bytes are read at a time, the first as the lowest. Each word then has its two bytes swapped, and so has the
-/// sum, which is swapped back in the end (RFC 1071, section 2 (B)).
+/// It reads eight bytes at a time, in little-endian order. Each word then has its two bytes
+/// swapped, and so has the sum, which is swapped back at the end (RFC 1071, section 2 (B)).
 pub fn sum_of(bytes: &[u8]) -> u16
     ensures { IsSumOf bytes.now result }
 {

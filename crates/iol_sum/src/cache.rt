@@ -1,4 +1,4 @@
-//! Sums of slices, remembered.
+//! A cache of the sums of slices.
 ghost use Rattle.std.specs.Prelude.{◌≡◌, ◌<◌, [], IfOk, IfSome};
 ghost use Rattle.iol_core.specs.Text as text;
 ghost use Rattle.iol_arena.specs.Prelude.{State};
@@ -30,7 +30,7 @@ impl Model for SumCache {
 }
 
 impl SumCache {
-    /// A cache with room for so many sums, none of them remembered yet.
+    /// An empty cache with room for `sums` sums.
     pub fn new(alloc: Global, sums: u32) -> Result<SumCache, AllocError>
         requires { 0 < sums }
         ensures entries { IfOk result (λ c. c.entries ≡ []) }
@@ -45,8 +45,9 @@ impl SumCache {
 
     /// The folded sum of the slice's bytes.
     ///
-    /// Its key comes first among those remembered. Where the key is new and the list is full, the last one goes.
-    /// Where memory is refused, the sum is answered all the same, and the list stays as it was.
+    /// Its key becomes the most recently used. If the key is new and the cache is full, the least
+    /// recently used key is removed. If memory runs out, the sum is returned all the same, and the
+    /// cache is unchanged.
     pub fn sum(&mut self, store: &Store, slice: &Slice) -> u16
         requires readable { IsReadable store.now slice.now }
         requires right { IsRight store.now.arena self.old }
@@ -63,20 +64,21 @@ impl SumCache {
         sum
     }
 
-    /// The sum that is remembered of the slice's bytes, if there is one. The order of the others stays as it is.
+    /// The remembered sum of the slice's bytes, if there is one. The order of the keys is
+    /// unchanged.
     pub fn remembered(&self, store: &Store, slice: &Slice) -> Option<u16>
         requires readable { IsReadable store.now slice.now }
         requires right { IsRight store.now.arena self.now }
         ensures kept { result ≡ sum_kept self.now (key_of slice.now) }
         ensures value { IfSome result (IsSumOf (slice_bytes store.now slice.now)) }
     {
-        // The store stands in the clauses alone: what is remembered is right of it.
+        // Only the clauses use the store: the remembered sums are right for it.
         let _store = store;
         self.sums.peek(&Key::of(slice)).copied()
     }
 
-    /// The folded sum of the bytes of slices, one after another. Each slice's sum is used in turn, as by
-    /// [`sum`](SumCache::sum).
+    /// The folded sum of the bytes of the slices, concatenated. Each slice's sum is used in turn,
+    /// as by [`sum`](SumCache::sum).
     pub fn sum_all(&mut self, store: &Store, slices: &[Slice]) -> u16
         requires readable { AllReadable store.now slices.now }
         requires right { IsRight store.now.arena self.old }

@@ -1,17 +1,17 @@
-//! What a sum is remembered by.
+//! The keys of remembered sums.
 ghost use Rattle.std.specs.Prelude.{◌≡◌};
 ghost use Rattle.iol_sum.specs.Sums.{key_of};
 
 use iol_hold::Slice;
 
-/// Which bytes a sum is of: a buffer by its identity, and a part of it.
+/// The bytes that a sum belongs to: the identity of a buffer, and a range of it.
 #[derive(Clone, Copy, Debug, PartialEq, Eq, Hash)]
 pub struct Key {
     /// The first page of the buffer.
     pub page: u32,
-    /// The generation of that page. With another one the page holds other bytes.
+    /// The generation of that page. In another generation the page holds other bytes.
     pub generation: u32,
-    /// The place of the first byte, counted from 0 in the buffer.
+    /// The offset of the first byte in the buffer.
     pub from: u32,
     /// The number of bytes.
     pub len: u32,

@@ -1,10 +1,10 @@
-//! What is remembered while the store goes on. The functions do nothing; their contracts are the laws.
+//! Remembered sums while the store changes. The functions do nothing; their contracts are the laws.
 ghost use Rattle.iol_sum.specs.Laws.{StayRight, StayRightAsBuffersAreMade, StayRightAsHoldsMove};
 
-/// Remembered sums stay right while no live buffer changes and no identity is given twice.
+/// Remembered sums stay right as long as no live buffer changes and no identity is used twice.
 ///
-/// So they do over every call of a store: each promises as much, the calls that move holds by `Stays`, and those that
-/// make buffers by `Grows`.
+/// Every call of a store ensures this: calls that move references by `Stays`, and calls that make
+/// buffers by `Grows`.
 pub fn sums_stay_right()
     ensures kept { StayRight }
     ensures moved { StayRightAsHoldsMove }

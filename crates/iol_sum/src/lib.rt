@@ -1,13 +1,15 @@
-//! The Internet checksum (RFC 1071): of bytes, of pieces put together, and of slices whose sums are remembered.
+//! The Internet checksum (RFC 1071): of bytes, of concatenated pieces, and of slices, whose sums
+//! are cached.
 //!
-//! A sum here is the folded one: big-endian words of 16 bits added in ones' complement. [`sum_of`] adds bytes,
-//! [`combine`] puts the sums of two pieces together, and [`checksum`] inverts a sum. A [`SumCache`] remembers the
-//! sums of the slices that were used last, so that bytes which are sent again need not be read again (IO-Lite,
-//! cross-subsystem optimizations).
+//! A sum is the folded sum: big-endian words of 16 bits, added in ones' complement. [`sum_of`] adds
+//! bytes, [`combine`] combines the sums of two pieces, and [`checksum`] inverts a sum. A
+//! [`SumCache`] remembers the sums of the most recently used slices, so that bytes which are sent
+//! again need not be read again (OSDI 1999, cross-subsystem optimization).
 //!
-//! The contract: whatever is remembered, a sum is that of the slice's bytes, for every cutting into slices. It rests
-//! on `IsRight`, which a new cache meets, which `sum` and `sum_all` keep, and which stays while the store goes on
-//! ([`laws`]): a page that is used again has another generation, and an old key never fits it.
+//! The contract: the sum returned is that of the slice's bytes, for every content of the cache and
+//! every division into slices. It requires `IsRight`. A new cache meets it, `sum` and `sum_all`
+//! preserve it, and so does every call of the store ([`laws`]): a page that is reused has another
+//! generation, and an old key never matches it.
 //!
 //! ```text
 //! let sum = sums.sum_all(&store, agg.slices());

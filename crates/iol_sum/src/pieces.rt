@@ -1,9 +1,9 @@
-//! Sums of pieces put together, and the checksum of a sum.
+//! Sums of concatenated pieces, and the checksum of a sum.
 ghost use Rattle.std.specs.Prelude.{◌≡◌, ◌+◌, ◌-◌, List, ℕ};
 ghost use Rattle.iol_core.specs.Prelude.{folded, checksum as checksum_of};
 ghost use Rattle.iol_sum.specs.Pieces.{joined, IsSumOf, JoinsPieces};
 
-// The sum of two, the carry added at the low end.
+// The sum of two sums, with the carry added at the low end.
 fn add(a: u16, b: u16) -> u16
     ensures { result ≡ folded (a + b) }
 {
@@ -15,9 +15,9 @@ fn add(a: u16, b: u16) -> u16
     }
 }
 
-/// The folded sum of bytes, from that of a first piece and that of the rest.
+/// The folded sum of bytes, from the sum of a first piece and the sum of the rest.
 ///
-/// `at_odd` says that the rest begins at an odd place, counted from 0. Its sum is then added with its two bytes
+/// `at_odd` says that the rest begins at an odd offset. Its sum is then added with its two bytes
 /// swapped (RFC 1071, section 2 (B)).
 pub fn combine(sum: u16, at_odd: bool, rest: u16) -> u16
     ensures value { result ≡ joined sum at_odd rest }

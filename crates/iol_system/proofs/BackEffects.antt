@@ -37,7 +37,8 @@ use Rattle.iol_system.specs.InPlace.{KeepsInPlace}
 use Rattle.iol_system.specs.PagesAndChunks.{Creates, Publishes}
 use Rattle.iol_system.specs.Sums.{Remembers}
 use Rattle.iol_system.specs.Replies.{told}
-use Rattle.iol_system.specs.Room.{HasRoomFor, IsEarly}
+use Rattle.iol_system.specs.Room.{BytesFit, HasRoomFor, IsEarly}
+use Rattle.iol_system.specs.Slices.{Divides}
 use Rattle.iol_system.specs.Still.{is_still, keeps_store, only_looks, takes_out}
 use Rattle.iol_system.proofs.Effects.{answer_lies, asks_none, does_of, kept_layout, lies_apart, never, plain_does, served}
 use Rattle.iol_system.proofs.ReplyAnswers.{Means, done, early_told, no_room_told, refused_told, sent, told_beside, told_step}
@@ -55,6 +56,8 @@ pub record IsBack (e : Event) (old : KernelState) : Type 0 where
   pub looking : only_looks e ≡ false
   pub unlent : shares_file e ≡ false
   pub has : (s : SystemState) → HasRoomFor s e
+  pub fits : (s : SystemState) → BytesFit s e
+  pub divides : (new : KernelState) → Divides old e new
   pub publishes : (new : KernelState) → KeepsPages old.store new.store [] → Publishes old e new
   pub creates : (x : Reply) (new : KernelState) → Creates old e x new
   pub sums : (x : Reply) (new : KernelState) → new.sums ≡ old.sums → Remembers old e x new
@@ -75,6 +78,7 @@ module _ (m : State → Meaning (Unit {0})) (e : Event) (disk after : Disk) (old
       (record {
         room = λ is. back.has (system_of old disk);
         no_room = λ is. absurd (no_room_told done r (λ a. refl) roomy is);
+        memory = λ is. back.fits (system_of old disk);
         early = early;
         refused = λ unused is. never unused (back.uses (tables_of old));
         late = back.late disk after (told done r) new;
@@ -83,6 +87,7 @@ module _ (m : State → Meaning (Unit {0})) (e : Event) (disk after : Disk) (old
         uncached = λ unused other. never unused (back.uses (tables_of old));
         in_place = lies;
         shares_file = λ is. shares_none (system_of old disk) (told done r) new e back.unlent;
+        slices = λ is. back.divides new;
         publishes = λ is. back.publishes new pages;
         creates = back.creates (told done r) new;
         sums = back.sums (told done r) new serves.sums;
@@ -109,7 +114,7 @@ module _ (by fd : ℕ) (disk after : Disk) (old new : KernelState) (r : Result (
 
   pub syncs_does : IsSound old → Serves (λ s. files.fsync s by fd) disk old r after new → SyncsFile (files.file_on (tables_of old) by fd) disk old r after new → Does disk old (event.Call by (call.Fsync fd)) (told done r) after new
   syncs_does sound serves syncs =
-      stores_does (λ s. files.fsync s by fd) (event.Call by (call.Fsync fd)) disk after old new r (record { uses = λ s. refl; unshared = λ s. refl; inside = λ s. refl; moving = refl; looking = refl; unlent = refl; has = λ s. tt; publishes = λ n k. k; creates = λ x n. tt; sums = λ x n k. k; late = λ d a x n. tt; ends = λ d x. tt }) (λ s. told_step done (λ a. refl) (files.fsync s by fd) s) (λ keeps. ap (λ (h : KernelState). h.store) syncs.same)
+      stores_does (λ s. files.fsync s by fd) (event.Call by (call.Fsync fd)) disk after old new r (record { uses = λ s. refl; unshared = λ s. refl; inside = λ s. refl; moving = refl; looking = refl; unlent = refl; has = λ s. tt; fits = λ s. tt; divides = λ n. tt; publishes = λ n k. k; creates = λ x n. tt; sums = λ x n k. k; late = λ d a x n. tt; ends = λ d x. tt }) (λ s. told_step done (λ a. refl) (files.fsync s by fd) s) (λ keeps. ap (λ (h : KernelState). h.store) syncs.same)
       (λ none. absurd (true≢false none)) (λ asked. syncs.counts) (sync_roomy serves)
       (pages_equal old.store new.store (ap (λ (h : KernelState). h.store) syncs.same)) (syncs_back by fd disk after old new r sound serves.sound syncs) (syncs_in_place by fd (files.file_on (tables_of old) by fd) disk after old new syncs.syncs) serves
       (λ none. absurd (true≢false none)) (sync_early (files.file_on (tables_of old) by fd) r syncs.writes)
@@ -127,14 +132,14 @@ module _ (disk after : Disk) (old new : KernelState) (r : Result (Unit {0}) Refu
 
   pub flushes_does : IsSound old → Serves outside.flush disk old r after new → FlushesOne disk old r after new → Does disk old event.Flush (told done r) after new
   flushes_does sound serves flushes =
-      stores_does outside.flush event.Flush disk after old new r (record { uses = λ s. refl; unshared = λ s. refl; inside = λ s. refl; moving = refl; looking = refl; unlent = refl; has = λ s. tt; publishes = λ n k. k; creates = λ x n. tt; sums = λ x n k. k; late = λ d a x n. tt; ends = λ d x. tt }) (λ s. told_step done (λ a. refl) (outside.flush s) s) (λ keeps. ap (λ (h : KernelState). h.store) flushes.same)
+      stores_does outside.flush event.Flush disk after old new r (record { uses = λ s. refl; unshared = λ s. refl; inside = λ s. refl; moving = refl; looking = refl; unlent = refl; has = λ s. tt; fits = λ s. tt; divides = λ n. tt; publishes = λ n k. k; creates = λ x n. tt; sums = λ x n k. k; late = λ d a x n. tt; ends = λ d x. tt }) (λ s. told_step done (λ a. refl) (outside.flush s) s) (λ keeps. ap (λ (h : KernelState). h.store) flushes.same)
       (λ none. absurd (true≢false none)) (λ asked. flushes.counts) (flush_roomy serves)
       (pages_equal old.store new.store (ap (λ (h : KernelState). h.store) flushes.same)) (flushes_back disk after old new r sound flushes) (flushes_in_place disk after old new r sound flushes) serves
       (λ none. absurd (true≢false none)) (flush_early r serves.beside)
 
 pub drops_does : (disk : Disk) (old new : KernelState) → Serves outside.drop_clean disk old (Ok tt) disk new → KeepsPages old.store new.store [] → DropsClean old new → KeepsDirty old.cache new.cache → Does disk old event.DropClean reply.Done disk new
 drops_does disk old new serves pages drops keeps =
-    stores_does outside.drop_clean event.DropClean disk disk old new (Ok tt) (record { uses = λ s. refl; unshared = λ s. refl; inside = λ s. refl; moving = refl; looking = refl; unlent = refl; has = λ s. tt; publishes = λ n k. k; creates = λ x n. tt; sums = λ x n k. k; late = λ d a x n. tt; ends = λ d x. tt }) (λ s. told_step done (λ a. refl) (outside.drop_clean s) s) (never refl)
+    stores_does outside.drop_clean event.DropClean disk disk old new (Ok tt) (record { uses = λ s. refl; unshared = λ s. refl; inside = λ s. refl; moving = refl; looking = refl; unlent = refl; has = λ s. tt; fits = λ s. tt; divides = λ n. tt; publishes = λ n k. k; creates = λ x n. tt; sums = λ x n k. k; late = λ d a x n. tt; ends = λ d x. tt }) (λ s. told_step done (λ a. refl) (outside.drop_clean s) s) (never refl)
     (λ none. refl) (λ asked. absurd (true≢false (sym asked))) (λ p is. cc) pages (drops_back old new disk drops) (drops_in_place disk old new keeps) serves
     (λ none. refl) (λ is. absurd is)
 
@@ -157,6 +162,7 @@ module _ (by chunks : ℕ) (list : List ℕ) (disk : Disk) (old new : KernelStat
       (record {
         room = ok_told reply.Pool r _ room;
         no_room = lacks_told reply.Pool r _ (λ a. refl) no_room;
+        memory = λ is. tt;
         early = λ is. (early_told reply.Pool r (new ≡ old) (λ a. refl) c.refused is, refl);
         refused = λ unused is. refused_told reply.Pool r (new ≡ old) (λ a. refl) c.refused is;
         late = tt;
@@ -165,6 +171,7 @@ module _ (by chunks : ℕ) (list : List ℕ) (disk : Disk) (old new : KernelStat
         uncached = λ unused other. c.cache;
         in_place = cache_in_place disk old new pool_event c.cache;
         shares_file = λ is. tt;
+        slices = λ is. tt;
         publishes = λ is. c.pages;
         creates = pool_creates r adds;
         sums = c.sums;

@@ -38,7 +38,8 @@ use Rattle.iol_system.specs.Machine.{SystemState, system_of, tables_of}
 use Rattle.iol_system.specs.PagesAndChunks.{Creates, Publishes, SamePages}
 use Rattle.iol_system.specs.Sums.{Remembers}
 use Rattle.iol_system.specs.Replies.{told}
-use Rattle.iol_system.specs.Room.{HasRoomFor, LacksRoomFor, IsDone, IsEarly, IsFault, IsNoRoom, IsRefused}
+use Rattle.iol_system.specs.Room.{BytesFit, HasRoomFor, LacksRoomFor, IsDone, IsEarly, IsFault, IsMemory, IsNoRoom, IsRefused}
+use Rattle.iol_system.specs.Slices.{Divides}
 use Rattle.iol_system.specs.Still.{is_still, keeps_store, only_looks, takes_out}
 use Rattle.iol_system.specs.WriteBack.{WritesBack}
 use Rattle.iol_system.proofs.InPlace.{cache_in_place, cover_in_place, shares_file, shares_none}
@@ -70,6 +71,7 @@ pub record Asks (disk : Disk) (old : KernelState) (e : Event) (r : Reply) (after
 pub record Refuses (disk : Disk) (old : KernelState) (e : Event) (r : Reply) (after : Disk) (new : KernelState) : Type 0 where
   pub room : IsDone r → HasRoomFor (system_of old disk) e
   pub no_room : IsNoRoom r → LacksRoomFor (system_of old disk) e
+  pub memory : IsMemory r → BytesFit (system_of old disk) e
   pub early : IsEarly r → (new ≡ old) × (after ≡ disk)
   pub refused : uses_cache (tables_of old) e ≡ false → IsRefused r → new ≡ old
   pub late : LeavesLate (system_of old disk) e r (system_of new after)
@@ -79,6 +81,7 @@ pub record Alters (disk : Disk) (old : KernelState) (e : Event) (r : Reply) (aft
   pub uncached : uses_cache (tables_of old) e ≡ false → makes_file e ≡ false → new.cache ≡ old.cache
   pub in_place : KeepsInPlace (system_of old disk) e new
   pub shares_file : IsDone r → SharesFile (system_of old disk) e r new
+  pub slices : IsDone r → Divides old e new
   pub publishes : IsDone r → Publishes old e new
   pub creates : Creates old e r new
   pub sums : Remembers old e r new
@@ -106,6 +109,7 @@ does_of ends goes asks refuses alters lies = record {
   asked = asks.asked;
   room = refuses.room;
   no_room = refuses.no_room;
+  memory = refuses.memory;
   early = refuses.early;
   refused = refuses.refused;
   uncached = alters.uncached;
@@ -118,6 +122,7 @@ does_of ends goes asks refuses alters lies = record {
   store = lies.store;
   in_place = alters.in_place;
   shares_file = alters.shares_file;
+  slices = alters.slices;
   publishes = alters.publishes;
   creates = alters.creates;
   ends = ends;
@@ -178,6 +183,8 @@ pub record IsPlain (e : Event) : Type 0 where
   pub unlent : shares_file e ≡ false
   pub asks : (s : State) → asks_store s e ≡ false
   pub has : (s : SystemState) → HasRoomFor s e
+  pub fits : (s : SystemState) → BytesFit s e
+  pub divides : (old new : KernelState) → Divides old e new
   pub publishes : (old new : KernelState) → KeepsPages old.store new.store [] → Publishes old e new
   pub late : (old : SystemState) (x : Reply) (new : SystemState) → LeavesLate old e x new
 
@@ -202,14 +209,14 @@ plain_call by (call.IolWrite fd a) is = never refl is
 plain_call by (call.Fsync fd) is = never refl is
 plain_call by (call.Read fd n) is = never refl is
 plain_call by (call.Write fd bytes) is = never refl is
-plain_call by k is = record { unwritten = refl; unlent = refl; asks = λ s. refl; has = λ s. tt; publishes = λ o n k. k; late = λ o x n. tt }
+plain_call by k is = record { unwritten = refl; unlent = refl; asks = λ s. refl; has = λ s. tt; fits = λ s. tt; divides = λ o n. tt; publishes = λ o n k. k; late = λ o x n. tt }
 
 plain_of : (e : Event) → is_plain e ≡ true → IsPlain e
 plain_of (event.Call by k) is = plain_call by k is
 plain_of (event.Arrive c bytes) is = never refl is
 plain_of event.Flush is = never refl is
 plain_of event.DropClean is = never refl is
-plain_of e is = record { unwritten = refl; unlent = refl; asks = λ s. refl; has = λ s. tt; publishes = λ o n k. k; late = λ o x n. tt }
+plain_of e is = record { unwritten = refl; unlent = refl; asks = λ s. refl; has = λ s. tt; fits = λ s. tt; divides = λ o n. tt; publishes = λ o n k. k; late = λ o x n. tt }
 
 -- An event as the reply of a call that means it: which reply it is, and what it tells of a file's end and makes.
 module _ {A : Type 0} (f : A → Reply) (m : State → Meaning A) {e : Event} {disk : Disk} {old new : KernelState} {r : Result A Refusal} (tells : Tells f) (is : is_plain e ≡ true) (means : Means f m e) (ends : TellsEnd (system_of old disk) e (told f r)) (creates : Creates old e (told f r) new) where
@@ -222,6 +229,7 @@ module _ {A : Type 0} (f : A → Reply) (m : State → Meaning A) {e : Event} {d
       (record {
         room = λ done. plain.has here;
         no_room = λ late. absurd (no_room_told f r tells roomy late);
+        memory = λ late. plain.fits here;
         early = λ early. (early_told f r (new ≡ old) tells kept early, refl);
         refused = λ unused was. refused_told f r (new ≡ old) tells kept was;
         late = plain.late here (told f r) (system_of new disk);
@@ -230,6 +238,7 @@ module _ {A : Type 0} (f : A → Reply) (m : State → Meaning A) {e : Event} {d
         uncached = λ unused other. uncached other;
         in_place = in_place;
         shares_file = λ done. shares_none here (told f r) new e plain.unlent;
+        slices = λ done. plain.divides old new;
         publishes = λ done. plain.publishes old new pages;
         creates = creates;
         sums = sums;

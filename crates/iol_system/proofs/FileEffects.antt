@@ -24,7 +24,7 @@ use Rattle.iol_core.specs.declared.events.Event.TheVariants as event
 use Rattle.iol_core.specs.declared.events.Reply.{Reply}
 use Rattle.iol_core.specs.declared.events.Reply.TheVariants as reply
 use Rattle.iol_core.specs.declared.refusals.Refusal.{Refusal}
-use Rattle.iol_core.specs.declared.refusals.Refusal.TheVariants.{NoRoom}
+use Rattle.iol_core.specs.declared.refusals.Refusal.TheVariants.{NoRoom, Memory}
 use Rattle.iol_hold.specs.Places.{byte_len}
 use Rattle.iol_hold.specs.StoreState.{Stored}
 use Rattle.iol_hold.specs.declared.slices.Slice.{Slice}
@@ -47,15 +47,16 @@ use Rattle.iol_system.specs.InPlace.{IsInRange, IsWritten, KeepsInPlace, MayLetG
 use Rattle.iol_system.specs.PagesAndChunks.{Creates, FillsForFile, Makes, Publishes, Puts}
 use Rattle.iol_system.specs.Sums.{Remembers}
 use Rattle.iol_system.specs.Replies.{told}
-use Rattle.iol_system.specs.Room.{HasRoomFor, HasRoomToRead, HasRoomToWrite, LacksRoomFor, LacksRoomToRead, LacksRoomToWrite, IsDone, IsEarly, IsFault, IsNoRoom, IsRefused}
+use Rattle.iol_system.specs.Room.{BytesFit, HasRoomFor, HasRoomToRead, HasRoomToWrite, LacksRoomFor, LacksRoomToRead, LacksRoomToWrite, IsDone, IsEarly, IsFault, IsNoRoom, IsRefused}
 use Rattle.iol_system.specs.Wants.{Fits, FitsNot, Wants}
+use Rattle.iol_system.specs.Slices.{Divides}
 use Rattle.iol_system.specs.Still.{is_still, keeps_store, takes_out}
 use Rattle.iol_system.proofs.Effects.{Lies, answer_lies, asks_none, does_of, lies_apart, never, served, unlooking_of}
 use Rattle.iol_system.proofs.ReplyAnswers.{Means, Tells, early_told, no_room_told, refused_told, told_step}
 use Rattle.iol_system.proofs.InPlace.{beside_in_place, cache_in_place, places_in_place, shares_file, shares_none, unless_in_place}
 use Rattle.iol_system.proofs.PagesAndChunks.{carried_pages, fills_then_frees}
 use Rattle.iol_system.proofs.WriteBack.{none_back, writes_back}
-use Rattle.iol_system.proofs.ResultTold.{ok_told, lacks_told, counts_told, has_told, room_told, fault_told, early_room, early_room_fault, early_of, err_more, late_told, tables_kept, untimed, with_tables}
+use Rattle.iol_system.proofs.ResultTold.{ok_told, lacks_told, memory_told, counts_told, has_told, room_told, fault_told, early_room, early_room_fault, early_of, err_more, late_told, tables_kept, untimed, with_tables}
 
 -- An event that places bytes in a pool once there is room.
 pub record IsPlacing (e : Event) (put : State → Text → State) (w : Wants) (old : KernelState) : Type 0 where
@@ -70,6 +71,7 @@ pub record IsPlacing (e : Event) (put : State → Text → State) (w : Wants) (o
   pub changes : keeps_store e ≡ false
   pub has : (disk : Disk) → Fits old w → HasRoomFor (system_of old disk) e
   pub lacks : (disk : Disk) → FitsNot old w → LacksRoomFor (system_of old disk) e
+  pub fits : (disk : Disk) → Fits old w → BytesFit (system_of old disk) e
   pub publishes : (new : KernelState) → Makes put w old new → Publishes old e new
   pub creates : (x : Reply) (new : KernelState) → Creates old e x new
   pub late : (disk : Disk) (x : Reply) (new : KernelState) → MadeRoomFor w old x new → LeavesLate (system_of old disk) e x (system_of new disk)
@@ -79,13 +81,14 @@ module _ {A : Type 0} (f : A → Reply) (m : State → Meaning A) (put : State �
   placed_early : IfErr r (MayHaveEvicted w.pool w.count old new) → IsEarly (told f r) → new ≡ old
   placed_early left is = early_of f r (new ≡ old) (RefusedRoomy w.pool w.count old new) tells (λ x early late. early_room w.pool x early (memory_wanted w.pool x late.memory)) left is
 
-  pub places_does : Places m put w.pool w.count old r new → Does disk old e (told f r) disk new
-  places_does c =
+  pub places_does : Places m put w.pool w.count old r new → OnOk r (Divides old e new) → Does disk old e (told f r) disk new
+  places_does c divides =
       let serves : Serves m disk old r disk new = c.serves disk in
       does_of ends (served f means serves) (asks_none (placing.asks (tables_of old)))
       (record {
         room = λ done. placing.has disk (ok_told f r (Fits old w) c.room done);
         no_room = λ is. placing.lacks disk (lacks_told f r (FitsNot old w) tells c.no_room is);
+        memory = λ is. placing.fits disk (memory_told f r (Fits old w) tells c.memory is);
         early = λ is. (placed_early c.refused is, refl);
         refused = λ unused is. never unused (placing.uses (tables_of old));
         late = placing.late disk (told f r) new (late_told f r (MayHaveEvicted w.pool w.count old new) tells c.refused);
@@ -94,6 +97,7 @@ module _ {A : Type 0} (f : A → Reply) (m : State → Meaning A) (put : State �
         uncached = λ unused other. never unused (placing.uses (tables_of old));
         in_place = places_in_place disk old new e m put w.pool w.count (λ p same lacks. placing.goes disk p (same, subst (λ q. LacksPages old q (pages_for w.count)) (sym same) lacks)) r c;
         shares_file = λ done. shares_none (system_of old disk) (told f r) new e placing.unlent;
+        slices = λ done. ok_told f r (Divides old e new) divides done;
         publishes = λ done. placing.publishes new (ok_told f r (Makes put w old new) c.made done);
         creates = placing.creates (told f r) new;
         sums = placing.sums (told f r) new serves.sums;
@@ -159,17 +163,18 @@ module _ {A : Type 0} (by fd n : ℕ) (disk after : Disk) (old new : KernelState
 
   -- what it does, by what is said of either kind
   read_does : (m : State → Meaning A) (o : Option Descriptor) → HasRead o → asks_store (tables_of old) e ≡ is_file o → uses_cache (tables_of old) e ≡ is_file o → writes_back e ≡ false → (HasRoomToRead (system_of old disk) o n → HasRoomFor (system_of old disk) e)
-      → (LacksRoomToRead (system_of old disk) o n → LacksRoomFor (system_of old disk) e) → ((p : ℕ) → ReadWantsMore (system_of old disk) o n p → MayLetGo (system_of old disk) e p) → TellsEnd (system_of old disk) e (told f r) → Means f m e → Serves m disk old r after new
-      → (IsEarly (told f r) → (new ≡ old) × (after ≡ disk)) → LeavesLate (system_of old disk) e (told f r) (system_of new after) → (IsDone (told f r) → SharesFile (system_of old disk) e (told f r) new) → (IsDone (told f r) → Publishes old e new) → Creates old e (told f r) new
+      → (LacksRoomToRead (system_of old disk) o n → LacksRoomFor (system_of old disk) e) → BytesFit (system_of old disk) e → ((p : ℕ) → ReadWantsMore (system_of old disk) o n p → MayLetGo (system_of old disk) e p) → TellsEnd (system_of old disk) e (told f r) → Means f m e → Serves m disk old r after new
+      → (IsEarly (told f r) → (new ≡ old) × (after ≡ disk)) → LeavesLate (system_of old disk) e (told f r) (system_of new after) → (IsDone (told f r) → SharesFile (system_of old disk) e (told f r) new) → (IsDone (told f r) → Publishes old e new) → Divides old e new → Creates old e (told f r) new
       → (new.sums ≡ old.sums → Remembers old e (told f r) new) → Lies disk old e (told f r) after new → Does disk old e (told f r) after new
-  read_does m o any asks uses unwritten room lacks goes ends means serves early late shares fills creates sums lies =
+  read_does m o any asks uses unwritten room lacks fits goes ends means serves early late shares fills divides creates sums lies =
       does_of ends (served f means serves)
       (record { unasked = λ none. any.unasked (sym asks ∙ none); faults = λ is. any.faults (sym asks ∙ is); slots = λ honest back. any.slots honest; asked = λ is fault. room (any.asked (sym asks ∙ is) fault) })
-      (record { room = λ is. room (any.room is); no_room = λ is. lacks (any.no_room is); early = early; refused = λ none is. any.refused (sym uses ∙ none) is; late = late })
+      (record { room = λ is. room (any.room is); no_room = λ is. lacks (any.no_room is); memory = λ is. fits; early = early; refused = λ none is. any.refused (sym uses ∙ none) is; late = late })
       (record {
         uncached = λ none other. any.uncached (sym uses ∙ none);
         in_place = any.in_place goes;
         shares_file = shares;
+        slices = λ is. divides;
         publishes = fills;
         creates = creates;
         sums = sums serves.sums;
@@ -211,7 +216,7 @@ module _ (by fd n : ℕ) (disk after : Disk) (old new : KernelState) (r : Result
       let any = has_read by fd n disk after old new reply.Agg r read_event new refl (λ a. refl) o (read_any o reads) in
       let queue : is_sharing (tables_of old) read_event ≡ true → CarriesOut (λ s. reading.iol_read s by fd n) old r new = (λ shared. read_carried o reads (shared_held (is_live (tables_of old) by) (descriptor (tables_of old) by fd) shared)) in
       let means : Means reply.Agg (λ s. reading.iol_read s by fd n) read_event = (λ s. told_step reply.Agg (λ a. refl) (reading.iol_read s by fd n) s) in
-      read_does by fd n disk after old new reply.Agg r read_event (λ s. reading.iol_read s by fd n) o any refl refl refl (λ k. k) (λ k. k) (λ p k. k) tt means serves (read_early o reads) (read_late o reads) (read_shares o reads) (λ is. read_fills o reads) tt (λ k. k)
+      read_does by fd n disk after old new reply.Agg r read_event (λ s. reading.iol_read s by fd n) o any refl refl refl (λ k. k) (λ k. k) tt (λ p k. k) tt means serves (read_early o reads) (read_late o reads) (read_shares o reads) (λ is. read_fills o reads) tt tt (λ k. k)
       (record {
         looks = never refl;
         shares = λ shared. means (layout_of old) (layout_of new) r (carried_layout (λ s. reading.iol_read s by fd n) old new r (queue shared));
@@ -276,11 +281,12 @@ module _ (by fd a : ℕ) (disk : Disk) (old new : KernelState) (r : Result ℕ R
       let o : Option Descriptor = descriptor (tables_of old) by fd in
       let means : Means reply.Count (λ s. writing.iol_write s by fd a) write_event = (λ s. told_step reply.Count (λ a. refl) (writing.iol_write s by fd a) s) in
       does_of tt (served reply.Count means serves) (asks_none refl)
-      (record { room = write_room o writes; no_room = write_lacks o writes; early = λ is. (write_early o writes is, refl); refused = write_refused o writes; late = write_late o writes })
+      (record { room = write_room o writes; no_room = write_lacks o writes; memory = λ is. tt; early = λ is. (write_early o writes is, refl); refused = write_refused o writes; late = write_late o writes })
       (record {
         uncached = λ unused other. write_uncached o writes unused;
         in_place = write_in_place o writes (λ g i k. k) (λ p k. k);
         shares_file = write_shares o writes;
+        slices = λ done. tt;
         publishes = λ done. write_fills o writes;
         creates = tt;
         sums = serves.sums;
@@ -347,7 +353,7 @@ module _ (by fd n : ℕ) (disk after : Disk) (old new : KernelState) (r : Result
       let o : Option Descriptor = held_by (tables_of old) by fd in
       let any = has_read by fd n disk after old new reply.Bytes r copy_event (record new { store = copy_over o copies }) refl (λ a. refl) o (copy_any o copies) in
       let means : Means reply.Bytes (λ s. reading.read s by fd n) copy_event = (λ s. told_step reply.Bytes (λ a. refl) (reading.read s by fd n) s) in
-      read_does by fd n disk after old new reply.Bytes r copy_event (λ s. reading.read s by fd n) o any refl refl refl (λ k. k) (λ k. k) (λ p k. k) tt means serves (copy_early o copies) (copy_late o copies) (copy_shares o copies) (λ is. copy_fills o copies) tt (λ k. k)
+      read_does by fd n disk after old new reply.Bytes r copy_event (λ s. reading.read s by fd n) o any refl refl refl (λ k. k) (λ k. k) tt (λ p k. k) tt means serves (copy_early o copies) (copy_late o copies) (copy_shares o copies) (λ is. copy_fills o copies) tt tt (λ k. k)
       (lies_apart refl refl (never refl) (copy_places o copies) (never refl))
 
 -- A write by copying.
@@ -402,17 +408,19 @@ module _ (by fd : ℕ) (bytes : List ℕ) (disk : Disk) (old new : KernelState) 
       → (is_file here ≡ false → Places (λ s. writing.write s by fd bytes) put (wants here).pool (wants here).count old r new)
       → OnOk r (Fits old (wants here))
       → ((p : ℕ) → r ≡ Err (NoRoom p) → FitsNot old (wants here))
+      → (r ≡ Err Memory → Fits old (wants here))
       → PutsOn here (wants here).pool (length bytes) old r new
       → LaysOn here (wants here).pool bytes old r new
       → IfErr r (λ x. (new ≡ old) ⊎ WantOfRoom (wants here).pool x)
       → Does disk old put_event (told reply.Count r) disk new
-  puts_does serves queue room lacks puts lays left =
+  puts_does serves queue room lacks fits puts lays left =
       let o : Option Descriptor = here in
       let means : Means reply.Count (λ s. writing.write s by fd bytes) put_event = (λ s. told_step reply.Count (λ a. refl) (writing.write s by fd bytes) s) in
       does_of tt (served reply.Count means serves) (asks_none refl)
       (record {
         room = λ done. ok_told reply.Count r _ room done;
         no_room = λ is. lacks_told reply.Count r _ (λ a. refl) lacks is;
+        memory = λ is. memory_told reply.Count r _ (λ a. refl) fits is;
         early = λ is. (early_of reply.Count r (new ≡ old) _ (λ a. refl) (early_room (wants o).pool) left is, refl);
         refused = λ unused is. never unused refl;
         late = put_late o queue lays;
@@ -421,6 +429,7 @@ module _ (by fd : ℕ) (bytes : List ℕ) (disk : Disk) (old new : KernelState) 
         uncached = λ unused other. never unused refl;
         in_place = put_in_place o queue puts (λ g i k. k) (λ p k. k);
         shares_file = put_shares o lays;
+        slices = λ done. tt;
         publishes = λ done. put_fills o queue puts done;
         creates = tt;
         sums = serves.sums;

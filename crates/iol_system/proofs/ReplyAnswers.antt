@@ -13,7 +13,7 @@ use Rattle.iol_kernel.specs.FileCalls.{StepsBeside, with_slots}
 use Rattle.iol_kernel.specs.KernelState.{KernelState}
 use Rattle.iol_laws.specs.Aggregates.{is_refusal}
 use Rattle.iol_system.specs.Replies.{told}
-use Rattle.iol_system.specs.Room.{IsEarly, IsNoRoom, IsRefused}
+use Rattle.iol_system.specs.Room.{IsEarly, IsMemory, IsNoRoom, IsRefused}
 
 -- a call that answers nothing is done
 abbrev pub done : Unit {0} → Reply
@@ -43,6 +43,10 @@ early_refused x is = is
 pub room_refused : (x : Reply) → IsNoRoom x → IsRefused x
 room_refused (reply.Refused y) is = tt
 room_refused x is = is
+
+pub memory_refused : (x : Reply) → IsMemory x → IsRefused x
+memory_refused (reply.Refused y) is = tt
+memory_refused x is = is
 
 pub told_step : {A : Type 0} (f : A → Reply) → Tells f → (m : Meaning A) (s t : State) (r : Result A Refusal) → Step m s r t → Step (replied f m) s (outcome (told f r)) t
 told_step f tells m s t (Ok a) step = subst (λ (o : Result Reply Refusal). Step (replied f m) s o t) (sym (answered (f a) (tells a))) (step.0, ap f step.1, step.2)

@@ -15,8 +15,8 @@ use Rattle.iol_kernel.specs.FileReads.{IsBeforeRoom}
 use Rattle.iol_kernel.specs.KernelState.{KernelState}
 use Rattle.iol_system.specs.Late.{IfRefused, SameTables}
 use Rattle.iol_system.specs.Replies.{told}
-use Rattle.iol_system.specs.Room.{IsDone, IsEarly, IsFault, IsNoRoom, IsRefused}
-use Rattle.iol_system.proofs.ReplyAnswers.{Tells, answered, early_refused, room_refused, unrefused}
+use Rattle.iol_system.specs.Room.{IsDone, IsEarly, IsFault, IsMemory, IsNoRoom, IsRefused}
+use Rattle.iol_system.proofs.ReplyAnswers.{Tells, answered, early_refused, memory_refused, room_refused, unrefused}
 
 -- what a result tells, the reply tells
 
@@ -28,6 +28,11 @@ pub lacks_told : {A : Type 0} (f : A → Reply) (r : Result A Refusal) (X : Type
 lacks_told f (Ok a) X tells lacks is = absurd (unrefused (f a) (tells a) (room_refused (f a) is))
 lacks_told f (Err (NoRoom p)) X tells lacks is = lacks p refl
 lacks_told f (Err x) X tells lacks is = absurd is
+
+pub memory_told : {A : Type 0} (f : A → Reply) (r : Result A Refusal) (X : Type 0) → Tells f → (r ≡ Err Memory → X) → IsMemory (told f r) → X
+memory_told f (Ok a) X tells fits is = absurd (unrefused (f a) (tells a) (memory_refused (f a) is))
+memory_told f (Err Memory) X tells fits is = fits refl
+memory_told f (Err x) X tells fits is = absurd is
 
 pub counts_told : {A : Type 0} (f : A → Reply) (r : Result A Refusal) (old new : Disk) → Tells f → FaultCounts old new r → FaultCounts old new (outcome (told f r))
 counts_told f (Ok a) old new tells counts = subst (λ (o : Result Reply Refusal). FaultCounts old new o) (sym (answered (f a) (tells a))) counts

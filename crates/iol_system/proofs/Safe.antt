@@ -70,6 +70,7 @@ module _ (old new : SystemState) (e : Event) (r : Reply) (safe : IsSafe old) (do
     asked = does.asked;
     room = does.room;
     no_room = does.no_room;
+    memory = does.memory;
     without_room = extents_met old new e r does.late does.refused;
     early = λ is. (let same = does.early is in ap (λ (d : Disk). system_of new.kernel d) same.1 ∙ ap (λ (h : KernelState). system_of h old.disk) same.0);
     uncached = does.uncached;
@@ -83,6 +84,7 @@ module _ (old new : SystemState) (e : Event) (r : Reply) (safe : IsSafe old) (do
     store = does.store;
     in_place = does.in_place;
     shares_file = does.shares_file;
+    slices = does.slices;
     publishes = does.publishes;
     creates = does.creates;
     ends = does.ends;

@@ -1,4 +1,4 @@
--- What an event does to what a system's calls work on, over a store: all that its promises are made of.
+-- The effect of an event on the state that the calls of a system work on, over a store: the source of all its promises.
 use Rattle.std.specs.Prelude.{◌≡◌, ℕ, true, false}
 use Rattle.iol_back.specs.Disk.{Disk, IfHonest}
 use Rattle.iol_cache.specs.ReadResults.{FaultCounts}
@@ -21,12 +21,13 @@ use Rattle.iol_system.specs.Late.{LeavesLate}
 use Rattle.iol_system.specs.Machine.{system_of, tables_of}
 use Rattle.iol_system.specs.PagesAndChunks.{Creates, Publishes, SamePages}
 use Rattle.iol_system.specs.Sums.{Remembers}
+use Rattle.iol_system.specs.Slices.{Divides}
 use Rattle.iol_system.specs.Still.{is_still, keeps_store, only_looks, takes_out}
-use Rattle.iol_system.specs.Room.{HasRoomFor, LacksRoomFor, IsDone, IsEarly, IsFault, IsNoRoom, IsRefused}
+use Rattle.iol_system.specs.Room.{BytesFit, HasRoomFor, LacksRoomFor, IsDone, IsEarly, IsFault, IsMemory, IsNoRoom, IsRefused}
 use Rattle.iol_system.specs.WriteBack.{WritesBack}
 
--- What an event does. With a store that has the same bytes as memory where nothing was written, and positions within files,
--- it is the machine's step; and then the store has them again. All else holds over any store.
+-- The effect of an event. With a store that has the same bytes as the clean extents in memory, and positions within files, it
+-- is the machine's step; and afterwards the store has them again. All other fields hold over any store.
 pub record Does (disk : Disk) (old : KernelState) (e : Event) (r : Reply) (after : Disk) (new : KernelState) : Type 0 where
   pub step : IsBackedBy disk old → ArePlaced (machine_of disk.slots old)
       → StepsTo (machine_of disk.slots old) e r (machine_of after.slots new)
@@ -39,6 +40,7 @@ pub record Does (disk : Disk) (old : KernelState) (e : Event) (r : Reply) (after
   pub asked : asks_store (tables_of old) e ≡ true → IsFault r → HasRoomFor (system_of old disk) e
   pub room : IsDone r → HasRoomFor (system_of old disk) e
   pub no_room : IsNoRoom r → LacksRoomFor (system_of old disk) e
+  pub memory : IsMemory r → BytesFit (system_of old disk) e
   pub early : IsEarly r → (new ≡ old) × (after ≡ disk)
   pub refused : uses_cache (tables_of old) e ≡ false → IsRefused r → new ≡ old
   pub uncached : uses_cache (tables_of old) e ≡ false → makes_file e ≡ false → new.cache ≡ old.cache
@@ -51,6 +53,7 @@ pub record Does (disk : Disk) (old : KernelState) (e : Event) (r : Reply) (after
   pub places : takes_out (tables_of old) e ≡ true → IsDone r → layout_of new ≡ (meaning (layout_of old) e).after
   pub store : keeps_store e ≡ true → new.store ≡ old.store
   pub shares_file : IsDone r → SharesFile (system_of old disk) e r new
+  pub slices : IsDone r → Divides old e new
   pub publishes : IsDone r → Publishes old e new
   pub creates : Creates old e r new
   pub ends : TellsEnd (system_of old disk) e r
@@ -59,7 +62,7 @@ pub record Does (disk : Disk) (old : KernelState) (e : Event) (r : Reply) (after
   pub sound : IsSound new
   pub stays : Stays old.store new.store
 
--- what a call of a domain does to a kernel, over a store that has this disk
+-- the effect of a call of a domain on a kernel, over a store with this content
 abbrev pub DoesCall : {B : Type 0} → (by : ℕ) → Call → (disk : B → Disk) → (backing after : B) → Kernel → Reply → Kernel → Type 0
 DoesCall by call disk backing after old r new =
     Does (disk backing) (state_of old) (event.Call by call) r (disk after) (state_of new)

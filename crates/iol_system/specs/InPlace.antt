@@ -1,4 +1,4 @@
--- Which bytes of files lie where they lay after an event, and which bytes calls on files share.
+-- The bytes of files that keep their places in an event, and the bytes that calls on files share.
 use Rattle.std.specs.Prelude.{◌≡◌, ◌⊎◌, ℕ, ◌+◌, ◌<◌, ◌≤◌, false, List, length, Option, Some, ⊤}
 use Rattle.iol_core.specs.State.{descriptor}
 use Rattle.iol_core.specs.declared.descriptors.Mode.{Mode}
@@ -39,22 +39,22 @@ IsWritten old (event.Call by (call.IolWrite fd a)) f i =
 IsWritten old (event.Call by (call.Write fd bytes)) f i = IsInRange (descriptor (tables_of old) by fd) (length bytes) f i
 IsWritten old e f i = ⊥
 
--- new bytes in a pool want more pages there than are free
+-- new bytes in a pool need more pages there than are free
 abbrev pub WantsMore : KernelState → Wants → (p : ℕ) → Type 0
 WantsMore h w p = (p ≡ w.pool) × LacksPages h p (pages_for w.count)
 
--- a read of a file wants more pages of the file's pool than are free, for what is not in memory
+-- a read of a file needs more pages of the file's pool than are free, for the bytes that are not in memory
 abbrev pub ReadWantsMore : SystemState → Option Descriptor → (n p : ℕ) → Type 0
 ReadWantsMore s (Some (on.File f at mode)) n p = (p ≡ pool_of_file s.kernel f)
     × LacksPagesToRead f at n s.disk (holding_of s.kernel)
 ReadWantsMore s o n p = ⊥
 
--- a write of slices to a file wants more pages of the file's pool than are free, for copies of those that lie in other pools
+-- a write of slices to a file needs more pages of the file's pool than are free, for copies of those of other pools
 abbrev pub WriteWantsMore : KernelState → Option Descriptor → List Slice → (p : ℕ) → Type 0
 WriteWantsMore h (Some (on.File f at mode)) xs p = (p ≡ pool_of_file h f) × LacksPages h p (copied_pages p xs)
 WriteWantsMore h o xs p = ⊥
 
--- the event may let clean bytes of files of pool p go: it drops all of them, or wants more pages of the pool than are free
+-- the event may evict clean bytes of files of pool p: it drops all of them, or needs more pages of the pool than are free
 abbrev pub MayLetGo : SystemState → Event → (p : ℕ) → Type 0
 MayLetGo s (event.Call by (call.AggMake bytes)) p = WantsMore s.kernel (for_made s.kernel by bytes) p
 MayLetGo s (event.Call by (call.IolRead fd n)) p = ReadWantsMore s (held_by (tables_of s.kernel) by fd) n p
@@ -66,56 +66,55 @@ MayLetGo s (event.Arrive c bytes) p = WantsMore s.kernel (for_arrived s.kernel c
 MayLetGo s event.DropClean p = Unit {0}
 MayLetGo s e p = ⊥
 
--- what lay over a byte lies there still, or it is clean now
+-- the cell over a byte is unchanged, or it is clean now
 abbrev pub IsThereOrClean : Cell → Option Cell → Type 0
 IsThereOrClean c o = (o ≡ Some c) ⊎ (o ≡ Some (record { place = c.place; dirty = false }))
 
--- What lay over a byte lies there still, dirty or clean as it was; where dirty bytes are written back, it may be clean now.
+-- The cell over a byte is unchanged, dirty or clean; if dirty bytes are written back, it may be clean now.
 abbrev pub LiesStill : Event → Cell → Option Cell → Type 0
 LiesStill (event.Call by (call.Fsync fd)) c o = IsThereOrClean c o
 LiesStill event.Flush c o = IsThereOrClean c o
 LiesStill e c o = o ≡ Some c
 
--- Each byte of a file that is in memory lies where it lay. Or the event writes it; or it was clean, and the event may let it
--- go.
+-- Each byte of a file that is in memory keeps its place. Or the event writes it; or it was clean, and the event may evict it.
 pub record KeepsInPlace (old : SystemState) (e : Event) (new : KernelState) : Type 0 where
   pub each : (f i : ℕ) (c : Cell) → cover (extents_in old.kernel.cache.files f) i ≡ Some c
       → LiesStill e c (cover (extents_in new.cache.files f) i)
       ⊎ (IsWritten old.kernel e f i ⊎ ((c.dirty ≡ false) × MayLetGo old e (file_in old.kernel.cache.files f).pool))
 
--- Pages, what memory has of files and the domains' tables changed, and nothing else: pipes, connections, the sums that are
--- remembered and the list of files are as they were.
+-- Only pages, extents of files in memory and the domains' tables changed: pipes, connections, remembered sums and the list of
+-- files are unchanged.
 abbrev pub SameElsewhere : (old new : KernelState) → Type 0
 SameElsewhere old new = new ≡ record old { store = new.store; cache = new.cache; domains = new.domains }
 
--- A read of a file by reference gives bytes that were in memory where they lay, and the others where they lie in new extents.
--- Of the tables its domain has one aggregate more, and the descriptor's position moved.
+-- A read of a file by reference returns bytes that were in memory at the same places, and the others at their places in new
+-- extents. In the tables, the domain has one more aggregate, and the descriptor's position moved.
 pub record ReadsShared (by fd n f at : ℕ) (mode : Mode) (old : SystemState) (new : KernelState) : Type 0 where
   pub gives : GivesRead (file_read by fd f at mode n) old.disk old.kernel new
   pub rest : SameElsewhere old.kernel new
 
--- what a read by reference shares, where its descriptor is open on a file
+-- the bytes that a read by reference shares, if its descriptor is open on a file
 abbrev pub SharesRead : (by fd n : ℕ) → SystemState → Option Descriptor → KernelState → Type 0
 SharesRead by fd n old (Some (on.File f at mode)) new = ReadsShared by fd n f at mode old new
 SharesRead by fd n old o new = ⊤
 
--- A read of a file by copying does what one by reference does, over some pages; then its slices are released. So what it hit
--- counts, what was not in memory lies in new clean extents, and the bytes that it answers are those that lie there. Of the
--- tables the descriptor's position moved.
+-- A read of a file by copying has the effect of one by reference, over some pages; then its slices are released. So hits are
+-- counted, the bytes that were not in memory are in new clean extents, and the bytes returned are those in memory. In the
+-- tables, the descriptor's position moved.
 pub record CopiesShared (by fd n f at : ℕ) (mode : Mode) (old : SystemState) (bytes : List ℕ) (new : KernelState) : Type 0 where
   pub mid : Stored
   pub gives : GivesCopy (file_read by fd f at mode n) old.disk old.kernel mid new bytes
   pub frees : FreesOnly mid new.store
   pub rest : SameElsewhere old.kernel new
 
--- what a read by copying shares, where its descriptor is open on a file and bytes were answered
+-- the bytes that a read by copying shares, if its descriptor is open on a file and bytes were returned
 abbrev pub SharesCopy : (by fd n : ℕ) → SystemState → Option Descriptor → Reply → KernelState → Type 0
 SharesCopy by fd n old (Some (on.File f at mode)) (reply.Bytes bytes) new = CopiesShared by fd n f at mode old bytes new
 SharesCopy by fd n old o r new = ⊤
 
--- A write of slices over a file: those of its pool lie under it where they lay. Where there are bytes, room was made for copies
--- of the others, and then all of them came in the place of what lay there, and nothing else became of the cache. Where there is
--- none, nothing became of it at all. Of the tables the descriptor's position moved.
+-- A write of slices over a file: those of its pool are in the file at the same places. If there are bytes, room was made for
+-- copies of the others, and then all of them replaced the bytes of the file, and nothing else of the cache changed. If there
+-- are no bytes, the cache is unchanged. In the tables, the descriptor's position moved.
 pub record WritesShared (f at : ℕ) (xs : List Slice) (old new : KernelState) : Type 0 where
   pub lies : LiesDirty f at xs new.cache
   pub over : 0 < byte_len xs → WritesFile f at xs (holding_of old) (holding_of new)
@@ -123,19 +122,19 @@ pub record WritesShared (f at : ℕ) (xs : List Slice) (old new : KernelState) :
   pub moves : OnlyMoves f at (byte_len xs) old.domains new.domains
   pub rest : SameElsewhere old new
 
--- what a write of slices shares, where its descriptor is open on a file
+-- the slices that a write shares, if its descriptor is open on a file
 abbrev pub SharesWrite : Option Descriptor → List Slice → (old new : KernelState) → Type 0
 SharesWrite (Some (on.File f at mode)) xs old new = WritesShared f at xs old new
 SharesWrite o xs old new = ⊤
 
--- A write over a file by copying: room was made for its bytes, and then they came over those of the file, dirty and as any
--- write of their slices does, which were then released.
+-- A write over a file by copying: room was made for its bytes, and then they replaced those of the file, dirty and as any
+-- write of their slices does. The slices were then released.
 abbrev pub SharesPut : (pool : ℕ) → List ℕ → Option Descriptor → (old new : KernelState) → Type 0
 SharesPut pool bytes (Some (on.File f at mode)) old new =
     AfterRoom pool (length bytes) old (λ roomy. LaysOver f at pool bytes roomy new)
 SharesPut pool bytes o old new = ⊤
 
--- what a call on a file shares with it, or copies of it
+-- the bytes that a call on a file shares with it, or copies from it
 abbrev pub SharesFile : SystemState → Event → Reply → KernelState → Type 0
 SharesFile old (event.Call by (call.IolRead fd n)) r new = SharesRead by fd n old (held_by (tables_of old.kernel) by fd) new
 SharesFile old (event.Call by (call.IolWrite fd a)) r new =

@@ -1,4 +1,4 @@
--- What a refusal leaves that may come late: for want of room or of memory, or by a fault.
+-- The state after a refusal that may come late: NoRoom, Memory or Fault.
 use Rattle.std.specs.Prelude.{◌≡◌, ℕ, List, Option, Some, ⊤}
 use Rattle.iol_core.specs.State.{descriptor}
 use Rattle.iol_core.specs.declared.descriptors.Mode.{Mode}
@@ -22,12 +22,12 @@ use Rattle.iol_kernel.specs.FileWrites.{LeavesUnlaid, LeavesUnwritten}
 use Rattle.iol_system.specs.Machine.{SystemState, tables_of}
 use Rattle.iol_system.specs.Wants.{Wants, for_arrived, for_made, for_written}
 
--- P holds of a reply's refusal, where it is one
+-- P holds for a reply's refusal, if it is one
 abbrev pub IfRefused : Reply → (Refusal → Type 0) → Type 0
 IfRefused (reply.Refused x) P = P x
 IfRefused r P = ⊤
 
--- nothing changed but pages, and what memory has of files
+-- only pages, and extents of files in memory, changed
 abbrev pub SameTables : (old new : KernelState) → Type 0
 SameTables old new = new ≡ record old { store = new.store; cache = new.cache }
 
@@ -35,15 +35,16 @@ SameTables old new = new ≡ record old { store = new.store; cache = new.cache }
 abbrev pub MadeRoomFor : Wants → (old : KernelState) → Reply → (new : KernelState) → Type 0
 MadeRoomFor w old r new = IfRefused r (MayHaveEvicted w.pool w.count old new)
 
--- A refused read of a file by reference: hits may count, and clean extents may have gone to make room, the first ones before
--- the others.
+-- A refused read of a file by reference: hits may have been counted, and clean extents may have been evicted to make room, in
+-- the order of eviction.
 abbrev pub ReadLeaves : (by fd n : ℕ) → (old : SystemState) → Option Descriptor → Reply → (new : SystemState) → Type 0
 ReadLeaves by fd n old (Some (on.File f at mode)) r new =
     IfRefused r (λ x. SameTables old.kernel new.kernel
     × LeavesAtRefusal (file_read by fd f at mode n) old.disk old.kernel new.disk new.kernel x)
 ReadLeaves by fd n old o r new = ⊤
 
--- A refused read of a file by copying left what one by reference does, over some pages of which some were freed since.
+-- A refused read of a file by copying left the state that one by reference leaves, over some pages of which some were freed
+-- since.
 pub record LeavesCopied (by fd n f at : ℕ) (mode : Mode) (old new : SystemState) (x : Refusal) : Type 0 where
   pub mid : Stored
   pub leaves : LeavesAtRefusal (file_read by fd f at mode n) old.disk old.kernel new.disk (record new.kernel { store = mid }) x
@@ -51,23 +52,24 @@ pub record LeavesCopied (by fd n f at : ℕ) (mode : Mode) (old new : SystemStat
   pub lists : SameLists mid new.kernel.store
   pub same : SameTables old.kernel new.kernel
 
--- what a refused read by copying leaves, where its descriptor is open on a file
+-- the state that a refused read by copying leaves, if its descriptor is open on a file
 abbrev pub CopyLeaves : (by fd n : ℕ) → (old : SystemState) → Option Descriptor → Reply → (new : SystemState) → Type 0
 CopyLeaves by fd n old (Some (on.File f at mode)) r new = IfRefused r (LeavesCopied by fd n f at mode old new)
 CopyLeaves by fd n old o r new = ⊤
 
--- A refused write of slices to a file made room at most, and what it placed is gone; where there is no room it made none.
+-- A refused write of slices to a file at most evicted extents, and the bytes placed are released; if there is no room, no
+-- extent was evicted.
 abbrev pub WriteLeaves : (old : KernelState) → Option Descriptor → List Slice → Reply → (new : KernelState) → Type 0
 WriteLeaves old (Some (on.File f at mode)) xs r new = IfRefused r (λ x. SameTables old new × LeavesUnwritten f xs old new x)
 WriteLeaves old o xs r new = ⊤
 
--- A refused write of bytes by copying made room at most, to a queue for those of them that it takes, and what it
--- placed for a file is gone; where there is no room it changed nothing.
+-- A refused write of bytes by copying at most evicted extents: for a queue, to place the bytes that it takes; for a file, the
+-- bytes placed are released. If there is no room, nothing changed.
 abbrev pub PutLeaves : Wants → List ℕ → (old : KernelState) → Option Descriptor → Reply → (new : KernelState) → Type 0
 PutLeaves w bytes old (Some (on.File f at mode)) r new = IfRefused r (LeavesUnlaid w.pool bytes old new)
 PutLeaves w bytes old o r new = MadeRoomFor w old r new
 
--- what a call leaves that is refused
+-- the state that a refused call leaves
 abbrev pub CallLeaves : (old : SystemState) → (by : ℕ) → Call → Reply → (new : SystemState) → Type 0
 CallLeaves old by (call.AggMake bytes) r new = MadeRoomFor (for_made old.kernel by bytes) old.kernel r new.kernel
 CallLeaves old by (call.IolRead fd n) r new = ReadLeaves by fd n old (held_by (tables_of old.kernel) by fd) r new
@@ -78,8 +80,8 @@ CallLeaves old by (call.Write fd bytes) r new =
     PutLeaves (for_written old.kernel by fd bytes) bytes old.kernel (descriptor (tables_of old.kernel) by fd) r new.kernel
 CallLeaves old by c r new = ⊤
 
--- A refused event that places bytes, or reads or writes a file, changed nothing; or it came late, and has just made room or
--- counted hits. Where there is no room it has at most counted hits. Of any other event nothing is said here.
+-- A refused event that places bytes, or reads or writes a file, changed nothing; or it came late, and only made room or
+-- counted hits. If there is no room, it at most counted hits. For any other event this says nothing.
 abbrev pub LeavesLate : (old : SystemState) → Event → Reply → (new : SystemState) → Type 0
 LeavesLate old (event.Call by c) r new = CallLeaves old by c r new
 LeavesLate old (event.Arrive c bytes) r new = MadeRoomFor (for_arrived old.kernel c bytes) old.kernel r new.kernel

@@ -1,4 +1,4 @@
--- Laws of runs: what follows from a chain of steps that keep their promises. Each is the contract of a function of `laws`.
+-- Laws of runs: consequences of a chain of steps that keep their promises. Each is the contract of a function of `laws`.
 use Rattle.std.specs.Prelude.{◌≡◌, ◌⊎◌, ◌+◌, ◌<◌, ℕ, true, false, List, [], ◌∷◌, ◌++◌, Option, Some, option_map}
 use Rattle.iol_core.specs.State.{State}
 use Rattle.iol_core.specs.Run.{Run}
@@ -40,7 +40,7 @@ abbrev pub RunsAsTheMachine : Type 0
 RunsAsTheMachine = (old new : SystemState) (es : List Event) (rs : List Reply) → Chain old es rs new
     → IfHonest old.disk (Run (machine_of old) es rs (machine_of new))
 
--- What the system held between the first events of a run and the others. Each part is a run of its own.
+-- The state between the first events of a run and the others. Each part is a run of its own.
 pub record Between (old : SystemState) (past future : List Event) (rs : List Reply) (new : SystemState) : Type 0 where
   pub now : SystemState
   pub past_replies : List Reply
@@ -49,7 +49,7 @@ pub record Between (old : SystemState) (past future : List Event) (rs : List Rep
   pub before : Chain old past past_replies now
   pub after : Chain now future future_replies new
 
--- a run of some events and then others is a run of the first, and from there one of the others
+-- a run of some events and then others is a run of the first, and from there a run of the others
 abbrev pub RunsInParts : Type 0
 RunsInParts = (old new : SystemState) (past future : List Event) (rs : List Reply) → Chain old (past ++ future) rs new
     → Between old past future rs new
@@ -68,16 +68,16 @@ pub record Moment (old : SystemState) (past : List Event) (e : Event) (future : 
   pub promises : Promises before e reply after
   pub future_runs : Chain after future future_replies new
 
--- Each event of a run keeps all promises of a step: so NoRoom is answered only where there is no room, and so on.
+-- Each event of a run keeps all promises of a step: for example, NoRoom is returned only if there is no room.
 abbrev pub EachEventIsAStep : Type 0
 EachEventIsAStep = (old new : SystemState) (past : List Event) (e : Event) (future : List Event) (rs : List Reply)
     → Chain old (past ++ e ∷ future) rs new → Moment old past e future rs new
 
--- an entry that is hit: it has the height that it would enter with, above L
+-- an entry after a hit: it has the height that it would enter with, above L
 abbrev pub hit_above : (low : ℕ) → Entry → Entry
 hit_above low e = record e { height = low + worth e.size e.cost }
 
--- the entry at a place is as it was, or was hit
+-- the entry at this key is unchanged, or was hit
 abbrev pub IsSameOrHit : (low : ℕ) → (old new : Option Entry) → Type 0
 IsSameOrHit low old new = (new ≡ old) ⊎ (new ≡ option_map (hit_above low) old)
 
@@ -87,7 +87,7 @@ IsRead s (event.Call by (call.IolRead fd n)) f i = IsInRange (held_by s by fd) n
 IsRead s (event.Call by (call.Read fd n)) f i = IsInRange (held_by s by fd) n f i
 IsRead s e f i = ⊥
 
--- the extent that begins there lies over a byte that is read
+-- the extent that begins there covers a byte that is read
 pub record IsMet (Read : (f i : ℕ) → Type 0) (c : Cached) (f at : ℕ) : Type 0 where
   pub byte : ℕ
   pub read : Read f byte
@@ -95,8 +95,8 @@ pub record IsMet (Read : (f i : ℕ) → Type 0) (c : Cached) (f at : ℕ) : Typ
   pub over : extent_over (extents_in c.files f) byte ≡ Some extent
   pub begins : extent.at ≡ at
 
--- What memory has of files lies where it lay, dirty or clean as it was. L of each pool is as it was, and each clean extent
--- stands in the pool's order as it stood, but that hits count, of extents that the range read meets.
+-- The extents of files in memory are unchanged, dirty or clean. L of each pool is unchanged, and so is each clean extent in
+-- the pool's order, except that hits are counted for extents that the range read meets.
 pub record EvictsNothing (Read : (f i : ℕ) → Type 0) (old new : Cached) : Type 0 where
   pub extents : (f : ℕ) → extents_in new.files f ≡ extents_in old.files f
   pub low : (p : ℕ) → (order_in new.orders p).low ≡ (order_in old.orders p).low
@@ -105,35 +105,34 @@ pub record EvictsNothing (Read : (f i : ℕ) → Type 0) (old new : Cached) : Ty
   pub unread : (p f at : ℕ) → (IsMet Read old f at → ⊥)
       → entry_at (order_in new.orders p).entries f at ≡ entry_at (order_in old.orders p).entries f at
 
--- an event that is refused for want of room evicts nothing
+-- an event that is refused for lack of room evicts nothing
 abbrev pub NoRoomEvictsNothing : Type 0
 NoRoomEvictsNothing = (old new : SystemState) (e : Event) (p : ℕ) → Promises old e (Refused (NoRoom p)) new
     → EvictsNothing (IsRead (tables_of old.kernel) e) old.kernel.cache new.kernel.cache
 
--- an event for which there is no room evicts nothing where it is refused, whatever for
+-- an event for which there is no room evicts nothing if it is refused, whatever the refusal
 abbrev pub RefusedWithoutRoomEvictsNothing : Type 0
 RefusedWithoutRoomEvictsNothing = (old new : SystemState) (e : Event) (r : Reply) → Promises old e r new → IsRefused r
     → HasRoomFor old e ⊎ EvictsNothing (IsRead (tables_of old.kernel) e) old.kernel.cache new.kernel.cache
 
--- Each pool has the list and the chunks that it had, each page is as it was, free or in use and as often filled, and each
--- buffer is held as often.
+-- Each pool has the same list and chunks, each page the same state and generation, and each buffer the same count.
 pub record KeepsPools (old new : Stored) : Type 0 where
   pub pools : (p : ℕ) → pool_in new.pools p ≡ pool_in old.pools p
   pub pages : (q : ℕ) → arena.entry_at new.arena q ≡ arena.entry_at old.arena q
   pub counts : (b : BufId) → count_of new b ≡ count_of old b
 
--- an event that is refused for want of room changes nothing of the pools of a safe system
+-- an event that is refused for lack of room changes nothing of the pools of a safe system
 abbrev pub NoRoomKeepsPools : Type 0
 NoRoomKeepsPools = (old new : SystemState) (e : Event) (p : ℕ) → IsSafe old → Promises old e (Refused (NoRoom p)) new
     → KeepsPools old.kernel.store new.kernel.store
 
--- A pool that is open before and after has its chunks still. One that is closed after has all that it had, or none any more.
+-- A pool that is open before and after has the same chunks. One that is closed afterwards has all its chunks, or none.
 pub record KeepsChunks (old new : Stored) : Type 0 where
   pub opens : (p : ℕ) → (pool_in old.pools p).closed ≡ false → (pool_in new.pools p).closed ≡ false
       → (pool_in new.pools p).chunks ≡ (pool_in old.pools p).chunks
   pub closes : (p : ℕ) → (pool_in new.pools p).closed ≡ true → HasAllOrNone old new p
 
--- each event leaves an open pool its chunks, and a closed one all of them or none, whatever it is answered
+-- each event leaves an open pool its chunks, and a closed one all of them or none, whatever the reply
 abbrev pub EachStepKeepsChunks : Type 0
 EachStepKeepsChunks = (old new : SystemState) (e : Event) (r : Reply) → Promises old e r new
     → KeepsChunks old.kernel.store new.kernel.store
@@ -148,12 +147,12 @@ abbrev pub RunsStayOrderly : Type 0
 RunsStayOrderly = (old new : SystemState) (es : List Event) (rs : List Reply) → Chain old es rs new → IsOrderly (machine_of old)
     → IsOrderly (machine_of new)
 
--- a store is after a run as honest as before
+-- a run does not change whether a store is honest
 abbrev pub RunsKeepHonesty : Type 0
 RunsKeepHonesty = (old new : SystemState) (es : List Event) (rs : List Reply) → Chain old es rs new
     → new.disk.honest ≡ old.disk.honest
 
--- what is live before and after a run has the same bytes and pool, and no identity is given twice
+-- a buffer that is live before and after a run has the same bytes and pool, and no identity is used twice
 abbrev pub RunsKeepBuffers : Type 0
 RunsKeepBuffers = (old new : SystemState) (es : List Event) (rs : List Reply) → Chain old es rs new
     → Stays old.kernel.store new.kernel.store
@@ -163,8 +162,8 @@ abbrev pub RunsKeepValues : Type 0
 RunsKeepValues = (old new : SystemState) (es : List Event) (rs : List Reply) → Chain old es rs new
     → ValuesStayOver (machine_of old) es (machine_of new)
 
--- after a run of calls that share, each byte lies where the calls' own meaning puts its place, and each page and pool is as
--- it was
+-- after a run of calls that share, each byte is at the place that the calls' own meaning names, and each page and pool is
+-- unchanged
 pub record SharesOver (old : SystemState) (es : List Event) (rs : List Reply) (new : SystemState) : Type 0 where
   pub places : Run (layout_of old.kernel) es rs (layout_of new.kernel)
   pub arena : new.kernel.store.arena ≡ old.kernel.store.arena
@@ -181,24 +180,24 @@ abbrev pub RunsShare : Type 0
 RunsShare = (old new : SystemState) (es : List Event) (rs : List Reply) → (chain : Chain old es rs new)
     → AllShare old es rs new chain → SharesOver old es rs new
 
--- Between any two events each page is unused, or is part of just one live buffer.
+-- Between any two events each page is unused, or is part of exactly one live buffer.
 abbrev pub EachPageHasOneUse : Type 0
 EachPageHasOneUse = (s : SystemState) → IsSafe s → (q : ℕ) → HasOneUse s.kernel.store.arena q
 
--- Between any two events each chunk that is taken is of just one pool.
+-- Between any two events each chunk that is taken is of exactly one pool.
 abbrev pub EachChunkHasOnePool : Type 0
 EachChunkHasOnePool = (s : SystemState) → IsSafe s → (c : ℕ) → c < chunk_count s.kernel.store.arena
     → is_taken s.kernel.store.arena c ≡ true → HasOnePool s.kernel.store c
 
--- The pool has given its chunks back, or a buffer lies in them that is still held.
+-- The pool has returned its chunks, or a buffer in them is still held.
 abbrev pub HasGivenBack : Stored → (p : ℕ) → Type 0
 HasGivenBack s p = ((pool_in s.pools p).chunks ≡ []) ⊎ ((b : BufId) × IsLive s.arena b × IsHome s p b × (0 < count_of s b))
 
--- Between any two events a closed pool has given its chunks back, as soon as no buffer in them is held.
+-- Between any two events a closed pool has returned its chunks, as soon as no buffer in them is held.
 abbrev pub ClosedPoolsGiveBack : Type 0
 ClosedPoolsGiveBack = (s : SystemState) → IsSafe s → (p : ℕ) → (pool_in s.kernel.store.pools p).closed ≡ true
     → HasGivenBack s.kernel.store p
 
--- Where no domain and no connection is live and no extent is left, every page that is not retired is free.
+-- If no domain and no connection is live and no extent is left, every page that is not retired is free.
 abbrev pub AllPagesComeFree : Type 0
 AllPagesComeFree = (s : SystemState) → IsSafe s → IsOrderly (machine_of s) → IsLeft s → IsAllFree s.kernel.store

@@ -1,4 +1,4 @@
--- The bytes of aggregates, lent where they lie.
+-- References to the bytes of aggregates at their places in memory.
 use Rattle.std.specs.Prelude.{◌≡◌, ℕ, List, length, None, Some, Result, IfOk, IfErr}
 use Rattle.iol_core.specs.State.{State}
 use Rattle.iol_core.specs.Meaning.{first}
@@ -6,13 +6,13 @@ use Rattle.iol_core.specs.Prelude.{show}
 use Rattle.iol_core.specs.declared.refusals.Refusal.{Refusal}
 use Rattle.iol_kernel.specs.Prelude.{joined}
 
--- A domain's aggregate is lent in parts, which are one after another the bytes that the machine's `show` answers. It is
--- refused just as `show` is.
+-- A domain's aggregate is given as parts, which in order are the bytes that the machine's `show` returns. It is refused
+-- exactly as `show` is.
 pub record LendsParts (s : State) (by agg : ℕ) (r : Result (List (List ℕ)) Refusal) : Type 0 where
   pub ok : IfOk r (λ parts. (first (show s by agg).refusals ≡ None) × (joined parts ≡ (show s by agg).answer))
   pub err : IfErr r (λ x. first (show s by agg).refusals ≡ Some x)
 
--- A domain's aggregate has as many bytes as the machine's `show` answers. It is refused just as `show` is.
+-- A domain's aggregate has as many bytes as the machine's `show` returns. It is refused exactly as `show` is.
 pub record TellsLength (s : State) (by agg : ℕ) (r : Result ℕ Refusal) : Type 0 where
   pub ok : IfOk r (λ n. (first (show s by agg).refusals ≡ None) × (n ≡ length (show s by agg).answer))
   pub err : IfErr r (λ x. first (show s by agg).refusals ≡ Some x)

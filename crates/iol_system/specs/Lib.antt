@@ -10,6 +10,7 @@ pub mod Wants
 pub mod Room
 pub mod Safe
 pub mod Streams
+pub mod Slices
 pub mod Still
 pub mod Uses
 pub mod Values

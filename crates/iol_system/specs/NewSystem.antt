@@ -11,27 +11,27 @@ use Rattle.iol_kernel.specs.Prelude.{slots_of}
 use Rattle.iol_system.specs.Machine.{SystemState, machine_of}
 use Rattle.iol_system.specs.Safe.{IsSafe}
 
--- A system of these sizes is made over a store, or one of them is out of its range, or memory is wanting.
+-- A system of these sizes is made over a store; or one of the sizes is out of its range, or there is no memory.
 pub record MakesSystem (config : Config) (under : Disk) (r : Result SystemState Refusal) : Type 0 where
-  -- it is refused by `BadRange` just where a size is out of its range
+  -- it is refused by `BadRange` exactly when a size is out of its range
   pub range : (r ≡ Err BadRange) ↔ (IsInRange config → ⊥)
-  -- and else for want of memory alone
+  -- and otherwise only for lack of memory
   pub errors : IfErr r (λ e. (e ≡ BadRange) ⊎ (e ≡ Memory))
-  -- it stands for the copying machine's first state, with the store's slots
+  -- it represents the copying machine's first state, with the store's slots
   pub new : IfOk r (λ s. machine_of s ≡ new_state (slots_of s.disk.slots))
-  -- its store is the one that was given
+  -- its store is the given one
   pub disk : IfOk r (λ s. s.disk ≡ under)
-  -- it has as many pages as the sizes say, none used yet
+  -- it has as many pages as the sizes say, all unused
   pub entries : IfOk r (λ s. s.kernel.store.arena.entries ≡ replicate (config.chunks * CHUNK_PAGES) no_entry)
-  -- as many chunks, none taken yet
+  -- as many chunks, none of them taken
   pub taken : IfOk r (λ s. s.kernel.store.arena.taken ≡ replicate config.chunks false)
   -- and their generation limit
   pub limit : IfOk r (λ s. s.kernel.store.arena.limit ≡ config.gen_limit)
-  -- no sum is remembered yet
+  -- no sum is remembered
   pub sums : IfOk r (λ s. s.kernel.sums.entries ≡ [])
-  -- and there is place for as many as the sizes say
+  -- and there is space for as many as the sizes say
   pub sum_limit : IfOk r (λ s. s.kernel.sums.limit ≡ config.sums)
-  -- nothing of a file is in memory, so no pool has an order in which extents go
+  -- no extent of a file is in memory, so no pool has an order of eviction
   pub orders : IfOk r (λ s. s.kernel.cache.orders ≡ [])
   -- it is safe
   pub safe : IfOk r IsSafe

@@ -1,4 +1,4 @@
--- Which events work on what memory has of files, and which ask the store under them.
+-- The events that work on the extents of files in memory, and those that ask the store under them.
 use Rattle.std.specs.Prelude.{Bool, true, false}
 use Rattle.iol_core.specs.Calls.Writes.{is_file}
 use Rattle.iol_core.specs.State.{State, descriptor}
@@ -7,7 +7,7 @@ use Rattle.iol_core.specs.declared.events.Call.TheVariants as call
 use Rattle.iol_core.specs.declared.events.Event.{Event}
 use Rattle.iol_core.specs.declared.events.Event.TheVariants as event
 
--- whether the event may have the store under the files read or written
+-- whether the event may read or write the store under the files
 abbrev pub asks_store : State → Event → Bool
 asks_store s (event.Call by (call.IolRead fd n)) = is_file (held_by s by fd)
 asks_store s (event.Call by (call.Read fd n)) = is_file (held_by s by fd)
@@ -15,8 +15,8 @@ asks_store s (event.Call by (call.Fsync fd)) = true
 asks_store s event.Flush = true
 asks_store s e = false
 
--- Whether the event may change what memory has of files: it does, where new bytes need room, and where files are read,
--- written or written back. It may have done so, too, where it is refused in the end.
+-- Whether the event may change the extents of files in memory: if new bytes need room, and if files are read, written or
+-- written back. It may do so even if it is refused in the end.
 abbrev pub uses_cache : State → Event → Bool
 uses_cache s (event.Call by (call.AggMake bytes)) = true
 uses_cache s (event.Call by (call.IolRead fd n)) = is_file (held_by s by fd)

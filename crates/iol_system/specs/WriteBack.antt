@@ -1,4 +1,4 @@
--- What is stored, and what is still in memory, after events that write back or drop.
+-- The content of the store, and the extents in memory, after events that write back or drop.
 use Rattle.std.specs.Prelude.{◌≡◌, ◌⊎◌, ℕ, ◌+◌, ◌-◌, length, Option, None, Some, Result, ⊤}
 use Rattle.iol_back.specs.Disk.{Disk, content}
 use Rattle.iol_core.specs.State as machine
@@ -28,17 +28,17 @@ abbrev pub IsCleanFile : Option Descriptor → KernelState → Type 0
 IsCleanFile (Some (on.File f at mode)) h = dirty_in (extents_in h.cache.files f) ≡ None
 IsCleanFile o h = ⊤
 
--- the store has in the file's slot just the machine's file
+-- the store has exactly the machine's file in the file's slot
 abbrev pub IsStoredFile : Option Descriptor → SystemState → Type 0
 IsStoredFile (Some (on.File f at mode)) s = content s.disk.slots f ≡ machine.content (machine_of s) f
 IsStoredFile o s = ⊤
 
--- after an `fsync` nothing of its file is dirty
+-- after an `fsync` no extent of its file is dirty
 abbrev pub IsSynced : KernelState → Event → KernelState → Type 0
 IsSynced old (event.Call by (call.Fsync fd)) new = IsCleanFile (descriptor (tables_of old) by fd) new
 IsSynced old e new = ⊤
 
--- after an `fsync` the store has in its file's slot just the machine's file
+-- after an `fsync` the store has exactly the machine's file in its slot
 abbrev pub IsKept : KernelState → Event → SystemState → Type 0
 IsKept old (event.Call by (call.Fsync fd)) new = IsStoredFile (descriptor (tables_of old) by fd) new
 IsKept old e new = ⊤
@@ -53,7 +53,7 @@ pub record CleansFirst (old new : Cached) : Type 0 where
   pub others : (f : ℕ) → (f ≡ file → ⊥) → extents_in new.files f ≡ extents_in old.files f
   pub fewer : dirty_in_all new.files + 1 ≡ dirty_in_all old.files
 
--- a `flush` cleans the dirty extent of least file and offset, or nothing was dirty, and it changes nothing
+-- a `flush` cleans the dirty extent of least file and offset; or nothing was dirty, and it changes nothing
 abbrev pub IsFlushed : KernelState → Event → KernelState → Type 0
 IsFlushed old event.Flush new = CleansFirst old.cache new.cache ⊎ (AllClean (length old.cache.files) old.cache × (new ≡ old))
 IsFlushed old e new = ⊤
@@ -69,31 +69,32 @@ abbrev pub IsDropped : KernelState → Event → KernelState → Type 0
 IsDropped old event.DropClean new = DropsClean old new
 IsDropped old e new = ⊤
 
--- What an `fsync` wrote back, whatever it answered: the first dirty extents of its file, up to the one at which the store
--- failed.
+-- The extents that an `fsync` wrote back, whatever the reply: the first dirty extents of its file, up to the one at which the
+-- store failed.
 pub record SyncsAs (f : ℕ) (disk : Disk) (old : KernelState) (r : Reply) (after : Disk) (new : KernelState) : Type 0 where
   pub answer : Result (Unit {0}) Refusal
   pub is : r ≡ told (λ u. reply.Done) answer
   pub syncs : SyncsFile f disk old answer after new
 
--- what an `fsync` wrote back, by what its descriptor is open on: of anything but a file nothing is said
+-- the extents that an `fsync` wrote back, if its descriptor is open on a file; for anything else this says nothing
 abbrev pub SyncsOn : Option Descriptor → Disk → KernelState → Reply → Disk → KernelState → Type 0
 SyncsOn (Some (on.File f at mode)) disk old r after new = SyncsAs f disk old r after new
 SyncsOn o disk old r after new = ⊤
 
--- What a `flush` wrote back, or the file of the dirty extent at which the store failed.
+-- The extent that a `flush` wrote back, or the file of the dirty extent at which the store failed.
 pub record FlushesAs (disk : Disk) (old : KernelState) (r : Reply) (after : Disk) (new : KernelState) : Type 0 where
   pub answer : Result (Unit {0}) Refusal
   pub is : r ≡ told (λ u. reply.Done) answer
   pub flushes : FlushesOne disk old answer after new
 
--- An `fsync` and a `flush` wrote back just what was to be, refused or not.
+-- The extents that an `fsync` or a `flush` wrote back, refused or not.
 abbrev pub StoresBack : Disk → KernelState → Event → Reply → Disk → KernelState → Type 0
 StoresBack disk old (event.Call by (call.Fsync fd)) r after new = SyncsOn (descriptor (tables_of old) by fd) disk old r after new
 StoresBack disk old event.Flush r after new = FlushesAs disk old r after new
 StoresBack disk old e r after new = ⊤
 
--- What one event writes back or drops: what is clean and stored where it is done, and what was written whatever it is answered.
+-- What one event writes back or drops: the extents that are clean and stored if it succeeds, and those that were written
+-- whatever the reply.
 pub record WritesBack (disk : Disk) (old : KernelState) (e : Event) (r : Reply) (after : Disk) (new : KernelState) : Type 0 where
   pub synced : IsDone r → IsSynced old e new
   pub kept : IsBackedBy after new → IsDone r → IsKept old e (system_of new after)

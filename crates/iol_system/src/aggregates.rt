@@ -1,4 +1,4 @@
-//! The aggregates of all domains, lent.
+//! References to the aggregates of all domains.
 ghost use Rattle.std.specs.Prelude.{◌≡◌};
 ghost use Rattle.iol_kernel.specs.Prelude.{state_of, IsSound};
 ghost use Rattle.iol_system.specs.LentBytes.{LendsParts, TellsLength};
@@ -10,7 +10,8 @@ use iol_core::refusals::Refusal;
 use iol_kernel::kernel::Kernel;
 use std::marker::Model;
 
-/// The aggregates of all domains, lent until the system's next step. What type of store the system has does not show.
+/// References to the aggregates of all domains, valid until the system's next step. Independent of
+/// the type of the system's store.
 #[derive(Drop)]
 pub struct Aggregates<'a> {
     kernel: &'a Kernel,
@@ -35,14 +36,16 @@ impl<'a> Aggregates<'a> {
         Aggregates { kernel }
     }
 
-    /// The bytes of a domain's aggregate, where they lie. Nothing is copied, and no memory is taken.
+    /// The bytes of a domain's aggregate, at their places in memory. Nothing is copied, and no
+    /// memory is requested.
     pub fn parts(&self, by: DomainId, agg: AggId) -> Result<Parts<'a>, Refusal>
         ensures { LendsParts (tables_of self.now) by agg result }
     {
         self.kernel.parts(by, agg)
     }
 
-    /// How many bytes a domain's aggregate has. Its slices are not walked, and no memory is taken.
+    /// The number of bytes of a domain's aggregate. Its slices are not walked, and no memory is
+    /// requested.
     pub fn len(&self, by: DomainId, agg: AggId) -> Result<u32, Refusal>
         ensures { TellsLength (tables_of self.now) by agg result }
     {

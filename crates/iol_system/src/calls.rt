@@ -1,4 +1,4 @@
-//! The calls of domains: to each the kernel's function that carries it out.
+//! The calls of domains: the kernel's function for each.
 ghost use Rattle.iol_kernel.specs.Prelude.{state_of, IsSound};
 ghost use Rattle.iol_system.specs.Effects.{DoesCall};
 

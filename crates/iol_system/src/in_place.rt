@@ -9,11 +9,12 @@ use iol_sock::{Arrived, Drained};
 use std::io::{Read, Write};
 
 impl<B: Backing> System<B> {
-    /// The bytes of one read come in from a connection's peer, straight into a page. At most `max` bytes are asked for, a
-    /// page of them, and what fits.
+    /// The bytes of one read arrive from a connection's peer, directly in a page. The read asks for
+    /// at most `max` bytes, a page, and the free part of the queue.
     ///
-    /// `BadFd` where there is no such connection, `BadRange` where `max` is 0; else refused as one byte that arrives, all
-    /// before it reads. Where the reader is at its end or fails, nothing came in, and the page is free again.
+    /// `BadFd` if there is no such connection, `BadRange` if `max` is 0; otherwise refused as an
+    /// arrival of one byte is. Every refusal comes before the read. If the reader is at its end or
+    /// fails, nothing arrives, and the page is free again.
     pub fn arrive_from<R: Read>(
         &mut self,
         conn: ConnId,
@@ -25,10 +26,11 @@ impl<B: Backing> System<B> {
         self.kernel.arrive_from(conn, reader, max)
     }
 
-    /// Lends the first bytes to be sent on a connection to a writer, at most `max` in all, until it fails or takes none.
-    /// What it took is sent. No memory is taken.
+    /// Gives a writer references to the first bytes queued for sending on a connection, at most
+    /// `max` in all, until it fails or takes none. The bytes it took are sent. No memory is
+    /// requested.
     ///
-    /// `BadFd` where there is no such connection.
+    /// `BadFd` if there is no such connection.
     pub fn drain_to<W: Write>(
         &mut self,
         conn: ConnId,

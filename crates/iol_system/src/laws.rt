@@ -1,5 +1,5 @@
-//! Laws of runs: what follows from a run's clause `chain`, whatever the events; and of what lies in a system between any
-//! two of them. The functions do nothing; their contracts are the laws.
+//! Laws of runs: consequences of a run's clause `chain`, for all events, and properties of a system
+//! between any two events. The functions do nothing; their contracts are the laws.
 ghost use Rattle.iol_system.specs.Laws.{RunsAsTheMachine, RunsInParts, EachEventIsAStep};
 ghost use Rattle.iol_system.specs.Laws.{AllPagesComeFree, ClosedPoolsGiveBack, EachPageHasOneUse, EachChunkHasOnePool};
 ghost use Rattle.iol_system.specs.Laws.{EachStepKeepsChunks, NoRoomEvictsNothing, NoRoomKeepsPools, RefusedWithoutRoomEvictsNothing};
@@ -10,7 +10,7 @@ pub fn runs_as_the_machine()
     ensures { RunsAsTheMachine }
 {}
 
-/// A run of some events and then others is a run of the first, and from there one of the others.
+/// A run of some events and then others is a run of the first, and from there a run of the others.
 pub fn runs_in_parts()
     ensures { RunsInParts }
 {}
@@ -20,25 +20,27 @@ pub fn each_event_is_a_step()
     ensures { EachEventIsAStep }
 {}
 
-/// An event that is refused for want of room evicts nothing: each extent lies where it lay, dirty or clean as it was, and L of
-/// each pool stays, and its order of eviction, but that a read of a file has counted its hits by then: those of no extent that
-/// its range does not meet.
+/// An event that is refused for lack of room evicts nothing: each extent keeps its place, dirty or
+/// clean, and L and the order of eviction of each pool are unchanged, except that a read of a file
+/// has counted its hits by then, only for extents that its range meets.
 pub fn no_room_evicts_nothing()
     ensures { NoRoomEvictsNothing }
 {}
 
-/// Where there is no room, an event that is refused evicts nothing, whatever it is refused for: also for want of memory.
+/// If there is no room, an event that is refused evicts nothing, whatever the refusal, including
+/// Memory.
 pub fn refused_without_room_evicts_nothing()
     ensures { RefusedWithoutRoomEvictsNothing }
 {}
 
-/// An event that is refused for want of room leaves each pool its list and its chunks, closed ones too, each page as it was, and
-/// each buffer held as often.
+/// An event that is refused for lack of room leaves each pool its list and its chunks, including
+/// closed pools, each page its state, and each buffer its count.
 pub fn no_room_keeps_pools()
     ensures { NoRoomKeepsPools }
 {}
 
-/// Each event leaves an open pool its chunks, and a closed one all of them or none, whatever it is answered.
+/// Each event leaves an open pool its chunks, and a closed one all of them or none, whatever the
+/// reply.
 pub fn each_step_keeps_chunks()
     ensures { EachStepKeepsChunks }
 {}
@@ -48,19 +50,20 @@ pub fn runs_stay_safe()
     ensures { RunsStaySafe }
 {}
 
-/// A run from a system whose machine is orderly ends in one: each end of a pipe and each connection is open in one descriptor
-/// at most, what is open stands, what stands is open in a domain that lives, and numbers that are still to come are not used
-/// yet. So the laws of the machine hold of it.
+/// A run from a system whose machine is orderly ends in one: each end of a pipe and each connection
+/// is open in one descriptor at most, each open object exists, each existing object is open in a
+/// live domain, and later numbers are not used yet. So the laws of the machine hold.
 pub fn runs_stay_orderly()
     ensures { RunsStayOrderly }
 {}
 
-/// A store is after a run as honest as before it.
+/// A run does not change whether a store is honest.
 pub fn runs_keep_honesty()
     ensures { RunsKeepHonesty }
 {}
 
-/// What is live before and after a run has the same bytes and pool, and no identity is given twice.
+/// A buffer that is live before and after a run has the same bytes and pool, and no identity is
+/// used twice.
 pub fn runs_keep_buffers()
     ensures { RunsKeepBuffers }
 {}
@@ -70,28 +73,31 @@ pub fn runs_keep_values()
     ensures { RunsKeepValues }
 {}
 
-/// A run of sharing calls copies nothing: what they hand on lies where it lay, and no page is published or freed.
+/// A run of sharing calls copies nothing: the bytes that they hand on keep their places, and no
+/// page is published or freed.
 pub fn runs_share()
     ensures { RunsShare }
 {}
 
-/// Between any two events each page is unused, or is part of just one live buffer.
+/// Between any two events each page is unused, or is part of exactly one live buffer.
 pub fn each_page_has_one_use()
     ensures { EachPageHasOneUse }
 {}
 
-/// Between any two events each chunk that is taken is of just one pool.
+/// Between any two events each chunk that is taken is of exactly one pool.
 pub fn each_chunk_has_one_pool()
     ensures { EachChunkHasOnePool }
 {}
 
-/// Between any two events a closed pool has given its chunks back, as soon as no buffer that lies in them is held.
+/// Between any two events a closed pool has returned its chunks, as soon as no buffer in them is
+/// held.
 pub fn closed_pools_give_back()
     ensures { ClosedPoolsGiveBack }
 {}
 
-/// Where no domain and no connection is live and no extent of a file is left, every page that is not retired is free, whether
-/// its chunk is a pool's or nobody's. With [`runs_stay_safe`] and [`runs_stay_orderly`] that holds at each moment of a run.
+/// If no domain and no connection is live and no extent of a file is left, every page that is not
+/// retired is free, whether its chunk is a pool's or not. With [`runs_stay_safe`] and
+/// [`runs_stay_orderly`] this holds at each moment of a run.
 pub fn all_pages_come_free()
     ensures { AllPagesComeFree }
 {}

@@ -10,7 +10,7 @@ use iol_core::numbers::{AggId, ConnId, DomainId, Fd, FileId, PoolId};
 use iol_core::refusals::Refusal;
 use iol_sock::Segment;
 
-/// A call that answers nothing is done.
+/// The reply of a call without an answer.
 pub(crate) fn done(answer: Result<(), Refusal>) -> Reply
     ensures { result ≡ told (λ u. reply.Done) answer }
 {
@@ -20,7 +20,7 @@ pub(crate) fn done(answer: Result<(), Refusal>) -> Reply
     }
 }
 
-/// A call answers a domain's number.
+/// The reply with a domain's number.
 pub(crate) fn domain(answer: Result<DomainId, Refusal>) -> Reply
     ensures { result ≡ told reply.Domain answer }
 {
@@ -30,7 +30,7 @@ pub(crate) fn domain(answer: Result<DomainId, Refusal>) -> Reply
     }
 }
 
-/// A call answers a pool's number.
+/// The reply with a pool's number.
 pub(crate) fn pool(answer: Result<PoolId, Refusal>) -> Reply
     ensures { result ≡ told reply.Pool answer }
 {
@@ -40,7 +40,7 @@ pub(crate) fn pool(answer: Result<PoolId, Refusal>) -> Reply
     }
 }
 
-/// A call answers a file's number.
+/// The reply with a file's number.
 pub(crate) fn file(answer: Result<FileId, Refusal>) -> Reply
     ensures { result ≡ told reply.File answer }
 {
@@ -50,7 +50,7 @@ pub(crate) fn file(answer: Result<FileId, Refusal>) -> Reply
     }
 }
 
-/// A new connection has a number.
+/// The reply with a new connection's number.
 pub(crate) fn conn(answer: Result<ConnId, Refusal>) -> Reply
     ensures { result ≡ told reply.Conn answer }
 {
@@ -60,7 +60,7 @@ pub(crate) fn conn(answer: Result<ConnId, Refusal>) -> Reply
     }
 }
 
-/// A call answers an aggregate's number.
+/// The reply with an aggregate's number.
 pub(crate) fn agg(answer: Result<AggId, Refusal>) -> Reply
     ensures { result ≡ told reply.Agg answer }
 {
@@ -70,7 +70,7 @@ pub(crate) fn agg(answer: Result<AggId, Refusal>) -> Reply
     }
 }
 
-/// A call answers a descriptor's number.
+/// The reply with a descriptor's number.
 pub(crate) fn fd(answer: Result<Fd, Refusal>) -> Reply
     ensures { result ≡ told reply.Fd answer }
 {
@@ -80,7 +80,7 @@ pub(crate) fn fd(answer: Result<Fd, Refusal>) -> Reply
     }
 }
 
-/// A call answers how many bytes.
+/// The reply with a number of bytes.
 pub(crate) fn count(answer: Result<u32, Refusal>) -> Reply
     ensures { result ≡ told reply.Count answer }
 {
@@ -90,7 +90,7 @@ pub(crate) fn count(answer: Result<u32, Refusal>) -> Reply
     }
 }
 
-/// A call answers bytes.
+/// The reply with bytes.
 pub(crate) fn bytes(answer: Result<Bytes, Refusal>) -> Reply
     ensures { result ≡ told reply.Bytes answer }
 {
@@ -100,7 +100,7 @@ pub(crate) fn bytes(answer: Result<Bytes, Refusal>) -> Reply
     }
 }
 
-/// Two aggregates.
+/// The reply with two aggregates.
 pub(crate) fn aggs(answer: Result<(AggId, AggId), Refusal>) -> Reply
     ensures { result ≡ told (λ two. reply.Aggs two.0 two.1) answer }
 {
@@ -110,7 +110,7 @@ pub(crate) fn aggs(answer: Result<(AggId, AggId), Refusal>) -> Reply
     }
 }
 
-/// The ends of a pipe.
+/// The reply with the ends of a pipe.
 pub(crate) fn fds(answer: Result<(Fd, Fd), Refusal>) -> Reply
     ensures { result ≡ told (λ two. reply.Fds two.0 two.1) answer }
 {
@@ -120,7 +120,7 @@ pub(crate) fn fds(answer: Result<(Fd, Fd), Refusal>) -> Reply
     }
 }
 
-/// What was sent.
+/// The reply with a segment sent.
 pub(crate) fn segment(answer: Result<Segment, Refusal>) -> Reply
     ensures { result ≡ told (λ x. reply.Segment x.0 x.1) (calls.told answer) }
 {

@@ -25,8 +25,8 @@ use iol_kernel::report::Report;
 use std::alloc::{AllocError, Global};
 use std::marker::Model;
 
-/// A system of domains that share buffers, over a store of files: what it answers is what a machine that copies at every call
-/// would.
+/// A system of domains that share buffers, over a store of files. Its replies are those of a
+/// machine that copies every byte at every call.
 #[derive(Drop)]
 pub struct System<B: Backing> {
     alloc: Global,
@@ -48,8 +48,8 @@ impl<B: Backing> Model for System<B> {
 }
 
 impl<B: Backing + Drop> System<B> {
-    /// A system with domain 1 and nothing else, over a store: none of its slots has a name yet. A size out of its range is
-    /// `BadRange`.
+    /// A system with domain 1 and nothing else, over a store, of whose slots none has a name yet.
+    /// `BadRange` if a size is out of its range.
     pub fn new(alloc: Global, config: Config, backing: B) -> Result<System<B>, Refusal>
         ensures { MakesSystem config (B.disk backing) result }
     {
@@ -63,38 +63,41 @@ impl<B: Backing + Drop> System<B> {
 }
 
 impl<B: Backing> System<B> {
-    /// The bytes of a domain's aggregate, where they lie. Nothing is copied, and no memory is taken.
+    /// The bytes of a domain's aggregate, at their places in memory. Nothing is copied, and no
+    /// memory is requested.
     pub fn parts(&self, by: DomainId, agg: AggId) -> Result<Parts<'_>, Refusal>
         ensures { LendsParts (tables_of self.now.kernel) by agg result }
     {
         self.kernel.parts(by, agg)
     }
 
-    /// Lends the aggregates of all domains, as [`System::parts`] lends one.
+    /// References to the aggregates of all domains, as [`System::parts`] gives them for one.
     pub fn aggregates(&self) -> Aggregates<'_>
         ensures { result ≡ self.now.kernel }
     {
         Aggregates::new(&self.kernel)
     }
 
-    /// What lies in the system, counted: the pools that still have their chunks, by number, the extents of files and the dirty
-    /// ones among them, and the live buffers, no two of which share a page. It changes nothing.
+    /// The counts of the system: the pools that still have their chunks, by number, the extents of
+    /// files and the dirty ones among them, and the live buffers, no two of which share a page. It
+    /// changes nothing.
     pub fn report(&self) -> Result<Report, AllocError>
         ensures { Reports self.now.kernel result }
     {
         self.kernel.report()
     }
 
-    /// Carries out one event, whole, and replies. All that is promised of it is one record, [`Promises`]
-    /// (`specs/Promises.antt`): what is answered, as the copying machine answers; when Fault comes, where NoRoom may, and what
-    /// refusals leave; where bytes lie then; what the store was asked, and has; that all is safe again.
+    /// Executes one event completely, and replies. Its contract is one record, [`Promises`]
+    /// (`specs/Promises.antt`): the reply of the copying machine; when Fault is returned, when
+    /// NoRoom and Memory may be, and the state after a refusal; the places of bytes afterwards; the
+    /// requests to the store, and its content; and the invariant.
     pub fn step(&mut self, event: Event) -> Reply
         ensures { Promises self.old event result self.new }
     {
         self.step_ref(&event)
     }
 
-    /// Carries out one event that stays with the caller, whole, as [`System::step`] does.
+    /// Executes one event completely, as [`System::step`] does, by reference.
     pub fn step_ref(&mut self, event: &Event) -> Reply
         ensures { Promises self.old event.now result self.new }
     {
@@ -112,10 +115,11 @@ impl<B: Backing> System<B> {
         }
     }
 
-    /// Carries out events in order. For want of memory for the replies, none: the room for them comes first.
+    /// Executes events in order. If there is no memory for the replies, none is executed: it is
+    /// requested first.
     ///
-    /// A run is a chain of steps, each of which keeps all that [`System::step`] promises. What follows from that for
-    /// whole runs is stated in [`laws`](crate::laws).
+    /// A run is a chain of steps, each of which keeps all promises of [`System::step`].
+    /// Consequences for whole runs are stated in [`laws`](crate::laws).
     pub fn run(&mut self, events: &[Event]) -> Result<Vec<Reply>, AllocError>
         ensures chain { IfOk result (λ replies. Chain self.old events.now replies.items self.new) }
         ensures run { IfOk result (λ replies. IfHonest self.old.disk

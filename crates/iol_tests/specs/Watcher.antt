@@ -1,4 +1,4 @@
--- What a watcher does, and when it is settled.
+-- The turns of a watcher, and its condition when idle.
 use Rattle.std.specs.Prelude.{◌≡◌, ℕ, zero, suc, Bool, true, false}
 use Rattle.iol_core.specs.State.{State}
 use Rattle.iol_core.specs.Run.{StepsTo}
@@ -13,23 +13,24 @@ use Rattle.iol_proc.specs.World.{Stage}
 use Rattle.iol_proc.specs.declared.process.Turn.{Turn}
 use Rattle.iol_proc.specs.declared.process.Turn.TheVariants as turn
 
--- a watcher asks for a connection, and yields each time that it has asked: whether it had asked before a turn, and has after it
+-- a watcher calls `accept`, and yields each time after it: asked is whether it had called before a turn, next whether it has
+-- after it
 abbrev pub Watches : (asked : Bool) → Turn → (next : Bool) → Type 0
 Watches asked turn.Yield next = (asked ≡ true) × (next ≡ false)
 Watches asked (turn.Make c) next = (asked ≡ false) × (c ≡ call.Accept) × (next ≡ true)
 
--- no connection waits that the domain may accept
+-- no connection is waiting that the domain may accept
 abbrev pub NoneWaits : State → (by : ℕ) → Type 0
 NoneWaits m by = StepsTo m (event.Call by call.Accept) (reply.Refused WouldBlock) m
 
--- what holds after so many yields of a watcher in this domain, which has asked or not
+-- the condition after n yields of a watcher in this domain, which has called or not
 abbrev pub HasWatched : (n by : ℕ) → (asked : Bool) → State → Type 0
 HasWatched zero by asked m = Unit {0}
 HasWatched (suc zero) by asked m = asked ≡ true → NoneWaits m by
 HasWatched (suc (suc n)) by asked m = NoneWaits m by
 
--- Over an honest store: where a world of watchers is idle after turns, each of them has watched for two yields, and so no
--- connection waits that its domain may accept.
+-- Over an honest store: if a world of watchers is idle after turns, each of them has watched for two yields, and so no
+-- connection is waiting that its domain may accept.
 abbrev pub AllHaveWatched : {P : Type 0} → (world after : Stage SystemState P) → (asked : P → Bool) → (idle : Bool) → Type 0
 AllHaveWatched world after asked idle = IfHonest world.machine.disk
     (idle ≡ true → AllSettled (λ n by p last m. HasWatched n by (asked p) m) after.seats (machine_of after.machine))

@@ -1,4 +1,5 @@
-//! Tests of systems and worlds, in a crate of their own since a crate with tests is proved twice.
+//! Tests of systems and worlds. They are a crate of their own since a crate with tests is proved
+//! twice.
 #![tactic(auto)]
 
 #[cfg(test)]

@@ -1,6 +1,7 @@
-//! Connections are served from readers and to writers ([`arrivals`], [`drains`]): what they answer, how many reads and
-//! writes they make, and what a failing one leaves. Processes have turns in worlds ([`worlds`], [`streams`], [`watchers`]). Each call
-//! of a system or a world that needs memory answers where there is enough (`ample`, in [`system_calls`] and [`worlds`]).
+//! Connections are served from readers and to writers ([`arrivals`], [`drains`]): the results, the
+//! number of reads and writes, and the state after a failure. Processes take turns in worlds
+//! ([`worlds`], [`streams`], [`watchers`]). Each call of a system or a world that needs memory
+//! succeeds if there is enough (`ample`, in [`system_calls`] and [`worlds`]).
 mod arrivals;
 mod consumer;
 mod drains;

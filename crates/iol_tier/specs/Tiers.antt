@@ -1,13 +1,13 @@
 -- Keys in order.
 use Rattle.std.specs.Prelude.{◌≡◌, ℕ, ◌+◌, ◌-◌, ◌*◌, ◌<◌, ◌≤◌, ◌^◌, min, List, length, slice_index_or, insert, remove, Result, OnOk, OnErr}
 
--- the keys, and how many more may come in without memory
+-- the keys, and the number of keys that can be inserted without allocating
 pub record Tiered : Type 0 where
   pub keys : List ℕ
   pub room : ℕ
 
--- Room was made for so many more, and the keys are as they were. Where there was so much it was not
--- refused; refused, the room is as it was.
+-- Room was reserved for that many more, and the keys are unchanged. If there was as much room there is
+-- no error; an error leaves the room unchanged.
 pub record Reserves {A E : Type 0} (count : ℕ) (old new : Tiered) (r : Result A E) : Type 0 where
   pub room : OnOk r (count ≤ new.room)
   pub same : new ≡ record old { room = new.room }
@@ -15,13 +15,13 @@ pub record Reserves {A E : Type 0} (count : ℕ) (old new : Tiered) (r : Result 
   pub needed : OnErr r (old.room < count)
   pub err : OnErr r (new.room ≡ old.room)
 
--- A key came in, in room that was there.
+-- A key was inserted, in reserved room.
 pub record Inserts (place key : ℕ) (old new : Tiered) : Type 0 where
   pub keys : new.keys ≡ insert old.keys place key
   pub room : new.room ≡ old.room - 1
   pub few : length old.keys + 1 < 2 ^ 64
 
--- The key at a place went out, and left room for one.
+-- The key at a place was removed, and left room for one.
 pub record Removes (place taken : ℕ) (old new : Tiered) : Type 0 where
   pub key : taken ≡ slice_index_or old.keys place taken
   pub keys : new.keys ≡ remove old.keys place

@@ -30,7 +30,7 @@ impl Block {
         }
     }
 
-    /// Makes it hold so many keys.
+    /// Enlarges the block to at least `width` places.
     pub(crate) fn widen(&mut self, width: usize) -> Result<(), AllocError>
         ensures keys { self.new.keys ≡ self.old.keys }
         ensures width { OnOk result (width ≤ self.new.capacity) }

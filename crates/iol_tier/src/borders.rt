@@ -1,4 +1,4 @@
-//! Keys that move over the borders between blocks.
+//! Moving keys over the borders between blocks.
 ghost use Rattle.std.specs.Prelude.{◌+◌, ◌-◌, ◌<◌, length};
 ghost use Rattle.iol_tier.specs.Blocks.{CanCross, CanShiftLeft, CanShiftRight, MovesPlace};
 
@@ -25,7 +25,7 @@ fn push(blocks: &mut VecDeque<Block>, at: usize)
     blocks[at + 1].push_front(key);
 }
 
-/// A place comes free in block `to`, for one in block `from` before it.
+/// Moves the free place in block `from` to block `to` after it.
 pub(crate) fn shift_left(blocks: &mut VecDeque<Block>, from: usize, to: usize)
     requires { CanShiftLeft from to blocks.old.items }
     ensures { MovesPlace from to blocks.old.items blocks.new.items }
@@ -35,7 +35,7 @@ pub(crate) fn shift_left(blocks: &mut VecDeque<Block>, from: usize, to: usize)
     }
 }
 
-/// A place comes free in block `to`, for one in block `from` behind it.
+/// Moves the free place in block `from` to block `to` before it.
 pub(crate) fn shift_right(blocks: &mut VecDeque<Block>, from: usize, to: usize)
     requires { CanShiftRight from to blocks.old.items }
     ensures { MovesPlace from to blocks.old.items blocks.new.items }

@@ -7,7 +7,7 @@ use crate::places::BLOCK;
 use std::alloc::{AllocError, Global};
 use std::collections::VecDeque;
 
-// The last block, which is empty, comes first.
+// Moves the last block, which is empty, to the front.
 fn turn_right(blocks: &mut VecDeque<Block>, skip: usize)
     requires laid { AreLaid blocks.old.items skip (length (joined blocks.old.items)) }
     requires empty { skip + length (joined blocks.old.items) + 128 ≤ length blocks.old.items * 128 }
@@ -18,7 +18,7 @@ fn turn_right(blocks: &mut VecDeque<Block>, skip: usize)
     }
 }
 
-// The first block, which is empty, comes last.
+// Moves the first block, which is empty, to the end.
 fn turn_left(blocks: &mut VecDeque<Block>, skip: usize)
     requires laid { AreLaid blocks.old.items skip (length (joined blocks.old.items)) }
     requires empty { 128 ≤ skip }
@@ -29,8 +29,8 @@ fn turn_left(blocks: &mut VecDeque<Block>, skip: usize)
     }
 }
 
-/// Where a key is to come in from the left (or the right) and no place is free there, an empty block of the other end comes
-/// there. Gives the places before the first key then, and whether a key is to come in from the left.
+/// If a key is to be inserted from the left (or the right) and no place is free there, moves an empty block from the other end
+/// there. Returns the number of places before the first key, and whether the key is to be inserted from the left.
 pub(crate) fn open_end(
     blocks: &mut VecDeque<Block>,
     skip: usize,
@@ -53,7 +53,7 @@ pub(crate) fn open_end(
     (skip, if left { skip > 0 } else { skip + len == places })
 }
 
-/// Makes so many blocks of them, each new one of this width.
+/// Appends empty blocks of this width up to a total of `count` blocks.
 pub(crate) fn add_blocks(
     blocks: &mut VecDeque<Block>,
     alloc: Global,
@@ -72,7 +72,7 @@ pub(crate) fn add_blocks(
     Ok(())
 }
 
-/// Makes each block this wide.
+/// Enlarges each block to this width.
 pub(crate) fn widen_blocks(blocks: &mut VecDeque<Block>, width: usize) -> Result<(), AllocError>
     ensures widens { Widens blocks.old.items blocks.new.items }
     ensures wide { OnOk result (AreWide blocks.new.items width) }

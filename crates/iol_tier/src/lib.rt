@@ -1,12 +1,13 @@
-//! Keys in order, of which one can be put in at any place without memory once there is room.
+//! A list of keys into which a key can be inserted at any place, without allocating once room is reserved.
 //!
-//! A [`TieredVec`](tiers::TieredVec) is a tiered vector (Goodrich and Kloss, "Tiered Vectors", 1999): its keys lie in blocks
-//! of 128, each a ring, and all blocks are full but the first and the last that hold any. So the block of a key is found by a
-//! division. Where a key comes or goes, those of its block move, and one key crosses each border on the shorter side: of n keys
+//! A [`TieredVec`](tiers::TieredVec) is a tiered vector (Goodrich and Kloss, "Tiered Vectors", 1999): its keys are in blocks of
+//! 128, each a ring, and all blocks are full except the first and the last that hold any keys. So a division finds the block of
+//! a key. Inserting or removing a key moves keys of its block, and one key crosses each border on the shorter side: of n keys
 //! about n / 512 cross at a random place, and none near either end. A contract sees a list and the room (`specs/Tiers`).
 //!
-//! The contract. `insert` and `remove` are std's words of that name on the list (`Inserts`, `Removes`), `at` is one key, `len`
-//! counts. Room is made first (`reserve`: `Reserves`), so that inserting cannot fail; removing gives a place of room back.
+//! The contract. `insert` and `remove` do the same as std's `insert` and `remove` on the list (`Inserts`, `Removes`), `at`
+//! returns one key, `len` the number of keys. Room is reserved first (`reserve`: `Reserves`), so that inserting cannot fail;
+//! removing gives one place of room back.
 //!
 //!     keys.reserve(1)?;
 //!     keys.insert(0, 7);

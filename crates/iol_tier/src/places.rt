@@ -1,4 +1,4 @@
-//! Keys that come into blocks and go out of them.
+//! Inserting keys into blocks, and removing them.
 ghost use Rattle.std.specs.Prelude.{◌≡◌, ◌+◌, ◌-◌, ◌*◌, ◌<◌, ◌≤◌, ◌^◌, length, slice_index_or};
 ghost use Rattle.iol_tier.specs.Blocks.{AreLaid, ComesIn, GoesOut, MayComeIn, MayGoOut, joined};
 
@@ -6,10 +6,10 @@ use crate::block::Block;
 use crate::borders::{shift_left, shift_right};
 use std::collections::VecDeque;
 
-/// The places of a block.
+/// The number of places of a block.
 pub(crate) const BLOCK: usize = 128;
 
-// How many places lie before the first of a block, of those after the first `skip`.
+// The number of places before the first of a block, not counting the first `skip`.
 fn begin_of(skip: usize, block: usize) -> usize
     requires { block ≤ 2 ^ 48 }
     ensures { result ≡ block * 128 - skip }
@@ -27,7 +27,7 @@ pub(crate) fn key_at(blocks: &VecDeque<Block>, skip: usize, place: usize) -> usi
     blocks[block].at(place - begin_of(skip, block))
 }
 
-/// Puts a key in, for which there is a place before the first one.
+/// Inserts a key. A place is free before the first key.
 pub(crate) fn put_left(blocks: &mut VecDeque<Block>, skip: usize, place: usize, key: usize)
     requires may { MayComeIn blocks.old.items skip (length (joined blocks.old.items)) place }
     requires free { 0 < skip }
@@ -39,7 +39,7 @@ pub(crate) fn put_left(blocks: &mut VecDeque<Block>, skip: usize, place: usize, 
     blocks[block].insert(place - begin_of(skip, block), key);
 }
 
-/// Puts a key in, for which there is a place behind the last one.
+/// Inserts a key. A place is free after the last key.
 pub(crate) fn put_right(
     blocks: &mut VecDeque<Block>,
     skip: usize,
@@ -56,7 +56,7 @@ pub(crate) fn put_right(
     blocks[block].insert(place - begin_of(skip, block), key);
 }
 
-/// Takes a key out; its place comes free before the first one.
+/// Removes a key. Its place becomes free before the first key.
 pub(crate) fn take_left(blocks: &mut VecDeque<Block>, skip: usize, place: usize) -> usize
     requires { MayGoOut blocks.old.items skip (length (joined blocks.old.items)) place }
     ensures key { result ≡ slice_index_or (joined blocks.old.items) place result }
@@ -68,7 +68,7 @@ pub(crate) fn take_left(blocks: &mut VecDeque<Block>, skip: usize, place: usize)
     key
 }
 
-/// Takes a key out; its place comes free behind the last one.
+/// Removes a key. Its place becomes free after the last key.
 pub(crate) fn take_right(
     blocks: &mut VecDeque<Block>,
     skip: usize,

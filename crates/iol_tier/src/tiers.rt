@@ -9,7 +9,7 @@ use std::alloc::{AllocError, Global};
 use std::collections::VecDeque;
 use std::marker::Model;
 
-// The most keys that there can be.
+// The greatest number of keys.
 const MOST: usize = 0x0040_0000_0000_0000;
 
 /// Keys in order.
@@ -17,7 +17,7 @@ const MOST: usize = 0x0040_0000_0000_0000;
 pub struct TieredVec {
     blocks: VecDeque<Block>,
 
-    // The places before the first key.
+    // The number of free places before the first key.
     skip: usize,
     len: usize,
     room: usize,
@@ -39,7 +39,7 @@ impl Model for TieredVec {
     } };
 }
 
-// How many blocks so many keys want: one more than they fill, so that one is empty at either end.
+// The number of blocks that `keys` keys need: one more than they fill, so that there is an empty block for either end.
 fn blocks_for(keys: usize) -> usize
     requires { keys ≤ 2 ^ 54 }
     ensures { AreEnough result keys }
@@ -47,7 +47,7 @@ fn blocks_for(keys: usize) -> usize
     if keys <= BLOCK { 1 } else { keys / BLOCK + 2 }
 }
 
-// How many keys so many blocks are to take, where so many are wanted.
+// The number of keys that `blocks` blocks can take, at least the `keys` that are requested.
 fn most_in(blocks: usize, keys: usize) -> usize
     requires { AreEnough blocks keys }
     ensures { IsMost blocks keys result }
@@ -60,7 +60,7 @@ fn most_in(blocks: usize, keys: usize) -> usize
 }
 
 impl TieredVec {
-    /// No keys.
+    /// A list without keys.
     pub fn new(alloc: Global) -> TieredVec
         ensures { result ≡ record { keys = []; room = 0 } }
     {
@@ -72,8 +72,7 @@ impl TieredVec {
         }
     }
 
-    /// Makes room for so many keys more. Where there is so much room, it is not refused; refused, it leaves the room that
-    /// there was.
+    /// Reserves room for `count` more keys. Never fails if there is as much room already. An error leaves the room unchanged.
     pub fn reserve(&mut self, count: usize) -> Result<(), AllocError>
         ensures { Reserves count self.old self.new result }
     {
@@ -91,7 +90,7 @@ impl TieredVec {
         Ok(())
     }
 
-    /// How many keys there are.
+    /// The number of keys.
     pub fn len(&self) -> usize
         ensures { result ≡ length self.now.keys }
     {
@@ -106,7 +105,7 @@ impl TieredVec {
         key_at(&self.blocks, self.skip, place)
     }
 
-    /// Puts a key in, in room that is there.
+    /// Inserts a key, in reserved room.
     pub fn insert(&mut self, place: usize, key: usize)
         requires place { place ≤ length self.old.keys }
         requires room { 0 < self.old.room }
@@ -129,7 +128,7 @@ impl TieredVec {
         self.room -= 1;
     }
 
-    /// Takes a key out.
+    /// Removes and returns a key.
     pub fn remove(&mut self, place: usize) -> usize
         requires { place < length self.old.keys }
         ensures { Removes place result self.old self.new }

@@ -2,8 +2,8 @@
 use Rattle.std.specs.Prelude.{◌≡◌, ℕ, Bool, true, false, List, [], length, map}
 use Rattle.iol_back.specs.Disk.{Disk, content}
 
--- The names of the files, the lengths that they had when they were found, their bytes in memory, whether these are what is
--- read, and how often a call failed that went to the folder.
+-- The names of the files, the lengths that they had when they were found, their bytes in memory, whether reads use these, and
+-- the number of failed calls to the folder.
 pub record Store : Type 0 where
   pub names : List (List ℕ)
   pub lengths : List ℕ
@@ -11,7 +11,7 @@ pub record Store : Type 0 where
   pub in_memory : Bool
   pub failures : ℕ
 
--- the folder as a store: it is not honest, since others write the files
+-- the folder as a store: it is not honest, because others write the files
 abbrev pub folder_disk : Store → Disk
 folder_disk s = record { slots = []; failures = s.failures; honest = false; told = s.lengths }
 

@@ -17,10 +17,11 @@ use std::io::{Read, Seek, SeekFrom};
 use std::marker::Model;
 use std::rt::Files;
 
-/// The files of an index, as a store that is read alone: over a copy of their bytes in memory, which is honest, or over the
-/// folder, which promises nothing of their bytes.
+/// The files of an index, as a store for reading: over a copy of their bytes in memory, which is honest, or over the folder,
+/// which promises nothing about their bytes.
 ///
-/// Over the folder no file is held open. While one is not as the index has it, each read of it fails. A write fails there.
+/// Over the folder no file is held open. While a file differs from its stamp in the index, each read of it fails. Each write
+/// to the folder fails.
 #[derive(Drop)]
 pub struct TreeBacking<R: Files> {
     files: R,
@@ -28,10 +29,10 @@ pub struct TreeBacking<R: Files> {
     index: Index,
     is_in_memory: bool,
 
-    // The bytes, where they are in memory, else nothing.
+    // The bytes, if they are in memory, else empty.
     memory: MemoryBacking,
 
-    // How often a call failed that went to the folder.
+    // The number of failed calls to the folder.
     failures: u64,
 }
 
@@ -54,7 +55,7 @@ impl<R: Files> Model for TreeBacking<R> {
 }
 
 impl<R: Files + Drop> TreeBacking<R> {
-    /// A store of the files' bytes, as they were read: honest.
+    /// A store of the files' bytes in memory. It is honest.
     pub fn in_memory(
         files: R,
         alloc: Global,
@@ -78,7 +79,7 @@ impl<R: Files + Drop> TreeBacking<R> {
         })
     }
 
-    /// A store over the folder: not honest, since others write the files.
+    /// A store over the folder. It is not honest, because others write the files.
     pub fn on_disk(files: R, alloc: Global, index: Index) -> TreeBacking<R>
         ensures honest { (disk_of result).honest ≡ false }
         ensures names { result.names ≡ index.names }
@@ -112,7 +113,7 @@ impl<R: Files> TreeBacking<R> {
         self.is_in_memory
     }
 
-    // Where a file stands in the list.
+    // The index of a file in the list.
     fn place(&self, slot: FileId) -> Option<usize>
         ensures which { IsSome result ↔ ((0 < slot) × (slot ≤ length self.now.names)) }
         ensures slot { IfSome result (λ place. IsSlot slot × (place ≡ slot - 1)) }
@@ -137,7 +138,7 @@ impl<R: Files> TreeBacking<R> {
         }
     }
 
-    // Counts a failure of a call that went to the folder.
+    // Counts a failed call to the folder.
     fn fail(&mut self) -> StoreFault
         ensures { self.new ≡ record self.old { failures = raised self.old.failures } }
     {
@@ -145,7 +146,7 @@ impl<R: Files> TreeBacking<R> {
         StoreFault
     }
 
-    // Reads bytes of a file that is as it was, before and after.
+    // Reads bytes of a file that is unchanged before and after.
     fn read(&self, place: usize, at: u32, into: &mut [u8]) -> io::Result<()>
         requires { place < length self.now.names }
     {
@@ -178,7 +179,7 @@ impl<R: Files> Backing for TreeBacking<R> {
 
     ghost disk = { disk_of };
 
-    /// The length that the file had when it was found; 0 where there is no file.
+    /// The length that the file had when it was found; 0 if there is no such file.
     fn length(&self, file: FileId) -> u32 {
         if self.is_in_memory {
             self.memory.length(file)
@@ -195,7 +196,7 @@ impl<R: Files> Backing for TreeBacking<R> {
         }
     }
 
-    /// In memory alone; over the folder it fails.
+    /// Writes to the bytes in memory. Over the folder it fails.
     fn write_at(&mut self, file: FileId, at: u32, bytes: &[u8]) -> Result<(), StoreFault> {
         if self.is_in_memory {
             self.memory.write_at(file, at, bytes)

@@ -13,8 +13,8 @@ use std::io;
 use std::io::Read;
 use std::rt::Files;
 
-/// Reads the files of an index, whole. The error is of the kind `OutOfMemory` where memory was refused, and of the kind
-/// `InvalidData` where a file was not as the index has it, before it was read or after.
+/// Reads the files of an index, whole. The error has the kind `OutOfMemory` if memory ran out, and `InvalidData` if a file
+/// differed from its stamp in the index before or after it was read.
 pub fn read_all<R: Files + AllocGlobal>(rt: &R, index: &Index) -> io::Result<Vec<Vec<u8>>>
     ensures { IfOk result (λ contents. HaveLengths index.now.lengths (items_of contents.items)) }
 {
@@ -38,8 +38,8 @@ fn read_file<R: Files + AllocGlobal>(rt: &R, index: &Index, place: usize) -> io:
     Ok(bytes)
 }
 
-/// A store in memory that has these bytes as its files, by their slots. It takes memory for no more than one of them beside
-/// what it is given.
+/// A store in memory that has these bytes as its files, by their slots. In addition to its argument it uses memory for at most
+/// one of them at a time.
 pub fn store_of(alloc: Global, contents: Vec<Vec<u8>>) -> Result<MemoryBacking, AllocError>
     requires { length contents.items ≤ MAX_FILES }
     ensures honest { IfOk result (λ store. store.honest ≡ true) }

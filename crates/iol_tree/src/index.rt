@@ -13,8 +13,8 @@ use std::io::ErrorKind;
 use std::marker::Model;
 use std::rt::Files;
 
-/// Files below a folder, by byte order of their names, each with the stamp that it had when it was looked at last. A file's
-/// name is its path below the folder.
+/// Files below a folder, by byte order of their names, each with its last seen stamp. A file's name is its path below the
+/// folder.
 #[derive(Drop)]
 pub struct Index {
     root: String,
@@ -40,8 +40,8 @@ impl Model for Index {
 
 impl Index {
     /// The regular files below the folder and in its folders, as they are now: those of at most 2^24 bytes with a name in UTF-8
-    /// of at most 255 bytes, by byte order of names, the first 1,024. No link is followed. The error is of the kind
-    /// `OutOfMemory` where memory was refused, else that of the folder, which could not be read.
+    /// of at most 255 bytes, by byte order of names, the first 1,024. No link is followed. The error has the kind
+    /// `OutOfMemory` if memory ran out, else it is the error of reading the folder.
     pub fn of<R>(rt: &R, root: &str) -> io::Result<Index>
     where
         R: Files + AllocGlobal + Clone + Drop,
@@ -67,7 +67,7 @@ impl Index {
         }
     }
 
-    /// How many files there are.
+    /// The number of files.
     pub fn count(&self) -> usize
         ensures count { result ≡ length self.now.names }
         ensures names { AreNames self.now.names }
@@ -76,7 +76,7 @@ impl Index {
         self.names.len()
     }
 
-    /// How many entries below the folder are none of these files: links, devices and the like, files that are too long, names
+    /// The number of entries below the folder that are not in the index: links, devices and the like, files that are too long, names
     /// that are too long or not UTF-8, folders that could not be read, and files past the first 1,024.
     pub fn skipped(&self) -> u64 {
         self.skipped
@@ -90,7 +90,7 @@ impl Index {
         self.names[place].as_str()
     }
 
-    /// What a file was like when it was looked at last.
+    /// The last seen stamp of a file.
     pub fn stamp(&self, place: usize) -> Stamp
         requires { place < length self.now.names }
         ensures { slice_get self.now.lengths place ≡ Some result.length }
@@ -105,7 +105,7 @@ impl Index {
         self.names == other.names && self.stamps == other.stamps
     }
 
-    /// How many bytes the files have together.
+    /// The total length of the files in bytes.
     pub fn total(&self) -> u64 {
         let mut total = 0u64;
         for stamp in &self.stamps {
@@ -114,7 +114,7 @@ impl Index {
         total
     }
 
-    /// Whether no file changed from a time on, in seconds and nanoseconds since 1970.
+    /// Whether no file changed since a time, in seconds and nanoseconds since 1970.
     pub fn is_older_than(&self, time: (i64, i64)) -> bool {
         self.stamps.iter().all(|stamp| stamp.changed() < time)
     }
@@ -135,7 +135,7 @@ impl Index {
         Ok(())
     }
 
-    // Whether a file of this name may stand behind the others.
+    // Whether a file of this name may be added after the others.
     fn takes(&self, name: &str) -> bool
         ensures { IsTrue result → MayFollow self.now.names name.now }
     {
@@ -143,7 +143,7 @@ impl Index {
         is_sized && self.names.len() < MAX_FILES && self.is_last(name)
     }
 
-    // Whether a name is behind the others in byte order.
+    // Whether a name is after the others in byte order.
     fn is_last(&self, name: &str) -> bool
         ensures { IsTrue result → All (λ other. Precedes other name.now) self.now.names }
     {
@@ -154,7 +154,7 @@ impl Index {
         matches!(self.name(count - 1).cmp(name), Ordering::Less)
     }
 
-    // Adds a file behind the others.
+    // Adds a file after the others.
     fn add(&mut self, name: String, stamp: Stamp) -> Result<(), AllocError>
         requires { MayFollow self.old.names (string_bytes name) }
     {
@@ -165,8 +165,8 @@ impl Index {
         Ok(())
     }
 
-    /// Opens a file for reading. It fails where the file is not as it was. It is looked at first, since to open a pipe is to
-    /// wait for its other end.
+    /// Opens a file for reading. Fails if the file has changed. Looks at the file first, because opening a pipe waits for its
+    /// other end.
     pub fn open<R: Files>(&self, files: &R, alloc: Global, place: usize) -> io::Result<R::File>
         requires { place < length self.now.names }
     {
@@ -179,7 +179,7 @@ impl Index {
         Ok(file)
     }
 
-    /// Fails where an open file is not as it was.
+    /// Fails if an open file has changed.
     pub fn check<R: Files>(&self, place: usize, file: &R::File) -> io::Result<()>
         requires { place < length self.now.names }
     {

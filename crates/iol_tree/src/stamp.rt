@@ -1,4 +1,4 @@
-//! By what a file is told from the one that it was.
+//! Stamps, by which a change of a file is detected.
 ghost use Rattle.std.specs.Prelude.{◌≡◌, ◌≤◌};
 ghost use Rattle.iol_core.specs.declared.limits.TheConstants.{MAX_FILE_BYTES};
 
@@ -8,7 +8,7 @@ use std::fs::Metadata;
 use std::os::unix::fs::MetadataExt;
 use std::rt::Files;
 
-/// Which file it is, how long it is, when its bytes were written last, and when anything of it changed last.
+/// The identity of a file, its length, and the times of the last write and of the last change.
 #[derive(Clone, Copy, Debug, PartialEq, Eq)]
 pub struct Stamp {
     device: u64,
@@ -35,7 +35,7 @@ impl Stamp {
         })
     }
 
-    /// How many bytes the file has.
+    /// The length of the file in bytes.
     pub fn length(&self) -> u32
         ensures length { result ≡ self.now.length }
         ensures short { result ≤ MAX_FILE_BYTES }
@@ -51,7 +51,7 @@ impl Stamp {
     }
 }
 
-/// The stamp of what a path names, if it is a regular file of at most 2^24 bytes. A link is none, whatever it leads to.
+/// The stamp of the file at a path, if it is a regular file of at most 2^24 bytes. A link is not, whatever it leads to.
 pub fn stamp_at<R: Files>(files: &R, path: &str) -> Option<Stamp> {
     let found = fs::symlink_metadata(files, path).ok()?;
     Stamp::of(&found)

@@ -5,14 +5,14 @@ use std::io::ErrorKind;
 use std::rt::Files;
 use std::{fs, io};
 
-/// What was found below a folder so far.
+/// The names found below a folder so far.
 #[derive(Drop)]
 pub struct Walk {
     /// The names of regular files: their paths below the folder.
     pub names: Vec<String>,
 
-    /// How many entries are neither regular files nor folders, or have no name of at most 255 bytes in UTF-8, or could not be
-    /// read.
+    /// The number of entries that are neither regular files nor folders, or have no name of at most 255 bytes in UTF-8, or
+    /// could not be read.
     pub skipped: u64,
 
     // The folders that are still to be read.
@@ -32,7 +32,7 @@ impl Walk {
         self.skipped = self.skipped.saturating_add(1);
     }
 
-    // Reads a folder: its files and folders are added to what was found.
+    // Reads a folder, and adds its files and folders.
     fn read<R>(&mut self, rt: &R, root: &str, folder: &str) -> io::Result<()>
     where
         R: Files + AllocGlobal + Clone + Drop,
@@ -51,7 +51,7 @@ impl Walk {
         Ok(())
     }
 
-    // Adds what has this name: a folder, or a regular file. A link is neither, whatever it leads to.
+    // Adds the entry of this name: a folder, or a regular file. A link is neither, whatever it leads to.
     fn add<R: Files + AllocGlobal>(
         &mut self,
         rt: &R,
@@ -72,7 +72,7 @@ impl Walk {
     }
 }
 
-/// A path below another: the other itself, where the path is empty, and the path itself, where the other is.
+/// A path below another: the other itself if the path is empty, and the path itself if the other is empty.
 pub fn join(alloc: Global, above: &str, below: &str) -> Result<String, AllocError> {
     if above.is_empty() {
         return String::from_str(alloc, below);
@@ -83,8 +83,8 @@ pub fn join(alloc: Global, above: &str, below: &str) -> Result<String, AllocErro
     format!(in alloc; "{above}/{below}")
 }
 
-/// Walks the folder and the folders below it. One below it that cannot be read is skipped; the error is that of the folder
-/// itself, or of the kind `OutOfMemory`.
+/// Walks the folder and the folders below it. A folder below it that cannot be read is skipped. The error is that of the
+/// folder itself, or has the kind `OutOfMemory`.
 pub fn walk_below<R>(rt: &R, root: &str) -> io::Result<Walk>
 where
     R: Files + AllocGlobal + Clone + Drop,

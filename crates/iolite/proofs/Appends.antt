@@ -1,4 +1,4 @@
--- What is written goes on.
+-- Output continues.
 use Rattle.std.proofs.Common.{◌∙◌, ◌≤◌, ◌+◌, ℕ, List, [], ◌++◌, Option, length, take, drop, sym, ap, subst, append_assoc, arith, length-drop}
 use Rattle.std.specs.declared.option.Option.TheVariants.{Some, None}
 use Rattle.std.proofs.lemmas.List.{append-nil, take-append-drop, take_all}

@@ -1,4 +1,4 @@
--- What a line says by its first word is what stands under that name alone.
+-- The meaning of a line by its first word is that of this name only.
 use Rattle.std.proofs.Common.{◌≡◌, inl, inr, false, true, ℕ, List, bytes_eq, codes, ap, sym, ◌∙◌}
 use Rattle.std.proofs.lemmas.Bool.{false≢true}
 use Rattle.iol_core.specs.declared.events.Event.{Event}

@@ -1,4 +1,4 @@
--- What is read of a text that may be of one kind or another.
+-- Parsing a text that may be of one kind or another.
 use Rattle.std.proofs.Common.{◌⊎◌, inl, inr, Option, Ok, Err}
 use Rattle.std.specs.Prelude.{Result}
 use Rattle.std.specs.declared.option.Option.TheVariants.{Some, None}

@@ -1,4 +1,4 @@
--- A line that was read asks for something.
+-- A line that was parsed has an action.
 use Rattle.std.proofs.Common.{◌≡◌, ◌↔◌, inr, refl, sym, subst, true, List, ℕ, Option, IfSome, IsSome}
 use Rattle.std.specs.declared.option.Option.TheVariants.{Some, None}
 use Rattle.iol_core.specs.declared.events.Event.{Event}

@@ -1,4 +1,4 @@
--- The answers to a script's lines go on by one.
+-- The results of a script's lines, extended by one.
 use Rattle.std.proofs.Common.{◌≡◌, ◌∙◌, inl, inr, true, ℕ, List, [], ◌∷◌, ◌++◌, All, Result, Ok, Err, IfErr, OnOk, IfSome, refl, sym, ap, subst, append_assoc, arith}
 use Rattle.std.specs.Io.KnownBytes.{Appends}
 use Rattle.std.specs.declared.option.Option.{Option}

@@ -1,4 +1,4 @@
--- What a script's lines say goes on by one.
+-- The meaning of a script's lines, extended by one.
 use Rattle.std.proofs.Common.{◌≡◌, ◌≢◌, ◌∙◌, ◌⊎◌, inl, inr, false, true, ℕ, ◌+◌, ◌<◌, Bool, cond, not, ◌&&◌, List, [], ◌∷◌, ◌++◌, All, length, take, drop, get_or, map, refl, sym, ap, subst, append_assoc, arith, length-append}
 use Rattle.std.specs.Borrow.{Bor}
 use Rattle.std.specs.List.{enumerate_from, filter}

@@ -1,4 +1,4 @@
--- The calls of a script's lines: by which name each goes, and what stands behind it.
+-- The calls in a script's lines: their names and arguments.
 use Rattle.std.specs.Prelude.{◌≡◌, ◌≤◌, ◌*◌, ℕ, List, [], ◌∷◌, ◌⊎◌, All, Option, Some, None, length, map, cond, codes, bytes_eq, ◌==◌, ⊤}
 use Rattle.std.specs.List.{repeat, slice_split}
 use Rattle.iol_core.specs.declared.descriptors.Mode.{Mode}
@@ -21,13 +21,13 @@ use Rattle.iolite.specs.declared.names.PartCall.TheVariants.{AggSplit, AggGive}
 use Rattle.iolite.specs.declared.words.TheConstants.{MAX_REPEATED_BYTES}
 use Rattle.iolite.specs.Words.{IsLong, IsShort, rest_of, value, word}
 
--- how a file is to be open
+-- the access mode of a file
 abbrev pub mode_word : Mode → List ℕ
 mode_word mode.Read = codes "read"
 mode_word mode.Write = codes "write"
 mode_word mode.Both = codes "both"
 
--- the numbers of domains, joined by commas
+-- a list of domain numbers, separated by commas
 abbrev pub parts_of : List ℕ → List (List ℕ)
 parts_of w = slice_split (λ b. b == 44) w
 
@@ -37,7 +37,7 @@ AreDomains w = All IsShort (parts_of w)
 abbrev pub domains_of : List ℕ → List ℕ
 domains_of w = map value (parts_of w)
 
--- the call of each name, with the numbers behind it
+-- the call of each name, with its numbers
 abbrev pub of_number : NumberCall → ℕ → Call
 of_number PoolClose n = call.PoolClose n
 of_number SetPool n = call.SetPool n
@@ -61,7 +61,7 @@ abbrev pub of_part : PartCall → ℕ → ℕ → Call
 of_part AggSplit agg at = call.AggSplit agg at
 of_part AggGive agg domain = call.AggGive agg domain
 
--- all names, as they stand in a line
+-- all names, as they are written in a line
 abbrev pub names : List (List ℕ × CallName)
 names =
     (codes "pool_close", name.Number PoolClose)
@@ -91,7 +91,7 @@ names =
     ∷ (codes "open_file", name.OpenFile)
     ∷ []
 
--- the name that a word is: the first that stands as the word
+-- the call name of a word: the first whose text equals it
 abbrev pub named_in : List (List ℕ × CallName) → List ℕ → Option CallName
 named_in [] w = None
 named_in (x ∷ xs) w = cond (bytes_eq w x.0) (Some x.1) (named_in xs w)
@@ -99,7 +99,7 @@ named_in (x ∷ xs) w = cond (bytes_eq w x.0) (Some x.1) (named_in xs w)
 abbrev pub named : List ℕ → Option CallName
 named w = named_in names w
 
--- The call that a name and what stands behind it ask for. An aggregate has a long number, everything else a short one.
+-- The call of a name and its arguments. An aggregate's number has 64 bits, all others 32.
 abbrev pub IsCalled : CallName → (rest : List ℕ) → Call → Type 0
 IsCalled (name.Number n) rest c = IsShort rest × (c ≡ of_number n (value rest))
 IsCalled (name.Aggregate n) rest c = IsLong rest × (c ≡ of_aggregate n (value rest))
@@ -131,7 +131,7 @@ IsCalled name.Write rest c = IsShort (word rest) × (c ≡ call.Write (value (wo
 IsCalled name.FileNew rest c = IsShort (rest_of rest) × (c ≡ call.FileNew (decoded (word rest)) (value (rest_of rest)))
 IsCalled name.OpenFile rest c = (m : Mode) × (rest_of rest ≡ mode_word m) × (c ≡ call.OpenFile (decoded (word rest)) m)
 
--- a call whose name stands alone
+-- a call without arguments
 abbrev pub IsBare : List ℕ → Call → Type 0
 IsBare text c =
     ((text ≡ codes "domain_new") × (c ≡ call.DomainNew))
@@ -139,15 +139,15 @@ IsBare text c =
     ⊎ (((text ≡ codes "pipe") × (c ≡ call.Pipe))
     ⊎ ((text ≡ codes "accept") × (c ≡ call.Accept))))
 
--- a call whose name has something behind it
+-- a call with arguments
 abbrev pub IsNamed : List ℕ → Call → Type 0
 IsNamed text c = (n : CallName) × (named (word text) ≡ Some n) × IsCalled n (rest_of text) c
 
--- the call that a text asks for
+-- the call that a text represents
 abbrev pub IsCall : List ℕ → Call → Type 0
 IsCall text c = IsBare text c ⊎ IsNamed text c
 
--- the call of a line whose texts are still to be decoded
+-- the call of a parsed line whose texts are still encoded
 abbrev pub call_of : CallLine → Call
 call_of (line.Whole c) = c
 call_of (line.PoolCreate chunks domains) = call.PoolCreate chunks (domains_of domains.now)
@@ -157,7 +157,7 @@ call_of (line.Write fd text) = call.Write fd (decoded text.now)
 call_of (line.FileNew file pool) = call.FileNew (decoded file.now) pool
 call_of (line.OpenFile file m) = call.OpenFile (decoded file.now) m
 
--- what a line's texts have to be, so that they can be decoded
+-- the condition under which a line's texts can be decoded
 abbrev pub CanBeMade : CallLine → Type 0
 CanBeMade (line.PoolCreate chunks domains) = AreDomains domains.now
 CanBeMade other = ⊤

@@ -1,4 +1,4 @@
--- The words of a command, those behind the program's name.
+-- The words of a command, those after the program's name.
 use Rattle.std.specs.Prelude.{◌≡◌, ◌⊎◌, ◌<◌, ◌≤◌, ◌^◌, ℕ, List, [], ◌∷◌, codes, length}
 use Rattle.std.specs.Str.Parse.{IsNumeral}
 use Rattle.iolite.specs.Words.{IsShort, value}
@@ -6,18 +6,18 @@ use Rattle.iolite.specs.declared.commands.Command.{Command}
 use Rattle.iolite.specs.declared.commands.Command.TheVariants.{Replay, Serve, Loop}
 use Rattle.iolite.specs.declared.commands.TheConstants.{MAX_COUNT, MAX_PATH_BYTES}
 
--- a port, in decimal digits alone
+-- a port, in decimal digits only
 pub record IsPort (w : List ℕ) : Type 0 where
   pub numeral : IsNumeral 10 w
   pub fits : value w < 2 ^ 16
 
--- how many connections are served, in decimal digits alone
+-- the number of connections, in decimal digits only
 pub record IsCount (w : List ℕ) : Type 0 where
   pub number : IsShort w
   pub some : 1 ≤ value w
   pub most : value w ≤ MAX_COUNT
 
--- what a command is given
+-- the arguments of a command
 abbrev pub IsGivenNothing : Command → Type 0
 IsGivenNothing Replay = Unit {0}
 IsGivenNothing c = ⊥
@@ -48,7 +48,7 @@ pub record IsLoop (name root path : List ℕ) (c : Command) : Type 0 where
   pub short : length path ≤ MAX_PATH_BYTES
   pub given : LoopsWith root path c
 
--- the command that these words are
+-- the command of these words
 abbrev pub IsCommand : (words : List (List ℕ)) → Command → Type 0
 IsCommand (name ∷ []) c = IsReplay name c
 IsCommand (name ∷ root ∷ path ∷ []) c = IsLoop name root path c
@@ -58,6 +58,7 @@ IsCommand words c = ⊥
 abbrev pub IsNoCommand : (words : List (List ℕ)) → Type 0
 IsNoCommand words = (c : Command) → ¬ (IsCommand words c)
 
--- Words that may be found bad: they are no command, or the script that they ask for is read, and may be.
+-- Words for which the status may be that of an invalid command or script: they are no command, or `replay`, whose script may be
+-- invalid.
 abbrev pub MayBeBad : (words : List (List ℕ)) → Type 0
 MayBeBad words = IsNoCommand words ⊎ IsCommand words Replay

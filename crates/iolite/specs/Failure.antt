@@ -1,4 +1,4 @@
--- How a program that ends early ends.
+-- The end of a program that ends early.
 use Rattle.std.specs.Fmt.{decimal}
 use Rattle.std.specs.Prelude.{◌≤◌, ℕ, List, [], ◌∷◌, ◌++◌, codes, ⊤}
 use Rattle.iolite.specs.declared.failure.Failure.{Failure}
@@ -12,7 +12,7 @@ status_of Input = 3
 status_of Output = 3
 status_of Memory = 3
 
--- what it prints as
+-- its printed text
 abbrev pub failure_text : Failure → List ℕ
 failure_text BadScript = codes "bad script"
 failure_text (BadLine number) = codes "line " ++ decimal number ++ codes ": not a command"
@@ -20,7 +20,7 @@ failure_text Input = codes "fault: input"
 failure_text Output = codes "fault: output"
 failure_text Memory = codes "fault: memory"
 
--- the line that it is told as
+-- the line that reports it
 abbrev pub failure_line : Failure → List ℕ
 failure_line failure = failure_text failure ++ 10 ∷ []
 
@@ -32,7 +32,7 @@ IsBadLine Input = ⊥
 IsBadLine Output = ⊥
 IsBadLine Memory = ⊥
 
--- what can end the reading of the input
+-- the failures of reading the input
 abbrev pub IsOfInput : Failure → Type 0
 IsOfInput BadScript = ⊤
 IsOfInput (BadLine number) = ⊥
@@ -40,7 +40,7 @@ IsOfInput Input = ⊤
 IsOfInput Output = ⊥
 IsOfInput Memory = ⊤
 
--- what can end the judging of a script's lines, which are counted from 1
+-- the failures of checking a script's lines, which are counted from 1
 abbrev pub IsOfLines : Failure → Type 0
 IsOfLines BadScript = ⊥
 IsOfLines (BadLine number) = 1 ≤ number
@@ -48,7 +48,7 @@ IsOfLines Input = ⊥
 IsOfLines Output = ⊥
 IsOfLines Memory = ⊤
 
--- what can end the answering of lines that were judged
+-- the failures of executing checked lines
 abbrev pub IsOfAnswers : Failure → Type 0
 IsOfAnswers BadScript = ⊥
 IsOfAnswers (BadLine number) = ⊥

@@ -1,4 +1,4 @@
--- The lines of a script that have something happen: a call of a domain, or what happens outside, on the network.
+-- The events in the lines of a script: a call of a domain, or an external event of the network.
 use Rattle.std.specs.Prelude.{◌≡◌, ◌⊎◌, ℕ, List, codes, ⊤}
 use Rattle.iol_core.specs.declared.descriptors.How.{How}
 use Rattle.iol_core.specs.declared.descriptors.How.TheVariants.{Done, Gone}
@@ -16,7 +16,7 @@ abbrev pub how_word : How → List ℕ
 how_word Done = codes "done"
 how_word Gone = codes "gone"
 
--- what each name says, with what stands behind it
+-- each name, with its arguments
 abbrev pub IsConnNew : (rest : List ℕ) → Event → Type 0
 IsConnNew rest e = IsShort rest × (e ≡ event.ConnNew (value rest))
 
@@ -30,7 +30,7 @@ IsPeerClosed rest e = IsShort (word rest)
 abbrev pub IsTransmit : (rest : List ℕ) → Event → Type 0
 IsTransmit rest e = IsShort (word rest) × IsShort (rest_of rest) × (e ≡ event.Transmit (value (word rest)) (value (rest_of rest)))
 
--- what happens outside under a name
+-- the external event of a name
 abbrev pub Happens : (name rest : List ℕ) → Event → Type 0
 Happens name rest e =
     ((name ≡ codes "conn_new") × IsConnNew rest e)
@@ -38,14 +38,14 @@ Happens name rest e =
     ⊎ (((name ≡ codes "peer_closed") × IsPeerClosed rest e)
     ⊎ ((name ≡ codes "transmit") × IsTransmit rest e)))
 
--- a call of the domain that the first word numbers
+-- a call of the domain with the number of the first word
 abbrev pub IsCallOf : (first rest : List ℕ) → Event → Type 0
 IsCallOf first rest e = IsShort first × ((c : Call) × IsCall rest c × (e ≡ event.Call (value first) c))
 
 abbrev pub IsEvent : (first rest : List ℕ) → Event → Type 0
 IsEvent first rest e = IsCallOf first rest e ⊎ Happens first rest e
 
--- the event of a line whose texts are still to be decoded
+-- the event of a parsed line whose texts are still encoded
 abbrev pub event_of : EventLine → Event
 event_of (line.Whole e) = e
 event_of (line.Arrive c text) = event.Arrive c (decoded text.now)

@@ -1,4 +1,4 @@
--- The texts that replies and reports are printed as. Each stands on lines of its own.
+-- The printed texts of replies and reports, each on lines of its own.
 use Rattle.std.specs.Prelude.{ℕ, ◌/◌, ◌%◌, false, List, [], ◌∷◌, ◌++◌, codes}
 use Rattle.std.specs.List.{flat_map}
 use Rattle.std.specs.Fmt.{decimal, digits}
@@ -17,7 +17,7 @@ use Rattle.iolite.specs.declared.replay.Answer.TheVariants as answer
 abbrev pub hexadecimal : ℕ → List ℕ
 hexadecimal n = digits 16 false n
 
--- bytes at the end of a line, after a space, percent-encoded; nothing for none
+-- bytes at the end of a line, after a space, percent-encoded; empty for no bytes
 abbrev pub bytes_text : List ℕ → List ℕ
 bytes_text [] = []
 bytes_text (b ∷ bs) = codes " " ++ percent_encode ESCAPED (b ∷ bs)
@@ -26,7 +26,7 @@ bytes_text (b ∷ bs) = codes " " ++ percent_encode ESCAPED (b ∷ bs)
 abbrev pub four_digits : ℕ → List ℕ
 four_digits n = hexadecimal (n / 4096) ++ hexadecimal (n / 256 % 16) ++ hexadecimal (n / 16 % 16) ++ hexadecimal (n % 16)
 
--- its name, and the pool or the file that it names
+-- its name, and the number of the pool or file
 abbrev pub refusal_text : Refusal → List ℕ
 refusal_text (Denied p) = codes "Denied pool " ++ decimal p
 refusal_text (PoolClosed p) = codes "PoolClosed pool " ++ decimal p
@@ -53,12 +53,12 @@ reply_text (reply.Refused x) = codes "refused " ++ refusal_text x
 abbrev pub newline : List ℕ
 newline = 10 ∷ []
 
--- a line for each pool
+-- one line for each pool
 abbrev pub pool_line : PoolReport → List ℕ
 pool_line p = codes "pool " ++ decimal p.pool ++ codes " pages " ++ decimal p.pages
     ++ codes " free " ++ decimal p.free ++ codes " retired " ++ decimal p.retired ++ newline
 
--- and a last one
+-- and a last line
 abbrev pub report_text : Report → List ℕ
 report_text r = flat_map pool_line r.pools.items
     ++ codes "extents " ++ decimal r.extents ++ codes " dirty " ++ decimal r.dirty ++ codes " buffers " ++ decimal r.buffers
@@ -67,6 +67,6 @@ abbrev pub answer_text : Answer → List ℕ
 answer_text (answer.Reply r) = reply_text r
 answer_text (answer.Report r) = report_text r
 
--- what is printed of answers: the text of each, in order, with the end of a line after it
+-- the printed text of results: the text of each, in order, followed by a line feed
 abbrev pub lines_of : List Answer → List ℕ
 lines_of answers = flat_map (λ a. answer_text a ++ newline) answers

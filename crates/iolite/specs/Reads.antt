@@ -1,11 +1,11 @@
--- What is read of a text: something of which P holds, or nothing, just where P holds of nothing.
+-- The result of parsing: a value with property P, or none, exactly if no value has property P.
 use Rattle.std.specs.Prelude.{◌≡◌, Option, None, IfSome}
 
 pub record Reads {A : Type 0} (P : A → Type 0) (r : Option A) : Type 0 where
   pub some : IfSome r P
   pub none : r ≡ None → (x : A) → ¬ (P x)
 
--- The same where what is read has its texts as they stand, of which something can be made. P holds of what it means.
+-- The same for a parsed value whose texts are still encoded, and which can be decoded. P is a property of its meaning.
 pub record ReadsAs {A B : Type 0} (P : B → Type 0) (meant : A → B) (Can : A → Type 0) (r : Option A) : Type 0 where
   pub some : IfSome r (λ x. P (meant x))
   pub can : IfSome r Can

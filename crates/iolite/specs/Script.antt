@@ -1,4 +1,4 @@
--- Scripts: what is read as one, what its lines ask for, and which lines are none.
+-- Scripts: valid scripts, the actions of their lines, and invalid ones.
 use Rattle.std.specs.Prelude.{◌≡◌, ◌≢◌, ◌⊎◌, ◌<◌, ◌≤◌, ◌==◌, ℕ, Bool, true, false, not, ◌&&◌, List, [], ◌∷◌, ◌++◌, All, length, codes, IsUtf8, ⊤}
 use Rattle.std.specs.List.{filter, slice_split}
 use Rattle.iol_core.specs.declared.events.Event.{Event}
@@ -13,11 +13,11 @@ use Rattle.iolite.specs.Setup.{IsDefault, SetsUp, SetUp, is_header}
 use Rattle.iolite.specs.declared.setup.Setup.{Setup}
 use Rattle.iolite.specs.Words.{word, rest_of}
 
--- at most as long as a script may be, and UTF-8
+-- within the limit of a script, and UTF-8
 abbrev pub IsScriptText : List ℕ → Type 0
 IsScriptText bytes = (length bytes ≤ MAX_SCRIPT_BYTES) × IsUtf8 bytes
 
--- the bytes read are all that were given, or there are more than a script may have
+-- the bytes read are all bytes of the input, or exceed the limit of a script
 abbrev pub IsWholeOrTooLong : (read given : List ℕ) → Type 0
 IsWholeOrTooLong read given = (read ≡ given) ⊎ ((MAX_SCRIPT_BYTES < length read) × (MAX_SCRIPT_BYTES < length given))
 
@@ -25,20 +25,20 @@ IsWholeOrTooLong read given = (read ≡ given) ⊎ ((MAX_SCRIPT_BYTES < length r
 abbrev pub lines : List ℕ → List (List ℕ)
 lines text = slice_split (λ b. b == 10) text
 
--- an empty line or a comment, which is passed over
+-- an empty line or a comment, which is ignored
 abbrev pub is_blank : List ℕ → Bool
 is_blank [] = true
 is_blank (c ∷ rest) = c == 35
 
--- all others
+-- all other lines
 abbrev pub without_blank : List (List ℕ) → List (List ℕ)
 without_blank ls = filter (λ l. not (is_blank l)) ls
 
--- the lines of a script that say something
+-- the lines of a script that have a meaning
 abbrev pub commands : List ℕ → List (List ℕ)
 commands text = without_blank (lines text)
 
--- those of them that set nothing up
+-- those of them that are no headers
 abbrev pub asking : List (List ℕ) → List (List ℕ)
 asking ls = filter (λ l. not (is_header (word l))) ls
 
@@ -46,22 +46,22 @@ asking ls = filter (λ l. not (is_header (word l))) ls
 abbrev pub is_asking : List ℕ → Bool
 is_asking l = not (is_blank l) && not (is_header (word l))
 
--- a line of one word: a report, or what is done to all files
+-- a line of one word: a report, or an event of all files
 abbrev pub AsksAlone : List ℕ → Line → Type 0
 AsksAlone l x =
     ((l ≡ codes "report") × (x ≡ line.Report))
     ⊎ (((l ≡ codes "flush") × (x ≡ line.Event event.Flush))
     ⊎ ((l ≡ codes "drop_clean") × (x ≡ line.Event event.DropClean)))
 
--- a line with a call of the domain that it begins with, or with what happens outside
+-- a line with a call of the domain with which it begins, or with an external event
 abbrev pub AsksEvent : List ℕ → Line → Type 0
 AsksEvent l x = (e : Event) × IsEvent (word l) (rest_of l) e × (x ≡ line.Event e)
 
--- what a line asks for
+-- the action of a line
 abbrev pub Asks : List ℕ → Line → Type 0
 Asks l x = AsksAlone l x ⊎ AsksEvent l x
 
--- the same of a line whose texts are still to be decoded
+-- the action of a parsed line whose texts are still encoded
 abbrev pub line_of : Asked → Line
 line_of (asked.Event e) = line.Event (event_of e)
 line_of asked.Report = line.Report
@@ -79,7 +79,7 @@ AskInOrder (l ∷ ls) (x ∷ xs) = Asks l x × AskInOrder ls xs
 AskInOrder [] (x ∷ xs) = ⊥
 AskInOrder (l ∷ ls) [] = ⊥
 
--- The lines say this: the first of them set up the system, and then each asks for something. No line is left out.
+-- The meaning of the lines: the first of them are headers, and then each has an action. No line is left out.
 pub record Says (ls : List (List ℕ)) (setup : Setup) (asked : List Line) : Type 0 where
   pub headers : List (List ℕ)
   pub all : ls ≡ headers ++ asking ls
@@ -88,7 +88,7 @@ pub record Says (ls : List (List ℕ)) (setup : Setup) (asked : List Line) : Typ
   pub set_up : SetUp headers start setup
   pub asks : AskInOrder (asking ls) asked
 
--- The same where what the lines ask for is left open: all of them are commands.
+-- The same without the actions: all lines are commands.
 pub record IsJudged (ls : List (List ℕ)) (setup : Setup) : Type 0 where
   pub headers : List (List ℕ)
   pub all : ls ≡ headers ++ asking ls
@@ -97,20 +97,20 @@ pub record IsJudged (ls : List (List ℕ)) (setup : Setup) : Type 0 where
   pub set_up : SetUp headers start setup
   pub ask : All AsksSomething (asking ls)
 
--- After lines that set this up a line is no command: it asks for nothing, or it would set up and is late, after one that asked
--- for something, or it would set up what cannot be.
+-- After lines with this setup, a line is no command: it has no action, and it is no header, or a header after an action, or an
+-- invalid header.
 abbrev pub IsBadAfter : Setup → (late : Type 0) → List ℕ → Type 0
 IsBadAfter setup late l =
     ((is_header (word l) ≡ false) × ((x : Line) → ¬ (Asks l x)))
     ⊎ ((is_header (word l) ≡ true) × (late ⊎ ((new : Setup) → ¬ (SetsUp (word l) (rest_of l) setup new))))
 
--- a line is judged so: it asks for something, or sets up before that
+-- the check of one line: it has an action, or is a header before any action
 abbrev pub Judges : (old : Setup) (has_asked : Bool) → List ℕ → (new : Setup) (more : Bool) → Type 0
 Judges old has_asked l new more =
     ((is_header (word l) ≡ false) × AsksSomething l × (new ≡ old) × (more ≡ true))
     ⊎ ((is_header (word l) ≡ true) × SetsUp (word l) (rest_of l) old new × (has_asked ≡ false) × (more ≡ false))
 
--- The lines have one that is no command, after lines that are.
+-- The lines include one that is no command, after lines that are.
 pub record HasBadLine (ls : List (List ℕ)) : Type 0 where
   pub before : List (List ℕ)
   pub line : List ℕ
@@ -120,6 +120,6 @@ pub record HasBadLine (ls : List (List ℕ)) : Type 0 where
   pub judged : IsJudged before setup
   pub bad : IsBadAfter setup (asking before ≢ []) line
 
--- what was given is no script: too long, not UTF-8, or with a line that is no command
+-- the input is no script: too long, not UTF-8, or with a line that is no command
 abbrev pub IsBadScript : List ℕ → Type 0
 IsBadScript given = ¬ (IsScriptText given) ⊎ HasBadLine (commands given)

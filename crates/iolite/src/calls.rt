@@ -1,4 +1,4 @@
-//! The calls of a script's lines.
+//! The calls in the lines of a script.
 ghost use Rattle.std.specs.Prelude.{◌≡◌, IfOk};
 ghost use Rattle.iolite.specs.declared.names.CallName.TheVariants as name;
 ghost use Rattle.iolite.specs.Calls.{CanBeMade, IsBare, IsCall, IsCalled, IsNamed, call_of};
@@ -14,7 +14,7 @@ use iol_core::events::Call;
 use iol_core::numbers::{AggId, Fd, PoolId};
 use std::alloc::{AllocError, Global};
 
-/// A call as a line has it, its texts as they stand there.
+/// A call as parsed from a line, with its texts still encoded.
 #[derive(Drop)]
 pub enum CallLine<'a> {
     /// A call without a text.
@@ -27,7 +27,7 @@ pub enum CallLine<'a> {
     OpenFile { file: &'a str, mode: Mode },
 }
 
-/// Reads a call: its name, and after one space what it is called with. To read one takes no memory.
+/// Parses a call: its name and, after one space, its arguments. Allocates nothing.
 pub fn read_call(text: &str) -> Option<CallLine<'_>>
     ensures { ReadsAs (IsCall text.now) call_of CanBeMade result }
 {
@@ -37,7 +37,7 @@ pub fn read_call(text: &str) -> Option<CallLine<'_>>
     }
 }
 
-/// Reads a call whose name stands alone.
+/// Parses a call without arguments.
 fn read_bare(text: &str) -> Option<Call>
     ensures { Reads (IsBare text.now) result }
 {
@@ -50,7 +50,7 @@ fn read_bare(text: &str) -> Option<Call>
     }
 }
 
-/// Reads a name and what stands behind it.
+/// Parses a name and the arguments after it.
 fn read_named(text: &str) -> Option<CallLine<'_>>
     ensures { ReadsAs (IsNamed text.now) call_of CanBeMade result }
 {
@@ -61,7 +61,7 @@ fn read_named(text: &str) -> Option<CallLine<'_>>
     }
 }
 
-/// Reads what stands behind a name.
+/// Parses the arguments of a call.
 fn read_called(name: CallName, rest: &str) -> Option<CallLine<'_>>
     ensures { ReadsAs (IsCalled name rest.now) call_of CanBeMade result }
 {
@@ -186,7 +186,7 @@ fn read_open_file(rest: &str) -> Option<CallLine<'_>>
 }
 
 impl CallLine<'_> {
-    /// Makes the call, its texts decoded.
+    /// Makes the call, with its texts decoded.
     pub fn make(self, alloc: Global) -> Result<Call, AllocError>
         requires { CanBeMade self }
         ensures { IfOk result (λ call. call ≡ call_of self.entry) }

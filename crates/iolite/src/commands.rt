@@ -1,4 +1,4 @@
-//! What the program's words ask for.
+//! The command line of the program.
 ghost use Rattle.std.specs.Prelude.{◌≡◌, ◌↔◌, IsSome, IfSome, map, string_bytes};
 ghost use Rattle.iolite.specs.Commands.{IsCommand, IsCount, IsLoop, IsPort, IsReplay, IsServe};
 ghost use Rattle.iolite.specs.Reads.{Reads};
@@ -6,13 +6,13 @@ ghost use Rattle.iolite.specs.Words.{value};
 
 use crate::words::parse_u32;
 
-/// The bytes that a path may have.
+/// The maximum number of bytes of a path.
 pub const MAX_PATH_BYTES: usize = 8000;
 
-/// The connections that `serve` may be asked for.
+/// The maximum number of connections of `serve`.
 pub const MAX_COUNT: u32 = 1_000_000;
 
-/// A program, with what it is given.
+/// A command, with its arguments.
 #[derive(Clone, Copy, Debug)]
 pub enum Command<'a> {
     Replay,
@@ -27,7 +27,7 @@ pub enum Command<'a> {
     },
 }
 
-/// The command that the words behind the program's name are, if they are one.
+/// Parses the words after the program's name, if they are a command.
 pub fn read_command(words: &[String]) -> Option<Command<'_>>
     ensures { Reads (IsCommand (map string_bytes words.now)) result }
 {
@@ -75,7 +75,7 @@ fn read_serve<'a>(name: &str, port: &str, root: &'a str, count: &str) -> Option<
     Some(Command::Serve { port, root, count })
 }
 
-/// Reads a port, of decimal digits alone.
+/// Parses a port, of decimal digits only.
 fn parse_port(word: &str) -> Option<u16>
     ensures accepts { IsSome result ↔ IsPort word.now }
     ensures value { IfSome result (λ n. n ≡ value word.now) }
@@ -86,7 +86,7 @@ fn parse_port(word: &str) -> Option<u16>
     word.parse::<u16>().ok()
 }
 
-/// Reads how many connections are to be served, of decimal digits alone.
+/// Parses the number of connections to be served, of decimal digits only.
 fn parse_count(word: &str) -> Option<u32>
     ensures accepts { IsSome result ↔ IsCount word.now }
     ensures value { IfSome result (λ n. n ≡ value word.now) }

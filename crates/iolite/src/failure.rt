@@ -1,4 +1,4 @@
-//! Why a program ends without doing all that it was asked for.
+//! The reasons for which a program ends early.
 ghost use Rattle.std.specs.Prelude.{◌≡◌, ◌⊎◌, IfErr, OnOk};
 ghost use Rattle.std.specs.Io.KnownBytes.{Appends};
 ghost use Rattle.iolite.specs.Failure.{failure_line, status_of};
@@ -6,13 +6,13 @@ ghost use Rattle.iolite.specs.Failure.{failure_line, status_of};
 use std::io::Write;
 use std::{fmt, io};
 
-/// Why a program ends early. It prints as the line that goes to standard error.
+/// The reason for which a program ends early. It prints as a line for standard error.
 #[derive(Clone, Copy, Debug, PartialEq, Eq)]
 pub enum Failure {
     /// The script is too long or not UTF-8.
     BadScript,
 
-    /// This line of the script, counted from 1, is not a command.
+    /// This line of the script, counted from 1, is not a valid command.
     BadLine { number: usize },
 
     /// The input could not be read.
@@ -21,12 +21,12 @@ pub enum Failure {
     /// The output could not be written.
     Output,
 
-    /// The allocator refused to give memory.
+    /// The allocator refused memory.
     Memory,
 }
 
 impl Failure {
-    /// The exit status of a program that ends so.
+    /// The exit status for this failure.
     pub fn status(self) -> u8
         ensures { result ≡ status_of self }
     {
@@ -37,7 +37,8 @@ impl Failure {
     }
 }
 
-/// The exit status of a program that ended so: 0, or that of its failure, which is told in one line where that can be written.
+/// The exit status of a program: 0, or that of its failure. Writes the failure as one line to
+/// `errors`; an error of that write is ignored.
 pub fn status_after<E: Write>(ended: Result<(), Failure>, errors: &mut E) -> u8
     ensures statuses { (result ≡ 0) ⊎ ((result ≡ 2) ⊎ (result ≡ 3)) }
     ensures ok { OnOk ended (result ≡ 0) }
@@ -53,7 +54,7 @@ pub fn status_after<E: Write>(ended: Result<(), Failure>, errors: &mut E) -> u8
     }
 }
 
-// Writes the line that a failure is told as.
+// Writes the line for a failure.
 fn tell<E: Write>(failure: Failure, errors: &mut E) -> io::Result<()>
     ensures { OnOk result (Appends (E.contents errors.old) (E.contents errors.new)
         (failure_line failure)) }

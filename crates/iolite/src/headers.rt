@@ -1,4 +1,4 @@
-//! The lines that stand first in a script: the sizes of its system, and the store under its files.
+//! The header lines of a script: the parameters of its system, and the store under its files.
 ghost use Rattle.std.specs.Prelude.{◌≡◌, ◌↔◌, IsSome, IfSome};
 ghost use Rattle.iolite.specs.Setup.{AreSizes, SetsFault, SetsSizes, SetsUp, StoresBytes, StoresRepeated, Takes, is_header, sizes_of};
 ghost use Rattle.iolite.specs.Words.{word, rest_of};
@@ -14,13 +14,13 @@ use iol_core::limits::MAX_FILES;
 use iol_core::numbers::FileId;
 use std::alloc::{AllocError, Global};
 
-/// Why a line sets nothing up.
+/// The reason for which a header line has no effect.
 #[derive(Clone, Copy, Debug, PartialEq, Eq)]
 pub enum HeaderError {
-    /// The line is not a command, or not one here.
+    /// The line is not a command, or not valid here.
     NotACommand,
 
-    /// The allocator refused to give memory.
+    /// The allocator refused memory.
     Memory,
 }
 
@@ -32,7 +32,7 @@ impl From<AllocError> for HeaderError {
     }
 }
 
-/// Whether a line that begins with this word says something of the system to be set up.
+/// Returns whether a line that begins with this word is a header.
 pub fn is_header(word: &str) -> bool
     ensures { result ≡ is_header word.now }
 {
@@ -40,7 +40,8 @@ pub fn is_header(word: &str) -> bool
 }
 
 impl Setup {
-    /// Takes what a line says, by its first word and what stands behind it. Sizes and a fault may be named once.
+    /// Applies a header, by its first word and its arguments. Parameters and a fault may be given
+    /// once.
     pub fn add(&mut self, alloc: Global, name: &str, rest: &str) -> Result<(), HeaderError>
         ensures { Takes (SetsUp name.now rest.now self.old) self.new result }
     {
@@ -53,7 +54,7 @@ impl Setup {
         }
     }
 
-    // Takes the sizes, where none were given.
+    // Sets the parameters, if none were given.
     fn set_sizes(&mut self, words: &str) -> Result<(), HeaderError>
         ensures { Takes (SetsSizes words.now self.old) self.new result }
     {
@@ -67,7 +68,7 @@ impl Setup {
         Ok(())
     }
 
-    // Takes the number of the call of the store that fails, where none was given.
+    // Sets the number of the store call that fails, unless it was given before.
     fn set_fault(&mut self, word: &str) -> Result<(), HeaderError>
         ensures { Takes (SetsFault word.now self.old) self.new result }
     {
@@ -81,7 +82,7 @@ impl Setup {
         Ok(())
     }
 
-    // Puts a text at the end of a file of the store.
+    // Appends a text to a file of the store.
     fn store_text(&mut self, alloc: Global, rest: &str) -> Result<(), HeaderError>
         ensures { Takes (StoresBytes (word rest.now) (decoded (rest_of rest.now)) self.old) self.new
             result }
@@ -91,7 +92,7 @@ impl Setup {
         self.store(slot, bytes.as_slice())
     }
 
-    // Puts a text at the end of a file of the store, so many times over.
+    // Appends a text to a file of the store, a number of times.
     fn store_repeated(&mut self, alloc: Global, rest: &str) -> Result<(), HeaderError>
         ensures { Takes (StoresRepeated (word rest.now) (word (rest_of rest.now))
             (rest_of (rest_of rest.now)) self.old) self.new result }
@@ -108,7 +109,7 @@ impl Setup {
         self.store(slot, bytes.as_slice())
     }
 
-    // Puts bytes at the end of a file of the store, where there is one of that number and they are not too many.
+    // Appends bytes to a file of the store, if the file exists and stays within its limit.
     fn store(&mut self, slot: &str, bytes: &[u8]) -> Result<(), HeaderError>
         ensures { Takes (StoresBytes slot.now bytes.now self.old) self.new result }
     {
@@ -128,7 +129,7 @@ impl Setup {
     }
 }
 
-// Reads the sizes of a system, three words, which have to be in their ranges.
+// Parses the parameters of a system: three words, each in its range.
 fn parse_sizes(words: &str) -> Option<Config>
     ensures accepts { IsSome result ↔ AreSizes words.now }
     ensures sizes { IfSome result (λ config. config ≡ sizes_of words.now) }

@@ -1,4 +1,4 @@
-//! The lines that replies and reports are printed as. What each prints stands in `specs/PrintedText`.
+//! The printed lines of replies and reports. `specs/PrintedText` defines their texts.
 ghost use Rattle.std.specs.Prelude.{Some};
 ghost use Rattle.iolite.specs.PrintedText.{bytes_text, four_digits, refusal_text, reply_text, report_text};
 
@@ -8,10 +8,11 @@ use iol_kernel::report::Report;
 use percent_encoding::{AsciiSet, CONTROLS, ascii_set, percent_encode};
 use std::fmt;
 
-/// The bytes below 128 that a printed text shows as `%` and two digits. All above are shown so, too.
+/// The bytes below 128 that are printed as `%` and two digits. All bytes from 128 on are printed
+/// so, too.
 const ESCAPED: AsciiSet = ascii_set!(CONTROLS.add(b' ').add(b'%'));
 
-/// A reply, to be printed as one line without its end.
+/// A reply, printed as one line without its line feed.
 #[derive(Clone, Copy)]
 pub struct Printed<'a>(pub &'a Reply);
 
@@ -46,7 +47,7 @@ impl fmt::Display for Printed<'_> {
     }
 }
 
-/// A report, to be printed as a line for each pool and a last one, without its end.
+/// A report, printed as one line for each pool and a last line, without its line feed.
 #[derive(Clone, Copy)]
 pub struct PrintedReport<'a>(pub &'a Report);
 
@@ -63,7 +64,7 @@ impl fmt::Display for PrintedReport<'_> {
     }
 }
 
-/// A text at the end of a line, with the space before it. An empty one prints nothing.
+/// A text at the end of a line, with the space before it. An empty text prints nothing.
 #[derive(Clone, Copy)]
 struct Text<'a>(&'a [u8]);
 
@@ -79,7 +80,7 @@ impl fmt::Display for Text<'_> {
     }
 }
 
-/// A number, to be printed as four hexadecimal digits.
+/// A number, printed as four hexadecimal digits.
 #[derive(Clone, Copy)]
 struct FourDigits(u16);
 
@@ -94,7 +95,8 @@ impl fmt::Display for FourDigits {
     }
 }
 
-/// A refusal: its name, and the pool or the file that it names. The text of its own `Display` has no contract.
+/// A refusal: its name, and the number of the pool or file. The text of its own `Display` has no
+/// contract.
 #[derive(Clone, Copy)]
 struct RefusalText(Refusal);
 

@@ -1,8 +1,9 @@
-//! The programs over an IO-Lite system.
+//! Programs over an IO-Lite system.
 //!
-//! `iolite replay` runs a script, read from standard input, and prints a reply a line. `iolite serve PORT ROOT COUNT` serves the
-//! files of a folder on a port of 127.0.0.1 by HTTP/1.1, to so many connections. `iolite loop ROOT PATH` asks such a server for
-//! a path, over a connection to itself, and prints the answer.
+//! `iolite replay` runs a script from standard input and prints one reply per line. `iolite serve
+//! PORT ROOT COUNT` serves the files of a folder by HTTP/1.1 on a port of 127.0.0.1, to COUNT
+//! connections. `iolite loop ROOT PATH` requests a path from such a server, over a connection to
+//! itself, and prints the response.
 #![tactic(auto)]
 
 ghost use Rattle.std.specs.Prelude.{◌≡◌, ◌⊎◌, map, string_bytes};
@@ -35,10 +36,11 @@ use std::rt::Env;
 
 const USAGE: &str = "usage: iolite replay | serve PORT ROOT COUNT | loop ROOT PATH";
 
-/// The exit status of a program that was given words it does not know.
+/// The exit status for words that are no command.
 const BAD_WORDS: u8 = 2;
 
-/// The words behind the program's name. Those that are not UTF-8 are none. The only fault is want of memory.
+/// The words after the program's name; if one is not UTF-8, there are none. The only error is out
+/// of memory.
 fn words_of<R: Env + AllocGlobal>(rt: &R) -> Result<Vec<String>, AllocError> {
     let mut words = Vec::new(rt.alloc());
     let mut arguments = match env::args(rt) {
@@ -53,7 +55,8 @@ fn words_of<R: Env + AllocGlobal>(rt: &R) -> Result<Vec<String>, AllocError> {
     Ok(words)
 }
 
-/// Runs the program that the words name: its status. Words that are no command are told so, where that can be written.
+/// Runs the command and returns its status. If the words are no command, reports that on standard
+/// error.
 fn run(rt: &HostRuntime, words: &[String]) -> u8
     ensures statuses { (result ≡ 0) ⊎ ((result ≡ 2) ⊎ (result ≡ 3)) }
     ensures bad { result ≡ 2 → MayBeBad (map string_bytes words.now) }
@@ -76,7 +79,7 @@ fn run(rt: &HostRuntime, words: &[String]) -> u8
     }
 }
 
-/// Runs the program that the words name, and ends with its status.
+/// Runs the command, and ends with its status.
 fn main(rt: HostRuntime) -> ExitCode {
     let status = match words_of(&rt) {
         Ok(words) => run(&rt, &words),

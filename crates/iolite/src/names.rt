@@ -1,11 +1,11 @@
-//! The names of calls, by what stands behind them.
+//! The names of calls, by the kind of their arguments.
 ghost use Rattle.std.specs.Prelude.{◌≡◌};
 ghost use Rattle.iolite.specs.Calls.{named, of_aggregate, of_number, of_pair, of_part};
 
 use iol_core::events::Call;
 use iol_core::numbers::{AggId, DomainId, Fd, PoolId};
 
-/// The name of a call that has something behind it.
+/// The name of a call with arguments.
 #[derive(Clone, Copy, Debug, PartialEq, Eq)]
 pub enum CallName {
     Number(NumberCall),
@@ -24,7 +24,7 @@ pub enum CallName {
     OpenFile,
 }
 
-/// A call with one number, of a pool or a descriptor.
+/// A call with one number: of a pool or a descriptor.
 #[derive(Clone, Copy, Debug, PartialEq, Eq)]
 pub enum NumberCall {
     PoolClose,
@@ -42,7 +42,7 @@ pub enum AggregateCall {
     Show,
 }
 
-/// A call with two numbers, the first of a pool or a descriptor.
+/// A call with two numbers, the first that of a pool or a descriptor.
 #[derive(Clone, Copy, Debug, PartialEq, Eq)]
 pub enum PairCall {
     PoolAdmit,
@@ -52,14 +52,14 @@ pub enum PairCall {
     Read,
 }
 
-/// A call on an aggregate, with a number more.
+/// A call on an aggregate, with one more number.
 #[derive(Clone, Copy, Debug, PartialEq, Eq)]
 pub enum PartCall {
     AggSplit,
     AggGive,
 }
 
-/// The name that a word is, if it is one.
+/// The call name of a word, if it is one.
 pub fn find_name(word: &str) -> Option<CallName>
     ensures { result ≡ named word.now }
 {

@@ -1,6 +1,6 @@
-//! How answers are written: their texts are gathered, and written in pieces.
+//! Output of replies: their texts are buffered, and written in pieces.
 //!
-//! They are not gathered in a `BufWriter`, of which no contract says that the writer it gives back is the one that it was given.
+//! A `BufWriter` is not used: no contract states that it returns the writer that it was given.
 ghost use Rattle.std.specs.Prelude.{◌≡◌, ◌++◌, IfErr, OnOk, false, true};
 ghost use Rattle.std.specs.Io.KnownBytes.{Appends, Keeps};
 ghost use Rattle.iolite.specs.Answers.{WritesSome, WritesTo};
@@ -8,10 +8,11 @@ ghost use Rattle.iolite.specs.Answers.{WritesSome, WritesTo};
 use crate::failure::Failure;
 use std::io::{ErrorKind, Write};
 
-/// The bytes of texts that are kept before they are written.
+/// The maximum number of buffered bytes.
 pub const BUFFER_BYTES: usize = 8192;
 
-/// Puts a text behind what is pending. Where both are too long to be kept, or memory is wanting for it, all is written.
+/// Appends a text to the pending bytes. If both are too long to buffer, or memory runs out, writes
+/// all of them.
 pub fn gather<W: Write>(text: &[u8], pending: &mut Vec<u8>, output: &mut W) -> Result<(), Failure>
     ensures some { WritesSome (W.contents output.old) (W.contents output.new)
         (pending.old.items ++ text.now) }
@@ -27,7 +28,7 @@ pub fn gather<W: Write>(text: &[u8], pending: &mut Vec<u8>, output: &mut W) -> R
     write_out(text, output)
 }
 
-/// Puts a text behind what is pending, if both can be kept: whether they can.
+/// Appends a text to the pending bytes if both can be buffered, and returns whether they can.
 fn keep(text: &[u8], pending: &mut Vec<u8>) -> bool
     ensures kept { result ≡ true → pending.new.items ≡ pending.old.items ++ text.now }
     ensures same { result ≡ false → pending.new.items ≡ pending.old.items }
@@ -38,7 +39,7 @@ fn keep(text: &[u8], pending: &mut Vec<u8>) -> bool
     pending.extend_from_slice(text).is_ok()
 }
 
-/// Writes all bytes, the last ones, and has them go out; or a beginning of them where the output fails.
+/// Writes the last bytes and flushes the output. If the output fails, a prefix of them is written.
 pub fn finish<W: Write>(bytes: &[u8], output: &mut W) -> Result<(), Failure>
     ensures some { WritesSome (W.contents output.old) (W.contents output.new) bytes.now }
     ensures all { OnOk result
@@ -49,7 +50,7 @@ pub fn finish<W: Write>(bytes: &[u8], output: &mut W) -> Result<(), Failure>
     flush(output)
 }
 
-/// Writes all bytes, or a beginning of them where the output fails.
+/// Writes all bytes, or a prefix of them if the output fails.
 fn write_out<W: Write>(bytes: &[u8], output: &mut W) -> Result<(), Failure>
     ensures some { WritesSome (W.contents output.old) (W.contents output.new) bytes.now }
     ensures all { OnOk result
@@ -71,7 +72,7 @@ fn write_out<W: Write>(bytes: &[u8], output: &mut W) -> Result<(), Failure>
     Err(Failure::Output)
 }
 
-/// Has all that was written go out.
+/// Flushes the output.
 fn flush<W: Write>(output: &mut W) -> Result<(), Failure>
     ensures bytes { Keeps (W.contents output.old) (W.contents output.new) }
     ensures error { IfErr result (λ failure. failure ≡ Failure.Output) }

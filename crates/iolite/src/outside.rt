@@ -1,4 +1,4 @@
-//! What the lines of a script have happen: a call of a domain, or what happens outside, on the network.
+//! The events in the lines of a script: a call of a domain, or an external event of the network.
 ghost use Rattle.std.specs.Prelude.{◌≡◌, IfOk};
 ghost use Rattle.iolite.specs.Outside.{CanHappen, Happens, IsArrive, IsCallOf, IsConnNew, IsEvent, IsPeerClosed, IsTransmit, event_of, how_word};
 ghost use Rattle.iolite.specs.Reads.{Reads, ReadsAs};
@@ -10,7 +10,7 @@ use iol_core::events::Event;
 use iol_core::numbers::{ConnId, DomainId, PoolId};
 use std::alloc::{AllocError, Global};
 
-/// An event as a line has it, its texts as they stand there.
+/// An event as parsed from a line, with its texts still encoded.
 #[derive(Drop)]
 pub enum EventLine<'a> {
     /// An event without a text.
@@ -19,7 +19,8 @@ pub enum EventLine<'a> {
     Call { by: DomainId, call: CallLine<'a> },
 }
 
-/// Reads a call of the domain of that number, or what happens outside under that name. To read one takes no memory.
+/// Parses a call of the domain of that number, or an external event of that name. Allocates
+/// nothing.
 pub fn read_event<'a>(first: &str, rest: &'a str) -> Option<EventLine<'a>>
     ensures { ReadsAs (IsEvent first.now rest.now) event_of CanHappen result }
 {
@@ -29,7 +30,7 @@ pub fn read_event<'a>(first: &str, rest: &'a str) -> Option<EventLine<'a>>
     }
 }
 
-/// Reads a call of the domain of that number.
+/// Parses a call of the domain of that number.
 fn read_call_of<'a>(first: &str, rest: &'a str) -> Option<EventLine<'a>>
     ensures { ReadsAs (IsCallOf first.now rest.now) event_of CanHappen result }
 {
@@ -40,7 +41,7 @@ fn read_call_of<'a>(first: &str, rest: &'a str) -> Option<EventLine<'a>>
     }
 }
 
-/// Reads what happens outside, by its name and what stands behind it. A text that is not given is empty.
+/// Parses an external event, by its name and its arguments. A missing text is empty.
 fn read_outside<'a>(name: &str, rest: &'a str) -> Option<EventLine<'a>>
     ensures { ReadsAs (Happens name.now rest.now) event_of CanHappen result }
 {
@@ -87,7 +88,7 @@ fn read_transmit(rest: &str) -> Option<Event>
     Some(Event::Transmit { conn, max })
 }
 
-/// Reads how a peer closed its connection.
+/// Parses how a peer closed its connection.
 fn parse_how(word: &str) -> Option<How>
     ensures { Reads (λ how. word.now ≡ how_word how) result }
 {
@@ -99,7 +100,7 @@ fn parse_how(word: &str) -> Option<How>
 }
 
 impl EventLine<'_> {
-    /// Makes the event, its texts decoded.
+    /// Makes the event, with its texts decoded.
     pub fn make(self, alloc: Global) -> Result<Event, AllocError>
         requires { CanHappen self }
         ensures { IfOk result (λ event. event ≡ event_of self.entry) }

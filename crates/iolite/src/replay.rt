@@ -22,22 +22,23 @@ use std::alloc::Global;
 use std::io;
 use std::io::{ErrorKind, Read, Write};
 
-/// The bytes that a script may have.
+/// The maximum number of bytes of a script.
 const MAX_SCRIPT_BYTES: u64 = 0x100_0000;
 
-/// What a line of a script is answered.
+/// The result of a line of a script.
 #[derive(Debug, Drop)]
 pub enum Answer {
     Reply(Reply),
     Report(Report),
 }
 
-/// Runs the script that the input holds, and prints a reply a line, up to the first failure.
+/// Runs the script in the input, and prints one reply per line, up to the first failure.
 ///
-/// The script is read and judged whole before the first event, so a bad one prints nothing. Then each line is read once more,
-/// and answered by the system that the script sets up before the next one is. Answers are printed in pieces of some 8 KiB. Where
-/// the output fails, what was printed is a beginning of them; where a line finds no memory, the answers to all lines before it
-/// are printed first.
+/// The whole script is read and checked before the first event, so an invalid script prints
+/// nothing. Then each line is parsed again and executed on the system that the headers define,
+/// before the next line is parsed. Output is written in pieces of about 8 KiB. If the output
+/// fails, a prefix of the replies is printed. If a line runs out of memory, the replies to all
+/// earlier lines are printed first.
 pub fn replay<R: Read, W: Write>(
     alloc: Global,
     input: &mut R,
@@ -52,7 +53,7 @@ pub fn replay<R: Read, W: Write>(
     }
 }
 
-/// Judges a script, and then answers its lines, one after another.
+/// Checks a script, then executes its lines in order.
 fn replay_text<W: Write>(alloc: Global, text: &str, output: &mut W) -> Result<(), Failure>
     ensures { ReplaysText text.now (W.contents output.old) (W.contents output.new)
         output.old output.new result }
@@ -75,7 +76,7 @@ fn read_text<R: Read>(alloc: Global, input: &mut R) -> Result<String, Failure>
     text_of(bytes)
 }
 
-/// Reads the input to its end, or to one byte past the most that a script may have.
+/// Reads the input to its end, or to one byte more than a script may have.
 fn read_bytes<R: Read>(alloc: Global, input: &mut R) -> Result<Vec<u8>, Failure>
     ensures bytes { IfOk result
         (λ bytes. IfSome (R.remaining input.old) (IsWholeOrTooLong bytes.items)) }
@@ -89,7 +90,7 @@ fn read_bytes<R: Read>(alloc: Global, input: &mut R) -> Result<Vec<u8>, Failure>
     }
 }
 
-/// The text that the bytes of a script write.
+/// The bytes of a script as text.
 fn text_of(bytes: Vec<u8>) -> Result<String, Failure>
     ensures text { IfOk result (λ text. string_bytes text ≡ bytes.items) }
     ensures script { IfOk result (λ text. IsScriptText (string_bytes text)) }
@@ -105,25 +106,25 @@ fn text_of(bytes: Vec<u8>) -> Result<String, Failure>
     }
 }
 
-/// A system over a store in memory, of which one read or write may fail.
+/// A system over a store in memory, in which one read or write may fail.
 type ScriptSystem = System<FaultyBacking<MemoryBacking>>;
 
-// The system that a script sets up.
+// The system that the headers of a script define.
 fn system_of(alloc: Global, setup: Setup) -> Result<ScriptSystem, Failure>
     ensures new { IfOk result (IsNew setup) }
     ensures error { IfErr result (λ failure. failure ≡ Failure.Memory) }
 {
     let config = setup.config.unwrap_or(Config::DEFAULT);
     let store = FaultyBacking::new(MemoryBacking::new(setup.slots), setup.fault.unwrap_or(0));
-    // The sizes are in their ranges, so only memory can be wanting.
+    // The parameters are in their ranges, so the only possible error is out of memory.
     match System::new(alloc, config, store) {
         Ok(system) => Ok(system),
         Err(_) => Err(Failure::Memory),
     }
 }
 
-// Answers each line that asks for something before the next is read, so that memory holds one line's event and one answer at a
-// time. Where a line finds no memory, the answers to those before it are written first.
+// Executes each line before it parses the next, so that memory holds the event of one line and one
+// reply at a time. If a line runs out of memory, the replies to earlier lines are written first.
 fn answer_lines<W: Write>(
     alloc: Global,
     system: &mut ScriptSystem,
@@ -157,8 +158,9 @@ fn answer_lines<W: Write>(
     finish(pending.as_slice(), output)
 }
 
-// Answers one line, and puts the answer's text in place of the one before. The text is made by itself, since one that is broken
-// off for want of memory must not stand behind those that are to be written.
+// Executes one line, and replaces the previous reply's text by that of this reply. The text has a
+// buffer of its own, since a text that is incomplete for lack of memory must not follow those to
+// be written.
 fn answer_line(
     alloc: Global,
     system: &mut ScriptSystem,
@@ -185,7 +187,7 @@ fn answer_line(
     }
 }
 
-// Carries out an event, or makes a report, which changes nothing.
+// Executes an event, or makes a report, which changes nothing.
 fn answer_to(system: &mut ScriptSystem, line: Line) -> Result<Answer, Failure>
     ensures answer { IfOk result (λ answer. IsAnswer system.old line answer system.new) }
     ensures same { OnErr result (system.new ≡ system.old) }
@@ -203,7 +205,7 @@ fn answer_to(system: &mut ScriptSystem, line: Line) -> Result<Answer, Failure>
     }
 }
 
-// Writes the text of an answer, and the end of its last line.
+// Writes the text of a reply, and a line feed.
 fn write_answer<W: Write>(answer: &Answer, output: &mut W) -> io::Result<()>
     ensures { OnOk result (Appends (W.contents output.old) (W.contents output.new)
         (answer_text answer.now ++ newline)) }
@@ -220,7 +222,7 @@ fn write_answer<W: Write>(answer: &Answer, output: &mut W) -> io::Result<()>
     }
 }
 
-// The failure that an error of the input is.
+// The failure for an error of the input.
 fn failure_of(error: &io::Error) -> Failure
     ensures memory { error_kind error.now ≡ ErrorKind.OutOfMemory → result ≡ Failure.Memory }
     ensures otherwise { error_kind error.now ≢ ErrorKind.OutOfMemory → result ≡ Failure.Input }

@@ -1,4 +1,5 @@
-//! Scripts: lines of text that stand for events. A script is judged whole, and then read a line at a time.
+//! Scripts: lines of text that represent events. A whole script is checked, and then parsed one
+//! line at a time.
 ghost use Rattle.std.specs.Prelude.{◌≡◌, ◌↔◌, Err, IfErr, IfOk, OnOk, true};
 ghost use Rattle.iolite.specs.Failure.{IsBadLine, IsOfLines};
 ghost use Rattle.iolite.specs.Reads.{ReadsAs};
@@ -13,25 +14,26 @@ use crate::words::split_word;
 use iol_core::events::Event;
 use std::alloc::{AllocError, Global};
 
-/// What a line asks of a system.
+/// The action of a line.
 #[derive(Debug, Drop)]
 pub enum Line {
-    /// Something that happens to the system.
+    /// An event of the system.
     Event(Event),
 
-    /// A report of what lies in it.
+    /// A report of its resource use.
     Report,
 }
 
-/// What a line asks for, its texts as they stand there.
+/// The action of a line, with its texts still encoded.
 #[derive(Drop)]
 pub enum Asked<'a> {
     Event(EventLine<'a>),
     Report,
 }
 
-/// Judges a script whole, and keeps of it what it sets up. No text is decoded but those that it stores. It fails at the
-/// first line that is not a command, or for want of memory.
+/// Checks a whole script, and returns the setup that its headers define. Decodes only the texts
+/// that the headers store. It fails at the first line that is not a command, or if memory runs
+/// out.
 pub fn judge(alloc: Global, text: &str) -> Result<Setup, Failure>
     ensures judged { IfOk result (IsJudged (commands text.now)) }
     ensures bad { IfErr result (λ failure. IsBadLine failure → HasBadLine (commands text.now)) }
@@ -56,7 +58,7 @@ pub fn judge(alloc: Global, text: &str) -> Result<Setup, Failure>
     Ok(judged.setup)
 }
 
-/// What the lines of a script so far set up, and whether any has asked for something.
+/// The setup defined by the lines so far, and whether any of them has an action.
 #[derive(Drop)]
 struct Judged {
     setup: Setup,
@@ -64,7 +66,7 @@ struct Judged {
 }
 
 impl Judged {
-    /// Judges one line more. What sets the system up stands before all that is asked for.
+    /// Checks one more line. Headers come before all actions.
     fn add_line(&mut self, alloc: Global, line: &str) -> Result<(), HeaderError>
         ensures judges { OnOk result (Judges self.old.setup self.old.has_asked line.now
             self.new.setup self.new.has_asked) }
@@ -86,7 +88,7 @@ impl Judged {
     }
 }
 
-/// Whether a line asks for something.
+/// Returns whether a line has an action.
 fn asks_something(line: &str) -> bool
     ensures { result ≡ true ↔ AsksSomething line.now }
 {
@@ -94,7 +96,7 @@ fn asks_something(line: &str) -> bool
     asked.is_some()
 }
 
-/// Whether a line asks for something, if it is a command: whether it is neither blank nor sets up.
+/// Returns whether a line has an action, for a valid command: it is neither blank nor a header.
 pub fn is_asking(line: &str) -> bool
     ensures { result ≡ is_asking line.now }
 {
@@ -105,14 +107,14 @@ pub fn is_asking(line: &str) -> bool
     !is_header(first)
 }
 
-/// Whether a line says nothing: an empty one, or a comment.
+/// Returns whether a line has no meaning: it is empty or a comment.
 fn is_blank(line: &str) -> bool
     ensures { result ≡ is_blank line.now }
 {
     matches!(line.as_bytes().first(), None | Some(b'#'))
 }
 
-/// Reads what a line asks for. To read it takes no memory.
+/// Parses the action of a line. Allocates nothing.
 pub fn read_line(line: &str) -> Option<Asked<'_>>
     ensures { ReadsAs (Asks line.now) line_of CanAsk result }
 {
@@ -122,7 +124,7 @@ pub fn read_line(line: &str) -> Option<Asked<'_>>
     }
 }
 
-/// Reads a line that is one word.
+/// Parses a line of one word.
 fn read_alone(line: &str) -> Option<Asked<'_>>
     ensures { ReadsAs (AsksAlone line.now) line_of CanAsk result }
 {
@@ -134,7 +136,7 @@ fn read_alone(line: &str) -> Option<Asked<'_>>
     }
 }
 
-/// Reads a line that has a call, or what happens outside.
+/// Parses a line with a call or an external event.
 fn read_event_line(line: &str) -> Option<Asked<'_>>
     ensures { ReadsAs (AsksEvent line.now) line_of CanAsk result }
 {
@@ -146,7 +148,7 @@ fn read_event_line(line: &str) -> Option<Asked<'_>>
 }
 
 impl Asked<'_> {
-    /// Makes what is asked for, its texts decoded.
+    /// Makes the action, with its texts decoded.
     pub fn make(self, alloc: Global) -> Result<Line, AllocError>
         requires { CanAsk self }
         ensures { IfOk result (λ line. line ≡ line_of self.entry) }

@@ -1,4 +1,4 @@
-//! The system that a script runs on.
+//! The system on which a script runs.
 ghost use Rattle.std.specs.Option.{ForSome};
 ghost use Rattle.std.specs.Prelude.{◌≡◌, [], None};
 ghost use Rattle.iol_core.specs.Prelude.{IsInRange};
@@ -7,13 +7,13 @@ use iol_back::slots::Slots;
 use iol_core::configuration::Config;
 use std::alloc::Global;
 
-/// The system that a script runs on.
+/// The system on which a script runs.
 #[derive(Drop)]
 pub struct Setup {
-    /// The sizes, if the script names any.
+    /// Its parameters, if the script gives any.
     pub config: Option<Config>,
 
-    /// Which read or write of the store fails, counted from 1, if one is to.
+    /// The number of the store's read or write that fails, counted from 1, if any.
     pub fault: Option<u64>,
 
     /// The bytes of the store's files.
@@ -22,7 +22,7 @@ pub struct Setup {
 }
 
 impl Setup {
-    /// A system of the default sizes, over an empty store that does not fail.
+    /// A system with the default parameters, over an empty store without faults.
     pub fn new(alloc: Global) -> Setup
         ensures config { result.config ≡ None }
         ensures fault { result.fault ≡ None }

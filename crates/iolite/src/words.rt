@@ -1,5 +1,5 @@
-//! The words of a script's lines: numbers, lists of numbers, and texts. What reads them takes no memory, and so judges them;
-//! only a text that is decoded and a list that is made take some.
+//! The words of a script's lines: numbers, lists of numbers, and texts. Parsing and checking
+//! allocate nothing; only decoding a text and making a list do.
 ghost use Rattle.std.specs.Prelude.{◌≡◌, ◌↔◌, ◌≤◌, ◌*◌, IsSome, IfOk, IfSome, length, true};
 ghost use Rattle.std.specs.List.{repeat};
 ghost use Rattle.iolite.specs.declared.words.TheConstants.{MAX_REPEATED_BYTES};
@@ -15,11 +15,12 @@ use iol_core::numbers::DomainId;
 use percent_encoding::percent_decode;
 use std::alloc::{AllocError, Global};
 
-/// The bytes that a text may have once it is repeated, and a file of the store: one more than an aggregate and a file may
-/// have, so that a script can ask for one that is too long.
+/// The maximum number of bytes of a repeated text, and of a file of the store: one more than the
+/// limit of an aggregate and of a file, so that a script can test these limits.
 pub const MAX_REPEATED_BYTES: u64 = MAX_AGGREGATE_BYTES as u64 + 1;
 
-/// Cuts a line at its first space, which belongs to neither part. Without one all is the word, and nothing behind it.
+/// Splits a line at its first space, which is in neither part. Without a space, the whole line is
+/// the word.
 pub fn split_word(line: &str) -> (&str, &str)
     ensures word { result.0.now ≡ word line.now }
     ensures rest { result.1.now ≡ rest_of line.now }
@@ -27,7 +28,7 @@ pub fn split_word(line: &str) -> (&str, &str)
     line.split_once(' ').unwrap_or((line, ""))
 }
 
-/// Reads a number of decimal digits alone.
+/// Parses a number of decimal digits only.
 pub fn parse_u32(word: &str) -> Option<u32>
     ensures accepts { IsSome result ↔ IsShort word.now }
     ensures value { IfSome result (λ n. n ≡ value word.now) }
@@ -38,7 +39,7 @@ pub fn parse_u32(word: &str) -> Option<u32>
     word.parse::<u32>().ok()
 }
 
-/// Reads a number of decimal digits alone.
+/// Parses a number of decimal digits only.
 pub fn parse_u64(word: &str) -> Option<u64>
     ensures accepts { IsSome result ↔ IsLong word.now }
     ensures value { IfSome result (λ n. n ≡ value word.now) }
@@ -49,7 +50,7 @@ pub fn parse_u64(word: &str) -> Option<u64>
     word.parse::<u64>().ok()
 }
 
-/// Reads how a file is to be open.
+/// Parses the access mode of a file.
 pub fn parse_mode(word: &str) -> Option<Mode>
     ensures { Reads (λ mode. word.now ≡ mode_word mode) result }
 {
@@ -61,14 +62,14 @@ pub fn parse_mode(word: &str) -> Option<Mode>
     }
 }
 
-/// Whether a word has the numbers of domains, joined by commas.
+/// Returns whether a word is a list of domain numbers, separated by commas.
 pub fn are_domains(word: &str) -> bool
     ensures { result ≡ true ↔ AreDomains word.now }
 {
     word.split(',').all(|number| parse_u32(number).is_some())
 }
 
-/// Reads the numbers of domains, joined by commas.
+/// Parses a list of domain numbers, separated by commas.
 pub fn list_domains(alloc: Global, word: &str) -> Result<Domains, AllocError>
     requires { AreDomains word.now }
     ensures { IfOk result (λ domains. domains ≡ domains_of word.now) }
@@ -83,7 +84,7 @@ pub fn list_domains(alloc: Global, word: &str) -> Result<Domains, AllocError>
     Ok(Domains::from_vec(domains))
 }
 
-/// Reads a text: `%` and two hexadecimal digits stand for a byte, every other byte for itself.
+/// Decodes a text: `%` and two hexadecimal digits are one byte, every other byte is itself.
 pub fn decode_text(alloc: Global, text: &str) -> Result<Bytes, AllocError>
     ensures { IfOk result (λ bytes. bytes ≡ decoded text.now) }
 {
@@ -92,7 +93,7 @@ pub fn decode_text(alloc: Global, text: &str) -> Result<Bytes, AllocError>
     Ok(Bytes::from_vec(bytes))
 }
 
-/// Whether a text, so many times over, is no longer than may be.
+/// Returns whether a text, repeated `count` times, is within the limit.
 pub fn can_repeat(count: u32, text: &str) -> bool
     ensures { result ≡ true ↔ (count * length (decoded text.now) ≤ MAX_REPEATED_BYTES) }
 {
@@ -100,7 +101,7 @@ pub fn can_repeat(count: u32, text: &str) -> bool
     length.saturating_mul(u64::from(count)) <= MAX_REPEATED_BYTES
 }
 
-/// Reads a text, so many times over.
+/// Decodes a text, repeated `count` times.
 pub fn repeat_text(alloc: Global, count: u32, text: &str) -> Result<Bytes, AllocError>
     ensures { IfOk result (λ bytes. bytes ≡ repeat count (decoded text.now)) }
 {

@@ -1,4 +1,4 @@
-//! What is asked of a system.
+//! Requests to a system.
 use iol_core::events::Event;
 
 /// An event, or a report.
@@ -8,7 +8,7 @@ pub enum Request {
     Report,
 }
 
-/// A request, and whether it is retried where it meets a fault.
+/// A request, and whether it is retried after a fault.
 #[derive(Drop)]
 pub struct Asked {
     pub request: Request,

@@ -1,4 +1,4 @@
-//! Events by their names.
+//! Events by name.
 use crate::asked::Request;
 use iol_core::descriptors::{How, Mode};
 use iol_core::events::{Call, Event};
@@ -6,7 +6,7 @@ use iol_core::lists::{Bytes, Domains};
 use iol_core::numbers::{AggId, ConnId, DomainId, Fd, PoolId};
 use std::alloc::{AllocError, Global};
 
-/// The numbers of an event, as many of them as it has.
+/// The numbers of an event; those that it does not use are ignored.
 #[derive(Clone, Copy, Drop)]
 pub struct Numbers {
     pub agg: u64,
@@ -115,7 +115,7 @@ fn of_text(name: &str, numbers: Numbers, bytes: Bytes) -> Option<Call> {
     }
 }
 
-// What comes from outside.
+// An external event.
 fn from_outside(name: &str, numbers: Numbers, bytes: Bytes) -> Option<Event> {
     let conn = ConnId::new(numbers.from);
     match name {
@@ -144,7 +144,7 @@ fn call_of(name: &str, numbers: Numbers, bytes: Bytes) -> Option<Call> {
         .or(of_text(name, numbers, bytes))
 }
 
-// The call that makes a pool, whose text is the list of domains, a byte each.
+// The call that creates a pool. Its text is the list of domains, one byte each.
 fn pool_create(alloc: Global, chunks: u32, list: &[u8]) -> Result<Call, AllocError> {
     let mut domains = Vec::new(alloc);
     for number in list {
@@ -156,7 +156,8 @@ fn pool_create(alloc: Global, chunks: u32, list: &[u8]) -> Result<Call, AllocErr
     })
 }
 
-/// The request of this name, with its numbers and its text; of domain `by`, or of none where that is 0.
+/// The request of this name, with its numbers and its text; of domain `by`, or of no domain if
+/// that is 0.
 pub fn request_of(
     alloc: Global,
     name: &str,

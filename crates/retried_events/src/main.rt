@@ -1,15 +1,18 @@
-//! Carries out the events of a script on a system: `scripts/hostile` runs it with each growth of memory refused in turn.
+//! Executes the events of a script on a system: `scripts/hostile` runs it with each growth of
+//! memory refused in turn.
 //!
-//! `retried_events CHUNKS GENERATIONS SUMS FAULT PIECES FILE COUNT TEXT .. NAME BY AGG WITH FROM TO COUNT TEXT AGAIN ..` makes a
-//! system over a store in memory. Device call number FAULT fails, if it is not 0. As many times as PIECES says a text follows that
-//! is put at the end of a file, whose number counts from 0. Then each nine words are an event: the name of the call or of what comes
-//! from outside, the domain that calls, or 0, the numbers of two aggregates, two numbers more, and a text. Every text stands behind
-//! a count, as many times as it is repeated, with `%` and two hexadecimal digits for a byte. A list of domains is a text of a byte
-//! each.
+//! `retried_events CHUNKS GENERATIONS SUMS FAULT PIECES FILE COUNT TEXT .. NAME BY AGG WITH FROM
+//! TO COUNT TEXT AGAIN ..` creates a system over a store in memory. Device call number FAULT
+//! fails, if it is not 0. PIECES is the number of the following texts, each of which is appended
+//! to a file, whose number counts from 0. Then each nine words are an event: the name of the call
+//! or of the external event, the calling domain, or 0, the numbers of two aggregates, two more
+//! numbers, and a text. A count before every text is the number of its repetitions; `%` and two
+//! hexadecimal digits are one byte. A list of domains is a text of one byte each.
 //!
-//! A system, an event or a report that finds no memory is retried, and so is an event with the AGAIN `fault` that meets a fault. One
-//! empty line is written before the system is made, behind all that is made for it. Each answer is printed once all events are
-//! carried out, those of events that were retried too.
+//! A system, an event or a report that runs out of memory is retried, and so is an event with the
+//! AGAIN `fault` after a fault. One empty line is written before the system is created, after its
+//! inputs are made. All replies are printed at the end, including those of events that were
+//! retried.
 #![tactic(auto)]
 
 mod asked;
@@ -25,7 +28,7 @@ use std::alloc::Global;
 use std::io::Write;
 use std::{env, io};
 
-// All events carried out, with their answers.
+// Executes all events, with their replies.
 fn carried_out(plan: Plan, asked: &[Asked], answers: &mut Vec<Answer>) -> Result<(), Refusal> {
     let mut system = Retried::of(plan)?;
     for one in asked {

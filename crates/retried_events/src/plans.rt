@@ -1,4 +1,4 @@
-//! What the words name.
+//! The inputs that the words define.
 ghost use Rattle.iol_back.specs.Prelude.{IsSlot};
 
 use crate::asked::Asked;
@@ -19,7 +19,7 @@ const MOST_EVENTS: u32 = 1000;
 /// A store in memory, of which one device call may fail.
 pub type Store = FaultyBacking<MemoryBacking>;
 
-/// What a system is made of, twice: where it finds no memory its store is gone.
+/// The inputs of a system, twice: if it runs out of memory, its store is lost.
 #[derive(Drop)]
 pub struct Plan {
     pub alloc: Global,
@@ -33,7 +33,7 @@ fn large_number(words: &mut env::Args) -> anyhow::Result<u64> {
     Ok(number)
 }
 
-// A text, as many times as the count before it says.
+// A text, repeated as many times as the count before it.
 fn text_of(alloc: Global, words: &mut env::Args) -> anyhow::Result<Vec<u8>> {
     let count = number(words)?;
     let word = word(words)?;
@@ -43,7 +43,7 @@ fn text_of(alloc: Global, words: &mut env::Args) -> anyhow::Result<Vec<u8>> {
     Ok(bytes)
 }
 
-// A text at the end of a file, whose number counts from 0.
+// A text to be appended to a file, whose number counts from 0.
 #[derive(Drop)]
 struct Piece {
     place: u32,
@@ -60,7 +60,7 @@ fn pieces_of(alloc: Global, words: &mut env::Args) -> anyhow::Result<Vec<Piece>>
     Ok(pieces)
 }
 
-// The slot of the file in a place.
+// The slot of the file at an index.
 fn slot(place: u32) -> FileId
     ensures { IsSlot result }
 {
@@ -75,7 +75,7 @@ fn store_of(alloc: Global, pieces: &[Piece], fault: u64) -> anyhow::Result<Store
     Ok(FaultyBacking::new(MemoryBacking::new(slots), fault))
 }
 
-/// The sizes and the store.
+/// The parameters and the store.
 pub fn plan_of(alloc: Global, words: &mut env::Args) -> anyhow::Result<Plan> {
     let config = Config {
         chunks: number(words)?,

@@ -1,4 +1,4 @@
-//! A system on which what finds no memory is retried.
+//! A system whose events are retried if they run out of memory.
 use crate::asked::{Asked, Request};
 use crate::plans::{Plan, Store};
 use iol_core::events::{Event, Reply};
@@ -7,20 +7,20 @@ use iol_kernel::report::Report;
 use iol_system::system::System;
 use std::marker::Model;
 
-// One growth is refused, so what finds no memory finds it the next time.
+// Only one growth is refused, so the next try has memory.
 const TRIES: u32 = 3;
 
-/// What is answered.
+/// The result of a request.
 #[derive(Debug, Drop)]
 pub enum Answer {
     Reply(Reply),
     Report(Report),
 
-    /// A report found no memory.
+    /// A report ran out of memory.
     NoReport,
 }
 
-/// A system, behind a value that says nothing of it.
+/// A system, as a type without contracts.
 #[derive(Drop)]
 pub struct Retried {
     system: System<Store>,
@@ -60,7 +60,8 @@ impl Retried {
         }
     }
 
-    /// Answers a request, and each try of it. Answers for which there is no room are lost.
+    /// Executes a request, with retries, and appends the result of each try. Results for which
+    /// there is no memory are lost.
     pub fn answer(&mut self, asked: &Asked, answers: &mut Vec<Answer>) {
         for _ in 0..TRIES {
             let answer = self.answer_once(&asked.request);
@@ -73,7 +74,7 @@ impl Retried {
     }
 }
 
-// Whether what was answered so is retried.
+// Returns whether a request with this result is retried.
 fn is_retried(answer: &Answer, at_a_fault: bool) -> bool {
     match answer {
         Answer::NoReport | Answer::Reply(Reply::Refused(Refusal::Memory)) => true,

@@ -1,4 +1,4 @@
-//! The site that is measured.
+//! The measured site.
 use flash_lite::site::Site;
 use iol_back::memory::MemoryBacking;
 use iol_core::configuration::Config;
@@ -14,7 +14,7 @@ use test_worlds::files::{Kept, store_of};
 /// The world that serves a file.
 pub type Host = sites::Host<MemoryBacking>;
 
-// All chunks are for the files but those of other pools.
+// All chunks are for the files except those of other pools.
 fn site_of(alloc: Global, kept: &[Kept<'_>]) -> Result<Site, AllocError> {
     Ok(Site {
         workers: 1,
@@ -27,7 +27,8 @@ fn site_of(alloc: Global, kept: &[Kept<'_>]) -> Result<Site, AllocError> {
     })
 }
 
-/// A site with a file `f` of these bytes, and where it is asked for a script that puts it out. The store has both.
+/// A site with a file `f` of these bytes and, if requested, a script that outputs it. The store
+/// has both.
 pub fn host_of(alloc: Global, bytes: &[u8], with_script: bool) -> Result<Host, Refusal> {
     let kept: [Kept<'_>; 2] = [("f", bytes, false), ("s.cgi", b"cat f", false)];
     let count = if with_script { 2 } else { 1 };
@@ -41,7 +42,7 @@ pub fn connect(host: &mut Host) -> Option<ConnId> {
     host.connect(2)
 }
 
-/// Bytes arrive on a connection; whether all of them do.
+/// Bytes arrive on a connection; returns whether all of them do.
 pub fn arrive(host: &mut Host, conn: ConnId, bytes: &[u8]) -> bool {
     let mut reader = bytes;
     match host.arrive_from(conn, &mut reader, 4096) {
@@ -50,7 +51,7 @@ pub fn arrive(host: &mut Host, conn: ConnId, bytes: &[u8]) -> bool {
     }
 }
 
-/// The peer of a connection takes all that is to be sent; how many bytes these are.
+/// The peer of a connection takes all queued output; returns the number of bytes.
 pub fn send(host: &mut Host, conn: ConnId) -> u32 {
     match host.drain_to(conn, &mut io::sink(), u32::MAX) {
         Ok(drained) => drained.taken,
@@ -58,7 +59,8 @@ pub fn send(host: &mut Host, conn: ConnId) -> u32 {
     }
 }
 
-/// The server has a turn; whether its call is answered WouldBlock, or there is no memory to tell.
+/// The server takes a turn; returns whether the reply to its call is WouldBlock, or there is no
+/// memory for the reply.
 pub fn waits(host: &mut Host) -> bool {
     let choices = [Choice::Turn(DomainId::new(1))];
     match host.run(&choices) {

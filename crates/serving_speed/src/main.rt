@@ -1,12 +1,12 @@
-//! What requests to the file server cost: `serving_speed WHAT REQUEST LEN OTHERS ROUNDS ..` carries
-//! out each of these measurements in turn, each on a site of its own, with one file of so many
-//! bytes. REQUEST is `get`, `head`, `none` (a GET of a file that is not there), `pair` (two GETs
-//! that come at once) or `script` (a GET of a script that puts the file out), on an open connection
-//! beside so many others on which nothing comes.
+//! Measures requests to the file server: `serving_speed WHAT REQUEST LEN OTHERS ROUNDS ..`
+//! executes each of these measurements in turn, each on a site of its own, with one file of LEN
+//! bytes. REQUEST is `get`, `head`, `none` (a GET of a file that does not exist), `pair` (two GETs
+//! at once) or `script` (a GET of a script that outputs the file), on an open connection in
+//! addition to OTHERS idle ones.
 //!
-//! WHAT is `calls` (it prints how many calls the server makes for the request), `answers` (so many
-//! requests, one after another) or `rests` (one request, and then so many times the turns that were
-//! given for it, with nothing to do in them); of these two it prints how many bytes were sent.
+//! WHAT is `calls` (prints the number of calls of the server for the request), `answers` (ROUNDS
+//! requests, one after another) or `rests` (one request, and then ROUNDS times the number of turns
+//! that it took, with nothing to do in them); these two print the number of bytes sent.
 //! `bench/serving` measures them.
 #![tactic(auto)]
 
@@ -22,7 +22,7 @@ use std::env;
 use test_parts::texts::bytes_of;
 use test_parts::words::{number, word};
 
-// What is measured on a new site, with a file of these bytes.
+// Executes a measurement on a new site, with a file of these bytes.
 fn measured(alloc: Global, bytes: &[u8], plan: &Plan) -> Result<Option<u64>, Refusal> {
     let mut host = host_of(alloc, bytes, plan.request.is_for_script())?;
     let count = measure(&mut host, plan);
@@ -30,7 +30,7 @@ fn measured(alloc: Global, bytes: &[u8], plan: &Plan) -> Result<Option<u64>, Ref
     Ok(count)
 }
 
-// What the words name is measured.
+// Executes the measurement that the words name.
 fn carry_out(alloc: Global, what: &str, words: &mut env::Args) -> anyhow::Result<u64> {
     let what = What::of_word(what).context("calls, answers or rests?")?;
     let request = Request::of_word(word(words)?.as_str()).context("which request?")?;

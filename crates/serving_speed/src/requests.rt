@@ -1,8 +1,8 @@
-//! Requests, and how much is done for them.
+//! Requests, and the measurements with them.
 use crate::host::{Host, arrive, connect, send, waits};
 use iol_core::numbers::ConnId;
 
-/// What comes at once on a connection.
+/// The input that arrives at once on a connection.
 #[derive(Clone, Copy, Drop)]
 pub enum Request {
     /// A GET of the file.
@@ -11,18 +11,18 @@ pub enum Request {
     /// A HEAD of it.
     Head,
 
-    /// A GET of a file that is not there.
+    /// A GET of a file that does not exist.
     None,
 
     /// Two GETs of the file.
     Pair,
 
-    /// A GET of a script that puts the file out.
+    /// A GET of a script that outputs the file.
     Script,
 }
 
 impl Request {
-    /// What a word names.
+    /// The request of a word.
     pub fn of_word(word: &str) -> Option<Request> {
         match word {
             "get" => Some(Request::Get),
@@ -34,7 +34,7 @@ impl Request {
         }
     }
 
-    /// Whether it is for a script.
+    /// Returns whether it requests a script.
     pub fn is_for_script(self) -> bool {
         matches!(self, Request::Script)
     }
@@ -52,21 +52,21 @@ impl Request {
     }
 }
 
-/// What is measured.
+/// The kinds of measurements.
 #[derive(Clone, Copy, Drop)]
 pub enum What {
-    /// The calls that the server makes for a request.
+    /// The number of calls of the server for a request.
     Calls,
 
-    /// Requests, each with all that is sent for it.
+    /// Requests, each with its whole response.
     Answers,
 
-    /// As many turns, with nothing to do in them.
+    /// The same number of turns, with nothing to do in them.
     Rests,
 }
 
 impl What {
-    /// What a word names.
+    /// The measurement of a word.
     pub fn of_word(word: &str) -> Option<What> {
         match word {
             "calls" => Some(What::Calls),
@@ -77,7 +77,7 @@ impl What {
     }
 }
 
-/// A request, made so many times on one connection, beside so many others on which nothing comes.
+/// A request, a number of times on one connection, in addition to a number of idle ones.
 #[derive(Clone, Copy, Drop)]
 pub struct Plan {
     pub what: What,
@@ -86,12 +86,13 @@ pub struct Plan {
     pub rounds: u32,
 }
 
-// Gives turns until all is idle, and takes what is to be sent; how many bytes these are.
+// Gives turns until all are idle, and takes the output; returns the number of bytes.
 fn settle_and_send(host: &mut Host, conn: ConnId) -> u32 {
     if host.settle() { send(host, conn) } else { 0 }
 }
 
-// A request with all that is sent for it: how often turns were given, and the bytes.
+// A request with its whole response: the number of times that turns were given, and the number of
+// bytes.
 fn answer(host: &mut Host, conn: ConnId, request: Request) -> (u32, u64) {
     let mut sent = 0u64;
     if !arrive(host, conn, request.bytes()) {
@@ -107,7 +108,7 @@ fn answer(host: &mut Host, conn: ConnId, request: Request) -> (u32, u64) {
     (0, sent)
 }
 
-// So many requests, one after another: all bytes that are sent.
+// Requests, one after another: the number of bytes sent.
 fn answers(host: &mut Host, conn: ConnId, plan: &Plan) -> u64 {
     let mut sent = 0u64;
     for _ in 0..plan.rounds {
@@ -117,7 +118,7 @@ fn answers(host: &mut Host, conn: ConnId, plan: &Plan) -> u64 {
     sent
 }
 
-// One request, and so many times the turns that were given for it: the bytes that are sent.
+// One request, and then turns with nothing to do: the number of bytes sent.
 fn rests(host: &mut Host, conn: ConnId, plan: &Plan) -> u64 {
     let (times, mut sent) = answer(host, conn, plan.request);
     for _ in 0..plan.rounds {
@@ -128,7 +129,7 @@ fn rests(host: &mut Host, conn: ConnId, plan: &Plan) -> u64 {
     sent
 }
 
-// How many calls the server makes for a request, before it has to wait for more.
+// The number of calls of the server for a request, before it has to wait for more.
 fn calls(host: &mut Host, conn: ConnId, request: Request) -> u64 {
     if !arrive(host, conn, request.bytes()) {
         return 0;
@@ -141,7 +142,7 @@ fn calls(host: &mut Host, conn: ConnId, request: Request) -> u64 {
     0
 }
 
-// So many connections on which nothing comes, and then the one on which something does.
+// Idle connections, and then the one with requests.
 fn connect_beside(host: &mut Host, others: u32) -> Option<ConnId> {
     for _ in 0..others {
         let _other = connect(host)?;
@@ -150,8 +151,8 @@ fn connect_beside(host: &mut Host, others: u32) -> Option<ConnId> {
     if host.settle() { Some(conn) } else { None }
 }
 
-/// What is measured: the calls of a request, or all bytes that are sent. None where no connection
-/// is made.
+/// The measurement: the number of calls of a request, or the number of bytes sent. None if no
+/// connection can be made.
 pub fn measure(host: &mut Host, plan: &Plan) -> Option<u64> {
     let conn = connect_beside(host, plan.others)?;
     Some(match plan.what {

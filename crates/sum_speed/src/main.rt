@@ -1,5 +1,6 @@
-//! How fast sums are: `sum_speed bytes LEN ROUNDS` sums so many bytes so many times, `sum_speed remembered LEN ROUNDS` asks
-//! as often for the sum of an aggregate of them, which is remembered. Both print the sum. `bench/sums` measures them.
+//! Measures sums: `sum_speed bytes LEN ROUNDS` sums LEN bytes ROUNDS times, `sum_speed remembered
+//! LEN ROUNDS` requests the sum of an aggregate of them ROUNDS times, which is remembered. Both
+//! print the sum. `bench/sums` measures them.
 #![tactic(auto)]
 
 mod rounds;
@@ -17,7 +18,7 @@ use std::alloc::Global;
 use std::env;
 use test_parts::texts::bytes_of;
 
-// The sum of an aggregate of these bytes, asked for again and again.
+// The sum of an aggregate of these bytes, requested repeatedly.
 fn remembered(alloc: Global, text: &[u8], rounds: u64) -> anyhow::Result<u16> {
     let config = Config {
         chunks: 256,

@@ -1,4 +1,4 @@
-//! The rounds that are measured.
+//! The measured rounds.
 ghost use Rattle.iol_hold.specs.Prelude.{AllReadable};
 ghost use Rattle.iol_sum.specs.Prelude.{IsRight};
 
@@ -6,7 +6,7 @@ use iol_agg::Agg;
 use iol_hold::Store;
 use iol_sum::{SumCache, sum_of};
 
-// The sum of the bytes, made afresh each time.
+// The sum of the bytes, computed each time.
 pub fn sum_often(text: &[u8], rounds: u64) -> u16 {
     let mut sum = 0;
     for _ in 0..rounds {

@@ -1,11 +1,12 @@
-//! What calls cost: `system_speed MEASUREMENT ..` carries out each measurement in turn. There are two.
+//! Measures calls: `system_speed MEASUREMENT ..` executes each measurement in turn. There are two.
 //!
-//! `WAY HOW LEN ROUNDS` passes so many bytes so many times. WAY is where they go: `file` (read, from memory), `pipe` (written and
-//! read), `sent` (written to a connection and taken by its peer) or `received` (arrived on a connection and read). HOW is
-//! `shared` or `copied`. `bench/shared` measures it.
+//! `WAY HOW LEN ROUNDS` passes LEN bytes ROUNDS times. WAY is `file` (read, from memory), `pipe`
+//! (written and read), `sent` (written to a connection and taken by its peer) or `received`
+//! (arrived on a connection and read). HOW is `shared` or `copied`. `bench/shared` measures it.
 //!
-//! `turns KIND ROUNDS` gives five processes two turns each, in rounds, so many times. By its kind each yields (`yield`), asks for a
-//! connection (`accept`), or reads an empty pipe (`read`). It prints whether all were idle each time. `bench/turns` measures it.
+//! `turns KIND ROUNDS` gives five processes two turns each, in rounds, ROUNDS times. By KIND each
+//! process yields (`yield`), accepts a connection (`accept`), or reads an empty pipe (`read`). It
+//! prints whether all were idle each time. `bench/turns` measures it.
 #![tactic(auto)]
 
 mod rounds;
@@ -21,28 +22,28 @@ use test_parts::words::{number, word};
 use turns::{give_rounds, waiting_world};
 use waiter::Waiter;
 
-// How often: the next word.
+// The number of rounds: the next word.
 fn count_of(words: &mut env::Args) -> anyhow::Result<u64> {
     let word = word(words)?;
     let rounds: u64 = word.parse()?;
     Ok(rounds)
 }
 
-// How bytes are passed on: the next word.
+// How bytes are passed: the next word.
 fn passing_of(words: &mut env::Args) -> anyhow::Result<Passing> {
     let word = word(words)?;
     let passing = Passing::of_word(word.as_str()).context("shared or copied?")?;
     Ok(passing)
 }
 
-// What each process does: the next word.
+// The behavior of each process: the next word.
 fn waiter_of(words: &mut env::Args) -> anyhow::Result<Waiter> {
     let word = word(words)?;
     let waiter = Waiter::of_word(word.as_str()).context("yield, accept or read?")?;
     Ok(waiter)
 }
 
-// The round that the words name, and how often.
+// The round of the words, and the number of rounds.
 fn round(alloc: Global, way: &str, words: &mut env::Args) -> anyhow::Result<(Round, u32, u64)> {
     let way = Way::of_word(way).context("which way?")?;
     let passing = passing_of(words)?;
@@ -52,7 +53,7 @@ fn round(alloc: Global, way: &str, words: &mut env::Args) -> anyhow::Result<(Rou
     Ok((round, len, rounds))
 }
 
-// Passes bytes on.
+// Passes bytes.
 fn pass(alloc: Global, way: &str, words: &mut env::Args) -> anyhow::Result<()> {
     let (round, len, rounds) = round(alloc, way, words)?;
     let mut system = setup::system(alloc, len)?;
@@ -61,7 +62,7 @@ fn pass(alloc: Global, way: &str, words: &mut env::Args) -> anyhow::Result<()> {
     Ok(passed?)
 }
 
-// Gives turns, and tells whether all were idle each time.
+// Gives turns, and prints whether all were idle each time.
 fn give_turns(alloc: Global, words: &mut env::Args) -> anyhow::Result<bool> {
     let waiter = waiter_of(words)?;
     let rounds = count_of(words)?;

@@ -1,4 +1,4 @@
-//! The rounds that are measured.
+//! The measured rounds.
 use crate::setup::{FILE, Machine, READ_END, SOCKET, WRITE_END, call, text};
 use iol_core::events::{Call, Event, Reply};
 use iol_core::numbers::{AggId, ConnId, Fd};
@@ -6,23 +6,23 @@ use iol_core::refusals::Refusal;
 use std::alloc::{AllocError, Global};
 use std::io;
 
-/// The way that bytes go.
+/// The way of the bytes.
 #[derive(Clone, Copy, Drop)]
 pub enum Way {
-    /// They are read from a file, which memory has.
+    /// Read from a file that is in memory.
     File,
 
-    /// They are written to a pipe and read from it.
+    /// Written to a pipe and read from it.
     Pipe,
 
-    /// They are written to a connection and taken by its peer.
+    /// Written to a connection and taken by its peer.
     Sent,
 
-    /// They arrive on a connection and are read from it.
+    /// Arrived on a connection and read from it.
     Received,
 }
 
-/// How bytes are passed on.
+/// How bytes are passed.
 #[derive(Clone, Copy, Drop)]
 pub enum Passing {
     Shared,
@@ -37,7 +37,7 @@ const WAYS: [(&str, Way); 4] = [
 ];
 
 impl Way {
-    /// The way that a word names.
+    /// The way of a word.
     pub fn of_word(word: &str) -> Option<Way> {
         for (name, way) in &WAYS {
             if *name == word {
@@ -49,7 +49,7 @@ impl Way {
 }
 
 impl Passing {
-    /// What a word names.
+    /// The kind of passing of a word.
     pub fn of_word(word: &str) -> Option<Passing> {
         match word {
             "shared" => Some(Passing::Shared),
@@ -91,7 +91,7 @@ fn seek() -> Event {
     call(Call::Seek { fd, at })
 }
 
-// The bytes are put where they are read.
+// The event that writes the bytes or makes them available.
 fn first(alloc: Global, way: Way, passing: Passing, len: u32) -> Result<Event, AllocError> {
     match way {
         Way::File => Ok(seek()),
@@ -101,7 +101,7 @@ fn first(alloc: Global, way: Way, passing: Passing, len: u32) -> Result<Event, A
     }
 }
 
-// The bytes are read, but for those that a peer takes.
+// The event that reads the bytes, unless a peer takes them.
 fn second(way: Way, passing: Passing, count: u32) -> Option<Event> {
     match way {
         Way::File => Some(read(FILE, passing, count)),
@@ -119,7 +119,7 @@ fn drop_agg(machine: &mut Machine, agg: AggId) -> Result<(), Refusal> {
     }
 }
 
-// Carries out an event. An aggregate that it makes is dropped at once.
+// Executes an event. An aggregate that it makes is dropped at once.
 fn pass(machine: &mut Machine, event: &Event) -> Result<(), Refusal> {
     let reply = machine.step(event);
     match &reply {
@@ -129,7 +129,7 @@ fn pass(machine: &mut Machine, event: &Event) -> Result<(), Refusal> {
     }
 }
 
-// The peer of a connection takes all that is to be sent.
+// The peer of a connection takes all queued output.
 fn send(machine: &mut Machine, conn: ConnId) -> Result<(), Refusal> {
     match machine.drain_to(conn, &mut io::sink(), u32::MAX) {
         Ok(_) => Ok(()),
@@ -137,7 +137,7 @@ fn send(machine: &mut Machine, conn: ConnId) -> Result<(), Refusal> {
     }
 }
 
-/// An event or two, after which a peer takes what is to be sent or nothing is.
+/// One or two events, after which a peer may take the queued output.
 #[derive(Drop)]
 pub struct Round {
     first: Event,
@@ -146,7 +146,7 @@ pub struct Round {
 }
 
 impl Round {
-    /// The round in which so many bytes go this way.
+    /// The round in which `len` bytes take this way.
     pub fn new(alloc: Global, way: Way, passing: Passing, len: u32) -> Result<Round, AllocError> {
         let first = first(alloc, way, passing, len)?;
         let second = second(way, passing, len);
@@ -158,7 +158,7 @@ impl Round {
         })
     }
 
-    // Carries out the round.
+    // Executes the round.
     fn carry_out(&self, machine: &mut Machine) -> Result<(), Refusal> {
         pass(machine, &self.first)?;
         if let Some(event) = &self.second {
@@ -170,7 +170,7 @@ impl Round {
         Ok(())
     }
 
-    /// Carries out the round so many times.
+    /// Executes the round `rounds` times.
     pub fn repeat(&self, machine: &mut Machine, rounds: u64) -> Result<(), Refusal> {
         for _ in 0..rounds {
             self.carry_out(machine)?;

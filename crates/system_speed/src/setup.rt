@@ -1,4 +1,4 @@
-//! What is there before the rounds.
+//! The state before the rounds.
 use iol_back::memory::MemoryBacking;
 use iol_core::configuration::Config;
 use iol_core::descriptors::Mode;
@@ -11,7 +11,7 @@ use test_parts::texts::bytes_of;
 use test_worlds::files::empty_store;
 use test_worlds::systems::{TestSystem, call_of};
 
-/// The system that is measured.
+/// The measured system.
 pub type Machine = TestSystem<MemoryBacking>;
 
 /// The descriptors of domain 1.
@@ -23,7 +23,7 @@ pub const WRITE_END: u32 = 2;
 
 pub const SOCKET: u32 = 3;
 
-/// So many domains have turns.
+/// The number of domains that take turns.
 const DOMAINS: u32 = 5;
 
 /// A call of domain 1.
@@ -31,7 +31,7 @@ pub fn call(call: Call) -> Event {
     call_of(1, call)
 }
 
-/// So many bytes.
+/// `len` bytes.
 pub fn text(alloc: Global, len: u32) -> Result<Bytes, AllocError> {
     let bytes = bytes_of(alloc, len as usize)?;
     Ok(Bytes::from_vec(bytes))
@@ -47,7 +47,8 @@ fn aggregate(domains: Domains, bytes: Bytes) -> [Event; 3] {
     ]
 }
 
-// A file with the bytes of the aggregate, which lie in the store alone. It is made by a name, and opened by the same.
+// A file with the bytes of the aggregate, which are only in the store. It is created under a name,
+// and opened by the same.
 fn file(name: Bytes, again: Bytes) -> [Event; 5] {
     let (pool, agg, fd, mode) = (PoolId::new(1), AggId::new(1), Fd::new(FILE), Mode::Both);
     [
@@ -81,26 +82,27 @@ fn pipes(alloc: Global) -> Result<Vec<Event>, AllocError> {
     Ok(events)
 }
 
-// A system that has carried out lists of events, one after another.
+// A system after lists of events were executed in order.
 fn begun(alloc: Global, lists: &[&[Event]]) -> Result<Machine, Refusal> {
     TestSystem::begun(alloc, Config::DEFAULT, empty_store(alloc), lists)
 }
 
-// What makes the aggregate.
+// The events that make the aggregate.
 fn making(alloc: Global, len: u32) -> Result<[Event; 3], AllocError> {
     let domains = Domains::from_vec([DomainId::new(1)].to_vec(alloc)?);
     let bytes = text(alloc, len)?;
     Ok(aggregate(domains, bytes))
 }
 
-// What makes the file.
+// The events that make the file.
 fn filing(alloc: Global) -> Result<[Event; 5], AllocError> {
     let name = text(alloc, 1)?;
     let again = text(alloc, 1)?;
     Ok(file(name, again))
 }
 
-/// A system in which domain 1 has an aggregate of so many bytes, a file of the same bytes, a pipe and a connection.
+/// A system in which domain 1 has an aggregate of `len` bytes, a file of the same bytes, a pipe
+/// and a connection.
 pub fn system(alloc: Global, len: u32) -> Result<Machine, Refusal> {
     let made = making(alloc, len)?;
     let filed = filing(alloc)?;

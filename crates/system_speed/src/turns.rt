@@ -36,7 +36,7 @@ pub fn waiting_world(
     TestWorld::new(alloc, system, processes)
 }
 
-/// Ten turns at a time, and whether all were idle after each ten.
+/// Gives ten turns at a time, and returns whether all were idle each time.
 pub fn give_rounds(world: &mut Waiters, rounds: u64) -> bool {
     let mut idle = true;
     for _ in 0..rounds {

@@ -7,7 +7,7 @@ use iol_proc::look::Look;
 use iol_proc::process::{Process, Turn};
 use std::alloc::AllocError;
 
-/// What a process does in each of its turns.
+/// The action of a process in each of its turns.
 #[derive(Clone, Copy)]
 pub enum Waiter {
     Yields,
@@ -22,7 +22,7 @@ const WAITERS: [(&str, Waiter); 3] = [
 ];
 
 impl Waiter {
-    /// What a word names.
+    /// The process of a word.
     pub fn of_word(word: &str) -> Option<Waiter> {
         for (name, waiter) in &WAITERS {
             if *name == word {
@@ -34,7 +34,7 @@ impl Waiter {
 }
 
 impl Process for Waiter {
-    // Any turn: what these do is measured. They want no memory.
+    // Any turn: their behavior is only measured. They need no memory.
     ghost turns = { record { goes = λ waiter last lent turn next. ⊤; may_want = λ waiter last lent. ⊥ } };
 
     fn next(&mut self, _last: &Reply, _look: &Look<'_>) -> Result<Turn, AllocError> {

@@ -1,11 +1,11 @@
-//! What tests are made of.
+//! Helpers of tests.
 //!
-//! Functions tell what they found, and the test alone passes or fails by that: each `assert!` of a function takes the prover a
-//! second, and each `assert_eq!` two or three.
+//! Functions return their result, and only the test passes or fails by that: the prover needs a
+//! second for each `assert!` of a function, and two or three for each `assert_eq!`.
 use std::fmt::Debug;
 use std::test::Fail;
 
-/// Passes where all was as it should be.
+/// Passes if all results were as expected.
 pub fn pass<E: Debug + Drop>(found: Result<bool, E>) -> Result<(), Fail> {
     match found {
         Ok(holds) => pass_if(holds),
@@ -13,7 +13,7 @@ pub fn pass<E: Debug + Drop>(found: Result<bool, E>) -> Result<(), Fail> {
     }
 }
 
-/// Passes where this holds.
+/// Passes if this holds.
 pub fn pass_if(holds: bool) -> Result<(), Fail> {
     if holds {
         return Ok(());
@@ -21,7 +21,7 @@ pub fn pass_if(holds: bool) -> Result<(), Fail> {
     Err(Fail::new("something was not as it should be"))
 }
 
-/// Passes where all of so many rows held, and else tells how many did before one did not.
+/// Passes if all rows held, and otherwise reports how many did before one did not.
 pub fn pass_all<E: Debug + Drop>(held: Result<usize, E>, rows: usize) -> Result<(), Fail> {
     match held {
         Ok(count) if count == rows => Ok(()),
@@ -30,7 +30,7 @@ pub fn pass_all<E: Debug + Drop>(held: Result<usize, E>, rows: usize) -> Result<
     }
 }
 
-// How many rows hold, up to the first that does not.
+// The number of rows that hold, up to the first that does not.
 fn count_held<T, E, F: FnMut(&T) -> Result<bool, E>>(rows: &[T], mut holds: F) -> Result<usize, E>
     requires { F.IsAlwaysCallable holds }
 {
@@ -44,7 +44,7 @@ fn count_held<T, E, F: FnMut(&T) -> Result<bool, E>>(rows: &[T], mut holds: F) -
     Ok(count)
 }
 
-/// Passes where each row holds, one after another.
+/// Passes if each row holds, in order.
 pub fn pass_each<T, E: Debug + Drop, F: FnMut(&T) -> Result<bool, E>>(
     rows: &[T],
     holds: F,
@@ -54,7 +54,8 @@ pub fn pass_each<T, E: Debug + Drop, F: FnMut(&T) -> Result<bool, E>>(
     pass_all(count_held(rows, holds), rows.len())
 }
 
-/// Whether this holds of what was made for a test. Then std's `drop` lets it go, and no test opens it.
+/// Returns whether this holds of the inputs of a test. Then std's `drop` drops them, so that no
+/// test unfolds it.
 pub fn lend<T: Drop, E: Drop, F: FnOnce(&mut T) -> bool + Drop>(
     made: Result<T, E>,
     holds: F,

@@ -1,4 +1,4 @@
-//! What the crates of tests and the measured programs share, over std alone.
+//! Helpers that the test crates and the measured programs share. They depend only on std.
 #![tactic(auto)]
 
 pub mod checks;

@@ -3,7 +3,8 @@ use std::alloc::{AllocError, Global};
 use std::io;
 use std::io::{ErrorKind, Read, Write};
 
-/// Reads from memory, at most `most` bytes at once, and counts its reads. Read number `fails` fails, if it is not 0.
+/// Reads from memory, at most `most` bytes at once, and counts its reads. Read number `fails`
+/// fails, if it is not 0.
 #[derive(Drop)]
 pub struct Source<'a> {
     bytes: &'a [u8],
@@ -34,7 +35,8 @@ impl<'a> Read for Source<'a> {
     }
 }
 
-/// Takes at most `most` bytes at once into memory, and counts its writes. Write number `fails` fails, if it is not 0.
+/// Takes at most `most` bytes at once into memory, and counts its writes. Write number `fails`
+/// fails, if it is not 0.
 #[derive(Drop)]
 pub struct Sink {
     bytes: Vec<u8>,
@@ -55,7 +57,7 @@ impl Sink {
         }
     }
 
-    /// One that has room for so many bytes from the start.
+    /// A sink with room for this number of bytes from the start.
     pub fn with_room(
         alloc: Global,
         room: usize,

@@ -1,7 +1,7 @@
 //! Bytes of some length.
 use std::alloc::{AllocError, Global};
 
-/// So many bytes, none of which is that of the place 251 before.
+/// `len` bytes, each different from the byte 251 positions before.
 pub fn bytes_of(alloc: Global, len: usize) -> Result<Vec<u8>, AllocError> {
     let mut bytes = Vec::with_capacity(alloc, len)?;
     for place in 0..len {
@@ -10,7 +10,7 @@ pub fn bytes_of(alloc: Global, len: usize) -> Result<Vec<u8>, AllocError> {
     Ok(bytes)
 }
 
-/// These bytes so many times.
+/// These bytes, repeated `count` times.
 pub fn repeated(alloc: Global, part: &[u8], count: usize) -> Result<Vec<u8>, AllocError> {
     let mut bytes = Vec::new(alloc);
     for _ in 0..count {

@@ -1,4 +1,4 @@
-//! The words that a program is called with.
+//! The words of a program's command line.
 use anyhow::Context;
 use std::env;
 

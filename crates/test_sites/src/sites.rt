@@ -1,4 +1,4 @@
-//! A site, and the world that serves it, behind a value that says nothing of it.
+//! A site, and the world that serves it, as a type without contracts.
 use flash_lite::actor::Actor;
 use flash_lite::host::{Hosted, host};
 use flash_lite::site::{Site, SiteFile};
@@ -26,7 +26,7 @@ pub fn files_of(alloc: Global, kept: &[Kept<'_>]) -> Result<Vec<SiteFile>, Alloc
     Ok(files)
 }
 
-/// A site of these files, with one guest, and one chunk for each pool but `site`.
+/// A site of these files, with one guest, and one chunk for each pool except `site`.
 pub fn site_of(
     alloc: Global,
     kept: &[Kept<'_>],
@@ -44,12 +44,13 @@ pub fn site_of(
     })
 }
 
-// What comes of hosting a site, by its parts.
+// The parts of the result of hosting a site.
 fn parts_of<B: Backing>(hosted: Hosted<B>) -> (World<B, Actor>, Vec<Reply>, bool) {
     (hosted.world, hosted.replies, hosted.idle)
 }
 
-/// What comes of hosting a site with choices: its world, what each choice was answered, and whether all was idle.
+/// The result of hosting a site with choices: its world, the reply to each choice, and whether all
+/// were idle.
 pub fn hosted<B: Backing + Drop>(
     alloc: Global,
     config: Config,
@@ -62,7 +63,7 @@ pub fn hosted<B: Backing + Drop>(
     Ok((TestWorld::of(world), replies, idle))
 }
 
-// A world in which nothing has happened yet.
+// A world without events so far.
 fn new_world<B: Backing + Drop>(
     alloc: Global,
     config: Config,

@@ -1,4 +1,4 @@
-//! A process that sends back what comes on a connection, and closes it at the end.
+//! A process that sends back the input of a connection, and closes it at the end.
 ghost use Rattle.std.specs.Prelude.{⊤};
 ghost use Rattle.iol_proc.specs.Prelude.{IsQuiet};
 
@@ -9,7 +9,7 @@ use iol_proc::look::Look;
 use iol_proc::process::{Process, Turn};
 use std::alloc::AllocError;
 
-/// Drops what is held, if anything is.
+/// Drops the aggregate, if there is one.
 pub fn let_go(held: &mut Option<AggId>) -> Turn
     ensures { IsQuiet result }
 {
@@ -19,7 +19,7 @@ pub fn let_go(held: &mut Option<AggId>) -> Turn
     }
 }
 
-/// Accepts one connection at a time, sends back what comes, and closes it at its end.
+/// Accepts one connection at a time, sends back its input, and closes it at its end.
 #[derive(Clone, Copy)]
 pub struct Echo {
     fd: Option<Fd>,
@@ -27,7 +27,7 @@ pub struct Echo {
 }
 
 impl Process for Echo {
-    // Any turn: what it does is tested. It wants no memory.
+    // Any turn: its behavior is tested. It needs no memory.
     ghost turns = { record { goes = λ worker last lent turn next. ⊤; may_want = λ worker last lent. ⊥ } };
 
     fn next(&mut self, last: &Reply, look: &Look<'_>) -> Result<Turn, AllocError> {
@@ -43,7 +43,7 @@ impl Echo {
         }
     }
 
-    /// Reads, writes what came, and drops it. Where nothing came it yields, and tries again.
+    /// Reads, writes the bytes read, and drops them. If there are none it yields, and retries.
     pub fn turn(&mut self, last: &Reply, look: &Look<'_>) -> Turn
         ensures { IsQuiet result }
     {
@@ -60,7 +60,7 @@ impl Echo {
         }
     }
 
-    // What comes next: a connection, or its bytes.
+    // The next call: accept a connection, or read from it.
     fn ask(&self) -> Turn
         ensures { IsQuiet result }
     {
@@ -70,7 +70,7 @@ impl Echo {
         }
     }
 
-    // Sends back what came. Nothing is the end.
+    // Sends back the bytes read. If there are none, this is the end.
     fn heard(&mut self, agg: AggId, look: &Look<'_>) -> Turn
         ensures { IsQuiet result }
     {

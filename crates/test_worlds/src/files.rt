@@ -6,17 +6,17 @@ use iol_back::slots::Slots;
 use iol_core::numbers::FileId;
 use std::alloc::{AllocError, Global};
 
-/// A file: its name, its bytes, and whether it is the guest's alone.
+/// A file: its name, its bytes, and whether it is private to the guest.
 pub type Kept<'a> = (&'a str, &'a [u8], bool);
 
-// The slot of the file in a place.
+// The slot of the file at an index.
 fn slot(place: usize) -> FileId
     ensures { IsSlot result }
 {
     FileId::new(place.min(1023) as u32 + 1)
 }
 
-// The files in slots, in their order.
+// The files in slots, in order.
 fn slots_of(alloc: Global, files: &[Kept<'_>]) -> Result<Slots, AllocError> {
     let mut slots = Slots::new(alloc);
     for (place, (_name, bytes, _private)) in files.iter().enumerate() {
@@ -31,7 +31,7 @@ pub fn store_of(alloc: Global, files: &[Kept<'_>]) -> Result<MemoryBacking, Allo
     Ok(MemoryBacking::new(slots))
 }
 
-/// A store that has no file yet.
+/// A store without files.
 pub fn empty_store(alloc: Global) -> MemoryBacking {
     MemoryBacking::new(Slots::new(alloc))
 }

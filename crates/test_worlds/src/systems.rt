@@ -1,4 +1,4 @@
-//! A system, behind a value that says nothing of it.
+//! A system, as a type without contracts.
 use iol_back::backing::Backing;
 use iol_core::configuration::Config;
 use iol_core::events::{Call, Event, Reply};
@@ -29,13 +29,13 @@ impl<B: Backing> Model for TestSystem<B> {
 }
 
 impl<B: Backing + Drop> TestSystem<B> {
-    /// A system with domain 1 and nothing else.
+    /// A system with only domain 1.
     pub fn new(alloc: Global, config: Config, store: B) -> Result<TestSystem<B>, Refusal> {
         let system = System::new(alloc, config, store)?;
         Ok(TestSystem { system })
     }
 
-    /// A system that has carried out lists of events, one after another, of which none may be refused.
+    /// A system after lists of events were executed in order, none of which may be refused.
     pub fn begun(
         alloc: Global,
         config: Config,
@@ -52,12 +52,12 @@ impl<B: Backing + Drop> TestSystem<B> {
         }
     }
 
-    /// Carries out an event.
+    /// Executes an event.
     pub fn step(&mut self, event: &Event) -> Reply {
         self.system.step_ref(event)
     }
 
-    // Carries out events in order, to the first that is refused.
+    // Executes events in order, up to the first that is refused.
     fn carry_out(&mut self, events: &[Event]) -> Result<(), Refusal> {
         for event in events {
             if let Reply::Refused(refusal) = self.step(event) {
@@ -74,7 +74,7 @@ impl<B: Backing + Drop> TestSystem<B> {
         Ok(())
     }
 
-    /// Bytes come in from a reader.
+    /// Bytes arrive from a reader.
     pub fn arrive_from<R: Read>(
         &mut self,
         conn: ConnId,
@@ -94,13 +94,13 @@ impl<B: Backing + Drop> TestSystem<B> {
         self.system.drain_to(conn, writer, max)
     }
 
-    /// How many buffers are live.
+    /// The number of live buffers.
     pub fn buffers(&self) -> Result<u32, AllocError> {
         let report = self.system.report()?;
         Ok(report.buffers)
     }
 
-    /// The system, for those that lend it on.
+    /// The system, for callers that pass it on.
     pub fn into_system(self) -> System<B> {
         self.system
     }

@@ -1,4 +1,4 @@
-//! A world, behind a value that says nothing of it.
+//! A world, as a type without contracts.
 ghost use Rattle.std.specs.Prelude.{◌≡◌, [], ◌∷◌, map, nat_eq, IfOk};
 ghost use Rattle.std.specs.List.{IsDistinct};
 
@@ -60,17 +60,17 @@ impl<B: Backing + Drop, P: Process> TestWorld<B, P> {
         TestWorld::new(alloc, system, processes)
     }
 
-    /// A world that was made.
+    /// An existing world.
     pub fn of(world: World<B, P>) -> TestWorld<B, P> {
         TestWorld { world }
     }
 
-    /// The world, for those that it is lent to.
+    /// Borrows the world.
     pub fn world(&mut self) -> &mut World<B, P> {
         &mut self.world
     }
 
-    /// An event that no process brings about.
+    /// Executes an external event.
     pub fn step(&mut self, event: Event) -> Reply {
         self.world.step_outside(event)
     }
@@ -80,22 +80,22 @@ impl<B: Backing + Drop, P: Process> TestWorld<B, P> {
         self.step(call_of(by, call))
     }
 
-    /// Choices come true, one after another.
+    /// Executes choices in order.
     pub fn run(&mut self, choices: &[Choice]) -> Result<Vec<Reply>, AllocError> {
         self.world.run(choices)
     }
 
-    /// At most so many turns, until all is idle.
+    /// At most `turns` turns, until all are idle.
     pub fn until_idle(&mut self, turns: usize) -> bool {
         self.world.until_idle(turns)
     }
 
-    /// Turns until all is idle.
+    /// Turns until all are idle.
     pub fn settle(&mut self) -> bool {
         self.until_idle(65_536)
     }
 
-    /// Whether a turn found no room, no numbers, no memory or a fault.
+    /// Returns whether a turn got a resource refusal: out of pages, numbers or memory, or a fault.
     pub fn is_rough(&self) -> bool {
         self.world.rough()
     }
@@ -114,13 +114,13 @@ impl<B: Backing + Drop, P: Process> TestWorld<B, P> {
         }
     }
 
-    /// Whether there is such a connection.
+    /// Returns whether the connection exists.
     pub fn has(&mut self, conn: ConnId) -> bool {
         let last = self.step(Event::Transmit { conn, max: 1 });
         !matches!(last, Reply::Refused(Refusal::BadFd))
     }
 
-    /// Bytes come in from a reader.
+    /// Bytes arrive from a reader.
     pub fn arrive_from<R: Read>(
         &mut self,
         conn: ConnId,

@@ -1,4 +1,4 @@
-//! The site of the rows. What finds no memory is made again.
+//! The site of the rows. A step that runs out of memory is retried.
 use flash_lite::site::Site;
 use iol_back::faulty::FaultyBacking;
 use iol_back::memory::MemoryBacking;
@@ -13,10 +13,10 @@ use test_parts::streams::Source;
 use test_sites::sites;
 use test_worlds::files::{self, Kept};
 
-// One growth is refused, so what finds no memory finds it the next time.
+// Only one growth is refused, so the next try has memory.
 const TRIES: u32 = 3;
 
-/// A file: whether it is the guest's alone, its name and its bytes.
+/// A file: whether it is private to the guest, its name and its bytes.
 #[derive(Drop)]
 pub struct File {
     pub private: bool,
@@ -24,7 +24,7 @@ pub struct File {
     pub bytes: Vec<u8>,
 }
 
-/// The chunks of the pool `site`, which device call fails, if one does, and the files.
+/// The chunks of the pool `site`, the device call that fails, if any, and the files.
 #[derive(Drop)]
 pub struct Plan {
     pub chunks: u32,
@@ -50,7 +50,7 @@ fn store_of(alloc: Global, kept: &[Kept<'_>], fault: u64) -> Result<Store, Alloc
     Ok(FaultyBacking::new(store, fault))
 }
 
-// No more chunks than are wanted: to make more takes most of a run's time.
+// No more chunks than needed: creating more takes most of a run's time.
 fn config_of(plan: &Plan) -> Config {
     Config {
         chunks: plan.chunks.min(64) + 3,
@@ -58,7 +58,7 @@ fn config_of(plan: &Plan) -> Config {
     }
 }
 
-/// What a site is made of, twice: where it finds no memory it is made anew.
+/// The inputs of a site, twice: if it runs out of memory it is created again.
 #[derive(Drop)]
 pub struct Beginning {
     first: Store,
@@ -83,7 +83,7 @@ impl Beginning {
     }
 }
 
-/// The site, made.
+/// Creates the site.
 pub fn begun(alloc: Global, beginning: Beginning) -> Result<Host, Refusal> {
     let (config, site) = (beginning.config, beginning.site);
     match sites::host_over(alloc, config, beginning.first, &site) {
@@ -92,7 +92,7 @@ pub fn begun(alloc: Global, beginning: Beginning) -> Result<Host, Refusal> {
     }
 }
 
-/// Bytes come in on a connection from a reader.
+/// Bytes arrive on a connection from a reader.
 pub fn arrive_from(
     host: &mut Host,
     conn: ConnId,
@@ -117,8 +117,7 @@ pub fn connect(host: &mut Host) -> Option<ConnId> {
     }
 }
 
-/// Choices come true, which are made again where one, the last, finds no memory. What the last of
-/// them was answered.
+/// Executes choices. The last one is retried if it runs out of memory. Returns the last reply.
 pub fn choose(host: &mut Host, choices: &[Choice]) -> Reply {
     for _ in 0..TRIES {
         match last_of(host.run(choices)) {

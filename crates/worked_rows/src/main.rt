@@ -1,20 +1,22 @@
 //! Rows of the file server, of scripts and of borrowed paths, over a site in memory:
-//! `scripts/hostile_rows` runs each with one thing after another hindered.
+//! `scripts/hostile_rows` runs each with one resource failure after another.
 //!
 //! `worked_rows served CHUNKS FAULT FILE ..` serves one connection from standard input to standard
-//! output, and tells how it ended. A FILE is `all` or `guest` (who may read it), a name, a count and a
-//! text, which it holds so many times. CHUNKS are those of the pool `site`. Device call number FAULT
-//! fails, if it is not 0.
+//! output, and prints its ending. A FILE is `all` or `guest` (the domains that may read it), a
+//! name, a count and a text, which is repeated as often. CHUNKS are those of the pool `site`.
+//! Device call number FAULT fails, if it is not 0.
 //!
-//! `worked_rows turns CHUNKS FAULT FILE ..` asks for the script `s.cgi` and the file `f` at once, and
-//! the guest writes `f` before the script reads it.
+//! `worked_rows turns CHUNKS FAULT FILE ..` requests the script `s.cgi` and the file `f` at once,
+//! and the guest writes `f` before the script reads it.
 //!
-//! `worked_rows borrowed COUNT TEXT MOST FAILS MOST FAILS STEP ..` takes a connection through steps,
-//! each a word and a number, on a site without files. Its reader gives the text so many times, at most
-//! MOST bytes at once, and fails at read number FAILS, if that is not 0. So does its writer.
+//! `worked_rows borrowed COUNT TEXT MOST FAILS MOST FAILS STEP ..` takes a connection through
+//! steps, each a word and a number, on a site without files. Its reader gives the text COUNT
+//! times, at most MOST bytes at once, and fails at read number FAILS, if that is not 0. The same
+//! holds for its writer.
 //!
-//! One empty line is written before the site is made, behind all that is made for it, and one then.
-//! What finds no memory from there on, the site or what comes from outside, is made again.
+//! One empty line is written before the site is created, after its inputs are made, and one when
+//! it exists. A step that runs out of memory from there on, the creation of the site or an
+//! external event, is retried.
 #![tactic(auto)]
 
 mod host;
@@ -35,7 +37,7 @@ use test_parts::texts::repeated;
 use test_parts::words::{number, word};
 use turns::Course;
 
-/// What is carried out.
+/// The kinds of rows.
 #[derive(Clone, Copy, Drop)]
 enum Mode {
     Served,
@@ -44,7 +46,7 @@ enum Mode {
 }
 
 impl Mode {
-    /// What a word names.
+    /// The kind of a word.
     fn of_word(word: &str) -> Option<Mode> {
         match word {
             "served" => Some(Mode::Served),
@@ -55,7 +57,7 @@ impl Mode {
     }
 }
 
-// A text so many times.
+// A text, repeated as often as the count before it.
 fn given(alloc: Global, words: &mut env::Args) -> anyhow::Result<Vec<u8>> {
     let count = number(words)?;
     let text = word(words)?;
@@ -119,7 +121,7 @@ fn word_of(ending: Option<Ending>) -> &'static str {
     }
 }
 
-// How it ended, and whether a turn found no memory, or met a fault.
+// Prints the ending, and whether a turn ran out of memory, or met a fault.
 fn tell<W: Write>(host: &Host, how: &str, output: &mut W) -> io::Result<()> {
     let rough = if host.is_rough() { ", rough" } else { "" };
     writeln!(output, "{how}{rough}")
@@ -133,7 +135,7 @@ fn serve<R: Read, W: Write>(host: &mut Host, input: &mut R, output: &mut W) -> i
     tell(host, word_of(ending), output)
 }
 
-// The host of a site, with an empty line before it is made and one behind.
+// The host of a site, with an empty line before it is created and one afterwards.
 fn begun<W: Write>(alloc: Global, beginning: Beginning, output: &mut W) -> Result<Host, Refusal> {
     let _before = output.write_all(b"\n");
     let host = host::begun(alloc, beginning);

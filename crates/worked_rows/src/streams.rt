@@ -1,4 +1,4 @@
-//! A connection that is served in place, a step after another: what each answers is written.
+//! A connection that is served in place, step by step, with the result of each step written.
 use crate::host::{Host, arrive_from, choose, connect};
 use iol_core::descriptors::How;
 use iol_core::events::{Call, Event, Reply};
@@ -11,19 +11,20 @@ use std::io::Write;
 use test_parts::streams::{Sink, Source};
 use test_worlds::systems::call_of;
 
-/// What is done, with a number.
+/// The action of a step; its number is a limit.
 #[derive(Clone, Copy, Drop)]
 pub enum Deed {
-    /// At most so many bytes come in from the reader.
+    /// Reads at most this number of bytes from the reader.
     In,
 
-    /// The server's domain accepts the connection, reads at most so many bytes, and writes them back.
+    /// The server's domain accepts the connection, reads at most this number of bytes, and writes
+    /// them back.
     Echo,
 
-    /// At most so many bytes go out to the writer.
+    /// Writes at most this number of bytes to the writer.
     Out,
 
-    /// At most so many bytes are sent as a segment.
+    /// Sends at most this number of bytes as a segment.
     Segment,
 
     /// The peer sends no more.
@@ -31,7 +32,7 @@ pub enum Deed {
 }
 
 impl Deed {
-    /// What a word names.
+    /// The action of a word.
     pub fn of_word(word: &str) -> Option<Deed> {
         match word {
             "in" => Some(Deed::In),
@@ -44,7 +45,7 @@ impl Deed {
     }
 }
 
-/// A deed, and its number.
+/// An action, and its number.
 #[derive(Clone, Copy, Drop)]
 pub struct Step {
     pub deed: Deed,
@@ -108,7 +109,7 @@ fn call(call: Call) -> [Choice; 1] {
     [Choice::Outside(call_of(1, call))]
 }
 
-// The connection is accepted as the first descriptor, and what came in is its first aggregate.
+// The connection is accepted as the first descriptor, and its input is the first aggregate.
 fn echo<W: Write>(host: &mut Host, count: u32, output: &mut W) -> io::Result<()> {
     let (fd, agg) = (Fd::new(0), AggId::new(1));
     write_reply(output, &choose(host, &call(Call::Accept)))?;
@@ -147,7 +148,7 @@ fn carry_out<W: Write>(
     }
 }
 
-/// The steps on a new connection, one after another.
+/// Executes the steps on a new connection, in order.
 pub fn carry_out_all<W: Write>(
     host: &mut Host,
     steps: &[Step],

@@ -1,4 +1,5 @@
-//! A script and a file that are asked for at once, and a file that is written before the script reads it.
+//! A script and a file that are requested at once, and a file that is written before the script
+//! reads it.
 use crate::host::{Host, choose};
 use iol_core::descriptors::Mode;
 use iol_core::events::{Call, Event};
@@ -27,7 +28,7 @@ fn arrives(alloc: Global, number: u32, text: &[u8]) -> Result<Choice, AllocError
     Ok(Choice::Outside(Event::Arrive { conn, bytes }))
 }
 
-// A call of the guest, which stands behind one worker.
+// A call of the guest, whose domain follows that of the only worker.
 fn of_guest(call: Call) -> Choice {
     Choice::Outside(call_of(3, call))
 }
@@ -44,13 +45,13 @@ fn writes(alloc: Global) -> Result<Choice, AllocError> {
     Ok(of_guest(Call::Write { fd, bytes }))
 }
 
-/// What happens, in order.
+/// The events, in order.
 #[derive(Drop)]
 pub struct Course {
     /// Two connections, and a request on each.
     asked: Vec<Choice>,
 
-    /// Turns of the server alone.
+    /// Turns of the server only.
     turns: Vec<Choice>,
 
     /// The guest writes the file.
@@ -90,7 +91,7 @@ impl Course {
     }
 }
 
-// How many bytes are sent at once.
+// Sends at most 4,096 bytes, and returns the number sent.
 fn send<W: Write>(host: &mut Host, conn: ConnId, output: &mut W) -> u32 {
     match host.drain_to(conn, output, 4096) {
         Ok(drained) => drained.taken,
@@ -98,7 +99,7 @@ fn send<W: Write>(host: &mut Host, conn: ConnId, output: &mut W) -> u32 {
     }
 }
 
-// All that is sent on a connection, and turns before each part of it.
+// Sends all output of a connection, with turns before each part.
 fn send_all<W: Write>(host: &mut Host, number: u32, output: &mut W) -> bool {
     let conn = ConnId::new(number);
     for _ in 0..1000 {
@@ -112,14 +113,14 @@ fn send_all<W: Write>(host: &mut Host, number: u32, output: &mut W) -> bool {
     false
 }
 
-// One choice after another comes true.
+// Executes choices, one at a time.
 fn choose_all(host: &mut Host, choices: &[Choice]) {
     for choice in choices.chunks(1) {
         let _reply = choose(host, choice);
     }
 }
 
-/// Lets all happen, and writes what is sent on both connections.
+/// Executes all events, and writes the output of both connections.
 pub fn carry_out<W: Write>(host: &mut Host, course: &Course, output: &mut W) -> io::Result<()> {
     choose_all(host, &course.asked);
     let _last = choose(host, &course.turns);

@@ -1,4 +1,4 @@
-//! With memory enough no call is refused for want of it; and which texts are scripts.
+//! With enough memory no call is refused for lack of it. Also, the texts that are scripts.
 use flash_cgi::counts::{Counts, Said};
 use flash_cgi::jobs::{Job, job_text};
 use flash_cgi::script::Script;
@@ -24,12 +24,12 @@ const TEXTS: [(&[u8], bool); 12] = [
     (b"emit \xff", false),
 ];
 
-// So many empty lines, or a file's name of so many bytes, and whether they are a script.
+// The number of empty lines, or the length of a file's name, and whether the text is a script.
 const LINES: [(usize, bool); 2] = [(32_768, true), (32_769, false)];
 
 const NAMES: [(usize, bool); 2] = [(255, true), (256, false)];
 
-// Whether a text is a script, or is none, as wanted.
+// Returns whether a text is a script or not, as wanted.
 fn is_read(alloc: Global, text: &[u8], wanted: bool) -> Result<bool, AllocError> {
     let script = Script::read(alloc, text)?;
     Ok(script.is_some() == wanted)

@@ -1,4 +1,4 @@
-//! Scripts that nobody reads, jobs that are none, and the end of the job pipe.
+//! Scripts whose output has no reader, texts that are no jobs, and the end of the job pipe.
 use super::rows::{OUTPUT, close, give, is_put_out, job_of};
 use super::stage::{Stage, on_stage};
 use iol_core::events::{Call, Reply};
@@ -8,7 +8,7 @@ use std::alloc::Global;
 use std::test::Fail;
 use test_parts::checks::pass;
 
-// Whether the worker has this number, and the next, free.
+// Returns whether this descriptor of the worker, and the next, are free.
 fn has_free(stage: &mut Stage, fd: u32) -> bool {
     match stage.call(2, Call::Pipe) {
         Reply::Fds(read, write) => read.number() == fd && write.number() == fd.saturating_add(1),
@@ -16,7 +16,8 @@ fn has_free(stage: &mut Stage, fd: u32) -> bool {
     }
 }
 
-// The pipe is closed before the script begins: it ends at its first write, and the next job is run.
+// The pipe is closed before the script begins: the script ends at its first write, and the next
+// job is run.
 fn goes_on(stage: &mut Stage, unread: Bytes, next: Bytes) -> bool {
     give(stage, unread)
         && close(stage, 0)
@@ -39,7 +40,7 @@ fn broken_pipe_ends_the_script(rt: HostRuntime) -> Result<(), Fail> {
     pass(ends_unread(rt.alloc()))
 }
 
-// What is no job is dropped, and what it gave the worker is left there.
+// A text that is no job is dropped, and the descriptor for its output stays with the worker.
 fn passes_over(stage: &mut Stage, none: Bytes, next: Bytes) -> bool {
     give(stage, none)
         && stage.settle()
@@ -64,7 +65,7 @@ fn what_begins_as_a_job_is_dropped(rt: HostRuntime) -> Result<(), Fail> {
     pass(drops_no_job(rt.alloc(), "emit a\ncat "))
 }
 
-// The job pipe ends behind a job: the job is run, and then the worker makes no more calls.
+// The job pipe ends after a job: the job is run, and then the worker makes no more calls.
 fn stops(stage: &mut Stage, job: Bytes) -> bool {
     give(stage, job)
         && close(stage, 1)

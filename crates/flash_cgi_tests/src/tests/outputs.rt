@@ -1,4 +1,4 @@
-//! What scripts put out.
+//! The output of scripts.
 use super::rows::{OUTPUT, Row, give, held, is_put_out};
 use super::stage::{on_stage, stage_of};
 use flash_cgi::jobs::job_text;
@@ -10,10 +10,10 @@ use test_parts::checks::{lend, pass, pass_all, pass_each};
 use test_parts::texts::repeated;
 use test_worlds::files::Kept;
 
-// A file for all, and one of the guest's.
+// A file for all, and a private file of the guest.
 const FILES: [Kept<'static>; 2] = [("f", b"a\nb", false), ("p", b"secret", true)];
 
-// One byte more than a query has that is joined to texts.
+// One byte longer than a query that is buffered with texts.
 const LONG_QUERY: &str = "xxxxxxxxxxxxxxxxxxxxxxxxxxxxxxxxxxxxxxxxxxxxxxxxxxxxxxxxxxxxxxxxx";
 
 const ROWS: [Row<'static>; 15] = [
@@ -55,7 +55,8 @@ fn outcomes_of_a_script(rt: HostRuntime) -> Result<(), Fail> {
     pass_all(held(rt.alloc(), &FILES, &ROWS), ROWS.len())
 }
 
-// Files of no bytes, of as many as a pipe holds, and of more, which go in pieces; and the last between texts.
+// Files of no bytes, of the capacity of a pipe, and of more, which are written in pieces; and the
+// last of these between texts.
 fn sizes_held<'a>(
     alloc: Global,
     full: &'a [u8],
@@ -88,8 +89,8 @@ fn files_of_several_sizes(rt: HostRuntime) -> Result<(), Fail> {
     pass_all(sizes_held(rt.alloc(), &full, &more, &between), 5)
 }
 
-// Many more texts than the worker's pool has pages: nothing is read before all of them are put out, and no
-// call is refused for want of room.
+// Many more texts than the worker's pool has pages: nothing is read before all of them are
+// written, and no call is refused for lack of pages.
 fn many_texts(alloc: Global) -> Result<bool, Refusal> {
     let script = repeated(alloc, b"emit abc\n", 1500)?;
     let wanted = repeated(alloc, b"abc\n", 1500)?;
@@ -99,7 +100,7 @@ fn many_texts(alloc: Global) -> Result<bool, Refusal> {
     })
 }
 
-// Lines, and what they put out: a hundred times each they are many more pieces than the worker's pool has pages.
+// Lines and their output: a hundred of each are many more pieces than the worker's pool has pages.
 const PIECES: [(&[u8], &[u8]); 3] = [
     (b"wc f\n", b"1 3\n"),
     (

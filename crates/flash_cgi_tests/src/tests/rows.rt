@@ -1,4 +1,4 @@
-//! Rows: a script, the query of its request, and all that it puts out.
+//! Rows: a script, the query of its request, and its whole output.
 use super::stage::{Stage, stage_of};
 use flash_cgi::jobs::job_text;
 use iol_core::events::{Call, Reply};
@@ -8,10 +8,10 @@ use iol_core::refusals::Refusal;
 use std::alloc::{AllocError, Global};
 use test_worlds::files::Kept;
 
-/// A script, the query, and what is put out.
+/// A script, the query, and the output.
 pub type Row<'a> = (&'a str, &'a str, &'a [u8]);
 
-/// The descriptor that takes a job's output, in the worker: its lowest that is free.
+/// The worker's descriptor for a job's output: its lowest free number.
 pub const OUTPUT: u32 = 1;
 
 /// The job of a script.
@@ -27,7 +27,7 @@ fn open_output(stage: &mut Stage) -> bool {
     matches!(opened, Reply::Fds(_, _)) && matches!(given, Reply::Fd(_))
 }
 
-/// Gives the worker a job whose output goes to a new pipe. Whether it can be done.
+/// Gives the worker a job with its output to a new pipe. Returns whether that is possible.
 pub fn give(stage: &mut Stage, job: Bytes) -> bool {
     if !open_output(stage) {
         return false;
@@ -51,7 +51,7 @@ pub fn close(stage: &mut Stage, fd: u32) -> bool {
     matches!(stage.call(1, Call::Close { fd: Fd::new(fd) }), Reply::Done)
 }
 
-/// Takes all that is put out, up to its end, with turns before each read, and compares it.
+/// Reads the whole output, with turns before each read, and compares it.
 pub fn is_put_out(stage: &mut Stage, wanted: &[u8]) -> bool {
     let mut left = wanted;
     for _ in 0..1000 {
@@ -76,7 +76,7 @@ pub fn is_put_out(stage: &mut Stage, wanted: &[u8]) -> bool {
     false
 }
 
-// How many rows hold, up to the first that does not.
+// The number of rows that hold, up to the first that does not.
 fn count_held(stage: &mut Stage, jobs: Vec<Bytes>, rows: &[Row<'_>]) -> u32 {
     let mut held = 0u32;
     for (row, job) in rows.iter().zip(jobs) {
@@ -96,7 +96,8 @@ fn jobs_of(alloc: Global, rows: &[Row<'_>]) -> Result<Vec<Bytes>, AllocError> {
     Ok(jobs)
 }
 
-/// How many rows hold with these files, run one after another by one worker, up to the first that does not.
+/// The number of rows that hold with these files, run in order by one worker, up to the first that
+/// does not.
 pub fn held(alloc: Global, files: &[Kept<'_>], rows: &[Row<'_>]) -> Result<usize, Refusal> {
     let jobs = jobs_of(alloc, rows)?;
     let mut stage = stage_of(alloc, files)?;

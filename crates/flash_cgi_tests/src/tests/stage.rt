@@ -1,4 +1,5 @@
-//! A worker in domain 2, in a world whose domain 1 gives it jobs. Domain 3 is a guest with a private file.
+//! A worker in domain 2, in a world whose domain 1 gives it jobs. Domain 3 is a guest with a
+//! private file.
 use flash_cgi::worker::Worker;
 use iol_back::memory::MemoryBacking;
 use iol_core::configuration::Config;
@@ -36,7 +37,8 @@ fn file_event(alloc: Global, file: &Kept<'_>) -> Result<Event, AllocError> {
     Ok(call_of(by, Call::FileNew { name, pool }))
 }
 
-// Domains; the pools `site`, `net`, `work` and `vault`; files; and a job pipe, whose read end the worker has.
+// Domains; the pools `site`, `net`, `work` and `vault`; files; and a job pipe with its read end at
+// the worker.
 fn beginnings(alloc: Global, files: &[Kept<'_>]) -> Result<Vec<Event>, AllocError> {
     let mut events = Vec::new(alloc);
     events.push(call_of(1, Call::DomainNew))?;
@@ -66,7 +68,8 @@ pub fn stage_of(alloc: Global, files: &[Kept<'_>]) -> Result<Stage, Refusal> {
     Ok(TestWorld::of_one(alloc, system, 2, Worker::new(alloc))?)
 }
 
-/// Whether it goes so in the world of a worker without files, which is let go then.
+/// Returns the result of a test in the world of a worker without files, which is dropped
+/// afterwards.
 pub fn on_stage<F: FnOnce(&mut Stage) -> bool + Drop>(
     alloc: Global,
     goes: F,

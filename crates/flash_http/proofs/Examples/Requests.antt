@@ -1,4 +1,4 @@
--- What heads ask for: examples, as far as their targets are not looked at.
+-- Answers to heads: examples in which the target is not interpreted.
 use Rattle.std.proofs.Common.{◌≡◌, ℕ, List, [], ◌∷◌, true, false, Some, None, refl}
 use Rattle.std.specs.Prelude.{codes}
 use Rattle.httparse.specs.Grammar.{trim_ows}

@@ -1,4 +1,4 @@
--- The heads of answers: examples.
+-- The heads of responses: examples.
 use Rattle.std.proofs.Common.{◌≡◌, true, false, refl}
 use Rattle.std.specs.Prelude.{codes}
 use Rattle.std.specs.Fmt.{digits}

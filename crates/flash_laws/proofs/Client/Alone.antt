@@ -1,4 +1,4 @@
--- After the reply to its call a client for which no script runs has what it needs, with what is known then.
+-- After the reply to its call, a client without running script has the data for its next step, with the known results.
 use Rattle.std.proofs.Common.{◌≡◌, ℕ, ◌+◌, List, [], ◌∷◌, length, take, drop, refl, sym, subst, Some, None, true, false, Bool, if◌then◌else◌}
 use Rattle.iol_core.specs.Access.{HasAccess}
 use Rattle.iol_core.specs.State.{State, descriptor, content, file, may_read, is_live}

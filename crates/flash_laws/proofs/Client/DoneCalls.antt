@@ -1,4 +1,4 @@
--- For a client no call is made again that was done, and a descriptor that comes is used.
+-- A successful call of a client is not repeated, and a descriptor that it returns is used.
 use Rattle.std.proofs.Common.{◌≡◌, ℕ, ◌==◌, List, ap, ◌∙◌, sym, subst, Option, Some, None, true, false, Bool}
 use Rattle.std.specs.Prelude.{◌||◌}
 use Rattle.iol_core.specs.State.{State}

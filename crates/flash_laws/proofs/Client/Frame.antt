@@ -1,4 +1,4 @@
--- What stays of a client with each reply: its request, and what is kept of the stream; and of what script it holds the text.
+-- Replies leave a client's request unchanged, and extend its buffered stream; and the script whose text it holds.
 use Rattle.std.proofs.Common.{◌≡◌, ℕ, List, [], ◌∷◌, ap, ◌∙◌, refl, sym, subst, Option, Some, None, true, false, Bool, append-nil}
 use Rattle.std.specs.Prelude.{◌&&◌, not}
 use Rattle.iol_core.specs.declared.events.Call.TheVariants as call

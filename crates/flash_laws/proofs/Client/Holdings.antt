@@ -1,4 +1,4 @@
--- What a call brings the server is used by the client that it is made for, and what that uses no more is given up.
+-- The result of a call belongs to the client for which it was made, and is given up when that client no longer uses it.
 use Rattle.std.proofs.Common.{◌≡◌, ℕ, ◌==◌, List, ◌∙◌, refl, sym, subst, Option, Some, None, true, false, Bool}
 use Rattle.iol_core.specs.Access.{HasAccess}
 use Rattle.iol_core.specs.State.{State, descriptor, is_live}

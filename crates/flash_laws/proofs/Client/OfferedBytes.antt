@@ -1,4 +1,4 @@
--- What a client is offered is the next bytes of the response, for a file and for a script.
+-- The bytes offered to a client are the next bytes of the response, for a file and for a script.
 use Rattle.std.proofs.Common.{inl, inr, ◌≡◌, ℕ, ◌+◌, ◌⊎◌, List, [], drop, ap, ◌∙◌, refl, sym, subst, Option, Some, None, true, false, Bool, zero-add, if◌then◌else◌}
 use Rattle.iol_core.specs.Access.{HasAccess}
 use Rattle.iol_core.specs.State.{State, descriptor, is_live}

@@ -1,4 +1,4 @@
--- The phases of a client, whatever the response that is due: what the machine has, what is offered, and what of a script's text is
+-- The phases of a client, for every due response: the data in the machine, the offered bytes, and the text of a script that was
 -- read.
 use Rattle.std.proofs.Common.{◌≡◌, ℕ, ◌+◌, ◌-◌, List, [], ◌∷◌, ◌++◌, drop, ap, ◌∙◌, refl, sym, subst, Some, None, true, false, Bool, append_assoc, if◌then◌else◌}
 use Rattle.std.specs.Prelude.{◌||◌, nat_lt, nat_le, slice_range}

@@ -1,4 +1,4 @@
--- A call for a client brings its request nearer to its end, or brings more output of its script, or is to be made again later.
+-- A call for a client reduces the rank of its request, reads more output of its script, or is retried later.
 use Rattle.std.proofs.Common.{inl, inr, ◌≡◌, ℕ, ◌+◌, ◌<◌, ◌⊎◌, List, [], ap, ◌∙◌, refl, sym, subst, arith, Option, Some, None, true, false, Bool, if◌then◌else◌}
 use Rattle.iol_core.specs.State.{State, descriptor, is_live}
 use Rattle.iol_core.specs.Run.{StepsTo}

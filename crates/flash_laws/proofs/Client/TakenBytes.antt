@@ -1,4 +1,4 @@
--- As much of what a client is sent counts as taken as its connection took.
+-- The bytes that a client's connection took count as taken.
 use Rattle.std.proofs.Common.{◌≡◌, ℕ, ◌+◌, List, ap, ◌∙◌, refl, sym, subst, arith, Option, Some, None, true, false, Bool, if◌then◌else◌}
 use Rattle.iol_core.specs.State.{State, descriptor}
 use Rattle.iol_core.specs.Run.{StepsTo}

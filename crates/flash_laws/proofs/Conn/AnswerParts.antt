@@ -1,4 +1,4 @@
--- What the server has of an answer is kept by its own calls, whatever the response that is due.
+-- The server's own calls preserve its data of a response, for every due response.
 use Rattle.std.proofs.Common.{◌≡◌, ℕ, ◌+◌, ◌-◌, ◌==◌, ◌<◌, ◌≤◌, List, [], ◌++◌, length, drop, ap, ◌∙◌, refl, sym, subst, arith, Some, None, true, false, Bool, append-nil, if◌then◌else◌}
 use Rattle.std.specs.Prelude.{nat_lt, nat_le, slice_range}
 use Rattle.std.proofs.lemmas.List.{drop-drop}

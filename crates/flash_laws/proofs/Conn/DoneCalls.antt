@@ -1,4 +1,4 @@
--- A call for a file that was done is not made again, and a descriptor that comes is used.
+-- A successful call for a file is not repeated, and a descriptor that it returns is used.
 use Rattle.std.proofs.Common.{◌≡◌, ℕ, ◌+◌, ◌-◌, List, [], ◌∷◌, length, ap, Some, None, true, false, Bool, if◌then◌else◌}
 use Rattle.std.specs.Prelude.{nat_lt, nat_le}
 use Rattle.iol_core.specs.State.{State}

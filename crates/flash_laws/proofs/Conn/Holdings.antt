@@ -1,4 +1,4 @@
--- What a call brings the server is used by its connection, and what that uses no more is given up.
+-- The result of a call belongs to its connection, and is given up when that connection no longer uses it.
 use Rattle.std.proofs.Common.{◌≡◌, ℕ, ◌+◌, ◌-◌, ◌==◌, List, [], ◌∷◌, ◌++◌, ap, ◌∙◌, refl, sym, Some, None, true, false, Bool, if◌then◌else◌, length, take, drop}
 use Rattle.std.specs.Prelude.{nat_lt, nat_le, ◌||◌, slice_range}
 use Rattle.iol_core.specs.Access.{HasAccess}

@@ -1,4 +1,4 @@
--- What the server has of its answers stays, if what it uses stays.
+-- The server's data of its responses remains, if the objects that it uses remain.
 use Rattle.std.proofs.Common.{◌≡◌, ℕ, ◌==◌, List, [], ap, ◌∙◌, refl, sym, arith, Option, Some, None, true, false}
 use Rattle.std.specs.Prelude.{option_map, ◌||◌, slice_range}
 use Rattle.std.proofs.lemmas.Bool.Decides.{nat_tests}

@@ -1,4 +1,4 @@
--- A call for a file brings its request nearer to its end, or is to be made again later.
+-- A call for a file reduces the rank of its request, or is retried later.
 use Rattle.std.proofs.Common.{inl, inr, ◌≡◌, ◌≢◌, ℕ, ◌+◌, ◌*◌, ◌-◌, ◌==◌, ◌<◌, ◌≤◌, ◌⊎◌, List, [], ◌∷◌, ◌++◌, length, drop, ap, ◌∙◌, refl, sym, subst, arith, Option, Some, None, true, false, Bool, length-drop, if◌then◌else◌}
 use Rattle.std.specs.Prelude.{min, nat_lt, nat_le, unwrap_or, option_map, slice_range, ◌&&◌}
 use Rattle.std.proofs.lemmas.Bool.Decides.{nat_tests}

@@ -1,4 +1,4 @@
--- Each call is answered in one way: where after the reply all is as before, it was refused.
+-- Each call has one kind of reply: if the state is unchanged after the reply, the call was refused.
 use Rattle.std.proofs.Common.{◌≡◌, ℕ, List, refl, true, false, Bool, if◌then◌else◌}
 use Rattle.iol_core.specs.State.{State}
 use Rattle.iol_core.specs.Run.{StepsTo}

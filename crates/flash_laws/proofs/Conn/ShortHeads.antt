@@ -1,5 +1,5 @@
--- Which errors a head may be refused with, and what stays short from one phase to the next.
-use Rattle.std.proofs.Common.{◌≡◌, ℕ, ◌+◌, ◌||◌, List, [], ◌∷◌, ap, refl, sym, subst, Option, Some, None, true, false, Bool, if◌then◌else◌}
+-- The errors with which a head may be refused, and the bounds that each phase preserves.
+use Rattle.std.proofs.Common.{◌≡◌, ℕ, ◌+◌, ◌||◌, List, [], ◌∷◌, refl, sym, subst, Option, Some, None, true, false, Bool, if◌then◌else◌}
 use Rattle.std.specs.Prelude.{nat_lt, nat_le, not, MatchOption}
 use Rattle.iol_core.specs.State.{State}
 use Rattle.iol_core.specs.declared.limits.TheConstants.{MAX_AGGREGATE_BYTES}

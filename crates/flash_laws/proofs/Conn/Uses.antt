@@ -1,4 +1,4 @@
--- What a phase uses, before its call and after the reply.
+-- The objects that a phase uses, before its call and after the reply.
 use Rattle.std.proofs.Common.{inl, inr, ◌≡◌, ℕ, ◌+◌, ◌==◌, ◌⊎◌, List, [], ◌∷◌, ap, ◌∙◌, refl, sym, arith, Some, None, true, false, Bool, if◌then◌else◌}
 use Rattle.std.specs.Prelude.{nat_lt, nat_le, ◌||◌, slice_range}
 use Rattle.std.proofs.lemmas.Bool.Decides.{nat_tests}

@@ -1,4 +1,4 @@
--- How a run ends, and until when it keeps the text of its script.
+-- The end of a run, and the time until which it keeps the text of its script.
 use Rattle.std.proofs.Common.{inl, inr, ◌≡◌, ℕ, ◌⊎◌, List, [], ◌∷◌, ap, refl, sym, subst, Option, Some, None, true, false, Bool, if◌then◌else◌}
 use Rattle.std.specs.Prelude.{nat_lt}
 use Rattle.iol_core.specs.declared.refusals.Refusal.TheVariants as no

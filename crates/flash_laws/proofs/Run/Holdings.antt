@@ -1,4 +1,4 @@
--- What a run uses no more is given up.
+-- Objects that a run no longer uses are given up.
 use Rattle.std.proofs.Common.{◌≡◌, ℕ, ◌==◌, List, [], ◌∷◌, ap, ◌∙◌, refl, sym, arith, Option, Some, None, true, false, Bool, if◌then◌else◌, length}
 use Rattle.std.specs.Prelude.{◌||◌, nat_lt}
 use Rattle.iol_core.specs.State.{State, descriptor}

@@ -1,4 +1,4 @@
--- What is offered for a script is the next bytes of the response, whatever the run.
+-- The bytes offered for a script are the next bytes of the response, for every run.
 use Rattle.std.proofs.Common.{◌≡◌, ℕ, suc, ◌+◌, ◌-◌, ◌==◌, ◌<◌, ◌≤◌, List, [], ◌∷◌, ◌++◌, length, drop, ap, ◌∙◌, refl, sym, subst, arith, Option, Some, None, true, false, Bool, append_assoc, append-nil, zero-add}
 use Rattle.std.proofs.lemmas.Bool.{or_parts}
 use Rattle.std.proofs.lemmas.List.{drop-append-le}

@@ -1,4 +1,4 @@
--- What is heard of an output, and what of the response it makes.
+-- The output that was read, and the part of the response that it makes.
 use Rattle.std.proofs.Common.{◌≡◌, ◌≤◌, ◌<◌, ◌/◌, ◌%◌, ◌==◌, ℕ, zero, suc, ◌+◌, Bool, true, false, cond, List, [], ◌∷◌, ◌++◌, length, take, ap, ◌∙◌, refl, sym, subst, arith, append_assoc, append-nil, length-append}
 use Rattle.std.specs.List.{prefix_len}
 use Rattle.std.specs.Fmt.{digits, digits_onto, digit_glyph}

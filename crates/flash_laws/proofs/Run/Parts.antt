@@ -1,4 +1,4 @@
--- A part of a script's response is sent as a file's response is.
+-- A part of a script's response is sent by the phases of a file's response.
 use Rattle.std.proofs.Common.{◌≡◌, ℕ, ◌+◌, ◌-◌, ◌==◌, List, [], ap, ◌∙◌, refl, sym, subst, arith, Option, Some, None, true, false, Bool, if◌then◌else◌}
 use Rattle.std.specs.Prelude.{◌||◌, ◌&&◌, min, nat_lt, slice_range}
 use Rattle.std.proofs.lemmas.Bool.{or_parts, or_from}

@@ -1,4 +1,4 @@
--- The steps that send nothing: none takes bytes, breaks off, or hands a job over out of turn.
+-- The steps that send nothing: they take no bytes, do not abort, and hand a job over in order.
 use Rattle.std.proofs.Common.{inl, inr, ◌≡◌, ℕ, ◌⊎◌, List, [], ◌∷◌, refl, Option, Some, None, true, false, Bool, if◌then◌else◌}
 use Rattle.std.specs.Prelude.{nat_lt}
 use Rattle.iol_core.specs.declared.refusals.Refusal.TheVariants as no

@@ -1,4 +1,4 @@
--- What a call brings a run is used by it.
+-- The result of a call of a run is used by it.
 use Rattle.std.proofs.Common.{◌≡◌, ℕ, ◌+◌, ◌-◌, ◌==◌, List, [], ◌∷◌, ◌++◌, Option, Some, None, true, false, take, drop}
 use Rattle.std.specs.Prelude.{◌||◌, slice_range}
 use Rattle.iol_core.specs.State.{State, descriptor}

@@ -1,4 +1,4 @@
--- What is left of a response is sent as a file's response is, and as much counts as taken as the connection took.
+-- The rest of a response is sent by the phases of a file's response, and the bytes that the connection took count as taken.
 use Rattle.std.proofs.Common.{inl, ◌≡◌, ℕ, ◌+◌, ◌==◌, ◌≤◌, List, [], ◌++◌, length, drop, ap, ◌∙◌, refl, sym, subst, arith, Some, None, true, false, Bool, append-nil, length-append, length-drop, if◌then◌else◌}
 use Rattle.std.specs.Prelude.{not, nat_lt, slice_range}
 use Rattle.std.proofs.lemmas.Bool.{or_parts}

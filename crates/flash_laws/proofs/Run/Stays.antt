@@ -1,4 +1,4 @@
--- What a run has stays, if what it uses stays.
+-- A run's data remains, if the objects that it uses remain.
 use Rattle.std.proofs.Common.{◌≡◌, ℕ, ◌==◌, List, refl, sym, ap, ◌∙◌, Option, Some, None, true, false, Bool}
 use Rattle.std.specs.Prelude.{◌||◌, ◌&&◌}
 use Rattle.iol_core.specs.State.{State, descriptor}

@@ -1,4 +1,4 @@
--- After the reply to its own call a run has what it needs: until its output ends.
+-- After the reply to its own call a run has the data for its next step: until its output ends.
 use Rattle.std.proofs.Common.{◌≡◌, ℕ, ◌+◌, ◌-◌, ◌==◌, ◌<◌, ◌≤◌, List, [], ◌∷◌, ◌++◌, length, take, drop, ap, ◌∙◌, refl, sym, subst, arith, Option, Some, None, true, false, Bool, append-nil, length-append, if◌then◌else◌}
 use Rattle.std.specs.Prelude.{◌||◌, nat_lt}
 use Rattle.std.proofs.lemmas.Bool.{or_from}

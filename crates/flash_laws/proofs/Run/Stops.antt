@@ -1,4 +1,5 @@
--- After the reply to its own call a run has what it needs: at the end of its output, and where its script cannot be run.
+-- After the reply to its own call a run has the data for its next step: at the end of its output, and if its script cannot be
+-- run.
 use Rattle.std.proofs.Common.{inr, ◌≡◌, ℕ, ◌==◌, ◌≤◌, List, [], ◌++◌, length, take, drop, ap, ◌∙◌, refl, sym, subst, arith, Option, Some, None, true, false, Bool}
 use Rattle.std.specs.Prelude.{not}
 use Rattle.std.proofs.lemmas.Bool.{or_from}

@@ -1,4 +1,4 @@
--- As much counts as taken as the connection took, and why a response is broken off, or a script given up.
+-- The bytes that the connection took count as taken; the reasons for which a response is aborted, or a script given up.
 use Rattle.std.proofs.Common.{inl, inr, ◌≡◌, ℕ, ◌+◌, ◌==◌, ◌⊎◌, List, [], ◌∷◌, length, ap, ◌-◌, ◌∙◌, refl, sym, subst, arith, Option, Some, None, true, false, Bool, length-append, if◌then◌else◌}
 use Rattle.std.specs.Prelude.{◌||◌, ◌&&◌, not, nat_lt, is_none, MatchOption}
 use Rattle.iol_core.specs.State.{State, descriptor, is_live, pipe_at, conn_at, is_gone}

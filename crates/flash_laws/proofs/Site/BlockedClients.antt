@@ -1,4 +1,4 @@
--- A client whose call would block is as it was.
+-- A client whose call would block is unchanged.
 use Rattle.std.proofs.Common.{inl, inr, ◌≡◌, ℕ, zero, suc, ◌+◌, ◌-◌, ◌<◌, ◌≤◌, ◌⊎◌, List, [], ◌∷◌, ◌++◌, length, ap, ◌∙◌, refl, sym, subst, arith, Option, Some, None, true, false, Bool, append-nil, slice_set}
 use Rattle.std.specs.Prelude.{replicate}
 use Rattle.std.proofs.lemmas.Bool.{cases_lt}

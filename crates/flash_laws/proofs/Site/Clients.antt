@@ -1,4 +1,4 @@
--- For a server without workers no script runs: none does when it is new, and each turn leaves it so.
+-- For a server without workers no script runs: when it is new, and after each turn.
 use Rattle.std.proofs.Common.{inl, inr, ◌≡◌, ℕ, List, ap, ◌∙◌, refl, sym, subst, Option, Some, None, false}
 use Rattle.std.specs.Prelude.{nat_lt}
 use Rattle.std.proofs.lemmas.Bool.{cases_eq}

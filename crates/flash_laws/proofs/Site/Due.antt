@@ -1,4 +1,4 @@
--- The response that is due may come, with what is known.
+-- The due response is possible, given the known results.
 use Rattle.std.proofs.Common.{inl, inr, ◌≡◌, ℕ, List, [], ◌∷◌, ◌++◌, ap, ◌∙◌, refl, sym, subst, Option, Some, None, true, false, Bool}
 use Rattle.std.specs.Prelude.{is_some, if◌then◌else◌}
 use Rattle.iol_core.specs.State.{State}
@@ -10,11 +10,12 @@ use Rattle.flash_cgi.specs.Script.{script_of}
 use Rattle.flash_cgi.specs.declared.line.Line.{Line}
 use Rattle.flash_cgi.specs.declared.line.Line.TheVariants as line
 use Rattle.flash_laws.specs.Answers.{Outcome, Found, Failed, outcome_of, Shelf as Files, due_to as file_due}
-use Rattle.flash_laws.specs.Shelf.{Shelf, due_to, MayShow, AllMayShow, MayRun, MayAnswerText, MayGive, MayBeDue}
+use Rattle.flash_laws.specs.Shelf.{Shelf, due_to, AllMayShow, MayRun, MayAnswerText, MayGive, MayBeDue}
 use Rattle.iol_core.specs.declared.refusals.Refusal.{Refusal}
 use Rattle.flash_laws.specs.Conn.{status_of, text_of}
 use Rattle.flash_laws.specs.declared.phase.Content.TheVariants.{Error}
-use Rattle.flash_laws.specs.Client.{is_for_script}
+use Rattle.flash_laws.specs.Client.{Client, is_for_script}
+use Rattle.flash_laws.specs.Client.Fits.{IsScript, made_of, response_to}
 use Rattle.flash_laws.specs.Shelf.Due.{DueMayCome, Seen, due, due_if, due_of_run, due_of_script, due_of_text, outcomes_by}
 use Rattle.flash_laws.specs.Client.ResponseState.{Known, OfFile, OfScript, of_text, MayAnswer, MayPutOut}
 use Rattle.flash_laws.specs.Run.Fits.{Ran, Follows, nothing_yet}
@@ -80,7 +81,7 @@ due_may_come = record { file = file; read = read; unread = unread; heard = while
 -- ---- the response that is due may be had; and the error, where a call is refused
 
 module _ (shelf : Shelf) where
-  all-show : (os : List script.Outcome) → AllMayShow shelf os os
+  pub all-show : (os : List script.Outcome) → AllMayShow shelf os os
   all-show [] = tt
   all-show (o ∷ os) = (inl refl, all-show os)
 
@@ -111,5 +112,34 @@ module _ (shelf : Shelf) where
   give-error true w status = refl
   give-error false w status = refl
 
-  pub error-may : (w : Wanted) (x : Refusal) → shelf.refuses x ≡ true → MayBeDue shelf (serve w) (text_of (serve w) (Error (status_of x)))
+  pub error-may : (w : Wanted) (x : Refusal) → shelf.refuses.of_server x ≡ true → MayBeDue shelf (serve w) (text_of (serve w) (Error (status_of x)))
   error-may w x may = (Failed (status_of x), inr (x, may, refl), give-error (is_for_script shelf.scripts (serve w)) w (status_of x))
+
+  -- ---- of a script that runs: the response to what it puts out
+
+  pub shown-may : (x : Client) (w : Wanted) (s : IsScript shelf x w) (shown : List script.Outcome) → AllMayShow shelf (outcomes_by shelf.shows s.lines) shown
+      → MayBeDue shelf (serve w) (response_to w (made_of w s.lines shown))
+  shown-may x w s shown may = (Found s.text, inl (sym s.found), gives)
+    where
+      runs : MayRun shelf w.head_only w s.lines (response_to w (made_of w s.lines shown))
+      runs = subst (λ (b : Bool). MayRun shelf b w s.lines (response_to w (made_of w s.lines shown))) (sym s.get) (shown, may, refl)
+
+      gives : MayGive shelf (is_for_script shelf.scripts (serve w)) (serve w) (Found s.text) (response_to w (made_of w s.lines shown))
+      gives = subst (λ (b : Bool). MayGive shelf b (serve w) (Found s.text) (response_to w (made_of w s.lines shown))) (sym s.is_for)
+          (subst (λ (o : Option (List Line)). MayAnswerText shelf w o (response_to w (made_of w s.lines shown))) (sym s.is_script) runs)
+
+  -- where its files are to give what is there, it is the one that is due
+  pub script-due : (w : Wanted) (text : List ℕ) (lines : List Line) → is_for_script shelf.scripts (serve w) ≡ true → shelf.finds w.name ≡ Found text
+      → script_of text ≡ Some lines → w.head_only ≡ false
+      → due_to shelf (serve w) ≡ response_to w (made_of w lines (outcomes_by shelf.shows lines))
+  script-due w text lines is found lines_are gets =
+      due_found shelf.scripts shelf.finds shelf.shows w (Found text) is found
+      ∙ (ap (λ (o : Option (List Line)). due_of_text shelf.shows w o) lines_are ∙ ap (λ b. due_of_run b shelf.shows w lines) gets)
+
+  -- where one of its files gives a refusal in place of what it was to give
+  pub show-refused : (there past rest : List script.Outcome) (o : script.Outcome) (x : Refusal) → shelf.refuses.of_workers x ≡ true
+      → AllMayShow shelf there (past ++ o ∷ rest) → AllMayShow shelf there (past ++ script.Failed x ∷ rest)
+  show-refused [] [] rest o x may all = absurd all
+  show-refused [] (b ∷ past) rest o x may all = absurd all
+  show-refused (a ∷ there) [] rest o x may all = (inr (x, may, refl), all.1)
+  show-refused (a ∷ there) (b ∷ past) rest o x may all = (all.0, show-refused there past rest o x may all.1)

@@ -1,4 +1,4 @@
--- The server's account keeps what it declares of idle moments.
+-- The server's account preserves its condition when idle.
 use Rattle.std.proofs.Common.{inl, inr, ◌≡◌, ℕ, zero, suc, ◌+◌, ◌-◌, ◌<◌, ◌≤◌, ◌⊎◌, List, length, drop, get_or, ap, ◌∙◌, refl, sym, subst, arith, Option, Some, None, true, false, Bool, if◌then◌else◌, length-drop}
 use Rattle.std.specs.Prelude.{nat_lt, position, option_map}
 use Rattle.std.specs.List.{position_or_len}

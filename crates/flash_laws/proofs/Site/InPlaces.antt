@@ -1,4 +1,4 @@
--- Places of a list, and what is left in them.
+-- Indices of a list, and the remaining elements.
 use Rattle.std.proofs.Common.{◌≡◌, ◌≢◌, ℕ, zero, suc, ◌+◌, ◌-◌, List, [], ◌∷◌, ◌++◌, length, replicate, refl, arith, Option, Some, None}
 use Rattle.std.specs.Prelude.{option_map}
 use Rattle.std.proofs.lemmas.Bool.Decides.{nat_tests}

@@ -1,4 +1,4 @@
--- Turns in rounds are mild, and so is a run that ends with them.
+-- Turns in rounds are mild, and a run that ends with them is mild, too.
 use Rattle.std.proofs.Common.{ℕ, zero, suc, List, [], ◌∷◌}
 use Rattle.iol_core.specs.State.{State}
 use Rattle.iol_core.specs.declared.events.Reply.{Reply}

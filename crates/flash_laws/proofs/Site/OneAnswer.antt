@@ -1,4 +1,4 @@
--- Where nothing is refused a request has one response, and a stream one answer.
+-- If nothing is refused, a request has one response, and a stream one answer.
 use Rattle.std.proofs.Common.{inl, inr, ◌≡◌, ◌⊎◌, ℕ, List, [], ◌∷◌, ◌++◌, ◌+◌, length, map, ap, ◌∙◌, refl, sym, subst, arith, Option, Some, None, true, false, Bool, append-nil, append_assoc, length-append}
 use Rattle.std.specs.Prelude.{◌&&◌, not}
 use Rattle.std.specs.List.{concat}
@@ -24,16 +24,19 @@ use Rattle.flash_laws.proofs.Site.Due.{due-may}
 -- ---- one response
 
 module _ (shelf : Shelf) (none : RefusesNothing shelf) where
-  none-is : (x : Refusal) → shelf.refuses x ≡ true → ⊥
-  none-is x may = clash (shelf.refuses x) may (none x)
+  none-found : (x : Refusal) → shelf.refuses.of_server x ≡ true → ⊥
+  none-found x may = clash (shelf.refuses.of_server x) may (none x).0
+
+  none-shown : (x : Refusal) → shelf.refuses.of_workers x ≡ true → ⊥
+  none-shown x may = clash (shelf.refuses.of_workers x) may (none x).1
 
   find-one : (there got : Outcome) → MayFind shelf there got → got ≡ there
   find-one there got (inl is) = is
-  find-one there got (inr refused) = absurd (none-is refused.0 refused.1)
+  find-one there got (inr refused) = absurd (none-found refused.0 refused.1)
 
   show-first : (o p : script.Outcome) → MayShow shelf o p → p ≡ o
   show-first o p (inl is) = is
-  show-first o p (inr refused) = absurd (none-is refused.0 refused.1)
+  show-first o p (inr refused) = absurd (none-shown refused.0 refused.1)
 
   show-one : (there got : List script.Outcome) → AllMayShow shelf there got → got ≡ there
   show-one [] [] all = refl

@@ -1,4 +1,5 @@
--- What the server has open stands, so it is none that waits and none that is closed; and what reads when it is ready awaits what comes.
+-- The objects of the server's descriptors exist, so they are neither waiting nor closed; and a ready client that reads waits
+-- for input.
 use Rattle.std.proofs.Common.{inl, inr, ◌≡◌, ◌≢◌, ℕ, List, ap, ◌∙◌, refl, sym, subst, Option, Some, true, false, Bool}
 use Rattle.std.specs.Prelude.{◌&&◌, not}
 use Rattle.iol_core.specs.State.{State, descriptor, conn_at}

@@ -1,4 +1,4 @@
--- The past, one event or choice more.
+-- The history after one more event or choice.
 use Rattle.std.proofs.Common.{◌≡◌, ℕ, List, [], ◌++◌, ap, ◌∙◌, refl, arith, true, false, Bool, append-nil, ◌∷◌, length, length-append}
 use Rattle.std.specs.Prelude.{◌||◌}
 use Rattle.std.proofs.Math.Path.{fun_ext}

@@ -1,4 +1,4 @@
--- A peer that is gone was told to be: what steps leave of it.
+-- A peer that is gone was reported as gone: this is preserved by steps.
 use Rattle.std.proofs.Common.{inl, inr, ◌≡◌, ℕ, ◌==◌, ◌⊎◌, List, [], ◌∷◌, ap, ◌∙◌, refl, sym, subst, Option, Some, None, true, false, Bool, if◌then◌else◌, length}
 use Rattle.std.specs.Prelude.{◌||◌, ◌&&◌, not, Result, Ok, Err}
 use Rattle.std.proofs.lemmas.Bool.{cases_eq}

@@ -1,4 +1,4 @@
--- Turns go round the places of the clients.
+-- Turns in rounds over the indices of the clients.
 use Rattle.std.proofs.Common.{inl, inr, ◌≡◌, ℕ, ◌+◌, ◌<◌, ◌≤◌, ◌⊎◌, List, drop, ap, ◌∙◌, refl, sym, subst, arith, Option, Some, None, true, false, Bool, if◌then◌else◌}
 use Rattle.std.specs.Prelude.{nat_lt, position, option_map, ◌||◌}
 use Rattle.iol_core.specs.NumberedLists.{in_place, taken}

@@ -1,4 +1,4 @@
--- The worker that runs scripts is as the law needs it.
+-- The worker that runs scripts meets the requirements of the law.
 use Rattle.std.proofs.Common.{inl, inr, ◌≡◌, ◌⊎◌, ℕ, List, ◌++◌, ap, ◌∙◌, refl, sym, subst, Option, Some, true, false, Bool}
 use Rattle.std.specs.Prelude.{unwrap_or}
 use Rattle.iol_core.specs.Text.{bytes_of}
@@ -11,7 +11,6 @@ use Rattle.iol_core.specs.declared.events.Call.TheVariants as call
 use Rattle.iol_core.specs.declared.events.Event.{Event}
 use Rattle.iol_core.specs.declared.events.Event.TheVariants as event
 use Rattle.iol_core.specs.declared.events.Reply.{Reply}
-use Rattle.iol_laws.specs.Caller.{is_rough}
 use Rattle.iol_laws.specs.Frame.{EachStepLeavesTheRest, sets_default}
 use Rattle.iol_laws.specs.Order.{IsOrderly}
 use Rattle.iol_laws.specs.Sources.{lie_in}
@@ -19,7 +18,7 @@ use Rattle.iol_proc.specs.Turns.{SeatTurn}
 use Rattle.iol_proc.specs.World.{copying}
 use Rattle.iol_proc.specs.declared.seat.Seat.{Seat}
 use Rattle.flash_cgi.specs.Beside.{is_call_of, LeavesFiles, OthersHear}
-use Rattle.flash_cgi.specs.Due.{IsDue, IsWritten, ScriptsPutOut}
+use Rattle.flash_cgi.specs.Due.{Goes, IsDue, IsWritten, Made, ScriptsPutOut}
 use Rattle.flash_cgi.specs.Free.{HasNoJob, WorkersStayFree}
 use Rattle.flash_cgi.specs.Full.{RunningIsFull}
 use Rattle.flash_cgi.specs.Frame.{LeavesAllBut, WorkersAreQuiet}
@@ -32,7 +31,7 @@ use Rattle.flash_cgi.specs.Standstill.{HasWaited}
 use Rattle.flash_cgi.specs.Works.{worker_turns}
 use Rattle.flash_cgi.specs.declared.line.Line.{Line}
 use Rattle.flash_cgi.specs.declared.worker.Worker.{Worker}
-use Rattle.flash_laws.specs.Workers.{Gave, IsDueOf, IsFreeFor, WorkersRun, Wrote}
+use Rattle.flash_laws.specs.Workers.{Gave, IsDueOf, IsFreeFor, TakesTurn, WorkersRun, Wrote}
 
 no_exit : (e : Event) (d : ℕ) → is_call_of e d ≡ false → sets_default e d ≡ false
 no_exit (event.Call by call.Exit) d other = other
@@ -44,8 +43,8 @@ module _ (stay_free : WorkersStayFree) (put_out : ScriptsPutOut) (hear : OthersH
   abbrev Free : State → (j : ℕ) → Seat Worker → Type 0
   Free m j seat = IsFreeFor pools m j seat
 
-  abbrev Due : State → (j p : ℕ) → Seat Worker → List ℕ → Type 0
-  Due m j p seat text = IsDueOf pools m j p seat text
+  abbrev Due : State → (j p : ℕ) → Seat Worker → Made → List ℕ → Type 0
+  Due m j p seat made text = IsDueOf pools m j p seat made text
 
   waits : (m n : State) (j : ℕ) (seat next : Seat Worker) (yields : Bool) (r : Reply) → IsOrderly m → Free m j seat → SeatTurn copying worker_turns m seat yields r n next → (n ≡ m) × Free n j next
   waits m n j seat next yields r order free did =
@@ -80,7 +79,8 @@ module _ (stay_free : WorkersStayFree) (put_out : ScriptsPutOut) (hear : OthersH
 
   begins : (m n : State) (j p fd : ℕ) (seat : Seat Worker) (query script : List ℕ) (lines : List Line) (e : Event) (r : Reply) → ArePlaced m → Free m j seat → StepsTo m e r n
       → is_call_of e seat.by ≡ false → HasJob n seat.by j p fd query script lines → (pipe_at n j).writing ≡ true → lie_in pools (pipe_at n p).queue ≡ true
-      → Due n j p seat (bytes_of (pipe_at n p).queue ++ output query lines (outcomes_in n seat.by lines))
+      → Due n j p seat (record { before = bytes_of (pipe_at n p).queue; query = query; lines = lines; outcomes = outcomes_in n seat.by lines })
+      (bytes_of (pipe_at n p).queue ++ output query lines (outcomes_in n seat.by lines))
   begins m n j p fd seat query script lines e r placed free step other has writing lies =
       let is_free = stay_free.others m n seat free.free in
       let leaves = steps.leaves m n e r step in
@@ -90,24 +90,26 @@ module _ (stay_free : WorkersStayFree) (put_out : ScriptsPutOut) (hear : OthersH
         shown = show.free pools n p seat is_free default lies;
       }
 
-  turns : (m n : State) (j p : ℕ) (seat next : Seat Worker) (yields : Bool) (r : Reply) (text : List ℕ) → IsOrderly m → ArePlaced m → AreFiles m → HoldFiles pools m seat.by
-      → Due m j p seat text → SeatTurn copying worker_turns m seat yields r n next → is_rough r ≡ false
-      → Due n j p next text ⊎ Wrote worker_turns HasWaited pools Free Due m n j p next text r ⊎ ((pipe_at n p).reading ≡ false)
-  turns m n j p seat next yields r text order placed good holds h did smooth = by (put_out.turns m n j p seat next yields r text order placed good h.due did smooth)
+  turns : (m n : State) (j p : ℕ) (seat next : Seat Worker) (yields : Bool) (r : Reply) (made : Made) (text : List ℕ) → IsOrderly m → ArePlaced m → AreFiles m → HoldFiles pools m seat.by
+      → Due m j p seat made text → SeatTurn copying worker_turns m seat yields r n next → TakesTurn worker_turns HasWaited pools Free Due m n j p next made text r
+  turns m n j p seat next yields r made text order placed good holds h did = record { after = goes.after; later = goes.later; instead = goes.instead; goes = by goes.goes }
     where
+      goes : Goes m n j p next made text r
+      goes = put_out.turns m n j p seat next yields r made text order placed good h.due did
+
       shown : IsShown pools n p next
       shown = show.turns pools m n p seat next yields r h.due.unseen order holds h.due.runs h.shown did
 
-      by : IsDue n j p next text ⊎ IsWritten m n j p next text r ⊎ ((pipe_at n p).reading ≡ false)
-          → Due n j p next text ⊎ Wrote worker_turns HasWaited pools Free Due m n j p next text r ⊎ ((pipe_at n p).reading ≡ false)
+      by : IsDue n j p next goes.after goes.later ⊎ IsWritten m n j p next goes.later r ⊎ ((pipe_at n p).reading ≡ false)
+          → Due n j p next goes.after goes.later ⊎ Wrote worker_turns HasWaited pools Free Due m n j p next goes.later r ⊎ ((pipe_at n p).reading ≡ false)
       by (inl due) = inl (record { due = due; shown = shown })
       by (inr (inl w)) = inr (inl (record { all = w.all; done = w.done; closes = w.closes; free = record { free = w.free; none = w.none; default = shown.default }; lies = shown.output }))
       by (inr (inr gone)) = inr (inr gone)
 
-  others : (m n : State) (j p : ℕ) (seat : Seat Worker) (e : Event) (r : Reply) (text : List ℕ) → IsOrderly m → ArePlaced m → StepsTo m e r n → is_call_of e seat.by ≡ false
-      → LeavesFiles m seat.by n → pipe_at n j ≡ pipe_at m j → Due m j p seat text → Gave worker_turns HasWaited pools Free Due m n j p seat text
-  others m n j p seat e r text order placed step other files same h =
-      let gave = put_out.others m n j p seat e r text order placed step other files same h.due in
+  others : (m n : State) (j p : ℕ) (seat : Seat Worker) (e : Event) (r : Reply) (made : Made) (text : List ℕ) → IsOrderly m → ArePlaced m → StepsTo m e r n → is_call_of e seat.by ≡ false
+      → LeavesFiles m seat.by n → pipe_at n j ≡ pipe_at m j → Due m j p seat made text → Gave worker_turns HasWaited pools Free Due m n j p seat made text
+  others m n j p seat e r made text order placed step other files same h =
+      let gave = put_out.others m n j p seat e r made text order placed step other files same h.due in
       record {
         goes = gave.goes;
         rest = gave.rest;
@@ -115,17 +117,17 @@ module _ (stay_free : WorkersStayFree) (put_out : ScriptsPutOut) (hear : OthersH
         due = record { due = gave.due; shown = show.others pools m n p seat e r h.due.unseen order placed h.due.runs h.shown step other };
       }
 
-  quiet : (m n : State) (j p : ℕ) (seat next : Seat Worker) (yields : Bool) (r : Reply) (text : List ℕ) → Due m j p seat text
+  quiet : (m n : State) (j p : ℕ) (seat next : Seat Worker) (yields : Bool) (r : Reply) (made : Made) (text : List ℕ) → Due m j p seat made text
       → SeatTurn copying worker_turns m seat yields r n next → LeavesAllBut m seat.by j n ⊎ LeavesAllBut m seat.by p n
-  quiet m n j p seat next yields r text h did = by h.due.unseen h.due.runs
+  quiet m n j p seat next yields r made text h did = by h.due.unseen h.due.runs
     where
       by : (unseen : List Outcome → List ℕ) → RunsJob m p seat unseen → LeavesAllBut m seat.by j n ⊎ LeavesAllBut m seat.by p n
       by unseen (inl a) = inl (keep_quiet.free m n j seat next yields r a.has.live a.free h.due.desk.jobs did).0
       by unseen (inr (inl a)) = inr (keep_quiet.begins m n p seat next yields r unseen a did)
       by unseen (inr (inr a)) = inr (keep_quiet.runs m n p seat next yields r unseen a did)
 
-  writes : (m : State) (j p : ℕ) (seat : Seat Worker) (text : List ℕ) → Due m j p seat text → (fd : ℕ) × (descriptor m seat.by fd ≡ Some (on.WriteEnd p))
-  writes m j p seat text h = by h.due.unseen h.due.runs
+  writes : (m : State) (j p : ℕ) (seat : Seat Worker) (made : Made) (text : List ℕ) → Due m j p seat made text → (fd : ℕ) × (descriptor m seat.by fd ≡ Some (on.WriteEnd p))
+  writes m j p seat made text h = by h.due.unseen h.due.runs
     where
       by : (unseen : List Outcome → List ℕ) → RunsJob m p seat unseen → (fd : ℕ) × (descriptor m seat.by fd ≡ Some (on.WriteEnd p))
       by unseen (inl a) = (a.fd, a.has.open_on)
@@ -142,7 +144,7 @@ module _ (stay_free : WorkersStayFree) (put_out : ScriptsPutOut) (hear : OthersH
     turns = turns;
     others = others;
     quiet = quiet;
-    shown = λ m j p seat text h. h.shown.output;
-    reads = λ m j p seat text h. h.due.desk.jobs;
-    full = λ m j p seat text order access h waited. fill m p seat h.due.unseen order access h.due.runs waited;
+    shown = λ m j p seat made text h. h.shown.output;
+    reads = λ m j p seat made text h. h.due.desk.jobs;
+    full = λ m j p seat made text order access h waited. fill m p seat h.due.unseen order access h.due.runs waited;
   }

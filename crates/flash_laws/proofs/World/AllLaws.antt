@@ -1,4 +1,4 @@
--- The laws that the proofs about a world rest on, together.
+-- The laws for the proofs about a world.
 use Rattle.iol_laws.specs.Aggregates.{AggregatesComeAndGo}
 use Rattle.iol_laws.specs.DescriptorNumbers.{DescriptorsComeByReplies}
 use Rattle.iol_laws.specs.Others.{OthersLeavePipes}

@@ -1,4 +1,4 @@
--- What others leave of a client, and of the worker that runs its script.
+-- The parts of a client, and of the worker that runs its script, that others leave unchanged.
 use Rattle.std.proofs.Common.{inl, inr, ◌≡◌, ◌⊎◌, ℕ, ◌==◌, List, ◌++◌, ap, ◌∙◌, refl, sym, subst, Option, Some, None, true, false, append_assoc}
 use Rattle.std.specs.Prelude.{is_none, length, ◌≤◌}
 use Rattle.iol_core.specs.Text.{bytes_of}
@@ -13,12 +13,13 @@ use Rattle.iol_laws.specs.Frame.{Leaves as Leaving}
 use Rattle.iol_laws.specs.Order.{IsOrderly}
 use Rattle.iol_proc.specs.declared.seat.Seat.{Seat}
 use Rattle.flash_cgi.specs.Beside.{is_call_of}
-use Rattle.flash_http.specs.Request.{Answer, Wanted}
+use Rattle.flash_http.specs.Request.{Answer, serve, Wanted}
 use Rattle.flash_laws.specs.Answers.{Found}
 use Rattle.flash_laws.specs.Client.{Client, job_of}
-use Rattle.flash_laws.specs.Client.Fits.{Finds, TieAlone, TieRun, FitsAlone, FitsRun, Fits, due_in, output_of}
+use Rattle.flash_laws.specs.Client.Fits.{Finds, TieAlone, TieRun, FitsAlone, FitsRun, Fits, due_in, made_of, response_to}
 use Rattle.flash_laws.specs.Conn as conn
 use Rattle.flash_laws.specs.Conn.{Conn, most_read}
+use Rattle.flash_cgi.specs.Due.{Made}
 use Rattle.flash_laws.specs.Workers.Crew.{Crew, IsFixedFor}
 use Rattle.flash_laws.specs.Run.Fits.{Progress, HasRun}
 use Rattle.flash_laws.specs.Run.{job_pipe, is_reading, step_fd, ends_of}
@@ -37,6 +38,7 @@ use Rattle.flash_laws.proofs.Conn.LentBytes.{lent-stays, has-stays, file-same, c
 use Rattle.flash_laws.proofs.Lists.{self, later_of, both-or}
 use Rattle.flash_laws.proofs.World.AllLaws.{AllLaws}
 use Rattle.flash_laws.proofs.World.Desk.Frame.{LeavesOne, stage-on}
+use Rattle.flash_laws.proofs.Site.Due.{shown-may}
 use Rattle.flash_laws.proofs.World.TieGoes.{tie-stays, tie-leaves, run-stays, run-leaves}
 
 -- A connection and what was sent on it go on: what was sent and is to be sent stays, and the peer is as gone as before, and where it
@@ -60,10 +62,10 @@ tie_goes : (shelf : Shelf) (k j : Connection) (took sent after : List ℕ) (x : 
 tie_goes shelf k j took sent after x due may (inl s) tie = tie-stays shelf k j took sent after s.total s.gone s.ended x due tie
 tie_goes shelf k j took sent after x due may (inr l) tie = tie-leaves shelf k j took sent after l.dropped l.gone l.total x due may tie
 
-run_goes : (shelf : Shelf) (k j : Connection) (took sent after kept : List ℕ) (x : Client) → Changes k j sent after → (w : Wanted) (o : Progress) (y : Running)
-    → TieRun shelf k took sent kept w o y → TieRun shelf j took after kept w o y
-run_goes shelf k j took sent after kept x (inl s) w o y tie = run-stays shelf k j took sent after s.total s.gone s.ended kept w o y tie
-run_goes shelf k j took sent after kept x (inr l) w o y tie = run-leaves shelf k j took sent after l.dropped l.gone l.total kept w o y tie
+run_goes : (shelf : Shelf) (k j : Connection) (took sent after kept : List ℕ) (x : Client) → Changes k j sent after → (w : Wanted) (due : List ℕ) → MayBeDue shelf (serve w) due → (o : Progress) (y : Running)
+    → TieRun shelf due k took sent kept w o y → TieRun shelf due j took after kept w o y
+run_goes shelf k j took sent after kept x (inl s) w due may o y tie = run-stays shelf k j took sent after s.total s.gone s.ended kept w due o y tie
+run_goes shelf k j took sent after kept x (inr l) w due may o y tie = run-leaves shelf k j took sent after l.dropped l.gone l.total kept w due may o y tie
 
 came_on : (came took incoming now more : List ℕ) → came ≡ took ++ incoming → now ≡ incoming ++ more → came ++ more ≡ took ++ now
 came_on came took incoming now more is grows = ap (λ (l : List ℕ). l ++ more) is ∙ (append_assoc took incoming more ∙ ap (λ (l : List ℕ). took ++ l) (sym grows))
@@ -112,9 +114,9 @@ module _ (shelf : Shelf) (crew : Crew) (laws : AllLaws crew) (m n : State) (e : 
     proper = f.proper;
   }
 
-  desk_on : (x : Conn) (y : Running) (script : List ℕ) (job : ℕ → List ℕ) (w : Wanted) (output : List ℕ) (o : Progress) → LeavesOne crew m n e fd (of x (Some y) script)
-      → HasRun job m w o y → HasWorkerAt crew m seats output o y → HasWorkerAt crew n seats output o y
-  desk_on x (Runs run s) script job w output o left has h =
+  desk_on : (x : Conn) (y : Running) (script : List ℕ) (job : ℕ → List ℕ) (w : Wanted) (made : Made) (o : Progress) → LeavesOne crew m n e fd (of x (Some y) script)
+      → HasRun job m w o y → HasWorkerAt crew m seats made o y → HasWorkerAt crew n seats made o y
+  desk_on x (Runs run s) script job w made o left has h =
       let sits = desks.by run.worker h.seat h.sits in
       let reads : is_reading s ≡ true → ends_of run s run.from ≡ true = λ is. both-or (is_reading s) (run.from == run.from) (step_fd s run.from) is (self run.from) in
       record {
@@ -123,11 +125,11 @@ module _ (shelf : Shelf) (crew : Crew) (laws : AllLaws crew) (m n : State) (e : 
         stage = stage-on crew laws m n e r order fixed.placed step left.site run h.seat
             (subst (λ d. is_call_of e d ≡ false) (sym sits.1) (left.others run.worker sits.0 (self run.worker)))
             (left.desks run.worker sits.0 (self run.worker))
-            job w output o s left.aggs
+            job w made o s left.aggs
             (λ is. left.fds run.from (later_of (job_pipe run.worker == run.from) (ends_of run s run.from) (reads is)))
             (λ is going p opens apart. left.pipe run s p refl opens (reads is) apart going) has.1 h.stage;
       }
-  desk_on x y script job w output o left has h = tt
+  desk_on x y script job w made o left has h = tt
 
   run_on : (x : Conn) (y : Running) (script : List ℕ) → LeavesOne crew m n e fd (of x (Some y) script) → FitsRun shelf crew m came sent fd c (of x (Some y) script) y seats
       → FitsRun shelf crew n (came ++ more) after fd c (of x (Some y) script) y seats
@@ -137,12 +139,16 @@ module _ (shelf : Shelf) (crew : Crew) (laws : AllLaws crew) (m n : State) (e : 
     came_is = came_on came f.took (bytes_of (conn_at m c).incoming) (bytes_of (conn_at n c).incoming) more f.came_is grows;
     wanted = f.wanted;
     script = f.script;
+    shown = f.shown;
+    may_show = f.may_show;
+    fresh = f.fresh;
     kept = f.kept;
     so_far = f.so_far;
     has = (laws.runs (job_of f.wanted f.script.text)).stays m n f.wanted y e r f.so_far step left.aggs left.fds f.has;
     ongoing = f.ongoing;
-    tie = run_goes shelf (conn_at m c) (conn_at n c) f.took sent after x.kept (of x (Some y) script) changes f.wanted f.so_far y f.tie;
-    desk = desk_on x y script (job_of f.wanted f.script.text) f.wanted (output_of shelf f.wanted f.script.lines) f.so_far left f.has f.desk;
+    tie = run_goes shelf (conn_at m c) (conn_at n c) f.took sent after x.kept (of x (Some y) script) changes f.wanted
+        (response_to f.wanted (made_of f.wanted f.script.lines f.shown)) (shown-may shelf (of x (Some y) script) f.wanted f.script f.shown f.may_show) f.so_far y f.tie;
+    desk = desk_on x y script (job_of f.wanted f.script.text) f.wanted (made_of f.wanted f.script.lines f.shown) f.so_far left f.has f.desk;
   }
 
   fits_by : (x : Conn) (run : Option Running) (script : List ℕ) → LeavesOne crew m n e fd (of x run script) → Fits shelf crew m came sent fd c (of x run script) seats

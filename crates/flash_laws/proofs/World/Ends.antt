@@ -1,4 +1,5 @@
--- Which ends of pipes a client with a run has: the read end of its pipe, and the write end until its worker has it; none is of a desk.
+-- The pipe ends of a client with a run: the read end of its pipe, and the write end until its worker has it; none is that of a
+-- job pipe.
 use Rattle.std.proofs.Common.{inl, inr, ◌≡◌, ◌<◌, ◌⊎◌, ℕ, ◌==◌, List, ap, ◌∙◌, refl, sym, subst, Option, Some, None, true, false, Bool}
 use Rattle.std.specs.Prelude.{◌||◌, ◌&&◌}
 use Rattle.iol_core.specs.State.{State, descriptor}
@@ -9,7 +10,7 @@ use Rattle.iol_laws.specs.Frame.{touches_pipe}
 use Rattle.iol_proc.specs.declared.seat.Seat.{Seat}
 use Rattle.flash_http.specs.Request.{Wanted}
 use Rattle.flash_laws.specs.Client.{uses_fd, job_of, wants}
-use Rattle.flash_laws.specs.Client.Fits.{due_in, output_of, FitsRun, Fits}
+use Rattle.flash_laws.specs.Client.Fits.{due_in, made_of, FitsRun, Fits}
 use Rattle.flash_laws.specs.Client.Holdings.{has_fd}
 use Rattle.flash_laws.specs.Conn as conn
 use Rattle.flash_laws.specs.Conn.{Conn}
@@ -105,8 +106,8 @@ module _ (shelf : Shelf) (crew : Crew) (m : State) (came sent : List ℕ) (fd c 
       → (v : Run) (write : ℕ) → run ≡ Some (Runs v (Returns write)) → ⊥
   no-returns conn None script f v write is = absurd (cc (is))
   no-returns conn (Some y) script f v write is =
-      let at : AtDesk crew m seats v (output_of shelf f.wanted f.script.lines) f.so_far (Returns write) =
-      subst (λ (z : Running). HasWorkerAt crew m seats (output_of shelf f.wanted f.script.lines) f.so_far z) (some-inj y (Runs v (Returns write)) is) f.desk in
+      let at : AtDesk crew m seats v (made_of f.wanted f.script.lines f.shown) f.so_far (Returns write) =
+      subst (λ (z : Running). HasWorkerAt crew m seats (made_of f.wanted f.script.lines f.shown) f.so_far z) (some-inj y (Runs v (Returns write)) is) f.desk in
       at.stage
 
   -- a write end that a client has is no desk's
@@ -124,7 +125,7 @@ module _ (shelf : Shelf) (crew : Crew) (m : State) (came sent : List ℕ) (fd c 
       write-inj : (a b : ℕ) → Some (on.WriteEnd a) ≡ Some (on.WriteEnd b) → a ≡ b
       write-inj a b e = cc
 
-      by : (s : Step) → HasStep (job_of f.wanted f.script.text) m f.wanted f.so_far run s → AtDesk crew m seats run (output_of shelf f.wanted f.script.lines) f.so_far s → step_fd s g ≡ true → ⊥
+      by : (s : Step) → HasStep (job_of f.wanted f.script.text) m f.wanted f.so_far run s → AtDesk crew m seats run (made_of f.wanted f.script.lines f.shown) f.so_far s → step_fd s g ≡ true → ⊥
       by (Gives write) has desk u =
           let here = ap (λ h. descriptor m server h) (same-number write g u) in
           let same : has.0.pipe ≡ crew.desk k = write-inj has.0.pipe (crew.desk k) (sym has.0.write_end ∙ (here ∙ is)) in

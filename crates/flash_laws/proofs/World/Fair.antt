@@ -1,89 +1,120 @@
--- A smooth run is fair, and so is any run of a world in which the server sits alone.
-use Rattle.std.proofs.Common.{inl, inr, ◌≡◌, ◌≢◌, ℕ, zero, suc, ◌<◌, List, [], ◌∷◌, map, ap, ◌∙◌, refl, sym, subst, arith, Some, false, Bool, slice_get, slice_set}
-use Rattle.iol_core.specs.State.{State}
+-- A run without resource refusals is fair, and any run is fair if the refusals that its turns got are allowed.
+use Rattle.std.proofs.Common.{◌≡◌, ◌≢◌, ℕ, ◌==◌, List, [], ◌∷◌, ◌++◌, length, ap, refl, sym, subst, arith, true, false, Bool, if◌then◌else◌}
+use Rattle.std.specs.Prelude.{◌&&◌, ◌||◌, not}
 use Rattle.iol_core.specs.declared.events.Reply.{Reply}
 use Rattle.iol_core.specs.declared.events.Reply.TheVariants as reply
+use Rattle.iol_core.specs.declared.refusals.Refusal.{Refusal}
+use Rattle.iol_core.specs.declared.refusals.Refusal.TheVariants as refusal
 use Rattle.iol_laws.specs.Caller.{is_rough}
-use Rattle.iol_proc.specs.Turns.{Account, SeatTurn}
-use Rattle.iol_proc.specs.World.{Stage, copying, DomainTurn, WorldRun}
 use Rattle.iol_proc.specs.declared.choice.Choice.{Choice}
 use Rattle.iol_proc.specs.declared.choice.Choice.TheVariants as choice
-use Rattle.iol_proc.specs.declared.seat.Seat.{Seat}
-use Rattle.flash_laws.specs.Workers.Crew.{Crew}
-use Rattle.flash_laws.specs.Serves.Rounds.{in_rounds}
-use Rattle.flash_laws.specs.Shelf.{IsAmong}
+use Rattle.flash_laws.specs.Shelf.{Refusals, IsAmong}
 use Rattle.flash_laws.specs.Site.{server}
-use Rattle.flash_laws.specs.World.Tie.{Actor, Serving, actor_turns}
-use Rattle.flash_laws.specs.World.{as_actor, AreFair, seats_of}
-use Rattle.flash_laws.specs.World.Fair.{no_refusal, any_refusal, SmoothIsFair, FilesAreFair}
-use Rattle.flash_laws.proofs.Conn.Responses.{some-inj}
-use Rattle.flash_laws.proofs.Lists.{clash}
+use Rattle.flash_laws.specs.World.{AreFair, may_refuse}
+use Rattle.flash_laws.specs.World.Fair.{no_refusal, any_refusal, is_same, refuses_by, refused_in, refusals_in, SmoothIsFair, AnyIsFair, OwnIsFair}
+use Rattle.flash_laws.proofs.Lists.{clash, not-equal, self}
+
+-- ---- by which refusals the server's turn may be refused, and a worker's
+
+pub server-among : (refuses : Refusals) (by : ℕ) (r : Reply) → by ≡ server → IsAmong (may_refuse refuses by) r → IsAmong refuses.of_server r
+server-among refuses by r is among =
+    subst (λ (b : Bool). IsAmong (if b then refuses.of_server else refuses.of_workers) r) (subst (λ d. (d == server) ≡ true) (sym is) refl) among
+
+pub among-server : (refuses : Refusals) (by : ℕ) (r : Reply) → by ≡ server → IsAmong refuses.of_server r → IsAmong (may_refuse refuses by) r
+among-server refuses by r is among =
+    subst (λ (b : Bool). IsAmong (if b then refuses.of_server else refuses.of_workers) r) (sym (subst (λ d. (d == server) ≡ true) (sym is) refl)) among
+
+pub worker-among : (refuses : Refusals) (by : ℕ) (r : Reply) → by ≢ server → IsAmong (may_refuse refuses by) r → IsAmong refuses.of_workers r
+worker-among refuses by r other among =
+    subst (λ (b : Bool). IsAmong (if b then refuses.of_server else refuses.of_workers) r) (not-equal by server other) among
 
 -- ---- a smooth run
 
-none-among : (r : Reply) → is_rough r ≡ false → IsAmong no_refusal r
-none-among (reply.Refused x) smooth = λ rough. absurd (clash (is_rough (reply.Refused x)) rough smooth)
-none-among r smooth = tt
+none-among : (b : Bool) (r : Reply) → is_rough r ≡ false → IsAmong (if b then no_refusal.of_server else no_refusal.of_workers) r
+none-among b (reply.Refused x) smooth = λ rough. absurd (clash (is_rough (reply.Refused x)) rough smooth)
+none-among b r smooth = tt
 
 pub smooth_is_fair : SmoothIsFair
 smooth_is_fair [] rs smooth = tt
-smooth_is_fair (choice.Turn by ∷ xs) (r ∷ rs) smooth = (none-among r smooth.0, λ other. smooth.0, smooth_is_fair xs rs smooth.1)
+smooth_is_fair (choice.Turn by ∷ xs) (r ∷ rs) smooth = (none-among (by == server) r smooth.0, smooth_is_fair xs rs smooth.1)
 smooth_is_fair (choice.Outside e ∷ xs) (r ∷ rs) smooth = smooth_is_fair xs rs smooth
 smooth_is_fair (choice.Turn by ∷ xs) [] smooth = tt
 smooth_is_fair (choice.Outside e ∷ xs) [] smooth = tt
 
--- ---- any run of the server alone
+-- ---- any run
 
-any-among : (r : Reply) → IsAmong any_refusal r
-any-among (reply.Refused x) = λ rough. rough
-any-among r = tt
+any-among : (b : Bool) (r : Reply) → IsAmong (if b then any_refusal.of_server else any_refusal.of_workers) r
+any-among true (reply.Refused x) = λ rough. rough
+any-among false (reply.Refused x) = λ rough. rough
+any-among b r = tt
 
--- each of these seats is the server's
-abbrev AreServers : {P : Type 0} → List (Seat P) → Type 0
-AreServers {P} seats = (i : ℕ) (s : Seat P) → slice_get seats i ≡ Some s → s.by ≡ server
+pub any_is_fair : AnyIsFair
+any_is_fair [] rs = tt
+any_is_fair (choice.Turn by ∷ xs) (r ∷ rs) = (any-among (by == server) r, any_is_fair xs rs)
+any_is_fair (choice.Outside e ∷ xs) (r ∷ rs) = any_is_fair xs rs
+any_is_fair (choice.Turn by ∷ xs) [] = tt
+any_is_fair (choice.Outside e ∷ xs) [] = tt
 
-set-server : {P : Type 0} (seats : List (Seat P)) (k : ℕ) (next : Seat P) → next.by ≡ server → AreServers seats → AreServers (slice_set seats k next)
-set-server [] k next is all i s there = absurd (cc (there))
-set-server (x ∷ xs) zero next is all zero s there = ap (λ (v : Seat _). v.by) (sym (some-inj next s there)) ∙ is
-set-server (x ∷ xs) zero next is all (suc i) s there = all (suc i) s there
-set-server (x ∷ xs) (suc k) next is all zero s there = all zero s there
-set-server (x ∷ xs) (suc k) next is all (suc i) s there = set-server xs k next is (λ j t at. all (suc j) t at) i s there
+-- ---- with the refusals that it had
 
-module _ {P : Type 0} (turns : Account P) where
-  same-domain : (m n : State) (seat next : Seat P) (yields : Bool) (r : Reply) → SeatTurn copying turns m seat yields r n next → next.by ≡ seat.by
-  same-domain m n seat next yields r turn = elim turn [ inl s ↦ ap (λ (v : Seat P). v.by) s.seat_stays | inr v ↦ v.domain_stays ]
+same-self : (x : Refusal) → is_rough (reply.Refused x) ≡ true → is_same x x ≡ true
+same-self refusal.TooMany rough = refl
+same-self (refusal.NoRoom p) rough = self p
+same-self (refusal.Fault f) rough = self f
+same-self refusal.Memory rough = refl
+same-self x rough = absurd (cc (rough))
 
-  -- a turn is the server's, or of nobody
-  turn-fair : (w after : Stage State P) (by : ℕ) (r : Reply) → AreServers w.seats → DomainTurn copying turns w by r after
-      → AreServers after.seats × (by ≢ server → is_rough r ≡ false)
-  turn-fair w after by r all (inl absent) = (subst (λ (v : Stage State P). AreServers v.seats) (sym absent.stays) all, λ other. ap is_rough absent.answer)
-  turn-fair w after by r all (inr present) =
-      let sits : present.turn.seat.by ≡ server = all present.place present.turn.seat present.turn.sits in
-      let stays = same-domain w.machine after.machine present.turn.seat present.turn.next present.yields r present.turn.turn in (
-        subst (λ (l : List (Seat P)). AreServers l) (sym present.turn.others_stay) (set-server w.seats present.place present.turn.next (stays ∙ sits) all),
-        λ other. absurd (other (sym present.domain ∙ sits)),
-      )
+-- the refusals of these turns are among those
+record AreIn (refuses : Refusals) (xs : List Choice) (rs : List Reply) : Type 0 where
+  pub of_server : (x : Refusal) → refused_in true xs rs x ≡ true → refuses.of_server x ≡ true
+  pub of_workers : (x : Refusal) → refused_in false xs rs x ≡ true → refuses.of_workers x ≡ true
 
-  alone-fair : (xs : List Choice) (rs : List Reply) (w after : Stage State P) → AreServers w.seats → WorldRun copying turns w xs rs after → AreFair any_refusal xs rs
-  alone-fair [] rs w after all run = tt
-  alone-fair (choice.Turn by ∷ xs) (r ∷ rs) w after all run =
-      let step = turn-fair w run.0 by r all run.1 in
-      (any-among r, step.1, alone-fair xs rs run.0 after step.0 run.2)
-  alone-fair (choice.Outside e ∷ xs) (r ∷ rs) w after all run =
-      alone-fair xs rs run.0 after (subst (λ (l : List (Seat P)). AreServers l) (sym run.1.seats_stay) all) run.2
-  alone-fair (choice.Turn by ∷ xs) [] w after all run = tt
-  alone-fair (choice.Outside e ∷ xs) [] w after all run = tt
+former : (a b c : Bool) → a ≡ true → b ≡ true → ((a && b) || c) ≡ true
+former true true c u v = refl
+former true false c u v = absurd (cc (v))
+former false b c u v = absurd (cc (u))
 
-pub files_are_fair : (crew : Crew) → FilesAreFair crew
-files_are_fair crew none shelf past xs ps rs w after tied run =
-    alone-fair (actor_turns in_rounds crew.turns) xs rs w after (subst (λ (l : List (Seat (Actor crew.Worker))). AreServers l) (sym tied.seated.seats) first) run
-  where
-    nobody : (workers : List (Seat crew.Worker)) → ((k : ℕ) (seat : Seat crew.Worker) → slice_get workers k ≡ Some seat → k < crew.count)
-        → (i : ℕ) (s : Seat (Actor crew.Worker)) → slice_get (map (λ v. as_actor v) workers) i ≡ Some s → ⊥
-    nobody [] below i s there = absurd (cc (there))
-    nobody (x ∷ xs) below i s there = (let low = below 0 x refl in omega (arith, low, none))
+later : (a b c : Bool) → c ≡ true → ((a && b) || c) ≡ true
+later true true c u = refl
+later true false c u = u
+later false b c u = u
 
-    first : AreServers (seats_of tied.seated.state tied.seated.last tied.seated.workers)
-    first zero s there = ap (λ (v : Seat (Actor crew.Worker)). v.by)
-        (sym (some-inj (record { by = server; process = Serving tied.seated.state; last = tied.seated.last }) s there))
-    first (suc i) s there = absurd (nobody tied.seated.workers (λ k seat is. (tied.seated.serves.fit.desks.by k seat is).0) i s there)
+among-own : (refuses : Refusals) (by : ℕ) (xs : List Choice) (r : Reply) (rs : List Reply) → AreIn refuses (choice.Turn by ∷ xs) (r ∷ rs)
+    → (b : Bool) → (by == server) ≡ b → IsAmong (if b then refuses.of_server else refuses.of_workers) r
+unfolding refused_in
+among-own refuses by xs (reply.Refused x) rs all true is = λ rough. all.of_server x (former (by == server) (is_same x x) (refused_in true xs rs x) is (same-self x rough))
+among-own refuses by xs (reply.Refused x) rs all false is = λ rough. all.of_workers x (former (not (by == server)) (is_same x x) (refused_in false xs rs x) (ap (λ (b : Bool). not b) is) (same-self x rough))
+among-own refuses by xs r rs all b is = tt
+
+rest-own : (refuses : Refusals) (x : Choice) (xs : List Choice) (r : Reply) (rs : List Reply) → AreIn refuses (x ∷ xs) (r ∷ rs) → AreIn refuses xs rs
+unfolding refused_in
+rest-own refuses (choice.Turn by) xs r rs all = record {
+  of_server = λ x is. all.of_server x (later (by == server) (refuses_by r x) (refused_in true xs rs x) is);
+  of_workers = λ x is. all.of_workers x (later (not (by == server)) (refuses_by r x) (refused_in false xs rs x) is);
+}
+rest-own refuses (choice.Outside e) xs r rs all = record { of_server = λ x is. all.of_server x is; of_workers = λ x is. all.of_workers x is }
+
+fair-within : (refuses : Refusals) (xs : List Choice) (rs : List Reply) → AreIn refuses xs rs → AreFair refuses xs rs
+fair-within refuses [] rs all = tt
+fair-within refuses (choice.Turn by ∷ xs) (r ∷ rs) all =
+    (among-own refuses by xs r rs all (by == server) refl, fair-within refuses xs rs (rest-own refuses (choice.Turn by) xs r rs all))
+fair-within refuses (choice.Outside e ∷ xs) (r ∷ rs) all = fair-within refuses xs rs (rest-own refuses (choice.Outside e) xs r rs all)
+fair-within refuses (choice.Turn by ∷ xs) [] all = tt
+fair-within refuses (choice.Outside e ∷ xs) [] all = tt
+
+fair-parts : (refuses : Refusals) (xs ys : List Choice) (rs ss : List Reply) → length xs ≡ length rs → AreFair refuses (xs ++ ys) (rs ++ ss)
+    → AreFair refuses xs rs × AreFair refuses ys ss
+fair-parts refuses [] ys [] ss even fair = (tt, fair)
+fair-parts refuses [] ys (r ∷ rs) ss even fair = absurd (omega (arith, even))
+fair-parts refuses (x ∷ xs) ys [] ss even fair = absurd (omega (arith, even))
+fair-parts refuses (choice.Turn by ∷ xs) ys (r ∷ rs) ss even fair =
+    let same : length xs ≡ length rs = omega (arith, even) in
+    let parts = fair-parts refuses xs ys rs ss same fair.1 in
+    ((fair.0, parts.0), parts.1)
+fair-parts refuses (choice.Outside e ∷ xs) ys (r ∷ rs) ss even fair =
+    let same : length xs ≡ length rs = omega (arith, even) in
+    fair-parts refuses xs ys rs ss same fair
+
+pub own_is_fair : OwnIsFair
+own_is_fair xs ys rs ss even = fair-parts (refusals_in (xs ++ ys) (rs ++ ss)) xs ys rs ss even
+    (fair-within (refusals_in (xs ++ ys) (rs ++ ss)) (xs ++ ys) (rs ++ ss) (record { of_server = λ x is. is; of_workers = λ x is. is }))

@@ -1,4 +1,4 @@
--- What is fixed stays so over each step that leaves the site.
+-- The fixed conditions remain over each step that leaves the site unchanged.
 use Rattle.std.proofs.Common.{inl, inr, ◌≡◌, ◌≢◌, ◌<◌, ℕ, ◌≤◌, ◌⊎◌, List, length, ap, ◌∙◌, refl, sym, subst, Option, Some, true, false, Bool}
 use Rattle.std.specs.Prelude.{unwrap_or}
 use Rattle.iol_core.specs.Calls.Aggregates.{default_pool}

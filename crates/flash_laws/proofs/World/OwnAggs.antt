@@ -1,4 +1,4 @@
--- The server's own call for a client: what it brings is used by that client, and what that uses no more is gone.
+-- The server's own call for a client: its result belongs to that client, and objects that the client no longer uses are gone.
 use Rattle.std.proofs.Common.{inl, inr, ◌≡◌, ℕ, ◌⊎◌, List, ap, ◌∙◌, refl, sym, subst, Option, Some, None, true, false, Bool}
 use Rattle.iol_core.specs.State.{State}
 use Rattle.iol_core.specs.Run.{StepsTo}

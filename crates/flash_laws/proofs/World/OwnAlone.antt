@@ -42,7 +42,7 @@ module _ (shelf : Shelf) (crew : Crew) (laws : AllLaws crew) where
   -- any call of it but the last: it goes on alone, or its script begins to run
   pub alone_step : (m n : State) (came sent : List ℕ) (fd c worker : ℕ) (x : Client) (r : Reply) (heard : List ℕ)
       (seats : List (Seat crew.Worker)) → IsOrderly m → IsFixedFor shelf crew m → x.run ≡ None
-      → FitsAlone shelf m came sent fd c x → IsAwaiting x → is_closing x.conn.doing ≡ false → IsAmong shelf.refuses r
+      → FitsAlone shelf m came sent fd c x → IsAwaiting x → is_closing x.conn.doing ≡ false → IsAmong shelf.refuses.of_server r
       → StepsTo m (event.Call server (wants shelf.scripts fd x)) r n → Names n r heard
       → Fits shelf crew n came sent fd c (told shelf.scripts worker x r heard) seats
   alone_step m n came sent fd c worker x r heard seats order fixed none f waits busy calm step names = by x.run none f waits step

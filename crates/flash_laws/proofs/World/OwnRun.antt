@@ -11,8 +11,9 @@ use Rattle.iol_laws.specs.Frame.{touches_fd}
 use Rattle.iol_laws.specs.Order.{IsOrderly}
 use Rattle.iol_proc.specs.declared.seat.Seat.{Seat}
 use Rattle.flash_http.specs.Request.{Answer, serve, Wanted}
+use Rattle.flash_cgi.specs.Due.{Made}
 use Rattle.flash_laws.specs.Client.{Client, job_of, run_wants, wants, awaits, keeps_text, text_on, after_run, goes_on, run_on, run_told, told}
-use Rattle.flash_laws.specs.Client.Fits.{IsProper, IsScript, output_of, due_in, TieAlone, FitsRun, Fits, Finds}
+use Rattle.flash_laws.specs.Client.Fits.{IsProper, IsScript, made_of, response_to, due_in, TieAlone, FitsRun, Fits, Finds}
 use Rattle.flash_laws.specs.Conn.{Conn}
 use Rattle.flash_laws.specs.Workers.Crew.{Crew, IsFixedFor}
 use Rattle.flash_laws.specs.Conn.Fits.{Has, Names}
@@ -23,8 +24,8 @@ use Rattle.flash_laws.specs.Run.OfferedBytes.{Learns}
 use Rattle.flash_laws.specs.Run as running
 use Rattle.flash_laws.specs.Run.{is_over}
 use Rattle.flash_laws.specs.Site.ClientTies.{AreAtDesks}
-use Rattle.flash_laws.specs.Shelf.{Shelf, due_to, IsAmong}
-use Rattle.flash_laws.proofs.Site.Due.{due-may}
+use Rattle.flash_laws.specs.Shelf.{Shelf, MayBeDue, IsAmong}
+use Rattle.flash_laws.proofs.Site.Due.{shown-may}
 use Rattle.flash_laws.specs.Site.{server}
 use Rattle.flash_laws.specs.declared.phase.Doing.{Doing}
 use Rattle.flash_laws.specs.declared.phase.Doing.TheVariants as doing
@@ -33,6 +34,7 @@ use Rattle.flash_laws.specs.declared.script_run.Running.TheVariants.{Awaits, Lea
 use Rattle.flash_laws.proofs.Forms.{of}
 use Rattle.flash_laws.proofs.Conn.Responses.{some-inj}
 use Rattle.flash_laws.proofs.Run.Ends.{keeps-back, wants-text}
+use Rattle.flash_laws.proofs.Run.Starts.{starts-back}
 use Rattle.flash_laws.proofs.Site.OpenDescriptors.{no-true}
 use Rattle.flash_laws.proofs.World.AllLaws.{AllLaws}
 use Rattle.flash_laws.proofs.World.Desk.OfRun.{DeskAfter, desk_step}
@@ -94,7 +96,7 @@ over-none x k is = absurd (cc (is))
 module _ (shelf : Shelf) (crew : Crew) (laws : AllLaws crew) where
   run_goes : (m n : State) (came sent : List ℕ) (fd c worker : ℕ) (conn : Conn) (run : Option Running) (script : List ℕ) (y : Running) (r : Reply) (heard : List ℕ)
       (seats : List (Seat crew.Worker)) → IsOrderly m → IsOrderly n → IsFixedFor shelf crew m → AreAtDesks crew m seats
-      → run ≡ Some y → FitsRun shelf crew m came sent fd c (of conn run script) y seats → IsHired crew m (of conn run script) worker seats → IsAmong shelf.refuses r
+      → run ≡ Some y → FitsRun shelf crew m came sent fd c (of conn run script) y seats → IsHired crew m (of conn run script) worker seats → IsAmong shelf.refuses.of_server r
       → StepsTo m (event.Call server (wants shelf.scripts fd (of conn run script))) r n → Names n r heard
       → GoesOn shelf crew n came sent fd c (of conn run script) (told shelf.scripts worker (of conn run script) r heard) seats
   run_goes m n came sent fd c worker conn run script y r heard seats order order_n fixed desks has f hired calm step names =
@@ -130,11 +132,20 @@ module _ (shelf : Shelf) (crew : Crew) (laws : AllLaws crew) where
       after : Progress
       after = replied.0
 
-      d : DeskAfter shelf crew m n c seats f.wanted (output_of shelf f.wanted f.script.lines) y (running.told worker f.wanted y r heard) f.so_far replied.0
-      d = desk_step shelf crew laws m n fd c worker (of conn run script) w s y r heard f.so_far after seats order order_n fixed desks f.open_on f.ongoing f.has f.desk hires calls names replied.1 replied.2
+      made : Made
+      made = made_of f.wanted f.script.lines f.shown
 
-      t : TieAfter shelf m n c f.took sent conn.kept f.wanted replied.0 (running.told worker f.wanted y r heard)
-      t = tie_step shelf crew laws m n fd c worker f.took sent conn.kept w job y r heard f.so_far after order f.open_on f.script.proper f.ongoing f.has calls names replied.1 replied.2 d.cut d.may f.tie
+      due : List ℕ
+      due = response_to f.wanted (made_of f.wanted f.script.lines f.shown)
+
+      may_be : MayBeDue shelf (serve f.wanted) (response_to f.wanted (made_of f.wanted f.script.lines f.shown))
+      may_be = shown-may shelf (of conn run script) f.wanted f.script f.shown f.may_show
+
+      d : DeskAfter crew m n c seats f.wanted (made_of f.wanted f.script.lines f.shown) y (running.told worker f.wanted y r heard) f.so_far replied.0
+      d = desk_step shelf crew laws m n fd c worker (of conn run script) w s y r heard f.so_far after seats f.shown order order_n fixed desks f.open_on f.ongoing f.fresh f.has f.desk hires calls names replied.1 replied.2
+
+      t : TieAfter shelf (response_to f.wanted (made_of f.wanted f.script.lines f.shown)) m n c f.took sent conn.kept f.wanted replied.0 (running.told worker f.wanted y r heard)
+      t = tie_step shelf crew laws m n fd c worker f.took sent conn.kept w job y r heard f.so_far after due may_be order f.open_on f.script.proper f.ongoing f.has calls names replied.1 replied.2 d.cut d.may f.tie
 
       alone : KeepsToItself m fd c y (running.wants (job_of f.wanted f.script.text) fd f.wanted y)
       alone = (laws.run_keeps job).alone m fd c w y f.so_far f.open_on f.ongoing f.has
@@ -157,11 +168,11 @@ module _ (shelf : Shelf) (crew : Crew) (laws : AllLaws crew) where
           open_on = open_on;
           took = f.took;
           came_is = came_is;
-          due = due_to shelf conn.q;
-          may = due-may shelf conn.q;
-          tie = subst (λ (q : Answer). TieAlone shelf (due_to shelf q) (conn_at n c) f.took sent (of (record { kept = conn.kept; q = q; doing = after_run z }) None [])) (sym s.asks) (t.ends over);
-          has = (rests-has shelf (due_to shelf conn.q) n conn.q [] (after_run z) (t.rests over)).0;
-          finds = (rests-has shelf (due_to shelf conn.q) n conn.q [] (after_run z) (t.rests over)).1;
+          due = due;
+          may = subst (λ (q : Answer). MayBeDue shelf q due) (sym s.asks) may_be;
+          tie = subst (λ (q : Answer). TieAlone shelf due (conn_at n c) f.took sent (of (record { kept = conn.kept; q = q; doing = after_run z }) None [])) (sym s.asks) (t.ends over);
+          has = (rests-has shelf due n conn.q [] (after_run z) (t.rests over)).0;
+          finds = (rests-has shelf due n conn.q [] (after_run z) (t.rests over)).1;
           proper = subst (λ (q : Answer). IsProper q) (sym s.asks) s.proper;
         };
         freed = λ k seat sits runs runs_no. d.freed k seat sits (runs-run conn run script y k has runs) (over-none z k over);
@@ -176,6 +187,9 @@ module _ (shelf : Shelf) (crew : Crew) (laws : AllLaws crew) where
           came_is = came_is;
           wanted = w;
           script = record { asks = s.asks; stands = s.stands; get = s.get; is_for = s.is_for; text = s.text; found = s.found; lines = s.lines; is_script = s.is_script; proper = s.proper };
+          shown = f.shown;
+          may_show = f.may_show;
+          fresh = λ starts. f.fresh (starts-back worker w y r heard starts);
           kept = text-kept (keeps_text y) (keeps_text z) script s.text (keeps-back worker w y r heard) f.kept;
           so_far = after;
           has = replied.2;
@@ -192,7 +206,7 @@ module _ (shelf : Shelf) (crew : Crew) (laws : AllLaws crew) where
 
   pub run_step : (m n : State) (came sent : List ℕ) (fd c worker : ℕ) (x : Client) (y : Running) (r : Reply) (heard : List ℕ)
       (seats : List (Seat crew.Worker)) → IsOrderly m → IsOrderly n → IsFixedFor shelf crew m → AreAtDesks crew m seats
-      → x.run ≡ Some y → FitsRun shelf crew m came sent fd c x y seats → IsHired crew m x worker seats → IsAmong shelf.refuses r
+      → x.run ≡ Some y → FitsRun shelf crew m came sent fd c x y seats → IsHired crew m x worker seats → IsAmong shelf.refuses.of_server r
       → StepsTo m (event.Call server (wants shelf.scripts fd x)) r n → Names n r heard
       → GoesOn shelf crew n came sent fd c x (told shelf.scripts worker x r heard) seats
   run_step m n came sent fd c worker x y r heard seats = run_goes m n came sent fd c worker x.conn x.run x.script y r heard seats

@@ -1,4 +1,4 @@
--- The server's own call for a client leaves all other clients, and all workers, tied.
+-- The server's own call for a client preserves the invariants of all other clients, and of all workers.
 use Rattle.std.proofs.Common.{inl, inr, ◌≡◌, ◌≢◌, ◌<◌, ℕ, ◌==◌, ◌⊎◌, List, [], ap, ◌∙◌, refl, sym, subst, Option, Some, None, true, false, Bool, append-nil, slice_get}
 use Rattle.std.proofs.lemmas.Bool.{cases_eq}
 use Rattle.iol_core.specs.Text.{bytes_of}
@@ -69,7 +69,7 @@ pub record IsOwnTurn (shelf : Shelf) (crew : Crew) (m n : State) (p : Past) (cli
   pub there : in_place clients fd ≡ Some x
   pub waits : IsAwaiting x
   pub goes : may_go (has_free crew.count clients) x ≡ true
-  pub among : IsAmong shelf.refuses r
+  pub among : IsAmong shelf.refuses.of_server r
   pub step : StepsTo m (event.Call server (wants shelf.scripts fd x)) r n
   pub names : Names n r heard
 

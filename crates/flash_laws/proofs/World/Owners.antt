@@ -1,4 +1,4 @@
--- The server has no aggregate but what its clients use, or what calls from outside gave it: each step keeps it so.
+-- The server has only the aggregates that its clients use, or that external calls gave it: each step preserves this.
 use Rattle.std.proofs.Common.{inl, inr, ◌≡◌, ◌≢◌, ℕ, ◌==◌, ◌⊎◌, List, ap, ◌∙◌, refl, sym, Option, Some, None, true, false, Bool}
 use Rattle.std.specs.Prelude.{◌||◌, ◌&&◌}
 use Rattle.std.proofs.lemmas.Bool.{cases_eq}

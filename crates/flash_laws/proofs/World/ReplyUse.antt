@@ -1,4 +1,4 @@
--- What a client uses after a reply: what it used before, or what the reply brought.
+-- A client uses after a reply only objects that it used before, or that the reply returned.
 use Rattle.std.proofs.Common.{inl, inr, ◌≡◌, ◌⊎◌, ℕ, ◌==◌, List, [], ◌∷◌, ap, ◌∙◌, refl, sym, subst, Option, Some, None, true, false, Bool}
 use Rattle.std.specs.Prelude.{◌||◌}
 use Rattle.iol_core.specs.State.{State, descriptor}

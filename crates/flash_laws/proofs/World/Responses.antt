@@ -13,8 +13,7 @@ use Rattle.flash_laws.specs.Conn.OfferedBytes.{taken_of}
 use Rattle.flash_laws.specs.Run.Fits.{Progress}
 use Rattle.flash_laws.specs.Run.OfferedBytes.{past_of, taken_by}
 use Rattle.std.specs.List.{concat}
-use Rattle.flash_laws.specs.Shelf.{Shelf, due_to, MayBeDue, AllMayBeDue, Responds, Begins, IsAnswer}
-use Rattle.flash_laws.proofs.Site.Due.{due-may}
+use Rattle.flash_laws.specs.Shelf.{Shelf, MayBeDue, AllMayBeDue, Responds, Begins, IsAnswer}
 use Rattle.flash_laws.specs.declared.phase.Doing.{Doing}
 use Rattle.flash_laws.specs.declared.phase.Doing.TheVariants.{Rests, Got}
 use Rattle.flash_laws.specs.declared.script_run.Running.{Running}
@@ -110,7 +109,7 @@ begins-tie shelf k took sent x due may (inr (inl finished)) = finished.begins
 begins-tie shelf k took sent x due may (inr (inr gone)) = gone.begins
 
 -- of one for which a script runs
-pub begins-run : (shelf : Shelf) (k : Connection) (took sent kept : List ℕ) (w : Wanted) (o : Progress) (y : Running)
-    → TieRun shelf k took sent kept w o y → Begins shelf took (sent ++ bytes_of k.outgoing)
-begins-run shelf k took sent kept w o y (inl g) = begins-part shelf took (sent ++ bytes_of k.outgoing) kept (serve w) (due_to shelf (serve w)) (due-may shelf (serve w)) (past_of o + taken_by y) g.answers
-begins-run shelf k took sent kept w o y (inr l) = l.begins
+pub begins-run : (shelf : Shelf) (k : Connection) (took sent kept : List ℕ) (w : Wanted) (due : List ℕ) → MayBeDue shelf (serve w) due
+    → (o : Progress) (y : Running) → TieRun shelf due k took sent kept w o y → Begins shelf took (sent ++ bytes_of k.outgoing)
+begins-run shelf k took sent kept w due may o y (inl g) = begins-part shelf took (sent ++ bytes_of k.outgoing) kept (serve w) due may (past_of o + taken_by y) g.answers
+begins-run shelf k took sent kept w due may o y (inr l) = l.begins

@@ -1,4 +1,5 @@
--- The bytes of a response while a script runs: over the server's own call what was written stays the beginning of the answer.
+-- The bytes of a response while a script runs: over the server's own call, the written bytes remain the beginning of the
+-- answer.
 use Rattle.std.proofs.Common.{inl, inr, ◌≡◌, ◌⊎◌, ℕ, ◌+◌, ◌==◌, List, [], ◌∷◌, ◌++◌, length, take, drop, ap, ◌∙◌, refl, sym, subst, arith, Some, None, true, false, Bool, append_assoc, append-nil, if◌then◌else◌}
 use Rattle.std.proofs.lemmas.Bool.Decides.{nat_tests}
 use Rattle.std.proofs.lemmas.List.{take_all}
@@ -25,7 +26,7 @@ use Rattle.flash_laws.specs.Run.Fits.{Progress, Ran, Broken, NotRun, Follows, Is
 use Rattle.flash_laws.specs.Run.OfferedBytes.{Learns, taken_by, past_of, IsNextOf, breaks_off}
 use Rattle.flash_laws.specs.Run.{wants, told, is_over}
 use Rattle.flash_laws.specs.Answers.Scripts.{script_response}
-use Rattle.flash_laws.specs.Shelf.{Shelf, due_to, Responds}
+use Rattle.flash_laws.specs.Shelf.{Shelf, MayBeDue, Responds}
 use Rattle.flash_laws.specs.Site.{server}
 use Rattle.flash_laws.specs.declared.phase.Doing.{Doing}
 use Rattle.flash_laws.specs.declared.phase.Doing.TheVariants as doing
@@ -35,17 +36,16 @@ use Rattle.flash_laws.proofs.Conn.Responses.{all-more, order-more, last-more}
 use Rattle.flash_laws.proofs.Lists.{bytes-append, clash, next-front, self, take-plus}
 use Rattle.flash_laws.proofs.World.AllLaws.{AllLaws}
 use Rattle.flash_laws.proofs.World.Responses.{responds-more, begins-part}
-use Rattle.flash_laws.proofs.Site.Due.{due-may}
 
 -- a client whose run ended: its connection goes on where that left off
 abbrev pub past_run : (kept : List ℕ) → Wanted → Running → Client
 past_run kept w z = record { conn = record { kept = kept; q = serve w; doing = after_run z }; run = None; script = [] }
 
 -- what ties it after the call: as a run that goes on, or, where that is over, as a connection alone, which rests or closes
-pub record TieAfter (shelf : Shelf) (m n : State) (c : ℕ) (took sent kept : List ℕ) (w : Wanted) (after : Progress)
+pub record TieAfter (shelf : Shelf) (due : List ℕ) (m n : State) (c : ℕ) (took sent kept : List ℕ) (w : Wanted) (after : Progress)
     (z : Running) : Type 0 where
-  pub goes : is_over z ≡ false → TieRun shelf (conn_at n c) took sent kept w after z
-  pub ends : is_over z ≡ true → TieAlone shelf (due_to shelf (serve w)) (conn_at n c) took sent (past_run kept w z)
+  pub goes : is_over z ≡ false → TieRun shelf due (conn_at n c) took sent kept w after z
+  pub ends : is_over z ≡ true → TieAlone shelf due (conn_at n c) took sent (past_run kept w z)
   pub rests : is_over z ≡ true → (after_run z ≡ doing.Rests) ⊎ (after_run z ≡ doing.Closes)
   -- nothing of the stream was read
   pub unread : bytes_of (conn_at n c).incoming ≡ bytes_of (conn_at m c).incoming
@@ -205,18 +205,15 @@ closed_whole w x due proper may none = (none.0, (elim none.1 [ inl last ↦ last
 
 -- ---- the tie after it
 
-module _ (shelf : Shelf) (m n : State) (c : ℕ) (took sent kept : List ℕ) (w : Wanted) (after : Progress) (z : Running) where
+module _ (shelf : Shelf) (m n : State) (c : ℕ) (took sent kept : List ℕ) (w : Wanted) (response : List ℕ) (may_be : MayBeDue shelf (serve w) response)
+    (after : Progress) (z : Running) where
   -- what was written
   abbrev out : List ℕ
   out = sent ++ bytes_of (conn_at n c).outgoing
 
-  -- what is due
-  abbrev response : List ℕ
-  response = due_to shelf (serve w)
-
   -- a connection alone that is in this phase
   abbrev Alone : Doing → Type 0
-  Alone d = TieAlone shelf (due_to shelf (serve w)) (conn_at n c) took sent (record { conn = record { kept = kept; q = serve w; doing = d }; run = None; script = [] })
+  Alone d = TieAlone shelf response (conn_at n c) took sent (record { conn = record { kept = kept; q = serve w; doing = d }; run = None; script = [] })
 
   rests_or_closes : Ending w after z → (after_run z ≡ doing.Rests) ⊎ (after_run z ≡ doing.Closes)
   rests_or_closes e = (elim e.1 [ inl rest ↦ inl rest.0 | inr close ↦ inr close.0 ])
@@ -227,7 +224,7 @@ module _ (shelf : Shelf) (m n : State) (c : ℕ) (took sent kept : List ℕ) (w 
   answered_whole a none may rest =
       let count : past_of after + taken_by z ≡ past_of after = omega (arith, none) in
       subst (λ (l : List ℕ). Responds shelf (a.done ++ serve w ∷ []) l) (sym (a.out_is ∙ ap (λ (l : List ℕ). a.before ++ l) (ap (λ (k : ℕ). take k response) count ∙ all_taken w after response may rest)))
-      (responds-more shelf a.done (serve w) a.before response a.responds (due-may shelf (serve w)))
+      (responds-more shelf a.done (serve w) a.before response a.responds may_be)
 
   -- it goes on with the next request
   resting : Answers shelf took out kept (serve w ∷ []) (take (past_of after + taken_by z) response) → taken_by z ≡ 0
@@ -257,7 +254,7 @@ module _ (shelf : Shelf) (m n : State) (c : ℕ) (took sent kept : List ℕ) (w 
       responds = answered_whole a none may rest;
       no_more = inl (last-more a.done (serve w) last);
     };
-    begins = begins-part shelf took out kept (serve w) response (due-may shelf (serve w)) (past_of after + taken_by z) a;
+    begins = begins-part shelf took out kept (serve w) response may_be (past_of after + taken_by z) a;
   }))
 
   -- so it is tied as a connection alone
@@ -272,7 +269,7 @@ module _ (shelf : Shelf) (m n : State) (c : ℕ) (took sent kept : List ℕ) (w 
   -- the response goes on, or is all written
   pub goes_on : IsProper (serve w) → bytes_of (conn_at n c).incoming ≡ bytes_of (conn_at m c).incoming → (is_over z ≡ true → Ending w after z)
       → Answers shelf took out kept (serve w ∷ []) (take (past_of after + taken_by z) response) → MayAnswer w after response → breaks_off z ≡ false
-      → TieAfter shelf m n c took sent kept w after z
+      → TieAfter shelf response m n c took sent kept w after z
   goes_on proper unread over a may whole = record {
     goes = λ on. inl (record { answers = a; may = may; whole = whole });
     ends = λ is. ended proper a may (over is);
@@ -283,7 +280,7 @@ module _ (shelf : Shelf) (m n : State) (c : ℕ) (took sent kept : List ℕ) (w 
   -- nobody takes it any more
   pub left_alone : bytes_of (conn_at n c).incoming ≡ bytes_of (conn_at m c).incoming → (is_over z ≡ true → Ending w after z)
       → conn_at n c ≡ conn_at m c → IsLeftAlone shelf (conn_at m c) took (sent ++ bytes_of (conn_at m c).outgoing)
-      → TieAfter shelf m n c took sent kept w after z
+      → TieAfter shelf response m n c took sent kept w after z
   left_alone unread over same was = record {
     goes = λ on. inr left;
     ends = λ is. inr (inr left);
@@ -296,16 +293,16 @@ module _ (shelf : Shelf) (m n : State) (c : ℕ) (took sent kept : List ℕ) (w 
 
 module _ (shelf : Shelf) (crew : Crew) (laws : AllLaws crew) where
   pub tie_step : (m n : State) (fd c worker : ℕ) (took sent kept : List ℕ) (w : Wanted) (job : ℕ → List ℕ) (y : Running) (r : Reply)
-      (heard : List ℕ) (o after : Progress) → IsOrderly m → descriptor m server fd ≡ Some (on.Connection c)
+      (heard : List ℕ) (o after : Progress) (due : List ℕ) → MayBeDue shelf (serve w) due → IsOrderly m → descriptor m server fd ≡ Some (on.Connection c)
       → IsProper (serve w) → is_over y ≡ false → HasRun job m w o y
       → StepsTo m (event.Call server (wants job fd w y)) r n → Names n r heard
       → Learns m y r heard o after → HasRun job n w after (told worker w y r heard)
       → (breaks_off y ≡ false → breaks_off (told worker w y r heard) ≡ true → is_gone (conn_at m c).peer ≡ true)
-      → (breaks_off y ≡ false → breaks_off (told worker w y r heard) ≡ false → MayAnswer w o (due_to shelf (serve w))
-      → MayAnswer w after (due_to shelf (serve w)))
-      → TieRun shelf (conn_at m c) took sent kept w o y
-      → TieAfter shelf m n c took sent kept w after (told worker w y r heard)
-  tie_step m n fd c worker took sent kept w job y r heard o after order open_on proper ongoing has step names learns stands cut may tie = by tie
+      → (breaks_off y ≡ false → breaks_off (told worker w y r heard) ≡ false → MayAnswer w o due
+      → MayAnswer w after due)
+      → TieRun shelf due (conn_at m c) took sent kept w o y
+      → TieAfter shelf due m n c took sent kept w after (told worker w y r heard)
+  tie_step m n fd c worker took sent kept w job y r heard o after due may_be order open_on proper ongoing has step names learns stands cut may tie = by tie
     where
       z : Running
       z = told worker w y r heard
@@ -323,20 +320,20 @@ module _ (shelf : Shelf) (crew : Crew) (laws : AllLaws crew) where
       over : is_over z ≡ true → Ending w after z
       over is = ending job n w after z is stands
 
-      left : IsLeftAlone shelf (conn_at m c) took (sent ++ bytes_of (conn_at m c).outgoing) → TieAfter shelf m n c took sent kept w after z
-      left was = left_alone shelf m n c took sent kept w after z unread over (gone_still m n c w o (taken_by y) new did was.gone) was
+      left : IsLeftAlone shelf (conn_at m c) took (sent ++ bytes_of (conn_at m c).outgoing) → TieAfter shelf due m n c took sent kept w after z
+      left was = left_alone shelf m n c took sent kept w due may_be after z unread over (gone_still m n c w o (taken_by y) new did was.gone) was
 
-      by : TieRun shelf (conn_at m c) took sent kept w o y → TieAfter shelf m n c took sent kept w after z
+      by : TieRun shelf due (conn_at m c) took sent kept w o y → TieAfter shelf due m n c took sent kept w after z
       by (inl goes) = cases (breaks_off z) refl
         where
-          cases : (b : Bool) → breaks_off z ≡ b → TieAfter shelf m n c took sent kept w after z
+          cases : (b : Bool) → breaks_off z ≡ b → TieAfter shelf due m n c took sent kept w after z
           cases true is = left (record {
             gone = cut goes.whole is;
-            begins = begins-part shelf took (sent ++ bytes_of (conn_at m c).outgoing) kept (serve w) (due_to shelf (serve w)) (due-may shelf (serve w)) (past_of o + taken_by y) goes.answers;
+            begins = begins-part shelf took (sent ++ bytes_of (conn_at m c).outgoing) kept (serve w) due may_be (past_of o + taken_by y) goes.answers;
           })
           cases false is =
               let count = (laws.runs job).takes m n fd c worker w y r heard o after order open_on ongoing has step learns goes.whole is in
-              goes_on shelf m n c took sent kept w after z proper unread over
-              (answered_on m n c w o (taken_by y) new shelf took sent kept (serve w ∷ []) (due_to shelf (serve w)) (past_of after + taken_by z) did goes.may count goes.answers)
+              goes_on shelf m n c took sent kept w due may_be after z proper unread over
+              (answered_on m n c w o (taken_by y) new shelf took sent kept (serve w ∷ []) due (past_of after + taken_by z) did goes.may count goes.answers)
               (may goes.whole is goes.may) is
       by (inr was) = left was

@@ -1,4 +1,4 @@
--- What a run uses: what it had before, or what the reply brought; and that it is there.
+-- A run uses only objects that it had before, or that the reply returned, and these exist.
 use Rattle.std.proofs.Common.{inl, inr, ◌≡◌, ◌⊎◌, ℕ, ◌==◌, List, [], ◌∷◌, ap, ◌∙◌, refl, sym, Option, Some, None, true, false, Bool, if◌then◌else◌}
 use Rattle.std.specs.Prelude.{◌||◌, ◌&&◌, nat_lt}
 use Rattle.iol_core.specs.State.{State, descriptor}

@@ -1,4 +1,4 @@
--- A turn of the server keeps all tied, whichever call it makes.
+-- A turn of the server preserves the invariant, whichever call it makes.
 use Rattle.std.proofs.Common.{inl, inr, ◌≡◌, ℕ, List, [], ap, ◌∙◌, refl, sym, subst, Option, Some, None, true, if◌then◌else◌}
 use Rattle.std.specs.Prelude.{unwrap_or}
 use Rattle.iol_core.specs.NumberedLists.{in_place}
@@ -75,7 +75,7 @@ module _ (shelf : Shelf) (crew : Crew) (laws : AllLaws crew) where
       pub owned : AreOwned n p (filed crew.count after next r heard)
 
   module _ (m n : State) (p : Past) (clients after : List (Option Client)) (next : Flight) (r : Reply) (made : Turn) (seats : List (Seat crew.Worker)) (order : IsOrderly m)
-      (fixed : IsFixedFor shelf crew m) (fit : AllFit shelf crew m p clients seats) (owned : AreOwned m p clients) (among : IsAmong shelf.refuses r) (did : Made m made r n) where
+      (fixed : IsFixedFor shelf crew m) (fit : AllFit shelf crew m p clients seats) (owned : AreOwned m p clients) (among : IsAmong shelf.refuses.of_server r) (did : Made m made r n) where
     -- a call of the server's leaves the site
     goes-by : (k : Call) → StepsTo m (event.Call server k) r n → is_client_call k ≡ true → KeepsSite m n → Goes m n
     goes-by k step kind site = inr (record { e = event.Call server k; r = r; step = step; site = site; lives = kind-ends k kind; default = kind-default k kind })
@@ -148,7 +148,7 @@ module _ (shelf : Shelf) (crew : Crew) (laws : AllLaws crew) where
   pub server_turn : (m n : State) (p : Past) (s t : Server) (last r : Reply) (made : Turn) (seats : List (Seat crew.Worker)) → IsOrderly m → IsFixedFor shelf crew m
       → IsServing shelf crew m p s last seats
       → Picks s.workers (filed_in s last (λ a. lent_to m server a)) t.flight made t.clients → t.workers ≡ s.workers
-      → IsAmong shelf.refuses r → Made m made r n → Goes m n × IsServing shelf crew n p t r seats
+      → IsAmong shelf.refuses.of_server r → Made m made r n → Goes m n × IsServing shelf crew n p t r seats
   server_turn m n p s t last r made seats order fixed was picks same among did = (
     went.goes,
     record {

@@ -1,4 +1,4 @@
--- Each calm step of a world with workers keeps its tie.
+-- Each calm step of a world with workers preserves its invariant.
 use Rattle.std.proofs.Common.{inl, inr, ◌≡◌, ◌≢◌, ◌<◌, ℕ, zero, suc, ◌≤◌, List, [], ◌∷◌, ◌++◌, map, ap, ◌∙◌, refl, sym, subst, arith, Option, Some, false, Bool, append-nil, append_assoc, slice_get, slice_set}
 use Rattle.iol_core.specs.Run.{StepsTo}
 use Rattle.iol_core.specs.State.{State}
@@ -7,12 +7,9 @@ use Rattle.iol_core.specs.declared.events.Event.{Event}
 use Rattle.iol_core.specs.declared.events.Event.TheVariants as event
 use Rattle.iol_core.specs.declared.events.Reply.{Reply}
 use Rattle.iol_core.specs.declared.events.Reply.TheVariants as reply
-use Rattle.iol_core.specs.declared.refusals.Refusal.TheVariants as no
-use Rattle.iol_laws.specs.Caller.{is_rough}
 use Rattle.iol_laws.specs.Frame.{EachStepLeavesTheRest, changes_files, admits_to, ends, sets_default}
 use Rattle.iol_laws.specs.Order.{IsOrderly}
 use Rattle.iol_proc.specs.LentBytes.{lent_to}
-use Rattle.iol_core.specs.declared.refusals.Refusal.{Refusal}
 use Rattle.iol_proc.specs.Turns.{Comes, SeatTurn}
 use Rattle.iol_proc.specs.World.{Stage, copying, PlaceTurn, WorldStep, WorldRun}
 use Rattle.iol_proc.specs.declared.choice.Choice.{Choice}
@@ -29,13 +26,13 @@ use Rattle.flash_laws.specs.Site.Places.{filed}
 use Rattle.flash_laws.specs.Run.{worker_domain}
 use Rattle.flash_laws.specs.Site.ClientTies.{AllFit, AreOwned}
 use Rattle.flash_laws.specs.Serves.{Policy, Made}
-use Rattle.flash_laws.specs.Shelf.{Shelf, IsAmong}
+use Rattle.flash_laws.specs.Shelf.{Shelf, Refusals, IsAmong}
 use Rattle.flash_laws.specs.Site.{server, KeepsSite}
 use Rattle.flash_laws.specs.World.Tie.{past_of, Actor, Serving, Working, actor_goes, actor_turns}
-use Rattle.flash_laws.specs.World.{as_actor, IsServing, AreSeated, Tied, AreFair}
+use Rattle.flash_laws.specs.World.{as_actor, IsServing, AreSeated, Tied, AreFair, may_refuse}
 use Rattle.flash_laws.proofs.Conn.Responses.{some-inj}
 use Rattle.flash_laws.proofs.Conn.LentBytes.{lent-stays}
-use Rattle.flash_laws.proofs.Lists.{clash}
+use Rattle.flash_laws.proofs.World.Fair.{server-among, worker-among}
 use Rattle.flash_laws.proofs.Site.Others.{other-gives, other-ends, site-stays}
 use Rattle.flash_laws.proofs.Site.Pasts.{past-called, past-outside, past-turn, even-more}
 use Rattle.flash_laws.proofs.World.AllLaws.{AllLaws}
@@ -95,13 +92,10 @@ names-stay : (steps : EachStepLeavesTheRest) (m n : State) (e : Event) (r last :
 names-stay steps m n e r (reply.Agg a) heard step un names = lent-stays steps m n e r step a heard names (un a)
 names-stay steps m n e r last heard step un names = names
 
-not-rough : (r : Reply) → r ≡ reply.Refused no.Memory → is_rough r ≡ false → ⊥
-not-rough r is calm = clash (is_rough r) (ap is_rough is) calm
-
-smooth-parts : (refuses : Refusal → Bool) (x : Choice) (r : Reply) (xs : List Choice) (rs : List Reply)
+fair-parts : (refuses : Refusals) (x : Choice) (r : Reply) (xs : List Choice) (rs : List Reply)
     → AreFair refuses (x ∷ xs) (r ∷ rs) → AreFair refuses (x ∷ []) (r ∷ []) × AreFair refuses xs rs
-smooth-parts refuses (choice.Turn by) r xs rs smooth = ((smooth.0, smooth.1, tt), smooth.2)
-smooth-parts refuses (choice.Outside e) r xs rs smooth = (tt, smooth)
+fair-parts refuses (choice.Turn by) r xs rs fair = ((fair.0, tt), fair.1)
+fair-parts refuses (choice.Outside e) r xs rs fair = (tt, fair)
 
 module _ (may : Policy) (shelf : Shelf) (crew : Crew) (laws : AllLaws crew) where
   -- what the server's turn made
@@ -144,7 +138,7 @@ module _ (may : Policy) (shelf : Shelf) (crew : Crew) (laws : AllLaws crew) wher
 
     -- The server's turn.
     server_step : (yields : Bool) (r : Reply) (next : Seat (Actor crew.Worker))
-        → SeatTurn copying (actor_turns may crew.turns) w.machine first yields r after.machine next → after.seats ≡ next ∷ others → IsAmong shelf.refuses r
+        → SeatTurn copying (actor_turns may crew.turns) w.machine first yields r after.machine next → after.seats ≡ next ∷ others → IsAmong shelf.refuses.of_server r
         → Leads p
     server_step yields r next (inl starves) seats calm = (
       inl starves.machine_stays,
@@ -179,7 +173,7 @@ module _ (may : Policy) (shelf : Shelf) (crew : Crew) (laws : AllLaws crew) wher
                 ∙ (ap (λ (z : Actor crew.Worker). record { by = server; process = z; last = next.last }) is ∙ ap (λ (z : Reply). record { by = server; process = Serving t; last = z }) moves.told)
 
     -- A worker's turn.
-    module _ (r : Reply) (i : ℕ) (seat : Seat crew.Worker) (sits : slice_get s.workers i ≡ Some seat) (calm : is_rough r ≡ false) where
+    module _ (r : Reply) (i : ℕ) (seat : Seat crew.Worker) (sits : slice_get s.workers i ≡ Some seat) (among : IsAmong shelf.refuses.of_workers r) where
       in-place : (i < crew.count) × (seat.by ≡ worker_domain i)
       in-place = s.serves.fit.desks.by i seat sits
 
@@ -189,7 +183,7 @@ module _ (may : Policy) (shelf : Shelf) (crew : Crew) (laws : AllLaws crew) wher
       worker-goes : (yields : Bool) (next : Seat crew.Worker) → SeatTurn copying crew.turns w.machine seat yields r after.machine next
           → after.seats ≡ first ∷ map (λ v. as_actor v) (slice_set s.workers i next) → Leads p
       worker-goes yields next did seats =
-          let went = worker_turn shelf crew laws w.machine after.machine p clients s.workers i seat next yields r order order-then fixed s.serves.fit sits did calm rises in (
+          let went = worker_turn shelf crew laws w.machine after.machine p clients s.workers i seat next yields r order order-then fixed s.serves.fit sits did among rises in (
             goes came.0 went.0,
             record {
               state = s.state;
@@ -201,7 +195,7 @@ module _ (may : Policy) (shelf : Shelf) (crew : Crew) (laws : AllLaws crew) wher
           )
         where
           came : IsCallOf w.machine seat.by r after.machine × (next.by ≡ seat.by)
-          came = what-came crew.turns w.machine after.machine seat next yields r did calm
+          came = what-came crew.turns w.machine after.machine seat next yields r did
 
           order-then : IsOrderly after.machine
           order-then = by came.0
@@ -240,7 +234,10 @@ module _ (may : Policy) (shelf : Shelf) (crew : Crew) (laws : AllLaws crew) wher
       worker_step : (yields : Bool) (next : Seat (Actor crew.Worker))
           → SeatTurn copying (actor_turns may crew.turns) w.machine (as_actor seat) yields r after.machine next
           → after.seats ≡ first ∷ slice_set others i next → Leads p
-      worker_step yields next (inl starves) seats = absurd (not-rough r starves.answer calm)
+      worker_step yields next (inl starves) seats =
+          worker-goes yields seat
+          (inl (record { wanted = starves.wanted; no_yield = starves.no_yield; answer = starves.answer; machine_stays = starves.machine_stays; seat_stays = refl }))
+          (seats ∙ (ap (λ (z : Seat (Actor crew.Worker)). first ∷ slice_set others i z) starves.seat_stays ∙ ap (λ (l : List (Seat (Actor crew.Worker))). first ∷ l) (map-set s.workers i seat)))
       worker_step yields next (inr moves) seats = by next.process refl moves.goes_on
         where
           by : (x : Actor crew.Worker) → next.process ≡ x
@@ -267,17 +264,19 @@ module _ (may : Policy) (shelf : Shelf) (crew : Crew) (laws : AllLaws crew) wher
     not-server-by i seat sits same = (let is = (s.serves.fit.desks.by i seat sits).1 in omega (arith, same, is))
 
     -- A turn of whoever sits at a place.
-    place_step : (place : ℕ) (yields : Bool) (r : Reply) → (t : PlaceTurn copying (actor_turns may crew.turns) w place yields r after) → IsAmong shelf.refuses r
-        → (t.seat.by ≢ server → is_rough r ≡ false) → Leads p
-    place_step place yields r t among calm = by place (subst (λ (l : List (Seat (Actor crew.Worker))). slice_get l place ≡ Some t.seat) s.seats t.sits) (t.others_stay ∙ ap (λ (l : List (Seat (Actor crew.Worker))). slice_set l place t.next) s.seats)
+    place_step : (place : ℕ) (yields : Bool) (r : Reply) → (t : PlaceTurn copying (actor_turns may crew.turns) w place yields r after)
+        → IsAmong (may_refuse shelf.refuses t.seat.by) r → Leads p
+    place_step place yields r t among = by place (subst (λ (l : List (Seat (Actor crew.Worker))). slice_get l place ≡ Some t.seat) s.seats t.sits) (t.others_stay ∙ ap (λ (l : List (Seat (Actor crew.Worker))). slice_set l place t.next) s.seats)
       where
         by : (place : ℕ) → slice_get (first ∷ others) place ≡ Some t.seat → after.seats ≡ slice_set (first ∷ others) place t.next → Leads p
         by zero sits seats =
             let is : first ≡ t.seat = some-inj first t.seat sits in
-            server_step yields r t.next (subst (λ (z : Seat (Actor crew.Worker)). SeatTurn copying (actor_turns may crew.turns) w.machine z yields r after.machine t.next) (sym is) t.turn) seats among
+            server_step yields r t.next (subst (λ (z : Seat (Actor crew.Worker)). SeatTurn copying (actor_turns may crew.turns) w.machine z yields r after.machine t.next) (sym is) t.turn) seats
+            (server-among shelf.refuses t.seat.by r (ap (λ (z : Seat (Actor crew.Worker)). z.by) (sym is)) among)
         by (suc i) sits seats =
             let one = map-get s.workers i t.seat sits in
-            worker_step r i one.0 one.1 (calm (λ same. not-server-by i one.0 one.1 (sym (ap (λ (z : Seat (Actor crew.Worker)). z.by) one.2) ∙ same))) yields t.next (subst (λ (z : Seat (Actor crew.Worker)). SeatTurn copying (actor_turns may crew.turns) w.machine z yields r after.machine t.next) one.2 t.turn) seats
+            worker_step r i one.0 one.1
+            (worker-among shelf.refuses t.seat.by r (λ same. not-server-by i one.0 one.1 (sym (ap (λ (z : Seat (Actor crew.Worker)). z.by) one.2) ∙ same)) among) yields t.next (subst (λ (z : Seat (Actor crew.Worker)). SeatTurn copying (actor_turns may crew.turns) w.machine z yields r after.machine t.next) one.2 t.turn) seats
 
     -- whoever sits stays, with what the server keeps
     still : (q : Past) → after.seats ≡ w.seats → Names after.machine s.last s.serves.heard → AllFit shelf crew after.machine q clients s.workers
@@ -327,30 +326,31 @@ module _ (may : Policy) (shelf : Shelf) (crew : Crew) (laws : AllLaws crew) wher
                   (owned-outside laws.aggs w.machine after.machine p clients f r step (λ a. act-brings f r a act) s.serves.owned)),
             )
 
-  -- Each calm step keeps the tie.
+  -- Each step that is mild and fair keeps the tie.
   pub step_keeps : (xs : List Choice) (rs : List Reply) (x : Choice) (r : Reply) (w after : Stage State (Actor crew.Worker))
       → WorldStep copying (actor_turns may crew.turns) w x r after → IsMild w x after
       → AreFair shelf.refuses (x ∷ []) (r ∷ []) → Tied shelf crew xs rs w
       → Tied shelf crew (xs ++ x ∷ []) (rs ++ r ∷ []) after
-  step_keeps xs rs (choice.Turn by) r w after (inl absent) mild smooth tied =
+  step_keeps xs rs (choice.Turn by) r w after (inl absent) mild fair tied =
       let same : after.machine ≡ w.machine = ap (λ (v : Stage State (Actor crew.Worker)). v.machine) absent.stays in
       tied-on xs rs (choice.Turn by) r w after (past_of xs rs) tied (inl same) (past-turn xs rs by r tied.even) (subst (λ (v : Stage State (Actor crew.Worker)). AreSeated shelf crew v (past_of xs rs)) (sym absent.stays) tied.seated)
-  step_keeps xs rs (choice.Turn by) r w after (inr present) mild smooth tied =
-      let did = place_step w after (past_of xs rs) tied.order tied.fixed tied.seated present.place present.yields r present.turn smooth.0 (λ apart. smooth.1 (λ same. apart (present.domain ∙ same))) in
+  step_keeps xs rs (choice.Turn by) r w after (inr present) mild fair tied =
+      let did = place_step w after (past_of xs rs) tied.order tied.fixed tied.seated present.place present.yields r present.turn
+      (subst (λ d. IsAmong (may_refuse shelf.refuses d) r) (sym present.domain) fair.0) in
       tied-on xs rs (choice.Turn by) r w after (past_of xs rs) tied did.0 (past-turn xs rs by r tied.even) did.1
-  step_keeps xs rs (choice.Outside e) r w after outside mild smooth tied =
+  step_keeps xs rs (choice.Outside e) r w after outside mild fair tied =
       let did = outside_step w after (past_of xs rs) tied.order tied.fixed tied.seated e r outside.step outside.seats_stay mild in
       tied-on xs rs (choice.Outside e) r w after (and_then (past_of xs rs) e r) tied did.0 (past-outside xs rs e r tied.even) did.1
 
-  -- so a calm run keeps it
+  -- so does a run of such steps
   pub run_keeps : (xs : List Choice) (rs : List Reply) (w after : Stage State (Actor crew.Worker)) (past : List Choice) (ps : List Reply)
       → (run : WorldRun copying (actor_turns may crew.turns) w xs rs after)
       → AreMild (actor_turns may crew.turns) w xs rs after run → AreFair shelf.refuses xs rs → Tied shelf crew past ps w
       → Tied shelf crew (past ++ xs) (ps ++ rs) after
-  run_keeps [] [] w after past ps run mild smooth tied = subst (λ (l : List Choice). Tied shelf crew l (ps ++ []) after) (sym (append-nil past)) (subst (λ (l : List Reply). Tied shelf crew past l after) (sym (append-nil ps)) (subst (λ (v : Stage State (Actor crew.Worker)). Tied shelf crew past ps v) (sym run) tied))
-  run_keeps (x ∷ xs) (r ∷ rs) w after past ps run mild smooth tied =
-      let both = smooth-parts shelf.refuses x r xs rs smooth in
+  run_keeps [] [] w after past ps run mild fair tied = subst (λ (l : List Choice). Tied shelf crew l (ps ++ []) after) (sym (append-nil past)) (subst (λ (l : List Reply). Tied shelf crew past l after) (sym (append-nil ps)) (subst (λ (v : Stage State (Actor crew.Worker)). Tied shelf crew past ps v) (sym run) tied))
+  run_keeps (x ∷ xs) (r ∷ rs) w after past ps run mild fair tied =
+      let both = fair-parts shelf.refuses x r xs rs fair in
       let on_tied = run_keeps xs rs run.0 after (past ++ x ∷ []) (ps ++ r ∷ []) run.2 mild.1 both.1 (step_keeps past ps x r w run.0 run.1 mild.0 both.0 tied) in
       subst (λ (l : List Choice). Tied shelf crew l (ps ++ r ∷ rs) after) (append_assoc past (x ∷ []) xs) (subst (λ (l : List Reply). Tied shelf crew ((past ++ x ∷ []) ++ xs) l after) (append_assoc ps (r ∷ []) rs) on_tied)
-  run_keeps [] (r ∷ rs) w after past ps run mild smooth tied = absurd run
-  run_keeps (x ∷ xs) [] w after past ps run mild smooth tied = absurd run
+  run_keeps [] (r ∷ rs) w after past ps run mild fair tied = absurd run
+  run_keeps (x ∷ xs) [] w after past ps run mild fair tied = absurd run

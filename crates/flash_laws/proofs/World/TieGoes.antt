@@ -1,4 +1,4 @@
--- What ties a client to its connection stays, as the connection goes on: or the peer is gone, and what was sent begins the answer.
+-- The invariant of a client remains as its connection continues; or the peer is gone, and the bytes sent begin the answer.
 use Rattle.std.proofs.Common.{inl, inr, ◌≡◌, ℕ, ◌+◌, List, [], ◌∷◌, ◌++◌, take, ◌∙◌, subst, true, false}
 use Rattle.std.specs.Prelude.{is_none}
 use Rattle.iol_core.specs.Text.{bytes_of}
@@ -10,7 +10,7 @@ use Rattle.flash_laws.specs.Conn.Fits.{asked}
 use Rattle.flash_laws.specs.Conn.OfferedBytes.{taken_of}
 use Rattle.flash_laws.specs.Run.Fits.{Progress}
 use Rattle.flash_laws.specs.Run.OfferedBytes.{past_of, taken_by}
-use Rattle.flash_laws.specs.Shelf.{Shelf, due_to, Begins, MayBeDue, Responds}
+use Rattle.flash_laws.specs.Shelf.{Shelf, Begins, MayBeDue, Responds}
 use Rattle.flash_laws.specs.declared.phase.Doing.{Doing}
 use Rattle.flash_laws.specs.declared.script_run.Running.{Running}
 use Rattle.flash_laws.proofs.World.Responses.{begins-less, begins-tie, begins-run}
@@ -47,13 +47,13 @@ module _ (shelf : Shelf) (k j : Connection) (took sent after : List ℕ) (total 
   tie-stays x due (inr (inl f)) = inr (inl (finished-stays x.conn.doing f))
   tie-stays x due (inr (inr l)) = inr (inr (left-stays l))
 
-  pub run-stays : (kept : List ℕ) (w : Wanted) (o : Progress) (y : Running) → TieRun shelf k took sent kept w o y → TieRun shelf j took after kept w o y
-  run-stays kept w o y (inl g) = inl (record {
-    answers = subst (λ (l : List ℕ). Answers shelf took l kept (serve w ∷ []) (take (past_of o + taken_by y) (due_to shelf (serve w)))) total g.answers;
+  pub run-stays : (kept : List ℕ) (w : Wanted) (due : List ℕ) (o : Progress) (y : Running) → TieRun shelf due k took sent kept w o y → TieRun shelf due j took after kept w o y
+  run-stays kept w due o y (inl g) = inl (record {
+    answers = subst (λ (l : List ℕ). Answers shelf took l kept (serve w ∷ []) (take (past_of o + taken_by y) due)) total g.answers;
     may = g.may;
     whole = g.whole;
   })
-  run-stays kept w o y (inr l) = inr (left-stays l)
+  run-stays kept w due o y (inr l) = inr (left-stays l)
 
 -- ---- the peer is gone, and what was to be sent is dropped
 
@@ -65,5 +65,5 @@ module _ (shelf : Shelf) (k j : Connection) (took sent after dropped : List ℕ)
   pub tie-leaves : (x : Client) (due : List ℕ) → MayBeDue shelf x.conn.q due → TieAlone shelf due k took sent x → TieAlone shelf due j took after x
   tie-leaves x due may tie = inr (inr (left-alone (begins-tie shelf k took sent x due may tie)))
 
-  pub run-leaves : (kept : List ℕ) (w : Wanted) (o : Progress) (y : Running) → TieRun shelf k took sent kept w o y → TieRun shelf j took after kept w o y
-  run-leaves kept w o y tie = inr (left-alone (begins-run shelf k took sent kept w o y tie))
+  pub run-leaves : (kept : List ℕ) (w : Wanted) (due : List ℕ) → MayBeDue shelf (serve w) due → (o : Progress) (y : Running) → TieRun shelf due k took sent kept w o y → TieRun shelf due j took after kept w o y
+  run-leaves kept w due may o y tie = inr (left-alone (begins-run shelf k took sent kept w due may o y tie))

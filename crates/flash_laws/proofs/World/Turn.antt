@@ -1,4 +1,4 @@
--- A turn of the server keeps all its clients, and all workers, tied.
+-- A turn of the server preserves the invariants of all its clients, and of all workers.
 use Rattle.std.proofs.Common.{inl, inr, ◌≡◌, ◌≢◌, ◌<◌, ℕ, ◌==◌, ◌≤◌, ◌⊎◌, List, ap, ◌∙◌, refl, sym, subst, arith, Option, Some, true, false, Bool, slice_get}
 use Rattle.std.proofs.lemmas.Bool.{cases_eq}
 use Rattle.std.proofs.lemmas.Bool.Decides.{nat_tests}

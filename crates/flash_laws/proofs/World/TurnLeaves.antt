@@ -1,4 +1,4 @@
--- What a worker's turn leaves: the site, and all clients for which it runs nothing.
+-- A worker's turn leaves the site, and all clients for which it runs nothing, unchanged.
 use Rattle.std.proofs.Common.{inl, inr, ◌≡◌, ◌≢◌, ◌<◌, ◌⊎◌, ℕ, zero, suc, ◌==◌, List, [], ◌∷◌, ◌++◌, ap, ◌∙◌, refl, sym, subst, arith, Option, Some, None, true, false, Bool, append-nil, slice_get, slice_set}
 use Rattle.std.specs.Prelude.{is_none}
 use Rattle.std.specs.List.{list_any}
@@ -10,7 +10,6 @@ use Rattle.iol_core.specs.declared.descriptors.Descriptor.TheVariants as on
 use Rattle.iol_core.specs.declared.events.Call.{Call}
 use Rattle.iol_core.specs.declared.events.Event.TheVariants as event
 use Rattle.iol_core.specs.declared.events.Reply.{Reply}
-use Rattle.iol_laws.specs.Caller.{is_rough}
 use Rattle.iol_laws.specs.Order.{IsOrderly}
 use Rattle.iol_proc.specs.Turns.{Account, Comes, SeatTurn}
 use Rattle.iol_proc.specs.World.{copying}
@@ -20,16 +19,17 @@ use Rattle.iol_proc.specs.declared.seat.Seat.{Seat}
 use Rattle.flash_cgi.specs.Frame.{LeavesAllBut}
 use Rattle.flash_laws.specs.Answers.{Outcome}
 use Rattle.flash_laws.specs.Client.{Client}
-use Rattle.flash_laws.specs.Client.Fits.{Fits, output_of}
+use Rattle.flash_laws.specs.Client.Fits.{Fits, made_of}
 use Rattle.flash_laws.specs.Client.Holdings.{has_fd}
 use Rattle.flash_laws.specs.Conn.{Conn}
+use Rattle.flash_cgi.specs.Due.{Made}
 use Rattle.flash_laws.specs.Workers.Crew.{Crew, IsFixedFor}
 use Rattle.flash_laws.specs.Site.Past.{Past}
 use Rattle.flash_laws.specs.Site.Places.{has_worker, is_run_by}
 use Rattle.flash_laws.specs.Run.Fits.{Progress}
 use Rattle.flash_laws.specs.Run.{worker_domain}
 use Rattle.flash_laws.specs.Site.ClientTies.{FitsAt, AllFit}
-use Rattle.flash_laws.specs.Shelf.{Shelf}
+use Rattle.flash_laws.specs.Shelf.{Shelf, IsAmong}
 use Rattle.flash_laws.specs.Site.{server, net_pool, IsFixed, KeepsSite}
 use Rattle.flash_laws.specs.Run.Stages.{HasWorkerAt}
 use Rattle.flash_laws.specs.declared.script_run.Run.{Run}
@@ -57,16 +57,16 @@ set-other (z ∷ xs) zero (suc j) y apart = refl
 set-other (z ∷ xs) (suc i) zero y apart = refl
 set-other (z ∷ xs) (suc i) (suc j) y apart = set-other xs i j y (λ same. apart (ap suc same))
 
--- ---- a turn that is not rough
+-- ---- a turn
 
 -- it is a call, or changes nothing
 abbrev pub IsCallOf : State → (d : ℕ) → Reply → State → Type 0
 IsCallOf m d r n = (n ≡ m) ⊎ ((c : Call) × StepsTo m (event.Call d c) r n)
 
 pub what-came : {W : Type 0} (works : Account W) (m n : State) (seat next : Seat W) (yields : Bool) (r : Reply)
-    → SeatTurn copying works m seat yields r n next → is_rough r ≡ false → IsCallOf m seat.by r n × (next.by ≡ seat.by)
-what-came works m n seat next yields r (inl starves) smooth = absurd (let e = ap (λ z. is_rough z) (sym starves.answer) ∙ smooth in cc (e))
-what-came works m n seat next yields r (inr moves) smooth = (by moves.turn moves.comes, moves.domain_stays)
+    → SeatTurn copying works m seat yields r n next → IsCallOf m seat.by r n × (next.by ≡ seat.by)
+what-came {W = W} works m n seat next yields r (inl starves) = (inl starves.machine_stays, ap (λ (s : Seat W). s.by) starves.seat_stays)
+what-came works m n seat next yields r (inr moves) = (by moves.turn moves.comes, moves.domain_stays)
   where
     by : (t : Turn) → Comes copying works m seat.by t yields r n → IsCallOf m seat.by r n
     by turn.Yield comes = inl comes.2
@@ -81,7 +81,7 @@ pub record IsTurn (shelf : Shelf) (crew : Crew) (m n : State) (p : Past) (client
   pub fit : AllFit shelf crew m p clients seats
   pub sits : slice_get seats k ≡ Some seat
   pub did : SeatTurn copying crew.turns m seat yields r n next
-  pub smooth : is_rough r ≡ false
+  pub among : IsAmong shelf.refuses.of_workers r
 
 -- ---- which pipe it touches
 
@@ -139,14 +139,14 @@ conn-left k j sent same = inl (record {
 })
 
 -- a client for which another worker runs a script, or none, does not see who sits in place k
-desk-reseated : (crew : Crew) (n : State) (k : ℕ) (seats : List (Seat crew.Worker)) (next : Seat crew.Worker) (output : List ℕ) (o : Progress) (y : Running)
-    → has_worker y k ≡ false → HasWorkerAt crew n seats output o y → HasWorkerAt crew n (slice_set seats k next) output o y
-desk-reseated crew n k seats next output o (Runs run s) none h = record {
+desk-reseated : (crew : Crew) (n : State) (k : ℕ) (seats : List (Seat crew.Worker)) (next : Seat crew.Worker) (made : Made) (o : Progress) (y : Running)
+    → has_worker y k ≡ false → HasWorkerAt crew n seats made o y → HasWorkerAt crew n (slice_set seats k next) made o y
+desk-reseated crew n k seats next made o (Runs run s) none h = record {
   seat = h.seat;
   sits = set-other seats k run.worker next (λ same. differ run.worker k none (sym same)) ∙ h.sits;
   stage = h.stage;
 }
-desk-reseated crew n k seats next output o y none h = tt
+desk-reseated crew n k seats next made o y none h = tt
 
 reseated : (shelf : Shelf) (crew : Crew) (n : State) (came sent : List ℕ) (fd c k : ℕ) (x : Conn) (run : Option Running) (script : List ℕ)
     (seats : List (Seat crew.Worker)) (next : Seat crew.Worker) → is_run_by (of x run script) k ≡ false
@@ -158,12 +158,15 @@ reseated shelf crew n came sent fd c k x (Some y) script seats next none f = rec
   came_is = f.came_is;
   wanted = f.wanted;
   script = f.script;
+  shown = f.shown;
+  may_show = f.may_show;
+  fresh = f.fresh;
   kept = f.kept;
   so_far = f.so_far;
   has = f.has;
   ongoing = f.ongoing;
   tie = f.tie;
-  desk = desk-reseated crew n k seats next (output_of shelf f.wanted f.script.lines) f.so_far y none f.desk;
+  desk = desk-reseated crew n k seats next (made_of f.wanted f.script.lines f.shown) f.so_far y none f.desk;
 }
 
 module _ (shelf : Shelf) (crew : Crew) (laws : AllLaws crew) (m n : State) (p : Past) (clients : List (Option Client)) (seats : List (Seat crew.Worker)) (k : ℕ)
@@ -203,7 +206,7 @@ module _ (shelf : Shelf) (crew : Crew) (laws : AllLaws crew) (m n : State) (p : 
         f = turn.fit.each fd y at
 
         came : IsCallOf m seat.by r n × (next.by ≡ seat.by)
-        came = what-came crew.turns m n seat next yields r turn.did turn.smooth
+        came = what-came crew.turns m n seat next yields r turn.did
 
         by : IsCallOf m seat.by r n → Fits shelf crew n (p.came f.conn) (p.sent f.conn) fd f.conn y seats
         by (inl same) = subst (λ (s : State). Fits shelf crew s (p.came f.conn) (p.sent f.conn) fd f.conn y seats) (sym same) f.fits

@@ -1,4 +1,5 @@
--- A new world with workers is tied, and where the tie holds each connection is answered.
+-- A new world with workers has the invariant, and in a world with the invariant the output of each connection begins its
+-- answer.
 use Rattle.std.proofs.Common.{inl, inr, ◌≡◌, ℕ, ◌⊎◌, List, [], ◌++◌, ap, refl, sym, subst, Option, Some, None, true, false}
 use Rattle.iol_core.specs.NumberedLists.{in_place}
 use Rattle.iol_core.specs.Text.{bytes_of}
@@ -12,7 +13,7 @@ use Rattle.iol_proc.specs.World.{Stage}
 use Rattle.iol_proc.specs.declared.choice.Choice.{Choice}
 use Rattle.iol_proc.specs.declared.seat.Seat.{Seat}
 use Rattle.flash_laws.specs.Client.{Client}
-use Rattle.flash_laws.specs.Client.Fits.{FitsBy}
+use Rattle.flash_laws.specs.Client.Fits.{FitsBy, made_of, response_to}
 use Rattle.flash_laws.specs.Workers.Crew.{Crew}
 use Rattle.flash_laws.specs.Site.Past.{Past}
 use Rattle.flash_laws.specs.Site.Places.{filed}
@@ -27,9 +28,10 @@ use Rattle.flash_laws.proofs.Lists.{clash}
 use Rattle.flash_laws.proofs.Site.Peers.{told-none}
 use Rattle.flash_laws.proofs.Site.OwnWorkers.{workers_shared}
 use Rattle.flash_laws.proofs.Site.OpenDescriptors.{not-closed, conn-same}
+use Rattle.flash_laws.proofs.Site.Due.{shown-may}
 use Rattle.flash_laws.proofs.World.Responses.{begins-none, begins-append, begins-tie, begins-run}
 
--- A new world is tied.
+-- A new world has the invariant.
 pub first_tied : (shelf : Shelf) (crew : Crew) (w : Stage State (Actor crew.Worker)) → IsNew shelf crew w → Tied shelf crew [] [] w
 unfolding stream_over sent_over tells_over made_over gone_over given_over
 first_tied shelf crew w new = record {
@@ -76,7 +78,7 @@ module _ (laws : WindowLaws) (shelf : Shelf) (crew : Crew) (m : State) (p : Past
   begun : (fd k : ℕ) (x : Client) (run : Option Running) → FitsBy shelf crew run m (p.came k) (p.sent k) fd k x seats
       → (descriptor m server fd ≡ Some (on.Connection k)) × Begins shelf (p.came k) (p.sent k ++ bytes_of (conn_at m k).outgoing)
   begun fd k x None f = (f.open_on, with-more k f.took f.came_is (begins-tie shelf (conn_at m k) f.took (p.sent k) x f.due f.may f.tie))
-  begun fd k x (Some y) f = (f.open_on, with-more k f.took f.came_is (begins-run shelf (conn_at m k) f.took (p.sent k) x.conn.kept f.wanted f.so_far y f.tie))
+  begun fd k x (Some y) f = (f.open_on, with-more k f.took f.came_is (begins-run shelf (conn_at m k) f.took (p.sent k) x.conn.kept f.wanted (response_to f.wanted (made_of f.wanted f.script.lines f.shown)) (shown-may shelf x f.wanted f.script f.shown f.may_show) f.so_far y f.tie))
 
   -- so the claim holds
   pub answered : AreAnswered shelf crew m p

@@ -1,11 +1,10 @@
--- A worker's turn leaves all clients tied.
+-- A worker's turn preserves the invariants of all clients.
 use Rattle.std.proofs.Common.{inl, inr, ◌≡◌, ◌≢◌, ◌<◌, ◌⊎◌, ◌≤◌, ℕ, List, ap, ◌∙◌, refl, sym, subst, arith, Option, Some, true, false, Bool, slice_get, slice_set}
 use Rattle.std.proofs.lemmas.Bool.{cases_eq}
 use Rattle.iol_core.specs.NumberedLists.{in_place}
 use Rattle.iol_core.specs.State.{State, Connection, descriptor, conn_at, is_gone}
 use Rattle.iol_core.specs.declared.events.Event.TheVariants as event
 use Rattle.iol_core.specs.declared.events.Reply.{Reply}
-use Rattle.iol_laws.specs.Caller.{is_rough}
 use Rattle.iol_laws.specs.Order.{IsOrderly}
 use Rattle.iol_proc.specs.Turns.{SeatTurn}
 use Rattle.iol_proc.specs.World.{copying}
@@ -17,7 +16,7 @@ use Rattle.flash_laws.specs.Site.Past.{Past}
 use Rattle.flash_laws.specs.Site.Places.{is_run_by, is_free}
 use Rattle.flash_laws.specs.Run.{worker_domain, job_pipe}
 use Rattle.flash_laws.specs.Site.ClientTies.{Held, Aside, AreAtDesks, FitsAt, AllFit}
-use Rattle.flash_laws.specs.Shelf.{Shelf}
+use Rattle.flash_laws.specs.Shelf.{Shelf, IsAmong}
 use Rattle.flash_laws.specs.Site.{server}
 use Rattle.flash_laws.proofs.Conn.Responses.{some-inj}
 use Rattle.flash_laws.proofs.World.AllLaws.{AllLaws}
@@ -35,7 +34,7 @@ module _ (shelf : Shelf) (crew : Crew) (laws : AllLaws crew) (m n : State) (p : 
   in_seat = sits-in shelf crew laws m n p clients seats k seat next yields r turn
 
   came : IsCallOf m seat.by r n × (next.by ≡ seat.by)
-  came = what-came crew.turns m n seat next yields r turn.did turn.smooth
+  came = what-came crew.turns m n seat next yields r turn.did
 
   -- who sits in place k now
   here-sits : (l : ℕ) (t : Seat crew.Worker) → k ≡ l → slice_get (slice_set seats k next) l ≡ Some t → next ≡ t
@@ -119,9 +118,9 @@ module _ (shelf : Shelf) (crew : Crew) (laws : AllLaws crew) where
   pub worker_turn : (m n : State) (p : Past) (clients : List (Option Client)) (seats : List (Seat crew.Worker)) (k : ℕ)
       (seat next : Seat crew.Worker) (yields : Bool) (r : Reply) → IsOrderly m → IsOrderly n → IsFixedFor shelf crew m
       → AllFit shelf crew m p clients seats → slice_get seats k ≡ Some seat
-      → SeatTurn copying crew.turns m seat yields r n next → is_rough r ≡ false → m.next_conn ≤ n.next_conn
+      → SeatTurn copying crew.turns m seat yields r n next → IsAmong shelf.refuses.of_workers r → m.next_conn ≤ n.next_conn
       → IsQuiet m seat.by n × AllFit shelf crew n p clients (slice_set seats k next)
-  worker_turn m n p clients seats k seat next yields r order order_after fixed fit sits did smooth rises =
-      let turn : IsTurn shelf crew m n p clients seats k seat next yields r = record { order = order; order_after = order_after; fixed = fixed; fit = fit; sits = sits; did = did; smooth = smooth } in
+  worker_turn m n p clients seats k seat next yields r order order_after fixed fit sits did among rises =
+      let turn : IsTurn shelf crew m n p clients seats k seat next yields r = record { order = order; order_after = order_after; fixed = fixed; fit = fit; sits = sits; did = did; among = among } in
       let touched = touches shelf crew laws m n p clients seats k seat next yields r turn in
       (inr (touched.pipe, touched.leaves), all-fit shelf crew laws m n p clients seats k seat next yields r turn touched.pipe touched.leaves touched.own rises)

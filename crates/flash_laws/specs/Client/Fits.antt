@@ -1,4 +1,4 @@
--- What ties one client to what came on its connection and what was sent: as a connection alone, or with the run of a script.
+-- The invariant of one client, by the input and output of its connection: without a script, or with the run of one.
 use Rattle.std.specs.Prelude.{◌≡◌, ◌≤◌, ℕ, ◌+◌, ◌⊎◌, Bool, true, false, List, [], ◌∷◌, ◌++◌, length, take, Option, Some, None, is_none, if◌then◌else◌}
 use Rattle.std.specs.List.{list_all}
 use Rattle.iol_core.specs.Text.{bytes_of}
@@ -9,9 +9,11 @@ use Rattle.iol_proc.specs.declared.seat.Seat.{Seat}
 use Rattle.flash_http.specs.declared.windows.Window.TheVariants.{Wait}
 use Rattle.flash_http.specs.Window.{window_in}
 use Rattle.flash_http.specs.Request.{Answer, serve, refuse, Wanted}
-use Rattle.flash_cgi.specs.Output.{output}
+use Rattle.flash_cgi.specs.Due.{Made, text_of as output_of}
+use Rattle.flash_cgi.specs.Output.{Outcome}
 use Rattle.flash_cgi.specs.Script.{script_of}
 use Rattle.flash_cgi.specs.declared.line.Line.{Line}
+use Rattle.flash_laws.specs.Answers.Scripts.{script_response}
 use Rattle.flash_laws.specs.Answers.{Found, keeps, Reads, last_may_close, last_closes}
 use Rattle.flash_laws.specs.Client.{Client, is_for_script, can_run, job_of, keeps_text}
 use Rattle.flash_laws.specs.Conn.{most_kept, most_read, name_of, text_of, is_head_only}
@@ -25,28 +27,28 @@ use Rattle.flash_laws.specs.Run.Fits as run
 use Rattle.flash_laws.specs.Run.Fits.{Progress, HasRun}
 use Rattle.flash_laws.specs.Run.OfferedBytes.{past_of, taken_by, breaks_off}
 use Rattle.flash_laws.specs.Run.{is_over}
-use Rattle.flash_laws.specs.Shelf.{Shelf, due_to, MayBeDue, Responds, Begins}
+use Rattle.flash_laws.specs.Shelf.{Shelf, MayBeDue, AllMayShow, Responds, Begins}
 use Rattle.flash_laws.specs.Site.{server}
-use Rattle.flash_laws.specs.Run.Stages.{HasWorkerAt}
+use Rattle.flash_laws.specs.Run.Stages.{HasWorkerAt, is_starting}
 use Rattle.flash_laws.specs.declared.phase.Learnt.TheVariants.{Text}
 use Rattle.flash_laws.specs.declared.phase.Content.TheVariants.{Script}
 use Rattle.flash_laws.specs.declared.phase.Doing.{Doing}
 use Rattle.flash_laws.specs.declared.phase.Doing.TheVariants as doing
 use Rattle.flash_laws.specs.declared.script_run.Running.{Running}
 
--- a request whose query is no longer than a head, and that closes the connection where its response is in no chunks, or one that is
--- refused by a status of this server: such are all that are read from a stream
+-- a request whose query is no longer than a head, and that closes the connection if its response has no chunks, or a request
+-- that is refused with a status of this server: all requests in a stream are such
 abbrev pub IsProper : Answer → Type 0
 IsProper (serve w) = (length w.query ≤ most_kept) × (w.chunked ≡ false → w.keep ≡ false)
 IsProper (refuse status head_only close) = is_error_status status ≡ true
 
--- whether nothing is asked
+-- whether there is no request
 abbrev pub is_at_rest : Doing → Bool
 is_at_rest doing.Rests = true
 is_at_rest (doing.Got a) = true
 is_at_rest d = false
 
--- All is answered: the last response closes, or the stream is at its end, and no request is left.
+-- All is answered: the last response closes the connection, or the stream is at its end, and no request is left.
 pub record Finished (shelf : Shelf) (k : Connection) (took out : List ℕ) : Type 0 where
   pub qs : List Answer
   pub rest : List ℕ
@@ -55,7 +57,8 @@ pub record Finished (shelf : Shelf) (k : Connection) (took out : List ℕ) : Typ
   pub responds : Responds shelf qs out
   pub no_more : (last_closes qs ≡ true) ⊎ ((window_in rest ≡ Wait) × (k.incoming ≡ []) × (is_none k.peer ≡ false))
 
--- The requests before the one in progress are answered whole, that one up to these bytes, and the rest of the stream is kept.
+-- The requests before the one in progress have their whole responses, that one has these bytes, and the rest of the stream is
+-- buffered.
 pub record Answers (shelf : Shelf) (took out kept : List ℕ) (now : List Answer) (given : List ℕ) : Type 0 where
   pub done : List Answer
   pub open_yet : list_all (λ p. keeps p) done ≡ true
@@ -64,23 +67,23 @@ pub record Answers (shelf : Shelf) (took out kept : List ℕ) (now : List Answer
   pub responds : Responds shelf done before
   pub out_is : out ≡ before ++ given
 
--- The peer is gone, which drops what was to be sent; what was sent begins the answer.
+-- The peer is gone, which drops the queued output; the bytes sent begin the answer.
 pub record IsLeftAlone (shelf : Shelf) (k : Connection) (took out : List ℕ) : Type 0 where
   pub gone : is_gone k.peer ≡ true
   pub begins : Begins shelf took out
 
--- ---- a connection alone
+-- ---- without a script
 
--- what is given of the response to the request in progress, where so many bytes of it are taken
+-- the part of the response to the request in progress that was given, if taken bytes of it were taken
 abbrev pub given_of : (due : List ℕ) → (rests : Bool) → (taken : ℕ) → List ℕ
 given_of due rests taken = if rests then [] else take taken due
 
--- what the phase makes or sends the bytes of: where the text of a script was read the head for one, else the response
+-- the text that the phase makes or sends: the head for a script after its text was read, otherwise the response
 abbrev pub due_in : (due : List ℕ) → Answer → Doing → List ℕ
 due_in due q d = if is_read d then text_of q Script else due
 
 module _ (shelf : Shelf) where
-  -- the text of a script was read that can run, and is kept but for HEAD
+  -- the text of a script that can run was read, and is kept unless the request is HEAD
   pub record HasText (q : Answer) (script : List ℕ) : Type 0 where
     pub asks : is_for_script shelf.scripts q ≡ true
     pub text : List ℕ
@@ -88,7 +91,7 @@ module _ (shelf : Shelf) where
     pub runs : can_run text ≡ true
     pub kept : is_head_only q ≡ false → script ≡ text
 
-  -- the file that is being read is the one that is asked for
+  -- the file that is being read is the requested one
   pub record FindsFile (m : State) (q : Answer) (fd : ℕ) : Type 0 where
     pub number : ℕ
     pub open_on : descriptor m server fd ≡ Some (on.File number 0 modes.Read)
@@ -119,8 +122,8 @@ module _ (shelf : Shelf) where
       ⊎ (IsFinished k took (sent ++ bytes_of k.outgoing) x.conn.doing
       ⊎ IsLeftAlone shelf k took (sent ++ bytes_of k.outgoing))
 
-  -- A client for which no script runs: the server's descriptor is open on its connection; what it took of the stream is what came
-  -- before what waits; and it is tied.
+  -- A client without running script: the server's descriptor refers to its connection; the bytes that the server took are those
+  -- received without the queued ones; and the client has the invariant.
   pub record FitsAlone (m : State) (came sent : List ℕ) (fd c : ℕ) (x : Client) : Type 0 where
     pub open_on : descriptor m server fd ≡ Some (on.Connection c)
     pub took : List ℕ
@@ -135,8 +138,16 @@ module _ (shelf : Shelf) where
 
 -- ---- with the run of a script
 
+-- its output, with these outcomes of its files, past or to come
+abbrev pub made_of : Wanted → List Line → (shown : List Outcome) → Made
+made_of w lines shown = record { before = []; query = w.query; lines = lines; outcomes = shown }
+
+-- and the response with that output
+abbrev pub response_to : Wanted → Made → List ℕ
+response_to w made = script_response w (output_of made)
+
 module _ (shelf : Shelf) where
-  -- The script that a client asked for, and what it puts out.
+  -- The script that a client requested, and its output.
   pub record IsScript (x : Client) (w : Wanted) : Type 0 where
     pub asks : x.conn.q ≡ serve w
     pub stands : x.conn.doing ≡ doing.Heads Script
@@ -148,17 +159,14 @@ module _ (shelf : Shelf) where
     pub is_script : script_of text ≡ Some lines
     pub proper : IsProper (serve w)
 
-  abbrev pub output_of : Wanted → List Line → List ℕ
-  output_of w lines = output w.query lines (outcomes_by shelf.shows lines)
-
-  -- the response that is due may be the one that is being sent
-  pub record GoesOn (took out kept : List ℕ) (w : Wanted) (o : Progress) (y : Running) : Type 0 where
-    pub answers : Answers shelf took out kept (serve w ∷ []) (take (past_of o + taken_by y) (due_to shelf (serve w)))
-    pub may : run.MayAnswer w o (due_to shelf (serve w))
+  -- the due response may be the one that is being sent
+  pub record GoesOn (due : List ℕ) (took out kept : List ℕ) (w : Wanted) (o : Progress) (y : Running) : Type 0 where
+    pub answers : Answers shelf took out kept (serve w ∷ []) (take (past_of o + taken_by y) due)
+    pub may : run.MayAnswer w o due
     pub whole : breaks_off y ≡ false
 
-  abbrev pub TieRun : Connection → (took sent kept : List ℕ) → Wanted → Progress → Running → Type 0
-  TieRun k took sent kept w o y = GoesOn took (sent ++ bytes_of k.outgoing) kept w o y
+  abbrev pub TieRun : (due : List ℕ) → Connection → (took sent kept : List ℕ) → Wanted → Progress → Running → Type 0
+  TieRun due k took sent kept w o y = GoesOn due took (sent ++ bytes_of k.outgoing) kept w o y
       ⊎ IsLeftAlone shelf k took (sent ++ bytes_of k.outgoing)
 
 module _ (shelf : Shelf) (crew : Crew) where
@@ -170,17 +178,21 @@ module _ (shelf : Shelf) (crew : Crew) where
     pub came_is : came ≡ took ++ bytes_of (conn_at m c).incoming
     pub wanted : Wanted
     pub script : IsScript shelf x wanted
+    -- the outcomes of its files, past or to come: those of the current files until the worker has the job
+    pub shown : List Outcome
+    pub may_show : AllMayShow shelf (outcomes_by shelf.shows script.lines) shown
+    pub fresh : is_starting y ≡ true → shown ≡ outcomes_by shelf.shows script.lines
     pub kept : keeps_text y ≡ true → x.script ≡ script.text
     pub so_far : Progress
     pub has : HasRun (job_of wanted script.text) m wanted so_far y
     pub ongoing : is_over y ≡ false
-    pub tie : TieRun shelf (conn_at m c) took sent x.conn.kept wanted so_far y
-    pub desk : HasWorkerAt crew m seats (output_of shelf wanted script.lines) so_far y
+    pub tie : TieRun shelf (response_to wanted (made_of wanted script.lines shown)) (conn_at m c) took sent x.conn.kept wanted so_far y
+    pub desk : HasWorkerAt crew m seats (made_of wanted script.lines shown) so_far y
 
   abbrev pub FitsBy : Option Running → State → (came sent : List ℕ) → (fd c : ℕ) → Client → List (Seat crew.Worker) → Type 0
   FitsBy None m came sent fd c x seats = FitsAlone shelf m came sent fd c x
   FitsBy (Some y) m came sent fd c x seats = FitsRun m came sent fd c x y seats
 
-  -- Of a client, where `came` came by arrivals, and `sent` went by segments.
+  -- The invariant of a client; `came` are the bytes received, and `sent` those sent.
   abbrev pub Fits : State → (came sent : List ℕ) → (fd c : ℕ) → Client → List (Seat crew.Worker) → Type 0
   Fits m came sent fd c x seats = FitsBy x.run m came sent fd c x seats

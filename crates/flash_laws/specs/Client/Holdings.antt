@@ -1,7 +1,7 @@
--- The server keeps nothing of an answer that is over, be it of a file or of a script: what its calls bring it is used by the
--- client that they are made for, and what that client uses no more is given up.
+-- The server keeps nothing of a finished response, of a file or of a script: the results of its calls belong to the client for
+-- which they are made, and are given up when that client no longer uses them.
 --
--- As what it offers (`Client/OfferedBytes`), it is said of each call of its own, calm or not.
+-- As in `Client/OfferedBytes`, the laws are about each call of the server, calm or not.
 use Rattle.std.specs.Prelude.{◌≡◌, ℕ, ◌==◌, ◌||◌, ◌&&◌, Bool, true, false, not, List, [], Option, Some, None}
 use Rattle.iol_core.specs.Access.{HasAccess}
 use Rattle.iol_core.specs.State.{State, descriptor, is_live}
@@ -21,7 +21,7 @@ use Rattle.flash_laws.specs.Run.Holdings.{has_end}
 use Rattle.flash_laws.specs.Site.{server}
 use Rattle.flash_laws.specs.declared.script_run.Running.{Running}
 
--- whether it has this descriptor, of a file or of an end of the pipe that a script puts out into
+-- whether it has this descriptor, of a file or of an end of a script's output pipe
 abbrev pub has_fd : Client → (g : ℕ) → Bool
 has_fd x g = by x.run
   where
@@ -29,7 +29,7 @@ has_fd x g = by x.run
     by None = conn.uses_fd x.conn.doing g
     by (Some y) = has_end y g
 
--- whether a script is to run for it, whose text was read
+-- whether a script whose text was read will run for it
 abbrev pub is_to_run : (scripts : Bool) → Client → Bool
 is_to_run scripts x = by x.run
   where
@@ -37,32 +37,32 @@ is_to_run scripts x = by x.run
     by None = is_for_script scripts x.conn.q && (not (is_head_only x.conn.q) && is_read x.conn.doing)
     by (Some y) = keeps_text y
 
--- no text is held but of a script that is to run
+-- no text is held except that of a script that will run
 abbrev pub HoldsNoOther : (scripts : Bool) → Client → Type 0
 HoldsNoOther scripts x = is_to_run scripts x ≡ false → x.script ≡ []
 
 pub record ClientKeepsNothing (scripts : Bool) : Type 0 where
-  -- an aggregate that comes by a call for a client is used by it
+  -- an aggregate returned by a call for a client is used by it
   pub brought : (m n : State) (fd c worker : ℕ) (x : Client) (known : Known) (r : Reply) (heard bytes : List ℕ) (a : ℕ)
       → IsOrderly m → HasAccess m → is_live m server ≡ true → descriptor m server fd ≡ Some (on.Connection c)
       → is_ending x ≡ false → HasKnown scripts m x known → StepsTo m (event.Call server (wants scripts fd x)) r n
       → lent_at m server a ≡ None → lent_at n server a ≡ Some bytes → uses_agg (told scripts worker x r heard) a ≡ true
-  -- so is the descriptor of a file, and both ends of a pipe are
+  -- the same for the descriptor of a file, and for both ends of a pipe
   pub opened : (m n : State) (fd worker f : ℕ) (x : Client) (heard : List ℕ) → x.run ≡ None
       → StepsTo m (event.Call server (wants scripts fd x)) (reply.Fd f) n
       → has_fd (told scripts worker x (reply.Fd f) heard) f ≡ true
   pub piped : (m : State) (worker from write : ℕ) (x : Client) (known : Known) (heard : List ℕ) (g : ℕ) → awaits x ≡ true
       → HasKnown scripts m x known → ((from == g) || (write == g)) ≡ true
       → has_fd (told scripts worker x (reply.Fds from write) heard) g ≡ true
-  -- an aggregate that it uses no more is gone
+  -- an aggregate that it no longer uses is gone
   pub left : (m n : State) (fd worker : ℕ) (x : Client) (known : Known) (r : Reply) (heard : List ℕ) (a : ℕ) → IsOrderly m
       → HasKnown scripts m x known → StepsTo m (event.Call server (wants scripts fd x)) r n
       → uses_agg x a ≡ true → uses_agg (told scripts worker x r heard) a ≡ false → lent_at n server a ≡ None
-  -- and so is the descriptor of a file, and each end of a pipe, which is closed, or given to the worker
+  -- the same for the descriptor of a file, and for each end of a pipe, which is closed, or given to the worker
   pub shut : (m n : State) (fd worker : ℕ) (x : Client) (known : Known) (r : Reply) (heard : List ℕ) (g : ℕ)
       → HasKnown scripts m x known → StepsTo m (event.Call server (wants scripts fd x)) r n
       → has_fd x g ≡ true → has_fd (told scripts worker x r heard) g ≡ false → descriptor n server g ≡ None
-  -- no text is held but of a script that is to run: of a new client none is, and so it stays
+  -- no text is held except that of a script that will run: a new client has none, and replies preserve this
   pub fresh : HoldsNoOther scripts new_client
   pub held : (worker : ℕ) (x : Client) (r : Reply) (heard : List ℕ) → HoldsNoOther scripts x
       → HoldsNoOther scripts (told scripts worker x r heard)

@@ -1,7 +1,7 @@
--- What the server offers a client for a request, be it for a file or for a script, is the next bytes of the response.
+-- The bytes that the server offers a client for a request, of a file or of a script, are the next bytes of the response.
 --
--- It is said of each step, calm or not: what the machine has of a response it goes on having, unless somebody gives up or moves
--- what the client uses. That over a whole run nobody does is not said here.
+-- The laws are about single steps, calm or not: what the machine has of a response remains, unless a call consumes or moves
+-- what the client uses. That this holds over a whole run is not stated here.
 use Rattle.std.specs.Prelude.{◌≡◌, ◌⊎◌, ℕ, ◌+◌, Bool, true, false, not, List, [], ◌++◌, Option, Some, None}
 use Rattle.iol_core.specs.Access.{HasAccess}
 use Rattle.iol_core.specs.State.{State, descriptor, is_live}
@@ -36,11 +36,11 @@ use Rattle.flash_laws.specs.declared.script_run.Step.TheVariants.{Hands}
 use Rattle.flash_laws.specs.declared.script_run.Running.{Running}
 use Rattle.flash_laws.specs.declared.script_run.Running.TheVariants.{Runs}
 
--- one for which this request begins
+-- a client for which this request begins
 abbrev pub begun : (kept : List ℕ) → Answer → Client
 begun kept q = record { conn = record { kept = kept; q = q; doing = begins q }; run = None; script = [] }
 
--- whether nothing is left to do for it but to close its connection
+-- whether only the close of its connection is left to do
 abbrev pub is_ending : Client → Bool
 is_ending x = by x.run
   where
@@ -48,13 +48,13 @@ is_ending x = by x.run
     by None = is_closing x.conn.doing
     by (Some y) = is_over y
 
--- What the calls for a file or for the text of a script gave, after the reply to one.
+-- The result of the calls for a file or for the text of a script, after the reply to one.
 abbrev pub ConnLearns : (script : Bool) → Doing → Reply → (heard : List ℕ) → (before after : Known) → Type 0
 ConnLearns true (doing.Reads f) (reply.Agg n) heard before after = after ≡ of_text heard
 ConnLearns script d r heard (OfFile o) after = (p : Outcome) × file.Learns d r heard o p × (after ≡ OfFile p)
 ConnLearns script d r heard (OfScript text o) after = after ≡ OfScript text o
 
--- what those of a run gave
+-- the result of the calls of a run
 abbrev pub RunLearns : State → Running → Reply → (heard : List ℕ) → (before after : Known) → Type 0
 RunLearns m y r heard (OfScript text o) after = (p : Progress) × run.Learns m y r heard o p × (after ≡ OfScript text p)
 RunLearns m y r heard (OfFile o) after = ⊥
@@ -66,7 +66,7 @@ Learns scripts m x r heard before after = by x.run
     by None = ConnLearns (is_for_script scripts x.conn.q) x.conn.doing r heard before after
     by (Some y) = RunLearns m y r heard before after
 
--- how many bytes are taken of what is being sent
+-- the number of bytes taken of those that are being sent
 abbrev pub taken_by : Client → ℕ
 taken_by x = by x.run
   where
@@ -74,7 +74,7 @@ taken_by x = by x.run
     by None = file.taken_of x.conn.doing
     by (Some y) = run.taken_by y
 
--- it writes its job into the pipe of its worker
+-- it writes its job into the job pipe of its worker
 abbrev pub HandsJob : Client → (fd a : ℕ) → Type 0
 HandsJob x fd a = by x.run
   where
@@ -82,7 +82,7 @@ HandsJob x fd a = by x.run
     by (Some (Runs y (Hands j f))) = (fd ≡ job_pipe y.worker) × (a ≡ j)
     by y = ⊥
 
--- whether something is in progress for it that ends
+-- whether it has a phase that ends
 abbrev pub is_working : Client → Bool
 is_working x = by x.run
   where
@@ -98,7 +98,7 @@ HearsMore x r heard = by x.run
     by None = ⊥
     by (Some y) = run.HearsMore y r heard
 
--- whether what was to be sent for it is dropped
+-- whether its output is dropped
 abbrev pub drops_rest : Client → Bool
 drops_rest x = by x.run
   where
@@ -106,7 +106,7 @@ drops_rest x = by x.run
     by None = is_dropping x.conn.doing
     by (Some y) = run.breaks_off y
 
--- what is kept of the stream after a reply: what was, and after it what is heard of the stream, where that is read
+-- the buffered stream after a reply: the former one, followed by the bytes of the stream that were read
 abbrev pub kept_by : Client → Reply → (heard : List ℕ) → List ℕ
 kept_by x r heard = by x.run x.conn.doing r
   where
@@ -114,14 +114,14 @@ kept_by x r heard = by x.run x.conn.doing r
     by None doing.Rests (reply.Agg n) = x.conn.kept ++ heard
     by y d r = x.conn.kept
 
--- The client goes on as its run does, with its connection as it was; once that is over, the connection goes on where it left off.
+-- The client advances as its run does, with its connection unchanged; once the run is over, the connection continues its phase.
 pub record GoesOnAs (x : Client) (z : Running) (after : Client) : Type 0 where
   pub going : is_over z ≡ false → (after.run ≡ Some z) × (after.conn ≡ x.conn)
   pub ended : is_over z ≡ true
       → after ≡ record { conn = record x.conn { doing = after_run z }; run = None; script = [] }
 
--- A client with a run wants, uses and has what that does, and goes on as it does; so what is said of runs
--- (`Run/OfferedBytes`) is said of it.
+-- A client with a run makes the calls of the run, uses and has the same, and advances with it; so the laws of runs
+-- (`Run/OfferedBytes`) apply to it.
 pub record IsAsItsRun (scripts : Bool) (m : State) (x : Client) (w : Wanted) (y : Running) (text : List ℕ)
     (o : Progress) : Type 0 where
   pub has : HasRun (job_of w text) m w o y
@@ -131,8 +131,8 @@ pub record IsAsItsRun (scripts : Bool) (m : State) (x : Client) (w : Wanted) (y 
   pub tells : (worker : ℕ) (r : Reply) (heard : List ℕ)
       → GoesOnAs x (running.told worker w y r heard) (told scripts worker x r heard)
 
--- A client for whose request no script is run wants, uses and has what its connection does, and is told what that is told; so
--- what is said of connections (`Conn/OfferedBytes`) is said of it.
+-- A client without a script for its request makes the calls of its connection, uses and has the same, and gets the same
+-- replies; so the laws of connections (`Conn/OfferedBytes`) apply to it.
 pub record IsAsItsConn (scripts : Bool) (m : State) (x : Client) (o : Outcome) : Type 0 where
   pub has : file.HasAnswer m x.conn o
   pub asks : (fd : ℕ) → wants scripts fd x ≡ conn.wants fd x.conn
@@ -141,13 +141,13 @@ pub record IsAsItsConn (scripts : Bool) (m : State) (x : Client) (o : Outcome) :
   pub tells : (worker : ℕ) (r : Reply) (heard : List ℕ)
       → told scripts worker x r heard ≡ record x { conn = conn.told x.conn r heard }
 
--- `scripts` says whether scripts are run.
+-- `scripts` is whether scripts are run.
 pub record ClientOffersTheResponse (scripts : Bool) : Type 0 where
-  -- a request begins so, with nothing needed yet
+  -- when a request begins, nothing is needed
   pub starts : (m : State) (fd : ℕ) (kept : List ℕ) (q : Answer) (o : Outcome)
       → FirstCall q (wants scripts fd (begun kept q)) × HasKnown scripts m (begun kept q) (OfFile o)
-  -- after the reply to its call more is known, or what was, and the machine has what is needed then; the worker that is free
-  -- is one that has a job pipe
+  -- after the reply to its call the result is known or unchanged, and the machine has the data for the next step; the free
+  -- worker is one with a job pipe
   pub replied : (m n : State) (fd c worker : ℕ) (x : Client) (r : Reply) (heard : List ℕ) (before : Known)
       → IsOrderly m → HasAccess m
       → is_live m server ≡ true → descriptor m server fd ≡ Some (on.Connection c)
@@ -155,16 +155,16 @@ pub record ClientOffersTheResponse (scripts : Bool) : Type 0 where
       → is_ending x ≡ false
       → HasKnown scripts m x before → StepsTo m (event.Call server (wants scripts fd x)) r n → Names n r heard
       → (after : Known) × Learns scripts m x r heard before after × HasKnown scripts n (told scripts worker x r heard) after
-  -- whatever else happens, as long as it neither gives up nor moves what the client uses
+  -- the same for any other event that neither consumes nor moves what the client uses
   pub stays : (m n : State) (x : Client) (e : Event) (r : Reply) (known : Known) → StepsTo m e r n
       → ((a : ℕ) → uses_agg x a ≡ true → gives_up e server a ≡ false)
       → ((g : ℕ) → uses_fd x g ≡ true → touches_fd m e server g ≡ false) → HasKnown scripts m x known
       → HasKnown scripts n x known
-  -- what it writes is the next of the response, to its connection; or a job, to a worker
+  -- it writes the next bytes of the response to its connection, or a job to a worker
   pub offers : (m : State) (fd g a : ℕ) (x : Client) (known : Known) → HasKnown scripts m x known
       → wants scripts fd x ≡ call.IolWrite g a
       → ((g ≡ fd) × IsNextOf m x.conn.q known a (taken_by x)) ⊎ HandsJob x g a
-  -- as much counts as taken as the connection took, as long as the response is neither over nor broken off
+  -- the bytes that the connection took count as taken, while the response is neither over nor aborted
   pub takes : (m n : State) (fd c worker : ℕ) (x : Client) (r : Reply) (heard : List ℕ) (before after : Known) → IsOrderly m
       → descriptor m server fd ≡ Some (on.Connection c) → is_ending x ≡ false → HasKnown scripts m x before
       → StepsTo m (event.Call server (wants scripts fd x)) r n → Learns scripts m x r heard before after
@@ -172,28 +172,27 @@ pub record ClientOffersTheResponse (scripts : Bool) : Type 0 where
       → is_working (told scripts worker x r heard) ≡ true
       → taken_before after + taken_by (told scripts worker x r heard)
       ≡ taken_before before + taken_by x + newly_taken fd (wants scripts fd x) r
-  -- for a request that is not for a script the client is as its connection
+  -- for a request that is not for a script the client behaves as its connection
   pub files : (m : State) (x : Client) (o : Outcome) → is_for_script scripts x.conn.q ≡ false → HasKnown scripts m x (OfFile o)
       → IsAsItsConn scripts m x o
-  -- while a script runs it is as its run
+  -- while a script runs it behaves as its run
   pub runs : (m : State) (x : Client) (w : Wanted) (y : Running) (text : List ℕ) (o : Progress) → x.run ≡ Some y
       → x.conn.q ≡ serve w → is_over y ≡ false → HasKnown scripts m x (OfScript text o) → IsAsItsRun scripts m x w y text o
-  -- the text of a script is read whole, for HEAD too
+  -- the text of a script is read whole, also for HEAD
   pub whole : (fd f : ℕ) (x : Client) → x.run ≡ None → is_for_script scripts x.conn.q ≡ true → x.conn.doing ≡ doing.Reads f
       → wants scripts fd x ≡ call.IolRead f most_read
-  -- its request stays, and so does what is kept of the stream, but that what is heard of it is added
+  -- replies leave its request unchanged, and append the bytes read to its buffered stream
   pub keeps : (worker : ℕ) (x : Client) (r : Reply) (heard : List ℕ)
       → ((told scripts worker x r heard).conn.q ≡ x.conn.q)
       × ((told scripts worker x r heard).conn.kept ≡ kept_by x r heard)
-  -- with each reply its request comes nearer to its end, but where more of its script's output was read, or its call is to be
-  -- made again later
+  -- each reply reduces the rank of its request, unless more of its script's output was read, or its call is retried later
   pub rank : Client → Rank
   pub nears : (m n : State) (fd c worker : ℕ) (x : Client) (r : Reply) (heard : List ℕ) (known : Known) → IsOrderly m
       → is_live m server ≡ true → descriptor m server fd ≡ Some (on.Connection c) → is_working x ≡ true
       → HasKnown scripts m x known → CanMake m (wants scripts fd x)
       → StepsTo m (event.Call server (wants scripts fd x)) r n → Names n r heard
       → Nears rank x r (told scripts worker x r heard) ⊎ HearsMore x r heard
-  -- a call that was done is not made again
+  -- a successful call is not repeated
   pub moves : (m n : State) (fd worker : ℕ) (x : Client) (r : Reply) (heard : List ℕ) (known : Known) → is_ending x ≡ false
       → HasKnown scripts m x known → StepsTo m (event.Call server (wants scripts fd x)) r n
       → told scripts worker x r heard ≡ x → may_repeat (wants scripts fd x) r ≡ true

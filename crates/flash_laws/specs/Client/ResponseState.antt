@@ -1,4 +1,4 @@
--- What is known of the response to a request, whether it is for a file or for a script, and what the machine has of it.
+-- The known part of the response to a request, of a file or of a script, and what the machine has of it.
 use Rattle.std.specs.Prelude.{◌≡◌, ℕ, ◌+◌, Bool, true, false, List, [], ◌++◌, drop, Option, Some, None, if◌then◌else◌}
 use Rattle.iol_core.specs.State.{State}
 use Rattle.iol_laws.specs.Caller.{lent_at}
@@ -16,37 +16,37 @@ use Rattle.flash_laws.specs.declared.phase.Doing.{Doing}
 use Rattle.flash_laws.specs.declared.phase.Doing.TheVariants as doing
 use Rattle.flash_laws.specs.declared.script_run.Running.{Running}
 
--- What the calls for a request gave so far.
+-- The results of the calls for a request so far.
 pub data Known : Type 0 where
-  -- the outcome of the calls for a file, or why a script is not run
+  -- the outcome of the calls for a file, or the reason for which a script is not run
   OfFile : Outcome → Known
-  -- the text of a script that can run, and how far it has run
+  -- the text of a script that can run, and its progress
   OfScript : (text : List ℕ) → Progress → Known
 
--- whether such a text runs: its request is answered with what it puts out
+-- whether such a text runs: the response is its output
 abbrev pub of_text : List ℕ → Known
 of_text text = if can_run text then OfScript text nothing_yet else OfFile (Failed 500)
 
--- ---- what may be the response
+-- ---- possible responses
 
--- to HEAD its head alone, and no script runs for it
+-- for HEAD only the head, and no script runs
 abbrev pub MayPutOut : (head_only : Bool) → Wanted → Progress → List ℕ → Type 0
 MayPutOut true w o r = r ≡ script_text w
 MayPutOut false w o r = run.MayAnswer w o r
 
--- What may be the response with what is known: of a file it is one; of a script it is the response to its output, whatever that
--- will still be.
+-- The possible responses with the known results: for a file there is one; for a script it is the response to its output, for
+-- every further output.
 abbrev pub MayAnswer : Answer → Known → List ℕ → Type 0
 MayAnswer q (OfFile o) r = r ≡ response q o
 MayAnswer (serve w) (OfScript text o) r = MayPutOut w.head_only w o r
 MayAnswer (refuse status head_only close) (OfScript text o) r = ⊥
 
--- the bytes of the response that were taken in aggregates before the one that is being sent
+-- the bytes of the response that were taken in aggregates before the current one
 abbrev pub taken_before : Known → ℕ
 taken_before (OfFile o) = 0
 taken_before (OfScript text o) = past_of o
 
--- the bytes of an aggregate are the next of the response, whatever that will be
+-- the bytes of an aggregate are the next of each possible response
 pub record IsNextOf (m : State) (q : Answer) (known : Known) (a taken : ℕ) : Type 0 where
   pub bytes : List ℕ
   pub lends : lent_at m server a ≡ Some bytes
@@ -54,7 +54,7 @@ pub record IsNextOf (m : State) (q : Answer) (known : Known) (a taken : ℕ) : T
 
 -- ---- what the machine has of it
 
--- whether the text of a script is read that has not yet begun to run
+-- whether the text of a script is read but has not begun to run
 abbrev pub is_read : Doing → Bool
 is_read (doing.Shuts f (Text a true)) = true
 is_read (doing.Spares a Script) = true
@@ -66,7 +66,7 @@ is_opening doing.Opens = true
 is_opening (doing.Reads f) = true
 is_opening d = false
 
--- whether nothing of a response is made, or sent any more
+-- whether nothing of a response is being made or sent
 abbrev pub is_silent : Doing → Bool
 is_silent doing.Rests = true
 is_silent (doing.Got a) = true
@@ -80,12 +80,12 @@ pub record IsToRun (x : Client) (text : List ℕ) (o : Progress) : Type 0 where
   pub kept : x.script ≡ text
   pub fresh : o ≡ nothing_yet
 
--- all of the response was taken, or it was broken off
+-- all of the response was taken, or it was aborted
 abbrev pub IsTaken : Wanted → Progress → Type 0
 IsTaken w Broken = Unit {0}
 IsTaken w o = IsLeft w o []
 
--- After the run the connection rests where all of the response was taken, and it lets it; else it is to be closed.
+-- After the run the connection is idle if all of the response was taken and permits it; otherwise it is to be closed.
 abbrev pub IsAfter : Wanted → Progress → Doing → Type 0
 IsAfter w o doing.Rests = IsLeft w o [] × (w.keep ≡ true)
 IsAfter w o (doing.Got a) = IsLeft w o [] × (w.keep ≡ true)
@@ -95,7 +95,7 @@ abbrev pub ReadsOn : (read : Bool) → Wanted → Client → (text : List ℕ) �
 ReadsOn true w x text o = IsToRun x text o
 ReadsOn false w x text o = IsAfter w o x.conn.doing
 
--- HEAD is answered as for a file; with GET nothing is sent before the run begins, or after it
+-- HEAD is answered as for a file; for GET nothing is sent before the run begins, or after it
 abbrev pub Sends : (head_only : Bool) → Wanted → Client → (text : List ℕ) → Progress → Type 0
 Sends true w x text o = o ≡ nothing_yet
 Sends false w x text o = (is_silent x.conn.doing ≡ true) × ReadsOn (is_read x.conn.doing) w x text o
@@ -121,13 +121,13 @@ abbrev pub HasScript : (scripts : Bool) → State → Client → Answer → (tex
 HasScript scripts m x (serve w) text o = RunsIn scripts m w x text o x.run
 HasScript scripts m x (refuse status head_only close) text o = ⊥
 
--- of a file
+-- for a file
 pub record HasFile (m : State) (x : Client) (o : Outcome) : Type 0 where
   pub none : x.run ≡ None
   pub unread : is_read x.conn.doing ≡ false
   pub has : Has m x.conn.q (response x.conn.q o) x.conn.doing
 
--- The machine has what is needed of the response, with what is known.
+-- The machine has what the response needs, with the known results.
 abbrev pub HasKnown : (scripts : Bool) → State → Client → Known → Type 0
 HasKnown scripts m x (OfFile o) = HasFile m x o
 HasKnown scripts m x (OfScript text o) = HasScript scripts m x x.conn.q text o

@@ -1,4 +1,4 @@
--- What a client wants memory for: to keep the bytes that it hears, to begin a request, and for the bytes of a call.
+-- The uses of memory by a client: to buffer bytes that it reads, to begin a request, and for the bytes of a call.
 use Rattle.std.specs.Prelude.{◌≡◌, ◌⊎◌, ◌<◌, ℕ, Bool, true, false, List, length, Option, Some, None}
 use Rattle.iol_core.specs.declared.events.Reply.{Reply}
 use Rattle.iol_core.specs.declared.events.Reply.TheVariants as reply
@@ -10,7 +10,7 @@ use Rattle.flash_laws.specs.declared.phase.Doing.{Doing}
 use Rattle.flash_laws.specs.declared.phase.Doing.TheVariants.{Reads}
 use Rattle.flash_laws.specs.declared.script_run.Running.{Running}
 
--- it was reading, and a byte came: of its stream, or of the text of a script
+-- it was reading, and a byte arrived: of its stream, or of the text of a script
 abbrev pub Hears : (script : Bool) → Doing → Reply → (heard : List ℕ) → Type 0
 Hears true (Reads f) (reply.Agg n) heard = 0 < length heard
 Hears script d r heard = wanting.Hears d r heard
@@ -30,7 +30,7 @@ makes_bytes x = by x.run
     by None = wanting.has_bytes x.conn.doing
     by (Some y) = makes_any y
 
--- whether one that goes on at once begins a request, or makes such a call
+-- whether a client that continues at once begins a request, or makes such a call
 abbrev pub needs_memory : Client → Bool
 needs_memory x = by x.run
   where
@@ -38,6 +38,6 @@ needs_memory x = by x.run
     by None = wanting.needs_memory x.conn
     by (Some y) = makes_any y
 
--- to keep what came, or to go on at once
+-- to buffer bytes, or to continue at once
 abbrev pub WantsOn : (scripts : Bool) → (t x : Client) → Reply → (heard : List ℕ) → Type 0
 WantsOn scripts t x r heard = ClientHears scripts x r heard ⊎ ((leaves_off (left_over t) r ≡ false) × (needs_memory t ≡ true))

@@ -1,4 +1,4 @@
--- What ties one connection to what came on it and what was sent.
+-- The invariant of one connection, by its input and output.
 use Rattle.std.specs.Prelude.{◌≡◌, ◌≤◌, ◌<◌, ℕ, ◌+◌, ◌-◌, ◌||◌, ◌==◌, Bool, true, false, List, [], ◌∷◌, ◌++◌, length, drop, slice_range, Some, None}
 use Rattle.iol_core.specs.State.{State, descriptor}
 use Rattle.iol_laws.specs.Caller.{lent_at}
@@ -18,7 +18,7 @@ use Rattle.flash_laws.specs.declared.phase.Content.TheVariants.{Body, Bare, Erro
 use Rattle.flash_laws.specs.declared.phase.Doing.{Doing}
 use Rattle.flash_laws.specs.declared.phase.Doing.TheVariants.{Rests, Got, Opens, Reads as Reading, Shuts, Picks, Spares, Heads, Joins, Sends, Cuts, Offers, Swaps, Sent, Breaks, Drops, Closes, Over}
 
--- ---- what the machine has of a response: the server offers the next bytes of what is due
+-- ---- what the machine has of a response: the server offers the next bytes of the due response
 
 abbrev pub IsLent : State → (a : ℕ) → Type 0
 IsLent m a = (bytes : List ℕ) × (lent_at m server a ≡ Some bytes)
@@ -27,7 +27,7 @@ abbrev pub LendsMore : State → Following → List ℕ → Type 0
 LendsMore m None bytes = bytes ≡ []
 LendsMore m (Some x) bytes = (lent_at m server x.0 ≡ Some bytes) × (x.1 ≡ length bytes)
 
--- an aggregate, and the one that follows it, are what of the response is not yet taken
+-- an aggregate, and the one that follows it, are the part of the response that is not yet taken
 pub record HoldsRest (m : State) (due : List ℕ) (a len taken : ℕ) (more : Following) : Type 0 where
   pub bytes : List ℕ
   pub after : List ℕ
@@ -37,7 +37,7 @@ pub record HoldsRest (m : State) (due : List ℕ) (a len taken : ℕ) (more : Fo
   pub next : bytes ++ after ≡ drop taken due
   pub apart : has_followed more a ≡ false
 
--- the same, but for its bytes before `from`, which are taken
+-- the same, without its bytes before `from`, which are taken
 pub record HoldsRestFrom (m : State) (due : List ℕ) (a from len taken : ℕ) (more : Following) : Type 0 where
   pub bytes : List ℕ
   pub after : List ℕ
@@ -47,7 +47,7 @@ pub record HoldsRestFrom (m : State) (due : List ℕ) (a from len taken : ℕ) (
   pub next : drop from bytes ++ after ≡ drop taken due
   pub apart : has_followed more a ≡ false
 
--- the same, of which some are left, and a piece of these is another aggregate
+-- the same, with some bytes left, and a piece of them as another aggregate
 pub record HoldsPiece (m : State) (due : List ℕ) (a from len piece taken : ℕ) (more : Following) : Type 0 where
   pub whole : HoldsRestFrom m due a from len taken more
   pub some : from < len
@@ -70,14 +70,14 @@ pub record HoldsUnsent (m : State) (a : ℕ) (more : Following) : Type 0 where
   pub follows : LendsMore m more after
   pub apart : has_followed more a ≡ false
 
--- what is due is the text and then the bytes of an aggregate
+-- the due response is the text followed by the bytes of an aggregate
 pub record HasBody (m : State) (due text : List ℕ) (a size : ℕ) : Type 0 where
   pub bytes : List ℕ
   pub lends : lent_at m server a ≡ Some bytes
   pub count : size ≡ length bytes
   pub due_is : due ≡ text ++ bytes
 
--- the same, where only these of its bytes are sent, and some
+-- the same, if only these of its bytes are sent, and at least one
 pub record HasPart (m : State) (due text : List ℕ) (a from to : ℕ) : Type 0 where
   pub bytes : List ℕ
   pub lends : lent_at m server a ≡ Some bytes
@@ -85,7 +85,7 @@ pub record HasPart (m : State) (due text : List ℕ) (a from to : ℕ) : Type 0 
   pub count : to - from ≡ length (slice_range bytes from to)
   pub due_is : due ≡ text ++ slice_range bytes from to
 
--- what is due is the response with the bytes of an aggregate, which are the whole file
+-- the due response has the bytes of an aggregate, which are the whole file
 pub record HasFile (m : State) (w : Wanted) (due : List ℕ) (a len : ℕ) : Type 0 where
   pub bytes : List ℕ
   pub lends : lent_at m server a ≡ Some bytes
@@ -117,7 +117,7 @@ abbrev pub IsServed : Answer → Type 0
 IsServed (serve w) = Unit {0}
 IsServed (refuse status head_only close) = ⊥
 
--- The machine has what a phase needs, where `due` is the response to the request in progress.
+-- The machine has what a phase needs; `due` is the response to the request in progress.
 abbrev pub Has : State → Answer → (due : List ℕ) → Doing → Type 0
 Has m q due Rests = Unit {0}
 Has m q due (Got a) = IsLent m a
@@ -141,7 +141,7 @@ Has m q due (Drops a more) = HoldsUnsent m a more
 Has m q due Closes = Unit {0}
 Has m q due Over = ⊥
 
--- ---- what was answered
+-- ---- the answered requests
 
 -- whether nothing more is sent
 abbrev pub quits : Doing → Bool
@@ -151,7 +151,7 @@ quits Closes = true
 quits Over = true
 quits d = false
 
--- whether its descriptor is closed next
+-- whether the next call closes its descriptor
 abbrev pub is_closing : Doing → Bool
 is_closing Closes = true
 is_closing Over = true
@@ -163,7 +163,7 @@ asked q Rests = []
 asked q (Got a) = []
 asked q d = q ∷ []
 
--- what the aggregate of a reply holds
+-- the contents of the aggregate in a reply
 abbrev pub Names : State → Reply → List ℕ → Type 0
 Names m (reply.Agg a) heard = lent_at m server a ≡ Some heard
 Names m r heard = heard ≡ []

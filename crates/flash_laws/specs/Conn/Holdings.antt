@@ -1,7 +1,7 @@
--- The server keeps nothing of an answer that is over: what its calls bring it is used by the connection they are made for,
--- and what that connection uses no more is given up.
+-- The server keeps nothing of a finished response: the results of its calls belong to the connection for which they are made,
+-- and are given up when that connection no longer uses them.
 --
--- As what it offers (`Conn/OfferedBytes`), it is said of each call of its own, calm or not.
+-- As in `Conn/OfferedBytes`, the laws are about each call of the server, calm or not.
 use Rattle.std.specs.Prelude.{◌≡◌, ◌⊎◌, ℕ, true, false, List, Some, None}
 use Rattle.iol_core.specs.Access.{HasAccess}
 use Rattle.iol_core.specs.State.{State, descriptor, is_live}
@@ -21,11 +21,11 @@ use Rattle.flash_laws.specs.declared.phase.Doing.{Doing}
 use Rattle.flash_laws.specs.Conn.OfferedBytes.{HasAnswer}
 use Rattle.flash_laws.specs.Site.{server}
 
--- A call that touches nothing but what a connection has: `fd` is its descriptor, on connection c.
+-- A call that touches only what a connection has: `fd` is its descriptor, on connection c.
 pub record TouchesItsOwn (m : State) (fd c : ℕ) (d : Doing) (k : Call) : Type 0 where
-  -- it gives up an aggregate only that it uses
+  -- it consumes only an aggregate that it uses
   pub aggs : (a : ℕ) → gives_up (event.Call server k) server a ≡ true → uses_agg d a ≡ true
-  -- it moves or closes its file's descriptor only, or the connection's own
+  -- it moves or closes only its file's descriptor, or the connection's own
   pub fds : (g : ℕ) → touches_fd m (event.Call server k) server g ≡ true → (uses_fd d g ≡ true) ⊎ (fd ≡ g)
   pub conns : (e : ℕ) → touches_conn m (event.Call server k) e ≡ true → c ≡ e
   pub pipes : (p : ℕ) → touches_pipe m (event.Call server k) p ≡ false
@@ -33,22 +33,22 @@ pub record TouchesItsOwn (m : State) (fd c : ℕ) (d : Doing) (k : Call) : Type 
   pub pools : (p : ℕ) → admits_to (event.Call server k) p ≡ false
 
 pub record KeepsNothing : Type 0 where
-  -- an aggregate that comes by a call for a connection is used by it
+  -- an aggregate returned by a call for a connection is used by it
   pub brought : (m n : State) (fd c : ℕ) (x : Conn) (o : Outcome) (r : Reply) (heard bytes : List ℕ) (a : ℕ)
       → IsOrderly m → HasAccess m → is_live m server ≡ true → descriptor m server fd ≡ Some (on.Connection c)
       → HasAnswer m x o → StepsTo m (event.Call server (wants fd x)) r n
       → lent_at m server a ≡ None → lent_at n server a ≡ Some bytes → uses_agg (told x r heard).doing a ≡ true
-  -- a descriptor that comes by one is used by it
+  -- the same for a descriptor
   pub opened : (m n : State) (fd f : ℕ) (x : Conn) (heard : List ℕ) → StepsTo m (event.Call server (wants fd x)) (reply.Fd f) n
       → uses_fd (told x (reply.Fd f) heard).doing f ≡ true
-  -- an aggregate that it uses no more is gone
+  -- an aggregate that it no longer uses is gone
   pub left : (m n : State) (fd : ℕ) (x : Conn) (r : Reply) (heard : List ℕ) (a : ℕ) → IsOrderly m
       → StepsTo m (event.Call server (wants fd x)) r n
       → uses_agg x.doing a ≡ true → uses_agg (told x r heard).doing a ≡ false → lent_at n server a ≡ None
-  -- and so is the descriptor of a file
+  -- the same for the descriptor of a file
   pub shut : (m n : State) (fd : ℕ) (x : Conn) (r : Reply) (heard : List ℕ) (g : ℕ)
       → StepsTo m (event.Call server (wants fd x)) r n
       → uses_fd x.doing g ≡ true → uses_fd (told x r heard).doing g ≡ false → descriptor n server g ≡ None
-  -- its calls touch nothing but what it has, nor does the last, which closes it
+  -- its calls touch only what it has, including the last, which closes it
   pub alone : (m : State) (fd c : ℕ) (x : Conn) (o : Outcome) → descriptor m server fd ≡ Some (on.Connection c) → HasAnswer m x o
       → TouchesItsOwn m fd c x.doing (wants fd x)

@@ -1,8 +1,8 @@
--- What the server offers for a request is the next bytes of the response to it, with the outcome of the calls that it made
+-- The bytes that the server offers for a request are the next bytes of the response to it, for the outcome of the calls made
 -- for it.
 --
--- It is said of each step, calm or not: what the machine has of a response it goes on having, unless somebody gives up or moves
--- what the connection uses. That over a whole run nobody does is not said here.
+-- The laws are about single steps, calm or not: what the machine has of a response remains, unless a call consumes or moves
+-- what the connection uses. That this holds over a whole run is not stated here.
 use Rattle.std.specs.Prelude.{◌≡◌, ◌⊎◌, ℕ, ◌+◌, ◌==◌, Bool, true, false, if◌then◌else◌, List, [], ◌++◌, length, drop, Some, None}
 use Rattle.iol_core.specs.Access.{HasAccess}
 use Rattle.iol_core.specs.State.{State, descriptor, is_live, is_gone, conn_at}
@@ -31,17 +31,17 @@ use Rattle.flash_laws.specs.Conn.Progress.{Rank, Nears, CanMake, is_busy}
 use Rattle.flash_laws.specs.Conn.Policy.{is_later}
 use Rattle.flash_laws.specs.Site.{server}
 
--- the machine has what is needed of the response with this outcome; before an outcome is known nothing is needed
+-- the machine has what the response with this outcome needs; before an outcome is known it needs nothing
 abbrev pub HasAnswer : State → Conn → Outcome → Type 0
 HasAnswer m x o = Has m x.q (response x.q o) x.doing
 
--- the first call for a request opens the file of its name; one that is refused needs none
+-- the first call for a request opens the file of its name; a refused request needs none
 abbrev pub FirstCall : Answer → Call → Type 0
 FirstCall (serve w) k = k ≡ call.OpenFile w.name modes.Read
 FirstCall (refuse status head_only close) k = k ≡ call.AggMake (error_text status head_only close)
 
--- The outcome of the calls, after the reply to one: the file is refused, or what was read of it is heard, or its length is
--- told, as that of some bytes; of other calls it stays as it was.
+-- The outcome of the calls, after the reply to one: the file is refused, its bytes are read, or its length is returned, as that
+-- of some bytes; other calls leave it unchanged.
 abbrev pub Learns : Doing → Reply → (heard : List ℕ) → (before after : Outcome) → Type 0
 Learns Opens (reply.Refused x) heard before after = after ≡ Failed (status_of x)
 Learns (Reads f) (reply.Agg n) heard before after = after ≡ Found heard
@@ -50,7 +50,7 @@ Learns (Reads f) (reply.Count n) heard before after = (bytes : List ℕ) × (n �
 Learns (Reads f) (reply.Refused x) heard before after = after ≡ Failed (status_of x)
 Learns d r heard before after = after ≡ before
 
--- how many bytes of the response are taken
+-- the number of bytes of the response that are taken
 abbrev pub taken_of : Doing → ℕ
 taken_of (Sends a len taken more) = taken
 taken_of (Cuts a from len taken more) = taken
@@ -59,12 +59,12 @@ taken_of (Swaps a from len piece taken more) = taken
 taken_of (Sent a taken more) = taken
 taken_of d = 0
 
--- how many bytes the connection at fd takes by this reply
+-- the number of bytes that the connection at fd takes by this reply
 abbrev pub newly_taken : (fd : ℕ) → Call → Reply → ℕ
 newly_taken fd (call.IolWrite g a) (reply.Count k) = if g == fd then k else 0
 newly_taken fd k r = 0
 
--- whether what was to be sent is dropped
+-- whether queued output is dropped
 abbrev pub is_dropping : Doing → Bool
 is_dropping (Breaks piece a more) = true
 is_dropping (Drops a more) = true
@@ -77,42 +77,42 @@ pub record IsNextOf (m : State) (q : Answer) (o : Outcome) (a taken : ℕ) : Typ
   pub lends : lent_at m server a ≡ Some bytes
   pub next : bytes ++ after ≡ drop taken (response q o)
 
--- whether a call with this reply may be made again: it was refused, but not because nobody takes what it writes
+-- whether a call with this reply may be retried: it was refused, but not for lack of a reader
 abbrev pub may_repeat : Call → Reply → Bool
 may_repeat (call.IolWrite fd a) (reply.Refused no.BrokenPipe) = false
 may_repeat k (reply.Refused x) = true
 may_repeat k r = false
 
 pub record OffersTheResponse : Type 0 where
-  -- a request begins so, with nothing needed yet
+  -- when a request begins, nothing is needed
   pub starts : (m : State) (fd : ℕ) (kept : List ℕ) (q : Answer) (o : Outcome)
       → FirstCall q (wants fd (record { kept = kept; q = q; doing = begins q }))
       × HasAnswer m (record { kept = kept; q = q; doing = begins q }) o
-  -- after the reply to its call the outcome is what the call gave, or what it was, and the machine has what is needed then
+  -- after the reply to its call the outcome is the result of the call, or unchanged, and the machine has the data for the next step
   pub replied : (m n : State) (fd c : ℕ) (x : Conn) (r : Reply) (heard : List ℕ) (before : Outcome)
       → IsOrderly m → HasAccess m
       → is_live m server ≡ true → descriptor m server fd ≡ Some (on.Connection c)
       → is_closing x.doing ≡ false
       → HasAnswer m x before → StepsTo m (event.Call server (wants fd x)) r n → Names n r heard
       → (after : Outcome) × Learns x.doing r heard before after × HasAnswer n (told x r heard) after
-  -- whatever else happens, as long as it neither gives up nor moves what the connection uses
+  -- the same for any other event that neither consumes nor moves what the connection uses
   pub stays : (m n : State) (x : Conn) (e : Event) (r : Reply) (o : Outcome) → StepsTo m e r n
       → ((a : ℕ) → uses_agg x.doing a ≡ true → gives_up e server a ≡ false)
       → ((g : ℕ) → uses_fd x.doing g ≡ true → touches_fd m e server g ≡ false) → HasAnswer m x o
       → HasAnswer n x o
-  -- what is offered to the connection is next
+  -- the bytes offered to the connection are the next ones
   pub offers : (m : State) (fd a : ℕ) (x : Conn) (o : Outcome) → HasAnswer m x o
       → wants fd x ≡ call.IolWrite fd a
       → IsNextOf m x.q o a (taken_of x.doing)
-  -- as much counts as taken as the connection took, as long as the response is neither over nor broken off
+  -- the bytes that the connection took count as taken, while the response is neither over nor aborted
   pub takes : (m n : State) (fd c : ℕ) (x : Conn) (r : Reply) (heard : List ℕ) (o : Outcome) → IsOrderly m
       → descriptor m server fd ≡ Some (on.Connection c) → HasAnswer m x o → StepsTo m (event.Call server (wants fd x)) r n
       → is_dropping x.doing ≡ false → is_dropping (told x r heard).doing ≡ false → is_busy (told x r heard).doing ≡ true
       → taken_of (told x r heard).doing ≡ taken_of x.doing + newly_taken fd (wants fd x) r
-  -- where it is sent all of it is taken
+  -- after it is sent all of it is taken
   pub whole : (m : State) (x : Conn) (o : Outcome) (a taken : ℕ) → x.doing ≡ Sent a taken None → HasAnswer m x o
       → drop taken (response x.q o) ≡ []
-  -- it is broken off only where its peer is gone
+  -- it is aborted only if its peer is gone
   pub breaks : (m n : State) (fd c : ℕ) (x : Conn) (r : Reply) (heard : List ℕ) (o : Outcome)
       → descriptor m server fd ≡ Some (on.Connection c) → is_busy x.doing ≡ true → HasAnswer m x o
       → StepsTo m (event.Call server (wants fd x)) r n → is_dropping x.doing ≡ false
@@ -121,17 +121,17 @@ pub record OffersTheResponse : Type 0 where
   pub closes : (m n : State) (fd c : ℕ) (x : Conn) (r : Reply) (heard : List ℕ) → IsOrderly m → is_live m server ≡ true
       → descriptor m server fd ≡ Some (on.Connection c) → x.doing ≡ Closes → StepsTo m (event.Call server (wants fd x)) r n
       → (r ≡ reply.Done) × ((told x r heard).doing ≡ Over) × ((conn_at n c).closed ≡ true)
-  -- with each reply a request comes nearer to its end, but where its call is to be made again later
+  -- each reply reduces the rank of a request, unless its call is retried later
   pub rank : Conn → Rank
   pub nears : (m n : State) (fd c : ℕ) (x : Conn) (r : Reply) (heard : List ℕ) (o : Outcome) → IsOrderly m
       → is_live m server ≡ true → descriptor m server fd ≡ Some (on.Connection c) → is_busy x.doing ≡ true
       → HasAnswer m x o → CanMake m (wants fd x) → StepsTo m (event.Call server (wants fd x)) r n → Names n r heard
       → Nears rank x r (told x r heard)
-  -- a connection that reads the stream is told to read again only later, or where what came is not for the server
+  -- a connection that reads the stream retries only later, or if the bytes are not for the server
   pub reads : (m n : State) (fd c : ℕ) (x : Conn) (r : Reply) (heard : List ℕ) → is_live m server ≡ true
       → descriptor m server fd ≡ Some (on.Connection c) → x.doing ≡ Rests
       → StepsTo m (event.Call server (wants fd x)) r n → told x r heard ≡ x
       → (is_later r ≡ true) ⊎ ((p : ℕ) × IsHidden m server p (conn_at m c).incoming)
-  -- a call that was done is not made again
+  -- a successful call is not repeated
   pub moves : (m n : State) (fd : ℕ) (x : Conn) (r : Reply) (heard : List ℕ) → is_closing x.doing ≡ false
       → StepsTo m (event.Call server (wants fd x)) r n → told x r heard ≡ x → may_repeat (wants fd x) r ≡ true

@@ -1,7 +1,7 @@
--- Which connection has its turn, and when the server yields, where no script runs.
+-- The order of turns of connections, and the time at which the server yields, if no script runs.
 --
--- A round goes over the places of the connections, then accepts those that wait, and ends with a yield. A connection goes on
--- until its call is to be made again later, or nothing is left to do for it but to read more.
+-- A round goes over the connections by index, then accepts waiting ones, and ends with a yield. A connection continues until
+-- its call is to be retried later, or it only reads more input.
 use Rattle.std.specs.Prelude.{ℕ, ◌==◌, ◌||◌, Bool, true, false, if◌then◌else◌, nat_lt, List, length, Option, Some, None}
 use Rattle.iol_core.specs.NumberedLists.{taken}
 use Rattle.iol_core.specs.declared.refusals.Refusal.TheVariants.{WouldBlock, TooMany, PoolClosed, NoRoom, Memory}
@@ -13,11 +13,11 @@ use Rattle.flash_laws.specs.declared.phase.Doing.TheVariants.{Rests}
 use Rattle.flash_laws.specs.declared.phase.Flight.{Flight}
 use Rattle.flash_laws.specs.declared.phase.Flight.TheVariants.{Nothing, Accepting, At}
 
--- the connections that the server holds at most
+-- the maximum number of connections of the server
 abbrev pub most_conns : ℕ
 most_conns = 256
 
--- whether the call is to be made again later: it would block, there are no more table entries, pages or memory, or its pool is
+-- whether the call is to be retried later: it would block, there are no more table entries, pages or memory, or its pool is
 -- closed, so that a closed pool does not keep the server at one client
 abbrev pub is_later : Reply → Bool
 is_later (reply.Refused WouldBlock) = true
@@ -27,7 +27,7 @@ is_later (reply.Refused (NoRoom p)) = true
 is_later (reply.Refused Memory) = true
 is_later r = false
 
--- whether nothing is in progress for it, and nothing is kept
+-- whether it is idle and has no buffered input
 abbrev pub is_bare : Conn → Bool
 is_bare x = by x.doing
   where
@@ -35,12 +35,12 @@ is_bare x = by x.doing
     by Rests = length x.kept == 0
     by d = false
 
--- whether its turn passes to the next: its call is to be made again later, or nothing is left to do but to read more
+-- whether its turn passes to the next: its call is to be retried later, or it only reads more input
 abbrev pub leaves_off : Option Conn → Reply → Bool
 leaves_off None r = true
 leaves_off (Some x) r = is_later r || is_bare x
 
--- past all places one is accepted, unless the server holds as many as it may
+-- after the last index a connection is accepted, unless the server has the maximum number
 abbrev pub door : {A : Type 0} → List (Option A) → Flight
 door conns = if nat_lt (taken conns) most_conns then Accepting else Nothing
 
@@ -48,7 +48,7 @@ abbrev pub flight_to : {A : Type 0} → List (Option A) → Option ℕ → Fligh
 flight_to conns (Some fd) = At fd
 flight_to conns None = door conns
 
--- more are accepted until none waits
+-- more are accepted while any are waiting
 abbrev pub flight_past : {A : Type 0} → List (Option A) → Reply → Flight
 flight_past conns (reply.Fd fd) = door conns
 flight_past conns r = Nothing

@@ -1,5 +1,5 @@
--- What the head of a response, before it is made, may name: a file that the server reads at once, and an error status of this server.
--- So each head is short.
+-- The contents of the head of a response, before it is made: a file within the limit of one read of the server, and an error
+-- status of this server. So each head is short.
 use Rattle.std.specs.Prelude.{◌≡◌, ◌≤◌, ◌==◌, ℕ, Bool, true, [], ◌∷◌}
 use Rattle.std.specs.List.{list_any}
 use Rattle.flash_laws.specs.Conn.{most_read}

@@ -1,4 +1,4 @@
--- What a connection wants memory for: to keep the bytes that it hears, to begin a request, and for the bytes of a call.
+-- The uses of memory by a connection: to buffer bytes that it reads, to begin a request, and for the bytes of a call.
 use Rattle.std.specs.Prelude.{◌≡◌, ◌⊎◌, ◌<◌, ℕ, Bool, true, false, List, length}
 use Rattle.iol_core.specs.declared.events.Reply.{Reply}
 use Rattle.iol_core.specs.declared.events.Reply.TheVariants as reply
@@ -17,12 +17,12 @@ has_bytes Opens = true
 has_bytes (Heads k) = true
 has_bytes d = false
 
--- whether a request can begin: its head has come whole, or no head can come any more
+-- whether a request can begin: its head is complete, or cannot become complete
 abbrev pub can_begin : Window → Bool
 can_begin Wait = false
 can_begin w = true
 
--- whether one that goes on at once begins a request, or makes such a call
+-- whether a connection that continues at once begins a request, or makes such a call
 abbrev pub needs_memory : Conn → Bool
 needs_memory x = by x.doing
   where
@@ -30,12 +30,12 @@ needs_memory x = by x.doing
     by Rests = can_begin (window_in x.kept)
     by d = has_bytes d
 
--- it was reading, and a byte came
+-- it was reading, and a byte arrived
 abbrev pub Hears : Doing → Reply → (heard : List ℕ) → Type 0
 Hears Rests (reply.Agg n) heard = 0 < length heard
 Hears d r heard = ⊥
 
--- a connection wants memory after a reply: to keep what came, or to go on at once
+-- a connection needs memory after a reply: to buffer bytes, or to continue at once
 abbrev pub WantsOn : Conn → Reply → (heard : List ℕ) → Type 0
 WantsOn x r heard =
     Hears x.doing r heard

@@ -1,4 +1,4 @@
--- What ties the run of a script to the machine and to the output that was read: what it has of the response.
+-- The invariant of the run of a script, by the machine and the output that was read: what it has of the response.
 use Rattle.std.specs.Prelude.{◌≡◌, ◌≤◌, ◌<◌, ℕ, ◌+◌, ◌==◌, ◌⊎◌, not, Bool, true, false, List, [], ◌++◌, length, Option, Some, None}
 use Rattle.iol_core.specs.State.{State, descriptor}
 use Rattle.iol_core.specs.declared.descriptors.Descriptor.TheVariants as on
@@ -23,43 +23,44 @@ use Rattle.flash_laws.specs.declared.script_run.Step.TheVariants.{Gives, Makes, 
 use Rattle.flash_laws.specs.declared.script_run.Running.{Running}
 use Rattle.flash_laws.specs.declared.script_run.Running.TheVariants.{Awaits, Runs, Leaves, Closes}
 
--- ---- what the calls of a run gave so far
+-- ---- the results of the calls of a run so far
 
 pub data Progress : Type 0 where
-  -- the output that was read, whether its end was seen, and the bytes of the response in aggregates that were taken whole
+  -- the output that was read, whether its end was read, and the bytes of the response in aggregates that were taken whole
   Ran : (heard : List ℕ) → (ended : Bool) → (past : List ℕ) → Progress
-  -- nobody takes the response any more, or the output may not be read: no more of it is sent
+  -- the response is aborted, or the output may not be read: no more of it is sent
   Broken : Progress
-  -- the script could not be run; of the error these bytes were taken
+  -- the script could not be run; these bytes of the error response were taken
   NotRun : (status : ℕ) → (past : List ℕ) → Progress
 
 abbrev pub nothing_yet : Progress
 nothing_yet = Ran [] false []
 
--- what may still be read of an output
+-- the possible rest of an output
 abbrev pub Follows : (ended : Bool) → List ℕ → Type 0
 Follows true more = more ≡ []
 Follows false more = Unit {0}
 
--- What may be the response, whatever the script still puts out: once its end was seen, the response to its output.
+-- The possible responses, for every further output; once its end was read, the response to the output.
 abbrev pub MayAnswer : Wanted → Progress → List ℕ → Type 0
 MayAnswer w (Ran heard ended past) r = (more : List ℕ) × Follows ended more × (r ≡ script_response w (heard ++ more))
 MayAnswer w Broken r = ⊥
 MayAnswer w (NotRun status past) r = r ≡ error_text status w.head_only (not w.keep)
 
--- All that was read is taken, but for what is held: whatever the script still puts out, the response is what was taken, and then
--- the body of what is held and of that.
+-- All output that was read is taken, except for the buffered part: for every further output, the response is the taken bytes,
+-- followed by the body of the buffered part and the further output.
 abbrev pub HoldsBack : Wanted → Progress → (held : List ℕ) → Type 0
 HoldsBack w (Ran heard ended past) held =
     (more : List ℕ) → script_response w (heard ++ more) ≡ past ++ script_body w.chunked (held ++ more)
 HoldsBack w o held = ⊥
 
--- the same of these bytes of the response and then of what is held
+-- the same with these bytes of the response before the buffered part
 abbrev pub Continues : Wanted → Progress → (part held : List ℕ) → Type 0
 Continues w (Ran heard ended past) part held = HoldsBack w (Ran heard ended (past ++ part)) held
 Continues w o part held = ⊥
 
--- all of the response is known: the end of the output was seen, or it is an error; and these bytes of it are not yet taken
+-- all of the response is known, since the end of the output was read, or it is an error; and these bytes of it are not yet
+-- taken
 abbrev pub IsLeft : Wanted → Progress → (rest : List ℕ) → Type 0
 IsLeft w (Ran heard ended past) rest = (ended ≡ true) × (script_response w heard ≡ past ++ rest)
 IsLeft w Broken rest = ⊥
@@ -93,7 +94,7 @@ pub record HasPipe (m : State) (run : Run) (write : ℕ) : Type 0 where
 abbrev pub IsFresh : Run → Progress → Type 0
 IsFresh run o = (run.broken ≡ false) × (o ≡ nothing_yet)
 
--- An aggregate of these bytes, fewer than a chunk has, and some; a body that is not in chunks holds none back.
+-- An aggregate of these bytes, at least one and fewer than a chunk has; a body that is not in chunks buffers none.
 pub record HoldsOutput (m : State) (w : Wanted) (a size : ℕ) (bytes : List ℕ) : Type 0 where
   pub lends : lent_at m server a ≡ Some bytes
   pub count : size ≡ length bytes
@@ -109,7 +110,7 @@ abbrev pub HasFrame : State → Option ℕ → Type 0
 HasFrame m None = Unit {0}
 HasFrame m (Some f) = lent_at m server f ≡ Some (frame_of CHUNK_BYTES)
 
--- what is held is not the frame
+-- the buffered output is not the frame
 abbrev pub meets : Following → (frame : Option ℕ) → Bool
 meets None frame = false
 meets (Some x) frame = has_frame frame x.0
@@ -126,7 +127,7 @@ pub record HasHeard (m : State) (w : Wanted) (o : Progress) (run : Run) (held : 
   pub has : HasOutput m w held frame bytes
   pub goes : Goes run.broken w o bytes
 
--- it is at its end
+-- the end of the output was read
 pub record HasAll (m : State) (w : Wanted) (o : Progress) (run : Run) (held : Following) (frame : Option ℕ) : Type 0 where
   pub bytes : List ℕ
   pub has : HasOutput m w held frame bytes
@@ -152,7 +153,7 @@ abbrev pub sends_frame : Doing → (frame : Option ℕ) → Bool
 sends_frame d None = false
 sends_frame d (Some f) = conn.uses_agg d f
 
--- A part of the response is being sent: for the phases of any response it is all that is due.
+-- A part of the response is being sent: for the phases of any response it is the whole due response.
 pub record HasPart (m : State) (w : Wanted) (o : Progress) (run : Run) (d : Doing) (frame : Option ℕ) : Type 0 where
   pub reads : IsReading m run
   pub frames : HasFrame m frame
@@ -164,7 +165,7 @@ pub record HasPart (m : State) (w : Wanted) (o : Progress) (run : Run) (d : Doin
   pub whole : run.broken ≡ false
   pub continues : Continues w o part []
 
--- what is held, and a piece that comes after it
+-- the buffered output, and a piece that follows it
 pub record HasPiece (m : State) (w : Wanted) (o : Progress) (run : Run) (held size piece len : ℕ)
     (frame : Option ℕ) : Type 0 where
   pub reads : IsReading m run
@@ -189,7 +190,7 @@ pub record HasChunk (m : State) (w : Wanted) (o : Progress) (run : Run) (held : 
   pub whole : run.broken ≡ false
   pub goes : HoldsBack w o bytes
 
--- the last bytes of a body in chunks, and what ends it around them
+-- the last bytes of a body in chunks, with the end of the body around them
 pub record HasLast (m : State) (w : Wanted) (o : Progress) (held size frame : ℕ) : Type 0 where
   pub bytes : List ℕ
   pub holds : HoldsOutput m w held size bytes
@@ -197,35 +198,35 @@ pub record HasLast (m : State) (w : Wanted) (o : Progress) (held size frame : �
   pub apart : (frame == held) ≡ false
   pub left : IsLeft w o (script_body true bytes)
 
--- these bytes of the response are in an aggregate, and no more come
+-- these bytes of the response are in an aggregate, and no more follow
 pub record HasEnd (m : State) (w : Wanted) (o : Progress) (a len : ℕ) : Type 0 where
   pub bytes : List ℕ
   pub lends : lent_at m server a ≡ Some bytes
   pub count : len ≡ length bytes
   pub left : IsLeft w o bytes
 
--- an aggregate is to be dropped, and is none that is used then
+-- an aggregate is to be dropped, and is not used afterwards
 abbrev pub IsSpare : State → (a : ℕ) → (next : Step) → Type 0
 IsSpare m a next = IsLent m a × (step_agg next a ≡ false)
 
--- an error is to be made, or all that is due is being sent, with nothing to follow it
+-- an error is to be made, or the whole due response is being sent, with nothing after it
 abbrev pub IsSending : State → (due : List ℕ) → Doing → Type 0
 IsSending m due (doing.Heads (Error status)) = Unit {0}
 IsSending m due d = IsPart m (sent_agg d) due × (taken_of d ≤ length due)
 
--- What is left of the response is sent: for the phases of any response it is all that is due.
+-- The rest of the response is sent: for the phases of any response it is the whole due response.
 pub record HasRest (m : State) (w : Wanted) (o : Progress) (d : Doing) : Type 0 where
   pub due : List ℕ
   pub left : IsLeft w o due
   pub has : Has m (serve w) due d
   pub sends : IsSending m due d
 
--- nothing of it is left, and it ends with the connection; or nobody takes it
+-- nothing of it is left, and it ends with the connection; or it is aborted
 abbrev pub HasNone : Wanted → Progress → Type 0
 HasNone w Broken = Unit {0}
 HasNone w o = IsLeft w o [] × ((w.keep ≡ false) ⊎ (w.chunked ≡ false))
 
--- the rest is sent; or nothing is left, and the connection goes on where the response lets it, and is else to be closed
+-- the rest is sent; or nothing is left, and the connection continues if the response permits it, and is closed otherwise
 abbrev pub HasLeft : State → Wanted → Progress → Doing → Type 0
 HasLeft m w o doing.Rests = IsLeft w o [] × (w.keep ≡ true)
 HasLeft m w o doing.Closes = HasNone w o
@@ -260,7 +261,7 @@ module _ (job : (fd : ℕ) → List ℕ) where
   HasStep m w o run (Lapses j) = IsReading m run × IsLent m j × IsFresh run o
   HasStep m w o run Fails = IsReading m run × IsFresh run o
 
-  -- The machine has what a run needs, where its calls gave so much.
+  -- The machine has what a run needs, with these results of its calls.
   abbrev pub HasRun : State → Wanted → Progress → Running → Type 0
   HasRun m w o Awaits = o ≡ nothing_yet
   HasRun m w o (Runs run step) = HasJobPipe m run.worker × HasStep m w o run step

@@ -1,7 +1,7 @@
--- A run keeps nothing that it does not use: what its calls bring is used by it, and what it uses no more is given up. And it
--- keeps to itself: its calls touch nothing but what it has.
+-- A run keeps only what it uses: the results of its calls belong to it, and are given up when it no longer uses them. Its calls
+-- touch only what it has.
 --
--- As what it offers (`Run/OfferedBytes`), it is said of each call of its own, calm or not.
+-- As in `Run/OfferedBytes`, the laws are about each call of the server, calm or not.
 use Rattle.std.specs.Prelude.{◌≡◌, ℕ, ◌==◌, ◌||◌, Bool, true, false, List, Some, None}
 use Rattle.iol_core.specs.NumberedLists.{lowest}
 use Rattle.iol_core.specs.State.{State, descriptor}
@@ -51,39 +51,39 @@ MayTouch m (Runs run (Returns write)) p = descriptor m server write ≡ Some (on
 MayTouch m (Runs run step) p = descriptor m server run.from ≡ Some (on.ReadEnd p)
 MayTouch m x p = ⊥
 
--- a call that touches nothing but what a run has
+-- a call that touches only what a run has
 pub record KeepsToItself (m : State) (fd c : ℕ) (x : Running) (k : Call) : Type 0 where
   pub kind : may_make k ≡ true
-  -- it gives up an aggregate only that it uses
+  -- it consumes only an aggregate that it uses
   pub aggs : (a : ℕ) → gives_up (event.Call server k) server a ≡ true → uses_agg x a ≡ true
-  -- it closes or gives away an end only of its pipe
+  -- it closes or gives away only an end of its pipe
   pub fds : (g : ℕ) → touches_fd m (event.Call server k) server g ≡ true → has_end x g ≡ true
-  -- it writes to its connection, and does nothing else to any
+  -- it writes to its connection, and touches no other
   pub conns : (d : ℕ) → touches_conn m (event.Call server k) d ≡ true → (c ≡ d) × ((a : ℕ) × (k ≡ call.IolWrite fd a))
   pub pipes : (p : ℕ) → touches_pipe m (event.Call server k) p ≡ true → MayTouch m x p
   pub files : changes_files m (event.Call server k) ≡ false
 
 pub record RunKeepsNothing (job : ℕ → List ℕ) : Type 0 where
-  -- an aggregate that comes by a call for it is used by it
+  -- an aggregate returned by a call for it is used by it
   pub brought : (m n : State) (fd c worker : ℕ) (w : Wanted) (x : Running) (o : Progress) (r : Reply)
       (heard bytes : List ℕ) (a : ℕ)
       → IsOrderly m → descriptor m server fd ≡ Some (on.Connection c) → is_over x ≡ false → HasRun job m w o x
       → StepsTo m (event.Call server (wants job fd w x)) r n
       → lent_at m server a ≡ None → lent_at n server a ≡ Some bytes → uses_agg (told worker w x r heard) a ≡ true
-  -- both ends of a pipe that comes by a call for it are had by it
+  -- both ends of a pipe returned by a call for it belong to it
   pub opened : (m n : State) (fd worker : ℕ) (w : Wanted) (x : Running) (o : Progress) (from write : ℕ) (heard : List ℕ) (g : ℕ)
       → is_over x ≡ false → HasRun job m w o x
       → StepsTo m (event.Call server (wants job fd w x)) (reply.Fds from write) n
       → ((from == g) || (write == g)) ≡ true → has_end (told worker w x (reply.Fds from write) heard) g ≡ true
-  -- an aggregate that it uses no more is gone
+  -- an aggregate that it no longer uses is gone
   pub left : (m n : State) (fd worker : ℕ) (w : Wanted) (x : Running) (o : Progress) (r : Reply) (heard : List ℕ) (a : ℕ)
       → IsOrderly m → HasRun job m w o x → StepsTo m (event.Call server (wants job fd w x)) r n
       → uses_agg x a ≡ true → uses_agg (told worker w x r heard) a ≡ false → lent_at n server a ≡ None
-  -- and so is an end of its pipe, which is closed, or given to the worker
+  -- the same for an end of its pipe, which is closed, or given to the worker
   pub shut : (m n : State) (fd worker : ℕ) (w : Wanted) (x : Running) (o : Progress) (r : Reply) (heard : List ℕ) (g : ℕ)
       → HasRun job m w o x → StepsTo m (event.Call server (wants job fd w x)) r n
       → has_end x g ≡ true → has_end (told worker w x r heard) g ≡ false → descriptor n server g ≡ None
-  -- its calls touch nothing but what it has
+  -- its calls touch only what it has
   pub alone : (m : State) (fd c : ℕ) (w : Wanted) (x : Running) (o : Progress) → descriptor m server fd ≡ Some (on.Connection c)
       → is_over x ≡ false → HasRun job m w o x → KeepsToItself m fd c x (wants job fd w x)
 

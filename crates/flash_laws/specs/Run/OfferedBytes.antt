@@ -1,8 +1,8 @@
--- What the server offers for a script is the next bytes of the response, whatever its output will be; once the end of the output
--- is seen, of the response to that output.
+-- The bytes that the server offers for a script are the next bytes of the response, for every further output; once the end of
+-- the output was read, of the response to that output.
 --
--- It is said of each step, calm or not: what a run has it goes on having, unless somebody gives up or moves what it uses. That
--- over a whole run nobody does is not said here, nor what a worker writes.
+-- The laws are about single steps, calm or not: what a run has remains, unless a call consumes or moves what it uses. That this
+-- holds over a whole run is not stated here, and neither is what a worker writes.
 use Rattle.std.specs.Prelude.{◌≡◌, ◌<◌, ℕ, ◌+◌, ◌-◌, ◌⊎◌, Bool, true, false, List, [], ◌∷◌, ◌++◌, length, drop, Option, Some, None}
 use Rattle.iol_core.specs.State.{State, descriptor, is_live, pipe_at, conn_at, new_pipe, is_gone}
 use Rattle.iol_core.specs.Run.{StepsTo}
@@ -46,14 +46,14 @@ takes_on (Ran heard ended past) part = Ran heard ended (past ++ part)
 takes_on Broken part = Broken
 takes_on (NotRun status past) part = NotRun status (past ++ part)
 
--- What the calls that send a part gave: all its bytes are taken once it is sent, or nobody takes them.
+-- The results of the calls that send a part: all its bytes are taken after it is sent, or it is aborted.
 abbrev pub PartLearns : State → Doing → Reply → (before after : Progress) → Type 0
 PartLearns m (doing.Sent a taken None) reply.Done before after = (part : List ℕ)
     × (lent_at m server a ≡ Some part) × (after ≡ takes_on before part)
 PartLearns m (doing.Drops a None) reply.Done before after = after ≡ Broken
 PartLearns m d r before after = after ≡ before
 
--- What the calls gave, after the reply to one.
+-- The results of the calls, after the reply to one.
 abbrev pub StepLearns : State → Step → Reply → (heard : List ℕ) → (before after : Progress) → Type 0
 StepLearns m (Sending d frame) r heard before after = PartLearns m d r before after
 StepLearns m (Hears held frame) (reply.Agg n) heard before after = after ≡ hears_on before heard
@@ -66,40 +66,40 @@ Learns m (Runs run step) r heard before after = StepLearns m step r heard before
 Learns m (Leaves d) r heard before after = PartLearns m d r before after
 Learns m x r heard before after = after ≡ before
 
--- how many bytes are taken of the part that is being sent
+-- the number of bytes taken of the part that is being sent
 abbrev pub taken_by : Running → ℕ
 taken_by (Runs run (Sending d frame)) = taken_of d
 taken_by (Leaves d) = taken_of d
 taken_by x = 0
 
--- how many bytes of the response were taken before that part
+-- the number of bytes of the response that were taken before that part
 abbrev pub past_of : Progress → ℕ
 past_of (Ran heard ended past) = length past
 past_of Broken = 0
 past_of (NotRun status past) = length past
 
--- the bytes of an aggregate are the next of the response, whatever that will be
+-- the bytes of an aggregate are the next of each possible response
 pub record IsNextOf (m : State) (w : Wanted) (o : Progress) (a taken : ℕ) : Type 0 where
   pub bytes : List ℕ
   pub lends : lent_at m server a ≡ Some bytes
   pub next : (r : List ℕ) → MayAnswer w o r → (after : List ℕ) × (bytes ++ after ≡ drop (past_of o + taken) r)
 
--- a run that goes on has this worker
+-- a run that continues has this worker
 abbrev pub HasWorker : (worker : ℕ) → Running → Type 0
 HasWorker worker Awaits = ⊥
 HasWorker worker (Runs run step) = run.worker ≡ worker
 HasWorker worker x = Unit {0}
 
--- ---- why a response is broken off, or a script not run
+-- ---- the reasons for which a response is aborted, or a script not run
 
--- whether what is left of the response is dropped
+-- whether the rest of the response is dropped
 abbrev pub breaks_off : Running → Bool
 breaks_off (Runs run (Sending d frame)) = is_dropping d
 breaks_off (Runs run step) = run.broken
 breaks_off (Leaves d) = is_dropping d
 breaks_off x = false
 
--- nobody takes it any more, or the server may not read what the script puts out
+-- the peer is gone, or the server may not read the output
 abbrev pub IsCutOff : State → (c : ℕ) → Running → Type 0
 IsCutOff m c (Runs run step) = (is_gone (conn_at m c).peer ≡ true)
     ⊎ ((p : ℕ) × (q : ℕ) × (descriptor m server run.from ≡ Some (on.ReadEnd p)) × IsHidden m server q (pipe_at m p).queue)
@@ -112,13 +112,13 @@ is_failing (Runs run (Lapses job)) = true
 is_failing (Runs run Fails) = true
 is_failing x = false
 
--- the domain of its worker does not live, or nobody reads its jobs
+-- the domain of its worker has ended, or its job pipe has no reader
 abbrev pub IsLost : State → Running → Type 0
 IsLost m (Runs run step) = (is_live m (worker_domain run.worker) ≡ false)
     ⊎ ((p : ℕ) × (descriptor m server (job_pipe run.worker) ≡ Some (on.WriteEnd p)) × ((pipe_at m p).reading ≡ false))
 IsLost m x = ⊥
 
--- ---- until when it reads
+-- ---- the end of reading
 
 -- whether no more output is read
 abbrev pub is_stopping : Running → Bool
@@ -138,14 +138,14 @@ StopsBy (Runs run (Hears held frame)) (reply.Agg n) heard = heard ≡ []
 StopsBy (Runs run (Hears held frame)) (reply.Refused (no.Denied p)) heard = Unit {0}
 StopsBy x r heard = ⊥
 
--- ---- how it comes nearer to its end
+-- ---- its rank
 
 -- more of the output was read
 abbrev pub HearsMore : Running → Reply → (heard : List ℕ) → Type 0
 HearsMore (Runs run (Hears held frame)) (reply.Agg n) (b ∷ heard) = Unit {0}
 HearsMore x r heard = ⊥
 
--- ---- in which order it hands the job over
+-- ---- the order of handing over the job
 
 -- whether its job is not yet handed over
 abbrev pub is_handing : Running → Bool
@@ -156,7 +156,7 @@ is_handing (Runs run (Hands j f)) = true
 is_handing (Runs run (Lets j)) = true
 is_handing x = false
 
--- the pipe is given, the job made, written and let go, and the head made: each only once the call before it was done; and
+-- the pipe is given, the job made, written and dropped, and the head made: each only after the call before it succeeded; and
 -- nothing of the response is sent before
 abbrev pub ComesAfter : Running → Reply → Running → Type 0
 ComesAfter x r (Runs run (Makes f)) = (write : ℕ) × (x ≡ Runs run (Gives write)) × (r ≡ reply.Fd f)
@@ -168,87 +168,87 @@ ComesAfter x r y = Unit {0}
 
 -- `job` is the text of the job, by the descriptor that it names.
 pub record RunOffersTheResponse (job : ℕ → List ℕ) : Type 0 where
-  -- so a run begins
+  -- the beginning of a run
   pub starts : (m : State) (w : Wanted) → HasRun job m w nothing_yet Awaits
-  -- after the reply to its call the machine has what is needed then; the worker that it is given is one that has a job pipe
+  -- after the reply to its call the machine has what is needed next; the worker that it gets is one with a job pipe
   pub replied : (m n : State) (fd c worker : ℕ) (w : Wanted) (x : Running) (r : Reply) (heard : List ℕ) (before : Progress)
       → IsOrderly m → descriptor m server fd ≡ Some (on.Connection c) → (x ≡ Awaits → HasJobPipe m worker)
       → is_over x ≡ false → HasRun job m w before x
       → StepsTo m (event.Call server (wants job fd w x)) r n → Names n r heard
       → (after : Progress) × Learns m x r heard before after × HasRun job n w after (told worker w x r heard)
-  -- whatever else happens, as long as it neither gives up nor moves what the run uses
+  -- the same for any other event that neither consumes nor moves what the run uses
   pub stays : (m n : State) (w : Wanted) (x : Running) (e : Event) (r : Reply) (o : Progress) → StepsTo m e r n
       → ((a : ℕ) → uses_agg x a ≡ true → gives_up e server a ≡ false)
       → ((g : ℕ) → uses_fd x g ≡ true → touches_fd m e server g ≡ false) → HasRun job m w o x
       → HasRun job n w o x
-  -- what is offered to the connection is next
+  -- the bytes offered to the connection are the next ones
   pub offers : (m : State) (fd c a : ℕ) (w : Wanted) (x : Running) (o : Progress)
       → descriptor m server fd ≡ Some (on.Connection c) → HasRun job m w o x
       → wants job fd w x ≡ call.IolWrite fd a → IsNextOf m w o a (taken_by x)
-  -- once it is broken off nothing is offered
+  -- after it is aborted no bytes are offered
   pub silent : (m : State) (fd a : ℕ) (w : Wanted) (x : Running) → HasRun job m w Broken x
       → wants job fd w x ≡ call.IolWrite fd a → ⊥
-  -- as much counts as taken as the connection took, as long as the response is not broken off
+  -- the bytes that the connection took count as taken, while the response is not aborted
   pub takes : (m n : State) (fd c worker : ℕ) (w : Wanted) (x : Running) (r : Reply) (heard : List ℕ) (before after : Progress)
       → IsOrderly m → descriptor m server fd ≡ Some (on.Connection c) → is_over x ≡ false → HasRun job m w before x
       → StepsTo m (event.Call server (wants job fd w x)) r n → Learns m x r heard before after
       → breaks_off x ≡ false → breaks_off (told worker w x r heard) ≡ false
       → past_of after + taken_by (told worker w x r heard) ≡ past_of before + taken_by x + newly_taken fd (wants job fd w x) r
-  -- it is broken off only where nobody takes it any more, or the server may not read the output
+  -- it is aborted only if the peer is gone, or the server may not read the output
   pub breaks : (m n : State) (fd c worker : ℕ) (w : Wanted) (x : Running) (r : Reply) (heard : List ℕ) (o : Progress)
       → descriptor m server fd ≡ Some (on.Connection c) → is_over x ≡ false → HasRun job m w o x
       → StepsTo m (event.Call server (wants job fd w x)) r n
       → breaks_off x ≡ false → breaks_off (told worker w x r heard) ≡ true → IsCutOff m c x
-  -- a script is given up only where its worker does not live, or nobody reads its jobs
+  -- a script is given up only if its worker's domain has ended, or its job pipe has no reader
   pub fails : (m n : State) (fd worker : ℕ) (w : Wanted) (x : Running) (r : Reply) (heard : List ℕ) (o : Progress)
       → is_live m server ≡ true → HasRun job m w o x → StepsTo m (event.Call server (wants job fd w x)) r n
       → is_failing x ≡ false → is_failing (told worker w x r heard) ≡ true → IsLost m x
-  -- with each reply it comes nearer to its end, but where more of the output was read, or its call is to be made again later
+  -- each reply reduces the rank, unless more of the output was read, or the call is retried later
   pub rank : Wanted → Running → Rank
   pub nears : (m n : State) (fd c worker : ℕ) (w : Wanted) (x : Running) (r : Reply) (heard : List ℕ) (o : Progress)
       → IsOrderly m → is_live m server ≡ true → descriptor m server fd ≡ Some (on.Connection c) → is_over x ≡ false
       → HasRun job m w o x → CanMake m (wants job fd w x) → StepsTo m (event.Call server (wants job fd w x)) r n
       → Names n r heard → Nears (rank w) x r (told worker w x r heard) ⊎ HearsMore x r heard
-  -- a call that was done is not made again
+  -- a successful call is not repeated
   pub moves : (m n : State) (fd worker : ℕ) (w : Wanted) (x : Running) (r : Reply) (heard : List ℕ) (o : Progress)
       → is_over x ≡ false → HasRun job m w o x → StepsTo m (event.Call server (wants job fd w x)) r n
       → told worker w x r heard ≡ x → may_repeat (wants job fd w x) r ≡ true
-  -- no output is read while the bytes of a whole chunk are held
+  -- no output is read while the bytes of a whole chunk are buffered
   pub reads : (m : State) (w : Wanted) (o : Progress) (run : Run) (held : Option (ℕ × ℕ)) (frame : Option ℕ)
       → HasRun job m w o (Runs run (Hears held frame)) → held_size held < CHUNK_BYTES
-  -- what is read is the first bytes of the pipe that the server reads, as many as are wanting of a chunk or fewer, and their end
-  -- is told only where nobody writes any more
+  -- a read gives the first bytes of the pipe, at most as many as are missing from a chunk, and no bytes only if the pipe has no
+  -- writer any more
   pub hears : (m n : State) (fd : ℕ) (w : Wanted) (o : Progress) (run : Run) (held : Option (ℕ × ℕ))
       (frame : Option ℕ) (r : Reply)
       → IsOrderly m → HasRun job m w o (Runs run (Hears held frame))
       → StepsTo m (event.Call server (wants job fd w (Runs run (Hears held frame)))) r n
       → (p : ℕ) × (descriptor m server run.from ≡ Some (on.ReadEnd p)) × ReadsPipe m server p (CHUNK_BYTES - held_size held) r n
-  -- it reads on until that end was told, or it may not read, also where nobody takes the response any more
+  -- it reads until the end of the output, or until it may not read, also after the response is aborted
   pub reads_on : (worker : ℕ) (w : Wanted) (x : Running) (r : Reply) (heard : List ℕ) → is_stopping x ≡ false
       → is_stopping (told worker w x r heard) ≡ true → StopsBy x r heard
-  -- a run begins with a new pipe, in which nothing lies, and with the worker that it is given
+  -- a run begins with a new pipe, which is empty, and with its worker
   pub opens : (m n : State) (fd worker : ℕ) (w : Wanted) (from write : ℕ) (heard : List ℕ)
       → StepsTo m (event.Call server (wants job fd w Awaits)) (reply.Fds from write) n
       → (told worker w Awaits (reply.Fds from write) heard
       ≡ Runs (record { worker = worker; from = from; broken = false }) (Gives write))
       × ((p : ℕ) × (pipe_at n p ≡ new_pipe) × (descriptor n server from ≡ Some (on.ReadEnd p))
       × (descriptor n server write ≡ Some (on.WriteEnd p)))
-  -- the worker is given the write end of the pipe that the server reads, and the job names the descriptor at which it has that
+  -- the worker gets the write end of the pipe that the server reads, and the job names its descriptor of it
   pub gives : (m n : State) (fd worker : ℕ) (w : Wanted) (o : Progress) (run : Run) (write f : ℕ) (heard : List ℕ)
       → HasRun job m w o (Runs run (Gives write))
       → StepsTo m (event.Call server (wants job fd w (Runs run (Gives write)))) (reply.Fd f) n
       → (told worker w (Runs run (Gives write)) (reply.Fd f) heard ≡ Runs run (Makes f))
       × ((p : ℕ) × (descriptor n server run.from ≡ Some (on.ReadEnd p))
       × (descriptor n (worker_domain run.worker) f ≡ Some (on.WriteEnd p)))
-  -- the job is written at the end of that worker's job pipe, as much of it as fits
+  -- the job is appended to that worker's job pipe, as much of it as fits
   pub hands : (m n : State) (fd : ℕ) (w : Wanted) (o : Progress) (run : Run) (j f : ℕ) (r : Reply) → IsOrderly m
       → HasRun job m w o (Runs run (Hands j f))
       → StepsTo m (event.Call server (wants job fd w (Runs run (Hands j f)))) r n
       → (p : ℕ) × (descriptor m server (job_pipe run.worker) ≡ Some (on.WriteEnd p)) × WritesPipe m p (job f) r n
-  -- and nothing of the response is made or sent before that
+  -- nothing of the response is made or sent before that
   pub in_turn : (worker : ℕ) (w : Wanted) (x : Running) (r : Reply) (heard : List ℕ)
       → (told worker w x r heard ≡ x) ⊎ ComesAfter x r (told worker w x r heard)
-  -- a run keeps its worker as long as it runs
+  -- a run keeps its worker
   pub keeps : (worker : ℕ) (w : Wanted) (run : Run) (step : Step) (r : Reply) (heard : List ℕ)
       → HasWorker run.worker (told worker w (Runs run step) r heard)
 

@@ -1,4 +1,4 @@
--- What the run of a script wants memory for: the bytes of a call.
+-- The uses of memory by the run of a script: the bytes of a call.
 use Rattle.std.specs.Prelude.{Bool, true, false}
 use Rattle.flash_laws.specs.Conn.Wants.{has_bytes}
 use Rattle.flash_laws.specs.declared.script_run.Step.{Step}

@@ -1,4 +1,4 @@
--- Turns go round: who is next, over the clients' places.
+-- Turns in rounds: the next client, by index.
 use Rattle.std.specs.Prelude.{◌≡◌, ◌≤◌, ◌<◌, ◌⊎◌, ℕ, false, List, Option, Some}
 use Rattle.iol_core.specs.NumberedLists.{in_place}
 use Rattle.iol_core.specs.declared.events.Reply.{Reply}
@@ -10,32 +10,31 @@ use Rattle.flash_laws.specs.Serves.Rounds.{in_rounds}
 use Rattle.flash_laws.specs.declared.phase.Flight.{Flight}
 use Rattle.flash_laws.specs.declared.phase.Flight.TheVariants.{Nothing, Accepting, At}
 
--- a place that comes after whoever had the last turn: after a yield each does
+-- an index after that of the last turn: after a yield, every index
 abbrev pub IsAfter : (was : Flight) → (fd : ℕ) → Type 0
 IsAfter Nothing fd = Unit {0}
 IsAfter Accepting fd = ⊥
 IsAfter (At gd) fd = gd < fd
 
--- and before whoever has the next: where a connection is accepted, or the server yields, each does
+-- an index before that of the next turn: if a connection is accepted, or the server yields, every index
 abbrev pub IsBefore : (next : Flight) → (fd : ℕ) → Type 0
 IsBefore (At gd) fd = fd < gd
 IsBefore w fd = Unit {0}
 
 pub record TurnsGoRound : Type 0 where
-  -- a client has the next turn, too, only where its call was answered, it waits for no worker, and more is left to do for it than
-  -- to read
+  -- a client takes the next turn, too, only if its call succeeded, it does not wait for a worker, and it does more than read
   pub passes : (workers : ℕ) (clients : List (Option Client)) (fd : ℕ) (last : Reply)
       → in_rounds workers clients (At fd) last (At fd)
       → (x : Client) × (in_place clients fd ≡ Some x) × (is_later last ≡ false) × (awaits x ≡ false)
       × (is_bare x ≡ false)
-  -- else it is one in a later place
+  -- otherwise the next one has a higher index
   pub rises : (workers : ℕ) (clients : List (Option Client)) (fd gd : ℕ) (last : Reply)
       → in_rounds workers clients (At fd) last (At gd) → fd ≤ gd
-  -- and none between is skipped that may have its turn
+  -- and no client between them that may take a turn is skipped
   pub skips_nobody : (workers : ℕ) (clients : List (Option Client)) (was next : Flight) (last : Reply) (fd : ℕ) (x : Client)
       → in_rounds workers clients was last next → IsAfter was fd → IsBefore next fd → in_place clients fd ≡ Some x
       → may_go (has_free workers clients) x ≡ false
-  -- past all places connections are accepted while there are any, and then the server yields: the round has ended
+  -- after the last index connections are accepted while any are waiting, and then the server yields: the round has ended
   pub ends : (workers : ℕ) (clients : List (Option Client)) (last : Reply) (next : Flight)
       → in_rounds workers clients Accepting last next
       → (next ≡ Nothing) ⊎ ((next ≡ Accepting) × ((fd : ℕ) × (last ≡ reply.Fd fd)))

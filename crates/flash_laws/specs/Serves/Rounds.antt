@@ -1,8 +1,8 @@
--- Which client has its turn, and when the server yields: its policy.
+-- The policy: the order of turns of clients, and the time at which the server yields.
 --
--- A round goes over the places of the clients, then accepts those that wait, and ends with a yield. A client goes on until
--- its call is to be made again later, or nothing is left to do for it but to read more, or it has to wait for a worker. One that
--- waits for a worker is passed over while none is free; one that comes free goes to the first that waits behind.
+-- A round goes over the clients by index, then accepts waiting connections, and ends with a yield. A client continues until its
+-- call is to be retried later, it only reads more input, or it has to wait for a worker. A client that waits for a worker is
+-- passed over while none is free; a worker that becomes free is assigned to the next waiting client by index.
 use Rattle.std.specs.Prelude.{◌≡◌, ℕ, ◌+◌, ◌||◌, Bool, true, false, if◌then◌else◌, List, drop, position, Option, Some, None, option_map}
 use Rattle.iol_core.specs.NumberedLists.{in_place}
 use Rattle.iol_core.specs.declared.events.Reply.{Reply}
@@ -13,22 +13,21 @@ use Rattle.flash_laws.specs.Serves.{Policy}
 use Rattle.flash_laws.specs.declared.phase.Flight.{Flight}
 use Rattle.flash_laws.specs.declared.phase.Flight.TheVariants.{Nothing, Accepting, At}
 
--- whether its turn passes to the next: its call is to be made again later, or it waits for a worker, or nothing is left to do
--- but to read more
+-- whether its turn passes to the next: its call is to be retried later, it waits for a worker, or it only reads more input
 abbrev pub leaves_off : Option Client → Reply → Bool
 leaves_off None r = true
 leaves_off (Some x) r = is_later r || (awaits x || is_bare x)
 
--- from where on the next one is looked for
+-- the index from which the next client is searched
 abbrev pub place_after : (fd : ℕ) → Option Client → Reply → ℕ
 place_after fd x r = if leaves_off x r then fd + 1 else fd
 
--- whether a client is there that may have its turn
+-- whether there is a client that may take a turn
 abbrev pub goes_in : (free : Bool) → Option Client → Bool
 goes_in free None = false
 goes_in free (Some x) = may_go free x
 
--- the first place from here on that has one, where a worker is free or none
+-- the first index from here on with such a client; free is whether a worker is free
 abbrev pub next_in : (free : Bool) → List (Option Client) → (from : ℕ) → Option ℕ
 next_in free clients from = option_map (λ k. from + k) (position (λ o. goes_in free o) (drop from clients))
 
@@ -38,7 +37,7 @@ next_place workers clients from = next_in (has_free workers clients) clients fro
 abbrev pub flight_from : (workers : ℕ) → List (Option Client) → (from : ℕ) → Flight
 flight_from workers clients from = flight_to clients (next_place workers clients from)
 
--- what is picked after a reply, once it is filed
+-- the choice after a reply, once it is processed
 abbrev pub next_flight : (workers : ℕ) → List (Option Client) → (was : Flight) → (last : Reply) → Flight
 next_flight workers clients Nothing r = flight_from workers clients 0
 next_flight workers clients Accepting r = flight_past clients r

@@ -1,5 +1,5 @@
--- What the server wants memory for in a turn: to keep the bytes that it hears, for a place past all that there are, to begin a
--- request, and for the bytes of a call.
+-- The uses of memory by the server in a turn: to buffer bytes that it reads, for a new index, to begin a request, and for the
+-- bytes of a call.
 use Rattle.std.specs.Prelude.{◌≡◌, ◌⊎◌, ◌≤◌, ℕ, ◌+◌, Bool, true, false, List, length, Option, Some, None}
 use Rattle.iol_core.specs.NumberedLists.{in_place}
 use Rattle.iol_core.specs.declared.events.Reply.{Reply}
@@ -12,12 +12,12 @@ use Rattle.flash_laws.specs.Serves.{Server, heard_of}
 use Rattle.flash_laws.specs.declared.phase.Flight.{Flight}
 use Rattle.flash_laws.specs.declared.phase.Flight.TheVariants.{Nothing, Accepting, At}
 
--- the client in a place wants it after a reply, where `worker` is free
+-- the client at an index needs it after a reply; `worker` is a free worker
 abbrev pub WantsHere : (scripts : Bool) → (worker : ℕ) → Option Client → Reply → (heard : List ℕ) → Type 0
 WantsHere scripts worker None r heard = ⊥
 WantsHere scripts worker (Some x) r heard = WantsOn scripts (told scripts worker x r heard) x r heard
 
--- one that is picked wants it for the bytes of its call
+-- a client that is picked needs it for the bytes of its call
 abbrev pub wants_there : Option Client → Bool
 wants_there None = false
 wants_there (Some x) = makes_bytes x
@@ -26,20 +26,20 @@ abbrev pub wants_in : List (Option Client) → Option ℕ → Bool
 wants_in clients None = false
 wants_in clients (Some place) = wants_there (in_place clients place)
 
--- the first from a place on is picked, where a worker is free or none
+-- the first from an index on is picked; free is whether a worker is free
 abbrev pub WantsFrom : (free : Bool) → List (Option Client) → (from : ℕ) → Type 0
 WantsFrom free clients from = wants_in clients (next_in free clients from) ≡ true
 
--- a connection was accepted whose place is past all that there are
+-- a connection was accepted at a new index
 abbrev pub WantsPlace : List (Option Client) → Reply → Type 0
 WantsPlace clients (reply.Fd fd) = length clients ≤ fd
 WantsPlace clients r = ⊥
 
--- once a reply is filed, the turn of the client in a place passes on, and the next is picked
+-- after a reply is processed, the turn of the client at an index passes on, and the next is picked
 abbrev pub WantsPast : (workers : ℕ) → (filed : List (Option Client)) → (fd : ℕ) → Reply → Type 0
 WantsPast workers filed fd r = (leaves_off (in_place filed fd) r ≡ true) × WantsFrom (has_free workers filed) filed (fd + 1)
 
--- after the reply to the call that is out
+-- after the reply to the pending call
 abbrev pub MayWant : (workers : ℕ) → List (Option Client) → Flight → Reply → (heard : List ℕ) → Type 0
 MayWant workers clients Nothing r heard = WantsFrom (has_free workers clients) clients 0
 MayWant workers clients Accepting r heard = WantsPlace clients r

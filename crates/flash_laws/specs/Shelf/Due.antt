@@ -1,4 +1,4 @@
--- The response that is due to a request, with the files as they are: for a script that runs, the response to what it puts out.
+-- The response that is due to a request, with the current files: for a script that runs, the response to its output.
 use Rattle.std.specs.Prelude.{◌≡◌, ℕ, Bool, true, false, List, [], ◌∷◌, ◌++◌, Option, Some, None}
 use Rattle.iol_core.specs.State.{State}
 use Rattle.flash_http.specs.Request.{Answer, serve, refuse, Wanted}
@@ -14,11 +14,11 @@ use Rattle.flash_laws.specs.Client.ResponseState.{OfFile, OfScript, of_text, May
 use Rattle.flash_laws.specs.Run.Fits.{Ran, Follows}
 use Rattle.flash_laws.specs.Answers.Scripts.{script_response}
 
--- what a script finds under a name
+-- the files that a script sees, by name
 abbrev pub Seen : Type 0
 Seen = (name : List ℕ) → script.Outcome
 
--- under each name that its lines give
+-- the outcome of each name in its lines
 abbrev pub outcomes_by : Seen → List Line → List script.Outcome
 outcomes_by seen [] = []
 outcomes_by seen (line.Emit text ∷ lines) = outcomes_by seen lines
@@ -27,12 +27,12 @@ outcomes_by seen (line.Cat name ∷ lines) = seen name ∷ outcomes_by seen line
 outcomes_by seen (line.Wc name ∷ lines) = seen name ∷ outcomes_by seen lines
 outcomes_by seen (line.Pause ∷ lines) = outcomes_by seen lines
 
--- to HEAD the head alone
+-- for HEAD only the head
 abbrev pub due_of_run : (head_only : Bool) → Seen → Wanted → List Line → List ℕ
 due_of_run true seen w lines = script_text w
 due_of_run false seen w lines = script_response w (output w.query lines (outcomes_by seen lines))
 
--- a text that is no script is answered with 500
+-- a text that is no script gets the response 500
 abbrev pub due_of_text : Seen → Wanted → Option (List Line) → List ℕ
 due_of_text seen w (Some lines) = due_of_run w.head_only seen w lines
 due_of_text seen w None = response (serve w) (Failed 500)
@@ -46,25 +46,25 @@ due_if true shelf seen (serve w) = due_of_script seen w (shelf w.name)
 due_if true shelf seen (refuse status head_only close) = due_to shelf (refuse status head_only close)
 due_if false shelf seen q = due_to shelf q
 
--- The response that is due, where scripts run or not.
+-- The response that is due, for a server that runs scripts or not.
 abbrev pub due : (scripts : Bool) → Shelf → Seen → Answer → List ℕ
 due scripts shelf seen q = due_if (is_for_script scripts q) shelf seen q
 
--- It may be the response at each moment, with what the calls for the request gave so far.
+-- It is a possible response at each time, given the results of the calls for the request so far.
 pub record DueMayCome : Type 0 where
-  -- of a request for no script it is the one response
+  -- for a request of no script it is the only response
   pub file : (scripts : Bool) (shelf : Shelf) (seen : Seen) (q : Answer) → is_for_script scripts q ≡ false
       → due scripts shelf seen q ≡ due_to shelf q
-  -- of one for a script, once that was read, or could not be
+  -- for a request of a script, once that was read, or could not be
   pub read : (scripts : Bool) (shelf : Shelf) (seen : Seen) (w : Wanted) (text : List ℕ) → is_for_script scripts (serve w) ≡ true
       → shelf w.name ≡ Found text → MayAnswer (serve w) (of_text text) (due scripts shelf seen (serve w))
   pub unread : (scripts : Bool) (shelf : Shelf) (seen : Seen) (w : Wanted) (status : ℕ) → is_for_script scripts (serve w) ≡ true
       → shelf w.name ≡ Failed status → MayAnswer (serve w) (OfFile (Failed status)) (due scripts shelf seen (serve w))
-  -- while its output is read: what was heard begins it, and at its end is all of it
+  -- while its output is read: the output so far begins it, and at its end is all of it
   pub heard : (scripts : Bool) (shelf : Shelf) (seen : Seen) (w : Wanted) (text heard past more : List ℕ) (lines : List Line)
       (ended : Bool) → is_for_script scripts (serve w) ≡ true → shelf w.name ≡ Found text → script_of text ≡ Some lines
       → w.head_only ≡ false → output w.query lines (outcomes_by seen lines) ≡ heard ++ more → Follows ended more
       → MayAnswer (serve w) (OfScript text (Ran heard ended past)) (due scripts shelf seen (serve w))
-  -- what a worker puts out by the files as it sees them
+  -- the output of a worker by the files as it sees them
   pub outcomes : (m : State) (d : ℕ) (seen : Seen) (lines : List Line) → ((name : List ℕ) → outcome_in m d name ≡ seen name)
       → outcomes_in m d lines ≡ outcomes_by seen lines

@@ -1,4 +1,4 @@
--- What ties all clients of the server, and its workers, to what came and what was sent.
+-- The invariant of all clients of the server, and of its workers, by input and output.
 use Rattle.std.specs.Prelude.{◌≡◌, ◌<◌, ◌≤◌, ◌⊎◌, ℕ, true, false, List, [], ◌++◌, Option, Some, slice_get}
 use Rattle.iol_core.specs.NumberedLists.{in_place}
 use Rattle.iol_core.specs.Text.{bytes_of}
@@ -24,7 +24,7 @@ pub record Held (m : State) (clients : List (Option Client)) (c : ℕ) : Type 0 
   pub at : in_place clients fd ≡ Some client
   pub open_on : descriptor m server fd ≡ Some (on.Connection c)
 
--- one that the server closed, or that is gone
+-- a connection that the server closed, or whose peer is gone
 pub record Ended (shelf : Shelf) (p : Past) (c : ℕ) (k : Connection) : Type 0 where
   pub closed : k.closed ≡ true
   pub begins : Begins shelf (p.came c) (p.sent c ++ bytes_of k.outgoing)
@@ -41,18 +41,18 @@ pub record IsUsed (clients : List (Option Client)) (a : ℕ) : Type 0 where
   pub at : in_place clients fd ≡ Some client
   pub uses : uses_agg client a ≡ true
 
--- each aggregate that the server has is used by a client, or a call from outside gave it
+-- each aggregate of the server is used by a client, or an external call gave it
 abbrev pub AreOwned : State → Past → List (Option Client) → Type 0
 AreOwned m p clients = (a : ℕ) → IsLent m a → IsUsed clients a ⊎ (p.given a ≡ true)
 
--- each worker sits in its own domain, and the server writes its jobs to the pipe of its desk
+-- each worker is in its own domain, and the server writes its jobs to its job pipe
 pub record AreAtDesks (crew : Crew) (m : State) (seats : List (Seat crew.Worker)) : Type 0 where
   pub seated : (k : ℕ) → k < crew.count → (seat : Seat crew.Worker) × (slice_get seats k ≡ Some seat)
   pub by : (k : ℕ) (seat : Seat crew.Worker) → slice_get seats k ≡ Some seat → (k < crew.count) × (seat.by ≡ worker_domain k)
   pub desks : (k : ℕ) → k < crew.count → descriptor m server (job_pipe k) ≡ Some (on.WriteEnd (crew.desk k))
 
 module _ (shelf : Shelf) (crew : Crew) where
-  -- what the client at a descriptor is
+  -- the invariant of the client at a descriptor
   pub record FitsAt (m : State) (p : Past) (fd : ℕ) (x : Client) (seats : List (Seat crew.Worker)) : Type 0 where
     pub conn : ℕ
     pub fits : Fits shelf crew m (p.came conn) (p.sent conn) fd conn x seats
@@ -61,22 +61,22 @@ module _ (shelf : Shelf) (crew : Crew) where
   pub record AllFit (m : State) (p : Past) (clients : List (Option Client)) (seats : List (Seat crew.Worker)) : Type 0 where
     pub each : (fd : ℕ) (x : Client) → in_place clients fd ≡ Some x → FitsAt m p fd x seats
     pub others : (c : ℕ) → Held m clients c ⊎ Aside shelf p c (conn_at m c)
-    -- two clients have nothing in common
+    -- two clients share nothing
     pub aggs_apart : (fd gd a : ℕ) (x y : Client) → in_place clients fd ≡ Some x → in_place clients gd ≡ Some y
         → uses_agg x a ≡ true → uses_agg y a ≡ true → fd ≡ gd
     pub fds_apart : (fd gd g : ℕ) (x y : Client) → in_place clients fd ≡ Some x → in_place clients gd ≡ Some y
         → has_fd x g ≡ true → has_fd y g ≡ true → fd ≡ gd
-    -- of an open connection whose peer is gone it was told that it left
+    -- if the peer of an open connection is gone, it was reported as gone
     pub left : (c : ℕ) → (conn_at m c).closed ≡ false → is_gone (conn_at m c).peer ≡ true → p.gone c ≡ true
-    -- of a number that is still to come there is no history, and no peer that left
+    -- a number that is still to come has no history, and no peer that left
     pub fresh : (c : ℕ) → m.next_conn ≤ c → (p.came c ≡ []) × (p.sent c ≡ []) × (p.net c ≡ false)
     pub untold : (c : ℕ) → m.next_conn ≤ c → p.gone c ≡ false
-    -- no worker runs two scripts, and each that runs none is free
+    -- no worker runs two scripts, and each other worker is free
     pub own : EachHasItsOwn crew.count clients
     pub free : (k : ℕ) (seat : Seat crew.Worker) → slice_get seats k ≡ Some seat → is_free clients k ≡ true
         → crew.Free m (crew.desk k) seat
     pub desks : AreAtDesks crew m seats
 
-  -- The claim: on each connection of the net what was sent, and is to be sent, begins the answer to what came.
+  -- The claim: on each connection of the net, the bytes sent and those queued begin the answer to its input.
   abbrev pub AreAnswered : State → Past → Type 0
   AreAnswered m p = (c : ℕ) → p.net c ≡ true → Begins shelf (p.came c) (p.sent c ++ bytes_of (conn_at m c).outgoing)

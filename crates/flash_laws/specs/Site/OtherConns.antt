@@ -1,4 +1,5 @@
--- Places for the descriptors of the server, and the connections that it does not have: that wait for it, or are of others.
+-- A slot for each descriptor of the server, and the connections that it does not have: those that wait for it, and those of
+-- others.
 use Rattle.std.specs.Prelude.{◌≡◌, ℕ, ◌+◌, ◌-◌, true, false, List, [], ◌++◌, length, replicate, slice_set, Option, Some, None}
 use Rattle.iol_core.specs.Text.{bytes_of}
 use Rattle.iol_core.specs.State.{Connection}
@@ -8,14 +9,14 @@ use Rattle.flash_laws.specs.declared.phase.Doing.TheVariants.{Over}
 use Rattle.flash_laws.specs.Site.Past.{Past}
 use Rattle.flash_laws.specs.Site.{net_pool}
 
--- a place for each descriptor, with what stands at one of them
+-- a slot for each descriptor, with this value in one of them
 abbrev pub grown : {A : Type 0} → List (Option A) → (fd : ℕ) → List (Option A)
 grown conns fd = conns ++ replicate (fd + 1 - length conns) None
 
 abbrev pub with_at : {A : Type 0} → List (Option A) → (fd : ℕ) → Option A → List (Option A)
 with_at conns fd x = slice_set (grown conns fd) fd x
 
--- a connection that is over is forgotten
+-- a connection that is over is removed
 abbrev pub left_by : {A : Type 0} → Doing → A → Option A
 left_by Over x = None
 left_by d x = Some x
@@ -30,7 +31,7 @@ pub record Waits (p : Past) (c : ℕ) (k : Connection) : Type 0 where
   pub came_is : p.came c ≡ bytes_of k.incoming
   pub none_sent : p.sent c ++ bytes_of k.outgoing ≡ []
 
--- one that another domain accepted, or that was never made; nothing is said of it
+-- a connection that another domain accepted, or that was never made; nothing is stated about it
 pub record Foreign (p : Past) (c : ℕ) (k : Connection) : Type 0 where
   pub other_pool : p.net c ≡ false
   pub taken : k.accepted ≡ true

@@ -1,4 +1,4 @@
--- The clients of a server, each in the place of its descriptor, and the workers that run scripts for them.
+-- The clients of a server, by the index of their descriptors, and the workers that run scripts for them.
 use Rattle.std.specs.Prelude.{◌≡◌, ◌<◌, ℕ, ◌==◌, ◌||◌, not, Bool, true, false, List, Option, Some, None, nat_lt}
 use Rattle.std.specs.List.{list_any, position_or_len, range_with_len}
 use Rattle.iol_core.specs.NumberedLists.{in_place}
@@ -11,7 +11,7 @@ use Rattle.flash_laws.specs.declared.phase.Flight.TheVariants.{Nothing, Acceptin
 use Rattle.flash_laws.specs.declared.script_run.Running.{Running}
 use Rattle.flash_laws.specs.declared.script_run.Running.TheVariants.{Runs}
 
--- for none of them a script runs
+-- no script runs for any of them
 abbrev pub NoneRuns : List (Option Client) → Type 0
 NoneRuns clients = (fd : ℕ) (x : Client) → in_place clients fd ≡ Some x → x.run ≡ None
 
@@ -28,35 +28,35 @@ is_run_by x worker = by x.run
     by None = false
     by (Some y) = has_worker y worker
 
--- whether the worker runs the script of the client in a place
+-- whether the worker runs the script of the client at an index
 abbrev pub runs_at : (worker : ℕ) → Option Client → Bool
 runs_at worker None = false
 runs_at worker (Some x) = is_run_by x worker
 
--- whether it runs none
+-- whether the worker runs no script
 abbrev pub is_free : List (Option Client) → (worker : ℕ) → Bool
 is_free clients worker = not (list_any (λ o. runs_at worker o) clients)
 
--- the first of so many that is free, or their number where none is
+-- the first of workers that is free, or their number if none is
 abbrev pub first_free : (workers : ℕ) → List (Option Client) → ℕ
 first_free workers clients = position_or_len (λ k. is_free clients k) (range_with_len 0 workers)
 
 abbrev pub has_free : (workers : ℕ) → List (Option Client) → Bool
 has_free workers clients = nat_lt (first_free workers clients) workers
 
--- a client that waits for a worker has its turn only where one is free
+-- a client that waits for a worker takes a turn only if one is free
 abbrev pub may_go : (free : Bool) → Client → Bool
 may_go free x = free || not (awaits x)
 
--- no worker runs the scripts of two clients, and each that runs one is of so many
+-- no worker runs the scripts of two clients, and each that runs one is below the number of workers
 pub record EachHasItsOwn (workers : ℕ) (clients : List (Option Client)) : Type 0 where
   pub apart : (fd gd k : ℕ) (x y : Client) → in_place clients fd ≡ Some x → in_place clients gd ≡ Some y
       → is_run_by x k ≡ true → is_run_by y k ≡ true → fd ≡ gd
   pub among : (fd k : ℕ) (x : Client) → in_place clients fd ≡ Some x → is_run_by x k ≡ true → k < workers
 
--- ---- replies are filed
+-- ---- processing of replies
 
--- whether scripts are run at all
+-- whether scripts are run
 abbrev pub runs_scripts : (workers : ℕ) → Bool
 runs_scripts workers = nat_lt 0 workers
 
@@ -70,7 +70,7 @@ abbrev pub accepted : List (Option Client) → Reply → List (Option Client)
 accepted clients (reply.Fd fd) = with_at clients fd (Some new_client)
 accepted clients r = clients
 
--- the clients, once the reply to the call that is out is filed
+-- the clients after the reply to the pending call is processed
 abbrev pub filed : (workers : ℕ) → List (Option Client) → Flight → Reply → (heard : List ℕ) → List (Option Client)
 filed workers clients Nothing r heard = clients
 filed workers clients Accepting r heard = accepted clients r

@@ -1,4 +1,4 @@
--- The workers of a site, as the law over a world has them, and what stays as it is while a world runs.
+-- The workers of a site, in the terms of the law over a world, and the conditions that remain while a world runs.
 use Rattle.std.specs.Prelude.{◌≡◌, ◌<◌, ℕ, Bool, true, List}
 use Rattle.iol_core.specs.Access.{HasAccess}
 use Rattle.iol_core.specs.Positions.{ArePlaced}
@@ -9,6 +9,7 @@ use Rattle.iol_laws.specs.Sources.{MayReadAll}
 use Rattle.iol_proc.specs.Settlement.{Claim}
 use Rattle.iol_proc.specs.Turns.{Account}
 use Rattle.iol_proc.specs.declared.seat.Seat.{Seat}
+use Rattle.flash_cgi.specs.Due.{Made}
 use Rattle.flash_cgi.specs.Outcomes.{AreFiles, outcome_in}
 use Rattle.flash_cgi.specs.OutputPools.{HoldFiles}
 use Rattle.flash_laws.specs.Site.Places.{runs_scripts}
@@ -20,22 +21,22 @@ use Rattle.flash_laws.specs.Site as site
 -- The workers: worker k, counted from 0, is in domain k + 2, and reads its jobs from pipe `desk k`.
 pub record Crew : Type 1 where
   pub Worker : Type 0
-  -- the turns that each may take, and its condition for idle moments
+  -- the turns that each may take, and its condition when idle
   pub turns : Account Worker
   pub settled : Claim Worker
-  -- how many there are
+  -- their number
   pub count : ℕ
   pub desk : ℕ → ℕ
-  -- the pools in which what they put out lies, and those in which their jobs do
+  -- the pools of their output, and those of their jobs
   pub pools : ℕ → Bool
   pub jobs : ℕ → Bool
-  -- one that is free, whose jobs come by this pipe
+  -- a free worker with this job pipe
   pub Free : State → (j : ℕ) → Seat Worker → Type 0
-  -- one of which this text is still to be had, from pipe p, and whose jobs come by pipe j
-  pub Due : State → (j p : ℕ) → Seat Worker → (text : List ℕ) → Type 0
+  -- a worker with job pipe j whose script has this output, of which this text is due from pipe p
+  pub Due : State → (j p : ℕ) → Seat Worker → Made → (text : List ℕ) → Type 0
 
--- What stays as it is: the files and who may read them are those of the shelf, for the server and for each worker; what
--- workers put out the server may read, and jobs the workers.
+-- The fixed conditions: the files and their access lists are those of the site contents, for the server and for each worker;
+-- the server may read the output of workers, and the workers their jobs.
 pub record IsFixedFor (shelf : Shelf) (crew : Crew) (m : State) : Type 0 where
   pub site : site.IsFixed shelf.finds m
   pub access : HasAccess m

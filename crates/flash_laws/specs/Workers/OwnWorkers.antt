@@ -1,4 +1,4 @@
--- Each script that runs has a worker of its own, whatever the server's policy.
+-- Each running script has a worker of its own, whatever the server's policy.
 use Rattle.std.specs.Prelude.{◌≡◌, ◌≢◌, ◌<◌, ℕ, Bool, true, false, List, Option, Some}
 use Rattle.iol_core.specs.NumberedLists.{in_place}
 use Rattle.iol_core.specs.declared.events.Reply.{Reply}
@@ -9,7 +9,7 @@ use Rattle.flash_laws.specs.Serves.{Server, new_server, any, server_turns}
 use Rattle.flash_laws.specs.declared.phase.Flight.{Flight}
 use Rattle.flash_laws.specs.declared.phase.Flight.TheVariants.{At}
 
--- the client whose call is out does not wait for a worker, or one is free
+-- the client of the pending call does not wait for a worker, or one is free
 abbrev pub FlightGoes : (workers : ℕ) → List (Option Client) → Flight → Type 0
 FlightGoes workers clients (At fd) = (x : Client) → in_place clients fd ≡ Some x → may_go (has_free workers clients) x ≡ true
 FlightGoes workers clients w = Unit {0}
@@ -18,7 +18,7 @@ pub record IsShared (s : Server) : Type 0 where
   pub own : EachHasItsOwn s.workers s.clients
   pub goes : FlightGoes s.workers s.clients s.flight
 
--- this worker runs the script of a client in another place
+-- this worker runs the script of a client at another index
 pub record RunsForAnother (clients : List (Option Client)) (fd k : ℕ) : Type 0 where
   pub place : ℕ
   pub client : Client
@@ -27,23 +27,23 @@ pub record RunsForAnother (clients : List (Option Client)) (fd k : ℕ) : Type 0
   pub other : fd ≢ place
 
 pub record WorkersAreShared : Type 0 where
-  -- so it is of a new server, however many workers it has
+  -- this holds for a new server, with any number of workers
   pub first : (workers : ℕ) → IsShared (record new_server { workers = workers })
-  -- a reply that is filed leaves it so
+  -- processing a reply preserves it
   pub filing : (workers : ℕ) (clients : List (Option Client)) (flight : Flight) (r : Reply) (heard : List ℕ)
       → EachHasItsOwn workers clients → FlightGoes workers clients flight
       → EachHasItsOwn workers (filed workers clients flight r heard)
-  -- and so does a turn, whatever is picked
+  -- the same for a turn, for every choice
   pub turns : (s t : Server) (last : Reply) (lent : ℕ → Option (List ℕ)) (made : Turn) → IsShared s
       → server_turns any s last lent made t → IsShared t
-  -- who waits is passed over only while each worker runs the script of another client
+  -- a waiting client is passed over only while each worker runs the script of another client
   pub waits : (workers : ℕ) (clients : List (Option Client)) (fd : ℕ) (x : Client) → in_place clients fd ≡ Some x
       → may_go (has_free workers clients) x ≡ false
       → (awaits x ≡ true) × ((k : ℕ) → k < workers → RunsForAnother clients fd k)
-  -- nobody whose script runs is passed over
+  -- no client with a running script is passed over
   pub going : (free : Bool) (k : ℕ) (x : Client) → is_run_by x k ≡ true → may_go free x ≡ true
-  -- and who waits has nothing
+  -- a waiting client has no aggregate, descriptor or pipe end
   pub waiting : (x : Client) → awaits x ≡ true → ((a : ℕ) → uses_agg x a ≡ false) × ((g : ℕ) → uses_fd x g ≡ false)
-  -- for a server that has no workers no script runs
+  -- for a server without workers no script runs
   pub none : (s t : Server) (last : Reply) (lent : ℕ → Option (List ℕ)) (made : Turn) → s.workers ≡ 0 → NoneRuns s.clients
       → server_turns any s last lent made t → NoneRuns t.clients

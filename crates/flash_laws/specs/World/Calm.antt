@@ -1,4 +1,4 @@
--- Calm lists of choices: what comes from outside leaves the site and its processes alone.
+-- Calm lists of choices: external events do not affect the site and its processes.
 use Rattle.std.specs.Prelude.{◌≡◌, ◌≢◌, ℕ, List, [], ◌∷◌, Some, slice_get}
 use Rattle.iol_core.specs.State.{State}
 use Rattle.iol_core.specs.declared.events.Event.TheVariants as event
@@ -10,17 +10,18 @@ use Rattle.iol_proc.specs.declared.choice.Choice.TheVariants as choice
 use Rattle.iol_proc.specs.declared.seat.Seat.{Seat}
 use Rattle.flash_laws.specs.Site.{KeepsSite}
 
--- no process is in the domain
+-- the domain has no process
 abbrev pub IsNobody : {P : Type 0} → List (Seat P) → (d : ℕ) → Type 0
 IsNobody {P} seats d = (i : ℕ) (s : Seat P) → slice_get seats i ≡ Some s → s.by ≢ d
 
--- a call from outside is by the domain of no process, makes and writes no file, and admits nobody to the net or to a file's pool
+-- an external call is by a domain without process, makes and writes no file, and admits no domain to the net or to a file's
+-- pool
 abbrev pub IsMild : {P : Type 0} → Stage State P → Choice → (after : Stage State P) → Type 0
 IsMild w (choice.Outside (event.Call d k)) after = IsNobody w.seats d
     × KeepsSite w.machine after.machine
 IsMild w x after = Unit {0}
 
--- so is each over a run
+-- the same for each call over a run
 abbrev pub AreMild : {P : Type 0} → (turns : Account P) → (w : Stage State P)
     → (xs : List Choice) → (rs : List Reply)
     → (after : Stage State P) → WorldRun copying turns w xs rs after → Type 0

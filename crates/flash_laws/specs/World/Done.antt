@@ -1,4 +1,4 @@
--- What holds where all is idle: nothing is left to do but where a peer takes nothing.
+-- The state when all are idle: nothing is left to do, except for peers that do not read.
 use Rattle.std.specs.Prelude.{◌≡◌, ◌<◌, ◌≤◌, ◌⊎◌, ℕ, true, false, List, [], ◌++◌, length, Option, Some, None}
 use Rattle.iol_core.specs.NumberedLists.{in_place}
 use Rattle.iol_core.specs.Text.{bytes_of}
@@ -23,20 +23,20 @@ use Rattle.flash_laws.specs.Site.{server}
 use Rattle.flash_laws.specs.World.Tie.{past_of, Actor, actor_turns}
 use Rattle.flash_laws.specs.World.{Tied}
 
--- as much waits to be sent as may
+-- the output queue is full
 abbrev pub IsHeldUp : State → (c : ℕ) → Type 0
 IsHeldUp m c = MAX_QUEUE_BYTES ≤ length (conn_at m c).outgoing
 
--- the client at this descriptor is held up
+-- the client at this descriptor is blocked by a full output queue
 abbrev pub IsHeldUpAt : State → (fd : ℕ) → Type 0
 IsHeldUpAt m fd = (c : ℕ) × (descriptor m server fd ≡ Some (on.Connection c)) × IsHeldUp m c
 
--- The request in progress on this connection asks for a script, and so much of the response is made; or its peer left.
+-- The request in progress on this connection is for a script, and this part of the response is made; or its peer left.
 abbrev pub AsksForScript : Shelf → State → Past → (c : ℕ) → (part : List ℕ) → Type 0
 AsksForScript shelf m p c part = (p.gone c ≡ true)
     ⊎ AnswersScript shelf (p.came c) (p.sent c ++ bytes_of (conn_at m c).outgoing) part
 
--- this worker runs the script that was asked for on a connection that is held up
+-- this worker runs the script that was requested on a connection with a full output queue
 pub record RunsForHeldUp (shelf : Shelf) (m : State) (p : Past) (clients : List (Option Client)) (k : ℕ) : Type 0 where
   pub place : ℕ
   pub client : Client
@@ -48,8 +48,8 @@ pub record RunsForHeldUp (shelf : Shelf) (m : State) (p : Past) (clients : List 
   pub part : List ℕ
   pub asks : AsksForScript shelf m p conn part
 
--- The client of this connection asked for a script, of whose response nothing is made yet: it waits for a worker, while each runs
--- the script of one that is held up.
+-- The client of this connection requested a script, and none of the response is made yet: it waits for a worker, while each
+-- runs the script of a client with a full output queue.
 pub record AwaitsWorker (shelf : Shelf) (workers : ℕ) (m : State) (p : Past) (clients : List (Option Client))
     (c : ℕ) : Type 0 where
   pub place : ℕ
@@ -62,23 +62,24 @@ pub record AwaitsWorker (shelf : Shelf) (workers : ℕ) (m : State) (p : Past) (
   pub busy : (k : ℕ) → k < workers → RunsForHeldUp shelf m p clients k
 
 pub record IsDone (shelf : Shelf) (workers : ℕ) (m : State) (p : Past) (clients : List (Option Client)) : Type 0 where
-  -- each connection of the net is accepted, unless the server has as many open as it may
+  -- each connection of the net is accepted, unless the server has the maximum number open
   pub accepted : (c : ℕ) → p.net c ≡ true → ((conn_at m c).accepted ≡ true) ⊎ IsFull m clients
-  -- each that was accepted, and whose peer did not leave, is answered whole, closed or not, or as much waits to be sent
-  -- as may, or it waits for a worker
+  -- each accepted connection whose peer did not leave, closed or not, has its whole answer, or its output queue is full, or it
+  -- waits for a worker
   pub answered : (c : ℕ) → p.net c ≡ true → (conn_at m c).accepted ≡ true → p.gone c ≡ false
       → IsAnswer shelf (p.came c) (p.sent c ++ bytes_of (conn_at m c).outgoing)
       ⊎ IsHeldUp m c ⊎ AwaitsWorker shelf workers m p clients c
-  -- each that was accepted is closed, or is held up, or waits for a worker, or its peer is there and may ask for more
+  -- each accepted connection is closed, or has a full output queue, or waits for a worker, or its peer exists and may send more
+  -- requests
   pub closes : (c : ℕ) → p.net c ≡ true → (conn_at m c).accepted ≡ true
       → ((conn_at m c).closed ≡ true) ⊎ IsHeldUp m c ⊎ AwaitsWorker shelf workers m p clients c
       ⊎ (((conn_at m c).peer ≡ None) × StaysOpen (p.came c))
-  -- one that uses an aggregate is held up
+  -- a client that uses an aggregate is blocked by a full output queue
   pub lends : (fd a : ℕ) (x : Client) → in_place clients fd ≡ Some x → uses_agg x a ≡ true → IsHeldUpAt m fd
-  -- and the server has no other: each that it has is used by such a client, or a call from outside gave it
+  -- and each aggregate of the server is used by such a client, or an external call gave it
   pub owned : (a : ℕ) → IsLent m a → ((used : IsUsed clients a) × IsHeldUpAt m used.fd) ⊎ (p.given a ≡ true)
 
--- Where all is idle in a tied world nothing is left to do.
+-- When all are idle in a world with the invariant, nothing is left to do.
 abbrev pub IdleIsDone : Crew → Type 0
 IdleIsDone crew = ActorsAreSettled crew.turns crew.settled
     → (shelf : Shelf) (xs : List Choice) (rs : List Reply) (w after : Stage State (Actor crew.Worker)) (most : ℕ)

@@ -1,33 +1,59 @@
--- Runs that are fair by what is known of them: one in which nothing was refused, and any run of a site of files.
-use Rattle.std.specs.Prelude.{◌≡◌, Bool, false, List}
-use Rattle.iol_core.specs.State.{State}
+-- Sufficient conditions for fair runs: no refusal occurred; any refusal is allowed; or the refusals that the turns got are
+-- allowed.
+use Rattle.std.specs.Prelude.{◌≡◌, ◌==◌, ◌&&◌, ◌||◌, not, Bool, true, false, List, ◌∷◌, ◌++◌, length}
 use Rattle.iol_core.specs.declared.events.Reply.{Reply}
 use Rattle.iol_core.specs.declared.events.Reply.TheVariants as reply
 use Rattle.iol_core.specs.declared.refusals.Refusal.{Refusal}
+use Rattle.iol_core.specs.declared.refusals.Refusal.TheVariants as refusal
 use Rattle.iol_laws.specs.Caller.{is_rough}
 use Rattle.iol_proc.specs.Smooth.{AreSmooth}
-use Rattle.iol_proc.specs.World.{Stage, copying, WorldRun}
 use Rattle.iol_proc.specs.declared.choice.Choice.{Choice}
-use Rattle.flash_laws.specs.Workers.Crew.{Crew}
-use Rattle.flash_laws.specs.Serves.Rounds.{in_rounds}
-use Rattle.flash_laws.specs.Shelf.{Shelf}
-use Rattle.flash_laws.specs.World.Tie.{Actor, actor_turns}
-use Rattle.flash_laws.specs.World.{AreFair, Tied}
+use Rattle.iol_proc.specs.declared.choice.Choice.TheVariants as choice
+use Rattle.flash_laws.specs.Shelf.{Refusals}
+use Rattle.flash_laws.specs.Site.{server}
+use Rattle.flash_laws.specs.World.{AreFair}
 
 -- no refusal
-abbrev pub no_refusal : Refusal → Bool
-no_refusal x = false
+abbrev pub no_refusal : Refusals
+no_refusal = record { of_server = λ x. false; of_workers = λ x. false }
 
 -- TooMany, NoRoom, Fault and Memory
-abbrev pub any_refusal : Refusal → Bool
-any_refusal x = is_rough (reply.Refused x)
+abbrev pub any_refusal : Refusals
+any_refusal = record { of_server = λ x. is_rough (reply.Refused x); of_workers = λ x. is_rough (reply.Refused x) }
 
--- Choices of which no turn was rough are fair where no refusal is allowed.
+-- whether both are the same of TooMany, NoRoom of a pool, Fault of a file and Memory
+abbrev pub is_same : Refusal → Refusal → Bool
+is_same refusal.TooMany refusal.TooMany = true
+is_same (refusal.NoRoom p) (refusal.NoRoom q) = p == q
+is_same (refusal.Fault f) (refusal.Fault g) = f == g
+is_same refusal.Memory refusal.Memory = true
+is_same x y = false
+
+-- whether a reply is this refusal
+abbrev pub refuses_by : Reply → Refusal → Bool
+refuses_by (reply.Refused y) x = is_same y x
+refuses_by r x = false
+
+-- whether a turn of the server, or one of another domain, got this refusal
+unfoldable pub refused_in : (of_server : Bool) → List Choice → List Reply → Refusal → Bool
+refused_in true (choice.Turn by ∷ xs) (r ∷ rs) x = ((by == server) && refuses_by r x) || refused_in true xs rs x
+refused_in false (choice.Turn by ∷ xs) (r ∷ rs) x = (not (by == server) && refuses_by r x) || refused_in false xs rs x
+refused_in b (choice.Outside e ∷ xs) (r ∷ rs) x = refused_in b xs rs x
+refused_in b xs rs x = false
+
+-- the refusals among TooMany, NoRoom, Fault and Memory that the turns of these choices got
+abbrev pub refusals_in : List Choice → List Reply → Refusals
+refusals_in xs rs = record { of_server = λ x. refused_in true xs rs x; of_workers = λ x. refused_in false xs rs x }
+
+-- Choices without a resource refusal are fair if no refusal is allowed.
 abbrev pub SmoothIsFair : Type 0
 SmoothIsFair = (xs : List Choice) (rs : List Reply) → AreSmooth xs rs → AreFair no_refusal xs rs
 
--- Where there are no workers, any run of a tied world is fair where TooMany, NoRoom, Fault and Memory are allowed.
-abbrev pub FilesAreFair : Crew → Type 0
-FilesAreFair crew = crew.count ≡ 0 → (shelf : Shelf) (past xs : List Choice) (ps rs : List Reply)
-    (w after : Stage State (Actor crew.Worker)) → Tied shelf crew past ps w
-    → WorldRun copying (actor_turns in_rounds crew.turns) w xs rs after → AreFair any_refusal xs rs
+-- All choices are fair if TooMany, NoRoom, Fault and Memory are allowed.
+abbrev pub AnyIsFair : Type 0
+AnyIsFair = (xs : List Choice) (rs : List Reply) → AreFair any_refusal xs rs
+
+-- They are fair if the refusals that their turns got are allowed, and each part of them is fair, too.
+abbrev pub OwnIsFair : Type 0
+OwnIsFair = (xs ys : List Choice) (rs ss : List Reply) → length xs ≡ length rs
+    → AreFair (refusals_in (xs ++ ys) (rs ++ ss)) xs rs × AreFair (refusals_in (xs ++ ys) (rs ++ ss)) ys ss

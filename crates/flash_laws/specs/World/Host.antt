@@ -1,4 +1,4 @@
--- A whole run of a world with workers: choices, and then turns in rounds until all is idle.
+-- A whole run of a world with workers: choices, followed by turns in rounds until all are idle.
 use Rattle.std.specs.Prelude.{◌≡◌, ℕ, Bool, true, List, ◌++◌, length, map}
 use Rattle.iol_core.specs.State.{State}
 use Rattle.iol_core.specs.declared.events.Reply.{Reply}
@@ -15,7 +15,7 @@ use Rattle.flash_laws.specs.World.{Tied, IsNew, AllAnswered, ClosedAreWhole, Are
 use Rattle.flash_laws.specs.World.Done.{IsDone}
 
 module _ (crew : Crew) where
-  -- what holds at the end, where turns are refused only as the shelf says
+  -- the result, if turns are refused only as the site contents permit
   pub record IsRight (shelf : Shelf) (xs : List Choice) (rs : List Reply) (idle : Bool)
       (after : Stage State (Actor crew.Worker)) : Type 0 where
     pub answered : AllAnswered shelf xs rs after.machine
@@ -23,7 +23,7 @@ module _ (crew : Crew) where
     pub tied : Tied shelf crew xs rs after
     pub done : idle ≡ true → IsDone shelf crew.count after.machine (past_of xs rs) tied.seated.state.clients
 
-  -- A new world runs choices whose calls from outside are mild, and then turns until it is idle; each turn is fair.
+  -- A new world executes choices with mild external calls, and then turns until it is idle; each turn is fair.
   abbrev pub HostIsRight : Type 0
   HostIsRight = ActorsAreSettled crew.turns crew.settled
       → (shelf : Shelf) (xs : List Choice) (rs : List Reply)

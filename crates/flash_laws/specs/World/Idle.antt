@@ -1,4 +1,4 @@
--- What the server declares of the moments at which all is idle.
+-- The condition of the server when all are idle.
 use Rattle.std.specs.Prelude.{◌≡◌, ◌≤◌, ℕ, zero, suc, ◌⊎◌, false, nat_lt, List, Option, Some}
 use Rattle.iol_core.specs.NumberedLists.{in_place, taken}
 use Rattle.iol_core.specs.State.{State}
@@ -18,25 +18,25 @@ use Rattle.flash_laws.specs.Serves.{Server}
 use Rattle.flash_laws.specs.Conn.Policy.{most_conns}
 use Rattle.flash_laws.specs.World.Tie.{Actor, Serving, Working}
 
--- a call would block, in this very state
+-- a call would block, in this state
 abbrev pub WouldWait : State → (by : ℕ) → Call → Type 0
 WouldWait m by k = StepsTo m (event.Call by k) (reply.Refused no.WouldBlock) m
 
--- a client has no request that could begin, and waits for a worker while none is free, or its call would block
+-- a client has no request that could begin, and waits for a worker while all are busy, or its call would block
 abbrev pub Blocks : State → (by workers : ℕ) → List (Option Client) → (place : ℕ) → Client → Type 0
 Blocks m by workers clients place x = IsAwaiting x
     × ((may_go (has_free workers clients) x ≡ false) ⊎ WouldWait m by (wants (runs_scripts workers) place x))
 
--- so does the client at a place, if one is there
+-- the same for the client at an index, if there is one
 abbrev pub BlocksAt : State → (by workers : ℕ) → List (Option Client) → (place : ℕ) → Type 0
 BlocksAt m by workers clients place = (x : Client) → in_place clients place ≡ Some x → Blocks m by workers clients place x
 
--- so do all of a round: the clients, and accepting one, unless the server holds as many as it may
+-- the same for a whole round: the clients, and an accept, unless the server has the maximum number
 pub record AllBlock (m : State) (by workers : ℕ) (clients : List (Option Client)) : Type 0 where
   pub places : (place : ℕ) → BlocksAt m by workers clients place
   pub door : (nat_lt (taken clients) most_conns ≡ false) ⊎ WouldWait m by call.Accept
 
--- so do those of a round up to this one
+-- the same for a round up to this client
 abbrev pub BlockUpTo : State → (by workers : ℕ) → List (Option Client) → Flight → Type 0
 BlockUpTo m by workers clients Nothing = ⊥
 BlockUpTo m by workers clients (At fd) = (place : ℕ) → place ≤ fd → BlocksAt m by workers clients place
@@ -52,7 +52,7 @@ HasBlocked m by s l = (l ≡ reply.Refused no.WouldBlock) × BlockUpTo m by s.wo
 abbrev pub IsPolling : State → (by : ℕ) → Server → Reply → Type 0
 IsPolling m by s l = HasYielded s l ⊎ HasBlocked m by s l
 
--- since so many yields, up to two: after one, what was polled since would block; after two, everything would
+-- since n yields, up to two: after one, the calls polled since then would block; after two, all calls would
 abbrev pub server_settled : Claim Server
 server_settled zero by s l m = Unit {0}
 server_settled (suc zero) by s l m = IsPolling m by s l

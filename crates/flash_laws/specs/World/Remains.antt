@@ -1,4 +1,4 @@
--- Where all is idle nothing is left to do.
+-- Definitions for the state when all are idle.
 use Rattle.std.specs.Prelude.{◌≡◌, ℕ, true, false, nat_lt, List, [], ◌∷◌, ◌++◌, Option, Some}
 use Rattle.std.specs.List.{list_all}
 use Rattle.iol_core.specs.NumberedLists.{in_place, taken}
@@ -13,13 +13,13 @@ use Rattle.flash_laws.specs.Conn.Policy.{most_conns}
 use Rattle.flash_laws.specs.Shelf.{Shelf, MayBeDue, Responds}
 use Rattle.flash_laws.specs.Site.{server}
 
--- The server has as many connections as it may: so many are kept, and each of these is open on one.
+-- The server has the maximum number of connections: that many are kept, and each of these is open.
 pub record IsFull {A : Type 0} (m : State) (kept : List (Option A)) : Type 0 where
   pub most : nat_lt (taken kept) most_conns ≡ false
   pub each : (fd : ℕ) (x : A) → in_place kept fd ≡ Some x → (c : ℕ) × (descriptor m server fd ≡ Some (on.Connection c))
 
--- Nothing that came on the stream asks for the connection to be closed: after each of its requests it stays open, and no further
--- one is there (RFC 9112, section 9.3).
+-- No input of the stream asks for the connection to be closed: after each of its requests it stays open, and there is no
+-- further request (RFC 9112, section 9.3).
 pub record StaysOpen (s : List ℕ) : Type 0 where
   pub qs : List Answer
   pub rest : List ℕ
@@ -27,8 +27,8 @@ pub record StaysOpen (s : List ℕ) : Type 0 where
   pub open_yet : list_all (λ q. keeps q) qs ≡ true
   pub no_more : window_in rest ≡ Wait
 
--- The first request of the stream that is not answered whole asks for a script: these bytes answer those before it, and it up to
--- this part of its response.
+-- The first request of the stream without whole response is for a script: these bytes answer the requests before it, and it up
+-- to this part of its response.
 pub record AnswersScript (shelf : Shelf) (s bytes part : List ℕ) : Type 0 where
   pub qs : List Answer
   pub q : Answer

@@ -1,4 +1,4 @@
--- The processes of a world, the server and workers, and the past of what was chosen and replied. W is what a worker is.
+-- The processes of a world, the server and workers, and the history of choices and replies. W is the type of a worker.
 use Rattle.std.specs.Prelude.{ℕ, ◌||◌, Bool, false, List, ◌∷◌, Option}
 use Rattle.iol_core.specs.declared.events.Event.{Event}
 use Rattle.iol_core.specs.declared.events.Reply.{Reply}
@@ -11,7 +11,7 @@ use Rattle.flash_laws.specs.Site.Past.{Past, made_by, gone_by, given_by}
 use Rattle.flash_laws.specs.Serves.{Server, Policy, server_turns}
 use Rattle.flash_laws.specs.Serves.Wants.{server_wants}
 
--- ---- the past of choices and their replies
+-- ---- the history of choices and replies
 
 -- whether a choice is such an event, with this reply
 abbrev pub tells_with : (Event → Reply → Bool) → Choice → Reply → Bool
@@ -27,7 +27,7 @@ tells_over p xs rs = false
 unfoldable pub made_over : (c : ℕ) → List Choice → List Reply → Bool
 made_over c xs rs = tells_over (λ e r. made_by c e r) xs rs
 
--- whether one of them told that the peer of this connection left
+-- whether one of them reported that the peer of this connection left
 unfoldable pub gone_over : (c : ℕ) → List Choice → List Reply → Bool
 gone_over c xs rs = tells_over (λ e r. gone_by c e r) xs rs
 
@@ -51,11 +51,11 @@ pub data Actor (W : Type 0) : Type 0 where
   Serving : (s : Server) → Actor W
   Working : (w : W) → Actor W
 
--- the server by itself: the turns that it takes, and when it may want memory
+-- the server by itself: the turns that it takes, and when it may need memory
 abbrev pub server_account : Policy → Account Server
 server_account may = record { goes = server_turns may; may_want = server_wants }
 
--- when a process may want memory
+-- when a process may need memory
 abbrev pub actor_wants : {W : Type 0} → Account W → Actor W → Reply → (lent : ℕ → Option (List ℕ)) → Type 0
 actor_wants works (Serving s) last lent = server_wants s last lent
 actor_wants works (Working w) last lent = works.may_want w last lent

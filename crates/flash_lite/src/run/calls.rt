@@ -20,7 +20,7 @@ use iol_core::lists::Bytes;
 use iol_core::numbers::{AggId, DomainId, Fd};
 use std::alloc::{AllocError, Global};
 
-// The write end is given to the worker.
+// Gives the write end to the worker.
 fn give_call(run: Run, write: Fd) -> Call
     requires { IsSmallRun run }
     ensures { result ≡ GiveFd write (spec.worker_domain run.worker) }
@@ -31,7 +31,7 @@ fn give_call(run: Run, write: Fd) -> Call
     }
 }
 
-// The job is made, which names the worker's descriptor of that end.
+// Makes the job, which names the worker's descriptor of that end.
 fn job_call(alloc: Global, request: &Request, script: &[u8], fd: Fd) -> Result<Call, AllocError>
     ensures { IfOk result
         (λ call. call ≡ AggMake (job_for (wanted request.now) script.now fd)) }
@@ -40,7 +40,7 @@ fn job_call(alloc: Global, request: &Request, script: &[u8], fd: Fd) -> Result<C
     Ok(Call::AggMake { bytes })
 }
 
-// It is written into the worker's job pipe.
+// Writes the job into the worker's job pipe.
 fn hand_call(run: Run, job: AggId) -> Call
     requires { IsSmallRun run }
     ensures { result ≡ IolWrite (spec.job_pipe run.worker) job }
@@ -51,7 +51,7 @@ fn hand_call(run: Run, job: AggId) -> Call
     }
 }
 
-// The head of the response is made.
+// Makes the head of the response.
 fn head_call(alloc: Global, request: &Request) -> Result<Call, AllocError>
     ensures { IfOk result (λ call. call ≡ AggMake (script_text (wanted request.now))) }
 {
@@ -61,7 +61,7 @@ fn head_call(alloc: Global, request: &Request) -> Result<Call, AllocError>
     })
 }
 
-// How much of the output is read: no more than a chunk wants beside what is held.
+// The maximum number of bytes of the next read: those missing from a chunk.
 fn most_read(held: Following) -> u32
     ensures { result ≡ CHUNK_BYTES - spec.held_size held }
 {
@@ -71,7 +71,7 @@ fn most_read(held: Following) -> u32
     }
 }
 
-// The frame of a whole chunk is made.
+// Makes the frame of a whole chunk.
 fn frame_call(alloc: Global) -> Result<Call, AllocError>
     ensures { IfOk result (λ call. call ≡ AggMake (frame_of CHUNK_BYTES)) }
 {
@@ -81,7 +81,7 @@ fn frame_call(alloc: Global) -> Result<Call, AllocError>
     })
 }
 
-// What is held, so many bytes, is set into its frame.
+// Inserts the buffered output, `size` bytes, into its frame.
 fn wrap_call(held: AggId, size: u32, frame: AggId) -> Call
     requires { 0 < size }
     ensures { result ≡ AggReplace frame (place_in_frame size) (place_in_frame size) held }
@@ -95,7 +95,7 @@ fn wrap_call(held: AggId, size: u32, frame: AggId) -> Call
     }
 }
 
-// The end of the body is made.
+// Makes the end of the body.
 fn end_call(alloc: Global, held: Following) -> Result<Call, AllocError>
     requires { IsPiece held }
     ensures { IfOk result (λ call. call ≡ AggMake (end_around held)) }

@@ -1,5 +1,5 @@
-//! What follows each call that makes a chunk: its frame is made once, and what is held is set into
-//! it.
+//! The steps after each call that makes a chunk: its frame is made once, and the buffered output
+//! is inserted into it.
 ghost use Rattle.std.specs.Prelude.{◌≡◌};
 ghost use Rattle.flash_laws.specs.Run as spec;
 ghost use Rattle.flash_lite.specs.HeardBytes.{heard};
@@ -12,7 +12,7 @@ use iol_agg::Parts;
 use iol_core::events::Reply;
 use iol_core::numbers::AggId;
 
-/// After the reply to the making of the frame.
+/// After making the frame.
 pub(crate) fn told_frames(held: AggId, last: &Reply) -> Step
     ensures told { result ≡ spec.told_frames held last.now }
     ensures small { IsSmallStep result }
@@ -26,7 +26,7 @@ pub(crate) fn told_frames(held: AggId, last: &Reply) -> Step
     }
 }
 
-/// After the reply to the setting of what is held into the frame.
+/// After inserting the buffered output into the frame.
 pub(crate) fn told_wraps(held: AggId, frame: AggId, last: &Reply, parts: Option<Parts<'_>>) -> Step
     ensures told { result ≡ spec.told_wraps held frame last.now (heard parts.entry) }
     ensures small { IsSmallStep result }
@@ -42,7 +42,7 @@ pub(crate) fn told_wraps(held: AggId, frame: AggId, last: &Reply, parts: Option<
     }
 }
 
-/// After the reply to the dropping of what was held.
+/// After dropping the buffered output.
 pub(crate) fn told_trims(held: AggId, chunk: AggId, len: u32, frame: AggId, last: &Reply) -> Step
     ensures told { result ≡ spec.told_trims held chunk len frame last.now }
     ensures small { IsSmallStep result }

@@ -1,4 +1,4 @@
-//! What follows each call after the end of the output was seen, or where no more of it is read.
+//! The steps after each call after the end of the output was read, or when reading has stopped.
 ghost use Rattle.std.specs.Prelude.{◌≡◌, Some};
 ghost use Rattle.flash_http.specs.Prelude.{wanted};
 ghost use Rattle.flash_laws.specs.Run as spec;
@@ -14,7 +14,7 @@ use iol_agg::Parts;
 use iol_core::events::Reply;
 use iol_core::numbers::AggId;
 
-/// After the reply to the dropping of what told the end of the output.
+/// After dropping the empty aggregate of the last read.
 pub(crate) fn told_ended(agg: AggId, held: Following, frame: Option<AggId>, last: &Reply) -> Step
     requires { IsPiece held }
     ensures told { result ≡ spec.told_ended agg held frame last.now }
@@ -26,7 +26,7 @@ pub(crate) fn told_ended(agg: AggId, held: Following, frame: Option<AggId>, last
     }
 }
 
-/// After the reply to the dropping of what is held and not sent.
+/// After dropping buffered output that is not sent.
 pub(crate) fn told_unholds(held: AggId, frame: Option<AggId>, last: &Reply) -> Step
     ensures told { result ≡ spec.told_unholds held frame last.now }
     ensures small { IsSmallStep result }
@@ -37,7 +37,7 @@ pub(crate) fn told_unholds(held: AggId, frame: Option<AggId>, last: &Reply) -> S
     }
 }
 
-// The end of the body is made, where its chunks tell it, and somebody takes it.
+// Makes the end of the body, if the body is in chunks and is still sent.
 fn finishing(chunked: bool, run: Run, held: Following) -> Running
     requires { IsSmallRun run × IsPiece held }
     ensures finishing { result ≡ spec.finishing run.broken chunked run held }
@@ -55,7 +55,7 @@ fn finishing(chunked: bool, run: Run, held: Following) -> Running
     }
 }
 
-// No more is read.
+// Reading has stopped.
 fn stopped(request: &Request, run: Run, held: Following, frame: Option<AggId>) -> Running
     requires { IsSmallRun run × IsPiece held }
     ensures stopped { result ≡ spec.stopped (wanted request.now) run held frame }
@@ -70,7 +70,7 @@ fn stopped(request: &Request, run: Run, held: Following, frame: Option<AggId>) -
     }
 }
 
-/// After the reply to the closing of the read end.
+/// After closing the read end.
 pub(crate) fn told_stops(
     request: &Request,
     run: Run,
@@ -91,7 +91,7 @@ pub(crate) fn told_stops(
     }
 }
 
-/// After the reply to the dropping of the frame.
+/// After dropping the frame.
 pub(crate) fn told_unframes(
     request: &Request,
     run: Run,
@@ -112,7 +112,7 @@ pub(crate) fn told_unframes(
     }
 }
 
-// The end of the body is made: it alone is sent, or what is held is set into it.
+// The end of the body is made: it is sent by itself, or the buffered output is inserted into it.
 fn ending(run: Run, held: Following, agg: AggId, len: u32) -> Running
     requires { IsSmallRun run × IsPiece held }
     ensures ending { result ≡ spec.ending run held agg len }
@@ -138,7 +138,7 @@ fn ending(run: Run, held: Following, agg: AggId, len: u32) -> Running
     }
 }
 
-/// After the reply to the making of the end of the body.
+/// After making the end of the body.
 pub(crate) fn told_lasts(
     run: Run,
     held: Following,
@@ -158,7 +158,7 @@ pub(crate) fn told_lasts(
     }
 }
 
-/// After the reply to the setting of what is held into that end.
+/// After inserting the buffered output into that end.
 pub(crate) fn told_wraps_last(
     held: AggId,
     size: u32,
@@ -181,7 +181,7 @@ pub(crate) fn told_wraps_last(
     }
 }
 
-/// After the reply to the dropping of what was held.
+/// After dropping the buffered output.
 pub(crate) fn told_trims_last(
     held: AggId,
     chunk: AggId,
@@ -203,7 +203,7 @@ pub(crate) fn told_trims_last(
     }
 }
 
-/// After the reply to the dropping of the end alone.
+/// After dropping the end, which is not needed without buffered output.
 pub(crate) fn told_unwraps(run: Run, frame: AggId, chunk: AggId, len: u32, last: &Reply) -> Running
     requires { IsSmallRun run }
     ensures told { result ≡ spec.told_unwraps run frame chunk len last.now }

@@ -1,4 +1,4 @@
-//! What follows each call that reads output: what is read is held until it is a chunk, or dropped.
+//! The steps after each call that reads output: it is buffered until it is a chunk, or dropped.
 ghost use Rattle.std.specs.Prelude.{◌≡◌, ◌<◌, Some, false, true};
 ghost use Rattle.flash_http.specs.Prelude.{wanted};
 ghost use Rattle.flash_laws.specs.Run as spec;
@@ -16,7 +16,7 @@ use iol_core::events::Reply;
 use iol_core::numbers::AggId;
 use iol_core::refusals::Refusal;
 
-// The bytes of a whole chunk are held.
+// The bytes of a whole chunk are buffered.
 fn filled(held: AggId, frame: Option<AggId>) -> Step
     ensures filled { result ≡ spec.filled held frame }
     ensures small { IsSmallStep result }
@@ -27,7 +27,7 @@ fn filled(held: AggId, frame: Option<AggId>) -> Step
     }
 }
 
-// So many bytes are held.
+// `size` bytes are buffered.
 fn holding(held: AggId, size: u32, frame: Option<AggId>) -> Step
     requires { 0 < size }
     ensures holding { result ≡ spec.holding held size frame }
@@ -43,7 +43,7 @@ fn holding(held: AggId, size: u32, frame: Option<AggId>) -> Step
     }
 }
 
-// Some output was read of a body in chunks, which somebody takes.
+// Some output of a body in chunks was read, which is still sent.
 fn gathering(held: Following, frame: Option<AggId>, agg: AggId, len: u32) -> Step
     requires { IsPiece held × (0 < len) }
     ensures hearing { result ≡ spec.hearing false true held frame agg len }
@@ -61,7 +61,7 @@ fn gathering(held: Following, frame: Option<AggId>, agg: AggId, len: u32) -> Ste
     }
 }
 
-// Output was read, or its end was seen.
+// Output was read, or its end.
 fn reading(
     broken: bool,
     chunked: bool,
@@ -93,7 +93,7 @@ fn reading(
     }
 }
 
-// It may not be read.
+// The output may not be read.
 fn unread(held: Following, frame: Option<AggId>) -> Step
     ensures unread { result ≡ spec.unread held frame }
     ensures small { IsSmallStep result }
@@ -104,7 +104,7 @@ fn unread(held: Following, frame: Option<AggId>) -> Step
     }
 }
 
-/// After the reply to the reading of output.
+/// After reading output.
 #[tactic(auto, using(crate::proofs::Responses::Output::hears_read))]
 pub(crate) fn told_hears(
     request: &Request,
@@ -135,7 +135,7 @@ pub(crate) fn told_hears(
     }
 }
 
-/// After the reply to the dropping of output that nobody takes.
+/// After dropping output that is not sent.
 pub(crate) fn told_spills(agg: AggId, frame: Option<AggId>, last: &Reply) -> Step
     ensures told { result ≡ spec.told_spills agg frame last.now }
     ensures small { IsSmallStep result }
@@ -146,7 +146,7 @@ pub(crate) fn told_spills(agg: AggId, frame: Option<AggId>, last: &Reply) -> Ste
     }
 }
 
-/// After the reply to the joining of output to what is held.
+/// After joining output to the buffered output.
 pub(crate) fn told_gathers(
     held: AggId,
     size: u32,

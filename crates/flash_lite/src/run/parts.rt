@@ -1,5 +1,5 @@
-//! Parts of the response are sent, by the phases of any response: while a script runs, and once its
-//! worker is free.
+//! Parts of the response are sent, by the phases of any response: while a script runs, and after
+//! its worker is free.
 ghost use Rattle.std.specs.Prelude.{◌≡◌, IfOk, OnErr, true};
 ghost use Rattle.iol_core.specs.declared.events.Call.TheVariants.{AggMake};
 ghost use Rattle.flash_http.specs.Prelude.{serve, wanted};
@@ -25,7 +25,7 @@ use iol_core::lists::Bytes;
 use iol_core::numbers::{AggId, Fd};
 use std::alloc::{AllocError, Global};
 
-/// A run whose output nobody takes any more.
+/// A run whose output is not sent any more.
 pub(crate) fn broken(run: Run) -> Run
     ensures { result ≡ spec.broken run }
 {
@@ -68,7 +68,7 @@ pub(crate) fn told_sending(run: Run, doing: Doing, frame: Option<AggId>, last: &
     }
 }
 
-// After the reply to the dropping of what was taken whole.
+// After dropping an aggregate that was taken whole.
 fn told_sent(request: &Request, agg: AggId, taken: u64, more: Following, last: &Reply) -> Doing
     requires { IsSmall (Sent agg taken more) }
     ensures told { result ≡ conn.told_sent (serve (wanted request.now)) agg taken more last.now }
@@ -80,7 +80,7 @@ fn told_sent(request: &Request, agg: AggId, taken: u64, more: Following, last: &
     }
 }
 
-/// After the reply to the call of what is left of the response, once the worker is free.
+/// After the reply to a call for the rest of the response, when the worker is free.
 pub(crate) fn told_left(
     request: &Request,
     doing: Doing,
@@ -99,7 +99,7 @@ pub(crate) fn told_left(
     }
 }
 
-// The head is made, with the body where that is no file's.
+// Makes the head, with the body if it is not that of a file.
 fn make_call(alloc: Global, request: &Request, content: &Content) -> Result<Call, AllocError>
     ensures { IfOk result
         (λ call. call ≡ AggMake (text_for (wanted request.now) content.now)) }
@@ -110,7 +110,7 @@ fn make_call(alloc: Global, request: &Request, content: &Content) -> Result<Call
     })
 }
 
-/// The call of what is left of the response. `fd` is the connection's descriptor.
+/// The call for the rest of the response. `fd` is the connection's descriptor.
 pub(crate) fn part_call(
     alloc: Global,
     fd: Fd,

@@ -1,5 +1,5 @@
-//! What follows each call that starts a script: a pipe is made for its output, and a worker is
-//! given the write end, and the job.
+//! The steps after each call that starts a script: a pipe is made for its output, and a worker
+//! gets the write end and the job.
 ghost use Rattle.std.specs.Prelude.{◌≡◌, ◌<◌};
 ghost use Rattle.flash_laws.specs.Run as spec;
 ghost use Rattle.flash_lite.specs.HeardBytes.{heard};
@@ -15,7 +15,7 @@ use iol_core::events::Reply;
 use iol_core::numbers::{AggId, Fd};
 use iol_core::refusals::Refusal;
 
-// Whether a call that is refused so is made again.
+// Returns whether a call with this refusal is retried.
 fn is_again(refusal: Refusal) -> bool
     ensures { result ≡ spec.is_again refusal }
 {
@@ -29,7 +29,7 @@ fn is_again(refusal: Refusal) -> bool
     )
 }
 
-/// After the reply to the making of a pipe, with a worker that is free.
+/// After making a pipe, with a free worker.
 pub(crate) fn told_awaits(worker: u32, last: &Reply) -> Running
     requires { worker < MAX_WORKERS }
     ensures told { result ≡ spec.told_awaits worker last.now }
@@ -48,7 +48,7 @@ pub(crate) fn told_awaits(worker: u32, last: &Reply) -> Running
     }
 }
 
-/// After the reply to the giving of the write end.
+/// After giving the write end.
 pub(crate) fn told_gives(write: Fd, last: &Reply) -> Step
     ensures told { result ≡ spec.told_gives write last.now }
     ensures small { IsSmallStep result }
@@ -66,7 +66,7 @@ pub(crate) fn told_gives(write: Fd, last: &Reply) -> Step
     }
 }
 
-/// After the reply to the making of the job.
+/// After making the job.
 pub(crate) fn told_makes(fd: Fd, last: &Reply) -> Step
     ensures told { result ≡ spec.told_makes fd last.now }
     ensures small { IsSmallStep result }
@@ -77,7 +77,7 @@ pub(crate) fn told_makes(fd: Fd, last: &Reply) -> Step
     }
 }
 
-/// After the reply to the writing of the job.
+/// After writing the job.
 pub(crate) fn told_hands(job: AggId, fd: Fd, last: &Reply) -> Step
     ensures told { result ≡ spec.told_hands job fd last.now }
     ensures small { IsSmallStep result }
@@ -95,7 +95,7 @@ pub(crate) fn told_hands(job: AggId, fd: Fd, last: &Reply) -> Step
     }
 }
 
-/// After the reply to the dropping of the job.
+/// After dropping the job.
 pub(crate) fn told_lets(job: AggId, last: &Reply) -> Step
     ensures told { result ≡ spec.told_lets job last.now }
     ensures small { IsSmallStep result }
@@ -106,7 +106,7 @@ pub(crate) fn told_lets(job: AggId, last: &Reply) -> Step
     }
 }
 
-/// After the reply to the making of the head.
+/// After making the head.
 pub(crate) fn told_heads(last: &Reply, parts: Option<Parts<'_>>) -> Step
     ensures told { result ≡ spec.told_heads last.now (heard parts.entry) }
     ensures small { IsSmallStep result }
@@ -125,7 +125,7 @@ pub(crate) fn told_heads(last: &Reply, parts: Option<Parts<'_>>) -> Step
     }
 }
 
-/// After the reply to the closing of a write end that the worker could not be given.
+/// After closing a write end that could not be given to the worker.
 pub(crate) fn told_returns(write: Fd, last: &Reply) -> Step
     ensures told { result ≡ spec.told_returns write last.now }
     ensures small { IsSmallStep result }
@@ -136,7 +136,7 @@ pub(crate) fn told_returns(write: Fd, last: &Reply) -> Step
     }
 }
 
-/// After the reply to the dropping of a job that could not be written.
+/// After dropping a job that could not be written.
 pub(crate) fn told_lapses(job: AggId, last: &Reply) -> Step
     ensures told { result ≡ spec.told_lapses job last.now }
     ensures small { IsSmallStep result }
@@ -147,7 +147,7 @@ pub(crate) fn told_lapses(job: AggId, last: &Reply) -> Step
     }
 }
 
-/// After the reply to the closing of the pipe of a script that cannot run.
+/// After closing the pipe of a script that cannot run.
 pub(crate) fn told_fails(run: Run, last: &Reply) -> Running
     requires { IsSmallRun run }
     ensures told { result ≡ spec.told_fails run last.now }

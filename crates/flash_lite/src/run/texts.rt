@@ -18,7 +18,7 @@ pub(crate) fn script_text(alloc: Global, request: &Request) -> Result<Vec<u8>, A
     Ok(text.into_bytes())
 }
 
-/// What stands around so many bytes of a chunk.
+/// The text around `size` bytes of a chunk, with a place for them.
 pub(crate) fn frame_text(alloc: Global, size: u32) -> Result<Vec<u8>, AllocError>
     requires { 0 < size }
     ensures { IfOk result (λ bytes. bytes.items ≡ spec.frame_of size) }
@@ -29,7 +29,7 @@ pub(crate) fn frame_text(alloc: Global, size: u32) -> Result<Vec<u8>, AllocError
     Ok(bytes)
 }
 
-/// Where they stand in it: behind their number, and two bytes that end its line.
+/// Their place in it: after their number, and two bytes that end its line.
 #[tactic(auto, using(crate::proofs::Responses::Frames::place_by_digits))]
 pub(crate) fn place_in_frame(size: u32) -> u32
     requires { 0 < size }
@@ -38,7 +38,7 @@ pub(crate) fn place_in_frame(size: u32) -> u32
     size.ilog(16) + 3
 }
 
-/// The end of a body in chunks: around the bytes that are left, or alone.
+/// The end of a body in chunks: around the remaining bytes, or by itself.
 pub(crate) fn end_text(alloc: Global, held: Following) -> Result<Vec<u8>, AllocError>
     requires { IsPiece held }
     ensures { IfOk result (λ bytes. bytes.items ≡ spec.end_around held) }

@@ -1,4 +1,4 @@
-//! Answers, whole, and how a site is refused.
+//! Whole responses, and the refusals of sites.
 use super::host::{Plan, refusal_of};
 use super::rows::{Row, pass_rows};
 use iol_core::refusals::Refusal;
@@ -7,14 +7,14 @@ use std::test::Fail;
 use test_parts::checks::pass_each;
 use test_worlds::files::Kept;
 
-/// An index, and a file of the guest alone.
+/// An index, and a private file of the guest.
 pub const FILES: [Kept<'static>; 2] = [("index.html", b"hi\n", false), ("p", b"secret", true)];
 
-/// The answer to a GET of the index.
+/// The response to a GET of the index.
 pub const FIRST: &str =
     "HTTP/1.1 200 OK\r\nContent-Type: text/html\r\nContent-Length: 3\r\n\r\nhi\n";
 
-/// The same, and the answer to a HEAD of it.
+/// The same, followed by the response to a HEAD of it.
 pub const BOTH: &str =
     "HTTP/1.1 200 OK\r\nContent-Type: text/html\r\nContent-Length: 3\r\n\r\nhi\nHTTP/1.1 200 OK\r\n\
         Content-Type: text/html\r\nContent-Length: 3\r\n\r\n";
@@ -22,11 +22,11 @@ pub const BOTH: &str =
 const BAD: &str = "HTTP/1.1 400 Bad Request\r\nContent-Type: text/plain\r\nContent-Length: 16\r\n\
         Connection: close\r\n\r\n400 Bad Request\n";
 
-/// The answer where there is no such file.
+/// The response if there is no such file.
 pub const NOT_FOUND: &str =
     "HTTP/1.1 404 Not Found\r\nContent-Type: text/plain\r\nContent-Length: 14\r\n\r\n404 Not Found\n";
 
-/// The answer where the file is the guest's alone.
+/// The response if the file is private to the guest.
 pub const FORBIDDEN: &str =
     "HTTP/1.1 403 Forbidden\r\nContent-Type: text/plain\r\nContent-Length: 14\r\n\r\n403 Forbidden\n";
 
@@ -89,7 +89,7 @@ fn answers_to_requests(rt: HostRuntime) -> Result<(), Fail> {
     pass_rows(rt.alloc(), &Plan::of(&FILES), &ROWS)
 }
 
-// Sites of so many workers and guests.
+// Sites with this number of workers and of guests.
 const SITES: [(u32, u32, Option<Refusal>); 5] = [
     (0, 1, Some(Refusal::BadRange)),
     (9, 1, Some(Refusal::BadRange)),
@@ -98,7 +98,7 @@ const SITES: [(u32, u32, Option<Refusal>); 5] = [
     (8, 7, None),
 ];
 
-// Whether a site is refused so, or is not.
+// Returns whether a site is refused with this refusal, or is not.
 fn is_refused(
     alloc: Global,
     plan: &Plan<'_>,

@@ -11,7 +11,7 @@ use test_parts::checks::pass;
 
 const GET: &[u8] = b"GET / HTTP/1.1\r\nHost: a\r\n\r\n";
 
-// So many connections, each of them accepted if it may be.
+// Makes `count` connections, each of them accepted if it may be.
 fn connect_all(host: &mut Host, count: usize) -> bool {
     let mut all = true;
     for _ in 0..count {
@@ -20,7 +20,8 @@ fn connect_all(host: &mut Host, count: usize) -> bool {
     all && host.settle()
 }
 
-// The last of 257 is answered once another has ended; the one before it is answered at once.
+// The last of 257 gets its response once another has ended; the one before it gets its response at
+// once.
 fn waits_for_another(host: &mut Host, within: Vec<Event>, past: Vec<Event>) -> bool {
     connect_all(host, 257)
         && let_arrive(host, within)

@@ -1,4 +1,4 @@
-//! Streams that end, peers that leave, pages that tire, and a device call that fails.
+//! Streams that end, peers that leave, pages with a last generation, and a device call that fails.
 use super::answers::{BOTH, FILES, FIRST};
 use super::host::{Host, Plan, connect, host_of, on_host};
 use super::rows::{arrivals, end, holds, is_gone, is_sent, let_arrive};
@@ -14,7 +14,7 @@ use test_worlds::files::Kept;
 // A GET of 27 bytes, and a HEAD.
 const STREAM: &[u8] = b"GET / HTTP/1.1\r\nHost: a\r\n\r\nHEAD / HTTP/1.1\r\nHost: a\r\n\r\n";
 
-// What is answered to both where the first device call fails.
+// The responses to both if the first device call fails.
 const FAULTED: &str =
     "HTTP/1.1 500 Internal Server Error\r\nContent-Type: text/plain\r\nContent-Length: 26\r\n\r\n\
         500 Internal Server Error\nHTTP/1.1 200 OK\r\nContent-Type: text/html\r\n\
@@ -29,7 +29,7 @@ fn cut_streams(alloc: Global) -> Result<Vec<Vec<Event>>, AllocError> {
     Ok(streams)
 }
 
-// What is answered to so many bytes of the stream.
+// The response to the first `len` bytes of the stream.
 fn answer_to(len: u32) -> &'static str {
     match len {
         0..=26 => "",
@@ -38,7 +38,8 @@ fn answer_to(len: u32) -> &'static str {
     }
 }
 
-// Whether a cut stream is answered as far as it came, and its connection is closed then.
+// Returns whether a cut stream gets the responses to its whole requests, and its connection is
+// closed afterwards.
 fn ends_well(host: &mut Host, events: Vec<Event>, len: u32, how: How) -> bool {
     let number = len.saturating_add(1);
     let answer = match how {
@@ -52,7 +53,7 @@ fn ends_well(host: &mut Host, events: Vec<Event>, len: u32, how: How) -> bool {
         && is_gone(host, number)
 }
 
-// How many cut streams end as they should, up to the first that does not.
+// The number of cut streams that end as expected, up to the first that does not.
 fn count_ended(host: &mut Host, streams: Vec<Vec<Event>>, how: How) -> u32 {
     let mut count = 0u32;
     for events in streams {
@@ -82,7 +83,7 @@ fn peer_gone_after_each_byte(rt: HostRuntime) -> Result<(), Fail> {
     pass_all(ended(rt.alloc(), How::Gone), 56)
 }
 
-// Whether both requests are answered where the first device call fails.
+// Returns whether both requests get a response if the first device call fails.
 fn answers_fault(alloc: Global) -> Result<bool, Refusal> {
     let events = arrivals(alloc, 1, STREAM, 1)?;
     let plan = Plan {
@@ -100,7 +101,7 @@ fn first_device_call_fails(rt: HostRuntime) -> Result<(), Fail> {
     pass(answers_fault(rt.alloc()))
 }
 
-// Whether a reply is that the pool `net` has no room.
+// Returns whether a reply is NoRoom of the pool `net`.
 fn is_room_wanting(reply: &Reply) -> bool {
     match reply {
         Reply::Refused(Refusal::NoRoom { pool }) => *pool == PoolId::new(2),
@@ -108,7 +109,8 @@ fn is_room_wanting(reply: &Reply) -> bool {
     }
 }
 
-// How many bytes arrive before one is refused for want of pages, one a piece.
+// The number of bytes that arrive before one is refused for lack of pages, with one byte per
+// piece.
 fn count_taken(host: &mut Host, events: Vec<Event>) -> (u32, bool) {
     let mut count = 0u32;
     for event in events {
@@ -121,7 +123,7 @@ fn count_taken(host: &mut Host, events: Vec<Event>) -> (u32, bool) {
     (count, false)
 }
 
-// A stream on pages of which each holds two buffers and no more.
+// A stream on pages that hold at most two buffers each.
 fn tired(alloc: Global) -> Result<(u32, bool, bool), Refusal> {
     let events = arrivals(alloc, 1, STREAM, 1)?;
     let plan = Plan {
@@ -142,7 +144,7 @@ fn tired_pages(rt: HostRuntime) -> Result<(), Fail> {
     Ok(())
 }
 
-// Whether a connection is forgotten whose peer goes while its answer is sent.
+// Returns whether a connection is removed if its peer leaves while its response is sent.
 fn is_forgotten(host: &mut Host, events: Vec<Event>) -> bool {
     let conn = ConnId::new(1);
     let came = connect(host).is_some() && let_arrive(host, events);
@@ -154,7 +156,7 @@ fn is_forgotten(host: &mut Host, events: Vec<Event>) -> bool {
         && is_gone(host, 1)
 }
 
-// A file of as many bytes as two queues take.
+// A file with as many bytes as two queues hold.
 fn forgets(alloc: Global) -> Result<bool, Refusal> {
     let events = arrivals(alloc, 1, b"GET /f HTTP/1.1\r\nHost: a\r\n\r\n", 8192)?;
     let bytes = vec![in alloc; 122u8; 131_072]?;

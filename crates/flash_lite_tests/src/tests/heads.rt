@@ -15,8 +15,8 @@ const SERVED: Row<'static> = ("", FIRST, false);
 
 const REFUSED: Row<'static> = ("", LARGE, true);
 
-// What stands before a head, and how long its field is: heads of 8,191, 8,192 and 8,193 bytes, and after an empty line of
-// 8,190 and 8,191.
+// The text before a head, and the length of its field: heads of 8,191, 8,192 and 8,193 bytes, and
+// after an empty line of 8,190 and 8,191.
 const HEADS: [(&str, usize); 5] = [
     ("", 8159),
     ("", 8160),
@@ -25,10 +25,10 @@ const HEADS: [(&str, usize); 5] = [
     ("\r\n", 8159),
 ];
 
-// What becomes of each.
+// The result for each.
 const ROWS: [Row<'static>; 5] = [SERVED, SERVED, REFUSED, SERVED, REFUSED];
 
-// A head with a field of so many bytes.
+// A head with a field of `len` bytes.
 fn head_of(alloc: Global, before: &str, len: usize) -> Result<Vec<u8>, AllocError> {
     let mut head = Vec::from_slice(alloc, before.as_bytes())?;
     head.extend_from_slice(b"GET / HTTP/1.1\r\nHost: a\r\nX: ")?;
@@ -39,7 +39,7 @@ fn head_of(alloc: Global, before: &str, len: usize) -> Result<Vec<u8>, AllocErro
     Ok(head)
 }
 
-// The heads, each on a connection of its own, in pieces of so many bytes.
+// The heads, each on a connection of its own, in pieces of `size` bytes.
 fn streams(alloc: Global, size: usize) -> Result<Vec<Vec<Event>>, AllocError> {
     let mut streams = Vec::new(alloc);
     let mut number = 1u32;
@@ -51,7 +51,7 @@ fn streams(alloc: Global, size: usize) -> Result<Vec<Vec<Event>>, AllocError> {
     Ok(streams)
 }
 
-// How many heads are answered as they should be, in pieces of so many bytes.
+// The number of heads with the expected result, in pieces of `size` bytes.
 fn held(alloc: Global, size: usize) -> Result<usize, Refusal> {
     let streams = streams(alloc, size)?;
     held_with(alloc, &Plan::of(&FILES), streams, &ROWS)

@@ -17,8 +17,8 @@ type Store = FaultyBacking<MemoryBacking>;
 /// The world that serves a site.
 pub type Host = sites::Host<Store>;
 
-/// What a site is made of: its files, its workers, the chunks of its pool `site`, the last
-/// generation of a page, and which device call fails.
+/// The parameters of a site: its files, its workers, the chunks of its pool `site`, the last
+/// generation of a page, and the number of the device call that fails.
 #[derive(Clone, Copy)]
 pub struct Plan<'a> {
     pub files: &'a [Kept<'a>],
@@ -29,7 +29,7 @@ pub struct Plan<'a> {
 }
 
 impl<'a> Plan<'a> {
-    /// One worker, one chunk a pool, and nothing that fails.
+    /// One worker, one chunk per pool, and no fault.
     pub fn of(files: &'a [Kept<'a>]) -> Plan<'a> {
         Plan {
             files,
@@ -40,7 +40,7 @@ impl<'a> Plan<'a> {
         }
     }
 
-    /// So many workers, and so many chunks for the pool `site`.
+    /// The same with `workers` workers, and `chunks` chunks for the pool `site`.
     pub fn with(files: &'a [Kept<'a>], workers: u32, chunks: u32) -> Plan<'a> {
         Plan {
             workers,
@@ -59,7 +59,7 @@ fn site_of(alloc: Global, plan: &Plan<'_>) -> Result<Site, AllocError> {
     sites::site_of(alloc, plan.files, plan.workers, plan.chunks)
 }
 
-// The default sizes, with this last generation of a page.
+// The default parameters, with this last generation of a page.
 fn config_of(plan: &Plan<'_>) -> Config {
     Config {
         gen_limit: plan.gen_limit,
@@ -74,7 +74,7 @@ pub fn host_of(alloc: Global, plan: &Plan<'_>) -> Result<Host, Refusal> {
     sites::host_over(alloc, config_of(plan), store, &site)
 }
 
-/// Whether it goes so on the host of a site, which is let go then.
+/// Returns the result of a test on the host of a site, which is dropped afterwards.
 pub fn on_host<F: FnOnce(&mut Host) -> bool + Drop>(
     alloc: Global,
     plan: &Plan<'_>,
@@ -85,7 +85,8 @@ pub fn on_host<F: FnOnce(&mut Host) -> bool + Drop>(
     lend(host_of(alloc, plan), goes)
 }
 
-/// What comes of hosting a site with choices: its host, what each choice was answered, and whether all was idle.
+/// The result of hosting a site with choices: its host, the reply to each choice, and whether all
+/// were idle.
 pub fn hosted(
     alloc: Global,
     plan: &Plan<'_>,
@@ -96,7 +97,7 @@ pub fn hosted(
     sites::hosted(alloc, config_of(plan), store, &site, choices)
 }
 
-/// How a site with so many workers and guests is refused.
+/// The refusal of a site with this number of workers and of guests.
 pub fn refusal_of(
     alloc: Global,
     plan: &Plan<'_>,
@@ -115,7 +116,7 @@ pub fn connect(host: &mut Host) -> Option<ConnId> {
     host.connect(2)
 }
 
-/// So many turns of a domain; whether there was memory to tell what came of them.
+/// Gives `count` turns to a domain, and returns whether there was memory for the replies.
 pub fn take_turns(host: &mut Host, by: u32, count: u32) -> bool {
     let choices = [Choice::Turn(DomainId::new(by))];
     let mut all = true;

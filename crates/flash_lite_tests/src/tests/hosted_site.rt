@@ -1,4 +1,4 @@
-//! A site that is hosted, where all that comes from outside is among the choices.
+//! A site that is hosted, with all external events among the choices.
 use super::host::{Plan, hosted};
 use super::rows::{arrivals, is_sent};
 use iol_core::events::{Call, Event, Reply};
@@ -18,7 +18,7 @@ const ANSWER: &[u8] =
 
 const FILES: [Kept<'static>; 1] = [("index.html", b"hi\n", false)];
 
-// A connection of the pool `net` comes, and a request on it.
+// A new connection of the pool `net`, and a request on it.
 fn choices_of(alloc: Global) -> Result<Vec<Choice>, AllocError> {
     let pool = PoolId::new(2);
     let mut choices = Vec::new(alloc);
@@ -29,7 +29,7 @@ fn choices_of(alloc: Global) -> Result<Vec<Choice>, AllocError> {
     Ok(choices)
 }
 
-// Whether it is connection 1, and all bytes arrived.
+// Returns whether it is connection 1, and all bytes arrived.
 fn have_come(replies: &[Reply]) -> bool {
     match (replies.first(), replies.get(1)) {
         (Some(Reply::Conn(conn)), Some(Reply::Count(count))) => {
@@ -67,14 +67,15 @@ const GET_SCRIPT: &[u8] = b"GET /hello.cgi?q=1 HTTP/1.1\r\nHost: a\r\n\r\n";
 const OUTPUT: &[u8] =
     b"HTTP/1.1 200 OK\r\nContent-Type: text/plain\r\nTransfer-Encoding: chunked\r\n\r\ne\r\nhello\nq=1\n1 3\n\r\n0\r\n\r\n";
 
-// A guest makes a pipe, which is its own affair.
+// A guest makes a pipe, which does not concern the server.
 fn pipes(guest: u32) -> Choice {
     let by = DomainId::new(guest);
     let call = Call::Pipe;
     Choice::Outside(Event::Call { by, call })
 }
 
-// Two connections come, with a script's request on one and a file's on the other, turns between.
+// Two new connections, with the request of a script on one and of a file on the other, and turns
+// between.
 fn mixed_choices(alloc: Global, guest: u32) -> Result<Vec<Choice>, AllocError> {
     let mut choices = Vec::new(alloc);
     for (conn, stream) in [(1, GET_SCRIPT), (2, CURL)] {
@@ -89,7 +90,7 @@ fn mixed_choices(alloc: Global, guest: u32) -> Result<Vec<Choice>, AllocError> {
     Ok(choices)
 }
 
-// With so many workers, behind whose domains is that of the guest.
+// With this number of workers, whose domains are followed by that of the guest.
 fn are_answered(alloc: Global, workers: u32, guest: u32) -> Result<bool, Refusal> {
     let plan = Plan {
         workers,
@@ -116,7 +117,8 @@ fn eight_workers_are_hosted(rt: HostRuntime) -> Result<(), Fail> {
     pass(are_answered(rt.alloc(), 8, 10))
 }
 
-// Each call that needs memory answers where there is enough: `host` sets the site up, and makes its world.
+// Each call that needs memory succeeds if there is enough: `host` sets the site up, and makes its
+// world.
 #[test]
 fn ample(rt: HostRuntime) -> Result<(), Fail> {
     pass(are_answered(rt.alloc(), 2, 4))

@@ -1,4 +1,4 @@
-//! Outputs of scripts, by their length: about as long as a chunk, and longer than a pipe and two queues hold.
+//! Outputs of scripts, by length: about that of a chunk, and more than a pipe and two queues hold.
 use super::host::{Plan, on_host};
 use super::rows::{arrivals, is_answered};
 use iol_core::refusals::Refusal;
@@ -25,7 +25,7 @@ fn add_chunk(alloc: Global, answer: &mut Vec<u8>, piece: &[u8]) -> Result<(), Al
     answer.extend_from_slice(b"\r\n")
 }
 
-/// The answer with this output, in chunks.
+/// The response with this output, in chunks.
 pub fn in_chunks(alloc: Global, output: &[u8]) -> Result<Vec<u8>, AllocError> {
     let mut answer = Vec::from_slice(alloc, HEAD)?;
     for piece in output.chunks(4096) {
@@ -35,14 +35,15 @@ pub fn in_chunks(alloc: Global, output: &[u8]) -> Result<Vec<u8>, AllocError> {
     Ok(answer)
 }
 
-// The same to HTTP/1.0.
+// The same for HTTP/1.0.
 fn as_it_is(alloc: Global, output: &[u8]) -> Result<Vec<u8>, AllocError> {
     let mut answer = Vec::from_slice(alloc, OLD_HEAD)?;
     answer.extend_from_slice(output)?;
     Ok(answer)
 }
 
-// Whether a script over a file of these bytes is answered so, in chunks and then to HTTP/1.0.
+// Returns whether a script over a file of these bytes gets this response, in chunks and then for
+// HTTP/1.0.
 fn are_answered(
     alloc: Global,
     script: &[u8],
@@ -64,7 +65,7 @@ fn are_answered(
     })
 }
 
-// Lengths of a file, and whether the script puts out a byte more.
+// The length of a file, and whether the script outputs one more byte.
 const OUTPUTS: [(u32, bool); 9] = [
     (1, false),
     (4_095, false),
@@ -77,7 +78,7 @@ const OUTPUTS: [(u32, bool); 9] = [
     (200_000, true),
 ];
 
-// What is put out of a file, and a line feed behind it where more is.
+// The output for a file, followed by a line feed if `more`.
 fn output_of(alloc: Global, file: &[u8], more: bool) -> Result<Vec<u8>, AllocError> {
     let mut output = Vec::from_slice(alloc, file)?;
     if more {
@@ -86,7 +87,7 @@ fn output_of(alloc: Global, file: &[u8], more: bool) -> Result<Vec<u8>, AllocErr
     Ok(output)
 }
 
-// Whether a script that puts a file of so many bytes out is answered whole.
+// Returns whether the output of a script over a file of `len` bytes is complete.
 fn is_whole(alloc: Global, len: u32, more: bool) -> Result<bool, Refusal> {
     let file = bytes_of(alloc, len as usize)?;
     let script = if more {

@@ -9,7 +9,7 @@ const FILES: [Kept<'static>; 2] = [("f", b"mnopqr", false), ("empty", b"", false
 const WHOLE: &str =
     "HTTP/1.1 200 OK\r\nContent-Type: application/octet-stream\r\nContent-Length: 6\r\n\r\nmnopqr";
 
-// The answer where a range has none of them.
+// The response if the file has none of the bytes of a range.
 const NONE: &str =
     "HTTP/1.1 416 Range Not Satisfiable\r\nContent-Type: text/plain\r\nContent-Length: 26\r\n\
     Content-Range: bytes */6\r\n\r\n416 Range Not Satisfiable\n";
@@ -21,7 +21,7 @@ macro_rules! get {
     };
 }
 
-// The answer with so many of its bytes: where they stand, and what they are.
+// The response with a range of its bytes: their positions, and the bytes.
 macro_rules! part {
     ($len:literal, $place:literal, $bytes:literal) => {
         concat!(
@@ -35,7 +35,7 @@ macro_rules! part {
     };
 }
 
-// Requests with none of the bytes, with some, and with all where there is no range that is served.
+// Requests with none of the bytes, with some, and with all if the range is ignored.
 const ROWS: [Row<'static>; 13] = [
     (get!("bytes=9-"), NONE, false),
     (get!("bytes=-0"), NONE, false),

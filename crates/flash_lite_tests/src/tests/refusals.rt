@@ -1,5 +1,5 @@
-//! What refuses the calls for a script, each in its turn: where it is tried again, and where the
-//! script is answered 503.
+//! The refusals of each call for a script: those after which it is retried, and those after which
+//! the response is 503.
 use super::host::{Host, Plan, connect, on_host, take_turns};
 use super::rows::{arrivals, is_sent, let_arrive, let_wait};
 use super::sizes::REFUSED;
@@ -26,7 +26,7 @@ fn close(number: u32, fd: u32) -> Event {
     call_of(number, Call::Close { fd })
 }
 
-// Pipes of a domain up to the first that is refused for want of descriptors.
+// Makes pipes of a domain up to the first that is refused for lack of descriptors.
 fn take_pairs(host: &mut Host, number: u32) -> bool {
     for _ in 0..600 {
         match host.step(call_of(number, Call::Pipe)) {
@@ -37,18 +37,18 @@ fn take_pairs(host: &mut Host, number: u32) -> bool {
     false
 }
 
-// The server has turns for a request, and nothing comes of it.
+// The server takes turns for a request, without a response.
 fn waits(host: &mut Host, request: Vec<Event>) -> bool {
     let_wait(host, request);
     take_turns(host, 1, 500) && is_sent(host, 1, b"")
 }
 
-// Then it is answered.
+// Then it gets its response.
 fn goes_on(host: &mut Host) -> bool {
     host.settle() && is_sent(host, 1, FROM_SHORT)
 }
 
-// The server has turns for a request, which cannot be run.
+// The server takes turns for a request, which cannot be run.
 fn is_refused(host: &mut Host, request: Vec<Event>) -> bool {
     let (conn, max) = (ConnId::new(1), 4096);
     let_wait(host, request);
@@ -59,7 +59,7 @@ fn is_refused(host: &mut Host, request: Vec<Event>) -> bool {
         }
 }
 
-// One descriptor is left, for the script's file, and a pipe has two.
+// One descriptor is left for the script's file, but a pipe needs two.
 fn waits_for_a_pipe(host: &mut Host, request: Vec<Event>) -> bool {
     connect(host).is_some()
         && host.settle()
@@ -70,7 +70,7 @@ fn waits_for_a_pipe(host: &mut Host, request: Vec<Event>) -> bool {
         && goes_on(host)
 }
 
-// The worker and the guest have all other pipes that may be.
+// The worker and the guest have all other pipes.
 fn waits_for_another_pipe(host: &mut Host, request: Vec<Event>) -> bool {
     take_pairs(host, 2)
         && take_pairs(host, 3)
@@ -93,12 +93,12 @@ fn waits_to_give(host: &mut Host, request: Vec<Event>) -> bool {
         && goes_on(host)
 }
 
-// The worker's domain is no more.
+// The worker's domain has ended.
 fn gives_nobody(host: &mut Host, request: Vec<Event>) -> bool {
     is_done(host, call_of(2, Call::Exit)) && connect(host).is_some() && is_refused(host, request)
 }
 
-// Nobody reads the job.
+// The job pipe has no reader.
 fn hands_nobody(host: &mut Host, request: Vec<Event>) -> bool {
     is_done(host, close(2, 0)) && connect(host).is_some() && is_refused(host, request)
 }
@@ -116,12 +116,12 @@ fn is_filled(host: &mut Host, fill: Event) -> bool {
     all && is_done(host, call_of(1, Call::AggDrop { agg }))
 }
 
-// The worker has not read what is in its job pipe.
+// The worker has not read the bytes in its job pipe.
 fn waits_to_hand(host: &mut Host, fill: Event, request: Vec<Event>) -> bool {
     is_filled(host, fill) && connect(host).is_some() && waits(host, request) && goes_on(host)
 }
 
-// The guest's bytes fill the pool in which the job is placed.
+// The guest's bytes fill the pool of jobs.
 fn waits_to_make(host: &mut Host, fill: Event, request: Vec<Event>) -> bool {
     let agg = AggId::new(1);
     matches!(host.step(fill), Reply::Agg(_))
@@ -131,7 +131,7 @@ fn waits_to_make(host: &mut Host, fill: Event, request: Vec<Event>) -> bool {
         && goes_on(host)
 }
 
-// They fill that of the script's file.
+// They fill the pool of the script's file.
 fn reads_without_room(host: &mut Host, fill: Event, request: Vec<Event>) -> bool {
     let pool = PoolId::new(1);
     is_done(host, call_of(3, Call::SetPool { pool }))
@@ -141,7 +141,7 @@ fn reads_without_room(host: &mut Host, fill: Event, request: Vec<Event>) -> bool
         && is_sent(host, 1, REFUSED)
 }
 
-/// What is refused.
+/// The call that is refused.
 #[derive(Clone, Copy)]
 enum Case {
     /// The server has no descriptors for a pipe.
@@ -150,7 +150,7 @@ enum Case {
     /// There are no more pipes.
     AnotherPipe,
 
-    /// The worker has no descriptor for what it is given.
+    /// The worker has no free descriptor.
     Give,
 
     /// There is no worker.
@@ -178,7 +178,7 @@ fn goes(host: &mut Host, case: Case, request: Vec<Event>) -> bool {
     }
 }
 
-// Whether it goes so, on a site of its own.
+// Returns the result of the case, on a site of its own.
 fn holds(alloc: Global, case: Case) -> Result<bool, Refusal> {
     let request = arrivals(alloc, 1, SHORT, 8192)?;
     on_host(alloc, &Plan::of(&FILES), |host| goes(host, case, request))
@@ -190,7 +190,7 @@ fn calls_for_a_script_are_refused(rt: HostRuntime) -> Result<(), Fail> {
     pass_each(&CASES, |case| holds(alloc, *case))
 }
 
-/// What is full.
+/// The resource that is full.
 #[derive(Clone, Copy)]
 enum Full {
     /// The pool of jobs: there is no room for the job.
@@ -205,7 +205,7 @@ enum Full {
 
 const FULL: [Full; 3] = [Full::Jobs, Full::Files, Full::JobPipe];
 
-// As many bytes as a chunk has, of the guest's, or as a page has, of the server's.
+// Bytes of the guest that fill a chunk, or bytes of the server that fill a page.
 fn fill_of(alloc: Global, full: Full) -> Result<Event, AllocError> {
     let (number, bytes) = match full {
         Full::Jobs | Full::Files => (3, vec![in alloc; b'x'; 65_536]?),
@@ -223,7 +223,7 @@ fn goes_filled(host: &mut Host, full: Full, fill: Event, request: Vec<Event>) ->
     }
 }
 
-// Whether it goes so where that is full.
+// Returns the result if that resource is full.
 fn holds_filled(alloc: Global, full: Full) -> Result<bool, Refusal> {
     let request = arrivals(alloc, 1, SHORT, 8192)?;
     let fill = fill_of(alloc, full)?;

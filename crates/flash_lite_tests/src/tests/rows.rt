@@ -1,4 +1,4 @@
-//! Rows: what comes on a connection, and all that is sent on it.
+//! Rows: the input of a connection, and its whole output.
 use super::host::{Host, Plan, connect, host_of};
 use iol_core::descriptors::How;
 use iol_core::events::{Event, Reply};
@@ -9,10 +9,10 @@ use std::alloc::{AllocError, Global};
 use std::test::Fail;
 use test_parts::checks::pass_all;
 
-/// What comes on a connection, all that is sent on it, and whether it is closed then.
+/// The input of a connection, its whole output, and whether it is closed afterwards.
 pub type Row<'a> = (&'a str, &'a str, bool);
 
-/// A stream in pieces of so many bytes, to arrive on a connection.
+/// A stream in pieces of `size` bytes, to arrive on a connection.
 pub fn arrivals(
     alloc: Global,
     number: u32,
@@ -29,14 +29,15 @@ pub fn arrivals(
     Ok(events)
 }
 
-/// Lets pieces arrive, or other events happen, with no turns.
+/// Executes events, such as the arrival of pieces, without turns.
 pub fn let_wait(host: &mut Host, events: Vec<Event>) {
     for event in events {
         let _reply = host.step(event);
     }
 }
 
-/// Lets pieces arrive, with turns after each; whether all was idle after each. What comes after a close is refused.
+/// Executes events, with turns after each, and returns whether all were idle after each. Input
+/// after a close is refused.
 pub fn let_arrive(host: &mut Host, events: Vec<Event>) -> bool {
     let mut idle = true;
     for event in events {
@@ -46,7 +47,7 @@ pub fn let_arrive(host: &mut Host, events: Vec<Event>) -> bool {
     idle
 }
 
-/// Takes all that is sent on a connection, with turns after each segment, and compares it.
+/// Takes the whole output of a connection, with turns after each segment, and compares it.
 pub fn is_sent(host: &mut Host, number: u32, wanted: &[u8]) -> bool {
     let conn = ConnId::new(number);
     let mut left = wanted;
@@ -65,19 +66,20 @@ pub fn is_sent(host: &mut Host, number: u32, wanted: &[u8]) -> bool {
     false
 }
 
-/// Whether a connection is gone.
+/// Returns whether a connection was removed.
 pub fn is_gone(host: &mut Host, number: u32) -> bool {
     !host.has(ConnId::new(number))
 }
 
-/// The peer of a connection ends, with turns after it.
+/// The peer of a connection closes, with turns afterwards.
 pub fn end(host: &mut Host, number: u32, how: How) -> bool {
     let conn = ConnId::new(number);
     let _reply = host.step(Event::PeerClosed { conn, how });
     host.settle()
 }
 
-/// Whether what comes on a new connection of this number is answered so, and whether it is closed then.
+/// Returns whether the input of a new connection of this number gets this output, and whether the
+/// connection is closed afterwards.
 pub fn is_answered(
     host: &mut Host,
     number: u32,
@@ -98,7 +100,7 @@ pub fn holds(host: &mut Host, number: u32, events: Vec<Event>, row: &Row<'_>) ->
     is_answered(host, number, events, answer.as_bytes(), closes)
 }
 
-// The streams of rows, each on a connection of its own, in pieces of so many bytes.
+// The streams of rows, each on a connection of its own, in pieces of `size` bytes.
 fn streams(alloc: Global, rows: &[Row<'_>], size: usize) -> Result<Vec<Vec<Event>>, AllocError> {
     let mut streams = Vec::new(alloc);
     let mut number = 1u32;
@@ -109,7 +111,7 @@ fn streams(alloc: Global, rows: &[Row<'_>], size: usize) -> Result<Vec<Vec<Event
     Ok(streams)
 }
 
-// How many rows hold, up to the first that does not.
+// The number of rows that hold, up to the first that does not.
 fn count_held(host: &mut Host, streams: Vec<Vec<Event>>, rows: &[Row<'_>]) -> u32 {
     let mut held = 0u32;
     for (row, events) in rows.iter().zip(streams) {
@@ -122,7 +124,7 @@ fn count_held(host: &mut Host, streams: Vec<Vec<Event>>, rows: &[Row<'_>]) -> u3
     held
 }
 
-/// How many rows hold on one site, each with its stream, up to the first that does not.
+/// The number of rows that hold on one site, each with its stream, up to the first that does not.
 pub fn held_with(
     alloc: Global,
     plan: &Plan<'_>,
@@ -135,13 +137,15 @@ pub fn held_with(
     Ok(count as usize)
 }
 
-// How many rows hold on one site, up to the first that does not; streams come in pieces of so many bytes.
+// The number of rows that hold on one site, up to the first that does not; streams arrive in
+// pieces of `size` bytes.
 fn held(alloc: Global, plan: &Plan<'_>, rows: &[Row<'_>], size: usize) -> Result<usize, Refusal> {
     let streams = streams(alloc, rows, size)?;
     held_with(alloc, plan, streams, rows)
 }
 
-/// Passes where all rows hold on one site whose streams come whole, and on one where they come byte by byte.
+/// Passes if all rows hold on one site with whole streams, and on one with streams that arrive
+/// byte by byte.
 pub fn pass_rows(alloc: Global, plan: &Plan<'_>, rows: &[Row<'_>]) -> Result<(), Fail> {
     pass_all(held(alloc, plan, rows, 8192), rows.len())?;
     pass_all(held(alloc, plan, rows, 1), rows.len())

@@ -1,11 +1,12 @@
-//! Scripts: requests and whole replies.
+//! Scripts: requests and whole responses.
 use super::answers::{FORBIDDEN, NOT_FOUND};
 use super::host::Plan;
 use super::rows::{Row, pass_rows};
 use std::test::Fail;
 use test_worlds::files::Kept;
 
-// A file for all, one of the guest's, and scripts, one of which is the guest's, too.
+// A file for all, a private file of the guest, and scripts, one of which is private to the guest,
+// too.
 const FILES: [Kept<'static>; 9] = [
     ("f", b"a\nb", false),
     ("p", b"secret", true),
@@ -105,7 +106,7 @@ const ROWS: [Row<'static>; 17] = [
     ),
 ];
 
-// Of a site with one worker, and of one with eight.
+// On a site with one worker, and on one with eight.
 #[test]
 fn answers_of_scripts(rt: HostRuntime) -> Result<(), Fail> {
     let of_eight = Plan {

@@ -1,4 +1,4 @@
-//! Files about as long as a queue takes, and as long as a file may be.
+//! Files of about the capacity of a queue, and of the maximum length.
 use super::host::{Host, Plan, connect, on_host};
 use super::rows::{arrivals, is_sent, let_arrive};
 use iol_core::events::Event;
@@ -13,12 +13,12 @@ const GET: &[u8] = b"GET /f HTTP/1.1\r\nHost: a\r\n\r\n";
 
 const HEAD: &[u8] = b"HEAD /f HTTP/1.1\r\nHost: a\r\n\r\n";
 
-/// What is answered where the file cannot be read, or its script run.
+/// The response if the file cannot be read, or its script run.
 pub const REFUSED: &[u8] =
     b"HTTP/1.1 503 Service Unavailable\r\nContent-Type: text/plain\r\nContent-Length: 24\r\n\r\n\
         503 Service Unavailable\n";
 
-// The head for a file of so many bytes, and these after it.
+// The head for a file of `len` bytes, followed by these bytes.
 fn answer_of(alloc: Global, len: u32, bytes: &[u8]) -> Result<Vec<u8>, AllocError> {
     let head = format!(in alloc;
         "HTTP/1.1 200 OK\r\nContent-Type: application/octet-stream\r\nContent-Length: {len}\r\n\r\n"
@@ -28,12 +28,12 @@ fn answer_of(alloc: Global, len: u32, bytes: &[u8]) -> Result<Vec<u8>, AllocErro
     Ok(answer)
 }
 
-// Whether a request is answered so.
+// Returns whether a request gets this response.
 fn is_answered(host: &mut Host, number: u32, request: Vec<Event>, answer: &[u8]) -> bool {
     connect(host).is_some() && let_arrive(host, request) && is_sent(host, number, answer)
 }
 
-// Whether a GET of a file and then a HEAD are answered so.
+// Returns whether a GET of a file and then a HEAD get these responses.
 fn are_answered(
     alloc: Global,
     bytes: &[u8],
@@ -53,7 +53,7 @@ fn are_answered(
     })
 }
 
-// Whether a file of so many bytes is answered whole.
+// Returns whether the response with a file of `len` bytes is complete.
 fn is_whole(alloc: Global, len: u32, chunks: u32) -> Result<bool, Refusal> {
     let bytes = bytes_of(alloc, len as usize)?;
     let get = answer_of(alloc, len, &bytes)?;
@@ -61,7 +61,7 @@ fn is_whole(alloc: Global, len: u32, chunks: u32) -> Result<bool, Refusal> {
     are_answered(alloc, &bytes, chunks, &get, &head)
 }
 
-// Files of so many bytes, over so many chunks.
+// The length of a file, and the number of chunks.
 const SIZES: [(u32, u32); 4] = [(0, 1), (65_535, 1), (65_536, 1), (65_537, 2)];
 
 #[test]
@@ -70,20 +70,20 @@ fn files_of_about_a_queue(rt: HostRuntime) -> Result<(), Fail> {
     pass_each(&SIZES, |(len, chunks)| is_whole(alloc, *len, *chunks))
 }
 
-// Whether a file of so many bytes is too large to be answered, and its head is not.
+// Returns whether a file of `len` bytes is too large for a GET, but not for a HEAD.
 fn is_refused(alloc: Global, len: u32) -> Result<bool, Refusal> {
     let bytes = bytes_of(alloc, len as usize)?;
     let head = answer_of(alloc, len, b"")?;
     are_answered(alloc, &bytes, 254, REFUSED, &head)
 }
 
-// As many bytes as the pool `site` may have pages for, where three other pools have a chunk each.
+// As many bytes as the pool `site` may have pages for, if three other pools have a chunk each.
 #[test]
 fn file_as_large_as_its_pool(rt: HostRuntime) -> Result<(), Fail> {
     pass(is_whole(rt.alloc(), 254 * 65_536, 254))
 }
 
-// As many as a file may have: its pool has no pages for all of them at once.
+// The maximum length of a file: its pool does not have enough pages for all of it.
 #[test]
 fn file_that_no_pool_holds(rt: HostRuntime) -> Result<(), Fail> {
     pass(is_refused(rt.alloc(), 16_777_216))

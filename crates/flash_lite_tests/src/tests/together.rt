@@ -1,4 +1,5 @@
-//! Scripts at once whose outputs are longer than all queues, and clients that go while one runs, or while they wait.
+//! Concurrent scripts with outputs longer than all queues, and clients that leave while one runs,
+//! or while they wait.
 use super::host::{Host, Plan, connect, on_host};
 use super::outputs::in_chunks;
 use super::rows::{arrivals, end, is_gone, is_sent, let_arrive};
@@ -16,7 +17,8 @@ const LONG: &[u8] = b"GET /s.cgi HTTP/1.1\r\nHost: a\r\n\r\n";
 
 const BYTES: usize = 200_000;
 
-// Takes one segment, with turns after it: what is left of what is wanted, if that begins so.
+// Takes one segment, with turns afterwards, and returns the rest of the wanted bytes, if they
+// begin with it.
 fn take<'a>(host: &mut Host, number: u32, wanted: &'a [u8]) -> Option<&'a [u8]> {
     let conn = ConnId::new(number);
     let left = match host.step(Event::Transmit { conn, max: 4096 }) {
@@ -35,7 +37,7 @@ fn take_some<'a>(host: &mut Host, number: u32, wanted: &'a [u8]) -> Option<&'a [
     Some(left)
 }
 
-// Takes what is sent on both connections, a segment of each in turn.
+// Takes the output of both connections, one segment of each in turn.
 fn are_sent_by_turns(host: &mut Host, wanted: &[u8]) -> bool {
     let (mut first, mut second) = (wanted, wanted);
     for _ in 0..1000 {
@@ -53,7 +55,7 @@ fn are_sent_by_turns(host: &mut Host, wanted: &[u8]) -> bool {
     false
 }
 
-// Connections on each of which a script is asked for.
+// Makes a connection for each request of a script.
 fn ask_all(host: &mut Host, requests: Vec<Vec<Event>>) -> bool {
     let mut idle = true;
     for request in requests {
@@ -62,26 +64,27 @@ fn ask_all(host: &mut Host, requests: Vec<Vec<Event>>) -> bool {
     idle
 }
 
-/// What two clients of one long script do, or a client of it and those of a short one.
+/// The order of events of two clients of one long script, or of a client of it and clients of a
+/// short one.
 #[derive(Clone, Copy)]
 enum Case {
-    /// Both are answered by turns, the second after the first where there is one worker.
+    /// Both get segments in turn, the second after the first if there is one worker.
     ByTurns,
 
-    /// The second is answered whole, and then the first.
+    /// The second gets its whole response, and then the first.
     SecondFirst,
 
-    /// The first goes when it has taken some of its answer. The second has waited.
+    /// The first leaves when it has taken part of its response. The second has waited.
     Goes,
 
-    /// The first sends no more when it has taken some of its answer.
+    /// The first stops sending when it has taken part of its response.
     Ends,
 
-    /// The second goes while it waits. The third has waited, too.
+    /// The second leaves while it waits. The third has waited, too.
     WaiterGoes,
 }
 
-// What happens, with how many workers, and what the others ask for.
+// The case, the number of workers, and the other requests.
 const ROWS: [(Case, u32, &[&[u8]]); 6] = [
     (Case::ByTurns, 1, &[LONG]),
     (Case::ByTurns, 4, &[LONG]),
@@ -120,7 +123,7 @@ fn is_left(host: &mut Host, answer: &[u8]) -> bool {
         && is_sent(host, 3, FROM_SHORT)
 }
 
-// Whether it goes so, where the answer to the long script is this one.
+// Returns the result of a case, with this response for the long script.
 fn goes(host: &mut Host, case: Case, requests: Vec<Vec<Event>>, answer: &[u8]) -> bool {
     if !ask_all(host, requests) {
         return false;
@@ -134,7 +137,7 @@ fn goes(host: &mut Host, case: Case, requests: Vec<Vec<Event>>, answer: &[u8]) -
     }
 }
 
-// What is asked for: the long script first, and then that script or the short one.
+// The requests: the long script first, and then that script or the short one.
 fn requests_of(alloc: Global, others: &[&[u8]]) -> Result<Vec<Vec<Event>>, AllocError> {
     let mut requests = Vec::new(alloc);
     requests.push(arrivals(alloc, 1, LONG, 8192)?)?;

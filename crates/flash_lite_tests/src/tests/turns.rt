@@ -1,4 +1,4 @@
-//! Scripts beside one another, and what others do meanwhile.
+//! Concurrent scripts, and other events meanwhile.
 use super::host::{Host, Plan, connect, on_host, take_turns};
 use super::rows::{arrivals, end, is_gone, is_sent, let_arrive, let_wait};
 use iol_core::descriptors::{How, Mode};
@@ -30,7 +30,7 @@ const WITH_ONE: &[u8] =
 const WITH_TWO: &[u8] =
     b"HTTP/1.1 200 OK\r\nContent-Type: text/plain\r\nTransfer-Encoding: chunked\r\n\r\n9\r\na\nq=1\ntwo\r\n0\r\n\r\n";
 
-// A file is opened to be written, by the guest of a site with one worker.
+// The guest of a site with one worker opens a file for writing.
 fn opens(alloc: Global, name: &[u8]) -> Result<Event, AllocError> {
     let name = Bytes::from_vec(Vec::from_slice(alloc, name)?);
     let mode = Mode::Write;
@@ -43,7 +43,7 @@ fn writes(alloc: Global, bytes: &[u8]) -> Result<Event, AllocError> {
     Ok(call_of(3, Call::Write { fd, bytes }))
 }
 
-// Two new connections, on which a script and a file are asked for.
+// Two new connections, with the requests of a script and of a file.
 fn ask_both(host: &mut Host, script: Vec<Event>, file: Vec<Event>) -> bool {
     let first = connect(host);
     let second = connect(host);
@@ -52,8 +52,8 @@ fn ask_both(host: &mut Host, script: Vec<Event>, file: Vec<Event>) -> bool {
     first == Some(ConnId::new(1)) && second == Some(ConnId::new(2))
 }
 
-// The server has read the file and made the job, and its worker has had no turn, when the file is
-// written.
+// The server has read the file and made the job, and its worker has taken no turn, when the file
+// is written.
 fn reads_later(
     host: &mut Host,
     script: Vec<Event>,
@@ -87,7 +87,7 @@ fn script_and_file_by_turns(rt: HostRuntime) -> Result<(), Fail> {
     pass(by_turns(rt.alloc()))
 }
 
-// Two scripts that come at once.
+// Two scripts that are requested at the same time.
 fn answers_both(host: &mut Host, first: Vec<Event>, second: Vec<Event>) -> bool {
     ask_both(host, first, second)
         && host.settle()
@@ -115,7 +115,7 @@ fn two_scripts_at_once(rt: HostRuntime) -> Result<(), Fail> {
     pass_each(&[1u32, 4], |workers| two_at_once(alloc, *workers))
 }
 
-/// A script that puts one line out, and its answer.
+/// A script that outputs one line, and its response.
 pub const SHORT: &[u8] = b"GET /t.cgi HTTP/1.1\r\nHost: a\r\n\r\n";
 
 const LONG: &[u8] = b"GET /s.cgi HTTP/1.1\r\nHost: a\r\n\r\n";
@@ -123,7 +123,7 @@ const LONG: &[u8] = b"GET /s.cgi HTTP/1.1\r\nHost: a\r\n\r\n";
 pub const FROM_SHORT: &[u8] =
     b"HTTP/1.1 200 OK\r\nContent-Type: text/plain\r\nTransfer-Encoding: chunked\r\n\r\n2\r\nt\n\r\n0\r\n\r\n";
 
-/// A file, a script that puts it out, and the script that puts one line out.
+/// A file, a script that outputs it, and the script that outputs one line.
 pub fn files_of<'a>(big: &'a [u8], long: &'a [u8]) -> [Kept<'a>; 3] {
     [
         ("big", big, false),
@@ -133,7 +133,7 @@ pub fn files_of<'a>(big: &'a [u8], long: &'a [u8]) -> [Kept<'a>; 3] {
 }
 
 // The client of the first script takes nothing of its output, so the script does not end. With one
-// worker the second waits until that client goes, and with two it does not wait.
+// worker the second waits until that client leaves, and with two it does not wait.
 fn waits_for_the_first(host: &mut Host, long: Vec<Event>, short: Vec<Event>, waits: bool) -> bool {
     let before = if waits { b"".as_slice() } else { FROM_SHORT };
     let after = if waits { FROM_SHORT } else { b"".as_slice() };
@@ -159,7 +159,7 @@ fn first_goes(alloc: Global, workers: u32) -> Result<bool, Refusal> {
     })
 }
 
-// Another has its worker then, or has had one of its own.
+// Then another gets its worker, or has had one of its own.
 #[test]
 fn client_goes(rt: HostRuntime) -> Result<(), Fail> {
     let alloc = rt.alloc();
@@ -174,7 +174,7 @@ const DENIED_FILES: [Kept<'static>; 2] = [
 const BROKEN_OFF: &[u8] =
     b"HTTP/1.1 200 OK\r\nContent-Type: text/plain\r\nTransfer-Encoding: chunked\r\n\r\n";
 
-// A file of the guest's that the worker may read, and the server may not.
+// A file of the guest that the worker may read, but not the server.
 fn file_for_the_worker(alloc: Global) -> Result<Vec<Event>, AllocError> {
     let domains = [DomainId::new(2), DomainId::new(3)].to_vec(alloc)?;
     let domains = Domains::from_vec(domains);
@@ -188,7 +188,8 @@ fn file_for_the_worker(alloc: Global) -> Result<Vec<Event>, AllocError> {
     Ok(events)
 }
 
-// Output that the server may not read: its response is broken off, and the worker goes on with the next script.
+// Output that the server may not read: its response is aborted, and the worker continues with the
+// next script.
 fn breaks_off(host: &mut Host, events: Vec<Event>, first: Vec<Event>, second: Vec<Event>) -> bool {
     let_wait(host, events);
     connect(host).is_some()

@@ -1,11 +1,12 @@
-//! Whole answers to requests of a file: their heads, and the bodies of refusals.
+//! Whole responses to requests of a file: their heads, and the bodies of refusals.
 use flash_http::{Asked, MediaType, ResponseHead, error_body, read_head, select};
 use http::StatusCode;
 use std::alloc::{AllocError, Global};
 use std::test::Fail;
 use test_parts::checks::pass_each;
 
-// The head of the answer to a request of a file of `len` bytes, and its body where that is a refusal's.
+// The head of the response to a request of a file of `len` bytes, followed by the body if it is a
+// refusal.
 fn answer_to(alloc: Global, head: &str, len: u64) -> Result<String, AllocError> {
     match read_head(alloc, head.as_bytes())? {
         Asked::Serve(request) => {
@@ -23,7 +24,8 @@ fn refusal(alloc: Global, status: StatusCode, close: bool) -> Result<String, All
     format!(in alloc; "{head}{body}")
 }
 
-// A head, and the answer for a file of three bytes: of those that are served, and of those that are refused.
+// A head, and the response for a file of three bytes: for requests that are served, and for
+// refused ones.
 const ANSWERS: [(&str, &str); 9] = [
     (
         "GET /index.html HTTP/1.1\r\nHost: 127.0.0.1:8080\r\nUser-Agent: curl/8.5.0\r\nAccept: */*\r\n\r\n",
@@ -66,7 +68,7 @@ const ANSWERS: [(&str, &str); 9] = [
     ),
 ];
 
-// The statuses whose answers no request alone brings about, and these.
+// The statuses of responses that no request causes by itself, and these responses.
 const REFUSALS: [(StatusCode, &str); 6] = [
     (
         StatusCode::FORBIDDEN,
@@ -100,13 +102,13 @@ const REFUSALS: [(StatusCode, &str); 6] = [
     ),
 ];
 
-// Whether this is the answer to a request of a file of `len` bytes.
+// Returns whether this is the response to a request of a file of `len` bytes.
 fn is_answered(alloc: Global, head: &str, len: u64, expected: &str) -> Result<bool, AllocError> {
     let answer = answer_to(alloc, head, len)?;
     Ok(answer.as_str() == expected)
 }
 
-/// Passes where these heads have these answers, for a file of `len` bytes.
+/// Passes if these heads have these responses, for a file of `len` bytes.
 pub fn pass_answers(alloc: Global, rows: &[(&str, &str)], len: u64) -> Result<(), Fail> {
     pass_each(
         rows,
@@ -119,7 +121,7 @@ fn answers(rt: HostRuntime) -> Result<(), Fail> {
     pass_answers(rt.alloc(), &ANSWERS, 3)
 }
 
-// Whether this is the answer where a request is refused, and the connection ends.
+// Returns whether this is the response if a request is refused, and the connection closes.
 fn is_refusal(alloc: Global, row: &(StatusCode, &str)) -> Result<bool, AllocError> {
     let (status, expected) = *row;
     let answer = refusal(alloc, status, true)?;

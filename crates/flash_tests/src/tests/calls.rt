@@ -1,11 +1,11 @@
-//! Each call that needs memory answers when there is enough.
+//! Each call that needs memory succeeds if there is enough.
 use flash_http::{Asked, ResponseHead, chunk_head, error_body, read_head};
 use http::StatusCode;
 use std::alloc::{AllocError, Global};
 use std::test::Fail;
 use test_parts::checks::{pass, pass_each};
 
-// A target in each form, and the name and the query of what is asked for.
+// A target in each form, and the name and the query of the request.
 const TARGETS: [(&str, &str, &str); 3] = [
     ("GET /b%20c?d HTTP/1.1\r\nHost: a\r\n\r\n", "b c", "d"),
     (

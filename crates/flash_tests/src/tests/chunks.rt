@@ -1,4 +1,4 @@
-//! Chunks, and the heads of scripts' answers.
+//! Chunks, and the heads of responses of scripts.
 ghost use Rattle.std.specs.Prelude.{◌<◌};
 
 use flash_http::{CHUNK_END, LAST_CHUNK, ResponseHead, chunk_head};
@@ -6,7 +6,7 @@ use std::alloc::{AllocError, Global};
 use std::test::Fail;
 use test_parts::checks::pass;
 
-// Whether this is the line before a chunk of so many bytes.
+// Returns whether this is the line before a chunk of `len` bytes.
 fn is_size(alloc: Global, len: u64, expected: &str) -> Result<bool, AllocError>
     requires { 0 < len }
 {
@@ -25,11 +25,11 @@ fn sizes(rt: HostRuntime) -> Result<(), Fail> {
     pass(sizes_hold(rt.alloc()))
 }
 
-// The head of a script's answer in chunks.
+// The head of a script's response in chunks.
 const CHUNKED: &str =
     "HTTP/1.1 200 OK\r\nContent-Type: text/plain\r\nTransfer-Encoding: chunked\r\n\r\n";
 
-// The head of one that ends with its connection.
+// The head of a response that ends with its connection.
 const CLOSING: &str = "HTTP/1.1 200 OK\r\nContent-Type: text/plain\r\nConnection: close\r\n\r\n";
 
 fn is_head(alloc: Global, chunked: bool, close: bool, expected: &str) -> Result<bool, AllocError> {

@@ -5,11 +5,11 @@ use std::alloc::{AllocError, Global};
 use std::test::Fail;
 use test_parts::checks::pass_each;
 
-// The head of no request that can be read: 400, whatever its method.
+// Heads that do not parse as a request: 400, for every method.
 const NO_HEADS: [Row; 24] = [
     // no bytes
     ("", "400 close"),
-    // an empty line alone
+    // only an empty line
     ("\r\n", "400 close"),
     // no empty line at the end
     ("GET / HTTP/1.1\r\nHost: a\r\n", "400 close"),
@@ -69,7 +69,7 @@ const NO_HEADS: [Row; 24] = [
 const REFUSED_HEADS: [Row; 26] = [
     // no host
     ("GET / HTTP/1.1\r\n\r\n", "400 close"),
-    // no host, for a head alone
+    // no host, for HEAD
     ("HEAD / HTTP/1.1\r\n\r\n", "400 head close"),
     // two hosts
     ("GET / HTTP/1.1\r\nHost: a\r\nhost: a\r\n\r\n", "400 close"),
@@ -101,7 +101,7 @@ const REFUSED_HEADS: [Row; 26] = [
         "GET / HTTP/1.1\r\nHost: a\r\nTransfer-Encoding: identity\r\n\r\n",
         "400 close",
     ),
-    // a coding beside a length
+    // a coding together with a length
     (
         "GET / HTTP/1.1\r\nHost: a\r\nContent-Length: 0\r\nTransfer-Encoding: chunked\r\n\r\n",
         "400 close",
@@ -146,7 +146,8 @@ fn refused_heads(rt: HostRuntime) -> Result<(), Fail> {
     pass_outcomes(rt.alloc(), &REFUSED_HEADS)
 }
 
-// How many fields a head has beside its host, and what it comes to: 64 fields are read, and no more.
+// The number of fields of a head in addition to its host, and the result: 64 fields are parsed,
+// and no more.
 const LIMITS: [(usize, &str); 2] = [(63, "index.html"), (64, "400 close")];
 
 fn is_at_limit(alloc: Global, row: &(usize, &str)) -> Result<bool, AllocError> {

@@ -1,11 +1,12 @@
-//! What a head comes to, in a line: the status of a refusal, or the file with its query, and then what differs from an
-//! HTTP/1.1 GET of all of it that keeps its connection. Tables have a line beside each head.
+//! The answer to a head, in one line: the status of a refusal, or the file with its query,
+//! followed by the differences from an HTTP/1.1 GET of the whole file on a connection that stays
+//! open. Tables have such a line for each head.
 use flash_http::{Asked, Part, Request, Window, read_head, window_of};
 use std::alloc::{AllocError, Global};
 use std::test::Fail;
 use test_parts::checks::pass_each;
 
-/// A head, and what it comes to.
+/// A head, and its answer.
 pub type Row = (&'static str, &'static str);
 
 fn word(is: bool, word: &str) -> &str {
@@ -40,7 +41,7 @@ fn request_words(alloc: Global, request: &Request) -> Result<String, AllocError>
     format!(in alloc; "{name}{mark}{query}{head}{close}{version}{range}")
 }
 
-/// What a head comes to, in words.
+/// The answer to a head, in words.
 pub fn outcome_of(alloc: Global, head: &str) -> Result<String, AllocError> {
     match read_head(alloc, head.as_bytes())? {
         Asked::Serve(request) => request_words(alloc, &request),
@@ -57,29 +58,29 @@ pub fn outcome_of(alloc: Global, head: &str) -> Result<String, AllocError> {
     }
 }
 
-/// Whether a head comes to this.
+/// Returns whether a head has this answer.
 pub fn comes_to(alloc: Global, head: &str, outcome: &str) -> Result<bool, AllocError> {
     let found = outcome_of(alloc, head)?;
     Ok(found.as_str() == outcome)
 }
 
-// Whether a head is the first of its own stream, and whole.
+// Returns whether a head is the first of its own stream, and whole.
 fn is_whole(head: &str) -> bool {
     let len = head.len();
     window_of(head.as_bytes()) == Window::Head { skip: 0, len }
 }
 
-/// Passes where each head comes to what its row says.
+/// Passes if each head has the answer in its row.
 pub fn pass_outcomes(alloc: Global, rows: &[Row]) -> Result<(), Fail> {
     pass_each(rows, |(head, outcome)| comes_to(alloc, head, outcome))
 }
 
-// Whether a head is found whole in its stream, and comes to this.
+// Returns whether a head is found whole in its stream, and has this answer.
 fn is_read(alloc: Global, head: &str, outcome: &str) -> Result<bool, AllocError> {
     Ok(is_whole(head) && comes_to(alloc, head, outcome)?)
 }
 
-/// Passes where each is found whole in its stream, too.
+/// Passes if each head is also found whole in its stream.
 pub fn pass_heads(alloc: Global, rows: &[Row]) -> Result<(), Fail> {
     pass_each(rows, |(head, outcome)| is_read(alloc, head, outcome))
 }

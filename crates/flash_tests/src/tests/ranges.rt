@@ -1,12 +1,12 @@
-//! Ranges of a file: what a Range field brings about.
+//! Ranges of a file: the responses to a Range field.
 use super::answers::pass_answers;
 use std::test::Fail;
 
-// The answer with all six bytes of a file.
+// The response with all six bytes of a file.
 const ALL: &str =
     "HTTP/1.1 200 OK\r\nContent-Type: application/octet-stream\r\nContent-Length: 6\r\n\r\n";
 
-// The answer where a range has none of them.
+// The response if the file has none of the bytes of a range.
 const NONE: &str = "HTTP/1.1 416 Range Not Satisfiable\r\nContent-Type: text/plain\r\n\
     Content-Length: 26\r\nContent-Range: bytes */6\r\n\r\n";
 
@@ -17,7 +17,7 @@ macro_rules! get {
     };
 }
 
-// The answer with so many bytes of six, these.
+// The response with these bytes, a range of six.
 macro_rules! part {
     ($len:literal, $bytes:literal) => {
         concat!(
@@ -30,8 +30,8 @@ macro_rules! part {
     };
 }
 
-// Requests of a file of six bytes with these fields, and their answers: with none of the bytes, with some, and with all where
-// there is no range that is served.
+// Requests of a file of six bytes with these fields, and their responses: with none of the bytes,
+// with some, and with all if the range is ignored.
 const RANGES: [(&str, &str); 19] = [
     (get!("bytes=9-"), NONE),
     (get!("bytes=-0"), NONE),
@@ -54,7 +54,7 @@ const RANGES: [(&str, &str); 19] = [
     (get!("bytes=0-1\r\nIf-Range: \"a\""), ALL),
 ];
 
-// Of an empty file.
+// For an empty file.
 const OF_NONE: [(&str, &str); 1] = [(
     get!("bytes=0-0"),
     "HTTP/1.1 200 OK\r\nContent-Type: application/octet-stream\r\nContent-Length: 0\r\n\r\n",
@@ -66,7 +66,7 @@ fn table_of_ranges(rt: HostRuntime) -> Result<(), Fail> {
     pass_answers(rt.alloc(), &OF_NONE, 0)
 }
 
-// The same of other versions and methods.
+// The same for other versions and methods.
 const WHOLE: [(&str, &str); 3] = [
     (get!("bytes=4-99"), part!(2, "4-5")),
     (

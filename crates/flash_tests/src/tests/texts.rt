@@ -1,7 +1,7 @@
-//! Texts with a part that is there many times.
+//! Texts with a repeated part.
 use std::alloc::{AllocError, Global};
 
-/// A part so many times, between what comes before it and what comes after.
+/// A part repeated `count` times, between a text before it and a text after it.
 pub fn repeated(
     alloc: Global,
     begin: &str,

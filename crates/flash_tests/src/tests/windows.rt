@@ -19,13 +19,13 @@ const HEAD: &str = "GET / HTTP/1.1\r\nHost: a\r\nX: ";
 
 const AFTER_LINE: &str = "\r\nGET / HTTP/1.1\r\nHost: a\r\nX: ";
 
-// So many bytes that begin so and are one head, but for empty lines before it.
+// `len` bytes that begin with this text and are one head, except for empty lines before it.
 fn stream_of(alloc: Global, begin: &str, len: usize) -> Result<String, AllocError> {
     let count = len.saturating_sub(begin.len()).saturating_sub(4);
     repeated(alloc, begin, "y", count, "\r\n\r\n")
 }
 
-// How a stream begins, how long it is, and its window.
+// The beginning of a stream, its length, and its window.
 const SIZES: [(&str, usize, Window); 5] = [
     (HEAD, 8191, Window::Head { skip: 0, len: 8191 }),
     (HEAD, 8192, Window::Head { skip: 0, len: 8192 }),
@@ -59,7 +59,7 @@ fn endless_line(rt: HostRuntime) -> Result<(), Fail> {
     pass(waits_or_ends(rt.alloc()))
 }
 
-// Streams, and where their first head lies.
+// Streams, and the windows of their first heads.
 const STREAMS: [(&str, Window); 8] = [
     ("", Window::Wait),
     ("\r\n\n\r", Window::Wait),
@@ -80,7 +80,7 @@ fn streams(_rt: HostRuntime) -> Result<(), Fail> {
     pass_each(&STREAMS, |(stream, expected)| begins_so(stream, *expected))
 }
 
-// A store of a chunk.
+// A store of one chunk.
 fn new_store<R: Abort>(rt: &R, alloc: Global) -> Store {
     let config = Config {
         chunks: 1,
@@ -93,7 +93,7 @@ fn new_store<R: Abort>(rt: &R, alloc: Global) -> Store {
     store
 }
 
-// A pool of a chunk.
+// A pool of one chunk.
 fn add_pool<R: Abort>(rt: &R, alloc: Global, store: &mut Store) -> PoolId {
     assert!(rt; store.pools().len() < MAX_POOLS);
     let names = Names::of(&[DomainId::new(1)]).expect(rt, "a domain");
@@ -110,14 +110,14 @@ fn filled<R: Abort>(rt: &R, alloc: Global, store: &mut Store, pool: PoolId, text
     Agg::fill(alloc, store, pool, text).expect(rt, "room")
 }
 
-// The window of a stream where it lies.
+// The window of a stream in place.
 fn window_at(agg: &Agg, store: &Store) -> Window
     requires { AllReadable store.now agg.now }
 {
     window(agg.parts(store))
 }
 
-// The window of a stream that lies in a store for a while.
+// The window of a stream that is in a store temporarily.
 fn window_in_store<R: Abort>(
     rt: &R,
     alloc: Global,

@@ -6,7 +6,7 @@ ghost use Rattle.iol_agg.specs.Pours.{AreShareable, FitsRange, PoursRange};
 use super::join::place_of;
 use iol_hold::{Slice, Store};
 
-// Adds the bytes of a range, each slice held once more. What stands before the range is passed over by its lengths alone.
+// Adds the bytes of a range, with a further hold for each slice. Slices before the range are skipped by their lengths.
 pub(super) fn pour(slices: &[Slice], out: &mut Vec<Slice>, store: &mut Store, from: u32, to: u32)
     requires held { AreShareable store.old (bufs_of slices.now) }
     requires fits { FitsRange slices.now from to (vec_len out.old) (vec_capacity out.old) }

@@ -9,7 +9,8 @@ use iol_hold::Store;
 use std::alloc::{AllocError, Global};
 
 impl Agg {
-    /// The same bytes once more.
+    /// A second aggregate of the same bytes. It shares their buffers and copies no byte. Fails only if there is no memory for its
+    /// list of slices, and then changes nothing.
     pub fn dup(&self, alloc: Global, store: &mut Store) -> Result<Agg, AllocError>
         requires covered { Covers store.old (bufs_of self.now) }
         requires countable { IsCountable store.old (bufs_of self.now) }
@@ -18,8 +19,8 @@ impl Agg {
         self.cut(alloc, store, 0, self.len)
     }
 
-    /// Makes an aggregate of the bytes from place `from` up to `to`. It shares their buffers and copies no byte. Fails where there
-    /// is no memory for its list of slices.
+    /// Makes an aggregate of the bytes `from..to`. It shares their buffers and copies no byte. Fails only if there is no memory
+    /// for its list of slices, and then changes nothing.
     pub fn cut(
         &self,
         alloc: Global,
@@ -42,8 +43,8 @@ impl Agg {
         })
     }
 
-    /// Adds the bytes of another aggregate from place `from` up to `to`. It shares their buffers and copies no byte. Fails where
-    /// there is no memory for the list of slices, and changes nothing then.
+    /// Adds the bytes `from..to` of another aggregate. It shares their buffers and copies no byte. Fails only if there is no memory
+    /// for the list of slices, and then changes nothing.
     pub fn add_range(
         &mut self,
         store: &mut Store,
@@ -65,8 +66,9 @@ impl Agg {
         Ok(())
     }
 
-    /// Makes an aggregate of these bytes with those from place `from` up to `to` replaced by another's. It shares the buffers
-    /// of both and copies no byte. Fails where there is no memory for its list of slices.
+    /// Makes an aggregate of these bytes with the bytes `from..to` replaced by those of another. It shares the buffers of both and
+    /// copies no byte. Fails if it would have 2^32 bytes or more, or if there is no memory for its list of slices. An error
+    /// changes nothing.
     pub fn replace(
         &self,
         alloc: Global,
@@ -77,21 +79,20 @@ impl Agg {
     ) -> Result<Agg, AllocError>
         requires ordered { from ≤ to }
         requires within { to ≤ byte_len self.now }
-        requires small { byte_len self.now + byte_len other.now < 2 ^ 32 }
         requires covered { Covers store.old (bufs_of self.now) }
         requires other_covered { Covers store.old (bufs_of other.now) }
         requires countable { IsCountable store.old (bufs_around self.now other.now) }
         ensures { SharesReplaced store.old store.new self.now other.now from to result }
     {
+        let Some(len) = (from + (self.len - to)).checked_add(other.len) else {
+            return Err(AllocError);
+        };
         let before = self.slices.len().min(from as usize);
         let after = self.slices.len().min((self.len - to) as usize);
         let mut slices = Vec::with_capacity(alloc, before + other.slices.len() + after)?;
         pour(&self.slices, &mut slices, store, 0, from);
         pour(&other.slices, &mut slices, store, 0, other.len);
         pour(&self.slices, &mut slices, store, to, self.len);
-        Ok(Agg {
-            slices,
-            len: from + other.len + (self.len - to),
-        })
+        Ok(Agg { slices, len })
     }
 }

@@ -1,4 +1,4 @@
-//! What stands on a page, told to the layers above.
+//! Look-ups of one page for the layers above.
 ghost use Rattle.std.specs.Prelude.{◌≡◌, ◌*◌, ◌<◌, not, nat_lt};
 ghost use Rattle.iol_arena.specs.State.{chunk_count, page_count, entry_at, generation_at};
 ghost use Rattle.iol_arena.specs.Firsts.{first_on};
@@ -8,12 +8,12 @@ use crate::pages::PageKind;
 use iol_core::limits::CHUNK_PAGES;
 
 impl Arena {
-    /// How many pages there are: sixteen in each chunk.
+    /// The number of pages: sixteen in each chunk.
     pub fn page_count(&self) -> u32
         ensures count { result ≡ page_count self.now }
         ensures chunks { page_count self.now ≡ CHUNK_PAGES * chunk_count self.now }
     {
-        // Brings the invariant: how many pages there are, and how buffers lie on them.
+        // Brings the invariant: how many pages there are, and which buffers are on them.
         let _entries = &self.entries;
         self.entries.len() as u32
     }
@@ -26,7 +26,7 @@ impl Arena {
         self.entry(page).generation >= self.limit
     }
 
-    /// The page at which the buffer on a page begins, if one lies there.
+    /// The first page of the buffer on a page, if there is one.
     pub fn first_on(&self, page: u32) -> Option<u32>
         requires { page < page_count self.now }
         ensures { result ≡ first_on (entry_at self.now page).kind page }

@@ -31,7 +31,7 @@ use Rattle.iol_cache.specs.RangeReads.{CanFill, MayFill}
 use Rattle.iol_cache.specs.ReadResults.{FillsPinned, NoRoomToRead, Range, ReadsFile, RefusesRead, RoomToRead, TellsRoom}
 use Rattle.iol_cache.specs.SharedBytes.{CountsBelow, places_over}
 use Rattle.iol_cache.specs.Sound.{IsSound}
-use Rattle.iol_cache.specs.Weave.{IsCoveredBeside, len_beside, places_beside, places_read, woven}
+use Rattle.iol_cache.specs.Weave.{IsCoveredBeside, len_beside, places_beside, places_read, slices_read, woven}
 use Rattle.iol_cache.proofs.Extents.FileEntries.{numbered_bounds, numbered_yes}
 use Rattle.iol_cache.proofs.Evictions.FreePages.{at_most}
 use Rattle.iol_cache.proofs.RangeReads.LackOfPages.{has_hit, lacks_hit}
@@ -40,6 +40,7 @@ use Rattle.iol_cache.proofs.RangeReads.RangeHolds.{asks_ok, extents_filled, ok_b
 use Rattle.iol_cache.proofs.RangeReads.SharedBytes.{over_there, readable_of, readable_same, settles_shares}
 use Rattle.iol_cache.proofs.Extents.Steps.{goes_cache, goes_store, goes_trans, numbered_same}
 use Rattle.iol_cache.proofs.RangeReads.CoveredBytes.{tile_beside}
+use Rattle.iol_cache.proofs.RangeReads.SliceCounts.{meeting_few, read_long, same_count, woven_few}
 use Rattle.iol_cache.proofs.RangeReads.Weave.{beside_few, length-places_beside, still_covers, woven-beside}
 
 beside_there : {s : Stored} (es : List Extent) (at to : ℕ) (gs : List Span) → IsCoveredBeside es at to gs → AllReadable s (all_parts es) → All (IsThere s) (places_beside es at to gs)
@@ -138,6 +139,13 @@ module _ {f at n : ℕ} {d : Disk} {a b : Holding} {pins : List Slice} {gs : Lis
       let is : extents_in c.cache.files f ≡ new = ap (λ (e : Cached). extents_in e.files f) filled.cache ∙ extents_filled f from to filled.mid filled.full (places pins) gs d xs there_mid filled.fills in
       filled.fills.range.lies ∙ ap (λ ps. woven ps new from to gs) h.pinned.lies ∙ woven-beside es new from to gs ∙ ap (λ (l : List Extent). places_read es l from to gs) (sym is)
 
+  -- into how many slices the range is divided
+  parts_few : (c : Holding) (xs : List Slice) → CompletesRange f from to pins gs d b c xs → length xs ≤ length (slices_read es (extents_in c.cache.files f) from to gs) + length gs
+  parts_few c xs (inl e) = omega (arith, ap length e.all, same_count pins _ h.pinned.parts, read_long es (extents_in c.cache.files f) from to gs)
+  parts_few c xs (inr filled) =
+      let new = extents_in c.cache.files f in
+      omega (arith, same_count xs _ filled.parts, woven_few pins new 0 from to gs, meeting_few 0 (0 + len_beside from to gs) pins, same_count pins _ h.pinned.parts, read_long es new from to gs)
+
   -- The room that there is while these are held.
   pub room_hit : (r : Result (List Slice) Refusal) → TellsRoom (wanted ≤ pages) (pages < wanted) r → TellsRoom (RoomToRead f at n d a) (NoRoomToRead f at n d a) r
   room_hit r told =
@@ -149,7 +157,7 @@ module _ {f at n : ℕ} {d : Disk} {a b : Holding} {pins : List Slice} {gs : Lis
   pub reads_hit : gs ≡ [] → ReadsFile f at n d a b pins
   reads_hit none =
       let whole : CompletesRange f from to pins gs d b b pins = inl (record { none = none; all = refl; same = refl }) in
-      record { range = h.range; reads = record { pins = pins; gaps = gs; hit = b; pinned = h.pinned; completed = whole; lies = lies_read b pins whole; answers = λ some. absurd (omega (arith, some, ap length none)) } }
+      record { range = h.range; reads = record { pins = pins; gaps = gs; hit = b; pinned = h.pinned; completed = whole; lies = lies_read b pins whole; parts = parts_few b pins whole; answers = λ some. absurd (omega (arith, some, ap length none)) } }
 
   pub fits_hit : gs ≡ [] → wanted ≤ pages
   fits_hit none = omega (arith, ap gap_pages none, at_most b.store (clean_held b.cache.files) (pages_of b.store (file_in b.cache.files f).pool))
@@ -162,7 +170,7 @@ module _ {f at n : ℕ} {d : Disk} {a b : Holding} {pins : List Slice} {gs : Lis
         let answers = λ (xs : List Slice). 0 < length gs → d.failures < last_failure in
         IfOk-weaker r (λ xs. fills xs × answers xs) (ReadsFile f at n d a c) (λ xs k. record {
           range = h.range;
-          reads = record { pins = pins; gaps = gs; hit = b; pinned = h.pinned; completed = inr k.0; lies = lies_read c xs (inr k.0); answers = k.1 };
+          reads = record { pins = pins; gaps = gs; hit = b; pinned = h.pinned; completed = inr k.0; lies = lies_read c xs (inr k.0); parts = parts_few c xs (inr k.0); answers = k.1 };
         }) (ok_both fills answers r filled.filled (asks_ok (length gs) d e r filled.asks.counts))
 
     pub refused_filled : IfErr r (RefusesRead f at n d a c)

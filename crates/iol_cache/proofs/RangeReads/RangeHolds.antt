@@ -332,7 +332,7 @@ pinned_filled {d = d} {b = b} {c = c} (Ok xs) may made has sound h m frees lists
     let gone = went d may less sound (Ok xs) h in
     let here = readable_filled d may less sound h.filled h.sound (readable_c d may gone) in
     record {
-      filled = record { mid = b; victims = made.victims; less = less; full = c; fills = h.filled; stand = stand_filled d may less sound h.filled; cache = refl; released = m; frees = frees };
+      filled = record { mid = b; victims = made.victims; less = less; full = c; fills = h.filled; parts = h.parts; stand = stand_filled d may less sound h.filled; cache = refl; released = m; frees = frees };
       undone = tt;
       readable = readable_out d may gone h.sound m xs refl here;
       goes = goes_out d may gone h.sound m lists settles frees.count;

@@ -1,4 +1,4 @@
-//! Gaps of a range that are read, and the range that is shared then.
+//! Reading of the gaps of a range, and the range after it.
 ghost use Rattle.iol_cache.specs.RangeReads.{FillsAll, MayFillRange};
 
 use crate::files::{CachedFile, FilePart};
@@ -11,8 +11,8 @@ use iol_extent::spans::Span;
 use iol_hold::Store;
 use std::alloc::Global;
 
-/// Reads the gaps of a range into clean extents, all or none, and puts the range together from them and from what was
-/// shared beside them.
+/// Reads the gaps of a range into clean extents, all or none, and assembles the range from them and from `beside`, the
+/// shared bytes outside the gaps.
 pub(crate) fn fill_range<B: Backing>(
     alloc: Global,
     store: &mut Store,

@@ -41,7 +41,7 @@ fn gap_agg<B: Backing>(
     Ok(Agg::of_holds(slices, store, holds))
 }
 
-/// Takes the extents away that begin where these spans do, the last first, and releases them.
+/// Removes the extents that begin where these spans begin, the last first, and releases them.
 pub(crate) fn take_back(extents: &mut Extents, store: &mut Store, spans: &[Span])
     requires begin { AllBegin extents.old.extents spans.now }
     requires covered { Covers store.old (bufs_of (parts_back extents.old.extents spans.now)) }
@@ -55,7 +55,7 @@ pub(crate) fn take_back(extents: &mut Extents, store: &mut Store, spans: &[Span]
     }
 }
 
-/// Reads the gaps of a file into new buffers of its pool, in order: each becomes a clean extent, all of them or none.
+/// Reads the gaps of a file into new buffers of its pool, in order. Each becomes a clean extent, or, on an error, none.
 pub(crate) fn fill_gaps<B: Backing>(
     alloc: Global,
     store: &mut Store,

@@ -1,4 +1,4 @@
-//! Reading of files.
+//! The hits and the gaps of a range.
 ghost use Rattle.std.specs.Prelude.{◌≡◌};
 ghost use Rattle.iol_extent.specs.Prelude.{AreInOrder};
 ghost use Rattle.iol_cache.specs.Cache.{holding};
@@ -19,7 +19,7 @@ use iol_extent::spans::Span;
 use iol_hold::Store;
 use std::alloc::{AllocError, Global};
 
-/// How many pages gaps need.
+/// The number of pages that gaps need.
 pub(crate) fn count_pages(gaps: &[Span]) -> u32
     requires { AreInOrder 0 u32.MAX gaps.now }
     ensures { result ≡ gap_pages gaps.now }
@@ -32,7 +32,7 @@ pub(crate) fn count_pages(gaps: &[Span]) -> u32
 }
 
 impl Cache {
-    // Reads the gaps of a range, and puts the range together: all or nothing.
+    // Reads the gaps of a range, and assembles the range: all or nothing.
     pub(crate) fn fill<B: Backing>(
         &mut self,
         alloc: Global,
@@ -70,8 +70,8 @@ impl Cache {
         Ok(agg)
     }
 
-    // The gaps of a range, for which there is room in the file and in the order, and the bytes beside them, shared. The
-    // hits are counted.
+    // Shares the bytes of a range that are in memory, counts the hits, and reserves room for its gaps in the file and in the
+    // order. Returns the shared bytes and the gaps.
     pub(crate) fn pin(
         &mut self,
         alloc: Global,

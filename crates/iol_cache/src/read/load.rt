@@ -25,7 +25,7 @@ fn read_part<B: Backing>(
     backing.read_at(file, at, into)
 }
 
-// Reads into part i of a filling, at most `left` bytes, and tells how many.
+// Reads at most `left` bytes into part `i` of a filling, and returns their number.
 fn fill_part<B: Backing>(
     filling: &mut Filling<'_>,
     i: usize,
@@ -47,7 +47,7 @@ fn fill_part<B: Backing>(
     }
 }
 
-// Reads `n` bytes into the parts of a filling that was begun for so many.
+// Reads `n` bytes into the parts of a filling that was begun for `n` bytes.
 fn fill_parts<B: Backing>(
     filling: &mut Filling<'_>,
     backing: &mut B,
@@ -70,7 +70,7 @@ fn fill_parts<B: Backing>(
     Ok(())
 }
 
-/// New buffers of an open pool with `n` bytes of the store, read straight into their memory.
+/// New buffers of an open pool with `n` bytes of the store, read directly into their memory.
 pub(crate) fn load<B: Backing>(
     alloc: Global,
     store: &mut Store,

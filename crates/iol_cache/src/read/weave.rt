@@ -1,8 +1,8 @@
-//! A range of a file, put together from what was shared before its gaps were read and from the gaps.
+//! Assembling of a range of a file from the bytes shared before its gaps were read, and from the gaps.
 ghost use Rattle.std.specs.Prelude.{◌≡◌, [], IfOk};
 ghost use Rattle.iol_hold.specs.Prelude.{places};
 ghost use Rattle.iol_cache.specs.SharedBytes.{SharesOrReleases};
-ghost use Rattle.iol_cache.specs.Weave.{HasPart, IsWoven, MayAddPart, MayShareBeside, MayWeave, places_beside};
+ghost use Rattle.iol_cache.specs.Weave.{AddsPart, HasPart, HasSlicesBeside, HasSlicesWoven, IsWoven, MayAddPart, MayShareBeside, MayWeave, places_beside};
 
 use crate::share::share_over;
 use iol_agg::Agg;
@@ -11,7 +11,7 @@ use iol_extent::spans::Span;
 use iol_hold::Store;
 use std::alloc::{AllocError, Global};
 
-/// Shares the bytes of a range that lie beside its gaps.
+/// Shares the bytes of a range outside its gaps.
 pub(crate) fn share_beside(
     alloc: Global,
     extents: &Extents,
@@ -22,6 +22,7 @@ pub(crate) fn share_beside(
 ) -> Result<Agg, AllocError>
     requires { MayShareBeside store.old extents.now.extents from to gaps.now }
     ensures places { IfOk result (λ a. places a ≡ places_beside extents.now.extents from to gaps.now) }
+    ensures parts { IfOk result (HasSlicesBeside extents.now.extents from to gaps.now) }
     ensures shared { SharesOrReleases [] (λ a. a) store.old store.new result }
 {
     let mut shared = Agg::new(alloc);
@@ -39,7 +40,7 @@ pub(crate) fn share_beside(
     }
 }
 
-// Adds a part of other bytes. Refused, all is released.
+// Adds the bytes `from..to` of another aggregate. On an error, releases all slices.
 fn add_part(
     store: &mut Store,
     so_far: Agg,
@@ -49,6 +50,7 @@ fn add_part(
 ) -> Result<Agg, AllocError>
     requires { MayAddPart store.old so_far other.now from to }
     ensures places { IfOk result (HasPart so_far other.now from to) }
+    ensures parts { IfOk result (AddsPart so_far other.now from to) }
     ensures shared { SharesOrReleases so_far (λ a. a) store.old store.new result }
 {
     let mut shared = so_far;
@@ -61,7 +63,7 @@ fn add_part(
     }
 }
 
-/// Puts a range together from what was shared beside its gaps, and from the extents over the gaps.
+/// Assembles a range from `beside`, the shared bytes outside its gaps, and from the extents over the gaps.
 pub(crate) fn weave(
     alloc: Global,
     extents: &Extents,
@@ -73,6 +75,7 @@ pub(crate) fn weave(
 ) -> Result<Agg, AllocError>
     requires { MayWeave store.old extents.now.extents from to gaps.now beside.now }
     ensures places { IfOk result (IsWoven beside.now extents.now.extents from to gaps.now) }
+    ensures parts { IfOk result (HasSlicesWoven beside.now extents.now.extents from to gaps.now) }
     ensures shared { SharesOrReleases [] (λ a. a) store.old store.new result }
 {
     let mut shared = Agg::new(alloc);

@@ -1,4 +1,4 @@
-//! The bytes of a write, as an aggregate of the file's pool: its own are shared, and each run of others is copied.
+//! The bytes of a write, as an aggregate of the file's pool: bytes of the pool are shared, and each run of others is copied.
 ghost use Rattle.std.specs.Prelude.{◌≡◌, ◌+◌, ◌<◌, ◌≤◌, ◌^◌, IfOk};
 ghost use Rattle.iol_cache.specs.Composition.{ComposesOrReleases, ComposesRunOrKeeps, CopiesOrKeeps, IsFirstRun, IsSliceAt, MayCompose, MayCopy, copied_pages};
 ghost use Rattle.iol_core.specs.Text as text;
@@ -11,7 +11,7 @@ use iol_core::refusals::Refusal;
 use iol_hold::{Slice, Store};
 use std::alloc::{AllocError, Global};
 
-// How many slices, from the first on, are of the pool, or are of others, and how many bytes they have.
+// The first run of slices that are all of the pool, or all of other pools: the number of slices and of bytes.
 fn run_of(slices: &[Slice], pool: PoolId, own: bool) -> (usize, u32)
     requires { byte_len slices.now < 2 ^ 32 }
     ensures { IsFirstRun pool own slices.now result.0 result.1 }
@@ -29,7 +29,7 @@ fn run_of(slices: &[Slice], pool: PoolId, own: bool) -> (usize, u32)
     (count, bytes)
 }
 
-/// How many pages of a pool the bytes of an aggregate need there, where those of other pools are copied.
+/// The number of pages of a pool that an aggregate needs there, if its bytes of other pools are copied.
 pub(crate) fn foreign_pages(source: &Agg, pool: PoolId) -> u32
     requires { byte_len source.now ≤ MAX_AGGREGATE_BYTES }
     ensures { result ≡ copied_pages pool source.now }
@@ -72,8 +72,8 @@ fn copy_run(alloc: Global, store: &mut Store, pool: PoolId, run: &[Slice]) -> Re
     Ok(copy)
 }
 
-// Composes the run of slices from the i-th on, whose first byte is at place `at`, and tells which slice is next. What was composed
-// before it holds a buffer fewer than 2^32 times more.
+// Composes the run of slices that begins with the i-th, whose first byte is at place `at`, and returns the index after the run.
+// The slices composed before it hold each buffer fewer than 2^32 times.
 fn compose_run(
     alloc: Global,
     store: &mut Store,
@@ -104,8 +104,8 @@ fn compose_run(
     Ok((next, end, copy))
 }
 
-/// The bytes of an aggregate in an open pool: those that lie there already are shared, and each maximal run of others is
-/// copied to its lowest free pages.
+/// The bytes of an aggregate in an open pool: bytes already in it are shared, and each maximal run of others is copied to
+/// its lowest free pages.
 pub(crate) fn compose(
     alloc: Global,
     store: &mut Store,

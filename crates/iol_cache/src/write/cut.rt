@@ -1,4 +1,4 @@
-//! What a write cuts: the parts of extents on both sides of its range.
+//! The parts of extents on both sides of the range of a write.
 ghost use Rattle.std.specs.Prelude.{◌<◌};
 ghost use Rattle.iol_cache.specs.Cuts.{CutsLeft, CutsRight, MayCut, SharesPart};
 
@@ -24,7 +24,7 @@ impl Model for Edge {
     ghost view = { λ e. record { at = e.at; parts = e.agg; dirty = e.dirty } };
 }
 
-/// What comes in place of a range: the parts of extents on both sides of it, and its bytes.
+/// The replacement of a range: the parts of extents on both sides of it, and its bytes.
 #[derive(Drop)]
 pub(crate) struct Replacement {
     pub(crate) left: Edge,
@@ -32,7 +32,7 @@ pub(crate) struct Replacement {
     pub(crate) bytes: Edge,
 }
 
-/// Shares what the extent over `from` has before it.
+/// Shares the bytes before `from` of the extent over byte `from`.
 pub(crate) fn cut_left(
     alloc: Global,
     extents: &Extents,
@@ -60,7 +60,7 @@ pub(crate) fn cut_left(
     })
 }
 
-/// Shares what the extent over the byte before `to` has from there on.
+/// Shares the bytes from `to` on of the extent over the byte before `to`.
 pub(crate) fn cut_right(
     alloc: Global,
     extents: &Extents,

@@ -1,4 +1,4 @@
-//! What a write puts in place of a range: its bytes in the file's pool, and the parts of extents on both sides.
+//! The replacement of a range by a write: its bytes in the file's pool, and the parts of extents on both sides.
 ghost use Rattle.iol_cache.specs.Preparation.{MayPrepare, PreparesOrReleases};
 
 use crate::write::copies::compose;
@@ -10,8 +10,8 @@ use iol_extent::extents::Extents;
 use iol_hold::Store;
 use std::alloc::Global;
 
-/// The parts of extents on the left and on the right of the range that a write replaces, and its bytes. Refused, all of
-/// them are released.
+/// The parts of extents on the left and on the right of the range that a write replaces, and its bytes. On an error, all
+/// of them are released.
 pub(crate) fn prepare(
     alloc: Global,
     store: &mut Store,

@@ -1,4 +1,5 @@
-//! A range of a file that is replaced: what it meets goes, and its parts and the new bytes come in. No memory is taken.
+//! Replacing of a range of a file: the extents that it meets are removed, and their parts outside the range and the new bytes
+//! are inserted. Allocates no memory.
 ghost use Rattle.std.specs.Prelude.{IsSome};
 ghost use Rattle.iol_cache.specs.Replacement.{ClearsRange, Forgets, MayCome, MayForget, MayGo, PutsIn, TakesOut, indexing_of};
 ghost use Rattle.iol_cache.specs.Writes.{MayReplace, Replaces};
@@ -12,8 +13,8 @@ use iol_extent::extents::Extents;
 use iol_extent::spans::Span;
 use iol_hold::Store;
 
-// The extent that begins at a place is to go: where it is clean, it leaves the order, and its marks are taken away. The
-// place that is kept for a dirty one is given back.
+// Prepares the removal of the extent that begins at byte `at`. If it is clean, removes its entry from the order and its marks.
+// If it is dirty, gives back the room in the order kept for it.
 fn forget(order: &mut Order, marks: &mut CleanHolds, extents: &Extents, file: FileId, at: u32)
     requires { MayForget file at (indexing_of extents.now order.old marks.old) }
     ensures { Forgets file at extents.now.extents order.old order.new marks.old marks.new }
@@ -29,7 +30,7 @@ fn forget(order: &mut Order, marks: &mut CleanHolds, extents: &Extents, file: Fi
     order.leave(file, at);
 }
 
-// Takes the extent away that begins at a place.
+// Removes the extent that begins at byte `at`.
 fn take_out(
     order: &mut Order,
     marks: &mut CleanHolds,
@@ -48,7 +49,7 @@ fn take_out(
     agg.release(store);
 }
 
-// Takes all extents away that have bytes of a range.
+// Removes all extents that have bytes of a range.
 fn clear_range(
     order: &mut Order,
     marks: &mut CleanHolds,
@@ -67,7 +68,7 @@ fn clear_range(
     }
 }
 
-/// Puts a part of a file in, if it has a byte.
+/// Inserts a part of a file, if it has a byte.
 pub(crate) fn put_edge(
     order: &mut Order,
     marks: &mut CleanHolds,
@@ -92,8 +93,8 @@ pub(crate) fn put_edge(
     extents.put(at, agg, false);
 }
 
-/// Replaces the bytes of a range of a file. What it meets goes, and in its place come the parts on both sides and the new
-/// extent, in room that was made for them.
+/// Replaces the bytes of a range of a file. Removes the extents that it meets, and inserts their parts on both sides and the
+/// new extent, in room reserved for them.
 pub(crate) fn replace_range(
     order: &mut Order,
     marks: &mut CleanHolds,

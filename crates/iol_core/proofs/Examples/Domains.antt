@@ -1,4 +1,4 @@
--- Domains come and go: examples.
+-- Creating and ending domains: examples.
 use Rattle.std.proofs.Common.{◌≡◌, [], ◌∷◌, replicate, refl, true, false, None}
 use Rattle.std.specs.Prelude.{codes, Ok, Err}
 use Rattle.iol_core.specs.Text.{Text, bytes_of}

@@ -1,4 +1,4 @@
--- Acts from outside: examples.
+-- External events: examples.
 use Rattle.std.proofs.Common.{◌≡◌, ◌+◌, [], ◌∷◌, length, replicate, refl, Some}
 use Rattle.std.specs.Prelude.{codes, Ok, Err}
 use Rattle.iol_core.specs.Text.{Text, labelled, bytes_of}

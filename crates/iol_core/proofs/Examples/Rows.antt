@@ -1,5 +1,5 @@
--- Whole runs: "hello" through a pipe, a reader that the pool does not name, a pool that is closed,
--- aggregates taken apart and put together, pipes whose ends are closed, and lists that grow.
+-- Whole runs: "hello" through a pipe, a reader that the pool does not list, a closed pool, aggregates split and joined, pipes
+-- whose ends are closed, and lists that grow.
 use Rattle.std.proofs.Common.{◌≡◌, ℕ, List, [], ◌∷◌, ◌++◌, map, refl}
 use Rattle.std.specs.List.{range_with_len}
 use Rattle.std.specs.Prelude.{codes, is_some, unwrap_or, option_map, if◌then◌else◌}

@@ -1,4 +1,4 @@
--- Sharing: examples on a layout, whose texts are the places where the bytes lie.
+-- Sharing: examples on a layout, whose texts are the addresses of the bytes.
 use Rattle.std.proofs.Common.{◌≡◌, [], ◌∷◌, ◌++◌, refl}
 use Rattle.iol_core.specs.Text.{labelled}
 use Rattle.iol_core.specs.State.{State, new_domain, domain, pool, text, file, content, pipe_at, conn_at, with_domain, with_pipe, with_conn, with_content}

@@ -1,4 +1,4 @@
--- The state that the examples of single calls begin from, and what a call is answered where room, memory and the store suffice.
+-- The initial state of the examples of single calls, and the reply of a call if pages, memory and the store suffice.
 use Rattle.std.specs.Prelude.{true, false, [], ◌∷◌, ◌++◌, Some, None, Result, Ok, Err}
 use Rattle.std.specs.Prelude.{codes}
 use Rattle.iol_core.specs.Text.{Text, labelled}

@@ -1,14 +1,15 @@
 -- An aggregate is made of new bytes, after clean extents gave way.
-use Rattle.std.proofs.Common.{◌≡◌, ℕ, ◌∙◌, List, [], length, refl, sym, ap, subst, true, false}
-use Rattle.std.specs.Prelude.{Result, Ok, Err}
+use Rattle.std.proofs.Common.{◌≡◌, ℕ, ◌∙◌, Bool, List, [], ◌∷◌, length, Some, refl, sym, ap, subst, true, false}
+use Rattle.std.specs.Prelude.{Result, Ok, Err, is_none, nat_lt, not}
 use Rattle.iol_arena.specs.State.{pages_for}
 use Rattle.iol_core.specs.Text.{labelled}
 use Rattle.iol_core.specs.State as machine
 use Rattle.iol_core.specs.State.{State}
-use Rattle.iol_core.specs.Meaning.{WantOfRoom, first}
+use Rattle.iol_core.specs.Meaning.{◌when◌, WantOfRoom, first}
 use Rattle.iol_core.specs.Calls.Aggregates as aggs
+use Rattle.iol_core.specs.declared.limits.TheConstants.{MAX_AGGREGATE_BYTES}
 use Rattle.iol_core.specs.declared.refusals.Refusal.{Refusal}
-use Rattle.iol_core.specs.declared.refusals.Refusal.TheVariants.{NoRoom}
+use Rattle.iol_core.specs.declared.refusals.Refusal.TheVariants.{NoDomain, NoPool, TooLong, TooMany, PoolClosed, NoRoom, Memory}
 use Rattle.iol_hold.specs.Room.{has_room}
 use Rattle.iol_kernel.specs.Calls.{AddsBytes, MakesNext, MayMake, Steps}
 use Rattle.iol_kernel.specs.KernelState.{KernelState, machine_of, read_of}
@@ -37,6 +38,21 @@ default_blind d s x = refl
 make_blind : (d : ℕ) (bytes : List ℕ) (s : State) (x : List (List ℕ)) → first (aggs.agg_make (record s { slots = x }) d bytes).refusals ≡ first (aggs.agg_make s d bytes).refusals
 unfolding machine.domain machine.pool
 make_blind d bytes s x = refl
+
+-- Its tests are not for memory.
+
+five_tests : (p : ℕ) (a b c d e : Bool) → first ((NoDomain when a) ∷ (NoPool when b) ∷ (TooLong when c) ∷ (TooMany when d) ∷ (PoolClosed p when e) ∷ []) ≡ Some Memory → ⊥
+five_tests p true b c d e is = absurd (cc is)
+five_tests p false true c d e is = absurd (cc is)
+five_tests p false false true d e is = absurd (cc is)
+five_tests p false false false true e is = absurd (cc is)
+five_tests p false false false false true is = absurd (cc is)
+five_tests p false false false false false is = absurd (cc is)
+
+pub make_tests : (d : ℕ) (bytes : List ℕ) (s : State) → first (aggs.agg_make s d bytes).refusals ≡ Some Memory → ⊥
+make_tests d bytes s =
+    let p = aggs.default_pool s d in
+    five_tests p (not (machine.is_live s d)) (is_none (machine.domain s d).default) (nat_lt MAX_AGGREGATE_BYTES (length bytes)) (aggs.too_many_aggs s d 1 0) (machine.pool s p).closed
 
 module _ (pool pages : ℕ) (h k : KernelState) (room : MakesRoom pool pages h k) where
   pub open_after : (p : ℕ) → (machine.pool (machine_of [] h) p).closed ≡ false → (machine.pool (machine_of [] k) p).closed ≡ false

@@ -1,14 +1,15 @@
 -- Bytes come in on a connection, after clean extents gave way.
 use Rattle.std.proofs.Common.{◌≡◌, ℕ, ◌∙◌, arith, Bool, Option, List, [], ◌∷◌, length, Some, None, refl, sym, ap, true, false}
-use Rattle.std.specs.Prelude.{Result, Err}
+use Rattle.std.specs.Prelude.{◌-◌, ◌==◌, ◌&&◌, ◌||◌, Result, Err, is_some, min, nat_lt}
 use Rattle.iol_arena.specs.State.{pages_for}
 use Rattle.iol_core.specs.State as machine
 use Rattle.iol_core.specs.State.{State, Connection, conn_at}
 use Rattle.iol_core.specs.NumberedLists.{lookup}
 use Rattle.iol_core.specs.Meaning.{◌when◌, WantOfRoom, first}
 use Rattle.iol_core.specs.Calls.Outside as outside
+use Rattle.iol_core.specs.declared.limits.TheConstants.{MAX_QUEUE_BYTES}
 use Rattle.iol_core.specs.declared.refusals.Refusal.{Refusal}
-use Rattle.iol_core.specs.declared.refusals.Refusal.TheVariants.{BadFd, NoRoom}
+use Rattle.iol_core.specs.declared.refusals.Refusal.TheVariants.{BadFd, BrokenPipe, WouldBlock, NoRoom, Memory}
 use Rattle.iol_hold.specs.Room.{has_room}
 use Rattle.iol_hold.specs.declared.slices.Slice.{Slice}
 use Rattle.iol_pipe.specs.Queue.{fitting}
@@ -44,6 +45,25 @@ answer_same c bytes s x = refl
 late_is : (c : ℕ) (bytes : List ℕ) (s : State) (x : Refusal) → outside.arrive_late s c bytes x → WantOfRoom (conn_at s c).pool x
 late_is c [] s x is = absurd is
 late_is c (b ∷ bytes) s x is = is
+
+-- Its tests are not for memory, and those of a connection are not either.
+
+two_tests : (a b : Bool) → first ((BrokenPipe when a) ∷ (WouldBlock when b) ∷ []) ≡ Some Memory → ⊥
+two_tests true b is = absurd (cc is)
+two_tests false true is = absurd (cc is)
+two_tests false false is = absurd (cc is)
+
+three_tests : (a b c : Bool) → first ((BadFd when a) ∷ (BrokenPipe when b) ∷ (WouldBlock when c) ∷ []) ≡ Some Memory → ⊥
+three_tests true b c is = absurd (cc is)
+three_tests false b c is = two_tests b c is
+
+pub arrive_tests : (c : ℕ) (bytes : List ℕ) (s : State) → first (outside.arrive s c bytes).refusals ≡ Some Memory → ⊥
+arrive_tests c bytes s =
+    let n : ℕ = min (length bytes) (MAX_QUEUE_BYTES - length (conn_at s c).incoming) in
+    three_tests (outside.lacks_conn s c) (is_some (conn_at s c).peer || (conn_at s c).closed) (nat_lt 0 (length bytes) && (n == 0))
+
+pub held_tests : (x : Conn (List Slice)) (n : ℕ) → first (arrive_refusals x n) ≡ Some Memory → ⊥
+held_tests x n = two_tests (is_some x.peer || x.closed) (nat_lt 0 n && (fitting x.incoming n == 0))
 
 late_some : (c : ℕ) (bytes : List ℕ) (s : State) (pool : ℕ) → (length bytes ≡ 0 → ⊥) → (conn_at s c).pool ≡ pool → outside.arrive_late s c bytes (NoRoom pool)
 late_some c [] s pool some is = absurd (some refl)

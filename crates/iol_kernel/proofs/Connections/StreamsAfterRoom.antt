@@ -160,6 +160,7 @@ module _ (c max pool : ℕ) (h k : KernelState) (room : MakesRoom pool (pages_fo
         → OnErr r (l ≡ k) → OnErr r (after ≡ reader) → RefusesArrival c max h l reader after r
     takes_refuses reader after r l roomy fits byte same unread = record {
       byte = record { passed = on_ok r passed; refused = takes_refused r byte.refused; room = on_ok r (fits_in true fits); no_room = takes_room r roomy byte.no_room };
+      memory = λ is. fits_in true fits;
       err = takes_evicted r l roomy fits byte.no_room byte.refused same;
       err_reader = unread;
     }

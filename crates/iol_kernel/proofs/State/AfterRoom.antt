@@ -69,13 +69,14 @@ late_step m x passed late = rw passed late
 err_is : {A : Type 0} (x y : Refusal) → ◌≡◌ {A = Result A Refusal} (Err x) (Err y) → x ≡ y
 err_is x y e = cc
 
-pub places_refused : {A : Type 0} (m : State → Meaning A) (put : State → Text → State) (pool n : ℕ) (h : KernelState) (x : Refusal) → IsSound h → ((f : Reading) → first (m (read_of f h)).refusals ≡ Some x) → ((p : ℕ) → x ≡ NoRoom p → ⊥) → Places m put pool n h (Err x) h
-places_refused m put pool n h x sound is other = record {
+pub places_refused : {A : Type 0} (m : State → Meaning A) (put : State → Text → State) (pool n : ℕ) (h : KernelState) (x : Refusal) → IsSound h → ((f : Reading) → first (m (read_of f h)).refusals ≡ Some x) → ((p : ℕ) → x ≡ NoRoom p → ⊥) → ((s : State) → first (m s).refusals ≡ Some Memory → ⊥) → Places m put pool n h (Err x) h
+places_refused m put pool n h x sound is other tested = record {
   serves = still_serves m h h (Err x) sound sound (λ stored. (refused_step (m (machine_of stored h)) x (is (bytes_over stored h.store)), refl)) refl refl (stays_here h.store);
   made = tt;
   refused = inl refl;
   room = tt;
   no_room = λ p e. absurd (other p (err_is x (NoRoom p) e));
+  memory = λ e. (let f = bytes_over [] h.store in absurd (tested (read_of f h) (is f ∙ ap (λ (y : Refusal). Some y) (err_is x Memory e))));
 }
 
 -- A late refusal that does not come for want of room comes for want of memory.
@@ -124,6 +125,7 @@ places_none {A} m put pool n h k room same passed late lacks = record {
   refused = inl same;
   room = tt;
   no_room = λ p e. lacks;
+  memory = λ e. absurd (cc e);
 }
   where
     slots : List (List ℕ)
@@ -154,6 +156,7 @@ places_filled m put pool n h k l a room fits' steps made sound cache stays = rec
   refused = tt;
   room = fits';
   no_room = λ p e. absurd (cc e);
+  memory = λ e. absurd (cc e);
 }
 
 -- for want of memory
@@ -165,6 +168,7 @@ places_late {A} m put pool n h k l x room roomy fits' steps same late lacks = su
   refused = inr (record { memory = memory_left pool x late (λ p is. absurd (cc (sym roomy ∙ lacks p (ap (λ y. Err y) is)))); fits = fits'; room = room });
   room = tt;
   no_room = λ p e. absurd (cc (sym roomy ∙ lacks p e));
+  memory = λ e. fits';
 })
 
 -- Bytes that came where there was room, and bytes that did not.

@@ -1,12 +1,12 @@
-//! Aggregates: made of new bytes or of those that lie there already, shown, and dropped.
+//! Aggregates: made of new bytes or of bytes that are in memory already, shown, and dropped.
 ghost use Rattle.std.specs.Prelude.{◌≡◌, ℕ, true, IfOk, IfErr, Err};
 ghost use Rattle.iol_core.specs.Prelude.{is_live, domain};
 ghost use Rattle.iol_core.specs.Calls.Aggregates as calls;
-ghost use Rattle.iol_kernel.specs.Calls.{MakesNext, MayMake, RefusesShow};
+ghost use Rattle.iol_kernel.specs.Calls.{MayMake, RefusesShow};
 ghost use Rattle.iol_kernel.specs.Denials.{TellsBarred};
 ghost use Rattle.iol_kernel.specs.DomainAggregates.{HasAgg, MayCut, MayGive, MayJoin, MayReplace, MaySplit};
 ghost use Rattle.iol_kernel.specs.KernelState.{joined, IsSound};
-ghost use Rattle.iol_kernel.specs.NewBytes.{PlacesAgg, TestsMake};
+ghost use Rattle.iol_kernel.specs.NewBytes.{FillsNext, MakesAggregate, TestsMake};
 ghost use Rattle.iol_kernel.specs.Readings.{Reading};
 
 use crate::kernel::Kernel;
@@ -21,10 +21,11 @@ use std::alloc::AllocError;
 impl Kernel {
     ghost use Rattle.iol_kernel.specs.Kernel.{state_of, machine, as_read, Steps, Shows, ShowsSoMany, CarriesOut, KeepsPlaces, Attempts, Leaves};
 
-    /// Places bytes in the caller's default pool, as its next aggregate. Clean extents of the pool's files give way.
+    /// Places bytes in the caller's default pool, as its next aggregate. Clean extents of the
+    /// pool's files are evicted if necessary.
     pub fn agg_make(&mut self, by: DomainId, bytes: &Bytes) -> Result<AggId, Refusal>
         requires { IsSound (state_of self.old) }
-        ensures { PlacesAgg by bytes.now (state_of self.old) result (state_of self.new) }
+        ensures { MakesAggregate by bytes.now (state_of self.old) result (state_of self.new) }
     {
         let list = bytes.as_slice();
         let pool = self.pool_to_make(by, list)?;
@@ -34,8 +35,8 @@ impl Kernel {
         self.fill_agg(by, pool, list)
     }
 
-    /// The pool in which the caller's bytes lie once they are an aggregate. It is refused as `agg_make` is, but for want
-    /// of room and of memory.
+    /// The pool in which the caller's bytes are placed. Refused as `agg_make` is, except for NoRoom
+    /// and Memory.
     fn pool_to_make(&self, by: DomainId, bytes: &[u8]) -> Result<PoolId, Refusal>
         ensures { TestsMake by bytes.now (state_of self.now) result }
     {
@@ -57,7 +58,7 @@ impl Kernel {
         Ok(pool)
     }
 
-    /// The pool that the domain places in.
+    /// The pool in which the domain places new bytes.
     #[tactic(auto, using(crate::proofs::State::Views::domain_rules), unfolding(crate::specs::KernelState::read_of))]
     pub(crate) fn default_of(&self, d: DomainId) -> Option<PoolId>
         requires { is_live (machine self.now) d ≡ true }
@@ -71,14 +72,14 @@ impl Kernel {
     fn fill_agg(&mut self, by: DomainId, pool: PoolId, bytes: &[u8]) -> Result<AggId, Refusal>
         requires sound { IsSound (state_of self.old) }
         requires may { MayMake by bytes.now pool (state_of self.old) }
-        ensures { MakesNext by pool bytes.now (state_of self.old) result (state_of self.new) }
+        ensures { FillsNext by pool bytes.now (state_of self.old) result (state_of self.new) }
     {
         self.domains.reserve_aggs(by, 1)?;
         let agg = Agg::fill(self.alloc, &mut self.store, pool, bytes)?;
         Ok(self.domains.add_agg(by, agg))
     }
 
-    /// Makes an aggregate of the same bytes once more.
+    /// Makes a second aggregate of the same bytes.
     #[tactic(auto, using(crate::proofs::State::Stay::stay_rules))]
     pub fn agg_dup(&mut self, by: DomainId, agg: AggId) -> Result<AggId, Refusal>
         requires { IsSound (state_of self.old) }
@@ -113,7 +114,7 @@ impl Kernel {
         Ok(self.add_cut(by, agg, from, to)?)
     }
 
-    /// Adds the bytes of a range once more.
+    /// Adds an aggregate of the bytes of a range.
     #[tactic(auto, using(crate::proofs::State::Stay::stay_rules, crate::proofs::AggregateCalls::Slices::held_rules))]
     fn add_cut(&mut self, by: DomainId, agg: AggId, from: u32, to: u32) -> Result<AggId, AllocError>
         requires { MayCut by agg from to (state_of self.old) }
@@ -127,7 +128,7 @@ impl Kernel {
         Ok(self.domains.add_agg(by, cut))
     }
 
-    /// Splits an aggregate into the bytes before a place and those from it on.
+    /// Splits an aggregate into the bytes before `at` and those from it on.
     #[tactic(auto, using(crate::proofs::State::Stay::stay_rules))]
     pub fn agg_split(
         &mut self,
@@ -215,7 +216,7 @@ impl Kernel {
         Ok(self.replace(by, agg, from, to, other)?)
     }
 
-    /// Adds the bytes with those of another in place of a range.
+    /// Adds an aggregate of the bytes of one, with those of another in place of a range.
     #[tactic(auto, using(crate::proofs::State::Stay::stay_rules, crate::proofs::AggregateCalls::Slices::held_rules))]
     fn replace(
         &mut self,
@@ -252,7 +253,7 @@ impl Kernel {
         Ok(())
     }
 
-    /// Takes an aggregate from its domain, and releases its holds.
+    /// Takes an aggregate from its domain, and releases its references.
     #[tactic(auto, using(crate::proofs::AggregateCalls::Slices::held_rules))]
     fn release(&mut self, by: DomainId, agg: AggId)
         requires { HasAgg (state_of self.old) by agg }
@@ -307,7 +308,7 @@ impl Kernel {
         Ok(Bytes::from_vec(found.to_vec(self.alloc, &self.store)?))
     }
 
-    /// An aggregate's bytes, where they lie.
+    /// An aggregate's bytes, at their places in memory.
     pub fn parts(&self, by: DomainId, agg: AggId) -> Result<Parts<'_>, Refusal>
         requires { IsSound (state_of self.now) }
         ensures ok { IfOk result (λ parts. Shows by agg (joined parts) self.now) }
@@ -317,7 +318,7 @@ impl Kernel {
         Ok(found.parts(&self.store))
     }
 
-    /// How many bytes an aggregate has. Its slices are not walked.
+    /// The number of bytes of an aggregate. Its slices are not walked.
     pub fn agg_len(&self, by: DomainId, agg: AggId) -> Result<u32, Refusal>
         requires { IsSound (state_of self.now) }
         ensures ok { IfOk result (λ n. ShowsSoMany by agg n self.now) }

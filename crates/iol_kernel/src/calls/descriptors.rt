@@ -1,4 +1,4 @@
-//! Pipes are made and connections accepted, and descriptors on them are given and closed.
+//! Calls that make pipes and accept connections, and that give and close descriptors.
 ghost use Rattle.std.specs.Prelude.{◌≡◌, ◌≢◌, ℕ, true, Option, Some, None, Err};
 ghost use Rattle.iol_core.specs.State as state;
 ghost use Rattle.iol_core.specs.Prelude.{conn_at, is_numbered, lookup, taken, closed_on, freed, with_fds};
@@ -34,7 +34,7 @@ impl Kernel {
         Ok(self.new_pipe(by)?)
     }
 
-    /// How many pipes are live.
+    /// The number of live pipes.
     #[tactic(auto, using(crate::proofs::State::Views::count_rules), unfolding(crate::specs::KernelState::read_of))]
     fn pipe_count(&self) -> usize
         ensures { (f : Reading) → result ≡ taken (as_read f self.now).pipes }
@@ -42,7 +42,7 @@ impl Kernel {
         self.pipes.count()
     }
 
-    /// Adds a pipe with both ends in a domain.
+    /// Adds a pipe, and opens both ends in a domain.
     #[tactic(auto, using(crate::proofs::State::Stay::stay_rules, crate::proofs::AggregateCalls::Slices::held_rules))]
     fn new_pipe(&mut self, by: DomainId) -> Result<(Fd, Fd), AllocError>
         requires { MayPipe by (state_of self.old) }
@@ -54,7 +54,7 @@ impl Kernel {
         Ok(ends)
     }
 
-    /// Moves a descriptor to a domain's lowest free number.
+    /// Moves a descriptor to another domain, under its lowest free number.
     #[tactic(auto, using(crate::proofs::State::Stay::stay_rules))]
     pub fn give_fd(&mut self, by: DomainId, fd: Fd, to: DomainId) -> Result<Fd, Refusal>
         requires { IsSound (state_of self.old) }
@@ -75,7 +75,8 @@ impl Kernel {
         Ok(self.move_fd(by, fd, to, given)?)
     }
 
-    /// The pool of what a descriptor is open on, where a domain has to read it to hold the descriptor and may not.
+    /// The pool of the descriptor's object, if a domain needs to read it to hold the descriptor and
+    /// may not.
     fn denied_pool(&self, to: DomainId, given: Descriptor) -> Option<PoolId>
         requires { IsOpenEnd (objects_of (state_of self.now)) (Some given) }
         ensures { TellsDenied (state_of self.now) to (λ s. calls.needed_pool s (Some given)) result }
@@ -87,7 +88,7 @@ impl Kernel {
         }
     }
 
-    /// The pool of a connection, where a domain may not read it.
+    /// The pool of a connection, if a domain may not read it.
     fn hidden_pool(&self, to: DomainId, conn: ConnId) -> Option<PoolId>
         requires { lookup (state_of self.now).conns conn ≢ None }
         ensures { TellsDenied (state_of self.now) to (λ s. Some (conn_at s conn).pool) result }
@@ -99,7 +100,7 @@ impl Kernel {
         Some(pool)
     }
 
-    /// The pool of a file, where a domain may not read it.
+    /// The pool of a file, if a domain may not read it.
     pub(crate) fn hidden_file(&self, to: DomainId, file: FileId) -> Option<PoolId>
         requires { is_numbered (state_of self.now).files file ≡ true }
         ensures { TellsDenied (state_of self.now) to (λ s. Some (state.file s file).pool) result }
@@ -154,7 +155,8 @@ impl Kernel {
         self.close_end(end);
     }
 
-    /// Closes an end of a pipe or a connection, on which no descriptor is open any more. Of a file nothing is closed.
+    /// Closes an end of a pipe or a connection, on which no descriptor is open any more. For a file
+    /// nothing is closed.
     pub(crate) fn close_end(&mut self, end: Descriptor)
         requires { IsLetGo (state_of self.old) end }
         ensures { Closes end (state_of self.old) (state_of self.new) }
@@ -167,7 +169,8 @@ impl Kernel {
         }
     }
 
-    /// Closes a connection, on which no descriptor is open any more, and forgets it where nothing is left to send.
+    /// Closes a connection, on which no descriptor is open any more, and removes it if no bytes are
+    /// left to send.
     fn close_conn(&mut self, conn: ConnId)
         requires { IsLetGo (state_of self.old) (Descriptor.Connection conn) }
         ensures { Closes (Descriptor.Connection conn) (state_of self.old) (state_of self.new) }
@@ -176,7 +179,8 @@ impl Kernel {
         self.settle(conn);
     }
 
-    /// Accepts the first connection that waits and whose pool the domain may read, as its lowest free number.
+    /// Accepts the first waiting connection whose pool the domain may read, under the domain's
+    /// lowest free number.
     #[tactic(auto, using(crate::proofs::State::Stay::stay_rules))]
     pub fn accept(&mut self, by: DomainId) -> Result<Fd, Refusal>
         requires { IsSound (state_of self.old) }
@@ -194,14 +198,14 @@ impl Kernel {
         Ok(self.open_conn(by, conn)?)
     }
 
-    /// The first connection that waits and whose pool the domain may read.
+    /// The first waiting connection whose pool the domain may read.
     fn first_waiting(&self, by: DomainId) -> Option<ConnId>
         ensures { (f : Reading) → result ≡ calls.waiting (as_read f self.now) by }
     {
         self.conns.first_waiting(&self.store, by)
     }
 
-    /// Opens a connection that waits in a domain.
+    /// Opens a waiting connection in a domain.
     #[tactic(auto, using(crate::proofs::State::Stay::stay_rules, crate::proofs::AggregateCalls::Slices::held_rules))]
     fn open_conn(&mut self, by: DomainId, conn: ConnId) -> Result<Fd, AllocError>
         requires { MayAccept by conn (state_of self.old) }

@@ -1,4 +1,4 @@
-//! Domains come and go.
+//! Calls that make and end domains.
 ghost use Rattle.std.specs.Prelude.{◌≡◌, ℕ, [], length, Option, Err};
 ghost use Rattle.iol_core.specs.Calls.Domains as calls;
 ghost use Rattle.iol_desc.specs.Prelude.{with_aggs_in, with_fds_in};
@@ -36,7 +36,7 @@ impl Kernel {
         Ok(DomainId::new(count as u32 + 1))
     }
 
-    /// How many domains were ever made.
+    /// The number of domains ever made.
     #[tactic(auto, using(crate::proofs::State::Views::count_rules), unfolding(crate::specs::KernelState::read_of))]
     fn domain_count(&self) -> usize
         ensures { (f : Reading) → result ≡ length (as_read f self.now).domains }
@@ -58,7 +58,7 @@ impl Kernel {
         Ok(())
     }
 
-    /// Ends a domain: all that it has is released.
+    /// Ends a domain: all its aggregates and descriptors are released.
     fn end(&mut self, by: DomainId)
         requires { Lives (state_of self.old) by }
         ensures { Leaves (λ s. (calls.exit s by).after) self.old self.new }

@@ -21,9 +21,11 @@ use std::alloc::AllocError;
 impl Kernel {
     ghost use Rattle.iol_kernel.specs.Kernel.{state_of, as_read, Attempts, CarriesOut, NamesNext};
 
-    /// Gives the next slot of the store under files a name and a pool. The file begins with the bytes that are stored there.
+    /// Gives the next slot of the store under files a name and a pool. The file starts with the
+    /// bytes stored there.
     ///
-    /// `TooLong` is answered by what the store tells of the slot's length. Of an honest store that is what it has there.
+    /// `TooLong` depends on the length that the store reports for the slot. An honest store reports
+    /// the length of the slot's content.
     #[tactic(auto, using(crate::proofs::State::Stay::stay_rules))]
     pub fn file_new<B: Backing>(
         &mut self,
@@ -72,7 +74,7 @@ impl Kernel {
         self.files.table.has(name.as_slice())
     }
 
-    /// Opens a file in a mode, as the caller's lowest free number, at position 0.
+    /// Opens a file in a mode, under the caller's lowest free number, at position 0.
     #[tactic(auto, using(crate::proofs::State::Stay::stay_rules))]
     pub fn open_file(&mut self, by: DomainId, name: &Bytes, mode: Mode) -> Result<Fd, Refusal>
         requires { IsSound (state_of self.old) }
@@ -110,7 +112,7 @@ impl Kernel {
         self.files.table.pool_of(file)
     }
 
-    /// Opens a file that is there, at position 0.
+    /// Opens a file that exists, at position 0.
     fn open_at_start(&mut self, by: DomainId, file: FileId, mode: Mode) -> Result<Fd, AllocError>
         requires { MayOpenFile by file (state_of self.old) }
         ensures { Attempts (λ s. opens s by (Descriptor.File file 0 mode)) self.old result
@@ -120,7 +122,7 @@ impl Kernel {
         Ok(self.domains.add_fd(by, start)?)
     }
 
-    /// How many files there are.
+    /// The number of files.
     #[tactic(auto, using(crate::proofs::FileCalls::FileNames::file_rules))]
     fn file_count(&self) -> usize
         ensures { (f : Reading) → result ≡ length (as_read f self.now).files }

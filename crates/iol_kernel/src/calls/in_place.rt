@@ -1,5 +1,5 @@
-//! Connections that are served from outside in place: what a reader gives comes straight into a page, and a writer takes
-//! bytes from where they lie.
+//! Connections that are served from outside in place: bytes of a reader arrive directly in a page,
+//! and a writer takes bytes from their places.
 ghost use Rattle.std.specs.Prelude.{IfOk, IfErr};
 ghost use Rattle.iol_kernel.specs.Streams.{FailsToRead, MayBringIn};
 ghost use Rattle.iol_kernel.specs.InPlace.{DrainsToWriter, LendsToWriter, ReadsFromReader, TakesFromReader};
@@ -15,12 +15,13 @@ use std::io::{Read, Write};
 impl Kernel {
     ghost use Rattle.iol_kernel.specs.Kernel.{state_of};
 
-    /// The bytes of one read come in from a connection's peer, straight into a new buffer on the lowest free page of the
-    /// connection's pool. At most `max` bytes are asked for, a page of them, and what fits. Clean extents of the pool's
-    /// files give way.
+    /// The bytes of one read arrive from a connection's peer, directly in a new buffer on the
+    /// lowest free page of the connection's pool. The read asks for at most `max` bytes, a page,
+    /// and the free part of the queue. Clean extents of the pool's files are evicted if necessary.
     ///
-    /// `BadFd` where there is no such connection, `BadRange` where `max` is 0; else refused as one byte that arrives, all
-    /// before it reads. Where the reader is at its end or fails, nothing came in, and the page is free again.
+    /// `BadFd` if there is no such connection, `BadRange` if `max` is 0; otherwise refused as an
+    /// arrival of one byte is. Every refusal comes before the read. If the reader is at its end or
+    /// fails, nothing arrives, and the page is free again.
     pub fn arrive_from<R: Read>(
         &mut self,
         conn: ConnId,
@@ -37,8 +38,8 @@ impl Kernel {
         self.read_in(conn, reader, max)
     }
 
-    /// The pool of a connection on which bytes may arrive. It is refused as `arrive_from` is, but for want of room and of
-    /// memory.
+    /// The pool of a connection on which bytes may arrive. Refused as `arrive_from` is, except for
+    /// NoRoom and Memory.
     fn may_arrive_from(&self, conn: ConnId, max: u32) -> Result<PoolId, Refusal>
         requires { IsSound (state_of self.now) }
         ensures may { IfOk result (λ p. MayBringIn conn max p (state_of self.now)) }
@@ -54,7 +55,7 @@ impl Kernel {
         Ok(found.pool())
     }
 
-    /// The bytes of one read come in on a connection that is there.
+    /// The bytes of one read arrive on a connection that exists.
     fn read_in<R: Read>(
         &mut self,
         conn: ConnId,
@@ -70,10 +71,11 @@ impl Kernel {
         )
     }
 
-    /// Lends the first bytes to be sent on a connection to a writer, slice by slice and at most `max` in all, until it
-    /// fails or takes none. What it took is sent. No memory is taken.
+    /// Gives a writer references to the first bytes queued for sending on a connection, slice by
+    /// slice and at most `max` bytes in all, until it fails or takes none. The bytes it took are
+    /// sent. No memory is requested.
     ///
-    /// `BadFd` where there is no such connection.
+    /// `BadFd` if there is no such connection.
     #[tactic(auto, using(crate::proofs::State::Stay::stay_rules))]
     pub fn drain_to<W: Write>(
         &mut self,
@@ -90,7 +92,8 @@ impl Kernel {
         Ok(self.lend_out(conn, writer, max))
     }
 
-    /// Lends the first bytes to be sent on a connection that is there, and forgets it where it is over.
+    /// Drains the first bytes queued for sending on a connection that exists, and removes the
+    /// connection if it is over.
     fn lend_out<W: Write>(&mut self, conn: ConnId, writer: &mut W, max: u32) -> Drained
         requires { HasConn (state_of self.old) conn }
         ensures { LendsToWriter conn max W.contents writer.old writer.new self.old self.new result }

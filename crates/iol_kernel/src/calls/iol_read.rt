@@ -20,8 +20,8 @@ use std::alloc::AllocError;
 impl Kernel {
     ghost use Rattle.iol_kernel.specs.Kernel.{state_of, Attempts, CarriesOut, IsSource, TakesOff};
 
-    /// Reads up to `count` bytes, as the caller's next aggregate. The store under the files is asked for what of a file is not
-    /// in memory.
+    /// Reads up to `count` bytes, as the caller's next aggregate. The store under the files is
+    /// asked for the bytes of a file that are not in memory.
     pub fn iol_read<B: Backing>(
         &mut self,
         backing: &mut B,
@@ -67,7 +67,7 @@ impl Kernel {
         Ok(self.take(by, fd, from, count)?)
     }
 
-    /// Takes what the reader may see of the first bytes of a queue, as its next aggregate.
+    /// Takes the prefix of a queue that the reader may see, as its next aggregate.
     #[tactic(auto, using(crate::proofs::State::Stay::stay_rules, crate::proofs::AggregateCalls::Slices::held_rules))]
     fn take(&mut self, by: DomainId, fd: Fd, from: &Descriptor, n: u32) -> Result<AggId, AllocError>
         requires { MayTake by fd from.now (state_of self.old) }
@@ -78,7 +78,7 @@ impl Kernel {
         Ok(self.domains.add_agg(by, agg))
     }
 
-    /// Takes the longest prefix of a queue's first `n` bytes off it whose pools all name the domain.
+    /// Takes off a queue the longest prefix of its first `n` bytes whose pools all name the domain.
     fn front(&mut self, by: DomainId, from: &Descriptor, n: u32) -> Result<Agg, AllocError>
         requires { IsSource self.old from.now }
         ensures { TakesOff from.now by n self.old result self.new }

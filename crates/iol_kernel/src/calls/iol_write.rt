@@ -17,10 +17,11 @@ use iol_core::refusals::Refusal;
 impl Kernel {
     ghost use Rattle.iol_kernel.specs.Kernel.{state_of, CarriesOut};
 
-    /// Writes an aggregate, which stays. Returns how many of its bytes were taken.
+    /// Writes an aggregate, which stays. Returns the number of its bytes that were taken.
     ///
-    /// To a queue no byte is copied, and a refused write changes nothing. Over the bytes of a file those that lie in the
-    /// file's pool are shared; clean extents may go to make room for copies of the others, also where it is refused.
+    /// To a queue no byte is copied, and a refused write changes nothing. In a file, slices of the
+    /// file's pool are shared and the others are copied; clean extents may be evicted to make room
+    /// for the copies, even if the write is refused.
     pub fn iol_write(&mut self, by: DomainId, fd: Fd, agg: AggId) -> Result<u32, Refusal>
         requires { IsSound (state_of self.old) }
         ensures { WritesByReference by fd agg self.old result self.new }
@@ -35,7 +36,7 @@ impl Kernel {
         self.push(by, fd, agg, &to)
     }
 
-    /// What the caller's descriptor is open on, where the aggregate may be written to it.
+    /// The object of the caller's descriptor, if the aggregate may be written to it.
     #[tactic(auto, using(crate::proofs::State::Stay::stay_rules))]
     fn end_to_write(&self, by: DomainId, fd: Fd, agg: AggId) -> Result<Descriptor, Refusal>
         requires { IsSound (state_of self.now) }

@@ -1,4 +1,4 @@
-//! Acts from outside: connections are made, bytes arrive on them and are sent, and their peers close.
+//! External events: connections are made, bytes arrive on them and are sent, and their peers close.
 ghost use Rattle.std.specs.Prelude.{◌≡◌, ◌≢◌, ℕ, length, None, Err};
 ghost use Rattle.iol_core.specs.Prelude.{conn_at, with_conn, lookup, lacks_conn};
 ghost use Rattle.iol_core.specs.Calls.Outside as calls;
@@ -20,7 +20,8 @@ use std::alloc::AllocError;
 impl Kernel {
     ghost use Rattle.iol_kernel.specs.Kernel.{state_of, as_read, Attempts, CarriesOut, KeepsPlaces, Transmits, Leaves};
 
-    /// Makes a connection that waits to be accepted. What arrives on it will lie in the pool.
+    /// Makes a connection that waits to be accepted. Bytes that arrive on it are placed in the
+    /// pool.
     #[tactic(auto, using(crate::proofs::State::Stay::stay_rules))]
     pub fn conn_new(&mut self, pool: PoolId) -> Result<ConnId, Refusal>
         requires { IsSound (state_of self.old) }
@@ -38,7 +39,7 @@ impl Kernel {
         Ok(self.add_conn(pool)?)
     }
 
-    /// How many connections are live.
+    /// The number of live connections.
     #[tactic(auto, using(crate::proofs::Connections::OneConnection::conn_rules))]
     fn conn_count(&self) -> usize
         ensures { (f : Reading) → result ≡ length (as_read f self.now).conns }
@@ -74,7 +75,8 @@ impl Kernel {
         }
     }
 
-    /// The peer of a connection sends no more, or also takes no more: then what was to be sent is dropped.
+    /// The peer of a connection sends no more, or is gone: then the bytes queued for sending are
+    /// dropped.
     #[tactic(auto, using(crate::proofs::State::Stay::stay_rules))]
     pub fn peer_closed(&mut self, conn: ConnId, how: How) -> Result<(), Refusal>
         requires { IsSound (state_of self.old) }
@@ -89,7 +91,7 @@ impl Kernel {
         Ok(())
     }
 
-    /// Ends what the peer of a connection does, and forgets the connection where it is over.
+    /// Closes the peer's side of a connection, and removes the connection if it is over.
     fn end_peer(&mut self, conn: ConnId, how: How)
         requires { HasConn (state_of self.old) conn }
         ensures { Leaves (λ s. with_conn s conn (calls.closed_by (conn_at s conn) how)) self.old
@@ -99,7 +101,7 @@ impl Kernel {
         self.settle(conn);
     }
 
-    /// Forgets a connection that is over, and releases what it holds.
+    /// Removes a connection that is over, and releases its buffers.
     pub(crate) fn settle(&mut self, conn: ConnId)
         requires sound { IsSound (state_of self.old) }
         requires there { lookup (state_of self.old).conns conn ≢ None }
@@ -115,8 +117,9 @@ impl Kernel {
         over.release(&mut self.store);
     }
 
-    /// Bytes come in from a connection's peer, as many as fit: how many is the answer. Clean extents of files of the
-    /// connection's pool give way, and the bytes lie in new buffers on its lowest free pages then.
+    /// Bytes arrive from a connection's peer, as many as fit. Returns their number. Clean extents
+    /// of files of the connection's pool are evicted if necessary; then the bytes are placed in new
+    /// buffers on its lowest free pages.
     pub fn arrive(&mut self, conn: ConnId, bytes: &Bytes) -> Result<u32, Refusal>
         requires { IsSound (state_of self.old) }
         ensures { PlacesIncoming conn bytes.now (state_of self.old) result (state_of self.new) }
@@ -125,8 +128,8 @@ impl Kernel {
         self.take_in(conn, pool, count, bytes.as_slice())
     }
 
-    /// The pool of a connection, and how many of these bytes fit. It is refused as their arrival is, but for want of room
-    /// and of memory.
+    /// The pool of a connection, and how many of these bytes fit. Refused as their arrival is,
+    /// except for NoRoom and Memory.
     fn room_to_arrive(&self, conn: ConnId, bytes: &[u8]) -> Result<(PoolId, u32), Refusal>
         requires { IsSound (state_of self.now) }
         ensures { TestsArrival conn bytes.now (state_of self.now) result }
@@ -139,7 +142,7 @@ impl Kernel {
         Ok((found.pool(), bytes.len().min(room as usize) as u32))
     }
 
-    /// So many bytes come in on a connection that is there, once room for them is made.
+    /// `count` bytes arrive on a connection that exists, after room for them is made.
     fn take_in(
         &mut self,
         conn: ConnId,
@@ -156,7 +159,7 @@ impl Kernel {
         self.fill_conn(conn, bytes)
     }
 
-    /// Bytes come in on a connection that is there, and whose pool has room.
+    /// Bytes arrive on a connection that exists and whose pool has room.
     fn fill_conn(&mut self, conn: ConnId, bytes: &[u8]) -> Result<u32, Refusal>
         requires { HasConn (state_of self.old) conn }
         ensures { FillsIncoming conn bytes.now (state_of self.old) result (state_of self.new) }
@@ -164,8 +167,8 @@ impl Kernel {
         self.conns.arrive(self.alloc, &mut self.store, conn, bytes)
     }
 
-    /// Sends the first `max` bytes to be sent of a connection, or all where fewer wait, with the checksum of these
-    /// alone. The sum of each slice that is sent is used, in order.
+    /// Sends the first `max` bytes queued for sending on a connection, or all if there are fewer,
+    /// with their checksum. The sum of each slice sent is used, in order.
     #[tactic(auto, using(crate::proofs::State::Stay::stay_rules))]
     pub fn transmit(&mut self, conn: ConnId, max: u32) -> Result<Segment, Refusal>
         requires { IsSound (state_of self.old) }
@@ -177,7 +180,7 @@ impl Kernel {
         self.send(conn, max)
     }
 
-    /// Sends the first bytes of a connection that is there, and forgets it where it is over.
+    /// Sends the first bytes of a connection that exists, and removes the connection if it is over.
     fn send(&mut self, conn: ConnId, max: u32) -> Result<Segment, Refusal>
         requires { HasConn (state_of self.old) conn }
         ensures { Transmits conn max self.old (told result) self.new }

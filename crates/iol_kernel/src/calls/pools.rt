@@ -1,4 +1,4 @@
-//! Pools.
+//! Calls on pools.
 ghost use Rattle.std.specs.Prelude.{◌≡◌, ℕ, ◌<◌, length, OnOk, Err};
 ghost use Rattle.iol_core.specs.State as state;
 ghost use Rattle.iol_core.specs.Prelude.{is_pool};
@@ -32,7 +32,7 @@ impl Kernel {
         Ok(())
     }
 
-    /// Whether a domain may place in a pool, or close it: it is open, and names the domain.
+    /// Whether a domain may place in a pool, or close it: the pool is open, and names the domain.
     fn test_pool(&self, by: DomainId, pool: PoolId) -> Result<(), Refusal>
         ensures { TestsUse by pool (state_of self.now) result }
     {
@@ -68,7 +68,7 @@ impl Kernel {
         self.store.pools().is_pool(p)
     }
 
-    /// Whether nothing more is placed in the pool.
+    /// Whether the pool is closed to new bytes.
     #[tactic(auto, using(crate::proofs::State::Views::pool_rules), unfolding(crate::specs::KernelState::read_of))]
     pub(crate) fn is_closed(&self, p: PoolId) -> bool
         ensures { (f : Reading) → result ≡ (state.pool (as_read f self.now) p).closed }
@@ -76,7 +76,7 @@ impl Kernel {
         self.store.pools().is_closed(p)
     }
 
-    /// Makes a pool of so many chunks, which the domains of a list may read.
+    /// Makes a pool of `chunks` chunks, which the domains of a list may read.
     #[tactic(auto, using(crate::proofs::State::Stay::stay_rules))]
     pub fn pool_create(
         &mut self,
@@ -91,7 +91,7 @@ impl Kernel {
         Ok(self.add_pool(chunks, names)?)
     }
 
-    /// The domains that a new pool's list names, each once, or why the pool is refused.
+    /// The domains that a new pool's list names, without duplicates, or the refusal.
     fn names_for(&self, by: DomainId, chunks: u32, list: &[DomainId]) -> Result<Names, Refusal>
         ensures { TestsCreate by chunks list.now (state_of self.now) result }
     {
@@ -110,14 +110,14 @@ impl Kernel {
         Ok(names)
     }
 
-    /// Whether a domain and each of a list are live.
+    /// Whether a domain and all domains of a list are live.
     fn are_live(&self, by: DomainId, list: &[DomainId]) -> bool
         ensures { (f : Reading) → result ≡ are_all_live (as_read f self.now) by list.now }
     {
         self.is_live(by) && are_live(&self.domains, list)
     }
 
-    /// How many pools were ever made.
+    /// The number of pools ever made.
     #[tactic(auto, using(crate::proofs::State::Views::count_rules), unfolding(crate::specs::KernelState::read_of))]
     fn pool_count(&self) -> usize
         ensures { (f : Reading) → result ≡ length (as_read f self.now).pools }
@@ -125,7 +125,7 @@ impl Kernel {
         self.store.pools().len()
     }
 
-    /// Adds a pool of so many chunks for these domains.
+    /// Adds a pool of `chunks` chunks for these domains.
     #[tactic(auto, using(crate::proofs::State::Stay::stay_rules))]
     fn add_pool(&mut self, chunks: u32, names: Names) -> Result<PoolId, Refusal>
         requires sound { IsSound (state_of self.old) }
@@ -135,8 +135,8 @@ impl Kernel {
         Ok(self.store.create_pool(self.alloc, chunks, names)?)
     }
 
-    /// Has a pool that the caller may read name a domain more on its list. It takes no memory; a domain that is named already
-    /// changes nothing.
+    /// Adds a domain to the list of a pool that the caller may read. No memory is requested; if the
+    /// list names the domain already, nothing changes.
     #[tactic(auto, using(crate::proofs::State::Stay::stay_rules))]
     pub fn pool_admit(
         &mut self,
@@ -169,7 +169,7 @@ impl Kernel {
         Ok(())
     }
 
-    /// Whether the pool's list names the domain, or has a place for its name.
+    /// Whether the pool's list names the domain, or has a free entry for it.
     #[tactic(auto, using(crate::proofs::State::Views::pool_rules), unfolding(crate::specs::KernelState::read_of))]
     fn has_place(&self, p: PoolId, d: DomainId) -> bool
         ensures { (f : Reading) → result ≡ calls.has_place (state.pool (as_read f self.now)
@@ -187,7 +187,7 @@ impl Kernel {
         self.store.admit(p, d);
     }
 
-    /// Closes a pool: nothing more is placed in it, and its bytes stay readable.
+    /// Closes a pool: no more bytes are placed in it, and its bytes stay readable.
     #[tactic(auto, using(crate::proofs::State::Stay::stay_rules))]
     pub fn pool_close(&mut self, by: DomainId, pool: PoolId) -> Result<(), Refusal>
         requires { IsSound (state_of self.old) }
@@ -202,7 +202,7 @@ impl Kernel {
         Ok(())
     }
 
-    /// Whether a file or a connection is of the pool.
+    /// Whether any file or connection has the pool.
     #[tactic(auto, using(crate::proofs::State::Views::busy_rules), unfolding(crate::specs::KernelState::read_of))]
     fn is_busy(&self, p: PoolId) -> bool
         ensures { (f : Reading) → result ≡ calls.is_busy (as_read f self.now) p }
@@ -210,7 +210,7 @@ impl Kernel {
         self.files.table.is_any_of(p) || self.conns.is_busy(p)
     }
 
-    /// Closes a pool, which no file and no connection is of.
+    /// Closes a pool that no file and no connection has.
     fn end_pool(&mut self, p: PoolId)
         requires { IsIdle (state_of self.old) p }
         ensures { Leaves (with_pool_closed p) self.old self.new }

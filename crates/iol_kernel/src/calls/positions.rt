@@ -14,8 +14,8 @@ use iol_core::refusals::Refusal;
 impl Kernel {
     ghost use Rattle.iol_kernel.specs.Kernel.{state_of, LooksUp};
 
-    /// Puts a descriptor on a file at a position, at most at the file's end. Of a store that is not honest, that is where a
-    /// read of the file would end now.
+    /// Sets the position of a descriptor on a file, at most to the file's end. Over a store that is
+    /// not honest, the end is where a read of the file would end now.
     pub fn seek<B: Backing>(
         &mut self,
         backing: &B,
@@ -44,8 +44,8 @@ impl Kernel {
         Ok(())
     }
 
-    /// How many bytes the file has that a descriptor is open on. Of a store that is not honest, it is where a read of the
-    /// file would end now.
+    /// The length of the file that a descriptor is open on. Over a store that is not honest, it is
+    /// where a read of the file would end now.
     pub fn file_length<B: Backing>(&self, backing: &B, by: DomainId, fd: Fd) -> Result<u32, Refusal>
         requires { IsSound (state_of self.now) }
         ensures { TellsLength by fd (B.disk backing.now) (state_of self.now) result }
@@ -57,8 +57,8 @@ impl Kernel {
         Ok(self.length_of(backing, found.file))
     }
 
-    /// The file that a descriptor is open on. `NoDomain` where the domain is not live, `BadFd` where it has no such descriptor,
-    /// `WrongMode` where that is open on no file.
+    /// The file that a descriptor is open on. `NoDomain` if the domain is not live, `BadFd` if it
+    /// has no such descriptor, `WrongMode` if the descriptor is not open on a file.
     pub(crate) fn find_open(&self, by: DomainId, fd: Fd) -> Result<OpenFile, Refusal>
         requires { IsSound (state_of self.now) }
         ensures { FindsFile by fd (state_of self.now) result }
@@ -70,7 +70,7 @@ impl Kernel {
         Ok(OpenFile { file, at, mode })
     }
 
-    /// How many bytes a file has.
+    /// The length of a file in bytes.
     fn length_of<B: Backing>(&self, backing: &B, file: FileId) -> u32
         requires { HasFile (state_of self.now) file }
         ensures { IsLengthOf (B.disk backing.now) (state_of self.now) file result }

@@ -14,7 +14,7 @@ use iol_core::refusals::Refusal;
 impl Kernel {
     ghost use Rattle.iol_kernel.specs.Kernel.{state_of, ReadsList};
 
-    /// Reads up to `count` bytes, as a list of their own.
+    /// Reads up to `count` bytes, as a separate list.
     pub fn read_bytes<B: Backing>(
         &mut self,
         backing: &mut B,
@@ -32,7 +32,8 @@ impl Kernel {
         }
     }
 
-    /// Takes up to `count` bytes off a queue. Of memory it takes as much as waits, and that before it reads.
+    /// Takes up to `count` bytes off a queue. Memory for the queued bytes is requested before the
+    /// read.
     fn copy_queue(&mut self, by: DomainId, fd: Fd, count: u32) -> Result<Bytes, Refusal>
         requires { IsOnNoFile (state_of self.old) by fd }
         ensures { ReadsOut by fd count (state_of self.old) result (state_of self.new) }

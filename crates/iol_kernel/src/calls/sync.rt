@@ -1,4 +1,4 @@
-//! Writing back of what is dirty, and the going of what is clean.
+//! Writing back dirty extents, and evicting clean ones.
 ghost use Rattle.iol_kernel.specs.KernelState.{IsSound};
 ghost use Rattle.iol_kernel.specs.WriteBack.{DropsClean, MaySync};
 
@@ -10,8 +10,8 @@ use iol_core::refusals::Refusal;
 impl Kernel {
     ghost use Rattle.iol_kernel.specs.Kernel.{state_of, FlushesBack, SyncsBack, SyncsOpen};
 
-    /// Writes all that is dirty of the file back that a descriptor is open on, in the order of offsets, up to the first at which
-    /// the store fails. It takes no memory.
+    /// Writes back all dirty extents of the file that a descriptor is open on, by rising offset, up
+    /// to the first at which the store fails. No memory is requested.
     pub fn fsync<B: Backing>(
         &mut self,
         backing: &mut B,
@@ -29,7 +29,7 @@ impl Kernel {
         self.sync(backing, by, fd, found.file)
     }
 
-    /// Writes all that is dirty of a file back.
+    /// Writes back all dirty extents of a file.
     fn sync<B: Backing>(
         &mut self,
         backing: &mut B,
@@ -44,7 +44,8 @@ impl Kernel {
         self.files.cache.sync(&self.store, backing, file)
     }
 
-    /// Writes the dirty extent of least file and offset back, if one is dirty. It takes no memory.
+    /// Writes back the dirty extent of least file and offset, if there is one. No memory is
+    /// requested.
     pub fn flush<B: Backing>(&mut self, backing: &mut B) -> Result<(), Refusal>
         requires { IsSound (state_of self.old) }
         ensures { FlushesBack (B.disk backing.old) self.old result (B.disk backing.new) self.new }
@@ -55,7 +56,7 @@ impl Kernel {
         Ok(())
     }
 
-    /// Evicts all clean extents: nothing is in memory of files but what is not written back.
+    /// Evicts all clean extents: only dirty extents of files stay in memory.
     pub fn drop_clean(&mut self)
         requires { IsSound (state_of self.old) }
         ensures { DropsClean (state_of self.old) (state_of self.new) }

@@ -14,8 +14,9 @@ use iol_core::refusals::Refusal;
 impl Kernel {
     ghost use Rattle.iol_kernel.specs.Kernel.{state_of};
 
-    /// Writes the caller's bytes, as many as fit, and tells how many that is. Clean extents of files of the pool in which they
-    /// are to lie give way: of the file's pool, or of the caller's default pool.
+    /// Writes the caller's bytes, as many as fit, and returns their number. They are placed in the
+    /// file's pool, or for a queue in the caller's default pool. Clean extents of files of that
+    /// pool are evicted if necessary.
     pub fn write_bytes(&mut self, by: DomainId, fd: Fd, bytes: &[u8]) -> Result<u32, Refusal>
         requires { IsSound (state_of self.old) }
         ensures { WritesBytes by fd bytes.now (state_of self.old) result (state_of self.new) }

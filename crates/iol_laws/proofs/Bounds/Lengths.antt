@@ -1,4 +1,4 @@
--- No file becomes longer than a file may be, and so with aggregates and queues: in each state that is reached.
+-- No file, aggregate or queue exceeds its limit, in each reachable state.
 use Rattle.std.proofs.Common.{inl, inr, ◌≡◌, ◌≤◌, ◌⊎◌, ℕ, ◌+◌, ◌-◌, List, [], ◌∷◌, ◌++◌, length, take, drop, ap, ◌∙◌, refl, sym, subst, arith, Option, Some, None, true, false, length-append, length-drop}
 use Rattle.std.specs.Prelude.{nat_lt}
 use Rattle.std.proofs.lemmas.Bool.{cases_eq}

@@ -1,4 +1,4 @@
--- No queue of a pipe or of a connection becomes longer than one may be.
+-- No queue of a pipe or of a connection exceeds its limit.
 use Rattle.std.proofs.Common.{inl, inr, ◌≡◌, ◌≤◌, ℕ, ◌+◌, ◌-◌, List, [], ◌∷◌, ◌++◌, length, take, drop, ap, refl, sym, subst, arith, Option, Some, None, true, false, Bool, length-append}
 use Rattle.std.specs.Prelude.{unwrap_or, min, fold, ◌&&◌, if◌then◌else◌}
 use Rattle.std.specs.List.{list_all}

@@ -1,4 +1,4 @@
--- What the calls on aggregates do for their own domain.
+-- The effect of calls on aggregates for their caller.
 use Rattle.std.proofs.Common.{◌≡◌, ℕ, ◌+◌, ◌-◌, ◌≤◌, List, [], ◌∷◌, ◌++◌, take, drop, ap, ◌∙◌, subst, arith, Option, Some, None, true, append_assoc}
 use Rattle.std.specs.Prelude.{option_map, slice_range}
 use Rattle.iol_core.specs.Text.{Text, bytes_of, labelled, part}

@@ -1,4 +1,4 @@
--- What reading, writing, accepting and closing do for their own domain.
+-- The effect of reading, writing, accepting and closing for their caller.
 use Rattle.std.proofs.Common.{◌≡◌, ℕ, List, [], ◌++◌, length, take, drop, ap, ◌∙◌, refl, sym, arith, Some, true, false}
 use Rattle.std.specs.Prelude.{◌-◌, unwrap_or, is_none}
 use Rattle.iol_core.specs.Text.{Text}

@@ -1,4 +1,4 @@
--- What calls that make and end domains, and those on pools, do for the domain that makes them.
+-- The effect of calls that create and end domains, and of calls on pools, for their caller.
 use Rattle.std.proofs.Common.{inl, inr, ◌≡◌, ◌≢◌, ℕ, ◌+◌, ◌-◌, ◌==◌, List, [], ◌∷◌, ◌++◌, length, ap, ◌∙◌, refl, sym, subst, arith, Option, Some, None, true, false, Bool}
 use Rattle.std.specs.Prelude.{fold, nat_le, not, ◌&&◌, ◌||◌, if◌then◌else◌, MatchOption}
 use Rattle.std.specs.List.{list_any}

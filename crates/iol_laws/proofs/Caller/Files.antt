@@ -1,4 +1,4 @@
--- What opening a file by its name, its position and its length do for their own domain.
+-- The effect of opening a file by its name, of its position and of its length for the caller.
 use Rattle.std.proofs.Common.{inl, inr, ◌≡◌, ℕ, ◌+◌, ◌⊎◌, List, [], ◌∷◌, ◌++◌, length, ap, ◌∙◌, refl, sym, subst, arith, Option, Some, None, true, false, Bool}
 use Rattle.std.specs.Prelude.{option_map, slice_set, unwrap_or, not, is_none, is_some, nat_lt, position, bytes_eq, MatchOption}
 use Rattle.std.proofs.lemmas.Bool.Decides.{nat_tests}

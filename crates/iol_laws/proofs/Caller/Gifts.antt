@@ -1,4 +1,4 @@
--- What a domain hands to another one.
+-- Giving to another domain.
 use Rattle.std.proofs.Common.{◌≡◌, ◌≢◌, ℕ, ◌==◌, List, ◌∷◌, ap, ◌∙◌, refl, sym, subst, arith, Option, Some, None, true, false, Bool}
 use Rattle.std.specs.Prelude.{option_map, not, ◌||◌, if◌then◌else◌}
 use Rattle.std.specs.Option.{option_map_or}

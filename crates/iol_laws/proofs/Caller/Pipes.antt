@@ -1,4 +1,4 @@
--- What the calls on pipes do for their own domain.
+-- The effect of calls on pipes for their caller.
 use Rattle.std.proofs.Common.{◌≡◌, ℕ, List, [], ◌++◌, length, take, drop, ap, ◌∙◌, refl, sym, arith, Option, Some, None, true, false, Bool}
 use Rattle.iol_core.specs.declared.limits.TheConstants.{MAX_QUEUE_BYTES}
 use Rattle.std.specs.Prelude.{◌-◌, slice_set, unwrap_or, not, ◌||◌, if◌then◌else◌}

@@ -1,4 +1,4 @@
--- What is read of a queue and written to one, whether it is a pipe's or a connection's.
+-- Reading and writing a queue, of a pipe or of a connection.
 use Rattle.std.proofs.Common.{◌≡◌, ℕ, ◌==◌, ◌<◌, ◌≤◌, List, [], ◌++◌, length, take, drop, ap, ◌∙◌, sym, arith, Option, None, false, Bool}
 use Rattle.std.specs.Prelude.{min, nat_lt, option_map, ◌&&◌}
 use Rattle.iol_core.specs.Text.{Text, admitted, barred, bytes_of, labelled}

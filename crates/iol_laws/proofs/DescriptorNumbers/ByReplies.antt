@@ -1,4 +1,4 @@
--- What is not open is not open after a step that does not give its number, and numbers are below the limit.
+-- A descriptor that is not open is not open after a step that does not give its number, and numbers are below the limit.
 use Rattle.std.proofs.Common.{inl, inr, ◌≡◌, ◌≢◌, ℕ, ◌==◌, List, ap, ◌∙◌, refl, sym, subst, arith, Option, Some, None, true, false, Bool}
 use Rattle.std.specs.Prelude.{option_map, unwrap_or, fold, if◌then◌else◌, ◌&&◌, ◌||◌}
 use Rattle.std.specs.Option.{option_map_or}

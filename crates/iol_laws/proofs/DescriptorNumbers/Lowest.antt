@@ -1,4 +1,4 @@
--- The lowest free place is not past those that are taken.
+-- The lowest free index is at most the number of used ones.
 use Rattle.std.proofs.Common.{inl, inr, zero, suc, ◌≡◌, ◌≤◌, ℕ, List, [], ◌∷◌, ◌∙◌, refl, subst, arith, Option, Some, None}
 use Rattle.std.specs.Prelude.{slice_set}
 use Rattle.std.proofs.lemmas.Bool.{cases_eq}

@@ -1,4 +1,4 @@
--- What each event leaves of connections.
+-- The connections that each event leaves unchanged.
 use Rattle.std.proofs.Common.{◌≡◌, ℕ, ◌==◌, List, [], ◌∷◌, ◌∙◌, refl, arith, Option, Some, false, Bool}
 use Rattle.std.specs.Prelude.{◌||◌}
 use Rattle.std.specs.List.{list_any}

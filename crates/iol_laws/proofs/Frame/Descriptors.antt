@@ -1,4 +1,4 @@
--- What each event leaves of descriptors.
+-- The descriptors that each event leaves unchanged.
 use Rattle.std.proofs.Common.{inl, inr, ◌≡◌, ◌≢◌, ℕ, ◌+◌, ◌==◌, List, [], ◌∷◌, ◌++◌, length, take, drop, ap, ◌∙◌, refl, sym, subst, arith, Option, Some, None, true, false, Bool}
 use Rattle.std.specs.Prelude.{unwrap_or, ◌&&◌, fold}
 use Rattle.std.specs.Option.{option_map_or}

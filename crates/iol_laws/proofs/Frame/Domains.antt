@@ -1,4 +1,4 @@
--- What each event leaves of domains: which of them live, and where what they make lies.
+-- The domains that each event leaves live, and their default pools.
 use Rattle.std.proofs.Common.{inl, inr, ◌≡◌, ◌≢◌, ℕ, ◌+◌, List, ◌++◌, length, take, drop, ap, ◌∙◌, refl, Option, Some, None, true, false}
 use Rattle.std.specs.Prelude.{fold}
 use Rattle.std.specs.Option.{option_map_or}

@@ -1,4 +1,4 @@
--- What each event leaves of files and of pools.
+-- The files and pools that each event leaves unchanged.
 use Rattle.std.proofs.Common.{inl, inr, ◌≡◌, ◌≢◌, ℕ, ◌+◌, ◌==◌, List, [], ◌∷◌, ◌++◌, length, take, drop, ap, ◌∙◌, refl, sym, subst, arith, Option, Some, None, true, false, Bool}
 use Rattle.std.specs.Prelude.{if◌then◌else◌, fold, option_map, position, bytes_eq}
 use Rattle.std.specs.List.{list_any}

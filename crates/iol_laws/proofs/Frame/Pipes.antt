@@ -1,4 +1,4 @@
--- What each event leaves of pipes.
+-- The pipes that each event leaves unchanged.
 use Rattle.std.proofs.Common.{◌≡◌, ◌≢◌, ℕ, List, [], ◌∷◌, ◌++◌, length, take, drop, ap, ◌∙◌, refl, arith, Option, Some, None, true, false, Bool}
 use Rattle.std.specs.Prelude.{unwrap_or, ◌||◌, if◌then◌else◌, fold}
 use Rattle.std.specs.List.{list_any}

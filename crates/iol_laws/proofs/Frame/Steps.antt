@@ -1,4 +1,4 @@
--- Each step leaves all that its event does not touch.
+-- Each step leaves unchanged all that its event does not touch.
 use Rattle.std.proofs.Common.{◌≡◌, ◌∙◌, ℕ, ◌==◌, List, [], ap, refl, sym, subst, arith, Bool, true, false}
 use Rattle.std.specs.Prelude.{Result, Ok, Err}
 use Rattle.std.specs.List.{list_any}

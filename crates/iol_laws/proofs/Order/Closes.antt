@@ -1,4 +1,4 @@
--- What closing all of a domain's descriptors does to connections and pipes.
+-- The effect of closing all descriptors of a domain on connections and pipes.
 use Rattle.std.proofs.Common.{inl, inr, zero, suc, ◌≡◌, ℕ, ◌⊎◌, ◌==◌, List, [], ◌∷◌, ap, ◌∙◌, refl, sym, subst, arith, Option, Some, None, true, false, Bool}
 use Rattle.std.specs.Prelude.{not, fold, ◌&&◌, ◌||◌, if◌then◌else◌}
 use Rattle.std.specs.List.{list_any}

@@ -1,4 +1,4 @@
--- Nothing is left of a domain that ended, and a pipe that is there has an open end: after each event.
+-- An ended domain has nothing, and an existing pipe has an open end: after each event.
 use Rattle.std.proofs.Common.{inl, inr, zero, suc, ◌≡◌, ℕ, ◌+◌, List, [], ◌∷◌, ◌++◌, length, take, drop, ap, ◌∙◌, refl, sym, subst, Option, Some, None, true, false, Bool}
 use Rattle.std.specs.Prelude.{slice_set, unwrap_or, not, ◌||◌, if◌then◌else◌, fold}
 use Rattle.std.specs.Option.{option_map_or}

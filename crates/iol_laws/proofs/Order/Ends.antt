@@ -1,4 +1,4 @@
--- Each end of a pipe and each connection is open under one number of one domain, and stands: after each kind of change.
+-- Each end of a pipe and each connection is open under one number of one domain, and exists: after each kind of change.
 use Rattle.std.proofs.Common.{inl, inr, zero, suc, ◌≡◌, ◌≢◌, ℕ, ◌⊎◌, List, [], ◌∷◌, ap, ◌∙◌, refl, sym, subst, Option, Some, None, true, false}
 use Rattle.std.specs.Prelude.{slice_set, unwrap_or, not, ◌&&◌, ◌||◌, if◌then◌else◌}
 use Rattle.std.proofs.lemmas.Bool.{cases_eq}

@@ -1,4 +1,4 @@
--- What stands is open: after each event.
+-- Each existing end or connection is open: after each event.
 use Rattle.std.proofs.Common.{inl, inr, ◌≡◌, ◌≢◌, ℕ, ◌+◌, ◌⊎◌, ◌++◌, length, take, drop, ap, ◌∙◌, refl, sym, subst, arith, Option, Some, None, true, false, Bool}
 use Rattle.std.specs.Prelude.{option_map, unwrap_or, not, is_none, ◌&&◌}
 use Rattle.std.specs.Option.{option_map_or}

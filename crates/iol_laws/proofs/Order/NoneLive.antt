@@ -1,5 +1,5 @@
--- Where no domain lives nothing that was accepted or made in one is left: no aggregate, no descriptor and no pipe; a connection
--- that is left was closed, or nobody accepted it.
+-- If no domain is live, nothing that was accepted or made in one is left: no aggregate, no descriptor and no pipe; a remaining
+-- connection was closed, or never accepted.
 use Rattle.std.proofs.Common.{◌≡◌, ◌∙◌, ℕ, ap, refl, Option, Some, None, true, false, Bool}
 use Rattle.std.specs.Prelude.{unwrap_or, ◌||◌}
 use Rattle.iol_core.specs.NumberedLists.{in_place}

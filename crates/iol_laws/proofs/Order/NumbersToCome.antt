@@ -1,4 +1,4 @@
--- Each aggregate of a domain has a number of its own, below the next.
+-- Each aggregate of a domain has a unique number, below the next one.
 use Rattle.std.proofs.Common.{◌≡◌, ℕ, ◌≤◌, List, ◌∙◌, refl, arith, None}
 use Rattle.iol_core.specs.Text.{Text}
 use Rattle.iol_core.specs.NumberedLists.{lookup}

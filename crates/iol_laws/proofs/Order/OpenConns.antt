@@ -1,4 +1,4 @@
--- What stands is open: after each kind of change.
+-- Each existing end or connection is open: after each kind of change.
 use Rattle.std.proofs.Common.{inl, inr, zero, suc, ◌≡◌, ◌≢◌, ℕ, ◌==◌, ◌⊎◌, List, [], ◌∷◌, ap, ◌∙◌, refl, sym, subst, arith, Option, Some, None, true, false, Bool}
 use Rattle.std.specs.Prelude.{slice_set, unwrap_or, not, ◌&&◌, ◌||◌, if◌then◌else◌, fold}
 use Rattle.std.proofs.lemmas.Bool.{cases_eq}

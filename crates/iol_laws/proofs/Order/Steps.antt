@@ -1,4 +1,4 @@
--- A new state is orderly, and each step keeps it so.
+-- A new state is orderly, and each step preserves this.
 use Rattle.std.proofs.Common.{inl, inr, ◌≡◌, ◌≤◌, ◌∙◌, ℕ, List, length, ap, refl, sym, subst, arith, Option, Some, None, true, false}
 use Rattle.std.specs.Prelude.{Result, Ok, Err, unwrap_or, not}
 use Rattle.iol_core.specs.Text.{Text}

@@ -1,4 +1,4 @@
--- A connection that nobody accepted is open, and has nothing to send; numbers of connections are new.
+-- A connection that is not accepted is open, and has nothing to send; numbers of connections are new.
 use Rattle.std.proofs.Common.{inl, inr, zero, suc, ◌≡◌, ℕ, ◌≤◌, List, [], ◌∷◌, drop, ap, ◌∙◌, refl, sym, subst, arith, None, true, false}
 use Rattle.std.proofs.lemmas.Bool.{cases_eq}
 use Rattle.iol_core.specs.Text.{Text}

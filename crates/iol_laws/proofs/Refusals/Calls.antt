@@ -1,4 +1,4 @@
--- Which refusals a call can still get.
+-- The refusals that a call can still get.
 use Rattle.std.proofs.Common.{inl, inr, ◌≡◌, ◌≢◌, ℕ, ◌+◌, ◌≤◌, ◌==◌, List, [], ◌∷◌, length, ap, ◌∙◌, refl, sym, subst, arith, Option, Some, None, true, false, Bool}
 use Rattle.std.specs.Prelude.{⊤, option_map, unwrap_or, not, is_none, min, take, nat_lt, ◌&&◌, ◌||◌, MatchOption}
 use Rattle.std.proofs.lemmas.Bool.{cases_eq}

@@ -1,4 +1,4 @@
--- Which refusals of what happens outside are left, and why what arrives is broken.
+-- The refusals that an external event can still get, and the reason for which arriving bytes are refused with BrokenPipe.
 use Rattle.std.proofs.Common.{inl, inr, ◌≡◌, ℕ, ◌<◌, ◌⊎◌, List, [], ◌∷◌, ap, arith, Some, true, false, Bool}
 use Rattle.std.specs.Prelude.{not, is_some, ◌||◌}
 use Rattle.std.proofs.lemmas.Bool.Decides.{nat_tests}

@@ -1,4 +1,4 @@
--- Which refusals a call on a file can still get.
+-- The refusals that a call on a file can still get.
 use Rattle.std.proofs.Common.{◌≡◌, ◌<◌, ◌≤◌, ℕ, ◌+◌, ◌==◌, List, length, ap, ◌∙◌, refl, sym, subst, arith, Option, Some, None, true, false, Bool}
 use Rattle.std.specs.Prelude.{⊤, option_map, unwrap_or, not, is_none, is_some, nat_lt, ◌&&◌, ◌||◌, MatchOption}
 use Rattle.std.proofs.lemmas.Bool.Decides.{nat_tests}

@@ -1,4 +1,4 @@
--- Which refusals a call on a pool can still get, one that replaces part of an aggregate, and those that give something up.
+-- The refusals that a call on a pool, a call that replaces part of an aggregate, and a call that drops or closes can still get.
 use Rattle.std.proofs.Common.{◌≡◌, ◌<◌, ◌≤◌, ℕ, ◌+◌, ◌==◌, List, ◌++◌, length, take, drop, ap, ◌∙◌, refl, sym, arith, Some, true, false, Bool}
 use Rattle.std.specs.Prelude.{⊤, not, nat_lt, ◌&&◌, ◌||◌, MatchOption}
 use Rattle.std.specs.List.{list_all}

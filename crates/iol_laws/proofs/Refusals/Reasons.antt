@@ -1,4 +1,4 @@
--- Why a call is refused.
+-- The reasons for refusals.
 use Rattle.std.proofs.Common.{inl, inr, zero, suc, ◌≡◌, ℕ, ◌≤◌, ◌==◌, List, [], ◌∷◌, length, take, ap, ◌∙◌, refl, sym, subst, arith, Option, Some, None, true, false, Bool}
 use Rattle.std.specs.Prelude.{option_map, unwrap_or, not, is_none, min, nat_lt, find, ◌&&◌, ◌-◌, MatchOption}
 use Rattle.std.proofs.lemmas.Bool.{cases_eq}

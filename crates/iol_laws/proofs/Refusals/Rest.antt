@@ -1,4 +1,4 @@
--- The refusals that are left where the first ones cannot hold.
+-- The refusals that are left if the first ones cannot hold.
 use Rattle.std.proofs.Common.{◌≡◌, ◌∙◌, ℕ, List, ◌∷◌, ap, refl, Option, Some, None, true}
 use Rattle.std.specs.Prelude.{not, is_none}
 use Rattle.iol_core.specs.State.{State, descriptor, is_live}

@@ -1,4 +1,4 @@
--- Which events may be told to wait, and why what happens outside is.
+-- The events that may get WouldBlock, and the reason for external events.
 use Rattle.std.proofs.Common.{◌≡◌, ℕ, ◌≤◌, ◌==◌, List, [], ◌∷◌, length, refl, arith, Bool, Some, true}
 use Rattle.std.specs.Prelude.{min, nat_lt, ◌&&◌, ◌-◌}
 use Rattle.std.proofs.lemmas.Bool.Decides.{nat_tests}

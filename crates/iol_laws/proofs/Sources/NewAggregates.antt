@@ -1,4 +1,4 @@
--- An aggregate lies where what it is made from does.
+-- An aggregate is in the pools of its source.
 use Rattle.std.proofs.Common.{zero, suc, ◌≡◌, ℕ, ◌+◌, ◌==◌, List, [], ◌∷◌, ◌++◌, length, take, drop, ap, ◌∙◌, refl, sym, subst, arith, Option, Some, None, true, false, Bool, append_assoc, ◌-◌}
 use Rattle.std.specs.Prelude.{unwrap_or, option_map, if◌then◌else◌, ◌&&◌, ◌||◌}
 use Rattle.iol_core.specs.Text.{Text, bytes_of, labelled, admitted}

@@ -1,4 +1,4 @@
--- Who may read the pools of what waits in a pipe is never denied a read of it.
+-- A domain that may read the pools of a pipe's bytes is never denied a read of the pipe.
 use Rattle.std.proofs.Common.{◌≡◌, ℕ, [], ◌∷◌, take, refl, sym, subst, arith, Option, Some, true, Bool}
 use Rattle.std.specs.Prelude.{⊤, option_map, min, MatchOption}
 use Rattle.std.specs.List.{list_all}

@@ -1,4 +1,4 @@
--- What waits in a pipe lies where it did, and where what is written does.
+-- The bytes of a pipe stay in their pools, and written bytes are in the pools of their source.
 use Rattle.std.proofs.Common.{inl, inr, ◌≡◌, ℕ, List, [], ◌∷◌, take, refl, sym, subst, arith, Option, Some, true, false, Bool}
 use Rattle.std.specs.Prelude.{fold}
 use Rattle.std.proofs.lemmas.Bool.{cases_eq}

@@ -1,4 +1,4 @@
--- What is accepted stays accepted.
+-- An accepted connection stays accepted.
 use Rattle.std.proofs.Common.{inl, inr, suc, ◌≡◌, ℕ, List, [], ◌∷◌, ap, ◌∙◌, refl, sym, subst, Option, Some, None, true, false, Bool}
 use Rattle.std.specs.Prelude.{Result, Ok, Err}
 use Rattle.std.proofs.lemmas.Bool.{cases_eq}

@@ -1,4 +1,4 @@
--- While nobody accepted a connection, all that came on it is unread, and nothing was sent.
+-- While a connection is not accepted, all its input is unread, and nothing was sent.
 use Rattle.std.proofs.Common.{inl, inr, ◌≡◌, ◌≢◌, ℕ, ◌==◌, ◌<◌, ◌≤◌, List, [], ◌∷◌, ◌++◌, take, ap, ◌∙◌, refl, sym, subst, arith, true, false, Bool, append_assoc}
 use Rattle.std.specs.Prelude.{if◌then◌else◌, Result, Ok, Err}
 use Rattle.std.proofs.lemmas.Bool.{cases_eq, cases_lt}

@@ -1,4 +1,4 @@
--- What came in on a connection lies in its pool.
+-- The input of a connection is in its pool.
 use Rattle.std.proofs.Common.{◌≡◌, ℕ, ◌==◌, List, [], ◌∷◌, ◌++◌, length, take, refl, sym, subst, arith, Option, Some, None, true, false, Bool}
 use Rattle.std.specs.Prelude.{⊤, option_map, min, ◌-◌, MatchOption}
 use Rattle.std.specs.List.{list_all}

@@ -1,4 +1,4 @@
--- No event takes back a number that a connection got.
+-- No event lowers the next number of a connection.
 use Rattle.std.proofs.Common.{◌≡◌, ℕ, ◌≤◌, List, [], ◌∷◌, ◌∙◌, refl, sym, subst, arith}
 use Rattle.std.specs.Prelude.{Result, Ok, Err}
 use Rattle.iol_core.specs.State.{State, conn_at, with_conn}

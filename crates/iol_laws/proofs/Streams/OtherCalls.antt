@@ -1,4 +1,4 @@
--- What the calls of another domain leave of a connection.
+-- The effect of calls of another domain on a connection.
 use Rattle.std.proofs.Common.{inl, inr, suc, ◌≡◌, ℕ, ◌==◌, ◌⊎◌, List, [], ◌∷◌, ap, ◌∙◌, refl, sym, arith, Option, Some, true, false}
 use Rattle.std.specs.Prelude.{unwrap_or, not, is_none, ◌&&◌}
 use Rattle.std.specs.List.{list_any}

@@ -1,4 +1,4 @@
--- What the calls of another domain leave of a pipe.
+-- The effect of calls of another domain on a pipe.
 use Rattle.std.proofs.Common.{inl, inr, ◌≡◌, ◌≢◌, ℕ, ◌==◌, List, [], ◌∷◌, ◌++◌, take, drop, ap, ◌∙◌, refl, sym, subst, arith, Option, Some, true, false, Bool}
 use Rattle.std.specs.Prelude.{fold, unwrap_or, ◌||◌, Result, Ok, Err}
 use Rattle.std.specs.List.{list_any}

@@ -1,4 +1,4 @@
--- What happens outside to a connection.
+-- The effect of external events on a connection.
 use Rattle.std.proofs.Common.{◌≡◌, ℕ, ◌==◌, List, [], ◌∷◌, ◌++◌, length, take, drop, ap, ◌∙◌, refl, sym, arith, Option, Some, None, true, false, Bool}
 use Rattle.std.specs.Prelude.{min, not, is_none, is_some, ◌&&◌, ◌||◌, ◌-◌}
 use Rattle.std.proofs.lemmas.List.{length-take}

@@ -1,4 +1,4 @@
--- What follows from what remains of a connection: it is as it was left, or it was over, and is forgotten.
+-- Consequences for the rest of a connection: it is unchanged, or it was over, and is removed.
 use Rattle.std.proofs.Common.{inl, inr, ◌≡◌, ℕ, ◌⊎◌, List, [], ◌++◌, take, drop, ap, ◌∙◌, refl, sym, true, false, Bool, if◌then◌else◌}
 use Rattle.std.specs.Prelude.{not, ◌&&◌, ◌||◌}
 use Rattle.std.proofs.lemmas.List.{take-append-drop}

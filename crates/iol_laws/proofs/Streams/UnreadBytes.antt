@@ -1,4 +1,4 @@
--- What is unread on a connection after an event is the end of what was unread.
+-- The unread bytes of a connection after an event are the last of the former unread ones.
 use Rattle.std.proofs.Common.{inl, inr, ◌≡◌, ℕ, List, [], ◌∷◌, ◌++◌, take, drop, ap, ◌∙◌, refl, sym, subst, arith, None, true, false, Bool, append_assoc}
 use Rattle.std.proofs.lemmas.Bool.{cases_eq}
 use Rattle.std.proofs.lemmas.List.{append-nil, take-append-drop}

@@ -1,4 +1,4 @@
--- What is to be sent on a connection is sent first, and what is written stands behind it.
+-- The queued bytes of a connection are sent first, and written bytes follow them.
 use Rattle.std.proofs.Common.{inl, inr, ◌≡◌, ℕ, List, [], ◌∷◌, ◌++◌, ap, ◌∙◌, refl, sym, subst, arith, Option, Some, None, true, false, Bool, append_assoc}
 use Rattle.std.specs.Prelude.{not, ◌&&◌, ◌||◌}
 use Rattle.std.proofs.lemmas.Bool.{cases_eq}

@@ -1,4 +1,4 @@
--- The connection that waits, and those that are open.
+-- The waiting connection, and those that are open.
 use Rattle.std.proofs.Common.{inl, inr, ◌≡◌, ℕ, List, [], ◌∷◌, ap, refl, sym, subst, arith, Some, true, false, Bool}
 use Rattle.std.specs.Prelude.{option_map, not, ◌&&◌, find}
 use Rattle.std.proofs.lemmas.Bool.{cases_eq}

@@ -24,6 +24,8 @@ returns-then-first-most c =
       fewer = omega (arith, ap length items, first.some, c.if-first-most.true);
       shares = subst (λ (xs : List Slice). Shares s s (bufs_of xs) (bufs_of (first ∷ rest))) (sym items) (shares_as (shares_none s) (λ b. refl));
       whole = λ less b. omega (arith, first_tally c.args.queue.now.items rest first b items);
+      few = omega (arith, ap length items);
+      fewer_left = λ less. omega (arith, ap length items);
     }
 
 pub share-requires-clause-live : goal.share-requires-clause-live
@@ -47,4 +49,6 @@ returns c =
       fewer = omega (arith, ap length items, c.cut-2.ensures.len, c.requires.some);
       shares = shares_split first part c.cut.result c.args.queue.now.items c.push_front_reserved.new.self.items rest items c.push_front_reserved.ensures.items c.cut-2.ensures.hold (c.cut.ensures.hold ∙ c.share.ensures.hold) c.share.ensures.shares;
       whole = λ less b. absurd (omega (arith, less, c.cut-2.ensures.len));
+      few = omega (arith, ap length items, ap length c.push_front_reserved.ensures.items);
+      fewer_left = λ less. absurd (omega (arith, less, c.cut-2.ensures.len));
     }

@@ -1,4 +1,4 @@
-//! Each call that wants memory answers when there is enough.
+//! Each call that needs memory succeeds if there is enough.
 ghost use Rattle.std.specs.Prelude.{[], ◌≡◌};
 ghost use Rattle.iol_hold.specs.Prelude.{bufs_of, AllReadable};
 ghost use Rattle.iol_agg.specs.Prelude.{IsHeldBy};
@@ -30,7 +30,7 @@ fn start<R: Abort>(rt: &R, alloc: Global) -> (Store, PoolId)
     (store, pool)
 }
 
-// Bytes that come and go.
+// Bytes that are made and dropped.
 fn round<R: Abort>(rt: &R, alloc: Global, store: &mut Store, pool: PoolId) -> bool {
     let agg = filled(rt, alloc, store, pool, b"hello");
     let len = agg.len();
@@ -38,7 +38,7 @@ fn round<R: Abort>(rt: &R, alloc: Global, store: &mut Store, pool: PoolId) -> bo
     len == 5
 }
 
-// The same bytes once more, for a while.
+// A temporary copy of the same bytes.
 fn copy_all<R: Abort>(rt: &R, alloc: Global, store: &mut Store, agg: &Agg) -> bool
     requires { IsHeldBy store.old (bufs_of agg.now) }
     ensures { IsHeldBy store.new (bufs_of agg.now) }
@@ -50,7 +50,7 @@ fn copy_all<R: Abort>(rt: &R, alloc: Global, store: &mut Store, agg: &Agg) -> bo
     copied == len
 }
 
-// The second half, for a while.
+// The second half, temporarily.
 fn copy_half<R: Abort>(rt: &R, alloc: Global, store: &mut Store, agg: &Agg) -> bool
     requires { IsHeldBy store.old (bufs_of agg.now) }
     ensures { IsHeldBy store.new (bufs_of agg.now) }
@@ -62,7 +62,7 @@ fn copy_half<R: Abort>(rt: &R, alloc: Global, store: &mut Store, agg: &Agg) -> b
     copied == len - len / 2
 }
 
-// All bytes in place of the second half, for a while.
+// All bytes in place of the second half, temporarily.
 fn replace_half<R: Abort>(rt: &R, alloc: Global, store: &mut Store, agg: &Agg) -> bool
     requires { IsHeldBy store.old (bufs_of agg.now) }
     ensures { IsHeldBy store.new (bufs_of agg.now) }
@@ -77,7 +77,7 @@ fn replace_half<R: Abort>(rt: &R, alloc: Global, store: &mut Store, agg: &Agg) -
     replaced == len / 2 + len
 }
 
-// Splits the bytes and joins them again, and gives them up.
+// Splits the bytes, joins them again, and drops them.
 fn split_and_join<R: Abort>(rt: &R, store: &mut Store, agg: Agg) -> bool
     requires { IsHeldBy store.old (bufs_of agg) }
 {
@@ -91,14 +91,14 @@ fn split_and_join<R: Abort>(rt: &R, store: &mut Store, agg: Agg) -> bool
     halves == (half, len - half) && joined == len
 }
 
-// What an aggregate of 70,000 bytes has: two buffers, since a chunk has 65,536.
+// An aggregate of 70,000 bytes has two buffers, since a chunk has 65,536 bytes.
 fn has_two_buffers(store: &Store, agg: &Agg) -> bool
     requires { AllReadable store.now agg.now }
 {
     agg.len() == 70_000 && agg.slices().len() == 2 && agg.parts(store).count() == 2
 }
 
-// Whether an aggregate has these bytes.
+// Returns whether an aggregate has these bytes.
 fn has_bytes<R: Abort>(rt: &R, alloc: Global, store: &Store, agg: &Agg, text: &[u8]) -> bool
     requires { AllReadable store.now agg.now }
 {
@@ -106,7 +106,7 @@ fn has_bytes<R: Abort>(rt: &R, alloc: Global, store: &Store, agg: &Agg, text: &[
     bytes.as_slice() == text
 }
 
-// How the same bytes beside the first ones are refused, for which there is no room.
+// The refusal of the same bytes in addition to the first ones, for lack of pages.
 fn refuse_more<R: Abort>(
     rt: &R,
     alloc: Global,
@@ -124,7 +124,7 @@ fn refuse_more<R: Abort>(
     refusal
 }
 
-// Bytes come and go many times.
+// Bytes are made and dropped many times.
 fn repeat<R: Abort>(rt: &R, alloc: Global, store: &mut Store, pool: PoolId) -> bool {
     let mut all = store.buffer_count() == 0;
     for _ in 0..100_000 {

@@ -1,4 +1,4 @@
-//! Each call that wants memory answers when there is enough.
+//! Each call that needs memory succeeds if there is enough.
 ghost use Rattle.std.specs.Prelude.{◌≡◌, ◌<◌};
 ghost use Rattle.std.specs.List.{All};
 ghost use Rattle.iol_arena.specs.Prelude.{chunk_count, IsLive};
@@ -26,7 +26,7 @@ pub fn make_one<R: Abort>(rt: &R, alloc: Global, arena: &mut Arena, set: &ChunkS
     list[0]
 }
 
-// What such a buffer has.
+// The contents of such a buffer.
 fn has_seven(arena: &Arena, buf: BufId) -> bool
     requires { IsLive arena.now buf }
 {
@@ -57,13 +57,13 @@ fn begin<R: Abort>(rt: &R, alloc: Global, arena: &mut Arena, set: &ChunkSet) -> 
     parts == 2 && bufs.len() == 2
 }
 
-// Takes a chunk, in which nothing lies.
+// Takes an empty chunk.
 fn take_one<R: Abort>(rt: &R, arena: &mut Arena) -> bool {
     let chunk = arena.take_chunk().expect(rt, "a chunk");
     arena.free_in(chunk) == 16 && arena.retired_in(chunk) == 0 && arena.is_unused(chunk)
 }
 
-// Takes two more, on which buffers come and go.
+// Takes two more chunks, on which buffers are made and freed.
 fn use_two<R: Abort>(rt: &R, alloc: Global, arena: &mut Arena) -> bool {
     let set = arena.take_chunks(alloc, 2).expect(rt, "chunks");
     let mut all = true;

@@ -1,4 +1,4 @@
-//! Stores: what they hold after some calls, and which call fails.
+//! Stores: their contents after some calls, and the call that fails.
 
 use iol_back::backing::Backing;
 use iol_back::faulty::FaultyBacking;
@@ -10,7 +10,7 @@ use std::process::Abort;
 use std::test::Fail;
 use test_parts::checks::pass_if;
 
-// Puts bytes at the end of the first file.
+// Appends bytes to the first file.
 fn append<R: Abort>(rt: &R, slots: &mut Slots, text: &[u8]) {
     slots.append(FileId::new(1), text).expect(rt, "memory");
 }
@@ -28,23 +28,23 @@ fn make_faulty<R: Abort>(rt: &R, alloc: Global, k: u64) -> FaultyBacking<MemoryB
     FaultyBacking::new(make_store(rt, alloc), k)
 }
 
-// Whether bytes are read from a place.
+// Returns whether bytes can be read from a position.
 fn reads<B: Backing>(store: &mut B, file: u32, at: u32, into: &mut [u8]) -> bool {
     store.read_at(FileId::new(file), at, into).is_ok()
 }
 
-// Whether bytes are written to a place.
+// Returns whether bytes can be written to a position.
 fn writes<B: Backing>(store: &mut B, file: u32, at: u32, bytes: &[u8]) -> bool {
     store.write_at(FileId::new(file), at, bytes).is_ok()
 }
 
-// Whether this is what a file begins with.
+// Returns whether a file begins with these bytes.
 fn begins_with<B: Backing>(store: &mut B, file: u32, want: &[u8; 6]) -> bool {
     let mut bytes = [0; 6];
     reads(store, file, 0, &mut bytes) && bytes == *want
 }
 
-// Over the end of one file, and a new one.
+// Writes that extend a file, and a write to a new one.
 fn writes_and_reads<B: Backing>(store: &mut B) -> bool {
     writes(store, 1, 5, b"XYZ")
         && store.length(FileId::new(1)) == 8
@@ -63,14 +63,15 @@ fn ample(rt: HostRuntime) -> Result<(), Fail> {
     pass_if(both_hold(&rt, rt.alloc()))
 }
 
-// Whether there is no file of that number.
+// Returns whether there is no file of that number.
 fn is_no_file<B: Backing>(store: &mut B, number: u32) -> bool {
     !reads(store, number, 0, &mut [])
         && !writes(store, number, 0, b"")
         && store.length(FileId::new(number)) == 0
 }
 
-// What reads past the end, begins to write past it, or has no such number fails each time, and nothing else.
+// A read past the end, a write that begins past it, and a number without file fail each time;
+// nothing else does.
 fn fails_outside<B: Backing>(store: &mut B) -> bool {
     let mut two = [0; 2];
     !reads(store, 1, 5, &mut two)
@@ -87,7 +88,8 @@ fn outside_of_files(rt: HostRuntime) -> Result<(), Fail> {
     pass_if(fails_outside(&mut make_store(&rt, rt.alloc())))
 }
 
-// Whether of three calls the k-th fails, once, and what the first file has then.
+// Returns whether the k-th of three calls fails, once, and the first file has these contents
+// afterwards.
 fn fails_at<B: Backing>(store: &mut B, k: u64, want: &[u8; 6]) -> bool {
     let first = writes(store, 1, 0, b"VW");
     let second = writes(store, 1, 2, b"XYZ");
@@ -98,7 +100,8 @@ fn fails_at<B: Backing>(store: &mut B, k: u64, want: &[u8; 6]) -> bool {
         && begins_with(store, 1, want)
 }
 
-// Which call fails, and what the first file has then: a write leaves half of its bytes.
+// The call that fails, and the contents of the first file afterwards: a failing write leaves half
+// of its bytes.
 const FAULTS: [(u64, &[u8; 6]); 4] = [
     (0, b"VWXYZf"),
     (1, b"VbXYZf"),

@@ -1,5 +1,5 @@
-//! A cache is made, and a file added, where there is enough memory. Its reads and writes are those of
-//! [`kernel_calls`](super::kernel_calls).
+//! A cache is made, and a file added, if there is enough memory. Its reads and writes are tested
+//! by [`kernel_calls`](super::kernel_calls).
 ghost use Rattle.std.specs.Prelude.{◌<◌, length};
 ghost use Rattle.iol_cache.specs.Cache.{cached_of};
 ghost use Rattle.iol_core.specs.declared.limits.TheConstants.{MAX_FILES};

@@ -1,5 +1,5 @@
-//! Calls of connections that need memory for new bytes answer when there is enough. Those that share bytes are made by
-//! [`kernel_calls`](super::kernel_calls).
+//! Calls of connections that need memory for new bytes succeed if there is enough. Those that
+//! share bytes are tested by [`kernel_calls`](super::kernel_calls).
 use super::stores::{add_pool, new_store};
 use iol_core::configuration::Config;
 use iol_core::numbers::{DomainId, PoolId};
@@ -16,7 +16,7 @@ const TWO_CHUNKS: Config = Config {
     sums: 1,
 };
 
-// Bytes of the peer, and bytes for it.
+// Bytes from the peer, and bytes for it.
 fn arrives<R: Abort>(rt: &R, alloc: Global, store: &mut Store, conn: &mut Connection) -> bool {
     assert!(rt; !store.pools().is_closed(conn.pool()));
     conn.arrive(alloc, store, b"abc") == Ok(3)
@@ -42,7 +42,7 @@ fn writes<R: Abort>(
     conn.write(alloc, store, pool, b"fghi") == Ok(4) && conn.unsent() == 4
 }
 
-// Room for a connection, twice: it is there already.
+// Room for a connection, reserved twice: the second time it exists already.
 fn reserves(alloc: Global) -> bool {
     let mut table = Connections::new(alloc);
     let reserved = table.reserve().is_ok() && table.reserve().is_ok();

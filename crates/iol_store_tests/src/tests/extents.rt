@@ -1,4 +1,4 @@
-//! Extents: what a range has, once one is put in, and what it has when that is taken away.
+//! Extents: the contents of a range after one is added, and after it is removed.
 ghost use Rattle.std.specs.Prelude.{◌≡◌, ◌<◌, []};
 ghost use Rattle.iol_hold.specs.Prelude.{byte_len};
 
@@ -40,7 +40,7 @@ fn room_for_one<R: Abort>(rt: &R, alloc: Global) -> Extents
     extents
 }
 
-// What of a range is there, where five bytes lie at 4, and what is not.
+// The parts of a range that are present, with five bytes at 4, and those that are not.
 fn is_found<R: Abort>(rt: &R, alloc: Global, extents: &Extents) -> bool {
     let found = extents.find(alloc, 0, 16).expect(rt, "memory");
     let gaps = [Span { from: 0, to: 4 }, Span { from: 9, to: 16 }];
@@ -48,7 +48,7 @@ fn is_found<R: Abort>(rt: &R, alloc: Global, extents: &Extents) -> bool {
         && found.gaps.as_slice() == gaps.as_slice()
 }
 
-// Whether five dirty bytes lie at 4, and nothing over 3.
+// Returns whether there are five dirty bytes at 4, and none over 3.
 fn lies_at_four(extents: &Extents) -> bool {
     let Some((at, agg, dirty)) = extents.over(8) else {
         return false;
@@ -56,7 +56,7 @@ fn lies_at_four(extents: &Extents) -> bool {
     at == 4 && agg.len() == 5 && dirty && extents.over(3).is_none()
 }
 
-// Five dirty bytes are put in at 4, and taken away.
+// Five dirty bytes are added at 4, and removed.
 fn comes_and_goes<R: Abort>(rt: &R, alloc: Global, extents: &mut Extents, agg: Agg) -> bool
     requires none { extents.old.extents ≡ [] }
     requires room { 0 < extents.old.room }
@@ -68,7 +68,7 @@ fn comes_and_goes<R: Abort>(rt: &R, alloc: Global, extents: &mut Extents, agg: A
     is_there && agg.len() == 5 && extents.over(4).is_none()
 }
 
-// Five bytes of a store that is gone.
+// Five bytes of a store that was dropped.
 fn five<R: Abort>(rt: &R, alloc: Global) -> Agg
     ensures { byte_len result ≡ 5 }
 {

@@ -1,4 +1,4 @@
-//! Each call that wants memory answers when there is enough.
+//! Each call that needs memory succeeds if there is enough.
 ghost use Rattle.std.specs.Prelude.{◌<◌, map};
 ghost use Rattle.iol_hold.specs.Prelude.{count_of, Covers, IsFilled};
 
@@ -28,7 +28,7 @@ fn fill_one<R: Abort>(rt: &R, alloc: Global, store: &mut Store, pool: PoolId) ->
     holds.take_first().expect(rt, "a buffer")
 }
 
-// Whether the one buffer has five bytes, and these.
+// Returns whether the only buffer has five bytes, and these.
 fn says_hello(store: &Store, hold: &Hold) -> bool
     requires { IsFilled store.now hold.now }
 {
@@ -37,7 +37,7 @@ fn says_hello(store: &Store, hold: &Hold) -> bool
         && store.bytes(hold, 0, 5) == b"hello".as_slice()
 }
 
-// Fills a buffer and gives it up.
+// Fills a buffer and releases it.
 fn round<R: Abort>(rt: &R, alloc: Global, store: &mut Store, pool: PoolId) -> bool {
     let hold = fill_one(rt, alloc, store, pool);
     let filled = says_hello(store, &hold);
@@ -45,7 +45,7 @@ fn round<R: Abort>(rt: &R, alloc: Global, store: &mut Store, pool: PoolId) -> bo
     filled && store.buffer_count() == 0
 }
 
-// Shares a slice of a buffer, cuts it, and gives both up.
+// Shares a slice of a buffer, cuts it, and releases both.
 fn share_and_cut<R: Abort>(rt: &R, store: &mut Store, hold: Hold) -> bool
     requires filled { IsFilled store.old hold }
     requires held { 0 < count_of store.old hold.buf }
@@ -63,7 +63,7 @@ fn share_and_cut<R: Abort>(rt: &R, store: &mut Store, hold: Hold) -> bool
     is_cut && with_part == 1 && store.buffer_count() == 0
 }
 
-// Gives two buffers up.
+// Releases two buffers.
 fn release_two<R: Abort>(rt: &R, store: &mut Store, holds: Holds) -> bool
     requires { Covers store.old (map (λ h. h.buf) holds) }
 {
@@ -104,7 +104,7 @@ fn abandon_two<R: Abort>(rt: &R, alloc: Global, store: &mut Store, pool: PoolId)
     store.buffer_count() == 0
 }
 
-// Closes a pool while a buffer stands on its pages, and then gives that up.
+// Closes a pool while a buffer is on its pages, and then releases the buffer.
 fn close_in_use<R: Abort>(rt: &R, alloc: Global, store: &mut Store, pool: PoolId) -> bool {
     let hold = fill_one(rt, alloc, store, pool);
     assert!(rt; store.pools().is_pool(pool));
@@ -116,7 +116,7 @@ fn close_in_use<R: Abort>(rt: &R, alloc: Global, store: &mut Store, pool: PoolId
     closed.free == 31 && store.report_pool(pool).pages == 0
 }
 
-// Fills a buffer and gives it up, many times.
+// Fills a buffer and releases it, many times.
 fn repeat<R: Abort>(rt: &R, alloc: Global, store: &mut Store, pool: PoolId) -> bool {
     let mut all = true;
     for _ in 0..100_000 {

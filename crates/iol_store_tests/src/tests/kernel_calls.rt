@@ -1,4 +1,4 @@
-//! Each call of a kernel that needs memory answers when there is enough.
+//! Each call of a kernel that needs memory succeeds if there is enough.
 use super::kernels::{TestKernel, bytes};
 use iol_core::lists::{Bytes, Domains};
 use iol_core::numbers::DomainId;
@@ -82,7 +82,7 @@ fn ample(rt: HostRuntime) -> Result<(), Fail> {
     pass(all_answer(rt.alloc()))
 }
 
-/// The calls that copy, of a file and of a pipe.
+/// The copying calls, on a file and on a pipe.
 fn copies_answer(kernel: &mut TestKernel, with: &Inputs) -> bool {
     kernel.makes_file(&with.name)
         && kernel.opens(&with.name, 0)

@@ -1,4 +1,5 @@
-//! A kernel over a store in memory, in which each call of the kernel and each copying call is made as its answer says.
+//! A kernel over a store in memory, with a method for each call of the kernel and each copying
+//! call that compares the reply.
 use iol_back::memory::MemoryBacking;
 use iol_back::slots::Slots;
 use iol_core::configuration::Config;
@@ -11,7 +12,7 @@ use iol_posix::{read, read_bytes, write};
 use std::alloc::{AllocError, Global};
 use std::marker::Model;
 
-/// Bytes of their own.
+/// A copy of these bytes.
 pub fn bytes(alloc: Global, text: &[u8]) -> Result<Bytes, AllocError> {
     Ok(Bytes::from_vec(Vec::from_slice(alloc, text)?))
 }
@@ -32,7 +33,7 @@ fn agg(number: u64) -> AggId {
     AggId::new(number)
 }
 
-/// A kernel and its store, behind a value that says nothing of them.
+/// A kernel and its store, as a type without contracts.
 #[derive(Drop)]
 pub struct TestKernel {
     kernel: Kernel,
@@ -194,7 +195,7 @@ impl TestKernel {
         write(&mut self.kernel, one(), Fd::new(fd), text) == Ok(count)
     }
 
-    /// Reads into a memory of four bytes.
+    /// Reads into a buffer of four bytes.
     pub fn copies_out(&mut self, fd: u32, text: [u8; 4]) -> bool {
         let mut memory = [0; 4];
         let count = read(

@@ -36,12 +36,13 @@ fn make_order<R: Abort>(rt: &R, alloc: Global, count: usize) -> Order
     order
 }
 
-// What goes first where a file is in use.
+// The part that is evicted first if a file is in use.
 fn first(order: &Order, used: u32) -> Option<(FileId, u32)> {
     order.least(&UsesFile(used), &mut Rank::least())
 }
 
-// Two parts of a file and one of another enter, one is evicted, and one is used: how high they are, and which goes first.
+// Two parts of a file and one of another are added, one is evicted, and one is used: their
+// heights, and the part that is evicted first.
 fn three_in_order(order: &mut Order) -> bool
     requires entries { order.old.entries ≡ [] }
     requires room { 3 ≤ order.old.room }
@@ -78,7 +79,7 @@ fn order_of_three(rt: HostRuntime) -> Result<(), Fail> {
     pass_if(three_hold(&rt, rt.alloc()))
 }
 
-// Room for more entries than there are pages, and again for fewer, which is there already.
+// Room for more entries than there are pages, and again for fewer, which exists already.
 fn rooms_hold<R: Abort>(rt: &R, alloc: Global) -> bool {
     let mut order = make_order(rt, alloc, 3);
     let rooms = order.reserve(4096).is_ok() && order.reserve(16).is_ok();
@@ -92,7 +93,7 @@ fn ample(rt: HostRuntime) -> Result<(), Fail> {
     pass_if(rooms_hold(&rt, rt.alloc()))
 }
 
-// Rounds of a small and costly part: it enters, and is evicted.
+// Rounds of a small and costly part: it is added, and evicted.
 fn evict_rounds(order: &mut Order, rounds: u32)
     requires entries { order.old.entries ≡ [] }
     requires room { 0 < order.old.room }

@@ -1,4 +1,4 @@
-//! Each call that wants memory answers when there is enough.
+//! Each call that needs memory succeeds if there is enough.
 ghost use Rattle.std.specs.Prelude.{[]};
 ghost use Rattle.iol_hold.specs.Prelude.{bufs_of};
 ghost use Rattle.iol_agg.specs.Prelude.{IsHeldBy};
@@ -31,7 +31,7 @@ fn start<R: Abort>(rt: &R, alloc: Global) -> (Store, PoolId, PoolId)
     (store, both, second)
 }
 
-// Pushes new bytes, and tells how many were taken. Each way to count them comes to the same.
+// Pushes new bytes, and returns how many were taken. All counts agree.
 fn push<R: Abort>(
     rt: &R,
     alloc: Global,
@@ -52,7 +52,7 @@ fn push<R: Abort>(
     taken
 }
 
-// Takes bytes off for a domain, and tells how many they were.
+// Takes bytes off for a domain, and returns how many.
 fn front<R: Abort>(
     rt: &R,
     alloc: Global,
@@ -72,7 +72,8 @@ fn front<R: Abort>(
     len
 }
 
-// How many bytes are asked for, by which domain, and how many it gets of five that both may read and then three of domain 2.
+// The number of bytes requested, the domain, and the number of bytes that it gets, of five that
+// both may read and then three of domain 2.
 const FRONTS: [(u32, u32, u32); 5] = [(3, 1, 3), (9, 1, 2), (9, 1, 0), (2, 2, 2), (9, 2, 1)];
 
 // Takes bytes off as the rows say.

@@ -1,4 +1,4 @@
-//! Each call that wants memory answers when there is enough.
+//! Each call that needs memory succeeds if there is enough.
 ghost use Rattle.std.specs.Prelude.{◌≡◌, true};
 ghost use Rattle.iol_core.specs.Prelude.{is_numbered};
 ghost use Rattle.iol_pool.specs.Prelude.{AreOwned};
@@ -15,7 +15,7 @@ use std::process::Abort;
 use std::test::Fail;
 use test_parts::checks::pass_if;
 
-// Closes a pool while a buffer stands on its pages, and then frees that.
+// Closes a pool while a buffer is on its pages, and then frees the buffer.
 fn close_in_use<R: Abort>(
     rt: &R,
     alloc: Global,
@@ -34,7 +34,7 @@ fn close_in_use<R: Abort>(
     closed.free == 31 && pools.report(arena, pool).pages == 0
 }
 
-// Whether a pool is there of which domains 1 and 2 may read.
+// Returns whether a pool exists that domains 1 and 2 may read.
 fn is_for_two(pools: &Pools, pool: PoolId) -> bool {
     let (one, two, three) = (DomainId::new(1), DomainId::new(2), DomainId::new(3));
     pools.is_pool(pool)
@@ -43,7 +43,7 @@ fn is_for_two(pools: &Pools, pool: PoolId) -> bool {
         && pools.admits(&[pool], three) == Err(pool)
 }
 
-// Whether all pages of two chunks are free.
+// Returns whether all pages of two chunks are free.
 fn has_two_chunks(arena: &Arena, pools: &Pools, pool: PoolId) -> bool
     requires { AreOwned arena.now pools.now }
 {
@@ -70,7 +70,7 @@ fn all_hold<R: Abort>(rt: &R, alloc: Global, names: Names) -> bool {
     is_made && is_used && pools.is_closed(pool) && arena.take_chunks(alloc, 3).is_ok()
 }
 
-// Two domains, of which one is named twice.
+// Two domains, of which one is listed twice.
 fn two_named<R: Abort>(rt: &R) -> Names {
     let (one, two) = (DomainId::new(1), DomainId::new(2));
     Names::of(&[one, two, one]).expect(rt, "at most sixteen domains")

@@ -5,7 +5,7 @@ use std::alloc::Global;
 use std::test::Fail;
 use test_parts::checks::pass_each;
 
-// All refusals in the order of their declaration, and how they are printed.
+// All refusals in the order of their declaration, and their printed texts.
 fn printed() -> [(Refusal, &'static str); 17] {
     let (pool, file) = (PoolId::new(7), FileId::new(3));
     [
@@ -29,7 +29,7 @@ fn printed() -> [(Refusal, &'static str); 17] {
     ]
 }
 
-// Whether a refusal is printed so, and its name is how that begins.
+// Returns whether a refusal has this printed text, which begins with its name.
 fn prints(alloc: Global, refusal: Refusal, text: &str) -> Result<bool, Refusal> {
     let printed = format!(in alloc; "{refusal}")?;
     Ok(printed.as_str() == text && text.starts_with(refusal.name()))

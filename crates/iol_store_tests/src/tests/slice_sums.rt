@@ -1,4 +1,4 @@
-//! Sums of slices: which are remembered, and of which bytes.
+//! Sums of slices: the ones that are remembered, and their bytes.
 ghost use Rattle.std.specs.Prelude.{◌<◌};
 ghost use Rattle.iol_hold.specs.Prelude.{AllReadable};
 ghost use Rattle.iol_sum.specs.Prelude.{IsRight};
@@ -40,17 +40,17 @@ fn two_slices<R: Abort>(rt: &R, alloc: Global, store: &mut Store, pool: PoolId) 
     first.join(second).expect(rt, "memory")
 }
 
-// Room for so many sums.
+// A table for `limit` sums.
 fn cache<R: Abort>(rt: &R, alloc: Global, store: &Store, limit: u32) -> SumCache
     requires { 0 < limit }
     ensures { IsRight store.now.arena result }
 {
-    // A new cache is right of any store.
+    // A new table is valid for any store.
     let _store = store;
     SumCache::new(alloc, limit).expect(rt, "memory")
 }
 
-// The sum of the slice at that place.
+// The sum of the slice at that index.
 fn sum_at<R: Abort>(rt: &R, sums: &mut SumCache, store: &Store, agg: &Agg, at: usize) -> u16
     requires readable { AllReadable store.now agg.now }
     requires right { IsRight store.now.arena sums.old }
@@ -61,7 +61,7 @@ fn sum_at<R: Abort>(rt: &R, sums: &mut SumCache, store: &Store, agg: &Agg, at: u
     sums.sum(store, &slices[at])
 }
 
-// What is remembered of the slice at that place.
+// The remembered sum of the slice at that index.
 fn known_at<R: Abort>(rt: &R, sums: &SumCache, store: &Store, agg: &Agg, at: usize) -> Option<u16>
     requires readable { AllReadable store.now agg.now }
     requires right { IsRight store.now.arena sums.now }
@@ -71,7 +71,7 @@ fn known_at<R: Abort>(rt: &R, sums: &SumCache, store: &Store, agg: &Agg, at: usi
     sums.remembered(store, &slices[at])
 }
 
-// What is known of new bytes at once, and then their sum. The bytes go again.
+// Looks up new bytes at once, and then computes their sum. The bytes are dropped again.
 fn round<R: Abort>(
     rt: &R,
     alloc: Global,
@@ -90,7 +90,7 @@ fn round<R: Abort>(
     (known, sum)
 }
 
-// A list of one: a further sum drives the first one out.
+// A table of one sum: a further sum evicts the first one.
 fn first_goes<R: Abort>(rt: &R, sums: &mut SumCache, store: &Store, agg: &Agg) -> bool
     requires readable { AllReadable store.now agg.now }
     requires right { IsRight store.now.arena sums.old }
@@ -104,7 +104,7 @@ fn first_goes<R: Abort>(rt: &R, sums: &mut SumCache, store: &Store, agg: &Agg) -
     [one, two, again] == [ABC, ABD, ABC] && [gone, stays, comes] == [None, Some(ABD), Some(ABC)]
 }
 
-// Room for both sums. The second slice begins at an odd place.
+// Room for both sums. The second slice begins at an odd position.
 fn both_stay<R: Abort>(rt: &R, sums: &mut SumCache, store: &Store, agg: &Agg) -> bool
     requires readable { AllReadable store.now agg.now }
     requires right { IsRight store.now.arena sums.old }
@@ -117,7 +117,7 @@ fn both_stay<R: Abort>(rt: &R, sums: &mut SumCache, store: &Store, agg: &Agg) ->
     whole == sum_of(b"abcabd") && known == [Some(ABC), Some(ABD)]
 }
 
-// Room for one sum, and for as many as a configuration may ask for.
+// Room for one sum, and for the maximum number of a configuration.
 fn remembers_what_fits<R: Abort>(rt: &R, alloc: Global) -> bool {
     let (mut store, pool) = start(rt, alloc, u32::MAX);
     let agg = two_slices(rt, alloc, &mut store, pool);
@@ -149,7 +149,7 @@ fn ample(rt: HostRuntime) -> Result<(), Fail> {
     pass_if(all_answer(&rt, rt.alloc()))
 }
 
-// Other bytes, on the same page again where it serves more than once: nothing is known of them.
+// Other bytes, on the same page if it has a further generation: no sum of them is remembered.
 fn recycles<R: Abort>(rt: &R, alloc: Global, gen_limit: u32) -> bool {
     let (mut store, pool) = start(rt, alloc, gen_limit);
     let mut sums = cache(rt, alloc, &store, 8);

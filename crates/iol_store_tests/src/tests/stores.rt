@@ -1,4 +1,5 @@
-//! Stores, pools and new bytes for the tests: each call of the store in a function of its own, with its inputs made before it.
+//! Stores, pools and new bytes for the tests: each call of the store is a function of its own,
+//! with its inputs made before it.
 ghost use Rattle.std.specs.Prelude.{[]};
 ghost use Rattle.iol_hold.specs.Prelude.{Moves, bufs_of, AllReadable};
 ghost use Rattle.iol_agg.specs.Prelude.{IsHeldBy};
@@ -12,14 +13,14 @@ use iol_pool::names::Names;
 use std::alloc::Global;
 use std::process::Abort;
 
-/// A store in which nothing lies.
+/// An empty store.
 pub fn new_store<R: Abort>(rt: &R, alloc: Global, config: Config) -> Store
     ensures { IsHeldBy result [] }
 {
     Store::new(alloc, config).expect(rt, "memory")
 }
 
-/// A pool of so many chunks for these domains.
+/// A pool of this number of chunks for these domains.
 pub fn add_pool<R: Abort>(
     rt: &R,
     alloc: Global,

@@ -1,4 +1,4 @@
-//! Values of sums, from outside.
+//! Values of sums, by the public functions.
 
 use iol_sum::{checksum, combine, sum_of};
 use std::test::Fail;
@@ -25,7 +25,7 @@ fn checksums(_rt: HostRuntime) -> Result<(), Fail> {
     pass_if(checksums_hold())
 }
 
-// The example of RFC 1071, whole and cut at an odd place.
+// The example of RFC 1071, whole and cut at an odd position.
 fn odd_places_hold() -> bool {
     let whole = sum_of(&[0x00, 0x01, 0xf2, 0x03, 0xf4, 0xf5, 0xf6, 0xf7]);
     let first = sum_of(&[0x00, 0x01, 0xf2]);

@@ -1,4 +1,4 @@
-//! Each call that wants memory answers when there is enough, and so it does after many rounds.
+//! Each call that needs memory succeeds if there is enough, and still does after many rounds.
 ghost use Rattle.std.specs.Prelude.{true};
 
 use iol_core::descriptors::Descriptor;
@@ -20,7 +20,7 @@ fn add(table: &mut Table<u32>, d: DomainId, agg: u32) -> Option<AggId> {
     Some(table.add_agg(d, agg))
 }
 
-// Takes an aggregate, where it is there.
+// Takes an aggregate, if it exists.
 fn take(table: &mut Table<u32>, d: DomainId, agg: AggId) -> Option<u32> {
     if !table.live(d) || table.agg(d, agg).is_none() {
         return None;
@@ -42,7 +42,7 @@ fn take_all(table: &mut Table<u32>, d: DomainId) -> usize {
     10_000
 }
 
-// Opens a descriptor, and tells its number.
+// Opens a descriptor, and returns its number.
 fn open(table: &mut Table<u32>, d: DomainId) -> Option<u32> {
     if !table.live(d) || table.is_open_beyond(d, 1) {
         return None;
@@ -54,7 +54,7 @@ fn open(table: &mut Table<u32>, d: DomainId) -> Option<u32> {
     }
 }
 
-// Closes a descriptor, where it is there.
+// Closes a descriptor, if it exists.
 fn close(table: &mut Table<u32>, d: DomainId, number: u32) -> bool {
     let fd = Fd::new(number);
     if !table.live(d) || table.descriptor(d, fd).is_none() {
@@ -64,7 +64,7 @@ fn close(table: &mut Table<u32>, d: DomainId, number: u32) -> bool {
     true
 }
 
-// An aggregate comes, under that number, and goes.
+// An aggregate is added under that number, and taken.
 fn comes_and_goes(table: &mut Table<u32>, d: DomainId, round: u32) -> bool {
     match add(table, d, round) {
         Some(agg) => agg.number() == round as u64 && take(table, d, agg) == Some(round),
@@ -72,7 +72,7 @@ fn comes_and_goes(table: &mut Table<u32>, d: DomainId, round: u32) -> bool {
     }
 }
 
-// Aggregates come and go, each under the next number.
+// Aggregates are added and taken, each under the next number.
 fn come_and_go(table: &mut Table<u32>, d: DomainId) -> bool {
     let mut all = true;
     for round in 3..100_000 {
@@ -81,12 +81,12 @@ fn come_and_go(table: &mut Table<u32>, d: DomainId) -> bool {
     all
 }
 
-// Whether of two aggregates the second alone is there, which is 2.
+// Returns whether of two aggregates only the second exists, which is 2.
 fn has_second(table: &Table<u32>, d: DomainId, first: AggId, second: AggId) -> bool {
     table.live(d) && table.agg(d, first).is_none() && table.agg(d, second).copied() == Some(2)
 }
 
-// The first aggregate is taken, and the second stays.
+// The first aggregate is taken, and the second remains.
 fn take_first(table: &mut Table<u32>, d: DomainId) -> bool {
     let (Some(first), Some(second)) = (add(table, d, 1), add(table, d, 2)) else {
         return false;
@@ -94,7 +94,7 @@ fn take_first(table: &mut Table<u32>, d: DomainId) -> bool {
     come_and_go(table, d) && take(table, d, first) == Some(1) && has_second(table, d, first, second)
 }
 
-// Many aggregates are taken at once, beside one that is there.
+// Many aggregates are taken at once, in addition to an existing one.
 fn take_many(table: &mut Table<u32>, d: DomainId) -> bool {
     let mut all = true;
     for round in 0..1000 {
@@ -123,7 +123,7 @@ fn ample(rt: HostRuntime) -> Result<(), Fail> {
     pass_if(all_taken(&rt, rt.alloc()))
 }
 
-// Opens descriptors to the last, which have the numbers in their order.
+// Opens descriptors up to the last, with ascending numbers.
 fn open_all(table: &mut Table<u32>, d: DomainId) -> bool {
     let mut all = true;
     for number in 0..1024 {
@@ -132,7 +132,7 @@ fn open_all(table: &mut Table<u32>, d: DomainId) -> bool {
     all && table.live(d) && table.is_open_beyond(d, 1)
 }
 
-// Numbers that are free again are given in their order.
+// Numbers that are free again are used in ascending order.
 fn reuse(table: &mut Table<u32>, d: DomainId) -> bool {
     let mut all = true;
     for number in [7, 3, 1000] {
@@ -156,7 +156,7 @@ fn move_last(table: &mut Table<u32>, d: DomainId) -> bool {
     is_closed && moved.number() == 5
 }
 
-// The last number comes and goes.
+// The last number is opened and closed.
 fn repeat(table: &mut Table<u32>, d: DomainId) -> bool {
     let mut all = true;
     for _ in 0..100_000 {

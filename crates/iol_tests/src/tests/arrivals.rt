@@ -1,4 +1,4 @@
-//! What comes in from a reader.
+//! Input from a reader.
 use super::line::{Gave, Line, NONE, text};
 use iol_core::numbers::PoolId;
 use iol_core::refusals::Refusal;
@@ -9,7 +9,8 @@ use test_parts::streams::{Sink, Source};
 
 const END: Gave = (0, true, false);
 
-// A request comes in, and goes out again: one byte to a writer that fails then, the others as a segment.
+// A request arrives, and is sent back: one byte to a writer that fails then, the others as a
+// segment.
 fn echoes_get(line: &mut Line) -> bool {
     let mut reader = Source::new(b"GET", 8, 0);
     let mut writer = Sink::new(line.alloc, 1, 2);
@@ -26,7 +27,7 @@ fn borrowed_get(rt: HostRuntime) -> Result<(), Fail> {
     pass(lend(Line::new(rt.alloc()), echoes_get))
 }
 
-// A full queue, a peer that sends no more, and a connection that is not there.
+// A full queue, a peer that sends no more, and a connection that does not exist.
 fn refuses_all(line: &mut Line) -> bool {
     let mut reader = Source::new(b"abc", 9, 0);
     line.arrive(65_536)
@@ -57,11 +58,11 @@ fn no_room_before_it_reads(rt: HostRuntime) -> Result<(), Fail> {
     pass(lend(Line::new(rt.alloc()), refuses_room))
 }
 
-// How many bytes came in before, how many are asked for, and how many are taken: at most what is asked for, a page, and what fits
-// the queue.
+// The number of bytes that arrived before, the number requested, and the number taken: at most the
+// requested number, a page, and the room in the queue.
 const ASKED: [(usize, u32, u32); 3] = [(0, 1, 1), (0, 9000, 4096), (65_530, 9000, 6)];
 
-// What came in before comes in, and then what is read at once from a reader with more than a page.
+// After these bytes have arrived, reads at once from a reader with more than a page.
 fn takes(line: &mut Line, more: &[u8], row: &(usize, u32, u32)) -> bool {
     let (before, max, taken) = *row;
     let mut reader = Source::new(more, 5000, 0);
@@ -79,18 +80,18 @@ fn asks_for_what_fits(rt: HostRuntime) -> Result<(), Fail> {
     pass_each(&ASKED, |row| asks_for(alloc, row))
 }
 
-// Four bytes came, and the rest of six.
+// Four bytes arrived, and the rest of six.
 const SOME: Gave = (4, false, false);
 
 const MORE: Gave = (2, false, false);
 
 const FAILURE: Gave = (0, false, true);
 
-// An arrival: what it answers, how many reads there were then, and how many buffers are live.
+// An arrival: its result, the number of reads so far, and the number of live buffers.
 type Arrival = (Gave, u32, u32);
 
-// A reader of six bytes gives four at once, and fails at that read. Each arrival is one read, and makes a buffer where it
-// gives bytes.
+// A reader of six bytes gives four at once, and fails at that read. Each arrival is one read, and
+// makes a buffer if it gives bytes.
 const FAILING: [(u32, &[Arrival]); 4] = [
     (0, &[(SOME, 1, 1), (MORE, 2, 2), (END, 3, 2)]),
     (1, &[(FAILURE, 1, 0), (SOME, 2, 1), (MORE, 3, 2)]),
@@ -106,7 +107,7 @@ fn arrival_holds(line: &mut Line, reader: &mut Source<'_>, arrival: &Arrival) ->
     line.arrives(reader, 9, want) && reader.reads == reads && line.holds(buffers)
 }
 
-// Arrivals, one after another. In the end all came in.
+// Arrivals in order. At the end all bytes have arrived.
 fn all_arrive(line: &mut Line, row: &(u32, &[Arrival])) -> bool {
     let (fails, arrivals) = *row;
     let mut reader = Source::new(b"abcdef", 4, fails);

@@ -8,12 +8,12 @@ use iol_core::numbers::Fd;
 use iol_proc::look::Look;
 use iol_proc::process::Turn;
 
-/// A sum of bytes in their order.
+/// A sum that depends on the order of the bytes.
 pub fn summed(sum: u32, byte: u8) -> u32 {
     sum.wrapping_mul(31).wrapping_add(u32::from(byte))
 }
 
-/// Reads a pipe to its end, and sums what came.
+/// Reads a pipe to its end, and sums the bytes.
 #[derive(Clone, Copy)]
 pub struct Consumer {
     fd: Fd,
@@ -32,12 +32,12 @@ impl Consumer {
         }
     }
 
-    /// How many bytes came, and their sum.
+    /// The number of bytes received, and their sum.
     pub fn came(&self) -> (u32, u32) {
         (self.count, self.sum)
     }
 
-    /// Reads, looks at what came, and drops it. Where the pipe is empty it yields, and tries again.
+    /// Reads, examines the bytes, and drops them. If the pipe is empty it yields, and retries.
     pub fn turn(&mut self, last: &Reply, look: &Look<'_>) -> Turn
         ensures { IsQuiet result }
     {
@@ -53,7 +53,7 @@ impl Consumer {
         }
     }
 
-    // Asks for two pieces, until the end came.
+    // Requests two pieces at a time, until the end.
     fn read(&self) -> Turn
         ensures { IsQuiet result }
     {
@@ -66,7 +66,7 @@ impl Consumer {
         })
     }
 
-    // Looks at each byte. None is the end.
+    // Sums the bytes. If there are none, this is the end.
     fn sum_up(&mut self, parts: Parts<'_>) {
         self.ended = true;
         for part in parts {

@@ -1,4 +1,4 @@
-//! What goes out to a writer.
+//! Output to a writer.
 use super::line::{Line, NONE};
 use iol_core::refusals::Refusal;
 use std::alloc::Global;
@@ -6,13 +6,13 @@ use std::test::Fail;
 use test_parts::checks::{lend, pass, pass_each};
 use test_parts::streams::{Sink, Source};
 
-// Two buffers wait to be sent, of three bytes and of two.
+// Two buffers are queued, of three bytes and of two.
 fn let_wait(line: &mut Line) -> bool {
     let mut reader = Source::new(b"abcde", 3, 0);
     line.takes(&mut reader, 9, 3) && line.takes(&mut reader, 9, 2) && line.echo()
 }
 
-// A connection that is not there.
+// A connection that does not exist.
 fn refuses_none(line: &mut Line) -> bool {
     let mut writer = Sink::new(line.alloc, 9, 0);
     let_wait(line)
@@ -25,10 +25,10 @@ fn refused_before_it_writes(rt: HostRuntime) -> Result<(), Fail> {
     pass(lend(Line::new(rt.alloc()), refuses_none))
 }
 
-// Which write fails, how many bytes are sent then, and how many the next time.
+// The write that fails, the number of bytes that are sent then, and the number the next time.
 const FAILING: [(u32, u32, u32); 3] = [(1, 0, 5), (2, 2, 3), (3, 3, 2)];
 
-// A write fails: so many bytes are sent.
+// A write fails after `taken` bytes are sent.
 fn first_fails(line: &mut Line, writer: &mut Sink, fails: u32, taken: u32) -> bool {
     line.drains(writer, 9, (taken, true))
         && writer.writes == fails
@@ -59,9 +59,10 @@ fn fails_at_each_write(rt: HostRuntime) -> Result<(), Fail> {
     pass_each(&FAILING, |row| fails_at(alloc, row))
 }
 
-// How many bytes a writer takes at most at once, how many of the five that wait it is lent, how many it takes, and in how many
-// writes. One that takes none has failed. There is a write for each buffer and each part that is not taken whole, and none for
-// nothing: no more writes than bytes, but for the writer that takes none.
+// The maximum number of bytes that a writer takes at once, the number of queued bytes that it is
+// offered, of five, the number that it takes, and the number of writes. A writer that takes none
+// has failed. There is one write for each buffer and for each rest of one that is not taken whole,
+// and none for no bytes: no more writes than bytes, except for the writer that takes none.
 const WRITES: [(u32, u32, u32, u32); 8] = [
     (9, 9, 5, 2),
     (9, 4, 4, 2),

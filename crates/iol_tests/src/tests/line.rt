@@ -12,15 +12,16 @@ use test_parts::streams::{Sink, Source};
 use test_worlds::files::empty_store;
 use test_worlds::systems::{TestSystem, call_of};
 
-// The connection that is there.
+// The existing connection.
 const CONN: u32 = 1;
 
-/// One that is not.
+/// A connection that does not exist.
 pub const NONE: u32 = 2;
 
 const FD: u32 = 0;
 
-/// What one read gave: how many bytes, whether the reader is at its end, and whether it failed.
+/// The result of a read: the number of bytes, whether the reader is at its end, and whether it
+/// failed.
 pub type Gave = (u32, bool, bool);
 
 const CONFIG: Config = Config {
@@ -29,7 +30,7 @@ const CONFIG: Config = Config {
     sums: 8,
 };
 
-// What makes the pool, for these domains, and the connection.
+// The events that create the pool, for these domains, and the connection.
 fn beginnings(domains: Domains) -> [Event; 4] {
     let (pool, chunks) = (PoolId::new(1), CONFIG.chunks);
     [
@@ -40,7 +41,7 @@ fn beginnings(domains: Domains) -> [Event; 4] {
     ]
 }
 
-// What came in is read, as the first aggregate, written back and dropped.
+// The input is read as the first aggregate, written back and dropped.
 fn echoing() -> [Event; 3] {
     let (fd, agg) = (Fd::new(FD), AggId::new(1));
     [
@@ -50,17 +51,17 @@ fn echoing() -> [Event; 3] {
     ]
 }
 
-/// So many bytes.
+/// `count` bytes.
 pub fn text(alloc: Global, count: usize) -> Result<Bytes, AllocError> {
     let list = vec![in alloc; b'a'; count]?;
     Ok(Bytes::from_vec(list))
 }
 
-/// A system over an empty store, with pool 1 of 32 pages, the default of domain 1, and connection 1 of it, which
-/// domain 1 accepted as descriptor 0.
+/// A system over an empty store, with pool 1 of 32 pages, the default of domain 1, and connection
+/// 1 of it, which domain 1 accepted as descriptor 0.
 #[derive(Drop)]
 pub struct Line {
-    /// Where a test has its memory.
+    /// The allocator of the test.
     pub alloc: Global,
     system: TestSystem<MemoryBacking>,
 }
@@ -73,17 +74,17 @@ impl Line {
         Ok(Line { alloc, system })
     }
 
-    // Whether an event is answered by an aggregate.
+    // Returns whether the reply to an event is an aggregate.
     fn makes(&mut self, event: &Event) -> bool {
         matches!(self.system.step(event), Reply::Agg(_))
     }
 
-    // Whether it is answered by a count.
+    // Returns whether the reply is a count.
     fn counts(&mut self, event: &Event) -> bool {
         matches!(self.system.step(event), Reply::Count(_))
     }
 
-    // Whether it is done, with nothing to tell.
+    // Returns whether the reply is Done.
     fn completes(&mut self, event: &Event) -> bool {
         matches!(self.system.step(event), Reply::Done)
     }
@@ -98,19 +99,19 @@ impl Line {
         self.system.arrive_from(ConnId::new(conn), reader, max)
     }
 
-    /// Whether this comes in from a reader.
+    /// Returns whether a read gives these bytes.
     pub fn arrives(&mut self, reader: &mut Source<'_>, max: u32, want: Gave) -> bool {
         let (taken, end, failed) = want;
         let want = Arrived { taken, end, failed };
         self.arrive_from(CONN, reader, max) == Ok(want)
     }
 
-    /// Whether so many bytes come in, and the reader neither ends nor fails.
+    /// Returns whether this number of bytes arrives, and the reader neither ends nor fails.
     pub fn takes(&mut self, reader: &mut Source<'_>, max: u32, taken: u32) -> bool {
         self.arrives(reader, max, (taken, false, false))
     }
 
-    /// Whether what a reader has is refused so.
+    /// Returns whether the arrival of a reader's bytes gets this refusal.
     pub fn refuses(&mut self, reader: &mut Source<'_>, max: u32, want: Refusal) -> bool {
         self.arrive_from(CONN, reader, max) == Err(want)
     }
@@ -120,12 +121,12 @@ impl Line {
         self.system.drain_to(ConnId::new(conn), writer, max)
     }
 
-    /// Whether so many bytes go out to a writer, and whether it fails.
+    /// Returns whether this number of bytes goes to a writer, and whether it fails.
     pub fn drains(&mut self, writer: &mut Sink, max: u32, (taken, failed): (u32, bool)) -> bool {
         self.drain_to(CONN, writer, max) == Ok(Drained { taken, failed })
     }
 
-    /// So many bytes arrive that come from no reader.
+    /// `count` bytes arrive without a reader.
     pub fn arrive(&mut self, count: usize) -> bool {
         let conn = ConnId::new(CONN);
         match text(self.alloc, count) {
@@ -134,7 +135,7 @@ impl Line {
         }
     }
 
-    /// Domain 1 makes an aggregate of so many bytes.
+    /// Domain 1 makes an aggregate of `count` bytes.
     pub fn fill(&mut self, count: usize) -> bool {
         match text(self.alloc, count) {
             Ok(bytes) => self.makes(&call_of(1, Call::AggMake { bytes })),
@@ -148,13 +149,13 @@ impl Line {
         self.completes(&Event::PeerClosed { conn, how })
     }
 
-    /// Domain 1 reads what came in, as its first aggregate, and writes it back.
+    /// Domain 1 reads the input, as its first aggregate, and writes it back.
     pub fn echo(&mut self) -> bool {
         let [read, write, end] = &echoing();
         self.makes(read) && self.counts(write) && self.completes(end)
     }
 
-    /// Whether this is sent as a segment: these bytes, with their checksum.
+    /// Returns whether this is sent as a segment: these bytes, with their checksum.
     pub fn transmits(&mut self, max: u32, (want, sum): (&[u8], u16)) -> bool {
         let conn = ConnId::new(CONN);
         match self.system.step(&Event::Transmit { conn, max }) {
@@ -163,7 +164,7 @@ impl Line {
         }
     }
 
-    /// Whether domain 1 reads these bytes, which came in.
+    /// Returns whether domain 1 reads these bytes of the input.
     pub fn reads(&mut self, want: &[u8]) -> bool {
         let (fd, count) = (Fd::new(FD), 65_536);
         match self.system.step(&call_of(1, Call::Read { fd, count })) {
@@ -172,7 +173,7 @@ impl Line {
         }
     }
 
-    /// Whether so many buffers are live.
+    /// Returns whether this number of buffers is live.
     pub fn holds(&self, want: u32) -> bool {
         self.system.buffers() == Ok(want)
     }

@@ -9,10 +9,10 @@ use iol_proc::process::Turn;
 use std::alloc::{AllocError, Global};
 use test_worlds::echo::let_go;
 
-/// How many bytes are written at a time. Eight times as many fill a pipe.
+/// The number of bytes written at a time. Eight times as many fill a pipe.
 pub const PIECE: usize = 8192;
 
-/// Writes pieces to a pipe, each of bytes of its own, and closes it.
+/// Writes pieces to a pipe, each with different bytes, and closes it.
 #[derive(Clone, Copy)]
 pub struct Producer {
     alloc: Global,
@@ -33,7 +33,7 @@ impl Producer {
         }
     }
 
-    /// Makes a piece, writes it, and drops it. Where the pipe is full it yields, and tries again.
+    /// Makes a piece, writes it, and drops it. If the pipe is full it yields, and retries.
     pub fn turn(&mut self, last: &Reply) -> Result<Turn, AllocError>
         ensures quiet { IfOk result IsQuiet }
         ensures err { OnErr result (self.new ≡ self.old) }
@@ -52,7 +52,7 @@ impl Producer {
         }
     }
 
-    // Offers the piece to the pipe.
+    // Writes the piece to the pipe.
     fn write(&self, agg: AggId) -> Turn
         ensures { IsQuiet result }
     {

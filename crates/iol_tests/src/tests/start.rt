@@ -1,4 +1,4 @@
-//! A system with a pipe, over which worlds are made.
+//! A system with a pipe, for worlds.
 use iol_back::memory::MemoryBacking;
 use iol_core::configuration::Config;
 use iol_core::events::{Call, Event};
@@ -9,7 +9,7 @@ use std::alloc::Global;
 use test_worlds::files::empty_store;
 use test_worlds::systems::{TestSystem, call_of};
 
-// Domain 1 makes domain 2, a pool of both, which these are, and a pipe whose read end it gives to domain 2.
+// Domain 1 makes domain 2, a pool of these two, and a pipe whose read end it gives to domain 2.
 fn beginnings(domains: Domains) -> [Event; 5] {
     let (pool, fd, to) = (PoolId::new(1), Fd::new(0), DomainId::new(2));
     let chunks = 16;

@@ -15,19 +15,19 @@ fn conn() -> ConnId {
     ConnId::new(1)
 }
 
-// A world in which domain 2 sends back what comes in on a connection.
+// A world in which domain 2 sends back the input of a connection.
 fn echoing_world(alloc: Global) -> Result<Workers, Refusal> {
     let system = system_with_pipe(alloc)?;
     let echo = Worker::Echo(Echo::new());
     Ok(two_workers(alloc, system, Worker::Idle, echo)?)
 }
 
-// Whether there is a new connection, the first.
+// Returns whether there is a new connection, the first.
 fn connects(world: &mut Workers) -> bool {
     world.connect(1).is_some()
 }
 
-// What one segment of at most so many bytes has.
+// Returns whether one segment of at most `max` bytes has these bytes.
 fn is_sent(world: &mut Workers, max: u32, bytes: &[u8]) -> bool {
     match world.step(Event::Transmit { conn: conn(), max }) {
         Reply::Segment { bytes: sent, .. } => sent.as_slice() == bytes,
@@ -35,7 +35,7 @@ fn is_sent(world: &mut Workers, max: u32, bytes: &[u8]) -> bool {
     }
 }
 
-// Whether so many bytes come in.
+// Returns whether this number of bytes arrives.
 fn arrives(world: &mut Workers, reader: &mut &[u8], max: u32, want: u32) -> bool {
     match world.arrive_from(conn(), reader, max) {
         Ok(arrived) => arrived.taken == want,
@@ -43,7 +43,7 @@ fn arrives(world: &mut Workers, reader: &mut &[u8], max: u32, want: u32) -> bool
     }
 }
 
-// Whether so many bytes go out.
+// Returns whether this number of bytes goes to a writer.
 fn drains(world: &mut Workers, writer: &mut Vec<u8>, max: u32, want: u32) -> bool {
     match world.drain_to(conn(), writer, max) {
         Ok(drained) => drained.taken == want,
@@ -51,7 +51,7 @@ fn drains(world: &mut Workers, writer: &mut Vec<u8>, max: u32, want: u32) -> boo
     }
 }
 
-// What comes in goes out again: four bytes as a segment, and the last to a writer.
+// The input is sent back: four bytes as a segment, and the last to a writer.
 fn comes_back(world: &mut Workers, reader: &mut &[u8], writer: &mut Vec<u8>) -> bool {
     connects(world)
         && arrives(world, reader, 3, 3)

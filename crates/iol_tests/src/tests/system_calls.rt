@@ -1,4 +1,4 @@
-//! Each call of a system that needs memory answers when there is enough.
+//! Each call of a system that needs memory succeeds if there is enough.
 use iol_back::memory::MemoryBacking;
 use iol_core::configuration::Config;
 use iol_core::descriptors::Mode;
@@ -37,7 +37,7 @@ const POOLS_ANSWERED: [&str; 4] = [
     "Done",
 ];
 
-// An aggregate in parts, of which one is given to domain 2.
+// An aggregate in parts, one of which is given to domain 2.
 fn of_parts(bytes: Bytes) -> [Event; 5] {
     let (one, two) = (AggId::new(1), AggId::new(2));
     let (three, to) = (AggId::new(3), DomainId::new(2));
@@ -66,7 +66,7 @@ const PARTS_ANSWERED: [&str; 5] = [
     "Agg(AggId { number: 1 })",
 ];
 
-// The parts put together, in another order.
+// The parts joined in another order.
 fn of_wholes() -> [Event; 3] {
     let (first, second) = (AggId::new(5), AggId::new(4));
     let (agg, with) = (AggId::new(6), AggId::new(1));
@@ -149,7 +149,7 @@ const PIPES_ANSWERED: [&str; 5] = [
     "Bytes(Bytes { list: [120, 121] })",
 ];
 
-// A connection, on which bytes come in and go out.
+// A connection that receives and sends bytes.
 fn of_connections(bytes: Bytes) -> [Event; 5] {
     let (pool, conn) = (PoolId::new(1), ConnId::new(1));
     let (fd, agg) = (Fd::new(1), AggId::new(1));
@@ -170,7 +170,7 @@ const CONNECTIONS_ANSWERED: [&str; 5] = [
     "Segment { bytes: Bytes { list: [97, 98, 99] }, checksum: 15261 }",
 ];
 
-/// All events, by what they are about.
+/// All events, by subject.
 #[derive(Drop)]
 struct Events {
     pools: [Event; 4],
@@ -210,7 +210,7 @@ fn are_told(alloc: Global, replies: &[Reply], expected: &[&str]) -> Result<bool,
 
 type TestedSystem = System<MemoryBacking>;
 
-// These events, as a run.
+// Executes these events, in order.
 fn run(alloc: Global, system: &mut TestedSystem, events: &[Event], expected: &[&str]) -> bool {
     match system.run(events) {
         Ok(replies) => matches!(are_told(alloc, &replies, expected), Ok(true)),
@@ -242,7 +242,7 @@ fn is_agg(reply: &Reply, number: u64) -> bool {
     }
 }
 
-// One round: the aggregate that is made has this number.
+// One round: the new aggregate has this number.
 fn makes_and_drops(system: &mut TestedSystem, make: &Event, number: u64) -> bool {
     let drops = call_of(
         1,

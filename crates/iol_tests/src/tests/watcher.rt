@@ -1,4 +1,4 @@
-//! A process that waits for connections, and what it says of itself.
+//! A process that waits for connections, and its condition when idle.
 ghost use Rattle.iol_tests.specs.Watcher.{Watches, HasWatched};
 
 use iol_core::events::{Call, Reply};
@@ -7,7 +7,7 @@ use iol_proc::look::Look;
 use iol_proc::process::{Process, Turn};
 use std::alloc::AllocError;
 
-/// Asks for a connection in each second turn.
+/// Accepts a connection in every second turn.
 #[derive(Clone, Copy)]
 pub struct Watcher {
     pub(crate) asked: bool,
@@ -20,7 +20,7 @@ impl Watcher {
 }
 
 impl Process for Watcher {
-    // It wants no memory.
+    // It needs no memory.
     ghost turns = { record {
       goes = λ watcher last lent turn next. Watches watcher.asked turn next.asked;
       may_want = λ watcher last lent. ⊥;

@@ -1,4 +1,4 @@
-//! A world of watchers, up to the moment at which no connection waits.
+//! A world of watchers, until no connection is waiting.
 ghost use Rattle.iol_tests.specs.Watcher.{AllHaveWatched};
 
 use super::start::system_with_pipe;
@@ -14,7 +14,8 @@ use test_worlds::worlds::TestWorld;
 
 type Watched = World<MemoryBacking, Watcher>;
 
-// Gives turns until all is idle: then no connection waits that a watcher's domain may accept.
+// Gives turns until all are idle: then no connection is waiting that a watcher's domain may
+// accept.
 fn watch(world: &mut Watched, turns: usize) -> bool
     ensures { AllHaveWatched world.old world.new (λ w. w.asked) result }
 {
@@ -29,7 +30,8 @@ fn connects(watchers: &mut Watchers) -> bool {
     watchers.connect(1).is_some()
 }
 
-// Two connections wait: a watcher of two turns each has not taken both, and later none waits.
+// Two connections are waiting: after two turns each, watchers have not accepted both, and later
+// none is waiting.
 fn accepts(watchers: &mut Watchers) -> bool {
     connects(watchers)
         && connects(watchers)

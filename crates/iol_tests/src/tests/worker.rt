@@ -9,7 +9,7 @@ use iol_proc::process::{Process, Turn};
 use std::alloc::AllocError;
 use test_worlds::echo::Echo;
 
-/// A process of one kind or another.
+/// A process of one of several kinds.
 #[derive(Clone, Copy)]
 pub enum Worker {
     Producer(Producer),
@@ -24,7 +24,7 @@ pub enum Worker {
 }
 
 impl Process for Worker {
-    // Any turn, and memory for any: what these do is tested.
+    // Any turn, and memory for any: the tests cover their behavior.
     ghost turns = { record { goes = λ worker last lent turn next. ⊤; may_want = λ worker last lent. ⊤ } };
 
     fn next(&mut self, last: &Reply, look: &Look<'_>) -> Result<Turn, AllocError> {

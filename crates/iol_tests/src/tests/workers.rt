@@ -35,7 +35,7 @@ pub fn two_workers(
     TestWorld::new(alloc, system, processes)
 }
 
-/// A world of none.
+/// A world without workers.
 #[tactic(auto, using(crate::proofs::Apart::none_apart))]
 pub fn no_workers(alloc: Global, system: TestSystem<MemoryBacking>) -> Result<Workers, AllocError> {
     TestWorld::new(alloc, system, Vec::new(alloc))

@@ -13,7 +13,7 @@ use std::test::Fail;
 use test_parts::checks::{lend, pass};
 use test_parts::streams::Source;
 
-/// How many pieces are a mebibyte.
+/// The number of pieces of a mebibyte.
 const PIECES: u8 = 128;
 
 // A world of two workers over a pipe from one to the other.
@@ -22,7 +22,7 @@ fn world_of(alloc: Global, first: Worker, second: Worker) -> Result<Workers, Ref
     Ok(two_workers(alloc, system, first, second)?)
 }
 
-// How many bytes the consumer of domain 2 got, and their sum.
+// The number of bytes that the consumer of domain 2 received, and their sum.
 fn came(world: &Workers) -> Option<(u32, u32)> {
     match world.process(2)? {
         Worker::Consumer(consumer) => Some(consumer.came()),
@@ -30,7 +30,7 @@ fn came(world: &Workers) -> Option<(u32, u32)> {
     }
 }
 
-// A sum with one piece more.
+// A sum with one more piece.
 fn with_piece(sum: u32, byte: u8) -> u32 {
     let mut sum = sum;
     for _ in 0..PIECE {
@@ -55,7 +55,7 @@ fn sending_world(alloc: Global) -> Result<Workers, Refusal> {
     world_of(alloc, producer, consumer)
 }
 
-// All pieces come, and no turn is rough.
+// All pieces arrive, and no turn gets a resource refusal.
 fn all_come(world: &mut Workers) -> bool {
     world.until_idle(65_536)
         && came(world) == Some((1_048_576, sum_of_pieces()))
@@ -67,7 +67,7 @@ fn pipe_passes_a_mebibyte(rt: HostRuntime) -> Result<(), Fail> {
     pass(lend(sending_world(rt.alloc()), all_come))
 }
 
-// Nothing is idle before each of two processes has yielded twice.
+// The world is not idle before each of two processes has yielded twice.
 fn yields(world: &mut Workers) -> bool {
     !world.until_idle(0) && !world.until_idle(3) && world.until_idle(4)
 }
@@ -106,7 +106,7 @@ fn world_without_processes_is_idle(rt: HostRuntime) -> Result<(), Fail> {
     pass(lend(empty_world(rt.alloc()), is_idle_at_once))
 }
 
-// How a turn of a domain is refused.
+// The refusal of a turn of a domain.
 fn refusal_of(world: &mut Workers, by: u32) -> Result<Option<Refusal>, AllocError> {
     let choices = [Choice::Turn(DomainId::new(by))];
     let replies = world.run(&choices)?;
@@ -116,7 +116,7 @@ fn refusal_of(world: &mut Workers, by: u32) -> Result<Option<Refusal>, AllocErro
     }
 }
 
-// Whether a turn of a domain is refused so.
+// Returns whether a turn of a domain gets this refusal.
 fn is_refused(world: &mut Workers, by: u32, refusal: Refusal) -> bool {
     match refusal_of(world, by) {
         Ok(found) => found == Some(refusal),
@@ -129,7 +129,7 @@ fn ends(world: &mut Workers, by: u32) -> bool {
     matches!(world.call(by, Call::Exit), Reply::Done)
 }
 
-// A domain that never was, one whose call would wait, and one that has ended.
+// A domain that never existed, one whose call would wait, and one that has ended.
 fn all_are_refused(world: &mut Workers) -> bool {
     is_refused(world, 3, Refusal::NoDomain)
         && is_refused(world, 2, Refusal::WouldBlock)
@@ -142,7 +142,7 @@ fn nobody_has_a_turn(rt: HostRuntime) -> Result<(), Fail> {
     pass(lend(eager_world(rt.alloc()), all_are_refused))
 }
 
-// A turn of each of two processes, bytes that come in, and a report.
+// A turn of each of two processes, arriving bytes, and a report.
 fn each_answers(world: &mut Workers, turns: &[Choice], reader: &mut Source<'_>) -> bool {
     let have_turns = match world.run(turns) {
         Ok(replies) => matches!(replies.as_slice(), [Reply::Done, Reply::Done]),

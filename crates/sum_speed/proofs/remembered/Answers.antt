@@ -2,9 +2,10 @@ use Rattle.std.proofs.Common.{◌≡◌, ◌∙◌, false, sym, subst}
 use Rattle.iol_pool.specs.Pools.{pool_in}
 use Rattle.sum_speed.proofs.remembered.Goals as goal
 
-pub fill-requires-clause-open : goal.fill-requires-clause-open
-fill-requires-clause-open c =
-    subst (λ ps. (pool_in ps c.in_ok-pool.pool).closed ≡ false) c.pools.ensures (sym c.is_closed.ensures ∙ c.if-is_closed.false)
+pub fill-requires : goal.fill-requires
+fill-requires c = record {
+  «open» = subst (λ ps. (pool_in ps c.in_ok-pool.pool).closed ≡ false) c.pools.ensures (sym c.is_closed.ensures ∙ c.if-is_closed.false);
+}
 
 -- a new cache is right of any store
 pub sum_remembered_often-requires-clause-right : goal.sum_remembered_often-requires-clause-right

@@ -1,4 +1,4 @@
--- A client for which no script runs: what its phases rest on, and those that open its file and read it.
+-- A client without running script: lemmas of its phases, and the phases that open its file and read it.
 use Rattle.std.proofs.Common.{◌≡◌, ℕ, ◌+◌, ◌==◌, ◌≤◌, List, [], ◌∷◌, ◌++◌, length, take, ap, ◌∙◌, refl, sym, subst, arith, Option, Some, None, true, false, Bool, if◌then◌else◌}
 use Rattle.std.specs.Prelude.{◌||◌, ◌&&◌}
 use Rattle.std.specs.List.{list_any}
@@ -123,7 +123,7 @@ module _ (shelf : Shelf) (crew : Crew) (laws : AllLaws crew) (m n : State) (came
       by true for_script = laws.due.unread shelf.scripts shelf.finds shelf.shows w status for_script is
       by false none = due_of_file w (Failed status) none is
 
-  pub opens : (q : Answer) (r : Reply) (heard : List ℕ) → IsFixed shelf.finds m → Fitting m q Opens → IsAmong shelf.refuses r
+  pub opens : (q : Answer) (r : Reply) (heard : List ℕ) → IsFixed shelf.finds m → Fitting m q Opens → IsAmong shelf.refuses.of_server r
       → StepsTo m (event.Call server (call.OpenFile (name_of q) modes.Read)) r n
       → Fitting n q (conn.told_opens r)
   opens (refuse status head_only close) r heard fixed f calm step = absurd f.has
@@ -137,7 +137,7 @@ module _ (shelf : Shelf) (crew : Crew) (laws : AllLaws crew) (m n : State) (came
       found i b may is = shelved (Some i) is ∙ ap (λ (t : Bool). if t then Found (content m i) else Failed 403) may
 
       by : (r : Reply) → of.Opening m server w.name modes.Read r n
-          → StepsTo m (event.Call server (call.OpenFile w.name modes.Read)) r n → IsAmong shelf.refuses r
+          → StepsTo m (event.Call server (call.OpenFile w.name modes.Read)) r n → IsAmong shelf.refuses.of_server r
           → Fitting n (serve w) (conn.told_opens r)
       by (reply.Fd g) did step calm =
           let leaves = laws.the.steps.leaves m n (event.Call server (call.OpenFile w.name modes.Read)) (reply.Fd g) step in
@@ -170,7 +170,7 @@ module _ (shelf : Shelf) (crew : Crew) (laws : AllLaws crew) (m n : State) (came
   )
 
   pub reads : (q : Answer) (g : ℕ) (r : Reply) (heard : List ℕ) → is_for_script shelf.scripts q ≡ false → IsFixed shelf.finds m → Fitting m q (Reading g)
-      → IsAmong shelf.refuses r → StepsTo m (event.Call server (conn.wants fd (at kept q (Reading g)))) r n
+      → IsAmong shelf.refuses.of_server r → StepsTo m (event.Call server (conn.wants fd (at kept q (Reading g)))) r n
       → Names n r heard → Fitting n q (conn.told_reads g r heard)
   reads (refuse status head_only close) g r heard none fixed f calm step names = absurd f.has.0
   reads (serve w) g r heard none fixed f calm step names = which w.head_only refl step
@@ -188,7 +188,7 @@ module _ (shelf : Shelf) (crew : Crew) (laws : AllLaws crew) (m n : State) (came
 
       whole : (r : Reply) → w.head_only ≡ false
           → of.ReadsFile m server g f.finds.number 0 modes.Read (take most_read (content m f.finds.number)) r n
-          → StepsTo m (event.Call server (call.IolRead g most_read)) r n → IsAmong shelf.refuses r
+          → StepsTo m (event.Call server (call.IolRead g most_read)) r n → IsAmong shelf.refuses.of_server r
           → Names n r heard → Fitting n (serve w) (conn.told_reads g r heard)
       whole (reply.Agg a) is did step calm names =
           let bytes : heard ≡ content m f.finds.number = some-inj _ _ (sym names ∙ did.lends) ∙ take_all most_read (content m f.finds.number) f.finds.short in
@@ -220,14 +220,14 @@ module _ (shelf : Shelf) (crew : Crew) (laws : AllLaws crew) (m n : State) (came
 
   -- the text of a script is read whole
   pub reads_text : (q : Answer) (g : ℕ) (r : Reply) (heard : List ℕ) → is_for_script shelf.scripts q ≡ true → IsFixed shelf.finds m → Fitting m q (Reading g)
-      → IsAmong shelf.refuses r → StepsTo m (event.Call server (call.IolRead g most_read)) r n
+      → IsAmong shelf.refuses.of_server r → StepsTo m (event.Call server (call.IolRead g most_read)) r n
       → Names n r heard → FitsAlone shelf n came sent fd c (script_told (alone kept script q (Reading g)) r heard)
   reads_text (refuse status head_only close) g r heard asks fixed f calm step names = absurd f.has.0
   reads_text (serve w) g r heard asks fixed f calm step names =
       by r (laws.the.files.reads_file m n server g f.finds.number 0 most_read modes.Read r order fixed.lives f.finds.may refl f.finds.open_on step) step calm names
     where
       by : (r : Reply) → of.ReadsFile m server g f.finds.number 0 modes.Read (take most_read (content m f.finds.number)) r n
-          → StepsTo m (event.Call server (call.IolRead g most_read)) r n → IsAmong shelf.refuses r
+          → StepsTo m (event.Call server (call.IolRead g most_read)) r n → IsAmong shelf.refuses.of_server r
           → Names n r heard → FitsAlone shelf n came sent fd c (script_told (alone kept script (serve w) (Reading g)) r heard)
       by (reply.Agg a) did step calm names = runs (can_run heard) refl
         where

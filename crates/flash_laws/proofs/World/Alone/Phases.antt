@@ -1,4 +1,4 @@
--- Each phase of a client for which no script runs, from the call that it wants to what it is after the reply.
+-- Each phase of a client without running script, from its next call to its state after the reply.
 use Rattle.std.proofs.Common.{inl, inr, ◌≡◌, ℕ, ◌+◌, ◌==◌, List, [], ◌∷◌, ◌++◌, take, drop, ap, ◌∙◌, refl, sym, subst, Option, Some, None, true, false, Bool, if◌then◌else◌}
 use Rattle.std.specs.Prelude.{nat_lt, nat_le, ◌||◌, is_some}
 use Rattle.std.specs.List.{list_any}
@@ -26,7 +26,7 @@ use Rattle.flash_cgi.specs.declared.line.Line.{Line}
 use Rattle.flash_laws.specs.Answers.{Failed, keeps}
 use Rattle.flash_laws.specs.Client as client
 use Rattle.flash_laws.specs.Client.{is_for_script, conn_wants, conn_told, script_told, file_told}
-use Rattle.flash_laws.specs.Client.Fits.{TieAlone, due_in, HasText, Finds, FitsAlone, TieRun, FitsRun, Fits}
+use Rattle.flash_laws.specs.Client.Fits.{TieAlone, due_in, HasText, Finds, FitsAlone, TieRun, FitsRun, Fits, made_of, response_to}
 use Rattle.flash_laws.specs.Conn as conn
 use Rattle.flash_laws.specs.Conn.{Following, Conn, piece_end, count_of, text_of, sends_of, settled, told_shuts, told_picks, told_spares, following, headed, told_heads, told_joins, told_cuts, told_swaps, goes_on, told_sent, told_breaks, drops_next, told_drops, told_got}
 use Rattle.flash_laws.specs.Workers.Crew.{Crew}
@@ -35,7 +35,8 @@ use Rattle.flash_laws.specs.Client.ResponseState as known
 use Rattle.flash_laws.specs.Client.ResponseState.{OfFile, OfScript, MayPutOut, is_read, is_opening}
 use Rattle.flash_laws.specs.Run.Fits.{nothing_yet}
 use Rattle.flash_laws.specs.Shelf.{Shelf, due_to, MayBeDue, IsAmong}
-use Rattle.flash_laws.proofs.Site.Due.{due-may}
+use Rattle.flash_laws.specs.Shelf.Due.{outcomes_by}
+use Rattle.flash_laws.proofs.Site.Due.{all-show, due-may, script-due}
 use Rattle.flash_laws.specs.Site.{server, IsFixed}
 use Rattle.flash_laws.specs.declared.phase.Learnt.{Learnt}
 use Rattle.flash_laws.specs.declared.phase.Learnt.TheVariants.{File, Text as TextOf}
@@ -173,7 +174,7 @@ module _ (shelf : Shelf) (crew : Crew) (laws : AllLaws crew) (m n : State) (came
       may_be b is = subst (λ (t : Bool). MayPutOut t w nothing_yet (due_to shelf (serve w))) is may
 
       ties : (k : Connection) (took sent : List ℕ) → w.head_only ≡ false → TieAlone shelf f.due k took sent (alone kept script (serve w) (Spares a Script))
-          → TieRun shelf k took sent kept w nothing_yet Awaits
+          → TieRun shelf (due_to shelf (serve w)) k took sent kept w nothing_yet Awaits
       ties k took sent get (inl owes) = inl (record { answers = owes.1; may = may_be false get; whole = refl })
       ties k took sent get (inr (inl finished)) = absurd (let bad = finished.quits in cc (bad))
       ties k took sent get (inr (inr gone)) = inr gone
@@ -184,17 +185,24 @@ module _ (shelf : Shelf) (crew : Crew) (laws : AllLaws crew) (m n : State) (came
           let leaves = laws.the.steps.leaves m n (event.Call server (call.AggDrop a)) reply.Done step in
           let conn = leaves.conns c refl in
           let lines = some-lines (script_of f.finds.text) f.finds.runs in
+          let shown = outcomes_by shelf.shows lines.0 in
+          let is_due : due_to shelf (serve w) ≡ response_to w (made_of w lines.0 shown) =
+          script-due shelf w f.finds.text lines.0 f.finds.asks f.finds.found lines.1 get in
           record {
             open_on = leaves.fds server fd (on.Connection c) f.open_on refl;
             took = f.took;
             came_is = f.came_is ∙ ap (λ (x : Connection). f.took ++ bytes_of x.incoming) (sym conn);
             wanted = w;
             script = record { asks = refl; stands = refl; get = get; is_for = f.finds.asks; text = f.finds.text; found = f.finds.found; lines = lines.0; is_script = lines.1; proper = f.proper };
+            shown = shown;
+            may_show = all-show shelf shown;
+            fresh = λ starts. refl;
             kept = λ u. f.finds.kept get;
             so_far = nothing_yet;
             has = refl;
             ongoing = refl;
-            tie = subst (λ (x : Connection). TieRun shelf x f.took sent kept w nothing_yet Awaits) (sym conn) (ties (conn_at m c) f.took sent get f.tie);
+            tie = subst (λ (l : List ℕ). TieRun shelf l (conn_at n c) f.took sent kept w nothing_yet Awaits) is_due
+                (subst (λ (x : Connection). TieRun shelf (due_to shelf (serve w)) x f.took sent kept w nothing_yet Awaits) (sym conn) (ties (conn_at m c) f.took sent get f.tie));
             desk = tt;
           }
 
@@ -309,7 +317,7 @@ module _ (shelf : Shelf) (crew : Crew) (laws : AllLaws crew) (m n : State) (came
   is_of_text d = false
 
   phase : (q : Answer) (d : Doing) (r : Reply) (heard : List ℕ) → is_of_text d ≡ false → IsFixed shelf.finds m → Fitting m q d
-      → conn.IsAwaiting (at kept q d) → is_closing d ≡ false → IsAmong shelf.refuses r
+      → conn.IsAwaiting (at kept q d) → is_closing d ≡ false → IsAmong shelf.refuses.of_server r
       → StepsTo m (event.Call server (conn.wants fd (at kept q d))) r n → Names n r heard → FitsAlone shelf n came sent fd c (conn_told (alone kept script q d) r heard)
   phase q Rests r heard plain fixed f waits busy calm step names = rests shelf laws.the m n came sent fd c kept script order q r heard f waits step names
   phase q (Got a) r heard plain fixed f waits busy calm step names = got q a r heard f step names
@@ -336,7 +344,7 @@ module _ (shelf : Shelf) (crew : Crew) (laws : AllLaws crew) (m n : State) (came
 
   pub alone_phase : (seats : List (Seat crew.Worker)) (b : Bool) (q : Answer) (d : Doing) (r : Reply) (heard : List ℕ)
       → is_for_script shelf.scripts q ≡ b → IsFixed shelf.finds m → Fitting m q d
-      → conn.IsAwaiting (at kept q d) → is_closing d ≡ false → IsAmong shelf.refuses r
+      → conn.IsAwaiting (at kept q d) → is_closing d ≡ false → IsAmong shelf.refuses.of_server r
       → StepsTo m (event.Call server (conn_wants b fd (at kept q d))) r n → Names n r heard
       → Fits shelf crew n came sent fd c (file_told b (alone kept script q d) r heard) seats
   alone_phase seats false q (Reading g) r heard is fixed f waits busy calm step names = files.reads shelf crew laws m n came sent fd c kept script order q g r heard is fixed f calm step names

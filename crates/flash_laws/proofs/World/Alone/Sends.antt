@@ -1,4 +1,4 @@
--- What a client for which no script runs writes to its connection, and reads from it.
+-- Writes and reads of a client without running script.
 use Rattle.std.proofs.Common.{inl, inr, ◌≡◌, ℕ, ◌+◌, ◌-◌, ◌==◌, ◌<◌, ◌≤◌, List, [], ◌∷◌, ◌++◌, length, take, drop, ap, ◌∙◌, refl, sym, subst, arith, Some, None, true, false, Bool, append_assoc, append-nil, if◌then◌else◌}
 use Rattle.std.specs.Prelude.{min, nat_lt, ◌&&◌, slice_range}
 use Rattle.std.proofs.lemmas.Bool.Decides.{nat_tests}

@@ -1,4 +1,4 @@
--- What ties a client for which no script runs, from one phase to the next.
+-- The invariant of a client without running script, from one phase to the next.
 use Rattle.std.proofs.Common.{inl, inr, ◌≡◌, ℕ, List, [], ◌∷◌, ◌++◌, take, drop, ap, ◌∙◌, refl, sym, subst, None, true, false, append-nil}
 use Rattle.std.proofs.lemmas.List.{take-append-drop}
 use Rattle.iol_core.specs.Text.{bytes_of}

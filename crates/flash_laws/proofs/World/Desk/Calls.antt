@@ -1,4 +1,4 @@
--- The server's own call, and what it leaves of a worker: its pipes stay, its files, and what it has.
+-- The parts of a worker that the server's own call leaves unchanged: its pipes, its files, and what it has.
 use Rattle.std.proofs.Common.{◌≡◌, ℕ, List, [], ◌∷◌, ap, ◌∙◌, refl, sym, subst, arith, Some, true, false, slice_get}
 use Rattle.std.specs.Prelude.{◌==◌, ◌||◌}
 use Rattle.std.specs.List.{list_any}
@@ -14,6 +14,7 @@ use Rattle.iol_laws.specs.Frame.{Leaves, touches_fd, touches_pipe, is_end, chang
 use Rattle.iol_laws.specs.Order.{IsOrderly}
 use Rattle.iol_proc.specs.declared.seat.Seat.{Seat}
 use Rattle.flash_cgi.specs.Beside.{is_call_of, LeavesFiles, LeavesWorker}
+use Rattle.flash_cgi.specs.Due.{Made, text_of}
 use Rattle.flash_laws.specs.Workers.Crew.{Crew, IsFixedFor}
 use Rattle.flash_laws.specs.Run.Fits.{Progress}
 use Rattle.flash_laws.specs.Run.Holdings.{may_make, KeepsToItself}
@@ -140,16 +141,16 @@ module _ (shelf : Shelf) (crew : Crew) (laws : AllLaws crew) (m n : State) (k : 
       writes = (own_things run.worker seat sits).fds f (on.WriteEnd given.ready.has.pipe) given.writes;
     }
 
-    pub putting_on : Still m n → (output : List ℕ) (o after : Progress) → (was : IsPuttingOut crew m seat run output o) → IsToCome after output was.more
-        → IsPuttingOut crew n seat run output after
-    putting_on stays output o after was to_come = record {
+    pub putting_on : Still m n → (made : Made) (o after : Progress) → (was : IsPuttingOut crew m seat run made o) → IsToCome after (text_of made) was.more
+        → IsPuttingOut crew n seat run made after
+    putting_on stays made o after was to_come = record {
       has = record { pipe = was.has.pipe; reads = stays.fds run.from (on.ReadEnd was.has.pipe) was.has.reads; apart = was.has.apart };
       more = was.more;
-      puts_out = laws.texts.left m n (crew.desk run.worker) was.has.pipe seat (event.Call server k) r was.more h.order h.fixed.placed h.step (other run.worker seat sits)
+      puts_out = laws.texts.left m n (crew.desk run.worker) was.has.pipe seat (event.Call server k) r made was.more h.order h.fixed.placed h.step (other run.worker seat sits)
           (own_files run.worker seat sits) (stays.pipes (crew.desk run.worker)) (stays.pipes was.has.pipe) was.puts_out;
       to_come = to_come;
     }
 
-    pub put_on : pipe_at n (crew.desk run.worker) ≡ pipe_at m (crew.desk run.worker) → (output : List ℕ) (o after : Progress) → after ≡ o
-        → HasPutOut crew m seat run output o → HasPutOut crew n seat run output after
-    put_on same output o after stays was = subst (λ (p : Progress). HasPutOut crew n seat run output p) (sym stays) (record { free = free_on run.worker seat sits same was.free; whole = was.whole })
+    pub put_on : pipe_at n (crew.desk run.worker) ≡ pipe_at m (crew.desk run.worker) → (made : Made) (o after : Progress) → after ≡ o
+        → HasPutOut crew m seat run made o → HasPutOut crew n seat run made after
+    put_on same made o after stays was = subst (λ (p : Progress). HasPutOut crew n seat run made p) (sym stays) (record { free = free_on run.worker seat sits same was.free; whole = was.whole })

@@ -1,4 +1,4 @@
--- What others leave of a worker, and of the script that it runs.
+-- The parts of a worker, and of the script that it runs, that others leave unchanged.
 use Rattle.std.proofs.Common.{◌≡◌, ◌≢◌, ◌<◌, ℕ, ◌==◌, List, [], ap, ◌∙◌, refl, sym, subst, Option, Some, None, true, false, if◌then◌else◌}
 use Rattle.std.specs.Prelude.{◌&&◌, ◌||◌, option_map, unwrap_or}
 use Rattle.iol_core.specs.Positions.{ArePlaced}
@@ -25,6 +25,7 @@ use Rattle.flash_cgi.specs.Outcomes.{outcome_of}
 use Rattle.flash_cgi.specs.Output.{Found, Failed}
 use Rattle.flash_laws.specs.Client.{Client, uses_agg, uses_fd}
 use Rattle.flash_laws.specs.Client.Holdings.{has_fd}
+use Rattle.flash_cgi.specs.Due.{Made}
 use Rattle.flash_laws.specs.Workers.Crew.{Crew}
 use Rattle.flash_laws.specs.Site.Places.{is_run_by}
 use Rattle.flash_laws.specs.Run.Fits.{Progress, HasStep}
@@ -131,36 +132,36 @@ module _ (crew : Crew) (laws : AllLaws crew) (m n : State) (e : Event) (r : Repl
       writes = leaves.fds seat.by fd (on.WriteEnd h.ready.has.pipe) h.writes (none-touched m e seat.by fd other);
     }
 
-    putting-on : (output : List ℕ) (o : Progress) → touches_fd m e server run.from ≡ false → SamePipe run → IsPuttingOut crew m seat run output o
-        → IsPuttingOut crew n seat run output o
-    putting-on output o calm same h = record {
+    putting-on : (made : Made) (o : Progress) → touches_fd m e server run.from ≡ false → SamePipe run → IsPuttingOut crew m seat run made o
+        → IsPuttingOut crew n seat run made o
+    putting-on made o calm same h = record {
       has = pipe-on calm h.has;
       more = h.more;
-      puts_out = laws.texts.left m n (crew.desk run.worker) h.has.pipe seat e r h.more order placed step other (files-left m n seat.by site) desk (same h.has.pipe h.has.reads h.has.apart) h.puts_out;
+      puts_out = laws.texts.left m n (crew.desk run.worker) h.has.pipe seat e r made h.more order placed step other (files-left m n seat.by site) desk (same h.has.pipe h.has.reads h.has.apart) h.puts_out;
       to_come = h.to_come;
     }
 
-    put-on : (output : List ℕ) (o : Progress) → HasPutOut crew m seat run output o → HasPutOut crew n seat run output o
-    put-on output o h = record { free = free-on h.free; whole = h.whole }
+    put-on : (made : Made) (o : Progress) → HasPutOut crew m seat run made o → HasPutOut crew n seat run made o
+    put-on made o h = record { free = free-on h.free; whole = h.whole }
 
-    pub stage-on : (job : ℕ → List ℕ) (w : Wanted) (output : List ℕ) (o : Progress) (s : Step) → ((a : ℕ) → step_agg s a ≡ true → gives_up e server a ≡ false)
+    pub stage-on : (job : ℕ → List ℕ) (w : Wanted) (made : Made) (o : Progress) (s : Step) → ((a : ℕ) → step_agg s a ≡ true → gives_up e server a ≡ false)
         → (is_reading s ≡ true → touches_fd m e server run.from ≡ false) → (is_reading s ≡ true → is_stopping (Runs run s) ≡ false → SamePipe run)
-        → HasStep job m w o run s → Stage crew m seat run output o s → Stage crew n seat run output o s
-    stage-on job w output o (Gives write) un calm same has h = ready-on (calm refl) (same refl refl) h
-    stage-on job w output o (Makes f) un calm same has h = given-on f (calm refl) (same refl refl) h
-    stage-on job w output o (Hands j f) un calm same has h = (
+        → HasStep job m w o run s → Stage crew m seat run made o s → Stage crew n seat run made o s
+    stage-on job w made o (Gives write) un calm same has h = ready-on (calm refl) (same refl refl) h
+    stage-on job w made o (Makes f) un calm same has h = given-on f (calm refl) (same refl refl) h
+    stage-on job w made o (Hands j f) un calm same has h = (
       given-on f (calm refl) (same refl refl) h.0,
       subst (λ (t : Text). lie_in crew.jobs t ≡ true) (sym (text-stays laws.the.steps m n e r step j (job f) has.1 (un j (self j)))) h.1,
     )
-    stage-on job w output o (Ended a held frame) un calm same has h = put-on output o h
-    stage-on job w output o (Unholds held frame) un calm same has h = put-on output o h
-    stage-on job w output o (Stops held frame) un calm same has h = put-on output o h
-    stage-on job w output o (Unframes frame held) un calm same has h = put-on output o h
-    stage-on job w output o (Lasts held) un calm same has h = put-on output o h
-    stage-on job w output o (WrapsLast held size frame) un calm same has h = put-on output o h
-    stage-on job w output o (TrimsLast held chunk len frame) un calm same has h = put-on output o h
-    stage-on job w output o (Unwraps frame chunk len) un calm same has h = put-on output o h
-    stage-on job w output o (Returns write) un calm same has h = h
-    stage-on job w output o (Lapses j) un calm same has h = h
-    stage-on job w output o Fails un calm same has h = h
-    stage-on job w output o s un calm same has h = putting-on output o (calm refl) (same refl refl) h
+    stage-on job w made o (Ended a held frame) un calm same has h = put-on made o h
+    stage-on job w made o (Unholds held frame) un calm same has h = put-on made o h
+    stage-on job w made o (Stops held frame) un calm same has h = put-on made o h
+    stage-on job w made o (Unframes frame held) un calm same has h = put-on made o h
+    stage-on job w made o (Lasts held) un calm same has h = put-on made o h
+    stage-on job w made o (WrapsLast held size frame) un calm same has h = put-on made o h
+    stage-on job w made o (TrimsLast held chunk len frame) un calm same has h = put-on made o h
+    stage-on job w made o (Unwraps frame chunk len) un calm same has h = put-on made o h
+    stage-on job w made o (Returns write) un calm same has h = h
+    stage-on job w made o (Lapses j) un calm same has h = h
+    stage-on job w made o Fails un calm same has h = h
+    stage-on job w made o s un calm same has h = putting-on made o (calm refl) (same refl refl) h

@@ -1,4 +1,4 @@
--- The worker of a run until it has its job: it is hired, is given the pipe, and its job is made and written.
+-- The worker of a run until it has its job: it is assigned, gets the pipe, and its job is made and written.
 use Rattle.std.proofs.Common.{inl, inr, ◌≡◌, ◌≢◌, ◌<◌, ◌≤◌, ℕ, List, [], ◌∷◌, ◌++◌, length, ap, ◌∙◌, refl, sym, subst, arith, Option, Some, None, true, false, Bool, slice_get, if◌then◌else◌}
 use Rattle.std.specs.Prelude.{◌==◌, ◌&&◌, nat_le, unwrap_or}
 use Rattle.std.specs.List.{AllByRecursion}
@@ -24,8 +24,9 @@ use Rattle.iol_laws.specs.Sources.{lie_in}
 use Rattle.iol_laws.proofs.Places.{lowest-free}
 use Rattle.iol_proc.specs.declared.seat.Seat.{Seat}
 use Rattle.flash_http.specs.Request.{Wanted}
+use Rattle.flash_cgi.specs.Due.{Made}
 use Rattle.flash_cgi.specs.Job.{job_text}
-use Rattle.flash_cgi.specs.Output.{output}
+use Rattle.flash_cgi.specs.Output.{Outcome, output}
 use Rattle.flash_cgi.specs.Outcomes.{outcome_in, outcomes_in}
 use Rattle.flash_cgi.specs.Script.{script_of, lines_in, is_line_feed}
 use Rattle.flash_cgi.specs.JobStart.{HasJob}
@@ -33,13 +34,14 @@ use Rattle.flash_cgi.specs.declared.line.Line.{Line}
 use Rattle.flash_cgi.specs.declared.script.TheConstants.{MAX_SCRIPT_BYTES}
 use Rattle.flash_cgi.proofs.JobText.{length-job_text}
 use Rattle.flash_laws.specs.Client.{Client, job_of}
-use Rattle.flash_laws.specs.Client.Fits.{IsScript, output_of}
+use Rattle.flash_laws.specs.Client.Fits.{IsScript, made_of, response_to}
 use Rattle.flash_laws.specs.Workers.Crew.{Crew}
 use Rattle.flash_laws.specs.Run.Fits.{Progress, nothing_yet, HasPipe}
 use Rattle.flash_laws.specs.Run.OfferedBytes.{is_failing, IsLost}
 use Rattle.flash_laws.specs.Run.{worker_domain, job_pipe, is_again, told_awaits, told_gives, told_makes, told_hands}
 use Rattle.flash_laws.specs.Site.ClientTies.{AreAtDesks}
 use Rattle.flash_laws.specs.Shelf.{Shelf}
+use Rattle.flash_laws.specs.Shelf.Due.{outcomes_by}
 use Rattle.flash_laws.specs.Site.{server}
 use Rattle.flash_laws.specs.Run.Stages.{IsReadyFor, IsGiven, IsPuttingOut}
 use Rattle.flash_laws.specs.declared.script_run.Run.{Run}
@@ -124,9 +126,9 @@ module _ (shelf : Shelf) (crew : Crew) (laws : AllLaws crew) (m n : State) (c : 
       by (inr shut) = clash (pipe_at m (crew.desk run.worker)).reading reads
           (ap (λ p. (pipe_at m p).reading) (write_number (crew.desk run.worker) shut.0 (descriptor m server (job_pipe run.worker)) (desks.desks run.worker at.0) shut.1) ∙ shut.2)
 
-  module _ (output : List ℕ) where
+  module _ (made : Made) where
     abbrev After : Running → Running → Type 0
-    After y z = DeskAfter shelf crew m n c seats w output y z o after
+    After y z = DeskAfter crew m n c seats w made y z o after
 
     -- ---- a worker is hired
 
@@ -159,13 +161,13 @@ module _ (shelf : Shelf) (crew : Crew) (laws : AllLaws crew) (m n : State) (c : 
             };
           };
           freed = λ k seat at was gone. absurd (cc (was));
-          may = may_same shelf w Awaits (told_awaits worker (reply.Fds from write)) o after same;
+          may = may_same (response_to w made) w Awaits (told_awaits worker (reply.Fds from write)) o after same;
           cut = cut_whole m c Awaits (told_awaits worker (reply.Fds from write)) refl;
         }
     awaits worker r h now hired same = record {
       desk = tt;
       freed = λ k seat at was gone. absurd (cc (was));
-      may = may_same shelf w Awaits Awaits o after same;
+      may = may_same (response_to w made) w Awaits Awaits o after same;
       cut = cut_whole m c Awaits Awaits refl;
     }
 
@@ -203,32 +205,32 @@ module _ (shelf : Shelf) (crew : Crew) (laws : AllLaws crew) (m n : State) (c : 
 
         by : (r : Reply) → OwnCall shelf crew m n (call.GiveFd write (worker_domain run.worker)) r seats → (is_failing (Runs run (told_gives write r)) ≡ true → ⊥)
             → After (Runs run (Gives write)) (Runs run (told_gives write r))
-        by (reply.Fd f) h kept = same_on shelf crew m n c seats w output o after run (Gives write) (Makes f) seat sits same (cut_same m c (Runs run (Gives write)) (Runs run (Makes f)) refl) (handed f h)
+        by (reply.Fd f) h kept = same_on crew m n c seats w made o after run (Gives write) (Makes f) seat sits same (cut_same m c (Runs run (Gives write)) (Runs run (Makes f)) refl) (handed f h)
         by (reply.Refused x) h kept = either (is_again x) kept
           where
             either : (b : Bool) → (is_failing (Runs run (if b then Gives write else Returns write)) ≡ true → ⊥) → After (Runs run (Gives write)) (Runs run (if b then Gives write else Returns write))
-            either true kept = same_on shelf crew m n c seats w output o after run (Gives write) (Gives write) seat sits same (cut_same m c (Runs run (Gives write)) (Runs run (Gives write)) refl)
+            either true kept = same_on crew m n c seats w made o after run (Gives write) (Gives write) seat sits same (cut_same m c (Runs run (Gives write)) (Runs run (Gives write)) refl)
                 (again (reply.Refused x) h)
             either false kept = absurd (kept refl)
-        by r h kept = same_on shelf crew m n c seats w output o after run (Gives write) (Gives write) seat sits same (cut_same m c (Runs run (Gives write)) (Runs run (Gives write)) refl) (again r h)
+        by r h kept = same_on crew m n c seats w made o after run (Gives write) (Gives write) seat sits same (cut_same m c (Runs run (Gives write)) (Runs run (Gives write)) refl) (again r h)
 
     -- ---- its job is made
 
     pub makes : (bytes : List ℕ) (run : Run) (f : ℕ) (r : Reply) (seat : Seat crew.Worker) (sits : slice_get seats run.worker ≡ Some seat) → IsGiven crew m seat run f
         → OwnCall shelf crew m n (call.AggMake bytes) r seats → Still m n → after ≡ o → After (Runs run (Makes f)) (Runs run (told_makes f r))
     makes bytes run f (reply.Agg j) seat sits given h stays same =
-        same_on shelf crew m n c seats w output o after run (Makes f) (Hands j f) seat sits same (cut_same m c (Runs run (Makes f)) (Runs run (Hands j f)) refl) (
+        same_on crew m n c seats w made o after run (Makes f) (Hands j f) seat sits same (cut_same m c (Runs run (Makes f)) (Runs run (Hands j f)) refl) (
           given_on shelf crew laws m n (call.AggMake bytes) (reply.Agg j) seats h run seat sits stays f given,
           laws.labels.aggs crew.jobs m n (event.Call server (call.AggMake bytes)) (reply.Agg j) server j h.order h.step
               (λ u. laws.labels.fresh crew.jobs (default_pool m server) bytes h.fixed.default) (λ u. absurd (clash (j == j) (self j) u)),
         )
     makes bytes run f r seat sits given h stays same =
-        same_on shelf crew m n c seats w output o after run (Makes f) (Makes f) seat sits same (cut_same m c (Runs run (Makes f)) (Runs run (Makes f)) refl)
+        same_on crew m n c seats w made o after run (Makes f) (Makes f) seat sits same (cut_same m c (Runs run (Makes f)) (Runs run (Makes f)) refl)
         (given_on shelf crew laws m n (call.AggMake bytes) r seats h run seat sits stays f given)
 
   -- ---- its job is written
 
-  module _ (x : Client) (s : IsScript shelf x w) (run : Run) (f j : ℕ) (seat : Seat crew.Worker) (sits : slice_get seats run.worker ≡ Some seat) (given : IsGiven crew m seat run f)
+  module _ (x : Client) (s : IsScript shelf x w) (shown : List Outcome) (fresh : shown ≡ outcomes_by shelf.shows s.lines) (run : Run) (f j : ℕ) (seat : Seat crew.Worker) (sits : slice_get seats run.worker ≡ Some seat) (given : IsGiven crew m seat run f)
       (lies : lie_in crew.jobs (text m server j) ≡ true) (lends : lent_at m server j ≡ Some (job_of w s.text f)) where
     abbrev desk : ℕ
     desk = crew.desk run.worker
@@ -239,7 +241,7 @@ module _ (shelf : Shelf) (crew : Crew) (laws : AllLaws crew) (m n : State) (c : 
     -- all of it lies in the pipe of its desk
     begun : (k : ℕ) (h : OwnCall shelf crew m n (call.IolWrite (job_pipe run.worker) j) (reply.Count k) seats)
         → ((p : ℕ) → p ≢ desk → pipe_at n p ≡ pipe_at m p) → descriptor n server run.from ≡ Some (on.ReadEnd pipe)
-        → IsPuttingOut crew n seat run (output_of shelf w s.lines) nothing_yet
+        → IsPuttingOut crew n seat run (made_of w s.lines shown) nothing_yet
     begun k h stays reads =
         let at = h.desks.by run.worker seat sits in
         let puts = laws.the.own.write_pipe m n server (job_pipe run.worker) desk j (job_of w s.text f) (reply.Count k) h.order (h.desks.desks run.worker at.0) lends h.step in
@@ -271,31 +273,33 @@ module _ (shelf : Shelf) (crew : Crew) (laws : AllLaws crew) (m n : State) (c : 
         (λ name. files.outcomes name ∙ subst (λ d. outcome_in m d name ≡ shelf.shows name) (sym at.1) (h.fixed.shows run.worker at.0 name)) in
         record {
           has = record { pipe = pipe; reads = reads; apart = given.ready.has.apart };
-          more = output_of shelf w s.lines;
-          puts_out = inl (subst (λ (l : List ℕ). crew.Due n desk pipe seat l)
-              (ap (λ (x : Pipe). bytes_of x.queue ++ output w.query s.lines (outcomes_in n seat.by s.lines)) new ∙ ap (λ os. output w.query s.lines os) outcomes) due);
+          more = output w.query s.lines shown;
+          puts_out = inl (subst (λ (os : List Outcome). crew.Due n desk pipe seat (made_of w s.lines os) (output w.query s.lines os)) (outcomes ∙ sym fresh)
+              (subst (λ (x : Pipe). crew.Due n desk pipe seat
+              (record { before = bytes_of x.queue; query = w.query; lines = s.lines; outcomes = outcomes_in n seat.by s.lines })
+              (bytes_of x.queue ++ output w.query s.lines (outcomes_in n seat.by s.lines))) new due));
           to_come = (refl, refl);
         }
 
     abbrev Told : Step → Type 0
-    Told later = DeskAfter shelf crew m n c seats w (output_of shelf w s.lines) (Runs run (Hands j f)) (Runs run later) o after
+    Told later = DeskAfter crew m n c seats w (made_of w s.lines shown) (Runs run (Hands j f)) (Runs run later) o after
 
     pub hands : (r : Reply) → OwnCall shelf crew m n (call.IolWrite (job_pipe run.worker) j) r seats → ((p : ℕ) → p ≢ desk → pipe_at n p ≡ pipe_at m p)
         → descriptor n server run.from ≡ Some (on.ReadEnd pipe) → (is_failing (Runs run (told_hands j f r)) ≡ true → ⊥) → o ≡ nothing_yet → after ≡ o
         → Told (told_hands j f r)
-    hands r h stays reads kept fresh same = by r h kept
+    hands r h stays reads kept begins same = by r h kept
       where
         wrote : (r : Reply) → OwnCall shelf crew m n (call.IolWrite (job_pipe run.worker) j) r seats → WritesPipe m desk (job_of w s.text f) r n
         wrote r h = laws.the.own.write_pipe m n server (job_pipe run.worker) desk j (job_of w s.text f) r h.order (h.desks.desks run.worker (h.desks.by run.worker seat sits).0) lends h.step
 
         again : n ≡ m → Told (Hands j f)
-        again is = same_on shelf crew m n c seats w (output_of shelf w s.lines) o after run (Hands j f) (Hands j f) seat sits same (cut_same m c (Runs run (Hands j f)) (Runs run (Hands j f)) refl)
+        again is = same_on crew m n c seats w (made_of w s.lines shown) o after run (Hands j f) (Hands j f) seat sits same (cut_same m c (Runs run (Hands j f)) (Runs run (Hands j f)) refl)
             (subst (λ (u : State). IsGiven crew u seat run f × (lie_in crew.jobs (text u server j) ≡ true)) (sym is) (given, lies))
 
         by : (r : Reply) → OwnCall shelf crew m n (call.IolWrite (job_pipe run.worker) j) r seats → (is_failing (Runs run (told_hands j f r)) ≡ true → ⊥) → Told (told_hands j f r)
-        by (reply.Count k) h kept = same_on shelf crew m n c seats w (output_of shelf w s.lines) o after run (Hands j f) (Lets j) seat sits same
+        by (reply.Count k) h kept = same_on crew m n c seats w (made_of w s.lines shown) o after run (Hands j f) (Lets j) seat sits same
             (cut_same m c (Runs run (Hands j f)) (Runs run (Lets j)) refl)
-            (subst (λ (p : Progress). IsPuttingOut crew n seat run (output_of shelf w s.lines) p) (sym (same ∙ fresh)) (begun k h stays reads))
+            (subst (λ (p : Progress). IsPuttingOut crew n seat run (made_of w s.lines shown) p) (sym (same ∙ begins)) (begun k h stays reads))
         by (reply.Refused y) h kept = either (is_again y) kept
           where
             either : (b : Bool) → (is_failing (Runs run (if b then Hands j f else Lapses j)) ≡ true → ⊥) → Told (if b then Hands j f else Lapses j)

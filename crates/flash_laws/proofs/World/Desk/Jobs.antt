@@ -6,6 +6,7 @@ use Rattle.iol_proc.specs.declared.seat.Seat.{Seat}
 use Rattle.flash_laws.specs.Client.{Client}
 use Rattle.flash_laws.specs.Client.Fits.{Fits}
 use Rattle.flash_laws.specs.Conn.{Conn}
+use Rattle.flash_cgi.specs.Due.{Made}
 use Rattle.flash_laws.specs.Workers.Crew.{Crew}
 use Rattle.flash_laws.specs.Site.Past.{Past}
 use Rattle.flash_laws.specs.Site.Places.{is_run_by, is_free}
@@ -29,32 +30,32 @@ module _ (crew : Crew) (laws : AllLaws crew) where
   free-reads : (m : State) (j : ℕ) (seat : Seat crew.Worker) → crew.Free m j seat → descriptor m seat.by 0 ≡ Some (on.ReadEnd j)
   free-reads m j seat free = (laws.workers.none m j seat free).jobs
 
-  puts-reads : (m : State) (seat : Seat crew.Worker) (run : Run) (output : List ℕ) (o : Progress) → IsPuttingOut crew m seat run output o
+  puts-reads : (m : State) (seat : Seat crew.Worker) (run : Run) (made : Made) (o : Progress) → IsPuttingOut crew m seat run made o
       → descriptor m seat.by 0 ≡ Some (on.ReadEnd (crew.desk run.worker))
-  puts-reads m seat run output o h = by h.puts_out
+  puts-reads m seat run made o h = by h.puts_out
     where
-      by : PutsOut crew.turns crew.pools crew.Free crew.Due m (crew.desk run.worker) h.has.pipe seat h.more
+      by : PutsOut crew.turns crew.pools crew.Free crew.Due m (crew.desk run.worker) h.has.pipe seat made h.more
           → descriptor m seat.by 0 ≡ Some (on.ReadEnd (crew.desk run.worker))
-      by (inl due) = laws.workers.reads m (crew.desk run.worker) h.has.pipe seat h.more due
+      by (inl due) = laws.workers.reads m (crew.desk run.worker) h.has.pipe seat made h.more due
       by (inr there) = free-reads m (crew.desk run.worker) seat there.free
 
-  stage-reads : (m : State) (seat : Seat crew.Worker) (run : Run) (output : List ℕ) (o : Progress) (s : Step) → Stage crew m seat run output o s
+  stage-reads : (m : State) (seat : Seat crew.Worker) (run : Run) (made : Made) (o : Progress) (s : Step) → Stage crew m seat run made o s
       → descriptor m seat.by 0 ≡ Some (on.ReadEnd (crew.desk run.worker))
-  stage-reads m seat run output o (Makes f) h = free-reads m (crew.desk run.worker) seat h.ready.free
-  stage-reads m seat run output o (Hands j f) h = free-reads m (crew.desk run.worker) seat h.0.ready.free
-  stage-reads m seat run output o (Lets j) h = puts-reads m seat run output o h
-  stage-reads m seat run output o Heads h = puts-reads m seat run output o h
-  stage-reads m seat run output o (Sending d frame) h = puts-reads m seat run output o h
-  stage-reads m seat run output o (Hears held frame) h = puts-reads m seat run output o h
-  stage-reads m seat run output o (Spills a frame) h = puts-reads m seat run output o h
-  stage-reads m seat run output o (Gathers held size piece len frame) h = puts-reads m seat run output o h
-  stage-reads m seat run output o (Frames held) h = puts-reads m seat run output o h
-  stage-reads m seat run output o (Wraps held frame) h = puts-reads m seat run output o h
-  stage-reads m seat run output o (Trims held chunk len frame) h = puts-reads m seat run output o h
-  stage-reads m seat run output o (Returns write) h = absurd h
-  stage-reads m seat run output o (Lapses j) h = absurd h
-  stage-reads m seat run output o Fails h = absurd h
-  stage-reads m seat run output o s h = free-reads m (crew.desk run.worker) seat h.free
+  stage-reads m seat run made o (Makes f) h = free-reads m (crew.desk run.worker) seat h.ready.free
+  stage-reads m seat run made o (Hands j f) h = free-reads m (crew.desk run.worker) seat h.0.ready.free
+  stage-reads m seat run made o (Lets j) h = puts-reads m seat run made o h
+  stage-reads m seat run made o Heads h = puts-reads m seat run made o h
+  stage-reads m seat run made o (Sending d frame) h = puts-reads m seat run made o h
+  stage-reads m seat run made o (Hears held frame) h = puts-reads m seat run made o h
+  stage-reads m seat run made o (Spills a frame) h = puts-reads m seat run made o h
+  stage-reads m seat run made o (Gathers held size piece len frame) h = puts-reads m seat run made o h
+  stage-reads m seat run made o (Frames held) h = puts-reads m seat run made o h
+  stage-reads m seat run made o (Wraps held frame) h = puts-reads m seat run made o h
+  stage-reads m seat run made o (Trims held chunk len frame) h = puts-reads m seat run made o h
+  stage-reads m seat run made o (Returns write) h = absurd h
+  stage-reads m seat run made o (Lapses j) h = absurd h
+  stage-reads m seat run made o Fails h = absurd h
+  stage-reads m seat run made o s h = free-reads m (crew.desk run.worker) seat h.free
 
 module _ (shelf : Shelf) (crew : Crew) (laws : AllLaws crew) where
   -- the worker of a client reads its jobs

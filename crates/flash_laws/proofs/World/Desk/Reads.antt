@@ -1,4 +1,4 @@
--- The worker of a run while its output is read: what it still puts out is what is still to come.
+-- The worker of a run while its output is read: its further output is the rest.
 use Rattle.std.proofs.Common.{inl, inr, ◌≡◌, ◌<◌, ℕ, ◌-◌, List, [], ◌∷◌, ◌++◌, ap, ◌∙◌, refl, sym, subst, arith, Option, Some, None, true, false, Bool, slice_get, append-nil, append_assoc, if◌then◌else◌}
 use Rattle.std.specs.Prelude.{◌&&◌, nat_lt}
 use Rattle.iol_core.specs.Text.{Text}
@@ -14,20 +14,20 @@ use Rattle.iol_laws.specs.Caller.{lent_at}
 use Rattle.iol_laws.specs.Reasons.{IsHidden}
 use Rattle.iol_laws.specs.Sources.{MayReadAll, lie_in}
 use Rattle.iol_proc.specs.declared.seat.Seat.{Seat}
-use Rattle.flash_http.specs.Request.{serve, Wanted}
-use Rattle.flash_laws.specs.Client.{Client}
-use Rattle.flash_laws.specs.Client.Fits.{IsScript, output_of}
+use Rattle.flash_http.specs.Request.{Wanted}
+use Rattle.flash_cgi.specs.Due.{Made, text_of}
+use Rattle.flash_laws.specs.Client.Fits.{response_to}
+use Rattle.flash_laws.specs.Answers.Scripts.{script_response}
 use Rattle.flash_laws.specs.Conn as conn
 use Rattle.flash_laws.specs.Conn.{Following, count_of}
 use Rattle.flash_laws.specs.Workers.Crew.{Crew}
 use Rattle.flash_laws.specs.Conn.Fits.{Names}
-use Rattle.flash_laws.specs.Client.ResponseState.{MayPutOut}
 use Rattle.flash_laws.specs.Conn.OfferedBytes.{is_dropping}
 use Rattle.flash_laws.specs.Workers.PutsOut.{PutsOut}
 use Rattle.flash_laws.specs.Run.Fits.{Progress, Ran, Broken, NotRun, Follows, MayAnswer, IsSending}
 use Rattle.flash_laws.specs.Run.OfferedBytes.{hears_on, takes_on, PartLearns, StepLearns, IsCutOff}
 use Rattle.flash_laws.specs.Run.{in_phase, held_size, broken, both, told_part, told_sending, told_hears, told_step, filled, holding, hearing}
-use Rattle.flash_laws.specs.Shelf.{Shelf, due_to}
+use Rattle.flash_laws.specs.Shelf.{Shelf}
 use Rattle.flash_laws.specs.Site.{server}
 use Rattle.flash_laws.specs.Run.Stages.{IsPuttingOut, IsToCome, IsHeardWhole, Stage}
 use Rattle.flash_laws.specs.declared.phase.Content.TheVariants.{Error}
@@ -103,30 +103,28 @@ heard_whole (Ran heard ended past) after output more learns come none =
 heard_whole Broken after output more learns come none = subst (λ (p : Progress). IsHeardWhole p output) (sym learns) tt
 heard_whole (NotRun status past) after output more learns come none = absurd come
 
--- ---- and so the response that is due may come
+-- ---- and so the response to it may come
 
-module _ (shelf : Shelf) (crew : Crew) (laws : AllLaws crew) (x : Client) (w : Wanted) (s : IsScript shelf x w) where
-  run_may : (heard past more : List ℕ) (ended : Bool) → output_of shelf w s.lines ≡ heard ++ more → Follows ended more → MayAnswer w (Ran heard ended past) (due_to shelf (serve w))
-  run_may heard past more ended all follows =
-      subst (λ (b : Bool). MayPutOut b w (Ran heard ended past) (due_to shelf (serve w))) s.get
-      (laws.due.heard shelf.scripts shelf.finds shelf.shows w s.text heard past more s.lines ended s.is_for s.found s.is_script s.get all follows)
+run_may : (w : Wanted) (made : Made) (heard past more : List ℕ) (ended : Bool) → text_of made ≡ heard ++ more → Follows ended more
+    → MayAnswer w (Ran heard ended past) (response_to w made)
+run_may w made heard past more ended all follows = (more, follows, ap (λ (l : List ℕ). script_response w l) all)
 
-  more_may : (o after : Progress) (more rest bytes : List ℕ) (b : ℕ) → after ≡ hears_on o (b ∷ bytes) → IsToCome o (output_of shelf w s.lines) more → more ≡ (b ∷ bytes) ++ rest
-      → MayAnswer w o (due_to shelf (serve w)) → MayAnswer w after (due_to shelf (serve w))
-  more_may (Ran heard ended past) after more rest bytes b learns come splits may =
-      subst (λ (p : Progress). MayAnswer w p (due_to shelf (serve w))) (sym learns)
-      (run_may (heard ++ (b ∷ bytes)) past rest ended (come.1 ∙ (ap (λ (l : List ℕ). heard ++ l) splits ∙ sym (append_assoc heard (b ∷ bytes) rest)))
-      (subst (λ (e : Bool). Follows e rest) (sym come.0) tt))
-  more_may Broken after more rest bytes b learns come splits may = absurd may
-  more_may (NotRun status past) after more rest bytes b learns come splits may = absurd come
+more_may : (w : Wanted) (made : Made) (o after : Progress) (more rest bytes : List ℕ) (b : ℕ) → after ≡ hears_on o (b ∷ bytes) → IsToCome o (text_of made) more → more ≡ (b ∷ bytes) ++ rest
+    → MayAnswer w o (response_to w made) → MayAnswer w after (response_to w made)
+more_may w made (Ran heard ended past) after more rest bytes b learns come splits may =
+    subst (λ (p : Progress). MayAnswer w p (response_to w made)) (sym learns)
+    (run_may w made (heard ++ (b ∷ bytes)) past rest ended (come.1 ∙ (ap (λ (l : List ℕ). heard ++ l) splits ∙ sym (append_assoc heard (b ∷ bytes) rest)))
+    (subst (λ (e : Bool). Follows e rest) (sym come.0) tt))
+more_may w made Broken after more rest bytes b learns come splits may = absurd may
+more_may w made (NotRun status past) after more rest bytes b learns come splits may = absurd come
 
-  end_may : (o after : Progress) (more : List ℕ) → after ≡ hears_on o [] → IsToCome o (output_of shelf w s.lines) more → more ≡ []
-      → MayAnswer w o (due_to shelf (serve w)) → MayAnswer w after (due_to shelf (serve w))
-  end_may (Ran heard ended past) after more learns come none may =
-      subst (λ (p : Progress). MayAnswer w p (due_to shelf (serve w))) (sym learns)
-      (run_may heard past [] true (come.1 ∙ ap (λ (l : List ℕ). heard ++ l) none) refl)
-  end_may Broken after more learns come none may = absurd may
-  end_may (NotRun status past) after more learns come none may = absurd come
+end_may : (w : Wanted) (made : Made) (o after : Progress) (more : List ℕ) → after ≡ hears_on o [] → IsToCome o (text_of made) more → more ≡ []
+    → MayAnswer w o (response_to w made) → MayAnswer w after (response_to w made)
+end_may w made (Ran heard ended past) after more learns come none may =
+    subst (λ (p : Progress). MayAnswer w p (response_to w made)) (sym learns)
+    (run_may w made heard past [] true (come.1 ∙ ap (λ (l : List ℕ). heard ++ l) none) refl)
+end_may w made Broken after more learns come none may = absurd may
+end_may w made (NotRun status past) after more learns come none may = absurd come
 
 -- ---- nothing is hidden from the server that a worker puts out
 
@@ -140,12 +138,12 @@ not_hidden pools m q t wide lies hidden =
     first_true false b is = absurd (cc (is))
 
 module _ (shelf : Shelf) (crew : Crew) (laws : AllLaws crew) (m n : State) (c : ℕ) (seats : List (Seat crew.Worker)) (w : Wanted) (o after : Progress) where
-  pub not_cut : (output : List ℕ) (run : Run) (step : Step) (seat : Seat crew.Worker) → IsPuttingOut crew m seat run output o → MayReadAll m server crew.pools
+  pub not_cut : (made : Made) (run : Run) (step : Step) (seat : Seat crew.Worker) → IsPuttingOut crew m seat run made o → MayReadAll m server crew.pools
       → IsCutOff m c (Runs run step) → is_gone (conn_at m c).peer ≡ true
-  not_cut output run step seat was wide cut = by cut
+  not_cut made run step seat was wide cut = by cut
     where
-      lies : PutsOut crew.turns crew.pools crew.Free crew.Due m (crew.desk run.worker) was.has.pipe seat was.more → lie_in crew.pools (pipe_at m was.has.pipe).queue ≡ true
-      lies (inl due) = laws.workers.shown m (crew.desk run.worker) was.has.pipe seat was.more due
+      lies : PutsOut crew.turns crew.pools crew.Free crew.Due m (crew.desk run.worker) was.has.pipe seat made was.more → lie_in crew.pools (pipe_at m was.has.pipe).queue ≡ true
+      lies (inl due) = laws.workers.shown m (crew.desk run.worker) was.has.pipe seat made was.more due
       lies (inr there) = there.lies
 
       one : (p q : ℕ) (u : Option Descriptor) → u ≡ Some (on.ReadEnd p) → u ≡ Some (on.ReadEnd q) → p ≡ q
@@ -156,37 +154,37 @@ module _ (shelf : Shelf) (crew : Crew) (laws : AllLaws crew) (m n : State) (c : 
       by (inr hides) = absurd (not_hidden crew.pools m hides.1 (pipe_at m hides.0).queue wide
           (subst (λ p. lie_in crew.pools (pipe_at m p).queue ≡ true) (one was.has.pipe hides.0 (descriptor m server run.from) was.has.reads hides.2) (lies was.puts_out)) hides.3)
 
-  module _ (output : List ℕ) where
+  module _ (made : Made) where
     abbrev After : Running → Running → Type 0
-    After y z = DeskAfter shelf crew m n c seats w output y z o after
+    After y z = DeskAfter crew m n c seats w made y z o after
 
-    module _ (run : Run) (seat : Seat crew.Worker) (sits : slice_get seats run.worker ≡ Some seat) (now : IsPuttingOut crew n seat run output after) where
+    module _ (run : Run) (seat : Seat crew.Worker) (sits : slice_get seats run.worker ≡ Some seat) (now : IsPuttingOut crew n seat run made after) where
       -- ---- what is held
 
-      held_on : (step : Step) (a size : ℕ) (frame : Option ℕ) → ((z : Running) → MayOn shelf w (Runs run step) z o after)
+      held_on : (step : Step) (a size : ℕ) (frame : Option ℕ) → ((z : Running) → MayOn (response_to w made) w (Runs run step) z o after)
           → CutBy m c (Runs run step) (Runs run (holding a size frame)) → After (Runs run step) (Runs run (holding a size frame))
       held_on step a size frame may cut = by (nat_lt size CHUNK_BYTES) frame cut
         where
           by : (t : Bool) (f : Option ℕ) → CutBy m c (Runs run step) (Runs run (if t then Hears (Some (a, size)) f else filled a f))
               → After (Runs run step) (Runs run (if t then Hears (Some (a, size)) f else filled a f))
-          by true f cut = goes_on shelf crew m n c seats w output o after run run step (Hears (Some (a, size)) f) seat refl sits now (may (Runs run (Hears (Some (a, size)) f))) cut
-          by false None cut = goes_on shelf crew m n c seats w output o after run run step (Frames a) seat refl sits now (may (Runs run (Frames a))) cut
-          by false (Some f) cut = goes_on shelf crew m n c seats w output o after run run step (Wraps a f) seat refl sits now (may (Runs run (Wraps a f))) cut
+          by true f cut = goes_on crew m n c seats w made o after run run step (Hears (Some (a, size)) f) seat refl sits now (may (Runs run (Hears (Some (a, size)) f))) cut
+          by false None cut = goes_on crew m n c seats w made o after run run step (Frames a) seat refl sits now (may (Runs run (Frames a))) cut
+          by false (Some f) cut = goes_on crew m n c seats w made o after run run step (Wraps a f) seat refl sits now (may (Runs run (Wraps a f))) cut
 
-      hearing_on : (step : Step) (b chunked : Bool) (held : Following) (frame : Option ℕ) (a len : ℕ) → ((z : Running) → MayOn shelf w (Runs run step) z o after)
+      hearing_on : (step : Step) (b chunked : Bool) (held : Following) (frame : Option ℕ) (a len : ℕ) → ((z : Running) → MayOn (response_to w made) w (Runs run step) z o after)
           → CutBy m c (Runs run step) (Runs run (hearing b chunked held frame a len)) → After (Runs run step) (Runs run (hearing b chunked held frame a len))
-      hearing_on step true chunked held frame a len may cut = goes_on shelf crew m n c seats w output o after run run step (Spills a frame) seat refl sits now (may (Runs run (Spills a frame))) cut
+      hearing_on step true chunked held frame a len may cut = goes_on crew m n c seats w made o after run run step (Spills a frame) seat refl sits now (may (Runs run (Spills a frame))) cut
       hearing_on step false false held frame a len may cut =
-          goes_on shelf crew m n c seats w output o after run run step (Sending (doing.Sends a len 0 None) frame) seat refl sits now (may (Runs run (Sending (doing.Sends a len 0 None) frame))) cut
+          goes_on crew m n c seats w made o after run run step (Sending (doing.Sends a len 0 None) frame) seat refl sits now (may (Runs run (Sending (doing.Sends a len 0 None) frame))) cut
       hearing_on step false true None frame a len may cut = held_on step a len frame may cut
       hearing_on step false true (Some y) frame a len may cut =
-          goes_on shelf crew m n c seats w output o after run run step (Gathers y.0 y.1 a len frame) seat refl sits now (may (Runs run (Gathers y.0 y.1 a len frame))) cut
+          goes_on crew m n c seats w made o after run run step (Gathers y.0 y.1 a len frame) seat refl sits now (may (Runs run (Gathers y.0 y.1 a len frame))) cut
 
       -- ---- steps that hear nothing
 
       module _ (same : after ≡ o) where
-        to : (step later : Step) → CutBy m c (Runs run step) (Runs run later) → Stage crew n seat run output after later → After (Runs run step) (Runs run later)
-        to step later cut stage = same_on shelf crew m n c seats w output o after run step later seat sits same cut stage
+        to : (step later : Step) → CutBy m c (Runs run step) (Runs run later) → Stage crew n seat run made after later → After (Runs run step) (Runs run later)
+        to step later cut stage = same_on crew m n c seats w made o after run step later seat sits same cut stage
 
         pub quiet_steps : (step : Step) (r : Reply) (heard : List ℕ) → HearsNothing step → CutBy m c (Runs run step) (told_step w run step r heard)
             → After (Runs run step) (told_step w run step r heard)
@@ -197,7 +195,7 @@ module _ (shelf : Shelf) (crew : Crew) (laws : AllLaws crew) (m n : State) (c : 
         quiet_steps (Spills a frame) reply.Done heard is cut = to (Spills a frame) (Hears None frame) cut now
         quiet_steps (Spills a frame) r heard is cut = to (Spills a frame) (Spills a frame) cut now
         quiet_steps (Gathers held size piece len frame) (reply.Agg a) heard is cut =
-            held_on (Gathers held size piece len frame) a (both size len) frame (λ z. may_same shelf w (Runs run (Gathers held size piece len frame)) z o after same) cut
+            held_on (Gathers held size piece len frame) a (both size len) frame (λ z. may_same (response_to w made) w (Runs run (Gathers held size piece len frame)) z o after same) cut
         quiet_steps (Gathers held size piece len frame) r heard is cut = to (Gathers held size piece len frame) (Gathers held size piece len frame) cut now
         quiet_steps (Frames held) (reply.Agg a) heard is cut = to (Frames held) (Wraps held a) cut now
         quiet_steps (Frames held) r heard is cut = to (Frames held) (Frames held) cut now
@@ -211,10 +209,10 @@ module _ (shelf : Shelf) (crew : Crew) (laws : AllLaws crew) (m n : State) (c : 
       pub sending : (d : Doing) (frame : Option ℕ) (r : Reply) → PartLearns m d r o after → CutBy m c (Runs run (Sending d frame)) (told_sending run d frame r)
           → After (Runs run (Sending d frame)) (told_sending run d frame r)
       sending (doing.Sent a taken None) frame reply.Done learns cut =
-          goes_on shelf crew m n c seats w output o after run run (Sending (doing.Sent a taken None) frame) (Hears None frame) seat refl sits now
-          (λ was gone may. part_may m w (doing.Sent a taken None) reply.Done o after (due_to shelf (serve w)) learns was may) cut
+          goes_on crew m n c seats w made o after run run (Sending (doing.Sent a taken None) frame) (Hears None frame) seat refl sits now
+          (λ was gone may. part_may m w (doing.Sent a taken None) reply.Done o after (response_to w made) learns was may) cut
       sending (doing.Drops a None) frame reply.Done learns cut =
-          goes_on shelf crew m n c seats w output o after run (broken run) (Sending (doing.Drops a None) frame) (Hears None frame) seat refl sits (record {
+          goes_on crew m n c seats w made o after run (broken run) (Sending (doing.Drops a None) frame) (Hears None frame) seat refl sits (record {
             has = record { pipe = now.has.pipe; reads = now.has.reads; apart = now.has.apart };
             more = now.more;
             puts_out = now.puts_out;
@@ -222,15 +220,15 @@ module _ (shelf : Shelf) (crew : Crew) (laws : AllLaws crew) (m n : State) (c : 
           })
           (λ was gone may. absurd (cc (was))) cut
       sending d frame r learns cut =
-          goes_on shelf crew m n c seats w output o after run run (Sending d frame) (Sending (told_part d r) frame) seat refl sits now
-          (λ was gone may. part_may m w d r o after (due_to shelf (serve w)) learns was may) cut
+          goes_on crew m n c seats w made o after run run (Sending d frame) (Sending (told_part d r) frame) seat refl sits now
+          (λ was gone may. part_may m w d r o after (response_to w made) learns was may) cut
 
-  -- ---- output is read, or its end
+  -- ---- made is read, or its end
 
-  module _ (x : Client) (s : IsScript shelf x w) (run : Run) (held : Following) (frame : Option ℕ) (seat : Seat crew.Worker) (sits : slice_get seats run.worker ≡ Some seat)
-      (was : IsPuttingOut crew m seat run (output_of shelf w s.lines) o) (few : held_size held < CHUNK_BYTES) where
+  module _ (made : Made) (run : Run) (held : Following) (frame : Option ℕ) (seat : Seat crew.Worker) (sits : slice_get seats run.worker ≡ Some seat)
+      (was : IsPuttingOut crew m seat run made o) (few : held_size held < CHUNK_BYTES) where
     abbrev Heard : Running → Type 0
-    Heard z = DeskAfter shelf crew m n c seats w (output_of shelf w s.lines) (Runs run (Hears held frame)) z o after
+    Heard z = DeskAfter crew m n c seats w made (Runs run (Hears held frame)) z o after
 
     abbrev count : ℕ
     count = CHUNK_BYTES - held_size held
@@ -241,32 +239,32 @@ module _ (shelf : Shelf) (crew : Crew) (laws : AllLaws crew) (m n : State) (c : 
     ended : (a : ℕ) → OwnCall shelf crew m n reads (reply.Agg a) seats → lent_at n server a ≡ Some [] → after ≡ hears_on o [] → pipe_at n (crew.desk run.worker) ≡ pipe_at m (crew.desk run.worker)
         → CutBy m c (Runs run (Hears held frame)) (Runs run (Ended a held frame)) → Heard (Runs run (Ended a held frame))
     ended a h lends learns desk cut =
-        let all = laws.texts.ends m n (crew.desk run.worker) was.has.pipe server run.from count a seat was.more h.order h.fixed.placed (omega (arith, few)) h.step
+        let all = laws.texts.ends m n (crew.desk run.worker) was.has.pipe server run.from count a seat made was.more h.order h.fixed.placed (omega (arith, few)) h.step
         (other shelf crew laws m n reads (reply.Agg a) seats h run.worker seat sits) was.has.reads (own_files shelf crew laws m n reads (reply.Agg a) seats h run.worker seat sits) desk lends was.puts_out in
-        goes_on shelf crew m n c seats w (output_of shelf w s.lines) o after run run (Hears held frame) (Ended a held frame) seat refl sits
-        (record { free = all.1; whole = heard_whole o after (output_of shelf w s.lines) was.more learns was.to_come all.0 })
-        (λ on gone may. end_may shelf crew laws x w s o after was.more learns was.to_come all.0 may) cut
+        goes_on crew m n c seats w made o after run run (Hears held frame) (Ended a held frame) seat refl sits
+        (record { free = all.1; whole = heard_whole o after (text_of made) was.more learns was.to_come all.0 })
+        (λ on gone may. end_may w made o after was.more learns was.to_come all.0 may) cut
 
     more : (a b : ℕ) (bytes : List ℕ) → OwnCall shelf crew m n reads (reply.Agg a) seats → lent_at n server a ≡ Some (b ∷ bytes) → after ≡ hears_on o (b ∷ bytes)
         → pipe_at n (crew.desk run.worker) ≡ pipe_at m (crew.desk run.worker) → descriptor n server run.from ≡ Some (on.ReadEnd was.has.pipe)
         → CutBy m c (Runs run (Hears held frame)) (told_hears w run held frame (reply.Agg a) (b ∷ bytes)) → Heard (told_hears w run held frame (reply.Agg a) (b ∷ bytes))
     more a b bytes h lends learns desk from cut =
-        let did = laws.texts.reads m n (crew.desk run.worker) was.has.pipe server run.from count a seat was.more (b ∷ bytes) h.order h.fixed.placed h.step
+        let did = laws.texts.reads m n (crew.desk run.worker) was.has.pipe server run.from count a seat made was.more (b ∷ bytes) h.order h.fixed.placed h.step
         (other shelf crew laws m n reads (reply.Agg a) seats h run.worker seat sits) was.has.reads (own_files shelf crew laws m n reads (reply.Agg a) seats h run.worker seat sits) desk lends was.puts_out in
-        let now : IsPuttingOut crew n seat run (output_of shelf w s.lines) after = record {
+        let now : IsPuttingOut crew n seat run made after = record {
           has = record { pipe = was.has.pipe; reads = from; apart = was.has.apart };
           more = did.rest;
           puts_out = did.puts_out;
-          to_come = heard_more o after (output_of shelf w s.lines) was.more did.rest bytes b learns was.to_come did.splits;
+          to_come = heard_more o after (text_of made) was.more did.rest bytes b learns was.to_come did.splits;
         } in
-        hearing_on (output_of shelf w s.lines) run seat sits now (Hears held frame) run.broken w.chunked held frame a (count_of (b ∷ bytes))
-        (λ z on gone may. more_may shelf crew laws x w s o after was.more did.rest bytes b learns was.to_come did.splits may) cut
+        hearing_on made run seat sits now (Hears held frame) run.broken w.chunked held frame a (count_of (b ∷ bytes))
+        (λ z on gone may. more_may w made o after was.more did.rest bytes b learns was.to_come did.splits may) cut
 
     again : n ≡ m → after ≡ o → Heard (Runs run (Hears held frame))
-    again is same = same_on shelf crew m n c seats w (output_of shelf w s.lines) o after run (Hears held frame) (Hears held frame) seat sits same
+    again is same = same_on crew m n c seats w made o after run (Hears held frame) (Hears held frame) seat sits same
         (cut_same m c (Runs run (Hears held frame)) (Runs run (Hears held frame)) refl)
-        (subst (λ (u : State). IsPuttingOut crew u seat run (output_of shelf w s.lines) after) (sym is)
-        (subst (λ (p : Progress). IsPuttingOut crew m seat run (output_of shelf w s.lines) p) (sym same) was))
+        (subst (λ (u : State). IsPuttingOut crew u seat run made after) (sym is)
+        (subst (λ (p : Progress). IsPuttingOut crew m seat run made p) (sym same) was))
 
     pub hears : (r : Reply) (heard : List ℕ) → OwnCall shelf crew m n reads r seats → Names n r heard → StepLearns m (Hears held frame) r heard o after
         → pipe_at n (crew.desk run.worker) ≡ pipe_at m (crew.desk run.worker) → descriptor n server run.from ≡ Some (on.ReadEnd was.has.pipe)
@@ -274,6 +272,6 @@ module _ (shelf : Shelf) (crew : Crew) (laws : AllLaws crew) (m n : State) (c : 
     hears (reply.Agg a) [] h names learns desk from cut = ended a h names learns desk cut
     hears (reply.Agg a) (b ∷ bytes) h names learns desk from cut = more a b bytes h names learns desk from cut
     hears (reply.Refused (no.Denied q)) heard h names learns desk from cut =
-        absurd (laws.texts.undenied m n (crew.desk run.worker) was.has.pipe server run.from count q seat was.more h.fixed.wide was.has.reads was.puts_out h.step)
+        absurd (laws.texts.undenied m n (crew.desk run.worker) was.has.pipe server run.from count q seat made was.more h.fixed.wide was.has.reads was.puts_out h.step)
     hears (reply.Refused y) heard h names learns desk from cut = again (laws.the.own.read_pipe m n server run.from was.has.pipe count (reply.Refused y) h.order was.has.reads h.step) learns
     hears r heard h names learns desk from cut = absurd (laws.the.own.read_pipe m n server run.from was.has.pipe count r h.order was.has.reads h.step)

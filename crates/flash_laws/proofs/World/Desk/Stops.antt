@@ -1,4 +1,4 @@
--- The worker of a run once all of its output was heard: it is free, and stays so to the end of the run.
+-- The worker of a run after all of its output was read: it is free, and stays so to the end of the run.
 use Rattle.std.proofs.Common.{◌≡◌, ℕ, List, [], ◌∷◌, ap, ◌∙◌, refl, sym, subst, arith, Option, Some, None, true, false, Bool, slice_get}
 use Rattle.std.specs.Prelude.{◌==◌, ◌||◌}
 use Rattle.std.specs.List.{list_any}
@@ -10,14 +10,16 @@ use Rattle.iol_core.specs.declared.events.Reply.{Reply}
 use Rattle.iol_core.specs.declared.events.Reply.TheVariants as reply
 use Rattle.iol_laws.specs.Frame.{is_end}
 use Rattle.iol_proc.specs.declared.seat.Seat.{Seat}
-use Rattle.flash_http.specs.Request.{serve, Wanted}
+use Rattle.flash_http.specs.Request.{Wanted}
+use Rattle.flash_cgi.specs.Due.{Made}
+use Rattle.flash_laws.specs.Client.Fits.{response_to}
 use Rattle.flash_laws.specs.Conn as conn
 use Rattle.flash_laws.specs.Conn.{Following, count_of}
 use Rattle.flash_laws.specs.Workers.Crew.{Crew}
 use Rattle.flash_laws.specs.Run.Fits.{Progress}
 use Rattle.flash_laws.specs.Run.OfferedBytes.{PartLearns, breaks_off}
 use Rattle.flash_laws.specs.Run.{in_phase, told_step, finishing, ending}
-use Rattle.flash_laws.specs.Shelf.{Shelf, due_to}
+use Rattle.flash_laws.specs.Shelf.{Shelf}
 use Rattle.flash_laws.specs.Site.{server}
 use Rattle.flash_laws.specs.Run.Stages.{HasWorkerAt, HasPutOut, Stage}
 use Rattle.flash_laws.specs.declared.phase.Doing.{Doing}
@@ -42,7 +44,7 @@ apart_read o p q is differ = ap (λ u. list_any (is_end q) (u ∷ []) || false) 
 pub apart_write : (o : Option Descriptor) (p q : ℕ) → o ≡ Some (on.WriteEnd p) → (p ≡ q → ⊥) → (list_any (is_end q) (o ∷ []) || false) ≡ false
 apart_write o p q is differ = ap (λ u. list_any (is_end q) (u ∷ []) || false) is ∙ ap (λ b. (b || false) || false) (not-equal p q differ)
 
--- the steps once no more output is read
+-- the steps once no more made is read
 abbrev pub HasHeardAll : Step → Type 0
 HasHeardAll (Ended a held frame) = Unit {0}
 HasHeardAll (Unholds held frame) = Unit {0}
@@ -72,13 +74,13 @@ module _ (shelf : Shelf) (crew : Crew) (laws : AllLaws crew) (m n : State) (c : 
           let at = (h.desks.by run.worker seat sits).1 in
           omega (arith, one, at)
 
-  module _ (output : List ℕ) where
+  module _ (made : Made) where
     abbrev After : Running → Running → Type 0
-    After y z = DeskAfter shelf crew m n c seats w output y z o after
+    After y z = DeskAfter crew m n c seats w made y z o after
 
-    module _ (run : Run) (seat : Seat crew.Worker) (sits : slice_get seats run.worker ≡ Some seat) (now : HasPutOut crew n seat run output after) (same : after ≡ o) where
-      to : (step later : Step) → CutBy m c (Runs run step) (Runs run later) → Stage crew n seat run output after later → After (Runs run step) (Runs run later)
-      to step later cut stage = same_on shelf crew m n c seats w output o after run step later seat sits same cut stage
+    module _ (run : Run) (seat : Seat crew.Worker) (sits : slice_get seats run.worker ≡ Some seat) (now : HasPutOut crew n seat run made after) (same : after ≡ o) where
+      to : (step later : Step) → CutBy m c (Runs run step) (Runs run later) → Stage crew n seat run made after later → After (Runs run step) (Runs run later)
+      to step later cut stage = same_on crew m n c seats w made o after run step later seat sits same cut stage
 
       freed : (k : ℕ) (next : Seat crew.Worker) → slice_get seats k ≡ Some next → (run.worker == k) ≡ true → crew.Free n (crew.desk k) next
       freed k next at was =
@@ -86,11 +88,11 @@ module _ (shelf : Shelf) (crew : Crew) (laws : AllLaws crew) (m n : State) (c : 
           let one = some_one seat next (sym sits ∙ (ap (λ j. slice_get seats j) e ∙ at)) in
           subst (λ (u : Seat crew.Worker). crew.Free n (crew.desk k) u) one (subst (λ j. crew.Free n (crew.desk j) seat) e now.free)
 
-      over : (step : Step) (z : Running) → HasWorkerAt crew n seats output after z → CutBy m c (Runs run step) z → After (Runs run step) z
+      over : (step : Step) (z : Running) → HasWorkerAt crew n seats made after z → CutBy m c (Runs run step) z → After (Runs run step) z
       over step z desk cut = record {
         desk = desk;
         freed = λ k next at was gone. freed k next at was;
-        may = may_same shelf w (Runs run step) z o after same;
+        may = may_same (response_to w made) w (Runs run step) z o after same;
         cut = cut;
       }
 
@@ -106,7 +108,7 @@ module _ (shelf : Shelf) (crew : Crew) (laws : AllLaws crew) (m n : State) (c : 
       ending_on None a len = left_on (Lasts None) a len
       ending_on (Some y) a len = to (Lasts (Some y)) (WrapsLast y.0 y.1 a) (cut_same m c (Runs run (Lasts (Some y))) (Runs run (WrapsLast y.0 y.1 a)) refl) now
 
-      on_to : (step later : Step) → breaks_off (Runs run later) ≡ breaks_off (Runs run step) → Stage crew n seat run output after later → After (Runs run step) (Runs run later)
+      on_to : (step later : Step) → breaks_off (Runs run later) ≡ breaks_off (Runs run step) → Stage crew n seat run made after later → After (Runs run step) (Runs run later)
       on_to step later whole stage = to step later (cut_same m c (Runs run step) (Runs run later) whole) stage
 
       pub last_steps : (step : Step) (r : Reply) (heard : List ℕ) → HasHeardAll step → After (Runs run step) (told_step w run step r heard)
@@ -135,6 +137,6 @@ module _ (shelf : Shelf) (crew : Crew) (laws : AllLaws crew) (m n : State) (c : 
     leaving d r heard learns cut = record {
       desk = tt;
       freed = λ k next at was gone. absurd (cc (was));
-      may = λ was gone may. part_may m w d r o after (due_to shelf (serve w)) learns was may;
+      may = λ was gone may. part_may m w d r o after (response_to w made) learns was may;
       cut = cut;
     }

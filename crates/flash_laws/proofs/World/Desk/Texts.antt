@@ -11,7 +11,7 @@ use Rattle.iol_core.specs.declared.events.Event.{Event}
 use Rattle.iol_core.specs.declared.events.Event.TheVariants as event
 use Rattle.iol_core.specs.declared.events.Reply.{Reply}
 use Rattle.iol_core.specs.declared.events.Reply.TheVariants as reply
-use Rattle.iol_laws.specs.Caller.{CallsServeTheirDomain, ClosesWriteEnd, TakesFromPipe, is_rough, lent_at}
+use Rattle.iol_laws.specs.Caller.{CallsServeTheirDomain, ClosesWriteEnd, TakesFromPipe, lent_at}
 use Rattle.iol_laws.specs.Order.{IsOrderly}
 use Rattle.iol_laws.specs.Sources.{LabelsFollow, MayReadAll, lie_in}
 use Rattle.iol_proc.specs.Settlement.{Claim}
@@ -19,11 +19,12 @@ use Rattle.iol_proc.specs.Turns.{Account, SeatTurn}
 use Rattle.iol_proc.specs.World.{copying}
 use Rattle.iol_proc.specs.declared.seat.Seat.{Seat}
 use Rattle.flash_cgi.specs.Beside.{is_call_of, LeavesFiles, OthersHear}
+use Rattle.flash_cgi.specs.Due.{Made}
 use Rattle.flash_cgi.specs.Outcomes.{AreFiles}
 use Rattle.flash_cgi.specs.OutputPools.{HoldFiles}
 use Rattle.flash_cgi.proofs.OutputByCall.{bytes-append}
-use Rattle.flash_laws.specs.Workers.PutsOut.{HasRead, IsAllThere, PutsOut, TextsArePutOut}
-use Rattle.flash_laws.specs.Workers.{WorkersRun, Wrote}
+use Rattle.flash_laws.specs.Workers.PutsOut.{HasRead, IsAllThere, PutsOut, PutsOutStill, TextsArePutOut}
+use Rattle.flash_laws.specs.Workers.{TakesTurn, WorkersRun, Wrote}
 
 -- nothing went from a pipe that was left
 no_front : (gone queue : Text) → queue ≡ gone ++ queue → gone ≡ []
@@ -35,10 +36,10 @@ no_text [] e = refl
 no_text (b ∷ t) e = absurd (cc (e))
 
 module _ {W : Type 0} (works : Account W) (settled : Claim W) (pools : ℕ → Bool) (Free : State → (j : ℕ) → Seat W → Type 0)
-    (Due : State → (j p : ℕ) → Seat W → (text : List ℕ) → Type 0)
+    (Due : State → (j p : ℕ) → Seat W → Made → (text : List ℕ) → Type 0)
     (run : WorkersRun works settled pools Free Due) (own : CallsServeTheirDomain) (labels : LabelsFollow) (hear : OthersHear) where
-  abbrev Puts : State → (j p : ℕ) → Seat W → List ℕ → Type 0
-  Puts m j p seat text = PutsOut works pools Free Due m j p seat text
+  abbrev Puts : State → (j p : ℕ) → Seat W → Made → List ℕ → Type 0
+  Puts m j p seat made text = PutsOut works pools Free Due m j p seat made text
 
   abbrev There : State → (j p : ℕ) → Seat W → List ℕ → Type 0
   There m j p seat text = IsAllThere works pools Free Due m j p seat text
@@ -56,32 +57,41 @@ module _ {W : Type 0} (works : Account W) (settled : Claim W) (pools : ℕ → B
         lies = w.lies;
       }
 
-  turns : (m n : State) (j p : ℕ) (seat next : Seat W) (yields : Bool) (r : Reply) (text : List ℕ) → IsOrderly m → ArePlaced m → AreFiles m → HoldFiles pools m seat.by
-      → Puts m j p seat text → SeatTurn copying works m seat yields r n next → is_rough r ≡ false → (pipe_at m p).reading ≡ true → (pipe_at n p).reading ≡ true → Puts n j p next text
-  turns m n j p seat next yields r text order placed good holds (inl due) did smooth was now = by (run.turns m n j p seat next yields r text order placed good holds due did smooth)
+  turns : (m n : State) (j p : ℕ) (seat next : Seat W) (yields : Bool) (r : Reply) (made : Made) (text : List ℕ) → IsOrderly m → ArePlaced m → AreFiles m → HoldFiles pools m seat.by
+      → Puts m j p seat made text → SeatTurn copying works m seat yields r n next → (pipe_at m p).reading ≡ true → (pipe_at n p).reading ≡ true
+      → PutsOutStill works pools Free Due n j p next made text r
+  turns m n j p seat next yields r made text order placed good holds (inl due) did was now = record { after = t.after; later = t.later; instead = t.instead; puts_out = by t.goes }
     where
-      by : Due n j p next text ⊎ Wrote works settled pools Free Due m n j p next text r ⊎ ((pipe_at n p).reading ≡ false) → Puts n j p next text
+      t : TakesTurn works settled pools Free Due m n j p next made text r
+      t = run.turns m n j p seat next yields r made text order placed good holds due did
+
+      by : Due n j p next t.after t.later ⊎ Wrote works settled pools Free Due m n j p next t.later r ⊎ ((pipe_at n p).reading ≡ false) → Puts n j p next t.after t.later
       by (inl d) = inl d
-      by (inr (inl w)) = inr (closes m n j p next text r was w)
+      by (inr (inl w)) = inr (closes m n j p next t.later r was w)
       by (inr (inr gone)) = absurd (let e = sym now ∙ gone in cc (e))
-  turns m n j p seat next yields r text order placed good holds (inr there) did smooth was now =
+  turns m n j p seat next yields r made text order placed good holds (inr there) did was now =
       let same = run.waits m n j seat next yields r order there.free did in
-      inr (record {
-        all = there.all ∙ ap (λ u. bytes_of (pipe_at u p).queue) (sym same.0);
-        closed = ap (λ u. (pipe_at u p).writing) same.0 ∙ there.closed;
-        free = same.1;
-        lies = subst (λ (u : State). lie_in pools (pipe_at u p).queue ≡ true) (sym same.0) there.lies;
-      })
+      record {
+        after = made;
+        later = text;
+        instead = inl (refl, refl);
+        puts_out = inr (record {
+          all = there.all ∙ ap (λ u. bytes_of (pipe_at u p).queue) (sym same.0);
+          closed = ap (λ u. (pipe_at u p).writing) same.0 ∙ there.closed;
+          free = same.1;
+          lies = subst (λ (u : State). lie_in pools (pipe_at u p).queue ≡ true) (sym same.0) there.lies;
+        });
+      }
 
   -- ---- others that leave both pipes
 
-  left : (m n : State) (j p : ℕ) (seat : Seat W) (e : Event) (r : Reply) (text : List ℕ) → IsOrderly m → ArePlaced m → StepsTo m e r n → is_call_of e seat.by ≡ false
-      → LeavesFiles m seat.by n → pipe_at n j ≡ pipe_at m j → pipe_at n p ≡ pipe_at m p → Puts m j p seat text → Puts n j p seat text
-  left m n j p seat e r text order placed step other files desk pipe (inl due) =
-      let gave = run.others m n j p seat e r text order placed step other files desk due in
+  left : (m n : State) (j p : ℕ) (seat : Seat W) (e : Event) (r : Reply) (made : Made) (text : List ℕ) → IsOrderly m → ArePlaced m → StepsTo m e r n → is_call_of e seat.by ≡ false
+      → LeavesFiles m seat.by n → pipe_at n j ≡ pipe_at m j → pipe_at n p ≡ pipe_at m p → Puts m j p seat made text → Puts n j p seat made text
+  left m n j p seat e r made text order placed step other files desk pipe (inl due) =
+      let gave = run.others m n j p seat e r made text order placed step other files desk due in
       let none = no_front gave.goes.gone (pipe_at m p).queue (gave.goes.queue ∙ ap (λ (x : Pipe). gave.goes.gone ++ x.queue) pipe) in
-      inl (subst (λ (l : List ℕ). Due n j p seat l) (sym (gave.splits ∙ ap (λ (t : Text). bytes_of t ++ gave.rest) none)) gave.due)
-  left m n j p seat e r text order placed step other files desk pipe (inr there) = inr (record {
+      inl (subst (λ (l : List ℕ). Due n j p seat made l) (sym (gave.splits ∙ ap (λ (t : Text). bytes_of t ++ gave.rest) none)) gave.due)
+  left m n j p seat e r made text order placed step other files desk pipe (inr there) = inr (record {
     all = there.all ∙ ap (λ (x : Pipe). bytes_of x.queue) (sym pipe);
     closed = ap (λ (x : Pipe). x.writing) pipe ∙ there.closed;
     free = run.free_others m n j seat e r placed step other desk there.free;
@@ -110,42 +120,42 @@ module _ {W : Type 0} (works : Account W) (settled : Claim W) (pools : ℕ → B
       lies = labels.pipes pools m n (event.Call by (call.IolRead fd count)) (reply.Agg a) p step (λ e. absurd (cc (e))) there.lies;
     }
 
-    reads : (text bytes : List ℕ) → lent_at n by a ≡ Some bytes → Puts m j p seat text → HasRead works pools Free Due n j p seat text bytes
-    reads text bytes lends (inl due) =
-        let gave = run.others m n j p seat (event.Call by (call.IolRead fd count)) (reply.Agg a) text order placed step other files desk due in
+    reads : (made : Made) (text bytes : List ℕ) → lent_at n by a ≡ Some bytes → Puts m j p seat made text → HasRead works pools Free Due n j p seat made text bytes
+    reads made text bytes lends (inl due) =
+        let gave = run.others m n j p seat (event.Call by (call.IolRead fd count)) (reply.Agg a) made text order placed step other files desk due in
         let front = hear.heard m n p by count a bytes takes lends gave.goes in
         record { rest = gave.rest; splits = gave.splits ∙ ap (λ (l : List ℕ). l ++ gave.rest) front; puts_out = inl gave.due }
-    reads text bytes lends (inr there) = record {
+    reads made text bytes lends (inr there) = record {
       rest = bytes_of takes.rest;
       splits = there.all ∙ (ap (λ (t : Text). bytes_of t) takes.was ∙ (bytes-append takes.text takes.rest ∙ ap (λ (l : List ℕ). l ++ bytes_of takes.rest) (some_bytes bytes lends)));
       puts_out = inr (rest_there text there);
     }
 
-    ends : (text : List ℕ) → 0 < count → lent_at n by a ≡ Some [] → Puts m j p seat text → (text ≡ []) × Free n j seat
-    ends text some lends puts = either puts
+    ends : (made : Made) (text : List ℕ) → 0 < count → lent_at n by a ≡ Some [] → Puts m j p seat made text → (text ≡ []) × Free n j seat
+    ends made text some lends puts = either puts
       where
         ended : ((pipe_at m p).queue ≡ []) × ((pipe_at m p).writing ≡ false)
         ended = takes.ended some (no_text takes.text (some_bytes [] lends))
 
-        either : Puts m j p seat text → (text ≡ []) × Free n j seat
+        either : Puts m j p seat made text → (text ≡ []) × Free n j seat
         either (inl due) =
-            let gave = run.others m n j p seat (event.Call by (call.IolRead fd count)) (reply.Agg a) text order placed step other files desk due in
+            let gave = run.others m n j p seat (event.Call by (call.IolRead fd count)) (reply.Agg a) made text order placed step other files desk due in
             let was = sym (ap (λ (x : Pipe). x.writing) takes.pipe) ∙ gave.goes.writing in
             absurd (let e = sym was ∙ ended.1 in cc (e))
         either (inr there) = (there.all ∙ ap (λ (t : Text). bytes_of t) ended.0, (rest_there text there).free)
 
-  undenied : (m n : State) (j p by fd count q : ℕ) (seat : Seat W) (text : List ℕ) → MayReadAll m by pools → descriptor m by fd ≡ Some (on.ReadEnd p) → Puts m j p seat text
+  undenied : (m n : State) (j p by fd count q : ℕ) (seat : Seat W) (made : Made) (text : List ℕ) → MayReadAll m by pools → descriptor m by fd ≡ Some (on.ReadEnd p) → Puts m j p seat made text
       → StepsTo m (event.Call by (call.IolRead fd count)) (reply.Refused (Denied q)) n → ⊥
-  undenied m n j p by fd count q seat text may opened (inl due) step = labels.reads pools m n by fd p count q may (run.shown m j p seat text due) opened step
-  undenied m n j p by fd count q seat text may opened (inr there) step = labels.reads pools m n by fd p count q may there.lies opened step
+  undenied m n j p by fd count q seat made text may opened (inl due) step = labels.reads pools m n by fd p count q may (run.shown m j p seat made text due) opened step
+  undenied m n j p by fd count q seat made text may opened (inr there) step = labels.reads pools m n by fd p count q may there.lies opened step
 
   pub texts_are_put_out : TextsArePutOut works pools Free Due
   texts_are_put_out = record {
     turns = turns;
     left = left;
-    reads = λ m n j p by fd count a seat text bytes order placed step other opened files desk lends puts.
-        reads m n j p by fd count a seat order placed step other opened files desk text bytes lends puts;
-    ends = λ m n j p by fd count a seat text order placed some step other opened files desk lends puts.
-        ends m n j p by fd count a seat order placed step other opened files desk text some lends puts;
+    reads = λ m n j p by fd count a seat made text bytes order placed step other opened files desk lends puts.
+        reads m n j p by fd count a seat order placed step other opened files desk made text bytes lends puts;
+    ends = λ m n j p by fd count a seat made text order placed some step other opened files desk lends puts.
+        ends m n j p by fd count a seat order placed step other opened files desk made text some lends puts;
     undenied = undenied;
   }

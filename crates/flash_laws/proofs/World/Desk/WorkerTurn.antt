@@ -1,31 +1,39 @@
 -- A worker's turn, for the client whose script it runs.
-use Rattle.std.proofs.Common.{inl, inr, ◌≡◌, ◌≢◌, ◌<◌, ℕ, ◌==◌, List, ◌++◌, ap, ◌∙◌, refl, sym, subst, Option, Some, true, false, Bool, slice_get, slice_set}
+use Rattle.std.proofs.Common.{inl, inr, ◌≡◌, ◌≢◌, ◌<◌, ℕ, ◌+◌, ◌==◌, List, [], ◌∷◌, ◌++◌, length, take, ap, ◌∙◌, refl, sym, subst, Option, Some, true, false, Bool, slice_get, slice_set}
 use Rattle.std.specs.Prelude.{◌||◌, ◌&&◌}
 use Rattle.iol_core.specs.NumberedLists.{in_place}
 use Rattle.iol_core.specs.Text.{bytes_of}
-use Rattle.iol_core.specs.State.{State, Connection, descriptor, text, pipe_at}
+use Rattle.iol_core.specs.State.{State, Connection, conn_at, descriptor, text, pipe_at}
 use Rattle.iol_core.specs.declared.descriptors.Descriptor.TheVariants as on
 use Rattle.iol_core.specs.declared.events.Event.TheVariants as event
 use Rattle.iol_core.specs.declared.events.Reply.{Reply}
+use Rattle.iol_laws.specs.Caller.{is_rough}
 use Rattle.iol_laws.specs.Sources.{lie_in}
 use Rattle.iol_proc.specs.declared.seat.Seat.{Seat}
-use Rattle.flash_http.specs.Request.{Wanted}
+use Rattle.flash_http.specs.Request.{serve, Wanted}
+use Rattle.flash_cgi.specs.Due.{Instead, IsExchanged, Made, text_of}
 use Rattle.flash_cgi.specs.Frame.{LeavesAllBut}
+use Rattle.flash_cgi.specs.Output.{Outcome, Failed}
 use Rattle.flash_cgi.specs.OutputPools.{HoldFiles}
+use Rattle.flash_cgi.specs.declared.line.Line.{Line}
+use Rattle.flash_laws.specs.Answers.Scripts.{script_response}
 use Rattle.flash_laws.specs.Client.{Client, job_of}
-use Rattle.flash_laws.specs.Client.Fits.{TieRun, output_of}
+use Rattle.flash_laws.specs.Client.Fits.{Answers, FitsRun, GoesOn, TieRun, made_of, response_to}
 use Rattle.flash_laws.specs.Client.Holdings.{has_fd}
 use Rattle.flash_laws.specs.Conn.{Conn}
 use Rattle.flash_laws.specs.Workers.Crew.{Crew}
 use Rattle.flash_laws.specs.Site.Past.{Past}
 use Rattle.flash_laws.specs.Site.Places.{is_run_by}
 use Rattle.flash_laws.specs.Workers.PutsOut as puts
-use Rattle.flash_laws.specs.Run.Fits.{Progress, HasRun}
+use Rattle.flash_laws.specs.Workers.PutsOut.{PutsOut, PutsOutStill}
+use Rattle.flash_laws.specs.Run.Fits.{Progress, Ran, Broken, NotRun, Follows, HasRun, HasStep}
+use Rattle.flash_laws.specs.Run.OfferedBytes.{is_stopping, taken_by}
 use Rattle.flash_laws.specs.Run.{is_reading, step_fd, ends_of}
 use Rattle.flash_laws.specs.Site.ClientTies.{FitsAt}
-use Rattle.flash_laws.specs.Shelf.{Shelf}
+use Rattle.flash_laws.specs.Shelf.{Shelf, AllMayShow, IsAmong}
+use Rattle.flash_laws.specs.Shelf.Due.{outcomes_by}
 use Rattle.flash_laws.specs.Site.{server}
-use Rattle.flash_laws.specs.Run.Stages.{HasPipeOf, IsReadyFor, IsGiven, IsPuttingOut, HasPutOut, Stage}
+use Rattle.flash_laws.specs.Run.Stages.{HasPipeOf, IsReadyFor, IsGiven, IsPuttingOut, HasPutOut, IsToCome, Stage, is_starting}
 use Rattle.flash_laws.specs.declared.script_run.Run.{Run}
 use Rattle.flash_laws.specs.declared.script_run.Step.{Step}
 use Rattle.flash_laws.specs.declared.script_run.Step.TheVariants.{Gives, Makes, Hands, Lets, Heads, Sending, Hears, Spills, Gathers, Frames, Wraps, Trims, Ended, Unholds, Stops, Unframes, Lasts, WrapsLast, TrimsLast, Unwraps, Returns, Lapses, Fails}
@@ -35,6 +43,8 @@ use Rattle.flash_laws.proofs.Forms.{of}
 use Rattle.flash_laws.proofs.Conn.Responses.{some-inj}
 use Rattle.flash_laws.proofs.Lists.{clash, self}
 use Rattle.flash_laws.proofs.Conn.Uses.{same-number}
+use Rattle.flash_laws.proofs.Given.{given-same}
+use Rattle.flash_laws.proofs.Site.Due.{show-refused}
 use Rattle.flash_laws.proofs.World.AllLaws.{AllLaws}
 use Rattle.flash_laws.proofs.World.Desk.Frame.{none-given, none-touched}
 use Rattle.flash_laws.proofs.World.TurnLeaves.{IsCallOf, what-came, IsTurn, IsItsOwn, Touches, leaves-same, set-same, sits-in, not-server, no-call}
@@ -75,17 +85,17 @@ module _ (shelf : Shelf) (crew : Crew) (laws : AllLaws crew) (m n : State) (p : 
         clash (is_run_by y k) (ap (λ (z : Client). is_run_by z k) (sym client) ∙ runs) none;
   }
 
-  module _ (fd : ℕ) (x : Conn) (script : List ℕ) (run : Run) (output : List ℕ) (o : Progress) where
+  module _ (fd : ℕ) (x : Conn) (script : List ℕ) (run : Run) (made : Made) (o : Progress) where
     module _ (s : Step) (at : in_place clients fd ≡ Some (of x (Some (Runs run s)) script)) (runs : (run.worker == k) ≡ true) (has : ends_of run s run.from ≡ true) where
-      putting-touches : IsPuttingOut crew m seat run output o → Touches crew m n clients k seat.by
+      putting-touches : IsPuttingOut crew m seat run made o → Touches crew m n clients k seat.by
       putting-touches h = by h.puts_out
         where
           here : run.worker ≡ k
           here = same-number run.worker k runs
 
-          by : puts.PutsOut crew.turns crew.pools crew.Free crew.Due m (crew.desk run.worker) h.has.pipe seat h.more → Touches crew m n clients k seat.by
+          by : puts.PutsOut crew.turns crew.pools crew.Free crew.Due m (crew.desk run.worker) h.has.pipe seat made h.more → Touches crew m n clients k seat.by
           by (inr there) = rests (crew.desk run.worker) there.free
-          by (inl due) = elim (laws.workers.quiet m n (crew.desk run.worker) h.has.pipe seat next yields r h.more due turn.did) [
+          by (inl due) = elim (laws.workers.quiet m n (crew.desk run.worker) h.has.pipe seat next yields r made h.more due turn.did) [
             | inl left ↦ record { pipe = crew.desk k; leaves = subst (λ l. LeavesAllBut m seat.by (crew.desk l) n) here left; own = own-desk }
             | inr left ↦ record { pipe = h.has.pipe; leaves = left; own = own-pipe fd (of x (Some (Runs run s)) script) run h.has.pipe at runs h.has.reads has h.has.apart }
           ]
@@ -98,7 +108,7 @@ module _ (shelf : Shelf) (crew : Crew) (laws : AllLaws crew) (m n : State) (p : 
         by true false c u v = absurd (cc (v))
         by false b c u v = absurd (cc (u))
 
-    stage-touches : (s : Step) → in_place clients fd ≡ Some (of x (Some (Runs run s)) script) → (run.worker == k) ≡ true → Stage crew m seat run output o s
+    stage-touches : (s : Step) → in_place clients fd ≡ Some (of x (Some (Runs run s)) script) → (run.worker == k) ≡ true → Stage crew m seat run made o s
         → Touches crew m n clients k seat.by
     stage-touches (Makes f) at runs h = rests (crew.desk run.worker) h.ready.free
     stage-touches (Hands j f) at runs h = rests (crew.desk run.worker) h.0.ready.free
@@ -123,15 +133,15 @@ module _ (shelf : Shelf) (crew : Crew) (laws : AllLaws crew) (m n : State) (p : 
   pub client-touches : (fd : ℕ) (x : Conn) (run : Option Running) (script : List ℕ) → in_place clients fd ≡ Some (of x run script) → is_run_by (of x run script) k ≡ true
       → FitsAt shelf crew m p fd (of x run script) seats → Touches crew m n clients k seat.by
   client-touches fd x (Some (Runs run s)) script at runs f =
-      stage-touches fd x script run (output_of shelf f.fits.wanted f.fits.script.lines) f.fits.so_far s at runs
-      (subst (λ (t : Seat crew.Worker). Stage crew m t run (output_of shelf f.fits.wanted f.fits.script.lines) f.fits.so_far s) (at-desk run f.fits.desk.seat runs f.fits.desk.sits) f.fits.desk.stage)
+      stage-touches fd x script run (made_of f.fits.wanted f.fits.script.lines f.fits.shown) f.fits.so_far s at runs
+      (subst (λ (t : Seat crew.Worker). Stage crew m t run (made_of f.fits.wanted f.fits.script.lines f.fits.shown) f.fits.so_far s) (at-desk run f.fits.desk.seat runs f.fits.desk.sits) f.fits.desk.stage)
   client-touches fd x run script at runs f = absurd (cc (runs))
 
   -- ---- what it has then
 
   module _ (q : ℕ) (left : LeavesAllBut m seat.by q n) where
     came : IsCallOf m seat.by r n × (next.by ≡ seat.by)
-    came = what-came crew.turns m n seat next yields r turn.did turn.smooth
+    came = what-came crew.turns m n seat next yields r turn.did
 
     held-files : HoldFiles crew.pools m seat.by
     held-files = subst (λ d. HoldFiles crew.pools m d) (sym (sits-in shelf crew laws m n p clients seats k seat next yields r turn).1) (turn.fixed.holds k lt)
@@ -139,7 +149,7 @@ module _ (shelf : Shelf) (crew : Crew) (laws : AllLaws crew) (m n : State) (p : 
     server-fd : (g : ℕ) → descriptor n server g ≡ descriptor m server g
     server-fd g = left.fds server g (λ same. not-server shelf crew laws m n p clients seats k seat next yields r turn (sym same))
 
-    module _ (run : Run) (output : List ℕ) (o : Progress) where
+    module _ (run : Run) where
       abbrev pipe-turn : HasPipeOf crew m run → HasPipeOf crew n run
       pipe-turn h = record { pipe = h.pipe; reads = server-fd run.from ∙ h.reads; apart = h.apart }
 
@@ -156,38 +166,114 @@ module _ (shelf : Shelf) (crew : Crew) (laws : AllLaws crew) (m n : State) (p : 
         writes = ap (λ (s : State). descriptor s next.by fd) (waits (crew.desk run.worker) h.ready.free).0 ∙ (ap (λ d. descriptor m d fd) came.1 ∙ h.writes);
       }
 
-      putting-turn : IsPuttingOut crew m seat run output o → IsPuttingOut crew n next run output o
-      putting-turn h = record {
-        has = pipe-turn h.has;
-        more = h.more;
-        puts_out = laws.texts.turns m n (crew.desk run.worker) h.has.pipe seat next yields r h.more turn.order turn.fixed.placed turn.fixed.files held-files h.puts_out turn.did turn.smooth
-            (turn.order.all_stand server run.from (on.ReadEnd h.has.pipe) h.has.reads)
-            (turn.order_after.all_stand server run.from (on.ReadEnd h.has.pipe) (server-fd run.from ∙ h.has.reads));
-        to_come = h.to_come;
-      }
+    -- ---- of a script: where a call for a file is refused, another response is due, of which as much is given
 
-      put-turn : HasPutOut crew m seat run output o → HasPutOut crew n next run output o
+    module _ (run : Run) (w : Wanted) (lines : List Line) (shown : List Outcome) (o : Progress) (job : ℕ → List ℕ) where
+      abbrev made : Made
+      made = made_of w lines shown
+
+      -- what it is after the turn
+      record Turned (s : Step) : Type 0 where
+        pub shown_now : List Outcome
+        pub may_show : (there : List Outcome) → AllMayShow shelf there shown → AllMayShow shelf there shown_now
+        pub fresh : is_starting (Runs run s) ≡ true → shown_now ≡ shown
+        pub tie : (k : Connection) (took sent kept : List ℕ) → TieRun shelf (response_to w (made_of w lines shown)) k took sent kept w o (Runs run s)
+            → TieRun shelf (response_to w (made_of w lines shown_now)) k took sent kept w o (Runs run s)
+        pub stage : Stage crew n next run (made_of w lines shown_now) o s
+
+      unchanged : (s : Step) → Stage crew n next run (made_of w lines shown) o s → Turned s
+      unchanged s stage = record { shown_now = shown; may_show = λ there all. all; fresh = λ starts. refl; tie = λ k took sent kept tie. tie; stage = stage }
+
+      put-turn : HasPutOut crew m seat run made o → HasPutOut crew n next run made o
       put-turn h = record { free = (waits (crew.desk run.worker) h.free).1; whole = h.whole }
 
-      stage-turn : (s : Step) → Stage crew m seat run output o s → Stage crew n next run output o s
-      stage-turn (Gives write) h = ready-turn h
-      stage-turn (Makes f) h = given-turn f h
-      stage-turn (Hands j f) h = (
-        given-turn f h.0,
+      -- as much of the other response is given
+      exchanged : (s : Step) (after : Made) (more later : List ℕ) → is_stopping (Runs run s) ≡ false → HasStep job m w o run s
+          → ((front : List ℕ) → text_of made ≡ front ++ more → text_of after ≡ front ++ later) → IsToCome o (text_of made) more
+          → (k : Connection) (took sent kept : List ℕ) → TieRun shelf (response_to w made) k took sent kept w o (Runs run s)
+          → TieRun shelf (response_to w after) k took sent kept w o (Runs run s)
+      exchanged s after more later going has begins come k took sent kept (inr left) = inr left
+      exchanged s after more later going has begins come k took sent kept (inl goes) = by o has come goes
+        where
+          by : (o : Progress) → HasStep job m w o run s → IsToCome o (text_of made) more
+              → GoesOn shelf (response_to w made) took (sent ++ bytes_of k.outgoing) kept w o (Runs run s)
+              → TieRun shelf (response_to w after) k took sent kept w o (Runs run s)
+          by (Ran heard ended past) has come goes =
+              let is : text_of after ≡ heard ++ later = begins heard come.1 in
+              let same = ap (λ (l : List ℕ). take (length past + taken_by (Runs run s)) (script_response w l)) come.1
+              ∙ (given-same w heard past more later ended job m run s going has ∙ ap (λ (l : List ℕ). take (length past + taken_by (Runs run s)) (script_response w l)) (sym is)) in
+              inl (record {
+                answers = subst (λ (l : List ℕ). Answers shelf took (sent ++ bytes_of k.outgoing) kept (serve w ∷ []) l) same goes.answers;
+                may = (later, subst (λ (e : Bool). Follows e later) (sym come.0) tt, ap (λ (l : List ℕ). script_response w l) is);
+                whole = goes.whole;
+              })
+          by Broken has come goes = absurd goes.may
+          by (NotRun status past) has come goes = absurd come
+
+      putting-turn : (s : Step) → is_stopping (Runs run s) ≡ false → is_starting (Runs run s) ≡ false → HasStep job m w o run s
+          → ((after : Made) → IsPuttingOut crew n next run after o → Stage crew n next run after o s)
+          → IsPuttingOut crew m seat run made o → Turned s
+      putting-turn s going started has stages h = by still.instead still.puts_out
+        where
+          still : PutsOutStill crew.turns crew.pools crew.Free crew.Due n (crew.desk run.worker) h.has.pipe next made h.more r
+          still = laws.texts.turns m n (crew.desk run.worker) h.has.pipe seat next yields r made h.more turn.order turn.fixed.placed turn.fixed.files held-files h.puts_out turn.did
+              (turn.order.all_stand server run.from (on.ReadEnd h.has.pipe) h.has.reads)
+              (turn.order_after.all_stand server run.from (on.ReadEnd h.has.pipe) (server-fd run.from ∙ h.has.reads))
+
+          come_on : (o : Progress) (after : Made) (later : List ℕ) → ((front : List ℕ) → text_of made ≡ front ++ h.more → text_of after ≡ front ++ later)
+              → IsToCome o (text_of made) h.more → IsToCome o (text_of after) later
+          come_on (Ran heard ended past) after later begins come = (come.0, begins heard come.1)
+          come_on Broken after later begins come = tt
+          come_on (NotRun status past) after later begins come = absurd come
+
+          same : PutsOut crew.turns crew.pools crew.Free crew.Due n (crew.desk run.worker) h.has.pipe next made h.more → Turned s
+          same puts = unchanged s (stages made (record { has = pipe-turn run h.has; more = h.more; puts_out = puts; to_come = h.to_come }))
+
+          other : (after : Made) (later : List ℕ) (x : IsExchanged r made after h.more later) → (shown_then : List Outcome) → after ≡ made_of w lines shown_then
+              → ((there : List Outcome) → AllMayShow shelf there shown → AllMayShow shelf there shown_then)
+              → PutsOut crew.turns crew.pools crew.Free crew.Due n (crew.desk run.worker) h.has.pipe next after later → Turned s
+          other after later x shown_then is shows puts = record {
+            shown_now = shown_then;
+            may_show = shows;
+            fresh = λ starts. absurd (clash (is_starting (Runs run s)) starts started);
+            tie = subst (λ (a : Made). (k : Connection) (took sent kept : List ℕ) → TieRun shelf (response_to w made) k took sent kept w o (Runs run s)
+                → TieRun shelf (response_to w a) k took sent kept w o (Runs run s)) is (exchanged s after h.more later going has x.begins h.to_come);
+            stage = subst (λ (a : Made). Stage crew n next run a o s) is
+                (stages after (record { has = pipe-turn run h.has; more = later; puts_out = puts; to_come = come_on o after later x.begins h.to_come }));
+          }
+
+          by : Instead r made still.after h.more still.later
+              → PutsOut crew.turns crew.pools crew.Free crew.Due n (crew.desk run.worker) h.has.pipe next still.after still.later → Turned s
+          by (inl is) puts =
+              same (subst (λ (l : List ℕ). PutsOut crew.turns crew.pools crew.Free crew.Due n (crew.desk run.worker) h.has.pipe next made l) is.1
+              (subst (λ (a : Made). PutsOut crew.turns crew.pools crew.Free crew.Due n (crew.desk run.worker) h.has.pipe next a still.later) is.0 puts))
+          by (inr x) puts =
+              let may : shelf.refuses.of_workers x.refused.why ≡ true =
+              (subst (λ (l : Reply). IsAmong shelf.refuses.of_workers l) x.refused.answer turn.among) (subst (λ (l : Reply). is_rough l ≡ true) x.refused.answer x.refused.rough) in
+              other still.after still.later x (x.refused.past ++ Failed x.refused.why ∷ x.refused.rest) x.refused.is
+              (λ there all. show-refused shelf there x.refused.past x.refused.rest x.refused.instead x.refused.why may
+              (subst (λ (os : List Outcome). AllMayShow shelf there os) x.refused.was all))
+              puts
+
+      stage-turn : (s : Step) → HasStep job m w o run s → Stage crew m seat run made o s → Turned s
+      stage-turn (Gives write) has h = unchanged (Gives write) (ready-turn run h)
+      stage-turn (Makes f) has h = unchanged (Makes f) (given-turn run f h)
+      stage-turn (Hands j f) has h = unchanged (Hands j f) (
+        given-turn run f h.0,
         subst (λ (u : State). lie_in crew.jobs (text u server j) ≡ true) (sym (waits (crew.desk run.worker) h.0.ready.free).0) h.1,
       )
-      stage-turn (Ended a held frame) h = put-turn h
-      stage-turn (Unholds held frame) h = put-turn h
-      stage-turn (Stops held frame) h = put-turn h
-      stage-turn (Unframes frame held) h = put-turn h
-      stage-turn (Lasts held) h = put-turn h
-      stage-turn (WrapsLast held size frame) h = put-turn h
-      stage-turn (TrimsLast held chunk len frame) h = put-turn h
-      stage-turn (Unwraps frame chunk len) h = put-turn h
-      stage-turn (Returns write) h = h
-      stage-turn (Lapses j) h = h
-      stage-turn Fails h = h
-      stage-turn s h = putting-turn h
+      stage-turn (Ended a held frame) has h = unchanged (Ended a held frame) (put-turn h)
+      stage-turn (Unholds held frame) has h = unchanged (Unholds held frame) (put-turn h)
+      stage-turn (Stops held frame) has h = unchanged (Stops held frame) (put-turn h)
+      stage-turn (Unframes frame held) has h = unchanged (Unframes frame held) (put-turn h)
+      stage-turn (Lasts held) has h = unchanged (Lasts held) (put-turn h)
+      stage-turn (WrapsLast held size frame) has h = unchanged (WrapsLast held size frame) (put-turn h)
+      stage-turn (TrimsLast held chunk len frame) has h = unchanged (TrimsLast held chunk len frame) (put-turn h)
+      stage-turn (Unwraps frame chunk len) has h = unchanged (Unwraps frame chunk len) (put-turn h)
+      stage-turn (Returns write) has h = absurd h
+      stage-turn (Lapses j) has h = absurd h
+      stage-turn Fails has h = absurd h
+      stage-turn s has h = putting-turn s refl refl has (λ after puts. puts) h
 
     -- what the run has stays
     has-turn : (job : ℕ → List ℕ) (w : Wanted) (o : Progress) (y : Running) → HasRun job m w o y → HasRun job n w o y
@@ -201,7 +287,7 @@ module _ (shelf : Shelf) (crew : Crew) (laws : AllLaws crew) (m n : State) (p : 
 
     pub own-fits : (fd : ℕ) (x : Conn) (run : Option Running) (script : List ℕ) → is_run_by (of x run script) k ≡ true → FitsAt shelf crew m p fd (of x run script) seats
         → FitsAt shelf crew n p fd (of x run script) (slice_set seats k next)
-    own-fits fd x (Some (Runs run s)) script runs at = (let f = at.fits in record {
+    own-fits fd x (Some (Runs run s)) script runs at = record {
       conn = at.conn;
       fits = record {
         open_on = server-fd fd ∙ f.open_on;
@@ -209,17 +295,27 @@ module _ (shelf : Shelf) (crew : Crew) (laws : AllLaws crew) (m n : State) (p : 
         came_is = f.came_is ∙ ap (λ (z : Connection). f.took ++ bytes_of z.incoming) (sym (left.conns at.conn));
         wanted = f.wanted;
         script = f.script;
+        shown = turned.shown_now;
+        may_show = turned.may_show (outcomes_by shelf.shows f.script.lines) f.may_show;
+        fresh = λ starts. turned.fresh starts ∙ f.fresh starts;
         kept = f.kept;
         so_far = f.so_far;
         has = has-turn (job_of f.wanted f.script.text) f.wanted f.so_far (Runs run s) f.has;
         ongoing = f.ongoing;
-        tie = subst (λ (z : Connection). TieRun shelf z f.took (p.sent at.conn) x.kept f.wanted f.so_far (Runs run s)) (sym (left.conns at.conn)) f.tie;
+        tie = subst (λ (z : Connection). TieRun shelf (response_to f.wanted (made_of f.wanted f.script.lines turned.shown_now)) z f.took (p.sent at.conn) x.kept f.wanted f.so_far (Runs run s))
+            (sym (left.conns at.conn)) (turned.tie (conn_at m at.conn) f.took (p.sent at.conn) x.kept f.tie);
         desk = record {
           seat = next;
           sits = subst (λ z. slice_get (slice_set seats k next) z ≡ Some next) (sym (same-number run.worker k runs)) (set-same seats k seat next turn.sits);
-          stage = stage-turn run (output_of shelf f.wanted f.script.lines) f.so_far s
-              (subst (λ (t : Seat crew.Worker). Stage crew m t run (output_of shelf f.wanted f.script.lines) f.so_far s) (at-desk run f.desk.seat runs f.desk.sits) f.desk.stage);
+          stage = turned.stage;
         };
       };
-    })
+    }
+      where
+        f : FitsRun shelf crew m (p.came at.conn) (p.sent at.conn) fd at.conn (of x (Some (Runs run s)) script) (Runs run s) seats
+        f = at.fits
+
+        turned : Turned run f.wanted f.script.lines f.shown f.so_far (job_of f.wanted f.script.text) s
+        turned = stage-turn run f.wanted f.script.lines f.shown f.so_far (job_of f.wanted f.script.text) s f.has.1
+            (subst (λ (t : Seat crew.Worker). Stage crew m t run (made_of f.wanted f.script.lines f.shown) f.so_far s) (at-desk run f.desk.seat runs f.desk.sits) f.desk.stage)
     own-fits fd x run script runs at = absurd (cc (runs))

@@ -1,4 +1,4 @@
--- What is left to do for a client for which no script runs, where its call would block.
+-- The state of a client without running script whose call would block.
 use Rattle.std.proofs.Common.{inl, inr, ◌≡◌, ℕ, ◌-◌, ◌⊎◌, List, [], ◌++◌, length, ap, ◌∙◌, refl, sym, subst, Option, None, true, false, Bool, append-nil, if◌then◌else◌}
 use Rattle.iol_core.specs.Text.{Text, bytes_of}
 use Rattle.iol_core.specs.State.{State, conn_at, is_gone}

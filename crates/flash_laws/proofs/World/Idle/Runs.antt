@@ -1,4 +1,4 @@
--- What is left to do for a client for which a script runs, where its call would block and its worker is idle: it is held up.
+-- The state of a client with a running script whose call would block while its worker is idle: its output queue is full.
 use Rattle.std.proofs.Common.{inl, inr, ◌≡◌, ◌≤◌, ℕ, ◌-◌, List, [], length, ap, refl, arith, Option, Some, false, slice_get}
 use Rattle.iol_core.specs.Text.{Text}
 use Rattle.iol_core.specs.State.{State, descriptor, pipe_at}
@@ -11,6 +11,7 @@ use Rattle.iol_proc.specs.declared.seat.Seat.{Seat}
 use Rattle.flash_http.specs.Request.{serve, Wanted}
 use Rattle.flash_laws.specs.Conn as conn
 use Rattle.flash_laws.specs.Conn.{name_of, text_of, piece_end}
+use Rattle.flash_cgi.specs.Due.{Made}
 use Rattle.flash_laws.specs.Workers.Crew.{Crew, IsFixedFor}
 use Rattle.flash_laws.specs.World.Idle.{WouldWait}
 use Rattle.flash_laws.specs.Run.Fits.{Progress, IsPart, sent_agg, HasStep, HasRun}
@@ -79,9 +80,9 @@ module _ (shelf : Shelf) (crew : Crew) (laws : AllLaws crew) (m : State) (order 
   sending fd c w doing.Over open_on may step = absurd (goes crew laws m (call.Close fd) refl step)
   sending fd c w x open_on may step = absurd may
 
-  module _ (seats : List (Seat crew.Worker)) (desks : AreAtDesks crew m seats) (settled : WorkersAreSettled crew m seats) (output : List ℕ) (o : Progress) (run : Run) where
+  module _ (seats : List (Seat crew.Worker)) (desks : AreAtDesks crew m seats) (settled : WorkersAreSettled crew m seats) (made : Made) (o : Progress) (run : Run) where
     -- the pipe of a job is empty while its worker is free
-    hands : (j f : ℕ) → AtDesk crew m seats run output o (Hands j f) → WouldWait m server (call.IolWrite (job_pipe run.worker) j) → ⊥
+    hands : (j f : ℕ) → AtDesk crew m seats run made o (Hands j f) → WouldWait m server (call.IolWrite (job_pipe run.worker) j) → ⊥
     hands j f desk step =
         let among = (desks.by run.worker desk.seat desk.sits).0 in
         let full = laws.the.reasons.pipe_is_full m m server (job_pipe run.worker) (crew.desk run.worker) j (desks.desks run.worker among) step in
@@ -89,18 +90,18 @@ module _ (shelf : Shelf) (crew : Crew) (laws : AllLaws crew) (m : State) (order 
         not-full (pipe_at m (crew.desk run.worker)).queue none.empty full
 
     -- while a worker puts out its pipe is full where all is idle, and once all is there its end is there, too
-    hears : (held : conn.Following) (frame : Option ℕ) (n : ℕ) → AtDesk crew m seats run output o (Hears held frame) → WouldWait m server (call.IolRead run.from n) → ⊥
+    hears : (held : conn.Following) (frame : Option ℕ) (n : ℕ) → AtDesk crew m seats run made o (Hears held frame) → WouldWait m server (call.IolRead run.from n) → ⊥
     hears held frame n desk step =
         let has = desk.stage.has in
         let empty = laws.the.reasons.pipe_is_empty m m server run.from has.pipe n has.reads step in
         elim desk.stage.puts_out [
           | inl due ↦ not-full (pipe_at m has.pipe).queue empty.0
-              (laws.workers.full m (crew.desk run.worker) has.pipe desk.seat desk.stage.more order fixed.access due (settled run.worker desk.seat desk.sits))
+              (laws.workers.full m (crew.desk run.worker) has.pipe desk.seat made desk.stage.more order fixed.access due (settled run.worker desk.seat desk.sits))
           | inr there ↦ clash (pipe_at m has.pipe).writing empty.1 there.closed
         ]
 
     by-step : (job : ℕ → List ℕ) (fd c : ℕ) (w : Wanted) (s : Step) → descriptor m server fd ≡ Some (on.Connection c) → HasStep job m w o run s
-        → AtDesk crew m seats run output o s → WouldWait m server (step_wants job fd w run s) → IsHeldUp m c
+        → AtDesk crew m seats run made o s → WouldWait m server (step_wants job fd w run s) → IsHeldUp m c
     by-step job fd c w (Sending d frame) open_on has desk step = sending fd c w d open_on (only-part m has.part d has.is_part) step
     by-step job fd c w (Hears held frame) open_on has desk step = absurd (hears held frame (CHUNK_BYTES - held_size held) desk step)
     by-step job fd c w (Hands j f) open_on has desk step = absurd (hands j f desk step)
@@ -125,11 +126,11 @@ module _ (shelf : Shelf) (crew : Crew) (laws : AllLaws crew) (m : State) (order 
     by-step job fd c w x open_on has desk step = absurd (goes crew laws m (call.Close run.from) refl step)
 
   -- so is each client for which a script runs, or that waits for a worker
-  pub run-left : (fd c : ℕ) (w : Wanted) (job : ℕ → List ℕ) (y : Running) (seats : List (Seat crew.Worker)) (output : List ℕ) (o : Progress)
+  pub run-left : (fd c : ℕ) (w : Wanted) (job : ℕ → List ℕ) (y : Running) (seats : List (Seat crew.Worker)) (made : Made) (o : Progress)
       → AreAtDesks crew m seats → WorkersAreSettled crew m seats → descriptor m server fd ≡ Some (on.Connection c) → is_over y ≡ false
-      → HasRun job m w o y → HasWorkerAt crew m seats output o y → WouldWait m server (wants job fd w y) → IsHeldUp m c
-  run-left fd c w job Awaits seats output o desks settled open_on going has desk step = absurd (goes crew laws m call.Pipe refl step)
-  run-left fd c w job (Runs run s) seats output o desks settled open_on going has desk step =
-      by-step seats desks settled output o run job fd c w s open_on has.1 desk step
-  run-left fd c w job (Leaves d) seats output o desks settled open_on going has desk step = sending fd c w d open_on (only-left d going) step
-  run-left fd c w job Closes seats output o desks settled open_on going has desk step = absurd (goes crew laws m (call.Close fd) refl step)
+      → HasRun job m w o y → HasWorkerAt crew m seats made o y → WouldWait m server (wants job fd w y) → IsHeldUp m c
+  run-left fd c w job Awaits seats made o desks settled open_on going has desk step = absurd (goes crew laws m call.Pipe refl step)
+  run-left fd c w job (Runs run s) seats made o desks settled open_on going has desk step =
+      by-step seats desks settled made o run job fd c w s open_on has.1 desk step
+  run-left fd c w job (Leaves d) seats made o desks settled open_on going has desk step = sending fd c w d open_on (only-left d going) step
+  run-left fd c w job Closes seats made o desks settled open_on going has desk step = absurd (goes crew laws m (call.Close fd) refl step)

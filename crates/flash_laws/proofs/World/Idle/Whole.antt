@@ -1,4 +1,4 @@
--- Where everything that the server and its workers poll would block, nothing is left to do.
+-- If all calls of the server and its workers would block, nothing is left to do.
 use Rattle.std.proofs.Common.{inl, inr, ◌≡◌, ◌<◌, ℕ, suc, ◌+◌, ◌⊎◌, List, [], ◌∷◌, ◌++◌, take, drop, map, ap, ◌∙◌, refl, sym, subst, arith, Option, Some, None, true, false, Bool, slice_get}
 use Rattle.std.specs.Prelude.{option_map, ◌&&◌}
 use Rattle.std.proofs.lemmas.Bool.Decides.{nat_tests}
@@ -15,7 +15,7 @@ use Rattle.flash_http.specs.MediaType.{is_script}
 use Rattle.flash_http.specs.Request.{serve}
 use Rattle.flash_laws.specs.Answers.{Reads}
 use Rattle.flash_laws.specs.Client.{Client, uses_agg, is_for_script, job_of, awaits}
-use Rattle.flash_laws.specs.Client.Fits.{output_of, Fits, FitsRun}
+use Rattle.flash_laws.specs.Client.Fits.{Fits, FitsRun, made_of, response_to}
 use Rattle.flash_laws.specs.Conn.{Conn}
 use Rattle.flash_laws.specs.Workers.Crew.{Crew, IsFixedFor}
 use Rattle.flash_laws.specs.World.Remains.{IsFull, StaysOpen}
@@ -26,8 +26,8 @@ use Rattle.flash_laws.specs.Site.Places.{is_run_by, has_free, may_go, runs_scrip
 use Rattle.flash_laws.specs.Run.Fits.{Progress}
 use Rattle.flash_laws.specs.Run.OfferedBytes.{past_of as past_taken, taken_by}
 use Rattle.flash_laws.specs.Site.ClientTies.{Held, Aside, AllFit, IsUsed, AreOwned}
-use Rattle.flash_laws.specs.Shelf.{Shelf, IsAnswer, due_to, MayBeDue}
-use Rattle.flash_laws.proofs.Site.Due.{due-may}
+use Rattle.flash_laws.specs.Shelf.{Shelf, IsAnswer, MayBeDue}
+use Rattle.flash_laws.proofs.Site.Due.{shown-may}
 use Rattle.flash_laws.specs.Workers.OwnWorkers.{RunsForAnother}
 use Rattle.flash_laws.specs.Site.{server}
 use Rattle.flash_laws.specs.World.Tie.{past_of, Actor, Serving}
@@ -86,7 +86,7 @@ module _ (shelf : Shelf) (crew : Crew) (laws : AllLaws crew) (m : State) (order 
   ]
   client-left fd c conn (Some y) script f blocks = elim blocks.1 [
     | inl passed ↦ inr (inr (record { passed = passed; some = some-workers shelf.scripts (is_script f.wanted.name) crew.count f.script.is_for fixed.scripts }))
-    | inr step ↦ inr (inl (run-left shelf crew laws m order fixed fd c f.wanted (job_of f.wanted f.script.text) y seats (output_of shelf f.wanted f.script.lines) f.so_far all.desks settled f.open_on f.ongoing f.has f.desk
+    | inr step ↦ inr (inl (run-left shelf crew laws m order fixed fd c f.wanted (job_of f.wanted f.script.text) y seats (made_of f.wanted f.script.lines f.shown) f.so_far all.desks settled f.open_on f.ongoing f.has f.desk
         (subst (λ (k : Call). WouldWait m server k) (wants-run (runs_scripts workers) fd conn (Some y) script f.script.text y f.wanted refl f.script.asks f.kept) step)))
   ]
 
@@ -111,7 +111,7 @@ module _ (shelf : Shelf) (crew : Crew) (laws : AllLaws crew) (m : State) (order 
 
   -- a script is asked for, and so much of its response is taken, or the peer left
   run-asks : (fd c : ℕ) (x : Client) (y : Running) (f : FitsRun shelf crew m (p.came c) (p.sent c) fd c x y seats)
-      → AsksForScript shelf m p c (take (past_taken f.so_far + taken_by y) (due_to shelf (serve f.wanted)))
+      → AsksForScript shelf m p c (take (past_taken f.so_far + taken_by y) (response_to f.wanted (made_of f.wanted f.script.lines f.shown)))
   run-asks fd c x y f = elim f.tie [
     | inl goes ↦ inr (record {
       qs = goes.answers.done;
@@ -124,8 +124,8 @@ module _ (shelf : Shelf) (crew : Crew) (laws : AllLaws crew) (m : State) (order 
       before = goes.answers.before;
       responds = goes.answers.responds;
       so_far = goes.answers.out_is;
-      after = drop (past_taken f.so_far + taken_by y) (due_to shelf (serve f.wanted));
-      may = subst (λ (l : List ℕ). MayBeDue shelf (serve f.wanted) l) (sym (take-append-drop (past_taken f.so_far + taken_by y) (due_to shelf (serve f.wanted)))) (due-may shelf (serve f.wanted));
+      after = drop (past_taken f.so_far + taken_by y) (response_to f.wanted (made_of f.wanted f.script.lines f.shown));
+      may = subst (λ (l : List ℕ). MayBeDue shelf (serve f.wanted) l) (sym (take-append-drop (past_taken f.so_far + taken_by y) (response_to f.wanted (made_of f.wanted f.script.lines f.shown)))) (shown-may shelf x f.wanted f.script f.shown f.may_show);
     })
     | inr alone ↦ inl (all.left c (held-open m fd c order f.open_on).1 alone.gone)
   ]
@@ -133,13 +133,13 @@ module _ (shelf : Shelf) (crew : Crew) (laws : AllLaws crew) (m : State) (order 
   runner-asks : (fd c k : ℕ) (conn : Conn) (run : Option Running) (script : List ℕ) → Fits shelf crew m (p.came c) (p.sent c) fd c (of conn run script) seats
       → is_run_by (of conn run script) k ≡ true → (part : List ℕ) × AsksForScript shelf m p c part
   runner-asks fd c k conn None script f runs = absurd (cc (runs))
-  runner-asks fd c k conn (Some y) script f runs = (take (past_taken f.so_far + taken_by y) (due_to shelf (serve f.wanted)), run-asks fd c (of conn (Some y) script) y f)
+  runner-asks fd c k conn (Some y) script f runs = (take (past_taken f.so_far + taken_by y) (response_to f.wanted (made_of f.wanted f.script.lines f.shown)), run-asks fd c (of conn (Some y) script) y f)
 
   -- nothing is of one that waits for a worker
   waiter-asks : (fd c : ℕ) (conn : Conn) (run : Option Running) (script : List ℕ) → Fits shelf crew m (p.came c) (p.sent c) fd c (of conn run script) seats
       → awaits (of conn run script) ≡ true → AsksForScript shelf m p c []
   waiter-asks fd c conn (Some Awaits) script f waits =
-      subst (λ (l : List ℕ). AsksForScript shelf m p c l) (ap (λ (o : Progress). take (past_taken o + 0) (due_to shelf (serve f.wanted))) f.has) (run-asks fd c (of conn (Some Awaits) script) Awaits f)
+      subst (λ (l : List ℕ). AsksForScript shelf m p c l) (ap (λ (o : Progress). take (past_taken o + 0) (response_to f.wanted (made_of f.wanted f.script.lines f.shown))) f.has) (run-asks fd c (of conn (Some Awaits) script) Awaits f)
   waiter-asks fd c conn o script f waits = absurd (cc (waits))
 
   -- one that is passed over waits for a worker, while each runs the script of one that is held up

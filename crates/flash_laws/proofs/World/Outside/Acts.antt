@@ -1,4 +1,4 @@
--- What happens to a connection outside keeps all clients and workers tied.
+-- External events of a connection preserve the invariants of all clients and workers.
 use Rattle.std.proofs.Common.{inl, inr, ◌≡◌, ◌≤◌, ◌⊎◌, ℕ, ◌+◌, ◌==◌, List, [], ◌++◌, take, ap, ◌∙◌, refl, sym, subst, arith, Option, true, false, Bool, append_assoc, append-nil, if◌then◌else◌}
 use Rattle.std.specs.Prelude.{◌||◌, ◌&&◌, is_none}
 use Rattle.std.proofs.lemmas.Bool.Decides.{nat_tests}

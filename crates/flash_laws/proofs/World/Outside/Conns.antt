@@ -1,4 +1,5 @@
--- What is no call of the server or a worker keeps all clients and workers tied, as their connections go on.
+-- Events other than calls of the server or a worker preserve the invariants of all clients and workers, as their connections
+-- continue.
 use Rattle.std.proofs.Common.{inl, inr, ◌≡◌, ◌≢◌, ◌≤◌, ◌<◌, ◌⊎◌, ℕ, List, [], ◌++◌, ap, ◌∙◌, refl, sym, subst, arith, Option, Some, None, true, false, append-nil}
 use Rattle.std.proofs.lemmas.Bool.{cases_eq}
 use Rattle.iol_core.specs.Text.{bytes_of}

@@ -1,4 +1,4 @@
--- What is no call of the server or a worker leaves of the desks, and of the pipes of scripts that run.
+-- The effect of events other than calls of the server or a worker on the job pipes, and on the pipes of running scripts.
 use Rattle.std.proofs.Common.{inl, inr, ◌≡◌, ◌≢◌, ◌<◌, ℕ, List, ◌∙◌, refl, sym, subst, Option, Some, true, false, slice_get}
 use Rattle.std.specs.Prelude.{◌||◌}
 use Rattle.iol_core.specs.State.{State, descriptor, pipe_at}
@@ -14,6 +14,7 @@ use Rattle.flash_http.specs.Request.{Wanted}
 use Rattle.flash_cgi.specs.Beside.{is_call_of}
 use Rattle.flash_laws.specs.Client.{Client}
 use Rattle.flash_laws.specs.Client.Fits.{FitsBy, FitsRun, Fits}
+use Rattle.flash_cgi.specs.Due.{Made}
 use Rattle.flash_laws.specs.Workers.Crew.{Crew, IsFixedFor}
 use Rattle.flash_laws.specs.Site.Past.{Past}
 use Rattle.flash_laws.specs.Site.Places.{is_free}
@@ -48,7 +49,7 @@ module _ (crew : Crew) (laws : AllLaws crew) where
   pipe-left m n (event.Call d k) r p step reads writes there = laws.pipes.pipe m n d k r p step (reads d (self d)) (writes d (self d)) there
   pipe-left m n e r p step reads writes there = (laws.the.steps.leaves m n e r step).pipes p refl
 
-  -- ---- nobody but the server and its worker writes to the pipe of a run, while its output is heard
+  -- ---- nobody but the server and its worker writes to the pipe of a run, while its made is heard
 
   module _ (m : State) (order : IsOrderly m) (seat : Seat crew.Worker) (run : Run) (p : ℕ) (opens : descriptor m server run.from ≡ Some (on.ReadEnd p))
       (d : ℕ) (not_server : d ≢ server) (not_worker : d ≢ seat.by) where
@@ -63,32 +64,32 @@ module _ (crew : Crew) (laws : AllLaws crew) where
     given-writes : (f : ℕ) → IsGiven crew m seat run f → HasNotEnd m d (on.WriteEnd p)
     given-writes f h g is = not_worker (order.one d seat.by g f (on.WriteEnd p) refl is (subst (λ q. descriptor m seat.by f ≡ Some (on.WriteEnd q)) (sym (same-pipe h.ready.has)) h.writes)).0
 
-    puts-writes : (output : List ℕ) (o : Progress) → IsPuttingOut crew m seat run output o → HasNotEnd m d (on.WriteEnd p)
-    puts-writes output o h = by h.puts_out
+    puts-writes : (made : Made) (o : Progress) → IsPuttingOut crew m seat run made o → HasNotEnd m d (on.WriteEnd p)
+    puts-writes made o h = by h.puts_out
       where
-        by : PutsOut crew.turns crew.pools crew.Free crew.Due m (crew.desk run.worker) h.has.pipe seat h.more → HasNotEnd m d (on.WriteEnd p)
+        by : PutsOut crew.turns crew.pools crew.Free crew.Due m (crew.desk run.worker) h.has.pipe seat made h.more → HasNotEnd m d (on.WriteEnd p)
         by (inl due) g is =
-            let writes = laws.workers.writes m (crew.desk run.worker) h.has.pipe seat h.more due in
+            let writes = laws.workers.writes m (crew.desk run.worker) h.has.pipe seat made h.more due in
             not_worker (order.one d seat.by g writes.0 (on.WriteEnd p) refl is (subst (λ q. descriptor m seat.by writes.0 ≡ Some (on.WriteEnd q)) (sym (same-pipe h.has)) writes.1)).0
         by (inr there) g is = clash (pipe_at m p).writing (order.all_stand d g (on.WriteEnd p) is) (subst (λ q. (pipe_at m q).writing ≡ false) (sym (same-pipe h.has)) there.closed)
 
-    stage-writes : (job : ℕ → List ℕ) (w : Wanted) (output : List ℕ) (o : Progress) (s : Step) → HasStep job m w o run s → Stage crew m seat run output o s
+    stage-writes : (job : ℕ → List ℕ) (w : Wanted) (made : Made) (o : Progress) (s : Step) → HasStep job m w o run s → Stage crew m seat run made o s
         → is_stopping (Runs run s) ≡ false → HasNotEnd m d (on.WriteEnd p)
-    stage-writes job w output o (Gives write) has h going = had-writes write has.0
-    stage-writes job w output o (Makes f) has h going = given-writes f h
-    stage-writes job w output o (Hands j f) has h going = given-writes f h.0
-    stage-writes job w output o (Ended a held frame) has h going = absurd (cc (going))
-    stage-writes job w output o (Unholds held frame) has h going = absurd (cc (going))
-    stage-writes job w output o (Stops held frame) has h going = absurd (cc (going))
-    stage-writes job w output o (Unframes frame held) has h going = absurd (cc (going))
-    stage-writes job w output o (Lasts held) has h going = absurd (cc (going))
-    stage-writes job w output o (WrapsLast held size frame) has h going = absurd (cc (going))
-    stage-writes job w output o (TrimsLast held chunk len frame) has h going = absurd (cc (going))
-    stage-writes job w output o (Unwraps frame chunk len) has h going = absurd (cc (going))
-    stage-writes job w output o (Returns write) has h going = absurd h
-    stage-writes job w output o (Lapses j) has h going = absurd h
-    stage-writes job w output o Fails has h going = absurd h
-    stage-writes job w output o s has h going = puts-writes output o h
+    stage-writes job w made o (Gives write) has h going = had-writes write has.0
+    stage-writes job w made o (Makes f) has h going = given-writes f h
+    stage-writes job w made o (Hands j f) has h going = given-writes f h.0
+    stage-writes job w made o (Ended a held frame) has h going = absurd (cc (going))
+    stage-writes job w made o (Unholds held frame) has h going = absurd (cc (going))
+    stage-writes job w made o (Stops held frame) has h going = absurd (cc (going))
+    stage-writes job w made o (Unframes frame held) has h going = absurd (cc (going))
+    stage-writes job w made o (Lasts held) has h going = absurd (cc (going))
+    stage-writes job w made o (WrapsLast held size frame) has h going = absurd (cc (going))
+    stage-writes job w made o (TrimsLast held chunk len frame) has h going = absurd (cc (going))
+    stage-writes job w made o (Unwraps frame chunk len) has h going = absurd (cc (going))
+    stage-writes job w made o (Returns write) has h going = absurd h
+    stage-writes job w made o (Lapses j) has h going = absurd h
+    stage-writes job w made o Fails has h going = absurd h
+    stage-writes job w made o s has h going = puts-writes made o h
 
 -- ---- all desks, and each client
 
@@ -112,7 +113,7 @@ module _ (shelf : Shelf) (crew : Crew) (laws : AllLaws crew) where
         writes : (d : ℕ) → is_call_of e d ≡ true → HasNotEnd m d (on.WriteEnd (crew.desk k))
         writes d is g there = other-than d server is not_server (order.one d server g (job_pipe k) (on.WriteEnd (crew.desk k)) refl there (all.desks.desks k lt)).0
 
-    -- nor has it an end of the pipe of a run, while its output is heard
+    -- nor has it an end of the pipe of a run, while its made is heard
     run-left : (fd c : ℕ) (x : Client) (run : Run) (s : Step) (q : ℕ) → Fits shelf crew m (p.came c) (p.sent c) fd c x seats → x.run ≡ Some (Runs run s)
         → descriptor m server run.from ≡ Some (on.ReadEnd q) → is_stopping (Runs run s) ≡ false → pipe_at n q ≡ pipe_at m q
     run-left fd c x run s q fits runs opens going = pipe-left crew laws m n e r q step reads writes (former_of (pipe_at m q).reading (pipe_at m q).writing (order.all_stand server run.from (on.ReadEnd q) opens))

@@ -1,4 +1,4 @@
--- A peer that closes keeps all clients and workers tied.
+-- A close by a peer preserves the invariants of all clients and workers.
 use Rattle.std.proofs.Common.{inl, inr, ◌≡◌, ◌≢◌, ◌≤◌, ◌⊎◌, ℕ, ◌==◌, List, [], ◌++◌, ap, ◌∙◌, refl, sym, subst, arith, Option, Some, true, false, Bool, append-nil, if◌then◌else◌}
 use Rattle.std.specs.Prelude.{◌||◌, is_none}
 use Rattle.iol_core.specs.Text.{Text, bytes_of}

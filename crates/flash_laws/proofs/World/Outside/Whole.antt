@@ -1,4 +1,4 @@
--- What other domains and the outside do keeps all clients, and all workers, tied.
+-- Calls of other domains and external events preserve the invariants of all clients, and of all workers.
 use Rattle.std.proofs.Common.{inl, inr, ◌≡◌, ◌≢◌, ◌<◌, ◌⊎◌, ℕ, List, ap, ◌∙◌, refl, sym, subst, arith, Option, Some, true, false, Bool}
 use Rattle.std.specs.Prelude.{◌&&◌, not, Result, Ok, Err}
 use Rattle.iol_core.specs.State.{State, Connection, descriptor, conn_at, may_read}

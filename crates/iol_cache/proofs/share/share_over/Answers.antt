@@ -11,8 +11,9 @@ use Rattle.iol_hold.specs.Texts.{AllReadable, bufs_of}
 use Rattle.iol_hold.specs.declared.slices.Slice.{Slice}
 use Rattle.iol_hold.proofs.Counts.{tally-append}
 use Rattle.iol_cache.specs.CacheState.{all_parts}
-use Rattle.iol_cache.specs.SharedBytes.{IsCovered, places_over}
+use Rattle.iol_cache.specs.SharedBytes.{IsCovered, places_over, slices_over}
 use Rattle.iol_cache.proofs.RangeReads.SharedBytes.{all_shared, covered_over, length-places_over, over_at, over_join, over_none, over_tally, over_there, readable_on, readable_places, released_then, run_over}
+use Rattle.iol_cache.proofs.RangeReads.SlicesOver.{over_next, parts_done, parts_more, slices_over_none}
 use Rattle.iol_cache.proofs.share.share_over.Goals.{In-Err, In-Some}
 use Rattle.iol_cache.proofs.share.share_over.Goals as goal
 
@@ -25,6 +26,7 @@ loop-at-init c = record {
   begun = omega arith;
   within = c.requires.ordered;
   places = sym (ap (λ l. places c.args.so_far ++ l) (over_none c.args.extents.now.extents c.args.from) ∙ append-nil (places c.args.so_far));
+  parts = refl;
   shares = same c.args.store.now (bufs_of c.args.so_far);
 }
   where
@@ -103,13 +105,14 @@ returns-in-Err c =
     let m = still at.In-Err in
     let r = c.release.ensures in
     let there = subst (AllReadable c.args.store.now) (sym c.in-Err.ensures.err) (readable at.In-Some) in
-    record { places = tt; shared = released_then m r.moves r.lists r.frees (r.settles (readable_on c.add_range.new.self m there)) }
+    record { places = tt; parts = tt; shared = released_then m r.moves r.lists r.frees (r.settles (readable_on c.add_range.new.self m there)) }
 
 pub returns : goal.returns
 returns c =
     let v = c.loop-at.invariant in
     let end : c.loop-at.at ≡ c.args.to = omega (arith, c.loop-at-test.false, v.within) in
-    record { places = v.places ∙ ap (λ n. places c.args.so_far ++ places_over c.args.extents.now.extents c.args.from n) end; shared = all_shared _ v.shares }
+    let none = ap (λ n. slices_over c.args.extents.now.extents n c.args.to) end ∙ slices_over_none c.args.extents.now.extents c.args.to in
+    record { places = v.places ∙ ap (λ n. places c.args.so_far ++ places_over c.args.extents.now.extents c.args.from n) end; parts = parts_done c.loop-at.shared _ _ none v.parts; shared = all_shared _ v.shares }
 
 pub loop-at-preserved : goal.loop-at-preserved
 loop-at-preserved c =
@@ -126,6 +129,8 @@ loop-at-preserved c =
       places = c.in_default-add_range.ensures.places ∙ ap (λ l. places c.loop-at.shared ++ l) (sym run) ∙ ap (λ l. l ++ places_over es at (at + n)) v.places
           ∙ append_assoc (places c.args.so_far) (places_over es c.args.from at) (places_over es at (at + n))
           ∙ ap (λ l. places c.args.so_far ++ l) (over_join es c.args.from at (at + n) v.begun (omega arith));
+      parts = parts_more c.loop-at.shared _ _ _ _ _ c.in_default-add_range.ensures.most
+          (over_next 0 es at n c.args.to e c.requires.apart c.in-Some.ensures.extent (omega (arith, v.within)) (omega (arith, h.0, h.1, c.len.ensures, c.min-count.ensures))) v.parts;
       shares = shares_then v.shares c.in_default-add_range.ensures.shares;
     }
 

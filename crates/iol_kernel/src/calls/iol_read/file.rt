@@ -1,4 +1,5 @@
-//! Reading files by reference: what is in memory is shared, and what is not is read into clean extents.
+//! Reading files by reference: bytes in memory are shared, and the others are read into clean
+//! extents.
 ghost use Rattle.iol_kernel.specs.ByReference.{TakesFound};
 ghost use Rattle.iol_kernel.specs.FileLengths.{HasFileFor};
 ghost use Rattle.iol_kernel.specs.FileReads.{TestsRead, read_at};
@@ -27,7 +28,8 @@ impl Kernel {
         Some(OpenFile { file, at, mode })
     }
 
-    /// Reads from a file at a descriptor's position, as the caller's next aggregate. The position moves on.
+    /// Reads from a file at a descriptor's position, as the caller's next aggregate. The position
+    /// moves past the bytes read.
     pub(crate) fn read_file<B: Backing>(
         &mut self,
         backing: &mut B,

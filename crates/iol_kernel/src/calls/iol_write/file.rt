@@ -11,8 +11,8 @@ use iol_core::refusals::Refusal;
 impl Kernel {
     ghost use Rattle.iol_kernel.specs.Kernel.{state_of};
 
-    /// Writes an aggregate that may be written over the bytes of a file, from the descriptor's position on, which moves past
-    /// them.
+    /// Writes an aggregate that may be written over the bytes of a file, from the descriptor's
+    /// position on. The position moves past them.
     #[tactic(auto, using(crate::proofs::AggregateCalls::Slices::held_rules))]
     pub(crate) fn write_over(
         &mut self,

@@ -19,8 +19,9 @@ use iol_hold::Store;
 impl Kernel {
     ghost use Rattle.iol_kernel.specs.Kernel.{state_of, CopiesFile, IsOpenOn};
 
-    /// Copies up to `count` bytes of a file from a descriptor's position on. The position moves past them. The memory of the list
-    /// is taken first, so that a read which finds none leaves the cache as it was.
+    /// Copies up to `count` bytes of a file from a descriptor's position on. The position moves
+    /// past them. Memory for the list is requested first, so that a read refused for lack of it
+    /// leaves the cache unchanged.
     pub fn copy_file<B: Backing>(
         &mut self,
         backing: &mut B,
@@ -51,8 +52,8 @@ impl Kernel {
         Ok(Bytes::from_vec(bytes))
     }
 
-    /// How many of `count` bytes a file has from a place on. Of a store that is not honest, it is where a read of the file would
-    /// end now.
+    /// How many of `count` bytes a file has from an offset on. Over a store that is not honest, the
+    /// end is where a read of the file would end now.
     fn readable<B: Backing>(&self, backing: &B, file: FileId, at: u32, count: u32) -> u32
         requires { HasFile (state_of self.now) file }
         ensures { IsReadable (B.disk backing.now) (state_of self.now).cache file at count result }
@@ -62,7 +63,7 @@ impl Kernel {
     }
 }
 
-// Adds the bytes of an aggregate to a list that has room for them.
+// Adds the bytes of an aggregate to a list that has capacity for them.
 fn copy_out(agg: &Agg, store: &Store, bytes: &mut Vec<u8>)
     requires readable { AllReadable store.now agg.now }
     requires room { vec_len bytes.old + byte_len agg.now ≤ vec_capacity bytes.old }

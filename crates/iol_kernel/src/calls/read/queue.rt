@@ -1,4 +1,5 @@
-//! Bytes are copied out of pipes and connections: no aggregate is made of them, and no memory is taken.
+//! Bytes are copied out of pipes and connections: no aggregate is made of them, and no memory is
+//! requested.
 ghost use Rattle.std.specs.Prelude.{ℕ, Some};
 ghost use Rattle.iol_core.specs.Calls.Reads as calls;
 ghost use Rattle.iol_kernel.specs.ReadsByCopy.{CopiesFrontOf, CountsWaiting, IsOnNoFile, MayTakeInto, TakesInto};
@@ -12,8 +13,8 @@ use iol_core::refusals::Refusal;
 impl Kernel {
     ghost use Rattle.iol_kernel.specs.Kernel.{state_of, IsSource, Leaves};
 
-    /// How many bytes of those that a read of `count` asks for wait on a descriptor that is not open on a file. It is refused as
-    /// that read is.
+    /// The number of bytes queued for reading on a descriptor that is not open on a file, at most
+    /// `count`. Refused as a read of `count` bytes is.
     pub fn waiting(&self, by: DomainId, fd: Fd, count: usize) -> Result<usize, Refusal>
         requires { IsOnNoFile (state_of self.now) by fd }
         ensures { CountsWaiting by fd count (state_of self.now) result }
@@ -31,8 +32,9 @@ impl Kernel {
         Ok(count.min(self.unread(&from) as usize))
     }
 
-    /// Reads from a queue by copying: moves the first bytes that wait on a descriptor and that the domain may read, at most
-    /// `into.len()`, to the front of `into`. The answer is how many. Never refused: [`Kernel::waiting`] tests the refusals first.
+    /// Reads from a queue by copying: moves the first queued bytes that the domain may read, at
+    /// most `into.len()`, to the front of `into`. Returns their number. Never refused:
+    /// [`Kernel::waiting`] tests the refusals first.
     pub fn take_into(&mut self, by: DomainId, fd: Fd, into: &mut [u8]) -> u32
         requires { MayTakeInto by fd (state_of self.old) }
         ensures { TakesInto by fd into.old into.new (state_of self.old) result (state_of self.new) }
@@ -45,7 +47,8 @@ impl Kernel {
         count
     }
 
-    /// Copies the first bytes that wait in a queue and that the domain may read, and tells how many these are. All still wait.
+    /// Copies the first queued bytes that the domain may read, and returns their number. The queue
+    /// is unchanged.
     fn copy_front(&self, by: DomainId, from: &Descriptor, into: &mut [u8]) -> u32
         requires { IsSource self.now from.now }
         ensures { CopiesFrontOf from.now by (state_of self.now) into.old into.new result }
@@ -62,7 +65,7 @@ impl Kernel {
         }
     }
 
-    /// Takes the first bytes off a queue, so many, or all where fewer wait.
+    /// Takes the first `n` bytes off a queue, or all if there are fewer.
     fn skip(&mut self, from: &Descriptor, count: u32)
         requires { IsSource self.old from.now }
         ensures { (d fd : ℕ) → Leaves (λ s. calls.read_on s d fd (Some from.now) count) self.old

@@ -1,4 +1,4 @@
-//! Bytes are written to files by copying: they are placed in the file's pool, and lie there.
+//! Bytes are written to files by copying: they are placed in the file's pool.
 ghost use Rattle.iol_kernel.specs.WritesByCopy.{MayPutInFile};
 ghost use Rattle.iol_kernel.specs.FileWrites.{FillsFile, PutsOver};
 
@@ -12,8 +12,9 @@ use iol_core::refusals::Refusal;
 impl Kernel {
     ghost use Rattle.iol_kernel.specs.Kernel.{state_of};
 
-    /// Writes bytes over those of a file, from the descriptor's position on, which moves past them. Clean extents of files of
-    /// the pool give way, and the bytes lie in new buffers of the file's pool.
+    /// Writes bytes over those of a file, from the descriptor's position on. The position moves
+    /// past them. Clean extents of files of the pool are evicted if necessary, and the bytes are
+    /// placed in new buffers of the file's pool.
     pub(crate) fn put_in_file(
         &mut self,
         by: DomainId,
@@ -32,7 +33,7 @@ impl Kernel {
         self.fill_file(by, fd, found, pool, bytes)
     }
 
-    /// Writes bytes over those of a file, where the file's pool has room.
+    /// Writes bytes over those of a file whose pool has room for them.
     fn fill_file(
         &mut self,
         by: DomainId,

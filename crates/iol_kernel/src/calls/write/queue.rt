@@ -1,4 +1,4 @@
-//! Bytes are written to pipes and connections by copying: they lie in new buffers.
+//! Bytes are written to pipes and connections by copying: they are placed in new buffers.
 ghost use Rattle.std.specs.Prelude.{◌≡◌, false, Some};
 ghost use Rattle.iol_core.specs.Calls.Writes as calls;
 ghost use Rattle.iol_kernel.specs.KernelState.{IsSound};
@@ -16,8 +16,8 @@ use iol_core::refusals::Refusal;
 impl Kernel {
     ghost use Rattle.iol_kernel.specs.Kernel.{state_of};
 
-    /// The pool in which these bytes lie once they are written to a descriptor. It is refused as that write is, but for
-    /// want of room and of memory.
+    /// The pool of these bytes once they are written to a descriptor. Refused as that write is,
+    /// except for NoRoom and Memory.
     pub(crate) fn pool_to_write(
         &self,
         by: DomainId,
@@ -85,8 +85,9 @@ impl Kernel {
         Ok(pool)
     }
 
-    /// Places bytes in a pool and writes them to a pipe or a connection, as many as fit: how many is the answer. Clean extents of
-    /// files of the pool give way, and the bytes lie in new buffers on its lowest free pages then.
+    /// Places bytes in a pool and writes them to a pipe or a connection, as many as fit. Returns
+    /// their number. Clean extents of files of the pool are evicted if necessary; then the bytes
+    /// are placed in new buffers on its lowest free pages.
     pub(crate) fn put(
         &mut self,
         by: DomainId,

@@ -1,4 +1,4 @@
-use Rattle.std.proofs.Common.{subst, ◌∙◌}
+use Rattle.std.proofs.Common.{subst, ◌∙◌, ap, arith, length}
 use Rattle.iol_hold.specs.Moves.{Covers, Moves}
 use Rattle.iol_hold.specs.Texts.{bufs_of, AllReadable}
 use Rattle.iol_hold.proofs.Moves.{covers_first, covers_less}
@@ -11,6 +11,9 @@ returns-then-len-left-clause-rest c =
     drop_part c.in-Some.first c.cut.result c.pop_front.new.self.items c.loop-left.queue.items c.push_front_reserved.new.self.items c.loop-left.left
     c.in-Some.ensures.items c.push_front_reserved.ensures.items c.if-len-left.true c.cut.ensures.places
     ∙ c.loop-left.invariant.so_far
+
+pub returns-then-len-left-clause-few : goal.returns-then-len-left-clause-few
+returns-then-len-left-clause-few c = omega (arith, ap length c.in-Some.ensures.items, ap length c.push_front_reserved.ensures.items, c.loop-left.invariant.few)
 
 pub release-requires : goal.release-requires
 release-requires c =
@@ -29,6 +32,7 @@ loop-left-preserved c =
     let covered = covers_less first.hold.buf (bufs_of rest) (subst (λ xs. Covers t (bufs_of xs)) items before.covered) c.release.ensures.moves.counts in
     record {
       so_far = drop_first first rest c.loop-left.queue.items c.loop-left.left items c.if-len-left.false ∙ before.so_far;
+      few = omega (arith, ap length items, before.few);
       covered = covered;
       moves = moves_first (bufs_of rest) (subst (λ xs. Moves s t (bufs_of c.args.queue.now.items) (bufs_of xs)) items before.moves) c.release.ensures.moves;
       lists = c.release.ensures.lists ∙ before.lists;

@@ -1,4 +1,4 @@
-use Rattle.std.proofs.Common.{◌≡◌, drop}
+use Rattle.std.proofs.Common.{◌≡◌, ◌≤◌, drop, length}
 use Rattle.iol_hold.specs.Moves.{Covers, Moves, SameLists}
 use Rattle.iol_hold.specs.Places.{places}
 use Rattle.iol_hold.specs.Releases.{FreesOnly}
@@ -9,6 +9,7 @@ use Rattle.iol_pipe.proofs.take.skip_bytes.Given as goal
 abbrev pub invariant-loop-left : goal.invariant-loop-left
 invariant-loop-left l = record {
   so_far : drop l.left (places l.queue.items) ≡ drop l.n (places l.fn.queue.items);
+  few : length l.queue.items ≤ length l.fn.queue.items;
   covered : Covers l.store (bufs_of l.queue.items);
   moves : Moves l.fn.store l.store (bufs_of l.fn.queue.items) (bufs_of l.queue.items);
   lists : SameLists l.fn.store l.store;

@@ -33,6 +33,7 @@ returns c =
         bytes = c.from_vec.ensures ∙ c.copy_all.ensures ∙ ap (λ w. w ++ bytes_of (text_of t sent)) c.in_ok-bytes.ensures.items
             ∙ ap bytes_of (text_sent s t sent c.args.queue.now c.args.max c.in_ok-sent.ensures.cuts.given shares.arena);
         rest = c.in_ok-sent.ensures.cuts.rest;
+        few = c.in_ok-sent.ensures.cuts.left;
         releases = record {
           moves = sent_moves (bufs_of c.take.new.self) (bufs_of sent) shares c.release.ensures.moves;
           lists = c.release.ensures.lists ∙ ap (λ (ps : List Pool). map pool_meant ps) shares.pools;

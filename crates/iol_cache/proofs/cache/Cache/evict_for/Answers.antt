@@ -1,4 +1,5 @@
 use Rattle.std.proofs.Common.{◌≡◌, ◌∙◌, ◌<◌, ◌≤◌, Bool, true, false, Some, length, refl, ap, arith}
+use Rattle.std.proofs.lemmas.Bool.Decides.{nat_tests}
 use Rattle.iol_pool.specs.Pools.{Pool}
 use Rattle.iol_hold.specs.Room.{free_of}
 use Rattle.iol_hold.proofs.Rooms.{open_numbered}
@@ -9,8 +10,8 @@ use Rattle.iol_cache.proofs.Evictions.NoneLeft.{none_beside}
 use Rattle.iol_cache.proofs.Evictions.OneByOne.{next_clean, next_fewer, on_more, on_none}
 use Rattle.iol_cache.proofs.cache.Cache.evict_for.Goals as goal
 
-pub free_count-requires : goal.free_count-requires
-free_count-requires c = open_numbered c.loop-pool.store.pools c.args.pool (ap (λ (x : Pool). x.closed) (c.loop-pool.invariant.gives_up.frees.pools c.args.pool c.requires.open) ∙ c.requires.open)
+pub has_free-requires : goal.has_free-requires
+has_free-requires c = open_numbered c.loop-pool.store.pools c.args.pool (ap (λ (x : Pool). x.closed) (c.loop-pool.invariant.gives_up.frees.pools c.args.pool c.requires.open) ∙ c.requires.open)
 
 pub loop-pool-init : goal.loop-pool-init
 loop-pool-init c = on_none c.args.pool (Some c.args.pages) (holding c.args.store.now c.args.self.now) c.least-passed.result c.requires.sound c.least-passed.ensures
@@ -23,7 +24,7 @@ loop-pool-smaller c = next_fewer c.loop-pool.invariant c.in-Some.place c.in-Some
 
 pub loop-pool-preserved : goal.loop-pool-preserved
 loop-pool-preserved c =
-    let few : length (free_of c.loop-pool.store c.args.pool) < c.args.pages = omega (arith, c.free_count.ensures, c.loop-pool-test.true) in
+    let few : length (free_of c.loop-pool.store c.args.pool) < c.args.pages = grind (arith, nat_tests, c.has_free.ensures, c.loop-pool-test.true) in
     on_more c.loop-pool.invariant c.in-Some.place c.in-Some.ensures c.evict.ensures few
 
 pub returns : goal.returns
@@ -32,7 +33,7 @@ returns c =
     let t = c.loop-pool.store in
     let v = c.loop-pool.invariant in
     let m = v.gives_up in
-    let enough : c.args.pages ≤ length (free_of t c.args.pool) = omega (arith, c.free_count.ensures, c.loop-pool-test.false) in
+    let enough : c.args.pages ≤ length (free_of t c.args.pool) = grind (arith, nat_tests, c.has_free.ensures, c.loop-pool-test.false) in
     record {
       room = ((λ y. room_at_most s t c.args.pool c.args.pages (clean_held c.args.self.now.files.items) (clean_held c.loop-pool.self.files.items) (same_pages s t c.args.pool m.frees c.requires.open) m.frees m.clean enough), (λ y. refl));
       free = λ y. enough;
@@ -47,7 +48,7 @@ returns-in_default c =
     let t = c.loop-pool.store in
     let v = c.loop-pool.invariant in
     let m = v.gives_up in
-    let few : length (free_of t c.args.pool) < c.args.pages = omega (arith, c.free_count.ensures, c.loop-pool-test.true) in
+    let few : length (free_of t c.args.pool) < c.args.pages = grind (arith, nat_tests, c.has_free.ensures, c.loop-pool-test.true) in
     record {
       room = (
         (λ y. absurd (false_true y)),

@@ -23,6 +23,8 @@ use Rattle.iol_cache.proofs.Extents.Lookups.{file_back, file_here, file_put, ord
 use Rattle.iol_cache.proofs.Extents.HeldSlices.{covers_file}
 use Rattle.iol_cache.proofs.RangeReads.TakenBack.{none_gaps}
 use Rattle.iol_cache.proofs.RangeReads.FilledGaps.{order_wide, reads_as}
+use Rattle.iol_cache.specs.Weave.{HasSlicesWoven}
+use Rattle.iol_cache.proofs.RangeReads.RangeHolds.{extents_filled}
 use Rattle.iol_cache.proofs.RangeReads.PutExtents.{begins_made, zip_begins, absent_gaps}
 use Rattle.iol_cache.proofs.RangeReads.WholeRange.{made_len, may_fill_range, range_held}
 use Rattle.iol_cache.proofs.Evictions.Roomy.{ranks_file, same_room, sound_same}
@@ -74,6 +76,7 @@ returns-in-Err g c =
     let left = e.leaves in
     record {
       filled = tt;
+      parts = tt;
       sound = sound_same c.fill_range.new.store old _ (sound_to s c.fill_range.new.store old c.requires.sound left.none left.lists left.given_back.pages.count) same;
       reads = reads_as (ap (λ (y : CachedFile). y.pool) file) (λ h. same) e;
     }
@@ -141,6 +144,7 @@ returns g c =
     } in
     record {
       filled = filled;
+      parts = subst (λ (es : List Extent). HasSlicesWoven c.args.beside.now es part.from part.to gaps c.in-Ok.agg) (sym (extents_filled f part.from part.to old new (places c.args.beside.now) gaps (g.B.Backing.disk c.args.backing.now) c.in-Ok.agg there filled)) c.in-Ok.ensures.parts;
       sound = sound_filled old new f part.from part.to (places c.args.beside.now) gaps (g.B.Backing.disk c.args.backing.now) c.in-Ok.agg c.requires.sound there c.requires.range.in_order c.requires.range.gaps filled c.requires.range.end;
       reads = reads_as was (λ h. tt) c.in-Ok.ensures.reads;
     }

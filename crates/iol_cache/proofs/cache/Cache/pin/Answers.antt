@@ -5,6 +5,8 @@ use Rattle.iol_hold.proofs.Releases.{frees_none}
 use Rattle.iol_evict.specs.Order.{Ranking}
 use Rattle.iol_extent.specs.Extents.{Extent, IsApart}
 use Rattle.iol_extent.specs.Spans.{AreInOrder, Tile}
+use Rattle.iol_extent.specs.declared.spans.Span.{Span}
+use Rattle.iol_hold.specs.Texts.{bufs_of}
 use Rattle.iol_cache.specs.declared.files.CachedFile.{CachedFile}
 use Rattle.iol_cache.specs.CacheState.{Cached, extents_in, file_in, order_in, with_order}
 use Rattle.iol_cache.specs.Cache.{cached_of}
@@ -12,7 +14,7 @@ use Rattle.iol_cache.specs.ReadSteps.{CountsHits}
 use Rattle.iol_cache.specs.RangeReads.{RanksFile, hits_counted}
 use Rattle.iol_cache.specs.SharedBytes.{AreHeld}
 use Rattle.iol_cache.specs.Sound.{IsSound}
-use Rattle.iol_cache.specs.Weave.{IsCoveredBeside, places_beside}
+use Rattle.iol_cache.specs.Weave.{IsCoveredBeside, places_beside, slices_beside}
 use Rattle.iol_cache.proofs.Extents.Lookups.{file_here, order_here, order_put, pool_bounds}
 use Rattle.iol_cache.proofs.Extents.StoreSteps.{sound_on, sound_to}
 use Rattle.iol_cache.proofs.Extents.Steps.{hits_entries_left, numbered_same}
@@ -37,7 +39,7 @@ module _ (c : After-index-cached) where
   tile : Tile (extents_in c.args.self.now.files.items c.args.part.now.file) c.args.part.now.from c.args.part.now.to c.in_ok-found.found.hits.items c.in_ok-found.found.gaps.items
   tile =
       let x = file_here _ c.number.ensures c.index.ensures c.requires.file in
-      subst (λ (y : CachedFile). Tile y.extents.extents c.args.part.now.from c.args.part.now.to c.in_ok-found.found.hits.items c.in_ok-found.found.gaps.items) x c.in_ok-found.ensures
+      subst (λ (y : CachedFile). Tile y.extents.extents c.args.part.now.from c.args.part.now.to c.in_ok-found.found.hits.items c.in_ok-found.found.gaps.items) x (c.in_ok-found.ensures.tile c.requires.ordered)
 
   here : c.index-cached.result.now ≡ file_in now.files c.args.part.now.file
   here = file_here _ c.number.ensures c.index-cached.ensures there
@@ -135,11 +137,14 @@ returns c =
     let sound-t = sound_on s t n sound-n (shares_move shares) (still_covers sound-n.covered shares) w.lists w.frees.count in
     let lies = c.in_ok-pins.ensures.places ∙ ap (places_beside c.index-cached.result.now.extents.extents c.args.part.now.from c.args.part.now.to) c.deref.ensures.value
     ∙ ap (λ (es : List Extent). places_beside es c.args.part.now.from c.args.part.now.to found.gaps.items) (ap (λ (y : CachedFile). y.extents.extents) (here at.After-index-cached) ∙ same.extents f) in
+    let parts = c.in_ok-pins.ensures.parts ∙ ap (λ (gs : List Span). bufs_of (slices_beside c.index-cached.result.now.extents.extents c.args.part.now.from c.args.part.now.to gs)) c.deref.ensures.value
+    ∙ ap (λ (es : List Extent). bufs_of (slices_beside es c.args.part.now.from c.args.part.now.to found.gaps.items)) (ap (λ (y : CachedFile). y.extents.extents) (here at.After-index-cached) ∙ same.extents f) in
     record {
       pinned = record {
         hits = found.hits.items;
         tile = tile at.After-index-cached;
         lies = lies;
+        parts = parts;
         shares = shares;
         reserved = n;
         rooms = same;

@@ -24,7 +24,7 @@ put : (x : CachedFile) (m : ExtentMap) → m ≡ x.extents → (let y : CachedFi
 put x m e = ap (λ (l : ExtentMap). let y : CachedFile = record { pool = x.pool; extents = l } in y) e
 
 pub returns-in-Err : goal.returns-in-Err
-returns-in-Err g c = record { fills = tt; pool = refl; reads = reads_refused (put c.args.cached.now c.fill_gaps.new.extents) c.in-Err.ensures.reads }
+returns-in-Err g c = record { fills = tt; parts = tt; pool = refl; reads = reads_refused (put c.args.cached.now c.fill_gaps.new.extents) c.in-Err.ensures.reads }
 
 pub weave-requires : goal.weave-requires
 weave-requires g c =
@@ -65,6 +65,7 @@ returns-in_default-weave g c =
     let left = placed_some (gap_pages gaps) (omega arith) fills.places (keeps_pages_same t t refl refl) (frees_trans w.frees taken.frees taken.moves.counts) refl in
     record {
       fills = tt;
+      parts = tt;
       pool = refl;
       reads = reads_as refl (put c.args.cached.now c.take_back.new.extents) (taken_back gaps Memory fills (back g (goal.at.returns-in_default-weave g c).In_default-weave) c.in_default-weave.ensures.shared.gone (w.lists ∙ e.leaves.lists) (λ all. w.settles (e.leaves.settles all)) taken left
           (λ q is. absurd (let other : Memory ≡ NoRoom q = is in cc)) (record { honest = e.asks.honest; slots = e.asks.slots; counts = e.asks.counts.0 }) tt);

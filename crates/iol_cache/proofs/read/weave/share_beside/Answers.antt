@@ -1,14 +1,16 @@
-use Rattle.std.proofs.Common.{◌+◌, ap, subst, drop, get_or, length, arith, length-append}
+use Rattle.std.proofs.Common.{◌∙◌, ◌+◌, ◌++◌, ap, sym, subst, drop, get_or, length, arith, length-append}
 use Rattle.std.proofs.lemmas.List.{drop_all, drop_more}
 use Rattle.iol_agg.proofs.Pours.{shares_then}
 use Rattle.iol_extent.proofs.Alone.{ends_high}
 use Rattle.iol_extent.specs.Spans.{AreInOrder}
 use Rattle.iol_extent.specs.declared.spans.Span.{Span}
 use Rattle.iol_hold.specs.Places.{places}
+use Rattle.iol_hold.specs.Texts.{bufs_of}
 use Rattle.iol_cache.specs.SharedBytes.{places_over}
-use Rattle.iol_cache.specs.Weave.{IsCoveredBeside}
+use Rattle.iol_cache.specs.Weave.{IsCoveredBeside, slices_beside}
 use Rattle.iol_cache.proofs.RangeReads.SharedBytes.{all_shared, length-places_over, may_share, over_there, readable_places, refused_then}
 use Rattle.iol_cache.proofs.RangeReads.Weave.{beside_more}
+use Rattle.iol_cache.proofs.RangeReads.SlicesOver.{parts_last, parts_more}
 use Rattle.iol_cache.proofs.read.weave.share_beside.Goals as goal
 
 abbrev no_span : Span
@@ -49,6 +51,7 @@ loop-gap-preserved c =
     let over = places_over es c.loop-gap.at g.from in
     record {
       places = beside_more es (places c.loop-gap.shared) (places c.in-Ok.more) c.loop-gap.at c.args.to more is v.places;
+      parts = parts_more c.loop-gap.shared c.in-Ok.more _ _ _ _ c.in-Ok.ensures.parts (ap (slices_beside es c.loop-gap.at c.args.to) more) v.parts;
       shares = shares_then v.shares c.in-Ok.ensures.shared.shares;
       in_order = order.2;
       covered = covered.1;
@@ -61,3 +64,9 @@ returns-in-Err-share_over-clause-shared c = refused_then c.loop-gap.invariant.sh
 
 pub returns-in-Ok-share_over-clause-shared : goal.returns-in-Ok-share_over-clause-shared
 returns-in-Ok-share_over-clause-shared c = all_shared _ (shares_then c.loop-gap.invariant.shares c.in-Ok-share_over.ensures.shared.shares)
+
+pub returns-in-Ok-share_over-clause-parts : goal.returns-in-Ok-share_over-clause-parts
+returns-in-Ok-share_over-clause-parts c =
+    let none = drop_all c.loop-gap.gap-index c.args.gaps.now c.loop-gap-test.false in
+    parts_last c.loop-gap.shared _ _ _ c.in-Ok-share_over.ensures.parts
+    (ap (λ gs. bufs_of c.loop-gap.shared ++ bufs_of (slices_beside c.args.extents.now.extents c.loop-gap.at c.args.to gs)) (sym none) ∙ c.loop-gap.invariant.parts)

@@ -1,4 +1,4 @@
-use Rattle.std.proofs.Common.{◌≡◌, ◌∙◌, ◌+◌, ◌-◌, ◌++◌, [], All, ap, sym, subst, get_or, length, take, drop, List, ℕ, arith, append_assoc, length-append, slice_range}
+use Rattle.std.proofs.Common.{◌≡◌, ◌∙◌, ◌+◌, ◌-◌, ◌++◌, [], All, refl, ap, sym, subst, get_or, length, take, drop, List, ℕ, arith, append_assoc, length-append, slice_range}
 use Rattle.std.proofs.lemmas.List.{drop_more, drop-drop, length-take}
 use Rattle.std.proofs.Math.Seq.{drop-length}
 use Rattle.std.proofs.lemmas.List.Elements.{All-head, All-tail}
@@ -7,10 +7,12 @@ use Rattle.iol_extent.proofs.Alone.{ends_high}
 use Rattle.iol_extent.specs.Spans.{AreInOrder}
 use Rattle.iol_extent.specs.declared.spans.Span.{Span}
 use Rattle.iol_hold.specs.Places.{Place, places}
-use Rattle.iol_cache.specs.SharedBytes.{IsCoveredSpan, places_over}
-use Rattle.iol_cache.specs.Weave.{len_beside, woven}
+use Rattle.iol_hold.specs.Texts.{bufs_of}
+use Rattle.iol_cache.specs.SharedBytes.{IsCoveredSpan, places_over, slices_over}
+use Rattle.iol_cache.specs.Weave.{len_beside, slices_woven, woven}
 use Rattle.iol_cache.proofs.RangeReads.SharedBytes.{all_shared, length-places_over, may_share, over_there, readable_places, refused_then}
 use Rattle.iol_cache.proofs.RangeReads.Weave.{beside_few, may_add_part, readable_more}
+use Rattle.iol_cache.proofs.RangeReads.SlicesOver.{parts_last, parts_more}
 use Rattle.iol_cache.proofs.read.weave.weave.Goals as goal
 
 abbrev no_span : Span
@@ -80,6 +82,8 @@ loop-gap-preserved c =
     let one = c.in-Ok.ensures.places in
     let two = c.in-Ok-share_over.ensures.places in
     let part : slice_range ps used (used + n) ≡ take n (drop used ps) = (let k : used + n - used ≡ n = omega arith in ap (λ m. take m (drop used ps)) k) in
+    let over = slices_over es g.from g.to in
+    let later = slices_woven c.args.beside.now es (used + n) g.to to rest in
     let left : List Place = woven (drop (used + n) ps) es g.to to rest in
     let read = readable_more c.in-Ok.more c.loop-gap.shared c.args.beside.now used (used + n) one v.readable c.requires.beside.readable in
     record {
@@ -87,6 +91,8 @@ loop-gap-preserved c =
           ∙ regroup (places c.loop-gap.shared) (take n (drop used ps)) (places_over es g.from g.to) left
           ∙ ap (λ l. places c.loop-gap.shared ++ (take n (drop used ps) ++ places_over es g.from g.to ++ woven l es g.to to rest)) (sym (drop-drop n used ps))
           ∙ sym (ap (λ l. places c.loop-gap.shared ++ woven (drop used ps) es at to l) more) ∙ v.places;
+      parts = parts_more c.in-Ok.more c.in-Ok-share_over.more over (over ++ later) later _ c.in-Ok-share_over.ensures.parts refl
+          (parts_more c.loop-gap.shared c.in-Ok.more _ _ (over ++ later) _ c.in-Ok.ensures.parts (ap (slices_woven c.args.beside.now es used at to) more) v.parts);
       shares = shares_then (shares_then v.shares c.in-Ok.ensures.shared.shares) c.in-Ok-share_over.ensures.shared.shares;
       in_order = order.2;
       covered = All-tail (IsCoveredSpan es) g rest covered;
@@ -122,3 +128,9 @@ returns-in-Err-add_part-clause-shared c = refused_then c.loop-gap.invariant.shar
 
 pub returns-in-Ok-add_part-clause-shared : goal.returns-in-Ok-add_part-clause-shared
 returns-in-Ok-add_part-clause-shared c = all_shared _ (shares_then c.loop-gap.invariant.shares c.in-Ok-add_part.ensures.shared.shares)
+
+pub returns-in-Ok-add_part-clause-parts : goal.returns-in-Ok-add_part-clause-parts
+returns-in-Ok-add_part-clause-parts c =
+    let none = none_left c.args.gaps.now c.loop-gap.gap-index (omega (arith, c.loop-gap-test.false, c.loop-gap.auto.gap-index-end)) in
+    parts_last c.loop-gap.shared _ _ _ c.in-Ok-add_part.ensures.parts
+    (ap (λ gs. bufs_of c.loop-gap.shared ++ bufs_of (slices_woven c.args.beside.now c.args.extents.now.extents c.loop-gap.used c.loop-gap.at c.args.to gs)) (sym none) ∙ c.loop-gap.invariant.parts)

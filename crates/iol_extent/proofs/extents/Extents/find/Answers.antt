@@ -15,7 +15,8 @@ loop-at-preserved-then-hit c =
     let further : c.loop-at.at < s.to = c.span_at-hit.ensures.further in
     record {
       begun = omega (arith, further, c.loop-at.invariant.begun);
-      within = c.span_at-hit.ensures.within;
+      within = λ h. c.span_at-hit.ensures.within;
+      none = λ h. absurd (omega (arith, h, c.loop-at-test.true, c.loop-at.invariant.begun));
       hits = subst (λ (ss : List Span). AreInOrder c.args.from s.to ss) items (order_push c.args.from c.loop-at.at c.loop-at.hits.items s c.loop-at.invariant.hits (omega (arith, from)) (omega (arith, from, further)));
       gaps = order_more c.args.from c.loop-at.at s.to c.loop-at.gaps.items c.loop-at.invariant.gaps (omega (arith, further));
       covered = subst (λ (ss : List Span). All (IsHit c.args.self.now.extents c.args.to) ss) items (All-push (IsHit c.args.self.now.extents c.args.to) c.loop-at.hits.items s c.loop-at.invariant.covered (c.span_at-hit.ensures.hit c.if-hit.true));
@@ -36,7 +37,8 @@ loop-at-preserved c =
     let gap = subst (λ (n : ℕ). IsGap c.args.self.now.extents n s.to) (sym from) (c.span_at-hit.ensures.gap c.if-hit.false) in
     record {
       begun = omega (arith, further, c.loop-at.invariant.begun);
-      within = c.span_at-hit.ensures.within;
+      within = λ h. c.span_at-hit.ensures.within;
+      none = λ h. absurd (omega (arith, h, c.loop-at-test.true, c.loop-at.invariant.begun));
       hits = order_more c.args.from c.loop-at.at s.to c.loop-at.hits.items c.loop-at.invariant.hits (omega (arith, further));
       gaps = subst (λ (ss : List Span). AreInOrder c.args.from s.to ss) items (order_push c.args.from c.loop-at.at c.loop-at.gaps.items s c.loop-at.invariant.gaps (omega (arith, from)) (omega (arith, from, further)));
       covered = c.loop-at.invariant.covered;
@@ -49,11 +51,16 @@ loop-at-preserved c =
     }
 
 pub returns : goal.returns
-returns c = record {
-  hits = order_more c.args.from c.loop-at.at c.args.to c.loop-at.hits.items c.loop-at.invariant.hits c.loop-at.invariant.within;
-  gaps = order_more c.args.from c.loop-at.at c.args.to c.loop-at.gaps.items c.loop-at.invariant.gaps c.loop-at.invariant.within;
-  covered = c.loop-at.invariant.covered;
-  empty = c.loop-at.invariant.empty;
-  whole = c.loop-at.invariant.whole;
-  each = λ i begun upto. c.loop-at.invariant.each i begun (omega (arith, upto, c.loop-at-test.false));
-}
+returns c =
+    let v = c.loop-at.invariant in
+    record {
+      tile = λ ordered. record {
+        hits = order_more c.args.from c.loop-at.at c.args.to c.loop-at.hits.items v.hits (v.within ordered);
+        gaps = order_more c.args.from c.loop-at.at c.args.to c.loop-at.gaps.items v.gaps (v.within ordered);
+        covered = v.covered;
+        empty = v.empty;
+        whole = v.whole;
+        each = λ i begun upto. v.each i begun (omega (arith, upto, c.loop-at-test.false));
+      };
+      none = v.none;
+    }

@@ -3,11 +3,10 @@ use Rattle.std.specs.List.{filter}
 use Rattle.iol_arena.specs.State.{chunk_count}
 use Rattle.iol_arena.specs.Chunks.{chunk_pages}
 use Rattle.iol_pool.specs.Pools.{pool_in}
-use Rattle.iol_pool.proofs.Counts.{pages_more}
+use Rattle.iol_pool.proofs.Counts.{pages_more, take_fewer}
 use Rattle.iol_pool.proofs.Owners.{within_chunks}
 use Rattle.iol_hold.specs.Loose.{is_loose}
 use Rattle.iol_hold.specs.StoreState.{Stored}
-use Rattle.iol_hold.proofs.LoosePages.{take_fewer}
 use Rattle.iol_hold.proofs.store.Store.can_free.Goals as goal
 
 pub loose_in-here-requires : goal.loose_in-here-requires

@@ -7,6 +7,7 @@ use Rattle.iol_kernel.specs.Calls.{with_incoming}
 use Rattle.iol_kernel.specs.Kernel.{state_of, machine}
 use Rattle.iol_kernel.specs.KernelState.{KernelState, machine_of}
 use Rattle.iol_kernel.specs.Room.{Places}
+use Rattle.iol_kernel.proofs.Connections.ArrivalAfterRoom.{arrive_tests}
 use Rattle.iol_kernel.proofs.State.AfterRoom.{places_refused}
 use Rattle.iol_kernel.proofs.kernel.Kernel.arrive.Goals as goal
 
@@ -21,7 +22,7 @@ returns-in_err-pool c =
     let conn = c.args.conn in
     let is : ◌≡◌ {A = Result ℕ Refusal} (Err c.in_err-pool.field-0.0) c.from_residual.result = search (rules) in
     subst (λ (r : Result ℕ Refusal). Arrived h conn bytes r h) is
-    (places_refused (λ s. outside.arrive s conn bytes) (with_incoming conn) (conn_at (machine c.args.self.now) conn).pool (outside.arrive (machine c.args.self.now) conn bytes).answer h c.in_err-pool.field-0.0 c.requires (search (rules)) (search (rules)))
+    (places_refused (λ s. outside.arrive s conn bytes) (with_incoming conn) (conn_at (machine c.args.self.now) conn).pool (outside.arrive (machine c.args.self.now) conn bytes).answer h c.in_err-pool.field-0.0 c.requires (search (rules)) (search (rules)) (arrive_tests conn bytes))
 
 pub returns : goal.returns
 returns c = subst (λ (bs : List ℕ). Arrived (state_of c.args.self.now) c.args.conn bs c.take_in.result (state_of c.take_in.new.self)) c.as_slice-2.ensures c.take_in.ensures

@@ -9,13 +9,14 @@ use Rattle.iol_desc.specs.Tables.{domains_of, domain_in, with_agg_in}
 use Rattle.iol_kernel.specs.NewAggregates.{AddsText}
 use Rattle.iol_kernel.specs.Kernel.{state_of}
 use Rattle.iol_kernel.specs.Readings.{bytes_over}
+use Rattle.iol_kernel.proofs.AggregateCalls.SliceCounts.{few_made}
 use Rattle.iol_kernel.proofs.State.Effects.{few_aggs, few_kept, placed-machine, placed_alone, placed-sound}
 use Rattle.iol_kernel.proofs.State.ReadOf.{live_held, next_agg-read_of, closed-read_of}
 use Rattle.iol_kernel.proofs.kernel.Kernel.fill_agg.Goals as goal
 use Rattle.iol_kernel.proofs.kernel.Kernel.fill_agg.Goals.{After-add_agg}
 
-pub fill-requires-clause-open : goal.fill-requires-clause-open
-fill-requires-clause-open c = sym (closed-read_of _ (state_of c.args.self.now) c.args.pool) ∙ c.requires.may.opened
+pub fill-requires : goal.fill-requires
+fill-requires c = record { «open» = sym (closed-read_of _ (state_of c.args.self.now) c.args.pool) ∙ c.requires.may.opened }
 
 pub add_agg-requires-clause-few : goal.add_agg-requires-clause-few
 add_agg-requires-clause-few c = (let few = few_kept (state_of c.args.self.now) c.args.by c.requires.may.few c.in_ok-reserve_aggs.ensures.same in omega (arith, few))
@@ -44,14 +45,21 @@ returns c =
     let ds = domains_of c.add_agg.new.self in
     let all = added (goal.at.returns c).After-add_agg in
     record {
-      number = λ f. c.add_agg.ensures.number ∙ ap (λ (xs : List (Domain (List Slice))). (domain_in xs c.args.by).next_agg) c.in_ok-reserve_aggs.ensures.same ∙ sym (next_agg-read_of f h c.args.by);
-      placed = placed-machine h t ds c.args.by _ _ c.requires.sound all;
-      made = placed_alone h t ds c.args.by c.args.pool (length c.args.bytes.now) _ c.requires.sound all;
-      cache = refl;
-      sound = placed-sound h t ds c.args.by _ _ c.requires.sound (live_held _ h c.args.by c.requires.may.live) (omega (arith, few_aggs (bytes_over [] h.store) h c.args.by 1 0 c.requires.may.few))
-          (omega (arith, length-map {B = ℕ × ℕ} c.args.bytes.now (λ b. (b, c.args.pool)), c.requires.may.small)) all;
-      stays = e.moves.stays;
-      room = record { room = e.room; no_room = λ p is. absurd (cc is) };
-      late = tt;
-      err = tt;
+      next = record {
+        number = λ f. c.add_agg.ensures.number ∙ ap (λ (xs : List (Domain (List Slice))). (domain_in xs c.args.by).next_agg) c.in_ok-reserve_aggs.ensures.same ∙ sym (next_agg-read_of f h c.args.by);
+        placed = placed-machine h t ds c.args.by _ _ c.requires.sound all;
+        made = placed_alone h t ds c.args.by c.args.pool (length c.args.bytes.now) _ c.requires.sound all;
+        cache = refl;
+        sound = placed-sound h t ds c.args.by _ _ c.requires.sound (live_held _ h c.args.by c.requires.may.live) (omega (arith, few_aggs (bytes_over [] h.store) h c.args.by 1 0 c.requires.may.few))
+            (omega (arith, length-map {B = ℕ × ℕ} c.args.bytes.now (λ b. (b, c.args.pool)), c.requires.may.small)) all;
+        stays = e.moves.stays;
+        room = record { room = e.room; no_room = λ p is. absurd (cc is) };
+        late = tt;
+        err = tt;
+      };
+      slices = record {
+        slices = all.slices;
+        few = few_made c.args.self.now.store c.args.self.now.store.arena t.arena all.slices c.args.pool (length c.args.bytes.now) all.made_on;
+        added = all.added;
+      };
     }

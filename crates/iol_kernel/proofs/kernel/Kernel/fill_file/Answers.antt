@@ -14,8 +14,8 @@ use Rattle.iol_kernel.proofs.FileCalls.CopyingWrites.{files_apart, own_pool, put
 use Rattle.iol_kernel.proofs.FileCalls.KeptCover.{beside_same}
 use Rattle.iol_kernel.proofs.kernel.Kernel.fill_file.Goals as goal
 
-pub fill-requires-clause-open : goal.fill-requires-clause-open
-fill-requires-clause-open c = (may_place c.requires).opened
+pub fill-requires : goal.fill-requires
+fill-requires c = record { «open» = (may_place c.requires).opened }
 
 pub returns-in_default : goal.returns-in_default
 returns-in_default c =

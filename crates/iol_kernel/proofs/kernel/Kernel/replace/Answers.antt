@@ -11,7 +11,7 @@ use Rattle.iol_kernel.specs.Kernel.{state_of}
 use Rattle.iol_kernel.specs.KernelState.{slices_in}
 use Rattle.iol_kernel.specs.Readings.{bytes_over}
 use Rattle.iol_kernel.proofs.AggregateCalls.Additions.{replaced_answers}
-use Rattle.iol_kernel.proofs.AggregateCalls.Slices.{agg_shared, slices_kept, slices_small, thrice_countable}
+use Rattle.iol_kernel.proofs.AggregateCalls.Slices.{agg_shared, slices_kept, thrice_countable}
 use Rattle.iol_kernel.proofs.State.TableCalls.{attempted}
 use Rattle.iol_kernel.proofs.State.Effects.{few_kept}
 use Rattle.iol_kernel.proofs.State.ReadOf.{length_text-read_of}
@@ -36,7 +36,6 @@ replace-requires c =
     record {
       ordered = c.requires.cuts.ordered;
       within = omega (arith, c.requires.cuts.within, length_text-read_of (bytes_over [] h.store) h c.args.by c.args.agg, ap byte_len xs);
-      small = omega (arith, slices_small h c.args.by c.args.agg sound, slices_small h c.args.by c.args.other sound, ap byte_len xs, ap byte_len ys);
       covered = subst (λ (zs : List Slice). Covers h.store (bufs_of zs)) xs (agg_shared c.requires.cuts.has).covered;
       other_covered = subst (λ (zs : List Slice). Covers h.store (bufs_of zs)) ys (agg_shared c.requires.other).covered;
       countable = subst (λ (zs : List Slice). IsCountable h.store (bufs_of c.in-Some.whole.now ++ bufs_of c.in-Some.whole.now ++ bufs_of zs)) ys

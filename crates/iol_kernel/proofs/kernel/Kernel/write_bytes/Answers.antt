@@ -23,6 +23,7 @@ returns-in-Err c =
       queue = λ no_file. put_refused (written_to c.args.by c.args.fd) _ _ c.args.by c.args.fd c.args.bytes.now h c.in-Err.refusal c.requires fails;
       room = tt;
       no_room = λ p e. (let is : c.in-Err.refusal ≡ NoRoom p = cc in absurd (fails.roomy p is));
+      memory = (put_refused (written_to c.args.by c.args.fd) pool (calls.write (machine_of [] h) c.args.by c.args.fd c.args.bytes.now).answer c.args.by c.args.fd c.args.bytes.now h c.in-Err.refusal c.requires fails).memory;
       refused = inl refl;
       puts = puts_refused o pool (length c.args.bytes.now) h c.in-Err.refusal;
       lays = laid_refused o pool c.args.bytes.now h c.in-Err.refusal;
@@ -41,6 +42,7 @@ returns c =
       queue = λ no_file. placed;
       room = placed.room;
       no_room = placed.no_room;
+      memory = placed.memory;
       puts = subst (λ (o : Option Descriptor). PutsOn o pool (length c.args.bytes.now) h c.put.result k) (sym open') (puts_queue c.in-Some.to c.in_default-to.not-File pool (length c.args.bytes.now) h k c.put.result);
       lays = subst (λ (o : Option Descriptor). LaysOn o pool c.args.bytes.now h c.put.result k) (sym open') (laid_queue c.in-Some.to c.in_default-to.not-File pool c.args.bytes.now h k c.put.result);
       refused = left_placing pool (calls.write s c.args.by c.args.fd c.args.bytes.now).answer h k c.put.result placed.refused;
