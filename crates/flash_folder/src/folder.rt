@@ -1,7 +1,7 @@
 //! A site of the files of a folder, and the world that serves it.
 ghost use Rattle.std.specs.Prelude.{◌≡◌, ◌<◌, IfErr, IfOk, Some, true, false, length, slice_get};
 ghost use Rattle.iol_core.specs.declared.limits.TheConstants.{MAX_FILES};
-ghost use Rattle.flash_folder.specs.Fault.{StopsServing, StopsStart};
+ghost use Rattle.flash_folder.specs.Fault.{StopsStart};
 ghost use Rattle.flash_folder.specs.Folder.{AreFilesOf};
 ghost use Rattle.flash_lite.specs.Prelude.{is_in_range};
 
@@ -10,89 +10,30 @@ use flash_lite::actor::Actor;
 use flash_lite::site::{Site, SiteFile};
 use iol_back::folder::FolderBacking;
 use iol_core::configuration::Config;
-use iol_core::events::{Event, Reply};
-use iol_core::numbers::{ConnId, FileId, PoolId};
+use iol_core::numbers::FileId;
 use iol_core::refusals::Refusal;
-use iol_listen::queue::ServeFault;
-use iol_listen::serve::serve_all;
 use iol_proc::world::World;
-use iol_serve::ending::Ending;
-use iol_serve::serve::serve_connection;
 use std::alloc::{AllocError, Global};
-use std::io::{Read, Write};
-use std::marker::Model;
-use std::net::TcpListener;
 use std::rt::Files;
 
 /// The pool that connections take their bytes into.
-const NET: u32 = 2;
+pub const NET: u32 = 2;
 
-/// The world that serves the files of a folder.
-#[derive(Drop)]
-pub struct Host<R: Files> {
-    alloc: Global,
-    world: World<FolderBacking<R>, Actor>,
-}
-
-impl<R: Files> Model for Host<R> {
-    ghost Value = { Unit {0} };
-
-    ghost view = { λ _. tt };
-}
-
-impl<R: Files + AllocGlobal + Clone + Drop> Host<R> {
-    /// The files of a folder, as they are now, and the processes that serve them.
-    pub fn new(rt: &R, root: &str) -> Result<Host<R>, Fault>
-        ensures { IfErr result StopsStart }
-    {
-        let store = match FolderBacking::new(rt, root) {
-            Ok(store) => store,
-            Err(e) => return Err(Fault::of(&e, Fault::Folder)),
-        };
-        // All is within its limits, so only memory can be wanting.
-        let alloc = rt.alloc();
-        match world_over(alloc, store) {
-            Ok(world) => Ok(Host { alloc, world }),
-            Err(_) => Err(Fault::Memory),
-        }
-    }
-}
-
-impl<R: Files + Drop> Host<R> {
-    /// Serves so many connections of a listener, one after another.
-    pub fn serve(&mut self, listener: &TcpListener, count: u32) -> Result<(), Fault>
-        ensures { IfErr result StopsServing }
-    {
-        let pool = PoolId::new(NET);
-        match serve_all(self.alloc, listener, &mut self.world, pool, count) {
-            Ok(()) => Ok(()),
-            Err(ServeFault::Accept) => Err(Fault::Accept),
-            Err(ServeFault::Memory) => Err(Fault::Memory),
-        }
-    }
-
-    /// Serves one connection, from a reader and to a writer: how that ended.
-    pub fn answer<I: Read, O: Write>(
-        &mut self,
-        reader: &mut I,
-        writer: &mut O,
-    ) -> Result<Ending, Fault>
-        ensures { IfErr result (λ fault. fault ≡ Fault.Memory) }
-    {
-        let conn = self.connect()?;
-        Ok(serve_connection(&mut self.world, conn, reader, writer))
-    }
-
-    // A new connection. The first one has a place, so only memory can be wanting.
-    fn connect(&mut self) -> Result<ConnId, Fault>
-        ensures { IfErr result (λ fault. fault ≡ Fault.Memory) }
-    {
-        let pool = PoolId::new(NET);
-        let reply = self.world.step_outside(Event::ConnNew { pool });
-        match &reply {
-            Reply::Conn(conn) => Ok(*conn),
-            _ => Err(Fault::Memory),
-        }
+/// The world that serves the files of a folder, as they are now.
+pub fn world_of<R: Files + AllocGlobal + Clone + Drop>(
+    rt: &R,
+    root: &str,
+) -> Result<World<FolderBacking<R>, Actor>, Fault>
+    ensures { IfErr result StopsStart }
+{
+    let store = match FolderBacking::new(rt, root) {
+        Ok(store) => store,
+        Err(e) => return Err(Fault::of(&e, Fault::Folder)),
+    };
+    // All is within its limits, so only memory can be lacking.
+    match world_over(rt.alloc(), store) {
+        Ok(world) => Ok(world),
+        Err(_) => Err(Fault::Memory),
     }
 }
 

@@ -1,14 +1,19 @@
 //! A server and its client in one program, over a connection to itself.
-ghost use Rattle.std.specs.Prelude.{◌≡◌, ◌⊎◌, ◌≤◌, ◌↔◌, false, length, IfOk, IsOk};
+ghost use Rattle.std.specs.Prelude.{◌≡◌, ◌⊎◌, ◌≤◌, ◌↔◌, false, length, IfErr, IfOk, IsOk};
 ghost use Rattle.iol_serve.specs.Prelude.{hung_up};
 
 use crate::fault::{Fault, ended};
-use crate::folder::Host;
-use crate::serve::listen;
+use crate::folder::{NET, world_of};
+use flash_lite::actor::Actor;
+use iol_back::folder::FolderBacking;
+use iol_core::events::{Event, Reply};
+use iol_core::numbers::{ConnId, PoolId};
+use iol_proc::world::World;
 use iol_serve::ending::Ending;
+use iol_serve::serve::serve_connection;
 use std::io;
 use std::io::{ErrorKind, Read, Write};
-use std::net::{Net, TcpListener, TcpStream};
+use std::net::{Ipv4Addr, Net, SocketAddr, TcpListener, TcpStream};
 use std::rt::Files;
 use std::time::Duration;
 
@@ -93,14 +98,14 @@ fn ask_and_print<R, W: Write>(rt: &R, root: &str, path: &str, output: &mut W) ->
 where
     R: Net<Listener = TcpListener, Stream = TcpStream> + Files + AllocGlobal + Clone + Drop,
 {
-    let mut host = Host::new(rt, root)?;
-    ask_host(rt, &mut host, path, output)
+    let mut world = world_of(rt, root)?;
+    ask_world(rt, &mut world, path, output)
 }
 
 // Asks over a connection to this program itself.
-fn ask_host<R, W: Write>(
+fn ask_world<R, W: Write>(
     rt: &R,
-    host: &mut Host<R>,
+    world: &mut World<FolderBacking<R>, Actor>,
     path: &str,
     output: &mut W,
 ) -> Result<(), Fault>
@@ -111,7 +116,7 @@ where
     if ask(&client, path).is_err() {
         return Err(Fault::Connect);
     }
-    pass_through(host, &server, &client, output)?;
+    pass_through(world, &server, &client, output)?;
     match output.flush() {
         Ok(()) => Ok(()),
         Err(e) => Err(Fault::of(&e, Fault::Output)),
@@ -123,7 +128,9 @@ fn connect<R>(rt: &R) -> Result<(TcpStream, TcpStream), Fault>
 where
     R: Net<Listener = TcpListener, Stream = TcpStream>,
 {
-    let listener = listen(rt, 0)?;
+    let Ok(listener) = TcpListener::bind(rt, SocketAddr::from((Ipv4Addr::LOCALHOST, 0))) else {
+        return Err(Fault::Listen);
+    };
     let Ok(address) = listener.local_addr() else {
         return Err(Fault::Listen);
     };
@@ -158,7 +165,7 @@ fn ask(client: &TcpStream, path: &str) -> io::Result<()> {
 
 // Serves the connection, whose answer is printed.
 fn pass_through<R: Files + Drop, W: Write>(
-    host: &mut Host<R>,
+    world: &mut World<FolderBacking<R>, Actor>,
     server: &TcpStream,
     client: &TcpStream,
     output: &mut W,
@@ -170,10 +177,25 @@ fn pass_through<R: Files + Drop, W: Write>(
         output,
         fault: None,
     };
-    let ending = host.answer(&mut reader, &mut writer)?;
+    let conn = new_connection(world)?;
+    let ending = serve_connection(world, conn, &mut reader, &mut writer);
     match writer.fault {
         Some(fault) => Err(fault),
         None => whole(ending),
+    }
+}
+
+// A new connection of the world. The first one has a place, so only memory can be lacking.
+fn new_connection<R: Files + Drop>(
+    world: &mut World<FolderBacking<R>, Actor>,
+) -> Result<ConnId, Fault>
+    ensures { IfErr result (λ fault. fault ≡ Fault.Memory) }
+{
+    let pool = PoolId::new(NET);
+    let reply = world.step_outside(Event::ConnNew { pool });
+    match &reply {
+        Reply::Conn(conn) => Ok(*conn),
+        _ => Err(Fault::Memory),
     }
 }
 

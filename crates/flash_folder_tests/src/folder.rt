@@ -1,9 +1,9 @@
 //! What is served of a folder that is made for the test, and how that ends: what no clause says,
 //! since none speaks of sockets.
 use flash_folder::loopback::loop_on;
-use flash_folder::serve::{listen, serve, serve_on};
+use flash_folder::serve::{Server, serve};
 use std::io::{Read, Write};
-use std::net::TcpStream;
+use std::net::{Ipv4Addr, Shutdown, SocketAddr, TcpStream};
 use std::test::Fail;
 use std::{fs, io};
 
@@ -117,16 +117,20 @@ fn gets_index(client: &TcpStream) -> io::Result<bool> {
     Ok(answer.as_slice() == INDEX && from.read(&mut [0u8])? == 0)
 }
 
-// A connection that has asked before anybody listens to it.
+// A connection that sent its request before the server accepts.
 #[test]
 fn asks_before(rt: HostRuntime) -> Result<(), Fail> {
     make(&rt, "served")?;
-    let Ok(listener) = listen(&rt, 0) else {
-        return Err(Fail::from("no listener"));
+    let Ok(mut server) = Server::listen(&rt, 0, "served", 1) else {
+        return Err(Fail::from("no server"));
     };
-    let client = TcpStream::connect(&rt, listener.local_addr()?)?;
+    let Ok(port) = server.port() else {
+        return Err(Fail::from("no port"));
+    };
+    let client = TcpStream::connect(&rt, SocketAddr::from((Ipv4Addr::LOCALHOST, port)))?;
     ask(&client)?;
-    assert!(rt; serve_on(&rt, &listener, "served", 1).is_ok());
+    client.shutdown(Shutdown::Write)?;
+    assert!(rt; server.serve(&rt).is_ok());
     assert!(rt; gets_index(&client)?);
     fs::remove_dir_all(&rt, "served")?;
     Ok(())

@@ -1,14 +1,15 @@
 -- What happens to a world that serves clients.
-use Rattle.std.specs.Prelude.{◌≡◌, ℕ, List, [], ◌∷◌, Some, None, false}
+use Rattle.std.specs.Prelude.{◌≡◌, ℕ, List, [], ◌∷◌, ◌++◌, false}
 use Rattle.iol_back.specs.Disk.{IfHonest}
 use Rattle.iol_core.specs.State.{State}
+use Rattle.iol_core.specs.declared.descriptors.How.{How}
 use Rattle.iol_core.specs.declared.events.Event.TheVariants as event
 use Rattle.iol_core.specs.declared.events.Reply.{Reply}
 use Rattle.iol_system.specs.Machine.{SystemState}
 use Rattle.iol_proc.specs.Laws.{KeepsHonesty}
 use Rattle.iol_proc.specs.Turns.{Account}
-use Rattle.iol_proc.specs.World.{Stage, copied, copying, WorldRun}
-use Rattle.iol_serve.specs.Service.{Serves}
+use Rattle.iol_proc.specs.World.{Stage, copied, copying, OutsideStep, WorldRun}
+use Rattle.iol_serve.specs.Service.{GoesOn}
 use Rattle.iol_proc.specs.declared.choice.Choice.{Choice}
 use Rattle.iol_proc.specs.declared.choice.Choice.TheVariants as choice
 
@@ -42,7 +43,21 @@ module _ {P : Type 0} (turns : Account P) where
     pub honest : KeepsHonesty begun.machine w.machine
     pub continues : IfHonest begun.machine.disk (Continues pool (copied begun) (copied w))
 
--- The first of these bytes arrive on a connection, where the store is honest, and the rest remains.
-abbrev pub ArrivesIn : {P : Type 0} → Account P → (c : ℕ) (bytes rest : List ℕ) (w after : Stage SystemState P) → Type 0
-ArrivesIn turns c bytes rest w after = IfHonest w.machine.disk
-    (Serves turns c false (Some bytes) (Some rest) None None (copied w) (copied after))
+  -- The first of these bytes arrive on a connection, in order, and the rest remains. Nothing is sent.
+  pub record Arrives (c : ℕ) (bytes rest : List ℕ) (w after : Stage State P) : Type 0 where
+    pub came : List ℕ
+    pub split : bytes ≡ came ++ rest
+    pub goes_on : GoesOn turns c came [] false w after
+
+  -- An event reports that the peer of a connection has ended so.
+  pub record Ends (c : ℕ) (how : How) (w after : Stage State P) : Type 0 where
+    pub reply : Reply
+    pub step : OutsideStep copying turns w (event.PeerClosed c how) reply after
+
+-- Both, where the store is honest, as the copying machine has it.
+module _ {P : Type 0} (turns : Account P) where
+  abbrev pub ArrivesIn : (c : ℕ) (bytes rest : List ℕ) (w after : Stage SystemState P) → Type 0
+  ArrivesIn c bytes rest w after = IfHonest w.machine.disk (Arrives turns c bytes rest (copied w) (copied after))
+
+  abbrev pub EndsIn : (c : ℕ) (how : How) (w after : Stage SystemState P) → Type 0
+  EndsIn c how w after = IfHonest w.machine.disk (Ends turns c how (copied w) (copied after))

@@ -32,9 +32,10 @@ pub struct Acceptor<L> {
     /// Any number, if it is none.
     pub left: Option<u32>,
 
-    // Whether a client may wait to be accepted, and when one is accepted again after a failure.
+    // Whether a client may wait to be accepted, when one is accepted again after a failure, and the failure of this attempt.
     is_open: bool,
     open_at: Option<u64>,
+    failure: Option<ErrorKind>,
 }
 
 impl<L> Acceptor<L> {
@@ -48,6 +49,7 @@ impl<L> Acceptor<L> {
             left,
             is_open: true,
             open_at: None,
+            failure: None,
         }
     }
 
@@ -70,6 +72,20 @@ impl<L> Acceptor<L> {
         self.open_at
     }
 
+    /// How accepting failed in this attempt, if it did.
+    pub fn failure(&self) -> Option<ErrorKind> {
+        self.failure
+    }
+
+    /// No client is accepted until some time has passed.
+    pub fn pause(&mut self, now: u64)
+        ensures listener { self.new.listener ≡ self.old.listener }
+        ensures left { self.new.left ≡ self.old.left }
+    {
+        self.is_open = false;
+        self.open_at = Some(now.saturating_add(ACCEPT_MILLIS));
+    }
+
     /// The listener was reported ready.
     pub fn open(&mut self)
         ensures listener { self.new.listener ≡ self.old.listener }
@@ -78,11 +94,12 @@ impl<L> Acceptor<L> {
         self.is_open = true;
     }
 
-    /// A listener that had failed is tried again once that is due.
+    /// A new attempt to accept clients begins. A listener that had failed is tried again once that is due.
     pub fn reopen(&mut self, now: u64)
         ensures listener { self.new.listener ≡ self.old.listener }
         ensures left { self.new.left ≡ self.old.left }
     {
+        self.failure = None;
         if let Some(at) = self.open_at {
             if at <= now {
                 self.open_at = None;
@@ -133,8 +150,8 @@ impl<L> Acceptor<L> {
             ErrorKind::ConnectionAborted | ErrorKind::Interrupted => {}
             ErrorKind::WouldBlock => self.is_open = false,
             _ => {
-                self.is_open = false;
-                self.open_at = Some(now.saturating_add(ACCEPT_MILLIS));
+                self.failure = Some(kind);
+                self.pause(now);
             }
         }
     }

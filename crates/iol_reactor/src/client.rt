@@ -1,9 +1,8 @@
-//! A client: its socket, its connection of a world, and what is buffered between them.
+//! A client: its socket, and what is buffered between it and its connection of a world.
 use crate::input::{Input, Reading};
 use crate::output::{Output, Sending};
 use crate::service::Exchange;
 use crate::socket::Socket;
-use crate::worlds::Link;
 use std::alloc::Global;
 use std::net::SocketAddr;
 
@@ -54,7 +53,6 @@ pub struct Client<S> {
     peer: SocketAddr,
     serial: u64,
     phase: Phase,
-    link: Option<Link>,
     input: Input,
     output: Output,
 
@@ -81,7 +79,6 @@ impl<S: Socket> Client<S> {
             peer,
             serial,
             phase: Phase::Parked,
-            link: None,
             input: Input::new(alloc),
             output: Output::new(alloc),
             is_ready: false,
@@ -112,21 +109,6 @@ impl<S: Socket> Client<S> {
 
     pub fn set_phase(&mut self, phase: Phase) {
         self.phase = phase;
-    }
-
-    /// Its connection of a world, if it has one.
-    pub fn link(&self) -> Option<&Link> {
-        self.link.as_ref()
-    }
-
-    /// It has this connection from now on.
-    pub fn set_link(&mut self, link: Link) {
-        self.link = Some(link);
-    }
-
-    /// Its connection, which it has no longer.
-    pub fn take_link(&mut self) -> Option<Link> {
-        self.link.take()
     }
 
     /// All of its request was handed in, but for this number of bytes.
@@ -171,16 +153,13 @@ impl<S: Socket> Client<S> {
         !self.input.next().is_empty() || self.input.may_read() || self.input.is_ended()
     }
 
-    /// Reads once. False: the socket failed, or there was no memory.
-    pub fn read(&mut self, piece: &mut [u8], now: u64) -> bool {
-        match self.input.read_from(&mut self.socket, piece) {
-            Reading::Bytes(_) => {
-                self.last = now;
-                true
-            }
-            Reading::Empty | Reading::End => true,
-            Reading::Failed => false,
+    /// Reads once.
+    pub fn read(&mut self, piece: &mut [u8], now: u64) -> Reading {
+        let reading = self.input.read_from(&mut self.socket, piece);
+        if matches!(reading, Reading::Bytes(_)) {
+            self.last = now;
         }
+        reading
     }
 
     /// The bytes after the request in progress.
@@ -224,6 +203,16 @@ impl<S: Socket> Client<S> {
     pub fn send(&mut self, bytes: &[u8], now: u64) -> Sending {
         self.last = now;
         self.output.send(&mut self.socket, bytes)
+    }
+
+    /// The number of bytes that may be collected for it. 0: there is no memory.
+    pub fn room(&mut self) -> u32 {
+        self.output.room()
+    }
+
+    /// It has no connection any more: the memory of its response is given back.
+    pub fn release(&mut self) {
+        self.output.release();
     }
 
     /// Whether the response has begun.
@@ -270,7 +259,7 @@ impl<S: Socket> Client<S> {
         for _ in 0..MAX_DROPPED {
             match self.input.drop_from(&mut self.socket, piece) {
                 Reading::Bytes(_) => {}
-                Reading::Empty => return false,
+                Reading::Empty | Reading::Starved => return false,
                 Reading::End | Reading::Failed => return true,
             }
         }

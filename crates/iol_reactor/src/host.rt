@@ -2,11 +2,12 @@
 ghost use Rattle.std.specs.Prelude.{◌≡◌, [], true, false};
 ghost use Rattle.iol_proc.specs.Prelude.{copied};
 ghost use Rattle.iol_serve.specs.Service.{GoesOnIn, SendsIn};
-ghost use Rattle.iol_reactor.specs.Serving.{ArrivesIn, HasServed};
+ghost use Rattle.iol_reactor.specs.Serving.{ArrivesIn, EndsIn, HasServed};
 
 use crate::service::Service;
 use crate::steps;
 use iol_back::backing::Backing;
+use iol_core::descriptors::How;
 use iol_core::events::{Event, Reply};
 use iol_core::numbers::{ConnId, PoolId};
 use iol_proc::process::Process;
@@ -60,6 +61,7 @@ impl<B: Backing + Drop, P: Process, V: Service<B, P>> Host<B, P, V> {
 
     /// The peer of a connection sends no more.
     pub fn close(&mut self, conn: ConnId)
+        ensures told { EndsIn P.turns conn How.Done self.old.world self.new.world }
         ensures alone { GoesOnIn P.turns conn [] [] false self.old.world self.new.world }
     {
         steps::close(&mut self.world, conn);
@@ -67,6 +69,7 @@ impl<B: Backing + Drop, P: Process, V: Service<B, P>> Host<B, P, V> {
 
     /// The peer of a connection is gone.
     pub fn hang_up(&mut self, conn: ConnId)
+        ensures told { EndsIn P.turns conn How.Gone self.old.world self.new.world }
         ensures alone { GoesOnIn P.turns conn [] [] true self.old.world self.new.world }
     {
         steps::hang_up(&mut self.world, conn);
@@ -86,12 +89,12 @@ impl<B: Backing + Drop, P: Process, V: Service<B, P>> Host<B, P, V> {
         steps::hand_in(&mut self.world, conn, bytes)
     }
 
-    /// Sends what a connection has to send to a writer, at most a whole queue: how many bytes, or none if the processes have
+    /// Sends what a connection has to send to a writer, at most this number of bytes: how many, or none if the processes have
     /// closed it.
-    pub fn collect<W: Write>(&mut self, conn: ConnId, writer: &mut W) -> Option<u32>
+    pub fn collect<W: Write>(&mut self, conn: ConnId, writer: &mut W, most: u32) -> Option<u32>
         ensures alone { SendsIn P.turns conn W.contents writer.old writer.new self.old.world
             self.new.world }
     {
-        steps::collect(&mut self.world, conn, writer)
+        steps::collect(&mut self.world, conn, writer, most)
     }
 }

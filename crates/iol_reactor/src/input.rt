@@ -1,8 +1,8 @@
 //! The bytes that a client sent and that the world has not answered yet.
-ghost use Rattle.std.specs.Prelude.{◌≡◌, ◌≢◌, ◌++◌};
+ghost use Rattle.std.specs.Prelude.{◌≡◌, ◌≢◌, ◌≤◌, ◌++◌, IfSome};
 ghost use Rattle.iol_reactor.specs.Bytes.{Gains};
 
-use crate::limits::MAX_BUFFERED;
+use crate::limits::{MAX_BUFFERED, MIN_READ_BYTES};
 use crate::socket::Socket;
 use std::alloc::{AllocError, Global};
 use std::io::ErrorKind;
@@ -22,7 +22,10 @@ pub enum Reading {
     /// The peer sends no more.
     End,
 
-    /// The socket failed, or there was no memory for the bytes.
+    /// There is no memory for bytes. None were read.
+    Starved,
+
+    /// The socket failed.
     Failed,
 }
 
@@ -80,6 +83,29 @@ impl Input {
 
     /// Reads once, behind what is buffered.
     pub fn read_from<S: Socket>(&mut self, socket: &mut S, piece: &mut [u8]) -> Reading
+        ensures { result ≢ Reading.Failed → Gains (S.remaining socket.old)
+            (S.remaining socket.new) self.old.bytes.items self.new.bytes.items }
+    {
+        match self.room(piece.len()) {
+            Some(room) => self.read_most(socket, &mut piece[..room]),
+            None => Reading::Starved,
+        }
+    }
+
+    // The number of bytes, at most this, for which there is memory behind those that are buffered.
+    fn room(&mut self, most: usize) -> Option<usize>
+        ensures bytes { self.new.bytes.items ≡ self.old.bytes.items }
+        ensures most { IfSome result (λ n. n ≤ most) }
+    {
+        if self.bytes.reserve(MIN_READ_BYTES).is_err() {
+            return None;
+        }
+        let spare = self.bytes.capacity().saturating_sub(self.bytes.len());
+        Some(spare.min(most))
+    }
+
+    // Reads once, for which there is memory.
+    fn read_most<S: Socket>(&mut self, socket: &mut S, piece: &mut [u8]) -> Reading
         ensures { result ≢ Reading.Failed → Gains (S.remaining socket.old)
             (S.remaining socket.new) self.old.bytes.items self.new.bytes.items }
     {

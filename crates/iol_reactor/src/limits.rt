@@ -28,6 +28,10 @@ pub struct Limits {
 
     /// The service ends when this number of clients has come and gone; never, if it is none.
     pub stop_after: Option<u32>,
+
+    /// Whether the service ends with an error if accepting fails while it has no client whose end could make room. If not, it
+    /// tries again every `ACCEPT_MILLIS`.
+    pub ends_unaccepted: bool,
 }
 
 impl Limits {
@@ -41,6 +45,7 @@ impl Limits {
         drain_millis: 1_000,
         park_millis: 2,
         stop_after: None,
+        ends_unaccepted: false,
     };
 }
 
@@ -50,8 +55,14 @@ pub const EVENTS: usize = 256;
 /// The turns that the processes have between two looks at the sockets: one or two milliseconds.
 pub const TURNS: usize = 4_096;
 
-/// The bytes of one read.
+/// The bytes of one read at most.
 pub const READ_BYTES: usize = 16_384;
+
+/// Before a read there is memory for this number of bytes at least.
+pub const MIN_READ_BYTES: usize = 1_024;
+
+/// Before a response is collected there is memory for this number of bytes at least, should the socket accept none of them.
+pub const MIN_KEPT_BYTES: usize = 16_384;
 
 /// A client that has this number of bytes buffered is not read until a request of it was answered.
 pub const MAX_BUFFERED: usize = 16_384;
@@ -62,7 +73,7 @@ pub const HEAD_BYTES: usize = 2_048;
 /// The last bytes of a response that it shows.
 pub const TAIL_BYTES: usize = 8;
 
-/// After this time a request that found no room in the world is handed in again.
+/// After this time what found no room or no memory is tried again.
 pub const ROOM_MILLIS: u64 = 5;
 
 /// After this time a listener that failed, as for lack of descriptors, accepts again.

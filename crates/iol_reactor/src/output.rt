@@ -2,16 +2,14 @@
 ghost use Rattle.std.specs.Prelude.{◌≡◌, ◌≢◌, []};
 ghost use Rattle.iol_reactor.specs.Bytes.{Passes};
 
-use crate::limits::{HEAD_BYTES, TAIL_BYTES};
+use crate::limits::{HEAD_BYTES, MIN_KEPT_BYTES, TAIL_BYTES};
 use crate::socket::Socket;
+use crate::steps::QUEUE;
 use std::alloc::{AllocError, Global};
 use std::io::ErrorKind;
 
-/// The writes that one call makes at most.
-const MAX_WRITES: u32 = 0x1_0000;
-
-/// A buffer that is empty and larger than this is given back.
-const MAX_KEPT: usize = 4_096;
+/// The writes that one call makes at most: more than the bytes of a connection's queue.
+const MAX_WRITES: u32 = 0x1_0001;
 
 /// How the writing of bytes went.
 #[derive(Clone, Copy, Debug, PartialEq, Eq)]
@@ -118,11 +116,35 @@ impl Output {
         if sending == Sending::All && self.at > 0 {
             self.at = 0;
             self.left.clear();
-            if self.left.capacity() > MAX_KEPT {
-                self.left = Vec::new(self.alloc);
-            }
         }
         sending
+    }
+
+    /// The number of bytes that may be collected from the world: there is memory for them, should the socket accept none. 0: there is
+    /// no memory. Nothing is left from before.
+    pub fn room(&mut self) -> u32 {
+        let least = if self.produced == 0 {
+            MIN_KEPT_BYTES
+        } else {
+            QUEUE as usize
+        };
+        if self
+            .head
+            .reserve(HEAD_BYTES.saturating_sub(self.head.len()))
+            .is_err()
+        {
+            return 0;
+        }
+        let _ = self.left.reserve(least);
+        self.left.capacity().min(QUEUE as usize) as u32
+    }
+
+    /// Gives back the memory of a response that was sent whole.
+    pub fn release(&mut self) {
+        self.head = Vec::new(self.alloc);
+        if self.left.is_empty() {
+            self.left = Vec::new(self.alloc);
+        }
     }
 
     /// Writes bytes that the world sent, as far as the socket accepts them, and keeps the rest. Nothing is left from before.

@@ -1,5 +1,5 @@
 //! The loop: it polls the sockets, accepts clients, and lets the engine work.
-ghost use Rattle.std.specs.Prelude.{◌≡◌, Some, OnOk, true};
+ghost use Rattle.std.specs.Prelude.{◌≡◌, IfOk, OnOk, Some, true};
 ghost use Rattle.iol_reactor.specs.Accepting.{StaysWithin};
 
 use crate::accept::{Acceptor, Listener};
@@ -46,6 +46,7 @@ impl<B: Backing + Drop, P: Process, V: Service<B, P>> Reactor<TcpListener, B, P,
         limits: Limits,
     ) -> io::Result<Reactor<TcpListener, B, P, V>>
         requires { V.starts world }
+        ensures left { IfOk result (λ reactor. reactor.acceptor.left ≡ limits.stop_after) }
     {
         match listen(net, address) {
             Ok((listener, poll)) => {
@@ -70,7 +71,9 @@ impl<B: Backing + Drop, P: Process, V: Service<B, P>> Reactor<TcpListener, B, P,
         poll: Poll,
         acceptor: Acceptor<TcpListener>,
         engine: Result<Engine<TcpStream, B, P, V>, AllocError>,
-    ) -> io::Result<Reactor<TcpListener, B, P, V>> {
+    ) -> io::Result<Reactor<TcpListener, B, P, V>>
+        ensures { IfOk result (λ reactor. reactor.acceptor ≡ acceptor) }
+    {
         match engine {
             Ok(engine) => Ok(Reactor {
                 alloc,
@@ -197,10 +200,21 @@ where
             (L.given self.new.acceptor.listener) self.new.acceptor.left }
     {
         self.accept_all();
+        self.check_accepting()?;
         self.engine.round(service)?;
         self.engine.expire(service)?;
         self.renew(service);
         Ok(())
+    }
+
+    // Fails if no client can be accepted and there is none whose end could make room, where the service is to end by that.
+    fn check_accepting(&self) -> io::Result<()> {
+        match self.acceptor.failure() {
+            Some(kind) if self.engine.limits.ends_unaccepted && self.engine.count() == 0 => {
+                Err(io::Error::from(kind))
+            }
+            _ => Ok(()),
+        }
     }
 
     // Accepts those that wait, while there is a place.
@@ -215,11 +229,22 @@ where
                 return;
             }
             let Some(slot) = self.engine.vacancy() else {
+                self.wait_for_memory(now);
                 return;
             };
             if let Some((stream, peer)) = self.acceptor.accept(now) {
                 self.admit(slot, stream, peer);
             }
+        }
+    }
+
+    // There was no vacancy: if that is for lack of memory, no client is accepted until some time has passed.
+    fn wait_for_memory(&mut self, now: u64)
+        ensures listener { self.new.acceptor.listener ≡ self.old.acceptor.listener }
+        ensures left { self.new.acceptor.left ≡ self.old.acceptor.left }
+    {
+        if self.engine.has_place() {
+            self.acceptor.pause(now);
         }
     }
 

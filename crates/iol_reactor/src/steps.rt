@@ -2,7 +2,7 @@
 ghost use Rattle.std.specs.Prelude.{◌≡◌, [], true, false};
 ghost use Rattle.iol_proc.specs.Prelude.{KeepsHonesty, copied};
 ghost use Rattle.iol_serve.specs.Service.{GoesOnIn, SendsIn};
-ghost use Rattle.iol_reactor.specs.Serving.{ArrivesIn};
+ghost use Rattle.iol_reactor.specs.Serving.{ArrivesIn, EndsIn};
 
 use iol_back::backing::Backing;
 use iol_core::descriptors::How;
@@ -26,6 +26,7 @@ pub const QUEUE: u32 = MAX_QUEUE_BYTES as u32;
 /// The peer of a connection sends no more.
 pub fn close<B: Backing + Drop, P: Process>(world: &mut World<B, P>, conn: ConnId)
     ensures honest { KeepsHonesty world.old.machine world.new.machine }
+    ensures told { EndsIn P.turns conn How.Done world.old world.new }
     ensures alone { GoesOnIn P.turns conn [] [] false world.old world.new }
 {
     let how = How::Done;
@@ -35,6 +36,7 @@ pub fn close<B: Backing + Drop, P: Process>(world: &mut World<B, P>, conn: ConnI
 /// The peer of a connection is gone.
 pub fn hang_up<B: Backing + Drop, P: Process>(world: &mut World<B, P>, conn: ConnId)
     ensures honest { KeepsHonesty world.old.machine world.new.machine }
+    ensures told { EndsIn P.turns conn How.Gone world.old world.new }
     ensures alone { GoesOnIn P.turns conn [] [] true world.old world.new }
 {
     let how = How::Gone;
@@ -89,16 +91,17 @@ fn hand_in_page<'a, B: Backing + Drop, P: Process>(
     }
 }
 
-/// Sends what waits to be sent to a writer: how many bytes, or none if the connection does not exist.
+/// Sends what waits to be sent to a writer, at most this number of bytes: how many, or none if the connection does not exist.
 pub fn collect<B: Backing + Drop, P: Process, W: Write>(
     world: &mut World<B, P>,
     conn: ConnId,
     writer: &mut W,
+    most: u32,
 ) -> Option<u32>
     ensures honest { KeepsHonesty world.old.machine world.new.machine }
     ensures alone { SendsIn P.turns conn W.contents writer.old writer.new world.old world.new }
 {
-    match world.drain_to(conn, writer, QUEUE) {
+    match world.drain_to(conn, writer, most) {
         Ok(drained) => Some(drained.taken),
         Err(_) => None,
     }
