@@ -1,7 +1,4 @@
 //! A site, as a service of the event loop.
-ghost use Rattle.std.specs.Prelude.{IfOk, IfSome};
-ghost use Rattle.flash_site.specs.World.{BeginsSite};
-
 use crate::notices::tell_site;
 use flash_framing::{frame_of, progress_of};
 use flash_lite::actor::Actor;
@@ -99,9 +96,7 @@ where
     }
 
     // A new world, if the folder changed. A folder that takes long to look at is looked at less often.
-    fn look(&mut self, is_worn: bool) -> io::Result<Option<World<TreeBacking<R>, Actor>>>
-        ensures { IfOk result (λ renewed. IfSome renewed BeginsSite) }
-    {
+    fn look(&mut self, is_worn: bool) -> io::Result<Option<World<TreeBacking<R>, Actor>>> {
         let start = Instant::now(&self.rt)?;
         if !is_worn && !self.is_time(&start) {
             return Ok(None);
@@ -140,9 +135,6 @@ where
     R: Files + Clock + Eprint + AllocGlobal + Clone + Drop,
     W: Write + Drop,
 {
-    // The world of a site, in which nothing has happened yet: the server's laws begin with such a world.
-    ghost starts = { BeginsSite };
-
     fn frame(&self, bytes: &[u8]) -> Frame {
         frame_of(bytes)
     }
