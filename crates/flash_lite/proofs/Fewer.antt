@@ -1,4 +1,4 @@
--- No more places are taken than there are.
+-- The number of used indices is at most the length.
 use Rattle.std.proofs.Common.{◌≤◌, List, [], ◌∷◌, length, Option, Some, None, arith}
 use Rattle.iol_core.specs.NumberedLists.{taken}
 

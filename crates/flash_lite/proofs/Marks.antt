@@ -1,4 +1,4 @@
--- Numbers of places in ascending order.
+-- Indices in ascending order.
 use mathlib.Core.Bool.{beq}
 use Rattle.std.proofs.Common.{◌≡◌, ⊎_elim, ℕ, zero, suc, ◌<◌, ◌≤◌, List, [], ◌∷◌, ◌++◌, length, get_or, take, drop, ap, ◌∙◌, refl, sym, subst, arith, Bool, true, false, cond, Option, Some, None}
 use Rattle.std.specs.Prelude.{filter, find, insert, remove, nat_lt, nat_le, not, if◌then◌else◌}

@@ -1,4 +1,4 @@
--- The places of the clients that may have their turn.
+-- The indices of the clients that may take a turn.
 use Rattle.std.proofs.Common.{◌≡◌, ℕ, zero, suc, ◌+◌, ◌-◌, ◌<◌, ◌≤◌, List, [], ◌∷◌, ◌++◌, length, get_or, drop, ap, ◌∙◌, refl, sym, subst, arith, zero-add, IfSome, length-append, Bool, true, false, cond, Option, Some, None}
 use Rattle.std.specs.Prelude.{filter, find, nat_lt, nat_le, if◌then◌else◌, AllPairs, slice_set, position, option_map, replicate, is_some}
 use Rattle.std.specs.List.Sorted.{IsStrictlyIncreasing}

@@ -1,4 +1,4 @@
--- Places, and what is picked from them.
+-- Indices, and the choice among them.
 use Rattle.std.proofs.Common.{◌≡◌, ℕ, zero, suc, ◌+◌, ◌-◌, ◌<◌, ◌≤◌, List, [], ◌∷◌, ◌++◌, length, drop, ap, ◌∙◌, append-nil, add-one, arith, Option, Some, None, Bool, true, false, sym, refl, subst, if◌then◌else◌}
 use Rattle.std.specs.Prelude.{replicate, slice_set, position, option_map, nat_lt}
 use Rattle.std.specs.List.{position_or_len}

@@ -1,4 +1,4 @@
--- Choices that leave a site and its processes alone whatever the machine is, as can be read off them.
+-- Choices that do not affect a site and its processes in any machine; this can be decided without a run.
 use Rattle.std.specs.Prelude.{◌≡◌, ◌<◌, ◌+◌, ℕ, Bool, true, false, List}
 use Rattle.std.specs.List.{AllByRecursion}
 use Rattle.iol_core.specs.State.{State}
@@ -6,23 +6,23 @@ use Rattle.iol_core.specs.declared.events.Call.{Call}
 use Rattle.iol_core.specs.declared.events.Call.TheVariants as call
 use Rattle.iol_core.specs.declared.events.Event.TheVariants as event
 use Rattle.iol_core.specs.declared.events.Reply.{Reply}
-use Rattle.iol_core.specs.declared.refusals.Refusal.{Refusal}
 use Rattle.iol_proc.specs.World.{Stage}
 use Rattle.iol_proc.specs.declared.choice.Choice.{Choice}
 use Rattle.iol_proc.specs.declared.choice.Choice.TheVariants as choice
 use Rattle.flash_cgi.specs.declared.worker.Worker.{Worker}
+use Rattle.flash_laws.specs.Shelf.{Refusals}
 use Rattle.flash_laws.specs.Site.{server}
 use Rattle.flash_laws.specs.World.Tie.{Actor}
 use Rattle.flash_laws.specs.World.{AreFair}
 use Rattle.flash_laws.specs.World.Fair.{any_refusal, no_refusal}
 use Rattle.flash_laws.specs.World.Host.{IsRight}
 use Rattle.flash_lite.specs.Crew.{crew_of}
-use Rattle.flash_lite.specs.HostedSite.{HasFairTurns, Hosts, IsMildlyUsed}
+use Rattle.flash_lite.specs.HostedSite.{HasFairTurns, Hosts, IsMildlyUsed, refusals_of}
 use Rattle.flash_lite.specs.Library.{library_of}
 use Rattle.flash_lite.specs.Setup.{workers_used}
 use Rattle.flash_lite.specs.declared.site.Site.{Site}
 
--- whether a call makes and writes no file, whatever its descriptor is open on, and admits nobody to a pool
+-- whether a call makes and writes no file, for all objects of its descriptors, and admits no domain to a pool
 abbrev pub leaves_site : Call → Bool
 leaves_site (call.FileNew name pool) = false
 leaves_site (call.IolWrite fd agg) = false
@@ -30,7 +30,8 @@ leaves_site (call.Write fd bytes) = false
 leaves_site (call.PoolAdmit pool domain) = false
 leaves_site k = true
 
--- A call from outside is such a one, by a domain behind those of the server and of so many workers. All else is harmless.
+-- An external call must be such a call, by a domain after those of the server and of its workers. All other choices are
+-- harmless.
 abbrev pub IsHarmless : (workers : ℕ) → Choice → Type 0
 IsHarmless workers (choice.Outside (event.Call d k)) = (server + workers < d) × (leaves_site k ≡ true)
 IsHarmless workers x = Unit {0}
@@ -42,23 +43,25 @@ AreHarmless s xs = AllByRecursion (λ x. IsHarmless (workers_used s) x) xs
 abbrev pub HarmlessIsMild : Type 0
 HarmlessIsMild = (s : Site) (slots : List (List ℕ)) (xs : List Choice) (rs : List Reply) (turns : ℕ)
     (idle : Bool) (after : Stage State (Actor Worker)) (hosts : Hosts s slots xs rs turns idle after)
-    → (refuses : Refusal → Bool) → AreHarmless s xs → AreFair refuses xs rs
+    → (refuses : Refusals) → AreHarmless s xs → AreFair refuses xs rs
     → IsMildlyUsed s slots xs rs turns idle after hosts
 
--- So what is hosted with them is right, of what came by these choices: the turns in rounds behind them bring nothing in.
+-- So a site hosted with them is right, for the input of these choices: the turns in rounds after them add none.
 module _ (s : Site) (slots : List (List ℕ)) (xs : List Choice) (rs : List Reply) (turns : ℕ) (idle : Bool)
     (after : Stage State (Actor Worker)) (hosts : Hosts s slots xs rs turns idle after) where
-  abbrev pub IsRightNow : (refuses : Refusal → Bool) → Type 0
+  abbrev pub IsRightNow : (refuses : Refusals) → Type 0
   IsRightNow refuses = IsRight (crew_of s) (library_of s slots refuses) xs rs idle after
 
   pub record IsRightIfHarmless : Type 0 where
-    -- with the refusals that its turns had
-    pub fair : (refuses : Refusal → Bool) → AreHarmless s xs → HasFairTurns s slots xs rs turns idle after hosts refuses
+    -- if its turns got no other refusals
+    pub fair : (refuses : Refusals) → AreHarmless s xs → HasFairTurns s slots xs rs turns idle after hosts refuses
         → IsRightNow refuses
-    -- with none, where the world says that it is not rough
+    -- with none, if the world's rough flag is clear
     pub smooth : AreHarmless s xs → after.rough ≡ false → IsRightNow no_refusal
-    -- with TooMany, NoRoom, Fault and Memory, whatever was refused, where no scripts run
-    pub files : AreHarmless s xs → workers_used s ≡ 0 → IsRightNow any_refusal
+    -- with those that the turns of the server and the workers got, whatever was refused
+    pub own : AreHarmless s xs → IsRightNow (refusals_of s slots xs rs turns idle after hosts)
+    -- with TooMany, NoRoom, Fault and Memory, whatever was refused
+    pub any : AreHarmless s xs → IsRightNow any_refusal
 
 abbrev pub HarmlessIsRight : Type 0
 HarmlessIsRight = (s : Site) (slots : List (List ℕ)) (xs : List Choice) (rs : List Reply) (turns : ℕ)

@@ -1,10 +1,9 @@
--- A site that is hosted: set up in a new system, run over choices, and then over turns in rounds.
+-- A hosted site: set up in a new system, run over choices, and then over turns in rounds.
 use Rattle.std.specs.Prelude.{◌≡◌, ℕ, List, ◌++◌, length, map, false, Bool}
 use Rattle.iol_back.specs.Disk.{Disk, IfHonest}
 use Rattle.iol_core.specs.State.{State}
 use Rattle.iol_core.specs.declared.configuration.Config.{Config}
 use Rattle.iol_core.specs.declared.events.Reply.{Reply}
-use Rattle.iol_core.specs.declared.refusals.Refusal.{Refusal}
 use Rattle.iol_proc.specs.Idle.{Idles, rounds}
 use Rattle.iol_proc.specs.Laws.{HasEvents}
 use Rattle.iol_kernel.specs.Readings.{slots_of}
@@ -12,30 +11,30 @@ use Rattle.iol_proc.specs.World.{Stage, copied, copying, sharing, WorldRun, doma
 use Rattle.iol_proc.specs.declared.choice.Choice.{Choice}
 use Rattle.iol_system.specs.Machine.{SystemState}
 use Rattle.flash_cgi.specs.declared.worker.Worker.{Worker}
+use Rattle.flash_laws.specs.Shelf.{Refusals}
 use Rattle.flash_laws.specs.World.Calm.{AreMild}
 use Rattle.flash_laws.specs.Serves.Rounds.{in_rounds}
 use Rattle.flash_laws.specs.World.Tie.{Actor, actor_turns}
 use Rattle.flash_laws.specs.World.{AreFair, IsNew}
-use Rattle.flash_laws.specs.World.Fair.{any_refusal, no_refusal}
+use Rattle.flash_laws.specs.World.Fair.{any_refusal, no_refusal, refusals_in}
 use Rattle.flash_laws.specs.World.Host.{IsRight}
 use Rattle.flash_lite.specs.Crew.{crew_of}
 use Rattle.flash_lite.specs.Library.{library_of}
 use Rattle.flash_lite.specs.NewWorld.{AreSeated}
-use Rattle.flash_lite.specs.Setup.{workers_used}
 use Rattle.flash_lite.specs.SiteState.{state_of}
 use Rattle.flash_lite.specs.SiteStart.{Starts}
 use Rattle.flash_lite.specs.Workers.{worker_turns}
 use Rattle.flash_lite.specs.declared.site.Site.{Site}
 
--- The world of a site that was set up over these slots, before its first turn: it is new, as the law over whole worlds has it,
--- whatever calls may be refused by later.
+-- The world of a site that was set up over these slots, before its first turn: it is new in the sense of the law over whole
+-- worlds, whichever refusals calls may get later.
 pub record IsNewWorld (s : Site) (slots : List (List ℕ)) (w : Stage State (Actor Worker)) : Type 0 where
   pub machine : w.machine ≡ state_of s slots
   pub seats : AreSeated s w.seats
   pub smooth : w.rough ≡ false
-  pub new : (refuses : Refusal → Bool) → IsNew (library_of s slots refuses) (crew_of s) w
+  pub new : (refuses : Refusals) → IsNew (library_of s slots refuses) (crew_of s) w
 
--- A site over these slots makes its choices, which are answered so, and then has at most so many turns in rounds.
+-- A site over these slots executes its choices, with these replies, and then takes at most this number of turns in rounds.
 pub record Hosts (s : Site) (slots : List (List ℕ)) (xs : List Choice) (rs : List Reply)
     (turns : ℕ) (idle : Bool) (after : Stage State (Actor Worker)) : Type 0 where
   pub first : Stage State (Actor Worker)
@@ -44,8 +43,8 @@ pub record Hosts (s : Site) (slots : List (List ℕ)) (xs : List Choice) (rs : L
   pub run : WorldRun copying (actor_turns in_rounds worker_turns) first xs rs mid
   pub ends : Idles copying (actor_turns in_rounds worker_turns) mid turns idle after
 
--- So does a system of these sizes, over any store: all of it, from the new system on, is a chain of the system's steps, and
--- the store is as honest after it as before.
+-- The same for a system with these parameters, over any store: the whole run, from the new system on, is a chain of the
+-- system's steps, and a store that is honest before is honest after.
 pub record HostsOver (config : Config) (store : Disk) (s : Site) (xs : List Choice) (rs : List Reply)
     (turns : ℕ) (idle : Bool) (after : Stage SystemState (Actor Worker)) : Type 0 where
   pub first : Stage SystemState (Actor Worker)
@@ -56,7 +55,7 @@ pub record HostsOver (config : Config) (store : Disk) (s : Site) (xs : List Choi
   pub events : HasEvents starts.begun after.machine
   pub honest : after.machine.disk.honest ≡ store.honest
 
--- Over an honest store the world of a system, as the copying machine has it, is new over the store's slots before its first turn.
+-- Over an honest store, the world of a system in the copying machine is new over the store's slots before its first turn.
 abbrev pub IsNewIfHonest : (store : Disk) → Site → Stage SystemState (Actor Worker) → Type 0
 IsNewIfHonest store s w = IfHonest store (IsNewWorld s (slots_of store.slots) (copied w))
 
@@ -67,29 +66,35 @@ HostsIfHonest store s xs rs turns idle after = IfHonest store (Hosts s (slots_of
 
 module _ (s : Site) (slots : List (List ℕ)) (xs : List Choice) (rs : List Reply) (turns : ℕ) (idle : Bool)
     (after : Stage State (Actor Worker)) (hosts : Hosts s slots xs rs turns idle after) where
-  -- calls from outside were mild
+  -- external calls were mild
   abbrev pub IsMildlyUsed : Type 0
   IsMildlyUsed = AreMild (actor_turns in_rounds worker_turns) hosts.first xs rs hosts.mid hosts.run
 
-  -- the turns among the choices, and those in rounds, were fair where these refusals are allowed
-  abbrev pub HasFairTurns : (refuses : Refusal → Bool) → Type 0
+  -- the turns among the choices, and those in rounds, were fair if these refusals are allowed
+  abbrev pub HasFairTurns : (refuses : Refusals) → Type 0
   HasFairTurns refuses = AreFair refuses xs rs
       × AreFair refuses (rounds (domains_of hosts.mid.seats) 0 (length hosts.ends.went)) (map (λ t. t.1) hosts.ends.went)
 
-  -- All that came of it is right where these refusals are allowed.
-  abbrev pub IsRightAfter : (refuses : Refusal → Bool) → Type 0
+  -- the refusals among TooMany, NoRoom, Fault and Memory that its turns got
+  abbrev pub refusals_of : Refusals
+  refusals_of = refusals_in (xs ++ rounds (domains_of hosts.mid.seats) 0 (length hosts.ends.went)) (rs ++ map (λ t. t.1) hosts.ends.went)
+
+  -- The whole result is right if these refusals are allowed.
+  abbrev pub IsRightAfter : (refuses : Refusals) → Type 0
   IsRightAfter refuses = IsRight (crew_of s) (library_of s slots refuses)
       (xs ++ rounds (domains_of hosts.mid.seats) 0 (length hosts.ends.went))
       (rs ++ map (λ t. t.1) hosts.ends.went) idle after
 
-  -- What was hosted is right, where calls from outside were mild.
+  -- A hosted site is right if external calls were mild.
   pub record IsRightAsHosted : Type 0 where
-    -- with the refusals that its turns had
-    pub fair : (refuses : Refusal → Bool) → IsMildlyUsed → HasFairTurns refuses → IsRightAfter refuses
-    -- with none, where the world says that it is not rough
+    -- if its turns got no other refusals
+    pub fair : (refuses : Refusals) → IsMildlyUsed → HasFairTurns refuses → IsRightAfter refuses
+    -- with none, if the world's rough flag is clear
     pub smooth : IsMildlyUsed → after.rough ≡ false → IsRightAfter no_refusal
-    -- with TooMany, NoRoom, Fault and Memory, whatever was refused, where no scripts run
-    pub files : IsMildlyUsed → workers_used s ≡ 0 → IsRightAfter any_refusal
+    -- with those that the turns of the server and the workers got, whatever was refused
+    pub own : IsMildlyUsed → IsRightAfter refusals_of
+    -- with TooMany, NoRoom, Fault and Memory, whatever was refused
+    pub any : IsMildlyUsed → IsRightAfter any_refusal
 
 abbrev pub HostedIsRight : Type 0
 HostedIsRight = (s : Site) (slots : List (List ℕ)) (xs : List Choice) (rs : List Reply) (turns : ℕ)

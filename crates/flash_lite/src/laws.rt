@@ -1,4 +1,5 @@
-//! The law of the server's own processes. The functions do nothing; their contracts are the law.
+//! The law for the processes of this crate. The functions have no effect; their contracts are the
+//! law.
 ghost use Rattle.flash_laws.specs.Prelude.{ActorsSettle, in_rounds, RunKeepsTie, StepKeepsTie, TiedAtFirst, TiedIsAnswered, TiedIsWhole, IdleIsDone, HostIsRight};
 ghost use Rattle.flash_lite.specs.Crew.{crew_of};
 ghost use Rattle.flash_lite.specs.Harmless.{HarmlessIsMild, HarmlessIsRight};
@@ -17,15 +18,15 @@ use flash_progress::laws::file_server_becomes_idle;
 use iol_laws::laws;
 use iol_proc::laws::{idle_is_settled, smooth_runs};
 
-/// Connections do not meet, whatever the site, with scripts or without: of the account that `Actor`
-/// has as a process. A new world is tied; each step keeps the tie, and so does a run, if calls from
-/// outside are mild and turns are fair: the server's are refused by TooMany, NoRoom, Fault and
-/// Memory only as the shelf says, and a worker's never. Where it holds, what was sent on each
-/// connection of the net begins an answer to what came on it, of files and of what scripts output,
-/// and is all of it once the connection is closed, unless its peer left. Where all is idle nothing
-/// is left to do, but what waits for others: full queues, clients that wait for workers of such,
-/// and connections while the server has as many as it may; and the server has no aggregate but what
-/// connections with a full queue use, or what calls from outside gave it (`IsDone`).
+/// Connections do not interfere, for every site, with or without scripts, for the account of
+/// `Actor` as a process. A new world has the invariant. Each step preserves it, and so does a run,
+/// if external calls are mild and turns are fair: they get TooMany, NoRoom, Fault and Memory only
+/// as the site contents permit. In a world with the invariant, the bytes sent on each connection
+/// of the net begin an answer to its input, with files and output of scripts, and are all of it
+/// once the connection is closed, unless its peer left. When all are idle, nothing is left to do
+/// except for connections with a full queue, clients that wait for workers of such connections,
+/// and connections that wait while the server has the maximum number; and the server has only the
+/// aggregates that connections with a full queue use, or that external calls gave it (`IsDone`).
 pub fn connections_do_not_meet()
     ensures first { (s : Site) → TiedAtFirst (crew_of s) }
     ensures step { (s : Site) → StepKeepsTie in_rounds (crew_of s) }
@@ -39,10 +40,10 @@ pub fn connections_do_not_meet()
     world_law::<Worker>();
 }
 
-/// After the calls of a site within its limits, none of them refused, the world of its processes is
-/// new, with scripts or without, if the machine was: files are found by their names, by the server
-/// and by scripts, with the bytes of their slots, but private ones; each worker waits at its desk,
-/// and may read its jobs; the server may read what workers put out.
+/// After the calls of a site within its limits, none of them refused, the world of its processes
+/// is new, with or without scripts, if the machine was: the server and scripts find files by name,
+/// with the bytes of their slots, except private ones; each worker waits for a job, and may read
+/// its jobs; the server may read the output of workers.
 pub fn set_up_is_a_new_world()
     ensures { SetUpIsANewWorld }
 {
@@ -51,27 +52,27 @@ pub fn set_up_is_a_new_world()
     workers_stay_free();
 }
 
-/// What [`host`](crate::host::host) gives over an honest store is right, whatever the site, where
-/// calls from outside were mild: what was sent on each connection of the net begins an answer to what
-/// came on it, be it for files or for scripts, and is all of it once it is closed, unless its peer
-/// left; where all is idle nothing is left to do, but what waits for others (`IsDone`). In an answer
-/// a refusal by TooMany, NoRoom, Fault or Memory may stand in place of a file: one that the turns had
-/// (`fair`); none, where the world is not rough (`smooth`); any, where no scripts run, whatever was
-/// refused (`files`).
+/// The result of [`host`](crate::host::host) over an honest store is right, for every site, if
+/// external calls were mild: the bytes sent on each connection of the net begin an answer to its
+/// input, for files and scripts, and are all of it once it is closed, unless its peer left; when
+/// all are idle, nothing is left to do except what waits for others (`IsDone`). An answer may have
+/// a refusal TooMany, NoRoom, Fault or Memory instead of a file: one that turns of the server got,
+/// instead of a file of the site, and one that turns of workers got, instead of a file that a
+/// script names (`own`, `fair`); none, if the world's rough flag is clear (`smooth`). No premise
+/// is about refusals.
 pub fn hosted_is_right()
     ensures { HostedIsRight }
 {
     connections_do_not_meet();
     idle_is_settled::<Actor>();
     smooth_runs::<Actor>();
-    runs_are_fair::<Worker>();
+    runs_are_fair();
 }
 
-/// Whether calls from outside were mild can be read off the choices: they were, if each is by a
-/// domain behind those of the processes, a guest's, and is none of `file_new`, `iol_write`, `write`
-/// and `pool_admit`, and if the turns were fair. So what is hosted with such choices is right: with
-/// the refusals that its turns had, with none where its world is not rough, and where no scripts run
-/// with any, whatever was refused.
+/// External calls were mild if each is by a domain after those of the processes, that of a guest,
+/// and is none of `file_new`, `iol_write`, `write` and `pool_admit`; this can be decided by the
+/// choices. So a site hosted with such choices is right, whatever was refused: with the refusals
+/// that its turns got, and with none if the world's rough flag is clear.
 pub fn harmless_is_right()
     ensures mild { HarmlessIsMild }
     ensures right { HarmlessIsRight }
@@ -80,17 +81,19 @@ pub fn harmless_is_right()
     hosted_is_right();
     site_law();
     smooth_runs::<Actor>();
-    runs_are_fair::<Worker>();
+    runs_are_fair();
 }
 
-/// A site without scripts that [`host`](crate::host::host) hosts over an honest store becomes idle,
-/// whatever was refused before, if calls from outside are mild, the pool `work` is still open where
-/// `until_idle` begins, its number of turns suffices for that state (`turns_that_suffice`), and
-/// none of them is refused for lack of table entries, pages or memory. Then each connection of the
-/// net is served: all requests that arrived on it are answered, or its peer left, or its queue is
-/// full, or it is not accepted and the server has as many connections as it may.
+/// A site without scripts that [`host`](crate::host::host) hosts over an honest store becomes
+/// idle, whatever was refused before, if external calls are mild, the pool `work` is still open
+/// when `until_idle` begins, its number of turns suffices for that state (`turns_that_suffice`),
+/// and none of them is refused for lack of table entries, pages or memory. Then each connection of
+/// the net is served, with responses that the refusals of its turns permit: all requests that
+/// arrived on it have their responses, or its peer left, or its queue is full, or it is not
+/// accepted and the server has the maximum number of connections.
 pub fn hosted_files_become_idle()
     ensures { HostedFilesBecomeIdle }
 {
     file_server_becomes_idle::<Worker>();
+    runs_are_fair();
 }

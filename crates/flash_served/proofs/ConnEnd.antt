@@ -1,4 +1,4 @@
--- A connection that is not there in a system's tables is not there for the copying machine.
+-- A connection that is not in a system's tables does not exist in the copying machine.
 use Rattle.std.proofs.Common.{◌≡◌, ℕ, true}
 use Rattle.iol_core.specs.Calls.Outside.{lacks_conn}
 use Rattle.iol_kernel.specs.KernelState.{read_of}

@@ -1,4 +1,4 @@
--- Histories of a past and what follows it.
+-- Histories of a run and its continuation.
 use Rattle.std.proofs.Common.{◌≡◌, ℕ, List, [], ◌∷◌, ◌++◌, length, ap, ◌∙◌, refl, sym, arith, true, false, Bool, append_assoc}
 use Rattle.std.specs.Prelude.{◌||◌}
 use Rattle.std.specs.List.{list_any}

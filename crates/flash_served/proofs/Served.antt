@@ -1,4 +1,4 @@
--- A connection of a tied world that was served is answered.
+-- A served connection of a world with the invariant has its answer.
 use Rattle.std.proofs.Common.{◌≡◌, ℕ, List, [], ◌∷◌, ◌++◌, ap, ◌∙◌, subst, Option, Some, None, true, false, append-nil, is_none, unwrap_or, refl}
 use Rattle.iol_core.specs.Calls.Outside.{lacks_conn}
 use Rattle.iol_core.specs.NumberedLists.{lookup}

@@ -1,4 +1,4 @@
--- Connections that are made and served one after another are answered.
+-- Connections that are created and served one after another have their answers.
 use Rattle.std.proofs.Common.{◌≡◌, ℕ, ◌==◌, List, [], ◌∷◌, ◌++◌, ap, ◌∙◌, refl, sym, subst, arith, true, false, Bool, append_assoc, append-nil, Option}
 use Rattle.std.specs.Prelude.{◌||◌, ◌&&◌}
 use Rattle.iol_core.specs.Calls.Outside.{lacks_conn}
@@ -6,7 +6,6 @@ use Rattle.iol_core.specs.State.{State}
 use Rattle.iol_core.specs.declared.events.Event.TheVariants as event
 use Rattle.iol_core.specs.declared.events.Reply.{Reply}
 use Rattle.iol_core.specs.declared.events.Reply.TheVariants as reply
-use Rattle.iol_core.specs.declared.refusals.Refusal.{Refusal}
 use Rattle.iol_laws.specs.ConnNumbers.{ConnectionNumbersRise}
 use Rattle.iol_proc.specs.World.{Stage, copying, OutsideStep}
 use Rattle.iol_proc.specs.declared.choice.Choice.{Choice}
@@ -16,20 +15,19 @@ use Rattle.iol_serve.specs.declared.ending.Ending.{Ending}
 use Rattle.iol_serve.specs.declared.ending.Ending.TheVariants.{Over}
 use Rattle.flash_cgi.specs.declared.worker.Worker.{Worker}
 use Rattle.flash_laws.specs.Serves.Rounds.{in_rounds}
-use Rattle.flash_laws.specs.Shelf.{Shelf}
+use Rattle.flash_laws.specs.Shelf.{Refusals, Shelf}
 use Rattle.flash_laws.specs.Site.{net_pool}
 use Rattle.flash_laws.specs.Site.Past.{Past}
-use Rattle.flash_laws.specs.World.{AreFair, RunKeepsTie, Tied, TiedIsAnswered, TiedIsWhole}
-use Rattle.flash_laws.specs.World.Fair.{any_refusal, FilesAreFair}
+use Rattle.flash_laws.specs.World.{AreFair, RunKeepsTie, StepKeepsTie, TiedIsAnswered, TiedIsWhole}
+use Rattle.flash_laws.specs.World.Fair.{any_refusal, AnyIsFair}
 use Rattle.flash_laws.specs.World.Tie.{Actor, actor_turns, past_of}
 use Rattle.flash_laws.proofs.Lists.{later_of, self}
 use Rattle.flash_laws.proofs.Site.Pasts.{past-outside}
 use Rattle.flash_lite.specs.Crew.{crew_of}
 use Rattle.flash_lite.specs.Library.{library_of}
-use Rattle.flash_lite.specs.Setup.{workers_used}
 use Rattle.flash_lite.specs.Workers.{worker_turns}
 use Rattle.flash_lite.specs.declared.site.Site.{Site}
-use Rattle.flash_served.specs.Served.{AreFairSessions, AreRight, AreSessions, Holds, IsAnswered, IsFresh, IsSession, ServesRight, Session, SessionsAreRight}
+use Rattle.flash_served.specs.Served.{AreFairSessions, AreRight, AreSessions, Holds, IsAnswered, IsFresh, IsSession, ServesNone, ServesRight, Session, SessionsAreRight}
 use Rattle.flash_served.proofs.Served.{served_right}
 
 -- what a past has of a connection
@@ -48,7 +46,7 @@ never true is = absurd (cc (is))
 
 module _ (s : Site) (slots : List (List ℕ)) (keeps : RunKeepsTie in_rounds (crew_of s)) (answered : TiedIsAnswered (crew_of s)) (whole : TiedIsWhole (crew_of s))
     (numbers : ConnectionNumbersRise) where
-  module _ (refuses : Refusal → Bool) where
+  module _ (refuses : Refusals) where
     abbrev shelf : Shelf
     shelf = library_of s slots refuses
 
@@ -124,17 +122,17 @@ module _ (s : Site) (slots : List (List ℕ)) (keeps : RunKeepsTie in_rounds (cr
         one-more past ps it its w sessions.0 after sessions.1 did.1
         (fair-sessions _ _ its sessions.0 after sessions.2 did.0 fair.1)
 
-  pub file-sessions : FilesAreFair (crew_of s) → workers_used s ≡ 0 → (past : List Choice) (ps : List Reply) (its : List Session)
-      (w after : Stage State (Actor Worker)) → AreSessions its w after → Holds s slots any_refusal past ps w
-      → AreRight s slots any_refusal past ps its after
-  file-sessions files none past ps [] w after sessions tied = none-right any_refusal past ps w after tied sessions
-  file-sessions files none past ps (it ∷ its) w after sessions tied =
-      let is = sessions.1 in
-      let begun = keeps (library_of s slots any_refusal) past (choice.Outside (event.ConnNew net_pool) ∷ []) ps (reply.Conn it.conn ∷ []) w is.begun (is.begun, is.made, refl) (tt, tt) tt tied in
-      let fair = files none (library_of s slots any_refusal) _ is.goes_on.choices _ is.goes_on.replies is.begun sessions.0 begun is.goes_on.run in
-      let did = session-right any_refusal past ps it w sessions.0 tied is fair in
-      one-more any_refusal past ps it its w sessions.0 after is did.1
-      (file-sessions files none _ _ its sessions.0 after sessions.2 did.0)
+  -- the turns of each are fair where any refusal is allowed
+  any-fair : AnyIsFair → (its : List Session) (w after : Stage State (Actor Worker)) → (sessions : AreSessions its w after)
+      → AreFairSessions any_refusal its w after sessions
+  any-fair fair [] w after sessions = tt
+  any-fair fair (it ∷ its) w after sessions =
+      (fair sessions.1.goes_on.choices sessions.1.goes_on.replies, any-fair fair its sessions.0 after sessions.2)
+
+  pub any-sessions : AnyIsFair → (past : List Choice) (ps : List Reply) (its : List Session) (w after : Stage State (Actor Worker))
+      → AreSessions its w after → Holds s slots any_refusal past ps w → AreRight s slots any_refusal past ps its after
+  any-sessions fair past ps its w after sessions tied =
+      fair-sessions any_refusal past ps its w after sessions tied (any-fair fair its w after sessions)
 
 -- one client, that is made and served
 pub serves_right : SessionsAreRight → (n : ℕ) (ending : Ending) (left rest held now : Option (List ℕ)) (w begun after : Stage State (Actor Worker))
@@ -148,7 +146,7 @@ serves_right law n ending left rest held now w begun after made served over = re
   taken = served.taken;
   serves = is;
   fair = λ s slots refuses past ps tied fair. (law s slots past ps (it ∷ []) w after (after, is, refl)).fair refuses tied (fair, tt);
-  files = λ s slots past ps tied none. (law s slots past ps (it ∷ []) w after (after, is, refl)).files tied none;
+  any = λ s slots past ps tied. (law s slots past ps (it ∷ []) w after (after, is, refl)).any tied;
 }
   where
     it : Session
@@ -156,3 +154,13 @@ serves_right law n ending left rest held now w begun after made served over = re
 
     is : IsSession it w after
     is = record { begun = begun; made = made; goes_on = served.goes_on; over = over }
+
+-- where none is made the invariant holds
+pub serves_none : ((s : Site) → StepKeepsTie in_rounds (crew_of s)) → (r : Reply) (w after : Stage State (Actor Worker))
+    → OutsideStep copying (actor_turns in_rounds worker_turns) w (event.ConnNew net_pool) r after → ServesNone w after
+serves_none keeps r w after step = record {
+  reply = r;
+  refused = step;
+  holds = λ s slots refuses past ps tied.
+      keeps s (library_of s slots refuses) past ps (choice.Outside (event.ConnNew net_pool)) r w after step tt tt tied;
+}

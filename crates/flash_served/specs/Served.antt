@@ -1,5 +1,6 @@
--- Connections that are served in a world that satisfies the server's invariant: what was sent begins an answer to what arrived.
-use Rattle.std.specs.Prelude.{◌≡◌, ℕ, Bool, true, false, List, [], ◌∷◌, ◌++◌, Option}
+-- Connections that are served in a world that satisfies the server's invariant: the bytes sent begin an answer to the bytes
+-- received.
+use Rattle.std.specs.Prelude.{◌≡◌, ℕ, true, false, List, [], ◌∷◌, ◌++◌, Option}
 use Rattle.std.specs.Io.KnownBytes.{Appends, Consumes}
 use Rattle.std.specs.List.{AllByRecursion}
 use Rattle.iol_core.specs.Calls.Outside.{lacks_conn}
@@ -7,46 +8,45 @@ use Rattle.iol_core.specs.State.{State}
 use Rattle.iol_core.specs.declared.events.Event.TheVariants as event
 use Rattle.iol_core.specs.declared.events.Reply.{Reply}
 use Rattle.iol_core.specs.declared.events.Reply.TheVariants as reply
-use Rattle.iol_core.specs.declared.refusals.Refusal.{Refusal}
 use Rattle.iol_proc.specs.Histories.{stream_over, sent_over}
 use Rattle.iol_proc.specs.World.{OutsideStep, Stage, copying}
 use Rattle.iol_proc.specs.declared.choice.Choice.{Choice}
+use Rattle.iol_proc.specs.declared.choice.Choice.TheVariants as choice
 use Rattle.iol_serve.specs.Service.{GoesOn, Serves, hung_up}
 use Rattle.iol_serve.specs.declared.ending.Ending.{Ending}
 use Rattle.iol_serve.specs.declared.ending.Ending.TheVariants.{Over}
 use Rattle.flash_cgi.specs.declared.worker.Worker.{Worker}
 use Rattle.flash_laws.specs.Serves.Rounds.{in_rounds}
-use Rattle.flash_laws.specs.Shelf.{Begins, IsAnswer, Shelf}
+use Rattle.flash_laws.specs.Shelf.{Begins, IsAnswer, Refusals, Shelf}
 use Rattle.flash_laws.specs.Site.{net_pool}
 use Rattle.flash_laws.specs.World.{AreFair, Tied}
 use Rattle.flash_laws.specs.World.Fair.{any_refusal, no_refusal}
 use Rattle.flash_laws.specs.World.Tie.{Actor, actor_turns, gone_over, made_over}
 use Rattle.flash_lite.specs.Crew.{crew_of}
 use Rattle.flash_lite.specs.Library.{library_of}
-use Rattle.flash_lite.specs.Setup.{workers_used}
 use Rattle.flash_lite.specs.Workers.{worker_turns}
 use Rattle.flash_lite.specs.declared.site.Site.{Site}
 
--- A connection of the net of which there is no history yet: nothing arrived, nothing was sent, and its peer did not leave.
+-- A connection of the net without history: nothing arrived, nothing was sent, and its peer did not leave.
 pub record IsFresh (c : ℕ) (past : List Choice) (ps : List Reply) : Type 0 where
   pub net : made_over c past ps ≡ true
   pub unread : stream_over c past ps ≡ []
   pub unsent : sent_over c past ps ≡ []
   pub stays : gone_over c past ps ≡ false
 
--- What was sent begins an answer to what arrived; and it is an answer, where the connection ended by `Over`.
+-- The bytes sent begin an answer to the bytes received, and are an answer if the connection ended with `Over`.
 pub record IsAnswered (shelf : Shelf) (ending : Ending) (came sent : List ℕ) : Type 0 where
   pub begins : Begins shelf came sent
   pub whole : ending ≡ Over → IsAnswer shelf came sent
 
--- A connection that was served: its number, how it ended, what arrived, and what was sent.
+-- A connection that was served: its number, its ending, and the bytes received and sent.
 pub record Session : Type 0 where
   pub conn : ℕ
   pub ending : Ending
   pub came : List ℕ
   pub sent : List ℕ
 
--- a connection is made in the net, and served
+-- a connection is created in the net, and served
 pub record IsSession (it : Session) (w after : Stage State (Actor Worker)) : Type 0 where
   pub begun : Stage State (Actor Worker)
   pub made : OutsideStep copying (actor_turns in_rounds worker_turns) w (event.ConnNew net_pool) (reply.Conn it.conn) begun
@@ -57,16 +57,16 @@ abbrev pub AreSessions : List Session → (w after : Stage State (Actor Worker))
 AreSessions [] w after = after ≡ w
 AreSessions (it ∷ more) w after = (mid : Stage State (Actor Worker)) × IsSession it w mid × AreSessions more mid after
 
--- the turns of each are fair where these refusals are allowed
-abbrev pub AreFairSessions : (refuses : Refusal → Bool) → (its : List Session) → (w after : Stage State (Actor Worker))
+-- the turns of each are fair if these refusals are allowed
+abbrev pub AreFairSessions : (refuses : Refusals) → (its : List Session) → (w after : Stage State (Actor Worker))
     → AreSessions its w after → Type 0
 AreFairSessions refuses [] w after is = Unit {0}
 AreFairSessions refuses (it ∷ more) w after is = AreFair refuses is.1.goes_on.choices is.1.goes_on.replies
     × AreFairSessions refuses more is.0 after is.2
 
 module _ (s : Site) (slots : List (List ℕ)) where
-  -- The server's invariant, where these refusals are allowed.
-  abbrev pub Holds : (refuses : Refusal → Bool) → List Choice → List Reply → Stage State (Actor Worker) → Type 0
+  -- The server's invariant, if these refusals are allowed.
+  abbrev pub Holds : (refuses : Refusals) → List Choice → List Reply → Stage State (Actor Worker) → Type 0
   Holds refuses past ps w = Tied (library_of s slots refuses) (crew_of s) past ps w
 
   -- ---- one connection
@@ -74,24 +74,24 @@ module _ (s : Site) (slots : List (List ℕ)) where
   module _ (past : List Choice) (ps : List Reply) (c : ℕ) (ending : Ending) (left rest held now : Option (List ℕ))
       (w after : Stage State (Actor Worker))
       (served : Serves (actor_turns in_rounds worker_turns) c (hung_up ending) left rest held now w after) where
-    -- the invariant holds afterwards, and what was sent is right
-    abbrev pub IsRight : (refuses : Refusal → Bool) → Type 0
+    -- the invariant holds afterwards, and the output is right
+    abbrev pub IsRight : (refuses : Refusals) → Type 0
     IsRight refuses = Holds refuses (past ++ served.goes_on.choices) (ps ++ served.goes_on.replies) after
         × IsAnswered (library_of s slots refuses) ending served.came served.sent
 
     pub record IsServedRight : Type 0 where
-      -- with the refusals that its turns had
-      pub fair : (refuses : Refusal → Bool) → Holds refuses past ps w → AreFair refuses served.goes_on.choices served.goes_on.replies
+      -- if its turns got no other refusals
+      pub fair : (refuses : Refusals) → Holds refuses past ps w → AreFair refuses served.goes_on.choices served.goes_on.replies
           → IsRight refuses
-      -- with none, where the world is not rough at the end
+      -- with none, if the world's rough flag is clear at the end
       pub smooth : Holds no_refusal past ps w → after.rough ≡ false → IsRight no_refusal
-      -- with TooMany, NoRoom, Fault and Memory, whatever was refused, where no scripts run
-      pub files : Holds any_refusal past ps w → workers_used s ≡ 0 → IsRight any_refusal
+      -- with TooMany, NoRoom, Fault and Memory, whatever was refused
+      pub any : Holds any_refusal past ps w → IsRight any_refusal
 
   -- ---- connections one after another
 
-  -- what was sent to each is right, and the invariant holds afterwards
-  pub record AreRight (refuses : Refusal → Bool) (past : List Choice) (ps : List Reply) (its : List Session)
+  -- the output to each is right, and the invariant holds afterwards
+  pub record AreRight (refuses : Refusals) (past : List Choice) (ps : List Reply) (its : List Session)
       (after : Stage State (Actor Worker)) : Type 0 where
     pub answered : AllByRecursion (λ it. IsAnswered (library_of s slots refuses) it.ending it.came it.sent) its
     pub choices : List Choice
@@ -100,11 +100,11 @@ module _ (s : Site) (slots : List (List ℕ)) where
 
   pub record AreServedRight (past : List Choice) (ps : List Reply) (its : List Session) (w after : Stage State (Actor Worker))
       (sessions : AreSessions its w after) : Type 0 where
-    pub fair : (refuses : Refusal → Bool) → Holds refuses past ps w → AreFairSessions refuses its w after sessions
+    pub fair : (refuses : Refusals) → Holds refuses past ps w → AreFairSessions refuses its w after sessions
         → AreRight refuses past ps its after
-    pub files : Holds any_refusal past ps w → workers_used s ≡ 0 → AreRight any_refusal past ps its after
+    pub any : Holds any_refusal past ps w → AreRight any_refusal past ps its after
 
--- A connection without a history is served; where its ending is `Over`, it is not there any more. Then it is served right.
+-- A connection without history is served, and is removed if its ending is `Over`. Then it is served right.
 abbrev pub ServedIsRight : Type 0
 ServedIsRight = (s : Site) (slots : List (List ℕ)) (past : List Choice) (ps : List Reply) (c : ℕ) (ending : Ending)
     (left rest held now : Option (List ℕ)) (w after : Stage State (Actor Worker)) → IsFresh c past ps
@@ -112,24 +112,32 @@ ServedIsRight = (s : Site) (slots : List (List ℕ)) (past : List Choice) (ps : 
     → (ending ≡ Over → lacks_conn after.machine c ≡ true)
     → IsServedRight s slots past ps c ending left rest held now w after served
 
--- A connection is made in the net and served, from a reader and to a writer, until it ends so: what arrives is what the
--- reader supplies, and what is sent is what the writer accepts. Then it is served right, whatever the site and the
--- past.
+-- A connection is created in the net and served, from a reader and to a writer, with this ending: the bytes received are those
+-- that the reader supplies, and the bytes sent those that the writer accepts. Then it is served right, for every site and
+-- history.
 pub record ServesRight (ending : Ending) (left rest held now : Option (List ℕ)) (w after : Stage State (Actor Worker)) : Type 0 where
   pub session : Session
   pub ends : session.ending ≡ ending
   pub given : Consumes left rest session.came
   pub taken : Appends held now session.sent
   pub serves : IsSession session w after
-  -- with the refusals that its turns had
-  pub fair : (s : Site) (slots : List (List ℕ)) (refuses : Refusal → Bool) (past : List Choice) (ps : List Reply)
+  -- if its turns got no other refusals
+  pub fair : (s : Site) (slots : List (List ℕ)) (refuses : Refusals) (past : List Choice) (ps : List Reply)
       → Holds s slots refuses past ps w → AreFair refuses serves.goes_on.choices serves.goes_on.replies
       → AreRight s slots refuses past ps (session ∷ []) after
-  -- with TooMany, NoRoom, Fault and Memory, whatever was refused, where no scripts run
-  pub files : (s : Site) (slots : List (List ℕ)) (past : List Choice) (ps : List Reply) → Holds s slots any_refusal past ps w
-      → workers_used s ≡ 0 → AreRight s slots any_refusal past ps (session ∷ []) after
+  -- with TooMany, NoRoom, Fault and Memory, whatever was refused
+  pub any : (s : Site) (slots : List (List ℕ)) (past : List Choice) (ps : List Reply) → Holds s slots any_refusal past ps w
+      → AreRight s slots any_refusal past ps (session ∷ []) after
 
--- Connections that are made in the net and served, one after another, are served right.
+-- No connection is created: the world satisfies the invariant afterwards, if it did before, for every site and history.
+pub record ServesNone (w after : Stage State (Actor Worker)) : Type 0 where
+  pub reply : Reply
+  pub refused : OutsideStep copying (actor_turns in_rounds worker_turns) w (event.ConnNew net_pool) reply after
+  pub holds : (s : Site) (slots : List (List ℕ)) (refuses : Refusals) (past : List Choice) (ps : List Reply)
+      → Holds s slots refuses past ps w
+      → Holds s slots refuses (past ++ choice.Outside (event.ConnNew net_pool) ∷ []) (ps ++ reply ∷ []) after
+
+-- Connections that are created in the net and served, one after another, are served right.
 abbrev pub SessionsAreRight : Type 0
 SessionsAreRight = (s : Site) (slots : List (List ℕ)) (past : List Choice) (ps : List Reply) (its : List Session)
     (w after : Stage State (Actor Worker)) → (sessions : AreSessions its w after)

@@ -1,11 +1,12 @@
-//! One client of the server, from the making of its connection to its end.
+//! Serves one client of the server, from the creation of its connection to its end.
 ghost use Rattle.std.specs.Prelude.{◌≡◌, IfNone, IfSome};
 ghost use Rattle.iol_back.specs.Prelude.{IfHonest};
 ghost use Rattle.iol_proc.specs.Prelude.{KeepsHonesty, copied};
-ghost use Rattle.flash_served.specs.Served.{ServesRight};
+ghost use Rattle.flash_served.specs.Served.{ServesNone, ServesRight};
 
 use crate::sessions_are_right;
 use flash_lite::actor::Actor;
+use flash_lite::laws::connections_do_not_meet;
 use iol_back::backing::Backing;
 use iol_core::events::{Event, Reply};
 use iol_core::numbers::PoolId;
@@ -14,13 +15,14 @@ use iol_serve::ending::Ending;
 use iol_serve::serve::serve_connection;
 use std::io::{Read, Write};
 
-/// The pool that connections take their bytes into.
+/// The pool for the input of connections.
 const NET: u32 = 2;
 
-/// Makes a connection of the net and serves it, from a reader and to a writer: how that ended, or
-/// nothing where there is no place or no memory for it. Over an honest store what the writer
-/// accepts begins an answer to what the reader supplies, and is all of it where the ending is
-/// `Over`, if the world satisfies the server's invariant; and it does so afterwards.
+/// Creates a connection of the net and serves it, from a reader and to a writer. Returns its
+/// ending, or none if there is no room or no memory for it. Over an honest store, the bytes that
+/// the writer accepts begin an answer to the bytes that the reader supplies, and are all of it if
+/// the ending is `Over`, if the world satisfies the server's invariant. The world satisfies it
+/// afterwards, also if no connection was created.
 pub fn serve_client<B: Backing + Drop, R: Read, W: Write>(
     world: &mut World<B, Actor>,
     reader: &mut R,
@@ -31,8 +33,10 @@ pub fn serve_client<B: Backing + Drop, R: Read, W: Write>(
         (R.remaining reader.old) (R.remaining reader.new)
         (W.contents writer.old) (W.contents writer.new) (copied world.old) (copied world.new))) }
     ensures none { IfNone result ((reader.new ≡ reader.old) × (writer.new ≡ writer.old)) }
+    ensures kept { IfHonest world.old.machine.disk (IfNone result (ServesNone (copied world.old) (copied world.new))) }
 {
     sessions_are_right();
+    connections_do_not_meet();
     let pool = PoolId::new(NET);
     let reply = world.step_outside(Event::ConnNew { pool });
     match &reply {

@@ -1,4 +1,4 @@
--- The calls of a site over any store: the machine is that of the site, whatever bytes are in its slots.
+-- The calls of a site over any store: the machine is that of the site, for all contents of its slots.
 use Rattle.std.proofs.Common.{◌≡◌, ℕ, ◌+◌, List, [], ◌∷◌, sym, subst, ap, ◌∙◌, Option, None, true}
 use Rattle.std.specs.Prelude.{option_map}
 use Rattle.iol_core.specs.Calls.Files.{file_called}

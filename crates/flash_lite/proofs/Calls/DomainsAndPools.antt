@@ -1,4 +1,4 @@
--- What the calls that make domains and pools come to, and those that set where domains place their bytes.
+-- The results of the calls that create domains and pools, and of those that set default pools.
 use Rattle.std.proofs.Common.{◌≡◌, ℕ, zero, suc, ◌+◌, ◌-◌, ◌==◌, ◌≤◌, ◌<◌, List, [], ◌∷◌, ◌++◌, length, map, replicate, refl, sym, subst, ap, ◌∙◌, arith, append_assoc, Some, true, false, Bool}
 use Rattle.std.specs.Prelude.{if◌then◌else◌, fold, slice_set}
 use Rattle.std.specs.List.{list_any, range_with_len}

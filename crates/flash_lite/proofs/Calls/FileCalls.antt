@@ -1,4 +1,4 @@
--- What the calls that name files come to.
+-- The results of the calls that name files.
 use Rattle.std.proofs.Common.{◌≡◌, ℕ, zero, suc, ◌+◌, ◌≤◌, ◌<◌, List, [], ◌∷◌, ◌++◌, length, map, refl, sym, subst, ap, ◌∙◌, arith, append_assoc, rules, length-append, Option, Some, None, true, false, Bool}
 use Rattle.std.specs.Prelude.{if◌then◌else◌, bytes_eq, position, option_map, is_some, nat_lt}
 use Rattle.std.specs.List.{slice_get}

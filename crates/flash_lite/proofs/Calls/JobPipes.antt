@@ -1,4 +1,4 @@
--- What the calls that make job pipes come to.
+-- The results of the calls that make job pipes.
 use Rattle.std.proofs.Common.{◌≡◌, ℕ, zero, suc, ◌+◌, ◌==◌, ◌≤◌, List, [], ◌∷◌, ◌++◌, length, map, replicate, refl, sym, subst, ap, ◌∙◌, arith, append_assoc, Option, Some, None, true, false, Bool}
 use Rattle.std.specs.Prelude.{if◌then◌else◌, slice_set, nat_lt}
 use Rattle.std.specs.List.{range_with_len, flat_map}

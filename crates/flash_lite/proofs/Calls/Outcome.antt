@@ -1,4 +1,4 @@
--- All calls of a site, one after another: where they lead a new machine.
+-- All calls of a site, in order: their result in a new machine.
 use Rattle.std.proofs.Common.{◌≡◌, ℕ, zero, suc, ◌+◌, ◌≤◌, ◌<◌, List, [], ◌∷◌, ◌++◌, length, map, replicate, refl, subst, ap, ◌∙◌, arith, Some, true, false, Bool}
 use Rattle.std.specs.Prelude.{bytes_eq, position, if◌then◌else◌}
 use Rattle.std.specs.List.{range_with_len, slice_get}

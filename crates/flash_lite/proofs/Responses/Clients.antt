@@ -1,4 +1,4 @@
--- What a client does, by what its connection does.
+-- The action of a client, by the action of its connection.
 use Rattle.std.proofs.Common.{inl, inr, ◌≡◌, ◌≢◌, ℕ, ◌<◌, ◌==◌, ◌||◌, if◌then◌else◌, length, List, [], ◌∷◌, Option, Some, None, Bool, true, false, refl, sym, ap, subst, arith, ◌∙◌}
 use Rattle.std.specs.Prelude.{◌&&◌, is_some, nat_le, option_map}
 use Rattle.std.specs.List.{slice_split}

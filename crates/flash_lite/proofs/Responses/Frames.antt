@@ -1,4 +1,4 @@
--- Where the bytes of a chunk stand in their frame: behind their number in hexadecimal, and the end of its line.
+-- The place of the bytes of a chunk in their frame: after their number in hexadecimal, and the end of its line.
 use Rattle.std.proofs.Common.{◌≡◌, ℕ, zero, suc, ◌+◌, ◌*◌, ◌/◌, ◌%◌, ◌^◌, ◌<◌, ◌≤◌, ◌==◌, Bool, true, false, cond, List, [], ◌∷◌, length, refl, arith}
 use Rattle.std.specs.Prelude.{codes}
 use Rattle.std.specs.Fmt.{digits, digits_onto, digit_glyph}

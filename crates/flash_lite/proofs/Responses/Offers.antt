@@ -1,4 +1,4 @@
--- What is offered is the next bytes of the response.
+-- The offered bytes are the next bytes of the response.
 use Rattle.std.proofs.Common.{◌≡◌, ℕ, List, Option, Some, sym, ap, subst, ◌∙◌}
 use Rattle.iol_core.specs.NumberedLists.{in_place}
 use Rattle.iol_core.specs.declared.events.Call.TheVariants as call

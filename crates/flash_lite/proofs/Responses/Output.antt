@@ -1,4 +1,4 @@
--- What is read of a script's output.
+-- Reads of a script's output.
 use Rattle.std.proofs.Common.{◌≡◌, ℕ, ◌==◌, Bool, false, List, [], ◌∷◌, Option, refl, ap, sym, arith, cond}
 use Rattle.std.proofs.lemmas.Bool.Decides.{nat_tests}
 use Rattle.iol_core.specs.declared.events.Reply.TheVariants as reply

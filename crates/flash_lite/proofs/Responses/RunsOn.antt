@@ -1,4 +1,4 @@
--- What a client does after the reply to the call of its run.
+-- The action of a client after the reply to the call of its run.
 use Rattle.std.proofs.Common.{inr, ◌≡◌, ℕ, ◌||◌, List, Option, Some, None, Bool, true, false, refl, sym, ap, subst, ◌∙◌}
 use Rattle.std.specs.Prelude.{not, Result, Ok, Err, OnErr}
 use Rattle.iol_core.specs.declared.events.Call.{Call}

@@ -1,4 +1,4 @@
--- Where something is in progress a connection waits for nothing else, and one that waits is ready as it is.
+-- A connection that is not idle waits for nothing else, and one that waits is ready unchanged.
 use Rattle.std.proofs.Common.{◌≢◌, ℕ, List, refl, inl}
 use Rattle.flash_http.specs.Request.{Answer}
 use Rattle.flash_laws.specs.Conn.{IsAwaiting, Readies}

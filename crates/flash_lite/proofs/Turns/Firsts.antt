@@ -1,4 +1,4 @@
--- The first worker that is free, by where it stands in the list that tells which are.
+-- The first free worker, by its index in the list of free workers.
 use Rattle.std.proofs.Common.{◌≡◌, ℕ, ◌≤◌, List, length, take, ◌∙◌, sym, arith, Option, Some, None, true, false, Bool, refl}
 use Rattle.std.specs.Prelude.{nat_lt, cond, not, position}
 use Rattle.std.specs.List.{position_or_len}

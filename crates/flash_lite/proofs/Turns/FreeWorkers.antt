@@ -1,4 +1,4 @@
--- Which workers are free, as one client changes.
+-- The free workers, as one client changes.
 use Rattle.std.proofs.Common.{inl, inr, ◌≡◌, ◌≢◌, ℕ, zero, suc, ◌<◌, ◌≤◌, List, [], ◌∷◌, length, get_or, take, ap, ◌∙◌, refl, sym, subst, arith, Option, Some, None, true, false, Bool, zero-add}
 use Rattle.std.specs.Prelude.{not, ◌||◌, ◌&&◌, min, nat_lt, option_map}
 use Rattle.std.specs.List.{list_any, position_or_len, range_with_len}

@@ -1,4 +1,4 @@
--- What holds between two turns of the server, and a turn of it as its account has it.
+-- Invariants between two turns of the server, and a turn of its account.
 use Rattle.std.proofs.Common.{◌≡◌, ◌≤◌, ℕ, List, Option, sym, subst, ◌∙◌}
 use Rattle.iol_core.specs.declared.events.Reply.{Reply}
 use Rattle.iol_proc.specs.declared.process.Turn.{Turn}

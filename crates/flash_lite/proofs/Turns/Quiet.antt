@@ -1,4 +1,4 @@
--- No call of a client is answered by a copy of bytes.
+-- The reply to a call of a client is no copy of bytes.
 use Rattle.std.proofs.Common.{ℕ, Bool, true, false, List, Option, Some, None, sym, subst, if◌then◌else◌}
 use Rattle.iol_core.specs.declared.events.Call.TheVariants as call
 use Rattle.iol_core.specs.declared.events.Reply.{Reply}

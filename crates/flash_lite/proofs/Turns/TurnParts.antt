@@ -1,4 +1,4 @@
--- A turn, by what its parts come to.
+-- A turn, by the results of its parts.
 use Rattle.std.proofs.Common.{◌≡◌, ℕ, ◌+◌, ◌<◌, List, [], length, ap, ◌∙◌, refl, sym, subst, Option, Some, None, true, false, Bool}
 use Rattle.std.specs.Prelude.{not, ◌||◌, min, slice_set}
 use Rattle.std.proofs.lemmas.List.{get_or-set_same}

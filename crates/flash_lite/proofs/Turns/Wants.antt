@@ -1,4 +1,4 @@
--- Where a turn wants memory, by what its parts want.
+-- The need for memory of a turn, by that of its parts.
 use Rattle.std.proofs.Common.{◌≡◌, inl, inr, ℕ, ◌+◌, List, Bool, true, Option, Some, None, ap, ◌∙◌, refl, sym, subst}
 use Rattle.std.specs.Prelude.{min}
 use Rattle.iol_core.specs.NumberedLists.{in_place}

@@ -1,4 +1,4 @@
--- The processes of a site: their domains are different, and rise.
+-- The processes of a site: their domains are distinct, in ascending order.
 use Rattle.std.proofs.Common.{◌≡◌, ◌∙◌, ℕ, zero, suc, ◌+◌, ◌<◌, List, [], ◌∷◌, ◌++◌, length, map, nat_eq, refl, sym, ap, subst, arith, append_assoc, append-nil, zero-add, Some, false}
 use Rattle.std.specs.List.{AllByRecursion, IsDistinct, range_with_len, slice_get}
 use Rattle.std.proofs.lemmas.Bool.Decides.{nat_tests}

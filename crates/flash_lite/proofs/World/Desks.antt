@@ -1,4 +1,4 @@
--- Each worker of a site that was set up has its desk.
+-- Each worker of a site that was set up has its job pipe.
 use Rattle.std.proofs.Common.{◌≡◌, ◌∙◌, ℕ, suc, ◌+◌, ◌<◌, List, map, replicate, refl, ap, arith, Option, Some, None}
 use Rattle.std.specs.Prelude.{unwrap_or}
 use Rattle.std.specs.List.{range_with_len}

@@ -1,4 +1,5 @@
--- The machine of a site that was set up is fixed: its files are those of the shelf, and the net is the server's alone.
+-- The machine of a site that was set up meets the fixed conditions: its files are those of the site contents, and only the
+-- server may read the net.
 use Rattle.std.proofs.Common.{◌≡◌, ◌≢◌, ℕ, zero, suc, ◌+◌, ◌==◌, ◌≤◌, ◌<◌, List, [], ◌∷◌, length, map, get_or, refl, sym, subst, ap, ◌∙◌, arith, Option, Some, None, true, false, Bool}
 use Rattle.std.specs.Prelude.{◌||◌, not, bytes_eq, position, option_map, slice_index_or, if◌then◌else◌}
 use Rattle.std.specs.List.{range_with_len, slice_get, list_any}

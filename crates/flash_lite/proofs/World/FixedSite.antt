@@ -1,4 +1,5 @@
--- The machine of a site that was set up is fixed for the law over whole worlds: for the server and for each worker.
+-- The machine of a site that was set up meets the fixed conditions of the law over whole worlds: for the server and for each
+-- worker.
 use Rattle.std.proofs.Common.{◌≡◌, ℕ, zero, suc, ◌+◌, ◌-◌, ◌==◌, ◌≤◌, ◌<◌, List, [], length, map, refl, sym, subst, ap, ◌∙◌, arith, Option, Some, None, true, false, Bool}
 use Rattle.std.specs.Prelude.{◌||◌, not, bytes_eq, nat_lt, option_map, position, slice_index_or, if◌then◌else◌}
 use Rattle.std.specs.List.{list_any, range_with_len, slice_get}
@@ -11,12 +12,12 @@ use Rattle.iol_core.specs.NumberedLists.{is_numbered, numbered_or}
 use Rattle.iol_core.specs.Positions.{ArePlaced}
 use Rattle.iol_core.specs.State.{File, content, domain, file, is_pool, may_read, no_pool, pool}
 use Rattle.iol_core.specs.declared.limits.TheConstants.{MAX_FILE_BYTES}
-use Rattle.iol_core.specs.declared.refusals.Refusal.{Refusal}
 use Rattle.iol_core.specs.declared.refusals.Refusal.TheVariants.{Denied}
 use Rattle.iol_laws.specs.DescriptorNumbers.{AreLow}
 use Rattle.flash_cgi.specs.Outcomes.{AreFiles, outcome_in, outcome_of}
 use Rattle.flash_cgi.specs.Output.{Found, Failed}
 use Rattle.flash_cgi.specs.OutputPools.{HoldFiles}
+use Rattle.flash_laws.specs.Shelf.{Refusals}
 use Rattle.flash_laws.specs.Workers.Crew.{IsFixedFor}
 use Rattle.flash_lite.specs.Crew.{crew_of, is_shown, is_work}
 use Rattle.flash_lite.specs.Library.{library_of, seen, seen_at, seen_of}
@@ -184,7 +185,7 @@ module _ (s : Site) (slots : List (List ℕ)) where
   among : (k : ℕ) → k < workers_used s → k + 2 < 2 + s.workers
   among k lt = (let all = used_within s in omega (arith, lt, all))
 
-  pub fixed_for : (refuses : Refusal → Bool) → is_in_range s ≡ true → HasAccess (state_of s slots) → ArePlaced (state_of s slots) → AreLow (state_of s slots)
+  pub fixed_for : (refuses : Refusals) → is_in_range s ≡ true → HasAccess (state_of s slots) → ArePlaced (state_of s slots) → AreLow (state_of s slots)
       → ((i : ℕ) → i < length s.files.items → length (content (state_of s slots) (i + 1)) ≤ MAX_FILE_BYTES)
       → IsFixedFor (library_of s slots refuses) (crew_of s) (state_of s slots)
   unfolding domain

@@ -1,4 +1,5 @@
--- Harmless choices are mild in a tied world, and what holds of a run that ends with turns holds of what was before them.
+-- Harmless choices are mild in a world with the invariant, and properties of a run that ends with turns apply to the run before
+-- them.
 use Rattle.std.proofs.Common.{◌≡◌, ◌<◌, ℕ, zero, suc, ◌+◌, ◌%◌, List, [], ◌∷◌, ◌++◌, length, map, ap, ◌∙◌, refl, sym, subst, arith, Some, true, false, Bool, slice_get, slice_index, append-nil, append_assoc}
 use Rattle.std.specs.List.{AllByRecursion}
 use Rattle.iol_core.specs.State.{State, conn_at}
@@ -7,7 +8,6 @@ use Rattle.iol_core.specs.declared.events.Call.{Call}
 use Rattle.iol_core.specs.declared.events.Call.TheVariants as call
 use Rattle.iol_core.specs.declared.events.Event.TheVariants as event
 use Rattle.iol_core.specs.declared.events.Reply.{Reply}
-use Rattle.iol_core.specs.declared.refusals.Refusal.{Refusal}
 use Rattle.iol_laws.specs.Frame.{changes_files, admits_to}
 use Rattle.iol_proc.specs.Idle.{Went, rounds}
 use Rattle.iol_proc.specs.Turns.{Account}
@@ -20,7 +20,7 @@ use Rattle.flash_laws.specs.Workers.Crew.{Crew}
 use Rattle.flash_laws.specs.Site.Past.{Past}
 use Rattle.flash_laws.specs.Serves.Rounds.{in_rounds}
 use Rattle.flash_laws.specs.Site.ClientTies.{AreAnswered}
-use Rattle.flash_laws.specs.Shelf.{Shelf, IsAnswer}
+use Rattle.flash_laws.specs.Shelf.{Shelf, IsAnswer, Refusals}
 use Rattle.flash_laws.specs.Site.{server, SiteStays}
 use Rattle.flash_laws.specs.World.Tie.{past_of, Actor, Serving, actor_turns}
 use Rattle.flash_laws.specs.World.{AreFair, Tied, IsServing, as_actor, StepKeepsTie}
@@ -53,9 +53,9 @@ seat-there [] i s is = absurd (cc (is))
 seat-there {W = W} (x ∷ xs) zero s is = (x, refl, ap (λ (v : Seat (Actor W)). v.by) (sym (some-inj (as_actor x) s is)))
 seat-there (x ∷ xs) (suc i) s is = seat-there xs i s is
 
-fair-parts : (refuses : Refusal → Bool) (x : Choice) (r : Reply) (xs : List Choice) (rs : List Reply)
+fair-parts : (refuses : Refusals) (x : Choice) (r : Reply) (xs : List Choice) (rs : List Reply)
     → AreFair refuses (x ∷ xs) (r ∷ rs) → AreFair refuses (x ∷ []) (r ∷ []) × AreFair refuses xs rs
-fair-parts refuses (choice.Turn by) r xs rs fair = ((fair.0, fair.1, tt), fair.2)
+fair-parts refuses (choice.Turn by) r xs rs fair = ((fair.0, tt), fair.1)
 fair-parts refuses (choice.Outside e) r xs rs fair = (tt, fair)
 
 module _ (shelf : Shelf) (crew : Crew) where

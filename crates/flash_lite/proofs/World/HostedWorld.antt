@@ -1,4 +1,4 @@
--- A world of a site's processes that was just made is that of the site, and what it then does is hosted.
+-- A new world of a site's processes is that of the site, and its run is hosted.
 use Rattle.std.proofs.Common.{◌≡◌, ℕ, List, map, ap, subst, ◌∙◌, IsPermutation, Bool, false}
 use Rattle.iol_core.specs.Positions.{ArePlaced}
 use Rattle.iol_core.specs.State.{State, new_state}

@@ -1,4 +1,4 @@
--- The seats of a site's processes: in a world they rise by domain, so they stand as the processes were given.
+-- The seats of a site's processes: in a world they are in ascending order of domains, which is the given order.
 use Rattle.std.proofs.Common.{◌≡◌, ◌∙◌, inl, inr, ℕ, suc, ◌<◌, List, [], ◌∷◌, map, refl, sym, ap, subst, arith, IsPermutation}
 use Rattle.std.specs.Prelude.{◌⊎◌}
 use Rattle.std.specs.List.{AllByRecursion}

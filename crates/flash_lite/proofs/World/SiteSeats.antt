@@ -1,4 +1,4 @@
--- The workers of a site at their seats.
+-- The workers of a site in their seats.
 use Rattle.std.proofs.Common.{◌≡◌, ℕ, zero, suc, ◌<◌, List, [], ◌∷◌, length, map, refl, ap, ◌∙◌, arith, Some}
 use Rattle.std.specs.List.{slice_get}
 use Rattle.iol_core.specs.declared.events.Reply.TheVariants as reply

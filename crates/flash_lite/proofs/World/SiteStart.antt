@@ -1,4 +1,4 @@
--- How the world of a site starts over any store, why none does, and that what it does then is a chain of the system's steps.
+-- The start of the world of a site over any store, the reasons for its refusal, and its run as a chain of the system's steps.
 use Rattle.std.proofs.Common.{◌≡◌, ◌∙◌, inl, inr, ℕ, List, [], ◌∷◌, ◌++◌, map, sym, ap, subst, Bool, false, IsPermutation}
 use Rattle.std.specs.Prelude.{◌*◌, replicate}
 use Rattle.iol_arena.specs.State.{no_entry}

@@ -6,7 +6,6 @@ use Rattle.iol_core.specs.Positions.{ArePlaced}
 use Rattle.iol_core.specs.Run.{Run}
 use Rattle.iol_core.specs.State.{Domain, Pipe, State, conn_at, domain, new_state}
 use Rattle.iol_core.specs.Text.{Text}
-use Rattle.iol_core.specs.declared.refusals.Refusal.{Refusal}
 use Rattle.iol_laws.specs.Caller.{lent_at}
 use Rattle.iol_laws.specs.DescriptorNumbers.{AreLow, DescriptorsComeByReplies}
 use Rattle.iol_laws.specs.Order.{IsOrderly, EachStepKeepsOrder}
@@ -14,6 +13,7 @@ use Rattle.iol_laws.proofs.Runs.{run_keeps}
 use Rattle.iol_proc.specs.declared.seat.Seat.{Seat}
 use Rattle.flash_cgi.specs.Free.{HasNoJob, WorkersStayFree}
 use Rattle.flash_cgi.specs.declared.worker.Worker.{Worker}
+use Rattle.flash_laws.specs.Shelf.{Refusals}
 use Rattle.flash_laws.specs.Run.{worker_domain}
 use Rattle.flash_laws.specs.Site.{server}
 use Rattle.flash_laws.specs.World.Tie.{Actor}
@@ -60,7 +60,7 @@ module _ (orders : EachStepKeepsOrder) (descriptors : DescriptorsComeByReplies) 
     unfolding domain
     no_aggregate a = refl
 
-    new_by : (seats : List (Seat (Actor Worker))) (rough : Bool) (refuses : Refusal → Bool) → is_in_range s ≡ true → Led (Just slots) s slots (state_of s slots) → HasCrew s seats → IsOrderly (state_of s slots)
+    new_by : (seats : List (Seat (Actor Worker))) (rough : Bool) (refuses : Refusals) → is_in_range s ≡ true → Led (Just slots) s slots (state_of s slots) → HasCrew s seats → IsOrderly (state_of s slots)
         → HasAccess (state_of s slots) → ArePlaced (state_of s slots) → AreLow (state_of s slots) → IsNew (library_of s slots refuses) (crew_of s) (record { machine = state_of s slots; seats = seats; rough = rough })
     unfolding conn_at
     new_by seats rough refuses fits l has order access placed low = record {

@@ -1,23 +1,21 @@
 use Rattle.std.proofs.Common.{ℕ, List, [], Bool}
 use Rattle.iol_core.specs.State.{State}
 use Rattle.iol_core.specs.declared.events.Reply.{Reply}
-use Rattle.iol_core.specs.declared.refusals.Refusal.{Refusal}
 use Rattle.iol_proc.specs.World.{Stage, domains_of}
 use Rattle.iol_proc.specs.declared.choice.Choice.{Choice}
 use Rattle.flash_cgi.specs.declared.worker.Worker.{Worker}
+use Rattle.flash_laws.specs.Shelf.{Refusals}
 use Rattle.flash_laws.specs.Serves.Rounds.{in_rounds}
 use Rattle.flash_laws.specs.World.Tie.{Actor, actor_turns}
-use Rattle.flash_laws.specs.World.Fair.{any_refusal, no_refusal, FilesAreFair}
-use Rattle.flash_lite.specs.Crew.{crew_of, is_shown, is_work}
+use Rattle.flash_laws.specs.World.Fair.{any_refusal, no_refusal}
+use Rattle.flash_lite.specs.Crew.{crew_of}
 use Rattle.flash_lite.specs.Harmless.{HarmlessIsMild, IsRightNow}
-use Rattle.flash_lite.specs.HostedSite.{Hosts, IsRightAfter}
+use Rattle.flash_lite.specs.HostedSite.{Hosts, IsRightAfter, refusals_of}
 use Rattle.flash_lite.specs.Library.{library_of}
-use Rattle.flash_lite.specs.Setup.{workers_used}
 use Rattle.flash_lite.specs.Workers.{worker_turns}
 use Rattle.flash_lite.specs.declared.site.Site.{Site}
-use Rattle.flash_lite.proofs.World.FairTurns.{files-choices, smooth-turns}
+use Rattle.flash_lite.proofs.World.FairTurns.{any-turns, own-turns, smooth-turns}
 use Rattle.flash_lite.proofs.World.Harmless.{all-mild, right-before, run-even}
-use Rattle.flash_lite.proofs.World.SiteWorld.{desks_apart}
 use Rattle.flash_lite.proofs.laws.harmless_is_right.Goals as goal
 
 are-mild : goal.After-runs_are_fair → HarmlessIsMild
@@ -26,14 +24,11 @@ are-mild c s slots xs rs turns idle after hosts refuses harmless fair =
     (c.connections_do_not_meet.ensures.first s (library_of s slots refuses) hosts.first (hosts.new.new refuses)) fair harmless
 
 before : (s : Site) (slots : List (List ℕ)) (xs : List Choice) (rs : List Reply) (turns : ℕ) (idle : Bool) (after : Stage State (Actor Worker))
-    (hosts : Hosts s slots xs rs turns idle after) (refuses : Refusal → Bool) → IsRightAfter s slots xs rs turns idle after hosts refuses
+    (hosts : Hosts s slots xs rs turns idle after) (refuses : Refusals) → IsRightAfter s slots xs rs turns idle after hosts refuses
     → IsRightNow s slots xs rs turns idle after hosts refuses
 before s slots xs rs turns idle after hosts refuses right =
     right-before (library_of s slots refuses) (crew_of s) (domains_of hosts.mid.seats) xs rs hosts.ends.went idle after
     (run-even (actor_turns in_rounds worker_turns) xs rs hosts.first hosts.mid hosts.run) right
-
-files-fair : (c : goal.After-runs_are_fair) (s : Site) → FilesAreFair (crew_of s)
-files-fair c s = c.runs_are_fair.ensures.files (workers_used s) (λ k. k) is_shown is_work (desks_apart s)
 
 pub returns-clause-mild : goal.returns-clause-mild
 returns-clause-mild c = are-mild c
@@ -47,8 +42,13 @@ returns-clause-right c = λ s slots xs rs turns idle after hosts.
           let fair = smooth-turns s slots xs rs turns idle after hosts c.runs_are_fair.ensures.smooth c.smooth_runs.ensures smooth in
           before s slots xs rs turns idle after hosts no_refusal
           (hosted.smooth (are-mild c s slots xs rs turns idle after hosts no_refusal harmless fair.0) smooth);
-      files = λ harmless none.
-          let fair = files-choices s slots xs rs turns idle after hosts (files-fair c s) none (c.connections_do_not_meet.ensures.first s) in
+      own = λ harmless.
+          let refuses = refusals_of s slots xs rs turns idle after hosts in
+          let fair = own-turns s slots xs rs turns idle after hosts c.runs_are_fair.ensures.own in
+          before s slots xs rs turns idle after hosts refuses
+          (hosted.own (are-mild c s slots xs rs turns idle after hosts refuses harmless fair.0));
+      any = λ harmless.
+          let fair = any-turns s slots xs rs turns idle after hosts c.runs_are_fair.ensures.any in
           before s slots xs rs turns idle after hosts any_refusal
-          (hosted.files (are-mild c s slots xs rs turns idle after hosts any_refusal harmless fair) none);
+          (hosted.any (are-mild c s slots xs rs turns idle after hosts any_refusal harmless fair.0));
     }
