@@ -43,7 +43,7 @@ pub record LeavesFiles (m : State) (d : ℕ) (n : State) : Type 0 where
 pub record LeavesJobs (m : State) (seat : Seat Worker) (n : State) : Type 0 where
   pub same : (j : ℕ) → IsFree m seat → descriptor m seat.by 0 ≡ Some (on.ReadEnd j) → pipe_at n j ≡ pipe_at m j
 
--- Bytes removed from its output pipe were the front of the pending output. If files are unchanged, so are the outcomes to come.
+-- Bytes removed from its output pipe were the front of the pending output. If files are unchanged, the outcomes to come are unchanged.
 pub record Hears (m n : State) (p : ℕ) (seat : Seat Worker) (unseen : List Outcome → List ℕ)
     (was : RunsJob m p seat unseen) (heard : List ℕ) : Type 0 where
   pub after : List Outcome → List ℕ

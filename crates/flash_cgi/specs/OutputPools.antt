@@ -39,7 +39,7 @@ OneLies pools m d (Some a) = lie_in pools (text m d a) ≡ true
 abbrev pub PieceLies : (pools : ℕ → Bool) → State → (d : ℕ) → Collected → Type 0
 PieceLies pools m d x = OneLies pools m d x.held × OneLies pools m d x.next
 
--- so are the file that it reads, and the bytes that it writes
+-- the same for the file that it reads, and the bytes that it writes
 abbrev pub PhaseLies : (pools : ℕ → Bool) → State → (d : ℕ) → Doing → Type 0
 PhaseLies pools m d (doing.Reads fd u) =
     (f at : ℕ) (mode : Mode) → descriptor m d fd ≡ Some (on.File f at mode) → pools (file m f).pool ≡ true
@@ -70,7 +70,7 @@ pub record OutputsAreShown : Type 0 where
   -- for a worker that is free, and a pipe to which no other bytes were written
   pub free : (pools : ℕ → Bool) (m : State) (p : ℕ) (seat : Seat Worker) → IsFree m seat
       → pools (default_pool m seat.by) ≡ true → lie_in pools (pipe_at m p).queue ≡ true → IsShown pools m p seat
-  -- its turns preserve this, and so do events of others
+  -- its turns and events of others preserve this
   pub turns : (pools : ℕ → Bool) (m n : State) (p : ℕ) (seat next : Seat Worker) (yields : Bool) (r : Reply)
       (unseen : List Outcome → List ℕ) → IsOrderly m → HoldFiles pools m seat.by → RunsJob m p seat unseen
       → IsShown pools m p seat → SeatTurn copying worker_turns m seat yields r n next → IsShown pools n p next

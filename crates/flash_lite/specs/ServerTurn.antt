@@ -74,7 +74,7 @@ abbrev pub is_worker : Option ℕ → (worker : ℕ) → Bool
 is_worker None worker = false
 is_worker (Some k) worker = k == worker
 
--- the first free one of workers, or their number if none is free
+-- the first free one of workers, or their number if all are busy
 abbrev pub first_in : (workers : ℕ) → (free : List Bool) → ℕ
 first_in workers free = position_or_len (λ b. b) (take workers free)
 

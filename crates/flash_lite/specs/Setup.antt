@@ -89,13 +89,13 @@ first_refusal [] = None
 first_refusal (reply.Refused x ∷ rs) = Some x
 first_refusal (r ∷ rs) = first_refusal rs
 
--- the machine makes all these calls, and none is refused
+-- the machine makes all these calls, without refusal
 pub record SetsUp (s : Site) (old new : State) : Type 0 where
   pub replies : List Reply
   pub run : Run old (calls s) replies new
   pub passed : first_refusal replies ≡ None
 
--- a system makes them, and none is refused
+-- a system makes them, without refusal
 pub record IsMade (s : Site) (old new : SystemState) : Type 0 where
   pub replies : List Reply
   pub chain : Chain old (calls s) replies new

@@ -12,7 +12,7 @@ fn first_of(free: &[bool]) -> Option<usize>
     free.iter().position(|free| *free)
 }
 
-/// The first free one of `workers` workers, or their number if none is free.
+/// The first free one of `workers` workers, or their number if all are busy.
 #[tactic(auto, using(crate::proofs::Turns::Firsts::first_some, crate::proofs::Turns::Firsts::first_none))]
 pub(crate) fn first_free(free: &[bool; 8], workers: u32) -> u32
     requires { workers ≤ MAX_WORKERS }

@@ -39,7 +39,7 @@ pub record SetsSizes (words : List ℕ) (old new : Setup) : Type 0 where
   pub fault : new.fault ≡ old.fault
   pub slots : new.slots ≡ old.slots
 
--- the number of the store call that fails is set, counted from 1, if none was given
+-- the number of the store call that fails is set, counted from 1, unless it was given before
 pub record SetsFault (numeral : List ℕ) (old new : Setup) : Type 0 where
   pub number : IsLong numeral
   pub some : 0 < value numeral

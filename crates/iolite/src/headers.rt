@@ -68,7 +68,7 @@ impl Setup {
         Ok(())
     }
 
-    // Sets the number of the store call that fails, if none was given.
+    // Sets the number of the store call that fails, unless it was given before.
     fn set_fault(&mut self, word: &str) -> Result<(), HeaderError>
         ensures { Takes (SetsFault word.now self.old) self.new result }
     {

@@ -48,7 +48,7 @@ abbrev pub flight_to : {A : Type 0} → List (Option A) → Option ℕ → Fligh
 flight_to conns (Some fd) = At fd
 flight_to conns None = door conns
 
--- more are accepted until none is waiting
+-- more are accepted while any are waiting
 abbrev pub flight_past : {A : Type 0} → List (Option A) → Reply → Flight
 flight_past conns (reply.Fd fd) = door conns
 flight_past conns r = Nothing

@@ -71,7 +71,7 @@ module _ (shelf : Shelf) (crew : Crew) where
     -- a number that is still to come has no history, and no peer that left
     pub fresh : (c : ℕ) → m.next_conn ≤ c → (p.came c ≡ []) × (p.sent c ≡ []) × (p.net c ≡ false)
     pub untold : (c : ℕ) → m.next_conn ≤ c → p.gone c ≡ false
-    -- no worker runs two scripts, and each that runs none is free
+    -- no worker runs two scripts, and each other worker is free
     pub own : EachHasItsOwn crew.count clients
     pub free : (k : ℕ) (seat : Seat crew.Worker) → slice_get seats k ≡ Some seat → is_free clients k ≡ true
         → crew.Free m (crew.desk k) seat

@@ -53,7 +53,7 @@ SmoothIsFair = (xs : List Choice) (rs : List Reply) → AreSmooth xs rs → AreF
 abbrev pub AnyIsFair : Type 0
 AnyIsFair = (xs : List Choice) (rs : List Reply) → AreFair any_refusal xs rs
 
--- They are fair if the refusals that their turns got are allowed, and so is each part of them.
+-- They are fair if the refusals that their turns got are allowed, and each part of them is fair, too.
 abbrev pub OwnIsFair : Type 0
 OwnIsFair = (xs ys : List Choice) (rs ss : List Reply) → length xs ≡ length rs
     → AreFair (refusals_in (xs ++ ys) (rs ++ ss)) xs rs × AreFair (refusals_in (xs ++ ys) (rs ++ ss)) ys ss

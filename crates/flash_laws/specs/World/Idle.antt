@@ -22,7 +22,7 @@ use Rattle.flash_laws.specs.World.Tie.{Actor, Serving, Working}
 abbrev pub WouldWait : State → (by : ℕ) → Call → Type 0
 WouldWait m by k = StepsTo m (event.Call by k) (reply.Refused no.WouldBlock) m
 
--- a client has no request that could begin, and waits for a worker while none is free, or its call would block
+-- a client has no request that could begin, and waits for a worker while all are busy, or its call would block
 abbrev pub Blocks : State → (by workers : ℕ) → List (Option Client) → (place : ℕ) → Client → Type 0
 Blocks m by workers clients place x = IsAwaiting x
     × ((may_go (has_free workers clients) x ≡ false) ⊎ WouldWait m by (wants (runs_scripts workers) place x))
