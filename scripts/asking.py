@@ -3,11 +3,13 @@ import random
 
 from model.http import WINDOW
 
-DRAWN = 20
+DRAWN = 25
+SIZES = (0, 1, 100, 4000, 4063, 4064, 4065, 4096)  # bytes of a piece of output: a worker's page holds 4,064 of text
+MOST_TEXT = 32_000  # bytes of the drawn lines of a script, which may have 32,768
 FILES = {
     "index.html": b"hi\n", "empty.txt": b"", "f.txt": b"0123456789" * 10, "a b.css": b"a{}\n", "\u00fc.js": b"1\n",
     "large.bin": bytes(range(251)) * 280, "%41.json": b"{}", "x.png": b"\x89PNG", "y.jpg": b"\xff\xd8",
-    "plain": b"\0\r\n\r\n",
+    "plain": b"\0\r\n\r\n", **{f"{size}.txt": (b"abcdefg\n" * 509)[:size] for size in (1, 4063, 4064, 4065)},
 }
 SCRIPTS = {
     "all.cgi": b"emit hi\n\nquery\ncat f.txt\nwc f.txt\npause\ncat none\nwc none\nemit", "empty.cgi": b"", ".cgi": b"emit\n",
@@ -33,18 +35,22 @@ RAW = {*range(0x21, 0x7F)} - {*b"#<>?`%"}  # bytes that may stand in a path
 
 
 def drawn_script(chance):
-    """A script of some lines."""
+    """A script of some lines, or of many, whose pieces of output have any size."""
     names = [*FILES, *SCRIPTS, "none"]
     lines = {
-        "emit": lambda: b"emit " + b"z" * chance.choice((0, 1, 100, 4000, 4096)),
+        "emit": lambda: b"emit " + b"z" * max(0, chance.choice(SIZES) - 1),
         "query": lambda: b"query",
         "pause": lambda: b"pause",
         "cat": lambda: b"cat " + chance.choice(names).encode(),
         "wc": lambda: b"wc " + chance.choice(names).encode(),
         "none": lambda: b"",
     }
-    drawn = [lines[chance.choice((*lines, "emit", "cat"))]() for _ in range(chance.choice((1, 3, 6)))]
-    return b"\n".join(drawn) + b"\n" * chance.choice((0, 1))
+    drawn = b""
+    for _ in range(chance.choice((1, 3, 6, 6, 60))):
+        line = lines[chance.choice((*lines, "emit", "cat"))]() + b"\n"
+        if len(drawn + line) <= MOST_TEXT:
+            drawn += line
+    return drawn if chance.random() < 0.5 else drawn.removesuffix(b"\n")
 
 
 def drawn_scripts():

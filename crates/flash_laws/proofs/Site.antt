@@ -10,5 +10,6 @@ pub mod WorkersRun
 pub mod BlockedClients
 pub mod IdleMoments
 pub mod Rounds
+pub mod FairTurns
 pub mod MildTurns
 pub mod OneAnswer

@@ -219,3 +219,12 @@ is_bare x = by x.run
     by : Option Running → Bool
     by None = policy.is_bare x.conn
     by (Some y) = false
+
+-- whether all of its response is taken, by a file's or by its script's, and more of its stream is kept
+abbrev pub has_answered : Client → Bool
+has_answered x = by x.run
+  where
+    by : Option Running → Bool
+    by None = policy.has_answered x.conn
+    by (Some (Leaves d)) = policy.has_answered (record x.conn { doing = d })
+    by (Some y) = false

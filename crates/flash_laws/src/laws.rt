@@ -1,5 +1,6 @@
 //! Laws of the server's calls and turns. The functions have no effect; their contracts are the
 //! laws.
+ghost use Rattle.flash_laws.specs.Serves.FairTurns.{TurnsAreFair};
 ghost use Rattle.flash_laws.specs.Serves.GoesRound.{TurnsGoRound};
 ghost use Rattle.flash_laws.specs.Conn.Holdings.{KeepsNothing};
 ghost use Rattle.flash_laws.specs.Conn.OfferedBytes.{OffersTheResponse};
@@ -44,12 +45,21 @@ pub fn site_law()
 }
 
 /// Turns are given in rounds. A client is passed over if its call is to be retried later, if it
-/// waits for a worker, or if it only reads more input; the next turn is that of the first client
-/// after it that may take one. After the last client, connections are accepted while any are
-/// waiting, and then the server yields. So a client waits for another only while the server
-/// advances that one's response.
+/// waits for a worker, if its response was taken whole while more of its input is buffered, or if
+/// it only reads more input; the next turn is that of the first client after it that may take one.
+/// After the last client, connections are accepted while any are waiting, and then the server
+/// yields. So a client waits for another only while the server advances one response of that one.
 pub fn rounds_law()
     ensures { TurnsGoRound }
+{}
+
+/// Turns are fair: from the turn whose reply completes a response of a client, to the turn in
+/// which the same client begins its next request, each other client that may take a turn
+/// throughout takes one. So no client, however many requests it pipelines, gets two responses
+/// while another client that can proceed waits for a turn. The law is about any consecutive turns
+/// of the server's account.
+pub fn turns_are_fair()
+    ensures { TurnsAreFair }
 {}
 
 /// Each running script has a worker of its own, whichever call the server picks: this holds for a

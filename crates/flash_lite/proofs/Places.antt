@@ -247,6 +247,7 @@ door_left clients fd x l there =
     by (left.Goes d) = going d (left_with x (left.Goes d))
     by (left.Ends d) = ap (λ k. door_to clients k) (same d) ∙ going d (left_with x (left.Ends d))
     by left.Begins = kept (left_with x left.Begins)
+    by (left.Continues d) = kept (left_with x (left.Continues d))
     by left.Stays = kept x
 
 -- ---- the policy

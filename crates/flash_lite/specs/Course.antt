@@ -8,7 +8,8 @@ use Rattle.flash_http.specs.Request.{Answer, serve, refuse}
 use Rattle.flash_laws.specs.Client.{Client, Readies, can_run, conn_told, file_told, is_for_script, kept_if, left_over, run_told, run_wants, told, wants}
 use Rattle.flash_laws.specs.Client.Wants.{WantsOn, needs_memory}
 use Rattle.flash_laws.specs.Site.OtherConns.{left_by}
-use Rattle.flash_laws.specs.Conn.{most_read, is_head_only}
+use Rattle.flash_laws.specs.Conn.{Conn, most_read, is_head_only}
+use Rattle.flash_laws.specs.Conn.Policy.{has_answered}
 use Rattle.flash_laws.specs.Conn.Wants as wanting
 use Rattle.flash_laws.specs.Serves.Rounds.{leaves_off}
 use Rattle.flash_laws.specs.Run as running
@@ -19,13 +20,13 @@ use Rattle.flash_laws.specs.declared.phase.Learnt.TheVariants.{Text}
 use Rattle.flash_laws.specs.declared.phase.Doing.{Doing}
 use Rattle.flash_laws.specs.declared.phase.Doing.TheVariants.{Reads, Shuts, Spares, Heads}
 use Rattle.flash_laws.specs.declared.script_run.Running.{Running}
-use Rattle.flash_laws.specs.declared.script_run.Running.TheVariants.{Awaits}
+use Rattle.flash_laws.specs.declared.script_run.Running.TheVariants.{Awaits, Leaves as Parts}
 use Rattle.flash_lite.specs.Onward as conn
 use Rattle.flash_lite.specs.Runs.{IsSmallRunning, run_worker}
 use Rattle.flash_lite.specs.declared.client.Course.{Course}
 use Rattle.flash_lite.specs.declared.client.Course.TheVariants.{Asks, Leaves}
 use Rattle.flash_lite.specs.declared.client.Left.{Left}
-use Rattle.flash_lite.specs.declared.client.Left.TheVariants.{Goes, Ends, Begins, Stays}
+use Rattle.flash_lite.specs.declared.client.Left.TheVariants.{Goes, Ends, Begins, Continues, Stays}
 use Rattle.flash_lite.specs.declared.scripts.Found.{Found}
 use Rattle.flash_lite.specs.declared.scripts.Found.TheVariants as tells
 
@@ -89,6 +90,11 @@ call_of_run fd x script y = run_wants fd x.conn.q script y
 abbrev pub with_run : Client → Running → (script : List ℕ) → Client
 with_run x y script = record { conn = x.conn; run = Some y; script = script }
 
+-- whether the response of this run was taken whole, and more input is buffered
+abbrev pub has_answered_by : Conn → Running → Bool
+has_answered_by c (Parts d) = has_answered (record c { doing = d })
+has_answered_by c y = false
+
 -- its run is over, and its connection is in this phase
 abbrev pub ended : Client → Doing → Client
 ended x d = record { conn = record x.conn { doing = d }; run = None; script = [] }
@@ -100,11 +106,13 @@ abbrev pub left_with : Client → Left → Client
 left_with x (Goes d) = record { conn = record x.conn { doing = d }; run = x.run; script = x.script }
 left_with x (Ends d) = ended x d
 left_with x Begins = record { conn = record x.conn { doing = Heads Script }; run = Some Awaits; script = x.script }
+left_with x (Continues d) = with_run x (Parts d) x.script
 left_with x Stays = x
 
 abbrev pub CanRest : Client → Left → Type 0
 CanRest x (Goes d) = conn.CanRest x.conn d
 CanRest x (Ends d) = conn.CanRest x.conn d
+CanRest x (Continues d) = GoesAsRun (Some (Parts d))
 CanRest x l = Unit {0}
 
 -- a client whose connection is over is removed

@@ -1,11 +1,11 @@
 -- The action of a connection after a reply to its call.
-use Rattle.std.specs.Prelude.{◌≡◌, ℕ, Bool, true, false, List, [], Some, drop}
+use Rattle.std.specs.Prelude.{◌≡◌, ℕ, ◌||◌, Bool, true, false, List, [], Some, drop}
 use Rattle.iol_core.specs.declared.events.Reply.{Reply}
 use Rattle.iol_core.specs.declared.events.Reply.TheVariants.{Agg}
 use Rattle.flash_http.specs.Request.{Answer}
 use Rattle.flash_http.specs.Window.{window_in}
 use Rattle.flash_laws.specs.Conn.{Conn, begins, told, told_rests, wants, Starts, Readies, IsAwaiting}
-use Rattle.flash_laws.specs.Conn.Policy.{is_later, is_bare, leaves_off}
+use Rattle.flash_laws.specs.Conn.Policy.{has_answered, is_later, is_bare, leaves_off}
 use Rattle.flash_laws.specs.Conn.Wants.{can_begin}
 use Rattle.flash_laws.specs.Site.OtherConns.{left_over}
 use Rattle.flash_laws.specs.declared.phase.Doing.{Doing}
@@ -64,7 +64,12 @@ Frees fd x (Leaves d) y = (d ≡ Rests) × (x.kept ≡ []) × (y ≡ x)
 abbrev pub WantsToStart : Conn → Type 0
 WantsToStart x = (is_bare (record x { doing = Rests }) ≡ false) × (can_begin (window_in x.kept) ≡ true)
 
+-- whether the turn passes to others in this phase: its call is to be retried later, or its response was taken whole and more input
+-- is buffered
+abbrev pub passes : Conn → Doing → Reply → Bool
+passes x d r = is_later r || has_answered (in_doing x d)
+
 -- From a phase that is not idle: it continues now or later.
 abbrev pub GoesWith : (fd : ℕ) → Conn → Reply → Doing → Onward → Conn → Type 0
-GoesWith fd x r d (Asks call) y = (is_later r ≡ false) × (y ≡ record x { doing = d }) × (call ≡ wants fd y)
-GoesWith fd x r d (Leaves e) y = (is_later r ≡ true) × (e ≡ d) × (y ≡ x)
+GoesWith fd x r d (Asks call) y = (passes x d r ≡ false) × (y ≡ in_doing x d) × (call ≡ wants fd y)
+GoesWith fd x r d (Leaves e) y = (passes x d r ≡ true) × (e ≡ d) × (y ≡ x)

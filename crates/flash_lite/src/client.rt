@@ -1,13 +1,15 @@
 //! One client: its connection, and the script that runs for the request in progress.
 //!
 //! A script is found like any file; then its run has the connection until all is sent.
-ghost use Rattle.std.specs.Prelude.{◌≡◌, ◌≢◌, ◌<◌, [], IfOk, IfSome, OnErr, None, Some, false, true};
+ghost use Rattle.std.specs.Prelude.{◌≡◌, ◌≢◌, ◌<◌, [], IfNone, IfOk, IfSome, OnErr, OnSome, None, Some, false, true};
 ghost use Rattle.flash_laws.specs.Client as spec;
 ghost use Rattle.flash_laws.specs.Prelude.{has_bytes, makes_bytes, makes_any, is_over};
 ghost use Rattle.flash_laws.specs.Conn as conn;
+ghost use Rattle.flash_laws.specs.Run.{is_left};
 ghost use Rattle.flash_laws.specs.declared.phase.Doing.TheVariants.{Rests, Over};
+ghost use Rattle.flash_laws.specs.declared.script_run.Running.TheVariants.{Leaves};
 ghost use Rattle.flash_lite.specs.Course.{CanRest, EndsRun, GoesOnAlone, GoesOnFile, GoesOnTold, HearsText, RunsOn, WantsToEnd};
-ghost use Rattle.flash_lite.specs.Course.{call_of_run, left_with, run_after, with_run, worker_of};
+ghost use Rattle.flash_lite.specs.Course.{call_of_run, has_answered_by, left_with, run_after, with_run, worker_of};
 ghost use Rattle.flash_lite.specs.HeardBytes.{heard};
 ghost use Rattle.flash_lite.specs.Runs.{IsSmallRunning};
 ghost use Rattle.flash_lite.specs.Small.{IsSmall};
@@ -37,6 +39,9 @@ pub enum Left {
 
     /// A run begins: it waits for a worker.
     Begins,
+
+    /// Its run continues with this phase of its response. It has no worker.
+    Continues { doing: Doing },
 
     /// Unchanged: its call is retried.
     Stays,
@@ -269,7 +274,7 @@ impl Client {
     // The run is over, and the connection continues in this phase.
     #[tactic(auto, using(crate::proofs::Responses::Clients::ends_asks, crate::proofs::Responses::Clients::ends_wants))]
     fn end_with(&mut self, scripts: bool, fd: Fd, doing: Doing) -> Result<Course, AllocError>
-        requires { (doing ≢ Rests) × (doing ≢ Over) × IsSmall doing }
+        requires { (doing ≢ Rests) × (doing ≢ Over) × IsSmall doing × (is_left doing ≡ false) }
         ensures { EndsRun scripts fd doing self.old (has_bytes doing ≡ true) result self.new }
     {
         let call = self.conn.proceed(fd, doing)?;
@@ -281,7 +286,7 @@ impl Client {
     // The run is over.
     #[tactic(auto, using(crate::proofs::Responses::Clients::over_leaves, crate::proofs::Responses::Clients::ends_wants))]
     fn end(&mut self, scripts: bool, fd: Fd, doing: Doing) -> Result<Course, AllocError>
-        requires { IsSmall doing }
+        requires { IsSmall doing × (is_left doing ≡ false) }
         ensures { EndsRun scripts fd doing self.old (WantsToEnd self.old doing) result self.new }
     {
         match doing {
@@ -297,7 +302,25 @@ impl Client {
         }
     }
 
-    // The action after the reply to the call of its run.
+    // The phase of a run whose response was taken whole, if more input is buffered.
+    fn answered(&self, running: &Running) -> Option<Doing>
+        ensures none { IfNone result (has_answered_by self.now.conn running.now ≡ false) }
+        ensures some { OnSome result (has_answered_by self.now.conn running.now ≡ true) }
+        ensures phase { IfSome result (λ doing. running.now ≡ Leaves doing) }
+    {
+        match *running {
+            Running::Leaves { doing } => {
+                if self.conn.has_answered(&doing) {
+                    Some(doing)
+                } else {
+                    None
+                }
+            }
+            _ => None,
+        }
+    }
+
+    // What it does after the reply to the call of its run.
     #[tactic(auto, using(crate::proofs::Responses::RunsOn::run_rules))]
     fn go_on_running(
         &mut self,
@@ -319,6 +342,9 @@ impl Client {
         let next = self.run_after(worker, &running, last, parts);
         if waits(&next) {
             return Ok(Course::Leaves(Left::Stays));
+        }
+        if let Some(doing) = self.answered(&next) {
+            return Ok(Course::Leaves(Left::Continues { doing }));
         }
         match after_run(&next) {
             Some(doing) => {
@@ -398,6 +424,7 @@ impl Client {
                 });
                 self.run = Some(Running::Awaits);
             }
+            Left::Continues { doing } => self.run = Some(Running::Leaves { doing }),
             Left::Stays => {}
         }
     }

@@ -53,7 +53,7 @@ pub(crate) fn ends(left: &Left) -> bool
     match *left {
         Left::Goes { doing } => matches!(doing, Doing::Over),
         Left::Ends { doing } => matches!(doing, Doing::Over),
-        Left::Begins | Left::Stays => false,
+        Left::Begins | Left::Continues { .. } | Left::Stays => false,
     }
 }
 

@@ -171,6 +171,7 @@ pub(crate) fn after_run(running: &Running) -> Option<Doing>
     ensures none { IfNone result (spec.is_over running.now ≡ false) }
     ensures over { OnSome result (spec.is_over running.now ≡ true) }
     ensures after { IfSome result (λ doing. doing ≡ client.after_run running.now) }
+    ensures left { IfSome result (λ doing. spec.is_left doing ≡ false) }
     ensures small { IfSome result IsSmall }
 {
     match *running {

@@ -48,6 +48,6 @@ pub(crate) fn worker_left(left: &Left, worker: Option<u32>) -> Option<u32>
 {
     match *left {
         Left::Goes { doing: _ } | Left::Stays => worker,
-        Left::Ends { doing: _ } | Left::Begins => None,
+        Left::Ends { doing: _ } | Left::Begins | Left::Continues { doing: _ } => None,
     }
 }

@@ -4,7 +4,7 @@ use Rattle.std.specs.Prelude.{nat_lt, position, option_map, ◌||◌}
 use Rattle.iol_core.specs.NumberedLists.{in_place, taken}
 use Rattle.iol_core.specs.declared.events.Reply.{Reply}
 use Rattle.iol_core.specs.declared.events.Reply.TheVariants as reply
-use Rattle.flash_laws.specs.Client.{Client, is_bare, awaits}
+use Rattle.flash_laws.specs.Client.{Client, is_bare, awaits, has_answered}
 use Rattle.flash_laws.specs.Serves.GoesRound.{IsAfter, IsBefore, TurnsGoRound}
 use Rattle.flash_laws.specs.Site.Places.{has_free, may_go}
 use Rattle.flash_laws.specs.Conn.Policy.{most_conns, is_later, door, flight_to}
@@ -44,14 +44,14 @@ from-there free clients from fd is = by (position (λ o. goes_in free o) (drop f
 looked-from : (workers : ℕ) (clients : List (Option Client)) (from fd : ℕ) → At fd ≡ flight_from workers clients from → from ≤ fd
 looked-from workers clients from fd is = from-there (has_free workers clients) clients from fd (picked-is clients (next_place workers clients from) fd is)
 
-no-earlier : (fd : ℕ) (x : Option Client) (last : Reply) → fd ≤ place_after fd x last
+pub no-earlier : (fd : ℕ) (x : Option Client) (last : Reply) → fd ≤ place_after fd x last
 no-earlier fd x last = by (leaves_off x last)
   where
     by : (b : Bool) → fd ≤ (if b then fd + 1 else fd)
     by true = omega arith
     by false = omega arith
 
-no-later : (fd gd : ℕ) (x : Option Client) (last : Reply) → gd < fd → place_after gd x last ≤ fd
+pub no-later : (fd gd : ℕ) (x : Option Client) (last : Reply) → gd < fd → place_after gd x last ≤ fd
 no-later fd gd x last lt = by (leaves_off x last)
   where
     by : (b : Bool) → (if b then gd + 1 else gd) ≤ fd
@@ -64,16 +64,17 @@ stays-on fd true le = absurd (omega (arith, le))
 stays-on fd false le = refl
 
 passes : (workers : ℕ) (clients : List (Option Client)) (fd : ℕ) (last : Reply) → in_rounds workers clients (At fd) last (At fd)
-    → (x : Client) × (in_place clients fd ≡ Some x) × (is_later last ≡ false) × (awaits x ≡ false) × (is_bare x ≡ false)
+    → (x : Client) × (in_place clients fd ≡ Some x) × (is_later last ≡ false) × (awaits x ≡ false) × (is_bare x ≡ false) × (has_answered x ≡ false)
 passes workers clients fd last is = by (in_place clients fd) refl (stays-on fd (leaves_off (in_place clients fd) last) (looked-from workers clients (place_after fd (in_place clients fd) last) fd is))
   where
     by : (o : Option Client) → in_place clients fd ≡ o → leaves_off o last ≡ false
-        → (x : Client) × (in_place clients fd ≡ Some x) × (is_later last ≡ false) × (awaits x ≡ false) × (is_bare x ≡ false)
+        → (x : Client) × (in_place clients fd ≡ Some x) × (is_later last ≡ false) × (awaits x ≡ false) × (is_bare x ≡ false) × (has_answered x ≡ false)
     by None at on = absurd (cc (on))
     by (Some x) at on =
-        let both = neither (is_later last) (awaits x || is_bare x) on in
-        let rest = neither (awaits x) (is_bare x) both.1 in
-        (x, at, both.0, rest.0, rest.1)
+        let both = neither (is_later last) (awaits x || (has_answered x || is_bare x)) on in
+        let rest = neither (awaits x) (has_answered x || is_bare x) both.1 in
+        let ends = neither (has_answered x) (is_bare x) rest.1 in
+        (x, at, both.0, rest.0, ends.1, ends.0)
 
 rises : (workers : ℕ) (clients : List (Option Client)) (fd gd : ℕ) (last : Reply) → in_rounds workers clients (At fd) last (At gd) → fd ≤ gd
 rises workers clients fd gd last is =

@@ -3,7 +3,7 @@ use Rattle.std.specs.Prelude.{◌≡◌, ◌≤◌, ◌<◌, ◌⊎◌, ℕ, fal
 use Rattle.iol_core.specs.NumberedLists.{in_place}
 use Rattle.iol_core.specs.declared.events.Reply.{Reply}
 use Rattle.iol_core.specs.declared.events.Reply.TheVariants as reply
-use Rattle.flash_laws.specs.Client.{Client, is_bare, awaits}
+use Rattle.flash_laws.specs.Client.{Client, is_bare, awaits, has_answered}
 use Rattle.flash_laws.specs.Site.Places.{has_free, may_go}
 use Rattle.flash_laws.specs.Conn.Policy.{is_later}
 use Rattle.flash_laws.specs.Serves.Rounds.{in_rounds}
@@ -22,11 +22,12 @@ IsBefore (At gd) fd = fd < gd
 IsBefore w fd = Unit {0}
 
 pub record TurnsGoRound : Type 0 where
-  -- a client takes the next turn, too, only if its call succeeded, it does not wait for a worker, and it does more than read
+  -- a client takes the next turn, too, only if its call succeeded, it does not wait for a worker, it does more than read, and
+  -- no response of it was taken whole while more input is buffered
   pub passes : (workers : ℕ) (clients : List (Option Client)) (fd : ℕ) (last : Reply)
       → in_rounds workers clients (At fd) last (At fd)
       → (x : Client) × (in_place clients fd ≡ Some x) × (is_later last ≡ false) × (awaits x ≡ false)
-      × (is_bare x ≡ false)
+      × (is_bare x ≡ false) × (has_answered x ≡ false)
   -- otherwise the next one has a higher index
   pub rises : (workers : ℕ) (clients : List (Option Client)) (fd gd : ℕ) (last : Reply)
       → in_rounds workers clients (At fd) last (At gd) → fd ≤ gd

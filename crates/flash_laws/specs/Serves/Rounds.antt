@@ -1,22 +1,24 @@
 -- The policy: the order of turns of clients, and the time at which the server yields.
 --
 -- A round goes over the clients by index, then accepts waiting connections, and ends with a yield. A client continues until its
--- call is to be retried later, it only reads more input, or it has to wait for a worker. A client that waits for a worker is
--- passed over while none is free; a worker that becomes free is assigned to the next waiting client by index.
+-- call is to be retried later, its response was taken whole while more input is buffered, it only reads more input, or it has to
+-- wait for a worker. A client that waits for a worker is passed over while no worker is free; a worker that becomes free is
+-- assigned to the next waiting client by index.
 use Rattle.std.specs.Prelude.{◌≡◌, ℕ, ◌+◌, ◌||◌, Bool, true, false, if◌then◌else◌, List, drop, position, Option, Some, None, option_map}
 use Rattle.iol_core.specs.NumberedLists.{in_place}
 use Rattle.iol_core.specs.declared.events.Reply.{Reply}
-use Rattle.flash_laws.specs.Client.{Client, is_bare, awaits}
+use Rattle.flash_laws.specs.Client.{Client, is_bare, awaits, has_answered}
 use Rattle.flash_laws.specs.Site.Places.{has_free, may_go}
 use Rattle.flash_laws.specs.Conn.Policy.{is_later, flight_to, flight_past}
 use Rattle.flash_laws.specs.Serves.{Policy}
 use Rattle.flash_laws.specs.declared.phase.Flight.{Flight}
 use Rattle.flash_laws.specs.declared.phase.Flight.TheVariants.{Nothing, Accepting, At}
 
--- whether its turn passes to the next: its call is to be retried later, it waits for a worker, or it only reads more input
+-- whether its turn passes to the next: its call is to be retried later, it waits for a worker, its response was taken whole
+-- while more input is buffered, or it only reads more input
 abbrev pub leaves_off : Option Client → Reply → Bool
 leaves_off None r = true
-leaves_off (Some x) r = is_later r || (awaits x || is_bare x)
+leaves_off (Some x) r = is_later r || (awaits x || (has_answered x || is_bare x))
 
 -- the index from which the next client is searched
 abbrev pub place_after : (fd : ℕ) → Option Client → Reply → ℕ

@@ -11,12 +11,13 @@ use Rattle.iol_core.specs.declared.events.Reply.{Reply}
 use Rattle.iol_core.specs.declared.events.Reply.TheVariants as reply
 use Rattle.flash_http.specs.Request.{Answer}
 use Rattle.flash_http.specs.Window.{window_in}
-use Rattle.flash_laws.specs.Client.{Client, Readies, is_bare, can_run, kept_if, conn_wants, conn_told, file_told, told_spares, is_for_script, left_over, wants, awaits}
+use Rattle.flash_laws.specs.Client.{Client, Readies, has_answered, is_bare, can_run, kept_if, conn_wants, conn_told, file_told, told_spares, is_for_script, left_over, wants, awaits}
 use Rattle.flash_laws.specs.Client.Wants.{Hears, ClientHears, needs_memory, WantsOn}
 use Rattle.flash_laws.specs.Conn as conn
 use Rattle.flash_laws.specs.Conn.{Conn, is_head_only}
 use Rattle.flash_laws.specs.Conn.Policy as policy
 use Rattle.flash_laws.specs.Conn.Policy.{is_later}
+use Rattle.flash_laws.specs.Run.{is_left}
 use Rattle.flash_laws.specs.Serves.Rounds.{leaves_off}
 use Rattle.flash_laws.specs.Site.OtherConns as tied
 use Rattle.flash_laws.specs.Conn.Wants as wanting
@@ -29,7 +30,7 @@ use Rattle.flash_lite.specs.Course.{whole, found, runs, text_heard, ended, left_
 use Rattle.flash_lite.specs.Onward as onward
 use Rattle.flash_lite.specs.declared.client.Course.{Course}
 use Rattle.flash_lite.specs.declared.client.Course.TheVariants.{Asks, Leaves}
-use Rattle.flash_lite.specs.declared.client.Left.TheVariants.{Goes, Ends, Begins, Stays}
+use Rattle.flash_lite.specs.declared.client.Left.TheVariants.{Goes, Ends, Begins, Continues, Stays}
 use Rattle.flash_lite.specs.declared.conn.Onward.TheVariants as going
 use Rattle.flash_lite.specs.declared.scripts.Found.TheVariants as tells
 
@@ -113,7 +114,7 @@ leaves_alone x y k r heard d none l is = record {
 
 leaves-now : (o : Option Client) (r : Reply) → is_later r ≡ false → leaves_off o r ≡ leaves_off o reply.Done
 leaves-now None r now = refl
-leaves-now (Some x) r now = ap (λ (b : Bool). b || (awaits x || is_bare x)) now
+leaves-now (Some x) r now = ap (λ (b : Bool). b || (awaits x || (has_answered x || is_bare x))) now
 
 pub course_reply : (scripts : Bool) (fd : ℕ) (t x : Client) (r : Reply) (o : Course) (y : Client) → is_later r ≡ false
     → IsCourse scripts fd t x reply.Done o y → IsCourse scripts fd t x r o y
@@ -124,6 +125,8 @@ course_reply scripts fd t x r (Leaves (Goes d)) y now c =
 course_reply scripts fd t x r (Leaves (Ends d)) y now c =
     record { passed = leaves-now (left_over t) r now ∙ c.passed; told_is = c.told_is; remains_is = c.remains_is; can_rest = c.can_rest; as_it_was = c.as_it_was }
 course_reply scripts fd t x r (Leaves Begins) y now c =
+    record { passed = leaves-now (left_over t) r now ∙ c.passed; told_is = c.told_is; remains_is = c.remains_is; can_rest = c.can_rest; as_it_was = c.as_it_was }
+course_reply scripts fd t x r (Leaves (Continues d)) y now c =
     record { passed = leaves-now (left_over t) r now ∙ c.passed; told_is = c.told_is; remains_is = c.remains_is; can_rest = c.can_rest; as_it_was = c.as_it_was }
 course_reply scripts fd t x r (Leaves Stays) y now c =
     record { passed = leaves-now (left_over t) r now ∙ c.passed; told_is = c.told_is; remains_is = c.remains_is; can_rest = c.can_rest; as_it_was = c.as_it_was }
@@ -309,23 +312,26 @@ pub rests_wants : (x : Client) → policy.is_bare (record x.conn { doing = Rests
     → (leaves_off (left_over (ended x Rests)) reply.Done ≡ false) × (needs_memory (ended x Rests) ≡ true)
 rests_wants x some begins = (some, begins)
 
-goes-ended : (kept : List ℕ) (q : Answer) (d : Doing) → d ≢ Rests → d ≢ Over → GoesOn (plain (at kept q d) []) reply.Done (plain (at kept q d) [])
-goes-ended kept q Rests busy on = absurd (busy refl)
-goes-ended kept q Over busy on = absurd (on refl)
-goes-ended kept q d busy on = record { on = refl; stays = refl; readies = (at kept q d, refl, refl) }
+goes-ended : (kept : List ℕ) (q : Answer) (d : Doing) → d ≢ Rests → d ≢ Over → is_left d ≡ false
+    → GoesOn (plain (at kept q d) []) reply.Done (plain (at kept q d) [])
+goes-ended kept q Rests busy on over = absurd (busy refl)
+goes-ended kept q Over busy on over = absurd (on refl)
+goes-ended kept q (Sent a taken more) busy on over = absurd (cc (over))
+goes-ended kept q d busy on over = record { on = refl; stays = refl; readies = (at kept q d, refl, refl) }
 
-pub ends_asks : (scripts : Bool) (fd : ℕ) (x y : Client) (d : Doing) (k : Call) → d ≢ Rests → d ≢ Over → y ≡ ended x d
+pub ends_asks : (scripts : Bool) (fd : ℕ) (x y : Client) (d : Doing) (k : Call) → d ≢ Rests → d ≢ Over → is_left d ≡ false → y ≡ ended x d
     → k ≡ conn_wants (is_for_script scripts y.conn.q) fd y.conn → GoesOn (ended x d) reply.Done y × (k ≡ wants scripts fd y)
-ends_asks scripts fd x y d k busy on is asks =
-    goes_as scripts fd (ended x d) y reply.Done k (goes-ended x.conn.kept x.conn.q d busy on) refl is asks
+ends_asks scripts fd x y d k busy on over is asks =
+    goes_as scripts fd (ended x d) y reply.Done k (goes-ended x.conn.kept x.conn.q d busy on over) refl is asks
 
 pub ends_wants : (x : Client) (d : Doing) → d ≢ Rests → d ≢ Over → wanting.has_bytes d ≡ true
     → (leaves_off (left_over (ended x d)) reply.Done ≡ false) × (needs_memory (ended x d) ≡ true)
-ends_wants x d busy on bytes = ((goes-ended x.conn.kept x.conn.q d busy on).on, needs d bytes)
+ends_wants x d busy on bytes = by d bytes
   where
-    needs : (d : Doing) → wanting.has_bytes d ≡ true → wanting.needs_memory (record x.conn { doing = d }) ≡ true
-    needs Rests is = absurd (cc (is))
-    needs d is = is
+    by : (d : Doing) → wanting.has_bytes d ≡ true → (leaves_off (left_over (ended x d)) reply.Done ≡ false) × (needs_memory (ended x d) ≡ true)
+    by Opens is = (refl, refl)
+    by (Heads k) is = (refl, refl)
+    by d is = absurd (cc (is))
 
 pub over_leaves : (x : Client) → IsLeft (ended x Over) x reply.Done (Ends Over) x
 over_leaves x = record { passed = refl; told_is = refl; remains_is = refl; can_rest = record { small = omega arith; awaits = tt }; as_it_was = refl }

@@ -8,7 +8,7 @@ use Rattle.iol_core.specs.declared.refusals.Refusal.TheVariants as no
 use Rattle.flash_http.specs.Request.{Answer, serve, refuse, Wanted}
 use Rattle.flash_laws.proofs.Conn.Responses.{some-inj}
 use Rattle.flash_laws.proofs.Run.OfferedBytes.{keeps}
-use Rattle.flash_laws.specs.Client.{Client, is_bare, keeps_text, text_on, after_run, goes_on, run_told, run_wants, wants, left_over, awaits}
+use Rattle.flash_laws.specs.Client.{Client, has_answered, is_bare, keeps_text, text_on, after_run, goes_on, run_told, run_wants, wants, left_over, awaits}
 use Rattle.flash_laws.specs.Client.Wants.{needs_memory, WantsOn}
 use Rattle.flash_laws.specs.Conn as conn
 use Rattle.flash_laws.specs.Conn.Policy.{is_later}
@@ -24,10 +24,10 @@ use Rattle.flash_laws.specs.declared.script_run.Step.{Step}
 use Rattle.flash_laws.specs.declared.script_run.Step.TheVariants as act
 use Rattle.flash_laws.specs.declared.script_run.Running.{Running}
 use Rattle.flash_laws.specs.declared.script_run.Running.TheVariants.{Awaits, Runs, Leaves, Closes as Finished}
-use Rattle.flash_lite.specs.Course.{run_after, ended, GoesOn, IsLeft, IsCourse}
-use Rattle.flash_lite.specs.Runs.{waits}
+use Rattle.flash_lite.specs.Course.{has_answered_by, left_with, run_after, ended, GoesOn, IsLeft, IsCourse}
+use Rattle.flash_lite.specs.Runs.{IsSmallRunning, waits}
 use Rattle.flash_lite.specs.declared.client.Course.{Course}
-use Rattle.flash_lite.specs.declared.client.Left.TheVariants.{Stays}
+use Rattle.flash_lite.specs.declared.client.Left.TheVariants.{Continues, Stays}
 use Rattle.flash_lite.proofs.Responses.Clients.{course_reply}
 
 -- ---- where its call is to be made again later, a run is as it was
@@ -109,6 +109,12 @@ waits-is c (Runs run s) script = refl
 waits-is c (Leaves d) script = refl
 waits-is c Finished script = refl
 
+answered-is : (c : conn.Conn) (y : Running) (script : List ℕ) → has_answered (record { conn = c; run = Some y; script = script }) ≡ has_answered_by c y
+answered-is c Awaits script = refl
+answered-is c (Runs run s) script = refl
+answered-is c (Leaves d) script = refl
+answered-is c Finished script = refl
+
 kept-runs : (worker : ℕ) (z : Running) → HasWorker worker z → waits z ≡ false
 kept-runs worker Awaits has = absurd has
 kept-runs worker (Runs run s) has = refl
@@ -129,9 +135,12 @@ still-waits worker (serve w) Finished r heard is = absurd (cc (is))
 still-waits worker (refuse status head_only close) y r heard is = refl
 
 leaves-run : (c : conn.Conn) (run : Option Running) (script : List ℕ) (y : Running) (r : Reply) → run ≡ Some y
-    → leaves_off (left_over (record { conn = c; run = run; script = script })) r ≡ is_later r || (waits y || false)
+    → leaves_off (left_over (record { conn = c; run = run; script = script })) r ≡ is_later r || (waits y || (has_answered_by c y || false))
 leaves-run c None script y r is = absurd (cc (is))
-leaves-run c (Some z) script y r is = ap (λ b. is_later r || (b || false)) (waits-is c z script ∙ ap (λ (v : Running). waits v) (some-inj z y is))
+leaves-run c (Some z) script y r is =
+    let same : z ≡ y = some-inj z y is in
+    ap (λ b. is_later r || (b || (has_answered (record { conn = c; run = Some z; script = script }) || false))) (waits-is c z script ∙ ap (λ (v : Running). waits v) same)
+    ∙ ap (λ b. is_later r || (waits y || (b || false))) (answered-is c z script ∙ ap (λ (v : Running). has_answered_by c v) same)
 
 -- one whose script runs is not forgotten
 runs-on : (c : conn.Conn) (run : Option Running) (script : List ℕ) (y : Running) → run ≡ Some y
@@ -147,7 +156,7 @@ or-after true = refl
 or-after false = refl
 
 stays-as : (worker : ℕ) (x : Client) (y : Running) (r : Reply) (heard : List ℕ) → x.run ≡ Some y → is_over y ≡ false
-    → run_after worker x.conn.q y r heard ≡ y → (is_later r || (waits y || false)) ≡ true → IsLeft (run_told worker x.conn.q x y r heard) x r Stays x
+    → run_after worker x.conn.q y r heard ≡ y → (is_later r || (waits y || (has_answered_by x.conn y || false))) ≡ true → IsLeft (run_told worker x.conn.q x y r heard) x r Stays x
 stays-as worker x y r heard is going z passes =
     let same : run_told worker x.conn.q x y r heard ≡ x = told-is worker x.conn.q x y r heard is going
     ∙ (ap (λ (v : Running). goes_on false (is_over v) x y v) z ∙ (ap (λ b. goes_on false b x y y) going ∙ stands x y is)) in
@@ -162,7 +171,7 @@ stays-as worker x y r heard is going z passes =
 pub run_stays : (worker : ℕ) (x : Client) (y : Running) (r : Reply) (heard : List ℕ) → x.run ≡ Some y → is_over y ≡ false → is_later r ≡ true
     → IsLeft (run_told worker x.conn.q x y r heard) x r Stays x
 run_stays worker x y r heard is going later =
-    stays-as worker x y r heard is going (after-later worker x.conn.q y r heard going later) (or-true (is_later r) (waits y || false) later)
+    stays-as worker x y r heard is going (after-later worker x.conn.q y r heard going later) (or-true (is_later r) (waits y || (has_answered_by x.conn y || false)) later)
 
 on-told : (worker : ℕ) (x : Client) (y z : Running) (r : Reply) (heard : List ℕ) → x.run ≡ Some y → is_over y ≡ false
     → z ≡ run_after worker x.conn.q y r heard → is_over z ≡ false → run_told worker x.conn.q x y r heard ≡ goes_on false false x y z
@@ -179,22 +188,64 @@ pub run_waits : (worker : ℕ) (x : Client) (y z : Running) (r : Reply) (heard :
 run_waits worker x y z r heard is going z_is waiting =
     let still : run_after worker x.conn.q y r heard ≡ y = still-waits worker x.conn.q y r heard (ap (λ (v : Running). waits v) (sym z_is) ∙ waiting) in
     let waited : waits y ≡ true = ap (λ (v : Running). waits v) (sym (z_is ∙ still)) ∙ waiting in
-    stays-as worker x y r heard is going still (ap (λ b. is_later r || (b || false)) waited ∙ or-after (is_later r))
+    stays-as worker x y r heard is going still (ap (λ b. is_later r || (b || (has_answered_by x.conn y || false))) waited ∙ or-after (is_later r))
 
-goes-on : (x : Client) (y z : Running) (r : Reply) → is_later r ≡ false → waits z ≡ false → GoesOn (goes_on false false x y z) r (goes_on false false x y z)
-goes-on x y z r now going = record {
-  on = ap (λ b. b || (awaits (goes_on false false x y z) || false)) now
-      ∙ ap (λ b. b || false) (waits-is x.conn z (text_on (keeps_text y) (keeps_text z) x.script) ∙ going);
+-- ---- all of its response is taken, and more of the stream is kept
+
+-- its job was made long before
+no-text : (worker : ℕ) (q : Answer) (y : Running) (r : Reply) (heard : List ℕ) (d : Doing) → run_after worker q y r heard ≡ Leaves d → keeps_text y ≡ false
+no-text worker (serve w) Awaits r heard d is = by r is
+  where
+    by : (r : Reply) → told_awaits worker r ≡ Leaves d → true ≡ false
+    by (reply.Fds from write) is = absurd (cc (is))
+    by r is = absurd (cc (is))
+no-text worker (serve w) (Runs run (act.Gives write)) r heard d is = absurd (cc (is))
+no-text worker (serve w) (Runs run (act.Makes f)) r heard d is = absurd (cc (is))
+no-text worker (serve w) (Runs run s) r heard d is = refl
+no-text worker (serve w) (Leaves e) r heard d is = refl
+no-text worker (serve w) Finished r heard d is = refl
+no-text worker (refuse status head_only close) y r heard d is = ap (λ (v : Running). keeps_text v) is
+
+-- what is sent is left of a response
+answered-left : (c : conn.Conn) (d : Doing) → has_answered_by c (Leaves d) ≡ true → is_left d ≡ true
+answered-left c (Sent a taken more) has = refl
+answered-left c d has = absurd (cc (has))
+
+pub run_answers : (worker : ℕ) (x : Client) (y z : Running) (d : Doing) (r : Reply) (heard : List ℕ) → x.run ≡ Some y → is_over y ≡ false
+    → z ≡ run_after worker x.conn.q y r heard → IsSmallRunning z → z ≡ Leaves d → has_answered_by x.conn z ≡ true
+    → IsLeft (run_told worker x.conn.q x y r heard) x r (Continues d) x
+run_answers worker x y z d r heard is going z_is small phase has =
+    let now : has_answered_by x.conn (Leaves d) ≡ true = ap (λ (v : Running). has_answered_by x.conn v) (sym phase) ∙ has in
+    let on : is_over (Leaves d) ≡ false = ap (λ b. not b) (answered-left x.conn d now) in
+    let text : keeps_text y ≡ false = no-text worker x.conn.q y r heard d (sym z_is ∙ phase) in
+    let same : run_told worker x.conn.q x y r heard ≡ left_with x (Continues d) =
+    on-told worker x y z r heard is going z_is (ap (λ (v : Running). is_over v) phase ∙ on)
+    ∙ (ap (λ (v : Running). goes_on false false x y v) phase ∙ ap (λ b. record { conn = x.conn; run = Some (Leaves d); script = text_on b false x.script }) text) in
+    record {
+      passed = ap (λ (t : Client). leaves_off (left_over t) r) same
+          ∙ (leaves-run x.conn (Some (Leaves d)) x.script (Leaves d) r refl ∙ (ap (λ b. is_later r || (b || false)) now ∙ or-after (is_later r)));
+      told_is = same;
+      remains_is = ap (λ (t : Client). left_over t) same ∙ ap (λ (t : Client). Some t) (sym same);
+      can_rest = (subst (λ (v : Running). IsSmallRunning v) phase small, on);
+      as_it_was = refl;
+    }
+
+goes-on : (x : Client) (y z : Running) (r : Reply) → is_later r ≡ false → waits z ≡ false → has_answered_by x.conn z ≡ false
+    → GoesOn (goes_on false false x y z) r (goes_on false false x y z)
+goes-on x y z r now going more = record {
+  on = leaves-run x.conn (Some z) (text_on (keeps_text y) (keeps_text z) x.script) z r refl
+      ∙ (ap (λ b. b || (waits z || (has_answered_by x.conn z || false))) now
+      ∙ (ap (λ b. b || (has_answered_by x.conn z || false)) going ∙ ap (λ b. b || false) more));
   stays = refl;
   readies = refl;
 }
 
 pub run_goes : (scripts : Bool) (fd worker : ℕ) (x n : Client) (y z : Running) (r : Reply) (heard : List ℕ) (k : Call) → x.run ≡ Some y → is_over y ≡ false
-    → is_later r ≡ false → z ≡ run_after worker x.conn.q y r heard → waits z ≡ false → is_over z ≡ false → n ≡ goes_on false false x y z
+    → is_later r ≡ false → z ≡ run_after worker x.conn.q y r heard → waits z ≡ false → has_answered_by x.conn z ≡ false → is_over z ≡ false → n ≡ goes_on false false x y z
     → k ≡ run_wants fd n.conn.q n.script z → GoesOn (run_told worker x.conn.q x y r heard) r n × (k ≡ wants scripts fd n)
-run_goes scripts fd worker x n y z r heard k is going now z_is runs on n_is asks =
+run_goes scripts fd worker x n y z r heard k is going now z_is runs more on n_is asks =
     let told = on-told worker x y z r heard is going z_is on in (
-      subst (λ (t : Client). GoesOn t r n) (sym told) (subst (λ (v : Client). GoesOn (goes_on false false x y z) r v) (sym n_is) (goes-on x y z r now runs)),
+      subst (λ (t : Client). GoesOn t r n) (sym told) (subst (λ (v : Client). GoesOn (goes_on false false x y z) r v) (sym n_is) (goes-on x y z r now runs more)),
       asks ∙ (ap (λ (v : Client). run_wants fd v.conn.q v.script z) n_is ∙ ap (λ (v : Client). wants scripts fd v) (sym n_is)),
     )
 
@@ -212,15 +263,15 @@ on_err (Ok x) P p = tt
 on_err (Err e) P p = p
 
 pub goes_wants : (scripts : Bool) (worker : ℕ) (x : Client) (y z : Running) (r : Reply) (heard : List ℕ) → x.run ≡ Some y → is_over y ≡ false
-    → is_later r ≡ false → z ≡ run_after worker x.conn.q y r heard → waits z ≡ false → is_over z ≡ false → makes_any z ≡ true
+    → is_later r ≡ false → z ≡ run_after worker x.conn.q y r heard → waits z ≡ false → has_answered_by x.conn z ≡ false → is_over z ≡ false → makes_any z ≡ true
     → WantsOn scripts (run_told worker x.conn.q x y r heard) x r heard
-goes_wants scripts worker x y z r heard is going now z_is runs on makes =
+goes_wants scripts worker x y z r heard is going now z_is runs more on makes =
     let told = on-told worker x y z r heard is going z_is on in
-    inr (ap (λ (t : Client). leaves_off (left_over t) r) told ∙ (goes-on x y z r now runs).on, ap (λ (t : Client). needs_memory t) told ∙ makes)
+    inr (ap (λ (t : Client). leaves_off (left_over t) r) told ∙ (goes-on x y z r now runs more).on, ap (λ (t : Client). needs_memory t) told ∙ makes)
 
 leaves-now : (o : Option Client) (r : Reply) → is_later r ≡ false → leaves_off o r ≡ leaves_off o reply.Done
 leaves-now None r now = refl
-leaves-now (Some x) r now = ap (λ (b : Bool). b || (awaits x || is_bare x)) now
+leaves-now (Some x) r now = ap (λ (b : Bool). b || (awaits x || (has_answered x || is_bare x))) now
 
 pub run_wants_on : (scripts : Bool) (worker : ℕ) (x : Client) (y z : Running) (d : Doing) (r : Reply) (heard : List ℕ) → x.run ≡ Some y → is_over y ≡ false
     → is_later r ≡ false → z ≡ run_after worker x.conn.q y r heard → is_over z ≡ true → d ≡ after_run z
@@ -230,4 +281,4 @@ run_wants_on scripts worker x y z d r heard is going now z_is over d_is wants =
     let told : run_told worker x.conn.q x y r heard ≡ ended x d = over-told worker x y z r heard is going z_is over ∙ ap (λ (e : Doing). ended x e) (sym d_is) in
     inr (ap (λ (t : Client). leaves_off (left_over t) r) told ∙ (leaves-now (left_over (ended x d)) r now ∙ wants.0), ap (λ (t : Client). needs_memory t) told ∙ wants.1)
 
-pub ruleset run_rules = (run_stays, run_waits, run_goes, run_ends, goes_wants, run_wants_on)
+pub ruleset run_rules = (run_stays, run_waits, run_answers, run_goes, run_ends, goes_wants, run_wants_on)

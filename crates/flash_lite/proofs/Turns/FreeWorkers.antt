@@ -25,7 +25,7 @@ use Rattle.flash_lite.specs.Course.{left_with, worker_of}
 use Rattle.flash_lite.specs.Table.{TellsFree}
 use Rattle.flash_lite.specs.ServerTurn.{TurnsFree, first_in, has_in, is_worker, worker_at, worker_in, worker_left}
 use Rattle.flash_lite.specs.declared.client.Left.{Left}
-use Rattle.flash_lite.specs.declared.client.Left.TheVariants.{Goes, Ends, Begins, Stays}
+use Rattle.flash_lite.specs.declared.client.Left.TheVariants.{Goes, Ends, Begins, Continues, Stays}
 use Rattle.flash_lite.specs.declared.site.TheConstants.{MAX_WORKERS}
 
 abbrev of : Conn → Option Running → List ℕ → Client
@@ -143,6 +143,7 @@ with-left : (l : Left) (x : Client) (k : ℕ) → is_run_by (left_with x l) k �
 with-left (Goes d) x k = runs-worker (record x.conn { doing = d }) x.run x.script k
 with-left (Ends d) x k = refl
 with-left Begins x k = refl
+with-left (Continues d) x k = refl
 with-left Stays x k = runs-worker x.conn x.run x.script k
 
 over-runs : (c : Conn) (run : Option Running) (script : List ℕ) (k : ℕ) → runs_at k (left_over (of c run script)) ≡ is_run_by (of c run script) k

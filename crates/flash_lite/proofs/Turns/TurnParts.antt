@@ -8,7 +8,7 @@ use Rattle.iol_core.specs.declared.events.Reply.{Reply}
 use Rattle.iol_core.specs.declared.events.Reply.TheVariants as reply
 use Rattle.iol_proc.specs.declared.process.Turn.{Turn}
 use Rattle.iol_proc.specs.declared.process.Turn.TheVariants as turn
-use Rattle.flash_laws.specs.Client.{Client, new_client, told, left_over, awaits, is_bare}
+use Rattle.flash_laws.specs.Client.{Client, new_client, told, left_over, awaits, has_answered, is_bare}
 use Rattle.flash_laws.specs.Site.Places.{has_free, may_go, runs_scripts, filed}
 use Rattle.flash_laws.specs.Conn.Policy.{door, is_later}
 use Rattle.flash_laws.specs.Serves.Rounds.{leaves_off, flight_from, next_flight, place_after}
@@ -153,7 +153,7 @@ module _ (s : Table) (kept : IsKept s) (fd : ℕ) (flies : s.flight ≡ At fd) (
   on-runs : (x : Client) (r : Reply) → leaves_off (Some x) r ≡ false → awaits x ≡ false
   on-runs x r on = by (is_later r) (awaits x) on
     where
-      by : (b a : Bool) → (b || (a || is_bare x)) ≡ false → a ≡ false
+      by : (b a : Bool) → (b || (a || (has_answered x || is_bare x))) ≡ false → a ≡ false
       by true a on = absurd (cc (on))
       by false true on = absurd (cc (on))
       by false false on = refl

@@ -1,0 +1,76 @@
+-- Turns are fair: between two responses to one client each other client that may go has its turn.
+use Rattle.std.specs.Prelude.{◌≡◌, ◌≢◌, ◌⊎◌, ℕ, Bool, true, false, List, [], ◌∷◌, ◌++◌, Option, Some, None}
+use Rattle.iol_core.specs.NumberedLists.{in_place}
+use Rattle.iol_core.specs.declared.events.Reply.{Reply}
+use Rattle.iol_proc.specs.declared.process.Turn.{Turn}
+use Rattle.flash_laws.specs.Client.{Client}
+use Rattle.flash_laws.specs.Conn.{begins}
+use Rattle.flash_laws.specs.Site.Places.{has_free}
+use Rattle.flash_laws.specs.Serves.{Server, filed_in, server_turns}
+use Rattle.flash_laws.specs.Serves.Rounds.{goes_in, in_rounds}
+use Rattle.flash_laws.specs.declared.phase.Doing.{Doing}
+use Rattle.flash_laws.specs.declared.phase.Doing.TheVariants.{Sent}
+use Rattle.flash_laws.specs.declared.phase.Flight.TheVariants.{At}
+use Rattle.flash_laws.specs.declared.script_run.Running.{Running}
+use Rattle.flash_laws.specs.declared.script_run.Running.TheVariants.{Leaves}
+
+-- one turn of the server: the reply to its last call, what it may read, what it does, and the server after it
+pub record OneTurn : Type 0 where
+  pub last : Reply
+  pub lent : ℕ → Option (List ℕ)
+  pub made : Turn
+  pub after : Server
+
+-- its clients, once that reply is filed
+abbrev pub clients_in : Server → OneTurn → List (Option Client)
+clients_in s x = filed_in s x.last x.lent
+
+-- consecutive turns
+abbrev pub Follow : Server → List OneTurn → Type 0
+Follow s [] = Unit {0}
+Follow s (x ∷ xs) = server_turns in_rounds s x.last x.lent x.made x.after × Follow x.after xs
+
+-- in each of them a client is in this place that may have its turn
+abbrev pub GoesThroughout : (gd : ℕ) → Server → List OneTurn → Type 0
+GoesThroughout gd s [] = Unit {0}
+GoesThroughout gd s (x ∷ xs) = (goes_in (has_free s.workers (clients_in s x)) (in_place (clients_in s x) gd) ≡ true)
+    × GoesThroughout gd x.after xs
+
+-- one of them is that client's
+abbrev pub HasATurn : (gd : ℕ) → List OneTurn → Type 0
+HasATurn gd [] = ⊥
+HasATurn gd (x ∷ xs) = (x.after.flight ≡ At gd) ⊎ HasATurn gd xs
+
+-- whether all of the response is taken
+abbrev pub is_taken : Doing → Bool
+is_taken (Sent a taken None) = true
+is_taken d = false
+
+abbrev pub is_answered : Client → Bool
+is_answered x = by x.run
+  where
+    by : Option Running → Bool
+    by None = is_taken x.conn.doing
+    by (Some (Leaves d)) = is_taken d
+    by (Some y) = false
+
+-- with this reply all of the response to the client in a place is taken
+pub record Answers (fd : ℕ) (s : Server) (x : OneTurn) : Type 0 where
+  pub client : Client
+  pub turn : s.flight ≡ At fd
+  pub there : in_place (clients_in s x) fd ≡ Some client
+  pub answered : is_answered client ≡ true
+
+-- the first call of a request of the client in a place is made
+pub record BeginsAt (fd : ℕ) (s : Server) : Type 0 where
+  pub client : Client
+  pub turn : s.flight ≡ At fd
+  pub there : in_place s.clients fd ≡ Some client
+  pub begins : client.conn.doing ≡ begins client.conn.q
+  pub no_script : client.run ≡ None
+
+-- From the turn with whose reply all of a response is taken, to the turn in which the same client begins a request, each other
+-- client that may have its turn throughout has one.
+abbrev pub TurnsAreFair : Type 0
+TurnsAreFair = (s : Server) (x : OneTurn) (xs : List OneTurn) (y : OneTurn) (fd gd : ℕ) → Follow s (x ∷ xs ++ y ∷ [])
+    → Answers fd s x → BeginsAt fd y.after → fd ≢ gd → GoesThroughout gd s (x ∷ xs ++ y ∷ []) → HasATurn gd (x ∷ xs)
