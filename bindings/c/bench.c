@@ -1,4 +1,5 @@
-/* Measures what calls cost through the header's functions: a line each, its name and the nanoseconds of processor time of a call. */
+/* Measures what calls cost through the header's functions: a line each, its name and the nanoseconds of processor time of a call.
+ * It measures once; bench/bindings runs it several times. */
 #include "iolite.h"
 #include <stdio.h>
 #include <stdlib.h>
@@ -6,7 +7,6 @@
 
 #define PAGE 4096
 #define LARGE 65536
-#define TRIES 7
 
 static iol_system sys;
 static uint8_t bytes[LARGE], out[LARGE];
@@ -101,15 +101,10 @@ static double now(void)
 
 static void measure(const char *name, void (*round)(void), int calls, long rounds)
 {
-    double least = 1e18;
-    for (int i = 0; i < TRIES; i++) {
-        double took = now();
-        for (long n = 0; n < rounds; n++)
-            round();
-        took = (now() - took) / (double)rounds / calls;
-        least = took < least ? took : least;
-    }
-    printf("%s\t%.1f\n", name, least);
+    double began = now();
+    for (long n = 0; n < rounds; n++)
+        round();
+    printf("%s\t%.1f\n", name, (now() - began) / (double)rounds / calls);
 }
 
 int main(int argc, char **argv)

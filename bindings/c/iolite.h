@@ -3,7 +3,8 @@
  *
  * Nothing checks what a caller passes. The caller sees to this:
  *  - An iol_system is {0} until iol_system_new or iol_system_over returns 0. It is never copied, and it is freed once.
- *  - All calls on a system come from one thread, one at a time, and none from a signal handler.
+ *  - Calls on a system come one at a time, and none from a signal handler. Another thread may call it after a lock, or the start
+ *    or the end of a thread, that orders its calls after those before.
  *  - A pointer with a count points to that many items. It may be null where the count is 0.
  *  - Memory that a call writes (`out`, `room`, `reply`) overlaps nothing else that the call gets.
  *  - Bytes that iol_parts borrows are only read, and no longer than docs/BINDINGS.md allows.

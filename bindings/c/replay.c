@@ -243,6 +243,12 @@ static void read_words(char *rest, line *it)
         it->length = repeat(it->length, it->number[0]);
 }
 
+/* The number of bytes asked for, at most those that `out` has room for: no reply has more. */
+static uint32_t fitting(uint32_t count)
+{
+    return count < sizeof out ? count : (uint32_t)sizeof out;
+}
+
 /* Carries out what happens outside. */
 static iol_reply outside(const line *it)
 {
@@ -255,7 +261,7 @@ static iol_reply outside(const line *it)
     case IOL_PEER_CLOSED:
         return iol_peer_closed(&sys, first, second);
     case IOL_TRANSMIT:
-        return iol_transmit(&sys, first, second, out, sizeof out);
+        return iol_transmit(&sys, first, fitting(second), out, sizeof out);
     case IOL_FLUSH:
         return iol_flush(&sys);
     default:
@@ -301,7 +307,7 @@ static iol_reply on_descriptors(const line *it)
     case IOL_FSYNC:
         return iol_fsync(&sys, it->by, first);
     case IOL_READ_COPY:
-        return iol_read_copy(&sys, it->by, first, second, out, sizeof out);
+        return iol_read_copy(&sys, it->by, first, fitting(second), out, sizeof out);
     case IOL_WRITE_COPY:
         return iol_write_copy(&sys, it->by, first, text, it->length);
     case IOL_ACCEPT:

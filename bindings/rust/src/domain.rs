@@ -99,6 +99,11 @@ impl<'s> Domain<'s> {
         self.system.parts(self.id, agg)
     }
 
+    /// See [`System::copy_to`].
+    pub fn copy_to(&self, agg: AggId, into: &mut [u8]) -> Result<usize> {
+        self.system.copy_to(self.id, agg, into)
+    }
+
     /// See [`System::reader`].
     pub fn reader(&mut self, fd: Fd) -> Reader<'_> {
         self.system.reader(self.id, fd)

@@ -103,7 +103,14 @@ pub struct Report {
     pub buffers: u32,
 }
 
-/// A system of domains that share buffers, over a store of files. It stays on the thread that made it.
+/// A system of domains that share buffers, over a store of files.
+///
+/// It may move to another thread, and one thread uses it at a time: it is [`Send`], and not [`Sync`].
+///
+/// ```compile_fail,E0277
+/// fn shared<T: Sync>() {}
+/// shared::<iolite::System>();
+/// ```
 ///
 /// Each method carries out one event, whole, and returns what it replies. `docs/RULES.md` says what each means, and lists
 /// its refusals.
@@ -112,6 +119,11 @@ pub struct System {
     raw: UnsafeCell<*mut core::ffi::c_void>,
     _files: Vec<File>,
 }
+
+// SAFETY: A `System` owns its handle and its files, and no other value has the handle. What the handle owns is one block of
+// malloc and what is in it; the proof of the library (`iol_ffi`, `Send` of `Handle`) says that neither belongs to a thread. The
+// library has no variables of its own, of a thread or of the process. Who moves a `System` orders the calls before and after.
+unsafe impl Send for System {}
 
 impl Drop for System {
     fn drop(&mut self) {
@@ -181,7 +193,8 @@ impl System {
 
     /// Calls the library with the handle. The system stays where it is.
     pub(crate) fn call<T>(&self, call: impl FnOnce(*mut ffi::System) -> T) -> T {
-        // A `System` of the library is this pointer alone. It is neither `Send` nor `Sync`, so no two calls meet.
+        // A `System` of the library is this pointer. No other thread has a reference to it, since it is not `Sync`, so no two
+        // calls meet.
         call(self.raw.get().cast())
     }
 
@@ -296,11 +309,24 @@ impl System {
         self.new_agg(Event { agg: agg.number(), to: to.number(), ..event(ffi::AGG_GIVE, by) })
     }
 
-    /// Copies the bytes of an aggregate.
+    /// Copies the bytes of an aggregate, as an event. The library copies them twice: `copy_to` copies once.
     pub fn show(&mut self, by: DomainId, agg: AggId) -> Result<Vec<u8>> {
         let mut bytes = vec![0; self.parts(by, agg)?.byte_count() as usize];
         self.step_with(Event { agg: agg.number(), ..event(ffi::SHOW, by) }, &[], &[], &mut bytes)?;
         Ok(bytes)
+    }
+
+    /// Copies the first bytes of an aggregate into `into`, as many as it has room for. Returns how many bytes the aggregate has.
+    pub fn copy_to(&self, by: DomainId, agg: AggId, into: &mut [u8]) -> Result<usize> {
+        let parts = self.parts(by, agg)?;
+        let count = parts.byte_count() as usize;
+        let mut rest = into;
+        for part in parts {
+            let (front, left) = rest.split_at_mut(part.len().min(rest.len()));
+            front.copy_from_slice(&part[..front.len()]);
+            rest = left;
+        }
+        Ok(count)
     }
 
     /// Borrows the bytes of an aggregate in place, part by part. No byte is copied, and no step can be taken meanwhile.

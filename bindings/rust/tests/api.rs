@@ -1,5 +1,5 @@
 //! What no script of examples/ shows of the crate: borrowed parts, streams, descriptors, files and refusals.
-use iolite::{Arrived, DomainId, Drained, Fd, Mode, PoolId, Refusal, Sizes, System};
+use iolite::{AggId, Arrived, DomainId, Drained, Fd, Mode, PoolId, Refusal, Sizes, System};
 use std::io::{self, ErrorKind, Read, Seek, SeekFrom, Write};
 use std::os::fd::AsFd;
 use std::os::unix::net::UnixStream;
@@ -37,6 +37,19 @@ fn parts_lie_in_the_pages_of_what_they_were_made_of() -> Result<(), Refusal> {
     let whole = system.parts(ONE, made)?.next().expect("a part");
     let part = system.parts(ONE, cut)?.next().expect("a part");
     assert_eq!(part.as_ptr(), whole[1..].as_ptr());
+    Ok(())
+}
+
+#[test]
+fn bytes_are_copied_as_far_as_there_is_room() -> Result<(), Refusal> {
+    let mut system = system();
+    let (first, second) = (system.agg_make(ONE, b"hello, ")?, system.agg_make(ONE, b"world")?);
+    let joined = system.agg_join(ONE, first, second)?;
+    let (mut short, mut long) = ([0; 9], [b'.'; 14]);
+    assert_eq!(system.copy_to(ONE, joined, &mut short)?, 12);
+    assert_eq!(system.copy_to(ONE, joined, &mut long)?, 12);
+    assert_eq!((&short, &long), (b"hello, wo", b"hello, world.."));
+    assert_eq!(system.copy_to(ONE, AggId::new(77), &mut short), Err(Refusal::BadAgg));
     Ok(())
 }
 
@@ -112,4 +125,19 @@ fn refusals_have_their_data() {
     let denied = system.agg_give(ONE, made, guest).expect_err("no reader");
     assert_eq!((denied, denied.to_string()), (Refusal::Denied(PoolId::new(1)), "Denied pool 1".into()));
     assert_eq!(io::Error::from(denied).kind(), ErrorKind::PermissionDenied);
+}
+
+#[test]
+fn a_system_moves_to_another_thread() -> Result<(), Refusal> {
+    let mut system = system();
+    let made = system.agg_make(ONE, b"hello")?;
+    let moved = std::thread::spawn(move || -> Result<(System, Vec<u8>), Refusal> {
+        let bytes = system.show(ONE, made)?;
+        system.agg_drop(ONE, made)?;
+        Ok((system, bytes))
+    });
+    let (mut system, bytes) = moved.join().expect("no panic")?;
+    assert_eq!(bytes, b"hello");
+    assert_eq!(system.agg_drop(ONE, made), Err(Refusal::BadAgg));
+    Ok(())
 }

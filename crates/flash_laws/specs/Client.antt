@@ -220,7 +220,7 @@ is_bare x = by x.run
     by None = policy.is_bare x.conn
     by (Some y) = false
 
--- whether all of its response is taken, by a file's or by its script's, and more of its stream is kept
+-- whether its response is taken whole, of a file or of its script, and more input is buffered
 abbrev pub has_answered : Client → Bool
 has_answered x = by x.run
   where

@@ -45,19 +45,19 @@ pub fn site_law()
 }
 
 /// Turns are given in rounds. A client is passed over if its call is to be retried later, if it
-/// waits for a worker, if its response was taken whole while more of its input is buffered, or if
-/// it only reads more input; the next turn is that of the first client after it that may take one.
-/// After the last client, connections are accepted while any are waiting, and then the server
-/// yields. So a client waits for another only while the server advances one response of that one.
+/// waits for a worker, if its response is taken whole and more input is buffered, or if it only
+/// reads more input; the next turn is that of the first client after it that may take one. After
+/// the last client, connections are accepted while any are waiting, and then the server yields. So
+/// a client waits for another only while the server advances one response of that client.
 pub fn rounds_law()
     ensures { TurnsGoRound }
 {}
 
-/// Turns are fair: from the turn whose reply completes a response of a client, to the turn in
-/// which the same client begins its next request, each other client that may take a turn
-/// throughout takes one. So no client, however many requests it pipelines, gets two responses
-/// while another client that can proceed waits for a turn. The law is about any consecutive turns
-/// of the server's account.
+/// Turns are fair. Between the reply with which a response to a client is taken whole, and the
+/// first call for the next request of that client, each other client that may take a turn during
+/// all of that time takes one. So a client that pipelines, with any number of requests, does not
+/// keep others from their turns. This holds for all consecutive turns by the server's transition
+/// relation.
 pub fn turns_are_fair()
     ensures { TurnsAreFair }
 {}

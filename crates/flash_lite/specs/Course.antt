@@ -90,7 +90,7 @@ call_of_run fd x script y = run_wants fd x.conn.q script y
 abbrev pub with_run : Client → Running → (script : List ℕ) → Client
 with_run x y script = record { conn = x.conn; run = Some y; script = script }
 
--- whether the response of this run was taken whole, and more input is buffered
+-- whether the response is taken whole by this run, and more input is buffered
 abbrev pub has_answered_by : Conn → Running → Bool
 has_answered_by c (Parts d) = has_answered (record c { doing = d })
 has_answered_by c y = false

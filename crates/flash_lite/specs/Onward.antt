@@ -64,8 +64,8 @@ Frees fd x (Leaves d) y = (d ≡ Rests) × (x.kept ≡ []) × (y ≡ x)
 abbrev pub WantsToStart : Conn → Type 0
 WantsToStart x = (is_bare (record x { doing = Rests }) ≡ false) × (can_begin (window_in x.kept) ≡ true)
 
--- whether the turn passes to others in this phase: its call is to be retried later, or its response was taken whole and more input
--- is buffered
+-- whether its turn passes in this phase: its call is to be retried later, or its response is taken whole and more input is
+-- buffered
 abbrev pub passes : Conn → Doing → Reply → Bool
 passes x d r = is_later r || has_answered (in_doing x d)
 

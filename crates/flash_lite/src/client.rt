@@ -302,7 +302,7 @@ impl Client {
         }
     }
 
-    // The phase of a run whose response was taken whole, if more input is buffered.
+    // The phase of a run whose response is taken whole, if more input is buffered.
     fn answered(&self, running: &Running) -> Option<Doing>
         ensures none { IfNone result (has_answered_by self.now.conn running.now ≡ false) }
         ensures some { OnSome result (has_answered_by self.now.conn running.now ≡ true) }
@@ -320,7 +320,7 @@ impl Client {
         }
     }
 
-    // What it does after the reply to the call of its run.
+    // The action after the reply to the call of its run.
     #[tactic(auto, using(crate::proofs::Responses::RunsOn::run_rules))]
     fn go_on_running(
         &mut self,

@@ -274,15 +274,15 @@ impl Conn {
         Ok(call)
     }
 
-    /// Whether the response was taken whole in this phase, and more input is buffered.
+    /// Whether the response is taken whole in this phase, and more input is buffered.
     pub(crate) fn has_answered(&self, doing: &Doing) -> bool
         ensures { result ≡ has_answered (in_doing self.now doing.now) }
     {
         matches!(*doing, Doing::Sent { more: None, .. }) && !self.kept.is_empty()
     }
 
-    // Continues with a phase that is not idle, unless its call is to be retried later, or its
-    // response was taken whole and more input is buffered.
+    // Continues with a phase that is not idle, unless its call is retried later, or the response is
+    // taken whole and more input is buffered.
     fn go_on_with(&mut self, fd: Fd, doing: Doing, last: &Reply) -> Result<Onward, AllocError>
         requires { (doing ≢ Rests) × IsSmall doing }
         ensures goes { IfOk result (λ o. GoesWith fd self.old last.now doing o self.new) }
@@ -358,11 +358,11 @@ impl Conn {
         }
     }
 
-    /// The action after the reply to its call, with the bytes of the aggregate that the reply
-    /// names. It continues at once, unless the call is to be retried later, its response was taken
-    /// whole and more input is buffered, it only reads more input, or it is over. If memory runs
-    /// out it is unchanged; it needs memory only to keep received bytes, to begin a request, or for
-    /// a call that has bytes of its own.
+    /// The action after the reply to its call, with the bytes of the aggregate in the reply. It
+    /// continues at once, unless the call is retried later, the response is taken whole and more
+    /// input is buffered, it is idle without buffered input, or it is over. If memory runs out it
+    /// is unchanged. It needs memory only to buffer bytes that it reads, to begin a request, or for
+    /// a call with bytes of its own.
     pub fn go_on(
         &mut self,
         fd: Fd,

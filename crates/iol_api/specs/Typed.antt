@@ -1,12 +1,17 @@
 -- The result of a typed call: the reply of its event, as a value of the call's own type or a refusal.
-use Rattle.std.specs.Prelude.{◌≡◌, ◌⊎◌, ℕ, Result, Err}
+use Rattle.std.specs.Prelude.{◌≡◌, ◌⊎◌, ℕ, List, Result, Err}
+use Rattle.iol_back.specs.Prelude.{IfHonest}
 use Rattle.iol_api.specs.declared.domain.Domain.{Domain}
+use Rattle.iol_api.specs.declared.outside.Outside.{Outside}
 use Rattle.iol_core.specs.declared.events.Call.{Call}
+use Rattle.iol_core.specs.declared.events.Event.{Event}
 use Rattle.iol_core.specs.declared.events.Event.TheVariants as event
 use Rattle.iol_core.specs.declared.events.Reply.{Reply}
 use Rattle.iol_core.specs.declared.events.Reply.TheVariants as reply
 use Rattle.iol_core.specs.declared.refusals.Refusal.{Refusal}
 use Rattle.iol_core.specs.declared.refusals.Refusal.TheVariants.{Memory}
+use Rattle.iol_proc.specs.Turns.{Account}
+use Rattle.iol_proc.specs.World.{CopiedStep, OutsideStep, sharing}
 use Rattle.iol_system.specs.Promises.{Promises}
 use Rattle.iol_system.specs.Replies.{told}
 
@@ -35,3 +40,18 @@ fds two = reply.Fds two.0 two.1
 
 abbrev pub aggs : ℕ × ℕ → Reply
 aggs two = reply.Aggs two.0 two.1
+
+-- the bytes of a transmission, and their checksum
+abbrev pub segment : List ℕ × ℕ → Reply
+segment two = reply.Segment two.0 two.1
+
+-- What an outside event promises: the world stays the same one, the event is carried out with all that `World::step_outside` promises
+-- of it, and the reply is this result.
+pub record Happens {B P : Type 0} {A : Type 0} (turns : Account P) (f : A → Reply) (old : Outside B P) (e : Event) (result : Result A Refusal) (new : Outside B P) : Type 0 where
+  pub same_reference : new.world.ghost_name ≡ old.world.ghost_name
+  pub step : OutsideStep sharing turns old.world.now e (told f result) new.world.now
+  pub copied : IfHonest old.world.now.machine.disk (CopiedStep turns old.world.now e (told f result) new.world.now)
+
+-- The same, or there is no memory for the bytes that the event carries, and nothing is done.
+abbrev pub HappensIfHeld : {B P : Type 0} {A : Type 0} → Account P → (A → Reply) → Outside B P → Event → Result A Refusal → Outside B P → Type 0
+HappensIfHeld turns f old e result new = Happens turns f old e result new ⊎ ((result ≡ Err Memory) × (new ≡ old))

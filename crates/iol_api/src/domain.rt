@@ -303,8 +303,8 @@ impl<'a, B: Backing> Domain<'a, B> {
     }
 }
 
-// A copy of bytes for a call that carries them.
-fn held(alloc: Global, bytes: &[u8]) -> Result<Bytes, AllocError>
+/// A copy of bytes for an event that carries them.
+pub(crate) fn held(alloc: Global, bytes: &[u8]) -> Result<Bytes, AllocError>
     ensures { IfOk result (λ b. b ≡ bytes.now) }
 {
     Ok(Bytes::from_vec(Vec::from_slice(alloc, bytes)?))

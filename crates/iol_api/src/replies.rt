@@ -7,7 +7,7 @@ ghost use Rattle.iol_api.specs.Typed.{IsReply};
 
 use iol_core::events::Reply;
 use iol_core::lists::Bytes;
-use iol_core::numbers::{AggId, DomainId, Fd, FileId, PoolId};
+use iol_core::numbers::{AggId, ConnId, DomainId, Fd, FileId, PoolId};
 use iol_core::refusals::Refusal;
 
 /// Nothing, or a refusal.
@@ -125,6 +125,30 @@ pub(crate) fn bytes(given: Reply) -> Result<Bytes, Refusal>
 {
     match given {
         Reply::Bytes(bytes) => Ok(bytes),
+        Reply::Refused(refusal) => Err(refusal),
+        _ => unreachable!(),
+    }
+}
+
+/// A connection's number, or a refusal.
+pub(crate) fn conn(given: Reply) -> Result<ConnId, Refusal>
+    requires { IsReply reply.Conn given }
+    ensures { told reply.Conn result ≡ given }
+{
+    match given {
+        Reply::Conn(conn) => Ok(conn),
+        Reply::Refused(refusal) => Err(refusal),
+        _ => unreachable!(),
+    }
+}
+
+/// Bytes that were sent and their Internet checksum, or a refusal.
+pub(crate) fn segment(given: Reply) -> Result<(Bytes, u16), Refusal>
+    requires { IsReply spec.segment given }
+    ensures { told spec.segment result ≡ given }
+{
+    match given {
+        Reply::Segment { bytes, checksum } => Ok((bytes, checksum)),
         Reply::Refused(refusal) => Err(refusal),
         _ => unreachable!(),
     }

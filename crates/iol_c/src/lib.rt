@@ -1,85 +1,22 @@
-//! The system for programs in C: eight exported functions over a system behind a handle, with
-//! their contracts.
+//! The system for programs in C: eight exported functions, each a call of `iol_ffi` with the contract of that call.
 //!
 //! `bindings/c/iolite.h` declares them. `docs/BINDINGS.md` lists the obligations of a caller in C.
 #![tactic(auto)]
 
 ghost use Rattle.std.specs.Prelude.{◌≡◌, IsSome, None};
-ghost use Rattle.iol_c.specs.Creation.{Creates, CreatesInMemory, CreatesOver, IsCreated, sizes};
-ghost use Rattle.iol_c.specs.Reports.{ReportsTo};
-ghost use Rattle.iol_c.specs.Parts.{BorrowsTo};
-ghost use Rattle.iol_c.specs.Steps.{CarriesOutOrNot, Steps};
-ghost use Rattle.iol_c.specs.Streams.{ArrivesFrom, DrainsTo};
-ghost use Rattle.iol_c.specs.Store.{disk_of};
+ghost use Rattle.iol_ffi.specs.Creation.{CreatesInMemory, CreatesOver, sizes};
+ghost use Rattle.iol_ffi.specs.Parts.{BorrowsTo};
+ghost use Rattle.iol_ffi.specs.Reports.{ReportsTo};
+ghost use Rattle.iol_ffi.specs.Steps.{CarriesOutOrNot};
+ghost use Rattle.iol_ffi.specs.Streams.{ArrivesFrom, DrainsTo};
 
-mod address;
-mod borrowed;
-mod events;
-mod handle;
-pub mod laws;
-mod raw_box;
-mod replies;
-mod report;
-mod store;
-mod streams;
-
-use borrowed::{IolPart, parts_of};
-use events::{IolEvent, Unread, event_of, room_for};
-use handle::Handle;
-use iol_back::memory::MemoryBacking;
-use iol_back::slots::Slots;
-use iol_core::configuration::Config;
-use iol_core::events::{Event, Reply};
-use iol_core::refusals::Refusal;
-use iol_system::system::System;
-use replies::{BAD_EVENT, IolReply, MEMORY, SMALL_ROOM, not_done, refusal_number, reply_of};
-use report::{IolPool, IolReport, report_of};
+use iol_ffi::borrowed::IolPart;
+use iol_ffi::calls;
+use iol_ffi::events::IolEvent;
+use iol_ffi::handle::Handle;
+use iol_ffi::replies::IolReply;
+use iol_ffi::report::{IolPool, IolReport};
 use std::alloc::Global;
-use std::mem;
-use store::{HostStore, OpenFiles};
-use streams::{arrive_from, drain_to};
-
-/// The system that a handle owns.
-#[derive(Drop)]
-pub struct Machine {
-    system: System<HostStore>,
-}
-
-// Creates a boxed system.
-fn start(alloc: Global, config: Config, store: HostStore) -> Result<Box<Machine>, Refusal>
-    ensures { IsCreated config (disk_of store) result }
-{
-    let system = System::new(alloc, config, store)?;
-    match Box::new(alloc, Machine { system }) {
-        Ok(boxed) => Ok(boxed),
-        Err(_) => Err(Refusal::Memory),
-    }
-}
-
-// Stores a new system in a handle. Returns 0, or the number of the refusal.
-fn start_in(alloc: Global, config: Config, store: HostStore, out: &mut Handle) -> u32
-    requires { out.old.value ≡ None }
-    ensures { Creates config (disk_of store) result out.new.value }
-{
-    match start(alloc, config, store) {
-        Ok(boxed) => {
-            *out = Handle::of(boxed);
-            0
-        }
-        Err(refusal) => refusal_number(refusal),
-    }
-}
-
-// Executes one event.
-fn step(alloc: Global, handle: &mut Handle, event: Event) -> Reply
-    requires { IsSome handle.old.value }
-    ensures { Steps handle.old.value event result handle.new.value }
-{
-    let mut machine = mem::replace(handle, Handle::none(alloc)).into_box();
-    let reply = machine.system.step(event);
-    *handle = Handle::of(machine);
-    reply
-}
 
 /// Creates a system over an empty store in memory. Returns 0, or the number of the refusal: then
 /// `out` stays empty.
@@ -94,13 +31,7 @@ pub extern "C" fn iol_system_new(
     requires { out.old.value ≡ None }
     ensures { CreatesInMemory (sizes chunks generations sums) result out.new.value }
 {
-    let store = HostStore::Memory(MemoryBacking::new(Slots::new(alloc)));
-    let config = Config {
-        chunks,
-        gen_limit: generations,
-        sums,
-    };
-    start_in(alloc, config, store, out)
+    calls::system_new(alloc, chunks, generations, sums, out)
 }
 
 /// Creates a system over open descriptors: file N of the store is descriptor N - 1, with its
@@ -116,22 +47,9 @@ pub extern "C" fn iol_system_over(
     out: &mut Handle,
 ) -> u32
     requires { out.old.value ≡ None }
-    ensures { CreatesOver (sizes chunks generations sums) lens.now result out.new.value }
+    ensures { CreatesOver (sizes chunks generations sums) fds.now lens.now result out.new.value }
 {
-    let (Ok(fds), Ok(lens)) = (fds.to_vec(alloc), lens.to_vec(alloc)) else {
-        return MEMORY;
-    };
-    let opened = OpenFiles {
-        fds,
-        lens,
-        failures: 0,
-    };
-    let config = Config {
-        chunks,
-        gen_limit: generations,
-        sums,
-    };
-    start_in(alloc, config, HostStore::Opened(opened), out)
+    calls::system_over(alloc, chunks, generations, sums, fds, lens, out)
 }
 
 /// Frees the system. The handle is empty afterwards.
@@ -140,8 +58,7 @@ pub extern "C" fn iol_system_free(alloc: Global, handle: &mut Handle)
     requires { IsSome handle.old.value }
     ensures { handle.new.value ≡ None }
 {
-    let machine = mem::replace(handle, Handle::none(alloc)).into_box();
-    drop(machine);
+    calls::system_free(alloc, handle);
 }
 
 /// Executes one event. The bytes of its reply are written to `out`.
@@ -158,22 +75,7 @@ pub extern "C" fn iol_step(
     requires { IsSome handle.old.value }
     ensures { CarriesOutOrNot e.now bytes.now names.now reply.new out.new handle.old.value handle.new.value }
 {
-    if room_for(e) > out.len() {
-        *reply = not_done(SMALL_ROOM, 0);
-        return;
-    }
-    match event_of(alloc, e, bytes, names) {
-        Ok(event) => {
-            let answer = step(alloc, handle, event);
-            *reply = reply_of(&answer, out);
-        }
-        Err(Unread::Memory) => {
-            *reply = not_done(MEMORY, 0);
-        }
-        Err(Unread::Bad) => {
-            *reply = not_done(BAD_EVENT, 0);
-        }
-    }
+    calls::step(alloc, handle, e, bytes, names, out, reply);
 }
 
 /// Borrows the bytes of an aggregate in place: the address and the length of each of its parts,
@@ -191,11 +93,9 @@ pub extern "C" fn iol_parts(
 )
     requires { IsSome handle.old.value }
     ensures same { handle.new.value ≡ handle.old.value }
-    ensures borrows { BorrowsTo by agg handle.old.value reply.new }
+    ensures borrows { BorrowsTo by agg skip handle.old.value reply.new room.old room.new }
 {
-    let machine = mem::replace(handle, Handle::none(alloc)).into_box();
-    *reply = parts_of(&machine.system, by, agg, skip, room);
-    *handle = Handle::of(machine);
+    calls::parts(alloc, handle, by, agg, skip, room, reply);
 }
 
 /// Counts the resources of the system: live buffers, file extents, dirty extents, and the pages of
@@ -211,9 +111,7 @@ pub extern "C" fn iol_report(
     ensures same { handle.new.value ≡ handle.old.value }
     ensures counts { ReportsTo handle.old.value report.new }
 {
-    let machine = mem::replace(handle, Handle::none(alloc)).into_box();
-    *report = report_of(&machine.system, room);
-    *handle = Handle::of(machine);
+    calls::report(alloc, handle, room, report);
 }
 
 /// Reads once from a descriptor directly into a page, at most `max` bytes, which arrive on a
@@ -229,11 +127,9 @@ pub extern "C" fn iol_arrive_from(
     reply: &mut IolReply,
 )
     requires { IsSome handle.old.value }
-    ensures { ArrivesFrom conn max reply.new handle.old.value handle.new.value }
+    ensures { ArrivesFrom conn fd max reply.new handle.old.value handle.new.value }
 {
-    let mut machine = mem::replace(handle, Handle::none(alloc)).into_box();
-    *reply = arrive_from(&mut machine.system, conn, fd, max);
-    *handle = Handle::of(machine);
+    calls::arrive_from(alloc, handle, conn, fd, max, reply);
 }
 
 /// Writes the first bytes queued on a connection to a descriptor, from their pages, at most `max`.
@@ -249,9 +145,7 @@ pub extern "C" fn iol_drain_to(
     reply: &mut IolReply,
 )
     requires { IsSome handle.old.value }
-    ensures { DrainsTo conn max reply.new handle.old.value handle.new.value }
+    ensures { DrainsTo conn fd max reply.new handle.old.value handle.new.value }
 {
-    let mut machine = mem::replace(handle, Handle::none(alloc)).into_box();
-    *reply = drain_to(&mut machine.system, conn, fd, max);
-    *handle = Handle::of(machine);
+    calls::drain_to(alloc, handle, conn, fd, max, reply);
 }

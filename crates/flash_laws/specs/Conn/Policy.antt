@@ -1,7 +1,7 @@
 -- The order of turns of connections, and the time at which the server yields, if no script runs.
 --
 -- A round goes over the connections by index, then accepts waiting ones, and ends with a yield. A connection continues until
--- its call is to be retried later, or its response was taken whole while more input is buffered, or it only reads more input.
+-- its call is to be retried later, its response is taken whole and more input is buffered, or it only reads more input.
 use Rattle.std.specs.Prelude.{ℕ, ◌==◌, ◌||◌, Bool, true, false, not, if◌then◌else◌, nat_lt, List, length, Option, Some, None}
 use Rattle.iol_core.specs.NumberedLists.{taken}
 use Rattle.iol_core.specs.declared.refusals.Refusal.TheVariants.{WouldBlock, TooMany, PoolClosed, NoRoom, Memory}
@@ -35,7 +35,7 @@ is_bare x = by x.doing
     by Rests = length x.kept == 0
     by d = false
 
--- whether its response was taken whole and more input is buffered, with which the next request may begin
+-- whether its response is taken whole, and more input is buffered, in which the next request may begin
 abbrev pub has_answered : Conn → Bool
 has_answered x = by x.doing
   where
@@ -43,8 +43,8 @@ has_answered x = by x.doing
     by (Sent a taken None) = not (length x.kept == 0)
     by d = false
 
--- whether its turn passes to the next: its call is to be retried later, its response was taken whole while more input is
--- buffered, or it only reads more input
+-- whether its turn passes to the next: its call is to be retried later, its response is taken whole and more input is buffered,
+-- or it only reads more input
 abbrev pub leaves_off : Option Conn → Reply → Bool
 leaves_off None r = true
 leaves_off (Some x) r = is_later r || (has_answered x || is_bare x)

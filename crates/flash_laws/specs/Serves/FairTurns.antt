@@ -1,4 +1,4 @@
--- Turns are fair: between two responses to one client each other client that may go has its turn.
+-- Fairness of turns: between two responses to one client each other client that may take a turn takes one.
 use Rattle.std.specs.Prelude.{◌≡◌, ◌≢◌, ◌⊎◌, ℕ, Bool, true, false, List, [], ◌∷◌, ◌++◌, Option, Some, None}
 use Rattle.iol_core.specs.NumberedLists.{in_place}
 use Rattle.iol_core.specs.declared.events.Reply.{Reply}
@@ -14,14 +14,14 @@ use Rattle.flash_laws.specs.declared.phase.Flight.TheVariants.{At}
 use Rattle.flash_laws.specs.declared.script_run.Running.{Running}
 use Rattle.flash_laws.specs.declared.script_run.Running.TheVariants.{Leaves}
 
--- one turn of the server: the reply to its last call, what it may read, what it does, and the server after it
+-- one turn of the server: the reply to its last call, the bytes that it may read, its action, and the server after it
 pub record OneTurn : Type 0 where
   pub last : Reply
   pub lent : ℕ → Option (List ℕ)
   pub made : Turn
   pub after : Server
 
--- its clients, once that reply is filed
+-- its clients after that reply
 abbrev pub clients_in : Server → OneTurn → List (Option Client)
 clients_in s x = filed_in s x.last x.lent
 
@@ -30,18 +30,18 @@ abbrev pub Follow : Server → List OneTurn → Type 0
 Follow s [] = Unit {0}
 Follow s (x ∷ xs) = server_turns in_rounds s x.last x.lent x.made x.after × Follow x.after xs
 
--- in each of them a client is in this place that may have its turn
+-- at each of them there is a client at this index that may take a turn
 abbrev pub GoesThroughout : (gd : ℕ) → Server → List OneTurn → Type 0
 GoesThroughout gd s [] = Unit {0}
 GoesThroughout gd s (x ∷ xs) = (goes_in (has_free s.workers (clients_in s x)) (in_place (clients_in s x) gd) ≡ true)
     × GoesThroughout gd x.after xs
 
--- one of them is that client's
+-- one of them is of the client at this index
 abbrev pub HasATurn : (gd : ℕ) → List OneTurn → Type 0
 HasATurn gd [] = ⊥
 HasATurn gd (x ∷ xs) = (x.after.flight ≡ At gd) ⊎ HasATurn gd xs
 
--- whether all of the response is taken
+-- whether the response is taken whole
 abbrev pub is_taken : Doing → Bool
 is_taken (Sent a taken None) = true
 is_taken d = false
@@ -54,14 +54,14 @@ is_answered x = by x.run
     by (Some (Leaves d)) = is_taken d
     by (Some y) = false
 
--- with this reply all of the response to the client in a place is taken
+-- with this reply the response to the client at an index is taken whole
 pub record Answers (fd : ℕ) (s : Server) (x : OneTurn) : Type 0 where
   pub client : Client
   pub turn : s.flight ≡ At fd
   pub there : in_place (clients_in s x) fd ≡ Some client
   pub answered : is_answered client ≡ true
 
--- the first call of a request of the client in a place is made
+-- the client at an index makes the first call for a request
 pub record BeginsAt (fd : ℕ) (s : Server) : Type 0 where
   pub client : Client
   pub turn : s.flight ≡ At fd
@@ -69,8 +69,8 @@ pub record BeginsAt (fd : ℕ) (s : Server) : Type 0 where
   pub begins : client.conn.doing ≡ begins client.conn.q
   pub no_script : client.run ≡ None
 
--- From the turn with whose reply all of a response is taken, to the turn in which the same client begins a request, each other
--- client that may have its turn throughout has one.
+-- From the turn with whose reply a response is taken whole, to the turn in which the same client begins a request, each other
+-- client that may take a turn at all of them takes one.
 abbrev pub TurnsAreFair : Type 0
 TurnsAreFair = (s : Server) (x : OneTurn) (xs : List OneTurn) (y : OneTurn) (fd gd : ℕ) → Follow s (x ∷ xs ++ y ∷ [])
     → Answers fd s x → BeginsAt fd y.after → fd ≢ gd → GoesThroughout gd s (x ∷ xs ++ y ∷ []) → HasATurn gd (x ∷ xs)

@@ -22,8 +22,8 @@ IsBefore (At gd) fd = fd < gd
 IsBefore w fd = Unit {0}
 
 pub record TurnsGoRound : Type 0 where
-  -- a client takes the next turn, too, only if its call succeeded, it does not wait for a worker, it does more than read, and
-  -- no response of it was taken whole while more input is buffered
+  -- a client takes the next turn, too, only if its call succeeded, it does not wait for a worker, it does more than read, and it
+  -- has no response that is taken whole while more input is buffered
   pub passes : (workers : ℕ) (clients : List (Option Client)) (fd : ℕ) (last : Reply)
       → in_rounds workers clients (At fd) last (At fd)
       → (x : Client) × (in_place clients fd ≡ Some x) × (is_later last ≡ false) × (awaits x ≡ false)

@@ -1,9 +1,9 @@
 -- The policy: the order of turns of clients, and the time at which the server yields.
 --
 -- A round goes over the clients by index, then accepts waiting connections, and ends with a yield. A client continues until its
--- call is to be retried later, its response was taken whole while more input is buffered, it only reads more input, or it has to
--- wait for a worker. A client that waits for a worker is passed over while no worker is free; a worker that becomes free is
--- assigned to the next waiting client by index.
+-- call is to be retried later, its response is taken whole and more input is buffered, it only reads more input, or it has to wait
+-- for a worker. A client that waits for a worker is passed over while none is free; a worker that becomes free is assigned to the
+-- next waiting client by index.
 use Rattle.std.specs.Prelude.{◌≡◌, ℕ, ◌+◌, ◌||◌, Bool, true, false, if◌then◌else◌, List, drop, position, Option, Some, None, option_map}
 use Rattle.iol_core.specs.NumberedLists.{in_place}
 use Rattle.iol_core.specs.declared.events.Reply.{Reply}
@@ -14,8 +14,8 @@ use Rattle.flash_laws.specs.Serves.{Policy}
 use Rattle.flash_laws.specs.declared.phase.Flight.{Flight}
 use Rattle.flash_laws.specs.declared.phase.Flight.TheVariants.{Nothing, Accepting, At}
 
--- whether its turn passes to the next: its call is to be retried later, it waits for a worker, its response was taken whole
--- while more input is buffered, or it only reads more input
+-- whether its turn passes to the next: its call is to be retried later, it waits for a worker, its response is taken whole and
+-- more input is buffered, or it only reads more input
 abbrev pub leaves_off : Option Client → Reply → Bool
 leaves_off None r = true
 leaves_off (Some x) r = is_later r || (awaits x || (has_answered x || is_bare x))

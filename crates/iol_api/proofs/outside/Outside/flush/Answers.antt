@@ -1,0 +1,8 @@
+-- The reply is of this event's type.
+use Rattle.iol_core.specs.Calls.Outside as calls
+use Rattle.iol_api.specs.Typed as spec
+use Rattle.iol_api.proofs.Shapes.{reply_of}
+use Rattle.iol_api.proofs.outside.Outside.flush.Goals as goal
+
+pub done-requires : goal.done-requires
+done-requires g c = reply_of spec.done (λ s. calls.flush s) c.event.ensures.step.step.beside

@@ -1,5 +1,0 @@
-use Rattle.iol_c.proofs.Runs.{calls_run}
-use Rattle.iol_c.proofs.laws.calls_are_a_run.Goals as goal
-
-pub returns : goal.returns
-returns c = calls_run

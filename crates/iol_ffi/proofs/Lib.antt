@@ -1,0 +1,4 @@
+pub mod AsBox
+pub mod Placing
+pub mod Rooms
+pub mod Runs

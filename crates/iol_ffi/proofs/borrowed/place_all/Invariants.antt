@@ -1,0 +1,17 @@
+use Rattle.std.proofs.Common.{◌≡◌, ◌+◌, ◌≤◌, ◌<◌, drop, length, min}
+use Rattle.std.specs.List.{concat}
+use Rattle.iol_ffi.specs.Parts.{WritesBelow}
+use Rattle.iol_ffi.proofs.borrowed.place_all.Given as goal
+
+-- What was counted, and what is left to count, is what there is. The parts that were counted are written.
+abbrev pub invariant-loop-part : goal.invariant-loop-part
+invariant-loop-part l = record {
+  can : (goal.iterator-loop-part).can_next l.part-iterator;
+  finite : (goal.iterator-loop-part).is_finite l.part-iterator;
+  count_fits : l.count ≤ 18446744073709551615;
+  len_fits : l.len ≤ 18446744073709551615;
+  parts : min (l.count + length l.part-iterator) 18446744073709551615 ≡ min (length l.fn.parts) 18446744073709551615;
+  bytes : min (l.len + length (concat l.part-iterator)) 18446744073709551615 ≡ min (length (concat l.fn.parts)) 18446744073709551615;
+  rest : l.count < 18446744073709551615 → l.part-iterator ≡ drop l.count l.fn.parts;
+  written : WritesBelow l.count l.fn.parts l.fn.skip l.fn.room l.room;
+}
