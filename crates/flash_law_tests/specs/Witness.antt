@@ -1,0 +1,22 @@
+-- A run of which the premises of the server's law hold.
+use Rattle.std.specs.Prelude.{ℕ, Bool, List}
+use Rattle.iol_core.specs.declared.events.Reply.{Reply}
+use Rattle.iol_kernel.specs.Readings.{slots_of}
+use Rattle.iol_proc.specs.World.{Stage, copied}
+use Rattle.iol_proc.specs.declared.choice.Choice.{Choice}
+use Rattle.iol_system.specs.Machine.{SystemState}
+use Rattle.flash_cgi.specs.declared.worker.Worker.{Worker}
+use Rattle.flash_laws.specs.World.Tie.{Actor}
+use Rattle.flash_lite.specs.Harmless.{AreHarmless, IsRightNow}
+use Rattle.flash_lite.specs.HostedSite.{Hosts, refusals_of}
+use Rattle.flash_lite.specs.declared.site.Site.{Site}
+
+-- The site was hosted over a store of these bytes by harmless choices, with these replies; and all that came of it is right, with the
+-- refusals that its turns had.
+pub record IsRightRun (s : Site) (stored : List (List ℕ)) (rs : List Reply) (turns : ℕ) (idle : Bool)
+    (after : Stage SystemState (Actor Worker)) : Type 0 where
+  pub choices : List Choice
+  pub hosts : Hosts s (slots_of stored) choices rs turns idle (copied after)
+  pub harmless : AreHarmless s choices
+  pub right : IsRightNow s (slots_of stored) choices rs turns idle (copied after) hosts
+      (refusals_of s (slots_of stored) choices rs turns idle (copied after) hosts)
