@@ -27,3 +27,12 @@ pub record IsWorldOf (names : List (List ℕ)) (store : Disk) (world : Stage Sys
   pub idle : Bool
   pub over : HostsOver config store site [] replies 0 idle world
   pub honest : HostsIfHonest store site [] replies 0 idle world
+
+-- A world of some site over some store, before its first turn.
+pub record IsSiteWorld (world : Stage SystemState (Actor Worker)) : Type 0 where
+  pub names : List (List ℕ)
+  pub store : Disk
+  pub is : IsWorldOf names store world
+
+abbrev pub BeginsSite : (world : Stage SystemState (Actor Worker)) → Type 0
+BeginsSite world = ∥ IsSiteWorld world ∥₁

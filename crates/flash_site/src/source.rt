@@ -1,4 +1,6 @@
 //! Where a site is read from, and when it is read again.
+ghost use Rattle.flash_site.specs.World.{BeginsSite};
+
 use crate::site::world_of;
 use flash_lite::actor::Actor;
 use iol_proc::world::World;
@@ -34,11 +36,12 @@ pub struct Summary {
     pub is_in_memory: bool,
 }
 
-/// A site as it was read, in a world in which nothing happened yet. Its store is honest just where the bytes are in memory.
+/// A site as it was read, in a world in which nothing has happened yet. Its store is honest exactly if the bytes are in memory.
 #[derive(Drop)]
 pub struct Loaded<R: Files> {
     pub world: World<TreeBacking<R>, Actor>,
     pub summary: Summary,
+    ghost begins: { BeginsSite world },
 }
 
 /// A folder whose files are a site.
