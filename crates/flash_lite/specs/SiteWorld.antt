@@ -1,5 +1,5 @@
 -- The world of a site that was set up in a new machine, with scripts or without, before its first turn.
-use Rattle.std.specs.Prelude.{◌≡◌, ◌≤◌, ℕ, Bool, true, List, length}
+use Rattle.std.specs.Prelude.{◌≡◌, ◌≤◌, ℕ, true, List, length}
 use Rattle.iol_back.specs.Disk.{IfHonest}
 use Rattle.iol_core.specs.State.{State, new_state}
 use Rattle.iol_core.specs.declared.limits.TheConstants.{MAX_FILES}

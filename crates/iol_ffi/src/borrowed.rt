@@ -1,5 +1,4 @@
 //! The bytes of an aggregate, borrowed in place by C.
-ghost use Rattle.std.specs.Prelude.{◌≡◌, length};
 ghost use Rattle.iol_ffi.specs.Parts.{AreCounted, Borrows, PlacesPart, WritesPart, WritesParts};
 ghost use denote.RawPtr.{block_ptr};
 

@@ -1,5 +1,5 @@
 //! Events as passed by C: a struct of numbers, and slices for bytes and domains.
-ghost use Rattle.std.specs.Prelude.{◌≡◌, ◌<◌, ◌≤◌, IfErr, IfNone, IfOk, IfSome};
+ghost use Rattle.std.specs.Prelude.{◌≡◌, ◌<◌, IfErr, IfNone, IfOk, IfSome};
 ghost use Rattle.iol_ffi.specs.Events.{CopiesInCall, CopiesList, IsCall, IsEvent, IsNoCall, IsNoEvent, IsNoPlainKind, IsPlainCall, IsUnread, how_number, mode_number};
 ghost use Rattle.iol_ffi.specs.Room as spec;
 

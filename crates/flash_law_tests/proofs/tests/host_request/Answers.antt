@@ -1,4 +1,4 @@
-use Rattle.std.proofs.Common.{IfOk, ◌≡◌, ℕ, Bool, List, [], ◌∷◌, subst}
+use Rattle.std.proofs.Common.{IfOk, ℕ, Bool, List, [], ◌∷◌, subst}
 use Rattle.std.specs.Prelude.{Result, Ok, Err}
 use Rattle.iol_core.specs.declared.events.Event.TheVariants as event
 use Rattle.iol_core.specs.declared.events.Reply.{Reply}
