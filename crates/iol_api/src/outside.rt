@@ -19,8 +19,8 @@ use iol_proc::process::Process;
 use iol_proc::world::World;
 use std::alloc::Global;
 
-/// The outside of a world: its peers, and the time at which its files are written back. It borrows the world until it is
-/// dropped.
+/// The outside of a world: its peers, and the time at which its files are written back. It borrows
+/// the world until it is dropped.
 #[derive(Drop)]
 pub struct Outside<'a, B: Backing, P: Process> {
     alloc: Global,
@@ -53,7 +53,8 @@ impl<'a, B: Backing + Drop, P: Process> Outside<'a, B, P> {
         replies::conn(self.event(Event::ConnNew { pool }))
     }
 
-    /// Bytes arrive on a connection, as many as its queue has room for: it holds at most 65,536. Returns how many arrived.
+    /// Bytes arrive on a connection, as many as its queue has room for: it holds at most 65,536.
+    /// Returns the number of bytes that arrived.
     pub fn arrive(&mut self, conn: ConnId, bytes: &[u8]) -> Result<u32, Refusal>
         ensures { HappensIfHeld P.turns reply.Count self.old (event.Arrive conn bytes.now) result self.new }
     {
@@ -68,8 +69,8 @@ impl<'a, B: Backing + Drop, P: Process> Outside<'a, B, P> {
         replies::done(self.event(Event::PeerClosed { conn, how }))
     }
 
-    /// Sends the first bytes that wait on a connection, at most `max`, which is at least 1. Returns them, and their
-    /// Internet checksum.
+    /// Sends the first bytes queued on a connection, at most `max`, which is at least 1. Returns
+    /// them, and their Internet checksum.
     pub fn transmit(&mut self, conn: ConnId, max: u32) -> Result<(Bytes, u16), Refusal>
         ensures { Happens P.turns spec.segment self.old (event.Transmit conn max) result self.new }
     {

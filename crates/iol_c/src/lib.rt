@@ -1,4 +1,5 @@
-//! The system for programs in C: eight exported functions, each a call of `iol_ffi` with the contract of that call.
+//! The system for programs in C: eight exported functions, each a call of `iol_ffi` with the
+//! contract of that call.
 //!
 //! `bindings/c/iolite.h` declares them. `docs/BINDINGS.md` lists the obligations of a caller in C.
 #![tactic(auto)]

@@ -29,8 +29,8 @@ fn place(part: &[u8], at: usize, room: &mut [IolPart])
     }
 }
 
-// Writes the part of this number into `room`, whose first place is for number `skip`. The last number
-// is not written: it may be that of several parts.
+// Writes the part of this number into `room`, whose first place is for number `skip`. The last
+// number, 2^64 - 1, is not written: it may be that of several parts.
 fn place_numbered(part: &[u8], number: u64, skip: usize, room: &mut [IolPart])
     ensures { WritesPart part.now number skip room.old room.new }
 {

@@ -1,4 +1,5 @@
-//! The calls of the C interface over a handle. `iol_c` exports each under its name in C, with the same contract.
+//! The calls of the C interface over a handle. `iol_c` exports each under its name in C, with the
+//! same contract.
 ghost use Rattle.std.specs.Prelude.{◌≡◌, ◌≤◌, IsSome, None, length};
 ghost use Rattle.iol_ffi.specs.Creation.{Creates, CreatesInMemory, CreatesOver, CreatesOverFiles, IsCreated, sizes};
 ghost use Rattle.iol_ffi.specs.Parts.{BorrowsTo};

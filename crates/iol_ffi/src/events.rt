@@ -209,8 +209,8 @@ fn most_of_call(call: &Call) -> usize
     }
 }
 
-/// The most bytes that an event may take from a file or a queue and return as a copy. A second event does not return them
-/// again.
+/// The most bytes that an event may take from a file or a queue and return as a copy. A second
+/// event does not return them again.
 pub(crate) fn most_bytes(event: &Event) -> usize
     ensures { result ≡ spec.most_bytes event.now }
 {

@@ -1,9 +1,10 @@
-//! The system behind a handle, as a program in C sees it: events, replies and counts as structs of numbers.
+//! The system behind a handle, as a program in C sees it: events, replies and counts as structs
+//! of numbers.
 //!
-//! The functions of [`calls`] are those that the static library `iol_c` exports; `bindings/c/iolite.h` declares them, and
-//! `docs/BINDINGS.md` lists what a caller in C owes. Their contracts end at the same structs: `calls::step` says that what
-//! C passed denotes an event, that the system takes a step by it that keeps all of `Promises`, and that what C gets is the
-//! reply.
+//! The static library `iol_c` exports the functions of [`calls`]; `bindings/c/iolite.h` declares
+//! them, and `docs/BINDINGS.md` lists the obligations of a caller in C. The contract of
+//! `calls::step`: the arguments denote an event, the system takes a step by it that keeps all of
+//! `Promises`, and C gets its reply. Or nothing was done, for one of the listed reasons.
 //!
 //!     let mut reply = IolReply { refusal: 0, about: 0, number: 0, second: 0 };
 //!     calls::step(alloc, &mut handle, &event, b"hello", &[], &mut [], &mut reply);
