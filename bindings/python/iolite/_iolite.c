@@ -179,7 +179,7 @@ static int hold_init(Hold *self, PyObject *args, PyObject *kw)
     System *system;
     unsigned by;
     unsigned long long agg;
-    if (kw || self->system || !PyArg_ParseTuple(args, "O!IK", &SystemType, &system, &by, &agg) || by > MAX_DOMAINS) {
+    if (kw || self->system || !PyArg_ParseTuple(args, "O!IK", &SystemType, &system, &by, &agg)) {
         if (!PyErr_Occurred())
             PyErr_SetString(PyExc_TypeError, "Hold(system, by, agg), once");
         return -1;
