@@ -53,7 +53,7 @@ impl MediaType {
         }
     }
 
-    // The media type as it is written in a head.
+    // The media type, as text of a head.
     pub(crate) fn as_str(self) -> &'static str
         ensures { result.now ≡ spec.media_text self }
     {

@@ -1,4 +1,4 @@
--- A run of which the premises of the server's law hold.
+-- A run that meets the premises of the server's law.
 use Rattle.std.specs.Prelude.{ℕ, Bool, List}
 use Rattle.iol_core.specs.declared.events.Reply.{Reply}
 use Rattle.iol_kernel.specs.Readings.{slots_of}
@@ -11,8 +11,8 @@ use Rattle.flash_lite.specs.Harmless.{AreHarmless, IsRightNow}
 use Rattle.flash_lite.specs.HostedSite.{Hosts, refusals_of}
 use Rattle.flash_lite.specs.declared.site.Site.{Site}
 
--- The site was hosted over a store of these bytes by harmless choices, with these replies; and all that came of it is right, with the
--- refusals that its turns had.
+-- The site was hosted over a store of these bytes with harmless choices and these replies; and the whole result is right, with
+-- the refusals that its turns got.
 pub record IsRightRun (s : Site) (stored : List (List ℕ)) (rs : List Reply) (turns : ℕ) (idle : Bool)
     (after : Stage SystemState (Actor Worker)) : Type 0 where
   pub choices : List Choice

@@ -1,6 +1,6 @@
-//! A site with a script is hosted over an honest store, and a client asks for the script. The
-//! contract of `host_request` says that the premises of the law hold of this run, and so does what
-//! it says of the answers. The test checks that a worker completed the request in it.
+//! A site with a script is hosted over an honest store, and a client requests the script. By the
+//! contract of `host_request`, the run meets the premises of the law, and the law's statement on
+//! answers applies to it. The test checks that a worker completed the request.
 ghost use Rattle.std.specs.Prelude.{IfOk};
 ghost use Rattle.flash_law_tests.specs.Witness.{IsRightRun};
 
@@ -58,7 +58,8 @@ fn site_of(alloc: Global) -> Result<Site, AllocError> {
     })
 }
 
-// A connection of the pool `net` comes, and these bytes arrive on it; then the processes have turns until all is idle.
+// Creates a connection of the pool `net`, on which these bytes arrive; then the processes take
+// turns until all are idle.
 fn host_request(
     alloc: Global,
     slots: Slots,
@@ -79,7 +80,7 @@ fn host_request(
     host(alloc, Config::DEFAULT, store, site, &choices, 65_536)
 }
 
-// Whether it is connection 1, and all bytes arrived.
+// Returns whether it is connection 1, and all bytes arrived.
 fn have_come(replies: &[Reply]) -> bool {
     match (replies.first(), replies.get(1)) {
         (Some(Reply::Conn(conn)), Some(Reply::Count(count))) => {
@@ -89,7 +90,8 @@ fn have_come(replies: &[Reply]) -> bool {
     }
 }
 
-// Whether the response waits to be sent, whole, at the end of the run, which was idle and not rough.
+// Returns whether the whole response is queued at the end of the run, which was idle and without
+// resource refusals.
 fn is_answered(mut hosted: Hosted<MemoryBacking>) -> bool {
     let conn = ConnId::new(1);
     let came = hosted.idle && !hosted.world.rough() && have_come(hosted.replies.as_slice());

@@ -46,8 +46,8 @@ pub trait RunsScripts: Drop {
 }
 
 /// Connections do not interfere, with any number of workers with distinct job pipes. A new world
-/// has the invariant. Each step preserves it, and so does a run, in rounds or with any policy of
-/// the server, if external calls are mild and turns are fair (`AreFair`): they get TooMany,
+/// has the invariant. Each step and each run preserve it, in rounds or with any policy of the
+/// server, if external calls are mild and turns are fair (`AreFair`): they get TooMany,
 /// NoRoom, Fault and Memory only as the site contents permit. In a world with the invariant, the
 /// bytes sent on each connection of the net begin an answer to its input, with files and output of
 /// scripts, and are all of it once the connection is closed, unless its peer left; and the server

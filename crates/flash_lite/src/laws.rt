@@ -19,8 +19,8 @@ use iol_laws::laws;
 use iol_proc::laws::{idle_is_settled, smooth_runs};
 
 /// Connections do not interfere, for every site, with or without scripts, for the account of
-/// `Actor` as a process. A new world has the invariant. Each step preserves it, and so does a run,
-/// if external calls are mild and turns are fair: they get TooMany, NoRoom, Fault and Memory only
+/// `Actor` as a process. A new world has the invariant. Each step and each run preserve it, if
+/// external calls are mild and turns are fair: they get TooMany, NoRoom, Fault and Memory only
 /// as the site contents permit. In a world with the invariant, the bytes sent on each connection
 /// of the net begin an answer to its input, with files and output of scripts, and are all of it
 /// once the connection is closed, unless its peer left. When all are idle, nothing is left to do

@@ -1,4 +1,4 @@
-//! Where a site is read from, and when it is read again.
+//! Reads a site from a folder, and again when it changes.
 ghost use Rattle.flash_site.specs.World.{BeginsSite};
 
 use crate::site::world_of;
@@ -12,17 +12,17 @@ use std::io::ErrorKind;
 use std::rt::{Clock, Files};
 use std::time::{SystemTime, UNIX_EPOCH};
 
-/// The bytes of a site that are read into memory at most, where nothing else is asked for.
+/// The default limit of the bytes of a site that are read into memory.
 pub const PRELOAD_BYTES: u64 = 0x1000_0000;
 
-/// How often the folder is read before it is given up that it stays the same meanwhile.
+/// The number of attempts to read a folder that changes while it is read.
 const ATTEMPTS: u32 = 5;
 
-/// Times of change are this coarse: a file that changed less than this number of nanoseconds ago may change once more with no
-/// other time of change.
+/// The granularity of modification times: a file that changed less than this number of nanoseconds
+/// ago may change again without a different time.
 const GRAIN_NANOS: i64 = 50_000_000;
 
-/// What a site consists of.
+/// The contents of a site.
 #[derive(Clone, Copy, Debug, PartialEq, Eq)]
 pub struct Summary {
     /// The number of its files, and of their bytes.
@@ -50,17 +50,19 @@ pub struct Source<R: Files> {
     rt: R,
     root: String,
 
-    // The bytes that are read into memory at most. None: all is served from the folder.
+    // The maximum number of bytes that are read into memory. None: all files are served from the
+    // folder.
     preload: Option<u64>,
 
-    // The files as they were read last, and whether one of them changed so shortly before that it is to be read again.
+    // The files of the last read, and whether one of them changed so shortly before that it must
+    // be read again.
     index: Option<Index>,
     is_young: bool,
 }
 
 impl<R: Files + Clock + AllocGlobal + Clone + Drop> Source<R> {
-    /// The site of a folder. Up to `preload` bytes of files are read into memory, and a larger site is served from the folder,
-    /// as is each where there is no `preload`.
+    /// The site of a folder. If it has at most `preload` bytes, they are read into memory;
+    /// otherwise, or without `preload`, the site is served from the folder.
     pub fn new(rt: &R, root: &str, preload: Option<u64>) -> io::Result<Source<R>> {
         Ok(Source {
             rt: rt.clone()?,
@@ -71,7 +73,7 @@ impl<R: Files + Clock + AllocGlobal + Clone + Drop> Source<R> {
         })
     }
 
-    /// Reads the site. Where it does not stay the same while it is read, it is served from the folder.
+    /// Reads the site. If it changes while it is read, it is served from the folder.
     pub fn load(&mut self) -> io::Result<Loaded<R>> {
         match self.load_steady()? {
             Some(loaded) => Ok(loaded),
@@ -82,8 +84,8 @@ impl<R: Files + Clock + AllocGlobal + Clone + Drop> Source<R> {
         }
     }
 
-    /// Reads the site again, if the folder changed since it was read last, or if `is_forced`. None: it did not change, or does
-    /// not stay the same while it is read, so that it is to be tried again later.
+    /// Reads the site again, if the folder changed since the last read, or if `is_forced`. None:
+    /// it did not change, or it changes while it is read, so that the caller should retry later.
     pub fn renew(&mut self, is_forced: bool) -> io::Result<Option<Loaded<R>>> {
         if !is_forced && !self.is_young && self.is_same()? {
             return Ok(None);
@@ -91,7 +93,7 @@ impl<R: Files + Clock + AllocGlobal + Clone + Drop> Source<R> {
         self.load_steady()
     }
 
-    // Whether the folder has the files that were read last, unchanged.
+    // Returns whether the folder has the files of the last read, unchanged.
     fn is_same(&self) -> io::Result<bool> {
         let now = Index::of(&self.rt, self.root.as_str())?;
         Ok(match &self.index {
@@ -100,7 +102,7 @@ impl<R: Files + Clock + AllocGlobal + Clone + Drop> Source<R> {
         })
     }
 
-    // Reads the site, unless it changes meanwhile, each time that this is tried.
+    // Reads the site, unless it changes during each attempt.
     fn load_steady(&mut self) -> io::Result<Option<Loaded<R>>> {
         for _ in 0..ATTEMPTS {
             let index = Index::of(&self.rt, self.root.as_str())?;
@@ -114,7 +116,7 @@ impl<R: Files + Clock + AllocGlobal + Clone + Drop> Source<R> {
         Ok(None)
     }
 
-    // Whether the files are to be read into memory.
+    // Returns whether the files are read into memory.
     fn fits(&self, index: &Index) -> bool {
         match self.preload {
             Some(most) => index.total() <= most,
@@ -122,7 +124,7 @@ impl<R: Files + Clock + AllocGlobal + Clone + Drop> Source<R> {
         }
     }
 
-    // Reads the files into memory. None: the folder changed meanwhile.
+    // Reads the files into memory. None: the folder changed while it was read.
     fn load_memory(&mut self, index: Index) -> io::Result<Option<Loaded<R>>> {
         let contents = match read_all(&self.rt, &index) {
             Ok(contents) => contents,
@@ -144,7 +146,7 @@ impl<R: Files + Clock + AllocGlobal + Clone + Drop> Source<R> {
         self.host(store, kept)
     }
 
-    // Makes the world of a store whose files are those of an index.
+    // Creates the world of a store with the files of an index.
     fn host(&mut self, store: TreeBacking<R>, index: Index) -> io::Result<Loaded<R>> {
         let summary = Summary {
             files: index.count(),
@@ -161,7 +163,7 @@ impl<R: Files + Clock + AllocGlobal + Clone + Drop> Source<R> {
         }
     }
 
-    // A moment ago, in seconds and nanoseconds since 1970.
+    // The time one granule ago, in seconds and nanoseconds since 1970.
     fn grain_ago(&self) -> io::Result<(i64, i64)> {
         let now = SystemTime::now(&self.rt)?;
         let Ok(since) = now.duration_since(UNIX_EPOCH) else {

@@ -1,4 +1,4 @@
--- What follows a stream of whole requests is answered as by itself.
+-- The answer after a stream of whole requests is that of the remaining stream by itself.
 use Rattle.std.proofs.Common.{inl, inr, ◌≡◌, ◌⊎◌, ◌∙◌, ℕ, true, false, List, [], ◌∷◌, ◌++◌, ap, refl, sym, subst, append_assoc}
 use Rattle.std.specs.List.{concat, list_all}
 use Rattle.std.proofs.lemmas.Bool.{and_from, and_parts}

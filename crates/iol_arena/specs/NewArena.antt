@@ -7,7 +7,8 @@ use Rattle.iol_core.specs.declared.refusals.Refusal.{Refusal}
 use Rattle.iol_core.specs.declared.refusals.Refusal.TheVariants.{BadRange, Memory}
 use Rattle.iol_arena.specs.State.{State, no_entry}
 
--- the arena has this number of chunks, and none is taken; all its pages are free and unraised, and `last` is their last generation
+-- the arena has this number of chunks, and no chunk is taken; all its pages are free and unraised, and `last` is their last
+-- generation
 pub record IsAllFree (s : State) (chunks last : ℕ) : Type 0 where
   pub entries : s.entries ≡ replicate (chunks * CHUNK_PAGES) no_entry
   pub taken : s.taken ≡ replicate chunks false

@@ -50,7 +50,7 @@ pub record FillsPart (old new : State) (p : Part) (bytes : List ℕ) (b : BufId)
   pub memory : new.memory ≡ (filled old p bytes).memory
   pub runs : HasRuns new.entries
 
--- The first n bytes of the parts are these buffers. Pages that got none are free again, unraised, and no other changed.
+-- The first n bytes of the parts are these buffers. Pages without a buffer are free again, unraised, and no other page changed.
 pub record PublishesParts (old new : State) (ps : List Part) (n : ℕ) (bufs : List BufId) : Type 0 where
   pub adds : Adds old new bufs (take n (flat_map (part_bytes old) ps))
   pub few : length bufs ≤ length ps

@@ -1,2 +1,2 @@
--- The words that contracts of other crates cite, passed on from one place. Declares nothing.
+-- Re-exports the definitions that contracts of other crates cite. It declares nothing.
 pub use Rattle.iol_back.specs.Disk.{Disk, IfHonest, IsSlot, raised}

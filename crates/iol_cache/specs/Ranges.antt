@@ -91,8 +91,8 @@ abbrev pub CompletesRange : (f from to : ℕ) → List Slice → List Span → D
 CompletesRange f from to pins gaps disk old new xs =
     IsAllShared pins gaps old new xs ⊎ FillsAfter f from to pins gaps disk old new xs
 
--- Room was made for the gaps. The gaps that were read are released, and so are the shared bytes outside them. Extents were evicted,
--- and pages filled, only if the gaps' pages could be made free, and not if there is no room.
+-- Room was made for the gaps. The gaps that were read and the shared bytes outside them are released. Extents were evicted, and
+-- pages filled, only if the gaps' pages could be made free, and not if there is no room.
 pub record UndoesAfter (f : ℕ) (pins : List Slice) (gaps : List Span) (old new : Holding) (x : Refusal) : Type 0 where
   pub mid : Holding
   pub victims : EvictsAll (file_in old.cache.files f).pool (Some (gap_pages gaps)) old mid

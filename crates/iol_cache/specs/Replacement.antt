@@ -14,7 +14,7 @@ use Rattle.iol_cache.specs.CacheState.{Cached, all_parts, clean_in, entries_at, 
 use Rattle.iol_cache.specs.Marks.{AreWithin, HasMarksLeft, at_page}
 use Rattle.iol_cache.specs.RangeReads.{RanksFile}
 
--- The extents of file f changed, and with them the order and the marks, as far as they are of the file. L stays.
+-- The extents of file f changed, and the entries of the file in the order and among the marks. L is unchanged.
 pub record Reindexes (f : ℕ) (es fs : List Extent) (r t : Ranking) (marks new : List ℕ) : Type 0 where
   pub ranked : RanksFile r f es → RanksFile t f fs
   pub others : (g b : ℕ) → (g ≡ f → ⊥) → entries_at g b t.entries ≡ entries_at g b r.entries

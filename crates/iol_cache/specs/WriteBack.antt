@@ -167,7 +167,7 @@ abbrev pub EndsSync : {A : Type 0} → (f : ℕ) (old new : Cached) (d e : Disk)
 EndsSync f old new d e (Ok x) = IsClean f old new d e
 EndsSync f old new d e (Err x) = Fails f old new d e × (x ≡ Fault f)
 
--- The dirty extents of a file were written back, one after another, until none was left or the store failed.
+-- The dirty extents of a file were written back, one after another, until no dirty extent was left or the store failed.
 pub record WritesDirty {A : Type 0} (s : Stored) (f : ℕ) (old new : Cached) (d e : Disk) (r : Result A Refusal) : Type 0 where
   pub count : ℕ
   pub mid : Cached

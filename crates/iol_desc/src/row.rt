@@ -142,7 +142,7 @@ impl<A: Drop> Domain<A> {
         self.aggs.take_all(alloc)
     }
 
-    /// Takes all descriptors: none is open afterwards.
+    /// Takes all descriptors: no descriptor is open afterwards.
     pub(crate) fn take_fds(&mut self, alloc: Global) -> Vec<Option<Descriptor>>
         ensures given { result.items ≡ self.old.domain.fds }
         ensures rest { self.new.domain ≡ record self.old.domain { fds = [] } }

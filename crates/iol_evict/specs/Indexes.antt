@@ -86,7 +86,7 @@ pub record IsIndexed (s : Slab Entry) (by_place by_height : List ℕ) : Type 0 w
   pub same : HaveSameKeys by_place by_height
   pub sized : (i : ℕ) → i < length by_place → 0 < (entry_of s (slice_index by_place i)).size
 
--- The entries at the first n of these keys are lower by `low`, and all others as they were. The room stays.
+-- The entries at the first n of these keys are lower by `low`. All other entries and the room are unchanged.
 pub record Lowers (low : ℕ) (keys : List ℕ) (n : ℕ) (old new : Slab Entry) : Type 0 where
   pub done : (i : ℕ) → i < n → i < length keys →
       entry_of new (slice_index keys i) ≡ lowered_by low (entry_of old (slice_index keys i))
@@ -102,7 +102,7 @@ pub record SetsEntry (old new : Slab Entry) (key : ℕ) (entry : Entry) : Type 0
   pub len : slab_len new ≡ slab_len old
   pub capacity : new.capacity ≡ old.capacity
 
--- The entry at a key has this height then, is else as it was, and the room stays.
+-- The entry at a key has this height then. Its other fields and the room are unchanged.
 abbrev pub SetsHeight : (old new : Slab Entry) → (key height : ℕ) → Type 0
 SetsHeight old new key height = SetsEntry old new key (record (entry_of old key) { height = height })
 
@@ -142,7 +142,7 @@ pub record SortsAll (s : Slab Entry) (keys : List ℕ) (old new : Keys) : Type 0
   pub len : deque_len new ≡ length keys
   pub capacity : deque_capacity old ≤ deque_capacity new
 
--- The keys are as they were, and there is no less room; on success there is room for so many keys more.
+-- The keys are unchanged, and there is no less room; on success there is room for n more keys.
 pub record ReservesKeys {E : Type 0} (count : ℕ) (old new : Keys) (r : Result (Unit {0}) E)
     : Type 0 where
   pub room : OnOk r (deque_len new + count ≤ deque_capacity new)
@@ -150,7 +150,7 @@ pub record ReservesKeys {E : Type 0} (count : ℕ) (old new : Keys) (r : Result 
   pub len : deque_len new ≡ deque_len old
   pub capacity : deque_capacity old ≤ deque_capacity new
 
--- The entries are as they were, and there is no less room; on success there is room for so many entries more.
+-- The entries are unchanged, and there is no less room; on success there is room for n more entries.
 pub record ReservesEntries {E : Type 0} (count : ℕ) (old new : Slab Entry)
     (r : Result (Unit {0}) E) : Type 0 where
   pub room : OnOk r (HasRoomFor new count)

@@ -30,7 +30,8 @@ pub record IsVictim (in_use : ℕ → ℕ → Bool) (es : List Entry) (place : �
 pub record AreUsedBelow (in_use : ℕ → ℕ → Bool) (rank : Rank) (es : List Entry) : Type 0 where
   pub each : All (λ e. RankLt (rank_by Height e) rank → in_use e.file e.at ≡ true) es
 
--- For any predicate `in use`: if all of the old entries below one rank are in use, so are all of the new ones below the other.
+-- For any predicate `in use`: if all old entries below one rank are in use, then all new entries below the other rank are in
+-- use.
 abbrev pub KeepsUsedBelow : (was now : Rank) → (old new : List Entry) → Type 0
 KeepsUsedBelow was now old new = (in_use : ℕ → ℕ → Bool) → AreUsedBelow in_use was old → AreUsedBelow in_use now new
 

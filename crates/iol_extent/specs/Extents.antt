@@ -141,7 +141,7 @@ pub record IsFirstDirty (es : List Extent) (at : ℕ) : Type 0 where
 abbrev pub as_clean : Extent → Extent
 as_clean e = extent_of e.at e.parts false
 
--- the extent in a place of the list is clean then, and all else is as it was
+-- the extent at a place of the list is clean then, and nothing else changed
 abbrev pub CleansPlace : (place : ℕ) → (old new : List Extent) → Type 0
 CleansPlace place old new = (d : Extent) → new ≡ slice_set old place (as_clean (slice_index_or old place d))
 

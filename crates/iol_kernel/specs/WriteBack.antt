@@ -49,8 +49,8 @@ abbrev pub done_of : Result Flushed Refusal → Result (Unit {0}) Refusal
 done_of (Ok x) = Ok tt
 done_of (Err x) = Err x
 
--- The dirty extent of least file and offset was written back and is clean, unless none was dirty or the store failed. Fault
--- is returned exactly when one more failure was counted. Nothing else changed.
+-- The dirty extent of least file and offset was written back and is clean, unless no extent was dirty or the store failed.
+-- Fault is returned exactly when one more failure was counted. Nothing else changed.
 pub record FlushesOne (disk : Disk) (old : KernelState) (r : Result (Unit {0}) Refusal) (after : Disk)
     (new : KernelState) : Type 0 where
   pub flushed : Result Flushed Refusal

@@ -89,7 +89,7 @@ impl Kernel {
         }
     }
 
-    /// Whether bytes are requested, none are queued, and more may arrive.
+    /// Whether bytes are requested, the queue is empty, and more may arrive.
     pub(crate) fn must_wait(&self, from: &Descriptor, count: usize) -> bool
         ensures { (f : Reading) → result ≡ reading.must_wait (as_read f self.now) (Some from.now)
             count }

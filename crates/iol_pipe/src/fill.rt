@@ -18,8 +18,8 @@ use std::collections::VecDeque;
 
 impl Pipe {
     /// Takes in new bytes of an open pool, as many as fit, and returns their number. They are
-    /// stored in new buffers on the lowest free pages of the pool. If no byte fits or none is
-    /// given, it takes no page.
+    /// stored in new buffers on the lowest free pages of the pool. If no byte fits, or the list is
+    /// empty, it takes no page.
     pub fn fill(
         &mut self,
         alloc: Global,

@@ -8,8 +8,8 @@
 //! its bytes at the front of the caller's memory; `copies`: when there is room, when Fault is returned,
 //! and the changes of pages and of the extents of files in memory; `count`: at most as many bytes as
 //! there is room for, and fewer than 2^32; `rest`: the other bytes are unchanged; `err`: after a refusal
-//! all are), and so has [`read_bytes`], `ReadsList` (`serves`, `copies`: the same, as a separate list),
-//! and [`write`], `WritesBytes` (`serves`; `queue`: the bytes that a queue takes are on the lowest free
+//! all are). [`read_bytes`] has `ReadsList` (`serves`, `copies`: the same, as a separate list), and
+//! [`write`] has `WritesBytes` (`serves`; `queue`: the bytes that a queue takes are on the lowest free
 //! pages of the caller's default pool, after clean extents were evicted; `lays`, `puts`: the changes of a
 //! file; `room`, `no_room`, `memory`; `refused`: any refusal except NoRoom and Memory changed nothing).
 //! The definitions are in `specs/Reads` and in iol_kernel's specs.

@@ -1,4 +1,4 @@
--- The first bytes of a queue, as they are sent.
+-- The first bytes of a queue, which are sent.
 use Rattle.std.specs.Prelude.{◌≡◌, ◌<◌, ◌≤◌, ℕ, true, false, List, Option, Result, IfOk, OnErr, length, map, take, drop, min}
 use Rattle.std.specs.Io.KnownBytes.{Appends}
 use Rattle.iol_core.specs.Prelude.{checksum as checksum_of}

@@ -31,7 +31,7 @@ conn_in conns c = unwrap_or (lookup conns c) no_conn
 abbrev pub with_conn : ConnTable → (c : ℕ) → Conn (List Slice) → ConnTable
 with_conn t c x = record t { conns = changed t.conns c x }
 
--- Only the connection of that number changes in a table. If it is unchanged, so is the table.
+-- Only the connection of that number changes in a table. If it is unchanged, the table is unchanged.
 pub record ChangesOne (t u : ConnTable) (c : ℕ) : Type 0 where
   pub others : u ≡ with_conn t c (conn_in u.conns c)
   pub same : conn_in u.conns c ≡ conn_in t.conns c → u ≡ t

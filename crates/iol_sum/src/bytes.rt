@@ -21,8 +21,8 @@ fn fold(total: u128) -> u16
 /// The folded sum of the bytes, as big-endian words of 16 bits. An odd last byte is the high byte
 /// of a word whose low byte is 0. The number of bytes is not limited.
 ///
-/// It reads eight bytes at a time, in little-endian order. Each word then has its two bytes
-/// swapped, and so has the sum, which is swapped back at the end (RFC 1071, section 2 (B)).
+/// It reads eight bytes at a time, in little-endian order. The two bytes of each word and those of
+/// the sum are then swapped; the sum is swapped back at the end (RFC 1071, section 2 (B)).
 pub fn sum_of(bytes: &[u8]) -> u16
     ensures { IsSumOf bytes.now result }
 {

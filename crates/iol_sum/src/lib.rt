@@ -7,9 +7,9 @@
 //! again need not be read again (OSDI 1999, cross-subsystem optimization).
 //!
 //! The contract: the sum returned is that of the slice's bytes, for every content of the cache and
-//! every division into slices. It requires `IsRight`. A new cache meets it, `sum` and `sum_all`
-//! preserve it, and so does every call of the store ([`laws`]): a page that is reused has another
-//! generation, and an old key never matches it.
+//! every division into slices. It requires `IsRight`. A new cache meets it; `sum`, `sum_all` and
+//! every call of the store preserve it ([`laws`]): a page that is reused has another generation, and
+//! an old key never matches it.
 //!
 //! ```text
 //! let sum = sums.sum_all(&store, agg.slices());

@@ -95,8 +95,8 @@ pub record IsMet (Read : (f i : ℕ) → Type 0) (c : Cached) (f at : ℕ) : Typ
   pub over : extent_over (extents_in c.files f) byte ≡ Some extent
   pub begins : extent.at ≡ at
 
--- The extents of files in memory are unchanged, dirty or clean. L of each pool is unchanged, and so is each clean extent in
--- the pool's order, except that hits are counted for extents that the range read meets.
+-- The extents of files in memory are unchanged, dirty or clean. L of each pool and each clean extent in the pool's order are
+-- unchanged, except that hits are counted for extents that the range read meets.
 pub record EvictsNothing (Read : (f i : ℕ) → Type 0) (old new : Cached) : Type 0 where
   pub extents : (f : ℕ) → extents_in new.files f ≡ extents_in old.files f
   pub low : (p : ℕ) → (order_in new.orders p).low ≡ (order_in old.orders p).low

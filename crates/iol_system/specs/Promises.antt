@@ -95,7 +95,7 @@ pub record Promises (old : SystemState) (e : Event) (r : Reply) (new : SystemSta
   pub synced : IsDone r → IsSynced old.kernel e new.kernel
   -- and an honest store has exactly that file
   pub kept : IfHonest old.disk (IsDone r → IsKept old.kernel e new)
-  -- `flush` leaves one dirty extent fewer, or none was there
+  -- `flush` leaves one dirty extent fewer, or there was no dirty extent
   pub flushed : IsDone r → IsFlushed old.kernel e new.kernel
   -- `drop_clean` leaves no clean extent
   pub dropped : IsDropped old.kernel e new.kernel

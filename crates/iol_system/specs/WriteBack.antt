@@ -58,7 +58,8 @@ abbrev pub IsFlushed : KernelState → Event → KernelState → Type 0
 IsFlushed old event.Flush new = CleansFirst old.cache new.cache ⊎ (AllClean (length old.cache.files) old.cache × (new ≡ old))
 IsFlushed old e new = ⊤
 
--- The clean extents of all files were evicted, those of each pool in their order, and none is left. Nothing else changed.
+-- The clean extents of all files were evicted, those of each pool in their order; no clean extent is left. Nothing else
+-- changed.
 pub record DropsClean (old new : KernelState) : Type 0 where
   pub none : (f : ℕ) → AllDirty (extents_in new.cache.files f)
   pub victims : EvictsPools (length old.cache.orders) (holding_of old) (holding_of new)

@@ -61,7 +61,7 @@ abbrev pub of_part : PartCall → ℕ → ℕ → Call
 of_part AggSplit agg at = call.AggSplit agg at
 of_part AggGive agg domain = call.AggGive agg domain
 
--- all names, as they are written in a line
+-- all names, in the spelling of a line
 abbrev pub names : List (List ℕ × CallName)
 names =
     (codes "pool_close", name.Number PoolClose)

@@ -9,8 +9,8 @@
 //! numbers, and a text. A count before every text is the number of its repetitions; `%` and two
 //! hexadecimal digits are one byte. A list of domains is a text of one byte each.
 //!
-//! A system, an event or a report that runs out of memory is retried, and so is an event with the
-//! AGAIN `fault` after a fault. One empty line is written before the system is created, after its
+//! A system, an event or a report that runs out of memory is retried, also an event with the AGAIN
+//! `fault` after a fault. One empty line is written before the system is created, after its
 //! inputs are made. All replies are printed at the end, including those of events that were
 //! retried.
 #![tactic(auto)]
