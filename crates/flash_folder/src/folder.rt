@@ -1,7 +1,7 @@
-//! A site of the files of a folder, and the world that serves it.
+//! A site with the files of a folder, and the world that serves it.
 ghost use Rattle.std.specs.Prelude.{◌≡◌, ◌<◌, IfErr, IfOk, Some, true, false, length, slice_get};
 ghost use Rattle.iol_core.specs.declared.limits.TheConstants.{MAX_FILES};
-ghost use Rattle.flash_folder.specs.Fault.{StopsServing, StopsStart};
+ghost use Rattle.flash_folder.specs.Fault.{StopsStart};
 ghost use Rattle.flash_folder.specs.Folder.{AreFilesOf};
 ghost use Rattle.flash_lite.specs.Prelude.{is_in_range};
 
@@ -10,93 +10,34 @@ use flash_lite::actor::Actor;
 use flash_lite::site::{Site, SiteFile};
 use iol_back::folder::FolderBacking;
 use iol_core::configuration::Config;
-use iol_core::events::{Event, Reply};
-use iol_core::numbers::{ConnId, FileId, PoolId};
+use iol_core::numbers::FileId;
 use iol_core::refusals::Refusal;
-use iol_listen::queue::ServeFault;
-use iol_listen::serve::serve_all;
 use iol_proc::world::World;
-use iol_serve::ending::Ending;
-use iol_serve::serve::serve_connection;
 use std::alloc::{AllocError, Global};
-use std::io::{Read, Write};
-use std::marker::Model;
-use std::net::TcpListener;
 use std::rt::Files;
 
-/// The pool that connections take their bytes into.
-const NET: u32 = 2;
+/// The pool for the input of connections.
+pub const NET: u32 = 2;
 
-/// The world that serves the files of a folder.
-#[derive(Drop)]
-pub struct Host<R: Files> {
-    alloc: Global,
-    world: World<FolderBacking<R>, Actor>,
-}
-
-impl<R: Files> Model for Host<R> {
-    ghost Value = { Unit {0} };
-
-    ghost view = { λ _. tt };
-}
-
-impl<R: Files + AllocGlobal + Clone + Drop> Host<R> {
-    /// The files of a folder, as they are now, and the processes that serve them.
-    pub fn new(rt: &R, root: &str) -> Result<Host<R>, Fault>
-        ensures { IfErr result StopsStart }
-    {
-        let store = match FolderBacking::new(rt, root) {
-            Ok(store) => store,
-            Err(e) => return Err(Fault::of(&e, Fault::Folder)),
-        };
-        // All is within its limits, so only memory can be wanting.
-        let alloc = rt.alloc();
-        match world_over(alloc, store) {
-            Ok(world) => Ok(Host { alloc, world }),
-            Err(_) => Err(Fault::Memory),
-        }
+/// Creates a world that serves the files of a folder, with their current contents.
+pub fn world_of<R: Files + AllocGlobal + Clone + Drop>(
+    rt: &R,
+    root: &str,
+) -> Result<World<FolderBacking<R>, Actor>, Fault>
+    ensures { IfErr result StopsStart }
+{
+    let store = match FolderBacking::new(rt, root) {
+        Ok(store) => store,
+        Err(e) => return Err(Fault::of(&e, Fault::Folder)),
+    };
+    // All sizes are within their limits, so the only possible error is out of memory.
+    match world_over(rt.alloc(), store) {
+        Ok(world) => Ok(world),
+        Err(_) => Err(Fault::Memory),
     }
 }
 
-impl<R: Files + Drop> Host<R> {
-    /// Serves so many connections of a listener, one after another.
-    pub fn serve(&mut self, listener: &TcpListener, count: u32) -> Result<(), Fault>
-        ensures { IfErr result StopsServing }
-    {
-        let pool = PoolId::new(NET);
-        match serve_all(self.alloc, listener, &mut self.world, pool, count) {
-            Ok(()) => Ok(()),
-            Err(ServeFault::Accept) => Err(Fault::Accept),
-            Err(ServeFault::Memory) => Err(Fault::Memory),
-        }
-    }
-
-    /// Serves one connection, from a reader and to a writer: how that ended.
-    pub fn answer<I: Read, O: Write>(
-        &mut self,
-        reader: &mut I,
-        writer: &mut O,
-    ) -> Result<Ending, Fault>
-        ensures { IfErr result (λ fault. fault ≡ Fault.Memory) }
-    {
-        let conn = self.connect()?;
-        Ok(serve_connection(&mut self.world, conn, reader, writer))
-    }
-
-    // A new connection. The first one has a place, so only memory can be wanting.
-    fn connect(&mut self) -> Result<ConnId, Fault>
-        ensures { IfErr result (λ fault. fault ≡ Fault.Memory) }
-    {
-        let pool = PoolId::new(NET);
-        let reply = self.world.step_outside(Event::ConnNew { pool });
-        match &reply {
-            Reply::Conn(conn) => Ok(*conn),
-            _ => Err(Fault::Memory),
-        }
-    }
-}
-
-// All files of a store, by their slots, for everybody.
+// All files of a store, by slot, readable by all.
 fn files_of<R: Files>(alloc: Global, store: &FolderBacking<R>) -> Result<Vec<SiteFile>, AllocError>
     ensures { IfOk result (λ files. AreFilesOf store.now.names files.items) }
 {
@@ -107,7 +48,7 @@ fn files_of<R: Files>(alloc: Global, store: &FolderBacking<R>) -> Result<Vec<Sit
     Ok(files)
 }
 
-// The file in a place.
+// The file in a slot.
 fn file_at<R: Files>(
     alloc: Global,
     store: &FolderBacking<R>,
@@ -126,7 +67,7 @@ fn file_at<R: Files>(
     Ok(SiteFile { name, private })
 }
 
-// Four workers, and every file for everybody. The chunks are those of the system, all of them.
+// A site with four workers, with every file readable by all, and with all chunks of the system.
 fn site_of<R: Files>(alloc: Global, store: &FolderBacking<R>) -> Result<Site, AllocError>
     ensures files { IfOk result (λ site. AreFilesOf store.now.names site.files.items) }
     ensures range { IfOk result (λ site. is_in_range site ≡ true) }
@@ -142,7 +83,7 @@ fn site_of<R: Files>(alloc: Global, store: &FolderBacking<R>) -> Result<Site, Al
     })
 }
 
-// The world of the site of a store's files.
+// Creates the world of a site over a store's files.
 fn world_over<R: Files + Drop>(
     alloc: Global,
     store: FolderBacking<R>,

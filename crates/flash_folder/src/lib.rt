@@ -1,9 +1,8 @@
-//! The files of a folder, served by the file server to the clients of a listener.
+//! The files of a folder, served by the file server.
 //!
-//! [`serve`](serve::serve) and [`loop_on`](loopback::loop_on) are programs, but for their words:
-//! each answers its exit status, and tells on standard error what ended it early
-//! ([`Fault`](fault::Fault)). [`serve_on`](serve::serve_on) serves a listener that is there
-//! already.
+//! [`serve`](serve::serve) and [`loop_on`](loopback::loop_on) are programs, except for their words: each returns its exit status,
+//! and reports on standard error what ended it early ([`Fault`](fault::Fault)). `serve` serves many clients at once, on the
+//! event loop of `iol_reactor`. [`Server`](serve::Server) is the same in three steps: it reads and listens, gives its port, serves.
 //!
 //!     let status = serve(&rt, 8080, "site", 100, &mut rt.stdout(), &mut rt.stderr());
 #![tactic(auto)]
@@ -12,3 +11,4 @@ pub mod fault;
 pub mod folder;
 pub mod loopback;
 pub mod serve;
+pub mod service;

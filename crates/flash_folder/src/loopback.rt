@@ -1,24 +1,31 @@
 //! A server and its client in one program, over a connection to itself.
-ghost use Rattle.std.specs.Prelude.{◌≡◌, ◌⊎◌, ◌≤◌, ◌↔◌, false, length, IfOk, IsOk};
+ghost use Rattle.std.specs.Prelude.{◌≡◌, ◌⊎◌, ◌≤◌, ◌↔◌, false, length, IfErr, IfOk, IsOk};
 ghost use Rattle.iol_serve.specs.Prelude.{hung_up};
 
 use crate::fault::{Fault, ended};
-use crate::folder::Host;
-use crate::serve::listen;
+use crate::folder::{NET, world_of};
+use flash_lite::actor::Actor;
+use iol_back::folder::FolderBacking;
+use iol_core::events::{Event, Reply};
+use iol_core::numbers::{ConnId, PoolId};
+use iol_proc::world::World;
 use iol_serve::ending::Ending;
+use iol_serve::serve::serve_connection;
 use std::io;
 use std::io::{ErrorKind, Read, Write};
-use std::net::{Net, TcpListener, TcpStream};
+use std::net::{Ipv4Addr, Net, SocketAddr, TcpListener, TcpStream};
 use std::rt::Files;
 use std::time::Duration;
 
-/// How long either end waits for the other, in seconds.
+/// The timeout of either end, in seconds.
 const WAIT: u64 = 5;
 
-/// The most bytes that are sent before they are read again. They fit any socket's buffer.
+/// The maximum number of bytes that are sent before they are read again. They fit into any socket
+/// buffer.
 const PIECE: usize = 4096;
 
-/// The server's end of a connection whose other end is here too. What was sent is read there at once, and printed.
+/// The server's end of a connection whose other end is in this program, too. Sent bytes are read
+/// there at once, and printed.
 #[derive(Drop)]
 struct Looped<'a, W: Write> {
     server: &'a TcpStream,
@@ -72,7 +79,8 @@ impl<'a, W: Write> Write for Looped<'a, W> {
     }
 }
 
-/// Asks a server of the files of a folder for a path, and prints the answer: the exit status.
+/// Requests a path from a server of the files of a folder, prints the response, and returns the
+/// exit status.
 pub fn loop_on<R, W: Write, E: Write>(
     rt: &R,
     root: &str,
@@ -88,19 +96,19 @@ where
     ended(ask_and_print(rt, root, path, output), errors)
 }
 
-// Does the work of `loop_on`, up to the first fault.
+// The work of `loop_on`, up to the first fault.
 fn ask_and_print<R, W: Write>(rt: &R, root: &str, path: &str, output: &mut W) -> Result<(), Fault>
 where
     R: Net<Listener = TcpListener, Stream = TcpStream> + Files + AllocGlobal + Clone + Drop,
 {
-    let mut host = Host::new(rt, root)?;
-    ask_host(rt, &mut host, path, output)
+    let mut world = world_of(rt, root)?;
+    ask_world(rt, &mut world, path, output)
 }
 
-// Asks over a connection to this program itself.
-fn ask_host<R, W: Write>(
+// Sends the request over a connection to this program itself.
+fn ask_world<R, W: Write>(
     rt: &R,
-    host: &mut Host<R>,
+    world: &mut World<FolderBacking<R>, Actor>,
     path: &str,
     output: &mut W,
 ) -> Result<(), Fault>
@@ -111,19 +119,21 @@ where
     if ask(&client, path).is_err() {
         return Err(Fault::Connect);
     }
-    pass_through(host, &server, &client, output)?;
+    pass_through(world, &server, &client, output)?;
     match output.flush() {
         Ok(()) => Ok(()),
         Err(e) => Err(Fault::of(&e, Fault::Output)),
     }
 }
 
-// A connection to this program itself: its client, and its server.
+// A connection to this program itself: its client's end, and its server's end.
 fn connect<R>(rt: &R) -> Result<(TcpStream, TcpStream), Fault>
 where
     R: Net<Listener = TcpListener, Stream = TcpStream>,
 {
-    let listener = listen(rt, 0)?;
+    let Ok(listener) = TcpListener::bind(rt, SocketAddr::from((Ipv4Addr::LOCALHOST, 0))) else {
+        return Err(Fault::Listen);
+    };
     let Ok(address) = listener.local_addr() else {
         return Err(Fault::Listen);
     };
@@ -156,9 +166,9 @@ fn ask(client: &TcpStream, path: &str) -> io::Result<()> {
     to.write_all(b" HTTP/1.1\r\nHost: 127.0.0.1\r\nConnection: close\r\n\r\n")
 }
 
-// Serves the connection, whose answer is printed.
+// Serves the connection, and prints its response.
 fn pass_through<R: Files + Drop, W: Write>(
-    host: &mut Host<R>,
+    world: &mut World<FolderBacking<R>, Actor>,
     server: &TcpStream,
     client: &TcpStream,
     output: &mut W,
@@ -170,14 +180,30 @@ fn pass_through<R: Files + Drop, W: Write>(
         output,
         fault: None,
     };
-    let ending = host.answer(&mut reader, &mut writer)?;
+    let conn = new_connection(world)?;
+    let ending = serve_connection(world, conn, &mut reader, &mut writer);
     match writer.fault {
         Some(fault) => Err(fault),
         None => whole(ending),
     }
 }
 
-// Whether all of the answer came: one whose connection was hung up is cut off.
+// Creates a connection of the world. There is room for the first one, so the only possible error
+// is out of memory.
+fn new_connection<R: Files + Drop>(
+    world: &mut World<FolderBacking<R>, Actor>,
+) -> Result<ConnId, Fault>
+    ensures { IfErr result (λ fault. fault ≡ Fault.Memory) }
+{
+    let pool = PoolId::new(NET);
+    let reply = world.step_outside(Event::ConnNew { pool });
+    match &reply {
+        Reply::Conn(conn) => Ok(*conn),
+        _ => Err(Fault::Memory),
+    }
+}
+
+// Returns a fault if the response is incomplete: its connection was hung up.
 fn whole(ending: Ending) -> Result<(), Fault>
     ensures { IsOk result ↔ (hung_up ending ≡ false) }
 {

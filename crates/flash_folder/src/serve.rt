@@ -4,14 +4,21 @@ ghost use Rattle.flash_folder.specs.Fault.{StopsServing, StopsStart};
 ghost use Rattle.flash_folder.specs.Announcement.{Announces, AnnouncesPort};
 
 use crate::fault::{Fault, ended};
-use crate::folder::Host;
+use crate::folder::{NET, world_of};
+use crate::service::FolderService;
+use flash_lite::actor::Actor;
+use iol_back::folder::FolderBacking;
+use iol_core::numbers::PoolId;
+use iol_reactor::limits::Limits;
+use iol_reactor::reactor::Reactor;
+use mio::net::TcpListener;
 use std::io;
 use std::io::Write;
-use std::net::{Ipv4Addr, Net, SocketAddr, TcpListener, TcpStream};
-use std::rt::Files;
+use std::net::{Ipv4Addr, Net, SocketAddr};
+use std::rt::{Clock, Files};
 
-/// Serves the files of a folder on a port of 127.0.0.1 to so many connections, one after another:
-/// the exit status. It prints the port once it listens; port 0 is any that is free.
+/// Serves the files of a folder on a port of 127.0.0.1 to this number of connections, and returns
+/// the exit status. It prints the port once it listens; port 0 is any free port.
 pub fn serve<R, W: Write, E: Write>(
     rt: &R,
     port: u16,
@@ -21,7 +28,7 @@ pub fn serve<R, W: Write, E: Write>(
     errors: &mut E,
 ) -> u8
 where
-    R: Net<Listener = TcpListener, Stream = TcpStream> + Files + AllocGlobal + Clone + Drop,
+    R: Net + Files + Clock + AllocGlobal + Clone + Drop,
     ensures statuses { (result ≡ 0) ⊎ (result ≡ 3) }
     ensures announced { result ≡ 0 → Announces (W.contents output.old) (W.contents output.new) }
     ensures silent { result ≡ 0 → errors.new ≡ errors.old }
@@ -29,18 +36,7 @@ where
     ended(listen_and_serve(rt, port, root, count, output), errors)
 }
 
-/// Serves the files of a folder to so many connections of a listener, one after another.
-pub fn serve_on<R>(rt: &R, listener: &TcpListener, root: &str, count: u32) -> Result<(), Fault>
-where
-    R: Files + AllocGlobal + Clone + Drop,
-    ensures { IfErr result (λ fault. StopsStart fault ⊎ StopsServing fault) }
-{
-    let mut host = Host::new(rt, root)?;
-    host.serve(listener, count)
-}
-
-// Does the work of `serve`, up to the first fault. The folder comes first, so that nobody connects
-// to a server that has none.
+// Does the work of `serve`, up to the first fault.
 fn listen_and_serve<R, W: Write>(
     rt: &R,
     port: u16,
@@ -49,50 +45,84 @@ fn listen_and_serve<R, W: Write>(
     output: &mut W,
 ) -> Result<(), Fault>
 where
-    R: Net<Listener = TcpListener, Stream = TcpStream> + Files + AllocGlobal + Clone + Drop,
+    R: Net + Files + Clock + AllocGlobal + Clone + Drop,
     ensures { OnOk result (Announces (W.contents output.old) (W.contents output.new)) }
 {
-    let mut host = Host::new(rt, root)?;
-    serve_port(rt, &mut host, port, count, output)
+    let mut server = Server::listen(rt, port, root, count)?;
+    announce_and_serve(rt, &mut server, output)
 }
 
-// Listens on a port, tells it, and serves.
-fn serve_port<R, W: Write>(
-    rt: &R,
-    host: &mut Host<R>,
-    port: u16,
-    count: u32,
+// Prints the port, and serves.
+fn announce_and_serve<R, W: Write>(
+    clock: &R,
+    server: &mut Server<R>,
     output: &mut W,
 ) -> Result<(), Fault>
 where
-    R: Net<Listener = TcpListener, Stream = TcpStream> + Files + Drop,
+    R: Files + Clock + Drop,
     ensures { OnOk result (Announces (W.contents output.old) (W.contents output.new)) }
 {
-    let listener = listen(rt, port)?;
-    announce(&listener, output)?;
-    host.serve(&listener, count)
+    announce(server.port()?, output)?;
+    server.serve(clock)
 }
 
-/// Listens on a port of 127.0.0.1.
-pub fn listen<R>(rt: &R, port: u16) -> Result<TcpListener, Fault>
-where
-    R: Net<Listener = TcpListener, Stream = TcpStream>,
-    ensures { IfErr result (λ fault. fault ≡ Fault.Listen) }
-{
-    match TcpListener::bind(rt, SocketAddr::from((Ipv4Addr::LOCALHOST, port))) {
-        Ok(listener) => Ok(listener),
-        Err(_) => Err(Fault::Listen),
+/// A server of the files of a folder, which listens on a port of 127.0.0.1.
+#[derive(Drop)]
+pub struct Server<R: Files> {
+    reactor: Reactor<TcpListener, FolderBacking<R>, Actor, FolderService>,
+}
+
+impl<R: Files + Drop> Server<R> {
+    /// Reads the folder, and listens for this number of connections. It reads the folder first, so
+    /// that no client connects to a server without files.
+    pub fn listen(rt: &R, port: u16, root: &str, count: u32) -> Result<Server<R>, Fault>
+    where
+        R: Net + AllocGlobal + Clone,
+        ensures { IfErr result (λ fault. StopsStart fault ⊎ (fault ≡ Fault.Listen)) }
+    {
+        let world = world_of(rt, root)?;
+        let address = SocketAddr::from((Ipv4Addr::LOCALHOST, port));
+        let pool = PoolId::new(NET);
+        match Reactor::new(rt, rt.alloc(), address, pool, world, limits_of(count)) {
+            Ok(reactor) => Ok(Server { reactor }),
+            Err(e) => Err(Fault::of(&e, Fault::Listen)),
+        }
+    }
+
+    /// The port that it listens on.
+    pub fn port(&self) -> Result<u16, Fault>
+        ensures { IfErr result (λ fault. fault ≡ Fault.Listen) }
+    {
+        match self.reactor.local_addr() {
+            Ok(address) => Ok(address.port()),
+            Err(_) => Err(Fault::Listen),
+        }
+    }
+
+    /// Serves the connections. It returns when all have ended, or none can be accepted.
+    pub fn serve(&mut self, clock: &impl Clock) -> Result<(), Fault>
+        ensures { IfErr result StopsServing }
+    {
+        let mut service = FolderService;
+        match self.reactor.serve(clock, &mut service) {
+            Ok(()) => Ok(()),
+            Err(e) => Err(Fault::of(&e, Fault::Accept)),
+        }
     }
 }
 
-// Tells the port.
-fn announce<W: Write>(listener: &TcpListener, output: &mut W) -> Result<(), Fault>
-    ensures { OnOk result (Announces (W.contents output.old) (W.contents output.new)) }
+// The limits of a service that accepts this number of connections.
+fn limits_of(count: u32) -> Limits {
+    let mut limits = Limits::DEFAULT;
+    limits.stop_after = Some(count);
+    limits.ends_unaccepted = true;
+    limits
+}
+
+// Prints a port.
+fn announce<W: Write>(port: u16, output: &mut W) -> Result<(), Fault>
+    ensures { OnOk result (AnnouncesPort port (W.contents output.old) (W.contents output.new)) }
 {
-    let port = match listener.local_addr() {
-        Ok(address) => address.port(),
-        Err(_) => return Err(Fault::Listen),
-    };
     match print_port(port, output) {
         Ok(()) => Ok(()),
         Err(e) => Err(Fault::of(&e, Fault::Output)),

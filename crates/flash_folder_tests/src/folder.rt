@@ -1,9 +1,9 @@
-//! What is served of a folder that is made for the test, and how that ends: what no clause says,
-//! since none speaks of sockets.
+//! Tests of serving a folder that is made for the test, and of the ends of the programs: contracts
+//! do not cover sockets.
 use flash_folder::loopback::loop_on;
-use flash_folder::serve::{listen, serve, serve_on};
+use flash_folder::serve::{Server, serve};
 use std::io::{Read, Write};
-use std::net::TcpStream;
+use std::net::{Ipv4Addr, Shutdown, SocketAddr, TcpStream};
 use std::test::Fail;
 use std::{fs, io};
 
@@ -17,7 +17,7 @@ const LARGE_HEAD: &[u8] =
 
 const NO_FOLDER: &[u8] = b"fault: folder\n";
 
-// A folder with a page and a large file. What an earlier run left goes first.
+// Makes a folder with a page and a large file. Files of an earlier run are deleted first.
 fn make(rt: &HostRuntime, root: &str) -> io::Result<()> {
     let _ = fs::remove_dir_all(rt, root);
     fs::create_dir(rt, root)?;
@@ -28,7 +28,7 @@ fn make(rt: &HostRuntime, root: &str) -> io::Result<()> {
     fs::write(rt, path.as_str(), large.as_slice())
 }
 
-// What a program printed, what it told, and its status.
+// The output of a program, its error output, and its status.
 #[derive(Drop)]
 struct Ran {
     output: Vec<u8>,
@@ -64,7 +64,7 @@ fn lacks_folder(ran: &Ran) -> bool {
     ran.status == 3 && ran.output.is_empty() && ran.errors.as_slice() == NO_FOLDER
 }
 
-// Whether it is the answer with the large file.
+// Returns whether it is the response with the large file.
 fn is_large(answer: &[u8]) -> bool {
     answer.len() == LARGE_HEAD.len() + LARGE_BYTES
         && answer.starts_with(LARGE_HEAD)
@@ -109,7 +109,7 @@ fn ask(client: &TcpStream) -> io::Result<()> {
     to.write_all(b"GET / HTTP/1.1\r\nHost: a\r\nConnection: close\r\n\r\n")
 }
 
-// Whether the answer to a client is the page, and then ends.
+// Returns whether the response to a client is the page, followed by the end.
 fn gets_index(client: &TcpStream) -> io::Result<bool> {
     let mut answer = [0u8; INDEX.len()];
     let mut from = client;
@@ -117,16 +117,20 @@ fn gets_index(client: &TcpStream) -> io::Result<bool> {
     Ok(answer.as_slice() == INDEX && from.read(&mut [0u8])? == 0)
 }
 
-// A connection that has asked before anybody listens to it.
+// A connection that sent its request before the server accepts.
 #[test]
 fn asks_before(rt: HostRuntime) -> Result<(), Fail> {
     make(&rt, "served")?;
-    let Ok(listener) = listen(&rt, 0) else {
-        return Err(Fail::from("no listener"));
+    let Ok(mut server) = Server::listen(&rt, 0, "served", 1) else {
+        return Err(Fail::from("no server"));
     };
-    let client = TcpStream::connect(&rt, listener.local_addr()?)?;
+    let Ok(port) = server.port() else {
+        return Err(Fail::from("no port"));
+    };
+    let client = TcpStream::connect(&rt, SocketAddr::from((Ipv4Addr::LOCALHOST, port)))?;
     ask(&client)?;
-    assert!(rt; serve_on(&rt, &listener, "served", 1).is_ok());
+    client.shutdown(Shutdown::Write)?;
+    assert!(rt; server.serve(&rt).is_ok());
     assert!(rt; gets_index(&client)?);
     fs::remove_dir_all(&rt, "served")?;
     Ok(())

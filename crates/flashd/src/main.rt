@@ -1,7 +1,6 @@
 //! `flashd`: serves the files below a folder by HTTP/1.1 to many concurrent clients.
 #![tactic(auto)]
 
-mod framing;
 mod notices;
 mod options;
 mod serve;

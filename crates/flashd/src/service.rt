@@ -1,6 +1,6 @@
 //! A site, as a service of the event loop.
-use crate::framing::{frame_of, progress_of};
 use crate::notices::tell_site;
+use flash_framing::{frame_of, progress_of};
 use flash_lite::actor::Actor;
 use flash_log::dates::log_date;
 use flash_log::heads::{head_length, request_line, status_of};
@@ -15,10 +15,11 @@ use std::io::{Eprint, Write};
 use std::rt::{Clock, Files};
 use std::time::{Duration, Instant, SystemTime, UNIX_EPOCH};
 
-/// The pause between two looks at the folder is at least this number of times as long as the first of them took.
+/// The pause between two checks of the folder is at least this number of times as long as the
+/// first of them took.
 const PAUSE_LOOKS: u64 = 20;
 
-/// The files of a folder, and the log of what was answered.
+/// The files of a folder, and the log of responses.
 #[derive(Drop)]
 pub struct SiteService<R: Files, W> {
     rt: R,
@@ -26,10 +27,10 @@ pub struct SiteService<R: Files, W> {
     source: Source<R>,
     log: Option<AccessLog<W>>,
 
-    // What the site consists of, as it was told last.
+    // The contents of the site in the last notice.
     summary: Summary,
 
-    // When the folder is looked at again, at the earliest.
+    // The earliest time of the next check of the folder.
     next_look: Option<Instant>,
 }
 
@@ -57,7 +58,7 @@ where
         })
     }
 
-    /// Writes what is left of the log.
+    /// Writes the rest of the log.
     pub fn flush(&mut self) {
         if let Some(log) = &mut self.log {
             log.flush();
@@ -87,7 +88,7 @@ where
         Ok(())
     }
 
-    // Whether the folder is to be looked at now.
+    // Whether the folder is to be checked now.
     fn is_time(&self, now: &Instant) -> bool {
         match &self.next_look {
             Some(next) => now >= next,
@@ -95,7 +96,7 @@ where
         }
     }
 
-    // A new world, if the folder changed. A folder that takes long to look at is looked at less often.
+    // A new world, if the folder changed. A folder that takes long to check is checked less often.
     fn look(&mut self, is_worn: bool) -> io::Result<Option<World<TreeBacking<R>, Actor>>> {
         let start = Instant::now(&self.rt)?;
         if !is_worn && !self.is_time(&start) {
@@ -124,7 +125,7 @@ fn seconds_now<R: Clock>(clock: &R) -> io::Result<u64> {
     }
 }
 
-// The pause after a look that took some time.
+// The pause after a check that took some time.
 fn pause_after(took: Duration) -> Duration {
     let millis = took.as_millis().min(1_000_000_000) as u64;
     Duration::from_millis(millis.saturating_mul(PAUSE_LOOKS))

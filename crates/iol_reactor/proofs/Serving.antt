@@ -1,19 +1,22 @@
 -- A world that serves, one step after another.
-use Rattle.std.proofs.Common.{◌≡◌, ◌∙◌, ℕ, Bool, List, [], ◌∷◌, ◌++◌, refl}
+use Rattle.std.proofs.Common.{◌≡◌, ◌∙◌, ℕ, Bool, false, List, [], ◌∷◌, ◌++◌, length, refl, sym, ap, append_assoc}
 use Rattle.std.proofs.Math.Logic.{∥∥₁_map}
 use Rattle.iol_back.specs.Disk.{IfHonest}
 use Rattle.iol_core.specs.State.{State}
+use Rattle.iol_core.specs.declared.descriptors.How.{How}
 use Rattle.iol_core.specs.declared.events.Event.TheVariants as event
 use Rattle.iol_core.specs.declared.events.Reply.{Reply}
 use Rattle.iol_system.specs.Machine.{SystemState}
 use Rattle.iol_proc.specs.Laws.{KeepsHonesty}
+use Rattle.iol_proc.specs.Streams.{ArrivesAs}
 use Rattle.iol_proc.specs.Turns.{Account}
 use Rattle.iol_proc.specs.World.{Stage, copied, copying, OutsideStep}
 use Rattle.iol_proc.specs.declared.choice.Choice.{Choice}
 use Rattle.iol_proc.specs.declared.choice.Choice.TheVariants as choice
 use Rattle.iol_proc.proofs.Streams.{runs_follow}
+use Rattle.iol_serve.proofs.Steps.{goes_arrived, goes_none, goes_then}
 use Rattle.iol_serve.specs.Service.{IsOn, AreOn, GoesOn}
-use Rattle.iol_reactor.specs.Serving.{IsServing, AreServing, Continues, HasServed}
+use Rattle.iol_reactor.specs.Serving.{IsServing, AreServing, Arrives, Continues, Ends, HasServed}
 
 serving_on : (pool c : ℕ) (x : Choice) → IsOn c x → IsServing pool x
 serving_on pool c (choice.Turn by) on = tt
@@ -53,6 +56,28 @@ module _ {P : Type 0} (turns : Account P) where
 
   pub continues_new : (pool : ℕ) (r : Reply) (w after : Stage State P) → OutsideStep copying turns w (event.ConnNew pool) r after → Continues turns pool w after
   continues_new pool r w after step = record { choices = choice.Outside (event.ConnNew pool) ∷ []; replies = r ∷ []; run = (after, step, refl); serving = (refl, tt) }
+
+  -- bytes that arrive
+
+  pub arrives_none : (c : ℕ) (bytes : List ℕ) (w : Stage State P) → Arrives turns c bytes bytes w w
+  arrives_none c bytes w = record { came = []; split = refl; goes_on = goes_none turns c w w refl }
+
+  pub arrives_refused : (c : ℕ) (bytes rest : List ℕ) (w after : Stage State P) → rest ≡ bytes → after ≡ w → Arrives turns c bytes rest w after
+  arrives_refused c bytes rest w after still same = record { came = []; split = sym still; goes_on = goes_none turns c w after same }
+
+  pub arrives_page : (c n : ℕ) (bytes rest came : List ℕ) (w after : Stage State P) → bytes ≡ came ++ rest → length came ≡ n → ArrivesAs turns c n came w after → Arrives turns c bytes rest w after
+  arrives_page c n bytes rest came w after split count step = record { came = came; split = split; goes_on = goes_arrived turns c n came w after count step }
+
+  pub arrives_then : (c : ℕ) (bytes more rest : List ℕ) (w mid after : Stage State P) → Arrives turns c bytes more w mid → Arrives turns c more rest mid after → Arrives turns c bytes rest w after
+  arrives_then c bytes more rest w mid after a b = record {
+    came = a.came ++ b.came;
+    split = a.split ∙ (ap (λ (l : List ℕ). a.came ++ l) b.split ∙ sym (append_assoc a.came b.came rest));
+    goes_on = goes_then turns c a.came [] b.came [] false false w mid after a.goes_on b.goes_on;
+  }
+
+  -- a peer that has ended
+  pub ends_told : (c : ℕ) (how : How) (r : Reply) (w after : Stage State P) → OutsideStep copying turns w (event.PeerClosed c how) r after → Ends turns c how w after
+  ends_told c how r w after step = record { reply = r; step = step }
 
   served_first : (starts : Stage SystemState P → Type 0) (pool : ℕ) (w : Stage SystemState P) → starts w → HasServed turns starts pool w
   served_first starts pool w started = record { begun = w; started = started; honest = record { same = refl }; continues = λ honest. continues_none pool (copied w) }

@@ -1,14 +1,14 @@
 -- How many clients are accepted.
 use Rattle.std.specs.Prelude.{◌≡◌, ◌≤◌, ◌+◌, ℕ, ⊤, Option, None, Some, MatchResult, Result}
 
--- A listener gives one more client at `Ok`, and none at `Err`, where it is known how many it gave.
+-- A listener gives one more client with `Ok`, and none with `Err`, if the number that it gave is known.
 abbrev pub Counts : {A E : Type 0} → (given now : Option ℕ) → Result A E → Type 0
 Counts None now r = ⊤
 Counts (Some n) None r = ⊥
 Counts (Some n) (Some m) r = MatchResult r (λ _. m ≡ n + 1) (λ _. m ≡ n)
 
--- Where it is known how many clients a listener gave, and how many it may still give: it gave no more than those by which the
--- number that it may still give has fallen, and that number is still known.
+-- If the number of clients that a listener gave, and the number that it may still give, are known: it gave at most as many as
+-- the latter number has fallen, and that number is still known.
 abbrev pub StaysWithin : (given left now now_left : Option ℕ) → Type 0
 StaysWithin given None now now_left = ⊤
 StaysWithin None (Some left) now now_left = ⊤

@@ -1,14 +1,14 @@
--- What a client's socket supplied and accepted.
+-- The bytes that a client's socket supplied and accepted.
 use Rattle.std.specs.Prelude.{◌≡◌, ℕ, List, ◌++◌, Option}
 use Rattle.std.specs.Io.KnownBytes.{Appends, Consumes}
 
--- The first of these bytes were accepted, in order, by a socket whose accepted bytes are known, and the rest is left.
+-- The first of these bytes were accepted, in order, by a socket with known accepted bytes, and the rest is left.
 pub record Passes (held now : Option (List ℕ)) (bytes rest : List ℕ) : Type 0 where
   pub accepted : List ℕ
   pub taken : Appends held now accepted
   pub left : bytes ≡ accepted ++ rest
 
--- Behind the buffered bytes are those that a socket supplied, in order, where the bytes that it will supply are known.
+-- The bytes that a socket supplied are appended to the buffered bytes, in order, if the bytes that it will supply are known.
 pub record Gains (supply left : Option (List ℕ)) (buffered now : List ℕ) : Type 0 where
   pub came : List ℕ
   pub given : Consumes supply left came

@@ -1,3 +1,4 @@
 pub mod Accepting
 pub mod Bytes
+pub mod Connections
 pub mod Serving

@@ -8,9 +8,9 @@ use std::io;
 use std::io::ErrorKind;
 use std::net::SocketAddr;
 
-/// What gives clients, and never blocks: where none waits it fails with `WouldBlock`.
+/// A source of clients that never blocks: if no client is waiting, it fails with `WouldBlock`.
 pub trait Listener<S> {
-    /// The number of clients that it gave, where that is known. Of a listener of the system it is not.
+    /// The number of clients that it gave, if known. For a listener of the system it is unknown.
     ghost given: { Self → Option ℕ } = { λ listener. None };
 
     /// The next client.
@@ -24,7 +24,7 @@ impl Listener<TcpStream> for TcpListener {
     }
 }
 
-/// A listener, and how many clients may still be accepted.
+/// A listener, and the number of clients that may still be accepted.
 #[derive(Drop)]
 pub struct Acceptor<L> {
     pub listener: L,
@@ -32,9 +32,10 @@ pub struct Acceptor<L> {
     /// Any number, if it is none.
     pub left: Option<u32>,
 
-    // Whether a client may wait to be accepted, and when one is accepted again after a failure.
+    // Whether a client may wait to be accepted, when one is accepted again after a failure, and the failure of this attempt.
     is_open: bool,
     open_at: Option<u64>,
+    failure: Option<ErrorKind>,
 }
 
 impl<L> Acceptor<L> {
@@ -48,6 +49,7 @@ impl<L> Acceptor<L> {
             left,
             is_open: true,
             open_at: None,
+            failure: None,
         }
     }
 
@@ -65,9 +67,23 @@ impl<L> Acceptor<L> {
         self.is_open && self.left != Some(0)
     }
 
-    /// When a listener that failed is tried again, if it failed.
+    /// The time of the next attempt of a listener that failed, if it failed.
     pub fn open_at(&self) -> Option<u64> {
         self.open_at
+    }
+
+    /// How accepting failed in this attempt, if it did.
+    pub fn failure(&self) -> Option<ErrorKind> {
+        self.failure
+    }
+
+    /// No client is accepted until some time has passed.
+    pub fn pause(&mut self, now: u64)
+        ensures listener { self.new.listener ≡ self.old.listener }
+        ensures left { self.new.left ≡ self.old.left }
+    {
+        self.is_open = false;
+        self.open_at = Some(now.saturating_add(ACCEPT_MILLIS));
     }
 
     /// The listener was reported ready.
@@ -78,11 +94,12 @@ impl<L> Acceptor<L> {
         self.is_open = true;
     }
 
-    /// A listener that had failed is tried again once that is due.
+    /// A new attempt to accept clients begins. A listener that had failed is tried again once that is due.
     pub fn reopen(&mut self, now: u64)
         ensures listener { self.new.listener ≡ self.old.listener }
         ensures left { self.new.left ≡ self.old.left }
     {
+        self.failure = None;
         if let Some(at) = self.open_at {
             if at <= now {
                 self.open_at = None;
@@ -133,8 +150,8 @@ impl<L> Acceptor<L> {
             ErrorKind::ConnectionAborted | ErrorKind::Interrupted => {}
             ErrorKind::WouldBlock => self.is_open = false,
             _ => {
-                self.is_open = false;
-                self.open_at = Some(now.saturating_add(ACCEPT_MILLIS));
+                self.failure = Some(kind);
+                self.pause(now);
             }
         }
     }

@@ -1,16 +1,16 @@
-//! A client: its socket, its connection of a world, and what is buffered between them.
+//! A client: its socket, and the bytes that are buffered between it and its connection of a world.
 use crate::input::{Input, Reading};
 use crate::output::{Output, Sending};
 use crate::service::Exchange;
 use crate::socket::Socket;
-use crate::worlds::Link;
 use std::alloc::Global;
 use std::net::SocketAddr;
 
-/// The reads that drop what a peer sends after the end, between two looks at the other clients.
+/// The maximum number of reads that drop a peer's input after the end, between two visits of the
+/// other clients.
 const MAX_DROPPED: u32 = 16;
 
-/// What a client does.
+/// The phase of a client.
 #[derive(Clone, Copy, Debug, PartialEq, Eq)]
 pub enum Phase {
     /// It has no connection, and no complete request.
@@ -25,10 +25,10 @@ pub enum Phase {
     /// A request was handed in, at least in part, and its response is not complete.
     Answering,
 
-    /// The world was told that nothing more comes on its connection, which the processes are to close.
+    /// The world got the end of the input of its connection, which the processes are to close.
     Leaving,
 
-    /// The processes have closed its connection. What is left is being sent.
+    /// The processes have closed its connection. The rest is being sent.
     Flushing,
 
     /// All was sent, and its output was ended. Its peer's end is awaited.
@@ -38,7 +38,7 @@ pub enum Phase {
     Over,
 }
 
-/// In which queues of deadlines a client has an entry.
+/// The queues of deadlines in which a client has an entry.
 #[derive(Clone, Copy, Debug, PartialEq, Eq)]
 pub struct Armed {
     pub head: bool,
@@ -54,17 +54,17 @@ pub struct Client<S> {
     peer: SocketAddr,
     serial: u64,
     phase: Phase,
-    link: Option<Link>,
     input: Input,
     output: Output,
 
-    /// Whether it is in the list of those that are looked at in the next round, and in that of those whose response is pending.
+    /// Whether it is in the list of clients that are visited in the next round, and in the list of
+    /// those with a pending response.
     pub is_ready: bool,
     pub is_pending: bool,
 
     pub armed: Armed,
 
-    /// When bytes came or were accepted last.
+    /// The time at which bytes last arrived or were accepted.
     last: u64,
 
     /// Since when a request is incomplete, if one is.
@@ -81,7 +81,6 @@ impl<S: Socket> Client<S> {
             peer,
             serial,
             phase: Phase::Parked,
-            link: None,
             input: Input::new(alloc),
             output: Output::new(alloc),
             is_ready: false,
@@ -114,22 +113,7 @@ impl<S: Socket> Client<S> {
         self.phase = phase;
     }
 
-    /// Its connection of a world, if it has one.
-    pub fn link(&self) -> Option<&Link> {
-        self.link.as_ref()
-    }
-
-    /// It has this connection from now on.
-    pub fn set_link(&mut self, link: Link) {
-        self.link = Some(link);
-    }
-
-    /// Its connection, which it has no longer.
-    pub fn take_link(&mut self) -> Option<Link> {
-        self.link.take()
-    }
-
-    /// All of its request was handed in, but for this number of bytes.
+    /// All of its request was handed in, except for this number of bytes.
     pub fn give(&mut self, left: usize) {
         self.input.give(left);
     }
@@ -171,16 +155,13 @@ impl<S: Socket> Client<S> {
         !self.input.next().is_empty() || self.input.may_read() || self.input.is_ended()
     }
 
-    /// Reads once. False: the socket failed, or there was no memory.
-    pub fn read(&mut self, piece: &mut [u8], now: u64) -> bool {
-        match self.input.read_from(&mut self.socket, piece) {
-            Reading::Bytes(_) => {
-                self.last = now;
-                true
-            }
-            Reading::Empty | Reading::End => true,
-            Reading::Failed => false,
+    /// Reads once.
+    pub fn read(&mut self, piece: &mut [u8], now: u64) -> Reading {
+        let reading = self.input.read_from(&mut self.socket, piece);
+        if matches!(reading, Reading::Bytes(_)) {
+            self.last = now;
         }
+        reading
     }
 
     /// The bytes after the request in progress.
@@ -210,7 +191,7 @@ impl<S: Socket> Client<S> {
         self.input.rest()
     }
 
-    /// Writes what is left, as far as the socket accepts it.
+    /// Writes the rest, as far as the socket accepts it.
     pub fn flush(&mut self, now: u64) -> Sending {
         let before = self.output.accepted();
         let sending = self.output.flush(&mut self.socket);
@@ -224,6 +205,16 @@ impl<S: Socket> Client<S> {
     pub fn send(&mut self, bytes: &[u8], now: u64) -> Sending {
         self.last = now;
         self.output.send(&mut self.socket, bytes)
+    }
+
+    /// The number of bytes that may be collected for it. 0: there is no memory.
+    pub fn room(&mut self) -> u32 {
+        self.output.room()
+    }
+
+    /// It has no connection any more: the memory of its response is given back.
+    pub fn release(&mut self) {
+        self.output.release();
     }
 
     /// Whether the response has begun.
@@ -265,12 +256,13 @@ impl<S: Socket> Client<S> {
         self.input.is_readable()
     }
 
-    /// Reads and drops what comes, a bounded number of times. True: the peer's end came, or the socket failed.
+    /// Reads and drops input, a bounded number of times. True: the peer's end was read, or the
+    /// socket failed.
     pub fn drop_input(&mut self, piece: &mut [u8]) -> bool {
         for _ in 0..MAX_DROPPED {
             match self.input.drop_from(&mut self.socket, piece) {
                 Reading::Bytes(_) => {}
-                Reading::Empty => return false,
+                Reading::Empty | Reading::Starved => return false,
                 Reading::End | Reading::Failed => return true,
             }
         }

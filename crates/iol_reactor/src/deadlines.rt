@@ -2,7 +2,7 @@
 use std::alloc::{AllocError, Global};
 use std::collections::VecDeque;
 
-/// A time, in milliseconds, and what is due then.
+/// A time, in milliseconds, and the key that is due then.
 #[derive(Clone, Copy)]
 struct Deadline<K> {
     at: u64,
@@ -17,12 +17,17 @@ pub struct Deadlines<K> {
 }
 
 impl<K: Copy> Deadlines<K> {
-    /// No deadline yet. Each will be due this number of milliseconds after it was set.
-    pub fn new(alloc: Global, delay: u64) -> Deadlines<K> {
-        Deadlines {
+    /// No deadline yet, and memory for this number of them. Each will be due this number of milliseconds after it was set.
+    pub fn new(alloc: Global, delay: u64, count: usize) -> Result<Deadlines<K>, AllocError> {
+        Ok(Deadlines {
             delay,
-            entries: VecDeque::new(alloc),
-        }
+            entries: VecDeque::with_capacity(alloc, count)?,
+        })
+    }
+
+    /// Sees that there is memory for one deadline more.
+    pub fn reserve(&mut self) -> Result<(), AllocError> {
+        self.entries.reserve(1)
     }
 
     /// Sets a deadline for a key, counted from now, and not before those that were set earlier.

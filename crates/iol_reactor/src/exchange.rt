@@ -4,28 +4,30 @@ use crate::outbox::Outbox;
 use crate::output::Sending;
 use crate::service::{Progress, Service};
 use crate::socket::Socket;
-use crate::steps::QUEUE;
 use crate::worlds::Worlds;
 use iol_back::backing::Backing;
 use iol_proc::process::Process;
 
-/// What follows for a client that was looked at.
+/// The next step of a client that was visited.
 #[derive(Clone, Copy, Debug, PartialEq, Eq)]
 pub enum Step {
     /// There may be more to do at once.
     Again,
 
-    /// Its response is pending: it is looked at whenever the processes had turns.
+    /// Its response is pending: it is visited after each series of process turns.
     Pending,
 
     /// There is nothing to do until its socket is reported ready, or a deadline.
     Rests,
 
+    /// There is no memory for more of its response: it is visited again after a while.
+    Starved,
+
     /// It is to be removed.
     Over,
 }
 
-/// What a round knows of the moment.
+/// The state that a round takes into account.
 #[derive(Clone, Copy)]
 pub struct Moment {
     pub now: u64,
@@ -34,24 +36,23 @@ pub struct Moment {
     pub is_idle: bool,
 }
 
-/// Hands in more of a client's request. False: there is no room for all of it now.
+/// Hands in more of the request of the client in this place. False: there is no room for all of it now.
 pub fn hand_in<S: Socket, B: Backing + Drop, P: Process, V: Service<B, P>>(
     worlds: &mut Worlds<B, P, V>,
+    slot: usize,
     client: &mut Client<S>,
 ) -> bool {
-    let Some(link) = client.link() else {
-        return true;
-    };
-    let left = worlds.hand_in(link, client.rest()).len();
-    let is_over = left > 0 && worlds.is_over(link);
+    let left = worlds.hand_in(slot, client.rest()).len();
     client.give(left);
-    left == 0 || is_over
+    left == 0 || worlds.is_over(slot)
 }
 
-/// Sends what the world has for a client that has a connection, as far as its socket accepts it.
+/// Sends the world's output for the client at this index, which has a connection, as far as its
+/// socket accepts it.
 pub fn answer<S: Socket, B: Backing + Drop, P: Process, V: Service<B, P>>(
     worlds: &mut Worlds<B, P, V>,
     outbox: &mut Outbox,
+    slot: usize,
     client: &mut Client<S>,
     service: &mut V,
     moment: Moment,
@@ -59,51 +60,34 @@ pub fn answer<S: Socket, B: Backing + Drop, P: Process, V: Service<B, P>>(
     match client.flush(moment.now) {
         Sending::All => {}
         Sending::Blocked => return Step::Rests,
-        Sending::Failed => return abandon(worlds, client, service),
+        Sending::Failed => return abandon(worlds, slot, client, service),
+    }
+    let most = client.room();
+    if most == 0 {
+        return Step::Starved;
     }
     outbox.clear();
-    let Some(taken) = collect(worlds, outbox, client) else {
-        return ended(worlds, client, service, moment.now);
+    let Some(taken) = worlds.collect(slot, outbox, most) else {
+        return ended(worlds, slot, client, service, moment.now);
     };
     if taken > 0 {
         match client.send(outbox.bytes(), moment.now) {
             Sending::All => {}
             Sending::Blocked => return Step::Rests,
-            Sending::Failed => return abandon(worlds, client, service),
+            Sending::Failed => return abandon(worlds, slot, client, service),
         }
     }
-    if taken >= QUEUE {
+    if taken >= most {
         return Step::Again;
     }
-    if is_over(worlds, client) {
-        return ended(worlds, client, service, moment.now);
+    if worlds.is_over(slot) {
+        return ended(worlds, slot, client, service, moment.now);
     }
     if is_complete(client, service, moment.is_idle) {
         complete(client, service, moment.now);
         return next_step(client);
     }
     Step::Pending
-}
-
-// Moves what a client's connection has to send into the outbox: how many bytes, or none if the processes have closed it.
-fn collect<S: Socket, B: Backing + Drop, P: Process, V: Service<B, P>>(
-    worlds: &mut Worlds<B, P, V>,
-    outbox: &mut Outbox,
-    client: &Client<S>,
-) -> Option<u32> {
-    let link = client.link()?;
-    worlds.collect(link, outbox)
-}
-
-// Whether the processes have closed a client's connection.
-fn is_over<S: Socket, B: Backing + Drop, P: Process, V: Service<B, P>>(
-    worlds: &mut Worlds<B, P, V>,
-    client: &Client<S>,
-) -> bool {
-    match client.link() {
-        Some(link) => worlds.is_over(link),
-        None => true,
-    }
 }
 
 // Whether a response is complete, all of which so far was sent.
@@ -132,7 +116,7 @@ fn complete<S: Socket, B: Backing + Drop, P: Process, V: Service<B, P>>(
     client.set_phase(Phase::Quiet);
 }
 
-// What follows for a client whose response is complete.
+// The next step of a client with a complete response.
 fn next_step<S: Socket>(client: &Client<S>) -> Step {
     if client.has_next() {
         Step::Again
@@ -141,21 +125,21 @@ fn next_step<S: Socket>(client: &Client<S>) -> Step {
     }
 }
 
-// The world has closed a client's connection, and all that it sent on it was written.
+// The world has closed the connection of the client in this place, and all that it sent on it was written.
 fn ended<S: Socket, B: Backing + Drop, P: Process, V: Service<B, P>>(
     worlds: &mut Worlds<B, P, V>,
+    slot: usize,
     client: &mut Client<S>,
     service: &mut V,
     now: u64,
 ) -> Step {
-    if let Some(link) = client.take_link() {
-        worlds.release(link);
-    }
+    worlds.release(slot);
     let was_leaving = client.phase() == Phase::Leaving;
     if client.is_asking() {
         service.record(&client.exchange(true));
         client.finish(now);
     }
+    client.release();
     if was_leaving {
         client.set_phase(Phase::Parked);
         return next_step(client);
@@ -164,16 +148,15 @@ fn ended<S: Socket, B: Backing + Drop, P: Process, V: Service<B, P>>(
     Step::Again
 }
 
-/// A client's socket failed, or it broke a limit: nothing more is handed in or sent.
+/// The socket of the client in this place failed, or the client broke a limit: nothing more is handed in or sent.
 pub fn abandon<S: Socket, B: Backing + Drop, P: Process, V: Service<B, P>>(
     worlds: &mut Worlds<B, P, V>,
+    slot: usize,
     client: &mut Client<S>,
     service: &mut V,
 ) -> Step {
-    if let Some(link) = client.take_link() {
-        worlds.hang_up(&link);
-        worlds.release(link);
-    }
+    worlds.hang_up(slot);
+    worlds.release(slot);
     if client.is_asking() {
         service.record(&client.exchange(false));
     }
@@ -181,18 +164,19 @@ pub fn abandon<S: Socket, B: Backing + Drop, P: Process, V: Service<B, P>>(
     Step::Over
 }
 
-/// A quiet client gives back its connection: the world is told that nothing more comes on it.
+/// The client at this index is quiet, and gives back its connection: the world gets the end of its
+/// input.
 pub fn leave<S: Socket, B: Backing + Drop, P: Process, V: Service<B, P>>(
     worlds: &mut Worlds<B, P, V>,
+    slot: usize,
     client: &mut Client<S>,
 ) {
-    if let Some(link) = client.link() {
-        worlds.close(link);
-    }
+    worlds.close(slot);
     client.set_phase(Phase::Leaving);
 }
 
-/// A client without a connection ends: what is left is sent, its output is ended, and its peer's end is awaited.
+/// A client without a connection ends: the rest is sent, its output is ended, and its peer's end
+/// is awaited.
 pub fn close<S: Socket>(client: &mut Client<S>, piece: &mut [u8], now: u64) -> Step {
     match client.flush(now) {
         Sending::All => {}

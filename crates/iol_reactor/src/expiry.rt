@@ -1,9 +1,10 @@
-//! What happens when a deadline has come.
+//! The effect of expired deadlines.
 use crate::client::{Client, Phase};
-use crate::engine::{Engine, Key};
+use crate::engine::Engine;
 use crate::exchange::{abandon, leave};
 use crate::service::Service;
 use crate::socket::Socket;
+use crate::timers::Key;
 use iol_back::backing::Backing;
 use iol_proc::process::Process;
 use std::alloc::AllocError;
@@ -20,9 +21,9 @@ impl<S: Socket + Drop, B: Backing + Drop, P: Process, V: Service<B, P>> Engine<S
 
     // Ends the clients that were silent between requests for too long.
     fn end_silent(&mut self, service: &mut V) -> Result<(), AllocError> {
-        for _ in 0..self.silences.len() {
+        for _ in 0..self.timers.silences.len() {
             let now = self.now();
-            let Some(key) = self.silences.take_due(now) else {
+            let Some(key) = self.timers.silences.take_due(now) else {
                 break;
             };
             let most = self.limits.idle_millis;
@@ -30,7 +31,7 @@ impl<S: Socket + Drop, B: Backing + Drop, P: Process, V: Service<B, P>> Engine<S
                 continue;
             };
             let is_silent = is_between(client) && client.silence(now) >= most;
-            if is_silent || self.silences.set(now, key).is_err() {
+            if is_silent || self.timers.silences.set(now, key).is_err() {
                 self.end(key, service)?;
             }
         }
@@ -39,9 +40,9 @@ impl<S: Socket + Drop, B: Backing + Drop, P: Process, V: Service<B, P>> Engine<S
 
     // Ends the clients whose request is incomplete for too long.
     fn end_incomplete(&mut self, service: &mut V) -> Result<(), AllocError> {
-        for _ in 0..self.heads.len() {
+        for _ in 0..self.timers.heads.len() {
             let now = self.now();
-            let Some(key) = self.heads.take_due(now) else {
+            let Some(key) = self.timers.heads.take_due(now) else {
                 break;
             };
             let most = self.limits.head_millis;
@@ -53,19 +54,19 @@ impl<S: Socket + Drop, B: Backing + Drop, P: Process, V: Service<B, P>> Engine<S
                 continue;
             };
             let is_late = now.saturating_sub(since) >= most;
-            if is_late || self.heads.set(now, key).is_err() {
+            if is_late || self.timers.heads.set(now, key).is_err() {
                 self.end(key, service)?;
             }
         }
         Ok(())
     }
 
-    // Ends the clients that accept too few bytes a second of what is ready for them.
+    // Ends the clients that accept too few bytes per second of their pending output.
     fn end_slow(&mut self, service: &mut V) -> Result<(), AllocError> {
         let least = self.limits.min_rate.saturating_mul(self.limits.rate_millis) / 1_000;
-        for _ in 0..self.rates.len() {
+        for _ in 0..self.timers.rates.len() {
             let now = self.now();
-            let Some(key) = self.rates.take_due(now) else {
+            let Some(key) = self.timers.rates.take_due(now) else {
                 break;
             };
             let Some(client) = self.client(key) else {
@@ -77,7 +78,7 @@ impl<S: Socket + Drop, B: Backing + Drop, P: Process, V: Service<B, P>> Engine<S
             }
             let accepted = client.accepted().saturating_sub(client.rate_mark);
             client.rate_mark = client.accepted();
-            if accepted < least || self.rates.set(now, key).is_err() {
+            if accepted < least || self.timers.rates.set(now, key).is_err() {
                 self.end(key, service)?;
             }
         }
@@ -86,9 +87,9 @@ impl<S: Socket + Drop, B: Backing + Drop, P: Process, V: Service<B, P>> Engine<S
 
     // Ends the clients whose peer's end was awaited for long enough.
     fn end_drained(&mut self, service: &mut V) -> Result<(), AllocError> {
-        for _ in 0..self.drains.len() {
+        for _ in 0..self.timers.drains.len() {
             let now = self.now();
-            let Some(key) = self.drains.take_due(now) else {
+            let Some(key) = self.timers.drains.take_due(now) else {
                 break;
             };
             self.end(key, service)?;
@@ -96,15 +97,16 @@ impl<S: Socket + Drop, B: Backing + Drop, P: Process, V: Service<B, P>> Engine<S
         Ok(())
     }
 
-    // Takes the connections of clients that are quiet for some time, or at all where others wait for a connection.
+    // Takes the connections of clients that are quiet for some time; if others wait for a
+    // connection, of all that are quiet.
     fn park_quiet(&mut self) -> Result<(), AllocError> {
         let is_full = !self.waiting.is_empty();
         let now = self.now();
-        for _ in 0..self.parks.len() {
+        for _ in 0..self.timers.parks.len() {
             let due = if is_full {
-                self.parks.take_first()
+                self.timers.parks.take_first()
             } else {
-                self.parks.take_due(now)
+                self.timers.parks.take_due(now)
             };
             let Some(key) = due else {
                 break;
@@ -114,7 +116,7 @@ impl<S: Socket + Drop, B: Backing + Drop, P: Process, V: Service<B, P>> Engine<S
         Ok(())
     }
 
-    // Takes a client's connection if it is quiet, or looks at it again later.
+    // Takes a client's connection if it is quiet, or checks it again later.
     fn park(&mut self, key: Key, is_full: bool) -> Result<(), AllocError> {
         let now = self.now();
         let most = self.limits.park_millis;
@@ -124,17 +126,17 @@ impl<S: Socket + Drop, B: Backing + Drop, P: Process, V: Service<B, P>> Engine<S
         if client.serial() != key.serial {
             return Ok(());
         }
-        if client.link().is_none() {
+        if !self.worlds.has_link(key.slot) {
             client.armed.park = false;
             return Ok(());
         }
         let is_quiet = client.phase() == Phase::Quiet && !client.is_ready;
         if is_quiet && (is_full || client.silence(now) >= most) {
             client.armed.park = false;
-            leave(&mut self.worlds, client);
+            leave(&mut self.worlds, key.slot, client);
             return self.list(key.slot);
         }
-        self.parks.set(now, key)
+        self.timers.parks.set(now, key)
     }
 
     // The client of a deadline, if it is still there.
@@ -153,7 +155,7 @@ impl<S: Socket + Drop, B: Backing + Drop, P: Process, V: Service<B, P>> Engine<S
         if client.serial() != key.serial {
             return Ok(());
         }
-        abandon(&mut self.worlds, client, service);
+        abandon(&mut self.worlds, key.slot, client, service);
         self.list(key.slot)
     }
 }

@@ -2,11 +2,12 @@
 ghost use Rattle.std.specs.Prelude.{◌≡◌, [], true, false};
 ghost use Rattle.iol_proc.specs.Prelude.{copied};
 ghost use Rattle.iol_serve.specs.Service.{GoesOnIn, SendsIn};
-ghost use Rattle.iol_reactor.specs.Serving.{ArrivesIn, HasServed};
+ghost use Rattle.iol_reactor.specs.Serving.{ArrivesIn, EndsIn, HasServed};
 
 use crate::service::Service;
 use crate::steps;
 use iol_back::backing::Backing;
+use iol_core::descriptors::How;
 use iol_core::events::{Event, Reply};
 use iol_core::numbers::{ConnId, PoolId};
 use iol_proc::process::Process;
@@ -14,8 +15,8 @@ use iol_proc::world::World;
 use std::io::Write;
 use std::marker::PhantomData;
 
-/// A world of a service, and the pool that takes what arrives. Since it began, nothing has happened to it but turns of its
-/// processes and events on connections.
+/// A world of a service, and the pool for its input. Since it began, its only events were turns of
+/// its processes and events of connections.
 #[derive(Drop)]
 pub struct Host<B: Backing, P: Process, V: Service<B, P>> {
     pool: PoolId,
@@ -25,7 +26,7 @@ pub struct Host<B: Backing, P: Process, V: Service<B, P>> {
 }
 
 impl<B: Backing + Drop, P: Process, V: Service<B, P>> Host<B, P, V> {
-    /// A world that has served nobody yet.
+    /// A world that has served no client yet.
     pub fn new(world: World<B, P>, pool: PoolId) -> Host<B, P, V>
         requires { V.starts world }
     {
@@ -43,7 +44,7 @@ impl<B: Backing + Drop, P: Process, V: Service<B, P>> Host<B, P, V> {
         &self.world
     }
 
-    /// A new connection, if there is a place for it.
+    /// Creates a connection, if there is room for it.
     pub fn connect(&mut self) -> Option<ConnId> {
         let pool = self.pool;
         let reply = self.world.step_outside(Event::ConnNew { pool });
@@ -53,13 +54,15 @@ impl<B: Backing + Drop, P: Process, V: Service<B, P>> Host<B, P, V> {
         }
     }
 
-    /// Gives turns to the processes until all are idle, but at most this number: whether all are.
+    /// Gives turns to the processes until all are idle, but at most this number, and returns
+    /// whether all are.
     pub fn until_idle(&mut self, turns: usize) -> bool {
         self.world.until_idle(turns)
     }
 
     /// The peer of a connection sends no more.
     pub fn close(&mut self, conn: ConnId)
+        ensures told { EndsIn P.turns conn How.Done self.old.world self.new.world }
         ensures alone { GoesOnIn P.turns conn [] [] false self.old.world self.new.world }
     {
         steps::close(&mut self.world, conn);
@@ -67,6 +70,7 @@ impl<B: Backing + Drop, P: Process, V: Service<B, P>> Host<B, P, V> {
 
     /// The peer of a connection is gone.
     pub fn hang_up(&mut self, conn: ConnId)
+        ensures told { EndsIn P.turns conn How.Gone self.old.world self.new.world }
         ensures alone { GoesOnIn P.turns conn [] [] true self.old.world self.new.world }
     {
         steps::hang_up(&mut self.world, conn);
@@ -79,19 +83,19 @@ impl<B: Backing + Drop, P: Process, V: Service<B, P>> Host<B, P, V> {
         steps::is_over(&mut self.world, conn)
     }
 
-    /// Bytes arrive on a connection, as many as there is room for: those for which there is none.
+    /// Bytes arrive on a connection, as many as fit. Returns the rest.
     pub fn hand_in<'a>(&mut self, conn: ConnId, bytes: &'a [u8]) -> &'a [u8]
         ensures alone { ArrivesIn P.turns conn bytes.now result.now self.old.world self.new.world }
     {
         steps::hand_in(&mut self.world, conn, bytes)
     }
 
-    /// Sends what a connection has to send to a writer, at most a whole queue: how many bytes, or none if the processes have
-    /// closed it.
-    pub fn collect<W: Write>(&mut self, conn: ConnId, writer: &mut W) -> Option<u32>
+    /// Sends the queued output of a connection to a writer, at most this number of bytes. Returns
+    /// how many, or none if the processes have closed the connection.
+    pub fn collect<W: Write>(&mut self, conn: ConnId, writer: &mut W, most: u32) -> Option<u32>
         ensures alone { SendsIn P.turns conn W.contents writer.old writer.new self.old.world
             self.new.world }
     {
-        steps::collect(&mut self.world, conn, writer)
+        steps::collect(&mut self.world, conn, writer, most)
     }
 }

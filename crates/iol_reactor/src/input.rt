@@ -1,8 +1,8 @@
-//! The bytes that a client sent and that the world has not answered yet.
-ghost use Rattle.std.specs.Prelude.{◌≡◌, ◌≢◌, ◌++◌};
+//! The bytes that a client sent and for which the world has not responded yet.
+ghost use Rattle.std.specs.Prelude.{◌≡◌, ◌≢◌, ◌≤◌, ◌++◌, IfSome};
 ghost use Rattle.iol_reactor.specs.Bytes.{Gains};
 
-use crate::limits::MAX_BUFFERED;
+use crate::limits::{MAX_BUFFERED, MIN_READ_BYTES};
 use crate::socket::Socket;
 use std::alloc::{AllocError, Global};
 use std::io::ErrorKind;
@@ -22,7 +22,10 @@ pub enum Reading {
     /// The peer sends no more.
     End,
 
-    /// The socket failed, or there was no memory for the bytes.
+    /// There is no memory for bytes. None were read.
+    Starved,
+
+    /// The socket failed.
     Failed,
 }
 
@@ -78,8 +81,31 @@ impl Input {
         self.is_readable() && self.bytes.len() < MAX_BUFFERED
     }
 
-    /// Reads once, behind what is buffered.
+    /// Reads once, and appends the bytes to the buffer.
     pub fn read_from<S: Socket>(&mut self, socket: &mut S, piece: &mut [u8]) -> Reading
+        ensures { result ≢ Reading.Failed → Gains (S.remaining socket.old)
+            (S.remaining socket.new) self.old.bytes.items self.new.bytes.items }
+    {
+        match self.room(piece.len()) {
+            Some(room) => self.read_most(socket, &mut piece[..room]),
+            None => Reading::Starved,
+        }
+    }
+
+    // The number of bytes, at most this, for which there is memory after those that are buffered.
+    fn room(&mut self, most: usize) -> Option<usize>
+        ensures bytes { self.new.bytes.items ≡ self.old.bytes.items }
+        ensures most { IfSome result (λ n. n ≤ most) }
+    {
+        if self.bytes.reserve(MIN_READ_BYTES).is_err() {
+            return None;
+        }
+        let spare = self.bytes.capacity().saturating_sub(self.bytes.len());
+        Some(spare.min(most))
+    }
+
+    // Reads once, for which there is memory.
+    fn read_most<S: Socket>(&mut self, socket: &mut S, piece: &mut [u8]) -> Reading
         ensures { result ≢ Reading.Failed → Gains (S.remaining socket.old)
             (S.remaining socket.new) self.old.bytes.items self.new.bytes.items }
     {
@@ -100,7 +126,7 @@ impl Input {
         }
     }
 
-    /// Reads once, and drops what came.
+    /// Reads once, and drops the bytes.
     pub fn drop_from<S: Socket>(&mut self, socket: &mut S, piece: &mut [u8]) -> Reading {
         match socket.read(piece) {
             Ok(0) => Reading::End,
@@ -155,18 +181,18 @@ impl Input {
         &self.bytes[self.asked.min(self.bytes.len())..]
     }
 
-    /// The first bytes are a request, which begins now. None is in progress.
+    /// The first bytes are a request, which begins now. No request is in progress.
     pub fn begin(&mut self, length: usize) {
         self.asked = length.min(self.bytes.len());
         self.given = 0;
     }
 
-    /// All of the request in progress was handed in, but for this number of bytes.
+    /// All of the request in progress was handed in, except for this number of bytes.
     pub fn give(&mut self, left: usize) {
         self.given = self.asked.saturating_sub(left);
     }
 
-    /// The request in progress is answered, or given up.
+    /// The request in progress has its response, or is given up.
     pub fn finish(&mut self) {
         let count = self.asked.min(self.bytes.len());
         self.bytes.drain(..count);

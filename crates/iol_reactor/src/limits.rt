@@ -1,4 +1,4 @@
-//! How many clients there are, and how long each step of a client may take.
+//! Limits of the number of clients, and of the time of each step of a client.
 
 /// Limits of a reactor. Times are in milliseconds.
 #[derive(Clone, Copy, Debug, PartialEq, Eq)]
@@ -15,8 +15,8 @@ pub struct Limits {
     /// A client is silent between requests for at most this time.
     pub idle_millis: u64,
 
-    /// A client that has not accepted what is ready for it accepts at least this number of bytes a second, on average over
-    /// `rate_millis`.
+    /// A client with pending output must accept at least this number of bytes per second, on
+    /// average over `rate_millis`.
     pub min_rate: u64,
     pub rate_millis: u64,
 
@@ -28,6 +28,10 @@ pub struct Limits {
 
     /// The service ends when this number of clients has come and gone; never, if it is none.
     pub stop_after: Option<u32>,
+
+    /// Whether the service ends with an error if accepting fails while it has no client whose end could make room. If not, it
+    /// tries again every `ACCEPT_MILLIS`.
+    pub ends_unaccepted: bool,
 }
 
 impl Limits {
@@ -41,19 +45,27 @@ impl Limits {
         drain_millis: 1_000,
         park_millis: 2,
         stop_after: None,
+        ends_unaccepted: false,
     };
 }
 
 /// The events that one poll reports at most.
 pub const EVENTS: usize = 256;
 
-/// The turns that the processes have between two looks at the sockets: one or two milliseconds.
+/// The number of process turns between two polls of the sockets: one or two milliseconds.
 pub const TURNS: usize = 4_096;
 
-/// The bytes of one read.
+/// The bytes of one read at most.
 pub const READ_BYTES: usize = 16_384;
 
-/// A client that has this number of bytes buffered is not read until a request of it was answered.
+/// Before a read there is memory for this number of bytes at least.
+pub const MIN_READ_BYTES: usize = 1_024;
+
+/// Before a response is collected there is memory for this number of bytes at least, should the socket accept none of them.
+pub const MIN_KEPT_BYTES: usize = 16_384;
+
+/// A client with this number of buffered bytes is not read until one of its requests has its
+/// response.
 pub const MAX_BUFFERED: usize = 16_384;
 
 /// The first bytes of a response that an [`Exchange`](crate::service::Exchange) shows.
@@ -62,7 +74,7 @@ pub const HEAD_BYTES: usize = 2_048;
 /// The last bytes of a response that it shows.
 pub const TAIL_BYTES: usize = 8;
 
-/// After this time a request that found no room in the world is handed in again.
+/// The time after which a step that lacked room or memory is retried.
 pub const ROOM_MILLIS: u64 = 5;
 
 /// After this time a listener that failed, as for lack of descriptors, accepts again.

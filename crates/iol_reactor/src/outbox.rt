@@ -1,9 +1,12 @@
 //! Bytes of a connection that are sent together.
+ghost use Rattle.std.specs.Prelude.{◌≡◌, []};
+
 use std::alloc::{AllocError, Global};
 use std::io;
 use std::io::Write;
 
-/// A writer that keeps up to a fixed number of bytes: a head and what follows it are one send.
+/// A writer that buffers up to a fixed number of bytes, so that a head and the bytes after it are
+/// one send.
 #[derive(Drop)]
 pub struct Outbox {
     bytes: Vec<u8>,
@@ -17,16 +20,24 @@ impl Outbox {
     }
 
     /// The bytes written since the last `clear`.
-    pub fn bytes(&self) -> &[u8] {
+    pub fn bytes(&self) -> &[u8]
+        ensures { result.now ≡ self.now.bytes.items }
+    {
         &self.bytes
     }
 
-    pub fn clear(&mut self) {
+    pub fn clear(&mut self)
+        ensures { self.new.bytes.items ≡ [] }
+    {
         self.bytes.clear();
     }
 }
 
 impl Write for Outbox {
+    ghost use Rattle.std.specs.Prelude.{Some};
+
+    ghost contents = { λ outbox. Some outbox.bytes.items };
+
     fn write(&mut self, buf: &[u8]) -> io::Result<usize> {
         let room = self.most.saturating_sub(self.bytes.len());
         let taken = buf.len().min(room);

@@ -2,16 +2,14 @@
 ghost use Rattle.std.specs.Prelude.{◌≡◌, ◌≢◌, []};
 ghost use Rattle.iol_reactor.specs.Bytes.{Passes};
 
-use crate::limits::{HEAD_BYTES, TAIL_BYTES};
+use crate::limits::{HEAD_BYTES, MIN_KEPT_BYTES, TAIL_BYTES};
 use crate::socket::Socket;
+use crate::steps::QUEUE;
 use std::alloc::{AllocError, Global};
 use std::io::ErrorKind;
 
-/// The writes that one call makes at most.
-const MAX_WRITES: u32 = 0x1_0000;
-
-/// A buffer that is empty and larger than this is given back.
-const MAX_KEPT: usize = 4_096;
+/// The writes that one call makes at most: more than the bytes of a connection's queue.
+const MAX_WRITES: u32 = 0x1_0001;
 
 /// How the writing of bytes went.
 #[derive(Clone, Copy, Debug, PartialEq, Eq)]
@@ -26,12 +24,13 @@ pub enum Sending {
     Failed,
 }
 
-/// A response in progress: what the socket has not accepted, and what an exchange shows of it.
+/// A response in progress: the bytes that the socket has not accepted, and those that an exchange
+/// shows.
 #[derive(Drop)]
 pub struct Output {
     alloc: Global,
 
-    // What the socket has not accepted, from `at` on.
+    // The bytes that the socket has not accepted, from `at` on.
     left: Vec<u8>,
     at: usize,
     is_blocked: bool,
@@ -106,7 +105,7 @@ impl Output {
         self.sent = 0;
     }
 
-    /// Writes what is left, as far as the socket accepts it.
+    /// Writes the rest, as far as the socket accepts it.
     pub fn flush<S: Socket>(&mut self, socket: &mut S) -> Sending {
         let waiting = &self.left[self.at.min(self.left.len())..];
         let count = waiting.len();
@@ -118,11 +117,35 @@ impl Output {
         if sending == Sending::All && self.at > 0 {
             self.at = 0;
             self.left.clear();
-            if self.left.capacity() > MAX_KEPT {
-                self.left = Vec::new(self.alloc);
-            }
         }
         sending
+    }
+
+    /// The number of bytes that may be collected from the world: there is memory for them, should the socket accept none. 0: there is
+    /// no memory. Nothing is left from before.
+    pub fn room(&mut self) -> u32 {
+        let least = if self.produced == 0 {
+            MIN_KEPT_BYTES
+        } else {
+            QUEUE as usize
+        };
+        if self
+            .head
+            .reserve(HEAD_BYTES.saturating_sub(self.head.len()))
+            .is_err()
+        {
+            return 0;
+        }
+        let _ = self.left.reserve(least);
+        self.left.capacity().min(QUEUE as usize) as u32
+    }
+
+    /// Gives back the memory of a response that was sent whole.
+    pub fn release(&mut self) {
+        self.head = Vec::new(self.alloc);
+        if self.left.is_empty() {
+            self.left = Vec::new(self.alloc);
+        }
     }
 
     /// Writes bytes that the world sent, as far as the socket accepts them, and keeps the rest. Nothing is left from before.
@@ -150,7 +173,7 @@ impl Output {
         self.accepted = self.accepted.saturating_add(accepted as u64);
     }
 
-    // Keeps what an exchange shows of these bytes.
+    // Keeps the part of these bytes that an exchange shows.
     fn show(&mut self, bytes: &[u8]) -> Result<(), AllocError> {
         let room = HEAD_BYTES.saturating_sub(self.head.len());
         self.head
@@ -164,7 +187,7 @@ impl Output {
     }
 }
 
-// Writes bytes until the socket accepts no more: those that it did not accept.
+// Writes bytes until the socket accepts no more. Returns those that it did not accept.
 fn write_all<'a, S: Socket>(socket: &mut S, bytes: &'a [u8]) -> (Sending, &'a [u8])
     ensures passes { Passes (S.contents socket.old) (S.contents socket.new) bytes.now result.1.now }
     ensures all { result.0 ≡ Sending.All → result.1.now ≡ [] }
@@ -194,7 +217,7 @@ fn write_once<'a, S: Socket>(socket: &mut S, bytes: &'a [u8]) -> (Sending, &'a [
     }
 }
 
-// What follows from an error of a write.
+// The result of an error of a write.
 fn after(kind: ErrorKind) -> Sending {
     match kind {
         ErrorKind::WouldBlock => Sending::Blocked,

@@ -1,5 +1,5 @@
 //! The loop: it polls the sockets, accepts clients, and lets the engine work.
-ghost use Rattle.std.specs.Prelude.{◌≡◌, Some, OnOk, true};
+ghost use Rattle.std.specs.Prelude.{◌≡◌, IfOk, OnOk, Some, true};
 ghost use Rattle.iol_reactor.specs.Accepting.{StaysWithin};
 
 use crate::accept::{Acceptor, Listener};
@@ -23,7 +23,7 @@ use std::time::{Duration, Instant};
 /// The token of the listener. Those of clients are their places.
 const LISTENER: usize = usize::MAX;
 
-/// A listener, its clients, and the worlds that answer them.
+/// A listener, its clients, and the worlds that serve them.
 #[derive(Drop)]
 pub struct Reactor<L, B: Backing, P: Process, V: Service<B, P>> {
     alloc: Global,
@@ -46,6 +46,7 @@ impl<B: Backing + Drop, P: Process, V: Service<B, P>> Reactor<TcpListener, B, P,
         limits: Limits,
     ) -> io::Result<Reactor<TcpListener, B, P, V>>
         requires { V.starts world }
+        ensures left { IfOk result (λ reactor. reactor.acceptor.left ≡ limits.stop_after) }
     {
         match listen(net, address) {
             Ok((listener, poll)) => {
@@ -70,7 +71,9 @@ impl<B: Backing + Drop, P: Process, V: Service<B, P>> Reactor<TcpListener, B, P,
         poll: Poll,
         acceptor: Acceptor<TcpListener>,
         engine: Result<Engine<TcpStream, B, P, V>, AllocError>,
-    ) -> io::Result<Reactor<TcpListener, B, P, V>> {
+    ) -> io::Result<Reactor<TcpListener, B, P, V>>
+        ensures { IfOk result (λ reactor. reactor.acceptor ≡ acceptor) }
+    {
         match engine {
             Ok(engine) => Ok(Reactor {
                 alloc,
@@ -114,7 +117,7 @@ where
         Err(io::Error::from(ErrorKind::TimedOut))
     }
 
-    // One poll, and what follows from it.
+    // One poll, and its consequences.
     fn step(
         &mut self,
         events: &mut Events<Global>,
@@ -150,12 +153,12 @@ where
         self.acceptor.is_exhausted() && self.engine.count() == 0
     }
 
-    // Whether a client may wait to be accepted for which there is a place.
+    // Whether a client may be waiting to be accepted, and there is a place for it.
     fn may_accept(&self) -> bool {
         self.acceptor.is_open() && self.engine.has_place()
     }
 
-    // How long the sockets are waited for.
+    // The timeout of the poll.
     fn wait(&self) -> Duration {
         if self.engine.is_busy() || self.may_accept() {
             return Duration::from_millis(0);
@@ -191,16 +194,28 @@ where
         Ok(())
     }
 
-    // What is done between two polls.
+    // The work between two polls.
     fn turn(&mut self, service: &mut V) -> io::Result<()>
         ensures { StaysWithin (L.given self.old.acceptor.listener) self.old.acceptor.left
             (L.given self.new.acceptor.listener) self.new.acceptor.left }
     {
         self.accept_all();
+        self.check_accepting()?;
         self.engine.round(service)?;
         self.engine.expire(service)?;
         self.renew(service);
         Ok(())
+    }
+
+    // Fails if no client can be accepted, no client's end could make room, and the service is to
+    // end in that case.
+    fn check_accepting(&self) -> io::Result<()> {
+        match self.acceptor.failure() {
+            Some(kind) if self.engine.limits.ends_unaccepted && self.engine.count() == 0 => {
+                Err(io::Error::from(kind))
+            }
+            _ => Ok(()),
+        }
     }
 
     // Accepts those that wait, while there is a place.
@@ -215,6 +230,7 @@ where
                 return;
             }
             let Some(slot) = self.engine.vacancy() else {
+                self.wait_for_memory(now);
                 return;
             };
             if let Some((stream, peer)) = self.acceptor.accept(now) {
@@ -223,7 +239,17 @@ where
         }
     }
 
-    // A client came. One that the system refuses to report on ends at once.
+    // There was no vacancy: if that is for lack of memory, no client is accepted until some time has passed.
+    fn wait_for_memory(&mut self, now: u64)
+        ensures listener { self.new.acceptor.listener ≡ self.old.acceptor.listener }
+        ensures left { self.new.acceptor.left ≡ self.old.acceptor.left }
+    {
+        if self.engine.has_place() {
+            self.acceptor.pause(now);
+        }
+    }
+
+    // A client was accepted. If the system refuses to report on its socket, it ends at once.
     fn admit(&mut self, slot: usize, stream: TcpStream, peer: SocketAddr)
         ensures { self.new.acceptor ≡ self.old.acceptor }
     {

@@ -1,4 +1,5 @@
-//! What a service adds to the event loop: where a request ends, what is recorded, and when the world is replaced.
+//! The interface of a service of the event loop: the end of a request, the records, and the
+//! replacement of the world.
 ghost use Rattle.std.specs.Prelude.{IfSome};
 ghost use Rattle.iol_proc.specs.World.{Stage};
 ghost use Rattle.iol_system.specs.Machine.{SystemState};
@@ -21,7 +22,7 @@ pub enum Frame {
     TooLong(usize),
 }
 
-/// How far a response is.
+/// The progress of a response.
 #[derive(Clone, Copy, Debug, PartialEq, Eq)]
 pub enum Progress {
     /// The bytes do not show it. The response ends when all processes are idle, or when the connection is closed.
@@ -63,10 +64,11 @@ pub trait Service<B: Backing, P: Process> {
     /// The worlds that it may begin with.
     ghost starts: { Stage SystemState P → Type 0 } = { λ world. Unit {0} };
 
-    /// Where the first complete request of these bytes ends.
+    /// The end of the first complete request of these bytes.
     fn frame(&self, bytes: &[u8]) -> Frame;
 
-    /// How far the response of an exchange is. The answer decides when the client's next request is handed in, and nothing else.
+    /// The progress of the response of an exchange. It decides only when the client's next request
+    /// is handed in.
     fn progress(&self, exchange: &Exchange<'_>) -> Progress;
 
     /// Records an exchange that ended.

@@ -6,8 +6,9 @@ use std::io;
 use std::io::{Read, Write};
 use std::net::Shutdown;
 
-/// A stream of bytes in both directions that never blocks: a read or a write that would wait fails with `WouldBlock`. The bytes that
-/// it will supply are `remaining`, and those that it accepted `contents`; of a socket of the system neither is known.
+/// A bidirectional byte stream that never blocks: a read or a write that would wait fails with
+/// `WouldBlock`. The bytes that it will supply are `remaining`, and those that it accepted
+/// `contents`; for a socket of the system both are unknown.
 pub trait Socket: Read + Write {
     /// Ends the bytes to the peer. The peer may still send.
     fn end_output(&mut self) -> io::Result<()>

@@ -1,8 +1,8 @@
-//! What is done to one connection of a world.
+//! Operations on one connection of a world.
 ghost use Rattle.std.specs.Prelude.{◌≡◌, [], true, false};
 ghost use Rattle.iol_proc.specs.Prelude.{KeepsHonesty, copied};
 ghost use Rattle.iol_serve.specs.Service.{GoesOnIn, SendsIn};
-ghost use Rattle.iol_reactor.specs.Serving.{ArrivesIn};
+ghost use Rattle.iol_reactor.specs.Serving.{ArrivesIn, EndsIn};
 
 use iol_back::backing::Backing;
 use iol_core::descriptors::How;
@@ -26,6 +26,7 @@ pub const QUEUE: u32 = MAX_QUEUE_BYTES as u32;
 /// The peer of a connection sends no more.
 pub fn close<B: Backing + Drop, P: Process>(world: &mut World<B, P>, conn: ConnId)
     ensures honest { KeepsHonesty world.old.machine world.new.machine }
+    ensures told { EndsIn P.turns conn How.Done world.old world.new }
     ensures alone { GoesOnIn P.turns conn [] [] false world.old world.new }
 {
     let how = How::Done;
@@ -35,13 +36,14 @@ pub fn close<B: Backing + Drop, P: Process>(world: &mut World<B, P>, conn: ConnI
 /// The peer of a connection is gone.
 pub fn hang_up<B: Backing + Drop, P: Process>(world: &mut World<B, P>, conn: ConnId)
     ensures honest { KeepsHonesty world.old.machine world.new.machine }
+    ensures told { EndsIn P.turns conn How.Gone world.old world.new }
     ensures alone { GoesOnIn P.turns conn [] [] true world.old world.new }
 {
     let how = How::Gone;
     let _ = world.step_outside(Event::PeerClosed { conn, how });
 }
 
-/// Whether a connection does not exist. A drain of no bytes finds out, and changes nothing.
+/// Whether a connection does not exist, tested by a drain of zero bytes, which changes nothing.
 pub fn is_over<B: Backing + Drop, P: Process>(world: &mut World<B, P>, conn: ConnId) -> bool
     ensures honest { KeepsHonesty world.old.machine world.new.machine }
     ensures same { copied world.new ≡ copied world.old }
@@ -53,7 +55,7 @@ pub fn is_over<B: Backing + Drop, P: Process>(world: &mut World<B, P>, conn: Con
     }
 }
 
-/// Bytes arrive, a page at a time, as many as there is room for: those for which there is none.
+/// Bytes arrive, a page at a time, as many as fit. Returns the rest.
 pub fn hand_in<'a, B: Backing + Drop, P: Process>(
     world: &mut World<B, P>,
     conn: ConnId,
@@ -89,16 +91,18 @@ fn hand_in_page<'a, B: Backing + Drop, P: Process>(
     }
 }
 
-/// Sends what waits to be sent to a writer: how many bytes, or none if the connection does not exist.
+/// Sends queued output to a writer, at most this number of bytes. Returns how many, or none if the
+/// connection does not exist.
 pub fn collect<B: Backing + Drop, P: Process, W: Write>(
     world: &mut World<B, P>,
     conn: ConnId,
     writer: &mut W,
+    most: u32,
 ) -> Option<u32>
     ensures honest { KeepsHonesty world.old.machine world.new.machine }
     ensures alone { SendsIn P.turns conn W.contents writer.old writer.new world.old world.new }
 {
-    match world.drain_to(conn, writer, QUEUE) {
+    match world.drain_to(conn, writer, most) {
         Ok(drained) => Some(drained.taken),
         Err(_) => None,
     }

@@ -1,4 +1,4 @@
-//! When keys become due, and in which order.
+//! The times and the order in which keys become due.
 use iol_reactor::deadlines::Deadlines;
 use std::alloc::{AllocError, Global};
 use std::test::Fail;
@@ -6,7 +6,7 @@ use test_parts::checks::{lend, pass, pass_each};
 
 // The keys 1, 2 and 3, set at 100, 103 and, by a clock that went back, 90, and due 10 later.
 fn three(alloc: Global) -> Result<Deadlines<u32>, AllocError> {
-    let mut queue = Deadlines::new(alloc, 10);
+    let mut queue = Deadlines::new(alloc, 10, 3)?;
     queue.set(100, 1)?;
     queue.set(103, 2)?;
     queue.set(90, 3)?;

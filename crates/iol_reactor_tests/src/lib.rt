@@ -5,6 +5,8 @@
 #[cfg(test)]
 mod deadlines;
 #[cfg(test)]
+mod exchanging;
+#[cfg(test)]
 mod memory_socket;
 #[cfg(test)]
 mod reading;

@@ -11,10 +11,11 @@ pub struct Manner {
     pub read: usize,
     pub write: usize,
 
-    /// Each call of this number blocks, if it is not 0.
+    /// Of the reads, and of the writes, each of this number blocks, if it is not 0. They are counted apart: else a round that makes
+    /// one read and one write would have every write blocked.
     pub blocks: u32,
 
-    /// The call of this number fails, if it is not 0.
+    /// The read and the write of this number fail, if it is not 0.
     pub fails: u32,
 
     /// Whether the peer's end follows its bytes; else a read after them blocks.
@@ -27,7 +28,8 @@ pub struct MemorySocket<'a> {
     supply: &'a [u8],
     accepted: Vec<u8>,
     manner: Manner,
-    calls: u32,
+    reads: u32,
+    writes: u32,
     output_ends: u32,
 }
 
@@ -37,7 +39,8 @@ impl<'a> MemorySocket<'a> {
             supply,
             accepted: Vec::new(alloc),
             manner,
-            calls: 0,
+            reads: 0,
+            writes: 0,
             output_ends: 0,
         }
     }
@@ -51,14 +54,15 @@ impl<'a> MemorySocket<'a> {
     pub fn output_ends(&self) -> u32 {
         self.output_ends
     }
+}
 
-    // Whether the next call has an error, and which.
-    fn refusal(&mut self) -> Option<ErrorKind> {
-        self.calls = self.calls.wrapping_add(1);
-        if self.calls == self.manner.fails {
+impl Manner {
+    // Whether the call of this number has an error, and which.
+    fn refusal(&self, call: u32) -> Option<ErrorKind> {
+        if call == self.fails {
             return Some(ErrorKind::ConnectionReset);
         }
-        if self.manner.blocks > 0 && self.calls % self.manner.blocks == 0 {
+        if self.blocks > 0 && call % self.blocks == 0 {
             return Some(ErrorKind::WouldBlock);
         }
         None
@@ -67,7 +71,8 @@ impl<'a> MemorySocket<'a> {
 
 impl<'a> Read for MemorySocket<'a> {
     fn read(&mut self, buf: &mut [u8]) -> io::Result<usize> {
-        if let Some(kind) = self.refusal() {
+        self.reads = self.reads.saturating_add(1);
+        if let Some(kind) = self.manner.refusal(self.reads) {
             return Err(io::Error::from(kind));
         }
         if self.supply.is_empty() && !self.manner.ends {
@@ -80,7 +85,8 @@ impl<'a> Read for MemorySocket<'a> {
 
 impl<'a> Write for MemorySocket<'a> {
     fn write(&mut self, buf: &[u8]) -> io::Result<usize> {
-        if let Some(kind) = self.refusal() {
+        self.writes = self.writes.saturating_add(1);
+        if let Some(kind) = self.manner.refusal(self.writes) {
             return Err(io::Error::from(kind));
         }
         let taken = buf.len().min(self.manner.write);

@@ -1,4 +1,5 @@
-//! What a client's input holds after reads that are short, block, fail or meet the peer's end.
+//! The contents of a client's input after reads that are short, block, fail or meet the peer's
+//! end.
 use crate::memory_socket::{Manner, MemorySocket};
 use iol_reactor::input::{Input, Reading};
 use std::alloc::{AllocError, Global};

@@ -1,4 +1,5 @@
-//! What a client's socket accepts of a response, and what is left, after writes that are short, block or fail.
+//! The part of a response that a client's socket accepts, and the rest, after writes that are
+//! short, block or fail.
 use crate::memory_socket::{Manner, MemorySocket};
 use iol_reactor::output::{Output, Sending};
 use std::alloc::{AllocError, Global};
@@ -62,7 +63,7 @@ fn each_sending(rt: HostRuntime) -> Result<(), Fail> {
 // The bytes of one write at most, which calls block, and how many flushes there are after the first send.
 const FLUSHES: [(usize, u32, u32); 4] = [(64, 0, 0), (5, 2, 2), (1, 2, 13), (4, 3, 1)];
 
-// Flushes until nothing is left: how often.
+// Flushes until nothing is left, and returns the number of flushes.
 fn flush_all(output: &mut Output, socket: &mut MemorySocket<'_>) -> u32 {
     let mut flushes = 0u32;
     for _ in 0..100 {

@@ -1,17 +1,17 @@
-use Rattle.std.proofs.Common.{◌∙◌, refl, false, None}
-use Rattle.iol_serve.proofs.Steps.{serves_none, serves_then}
+use Rattle.std.proofs.Common.{◌∙◌, refl}
+use Rattle.iol_reactor.proofs.Serving.{arrives_none, arrives_then}
 use Rattle.iol_reactor.proofs.steps.hand_in.Goals as goal
 
 pub loop-init : goal.loop-init
 loop-init g c = record {
   honest = record { same = refl };
-  alone = λ honest. serves_none g.P.Process.turns c.args.conn _ None None _ tt;
+  alone = λ honest. arrives_none g.P.Process.turns c.args.conn _ _;
 }
 
 pub loop-preserved : goal.loop-preserved
 loop-preserved g c = record {
   honest = record { same = c.hand_in_page.ensures.honest.same ∙ c.loop.invariant.honest.same };
-  alone = λ honest. serves_then g.P.Process.turns c.args.conn false false _ _ _ None None None _ _ _ (c.loop.invariant.alone honest) (c.hand_in_page.ensures.alone (c.loop.invariant.honest.same ∙ honest));
+  alone = λ honest. arrives_then g.P.Process.turns c.args.conn _ _ _ _ _ _ (c.loop.invariant.alone honest) (c.hand_in_page.ensures.alone (c.loop.invariant.honest.same ∙ honest));
 }
 
 pub returns-then-is_empty-clause-honest : goal.returns-then-is_empty-clause-honest
@@ -24,7 +24,7 @@ pub returns-then-not-hand_in_page-clause-honest : goal.returns-then-not-hand_in_
 returns-then-not-hand_in_page-clause-honest g c = record { same = c.hand_in_page.ensures.honest.same ∙ c.loop.invariant.honest.same }
 
 pub returns-then-not-hand_in_page-clause-alone : goal.returns-then-not-hand_in_page-clause-alone
-returns-then-not-hand_in_page-clause-alone g c = λ honest. serves_then g.P.Process.turns c.args.conn false false _ _ _ None None None _ _ _ (c.loop.invariant.alone honest) (c.hand_in_page.ensures.alone (c.loop.invariant.honest.same ∙ honest))
+returns-then-not-hand_in_page-clause-alone g c = λ honest. arrives_then g.P.Process.turns c.args.conn _ _ _ _ _ _ (c.loop.invariant.alone honest) (c.hand_in_page.ensures.alone (c.loop.invariant.honest.same ∙ honest))
 
 pub returns-clause-honest : goal.returns-clause-honest
 returns-clause-honest g c = c.loop.invariant.honest

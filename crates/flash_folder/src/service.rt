@@ -1,0 +1,31 @@
+//! A folder, as a service of the event loop.
+use flash_framing::{frame_of, progress_of};
+use flash_lite::actor::Actor;
+use iol_back::folder::FolderBacking;
+use iol_proc::world::World;
+use iol_reactor::service::{Exchange, Frame, Progress, Service};
+use std::rt::Files;
+
+/// The files of a folder at the time when it was read. It records nothing, and its world is not
+/// replaced.
+#[derive(Clone, Copy, Debug)]
+pub struct FolderService;
+
+impl<R: Files> Service<FolderBacking<R>, Actor> for FolderService {
+    fn frame(&self, bytes: &[u8]) -> Frame {
+        frame_of(bytes)
+    }
+
+    fn progress(&self, exchange: &Exchange<'_>) -> Progress {
+        progress_of(exchange)
+    }
+
+    fn record(&mut self, exchange: &Exchange<'_>) {
+        let _ = exchange;
+    }
+
+    fn renew(&mut self, is_worn: bool) -> Option<World<FolderBacking<R>, Actor>> {
+        let _ = is_worn;
+        None
+    }
+}

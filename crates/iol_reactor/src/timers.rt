@@ -1,0 +1,55 @@
+//! The queues of deadlines, one for each limit.
+use crate::deadlines::Deadlines;
+use crate::limits::Limits;
+use std::alloc::{AllocError, Global};
+
+/// A client, by its place and its serial number: a place is used again, a serial number is not.
+#[derive(Clone, Copy)]
+pub struct Key {
+    pub slot: usize,
+    pub serial: u64,
+}
+
+/// The deadlines of all clients.
+#[derive(Drop)]
+pub struct Timers {
+    pub silences: Deadlines<Key>,
+    pub heads: Deadlines<Key>,
+    pub rates: Deadlines<Key>,
+    pub drains: Deadlines<Key>,
+    pub parks: Deadlines<Key>,
+}
+
+// The number of checks of a limit during its time.
+const LOOKS: u64 = 8;
+
+// The time between two checks of a limit.
+fn look_of(millis: u64) -> u64 {
+    (millis / LOOKS).max(1)
+}
+
+impl Timers {
+    /// No deadline yet, and memory for one of each kind for all clients.
+    pub fn new(alloc: Global, limits: &Limits) -> Result<Timers, AllocError> {
+        let most = limits.max_clients;
+        Ok(Timers {
+            silences: Deadlines::new(alloc, look_of(limits.idle_millis), most)?,
+            heads: Deadlines::new(alloc, look_of(limits.head_millis), most)?,
+            rates: Deadlines::new(alloc, limits.rate_millis, most)?,
+            drains: Deadlines::new(alloc, limits.drain_millis, most)?,
+            parks: Deadlines::new(alloc, limits.park_millis, most)?,
+        })
+    }
+
+    /// The first deadline.
+    pub fn first(&self) -> Option<u64> {
+        let queues = [
+            self.silences.first(),
+            self.heads.first(),
+            self.rates.first(),
+            self.drains.first(),
+            self.parks.first(),
+        ];
+        queues.into_iter().flatten().min()
+    }
+}

@@ -1,0 +1,151 @@
+//! Requests and responses through an engine, over a socket in memory whose reads and writes are short and block. A request is a line,
+//! and its response the same line.
+use crate::memory_socket::{Manner, MemorySocket};
+use iol_back::memory::MemoryBacking;
+use iol_core::configuration::Config;
+use iol_core::events::{Call, Event};
+use iol_core::lists::Domains;
+use iol_core::numbers::{DomainId, PoolId};
+use iol_core::refusals::Refusal;
+use iol_proc::world::World;
+use iol_reactor::engine::Engine;
+use iol_reactor::limits::Limits;
+use iol_reactor::service::{Exchange, Frame, Progress, Service};
+use std::alloc::{AllocError, Global};
+use std::net::{Ipv4Addr, SocketAddr};
+use std::test::Fail;
+use test_parts::checks::pass_each;
+use test_worlds::echo::Echo;
+use test_worlds::files::empty_store;
+use test_worlds::systems::{TestSystem, call_of};
+
+const LINES: &[u8] = b"first\n\nthird line\n4\n";
+
+const CONFIG: Config = Config {
+    chunks: 1,
+    gen_limit: u32::MAX,
+    sums: 8,
+};
+
+// A service whose requests are lines. It counts the responses that were sent whole.
+#[derive(Drop)]
+struct Lines {
+    whole: u32,
+}
+
+impl Service<MemoryBacking, Echo> for Lines {
+    fn frame(&self, bytes: &[u8]) -> Frame {
+        match bytes.iter().position(|byte| *byte == b'\n') {
+            Some(place) => Frame::Complete(place.saturating_add(1)),
+            None => Frame::Incomplete,
+        }
+    }
+
+    fn progress(&self, exchange: &Exchange<'_>) -> Progress {
+        if exchange.produced >= exchange.request.len() as u64 {
+            Progress::Complete
+        } else {
+            Progress::Unknown
+        }
+    }
+
+    fn record(&mut self, exchange: &Exchange<'_>) {
+        if exchange.complete {
+            self.whole = self.whole.saturating_add(1);
+        }
+    }
+
+    fn renew(&mut self, is_worn: bool) -> Option<World<MemoryBacking, Echo>> {
+        let _ = is_worn;
+        None
+    }
+}
+
+type Echoes<'a> = Engine<MemorySocket<'a>, MemoryBacking, Echo, Lines>;
+
+// A world of one process that sends back its input.
+fn world_of(alloc: Global) -> Result<World<MemoryBacking, Echo>, Refusal> {
+    let domains = Domains::from_vec([DomainId::new(1)].to_vec(alloc)?);
+    let pool = PoolId::new(1);
+    let events = [
+        call_of(1, Call::PoolCreate { chunks: 1, domains }),
+        call_of(1, Call::SetPool { pool }),
+    ];
+    let system = TestSystem::begun(alloc, CONFIG, empty_store(alloc), &[&events])?;
+    let processes = [(DomainId::new(1), Echo::new())].to_vec(alloc)?;
+    Ok(World::new(alloc, system.into_system(), processes)?)
+}
+
+fn engine_of<'a>(alloc: Global) -> Result<Echoes<'a>, Refusal> {
+    let mut limits = Limits::DEFAULT;
+    limits.max_clients = 2;
+    let world = world_of(alloc)?;
+    Ok(Engine::new(alloc, PoolId::new(1), world, limits)?)
+}
+
+// The bytes of one read, and of one write, at most; which calls block; whether the peer's end follows its lines.
+type Row = (usize, usize, u32, bool);
+
+const ROWS: [Row; 8] = [
+    (64, 64, 0, true),
+    (64, 64, 0, false),
+    (1, 1, 0, true),
+    (1, 1, 0, false),
+    (1, 1, 2, true),
+    (1, 1, 2, false),
+    (3, 2, 3, true),
+    (2, 64, 2, false),
+];
+
+// Rounds, each after all sockets were reported ready, up to the end of the client, at most 1,000: the bytes that its socket had
+// accepted before the last of them.
+fn exchange_all(engine: &mut Echoes<'_>, service: &mut Lines) -> Result<usize, AllocError> {
+    let mut accepted = 0;
+    for now in 0..1_000 {
+        engine.set_now(now);
+        let Some(socket) = engine.socket(0) else {
+            return Ok(accepted);
+        };
+        if !LINES.starts_with(socket.accepted()) || socket.output_ends() > 1 {
+            return Ok(0);
+        }
+        accepted = socket.accepted().len();
+        engine.note(0, true, false, true)?;
+        engine.round(service)?;
+        engine.expire(service)?;
+    }
+    Ok(accepted)
+}
+
+fn exchange(alloc: Global, engine: &mut Echoes<'_>, row: &Row) -> Result<bool, AllocError> {
+    let (read, write, blocks, ends) = *row;
+    let manner = Manner {
+        read,
+        write,
+        blocks,
+        fails: 0,
+        ends,
+    };
+    if engine.vacancy() != Some(0) {
+        return Ok(false);
+    }
+    let peer = SocketAddr::from((Ipv4Addr::LOCALHOST, 1));
+    engine.admit(MemorySocket::new(alloc, LINES, manner), peer);
+    let mut service = Lines { whole: 0 };
+    let accepted = exchange_all(engine, &mut service)?;
+    let remains = engine.count() == 1;
+    Ok(accepted == LINES.len() && service.whole == 4 && remains == !ends)
+}
+
+fn exchanges(alloc: Global, row: &Row) -> Result<bool, Refusal> {
+    let mut engine = engine_of(alloc)?;
+    let holds = exchange(alloc, &mut engine, row);
+    drop(engine);
+    Ok(holds?)
+}
+
+#[test]
+fn each_exchange(rt: HostRuntime) -> Result<(), Fail> {
+    let alloc = rt.alloc();
+    pass_each(&ROWS, |row| exchanges(alloc, row))
+}
