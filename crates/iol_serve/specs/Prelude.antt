@@ -1,2 +1,2 @@
 -- Re-exports the definitions that contracts of other crates cite. It declares nothing.
-pub use Rattle.iol_serve.specs.Service.{HasEnded, hung_up}
+pub use Rattle.iol_serve.specs.Service.{hung_up}
