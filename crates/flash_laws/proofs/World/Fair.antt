@@ -145,16 +145,23 @@ first-or-rest true true c is = inl (refl, refl)
 first-or-rest true false c is = inr is
 first-or-rest false b c is = inr is
 
+-- a turn that may get these refusals, and got this one, or a later turn did
+turn-allowed : (refuses : Refusal → Bool) (a : Bool) (r : Reply) (x : Refusal) (rest : Bool) → (a ≡ true → IsAmong refuses r)
+    → (rest ≡ true → refuses x ≡ true) → ((a && refuses_by r x) || rest) ≡ true → refuses x ≡ true
+turn-allowed refuses a r x rest among later is = by (first-or-rest a (refuses_by r x) rest is)
+  where
+    by : ((a ≡ true) × (refuses_by r x ≡ true)) ⊎ (rest ≡ true) → refuses x ≡ true
+    by (inl here) = allowed-of refuses r x (among here.0) here.1
+    by (inr there) = later there
+
 least-server : (refuses : Refusals) (xs : List Choice) (rs : List Reply) → AreFair refuses xs rs → (x : Refusal) → refused_in true xs rs x ≡ true
     → refuses.of_server x ≡ true
 unfolding refused_in
 least-server refuses [] rs fair x is = absurd (cc (is))
-least-server refuses (choice.Turn by ∷ xs) (r ∷ rs) fair x is = which (first-or-rest (by == server) (refuses_by r x) (refused_in true xs rs x) is)
-  where
-    which : (((by == server) ≡ true) × (refuses_by r x ≡ true)) ⊎ (refused_in true xs rs x ≡ true) → refuses.of_server x ≡ true
-    which (inl here) = allowed-of refuses.of_server r x
-        (subst (λ (b : Bool). IsAmong (if b then refuses.of_server else refuses.of_workers) r) here.0 fair.0) here.1
-    which (inr later) = least-server refuses xs rs fair.1 x later
+least-server refuses (choice.Turn by ∷ xs) (r ∷ rs) fair x is =
+    turn-allowed refuses.of_server (by == server) r x (refused_in true xs rs x)
+    (λ here. subst (λ (b : Bool). IsAmong (if b then refuses.of_server else refuses.of_workers) r) here fair.0)
+    (λ later. least-server refuses xs rs fair.1 x later) is
 least-server refuses (choice.Outside e ∷ xs) (r ∷ rs) fair x is = least-server refuses xs rs fair x is
 least-server refuses (choice.Turn by ∷ xs) [] fair x is = absurd (cc (is))
 least-server refuses (choice.Outside e ∷ xs) [] fair x is = absurd (cc (is))
@@ -163,12 +170,10 @@ least-workers : (refuses : Refusals) (xs : List Choice) (rs : List Reply) → Ar
     → refuses.of_workers x ≡ true
 unfolding refused_in
 least-workers refuses [] rs fair x is = absurd (cc (is))
-least-workers refuses (choice.Turn by ∷ xs) (r ∷ rs) fair x is = which (first-or-rest (not (by == server)) (refuses_by r x) (refused_in false xs rs x) is)
-  where
-    which : ((not (by == server) ≡ true) × (refuses_by r x ≡ true)) ⊎ (refused_in false xs rs x ≡ true) → refuses.of_workers x ≡ true
-    which (inl here) = allowed-of refuses.of_workers r x
-        (subst (λ (b : Bool). IsAmong (if b then refuses.of_server else refuses.of_workers) r) (not-true (by == server) here.0) fair.0) here.1
-    which (inr later) = least-workers refuses xs rs fair.1 x later
+least-workers refuses (choice.Turn by ∷ xs) (r ∷ rs) fair x is =
+    turn-allowed refuses.of_workers (not (by == server)) r x (refused_in false xs rs x)
+    (λ here. subst (λ (b : Bool). IsAmong (if b then refuses.of_server else refuses.of_workers) r) (not-true (by == server) here) fair.0)
+    (λ later. least-workers refuses xs rs fair.1 x later) is
 least-workers refuses (choice.Outside e ∷ xs) (r ∷ rs) fair x is = least-workers refuses xs rs fair x is
 least-workers refuses (choice.Turn by ∷ xs) [] fair x is = absurd (cc (is))
 least-workers refuses (choice.Outside e ∷ xs) [] fair x is = absurd (cc (is))
