@@ -278,8 +278,11 @@ module _ (job : Task) (lent now : ℕ → Option (List ℕ)) (begun : ℕ) where
       let was = stage-is x (Some agg) is in
       reached _ _ next e (tidy, inr (inl (omega (arith, was))))
   broken x None next is tidy e =
-      reached _ _ next e (whole-of x tidy, inr (subst (λ k. IsBelow (8 * (length job.lines - length job.lines) + k, 0) (8 * left + (if is_some x.next then 1 else 0), 1))
-      (sym (at-rest x (length job.lines) tidy is)) (below-one _ _ (omega arith))))
+      reached _ _ next e (
+        whole-of x tidy,
+        inr (subst (λ k. IsBelow (8 * (length job.lines - length job.lines) + k, 0) (8 * left + (if is_some x.next then 1 else 0), 1))
+            (sym (at-rest x (length job.lines) tidy is)) (below-one _ _ (omega arith))),
+      )
 
   -- ---- all
 

@@ -78,8 +78,7 @@ module _ (steps : EachStepLeavesTheRest) (own : CallsServeTheirDomain) (m n : St
       let bytes = ready.1.0 in
       let lent : lent_at m d agg ≡ Some bytes = ready.1.1 in
       let long : length (bytes_at (lent_at m d) agg) ≡ length bytes = ap (λ (l : List ℕ). length l) (is_bytes m d agg bytes lent) in
-      let puts : WritesPipe m p bytes (reply.Count k) n = own.write_pipe m n d job.fd p agg bytes (reply.Count k) order ready.0 lent step in
-      (
+      let puts : WritesPipe m p bytes (reply.Count k) n = own.write_pipe m n d job.fd p agg bytes (reply.Count k) order ready.0 lent step in (
         same-length (event.Call d (call.IolWrite job.fd agg)) (reply.Count k) agg bytes lent
             (values_stay m n (event.Call d (call.IolWrite job.fd agg)) d agg bytes (steps.values m n (event.Call d (call.IolWrite job.fd agg)) (reply.Count k) step) lent refl),
         λ some. some-taken m n d job.fd agg k bytes lent (subst (λ l. 0 < l) long some) step,
