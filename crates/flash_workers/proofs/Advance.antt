@@ -1,5 +1,5 @@
 -- Each step of a worker brings its script nearer to its end.
-use Rattle.std.proofs.Common.{◌≡◌, ◌≢◌, ℕ, List, refl, Option, Some, None, false}
+use Rattle.std.proofs.Common.{◌≡◌, ℕ, List, refl, Some}
 use Rattle.iol_core.specs.State.{State}
 use Rattle.iol_core.specs.Run.{StepsTo}
 use Rattle.iol_core.specs.declared.events.Event.TheVariants as event

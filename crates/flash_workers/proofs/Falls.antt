@@ -1,14 +1,14 @@
 -- The rank falls from step to step, and the buffered output stays tidy.
-use Rattle.std.proofs.Common.{inl, inr, ◌≡◌, ◌≢◌, ℕ, zero, suc, ◌+◌, ◌-◌, ◌*◌, ◌==◌, ◌<◌, ◌≤◌, ◌⊎◌, List, [], ◌∷◌, ◌++◌, length, ap, ◌∙◌, refl, sym, subst, arith, Option, Some, None, true, false, Bool, if◌then◌else◌}
+use Rattle.std.proofs.Common.{inl, inr, ◌≡◌, ◌≢◌, ℕ, ◌+◌, ◌-◌, ◌*◌, ◌==◌, ◌<◌, ◌≤◌, ◌⊎◌, List, [], ◌∷◌, length, ap, ◌∙◌, refl, sym, subst, arith, Option, Some, None, true, false, Bool, if◌then◌else◌}
 use Rattle.std.specs.Prelude.{unwrap_or, ◌||◌, ◌&&◌, not, nat_le, nat_lt, is_none, is_some, slice_get}
 use Rattle.std.proofs.lemmas.Bool.Decides.{nat_tests}
 use Rattle.std.proofs.lemmas.Option.{slice_get_within}
 use Rattle.iol_core.specs.declared.events.Reply.{Reply}
 use Rattle.iol_core.specs.declared.events.Reply.TheVariants as reply
 use Rattle.iol_core.specs.declared.refusals.Refusal.TheVariants as refuse
-use Rattle.flash_cgi.specs.Collecting.{Collected, bytes_of_one, but_last, is_due, is_nothing, last_place, with_file, with_held, with_line, with_next, with_text, without_files, without_last, without_next, without_text}
+use Rattle.flash_cgi.specs.Collecting.{Collected, bytes_of_one, but_last, is_due, is_nothing, last_place, with_file, with_line, with_next, with_text, without_text}
 use Rattle.flash_cgi.specs.Job.{Task}
-use Rattle.flash_cgi.specs.WorkerSteps.{at, bytes_at, due_now, file_collected, got, interleave_by, interleave_on, said_collected, said_text, shut_by, step_with, taken_of, told_begun, told_broken, told_doing, told_dropped, told_line, told_made, told_next, told_opened, told_read, told_shut, told_written}
+use Rattle.flash_cgi.specs.WorkerSteps.{at, bytes_at, due_now, file_collected, got, interleave_by, said_text, step_with, told_broken, told_doing, told_dropped, told_line, told_made, told_next, told_opened, told_read, told_written}
 use Rattle.flash_cgi.specs.declared.line.Line.{Line}
 use Rattle.flash_cgi.specs.declared.line.Line.TheVariants as line
 use Rattle.flash_cgi.specs.declared.phase.Purpose.{Purpose}
@@ -18,7 +18,7 @@ use Rattle.flash_cgi.specs.declared.phase.Doing.TheVariants as doing
 use Rattle.flash_cgi.specs.declared.phase.Step.{Step}
 use Rattle.flash_cgi.specs.declared.piece.Place.{Place}
 use Rattle.flash_cgi.specs.declared.piece.TheConstants.{MIN_PIECE_BYTES, MAX_COLLECTED_BYTES}
-use Rattle.flash_workers.specs.Advance.{Rank, IsBelow, IsMade, IsNearer, IsTidy, IsTidyIn, IsWhole, calls_left, rank, stage}
+use Rattle.flash_workers.specs.Advance.{Rank, IsBelow, IsMade, IsTidy, IsTidyIn, IsWhole, rank, stage}
 
 -- ---- plain facts
 

@@ -1,6 +1,6 @@
 -- What a reply says of the aggregates that a worker writes, and when its call is made again.
-use Rattle.std.proofs.Common.{inl, inr, ◌≡◌, ◌≢◌, ℕ, ◌+◌, ◌-◌, ◌==◌, ◌<◌, ◌≤◌, ◌⊎◌, List, [], ◌∷◌, ◌++◌, length, take, drop, ap, ◌∙◌, refl, sym, subst, arith, Option, Some, None, true, false, Bool, if◌then◌else◌, min}
-use Rattle.std.specs.Prelude.{unwrap_or, option_map, ◌||◌, ◌&&◌, not, nat_le, nat_lt, slice_get, slice_range}
+use Rattle.std.proofs.Common.{◌≡◌, ◌≢◌, ℕ, ◌+◌, ◌-◌, ◌==◌, ◌<◌, ◌≤◌, List, [], length, take, drop, ap, ◌∙◌, refl, sym, subst, arith, Option, Some, None, true, false, Bool, if◌then◌else◌}
+use Rattle.std.specs.Prelude.{unwrap_or, option_map, ◌&&◌, not, nat_le, nat_lt, slice_get, slice_range}
 use Rattle.std.proofs.lemmas.Bool.Decides.{nat_tests}
 use Rattle.std.proofs.lemmas.List.{length-map, length-take}
 use Rattle.iol_core.specs.Text.{Text, bytes_of}
@@ -33,7 +33,7 @@ use Rattle.flash_cgi.specs.declared.phase.Step.{Step}
 use Rattle.flash_cgi.proofs.Beside.{no_gift, values_stay}
 use Rattle.flash_cgi.proofs.StaysByCall.{and_false, is_bytes, not-equal, same_bytes}
 use Rattle.flash_cgi.specs.declared.piece.TheConstants.{MAX_COLLECTED_BYTES}
-use Rattle.flash_workers.specs.Advance.{IsReady, Rank, calls_left, rank, stage}
+use Rattle.flash_workers.specs.Advance.{IsReady, calls_left, rank, stage}
 use Rattle.flash_workers.proofs.Falls.{Facts}
 
 -- ---- some bytes are taken of an aggregate that has some

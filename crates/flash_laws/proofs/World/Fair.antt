@@ -9,11 +9,10 @@ use Rattle.iol_core.specs.declared.refusals.Refusal.TheVariants as refusal
 use Rattle.iol_laws.specs.Caller.{is_rough}
 use Rattle.iol_proc.specs.declared.choice.Choice.{Choice}
 use Rattle.iol_proc.specs.declared.choice.Choice.TheVariants as choice
-use Rattle.flash_laws.specs.Shelf.{Refusals, Shelf, IsAmong}
-use Rattle.flash_laws.specs.Shelf.OneAnswer.{RefusesNothing}
+use Rattle.flash_laws.specs.Shelf.{Refusals, IsAmong}
 use Rattle.flash_laws.specs.Site.{server}
 use Rattle.flash_laws.specs.World.{AreFair, may_refuse}
-use Rattle.flash_laws.specs.World.Fair.{no_refusal, any_refusal, is_same, refuses_by, refused_in, refusals_in, IsWithin, SmoothIsFair, AnyIsFair, OwnIsFair, OwnIsLeast, NoneRefusesNothing}
+use Rattle.flash_laws.specs.World.Fair.{no_refusal, any_refusal, is_same, refuses_by, refused_in, refusals_in, SmoothIsFair, AnyIsFair, OwnIsFair, OwnIsLeast, NoneRefusesNothing}
 use Rattle.flash_laws.proofs.Lists.{clash, not-equal, not-true, self}
 
 -- ---- by which refusals the server's turn may be refused, and a worker's
