@@ -252,11 +252,11 @@ module _ (job : Task) (lent now : ℕ → Option (List ℕ)) (begun : ℕ) where
   cut x agg from to r next tidy facts e = absurd (cc (e))
 
   -- the stage while a file of its own follows, and while none does
-  stage-is : (x : Collected) (o : Option ℕ) → x.next ≡ o → (if is_some x.next then 1 else 0) ≡ (if is_some o then 1 else 0)
+  stage-is : (x : Collected) (o : Option ℕ) → x.next ≡ o → ◌≡◌ {A = ℕ} (if is_some x.next then 1 else 0) (if is_some o then 1 else 0)
   stage-is x o is = ap (λ (p : Option ℕ). if is_some p then 1 else 0) is
 
   -- nothing is due after all is made
-  at-rest : (x : Collected) (b : ℕ) → IsMade x → x.next ≡ None → (if due_now job x b then 3 else 0) ≡ 0
+  at-rest : (x : Collected) (b : ℕ) → IsMade x → x.next ≡ None → ◌≡◌ {A = ℕ} (if due_now job x b then 3 else 0) 0
   at-rest x b tidy none = ap (λ (t : Bool). if t then 3 else 0) (not-due x tidy none (slice_get job.lines b))
 
   whole-of : (x : Collected) → IsMade x → IsWhole x
