@@ -1,6 +1,6 @@
 //! Requests in one process, without a network.
-use crate::site::{NET_POOL, Site, world};
 use crate::server::Server;
+use crate::site::{NET_POOL, Site, world};
 use iol_back::memory::MemoryBacking;
 use iol_core::numbers::ConnId;
 use iol_core::refusals::Refusal;

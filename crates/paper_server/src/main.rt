@@ -1,11 +1,13 @@
-//! A server of files in memory, by reference or by copying, that `bench/paper` measures next to other servers. HOW is
-//! `shared` (by reference) or `copied`. CHUNKS, of 64 KiB each, have the cached files and all bytes that the server makes.
+//! A server of files in memory, by reference or by copying, that `bench/paper` measures next to other
+//! servers. HOW is `shared` (by reference) or `copied`. CHUNKS, of 64 KiB each, have the cached files
+//! and all bytes that the server makes.
 //!
-//! `serve HOW CLIENTS CHUNKS LEN ..` serves files of these lengths by HTTP/1.1, the one with index N at `/N`, at a free port
-//! of the loopback interface, which it prints. It ends when CLIENTS clients have come and gone.
+//! `serve HOW CLIENTS CHUNKS LEN ..` serves files of these lengths by HTTP/1.1, the one with index N
+//! at `/N`, at a free port of the loopback interface, which it prints. It ends when CLIENTS clients
+//! have come and gone.
 //!
-//! `ask HOW ROUNDS CHUNKS LEN ..` requests the first file ROUNDS times on one connection, in one process, and prints the
-//! number of bytes of all responses.
+//! `ask HOW CHUNKS LEN ROUNDS` requests a file of this length ROUNDS times on one connection, in one
+//! process, and prints the number of bytes of all responses.
 #![tactic(auto)]
 
 mod ask;
@@ -38,30 +40,43 @@ fn lengths_of(alloc: Global, words: &mut env::Args) -> anyhow::Result<Vec<u32>> 
     Ok(lengths)
 }
 
-fn site_of(alloc: Global, passing: Passing, words: &mut env::Args) -> anyhow::Result<Site> {
+fn serve_all(rt: &HostRuntime, words: &mut env::Args) -> anyhow::Result<()> {
+    let passing = passing_of(words)?;
+    let clients = number(words)?;
     let chunks = number(words)?;
-    let lengths = lengths_of(alloc, words)?;
-    Ok(Site {
+    let lengths = lengths_of(rt.alloc(), words)?;
+    let site = Site {
         passing,
         chunks,
         lengths,
-    })
+    };
+    serve::serve(rt, &site, clients)?;
+    Ok(())
+}
+
+fn ask_for_one(rt: &HostRuntime, words: &mut env::Args) -> anyhow::Result<()> {
+    let alloc = rt.alloc();
+    let passing = passing_of(words)?;
+    let chunks = number(words)?;
+    let lengths = [number(words)?].to_vec(alloc)?;
+    let rounds = number(words)?;
+    let site = Site {
+        passing,
+        chunks,
+        lengths,
+    };
+    let sent = ask::ask(alloc, &site, rounds)?;
+    println!(rt; "{sent}")?;
+    Ok(())
 }
 
 fn main(rt: HostRuntime) -> anyhow::Result<()> {
     let mut words = env::args(&rt)?;
     let _program = words.next();
     let first = word(&mut words)?;
-    let passing = passing_of(&mut words)?;
-    let count = number(&mut words)?;
-    let site = site_of(rt.alloc(), passing, &mut words)?;
     match first.as_str() {
-        "serve" => Ok(serve::serve(&rt, &site, count)?),
-        "ask" => {
-            let sent = ask::ask(rt.alloc(), &site, count)?;
-            println!(rt; "{sent}")?;
-            Ok(())
-        }
+        "serve" => serve_all(&rt, &mut words),
+        "ask" => ask_for_one(&rt, &mut words),
         _ => bail!("serve or ask?"),
     }
 }

@@ -1,8 +1,9 @@
 //! A server of files to many connections, as a process.
 //!
-//! A process may not call `read`, whose reply is a copy. In its copying form the server copies the bytes of a piece of a file
-//! from their aggregate into a buffer of its own, and makes a new aggregate of the buffer, which it writes: the two copies
-//! of `read` and `write`. Both forms make nine calls for a request whose response fits the connection's queue.
+//! A process may not call `read`, whose reply is a copy. In its copying form the server copies the
+//! bytes of a piece of a file from their aggregate into a buffer of its own, and makes a new
+//! aggregate of the buffer, which it writes: the two copies of `read` and `write`. Both forms make
+//! nine calls for a request whose response fits the connection's queue.
 ghost use Rattle.std.specs.Prelude.{⊤, IfSome};
 ghost use Rattle.iol_proc.specs.Prelude.{IsQuiet};
 ghost use Rattle.iol_proc.specs.Quiet.{IsQuietCall};
@@ -88,7 +89,10 @@ pub struct Server {
 
 impl Process for Server {
     // Any turn: the server is measured.
-    ghost turns = { record { goes = λ server last lent turn next. ⊤; may_want = λ server last lent. ⊥ } };
+    ghost turns = { record {
+      goes = λ server last lent turn next. ⊤;
+      may_want = λ server last lent. ⊥;
+    } };
 
     fn next(&mut self, last: &Reply, look: &Look<'_>) -> Result<Turn, AllocError> {
         Ok(self.turn(last, look))
@@ -318,7 +322,8 @@ impl Server {
         Ok(())
     }
 
-    // Makes a part of the response of a piece: by reference the head is joined to it, by copying it is given up.
+    // Makes a part of the response of a piece: by reference the head is joined to it, by copying it is
+    // given up.
     fn complete(&mut self, agg: AggId) -> Turn
         ensures { IsQuiet result }
     {

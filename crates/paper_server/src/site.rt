@@ -15,7 +15,8 @@ use test_parts::texts::bytes_of;
 use test_worlds::files::{Kept, store_of};
 use test_worlds::systems::{TestSystem, call_of};
 
-/// The pool of the files and of the bytes that the server makes, and the pool of the bytes that clients send.
+/// The pool of the files and of the bytes that the server makes, and the pool of the bytes that
+/// clients send.
 const SITE_POOL: u32 = 1;
 
 pub const NET_POOL: u32 = 2;
