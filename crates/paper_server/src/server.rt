@@ -329,13 +329,20 @@ impl Server {
     {
         match self.passing {
             Passing::Copied => self.make(Phase::DroppingPiece, Call::AggDrop { agg }),
-            Passing::Shared if self.head.is_empty() => self.write(agg),
-            Passing::Shared => {
-                let head = mem::replace(&mut self.head, Vec::new(self.alloc));
-                let bytes = Bytes::from_vec(head);
-                self.make(Phase::MakingHead(agg), Call::AggMake { bytes })
-            }
+            Passing::Shared => self.make_head(agg),
         }
+    }
+
+    // Makes the head, if the response has not begun.
+    fn make_head(&mut self, body: AggId) -> Turn
+        ensures { IsQuiet result }
+    {
+        if self.head.is_empty() {
+            return self.write(body);
+        }
+        let head = mem::replace(&mut self.head, Vec::new(self.alloc));
+        let bytes = Bytes::from_vec(head);
+        self.make(Phase::MakingHead(body), Call::AggMake { bytes })
     }
 
     // Places the buffer in new pages.
@@ -417,11 +424,19 @@ impl Server {
     fn sent(&mut self) -> Turn
         ensures { IsQuiet result }
     {
-        match self.client() {
-            Some(client) if client.rest.is_some() => self.advance(),
-            Some(client) if client.file.is_some() => self.serve(),
-            Some(client) if client.is_last => self.close(),
-            _ => self.advance(),
+        let Some(client) = self.client() else {
+            return self.serve();
+        };
+        if client.rest.is_some() {
+            return self.advance();
+        }
+        if client.file.is_some() {
+            return self.serve();
+        }
+        if client.is_last {
+            self.close()
+        } else {
+            self.advance()
         }
     }
 
