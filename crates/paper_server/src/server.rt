@@ -36,12 +36,12 @@ enum Phase {
     DroppingRequest,
     Opening,
     Reading,
-    ClosingFile(AggId),
+    ClosingFile,
     DroppingPiece,
-    MakingHead(AggId),
+    MakingHead,
     Completing,
-    Writing(AggId),
-    Cutting(AggId),
+    Writing,
+    Cutting,
     DroppingSent,
     Releasing,
     Closing,
@@ -76,6 +76,9 @@ pub struct Server {
     // The index of the client that is served now.
     at: usize,
     phase: Phase,
+
+    // The aggregate with which that phase continues, if it needs one.
+    agg: AggId,
 
     // The index of the file that it requested.
     file: Option<u32>,
@@ -116,6 +119,7 @@ impl Server {
             clients: Vec::new(alloc),
             at: 0,
             phase: Phase::Beginning,
+            agg: AggId::new(1),
             file: None,
             head: Vec::new(alloc),
             buffer: Vec::new(alloc),
@@ -131,10 +135,20 @@ impl Server {
         Turn::Make(call)
     }
 
+    // Makes a call, after which this aggregate is needed.
+    fn make_with(&mut self, phase: Phase, agg: AggId, call: Call) -> Turn
+        requires { IsQuietCall call }
+        ensures { IsQuiet result }
+    {
+        self.agg = agg;
+        self.make(phase, call)
+    }
+
     // Continues with the reply to the last call.
     fn turn(&mut self, last: &Reply, look: &Look<'_>) -> Turn
         ensures { IsQuiet result }
     {
+        let agg = self.agg;
         match self.phase {
             Phase::Beginning => self.accept(),
             Phase::Accepting => self.accepted(last),
@@ -142,12 +156,12 @@ impl Server {
             Phase::DroppingRequest => self.open(),
             Phase::Opening => self.opened(last),
             Phase::Reading => self.has_read(last, look),
-            Phase::ClosingFile(agg) => self.complete(agg),
+            Phase::ClosingFile => self.complete(agg),
             Phase::DroppingPiece => self.make_copy(),
-            Phase::MakingHead(body) => self.join(last, body),
+            Phase::MakingHead => self.join(last, agg),
             Phase::Completing => self.completed(last),
-            Phase::Writing(agg) => self.wrote(last, look, agg),
-            Phase::Cutting(agg) => self.has_cut(last, agg),
+            Phase::Writing => self.wrote(last, look, agg),
+            Phase::Cutting => self.has_cut(last, agg),
             Phase::DroppingSent => self.sent(),
             Phase::Releasing => self.close(),
             Phase::Closing => self.serve(),
@@ -190,7 +204,7 @@ impl Server {
         };
         let fd = client.fd;
         if let Some(agg) = client.rest {
-            return self.make(Phase::Writing(agg), Call::IolWrite { fd, agg });
+            return self.make_with(Phase::Writing, agg, Call::IolWrite { fd, agg });
         }
         match client.file {
             Some(fd) => self.make(Phase::Reading, Call::IolRead { fd, count: PIECE }),
@@ -291,7 +305,7 @@ impl Server {
             self.buffer.clear();
         }
         match self.take_file(look.len(agg).unwrap_or(0)) {
-            Some(fd) => self.make(Phase::ClosingFile(agg), Call::Close { fd }),
+            Some(fd) => self.make_with(Phase::ClosingFile, agg, Call::Close { fd }),
             None => self.complete(agg),
         }
     }
@@ -342,7 +356,7 @@ impl Server {
         }
         let head = mem::replace(&mut self.head, Vec::new(self.alloc));
         let bytes = Bytes::from_vec(head);
-        self.make(Phase::MakingHead(body), Call::AggMake { bytes })
+        self.make_with(Phase::MakingHead, body, Call::AggMake { bytes })
     }
 
     // Places the buffer in new pages.
@@ -404,7 +418,7 @@ impl Server {
         ensures { IsQuiet result }
     {
         if from < to {
-            return self.make(Phase::Cutting(agg), Call::AggCut { agg, from, to });
+            return self.make_with(Phase::Cutting, agg, Call::AggCut { agg, from, to });
         }
         self.keep(None);
         self.make(Phase::DroppingSent, Call::AggDrop { agg })

@@ -113,7 +113,6 @@ fn seated(alloc: Global, server: Server) -> Result<Vec<(DomainId, Server)>, Allo
 }
 
 /// A world of the server.
-#[tactic(auto, using(crate::proofs::Apart::one_apart))]
 pub fn world(alloc: Global, site: &Site) -> Result<World<MemoryBacking, Server>, Refusal> {
     let server = Server::new(alloc, site.passing, &site.lengths)?;
     let processes = seated(alloc, server)?;
