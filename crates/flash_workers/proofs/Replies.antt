@@ -1,4 +1,4 @@
--- What a reply says of the aggregates that a worker writes, and when its call is made again.
+-- What a reply says of the aggregates that a worker writes, and when its call is retried.
 use Rattle.std.proofs.Common.{◌≡◌, ◌≢◌, ℕ, ◌+◌, ◌-◌, ◌*◌, ◌==◌, ◌<◌, ◌≤◌, List, [], length, take, drop, ap, ◌∙◌, refl, sym, subst, arith, Option, Some, None, true, false, Bool, if◌then◌else◌}
 use Rattle.std.specs.Prelude.{unwrap_or, option_map, ◌&&◌, not, nat_le, nat_lt, slice_get, slice_range}
 use Rattle.std.proofs.lemmas.Bool.Decides.{nat_tests}
@@ -109,7 +109,7 @@ module _ (steps : EachStepLeavesTheRest) (own : CallsServeTheirDomain) (m n : St
   facts x begun (doing.Swaps agg rest) r ready step = swaps agg rest r ready.0 ready.1 step
   facts x begun e r ready step = tt
 
--- ---- when a call is made again
+-- ---- when a call is retried
 
 abbrev pub Refuses : Reply → (m n : State) → Type 0
 Refuses r m n = (x : Refusal) × (r ≡ reply.Refused x) × (n ≡ m)

@@ -1,4 +1,4 @@
--- Each step of a worker brings its script nearer to its end, unless its call is to be made again.
+-- Each step of a worker brings its script nearer to its end, unless its call is to be retried.
 use Rattle.std.specs.Prelude.{◌≡◌, ◌≢◌, ◌<◌, ◌⊎◌, ℕ, ◌+◌, ◌-◌, ◌*◌, false, List, [], length, Option, Some, None, is_some, if◌then◌else◌}
 use Rattle.iol_core.specs.State.{State, descriptor}
 use Rattle.iol_core.specs.Run.{StepsTo}
@@ -111,7 +111,7 @@ pub record WorkersAdvance : Type 0 where
   pub nears : (m n : State) (d p : ℕ) (job : Task) (step next : Step) (r : Reply) → IsOrderly m → IsReady m d p job step.doing
       → IsTidy step → StepsTo m (event.Call d (call_at job step)) r n → told job step (lent_at n d) r ≡ Some next
       → IsTidy next × IsNearer job (lent_at m d) (lent_at n d) step next
-  -- the call is made again only if it was refused, and then nothing changed
+  -- the call is retried only if it was refused, and then nothing changed
   pub stays : (m n : State) (d : ℕ) (job : Task) (step : Step) (r : Reply) → step.doing ≢ doing.Waits
       → StepsTo m (event.Call d (call_at job step)) r n → told job step (lent_at n d) r ≡ None
       → (x : Refusal) × (r ≡ reply.Refused x) × (n ≡ m)
