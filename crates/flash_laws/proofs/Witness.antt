@@ -5,6 +5,7 @@ use Rattle.std.proofs.lemmas.Bool.Decides.{nat_tests}
 use Rattle.std.proofs.lemmas.Grind.{common_steps}
 use Rattle.std.proofs.lemmas.List.{length-replicate}
 use Rattle.iol_core.specs.Access.{HasAccess}
+use Rattle.iol_core.specs.Calls.Files.{file_called}
 use Rattle.iol_core.specs.NumberedLists.{is_numbered}
 use Rattle.iol_core.specs.Positions.{ArePlaced}
 use Rattle.iol_core.specs.State.{State, File, new_state, domain, pool, file, content, conn_at, is_pool, may_read, with_domain, with_conn, with_content}
@@ -167,7 +168,7 @@ site_files = record {
 
 -- nothing is shown, since no script runs
 abbrev shelf : Shelf
-shelf = record { finds = outcome_in site; shows = λ name. script.Failed refusal.NoFile; scripts = false; refuses = no_refusal }
+shelf = record { finds = outcome_in site; number = file_called site; shows = λ name. script.Failed refusal.NoFile; scripts = false; refuses = no_refusal }
 
 -- A world with the server alone: it is new. A connection comes, and is accepted: this run is calm, and the connection is the net's.
 module _ (orders : EachStepKeepsOrder) (descriptors : DescriptorsComeByReplies) {W : Type 0} (works : Account W) (settled : Claim W)
@@ -180,6 +181,7 @@ module _ (orders : EachStepKeepsOrder) (descriptors : DescriptorsComeByReplies) 
   unfolding domain pool file content with_domain with_content
   fixed_alone = record {
     site = site_fixed;
+    numbers = λ name. refl;
     access = over_steps HasAccess orders.access (orders.new_access slots);
     placed = over_steps ArePlaced orders.places (orders.new_places slots enough);
     low = over_steps AreLow descriptors.step (descriptors.new slots);

@@ -5,6 +5,7 @@ pub mod OneAnswer
 use Rattle.std.specs.Prelude.{◌≡◌, ℕ, ◌⊎◌, Bool, true, false, List, [], ◌∷◌, ◌++◌, Option, Some, None}
 use Rattle.std.specs.List.{concat}
 use Rattle.iol_core.specs.declared.refusals.Refusal.{Refusal}
+use Rattle.iol_core.specs.declared.refusals.Refusal.TheVariants.{Fault}
 use Rattle.iol_core.specs.declared.events.Reply.{Reply}
 use Rattle.iol_core.specs.declared.events.Reply.TheVariants as reply
 use Rattle.iol_laws.specs.Caller.{is_rough}
@@ -17,7 +18,7 @@ use Rattle.flash_cgi.specs.Script.{script_of}
 use Rattle.flash_cgi.specs.declared.line.Line.{Line}
 use Rattle.flash_laws.specs.Answers.Scripts.{script_response}
 use Rattle.flash_laws.specs.Client.{is_for_script}
-use Rattle.flash_laws.specs.Conn.{status_of}
+use Rattle.flash_laws.specs.Conn.{name_of, status_of}
 use Rattle.flash_laws.specs.Answers.{Outcome, Found, Failed, response, outcome_of, script_text, Reads, last_may_close, last_closes}
 use Rattle.flash_laws.specs.Shelf.Due.{Seen, due, outcomes_by}
 
@@ -29,6 +30,8 @@ pub record Refusals : Type 0 where
 pub record Shelf : Type 0 where
   -- the outcome of each name for the server
   pub finds : (name : List ℕ) → Outcome
+  -- the number of the file of each name
+  pub number : (name : List ℕ) → Option ℕ
   -- and for a script
   pub shows : Seen
   -- whether scripts are run
@@ -40,11 +43,17 @@ pub record Shelf : Type 0 where
 abbrev pub due_to : Shelf → Answer → List ℕ
 due_to shelf q = due shelf.scripts shelf.finds shelf.shows q
 
+-- a Fault is of the file with this number
+abbrev pub IsOf : (file : Option ℕ) → Refusal → Type 0
+IsOf file (Fault f) = file ≡ Some f
+IsOf file x = Unit {0}
+
 module _ (shelf : Shelf) where
-  -- The possible results of the server's calls for a file with this outcome: the outcome, or the status of a refusal that its
-  -- calls may get (503, or 500 for a fault).
-  abbrev pub MayFind : (there got : Outcome) → Type 0
-  MayFind there got = (got ≡ there) ⊎ ((x : Refusal) × (shelf.refuses.of_server x ≡ true) × (got ≡ Failed (status_of x)))
+  -- The possible results of the server's calls for the file of a name, with this outcome: the outcome, or the status of a refusal
+  -- that its calls may get (503, or 500 for a fault of this file).
+  abbrev pub MayFind : (name : List ℕ) → (there got : Outcome) → Type 0
+  MayFind name there got = (got ≡ there)
+      ⊎ ((x : Refusal) × (shelf.refuses.of_server x ≡ true) × IsOf (shelf.number name) x × (got ≡ Failed (status_of x)))
 
   -- The possible results of a worker's calls for a file: its outcome, or a refusal that calls of workers may get.
   abbrev pub MayShow : (there got : script.Outcome) → Type 0
@@ -75,7 +84,7 @@ module _ (shelf : Shelf) where
 
   -- A possible response to a request.
   abbrev pub MayBeDue : Answer → List ℕ → Type 0
-  MayBeDue q r = (o : Outcome) × MayFind (outcome_of shelf.finds q) o × MayGive (is_for_script shelf.scripts q) q o r
+  MayBeDue q r = (o : Outcome) × MayFind (name_of q) (outcome_of shelf.finds q) o × MayGive (is_for_script shelf.scripts q) q o r
 
   -- a possible response to each of these requests, in order
   abbrev pub AllMayBeDue : List Answer → List (List ℕ) → Type 0

@@ -1,5 +1,5 @@
 -- The contents of a site for the server and for its scripts.
-use Rattle.std.specs.Prelude.{ℕ, List, [], Option, Some, None, if◌then◌else◌, position, bytes_eq, slice_index_or}
+use Rattle.std.specs.Prelude.{ℕ, ◌+◌, List, [], Option, Some, None, if◌then◌else◌, option_map, position, bytes_eq, slice_index_or}
 use Rattle.std.specs.List.{slice_get}
 use Rattle.iol_core.specs.declared.refusals.Refusal.TheVariants.{Denied, NoFile}
 use Rattle.flash_cgi.specs.Output.{Outcome, Failed, Found}
@@ -24,10 +24,15 @@ seen_at s slots (Some i) = seen (slice_get s.files.items i) (slice_index_or slot
 abbrev pub seen_of : Site → (slots : List (List ℕ)) → Seen
 seen_of s slots name = seen_at s slots (position (λ f. bytes_eq f.name.items name) s.files.items)
 
+-- the number of the file of this name: files are numbered from 1, in the order of the site's list
+abbrev pub number_of : Site → (name : List ℕ) → Option ℕ
+number_of s name = option_map (λ i. i + 1) (position (λ f. bytes_eq f.name.items name) s.files.items)
+
 -- For both; scripts are run if there is one, and calls may get these refusals.
 abbrev pub library_of : Site → (slots : List (List ℕ)) → Refusals → Shelf
 library_of s slots refuses = record {
   finds = shelf_of s slots;
+  number = number_of s;
   shows = seen_of s slots;
   scripts = has_script s;
   refuses = refuses;

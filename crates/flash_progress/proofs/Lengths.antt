@@ -11,7 +11,7 @@ use Rattle.flash_http.specs.Range.{selected}
 use Rattle.flash_http.specs.Request.{Answer, serve, refuse}
 use Rattle.flash_laws.specs.Answers.{Outcome, Found, Failed, outcome_of, response, body_unless, chosen, file_text, unsatisfiable}
 use Rattle.flash_laws.specs.Client.Fits.{IsProper}
-use Rattle.flash_laws.specs.Conn.{most_read, status_of, text_of}
+use Rattle.flash_laws.specs.Conn.{most_read, name_of, status_of, text_of}
 use Rattle.flash_laws.specs.Conn.ShortHeads.{is_error_status, ContentIsShort}
 use Rattle.flash_laws.specs.Shelf.{Shelf, MayFind, MayGive, MayBeDue}
 use Rattle.flash_laws.specs.Site.{server, found_in, IsFixed}
@@ -107,7 +107,7 @@ module _ (shelf : Shelf) (m : State) (fixed : IsFixed shelf.finds m) (files : sh
           which true e = absurd (cc (e))
           which false e = of 403 refl e
 
-  response-short : (q : Answer) (o : Outcome) → IsProper q → MayFind shelf (outcome_of shelf.finds q) o → length (response q o) ≤ longest_response m
+  response-short : (q : Answer) (o : Outcome) → IsProper q → MayFind shelf (name_of q) (outcome_of shelf.finds q) o → length (response q o) ≤ longest_response m
   response-short (serve w) (Found bytes) proper (inl is) =
       let short = found-short w.name bytes (sym is) in
       let low = short.1 in
@@ -117,10 +117,10 @@ module _ (shelf : Shelf) (m : State) (fixed : IsFixed shelf.finds m) (files : sh
       let part = chosen-short (selected w.range (length bytes)) bytes in
       let all = length-append (file_text w (length bytes)) (body_unless w.head_only (chosen (selected w.range (length bytes)) bytes)) in
       omega (arith, most, text, body, part, all)
-  response-short (serve w) (Found bytes) proper (inr refused) = absurd (let e = refused.2 in cc (e))
+  response-short (serve w) (Found bytes) proper (inr refused) = absurd (let e = refused.3 in cc (e))
   response-short (serve w) (Failed status) proper (inl is) = let text = error-text-short status w.head_only (not w.keep) (failed-status w.name status (sym is)) in omega (arith, text)
   response-short (serve w) (Failed status) proper (inr refused) =
-      let same : status_of refused.0 ≡ status = ap (λ (o : Outcome). status_in o) (sym refused.2) in
+      let same : status_of refused.0 ≡ status = ap (λ (o : Outcome). status_in o) (sym refused.3) in
       let text = error-text-short status w.head_only (not w.keep) (subst (λ s. is_error_status s ≡ true) same (refusal-status refused.0)) in
       omega (arith, text)
   response-short (refuse status head_only close) o proper may = let text = error-text-short status head_only close proper in omega (arith, text)

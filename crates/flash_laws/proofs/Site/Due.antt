@@ -10,7 +10,7 @@ use Rattle.flash_cgi.specs.Script.{script_of}
 use Rattle.flash_cgi.specs.declared.line.Line.{Line}
 use Rattle.flash_cgi.specs.declared.line.Line.TheVariants as line
 use Rattle.flash_laws.specs.Answers.{Outcome, Found, Failed, outcome_of, Shelf as Files, due_to as file_due}
-use Rattle.flash_laws.specs.Shelf.{Shelf, due_to, AllMayShow, MayRun, MayAnswerText, MayGive, MayBeDue}
+use Rattle.flash_laws.specs.Shelf.{Shelf, IsOf, due_to, AllMayShow, MayRun, MayAnswerText, MayGive, MayBeDue}
 use Rattle.iol_core.specs.declared.refusals.Refusal.{Refusal}
 use Rattle.flash_laws.specs.Conn.{status_of, text_of}
 use Rattle.flash_laws.specs.declared.phase.Content.TheVariants.{Error}
@@ -112,8 +112,9 @@ module _ (shelf : Shelf) where
   give-error true w status = refl
   give-error false w status = refl
 
-  pub error-may : (w : Wanted) (x : Refusal) → shelf.refuses.of_server x ≡ true → MayBeDue shelf (serve w) (text_of (serve w) (Error (status_of x)))
-  error-may w x may = (Failed (status_of x), inr (x, may, refl), give-error (is_for_script shelf.scripts (serve w)) w (status_of x))
+  pub error-may : (w : Wanted) (x : Refusal) → shelf.refuses.of_server x ≡ true → IsOf (shelf.number w.name) x
+      → MayBeDue shelf (serve w) (text_of (serve w) (Error (status_of x)))
+  error-may w x may is_of = (Failed (status_of x), inr (x, may, is_of, refl), give-error (is_for_script shelf.scripts (serve w)) w (status_of x))
 
   -- ---- of a script that runs: the response to what it puts out
 

@@ -15,6 +15,7 @@ use Rattle.flash_cgi.specs.declared.line.Line.{Line}
 use Rattle.flash_laws.specs.Answers.{Outcome, Found, Failed, outcome_of, keeps, NextIn, Next, Reads, last_may_close, last_closes}
 use Rattle.flash_laws.specs.Answers.Scripts.{script_response}
 use Rattle.flash_laws.specs.Client.{is_for_script}
+use Rattle.flash_laws.specs.Conn.{name_of}
 use Rattle.flash_laws.specs.Shelf.{Shelf, due_to, MayFind, MayShow, AllMayShow, MayRun, MayAnswerText, MayGive, MayBeDue, AllMayBeDue, Begins, IsAnswer}
 use Rattle.flash_laws.specs.Shelf.Due.{outcomes_by, due_if, due_of_run, due_of_text, due_of_script}
 use Rattle.flash_laws.specs.Shelf.OneAnswer.{RefusesNothing, StreamsHaveOneAnswer}
@@ -30,9 +31,9 @@ module _ (shelf : Shelf) (none : RefusesNothing shelf) where
   none-shown : (x : Refusal) → shelf.refuses.of_workers x ≡ true → ⊥
   none-shown x may = clash (shelf.refuses.of_workers x) may (none x).1
 
-  find-one : (there got : Outcome) → MayFind shelf there got → got ≡ there
-  find-one there got (inl is) = is
-  find-one there got (inr refused) = absurd (none-found refused.0 refused.1)
+  find-one : (name : List ℕ) (there got : Outcome) → MayFind shelf name there got → got ≡ there
+  find-one name there got (inl is) = is
+  find-one name there got (inr refused) = absurd (none-found refused.0 refused.1)
 
   show-first : (o p : script.Outcome) → MayShow shelf o p → p ≡ o
   show-first o p (inl is) = is
@@ -65,7 +66,7 @@ module _ (shelf : Shelf) (none : RefusesNothing shelf) where
 
   due-one : (q : Answer) (r : List ℕ) → MayBeDue shelf q r → r ≡ due_to shelf q
   due-one q r may = give-one (is_for_script shelf.scripts q) q r
-      (subst (λ (o : Outcome). MayGive shelf (is_for_script shelf.scripts q) q o r) (find-one (outcome_of shelf.finds q) may.0 may.1) may.2)
+      (subst (λ (o : Outcome). MayGive shelf (is_for_script shelf.scripts q) q o r) (find-one (name_of q) (outcome_of shelf.finds q) may.0 may.1) may.2)
 
   -- the responses that are due
   abbrev all_due : List Answer → List ℕ

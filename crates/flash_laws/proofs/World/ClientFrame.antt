@@ -83,6 +83,7 @@ finds_on shelf m n q script (Reading f) opens site may h = record {
   may = subst (λ (x : FileEntry). may_read n server x.pool ≡ true) (sym (file-same m n h.number site.files)) (may (file m h.number).pool h.may);
   short = subst (λ (l : List ℕ). length l ≤ most_read) (sym (content-same m n h.number site.slots)) h.short;
   found = h.found ∙ ap (λ (l : List ℕ). Found l) (sym (content-same m n h.number site.slots));
+  named = h.named;
 }
 finds_on shelf m n q script (Shuts f (TextOf a true)) opens site may h = h
 finds_on shelf m n q script (Shuts f k) opens site may h = h

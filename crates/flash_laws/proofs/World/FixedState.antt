@@ -86,6 +86,7 @@ module _ (shelf : Shelf) (crew : Crew) (laws : AllLaws crew) where
     fixed-mild : IsFixedFor shelf crew n
     fixed-mild = record {
       site = still;
+      numbers = λ name. called-same m n name mild.site.files ∙ fixed.numbers name;
       access = laws.the.orders.access m n mild.e mild.r fixed.access mild.step;
       placed = laws.the.orders.places m n mild.e mild.r fixed.placed mild.step;
       low = laws.numbers.step m n mild.e mild.r fixed.low mild.step;

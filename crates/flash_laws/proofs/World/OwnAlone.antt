@@ -51,7 +51,7 @@ module _ (shelf : Shelf) (crew : Crew) (laws : AllLaws crew) where
           → StepsTo m (event.Call server (wants shelf.scripts fd (with_run x run))) r n
           → Fits shelf crew n came sent fd c (told shelf.scripts worker (with_run x run) r heard) seats
       by None none f waits step =
-          alone_phase shelf crew laws m n came sent fd c x.conn.kept x.script order seats (is_for_script shelf.scripts x.conn.q) x.conn.q x.conn.doing r heard refl fixed.site f waits busy calm step names
+          alone_phase shelf crew laws m n came sent fd c x.conn.kept x.script order seats (is_for_script shelf.scripts x.conn.q) x.conn.q x.conn.doing r heard refl fixed f waits busy calm step names
       by (Some y) none f waits step = absurd (cc (none))
 
   -- the next request of a stream is proper

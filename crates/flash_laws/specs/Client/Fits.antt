@@ -98,6 +98,7 @@ module _ (shelf : Shelf) where
     pub may : may_read m server (file m number).pool ≡ true
     pub short : length (content m number) ≤ most_read
     pub found : shelf.finds (name_of q) ≡ Found (content m number)
+    pub named : shelf.number (name_of q) ≡ Some number
 
   abbrev pub Finds : State → Answer → (script : List ℕ) → Doing → Type 0
   Finds m q script (doing.Reads f) = FindsFile m q f

@@ -1,6 +1,7 @@
 -- The workers of a site, in the terms of the law over a world, and the conditions that remain while a world runs.
 use Rattle.std.specs.Prelude.{◌≡◌, ◌<◌, ℕ, Bool, true, List}
 use Rattle.iol_core.specs.Access.{HasAccess}
+use Rattle.iol_core.specs.Calls.Files.{file_called}
 use Rattle.iol_core.specs.Positions.{ArePlaced}
 use Rattle.iol_core.specs.Prelude.{default_pool}
 use Rattle.iol_core.specs.State.{State}
@@ -39,6 +40,7 @@ pub record Crew : Type 1 where
 -- the server may read the output of workers, and the workers their jobs.
 pub record IsFixedFor (shelf : Shelf) (crew : Crew) (m : State) : Type 0 where
   pub site : site.IsFixed shelf.finds m
+  pub numbers : (name : List ℕ) → file_called m name ≡ shelf.number name
   pub access : HasAccess m
   pub placed : ArePlaced m
   pub low : AreLow m

@@ -191,6 +191,7 @@ module _ (s : Site) (slots : List (List ℕ)) where
   unfolding domain
   fixed_for refuses fits access placed low short = record {
     site = fixed s slots short;
+    numbers = called_there s slots;
     access = access;
     placed = placed;
     low = low;

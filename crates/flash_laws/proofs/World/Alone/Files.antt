@@ -7,10 +7,12 @@ use Rattle.iol_core.specs.Text.{bytes_of}
 use Rattle.iol_core.specs.State.{State, Connection, File as FileEntry, descriptor, content, conn_at, may_read, file}
 use Rattle.iol_core.specs.Calls.Files.{file_called}
 use Rattle.iol_core.specs.Calls.Writes.{is_file}
-use Rattle.iol_core.specs.Run.{StepsTo}
+use Rattle.iol_core.specs.Meaning.{WantOfMemory}
+use Rattle.iol_core.specs.Run.{StepsTo, called}
 use Rattle.iol_core.specs.declared.descriptors.Descriptor.{Descriptor}
 use Rattle.iol_core.specs.declared.descriptors.Descriptor.TheVariants as on
 use Rattle.iol_core.specs.declared.descriptors.Mode.TheVariants as modes
+use Rattle.iol_core.specs.declared.refusals.Refusal.{Refusal}
 use Rattle.iol_core.specs.declared.refusals.Refusal.TheVariants as no
 use Rattle.iol_core.specs.declared.events.Call.{Call}
 use Rattle.iol_core.specs.declared.events.Call.TheVariants as call
@@ -20,6 +22,8 @@ use Rattle.iol_core.specs.declared.events.Reply.TheVariants as reply
 use Rattle.iol_laws.specs.Frame.{is_conn, touches_conn, touches_fd}
 use Rattle.iol_laws.specs.Order.{IsOrderly}
 use Rattle.iol_laws.specs.CallerFiles as of
+use Rattle.iol_laws.specs.RefusalsLeft.{CannotFetch}
+use Rattle.iol_laws.proofs.Refusals.Calls.{left, may, of-memory}
 use Rattle.flash_http.specs.Range.{selected}
 use Rattle.flash_http.specs.Request.{Answer, serve, refuse, Wanted}
 use Rattle.flash_laws.specs.Answers.{Outcome, Found, Failed, body_unless, chosen, file_text, unsatisfiable, response}
@@ -27,14 +31,14 @@ use Rattle.flash_laws.specs.Client.{is_for_script, can_run, kept_if, script_told
 use Rattle.flash_laws.specs.Client.Fits.{TieAlone, due_in, Finds, FitsAlone}
 use Rattle.flash_laws.specs.Conn as conn
 use Rattle.flash_laws.specs.Conn.{Conn, most_read, name_of, count_of, text_of, status_of}
-use Rattle.flash_laws.specs.Workers.Crew.{Crew}
+use Rattle.flash_laws.specs.Workers.Crew.{Crew, IsFixedFor}
 use Rattle.flash_laws.specs.Conn.Fits.{Has, is_closing, Names}
 use Rattle.flash_laws.specs.Client.ResponseState as known
 use Rattle.flash_laws.specs.Client.ResponseState.{OfFile, OfScript, is_read, is_opening}
 use Rattle.flash_laws.specs.Run.Fits.{nothing_yet}
-use Rattle.flash_laws.specs.Shelf.{Shelf, due_to, MayBeDue, IsAmong}
+use Rattle.flash_laws.specs.Shelf.{Shelf, IsOf, due_to, MayBeDue, IsAmong}
 use Rattle.flash_laws.proofs.Site.Due.{due-may, error-may}
-use Rattle.flash_laws.specs.Site.{server, found_in, IsFixed}
+use Rattle.flash_laws.specs.Site.{server, found_in}
 use Rattle.flash_laws.specs.declared.phase.Learnt.TheVariants.{File, Length, Text as TextOf}
 use Rattle.flash_laws.specs.declared.phase.Content.TheVariants.{Error, Script}
 use Rattle.flash_laws.specs.declared.phase.Doing.{Doing}
@@ -48,6 +52,19 @@ use Rattle.flash_laws.proofs.Conn.LentBytes.{file-same, content-same}
 use Rattle.flash_laws.proofs.Lists.{not-equal}
 use Rattle.flash_laws.proofs.World.AllLaws.{AllLaws}
 use Rattle.flash_laws.proofs.World.Alone.Ties.{alone, FitsAt, Stands, TiesOn, tie_on}
+
+-- no call that opens a file gets a fault
+open-of : (m n : State) (name : List ℕ) (file_is : Option ℕ) (x : Refusal) → StepsTo m (event.Call server (call.OpenFile name modes.Read)) (reply.Refused x) n
+    → IsOf file_is x
+open-of m n name file_is x step =
+    left (IsOf file_is) WantOfMemory (called m server (call.OpenFile name modes.Read)).refusals x
+    (may (IsOf file_is) no.NoDomain _ tt, (may (IsOf file_is) no.NoFile _ tt, (may (IsOf file_is) no.TooMany _ tt, (may (IsOf file_is) (no.Denied _) _ tt, tt))))
+    (of-memory (IsOf file_is) x tt) step.0
+
+-- and one that reads it only a fault of this file
+read-of : (p f : ℕ) (file_is : Option ℕ) (x : Refusal) → CannotFetch p f x → file_is ≡ Some f → IsOf file_is x
+read-of p f file_is (no.Fault g) is named = named ∙ ap (λ k. Some k) (sym is)
+read-of p f file_is x is named = tt
 
 -- of a phase that reads no script the response is due
 pub due-is : (due : List ℕ) (q : Answer) (d : Doing) → is_read d ≡ false → due_in due q d ≡ due
@@ -123,14 +140,14 @@ module _ (shelf : Shelf) (crew : Crew) (laws : AllLaws crew) (m n : State) (came
       by true for_script = laws.due.unread shelf.scripts shelf.finds shelf.shows w status for_script is
       by false none = due_of_file w (Failed status) none is
 
-  pub opens : (q : Answer) (r : Reply) (heard : List ℕ) → IsFixed shelf.finds m → Fitting m q Opens → IsAmong shelf.refuses.of_server r
+  pub opens : (q : Answer) (r : Reply) (heard : List ℕ) → IsFixedFor shelf crew m → Fitting m q Opens → IsAmong shelf.refuses.of_server r
       → StepsTo m (event.Call server (call.OpenFile (name_of q) modes.Read)) r n
       → Fitting n q (conn.told_opens r)
   opens (refuse status head_only close) r heard fixed f calm step = absurd f.has
-  opens (serve w) r heard fixed f calm step = by r (laws.the.files.opens m n server w.name modes.Read r fixed.lives step) step calm
+  opens (serve w) r heard fixed f calm step = by r (laws.the.files.opens m n server w.name modes.Read r fixed.site.lives step) step calm
     where
       shelved : (x : Option ℕ) → file_called m w.name ≡ x → shelf.finds w.name ≡ found_in m x
-      shelved x is = sym (fixed.outcomes w.name) ∙ ap (λ (y : Option ℕ). found_in m y) is
+      shelved x is = sym (fixed.site.outcomes w.name) ∙ ap (λ (y : Option ℕ). found_in m y) is
 
       found : (i : ℕ) (b : Bool) → may_read m server (file m i).pool ≡ b → file_called m w.name ≡ Some i
           → shelf.finds w.name ≡ (if b then Found (content m i) else Failed 403)
@@ -148,8 +165,9 @@ module _ (shelf : Shelf) (crew : Crew) (laws : AllLaws crew) (m n : State) (came
             number = did.file_is;
             open_on = did.open_on;
             may = subst (λ (x : FileEntry). may_read n server x.pool ≡ true) (sym here) (leaves.readers server (file m did.file_is).pool did.may);
-            short = subst (λ (l : List ℕ). length l ≤ most_read) (sym bytes) (fixed.lengths w.name did.file_is did.found);
+            short = subst (λ (l : List ℕ). length l ≤ most_read) (sym bytes) (fixed.site.lengths w.name did.file_is did.found);
             found = found did.file_is true did.may did.found ∙ ap (λ (l : List ℕ). Found l) (sym bytes);
+            named = sym (fixed.numbers w.name) ∙ did.found;
           })
       by (reply.Refused no.NoFile) did step calm =
           goes (serve w) [] Opens (Heads (Error 404)) (call.OpenFile w.name modes.Read) (reply.Refused no.NoFile) (due_to shelf (serve w)) (due-may shelf (serve w)) f step refl refl (refl, refl, refl) (refl, refl, refl) (failed w 404 (shelved None did.0)) refl
@@ -158,7 +176,7 @@ module _ (shelf : Shelf) (crew : Crew) (laws : AllLaws crew) (m n : State) (came
           goes (serve w) [] Opens (Heads (Error 403)) (call.OpenFile w.name modes.Read) (reply.Refused (no.Denied p)) (due_to shelf (serve w)) (due-may shelf (serve w)) f step refl refl (refl, refl, refl) (refl, refl, refl) (failed w 403 (found did.0.file_is false may_not did.0.found)) refl
       by (reply.Refused no.WouldBlock) did step calm = absurd (let bad = did.0 in cc (bad))
       by (reply.Refused y) did step calm = goes (serve w) [] Opens (conn.told_opens (reply.Refused y)) (call.OpenFile w.name modes.Read) (reply.Refused y)
-          (text_of (serve w) (Error (status_of y))) (error-may shelf w y (calm did.0)) f step refl refl (refl, refl, refl) (refl, refl, refl) refl (refusal-status y)
+          (text_of (serve w) (Error (status_of y))) (error-may shelf w y (calm did.0) (open-of m n w.name (shelf.number w.name) y step)) f step refl refl (refl, refl, refl) (refl, refl, refl) refl (refusal-status y)
       by r did step calm = absurd did
 
   -- what a read of a whole file touches is that file alone
@@ -169,12 +187,16 @@ module _ (shelf : Shelf) (crew : Crew) (laws : AllLaws crew) (m n : State) (came
     ap (λ b. true && b && is_file (descriptor m server g)) (differ-fds g i 0 is open_on) ∙ grind (arith),
   )
 
-  pub reads : (q : Answer) (g : ℕ) (r : Reply) (heard : List ℕ) → is_for_script shelf.scripts q ≡ false → IsFixed shelf.finds m → Fitting m q (Reading g)
+  pub reads : (q : Answer) (g : ℕ) (r : Reply) (heard : List ℕ) → is_for_script shelf.scripts q ≡ false → IsFixedFor shelf crew m → Fitting m q (Reading g)
       → IsAmong shelf.refuses.of_server r → StepsTo m (event.Call server (conn.wants fd (at kept q (Reading g)))) r n
       → Names n r heard → Fitting n q (conn.told_reads g r heard)
   reads (refuse status head_only close) g r heard none fixed f calm step names = absurd f.has.0
   reads (serve w) g r heard none fixed f calm step names = which w.head_only refl step
     where
+      faulted : (y : Refusal) → StepsTo m (event.Call server (call.IolRead g most_read)) (reply.Refused y) n → IsOf (shelf.number w.name) y
+      faulted y step = read-of _ f.finds.number (shelf.number w.name) y
+          (laws.left.reads_file m n server g f.finds.number 0 most_read modes.Read y fixed.site.lives f.finds.open_on refl f.finds.may step) f.finds.named
+
       measured : (r : Reply) → w.head_only ≡ true → of.Tells m (length (content m f.finds.number)) r n
           → StepsTo m (event.Call server (call.Length g)) r n
           → Fitting n (serve w) (conn.told_reads g r heard)
@@ -208,24 +230,28 @@ module _ (shelf : Shelf) (crew : Crew) (laws : AllLaws crew) (m n : State) (came
       whole (reply.Refused y) is did step calm names =
           let apart = reads_apart g f.finds.number most_read f.finds.open_on f.open_on in
           goes (serve w) [] (Reading g) (conn.told_reads g (reply.Refused y) heard) (call.IolRead g most_read) (reply.Refused y)
-          (text_of (serve w) (Error (status_of y))) (error-may shelf w y (calm did.0)) f step apart.0 apart.1 (refl, refl, refl) (refl, refl, refl)
+          (text_of (serve w) (Error (status_of y))) (error-may shelf w y (calm did.0) (faulted y step)) f step apart.0 apart.1 (refl, refl, refl) (refl, refl, refl)
           ((f.has.1.0, f.has.1.1, subst (λ (s : State). descriptor s server g ≡ Some (on.File f.has.1.0 f.has.1.1 modes.Read)) (sym did.1) f.has.1.2), refl) (refusal-status y)
       whole r is did step calm names = absurd did
 
       which : (b : Bool) → w.head_only ≡ b
           → StepsTo m (event.Call server (if b then call.Length g else call.IolRead g most_read)) r n
           → Fitting n (serve w) (conn.told_reads g r heard)
-      which true is step = measured r is (laws.the.files.measures m n server g f.finds.number 0 modes.Read r fixed.lives f.finds.open_on step) step
-      which false is step = whole r is (laws.the.files.reads_file m n server g f.finds.number 0 most_read modes.Read r order fixed.lives f.finds.may refl f.finds.open_on step) step calm names
+      which true is step = measured r is (laws.the.files.measures m n server g f.finds.number 0 modes.Read r fixed.site.lives f.finds.open_on step) step
+      which false is step = whole r is (laws.the.files.reads_file m n server g f.finds.number 0 most_read modes.Read r order fixed.site.lives f.finds.may refl f.finds.open_on step) step calm names
 
   -- the text of a script is read whole
-  pub reads_text : (q : Answer) (g : ℕ) (r : Reply) (heard : List ℕ) → is_for_script shelf.scripts q ≡ true → IsFixed shelf.finds m → Fitting m q (Reading g)
+  pub reads_text : (q : Answer) (g : ℕ) (r : Reply) (heard : List ℕ) → is_for_script shelf.scripts q ≡ true → IsFixedFor shelf crew m → Fitting m q (Reading g)
       → IsAmong shelf.refuses.of_server r → StepsTo m (event.Call server (call.IolRead g most_read)) r n
       → Names n r heard → FitsAlone shelf n came sent fd c (script_told (alone kept script q (Reading g)) r heard)
   reads_text (refuse status head_only close) g r heard asks fixed f calm step names = absurd f.has.0
   reads_text (serve w) g r heard asks fixed f calm step names =
-      by r (laws.the.files.reads_file m n server g f.finds.number 0 most_read modes.Read r order fixed.lives f.finds.may refl f.finds.open_on step) step calm names
+      by r (laws.the.files.reads_file m n server g f.finds.number 0 most_read modes.Read r order fixed.site.lives f.finds.may refl f.finds.open_on step) step calm names
     where
+      faulted : (y : Refusal) → StepsTo m (event.Call server (call.IolRead g most_read)) (reply.Refused y) n → IsOf (shelf.number w.name) y
+      faulted y step = read-of _ f.finds.number (shelf.number w.name) y
+          (laws.left.reads_file m n server g f.finds.number 0 most_read modes.Read y fixed.site.lives f.finds.open_on refl f.finds.may step) f.finds.named
+
       by : (r : Reply) → of.ReadsFile m server g f.finds.number 0 modes.Read (take most_read (content m f.finds.number)) r n
           → StepsTo m (event.Call server (call.IolRead g most_read)) r n → IsAmong shelf.refuses.of_server r
           → Names n r heard → FitsAlone shelf n came sent fd c (script_told (alone kept script (serve w) (Reading g)) r heard)
@@ -261,6 +287,6 @@ module _ (shelf : Shelf) (crew : Crew) (laws : AllLaws crew) (m n : State) (came
       by (reply.Refused y) did step calm names =
           let apart = reads_apart g f.finds.number most_read f.finds.open_on f.open_on in
           goes (serve w) [] (Reading g) (conn.told_reads g (reply.Refused y) heard) (call.IolRead g most_read) (reply.Refused y)
-          (text_of (serve w) (Error (status_of y))) (error-may shelf w y (calm did.0)) f step apart.0 apart.1 (refl, refl, refl) (refl, refl, refl)
+          (text_of (serve w) (Error (status_of y))) (error-may shelf w y (calm did.0) (faulted y step)) f step apart.0 apart.1 (refl, refl, refl) (refl, refl, refl)
           ((f.has.1.0, f.has.1.1, subst (λ (s : State). descriptor s server g ≡ Some (on.File f.has.1.0 f.has.1.1 modes.Read)) (sym did.1) f.has.1.2), refl) (refusal-status y)
       by r did step calm names = absurd did

@@ -29,7 +29,7 @@ use Rattle.flash_laws.specs.Client.{is_for_script, conn_wants, conn_told, script
 use Rattle.flash_laws.specs.Client.Fits.{TieAlone, due_in, HasText, Finds, FitsAlone, TieRun, FitsRun, Fits, made_of, response_to}
 use Rattle.flash_laws.specs.Conn as conn
 use Rattle.flash_laws.specs.Conn.{Following, Conn, piece_end, count_of, text_of, sends_of, settled, told_shuts, told_picks, told_spares, following, headed, told_heads, told_joins, told_cuts, told_swaps, goes_on, told_sent, told_breaks, drops_next, told_drops, told_got}
-use Rattle.flash_laws.specs.Workers.Crew.{Crew}
+use Rattle.flash_laws.specs.Workers.Crew.{Crew, IsFixedFor}
 use Rattle.flash_laws.specs.Conn.Fits.{Has, quits, is_closing, HoldsMore, Names}
 use Rattle.flash_laws.specs.Client.ResponseState as known
 use Rattle.flash_laws.specs.Client.ResponseState.{OfFile, OfScript, MayPutOut, is_read, is_opening}
@@ -37,7 +37,7 @@ use Rattle.flash_laws.specs.Run.Fits.{nothing_yet}
 use Rattle.flash_laws.specs.Shelf.{Shelf, due_to, MayBeDue, IsAmong}
 use Rattle.flash_laws.specs.Shelf.Due.{outcomes_by}
 use Rattle.flash_laws.proofs.Site.Due.{all-show, due-may, script-due}
-use Rattle.flash_laws.specs.Site.{server, IsFixed}
+use Rattle.flash_laws.specs.Site.{server}
 use Rattle.flash_laws.specs.declared.phase.Learnt.{Learnt}
 use Rattle.flash_laws.specs.declared.phase.Learnt.TheVariants.{File, Text as TextOf}
 use Rattle.flash_laws.specs.declared.phase.Content.{Content}
@@ -316,7 +316,7 @@ module _ (shelf : Shelf) (crew : Crew) (laws : AllLaws crew) (m n : State) (came
   is_of_text (Spares a Script) = true
   is_of_text d = false
 
-  phase : (q : Answer) (d : Doing) (r : Reply) (heard : List ℕ) → is_of_text d ≡ false → IsFixed shelf.finds m → Fitting m q d
+  phase : (q : Answer) (d : Doing) (r : Reply) (heard : List ℕ) → is_of_text d ≡ false → IsFixedFor shelf crew m → Fitting m q d
       → conn.IsAwaiting (at kept q d) → is_closing d ≡ false → IsAmong shelf.refuses.of_server r
       → StepsTo m (event.Call server (conn.wants fd (at kept q d))) r n → Names n r heard → FitsAlone shelf n came sent fd c (conn_told (alone kept script q d) r heard)
   phase q Rests r heard plain fixed f waits busy calm step names = rests shelf laws.the m n came sent fd c kept script order q r heard f waits step names
@@ -343,7 +343,7 @@ module _ (shelf : Shelf) (crew : Crew) (laws : AllLaws crew) (m n : State) (came
   phase q Over r heard plain fixed f waits busy calm step names = absurd (cc (busy))
 
   pub alone_phase : (seats : List (Seat crew.Worker)) (b : Bool) (q : Answer) (d : Doing) (r : Reply) (heard : List ℕ)
-      → is_for_script shelf.scripts q ≡ b → IsFixed shelf.finds m → Fitting m q d
+      → is_for_script shelf.scripts q ≡ b → IsFixedFor shelf crew m → Fitting m q d
       → conn.IsAwaiting (at kept q d) → is_closing d ≡ false → IsAmong shelf.refuses.of_server r
       → StepsTo m (event.Call server (conn_wants b fd (at kept q d))) r n → Names n r heard
       → Fits shelf crew n came sent fd c (file_told b (alone kept script q d) r heard) seats
