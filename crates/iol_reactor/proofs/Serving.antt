@@ -40,7 +40,7 @@ module _ {P : Type 0} (turns : Account P) where
   continues_none : (pool : ℕ) (w : Stage State P) → Continues turns pool w w
   continues_none pool w = record { choices = []; replies = []; run = refl; serving = tt }
 
-  continues_then : (pool : ℕ) (w mid after : Stage State P) → Continues turns pool w mid → Continues turns pool mid after → Continues turns pool w after
+  pub continues_then : (pool : ℕ) (w mid after : Stage State P) → Continues turns pool w mid → Continues turns pool mid after → Continues turns pool w after
   continues_then pool w mid after a b = record {
     choices = a.choices ++ b.choices;
     replies = a.replies ++ b.replies;

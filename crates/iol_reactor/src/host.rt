@@ -1,8 +1,9 @@
 //! A world that serves clients.
-ghost use Rattle.std.specs.Prelude.{◌≡◌, [], true, false};
+ghost use Rattle.std.specs.Prelude.{◌≡◌, ℕ, [], true, false};
 ghost use Rattle.iol_proc.specs.Prelude.{copied};
 ghost use Rattle.iol_serve.specs.Service.{GoesOnIn, SendsIn};
 ghost use Rattle.iol_reactor.specs.Serving.{ArrivesIn, EndsIn, HasServed};
+ghost use Rattle.iol_reactor.specs.Visits.{ConnectsIn};
 
 use crate::service::Service;
 use crate::steps;
@@ -45,7 +46,9 @@ impl<B: Backing + Drop, P: Process, V: Service<B, P>> Host<B, P, V> {
     }
 
     /// Creates a connection, if there is room for it.
-    pub fn connect(&mut self) -> Option<ConnId> {
+    pub fn connect(&mut self) -> Option<ConnId>
+        ensures made { ConnectsIn P.turns self.old.pool result self.old.world self.new.world }
+    {
         let pool = self.pool;
         let reply = self.world.step_outside(Event::ConnNew { pool });
         match &reply {
@@ -56,7 +59,9 @@ impl<B: Backing + Drop, P: Process, V: Service<B, P>> Host<B, P, V> {
 
     /// Gives turns to the processes until all are idle, but at most this number, and returns
     /// whether all are.
-    pub fn until_idle(&mut self, turns: usize) -> bool {
+    pub fn until_idle(&mut self, turns: usize) -> bool
+        ensures alone { (c : ℕ) → GoesOnIn P.turns c [] [] false self.old.world self.new.world }
+    {
         self.world.until_idle(turns)
     }
 

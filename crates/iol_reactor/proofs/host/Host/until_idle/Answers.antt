@@ -8,3 +8,6 @@ invariant_of-self g c = record {
   served = goes_on g.P.Process.turns g.V.Service.starts c.args.self.now.pool c.args.self.now.world c.until_idle.new.self c.until_idle.ensures.honest
       (λ honest. continues_on g.P.Process.turns c.args.self.now.pool 0 [] [] false _ _ (goes_turns g.P.Process.turns 0 0 _ _ _ _ _ (c.until_idle.ensures.run honest).run)) c.args.self.now.served;
 }
+
+pub returns : goal.returns
+returns g c = λ n honest. goes_turns g.P.Process.turns n 0 _ _ _ _ _ (c.until_idle.ensures.run honest)
