@@ -111,3 +111,20 @@ BEFORE(long, recv, (int fd, void *into, size n, int flags), (fd, into, at_most(n
 BEFORE(long, send, (int fd, const void *from, size n, int flags), (fd, from, at_most(n), flags), if (breaks()) return -1)
 BEFORE(long, write, (int fd, const void *from, size n), (fd, from, fd == OUTPUT ? at_most(n) : n),
        if (spoils(fd)) return -1)
+
+/* The word SOCKET names a call that makes, binds, accepts, watches or awaits sockets, or sets an option of one. */
+static struct turn sockets = {"SOCKET", "socket call failed\n", 0, 0};
+
+#define ON_SOCKETS(name, parameters, arguments) \
+    BEFORE(int, name, parameters, arguments, if (fails(&sockets, EIO)) return -1)
+
+ON_SOCKETS(socket, (int domain, int kind, int protocol), (domain, kind, protocol))
+ON_SOCKETS(bind, (int fd, const void *address, unsigned n), (fd, address, n))
+ON_SOCKETS(listen, (int fd, int n), (fd, n))
+ON_SOCKETS(getsockname, (int fd, void *address, unsigned *n), (fd, address, n))
+ON_SOCKETS(setsockopt, (int fd, int level, int name, const void *value, unsigned n), (fd, level, name, value, n))
+ON_SOCKETS(accept4, (int fd, void *address, unsigned *n, int flags), (fd, address, n, flags))
+ON_SOCKETS(shutdown, (int fd, int how), (fd, how))
+ON_SOCKETS(epoll_create1, (int flags), (flags))
+ON_SOCKETS(epoll_ctl, (int fd, int what, int of, void *event), (fd, what, of, event))
+ON_SOCKETS(epoll_wait, (int fd, void *events, int n, int timeout), (fd, events, n, timeout))
