@@ -10,6 +10,7 @@ use flash_site::source::{Source, Summary};
 use iol_proc::world::World;
 use iol_reactor::service::{Exchange, Frame, Progress, Service};
 use iol_tree::backing::TreeBacking;
+use std::alloc::{AllocError, Global};
 use std::io;
 use std::io::{Eprint, Write};
 use std::rt::{Clock, Files};
@@ -136,8 +137,8 @@ where
     R: Files + Clock + Eprint + AllocGlobal + Clone + Drop,
     W: Write + Drop,
 {
-    fn frame(&self, bytes: &[u8]) -> Frame {
-        frame_of(bytes)
+    fn frame(&self, alloc: Global, bytes: &[u8]) -> Result<Frame, AllocError> {
+        frame_of(alloc, bytes)
     }
 
     fn progress(&self, exchange: &Exchange<'_>) -> Progress {

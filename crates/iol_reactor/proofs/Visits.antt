@@ -14,10 +14,10 @@ use Rattle.iol_proc.specs.Turns.{Account}
 use Rattle.iol_proc.specs.World.{Stage, copying, OutsideStep}
 use Rattle.iol_proc.specs.declared.choice.Choice.{Choice}
 use Rattle.iol_proc.specs.declared.choice.Choice.TheVariants as choice
-use Rattle.iol_proc.proofs.Streams.{stream_over-append, sent_over-append}
+use Rattle.iol_proc.proofs.Streams.{runs_follow, stream_over-append, sent_over-append}
 use Rattle.iol_serve.specs.Service.{IsOn, AreOn, GoesOn}
 use Rattle.iol_reactor.specs.Visits.{Carries, Visits, VisitsContinue}
-use Rattle.iol_reactor.proofs.Serving.{continues_new, continues_on, continues_then}
+use Rattle.iol_reactor.proofs.Serving.{serving-append, serving_all}
 
 -- ---- events of other connections bring nothing to this one
 
@@ -87,7 +87,12 @@ module _ {P : Type 0} (turns : Account P) where
   carries_then : (pool c : ℕ) (came sent more next : List ℕ) (gone last : Bool) (w mid after : Stage State P) → Carries turns pool c came sent gone w mid
       → Carries turns pool c more next last mid after → Carries turns pool c (came ++ more) (sent ++ next) (gone || last) w after
   carries_then pool c came sent more next gone last w mid after a b = record {
-    continues = continues_then turns pool w mid after a.continues b.continues;
+    continues = record {
+      choices = a.continues.choices ++ b.continues.choices;
+      replies = a.continues.replies ++ b.continues.replies;
+      run = runs_follow copying turns w mid after a.continues.choices b.continues.choices a.continues.replies b.continues.replies a.continues.run b.continues.run;
+      serving = serving-append pool a.continues.choices b.continues.choices a.continues.serving b.continues.serving;
+    };
     comes = stream_over-append copying turns w mid a.continues.choices b.continues.choices a.continues.replies b.continues.replies c a.continues.run
         ∙ (ap (λ (l : List ℕ). l ++ stream_over c b.continues.choices b.continues.replies) a.comes ∙ ap (λ (l : List ℕ). came ++ l) b.comes);
     goes = sent_over-append copying turns w mid a.continues.choices b.continues.choices a.continues.replies b.continues.replies c a.continues.run
@@ -97,11 +102,11 @@ module _ {P : Type 0} (turns : Account P) where
   }
 
   carries_own : (pool c : ℕ) (came sent : List ℕ) (gone : Bool) (w after : Stage State P) → GoesOn turns c came sent gone w after → Carries turns pool c came sent gone w after
-  carries_own pool c came sent gone w after g = record { continues = continues_on turns pool c came sent gone w after g; comes = g.comes; goes = g.goes; tells = g.tells }
+  carries_own pool c came sent gone w after g = record { continues = record { choices = g.choices; replies = g.replies; run = g.run; serving = serving_all pool c g.choices g.alone }; comes = g.comes; goes = g.goes; tells = g.tells }
 
   carries_other : (pool c d : ℕ) (came sent : List ℕ) (gone : Bool) (w after : Stage State P) → d ≢ c → GoesOn turns d came sent gone w after → Carries turns pool c [] [] false w after
   carries_other pool c d came sent gone w after apart g = record {
-    continues = continues_on turns pool d came sent gone w after g;
+    continues = record { choices = g.choices; replies = g.replies; run = g.run; serving = serving_all pool d g.choices g.alone };
     comes = streams_other d c g.choices g.replies apart g.alone;
     goes = sents_other d c g.choices g.replies apart g.alone;
     tells = all_drops_other d c g.choices apart g.alone;
@@ -109,7 +114,7 @@ module _ {P : Type 0} (turns : Account P) where
 
   carries_made : (pool c : ℕ) (r : Reply) (w after : Stage State P) → OutsideStep copying turns w (event.ConnNew pool) r after → Carries turns pool c [] [] false w after
   unfolding stream_over sent_over
-  carries_made pool c r w after step = record { continues = continues_new turns pool r w after step; comes = refl; goes = refl; tells = refl }
+  carries_made pool c r w after step = record { continues = record { choices = choice.Outside (event.ConnNew pool) ∷ []; replies = r ∷ []; run = (after, step, refl); serving = (refl, tt) }; comes = refl; goes = refl; tells = refl }
 
   visits_then : (pool c : ℕ) (came sent more next : List ℕ) (gone last : Bool) (begun w after : Stage State P) → Visits turns pool c came sent gone begun w
       → Carries turns pool c more next last w after → Visits turns pool c (came ++ more) (sent ++ next) (gone || last) begun after

@@ -57,6 +57,9 @@ pub struct Client<S> {
     input: Input,
     output: Output,
 
+    // Whether the processes close the connection after the request in progress.
+    is_last: bool,
+
     /// Whether it is in the list of clients that are visited in the next round, and in the list of
     /// those with a pending response.
     pub is_ready: bool,
@@ -83,6 +86,7 @@ impl<S: Socket> Client<S> {
             phase: Phase::Parked,
             input: Input::new(alloc),
             output: Output::new(alloc),
+            is_last: false,
             is_ready: false,
             is_pending: false,
             armed: Armed {
@@ -169,9 +173,11 @@ impl<S: Socket> Client<S> {
         self.input.next()
     }
 
-    /// Its first bytes are a request, whose response begins.
-    pub fn begin(&mut self, length: usize) {
+    /// Its first bytes are a request, whose response begins. The processes may close the connection
+    /// after it.
+    pub fn begin(&mut self, length: usize, is_last: bool) {
         self.input.begin(length);
+        self.is_last = is_last;
         self.output.begin();
         self.head_since = None;
     }
@@ -233,6 +239,11 @@ impl<S: Socket> Client<S> {
             sent: self.output.sent(),
             complete,
         }
+    }
+
+    /// Whether the processes close the connection after the request in progress.
+    pub fn is_last(&self) -> bool {
+        self.is_last
     }
 
     /// Whether a request is in progress.

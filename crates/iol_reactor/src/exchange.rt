@@ -91,13 +91,13 @@ pub fn answer<S: Socket, B: Backing + Drop, P: Process, V: Service<B, P>>(
     Step::Pending
 }
 
-// Whether a response is complete, all of which so far was sent.
+// Whether a response is complete, all of which so far was sent. The last one ends with the connection.
 fn is_complete<S: Socket, B: Backing + Drop, P: Process, V: Service<B, P>>(
     client: &Client<S>,
     service: &V,
     is_idle: bool,
 ) -> bool {
-    if client.phase() != Phase::Answering || !client.has_begun() || !client.is_given() {
+    if client.phase() != Phase::Answering || !client.has_begun() || !client.is_given() || client.is_last() {
         return false;
     }
     if is_idle {

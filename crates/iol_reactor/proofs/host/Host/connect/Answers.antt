@@ -1,3 +1,7 @@
+use Rattle.std.proofs.Common.{subst}
+use Rattle.iol_core.specs.declared.events.Event.TheVariants as event
+use Rattle.iol_core.specs.declared.events.Reply.{Reply}
+use Rattle.iol_proc.specs.World.{OutsideStep, copied, copying}
 use Rattle.iol_reactor.proofs.Serving.{continues_new, goes_on}
 use Rattle.iol_reactor.proofs.host.Host.connect.Goals as goal
 
@@ -8,7 +12,10 @@ invariant_of-self g c = record {
 }
 
 pub returns-in-Conn : goal.returns-in-Conn
-returns-in-Conn g c = λ honest. ?
+returns-in-Conn g c = record {
+  made = λ honest. subst (λ (r : Reply). OutsideStep copying g.P.Process.turns (copied c.args.self.now.world) (event.ConnNew c.args.self.now.pool) r (copied c.step_outside-reply.new.self))
+      c.in-Conn.is (c.step_outside-reply.ensures.copied honest);
+}
 
 pub returns : goal.returns
-returns g c = λ honest. (c.step_outside-reply.result, c.step_outside-reply.ensures.copied honest)
+returns g c = record { made = λ honest. (c.step_outside-reply.result, c.step_outside-reply.ensures.copied honest) }

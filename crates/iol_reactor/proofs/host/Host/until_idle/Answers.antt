@@ -10,4 +10,4 @@ invariant_of-self g c = record {
 }
 
 pub returns : goal.returns
-returns g c = λ n honest. goes_turns g.P.Process.turns n 0 _ _ _ _ _ (c.until_idle.ensures.run honest)
+returns g c = record { alone = λ n honest. goes_turns g.P.Process.turns n 0 _ _ _ _ _ (c.until_idle.ensures.run honest).run }
