@@ -79,7 +79,8 @@ impl<R: Files + Clock + AllocGlobal + Clone + Drop> Source<R> {
             Some(loaded) => Ok(loaded),
             None => {
                 let index = Index::of(&self.rt, self.root.as_str())?;
-                self.load_folder(index)
+                let after = Index::of(&self.rt, self.root.as_str())?;
+                self.host_folder(index, after)
             }
         }
     }
@@ -106,10 +107,12 @@ impl<R: Files + Clock + AllocGlobal + Clone + Drop> Source<R> {
     fn load_steady(&mut self) -> io::Result<Option<Loaded<R>>> {
         for _ in 0..ATTEMPTS {
             let index = Index::of(&self.rt, self.root.as_str())?;
-            if !self.fits(&index) {
-                return Ok(Some(self.load_folder(index)?));
-            }
-            if let Some(loaded) = self.load_memory(index)? {
+            let loaded = if self.fits(&index) {
+                self.load_memory(index)?
+            } else {
+                self.load_folder(index)?
+            };
+            if let Some(loaded) = loaded {
                 return Ok(Some(loaded));
             }
         }
@@ -139,11 +142,19 @@ impl<R: Files + Clock + AllocGlobal + Clone + Drop> Source<R> {
         Ok(Some(self.host(store, after)?))
     }
 
-    // Serves the files from the folder.
-    fn load_folder(&mut self, index: Index) -> io::Result<Loaded<R>> {
-        let kept = Index::of(&self.rt, self.root.as_str())?;
+    // Serves the files from the folder. None: the folder changed, or an entry could not be examined.
+    fn load_folder(&mut self, index: Index) -> io::Result<Option<Loaded<R>>> {
+        let after = Index::of(&self.rt, self.root.as_str())?;
+        if !index.is_same(&after) {
+            return Ok(None);
+        }
+        Ok(Some(self.host_folder(index, after)?))
+    }
+
+    // Serves the files of an index from the folder, which had those of another index after that.
+    fn host_folder(&mut self, index: Index, after: Index) -> io::Result<Loaded<R>> {
         let store = TreeBacking::on_disk(self.rt.clone()?, self.rt.alloc(), index);
-        self.host(store, kept)
+        self.host(store, after)
     }
 
     // Creates the world of a store with the files of an index.
@@ -155,10 +166,12 @@ impl<R: Files + Clock + AllocGlobal + Clone + Drop> Source<R> {
             is_in_memory: store.is_in_memory(),
         };
         let is_young = !index.is_older_than(self.grain_ago()?);
-        self.is_young = is_young && !self.is_young;
-        self.index = Some(index);
         match world_of(self.rt.alloc(), store) {
-            Ok(world) => Ok(Loaded { world, summary }),
+            Ok(world) => {
+                self.is_young = is_young && !self.is_young;
+                self.index = Some(index);
+                Ok(Loaded { world, summary })
+            }
             Err(_) => Err(io::Error::from(ErrorKind::OutOfMemory)),
         }
     }
