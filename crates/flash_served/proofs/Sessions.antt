@@ -157,10 +157,12 @@ serves_right law n ending left rest held now w begun after made served over = re
 
 -- where none is made the invariant holds
 pub serves_none : ((s : Site) → StepKeepsTie in_rounds (crew_of s)) → (r : Reply) (w after : Stage State (Actor Worker))
-    → OutsideStep copying (actor_turns in_rounds worker_turns) w (event.ConnNew net_pool) r after → ServesNone w after
-serves_none keeps r w after step = record {
+    → OutsideStep copying (actor_turns in_rounds worker_turns) w (event.ConnNew net_pool) r after → ((c : ℕ) → r ≡ reply.Conn c → ⊥)
+    → ServesNone w after
+serves_none keeps r w after step none = record {
   reply = r;
   refused = step;
+  none = none;
   holds = λ s slots refuses past ps tied.
       keeps s (library_of s slots refuses) past ps (choice.Outside (event.ConnNew net_pool)) r w after step tt tt tied;
 }

@@ -133,6 +133,7 @@ pub record ServesRight (ending : Ending) (left rest held now : Option (List ℕ)
 pub record ServesNone (w after : Stage State (Actor Worker)) : Type 0 where
   pub reply : Reply
   pub refused : OutsideStep copying (actor_turns in_rounds worker_turns) w (event.ConnNew net_pool) reply after
+  pub none : (c : ℕ) → reply ≡ reply.Conn c → ⊥
   pub holds : (s : Site) (slots : List (List ℕ)) (refuses : Refusals) (past : List Choice) (ps : List Reply)
       → Holds s slots refuses past ps w
       → Holds s slots refuses (past ++ choice.Outside (event.ConnNew net_pool) ∷ []) (ps ++ reply ∷ []) after

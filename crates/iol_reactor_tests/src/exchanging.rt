@@ -1,5 +1,5 @@
-//! Requests and responses through an engine, over a socket in memory whose reads and writes are short and block. A request is a line,
-//! and its response the same line.
+//! Requests and responses through an engine, over a socket in memory whose reads and writes are
+//! short and block. A request is a line, and its response the same line.
 use crate::memory_socket::{Manner, MemorySocket};
 use iol_back::memory::MemoryBacking;
 use iol_core::configuration::Config;
@@ -83,7 +83,8 @@ fn engine_of<'a>(alloc: Global) -> Result<Echoes<'a>, Refusal> {
     Ok(Engine::new(alloc, PoolId::new(1), world, limits)?)
 }
 
-// The bytes of one read, and of one write, at most; which calls block; whether the peer's end follows its lines.
+// The bytes of one read, and of one write, at most; which calls block; whether the peer's end
+// follows its lines.
 type Row = (usize, usize, u32, bool);
 
 const ROWS: [Row; 8] = [
@@ -97,8 +98,8 @@ const ROWS: [Row; 8] = [
     (2, 64, 2, false),
 ];
 
-// Rounds, each after all sockets were reported ready, up to the end of the client, at most 1,000: the bytes that its socket had
-// accepted before the last of them.
+// Rounds, each after all sockets were reported ready, up to the end of the client, at most 1,000:
+// the bytes that its socket had accepted before the last of them.
 fn exchange_all(engine: &mut Echoes<'_>, service: &mut Lines) -> Result<usize, AllocError> {
     let mut accepted = 0;
     for now in 0..1_000 {

@@ -1,0 +1,4 @@
+pub mod Client
+pub mod Kept
+pub mod Truncated
+pub mod Turns
