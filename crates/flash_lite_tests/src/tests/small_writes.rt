@@ -134,7 +134,7 @@ fn takes_all(host: &mut Host, wanted: &[u8]) -> bool {
             },
             _ => return left.is_empty(),
         }
-        let _idle = host.until_idle(8192);
+        let _idle = host.until_idle(2048);
     }
     false
 }
