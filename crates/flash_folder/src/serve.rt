@@ -7,10 +7,12 @@ use crate::fault::{Fault, ended};
 use crate::folder::{NET, world_of};
 use crate::service::FolderService;
 use flash_lite::actor::Actor;
+use iol_back::backing::Backing;
 use iol_back::folder::FolderBacking;
 use iol_core::numbers::PoolId;
 use iol_reactor::limits::Limits;
 use iol_reactor::reactor::Reactor;
+use iol_reactor::service::Service;
 use mio::net::TcpListener;
 use std::io;
 use std::io::Write;
@@ -68,11 +70,19 @@ where
 
 /// A server of the files of a folder, which listens on a port of 127.0.0.1.
 #[derive(Drop)]
-pub struct Server<R: Files> {
+pub struct Server<R: Files>
+where
+    FolderBacking<R>: Backing,
+    FolderService: Service<FolderBacking<R>, Actor>,
+{
     reactor: Reactor<TcpListener, FolderBacking<R>, Actor, FolderService>,
 }
 
-impl<R: Files + Drop> Server<R> {
+impl<R: Files + Drop> Server<R>
+where
+    FolderBacking<R>: Backing,
+    FolderService: Service<FolderBacking<R>, Actor>,
+{
     /// Reads the folder, and listens for this number of connections. It reads the folder first, so
     /// that no client connects to a server without files.
     pub fn listen(rt: &R, port: u16, root: &str, count: u32) -> Result<Server<R>, Fault>
