@@ -6,8 +6,8 @@
  * Each of ACTIVE connections sends a request when it has the response to the one before, but at most one per PERIOD
  * microseconds. IDLE further connections send one request before the window begins, and no other. If IS_EACH is 1, each
  * request has a connection of its own. The bodies of responses are not copied out of the kernel. It prints the responses
- * of the window, the window's length in seconds, the processor time in seconds that the process PID took in it, and that
- * of this process. The status is 1 if a response is not a complete 200.
+ * of the window, with fractions by the bytes of their bodies, the window's length in seconds, the processor time in seconds
+ * that the process PID took in it, and that of this process. The status is 1 if a response is not a complete 200.
  */
 #define _GNU_SOURCE
 #include <arpa/inet.h>
@@ -39,7 +39,8 @@ static struct client *waiting[MOST]; /* a ring of clients whose next request is 
 static int first_waiting, waiting_count;
 static int epoll, timer, active, is_each;
 static double period;
-static long responses;
+static long responses, length;
+static double received; /* bytes of bodies */
 static struct sockaddr_in server = {.sin_family = AF_INET};
 static char request[512], piece[PIECE];
 static int request_length;
@@ -144,10 +145,13 @@ static void take_head(struct client *it) {
     char *end = strstr(it->head, "\r\n\r\n");
     if (!end)
         return;
-    char *length = strstr(it->head, "Content-Length: ");
-    if (strncmp(it->head, "HTTP/1.1 200", 12) || !length || length > end)
+    char *field = strstr(it->head, "Content-Length: ");
+    if (strncmp(it->head, "HTTP/1.1 200", 12) || !field || field > end)
         fail("a response is no 200 with a length");
-    it->left = atol(length + 16) - (it->filled - (end + 4 - it->head));
+    length = atol(field + 16);
+    long body = it->filled - (end + 4 - it->head);
+    it->left = length - body;
+    received += body;
 }
 
 static void take(struct client *it) {
@@ -158,6 +162,7 @@ static void take(struct client *it) {
         if (got <= 0)
             fail("a response was cut off");
         it->left -= got;
+        received += got;
     }
     if (it->left == 0)
         has_come(it);
@@ -204,10 +209,10 @@ int main(int count, char **words) {
     while (responses < all)
         serve_until(now() + 0.01);
     serve_until(now() + WARMING);
-    responses = 0;
+    received = 0;
     double start = now(), mine = seconds(CLOCK_PROCESS_CPUTIME_ID), before = server_seconds(words[3]);
     serve_until(start + atof(words[4]));
     double took = now() - start, cost = server_seconds(words[3]) - before;
-    printf("%ld %f %f %f\n", responses, took, cost, seconds(CLOCK_PROCESS_CPUTIME_ID) - mine);
+    printf("%f %f %f %f\n", received / length, took, cost, seconds(CLOCK_PROCESS_CPUTIME_ID) - mine);
     return 0;
 }
