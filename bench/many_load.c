@@ -1,11 +1,11 @@
 /*
  * Requests for one file from many connections of one thread, and what they cost the server in a window of time.
  *
- *     many_load PORT PATH PID SECONDS ACTIVE IDLE PERIOD IS_EACH
+ *     many_load PORT PATH PID SECONDS ACTIVE IDLE PERIOD IS_EACH IS_READ
  *
  * Each of ACTIVE connections sends a request when it has the response to the one before, but at most one per PERIOD
  * microseconds. IDLE further connections send one request before the window begins, and no other. If IS_EACH is 1, each
- * request has a connection of its own. The bodies of responses are not copied out of the kernel. It prints the responses
+ * request has a connection of its own. Bodies of responses are copied out of the kernel only if IS_READ is 1. It prints the responses
  * of the window, with fractions by the bytes of their bodies, the window's length in seconds, the processor time in seconds
  * that the process PID took in it, and that of this process. The status is 1 if a response is not a complete 200.
  */
@@ -23,7 +23,7 @@
 
 #define MOST 1024
 #define HEAD_BYTES 2048
-#define PIECE (1L << 20)
+#define PIECE (1L << 18)
 #define WARMING 0.1 /* seconds, in which responses do not count */
 
 struct client {
@@ -37,7 +37,7 @@ struct client {
 static struct client clients[MOST];
 static struct client *waiting[MOST]; /* a ring of clients whose next request is not due yet */
 static int first_waiting, waiting_count;
-static int epoll, timer, active, is_each;
+static int epoll, timer, active, is_each, is_read;
 static double period;
 static long responses, length;
 static double received; /* bytes of bodies */
@@ -158,7 +158,7 @@ static void take(struct client *it) {
     if (it->left < 0) {
         take_head(it);
     } else {
-        long got = recv(it->fd, piece, it->left < PIECE ? it->left : PIECE, MSG_TRUNC);
+        long got = recv(it->fd, piece, it->left < PIECE ? it->left : PIECE, is_read ? 0 : MSG_TRUNC);
         if (got <= 0)
             fail("a response was cut off");
         it->left -= got;
@@ -185,13 +185,14 @@ static void serve_until(double end) {
 }
 
 int main(int count, char **words) {
-    if (count != 9)
-        fail("PORT PATH PID SECONDS ACTIVE IDLE PERIOD IS_EACH");
+    if (count != 10)
+        fail("PORT PATH PID SECONDS ACTIVE IDLE PERIOD IS_EACH IS_READ");
     server.sin_port = htons(atoi(words[1]));
     server.sin_addr.s_addr = htonl(INADDR_LOOPBACK);
     active = atoi(words[5]);
     period = atof(words[7]) / 1e6;
     is_each = atoi(words[8]);
+    is_read = atoi(words[9]);
     int all = active + atoi(words[6]);
     if (all > MOST)
         fail("too many connections");

@@ -9,9 +9,13 @@
 
 ghost use Rattle.flash_clients.specs.Clients.{ClientsGetAnswers};
 ghost use Rattle.flash_clients.specs.Requests.{RequestsAreKept};
+ghost use Rattle.flash_clients.specs.Visits.{VisitsAreAnswered};
+ghost use Rattle.flash_laws.specs.Workers.Crews.{OfEach};
 
 use flash_http::{one_answer, window_fits, window_stays};
+use flash_laws::world_law::{RunsScripts, world_law};
 use flash_streams::streams_follow;
+use iol_laws::laws::connection_numbers_rise;
 
 /// After whole requests that keep the connection, the next request is found by the window of the
 /// bytes that wait, and only its own bytes are handed in. Then all are whole requests, as the
@@ -21,6 +25,17 @@ pub fn requests_are_kept()
 {
     window_stays();
     window_fits();
+}
+
+/// In a world that satisfies the server's invariant, a connection of the net is created. Whatever
+/// turns and mild events follow, on this connection and on others, the bytes sent on it begin an
+/// answer to the bytes received on it, and are an answer once it is removed, unless its peer was
+/// reported as gone. The world satisfies the invariant afterwards.
+pub fn visits_are_answered<W: RunsScripts>()
+    ensures { OfEach W.turns W.settled W.free W.due VisitsAreAnswered }
+{
+    world_law::<W>();
+    connection_numbers_rise();
 }
 
 /// A client has connections, one after another. It left each except the last, after whole requests

@@ -1,5 +1,7 @@
 //! Requests and responses through an engine, over a socket in memory whose reads and writes are
 //! short and block. A request is a line, and its response the same line.
+ghost use Rattle.std.specs.Prelude.{◌≡◌, [], ◌∷◌, map, IfOk};
+
 use crate::memory_socket::{Manner, MemorySocket};
 use iol_back::memory::MemoryBacking;
 use iol_core::configuration::Config;
@@ -72,8 +74,25 @@ fn world_of(alloc: Global) -> Result<World<MemoryBacking, Echo>, Refusal> {
         call_of(1, Call::SetPool { pool }),
     ];
     let system = TestSystem::begun(alloc, CONFIG, empty_store(alloc), &[&events])?;
-    let processes = [(DomainId::new(1), Echo::new())].to_vec(alloc)?;
-    Ok(World::new(alloc, system.into_system(), processes)?)
+    Ok(world_over(alloc, system)?)
+}
+
+// The process, in its domain.
+fn processes_of(alloc: Global) -> Result<Vec<(DomainId, Echo)>, AllocError>
+    ensures { IfOk result (λ ps. map (λ p. p.0) ps.items ≡ 1 ∷ []) }
+{
+    let mut processes = Vec::new(alloc);
+    processes.push((DomainId::new(1), Echo::new()))?;
+    Ok(processes)
+}
+
+// A world of that process over a system.
+fn world_over(
+    alloc: Global,
+    system: TestSystem<MemoryBacking>,
+) -> Result<World<MemoryBacking, Echo>, AllocError> {
+    let processes = processes_of(alloc)?;
+    World::new(alloc, system.into_system(), processes)
 }
 
 fn engine_of<'a>(alloc: Global) -> Result<Echoes<'a>, Refusal> {

@@ -6,7 +6,7 @@ use super::host::{Host, Plan, connect, on_host};
 use super::rows::{arrivals, end, is_gone, is_sent, let_arrive};
 use iol_core::descriptors::How;
 use iol_core::events::{Event, Reply};
-use iol_core::numbers::{ConnId, PoolId};
+use iol_core::numbers::PoolId;
 use iol_core::refusals::Refusal;
 use std::alloc::{AllocError, Global};
 use std::test::Fail;
@@ -120,35 +120,4 @@ fn work_comes_back(alloc: Global) -> Result<bool, Refusal> {
 #[test]
 fn heads_of_63_bytes(rt: HostRuntime) -> Result<(), Fail> {
     pass(work_comes_back(rt.alloc()))
-}
-
-// Takes the whole output of the first connection, with some turns after each segment.
-fn takes_all(host: &mut Host, wanted: &[u8]) -> bool {
-    let conn = ConnId::new(1);
-    let mut left = wanted;
-    for _ in 0..100_000 {
-        match host.step(Event::Transmit { conn, max: 4096 }) {
-            Reply::Segment { bytes, .. } => match left.strip_prefix(bytes.as_slice()) {
-                Some(rest) => left = rest,
-                None => return false,
-            },
-            _ => return left.is_empty(),
-        }
-        let _idle = host.until_idle(8192);
-    }
-    false
-}
-
-// The refusals change nothing: if the peer reads, each head gets its response.
-fn heads_answered(alloc: Global) -> Result<bool, Refusal> {
-    let heads = heads(alloc)?;
-    let answers = repeated(alloc, FIRST.as_bytes(), HEADS)?;
-    on_host(alloc, &Plan::of(&FILES), |host| {
-        connect_two(host) && fills_work(host, heads) && takes_all(host, &answers)
-    })
-}
-
-#[test]
-fn heads_of_63_bytes_answered(rt: HostRuntime) -> Result<(), Fail> {
-    pass(heads_answered(rt.alloc()))
 }

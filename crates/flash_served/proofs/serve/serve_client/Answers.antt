@@ -20,8 +20,8 @@ returns-in-Conn-clause-right g c = λ honest.
     (copied c.serve_connection.new.world) made served
     (λ over. lacks_copied c.serve_connection.new.world.machine c.in-Conn.conn (c.serve_connection.ensures.over over))
 
-pub returns-in_default-clause-kept : goal.returns-in_default-clause-kept
-returns-in_default-clause-kept g c = λ honest.
+pub returns-clause-kept : goal.returns-clause-kept
+returns-clause-kept g c = λ honest.
     let step = subst (λ (p : ℕ). OutsideStep copying (actor_turns in_rounds worker_turns) (copied c.args.world.now) (event.ConnNew p) c.step_outside-reply.result (copied c.step_outside-reply.new.self))
     c.new-pool.ensures (c.step_outside-reply.ensures.copied honest) in
     serves_none c.connections_do_not_meet.ensures.step c.step_outside-reply.result (copied c.args.world.now) (copied c.step_outside-reply.new.self) step
