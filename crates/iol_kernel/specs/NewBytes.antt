@@ -52,7 +52,8 @@ FillsIncoming c bytes old r new =
     Fills (λ s. arrive s c bytes) (with_incoming c) (conn_at (machine_of [] old) c).pool old r new
 
 -- As many of these bytes as fit arrive on a connection: the result, and the number of slices.
-pub record TakesIncoming (c : ℕ) (bytes : List ℕ) (old : KernelState) (r : Result ℕ Refusal) (new : KernelState) : Type 0 where
+pub record TakesIncoming (c : ℕ) (bytes : List ℕ) (old : KernelState) (r : Result ℕ Refusal)
+    (new : KernelState) : Type 0 where
   pub places : PlacesIncoming c bytes old r new
   pub slices : OnOk r (ArrivesFew (length bytes) c old new)
 

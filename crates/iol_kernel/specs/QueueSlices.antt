@@ -27,8 +27,8 @@ unsent_slices all (Some (on.WriteEnd p)) = (queue_at all.pipes p).queue
 unsent_slices all (Some (on.Connection c)) = (conn_in all.conns c).outgoing
 unsent_slices all o = []
 
--- Slices were taken off a queue: its first ones, of which only the last may have been cut. With those left they are at most one
--- more than before, and those left are no more than before.
+-- Slices were taken off a queue: its first ones, of which only the last may have been cut. With those left they are at most
+-- one more than before, and those left are no more than before.
 pub record DividesFront (front old new : List Slice) : Type 0 where
   pub cut : map slice_places front ≡ first_parts (byte_len front) (map slice_places old)
   pub few : length front + length new ≤ length old + 1
@@ -42,7 +42,8 @@ pub record GrowsFew (count : ℕ) (old new : List Slice) : Type 0 where
 
 -- A queue got as many bytes of these slices as fit, at its end: whole slices, of which only the last may have been cut.
 pub record GrowsShared (source old new : List Slice) : Type 0 where
-  pub parts : map slice_places new ≡ map slice_places old ++ first_parts (fitting old (byte_len source)) (map slice_places source)
+  pub parts : map slice_places new
+      ≡ map slice_places old ++ first_parts (fitting old (byte_len source)) (map slice_places source)
 
 -- A domain's next aggregate has the slices that were taken off the queue that a descriptor is open on.
 pub record TakesSlices (d : ℕ) (from : Option Descriptor) (old new : KernelState) : Type 0 where
@@ -64,16 +65,19 @@ abbrev pub ArrivesFew : (count c : ℕ) → (old new : KernelState) → Type 0
 ArrivesFew count c old new = GrowsFew count (conn_in old.conns c).incoming (conn_in new.conns c).incoming
 
 -- The front of a queue becomes a domain's next aggregate, if there is memory for it: the answer, and the slices.
-pub record TakesNext {E : Type 0} (d fd n : ℕ) (from : Descriptor) (old : KernelState) (r : Result ℕ E) (new : KernelState) : Type 0 where
+pub record TakesNext {E : Type 0} (d fd n : ℕ) (from : Descriptor) (old : KernelState) (r : Result ℕ E)
+    (new : KernelState) : Type 0 where
   pub attempts : Attempts (λ s. iol_read s d fd n) old r new
   pub slices : OnOk r (TakesSlices d (Some from) old new)
 
 -- A queue is read by reference: the machine's step, and the slices of the new aggregate.
-pub record ReadsQueue (d fd n : ℕ) (from : Descriptor) (old : KernelState) (r : Result ℕ Refusal) (new : KernelState) : Type 0 where
+pub record ReadsQueue (d fd n : ℕ) (from : Descriptor) (old : KernelState) (r : Result ℕ Refusal)
+    (new : KernelState) : Type 0 where
   pub carries : CarriesOut (λ s. iol_read s d fd n) old r new
   pub slices : OnOk r (TakesSlices d (Some from) old new)
 
 -- An aggregate is written to a queue by reference: the machine's step, and the slices that the queue got.
-pub record WritesQueue (d fd a : ℕ) (to : Descriptor) (old : KernelState) (r : Result ℕ Refusal) (new : KernelState) : Type 0 where
+pub record WritesQueue (d fd a : ℕ) (to : Descriptor) (old : KernelState) (r : Result ℕ Refusal)
+    (new : KernelState) : Type 0 where
   pub carries : CarriesOut (λ s. iol_write s d fd a) old r new
   pub slices : OnOk r (QueuesAgg d a (Some to) old new)

@@ -79,8 +79,8 @@ PlacesInQueue d fd bytes old r new =
     let s : State = machine_of [] old in
     Places (λ s. writing.write s d fd bytes) (written_to d fd) (lands_in d fd s) (writing.write s d fd bytes).answer old r new
 
--- Bytes are written to a descriptor that is open on a queue, before which clean extents are evicted: the result, and the number
--- of slices.
+-- Bytes are written to a descriptor that is open on a queue, before which clean extents are evicted: the result, and the
+-- number of slices.
 pub record PutsInQueue (d fd : ℕ) (target : Descriptor) (bytes : List ℕ) (old : KernelState) (r : Result ℕ Refusal)
     (new : KernelState) : Type 0 where
   pub places : PlacesInQueue d fd bytes old r new

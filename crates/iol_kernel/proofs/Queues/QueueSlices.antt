@@ -17,7 +17,7 @@ use Rattle.iol_hold.specs.declared.slices.Slice.{Slice}
 use Rattle.iol_pipe.specs.NewBytes.{AddsFitting}
 use Rattle.iol_pipe.specs.Queue.{first_parts, fitting}
 use Rattle.iol_sock.specs.Table.{conn_in}
-use Rattle.iol_kernel.specs.KernelState.{KernelState, objects_of, slices_in}
+use Rattle.iol_kernel.specs.KernelState.{KernelState, objects_of}
 use Rattle.iol_kernel.specs.QueueEnds.{GivesFront}
 use Rattle.iol_kernel.specs.QueueSlices.{ArrivesFew, GrowsFew, QueuesAgg, QueuesFew, TakesSlices, unsent_slices}
 use Rattle.iol_kernel.specs.Room.{MakesRoom}
@@ -69,5 +69,5 @@ module _ (pool pages : ℕ) (h k : KernelState) (room : MakesRoom pool pages h k
       subst (λ (y : Descriptor). OnOk r (QueuesFew count (Some y) h l)) (sym is) (subst (λ (xs : List Slice). OnOk r (GrowsFew count xs (unsent_slices (objects_of l) (Some end)))) same x)
 
   -- arrived on a connection
-  pub few_arrived : (l : KernelState) (c count : ℕ) (r : Result ℕ Refusal) → OnOk r (ArrivesFew count c k l) → OnOk r (ArrivesFew count c h l)
+  pub few_arrived : {A : Type 0} (l : KernelState) (c count : ℕ) (r : Result A Refusal) → OnOk r (ArrivesFew count c k l) → OnOk r (ArrivesFew count c h l)
   few_arrived l c count r x = subst (λ (w : KernelState). OnOk r (GrowsFew count (conn_in w.conns c).incoming (conn_in l.conns c).incoming)) room.rest x
