@@ -48,18 +48,18 @@ agg_queued h k to end d a n source is found taken parts =
 -- new bytes were added, as many as fit
 pub few_fitting : (s t : Stored) (old new : List Slice) (pool : ℕ) (bytes : List ℕ) (r : Result ℕ Refusal) → IfOk r (AddsFitting s t old new pool bytes) → OnOk r (GrowsFew (length bytes) old new)
 few_fitting s t old new pool bytes (Ok n) x =
-    let fits : length (take n bytes) ≡ fitting old (length bytes) = omega (arith, length-take n bytes, x.taken) in
-    record { slices = x.added.slices; few = subst (λ m. length x.added.slices ≤ pages_for m) fits x.added.few; added = x.added.added }
+    let whole : length (take n bytes) ≡ n = omega (arith, length-take n bytes, x.taken) in
+    record { slices = x.added.slices; few = subst (λ m. length x.added.slices ≤ pages_for m) (whole ∙ x.taken) x.added.few; added = x.added.added }
 few_fitting s t old new pool bytes (Err y) x = tt
 
 -- Making room changes no queue.
 
-unsent_kept : (all : Objects (List Slice)) (cached : List CachedFile) (o : Option Descriptor) → unsent_slices (record all { cached = cached }) o ≡ unsent_slices all o
-unsent_kept all cached None = refl
-unsent_kept all cached (Some (on.File f at mode)) = refl
-unsent_kept all cached (Some (on.ReadEnd p)) = refl
-unsent_kept all cached (Some (on.WriteEnd p)) = refl
-unsent_kept all cached (Some (on.Connection c)) = refl
+unsent_kept : (all : Objects (List Slice)) (xs : List CachedFile) (o : Option Descriptor) → unsent_slices (record all { cached = xs }) o ≡ unsent_slices all o
+unsent_kept all xs None = refl
+unsent_kept all xs (Some (on.File f at mode)) = refl
+unsent_kept all xs (Some (on.ReadEnd p)) = refl
+unsent_kept all xs (Some (on.WriteEnd p)) = refl
+unsent_kept all xs (Some (on.Connection c)) = refl
 
 module _ (pool pages : ℕ) (h k : KernelState) (room : MakesRoom pool pages h k) where
   -- written to a descriptor
