@@ -1,7 +1,7 @@
 -- A run that meets the premises of the server's law.
 use Rattle.std.specs.Prelude.{ℕ, Bool, List}
 use Rattle.iol_core.specs.declared.events.Reply.{Reply}
-use Rattle.iol_kernel.specs.Readings.{slots_of}
+use Rattle.iol_system.specs.Prelude.{slots_of}
 use Rattle.iol_proc.specs.World.{Stage, copied}
 use Rattle.iol_proc.specs.declared.choice.Choice.{Choice}
 use Rattle.iol_system.specs.Machine.{SystemState}

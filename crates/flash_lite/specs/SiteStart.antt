@@ -1,6 +1,5 @@
 -- The world of a site before its first turn, and the reasons for its refusal, over any store.
 use Rattle.std.specs.Prelude.{◌≡◌, ◌⊎◌, ◌*◌, [], replicate, false}
-use Rattle.iol_arena.specs.State.{no_entry}
 use Rattle.iol_back.specs.Disk.{Disk}
 use Rattle.iol_core.specs.Configuration.{IsInRange}
 use Rattle.iol_core.specs.State.{new_state}
@@ -8,7 +7,7 @@ use Rattle.iol_core.specs.declared.configuration.Config.{Config}
 use Rattle.iol_core.specs.declared.limits.TheConstants.{CHUNK_PAGES}
 use Rattle.iol_core.specs.declared.refusals.Refusal.{Refusal}
 use Rattle.iol_core.specs.declared.refusals.Refusal.TheVariants.{BadRange, Memory}
-use Rattle.iol_kernel.specs.Readings.{slots_of}
+use Rattle.iol_system.specs.Prelude.{no_entry, slots_of}
 use Rattle.iol_proc.specs.World.{Stage}
 use Rattle.iol_system.specs.Machine.{SystemState, machine_of}
 use Rattle.iol_system.specs.Safe.{IsSafe}

@@ -174,7 +174,7 @@ fn access_log<'a>(alloc: Global) -> Arg<'a> {
         .long("access-log")
         .value_name("FILE")
         .help(
-            "Append a line for each request to this file, in the Common Log Format; - is standard output",
+            "Append a line for each response to this file, in the Common Log Format; - is standard output",
         )
 }
 

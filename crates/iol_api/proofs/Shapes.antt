@@ -5,8 +5,7 @@ use Rattle.iol_core.specs.Run.{outcome, replied}
 use Rattle.iol_core.specs.State.{State}
 use Rattle.iol_core.specs.declared.events.Reply.{Reply}
 use Rattle.iol_core.specs.declared.events.Reply.TheVariants as reply
-use Rattle.iol_kernel.specs.FileCalls.{StepsBeside, with_slots}
-use Rattle.iol_kernel.specs.KernelState.{KernelState}
+use Rattle.iol_system.specs.Prelude.{KernelState, StepsBeside, with_slots}
 use Rattle.iol_api.specs.Typed.{IsReply}
 
 pub is_reply : {A : Type 0} (f : A → Reply) (m : Meaning A) (s t : State) (r : Reply) → Step (replied f m) s (outcome r) t → IsReply f r

@@ -6,3 +6,4 @@ pub use Rattle.iol_kernel.specs.KernelState.{IsSound, joined}
 pub use Rattle.iol_kernel.specs.WritesByCopy.{WritesBytes}
 pub use Rattle.iol_kernel.specs.Readings.{slots_of}
 pub use Rattle.iol_kernel.specs.Report.{Reports}
+pub use Rattle.iol_desc.specs.EntryLists.{Rises}

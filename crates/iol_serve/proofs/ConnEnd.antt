@@ -12,14 +12,11 @@ use Rattle.iol_core.specs.declared.events.Event.TheVariants as event
 use Rattle.iol_core.specs.declared.events.Reply.{Reply}
 use Rattle.iol_core.specs.declared.refusals.Refusal.{Refusal}
 use Rattle.iol_core.specs.declared.refusals.Refusal.TheVariants.{BadFd}
-use Rattle.iol_desc.specs.EntryLists.{Rises}
-use Rattle.iol_kernel.specs.FileCalls.{StepsBeside, with_slots}
-use Rattle.iol_kernel.specs.KernelState.{KernelState, IsSound, read_of}
-use Rattle.iol_kernel.specs.Views.{state_view}
 use Rattle.iol_laws.specs.Order.{Once}
 use Rattle.iol_laws.proofs.Connections.{forgotten}
 use Rattle.iol_laws.proofs.Places.{lookup-changed_same}
 use Rattle.iol_system.specs.Machine.{tables_of}
+use Rattle.iol_system.specs.Prelude.{IsSound, KernelState, Rises, StepsBeside, read_of, state_view, with_slots}
 use Rattle.iol_serve.specs.Service.{HasEnded}
 
 -- nothing below the first of rising numbers

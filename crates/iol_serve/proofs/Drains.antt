@@ -4,12 +4,11 @@ use Rattle.std.proofs.lemmas.List.{take-map}
 use Rattle.std.specs.Io.KnownBytes.{Appends}
 use Rattle.iol_core.specs.State.{conn_at}
 use Rattle.iol_core.specs.Text.{bytes_of}
-use Rattle.iol_kernel.specs.KernelState.{read_of}
-use Rattle.iol_kernel.specs.Views.{state_view}
 use Rattle.iol_proc.specs.Streams.{SendsAs}
 use Rattle.iol_proc.specs.Turns.{Account}
 use Rattle.iol_proc.specs.World.{Stage, copied}
 use Rattle.iol_system.specs.Machine.{SystemState, tables_of}
+use Rattle.iol_system.specs.Prelude.{read_of, state_view}
 use Rattle.iol_serve.specs.Service.{Sends}
 use Rattle.iol_serve.proofs.Steps.{appends_none, goes_sent, sends_none}
 

@@ -11,7 +11,6 @@ use Rattle.iol_core.specs.declared.events.Event.{Event}
 use Rattle.iol_core.specs.declared.events.Event.TheVariants as event
 use Rattle.iol_core.specs.declared.events.Reply.{Reply}
 use Rattle.iol_core.specs.declared.events.Reply.TheVariants as reply
-use Rattle.iol_kernel.specs.Streams.{TakesIn}
 use Rattle.iol_laws.specs.History.{came_by, sent_by, drops_unsent}
 use Rattle.iol_proc.specs.Streams.{ArrivesAs, SendsAs}
 use Rattle.iol_proc.specs.Histories.{stream_over, sent_over, drops_with}
@@ -21,6 +20,7 @@ use Rattle.iol_proc.specs.World.{Stage, copying, OutsideStep, WorldRun}
 use Rattle.iol_proc.specs.declared.choice.Choice.{Choice}
 use Rattle.iol_proc.specs.declared.choice.Choice.TheVariants as choice
 use Rattle.iol_proc.proofs.Streams.{runs_follow, stream_over-append, sent_over-append}
+use Rattle.iol_system.specs.Prelude.{TakesIn}
 use Rattle.iol_serve.specs.Service.{IsOn, AreOn, GoesOn, Sends, Serves}
 
 -- Known bytes.

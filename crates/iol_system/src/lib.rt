@@ -33,3 +33,4 @@ mod replies;
 pub mod system;
 
 pub use iol_core::events::{Call, Event, Reply};
+pub use iol_kernel::report::Report;

@@ -5,10 +5,8 @@ use Rattle.iol_core.specs.State.{new_state}
 use Rattle.iol_core.specs.declared.configuration.TheConstants.Config.{DEFAULT}
 use Rattle.iol_core.specs.declared.limits.TheConstants.{CHUNK_PAGES}
 use Rattle.iol_back.specs.Disk.{lengths_of}
-use Rattle.iol_arena.specs.State.{no_entry}
-use Rattle.iol_kernel.specs.Readings.{slots_of}
 use Rattle.iol_system.specs.Machine.{SystemState, machine_of}
-use Rattle.iol_kernel.specs.Report.{Counts}
+use Rattle.iol_system.specs.Prelude.{Counts, no_entry, slots_of}
 use Rattle.iol_system.specs.Promises.{Promises}
 use Rattle.iolite.specs.declared.failure.Failure.{Failure}
 use Rattle.iolite.specs.declared.failure.Failure.TheVariants.{Memory}

@@ -8,8 +8,7 @@ use Rattle.iol_core.specs.declared.events.Reply.{Reply}
 use Rattle.iol_core.specs.declared.events.Reply.TheVariants as reply
 use Rattle.iol_core.specs.declared.refusals.Refusal.{Refusal}
 use Rattle.iol_core.specs.declared.refusals.Refusal.TheVariants.{Denied, PoolClosed, PoolBusy, NoRoom, Fault}
-use Rattle.iol_kernel.specs.declared.report.Report.{Report}
-use Rattle.iol_pool.specs.declared.report.PoolReport.{PoolReport}
+use Rattle.iol_system.specs.Prelude.{PoolReport, Report}
 use Rattle.iolite.specs.declared.lines.TheConstants.{ESCAPED}
 use Rattle.iolite.specs.declared.replay.Answer.{Answer}
 use Rattle.iolite.specs.declared.replay.Answer.TheVariants as answer

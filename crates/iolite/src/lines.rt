@@ -4,7 +4,7 @@ ghost use Rattle.iolite.specs.PrintedText.{bytes_text, four_digits, refusal_text
 
 use iol_core::events::Reply;
 use iol_core::refusals::Refusal;
-use iol_kernel::report::Report;
+use iol_system::Report;
 use percent_encoding::{AsciiSet, CONTROLS, ascii_set, percent_encode};
 use std::fmt;
 

@@ -16,7 +16,7 @@ use iol_back::faulty::FaultyBacking;
 use iol_back::memory::MemoryBacking;
 use iol_core::configuration::Config;
 use iol_core::events::Reply;
-use iol_kernel::report::Report;
+use iol_system::Report;
 use iol_system::system::System;
 use std::alloc::Global;
 use std::io;

@@ -3,7 +3,7 @@ use crate::asked::{Asked, Request};
 use crate::plans::{Plan, Store};
 use iol_core::events::{Event, Reply};
 use iol_core::refusals::Refusal;
-use iol_kernel::report::Report;
+use iol_system::Report;
 use iol_system::system::System;
 use std::marker::Model;
 

@@ -1,5 +1,5 @@
 -- The calls of a site over any store: the machine is that of the site, for all contents of its slots.
-use Rattle.std.proofs.Common.{◌≡◌, ℕ, ◌+◌, List, [], ◌∷◌, sym, subst, ap, ◌∙◌, Option, None, true}
+use Rattle.std.proofs.Common.{◌≡◌, ℕ, ◌+◌, List, [], ◌∷◌, refl, sym, subst, ap, ◌∙◌, Option, None, true}
 use Rattle.std.specs.Prelude.{option_map}
 use Rattle.iol_core.specs.Calls.Files.{file_called}
 use Rattle.iol_core.specs.Meaning.{first}
@@ -7,9 +7,8 @@ use Rattle.iol_core.specs.Run.{meaning}
 use Rattle.iol_core.specs.State.{State, new_state}
 use Rattle.iol_core.specs.declared.events.Event.{Event}
 use Rattle.iol_core.specs.declared.events.Reply.{Reply}
-use Rattle.iol_kernel.specs.FileCalls.{with_slots}
-use Rattle.iol_kernel.proofs.State.Beside.{with_slots-own}
 use Rattle.iol_system.specs.Machine.{SystemState, machine_of}
+use Rattle.iol_system.specs.Prelude.{read_of, state_view, with_slots}
 use Rattle.iol_system.specs.Promises.{Chain}
 use Rattle.flash_lite.specs.Setup.{IsMade, calls, first_refusal, is_in_range}
 use Rattle.flash_lite.specs.SiteState.{HasDesk, LeavesSite, state_of}
@@ -33,14 +32,19 @@ chain_passes (e ∷ es) (r ∷ rs) old new chain none =
     let rest = chain_passes es rs chain.0 new chain.2 one.rest in
     (b.before, tt, one.unrefused, subst (λ (m : State). Passes Any (over [] m) es (with_slots [] new.kernel)) one.after rest)
 
+-- the machine's own slots
+with_own : (s : SystemState) → with_slots (machine_of s).slots s.kernel ≡ machine_of s
+unfolding with_slots read_of state_view
+with_own s = refl
+
 -- with none in its slots, and with those that it has
 bare : (s : SystemState) → with_slots [] s.kernel ≡ over [] (machine_of s)
 unfolding with_slots
-bare s = ap (λ (m : State). over [] m) (with_slots-own s.disk.slots s.kernel)
+bare s = ap (λ (m : State). over [] m) (with_own s)
 
 own : (s : SystemState) → machine_of s ≡ over (machine_of s).slots (with_slots [] s.kernel)
 unfolding with_slots
-own s = sym (with_slots-own s.disk.slots s.kernel)
+own s = sym (with_own s)
 
 pub leaves_by : (s : Site) (old new : SystemState) (rs : List Reply) → is_in_range s ≡ true → Chain old (calls s) rs new → first_refusal rs ≡ None → LeavesSite s (machine_of old) (machine_of new)
 leaves_by s old new rs fits chain none slots is =

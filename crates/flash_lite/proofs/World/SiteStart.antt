@@ -1,7 +1,6 @@
 -- The start of the world of a site over any store, the reasons for its refusal, and its run as a chain of the system's steps.
 use Rattle.std.proofs.Common.{◌≡◌, ◌∙◌, inl, inr, ℕ, List, [], ◌∷◌, ◌++◌, map, sym, ap, subst, Bool, false, IsPermutation}
 use Rattle.std.specs.Prelude.{◌*◌, replicate}
-use Rattle.iol_arena.specs.State.{no_entry}
 use Rattle.iol_back.specs.Disk.{Disk}
 use Rattle.iol_core.specs.declared.configuration.Config.{Config}
 use Rattle.iol_core.specs.declared.events.Event.{Event}
@@ -9,7 +8,7 @@ use Rattle.iol_core.specs.declared.events.Reply.{Reply}
 use Rattle.iol_core.specs.State.{new_state}
 use Rattle.iol_core.specs.declared.limits.TheConstants.{CHUNK_PAGES}
 use Rattle.iol_core.specs.declared.refusals.Refusal.{Refusal}
-use Rattle.iol_kernel.specs.Readings.{slots_of}
+use Rattle.iol_system.specs.Prelude.{no_entry, slots_of}
 use Rattle.iol_proc.specs.Idle.{Idles}
 use Rattle.iol_proc.specs.Laws.{HasEvents}
 use Rattle.iol_proc.specs.World.{IsRising, Stage, domains_of, sharing, seat_of, WorldRun}

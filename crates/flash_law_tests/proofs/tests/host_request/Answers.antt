@@ -2,7 +2,7 @@ use Rattle.std.proofs.Common.{IfOk, ℕ, Bool, List, [], ◌∷◌, subst}
 use Rattle.std.specs.Prelude.{Result, Ok, Err}
 use Rattle.iol_core.specs.declared.events.Event.TheVariants as event
 use Rattle.iol_core.specs.declared.events.Reply.{Reply}
-use Rattle.iol_kernel.specs.Readings.{slots_of}
+use Rattle.iol_system.specs.Prelude.{slots_of}
 use Rattle.iol_proc.specs.World.{Stage, copied}
 use Rattle.iol_proc.specs.declared.choice.Choice.{Choice}
 use Rattle.iol_proc.specs.declared.choice.Choice.TheVariants as choice

@@ -1,5 +1,5 @@
 use Rattle.std.proofs.Common.{◌∙◌}
-use Rattle.iol_kernel.specs.Readings.{slots_of}
+use Rattle.iol_system.specs.Prelude.{slots_of}
 use Rattle.iol_proc.specs.World.{copied}
 use Rattle.flash_lite.proofs.World.HostedWorld.{hosted}
 use Rattle.flash_lite.proofs.World.SiteStart.{hosted_over}

@@ -1,7 +1,7 @@
 use Rattle.std.proofs.Common.{rules, ◌≡◌, ap, ◌∙◌, true}
 use Rattle.iol_back.specs.Disk.{Disk}
 use Rattle.iol_core.specs.State.{new_state}
-use Rattle.iol_kernel.specs.Readings.{slots_of}
+use Rattle.iol_system.specs.Prelude.{slots_of}
 use Rattle.flash_lite.specs.Setup.{is_in_range}
 use Rattle.flash_lite.proofs.World.HostedWorld.{world_new}
 use Rattle.flash_lite.proofs.World.SiteStart.{begun_by, none_of_setup, starts_by}

@@ -4,8 +4,7 @@ use Rattle.iol_core.specs.State.{new_state}
 use Rattle.iol_core.specs.declared.configuration.Config.{Config}
 use Rattle.iol_core.specs.declared.limits.TheConstants.{CHUNK_PAGES}
 use Rattle.iol_back.specs.Disk.{Disk}
-use Rattle.iol_arena.specs.State.{no_entry}
-use Rattle.iol_kernel.specs.Readings.{slots_of}
+use Rattle.iol_system.specs.Prelude.{no_entry, slots_of}
 use Rattle.iolite.proofs.replay.system_of.Goals as goal
 
 same_disk : (d : Disk) (slots : List (List ℕ)) (n : ℕ) (h : Bool) (told : List ℕ) → d.slots ≡ slots → d.failures ≡ n → d.honest ≡ h → d.told ≡ told → d ≡ record { slots = slots; failures = n; honest = h; told = told }
