@@ -4,7 +4,6 @@ import os
 import re
 import shutil
 import socket
-import statistics
 import subprocess
 import sys
 import threading
@@ -12,10 +11,18 @@ import time
 
 from measured import ROOT
 
-SPEED = f"{ROOT}/crates/paper_speed/out/paper_speed"
-FLASHD = os.environ.get("FLASHD", f"{ROOT}/crates/flashd/out/flashd")
-PACKAGES = {"nginx": "nginx-light", "wrk": "wrk"}
+
+def program_of(crate):
+    """The program of a crate, or the one that the environment names in its place."""
+    return os.environ.get(crate.upper(), f"{ROOT}/crates/{crate}/out/{crate}")
+
+
+SPEED, SERVER, FLASHD = map(program_of, ("paper_speed", "paper_server", "flashd"))
+PYTHON = "/usr/bin/python3"  # the distribution's, which has the packages of the distribution
+PACKAGES = {"nginx": "nginx-light", "wrk": "wrk", "valgrind": "valgrind"}
 CLIENTS = 40
+FOREVER = 1_000_000_000  # clients
+SEGMENT = 1_460  # the bytes of a slow client's segments at most: those of Ethernet
 SLOW_BYTES, SLOW_PAUSE = 1_024, 0.25  # what a slow client reads at once, and the seconds before it reads again
 CONFIG = """daemon off;
 master_process off;
@@ -46,20 +53,28 @@ end
 """
 
 
-class Missing(Exception):
-    """A program that is not on this machine."""
+def can_draw():
+    """Whether the pictures can be drawn."""
+    words = [PYTHON, "-c", "import matplotlib"]
+    return os.path.isfile(PYTHON) and subprocess.run(words, capture_output=True, check=False).returncode == 0
+
+
+def missing_packages():
+    missing = [package for program, package in PACKAGES.items() if not shutil.which(program)]
+    return missing if can_draw() else [*missing, "python3-matplotlib"]
 
 
 def install():
-    """Installs the other programs, if they are missing."""
-    wanting = [package for program, package in PACKAGES.items() if not shutil.which(program)]
-    if wanting:
+    """Installs the other programs, if they are missing, and says which ones cannot be installed."""
+    if missing := missing_packages():
         env = {**os.environ, "DEBIAN_FRONTEND": "noninteractive"}
-        for words in (["update"], ["install", "-y", "--no-install-recommends", *wanting]):
-            subprocess.run(["apt-get", "-qq", *words], env=env, stdout=subprocess.DEVNULL, check=False)
-    missing = [program for program in PACKAGES if not shutil.which(program)]
+        for words in (["update"], ["install", "-y", "--no-install-recommends", *missing]):
+            with contextlib.suppress(OSError):
+                subprocess.run(["apt-get", "-qq", *words], env=env, stdout=subprocess.DEVNULL, check=False)
+    if missing := missing_packages():
+        print(f"bench/paper: not installed: {', '.join(missing)}", flush=True)
     if "wrk" in missing:
-        sys.exit("bench/paper: wrk cannot be installed here; only --quick runs without it")
+        sys.exit("bench/paper: only --quick runs without wrk")
 
 
 def free_port():
@@ -97,11 +112,6 @@ class Server:
         with open(f"/proc/{self.process.pid}/status", encoding="ascii") as lines:
             return next(int(line.split()[1]) for line in lines if line.startswith("VmRSS"))
 
-    def seconds(self):
-        """The processor time so far."""
-        with open(f"/proc/{self.process.pid}/schedstat", encoding="ascii") as given:
-            return int(given.read().split()[0]) / 1e9
-
     def __enter__(self):
         return self
 
@@ -115,9 +125,12 @@ def flashd(site):
     return Server([FLASHD, "--listen", "127.0.0.1:0", site])
 
 
+def files_server(how, chunks, lengths):
+    """The measured server of files, by reference or by copying."""
+    return Server([SERVER, "serve", how, str(FOREVER), str(chunks), *map(str, lengths)])
+
+
 def nginx(top, site):
-    if not shutil.which("nginx"):
-        raise Missing("nginx")
     port = free_port()
     with open(f"{top}/nginx-{port}.conf", "w", encoding="ascii") as config:
         config.write(CONFIG % {"top": top, "port": port, "site": site})
@@ -201,9 +214,10 @@ class Load:
 
 
 class SlowClients:
-    """Clients that ask for a file and read it slowly, in a thread."""
+    """Clients that ask for a file and read it slowly, in a thread. `cut` is the number of those whose connection has ended."""
 
     def __init__(self, port, path, count):
+        self.cut = 0
         self.is_over = threading.Event()
         self.clients = [self.begin(port, path) for _ in range(count)]
         self.thread = threading.Thread(target=self.run, daemon=True)
@@ -212,6 +226,7 @@ class SlowClients:
     def begin(port, path):
         client = socket.socket()
         client.setsockopt(socket.SOL_SOCKET, socket.SO_RCVBUF, 4_096)
+        client.setsockopt(socket.IPPROTO_TCP, socket.TCP_MAXSEG, SEGMENT)
         client.settimeout(20)
         client.connect(("127.0.0.1", port))
         client.sendall(f"GET /{path} HTTP/1.1\r\nHost: a\r\n\r\n".encode())
@@ -219,10 +234,20 @@ class SlowClients:
         return client
 
     def run(self):
+        live = self.clients
         while not self.is_over.wait(SLOW_PAUSE):
-            for client in self.clients:
-                with contextlib.suppress(OSError):
-                    client.recv(SLOW_BYTES)
+            live = [client for client in live if self.reads(client)]
+            self.cut = len(self.clients) - len(live)
+
+    @staticmethod
+    def reads(client):
+        """Reads some bytes, if there are any: whether the connection is still there."""
+        try:
+            return bool(client.recv(SLOW_BYTES))
+        except BlockingIOError:
+            return True
+        except OSError:
+            return False
 
     def __enter__(self):
         self.thread.start()
@@ -234,7 +259,3 @@ class SlowClients:
         for client in self.clients:
             client.close()
 
-
-def spread(values):
-    """The least, the median and the greatest of some values."""
-    return min(values), statistics.median(values), max(values)

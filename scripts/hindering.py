@@ -12,6 +12,7 @@ from model import cgi, http
 from replaying import PROGRAM, Wrong
 
 FAILED, BROKEN, SPOILED = b"call failed\n", b"connection broken\n", b"output spoiled\n"  # what the shim tells
+INTERRUPTED = b"call interrupted\n"
 SECONDS = 60
 
 
@@ -158,6 +159,11 @@ def way_of_break(row, answers, status, told):
     return "cut off" if cut else "whole"
 
 
+def way_of_interruption(row, answers, status, told):
+    """The same, where a signal interrupted a sending or receiving."""
+    return "whole" if (answers, status, told) == (row.whole(), 0, b"") else None
+
+
 def way_of_spoil(row, answers, status, told):
     """The same, where a writing to the output failed."""
     is_begun = row.whole()[0].startswith(answers[0]) if isinstance(row, Loop) else not any(answers)
@@ -168,6 +174,7 @@ WAYS = {
     "growths": ("REFUSE", REFUSED, way_of_growth),
     "calls": ("FAIL", FAILED, way_of_call),
     "breaks": ("BREAK", BROKEN, way_of_break),
+    "interruptions": ("INTERRUPT", INTERRUPTED, way_of_interruption),
     "output": ("SPOIL", SPOILED, way_of_spoil),
 }
 

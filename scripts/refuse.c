@@ -1,15 +1,17 @@
 /*
  * Loaded into a program, hinders what one of these words of its environment names, and says so:
  *
- * REFUSE  a growth of its memory
- * FAIL    a call on a file, a folder or its input
- * BREAK   a sending or receiving on a connection
- * SPOIL   a writing to its output
+ * REFUSE     a growth of its memory
+ * FAIL       a call on a file, a folder or its input
+ * BREAK      a sending or receiving on a connection
+ * INTERRUPT  the same: a signal interrupts it
+ * SPOIL      a writing to its output
  *
  * Each names one, counted from 0. SHORT is how many bytes any of these moves at most, and LATE how many writings to its
  * output come before the counting begins.
  */
 #define NEXT ((void *)-1L)
+#define EINTR 4
 #define EIO 5
 #define ECONNRESET 104
 #define OUTPUT 1
@@ -31,6 +33,7 @@ struct turn {
 static struct turn growth = {"REFUSE", "growth refused\n", 0, 0};
 static struct turn call = {"FAIL", "call failed\n", 0, 0};
 static struct turn traffic = {"BREAK", "connection broken\n", 0, 0};
+static struct turn signals = {"INTERRUPT", "call interrupted\n", 0, 0};
 static struct turn output = {"SPOIL", "output spoiled\n", 0, 0};
 static struct turn most = {"SHORT", "", 0, 0};
 static struct turn early = {"LATE", "", 0, 0};
@@ -62,6 +65,11 @@ static int fails(struct turn *turn, int error) {
         return 0;
     *__errno_location() = error;
     return 1;
+}
+
+/* Whether a sending or receiving on a connection fails. */
+static int breaks(void) {
+    return fails(&traffic, ECONNRESET) || fails(&signals, EINTR);
 }
 
 /* Whether a writing to a descriptor fails. One before the counting begins does not. */
@@ -99,9 +107,24 @@ BEFORE(int, statx, (int dir, const char *path, int flags, unsigned mask, void *f
 BEFORE(long, lseek, (int fd, long at, int from), (fd, at, from), if (fails(&call, EIO)) return -1)
 BEFORE(long, getdents64, (int fd, void *into, size n), (fd, into, n), if (fails(&call, EIO)) return -1)
 BEFORE(long, read, (int fd, void *into, size n), (fd, into, at_most(n)), if (fails(&call, EIO)) return -1)
-BEFORE(long, recv, (int fd, void *into, size n, int flags), (fd, into, at_most(n), flags),
-       if (fails(&traffic, ECONNRESET)) return -1)
-BEFORE(long, send, (int fd, const void *from, size n, int flags), (fd, from, at_most(n), flags),
-       if (fails(&traffic, ECONNRESET)) return -1)
+BEFORE(long, recv, (int fd, void *into, size n, int flags), (fd, into, at_most(n), flags), if (breaks()) return -1)
+BEFORE(long, send, (int fd, const void *from, size n, int flags), (fd, from, at_most(n), flags), if (breaks()) return -1)
 BEFORE(long, write, (int fd, const void *from, size n), (fd, from, fd == OUTPUT ? at_most(n) : n),
        if (spoils(fd)) return -1)
+
+/* The word SOCKET names a call that makes, binds, accepts, watches or awaits sockets, or sets an option of one. */
+static struct turn sockets = {"SOCKET", "socket call failed\n", 0, 0};
+
+#define ON_SOCKETS(name, parameters, arguments) \
+    BEFORE(int, name, parameters, arguments, if (fails(&sockets, EIO)) return -1)
+
+ON_SOCKETS(socket, (int domain, int kind, int protocol), (domain, kind, protocol))
+ON_SOCKETS(bind, (int fd, const void *address, unsigned n), (fd, address, n))
+ON_SOCKETS(listen, (int fd, int n), (fd, n))
+ON_SOCKETS(getsockname, (int fd, void *address, unsigned *n), (fd, address, n))
+ON_SOCKETS(setsockopt, (int fd, int level, int name, const void *value, unsigned n), (fd, level, name, value, n))
+ON_SOCKETS(accept4, (int fd, void *address, unsigned *n, int flags), (fd, address, n, flags))
+ON_SOCKETS(shutdown, (int fd, int how), (fd, how))
+ON_SOCKETS(epoll_create1, (int flags), (flags))
+ON_SOCKETS(epoll_ctl, (int fd, int what, int of, void *event), (fd, what, of, event))
+ON_SOCKETS(epoll_wait, (int fd, void *events, int n, int timeout), (fd, events, n, timeout))

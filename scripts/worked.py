@@ -15,6 +15,7 @@ CHUNKS = {
     "two.cgi": b"emit a\nquery", "none.cgi": b"", "4096.cgi": b"cat page", "5000.cgi": b"cat more", "page": b"z" * 4096,
     "more": b"z" * 5000,
 }
+PIECES = {"f": b"x", "page": b"y" * 4065, "s.cgi": b"wc f\ncat f\n" * 20 + b"cat page\nwc f"}
 BIG = {"big": b"z" * 2**20, "s.cgi": b"cat big", "t.cgi": b"cat big\nemit"}
 
 
@@ -26,6 +27,7 @@ def of_host(target, *fields, **how):
     return get(target, "Host: a", *fields, **how)
 
 
+SMALL = of_host("/", f"X: {'y' * 31}")  # a head of 63 bytes
 GET_AND_HEAD = of_host("/") + of_host("/", what="HEAD")
 REFUSED = {
     "no host": get("/"),
@@ -64,6 +66,8 @@ def of_server():
     yield Served("private-file", GUESTS, of_host("/p") + of_host("/"), late=SITE)
     yield Served("three-ranges", SIX, ranges(*THREE), late=SITE)
     yield Served("table-of-ranges", SIX, ranges(*TABLE) + OTHER_RANGES, late=SITE)
+    yield Served("five requests, and half a head", INDEX, of_host("/") * 5 + b"GET / HT")
+    yield Served("heads-of-63-bytes", INDEX, SMALL * 12)
     for name, stream in heads_at_the_limit():
         yield Served(f"heads at the limit, {name}", INDEX, stream)
 
@@ -77,6 +81,7 @@ def of_scripts():
     yield Served("two-lines-chunked, HTTP/1.0", CHUNKS, get("/two.cgi?q=1", version="1.0"))
     lengths = b"".join(map(of_host, ("/none.cgi", "/4096.cgi", "/5000.cgi")))
     yield Served("two-lines-chunked, lengths", CHUNKS, lengths, chunks=2)
+    yield Served("small-pieces", PIECES, of_host("/s.cgi"))
     yield Served("big-cat", BIG, of_host("/s.cgi"), chunks=17)
     yield Served("big-cat, and a line", BIG, of_host("/t.cgi"), chunks=17)
 

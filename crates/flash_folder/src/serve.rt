@@ -7,10 +7,12 @@ use crate::fault::{Fault, ended};
 use crate::folder::{NET, world_of};
 use crate::service::FolderService;
 use flash_lite::actor::Actor;
+use iol_back::backing::Backing;
 use iol_back::folder::FolderBacking;
 use iol_core::numbers::PoolId;
 use iol_reactor::limits::Limits;
 use iol_reactor::reactor::Reactor;
+use iol_reactor::service::Service;
 use mio::net::TcpListener;
 use std::io;
 use std::io::Write;
@@ -55,7 +57,7 @@ where
 // Prints the port, and serves.
 fn announce_and_serve<R, W: Write>(
     clock: &R,
-    server: &mut Server<R>,
+    server: &mut FolderServer<R>,
     output: &mut W,
 ) -> Result<(), Fault>
 where
@@ -66,16 +68,19 @@ where
     server.serve(clock)
 }
 
-/// A server of the files of a folder, which listens on a port of 127.0.0.1.
+/// A server that listens on a port of 127.0.0.1.
 #[derive(Drop)]
-pub struct Server<R: Files> {
-    reactor: Reactor<TcpListener, FolderBacking<R>, Actor, FolderService>,
+pub struct Server<B: Backing, V: Service<B, Actor>> {
+    reactor: Reactor<TcpListener, B, Actor, V>,
 }
 
-impl<R: Files + Drop> Server<R> {
+/// The server of the files of a folder.
+pub type FolderServer<R> = Server<FolderBacking<R>, FolderService>;
+
+impl<R: Files + Drop> Server<FolderBacking<R>, FolderService> {
     /// Reads the folder, and listens for this number of connections. It reads the folder first, so
     /// that no client connects to a server without files.
-    pub fn listen(rt: &R, port: u16, root: &str, count: u32) -> Result<Server<R>, Fault>
+    pub fn listen(rt: &R, port: u16, root: &str, count: u32) -> Result<FolderServer<R>, Fault>
     where
         R: Net + AllocGlobal + Clone,
         ensures { IfErr result (λ fault. StopsStart fault ⊎ (fault ≡ Fault.Listen)) }

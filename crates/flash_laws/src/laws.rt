@@ -47,8 +47,9 @@ pub fn site_law()
 /// Turns are given in rounds. A client is passed over if its call is to be retried later, if it
 /// waits for a worker, if its response is taken whole and more input is buffered, or if it only
 /// reads more input; the next turn is that of the first client after it that may take one. After
-/// the last client, connections are accepted while any are waiting, and then the server yields. So
-/// a client waits for another only while the server advances one response of that client.
+/// the last client, the server accepts until an accept returns no connection or it has the maximum
+/// number of connections, and only then yields: it accepts in each round, unless it is full. So a
+/// client waits for another only while the server advances one response of that client.
 pub fn rounds_law()
     ensures { TurnsGoRound }
 {}

@@ -10,6 +10,8 @@ mod ranges;
 mod refusals;
 mod rows;
 mod scripts;
+mod setups;
 mod sizes;
+mod small_writes;
 mod together;
 mod turns;

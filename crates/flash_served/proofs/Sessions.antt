@@ -27,7 +27,7 @@ use Rattle.flash_lite.specs.Crew.{crew_of}
 use Rattle.flash_lite.specs.Library.{library_of}
 use Rattle.flash_lite.specs.Workers.{worker_turns}
 use Rattle.flash_lite.specs.declared.site.Site.{Site}
-use Rattle.flash_served.specs.Served.{AreFairSessions, AreRight, AreSessions, Holds, IsAnswered, IsFresh, IsSession, ServesNone, ServesRight, Session, SessionsAreRight}
+use Rattle.flash_served.specs.Served.{AreFairSessions, AreRight, AreSessions, Holds, IsAnswered, IsFresh, IsNoConn, IsSession, ServesNone, ServesRight, Session, SessionsAreRight}
 use Rattle.flash_served.proofs.Served.{served_right}
 
 -- what a past has of a connection
@@ -157,10 +157,11 @@ serves_right law n ending left rest held now w begun after made served over = re
 
 -- where none is made the invariant holds
 pub serves_none : ((s : Site) → StepKeepsTie in_rounds (crew_of s)) → (r : Reply) (w after : Stage State (Actor Worker))
-    → OutsideStep copying (actor_turns in_rounds worker_turns) w (event.ConnNew net_pool) r after → ServesNone w after
-serves_none keeps r w after step = record {
+    → OutsideStep copying (actor_turns in_rounds worker_turns) w (event.ConnNew net_pool) r after → IsNoConn r → ServesNone w after
+serves_none keeps r w after step none = record {
   reply = r;
   refused = step;
+  none = none;
   holds = λ s slots refuses past ps tied.
       keeps s (library_of s slots refuses) past ps (choice.Outside (event.ConnNew net_pool)) r w after step tt tt tied;
 }

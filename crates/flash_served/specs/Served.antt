@@ -129,10 +129,15 @@ pub record ServesRight (ending : Ending) (left rest held now : Option (List ℕ)
   pub any : (s : Site) (slots : List (List ℕ)) (past : List Choice) (ps : List Reply) → Holds s slots any_refusal past ps w
       → AreRight s slots any_refusal past ps (session ∷ []) after
 
+-- a reply that is no connection
+abbrev pub IsNoConn : Reply → Type 0
+IsNoConn r = (c : ℕ) → r ≡ reply.Conn c → ⊥
+
 -- No connection is created: the world satisfies the invariant afterwards, if it did before, for every site and history.
 pub record ServesNone (w after : Stage State (Actor Worker)) : Type 0 where
   pub reply : Reply
   pub refused : OutsideStep copying (actor_turns in_rounds worker_turns) w (event.ConnNew net_pool) reply after
+  pub none : IsNoConn reply
   pub holds : (s : Site) (slots : List (List ℕ)) (refuses : Refusals) (past : List Choice) (ps : List Reply)
       → Holds s slots refuses past ps w
       → Holds s slots refuses (past ++ choice.Outside (event.ConnNew net_pool) ∷ []) (ps ++ reply ∷ []) after

@@ -32,7 +32,8 @@ pub struct Acceptor<L> {
     /// Any number, if it is none.
     pub left: Option<u32>,
 
-    // Whether a client may wait to be accepted, when one is accepted again after a failure, and the failure of this attempt.
+    // Whether a client may wait to be accepted, when one is accepted again after a failure, and the
+    // failure of this attempt.
     is_open: bool,
     open_at: Option<u64>,
     failure: Option<ErrorKind>,
@@ -94,7 +95,8 @@ impl<L> Acceptor<L> {
         self.is_open = true;
     }
 
-    /// A new attempt to accept clients begins. A listener that had failed is tried again once that is due.
+    /// A new attempt to accept clients begins. A listener that had failed is tried again once that
+    /// is due.
     pub fn reopen(&mut self, now: u64)
         ensures listener { self.new.listener ≡ self.old.listener }
         ensures left { self.new.left ≡ self.old.left }

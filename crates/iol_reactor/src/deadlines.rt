@@ -17,7 +17,8 @@ pub struct Deadlines<K> {
 }
 
 impl<K: Copy> Deadlines<K> {
-    /// No deadline yet, and memory for this number of them. Each will be due this number of milliseconds after it was set.
+    /// No deadline yet, and memory for this number of them. Each will be due this number of
+    /// milliseconds after it was set.
     pub fn new(alloc: Global, delay: u64, count: usize) -> Result<Deadlines<K>, AllocError> {
         Ok(Deadlines {
             delay,

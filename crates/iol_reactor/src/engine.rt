@@ -136,7 +136,8 @@ impl<S: Socket + Drop, B: Backing + Drop, P: Process, V: Service<B, P>> Engine<S
         self.count() < self.limits.max_clients
     }
 
-    /// The place of the next client, for which there is memory. None: there is no place, or no memory, for one more.
+    /// The place of the next client, for which there is memory. None: there is no place, or no
+    /// memory, for one more.
     pub fn vacancy(&mut self) -> Option<usize> {
         if self.timers.silences.reserve().is_err() {
             return None;

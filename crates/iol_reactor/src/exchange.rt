@@ -36,7 +36,8 @@ pub struct Moment {
     pub is_idle: bool,
 }
 
-/// Hands in more of the request of the client in this place. False: there is no room for all of it now.
+/// Hands in more of the request of the client in this place. False: there is no room for all of it
+/// now.
 pub fn hand_in<S: Socket, B: Backing + Drop, P: Process, V: Service<B, P>>(
     worlds: &mut Worlds<B, P, V>,
     slot: usize,
@@ -125,7 +126,8 @@ fn next_step<S: Socket>(client: &Client<S>) -> Step {
     }
 }
 
-// The world has closed the connection of the client in this place, and all that it sent on it was written.
+// The world has closed the connection of the client in this place, and all that it sent on it was
+// written.
 fn ended<S: Socket, B: Backing + Drop, P: Process, V: Service<B, P>>(
     worlds: &mut Worlds<B, P, V>,
     slot: usize,
@@ -148,7 +150,8 @@ fn ended<S: Socket, B: Backing + Drop, P: Process, V: Service<B, P>>(
     Step::Again
 }
 
-/// The socket of the client in this place failed, or the client broke a limit: nothing more is handed in or sent.
+/// The socket of the client in this place failed, or the client broke a limit: nothing more is
+/// handed in or sent.
 pub fn abandon<S: Socket, B: Backing + Drop, P: Process, V: Service<B, P>>(
     worlds: &mut Worlds<B, P, V>,
     slot: usize,

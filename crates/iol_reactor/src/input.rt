@@ -35,7 +35,8 @@ pub struct Input {
     alloc: Global,
     bytes: Vec<u8>,
 
-    // The length of the request in progress, which is at the front of `bytes`; 0 if there is none. And how much of it was handed in.
+    // The length of the request in progress, which is at the front of `bytes`; 0 if there is none.
+    // And how much of it was handed in.
     asked: usize,
     given: usize,
 
@@ -141,7 +142,8 @@ impl Input {
         }
     }
 
-    // Keeps the bytes of a read of at most `room` bytes. A short read has emptied the socket, unless the peer's end is behind it.
+    // Keeps the bytes of a read of at most `room` bytes. A short read has emptied the socket,
+    // unless the peer's end is behind it.
     fn append(&mut self, bytes: &[u8], room: usize) -> Reading
         ensures { result ≢ Reading.Failed →
             self.new.bytes.items ≡ self.old.bytes.items ++ bytes.now }

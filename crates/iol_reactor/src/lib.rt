@@ -1,13 +1,14 @@
 //! An event loop that serves many clients at once from the processes of a world, in one thread.
 //!
-//! [`Reactor`](reactor::Reactor) listens on an address and polls its sockets, edge-triggered. Each round it hands complete
-//! requests to the world, gives the processes their turns and sends what they wrote. What a request is, a
-//! [`Service`](service::Service) says. [`Engine`](engine::Engine) is the same without the poll, over any
-//! [`Socket`](socket::Socket).
+//! [`Reactor`](reactor::Reactor) listens on an address and polls its sockets, edge-triggered. Each
+//! round it hands complete requests to the world, gives the processes their turns and sends what
+//! they wrote. What a request is, a [`Service`](service::Service) says. [`Engine`](engine::Engine)
+//! is the same without the poll, over any [`Socket`](socket::Socket).
 //!
-//! A client has a connection of the world only while it has a request in progress and for a few milliseconds after it. So idle
-//! clients cost nothing, and many clients share the connections that the processes can hold. A client's bytes enter the world
-//! one complete request at a time; the rest waits with the client.
+//! A client has a connection of the world only while it has a request in progress and for a few
+//! milliseconds after it. So idle clients cost nothing, and many clients share the connections that
+//! the processes can hold. A client's bytes enter the world one complete request at a time; the
+//! rest waits with the client.
 //!
 //! ```text
 //! let mut reactor = Reactor::new(&rt, alloc, address, pool, world, Limits::DEFAULT)?;

@@ -6,10 +6,12 @@ pub struct Limits {
     /// The number of clients at once. Others wait in the system's queue of the listener.
     pub max_clients: usize,
 
-    /// The number of clients that have a connection of a world at once. The others wait for one of them to be quiet.
+    /// The number of clients that have a connection of a world at once. The others wait for one of
+    /// them to be quiet.
     pub live: usize,
 
-    /// A client's request is complete within this time after its first byte, or after the response before it.
+    /// A client's request is complete within this time after its first byte, or after the response
+    /// before it.
     pub head_millis: u64,
 
     /// A client is silent between requests for at most this time.
@@ -29,8 +31,8 @@ pub struct Limits {
     /// The service ends when this number of clients has come and gone; never, if it is none.
     pub stop_after: Option<u32>,
 
-    /// Whether the service ends with an error if accepting fails while it has no client whose end could make room. If not, it
-    /// tries again every `ACCEPT_MILLIS`.
+    /// Whether the service ends with an error if accepting fails while it has no client whose end
+    /// could make room. If not, it tries again every `ACCEPT_MILLIS`.
     pub ends_unaccepted: bool,
 }
 
@@ -61,7 +63,8 @@ pub const READ_BYTES: usize = 16_384;
 /// Before a read there is memory for this number of bytes at least.
 pub const MIN_READ_BYTES: usize = 1_024;
 
-/// Before a response is collected there is memory for this number of bytes at least, should the socket accept none of them.
+/// Before a response is collected there is memory for this number of bytes at least, should the
+/// socket accept none of them.
 pub const MIN_KEPT_BYTES: usize = 16_384;
 
 /// A client with this number of buffered bytes is not read until one of its requests has its
@@ -83,5 +86,6 @@ pub const ACCEPT_MILLIS: u64 = 100;
 /// The time between two questions for a new world.
 pub const RENEW_MILLIS: u64 = 1_000;
 
-/// A world whose connections have reached this number is replaced: numbers have 32 bits and are never used again.
+/// A world whose connections have reached this number is replaced: numbers have 32 bits and are
+/// never used again.
 pub const WORN_CONNECTION: u32 = 0xf000_0000;

@@ -35,7 +35,8 @@ pub struct Output {
     at: usize,
     is_blocked: bool,
 
-    // Its first and last bytes, and the number of bytes that the world sent and the socket accepted.
+    // Its first and last bytes, and the number of bytes that the world sent and the socket
+    // accepted.
     head: Vec<u8>,
     tail: [u8; TAIL_BYTES],
     produced: u64,
@@ -121,8 +122,8 @@ impl Output {
         sending
     }
 
-    /// The number of bytes that may be collected from the world: there is memory for them, should the socket accept none. 0: there is
-    /// no memory. Nothing is left from before.
+    /// The number of bytes that may be collected from the world: there is memory for them, should
+    /// the socket accept none. 0: there is no memory. Nothing is left from before.
     pub fn room(&mut self) -> u32 {
         let least = if self.produced == 0 {
             MIN_KEPT_BYTES
@@ -148,7 +149,8 @@ impl Output {
         }
     }
 
-    /// Writes bytes that the world sent, as far as the socket accepts them, and keeps the rest. Nothing is left from before.
+    /// Writes bytes that the world sent, as far as the socket accepts them, and keeps the rest.
+    /// Nothing is left from before.
     pub fn send<S: Socket>(&mut self, socket: &mut S, bytes: &[u8]) -> Sending
         ensures { result ≢ Sending.Failed → Passes (S.contents socket.old)
             (S.contents socket.new) bytes.now self.new.left.items }

@@ -99,8 +99,8 @@ where
     P: Process,
     V: Service<B, P>,
 {
-    /// Serves clients. It returns when the number of clients that `Limits::stop_after` gives have come and gone, or the sockets
-    /// cannot be polled. It never accepts more.
+    /// Serves clients. It returns when the number of clients that `Limits::stop_after` gives have
+    /// come and gone, or the sockets cannot be polled. It never accepts more.
     pub fn serve(&mut self, clock: &impl Clock, service: &mut V) -> io::Result<()>
         ensures accepts { StaysWithin (L.given self.old.acceptor.listener) self.old.acceptor.left
             (L.given self.new.acceptor.listener) self.new.acceptor.left }
@@ -239,7 +239,8 @@ where
         }
     }
 
-    // There was no vacancy: if that is for lack of memory, no client is accepted until some time has passed.
+    // There was no vacancy: if that is for lack of memory, no client is accepted until some time
+    // has passed.
     fn wait_for_memory(&mut self, now: u64)
         ensures listener { self.new.acceptor.listener ≡ self.old.acceptor.listener }
         ensures left { self.new.acceptor.left ≡ self.old.acceptor.left }

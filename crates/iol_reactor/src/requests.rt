@@ -100,7 +100,8 @@ impl<S: Socket + Drop, B: Backing + Drop, P: Process, V: Service<B, P>> Engine<S
         self.give(slot);
     }
 
-    // A client has no complete request. One that sends no more ends; else the rest of its request is awaited for a limited time.
+    // A client has no complete request. One that sends no more ends; else the rest of its request
+    // is awaited for a limited time.
     fn lacks_request(&mut self, slot: usize) {
         let now = self.now();
         let Some(Some(client)) = self.clients.get_mut(slot) else {

@@ -18,14 +18,16 @@ pub enum Frame {
     /// It has this number of bytes, with what precedes it.
     Complete(usize),
 
-    /// It is too long. This number of bytes is handed in: the processes refuse them and close the connection.
+    /// It is too long. This number of bytes is handed in: the processes refuse them and close the
+    /// connection.
     TooLong(usize),
 }
 
 /// The progress of a response.
 #[derive(Clone, Copy, Debug, PartialEq, Eq)]
 pub enum Progress {
-    /// The bytes do not show it. The response ends when all processes are idle, or when the connection is closed.
+    /// The bytes do not show it. The response ends when all processes are idle, or when the
+    /// connection is closed.
     Unknown,
 
     /// It is complete, and the connection stays open for the next request.
@@ -74,7 +76,8 @@ pub trait Service<B: Backing, P: Process> {
     /// Records an exchange that ended.
     fn record(&mut self, exchange: &Exchange<'_>);
 
-    /// The world for new requests, if there is a new one. The connection numbers of the present one may be nearly used up.
+    /// The world for new requests, if there is a new one. The connection numbers of the present one
+    /// may be nearly used up.
     fn renew(&mut self, is_worn: bool) -> Option<World<B, P>>
         ensures { IfSome result starts };
 }

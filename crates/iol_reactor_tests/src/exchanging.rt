@@ -1,5 +1,7 @@
-//! Requests and responses through an engine, over a socket in memory whose reads and writes are short and block. A request is a line,
-//! and its response the same line.
+//! Requests and responses through an engine, over a socket in memory whose reads and writes are
+//! short and block. A request is a line, and its response the same line.
+ghost use Rattle.std.specs.Prelude.{◌≡◌, [], ◌∷◌, map, IfOk};
+
 use crate::memory_socket::{Manner, MemorySocket};
 use iol_back::memory::MemoryBacking;
 use iol_core::configuration::Config;
@@ -72,8 +74,25 @@ fn world_of(alloc: Global) -> Result<World<MemoryBacking, Echo>, Refusal> {
         call_of(1, Call::SetPool { pool }),
     ];
     let system = TestSystem::begun(alloc, CONFIG, empty_store(alloc), &[&events])?;
-    let processes = [(DomainId::new(1), Echo::new())].to_vec(alloc)?;
-    Ok(World::new(alloc, system.into_system(), processes)?)
+    Ok(world_over(alloc, system)?)
+}
+
+// The process, in its domain.
+fn processes_of(alloc: Global) -> Result<Vec<(DomainId, Echo)>, AllocError>
+    ensures { IfOk result (λ ps. map (λ p. p.0) ps.items ≡ 1 ∷ []) }
+{
+    let mut processes = Vec::new(alloc);
+    processes.push((DomainId::new(1), Echo::new()))?;
+    Ok(processes)
+}
+
+// A world of that process over a system.
+fn world_over(
+    alloc: Global,
+    system: TestSystem<MemoryBacking>,
+) -> Result<World<MemoryBacking, Echo>, AllocError> {
+    let processes = processes_of(alloc)?;
+    World::new(alloc, system.into_system(), processes)
 }
 
 fn engine_of<'a>(alloc: Global) -> Result<Echoes<'a>, Refusal> {
@@ -83,7 +102,8 @@ fn engine_of<'a>(alloc: Global) -> Result<Echoes<'a>, Refusal> {
     Ok(Engine::new(alloc, PoolId::new(1), world, limits)?)
 }
 
-// The bytes of one read, and of one write, at most; which calls block; whether the peer's end follows its lines.
+// The bytes of one read, and of one write, at most; which calls block; whether the peer's end
+// follows its lines.
 type Row = (usize, usize, u32, bool);
 
 const ROWS: [Row; 8] = [
@@ -97,8 +117,8 @@ const ROWS: [Row; 8] = [
     (2, 64, 2, false),
 ];
 
-// Rounds, each after all sockets were reported ready, up to the end of the client, at most 1,000: the bytes that its socket had
-// accepted before the last of them.
+// Rounds, each after all sockets were reported ready, up to the end of the client, at most 1,000:
+// the bytes that its socket had accepted before the last of them.
 fn exchange_all(engine: &mut Echoes<'_>, service: &mut Lines) -> Result<usize, AllocError> {
     let mut accepted = 0;
     for now in 0..1_000 {

@@ -11,8 +11,9 @@ pub struct Manner {
     pub read: usize,
     pub write: usize,
 
-    /// Of the reads, and of the writes, each of this number blocks, if it is not 0. They are counted apart: else a round that makes
-    /// one read and one write would have every write blocked.
+    /// Of the reads, and of the writes, each of this number blocks, if it is not 0. They are
+    /// counted apart: else a round that makes one read and one write would have every write
+    /// blocked.
     pub blocks: u32,
 
     /// The read and the write of this number fail, if it is not 0.

@@ -11,8 +11,8 @@ const SENT: &[u8] = b"hello, reactor";
 // The bytes of one read, and of one piece, at most.
 const ROOM: usize = 5;
 
-// The bytes of one read at most, which calls block, which call fails, whether the peer's end follows; how the last read went, and
-// the number of bytes buffered by then.
+// The bytes of one read at most, which calls block, which call fails, whether the peer's end
+// follows; how the last read went, and the number of bytes buffered by then.
 type Row = (usize, u32, u32, bool, Reading, usize);
 
 const ROWS: [Row; 7] = [

@@ -8,7 +8,8 @@ use test_parts::checks::pass_each;
 
 const RESPONSE: &[u8] = b"hello, reactor";
 
-// The bytes of one write at most, which calls block, which call fails; how sending them went, and the number accepted by then.
+// The bytes of one write at most, which calls block, which call fails; how sending them went, and
+// the number accepted by then.
 type Row = (usize, u32, u32, Sending, usize);
 
 const ROWS: [Row; 8] = [
@@ -60,7 +61,8 @@ fn each_sending(rt: HostRuntime) -> Result<(), Fail> {
     pass_each(&ROWS, |row| Ok::<bool, AllocError>(sends(alloc, row)))
 }
 
-// The bytes of one write at most, which calls block, and how many flushes there are after the first send.
+// The bytes of one write at most, which calls block, and how many flushes there are after the first
+// send.
 const FLUSHES: [(usize, u32, u32); 4] = [(64, 0, 0), (5, 2, 2), (1, 2, 13), (4, 3, 1)];
 
 // Flushes until nothing is left, and returns the number of flushes.

@@ -108,5 +108,25 @@ ends workers clients (reply.Fd fd) next is = by (nat_lt (taken clients) most_con
     by false is = inl is
 ends workers clients r next is = inl is
 
+-- the server makes no call at its door only if it has the maximum number of connections
+door-full : {A : Type 0} (clients : List (Option A)) → Nothing ≡ door clients → nat_lt (taken clients) most_conns ≡ false
+door-full clients is = by (nat_lt (taken clients) most_conns) is
+  where
+    by : (b : Bool) → Nothing ≡ (if b then Accepting else Nothing) → b ≡ false
+    by true is = absurd (cc (is))
+    by false is = refl
+
+none-picked : (clients : List (Option Client)) (o : Option ℕ) → Nothing ≡ flight_to clients o → nat_lt (taken clients) most_conns ≡ false
+none-picked clients (Some fd) is = absurd (cc (is))
+none-picked clients None is = door-full clients is
+
+yields : (workers : ℕ) (clients : List (Option Client)) (was : Flight) (last : Reply) → in_rounds workers clients was last Nothing
+    → (nat_lt (taken clients) most_conns ≡ false) ⊎ ((was ≡ Accepting) × ((fd : ℕ) → last ≡ reply.Fd fd → ⊥))
+yields workers clients Nothing last is = inl (none-picked clients (next_place workers clients 0) is)
+yields workers clients Accepting (reply.Fd fd) is = inl (door-full clients is)
+yields workers clients Accepting r is = inr (refl, λ gd e. cc (e))
+yields workers clients (At fd) last is =
+    inl (none-picked clients (next_place workers clients (place_after fd (in_place clients fd) last)) is)
+
 pub turns_go_round : TurnsGoRound
-turns_go_round = record { passes = passes; rises = rises; skips_nobody = skips_nobody; ends = ends }
+turns_go_round = record { passes = passes; rises = rises; skips_nobody = skips_nobody; ends = ends; yields = yields }

@@ -1,5 +1,6 @@
 -- A run without resource refusals is fair, and any run is fair if the refusals that its turns got are allowed.
-use Rattle.std.proofs.Common.{◌≡◌, ◌≢◌, ℕ, ◌==◌, List, [], ◌∷◌, ◌++◌, length, ap, refl, sym, subst, arith, true, false, Bool, if◌then◌else◌}
+use Rattle.std.proofs.Common.{inl, inr, ◌≡◌, ◌≢◌, ◌⊎◌, ℕ, ◌==◌, List, [], ◌∷◌, ◌++◌, length, ap, refl, sym, subst, arith, true, false, Bool, if◌then◌else◌}
+use Rattle.std.proofs.lemmas.Bool.Decides.{nat_tests}
 use Rattle.std.specs.Prelude.{◌&&◌, ◌||◌, not}
 use Rattle.iol_core.specs.declared.events.Reply.{Reply}
 use Rattle.iol_core.specs.declared.events.Reply.TheVariants as reply
@@ -11,8 +12,8 @@ use Rattle.iol_proc.specs.declared.choice.Choice.TheVariants as choice
 use Rattle.flash_laws.specs.Shelf.{Refusals, IsAmong}
 use Rattle.flash_laws.specs.Site.{server}
 use Rattle.flash_laws.specs.World.{AreFair, may_refuse}
-use Rattle.flash_laws.specs.World.Fair.{no_refusal, any_refusal, is_same, refuses_by, refused_in, refusals_in, SmoothIsFair, AnyIsFair, OwnIsFair}
-use Rattle.flash_laws.proofs.Lists.{clash, not-equal, self}
+use Rattle.flash_laws.specs.World.Fair.{no_refusal, any_refusal, is_same, refuses_by, refused_in, refusals_in, SmoothIsFair, AnyIsFair, OwnIsFair, OwnIsLeast, NoneRefusesNothing}
+use Rattle.flash_laws.proofs.Lists.{clash, not-equal, not-true, self}
 
 -- ---- by which refusals the server's turn may be refused, and a worker's
 
@@ -118,3 +119,66 @@ fair-parts refuses (choice.Outside e ∷ xs) ys (r ∷ rs) ss even fair =
 pub own_is_fair : OwnIsFair
 own_is_fair xs ys rs ss even = fair-parts (refusals_in (xs ++ ys) (rs ++ ss)) xs ys rs ss even
     (fair-within (refusals_in (xs ++ ys) (rs ++ ss)) (xs ++ ys) (rs ++ ss) (record { of_server = λ x is. is; of_workers = λ x is. is }))
+
+-- ---- the least set with which it is fair
+
+equal : (a b : ℕ) → (a == b) ≡ true → a ≡ b
+equal a b is = grind (arith, nat_tests, is)
+
+same-is : (y x : Refusal) → is_same y x ≡ true → (y ≡ x) × (is_rough (reply.Refused y) ≡ true)
+same-is refusal.TooMany refusal.TooMany is = (refl, refl)
+same-is (refusal.NoRoom p) (refusal.NoRoom q) is = (ap (λ n. refusal.NoRoom n) (equal p q is), refl)
+same-is (refusal.Fault f) (refusal.Fault g) is = (ap (λ n. refusal.Fault n) (equal f g is), refl)
+same-is refusal.Memory refusal.Memory is = (refl, refl)
+same-is y x is = absurd (cc (is))
+
+-- a fair reply that is this refusal has it among the allowed ones
+allowed-of : (refuses : Refusal → Bool) (r : Reply) (x : Refusal) → IsAmong refuses r → refuses_by r x ≡ true → refuses x ≡ true
+allowed-of refuses (reply.Refused y) x among is =
+    let same = same-is y x is in
+    subst (λ (z : Refusal). refuses z ≡ true) same.0 (among same.1)
+allowed-of refuses r x among is = absurd (cc (is))
+
+first-or-rest : (a b c : Bool) → ((a && b) || c) ≡ true → ((a ≡ true) × (b ≡ true)) ⊎ (c ≡ true)
+first-or-rest true true c is = inl (refl, refl)
+first-or-rest true false c is = inr is
+first-or-rest false b c is = inr is
+
+-- a turn that may get these refusals, and got this one, or a later turn did
+turn-allowed : (refuses : Refusal → Bool) (a : Bool) (r : Reply) (x : Refusal) (rest : Bool) → (a ≡ true → IsAmong refuses r)
+    → (rest ≡ true → refuses x ≡ true) → ((a && refuses_by r x) || rest) ≡ true → refuses x ≡ true
+turn-allowed refuses a r x rest among later is = by (first-or-rest a (refuses_by r x) rest is)
+  where
+    by : ((a ≡ true) × (refuses_by r x ≡ true)) ⊎ (rest ≡ true) → refuses x ≡ true
+    by (inl here) = allowed-of refuses r x (among here.0) here.1
+    by (inr there) = later there
+
+least-server : (refuses : Refusals) (xs : List Choice) (rs : List Reply) → AreFair refuses xs rs → (x : Refusal) → refused_in true xs rs x ≡ true
+    → refuses.of_server x ≡ true
+unfolding refused_in
+least-server refuses [] rs fair x is = absurd (cc (is))
+least-server refuses (choice.Turn by ∷ xs) (r ∷ rs) fair x is =
+    turn-allowed refuses.of_server (by == server) r x (refused_in true xs rs x)
+    (λ here. subst (λ (b : Bool). IsAmong (if b then refuses.of_server else refuses.of_workers) r) here fair.0)
+    (λ later. least-server refuses xs rs fair.1 x later) is
+least-server refuses (choice.Outside e ∷ xs) (r ∷ rs) fair x is = least-server refuses xs rs fair x is
+least-server refuses (choice.Turn by ∷ xs) [] fair x is = absurd (cc (is))
+least-server refuses (choice.Outside e ∷ xs) [] fair x is = absurd (cc (is))
+
+least-workers : (refuses : Refusals) (xs : List Choice) (rs : List Reply) → AreFair refuses xs rs → (x : Refusal) → refused_in false xs rs x ≡ true
+    → refuses.of_workers x ≡ true
+unfolding refused_in
+least-workers refuses [] rs fair x is = absurd (cc (is))
+least-workers refuses (choice.Turn by ∷ xs) (r ∷ rs) fair x is =
+    turn-allowed refuses.of_workers (not (by == server)) r x (refused_in false xs rs x)
+    (λ here. subst (λ (b : Bool). IsAmong (if b then refuses.of_server else refuses.of_workers) r) (not-true (by == server) here) fair.0)
+    (λ later. least-workers refuses xs rs fair.1 x later) is
+least-workers refuses (choice.Outside e ∷ xs) (r ∷ rs) fair x is = least-workers refuses xs rs fair x is
+least-workers refuses (choice.Turn by ∷ xs) [] fair x is = absurd (cc (is))
+least-workers refuses (choice.Outside e ∷ xs) [] fair x is = absurd (cc (is))
+
+pub own_is_least : OwnIsLeast
+own_is_least refuses xs rs fair = record { of_server = least-server refuses xs rs fair; of_workers = least-workers refuses xs rs fair }
+
+pub none_refuses_nothing : NoneRefusesNothing
+none_refuses_nothing shelf is = λ x. (ap (λ (l : Refusals). l.of_server x) is, ap (λ (l : Refusals). l.of_workers x) is)

@@ -1,11 +1,11 @@
 -- Turns in rounds: the next client, by index.
-use Rattle.std.specs.Prelude.{◌≡◌, ◌≤◌, ◌<◌, ◌⊎◌, ℕ, false, List, Option, Some}
-use Rattle.iol_core.specs.NumberedLists.{in_place}
+use Rattle.std.specs.Prelude.{◌≡◌, ◌≤◌, ◌<◌, ◌⊎◌, ℕ, false, nat_lt, List, Option, Some}
+use Rattle.iol_core.specs.NumberedLists.{in_place, taken}
 use Rattle.iol_core.specs.declared.events.Reply.{Reply}
 use Rattle.iol_core.specs.declared.events.Reply.TheVariants as reply
 use Rattle.flash_laws.specs.Client.{Client, is_bare, awaits, has_answered}
 use Rattle.flash_laws.specs.Site.Places.{has_free, may_go}
-use Rattle.flash_laws.specs.Conn.Policy.{is_later}
+use Rattle.flash_laws.specs.Conn.Policy.{is_later, most_conns}
 use Rattle.flash_laws.specs.Serves.Rounds.{in_rounds}
 use Rattle.flash_laws.specs.declared.phase.Flight.{Flight}
 use Rattle.flash_laws.specs.declared.phase.Flight.TheVariants.{Nothing, Accepting, At}
@@ -35,7 +35,11 @@ pub record TurnsGoRound : Type 0 where
   pub skips_nobody : (workers : ℕ) (clients : List (Option Client)) (was next : Flight) (last : Reply) (fd : ℕ) (x : Client)
       → in_rounds workers clients was last next → IsAfter was fd → IsBefore next fd → in_place clients fd ≡ Some x
       → may_go (has_free workers clients) x ≡ false
-  -- after the last index connections are accepted while any are waiting, and then the server yields: the round has ended
+  -- after an accept the server yields, or accepts again if this one returned a connection
   pub ends : (workers : ℕ) (clients : List (Option Client)) (last : Reply) (next : Flight)
       → in_rounds workers clients Accepting last next
       → (next ≡ Nothing) ⊎ ((next ≡ Accepting) × ((fd : ℕ) × (last ≡ reply.Fd fd)))
+  -- it yields, and so ends the round, only if it has the maximum number of connections, or after an accept that returned none
+  pub yields : (workers : ℕ) (clients : List (Option Client)) (was : Flight) (last : Reply)
+      → in_rounds workers clients was last Nothing
+      → (nat_lt (taken clients) most_conns ≡ false) ⊎ ((was ≡ Accepting) × ((fd : ℕ) → last ≡ reply.Fd fd → ⊥))

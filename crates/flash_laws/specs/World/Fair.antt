@@ -1,5 +1,5 @@
 -- Sufficient conditions for fair runs: no refusal occurred; any refusal is allowed; or the refusals that the turns got are
--- allowed.
+-- allowed, which are the least set with which a run is fair.
 use Rattle.std.specs.Prelude.{◌≡◌, ◌==◌, ◌&&◌, ◌||◌, not, Bool, true, false, List, ◌∷◌, ◌++◌, length}
 use Rattle.iol_core.specs.declared.events.Reply.{Reply}
 use Rattle.iol_core.specs.declared.events.Reply.TheVariants as reply
@@ -9,7 +9,8 @@ use Rattle.iol_laws.specs.Caller.{is_rough}
 use Rattle.iol_proc.specs.Smooth.{AreSmooth}
 use Rattle.iol_proc.specs.declared.choice.Choice.{Choice}
 use Rattle.iol_proc.specs.declared.choice.Choice.TheVariants as choice
-use Rattle.flash_laws.specs.Shelf.{Refusals}
+use Rattle.flash_laws.specs.Shelf.{Refusals, Shelf}
+use Rattle.flash_laws.specs.Shelf.OneAnswer.{RefusesNothing}
 use Rattle.flash_laws.specs.Site.{server}
 use Rattle.flash_laws.specs.World.{AreFair}
 
@@ -45,6 +46,11 @@ refused_in b xs rs x = false
 abbrev pub refusals_in : List Choice → List Reply → Refusals
 refusals_in xs rs = record { of_server = λ x. refused_in true xs rs x; of_workers = λ x. refused_in false xs rs x }
 
+-- each refusal of one set is in the other
+pub record IsWithin (these those : Refusals) : Type 0 where
+  pub of_server : (x : Refusal) → these.of_server x ≡ true → those.of_server x ≡ true
+  pub of_workers : (x : Refusal) → these.of_workers x ≡ true → those.of_workers x ≡ true
+
 -- Choices without a resource refusal are fair if no refusal is allowed.
 abbrev pub SmoothIsFair : Type 0
 SmoothIsFair = (xs : List Choice) (rs : List Reply) → AreSmooth xs rs → AreFair no_refusal xs rs
@@ -57,3 +63,11 @@ AnyIsFair = (xs : List Choice) (rs : List Reply) → AreFair any_refusal xs rs
 abbrev pub OwnIsFair : Type 0
 OwnIsFair = (xs ys : List Choice) (rs ss : List Reply) → length xs ≡ length rs
     → AreFair (refusals_in (xs ++ ys) (rs ++ ss)) xs rs × AreFair (refusals_in (xs ++ ys) (rs ++ ss)) ys ss
+
+-- The refusals that their turns got are in each set with which they are fair.
+abbrev pub OwnIsLeast : Type 0
+OwnIsLeast = (refuses : Refusals) (xs : List Choice) (rs : List Reply) → AreFair refuses xs rs → IsWithin (refusals_in xs rs) refuses
+
+-- With no refusal allowed, nothing is refused: so each request has one response.
+abbrev pub NoneRefusesNothing : Type 0
+NoneRefusesNothing = (shelf : Shelf) → shelf.refuses ≡ no_refusal → RefusesNothing shelf

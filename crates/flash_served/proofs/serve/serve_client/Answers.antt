@@ -25,3 +25,4 @@ returns-clause-kept g c = λ honest.
     let step = subst (λ (p : ℕ). OutsideStep copying (actor_turns in_rounds worker_turns) (copied c.args.world.now) (event.ConnNew p) c.step_outside-reply.result (copied c.step_outside-reply.new.self))
     c.new-pool.ensures (c.step_outside-reply.ensures.copied honest) in
     serves_none c.connections_do_not_meet.ensures.step c.step_outside-reply.result (copied c.args.world.now) (copied c.step_outside-reply.new.self) step
+    c.in_default.not-Conn

@@ -1,0 +1,79 @@
+-- Histories of a run and its continuation.
+use Rattle.std.proofs.Common.{◌≡◌, ℕ, List, [], ◌∷◌, ◌++◌, length, ap, ◌∙◌, refl, sym, arith, true, false, Bool, append_assoc}
+use Rattle.std.specs.Prelude.{◌||◌}
+use Rattle.std.specs.List.{list_any}
+use Rattle.iol_core.specs.declared.descriptors.How.TheVariants.{Done, Gone}
+use Rattle.iol_core.specs.declared.events.Event.{Event}
+use Rattle.iol_core.specs.declared.events.Event.TheVariants as event
+use Rattle.iol_core.specs.declared.events.Reply.{Reply}
+use Rattle.iol_core.specs.declared.events.Reply.TheVariants as reply
+use Rattle.iol_proc.specs.Histories.{stream_over, sent_over, came_with, sent_with, drops_with}
+use Rattle.iol_proc.specs.declared.choice.Choice.{Choice}
+use Rattle.iol_proc.specs.declared.choice.Choice.TheVariants as choice
+use Rattle.flash_laws.specs.Site.Past.{gone_by}
+use Rattle.flash_laws.specs.World.Tie.{tells_with, tells_over}
+
+pub stream-both : (c : ℕ) (xs ys : List Choice) (rs qs : List Reply) → length xs ≡ length rs
+    → stream_over c (xs ++ ys) (rs ++ qs) ≡ stream_over c xs rs ++ stream_over c ys qs
+unfolding stream_over
+stream-both c [] ys [] qs even = refl
+stream-both c (x ∷ xs) ys (r ∷ rs) qs even =
+    ap (λ (l : List ℕ). came_with c x r ++ l) (stream-both c xs ys rs qs (omega (arith, even))) ∙ sym (append_assoc (came_with c x r) (stream_over c xs rs) (stream_over c ys qs))
+stream-both c [] ys (r ∷ rs) qs even = absurd (omega (arith, even))
+stream-both c (x ∷ xs) ys [] qs even = absurd (omega (arith, even))
+
+pub sent-both : (c : ℕ) (xs ys : List Choice) (rs qs : List Reply) → length xs ≡ length rs
+    → sent_over c (xs ++ ys) (rs ++ qs) ≡ sent_over c xs rs ++ sent_over c ys qs
+unfolding sent_over
+sent-both c [] ys [] qs even = refl
+sent-both c (x ∷ xs) ys (r ∷ rs) qs even =
+    ap (λ (l : List ℕ). sent_with c x r ++ l) (sent-both c xs ys rs qs (omega (arith, even))) ∙ sym (append_assoc (sent_with c x r) (sent_over c xs rs) (sent_over c ys qs))
+sent-both c [] ys (r ∷ rs) qs even = absurd (omega (arith, even))
+sent-both c (x ∷ xs) ys [] qs even = absurd (omega (arith, even))
+
+-- what was told before is told
+or-none : (b c : Bool) → b ≡ false → c ≡ false → (b || c) ≡ false
+or-none false c one two = two
+or-none true c one two = absurd (cc (one))
+
+or-both : (b c : Bool) → (b || c) ≡ false → (b ≡ false) × (c ≡ false)
+or-both false c is = (refl, is)
+or-both true c is = absurd (cc (is))
+
+or-later : (a b c : Bool) → (a || b) ≡ true → (b ≡ true → c ≡ true) → (a || c) ≡ true
+or-later true b c told more = refl
+or-later false b c told more = more told
+
+pub tells-first : (p : Event → Reply → Bool) (xs ys : List Choice) (rs qs : List Reply) → length xs ≡ length rs → tells_over p xs rs ≡ true
+    → tells_over p (xs ++ ys) (rs ++ qs) ≡ true
+unfolding tells_over
+tells-first p [] ys rs qs even told = absurd (cc (told))
+tells-first p (x ∷ xs) ys [] qs even told = absurd (cc (told))
+tells-first p (x ∷ xs) ys (r ∷ rs) qs even told =
+    or-later (tells_with p x r) (tells_over p xs rs) (tells_over p (xs ++ ys) (rs ++ qs)) told (λ more. tells-first p xs ys rs qs (omega (arith, even)) more)
+
+pub tells-none : (p : Event → Reply → Bool) (xs ys : List Choice) (rs qs : List Reply) → length xs ≡ length rs → tells_over p xs rs ≡ false
+    → tells_over p ys qs ≡ false → tells_over p (xs ++ ys) (rs ++ qs) ≡ false
+unfolding tells_over
+tells-none p [] ys [] qs even none more = more
+tells-none p (x ∷ xs) ys (r ∷ rs) qs even none more =
+    let both = or-both (tells_with p x r) (tells_over p xs rs) none in
+    or-none (tells_with p x r) (tells_over p (xs ++ ys) (rs ++ qs)) both.0 (tells-none p xs ys rs qs (omega (arith, even)) both.1 more)
+tells-none p [] ys (r ∷ rs) qs even none more = absurd (omega (arith, even))
+tells-none p (x ∷ xs) ys [] qs even none more = absurd (omega (arith, even))
+
+-- a peer that was told to be gone would have been told so by a choice
+told-drops : (c : ℕ) (x : Choice) (r : Reply) → drops_with x c ≡ false → tells_with (λ e s. gone_by c e s) x r ≡ false
+told-drops c (choice.Turn by) r none = refl
+told-drops c (choice.Outside (event.PeerClosed d Gone)) reply.Done none = none
+told-drops c (choice.Outside (event.PeerClosed d Gone)) r none = refl
+told-drops c (choice.Outside (event.PeerClosed d Done)) r none = refl
+told-drops c (choice.Outside e) r none = refl
+
+pub none-told : (c : ℕ) (xs : List Choice) (rs : List Reply) → list_any (λ x. drops_with x c) xs ≡ false → tells_over (λ e r. gone_by c e r) xs rs ≡ false
+unfolding tells_over
+none-told c [] rs none = refl
+none-told c (x ∷ xs) [] none = refl
+none-told c (x ∷ xs) (r ∷ rs) none =
+    let both = or-both (drops_with x c) (list_any (λ y. drops_with y c) xs) none in
+    or-none (tells_with (λ e s. gone_by c e s) x r) (tells_over (λ e s. gone_by c e s) xs rs) (told-drops c x r both.0) (none-told c xs rs both.1)

@@ -1,0 +1,3 @@
+pub mod Advance
+pub mod Falls
+pub mod Replies
