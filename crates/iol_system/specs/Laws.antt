@@ -18,13 +18,14 @@ use Rattle.iol_pool.specs.Pools.{pool_in}
 use Rattle.iol_hold.specs.Moves.{Stays}
 use Rattle.iol_hold.specs.Releases.{HasAllOrNone}
 use Rattle.iol_hold.specs.StoreState.{Stored, IsHome, count_of}
+use Rattle.iol_agg.specs.Parts.{located_parts}
 use Rattle.iol_back.specs.Disk.{IfHonest}
 use Rattle.iol_evict.specs.Order.{entry_at, worth}
 use Rattle.iol_evict.specs.declared.entry.Entry.{Entry}
 use Rattle.iol_extent.specs.Extents.{Extent, extent_over}
 use Rattle.iol_cache.specs.CacheState.{Cached, extents_in, order_in}
 use Rattle.iol_kernel.specs.FileReads.{held_by}
-use Rattle.iol_kernel.specs.KernelState.{layout_of}
+use Rattle.iol_kernel.specs.KernelState.{layout_of, slices_in}
 use Rattle.iol_laws.specs.Order.{IsOrderly}
 use Rattle.iol_system.specs.NobodyLeft.{IsAllFree, IsLeft}
 use Rattle.iol_system.specs.InPlace.{IsInRange}
@@ -156,6 +157,13 @@ RunsKeepHonesty = (old new : SystemState) (es : List Event) (rs : List Reply) �
 abbrev pub RunsKeepBuffers : Type 0
 RunsKeepBuffers = (old new : SystemState) (es : List Event) (rs : List Reply) → Chain old es rs new
     → Stays old.kernel.store new.kernel.store
+
+-- slices that an aggregate has before a run, and one has after it, have the same bytes at the same addresses
+abbrev pub RunsKeepAddresses : Type 0
+RunsKeepAddresses = (old new : SystemState) (es : List Event) (rs : List Reply) → Chain old es rs new → IsSafe old
+    → (d a e b : ℕ) → slices_in new.kernel.domains e b ≡ slices_in old.kernel.domains d a
+    → located_parts new.kernel.store (slices_in new.kernel.domains e b)
+    ≡ located_parts old.kernel.store (slices_in old.kernel.domains d a)
 
 -- an aggregate that no event of a run gives up keeps its value
 abbrev pub RunsKeepValues : Type 0

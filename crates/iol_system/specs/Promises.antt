@@ -103,7 +103,7 @@ pub record Promises (old : SystemState) (e : Event) (r : Reply) (new : SystemSta
   pub stores_back : StoresBack old.disk old.kernel e r new.disk new.kernel
   -- new is safe
   pub safe : IsSafe new
-  -- live buffers keep their bytes and their pools, and no identity is used twice
+  -- live buffers keep their bytes, at the same addresses, and their pools, and no identity is used twice
   pub stays : Stays old.kernel.store new.kernel.store
   -- aggregates keep their values
   pub values : ValuesStay (machine_of old) e (machine_of new)

@@ -1,0 +1,26 @@
+-- The addresses of bytes in memory.
+use Rattle.std.specs.Prelude.{ℕ, List}
+use Rattle.std.specs.Borrow.{Bor}
+use Rattle.std.specs.Ptr.{Ptr, as_ptr}
+use Rattle.iol_arena.specs.Buffers.{address_of}
+use Rattle.iol_hold.specs.Places.{Place}
+use Rattle.iol_hold.specs.StoreState.{Stored}
+use Rattle.iol_hold.specs.Texts.{slice_bytes}
+use Rattle.iol_hold.specs.declared.slices.Slice.{Slice}
+
+-- bytes, and the address of the first
+pub record Located : Type 0 where
+  pub bytes : List ℕ
+  pub at : Ptr
+
+-- the bytes of a reference, and their address
+abbrev pub located : Bor (List ℕ) → Located
+located r = record { bytes = r.now; at = as_ptr r }
+
+-- the bytes of a slice, and their address
+abbrev pub located_slice : Stored → Slice → Located
+located_slice s x = record { bytes = slice_bytes s x; at = address_of s.arena x.hold.buf x.from }
+
+-- the address of the byte at a place
+abbrev pub address_at : Stored → Place → Ptr
+address_at s p = address_of s.arena p.buf p.at

@@ -1,0 +1,12 @@
+-- The bytes of a domain's aggregate, and their addresses.
+use Rattle.std.specs.Prelude.{◌≡◌, ℕ, List, map}
+use Rattle.iol_hold.specs.Prelude.{Located}
+use Rattle.iol_agg.specs.Parts.{located_parts}
+use Rattle.iol_kernel.specs.Calls.{Shows}
+use Rattle.iol_kernel.specs.KernelState.{KernelState, joined, slices_in}
+
+-- The parts are the slices of a domain's aggregate, in order, each at its address. Their bytes are those that `show` returns,
+-- for each content of the store under the files.
+pub record Locates (d a : ℕ) (parts : List Located) (h : KernelState) : Type 0 where
+  pub shows : Shows d a (joined (map (λ (x : Located). x.bytes) parts)) h
+  pub at : parts ≡ located_parts h.store (slices_in h.domains d a)
