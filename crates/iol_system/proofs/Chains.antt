@@ -11,16 +11,12 @@ use Rattle.iol_hold.proofs.Moves.{stays_trans}
 use Rattle.iol_core.specs.State.{aggregate}
 use Rattle.iol_core.specs.Text.{Text}
 use Rattle.iol_core.specs.Values.{gives_up}
-use Rattle.iol_hold.specs.Texts.{AllReadable}
-use Rattle.iol_agg.specs.Parts.{located_parts}
-use Rattle.iol_kernel.specs.KernelState.{layout_of, slices_in}
+use Rattle.iol_kernel.specs.KernelState.{layout_of}
 use Rattle.iol_system.specs.Machine.{SystemState, machine_of}
-use Rattle.iol_agg.proofs.Partwise.{located_parts_stay}
-use Rattle.iol_kernel.proofs.AggregateCalls.Slices.{slices_readable}
 use Rattle.iol_kernel.proofs.State.Stay.{stays_here}
 use Rattle.iol_system.specs.Promises.{Promises, Chain}
 use Rattle.iol_system.specs.Safe.{IsSafe}
-use Rattle.iol_system.specs.Laws.{RunsAsTheMachine, Between, RunsInParts, Moment, EachEventIsAStep, RunsStaySafe, RunsKeepAddresses, RunsKeepHonesty, RunsKeepBuffers, RunsKeepValues, SharesOver, RunsShare}
+use Rattle.iol_system.specs.Laws.{RunsAsTheMachine, Between, RunsInParts, Moment, EachEventIsAStep, RunsStaySafe, RunsKeepHonesty, RunsKeepBuffers, RunsKeepValues, SharesOver, RunsShare}
 
 -- one step more
 Chain-push : (old mid new : SystemState) (es : List Event) (rs : List Reply) (e : Event) (r : Reply) → Chain old es rs mid → Promises mid e r new → Chain old (es ++ e ∷ []) (rs ++ r ∷ []) new
@@ -90,14 +86,7 @@ chain_stays old new (e ∷ es) (r ∷ rs) chain = stays_trans chain.1.stays (cha
 chain_stays old new [] (r ∷ rs) chain = absurd chain
 chain_stays old new (e ∷ es) [] chain = absurd chain
 
-pub chain_addresses : RunsKeepAddresses
-chain_addresses old new es rs chain safe d a e b same =
-    let before = slices_in old.kernel.domains d a in
-    let t = new.kernel.store in
-    let holds = subst (AllReadable t) same (slices_readable new.kernel e b (chain_safe old new es rs chain safe).sound) in
-    ap (located_parts t) same ∙ located_parts_stay old.kernel.store t before (chain_stays old new es rs chain) (slices_readable old.kernel d a safe.sound) holds
-
-neither : (a b : Bool) → (a || b) ≡ false → (a ≡ false) × (b ≡ false)
+pub neither : (a b : Bool) → (a || b) ≡ false → (a ≡ false) × (b ≡ false)
 neither false b e = (refl, e)
 neither true b e = absurd (true≢false e)
 

@@ -1,6 +1,9 @@
 -- Laws of runs: consequences of a chain of steps that keep their promises. Each is the contract of a function of `laws`.
 use Rattle.std.specs.Prelude.{◌≡◌, ◌⊎◌, ◌+◌, ◌<◌, ℕ, true, false, List, [], ◌∷◌, ◌++◌, Option, Some, option_map}
-use Rattle.iol_core.specs.State.{State}
+use Rattle.std.specs.List.{list_any}
+use Rattle.iol_core.specs.State.{State, aggregate}
+use Rattle.iol_core.specs.Text.{Text}
+use Rattle.iol_core.specs.Values.{gives_up}
 use Rattle.iol_core.specs.Run.{Run}
 use Rattle.iol_core.specs.SharingCalls.{is_sharing}
 use Rattle.iol_core.specs.declared.numbers.BufId.{BufId}
@@ -18,14 +21,14 @@ use Rattle.iol_pool.specs.Pools.{pool_in}
 use Rattle.iol_hold.specs.Moves.{Stays}
 use Rattle.iol_hold.specs.Releases.{HasAllOrNone}
 use Rattle.iol_hold.specs.StoreState.{Stored, IsHome, count_of}
-use Rattle.iol_agg.specs.Parts.{located_parts}
 use Rattle.iol_back.specs.Disk.{IfHonest}
 use Rattle.iol_evict.specs.Order.{entry_at, worth}
 use Rattle.iol_evict.specs.declared.entry.Entry.{Entry}
 use Rattle.iol_extent.specs.Extents.{Extent, extent_over}
 use Rattle.iol_cache.specs.CacheState.{Cached, extents_in, order_in}
 use Rattle.iol_kernel.specs.FileReads.{held_by}
-use Rattle.iol_kernel.specs.KernelState.{layout_of, slices_in}
+use Rattle.iol_kernel.specs.KernelState.{layout_of}
+use Rattle.iol_kernel.specs.LocatedParts.{addresses_of}
 use Rattle.iol_laws.specs.Order.{IsOrderly}
 use Rattle.iol_system.specs.NobodyLeft.{IsAllFree, IsLeft}
 use Rattle.iol_system.specs.InPlace.{IsInRange}
@@ -158,12 +161,16 @@ abbrev pub RunsKeepBuffers : Type 0
 RunsKeepBuffers = (old new : SystemState) (es : List Event) (rs : List Reply) → Chain old es rs new
     → Stays old.kernel.store new.kernel.store
 
--- slices that an aggregate has before a run, and one has after it, have the same bytes at the same addresses
+-- each byte of an aggregate that no event of a run gives up keeps its place
+abbrev pub RunsKeepPlaces : Type 0
+RunsKeepPlaces = (old new : SystemState) (es : List Event) (rs : List Reply) → Chain old es rs new
+    → ValuesStayOver (layout_of old.kernel) es (layout_of new.kernel)
+
+-- each byte of an aggregate that no event of a run gives up is at the same address after the run as before
 abbrev pub RunsKeepAddresses : Type 0
-RunsKeepAddresses = (old new : SystemState) (es : List Event) (rs : List Reply) → Chain old es rs new → IsSafe old
-    → (d a e b : ℕ) → slices_in new.kernel.domains e b ≡ slices_in old.kernel.domains d a
-    → located_parts new.kernel.store (slices_in new.kernel.domains e b)
-    ≡ located_parts old.kernel.store (slices_in old.kernel.domains d a)
+RunsKeepAddresses = (old new : SystemState) (es : List Event) (rs : List Reply) → Chain old es rs new
+    → (d a : ℕ) (t : Text) → aggregate (machine_of old) d a ≡ Some t → list_any (λ e. gives_up e d a) es ≡ false
+    → addresses_of new.kernel d a ≡ addresses_of old.kernel d a
 
 -- an aggregate that no event of a run gives up keeps its value
 abbrev pub RunsKeepValues : Type 0

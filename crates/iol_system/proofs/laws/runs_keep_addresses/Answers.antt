@@ -1,4 +1,4 @@
-use Rattle.iol_system.proofs.Chains.{chain_addresses}
+use Rattle.iol_system.proofs.Addresses.{chain_addresses}
 use Rattle.iol_system.proofs.laws.runs_keep_addresses.Goals as goal
 
 pub returns : goal.returns
