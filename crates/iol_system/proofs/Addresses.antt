@@ -9,7 +9,6 @@ use Rattle.iol_core.specs.Text.{Text}
 use Rattle.iol_core.specs.Values.{gives_up}
 use Rattle.iol_core.specs.declared.events.Event.{Event}
 use Rattle.iol_core.specs.declared.events.Reply.{Reply}
-use Rattle.iol_hold.specs.Addresses.{address_at}
 use Rattle.iol_hold.specs.Places.{Place, places}
 use Rattle.iol_hold.specs.declared.slices.Slice.{Slice}
 use Rattle.iol_hold.proofs.PlaceNumbers.{layout_text-same}
@@ -18,7 +17,7 @@ use Rattle.iol_kernel.specs.KernelState.{KernelState, layout_of, objects_of, rea
 use Rattle.iol_kernel.specs.Readings.{Reading, bytes_over, read}
 use Rattle.iol_kernel.proofs.State.Views.{aggregate-view}
 use Rattle.iol_system.specs.Laws.{RunsKeepAddresses, RunsKeepPlaces}
-use Rattle.iol_system.specs.Machine.{SystemState, machine_of}
+use Rattle.iol_system.specs.Machine.{SystemState}
 use Rattle.iol_system.specs.Promises.{Chain}
 use Rattle.iol_system.proofs.Chains.{chain_stays, neither}
 use Rattle.iol_system.proofs.HeldPlaces.{laid, numbers}

@@ -1,5 +1,5 @@
 -- `elements_at` makes a slice of an address and a length. A `&` to a `Vec` has what a `&` to each element has.
-use Rattle.std.proofs.Common.{◌≡◌, ℕ, List, [], ◌∷◌, length, refl, sym, subst, ◌∙◌, ◌*◌, ◌^◌, ◌<◌, arith}
+use Rattle.std.proofs.Common.{◌≡◌, ℕ, List, [], ◌∷◌, length, refl, sym, subst, ◌∙◌, ◌*◌, ◌^◌, ◌<◌}
 use Rattle.std.proofs.raw_atomic.Walks.{proved}
 use Rattle.core.proofs.mem.Facts.{says_two}
 use native.Mathlib.Nat.{mul-le-mul_right, lt_of_le_of_lt}
@@ -23,7 +23,7 @@ use denote.Plain.{uint_vals, uint_Tells}
 use denote.RawPtr.{Ptr, block_ptr, block_of, count_of, InBlock, at_block, ptr_val, rawptr_vals, rawptr_Tells}
 use denote.Ref.{shr_vals, shr_Tells}
 use denote.Signature.{types_at}
-use denote.Slice.{slice_val, elements_shared}
+use denote.Slice.{slice_val}
 use denote.Steps.{heard, nothing}
 use denote.Struct.Struct.{Struct}
 use denote.Struct.Owning.{shape}
@@ -72,4 +72,4 @@ elements_at_spec 𝓤 𝓛 𝓜 𝓡 wired =
     flt_i ! (length d.items * (mem u8).size) (2 ^ 63) (subst (λ (k : ℕ). k * (mem u8).size < 2 ^ 63) same few) $ flt_i ! (length d.items) (2 ^ 64) (subst (λ (k : ℕ). k < 2 ^ 64) same are.1.1.0.1) $ fjoin ! $
     feq_i ! (List Val) (slice_val at len ∷ []) (slice_val at (length d.items) ∷ []) (subst (λ (k : ℕ). slice_val at len ∷ [] ≡ slice_val at k ∷ []) same refl) $ fjoin ! $ fjoin ! $
     nothing ! $ nothing ! $ fjoin ! $ nothing ! $ fjoin ! $ nothing ! $ fjoin ! $
-    move ! (2 ∷ 0 ∷ 1 ∷ []) $ done !)))))
+    move ! (2 ∷ 0 ∷ 1 ∷ []) $ done !))))))

@@ -21,7 +21,7 @@ returns-clause-ok c =
     let xs = c.in_ok-found.found.now in
     let readable = agg_readable h c.args.by c.args.agg xs c.requires c.in_ok-found.ensures.ok.found in
     let bytes = ap (λ (l : List Located). joined (map (λ (x : Located). x.bytes) l)) c.located_parts.ensures ∙ ap joined (bytes-located_parts s xs)
-        ∙ flat_map-parts_of s xs readable ∙ ap bytes_of (sym (c.in_ok-found.ensures.ok.text (bytes_over [] s))) in
+    ∙ flat_map-parts_of s xs readable ∙ ap bytes_of (sym (c.in_ok-found.ensures.ok.text (bytes_over [] s))) in
     let none : List Slice = [] in
     let held : xs ≡ slices_in h.domains c.args.by c.args.agg = ap (λ o. unwrap_or o none) c.in_ok-found.ensures.ok.found in
     record {
