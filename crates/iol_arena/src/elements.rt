@@ -1,6 +1,7 @@
 //! The bytes of a list, at its address.
-ghost use Rattle.std.specs.Prelude.{◌≡◌};
-ghost use Rattle.std.specs.Ptr.{as_ptr};
+ghost use Rattle.std.specs.Prelude.{◌≡◌, ◌≤◌, length, slice_range};
+ghost use Rattle.std.specs.Borrow.{u8};
+ghost use Rattle.std.specs.Ptr.{as_ptr, ptr_add};
 ghost use Rattle.std.specs.Vec.{vec_len, vec_ptr};
 
 use std::slice;
@@ -21,4 +22,14 @@ pub(crate) fn elements(list: &Vec<u8>) -> &[u8]
     ensures place { as_ptr result ≡ vec_ptr list.now }
 {
     unsafe { elements_at(list, list.as_ptr(), list.len()) }
+}
+
+/// The bytes `from..to` of a slice. The contract says where they are.
+pub(crate) fn part_of(bytes: &[u8], from: usize, to: usize) -> &[u8]
+    requires order { from ≤ to }
+    requires range { to ≤ length bytes.now }
+    ensures items { result.now ≡ slice_range bytes.now from to }
+    ensures place { as_ptr result ≡ ptr_add u8 from (as_ptr bytes.entry) }
+{
+    &bytes[from..to]
 }

@@ -1,8 +1,6 @@
 -- What can be read, and what is read there.
-use Rattle.std.proofs.Common.{◌≡◌, ℕ, ◌+◌, ◌-◌, ◌*◌, ◌<◌, ◌≤◌, List, [], ◌∷◌, ◌++◌, map, length, take, drop, slice_index, slice_range, refl, sym, ap, ◌∙◌, subst, arith}
-use Rattle.std.specs.Borrow.{u8}
+use Rattle.std.proofs.Common.{◌≡◌, ℕ, ◌+◌, ◌-◌, ◌<◌, ◌≤◌, List, [], ◌∷◌, ◌++◌, map, length, take, drop, slice_index, slice_range, refl, sym, ap, ◌∙◌, subst, arith}
 use Rattle.std.specs.List.{All, range_with_len}
-use Rattle.std.specs.Ptr.{ptr_add}
 use Rattle.std.proofs.lemmas.List.{map-append, same_lists, get_or-take, get_or-drop, get_or_default, length-take-le, length-drop, take_at, drop_at}
 use Rattle.std.proofs.lemmas.List.Elements.{All-nil, All-append, All-take, All-drop, All-same}
 use Rattle.std.proofs.lemmas.List.FromFn.{length-map-range_with_len, get_or-map-range_with_len}
@@ -15,7 +13,6 @@ use Rattle.iol_hold.proofs.Moves.{covers_first, covers_later, bytes_stay}
 use Rattle.iol_hold.specs.declared.slices.Slice.{Slice}
 use Rattle.iol_hold.specs.Places.{Place, place_in, slice_places, places}
 use Rattle.iol_hold.specs.Texts.{byte_at, text_of, IsThere, AllReadable, IsReadable, slice_bytes, bufs_of}
-use Rattle.iol_hold.specs.Addresses.{Located, located_slice}
 use Rattle.iol_hold.proofs.SlicePlaces.{places-append, places-push, length-slice_places}
 use Rattle.iol_hold.proofs.AtPlaces.{length-read, read-append, read_taken, read_rest}
 
@@ -157,10 +154,3 @@ readable_last (y ∷ ys) x h =
 -- what was readable and is held is where it was
 pub home_stays : {old new : Stored} (x : Slice) → Stays old new → 0 < count_of new x.hold.buf → IsReadable old x → IsHome new x.hold.pool x.hold.buf
 home_stays {new = new} x m held h = m.homes x.hold.pool x.hold.buf h.live (live_of new x.hold.buf held) h.home
-
--- a slice that can be read before and after has the same bytes at the same address
-pub located_stays : (s t : Stored) (x : Slice) → Stays s t → IsReadable s x → IsReadable t x → located_slice t x ≡ located_slice s x
-located_stays s t x m h k =
-    let bytes : slice_bytes t x ≡ slice_bytes s x = ap (λ l. slice_range l x.from (x.from + x.len)) (bytes_stay s t x.hold.buf m h.live k.live) in
-    let at = ap (λ p. ptr_add u8 (x.hold.buf.page * 4096 + x.from) p) m.keeps.base in
-    λ i. (let y : Located = record { bytes = bytes i; at = at i } in y)
