@@ -1,9 +1,12 @@
 use Rattle.std.proofs.Common.{[], ◌≡◌, ◌∙◌, List, map, ap, sym, rules}
 use Rattle.std.specs.Prelude.{unwrap_or}
 use Rattle.iol_core.specs.Text.{bytes_of}
-use Rattle.iol_hold.specs.Addresses.{Located}
+use Rattle.std.specs.List.{flat_map}
+use Rattle.iol_hold.specs.Addresses.{Located, address_at, spread}
+use Rattle.iol_hold.specs.Places.{places}
 use Rattle.iol_hold.specs.declared.slices.Slice.{Slice}
 use Rattle.iol_agg.specs.Parts.{located_parts}
+use Rattle.iol_agg.proofs.Addresses.{spread_parts}
 use Rattle.iol_agg.proofs.Partwise.{bytes-located_parts, flat_map-parts_of}
 use Rattle.iol_kernel.specs.Kernel.{state_of}
 use Rattle.iol_kernel.specs.Readings.{bytes_over}
@@ -27,4 +30,5 @@ returns-clause-ok c =
     record {
       shows = search (rules, bytes);
       at = c.located_parts.ensures ∙ ap (located_parts s) held;
+      addresses = ap (λ (l : List Located). flat_map spread l) c.located_parts.ensures ∙ spread_parts s xs readable ∙ ap (λ (l : List Slice). map (address_at s) (places l)) held;
     }
