@@ -22,9 +22,10 @@ loop-part-preserved c =
     let h = c.loop-part.invariant in
     let first = c.in-Some.ensures.steps in
     let next = c.saturating_add-count.ensures in
+    let bytes = c.in-Some.part.now in
     let part = located c.in-Some.part in
     let left = c.next.new.self in
-    let whole : length (all_bytes c.loop-part.part-iterator) ≡ length part.bytes + length (all_bytes left) = ap (λ l. length (all_bytes l)) first ∙ length-append part.bytes (all_bytes left) in
+    let whole : length (all_bytes c.loop-part.part-iterator) ≡ length bytes + length (all_bytes left) = ap (λ l. length (all_bytes l)) first ∙ length-append bytes (all_bytes left) in
     record {
       can = search (rules);
       finite = search (rules);
