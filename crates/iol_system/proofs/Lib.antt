@@ -14,6 +14,7 @@ pub mod ChunkReturns
 pub mod Empty
 pub mod Streams
 pub mod ReplyAnswers
+pub mod HeldPlaces
 pub mod Effects
 pub mod BackEffects
 pub mod FileEffects

@@ -74,6 +74,8 @@ pub record Promises (old : SystemState) (e : Event) (r : Reply) (new : SystemSta
   -- the remaining bytes keep their places when bytes are sent or copied off a queue, or a position moves
   pub places : takes_out (tables_of old.kernel) e ≡ true → IsDone r → layout_of new.kernel
       ≡ (meaning (layout_of old.kernel) e).after
+  -- each byte of an aggregate keeps its place until a call gives the aggregate up
+  pub held : ValuesStay (layout_of old.kernel) e (layout_of new.kernel)
   -- looking, moving a position and writing back change no page, no count and no pool
   pub store : keeps_store e ≡ true → new.kernel.store ≡ old.kernel.store
   -- calls on files share the bytes in memory, and the bytes read or written by copying are in memory afterwards, too
