@@ -42,7 +42,7 @@ abbrev pub HoldsAll : (old new : KernelState) → Type 0
 HoldsAll old new = KeepsValues (layout_of old) (layout_of new) nothing
 
 -- the number of each place
-abbrev numbers : Reading
+abbrev pub numbers : Reading
 numbers = record { at = number_at; stored = [] }
 
 pub all_held : (old new : KernelState) (e : Event) → HoldsAll old new → Held old new e
@@ -53,7 +53,7 @@ step_held old new e r step = values_step (layout_of old) (layout_of new) e r ste
 
 -- By the domains' tables.
 
-laid : (h : KernelState) (d a : ℕ) → aggregate (layout_of h) d a ≡ option_map (read numbers) (agg_in h.domains d a)
+pub laid : (h : KernelState) (d a : ℕ) → aggregate (layout_of h) d a ≡ option_map (read numbers) (agg_in h.domains d a)
 unfolding read_of
 laid h d a = aggregate-view numbers h.domains h.store.pools (objects_of h) d a
 
