@@ -1,6 +1,6 @@
 -- Each byte of an aggregate keeps its place, unless the event gives the aggregate up.
 use Rattle.std.proofs.Common.{inl, inr, ◌≡◌, ◌⊎◌, ℕ, ◌+◌, List, [], ◌++◌, length, take, drop, Option, Some, None, ap, ◌∙◌, refl, sym, subst}
-use Rattle.std.specs.Prelude.{option_map, slice_set, Result, Ok, Err, OnOk, OnErr, IfOk, IfErr}
+use Rattle.std.specs.Prelude.{option_map, slice_set, Result, Ok, Err, OnOk, OnErr, IfOk}
 use Rattle.iol_core.specs.State.{State, aggregate, content, conn_at, descriptor, domain, pipe_at, with_content}
 use Rattle.iol_core.specs.Text.{Text, bytes_of}
 use Rattle.iol_core.specs.Meaning.{Meaning}
@@ -27,7 +27,7 @@ use Rattle.iol_hold.specs.declared.slices.Slice.{Slice}
 use Rattle.iol_hold.proofs.AtPlaces.{keeps_numbers}
 use Rattle.iol_kernel.specs.Calls.{MakesBytes, with_incoming}
 use Rattle.iol_kernel.specs.FileReads.{FileRead, GivesCopy, GivesRead}
-use Rattle.iol_kernel.specs.FileWrites.{GivesUpNew, LaysInFile, LaysOver, LeavesUnlaid, OnlyMoves, UnlaidRoomy}
+use Rattle.iol_kernel.specs.FileWrites.{GivesUpNew, LaysInFile, LaysOver, LeavesUnlaid, OnlyMoves}
 use Rattle.iol_kernel.specs.KernelState.{KernelState, layout_of, objects_of, read_of}
 use Rattle.iol_kernel.specs.Readings.{KeepsPools, Reading, read}
 use Rattle.iol_kernel.specs.Room.{AfterRoom, MakesRoom, MayHaveEvicted, Places}
