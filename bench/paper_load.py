@@ -188,13 +188,13 @@ class Load:
         return self.by_wrk([*words, *(["-H", "Connection: close"] if is_new else []), server.url(path)])
 
     def trace_rate(self, server, paths):
-        """The requests per second of a trace."""
+        """The requests of a trace per second. A response other than 200, as 503 while a full cache has no page for a file, does not count."""
         if self.is_quick:
             return self.quick_rate(server, paths[:5], False)
         script = f"{self.top}/trace.lua"
         with open(script, "w", encoding="ascii") as it:
             it.write(TRACE % ",".join(f'"/{path}"' for path in paths))
-        return self.by_wrk(["wrk", "-t1", f"-c{CLIENTS}", "-d1s", "-s", script, server.url("")])
+        return self.by_wrk(["wrk", "-t1", f"-c{CLIENTS}", "-d1s", "-s", script, server.url("")], may_refuse=True)
 
     @staticmethod
     def quick_rate(server, paths, is_new):
@@ -203,14 +203,19 @@ class Load:
         return len(paths) / (time.perf_counter() - begun)
 
     @staticmethod
-    def by_wrk(words):
+    def by_wrk(words, may_refuse=False):
         said = subprocess.run(words, capture_output=True, text=True, check=True).stdout
-        if "Non-2xx" in said:
+        refused = re.search(r"Non-2xx or 3xx responses: (\d+)", said)
+        if refused and not may_refuse:
             raise RuntimeError(said)
         if errors := re.search(r"Socket errors: .*", said):
             print(f"paper: wrk: {errors[0]}", flush=True)
-        found = re.search(r"Requests/sec: +([\d.]+)", said)
-        return float(found[1])
+        rate = float(re.search(r"Requests/sec: +([\d.]+)", said)[1])
+        if not refused:
+            return rate
+        count = int(re.search(r"(\d+) requests in", said)[1])
+        print(f"paper: {refused[1]} of {count} responses were refused", flush=True)
+        return rate * (count - int(refused[1])) / count
 
 
 class SlowClients:
