@@ -9,6 +9,7 @@ pub mod Sources
 pub mod ReadsAndWrites
 pub mod SoundPipes
 pub mod Reads
+pub mod QueueSlices
 pub mod CloseAll
 pub mod ClosedEnds
 pub mod TakenEnds

@@ -27,6 +27,7 @@ pub mod DomainAggregates
 pub mod PoolCalls
 pub mod AggregateCalls
 pub mod Queues
+pub mod QueueSlices
 pub mod QueueEnds
 pub mod Streams
 pub mod Outside

@@ -10,6 +10,7 @@ use Rattle.iol_desc.specs.Tables.{with_agg_in}
 use Rattle.iol_hold.specs.declared.slices.Slice.{Slice}
 use Rattle.iol_kernel.specs.Calls.{MakesNext, MayMake, Refuses, with_incoming}
 use Rattle.iol_kernel.specs.KernelState.{KernelState, machine_of}
+use Rattle.iol_kernel.specs.QueueSlices.{ArrivesFew}
 use Rattle.iol_kernel.specs.Room.{Places}
 use Rattle.iol_kernel.specs.WritesByCopy.{Fills}
 
@@ -49,3 +50,14 @@ PlacesIncoming c bytes old r new =
 abbrev pub FillsIncoming : (c : ℕ) (bytes : List ℕ) (old : KernelState) → Result ℕ Refusal → (new : KernelState) → Type 0
 FillsIncoming c bytes old r new =
     Fills (λ s. arrive s c bytes) (with_incoming c) (conn_at (machine_of [] old) c).pool old r new
+
+-- As many of these bytes as fit arrive on a connection: the result, and the number of slices.
+pub record TakesIncoming (c : ℕ) (bytes : List ℕ) (old : KernelState) (r : Result ℕ Refusal)
+    (new : KernelState) : Type 0 where
+  pub places : PlacesIncoming c bytes old r new
+  pub slices : OnOk r (ArrivesFew (length bytes) c old new)
+
+-- As many of these bytes as fit arrive on a connection whose pool has room: the result, and the number of slices.
+pub record FillsConn (c : ℕ) (bytes : List ℕ) (old : KernelState) (r : Result ℕ Refusal) (new : KernelState) : Type 0 where
+  pub fills : FillsIncoming c bytes old r new
+  pub slices : OnOk r (ArrivesFew (length bytes) c old new)

@@ -13,6 +13,7 @@ use Rattle.iol_desc.specs.Tables.{domain_in, live_aggs_in, with_agg_in}
 use Rattle.iol_kernel.specs.Calls.{Answers}
 use Rattle.iol_kernel.specs.KernelState.{KernelState, objects_of, IsOpenEnd, IsSound, machine_of, read_of}
 use Rattle.iol_kernel.specs.OpenDescriptors.{IsOpenOn}
+use Rattle.iol_kernel.specs.QueueSlices.{DividesFront, unread_slices}
 use Rattle.iol_kernel.specs.Readings.{Reading, KeepsPools}
 
 -- the pool of a text's first byte
@@ -46,3 +47,4 @@ pub record GivesFront (end : Descriptor) (d n : ℕ) (old new : KernelState) (sl
   pub answers : (fd : ℕ) → IsOpenOn old d fd end → live_aggs_in old.domains < MAX_AGGREGATES
       → Answers (λ s. iol_read s d fd n) old (domain_in old.domains d).next_agg
       (record new { domains = with_agg_in old.domains d slices })
+  pub divides : DividesFront slices (unread_slices (objects_of old) (Some end)) (unread_slices (objects_of new) (Some end))

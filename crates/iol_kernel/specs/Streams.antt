@@ -18,6 +18,7 @@ use Rattle.iol_sock.specs.Refusals.{IsPassed, IsRefused}
 use Rattle.iol_sock.specs.declared.drain_to.Drained.{Drained}
 use Rattle.iol_kernel.specs.Calls.{Arrives, Leaves, Steps}
 use Rattle.iol_kernel.specs.KernelState.{KernelState, IsSound, machine_of}
+use Rattle.iol_kernel.specs.QueueSlices.{ArrivesFew}
 use Rattle.iol_kernel.specs.Room.{AfterRoom, IsSame, MayHaveEvicted, can_fit}
 
 -- Arriving bytes.
@@ -54,11 +55,12 @@ abbrev pub most_asked : (max : ℕ) → (incoming : Text) → ℕ
 most_asked max incoming = min (min max PAGE_BYTES) (MAX_QUEUE_BYTES - length incoming)
 
 -- One read arrived on connection c, after which the reader has the bytes `after` left. Room was made for one byte, and the
--- bytes of the read are on the lowest page that was free then. If the read gave no bytes, the system represents the same
--- machine state.
+-- bytes of the read are on the lowest page that was free then, in at most one slice. If the read gave no bytes, the system
+-- represents the same machine state.
 pub record BringsIn (c max : ℕ) (after : Option (List ℕ)) (old new : KernelState) (a : Arrived) : Type 0 where
   pub told : IsOneRead (most_asked max (conn_at (machine_of [] old) c).incoming) after a
   pub made : AfterRoom (conn_at (machine_of [] old) c).pool 1 old (λ roomy. Arrives c a.taken roomy new)
+  pub slices : ArrivesFew a.taken c old new
   pub none : a.taken ≡ 0 → IsSame old new
 
 -- A read is refused as an arrival of one byte is: NoRoom only if there is no room for the byte, and success only if there is.
@@ -85,6 +87,7 @@ pub record TakesRead (c max : ℕ) (left after : Option (List ℕ)) (old : Kerne
   pub read : IfOk r (λ a. TakesIn left after a.taken
       (λ bytes. Steps (λ s. arrive s c bytes) old (Ok a.taken) new))
   pub made : IfOk r (λ a. Arrives c a.taken old new)
+  pub slices : IfOk r (λ a. ArrivesFew a.taken c old new)
   pub told : IfOk r (IsOneRead (most_asked max (conn_at (machine_of [] old) c).incoming) after)
   pub none : IfOk r (λ a. a.taken ≡ 0 → (stored : List (List ℕ))
       → machine_of stored new ≡ machine_of stored old)

@@ -17,6 +17,7 @@ use Rattle.iol_sock.specs.Refusals.{IsPassed, IsRefused}
 use Rattle.iol_kernel.specs.FileCalls.{Serves}
 use Rattle.iol_kernel.specs.Calls.{MakesBytes, Steps}
 use Rattle.iol_kernel.specs.KernelState.{KernelState, IsSound, machine_of, read_of}
+use Rattle.iol_kernel.specs.QueueSlices.{QueuesFew}
 use Rattle.iol_kernel.specs.Room.{Places, can_fit}
 use Rattle.iol_kernel.specs.Readings.{Reading}
 use Rattle.iol_kernel.specs.FileWrites.{LaysOn, PutsOn}
@@ -78,6 +79,13 @@ PlacesInQueue d fd bytes old r new =
     let s : State = machine_of [] old in
     Places (λ s. writing.write s d fd bytes) (written_to d fd) (lands_in d fd s) (writing.write s d fd bytes).answer old r new
 
+-- Bytes are written to a descriptor that is open on a queue, before which clean extents are evicted: the result, and the
+-- number of slices.
+pub record PutsInQueue (d fd : ℕ) (target : Descriptor) (bytes : List ℕ) (old : KernelState) (r : Result ℕ Refusal)
+    (new : KernelState) : Type 0 where
+  pub places : PlacesInQueue d fd bytes old r new
+  pub slices : OnOk r (QueuesFew (length bytes) (Some target) old new)
+
 -- the pool of bytes that are written to this descriptor
 abbrev pub pool_to_write : KernelState → (d fd : ℕ) → ℕ
 pool_to_write h d fd = lands_in d fd (machine_of [] h)
@@ -92,6 +100,8 @@ can_fit_write h d fd bytes = can_fit h (pool_to_write h d fd) (writing.write (ma
 pub record WritesBytes (d fd : ℕ) (bytes : List ℕ) (old : KernelState) (r : Result ℕ Refusal) (new : KernelState) : Type 0 where
   pub serves : (disk : Disk) → Serves (λ s. writing.write s d fd bytes) disk old r disk new
   pub queue : writing.is_file (descriptor (machine_of [] old) d fd) ≡ false → PlacesInQueue d fd bytes old r new
+  pub slices : writing.is_file (descriptor (machine_of [] old) d fd) ≡ false
+      → OnOk r (QueuesFew (length bytes) (descriptor (machine_of [] old) d fd) old new)
   pub room : OnOk r (can_fit_write old d fd bytes ≡ true)
   pub no_room : (p : ℕ) → r ≡ Err (NoRoom p) → can_fit_write old d fd bytes ≡ false
   pub memory : r ≡ Err Memory → can_fit_write old d fd bytes ≡ true

@@ -16,6 +16,7 @@
 //! - `Places` (`specs/Room`): the step of a call that places new bytes, such as `agg_make` and `arrive`.
 //!   Clean extents of files are evicted for them, and then they are placed on the lowest free pages of
 //!   the pool. A full pool is found before memory is requested.
+//! - `specs/QueueSlices`: into how many slices a read or a write of a queue divides its bytes.
 //!
 //! A refused call leaves the machine state that the system represents unchanged; if it needs pages and
 //! has room for them, clean extents may have been evicted. The invariant between any two calls is

@@ -10,9 +10,9 @@
 //! there is room for, and fewer than 2^32; `rest`: the other bytes are unchanged; `err`: after a refusal
 //! all are). [`read_bytes`] has `ReadsList` (`serves`, `copies`: the same, as a separate list), and
 //! [`write`] has `WritesBytes` (`serves`; `queue`: the bytes that a queue takes are on the lowest free
-//! pages of the caller's default pool, after clean extents were evicted; `lays`, `puts`: the changes of a
-//! file; `room`, `no_room`, `memory`; `refused`: any refusal except NoRoom and Memory changed nothing).
-//! The definitions are in `specs/Reads` and in iol_kernel's specs.
+//! pages of the caller's default pool, after clean extents were evicted; `slices`: at most one slice per
+//! page; `lays`, `puts`: the changes of a file; `room`, `no_room`, `memory`; `refused`: any refusal except
+//! NoRoom and Memory changed nothing). The definitions are in `specs/Reads` and in iol_kernel's specs.
 //!
 //! ```text
 //! let taken = write(&mut kernel, by, to, b"hello")?;

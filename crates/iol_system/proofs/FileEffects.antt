@@ -33,6 +33,7 @@ use Rattle.iol_kernel.specs.Calls.{CarriesOut}
 use Rattle.iol_kernel.specs.ReadsByCopy.{Copies, CopiesOn}
 use Rattle.iol_kernel.specs.FileReads.{CopiesFileAs, FileRead, LeavesAtRefusal, Reads, ReadsFileAs, ReadsOn, file_read, held_by, pool_read}
 use Rattle.iol_kernel.specs.KernelState.{KernelState, layout_of, slices_in}
+use Rattle.iol_kernel.specs.QueueSlices.{QueuesAgg, QueuesFew, TakesSlices}
 use Rattle.iol_kernel.specs.Room.{MayHaveEvicted, Places, RefusedRoomy}
 use Rattle.iol_kernel.specs.FileWrites.{LaysOn, LeavesUnwritten, PutsOn, WritesOn, pool_of_file}
 use Rattle.iol_kernel.specs.KeptCover.{KeepsUnless, LacksPages, LacksPagesToRead}
@@ -164,7 +165,7 @@ module _ {A : Type 0} (by fd n : ℕ) (disk after : Disk) (old new : KernelState
   -- what it does, by what is said of either kind
   read_does : (m : State → Meaning A) (o : Option Descriptor) → HasRead o → asks_store (tables_of old) e ≡ is_file o → uses_cache (tables_of old) e ≡ is_file o → writes_back e ≡ false → (HasRoomToRead (system_of old disk) o n → HasRoomFor (system_of old disk) e)
       → (LacksRoomToRead (system_of old disk) o n → LacksRoomFor (system_of old disk) e) → BytesFit (system_of old disk) e → ((p : ℕ) → ReadWantsMore (system_of old disk) o n p → MayLetGo (system_of old disk) e p) → TellsEnd (system_of old disk) e (told f r) → Means f m e → Serves m disk old r after new
-      → (IsEarly (told f r) → (new ≡ old) × (after ≡ disk)) → LeavesLate (system_of old disk) e (told f r) (system_of new after) → (IsDone (told f r) → SharesFile (system_of old disk) e (told f r) new) → (IsDone (told f r) → Publishes old e new) → Divides old e new → Creates old e (told f r) new
+      → (IsEarly (told f r) → (new ≡ old) × (after ≡ disk)) → LeavesLate (system_of old disk) e (told f r) (system_of new after) → (IsDone (told f r) → SharesFile (system_of old disk) e (told f r) new) → (IsDone (told f r) → Publishes old e new) → (IsDone (told f r) → Divides old e new) → Creates old e (told f r) new
       → (new.sums ≡ old.sums → Remembers old e (told f r) new) → Lies disk old e (told f r) after new → Does disk old e (told f r) after new
   read_does m o any asks uses unwritten room lacks fits goes ends means serves early late shares fills divides creates sums lies =
       does_of ends (served f means serves)
@@ -174,7 +175,7 @@ module _ {A : Type 0} (by fd n : ℕ) (disk after : Disk) (old new : KernelState
         uncached = λ none other. any.uncached (sym uses ∙ none);
         in_place = any.in_place goes;
         shares_file = shares;
-        slices = λ is. divides;
+        slices = divides;
         publishes = fills;
         creates = creates;
         sums = sums serves.sums;
@@ -210,13 +211,13 @@ module _ (by fd n : ℕ) (disk after : Disk) (old new : KernelState) (r : Result
   read_any (Some (on.File g at mode)) c = c.0
   read_any o c = record { unasked = c.1; roomy = c.0.roomy; refused = c.0.refused; cache = c.0.cache }
 
-  pub reads_does : Serves (λ s. reading.iol_read s by fd n) disk old r after new → Reads by fd n disk old r after new → Does disk old read_event (told reply.Agg r) after new
-  reads_does serves reads =
+  pub reads_does : Serves (λ s. reading.iol_read s by fd n) disk old r after new → Reads by fd n disk old r after new → (is_file (descriptor (tables_of old) by fd) ≡ false → OnOk r (TakesSlices by (descriptor (tables_of old) by fd) old new)) → Does disk old read_event (told reply.Agg r) after new
+  reads_does serves reads slices =
       let o : Option Descriptor = held_by (tables_of old) by fd in
       let any = has_read by fd n disk after old new reply.Agg r read_event new refl (λ a. refl) o (read_any o reads) in
       let queue : is_sharing (tables_of old) read_event ≡ true → CarriesOut (λ s. reading.iol_read s by fd n) old r new = (λ shared. read_carried o reads (shared_held (is_live (tables_of old) by) (descriptor (tables_of old) by fd) shared)) in
       let means : Means reply.Agg (λ s. reading.iol_read s by fd n) read_event = (λ s. told_step reply.Agg (λ a. refl) (reading.iol_read s by fd n) s) in
-      read_does by fd n disk after old new reply.Agg r read_event (λ s. reading.iol_read s by fd n) o any refl refl refl (λ k. k) (λ k. k) tt (λ p k. k) tt means serves (read_early o reads) (read_late o reads) (read_shares o reads) (λ is. read_fills o reads) tt tt (λ k. k)
+      read_does by fd n disk after old new reply.Agg r read_event (λ s. reading.iol_read s by fd n) o any refl refl refl (λ k. k) (λ k. k) tt (λ p k. k) tt means serves (read_early o reads) (read_late o reads) (read_shares o reads) (λ is. read_fills o reads) (λ is no_file. ok_told reply.Agg r _ (slices no_file) is) tt (λ k. k)
       (record {
         looks = never refl;
         shares = λ shared. means (layout_of old) (layout_of new) r (carried_layout (λ s. reading.iol_read s by fd n) old new r (queue shared));
@@ -276,8 +277,8 @@ module _ (by fd a : ℕ) (disk : Disk) (old new : KernelState) (r : Result ℕ R
   write_late (Some (on.File g at mode)) c = late_told reply.Count r _ (λ a. refl) (with_tables r (SameTables old new) (LeavesUnwritten g (slices_in old.domains by a) old new) (tables_kept r old new c.same c.refused) c.leaves)
   write_late o c = tt
 
-  pub writes_does : Serves (λ s. writing.iol_write s by fd a) disk old r disk new → WritesOn by fd a (descriptor (tables_of old) by fd) old r new → Does disk old write_event (told reply.Count r) disk new
-  writes_does serves writes =
+  pub writes_does : Serves (λ s. writing.iol_write s by fd a) disk old r disk new → WritesOn by fd a (descriptor (tables_of old) by fd) old r new → (is_file (descriptor (tables_of old) by fd) ≡ false → OnOk r (QueuesAgg by a (descriptor (tables_of old) by fd) old new)) → Does disk old write_event (told reply.Count r) disk new
+  writes_does serves writes slices =
       let o : Option Descriptor = descriptor (tables_of old) by fd in
       let means : Means reply.Count (λ s. writing.iol_write s by fd a) write_event = (λ s. told_step reply.Count (λ a. refl) (writing.iol_write s by fd a) s) in
       does_of tt (served reply.Count means serves) (asks_none refl)
@@ -286,7 +287,7 @@ module _ (by fd a : ℕ) (disk : Disk) (old new : KernelState) (r : Result ℕ R
         uncached = λ unused other. write_uncached o writes unused;
         in_place = write_in_place o writes (λ g i k. k) (λ p k. k);
         shares_file = write_shares o writes;
-        slices = λ done. tt;
+        slices = λ done no_file. ok_told reply.Count r _ (slices no_file) done;
         publishes = λ done. write_fills o writes;
         creates = tt;
         sums = serves.sums;
@@ -353,7 +354,7 @@ module _ (by fd n : ℕ) (disk after : Disk) (old new : KernelState) (r : Result
       let o : Option Descriptor = held_by (tables_of old) by fd in
       let any = has_read by fd n disk after old new reply.Bytes r copy_event (record new { store = copy_over o copies }) refl (λ a. refl) o (copy_any o copies) in
       let means : Means reply.Bytes (λ s. reading.read s by fd n) copy_event = (λ s. told_step reply.Bytes (λ a. refl) (reading.read s by fd n) s) in
-      read_does by fd n disk after old new reply.Bytes r copy_event (λ s. reading.read s by fd n) o any refl refl refl (λ k. k) (λ k. k) tt (λ p k. k) tt means serves (copy_early o copies) (copy_late o copies) (copy_shares o copies) (λ is. copy_fills o copies) tt tt (λ k. k)
+      read_does by fd n disk after old new reply.Bytes r copy_event (λ s. reading.read s by fd n) o any refl refl refl (λ k. k) (λ k. k) tt (λ p k. k) tt means serves (copy_early o copies) (copy_late o copies) (copy_shares o copies) (λ is. copy_fills o copies) (λ is. tt) tt (λ k. k)
       (lies_apart refl refl (never refl) (copy_places o copies) (never refl))
 
 -- A write by copying.
@@ -406,6 +407,7 @@ module _ (by fd : ℕ) (bytes : List ℕ) (disk : Disk) (old new : KernelState) 
 
   pub puts_does : Serves (λ s. writing.write s by fd bytes) disk old r disk new
       → (is_file here ≡ false → Places (λ s. writing.write s by fd bytes) put (wants here).pool (wants here).count old r new)
+      → (is_file here ≡ false → OnOk r (QueuesFew (length bytes) here old new))
       → OnOk r (Fits old (wants here))
       → ((p : ℕ) → r ≡ Err (NoRoom p) → FitsNot old (wants here))
       → (r ≡ Err Memory → Fits old (wants here))
@@ -413,7 +415,7 @@ module _ (by fd : ℕ) (bytes : List ℕ) (disk : Disk) (old new : KernelState) 
       → LaysOn here (wants here).pool bytes old r new
       → IfErr r (λ x. (new ≡ old) ⊎ WantOfRoom (wants here).pool x)
       → Does disk old put_event (told reply.Count r) disk new
-  puts_does serves queue room lacks fits puts lays left =
+  puts_does serves queue slices room lacks fits puts lays left =
       let o : Option Descriptor = here in
       let means : Means reply.Count (λ s. writing.write s by fd bytes) put_event = (λ s. told_step reply.Count (λ a. refl) (writing.write s by fd bytes) s) in
       does_of tt (served reply.Count means serves) (asks_none refl)
@@ -429,7 +431,7 @@ module _ (by fd : ℕ) (bytes : List ℕ) (disk : Disk) (old new : KernelState) 
         uncached = λ unused other. never unused refl;
         in_place = put_in_place o queue puts (λ g i k. k) (λ p k. k);
         shares_file = put_shares o lays;
-        slices = λ done. tt;
+        slices = λ done no_file. ok_told reply.Count r _ (slices no_file) done;
         publishes = λ done. put_fills o queue puts done;
         creates = tt;
         sums = serves.sums;

@@ -78,7 +78,8 @@ pub record Promises (old : SystemState) (e : Event) (r : Reply) (new : SystemSta
   pub store : keeps_store e ≡ true → new.kernel.store ≡ old.kernel.store
   -- calls on files share the bytes in memory, and the bytes read or written by copying are in memory afterwards, too
   pub shares_file : IsDone r → SharesFile old e r new.kernel
-  -- an aggregate of new bytes has at most one slice per page
+  -- New bytes of an aggregate or a queue are in at most one slice per page. Reads of queues and writes of aggregates to them
+  -- keep slices whole, except for the last.
   pub slices : IsDone r → Divides old.kernel e new.kernel
   -- Buffers are made on the lowest free pages, whose generation is incremented, and no more extents are evicted for new bytes
   -- than needed. An open pool keeps its chunks, a closed one all of them or none.

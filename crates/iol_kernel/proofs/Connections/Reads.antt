@@ -29,6 +29,7 @@ use Rattle.iol_sock.specs.Connections.{Conn, conn_view}
 use Rattle.iol_sock.specs.Table.{conn_in}
 use Rattle.iol_kernel.specs.NewAggregates.{TakesFront}
 use Rattle.iol_kernel.specs.QueueEnds.{GivesFront}
+use Rattle.iol_kernel.specs.QueueSlices.{DividesFront}
 use Rattle.iol_kernel.specs.Calls.{Answers}
 use Rattle.iol_kernel.specs.HoldCounts.{IsCounted, conn_uses}
 use Rattle.iol_kernel.specs.KernelState.{IsConn, KernelState, objects_of, Each, AreReadable, IsConnReadable, IsOpenEnd, IsSound, read_of}
@@ -153,10 +154,11 @@ module _ (h k : KernelState) (d fd c n : ℕ) (held : IsOpenOn h d fd (on.Connec
 
 -- A front that was taken off, to be given to a domain.
 pub conn_front : (h k : KernelState) (c d n : ℕ) (slices : List Slice) → places slices ≡ take_while (may_see h.store.pools d) (take n (places (conn_in h.conns c).incoming)) → places (conn_in k.conns c).incoming ≡ drop (byte_len slices) (places (conn_in h.conns c).incoming)
-    → k ≡ record h { store = k.store; conns = changed h.conns c (record (conn_in h.conns c) { incoming = (conn_in k.conns c).incoming }) } → Shares h.store k.store (bufs_of (conn_in h.conns c).incoming) (bufs_of slices ++ bufs_of (conn_in k.conns c).incoming) → GivesFront (on.Connection c) d n h k slices
-conn_front h k c d n slices given' left same shares = record {
+    → k ≡ record h { store = k.store; conns = changed h.conns c (record (conn_in h.conns c) { incoming = (conn_in k.conns c).incoming }) } → Shares h.store k.store (bufs_of (conn_in h.conns c).incoming) (bufs_of slices ++ bufs_of (conn_in k.conns c).incoming) → DividesFront slices (conn_in h.conns c).incoming (conn_in k.conns c).incoming → GivesFront (on.Connection c) d n h k slices
+conn_front h k c d n slices given' left same shares divides = record {
   answers = λ fd held few.
       let ds : List (Domain (List Slice)) = with_agg_in h.domains d slices in
       unread_taken h (record k { domains = ds }) d fd c n held (record { slices = slices; given = given'; left = left; shares = shares; added = refl })
       (ap (λ (l : KernelState). let w : KernelState = record l { domains = ds } in w) same) few (domain_in h.domains d).next_agg refl;
+  divides = divides;
 }

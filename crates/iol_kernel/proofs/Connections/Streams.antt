@@ -4,6 +4,7 @@ use Rattle.std.specs.Prelude.{◌<◌, min, nat_lt, is_some, MatchOption, Ok}
 use Rattle.std.specs.Io.KnownBytes.{Appends}
 use Rattle.std.proofs.lemmas.Bool.Decides.{nat_tests}
 use Rattle.std.proofs.lemmas.List.{take_all, append-nil}
+use Rattle.iol_arena.specs.State.{pages_for}
 use Rattle.iol_core.specs.Text.{Text, bytes_of, labelled}
 use Rattle.iol_core.specs.NumberedLists.{lookup, changed}
 use Rattle.iol_core.specs.State.{State, Connection, conn_at, with_conn}
@@ -31,6 +32,7 @@ use Rattle.iol_sock.specs.declared.drain_to.Drained.{Drained}
 use Rattle.iol_sock.proofs.MachineConns.{conn_at-is, arrives_meant}
 use Rattle.iol_kernel.specs.Streams.{arrive_from_refusals, DrainsTo, TakesIn, sent_on}
 use Rattle.iol_kernel.specs.Calls.{Arrives, Leaves, Steps}
+use Rattle.iol_kernel.specs.QueueSlices.{ArrivesFew}
 use Rattle.iol_kernel.specs.KernelState.{KernelState, IsSound, read_of, machine_of}
 use Rattle.iol_kernel.proofs.Connections.Arrivals.{going, passed_open, arrive_pool, all_sound, all_step, all_made}
 use Rattle.iol_kernel.proofs.Connections.OneConnection.{conn_found, conn_in-found, conn_there, there-changed, rising-read_of, not_over, conn_left}
@@ -124,6 +126,7 @@ module _ (h : KernelState) (c max : ℕ) (there : lookup h.conns c ≢ None) whe
 pub record BroughtIn (h k : KernelState) (c max n : ℕ) (left after : Option (List ℕ)) : Type 0 where
   pub sound : IsSound k
   pub made : Arrives c n h k
+  pub slices : ArrivesFew n c h k
   pub takes : TakesIn left after n (λ bytes. Steps (λ s. outside.arrive s c bytes) h (Ok n) k)
   pub none : n ≡ 0 → (stored : List (List ℕ)) → machine_of stored k ≡ machine_of stored h
   pub most : n ≤ min (min max PAGE_BYTES) (MAX_QUEUE_BYTES - length (conn_at (machine_of [] h) c).incoming)
@@ -151,6 +154,7 @@ module _ (h k : KernelState) (c max n : ℕ) (left after : Option (List ℕ)) (s
   brought_in = record {
     sound = all_sound h k c n reads.bytes sound there open' number adds same;
     made = all_made h k c n reads.bytes sound there open' number adds same;
+    slices = record { slices = reads.added.slices; few = subst (λ m. length reads.added.slices ≤ pages_for m) (reads.count ∙ sym (fits_all y.incoming n (omega (arith, most)))) reads.added.few; added = reads.added.added };
     takes = record { bytes = reads.bytes; count = reads.count; given = reads.given; arrives = all_step h k c n reads.bytes sound there open' number adds same };
     none = λ none stored.
         let f = bytes_over stored h.store in

@@ -27,6 +27,7 @@ use Rattle.iol_kernel.specs.Calls.{Arrives, Steps}
 use Rattle.iol_kernel.specs.KernelState.{KernelState, IsSound, machine_of}
 use Rattle.iol_kernel.specs.Room.{AfterRoom, IsSame, MakesRoom, MayHaveEvicted, RefusedRoomy, can_fit}
 use Rattle.iol_kernel.specs.Readings.{bytes_over}
+use Rattle.iol_kernel.proofs.Queues.QueueSlices.{few_arrived}
 use Rattle.iol_kernel.proofs.State.AfterRoom.{kept_machine, memory_left, serves_after}
 use Rattle.iol_kernel.proofs.Connections.ArrivalAfterRoom.{lacks_same, pool_same}
 use Rattle.iol_kernel.proofs.Connections.OneConnection.{conn_found, conn_missing, conn_there}
@@ -121,6 +122,7 @@ module _ (c max pool : ℕ) (h k : KernelState) (room : MakesRoom pool (pages_fo
       record {
         told = subst (λ n. IsOneRead (min (min max PAGE_BYTES) (MAX_QUEUE_BYTES - n)) after a) unread_kept takes.told;
         made = takes_made a.taken l takes.made;
+        slices = few_arrived pool (pages_for 1) h k room l c a.taken (Ok a) takes.slices;
         none = λ nothing. takes_none l takes.sound takes.cache takes.stays (none nothing);
       }
   takes_brought left after (Err x) l takes = tt

@@ -40,6 +40,7 @@ use Rattle.iol_kernel.proofs.Queues.PipeEnds.{end_held}
 use Rattle.iol_core.specs.declared.limits.TheConstants.{MAX_AGGREGATES, MAX_QUEUE_BYTES}
 use Rattle.iol_kernel.specs.NewAggregates.{TakesFront}
 use Rattle.iol_kernel.specs.QueueEnds.{GivesFront}
+use Rattle.iol_kernel.specs.QueueSlices.{DividesFront}
 use Rattle.iol_kernel.proofs.Queues.ReadsAndWrites.{fits, pushed-read, taken-read}
 use Rattle.iol_kernel.proofs.State.ReadOf.{next_agg-read_of, open_row}
 use Rattle.iol_kernel.specs.Calls.{Answers}
@@ -186,9 +187,10 @@ pushed_answers h t qs fd p n d a from sound to found short is places' pipes' sha
 
 -- A front that was taken off, to be given to a domain.
 pub pipe_front : (h : KernelState) (t : Stored) (qs : List (Option (Pipe (List Slice)))) (p d n : ℕ) (slices : List Slice) → places slices ≡ take_while (may_see h.store.pools d) (take n (places (queue_at h.pipes p).queue)) → places (queue_at qs p).queue ≡ drop (byte_len slices) (places (queue_at h.pipes p).queue)
-    → qs ≡ with_queue_of h.pipes p qs → Shares h.store t (bufs_of (queue_at h.pipes p).queue) (bufs_of slices ++ bufs_of (queue_at qs p).queue) → GivesFront (on.ReadEnd p) d n h (record h { store = t; pipes = qs }) slices
-pipe_front h t qs p d n slices given' left pipes' shares = record {
+    → qs ≡ with_queue_of h.pipes p qs → Shares h.store t (bufs_of (queue_at h.pipes p).queue) (bufs_of slices ++ bufs_of (queue_at qs p).queue) → DividesFront slices (queue_at h.pipes p).queue (queue_at qs p).queue → GivesFront (on.ReadEnd p) d n h (record h { store = t; pipes = qs }) slices
+pipe_front h t qs p d n slices given' left pipes' shares divides = record {
   answers = λ fd held few. taken_answers h t (with_agg_in h.domains d slices) qs fd p d n (domain_in h.domains d).next_agg held (record { slices = slices; given = given'; left = left; shares = shares; added = refl }) pipes' few refl;
+  divides = divides;
 }
 
 -- It is given to the domain.

@@ -1,9 +1,9 @@
 //! Reading by reference.
-ghost use Rattle.iol_core.specs.Calls.Reads as calls;
 ghost use Rattle.iol_kernel.specs.ByReference.{ReadsByReference};
 ghost use Rattle.iol_kernel.specs.KernelState.{IsSound};
 ghost use Rattle.iol_kernel.specs.OpenDescriptors.{IsOnQueue};
 ghost use Rattle.iol_kernel.specs.QueueEnds.{MayTake};
+ghost use Rattle.iol_kernel.specs.QueueSlices.{ReadsQueue, TakesNext};
 
 pub(crate) mod file;
 
@@ -18,7 +18,7 @@ use iol_core::refusals::Refusal;
 use std::alloc::AllocError;
 
 impl Kernel {
-    ghost use Rattle.iol_kernel.specs.Kernel.{state_of, Attempts, CarriesOut, IsSource, TakesOff};
+    ghost use Rattle.iol_kernel.specs.Kernel.{state_of, IsSource, TakesOff};
 
     /// Reads up to `count` bytes, as the caller's next aggregate. The store under the files is
     /// asked for the bytes of a file that are not in memory.
@@ -50,7 +50,7 @@ impl Kernel {
         count: u32,
     ) -> Result<AggId, Refusal>
         requires { IsOnQueue (state_of self.old) by fd from.now }
-        ensures { CarriesOut (λ s. calls.iol_read s by fd count) self.old result self.new }
+        ensures { ReadsQueue by fd count from.now (state_of self.old) result (state_of self.new) }
     {
         if !can_read(from) {
             return Err(Refusal::WrongMode);
@@ -71,7 +71,7 @@ impl Kernel {
     #[tactic(auto, using(crate::proofs::State::Stay::stay_rules, crate::proofs::AggregateCalls::Slices::held_rules))]
     fn take(&mut self, by: DomainId, fd: Fd, from: &Descriptor, n: u32) -> Result<AggId, AllocError>
         requires { MayTake by fd from.now (state_of self.old) }
-        ensures { Attempts (λ s. calls.iol_read s by fd n) self.old result self.new }
+        ensures { TakesNext by fd n from.now (state_of self.old) result (state_of self.new) }
     {
         self.domains.reserve_aggs(by, 1)?;
         let agg = self.front(by, from, n)?;

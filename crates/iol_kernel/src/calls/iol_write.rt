@@ -4,6 +4,7 @@ ghost use Rattle.iol_core.specs.Calls.Writes as calls;
 ghost use Rattle.iol_kernel.specs.ByReference.{WritesByReference};
 ghost use Rattle.iol_kernel.specs.KernelState.{IsSound};
 ghost use Rattle.iol_kernel.specs.AggregateWrites.{MayWriteAgg, TestsAgg};
+ghost use Rattle.iol_kernel.specs.QueueSlices.{WritesQueue};
 
 pub(crate) mod file;
 
@@ -15,7 +16,7 @@ use iol_core::numbers::{AggId, DomainId, Fd};
 use iol_core::refusals::Refusal;
 
 impl Kernel {
-    ghost use Rattle.iol_kernel.specs.Kernel.{state_of, CarriesOut};
+    ghost use Rattle.iol_kernel.specs.Kernel.{state_of};
 
     /// Writes an aggregate, which stays. Returns the number of its bytes that were taken.
     ///
@@ -64,7 +65,7 @@ impl Kernel {
     fn push(&mut self, by: DomainId, fd: Fd, agg: AggId, to: &Descriptor) -> Result<u32, Refusal>
         requires may { MayWriteAgg by fd agg to.now (state_of self.old) }
         requires no_file { calls.is_file (Some to.now) ≡ false }
-        ensures { CarriesOut (λ s. calls.iol_write s by fd agg) self.old result self.new }
+        ensures { WritesQueue by fd agg to.now (state_of self.old) result (state_of self.new) }
     {
         let Some(found) = self.domains.agg(by, agg) else {
             unreachable!()

@@ -4,7 +4,7 @@ ghost use Rattle.iol_core.specs.Prelude.{conn_at, with_conn, lookup, lacks_conn}
 ghost use Rattle.iol_core.specs.Calls.Outside as calls;
 ghost use Rattle.iol_kernel.specs.Calls.{MayArrive, told};
 ghost use Rattle.iol_kernel.specs.KernelState.{IsSound};
-ghost use Rattle.iol_kernel.specs.NewBytes.{FillsIncoming, PlacesIncoming};
+ghost use Rattle.iol_kernel.specs.NewBytes.{FillsConn, TakesIncoming};
 ghost use Rattle.iol_kernel.specs.Outside.{HasConn, MayConnect, Settles, TestsArrival};
 ghost use Rattle.iol_kernel.specs.Readings.{Reading};
 
@@ -122,7 +122,7 @@ impl Kernel {
     /// buffers on its lowest free pages.
     pub fn arrive(&mut self, conn: ConnId, bytes: &Bytes) -> Result<u32, Refusal>
         requires { IsSound (state_of self.old) }
-        ensures { PlacesIncoming conn bytes.now (state_of self.old) result (state_of self.new) }
+        ensures { TakesIncoming conn bytes.now (state_of self.old) result (state_of self.new) }
     {
         let (pool, count) = self.room_to_arrive(conn, bytes.as_slice())?;
         self.take_in(conn, pool, count, bytes.as_slice())
@@ -151,7 +151,7 @@ impl Kernel {
         bytes: &[u8],
     ) -> Result<u32, Refusal>
         requires { MayArrive conn bytes.now pool count (state_of self.old) }
-        ensures { PlacesIncoming conn bytes.now (state_of self.old) result (state_of self.new) }
+        ensures { TakesIncoming conn bytes.now (state_of self.old) result (state_of self.new) }
     {
         if !self.make_room_for(pool, count) {
             return Err(Refusal::NoRoom { pool });
@@ -162,7 +162,7 @@ impl Kernel {
     /// Bytes arrive on a connection that exists and whose pool has room.
     fn fill_conn(&mut self, conn: ConnId, bytes: &[u8]) -> Result<u32, Refusal>
         requires { HasConn (state_of self.old) conn }
-        ensures { FillsIncoming conn bytes.now (state_of self.old) result (state_of self.new) }
+        ensures { FillsConn conn bytes.now (state_of self.old) result (state_of self.new) }
     {
         self.conns.arrive(self.alloc, &mut self.store, conn, bytes)
     }

@@ -3,7 +3,7 @@ ghost use Rattle.std.specs.Prelude.{◌≡◌, false, Some};
 ghost use Rattle.iol_core.specs.Calls.Writes as calls;
 ghost use Rattle.iol_kernel.specs.KernelState.{IsSound};
 ghost use Rattle.iol_kernel.specs.OpenDescriptors.{IsOnFile, IsOnQueue};
-ghost use Rattle.iol_kernel.specs.WritesByCopy.{MayPut, PlacesInQueue, TestsWrite};
+ghost use Rattle.iol_kernel.specs.WritesByCopy.{MayPut, PutsInQueue, TestsWrite};
 
 use crate::kernel::Kernel;
 use crate::open_file::is_for_writing;
@@ -98,7 +98,7 @@ impl Kernel {
     ) -> Result<u32, Refusal>
         requires may { MayPut by fd to pool bytes.now (state_of self.old) }
         requires no_file { calls.is_file (Some to) ≡ false }
-        ensures { PlacesInQueue by fd bytes.now (state_of self.old) result (state_of self.new) }
+        ensures { PutsInQueue by fd to bytes.now (state_of self.old) result (state_of self.new) }
     {
         let count = self.fitting(&to, bytes.len()) as u32;
         if !self.make_room_for(pool, count) {

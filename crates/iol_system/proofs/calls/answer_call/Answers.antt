@@ -89,10 +89,10 @@ pub returns-in-PoolCreate : goal.returns-in-PoolCreate
 returns-in-PoolCreate g c = as_call c.in-PoolCreate.is c.pool.ensures (creates_does c.args.by c.in-PoolCreate.chunks c.in-PoolCreate.domains (g.B.Backing.disk c.args.backing.now) (state_of c.args.kernel.now) (state_of c.pool_create.new.self) c.pool_create.result c.requires c.pool_create.ensures.create c.pool_create.ensures.chunks c.pool_create.ensures.room c.pool_create.ensures.no_room)
 
 pub returns-in-IolRead : goal.returns-in-IolRead
-returns-in-IolRead g c = as_call c.in-IolRead.is c.agg-in-IolRead.ensures (reads_does c.args.by c.in-IolRead.fd c.in-IolRead.count (g.B.Backing.disk c.args.backing.now) (g.B.Backing.disk c.iol_read.new.backing) (state_of c.args.kernel.now) (state_of c.iol_read.new.self) c.iol_read.result c.iol_read.ensures.serves c.iol_read.ensures.reads)
+returns-in-IolRead g c = as_call c.in-IolRead.is c.agg-in-IolRead.ensures (reads_does c.args.by c.in-IolRead.fd c.in-IolRead.count (g.B.Backing.disk c.args.backing.now) (g.B.Backing.disk c.iol_read.new.backing) (state_of c.args.kernel.now) (state_of c.iol_read.new.self) c.iol_read.result c.iol_read.ensures.serves c.iol_read.ensures.reads c.iol_read.ensures.slices)
 
 pub returns-in-IolWrite : goal.returns-in-IolWrite
-returns-in-IolWrite g c = as_call c.in-IolWrite.is c.count-in-IolWrite.ensures (writes_does c.args.by c.in-IolWrite.fd c.in-IolWrite.agg (g.B.Backing.disk c.args.backing.now) (state_of c.args.kernel.now) (state_of c.iol_write.new.self) c.iol_write.result (c.iol_write.ensures.serves (g.B.Backing.disk c.args.backing.now)) c.iol_write.ensures.writes)
+returns-in-IolWrite g c = as_call c.in-IolWrite.is c.count-in-IolWrite.ensures (writes_does c.args.by c.in-IolWrite.fd c.in-IolWrite.agg (g.B.Backing.disk c.args.backing.now) (state_of c.args.kernel.now) (state_of c.iol_write.new.self) c.iol_write.result (c.iol_write.ensures.serves (g.B.Backing.disk c.args.backing.now)) c.iol_write.ensures.writes c.iol_write.ensures.slices)
 
 pub returns-in-Fsync : goal.returns-in-Fsync
 returns-in-Fsync g c = as_call c.in-Fsync.is c.done-in-Fsync.ensures (syncs_does c.args.by c.in-Fsync.fd (g.B.Backing.disk c.args.backing.now) (g.B.Backing.disk c.fsync.new.backing) (state_of c.args.kernel.now) (state_of c.fsync.new.self) c.fsync.result c.requires c.fsync.ensures.serves c.fsync.ensures.syncs)
@@ -104,4 +104,4 @@ pub returns-in-Write : goal.returns-in-Write
 returns-in-Write g c =
     as_call c.in-Write.is c.count-in-Write.ensures
     (subst (λ (l : List ℕ). Does (g.B.Backing.disk c.args.backing.now) (state_of c.args.kernel.now) (event.Call c.args.by (call.Write c.in-Write.fd l)) (told reply.Count c.write.result) (g.B.Backing.disk c.args.backing.now) (state_of c.write.new.kernel)) c.as_slice.ensures
-    (puts_does c.args.by c.in-Write.fd c.as_slice.result.now (g.B.Backing.disk c.args.backing.now) (state_of c.args.kernel.now) (state_of c.write.new.kernel) c.write.result (c.write.ensures.serves (g.B.Backing.disk c.args.backing.now)) c.write.ensures.queue c.write.ensures.room c.write.ensures.no_room c.write.ensures.memory c.write.ensures.puts c.write.ensures.lays c.write.ensures.refused))
+    (puts_does c.args.by c.in-Write.fd c.as_slice.result.now (g.B.Backing.disk c.args.backing.now) (state_of c.args.kernel.now) (state_of c.write.new.kernel) c.write.result (c.write.ensures.serves (g.B.Backing.disk c.args.backing.now)) c.write.ensures.queue c.write.ensures.slices c.write.ensures.room c.write.ensures.no_room c.write.ensures.memory c.write.ensures.puts c.write.ensures.lays c.write.ensures.refused))

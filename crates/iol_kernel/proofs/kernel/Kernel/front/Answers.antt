@@ -25,7 +25,7 @@ returns-in_ok-front-in-ReadEnd c =
     let h = state_of c.args.self.now in
     let e = c.in_ok-front-in-ReadEnd.ensures in
     let given = subst (λ (x : Descriptor). GivesFront x c.args.by c.args.n h (record h { store = c.front.new.store; pipes = c.front.new.self.places }) c.in_ok-front-in-ReadEnd.field-0) (sym c.in-ReadEnd.is)
-    (pipe_front h c.front.new.store c.front.new.self.places c.in-ReadEnd.pipe c.args.by c.args.n c.in_ok-front-in-ReadEnd.field-0 e.gives.given e.gives.rest e.pipes e.gives.shares) in
+    (pipe_front h c.front.new.store c.front.new.self.places c.in-ReadEnd.pipe c.args.by c.args.n c.in_ok-front-in-ReadEnd.field-0 e.gives.given e.gives.rest e.pipes e.gives.shares (record { cut = e.gives.cut; few = e.gives.few; left = e.gives.left })) in
     record { given = given; table = search (rules); err = tt }
 
 pub front-requires-in-Connection-clause-there : goal.front-requires-in-Connection-clause-there
@@ -50,7 +50,7 @@ returns-in_ok-front-in-Connection c =
     let gives = e.conn.gives in
     let given = subst (λ (x : Descriptor). GivesFront x c.args.by c.args.n h k c.in_ok-front-in-Connection.field-0) (sym c.in-Connection.is)
     (conn_front h k c.in-Connection.conn c.args.by c.args.n c.in_ok-front-in-Connection.field-0 gives.given gives.rest
-    (ap (λ (t : ConnTable). record h { store = w.store; conns = t.conns; next_conn = t.next }) (changed_to e.others e.conn.others)) gives.shares) in
+    (ap (λ (t : ConnTable). record h { store = w.store; conns = t.conns; next_conn = t.next }) (changed_to e.others e.conn.others)) gives.shares (record { cut = gives.cut; few = gives.few; left = gives.left })) in
     record { given = given; table = search (rules); err = tt }
 
 pub returns-in_err-front-in-Connection : goal.returns-in_err-front-in-Connection

@@ -3,6 +3,7 @@ use Rattle.std.specs.Prelude.{min}
 use Rattle.std.proofs.lemmas.List.{length-take}
 use Rattle.iol_core.specs.Calls.Writes.{iol_write}
 use Rattle.iol_core.specs.declared.descriptors.Descriptor.{Descriptor}
+use Rattle.iol_core.specs.declared.descriptors.Descriptor.TheVariants as on
 use Rattle.iol_core.specs.declared.limits.TheConstants.{MAX_QUEUE_BYTES}
 use Rattle.iol_hold.specs.Moves.{Covers, IsCountable}
 use Rattle.iol_hold.specs.Places.{places, byte_len}
@@ -14,6 +15,7 @@ use Rattle.iol_kernel.specs.Readings.{bytes_over}
 use Rattle.iol_kernel.specs.KernelState.{KernelState, objects_of, queue_at}
 use Rattle.iol_kernel.proofs.Connections.ConnQueues.{conn_there_held}
 use Rattle.iol_kernel.proofs.Connections.Writes.{queue_refused, queued_answers}
+use Rattle.iol_kernel.proofs.Queues.QueueSlices.{agg_queued}
 use Rattle.iol_kernel.proofs.Queues.SoundPipes.{writing_held, queue_short, pushed_answers}
 use Rattle.iol_kernel.proofs.State.Refinement.{carried_done}
 use Rattle.iol_kernel.proofs.State.ReadOf.{open_row}
@@ -63,8 +65,10 @@ returns-in_ok-push-in-WriteEnd c =
     let e = c.in_ok-push-in-WriteEnd.ensures in
     let bound = short (byte_len (queue_at h.pipes p).queue) (byte_len (queue_at qs p).queue) (byte_len from) n (queue_short h p c.requires.may.held.sound) e.shares.taken
     (omega (arith, ap length e.shares.added, length-append (places (queue_at h.pipes p).queue) (take n (places from)), length-take n (places from))) in
-    carried_done (λ s. iol_write s c.args.by c.args.fd c.args.agg) h (record h { store = c.push.new.store; pipes = qs }) c.requires.may.passed n
-    (pushed_answers h c.push.new.store qs c.args.fd p n c.args.by c.args.agg from c.requires.may.held.sound (λ f. c.requires.may.held.from f ∙ ap (λ (x : Descriptor). Some x) c.in-WriteEnd.is) c.in-Some.ensures bound e.shares.taken e.shares.added e.pipes e.shares.shares)
+    let k : KernelState = record h { store = c.push.new.store; pipes = qs } in
+    let carries = carried_done (λ s. iol_write s c.args.by c.args.fd c.args.agg) h k c.requires.may.passed n
+    (pushed_answers h c.push.new.store qs c.args.fd p n c.args.by c.args.agg from c.requires.may.held.sound (λ f. c.requires.may.held.from f ∙ ap (λ (x : Descriptor). Some x) c.in-WriteEnd.is) c.in-Some.ensures bound e.shares.taken e.shares.added e.pipes e.shares.shares) in
+    record { carries = carries; slices = agg_queued h k c.args.to.now (on.WriteEnd p) c.args.by c.args.agg n from c.in-WriteEnd.is c.in-Some.ensures e.shares.taken e.shares.parts }
 
 pub returns-in_ok-queue-in-Connection : goal.returns-in_ok-queue-in-Connection
 returns-in_ok-queue-in-Connection c =
@@ -72,9 +76,13 @@ returns-in_ok-queue-in-Connection c =
     let k : KernelState = record h { store = c.queue.new.store; conns = c.queue.new.self.conns; next_conn = c.queue.new.self.next } in
     let n = c.in_ok-queue-in-Connection.field-0 in
     let e = c.in_ok-queue-in-Connection.ensures in
-    carried_done (λ s. iol_write s c.args.by c.args.fd c.args.agg) h k c.requires.may.passed n
+    let carries = carried_done (λ s. iol_write s c.args.by c.args.fd c.args.agg) h k c.requires.may.passed n
     (queued_answers h c.args.by c.args.fd c.args.agg c.in-Connection.conn c.in-Some.found.now c.requires.may.held.sound (λ f. c.requires.may.held.from f ∙ ap (λ (x : Descriptor). Some x) c.in-Connection.is) c.in-Some.ensures k n e.conn.shares.taken e.conn.shares.added
-    (ap (λ (w : ConnTable). record h { store = c.queue.new.store; conns = w.conns; next_conn = w.next }) (changed_to e.others e.conn.others)) e.conn.shares.shares)
+    (ap (λ (w : ConnTable). record h { store = c.queue.new.store; conns = w.conns; next_conn = w.next }) (changed_to e.others e.conn.others)) e.conn.shares.shares) in
+    record {
+      carries = carries;
+      slices = agg_queued h k c.args.to.now (on.Connection c.in-Connection.conn) c.args.by c.args.agg n c.in-Some.found.now c.in-Connection.is c.in-Some.ensures e.conn.shares.taken e.conn.shares.parts;
+    }
 
 pub returns-in_err-queue-in-Connection : goal.returns-in_err-queue-in-Connection
 returns-in_err-queue-in-Connection c =

@@ -39,6 +39,7 @@ returns g c =
         refuses = record { passed = read_passed h c.args.conn c.args.max there e.passed; refused = tt; room = read_room h c.args.conn c.args.max there true e.room.room; no_room = λ p is. absurd (cc is) };
         read = got.takes;
         made = got.made;
+        slices = got.slices;
         told = record { most = got.most; some = told.some; either = told.either; ended = told.ended; failed = told.failed };
         none = got.none;
         cache = refl;
@@ -65,6 +66,7 @@ returns-in_err-arrive_from g c =
         refuses = record { passed = search (rules); refused = search (rules, refused); room = search (rules); no_room = λ p is. read_room h c.args.conn c.args.max there false (e.conn.room.no_room p (search (rules, is))) };
         read = search (rules);
         made = search (rules);
+        slices = search (rules);
         told = search (rules);
         none = search (rules);
         cache = refl;

@@ -1,10 +1,12 @@
 use Rattle.iol_core.specs.Calls.Writes as calls
+use Rattle.std.specs.Prelude.{OnOk}
 use Rattle.std.proofs.Common.{[], inl, ◌≡◌, ◌∙◌, length, Option, refl, subst, sym}
 use Rattle.iol_core.specs.declared.descriptors.Descriptor.{Descriptor}
 use Rattle.iol_core.specs.State.{descriptor}
 use Rattle.iol_core.specs.declared.refusals.Refusal.TheVariants.{NoRoom}
 use Rattle.iol_kernel.specs.Kernel.{state_of}
 use Rattle.iol_kernel.specs.KernelState.{machine_of}
+use Rattle.iol_kernel.specs.QueueSlices.{QueuesFew}
 use Rattle.iol_kernel.specs.WritesByCopy.{lands_in, written_to}
 use Rattle.iol_kernel.specs.Readings.{bytes_over}
 use Rattle.iol_kernel.specs.FileWrites.{LaysOn, PutsOn}
@@ -21,6 +23,7 @@ returns-in-Err c =
     record {
       serves = (put_refused (written_to c.args.by c.args.fd) 0 0 c.args.by c.args.fd c.args.bytes.now h c.in-Err.refusal c.requires fails).serves;
       queue = λ no_file. put_refused (written_to c.args.by c.args.fd) _ _ c.args.by c.args.fd c.args.bytes.now h c.in-Err.refusal c.requires fails;
+      slices = λ no_file. tt;
       room = tt;
       no_room = λ p e. (let is : c.in-Err.refusal ≡ NoRoom p = cc in absurd (fails.roomy p is));
       memory = (put_refused (written_to c.args.by c.args.fd) pool (calls.write (machine_of [] h) c.args.by c.args.fd c.args.bytes.now).answer c.args.by c.args.fd c.args.bytes.now h c.in-Err.refusal c.requires fails).memory;
@@ -36,10 +39,11 @@ returns c =
     let s = machine_of [] h in
     let open' = sym (c.descriptor.ensures (bytes_over [] h.store)) ∙ c.in-Some.is in
     let pool = lands_in c.args.by c.args.fd s in
-    let placed = c.put.ensures in
+    let placed = c.put.ensures.places in
     record {
       serves = placed.serves;
       queue = λ no_file. placed;
+      slices = λ no_file. subst (λ (o : Option Descriptor). OnOk c.put.result (QueuesFew (length c.args.bytes.now) o h k)) (sym open') c.put.ensures.slices;
       room = placed.room;
       no_room = placed.no_room;
       memory = placed.memory;
