@@ -5,10 +5,10 @@ ghost use Rattle.std.specs.Vec.{vec_capacity};
 ghost use Rattle.iol_core.specs.Text as text;
 ghost use Rattle.iol_pool.specs.Prelude.{pool_in};
 ghost use Rattle.iol_hold.specs.Prelude.{Covers, Releases, byte_len, text_of, bufs_of, AllReadable, IsFilled};
-ghost use Rattle.iol_agg.specs.Parts.{parts_of, whole_texts};
+ghost use Rattle.iol_agg.specs.Parts.{located_parts, parts_of, whole_texts};
 ghost use Rattle.iol_agg.specs.Wholes.{AreWhole, FillsAgg, MayAddWhole};
 
-use crate::parts::Parts;
+use crate::parts::{LocatedParts, Parts};
 use iol_core::limits::PAGE_BYTES;
 use iol_core::numbers::PoolId;
 use iol_core::refusals::Refusal;
@@ -120,6 +120,14 @@ impl Agg {
         ensures { result ≡ parts_of store.now self.now }
     {
         Parts::new(store, self.slices.as_slice())
+    }
+
+    /// The same bytes. The contract says at which addresses they are.
+    pub fn located_parts<'a>(&'a self, store: &'a Store) -> LocatedParts<'a>
+        requires { AllReadable store.now self.now }
+        ensures { result ≡ located_parts store.now self.now }
+    {
+        LocatedParts::new(store, self.slices.as_slice())
     }
 
     /// A copy of the bytes.

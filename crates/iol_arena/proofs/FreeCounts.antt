@@ -5,6 +5,7 @@ use Rattle.std.proofs.lemmas.Bool.{cases_eq, lt-ltb}
 use Rattle.std.proofs.lemmas.List.{get_or-set_same, get_or-set_other, length-replicate, take_all, take-append-drop}
 use Rattle.std.proofs.lemmas.List.Elements.{filter-append}
 use Rattle.std.proofs.lemmas.Grind.{flat_map-append}
+use Rattle.std.specs.Ptr.{Ptr}
 use Rattle.iol_arena.specs.State.{State, HasRuns, IsSound, entry_in, no_entry, is_free, kind_head}
 use Rattle.iol_arena.specs.View.{AreCounted, one}
 use Rattle.iol_arena.specs.Chunks.{chunk_pages, usable, free_pages}
@@ -120,9 +121,9 @@ counted_new limit n k some = record {
     sixteen (suc n) (suc i) h = sixteen n i (omega arith)
 
 -- a new arena is sound
-pub new_sound : (memory : List ℕ) (es : List Entry) (taken : List Bool) (free : List ℕ) (limit n : ℕ) → memory ≡ replicate (n * 16 * 4096) 0 → es ≡ replicate (n * 16) no_entry → taken ≡ replicate n false → free ≡ replicate n 16
-    → n ≤ 256 → 0 < limit → IsSound (record { memory = memory; entries = es; limit = limit; taken = taken }) × (length free ≡ length taken) × AreCounted free limit es
-new_sound memory es taken free limit n m e t f few some = (
+pub new_sound : (base : Ptr) (memory : List ℕ) (es : List Entry) (taken : List Bool) (free : List ℕ) (limit n : ℕ) → memory ≡ replicate (n * 16 * 4096) 0 → es ≡ replicate (n * 16) no_entry → taken ≡ replicate n false → free ≡ replicate n 16
+    → n ≤ 256 → 0 < limit → IsSound (record { memory = memory; base = base; entries = es; limit = limit; taken = taken }) × (length free ≡ length taken) × AreCounted free limit es
+new_sound base memory es taken free limit n m e t f few some = (
   record {
     memory = omega (arith, ap length m, ap length e, length-replicate {A = ℕ} (n * 16 * 4096) 0, length-replicate (n * 16) no_entry);
     chunks = omega (arith, ap length e, ap length t, length-replicate (n * 16) no_entry, length-replicate n false);

@@ -1,6 +1,6 @@
 -- Re-exports the definitions that contracts of other crates cite.
 pub use Rattle.iol_arena.specs.Adds.{Adds, IsNew}
-pub use Rattle.iol_arena.specs.Buffers.{Grows, HasRange, IsLive, IsUnraised, SharesNoPage, bytes_in, bytes_of, len_of, live_pages}
+pub use Rattle.iol_arena.specs.Buffers.{address_of, Grows, HasRange, IsLive, IsUnraised, SharesNoPage, bytes_in, bytes_of, len_of, live_pages}
 pub use Rattle.iol_arena.specs.Chunks.{free_chunks, free_pages, is_unused, retired_pages, usable}
 pub use Rattle.iol_arena.specs.Fillings.{AreReserved, IsReserved, IsZero}
 pub use Rattle.iol_arena.specs.NewArena.{IsAllFree}

@@ -1,11 +1,11 @@
 //! The bytes of an aggregate, borrowed in place by C.
 ghost use Rattle.iol_ffi.specs.Parts.{AreCounted, Borrows, PlacesPart, WritesPart, WritesParts};
-ghost use denote.RawPtr.{block_ptr};
+ghost use Rattle.iol_hold.specs.Prelude.{located};
 
 use crate::address::start_of;
 use crate::replies::{IolReply, done, refused};
 use crate::store::HostStore;
-use iol_agg::Parts;
+use iol_agg::LocatedParts;
 use iol_core::numbers::{AggId, DomainId};
 use iol_system::system::System;
 
@@ -19,7 +19,7 @@ pub struct IolPart {
 
 // Writes the address and the length of a part into place `at` of `room`, if it has that place.
 fn place(part: &[u8], at: usize, room: &mut [IolPart])
-    ensures { PlacesPart part.now (block_ptr part.entry.ref_ptr.0 part.entry.ref_ptr.1) at room.old room.new }
+    ensures { PlacesPart (located part.entry) at room.old room.new }
 {
     if at < room.len() {
         room[at] = IolPart {
@@ -32,7 +32,7 @@ fn place(part: &[u8], at: usize, room: &mut [IolPart])
 // Writes the part of this number into `room`, whose first place is for number `skip`. The last
 // number, 2^64 - 1, is not written: it may be that of several parts.
 fn place_numbered(part: &[u8], number: u64, skip: usize, room: &mut [IolPart])
-    ensures { WritesPart part.now number skip room.old room.new }
+    ensures { WritesPart (located part.entry) number skip room.old room.new }
 {
     let first = skip as u64;
     if number >= first && number < u64::MAX {
@@ -42,7 +42,7 @@ fn place_numbered(part: &[u8], number: u64, skip: usize, room: &mut [IolPart])
 
 // Writes the address and the length of each part from number `skip` on into `room`, as many as
 // fit. The reply counts all parts.
-fn place_all(parts: Parts<'_>, skip: usize, room: &mut [IolPart]) -> IolReply
+fn place_all(parts: LocatedParts<'_>, skip: usize, room: &mut [IolPart]) -> IolReply
     ensures counted { AreCounted parts.entry result }
     ensures written { WritesParts parts.entry skip room.old room.new }
 {
@@ -66,7 +66,7 @@ pub(crate) fn parts_of(
 ) -> IolReply
     ensures { Borrows by agg skip system.now.kernel result room.old room.new }
 {
-    match system.parts(DomainId::new(by), AggId::new(agg)) {
+    match system.located_parts(DomainId::new(by), AggId::new(agg)) {
         Ok(parts) => place_all(parts, skip, room),
         Err(refusal) => refused(&refusal),
     }

@@ -51,7 +51,7 @@ nothing_there s c b unused at live =
 
 emptied_stays : (s : Stored) (p : ℕ) → goes_back s.arena s.pools p ≡ true → Stays s (emptied s p)
 emptied_stays s p back = record {
-  keeps = record { rising = λ q. omega arith; kept = λ b live. inl (record { head = live.head; generation = live.generation }, refl) };
+  keeps = record { rising = λ q. omega arith; kept = λ b live. inl (record { head = live.head; generation = live.generation }, refl); base = refl };
   homes = λ q b live h home. elim (cases_eq q p) [
     | inl e ↦ (let x : Contains (pool_in s.pools p).chunks (b.page / 16) = subst (λ q. Contains (pool_in s.pools q).chunks (b.page / 16)) e home in
         let unused = each_of (is_unused s.arena) (pool_in s.pools p).chunks (b.page / 16) (second_of (pool_in s.pools p).closed (list_all (is_unused s.arena) (pool_in s.pools p).chunks) back) (in_contains (pool_in s.pools p).chunks (b.page / 16) x) in

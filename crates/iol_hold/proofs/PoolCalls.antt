@@ -16,7 +16,7 @@ use Rattle.iol_hold.proofs.ChunkReturns.{settled_moves}
 
 -- the store with these pools, where memory and pages are the same
 abbrev with_taken : Stored → List Bool → List Pool → Stored
-with_taken s taken ps = record { arena = record { memory = s.arena.memory; entries = s.arena.entries; limit = s.arena.limit; taken = taken }; pools = ps; counts = s.counts }
+with_taken s taken ps = record { arena = record { memory = s.arena.memory; base = s.arena.base; entries = s.arena.entries; limit = s.arena.limit; taken = taken }; pools = ps; counts = s.counts }
 
 -- where each pool keeps its chunks
 pub pools_move : (s : Stored) (taken : List Bool) (ps : List Pool) → ((p c : ℕ) → Contains (pool_in s.pools p).chunks c → Contains (pool_in ps p).chunks c)
@@ -25,7 +25,7 @@ unfolding count_of
 pools_move s taken ps kept owned = record {
   counts = record { each = λ b. refl };
   stays = record {
-    keeps = record { rising = λ q. omega arith; kept = λ b live. inl (record { head = live.head; generation = live.generation }, refl) };
+    keeps = record { rising = λ q. omega arith; kept = λ b live. inl (record { head = live.head; generation = live.generation }, refl); base = refl };
     homes = λ p b live h home. kept p (b.page / 16) home;
   };
   still = λ h. record { each = h.each };

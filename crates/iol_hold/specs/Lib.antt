@@ -7,6 +7,7 @@ pub mod Room
 pub mod Places
 pub mod Slices
 pub mod Texts
+pub mod Addresses
 pub mod View
 pub mod Loans
 pub mod Fillings

@@ -1,4 +1,5 @@
 -- Re-exports the definitions that contracts of other crates cite.
+pub use Rattle.iol_hold.specs.Addresses.{Located, address_at, located, spread}
 pub use Rattle.iol_hold.specs.Fillings.{IsFilling, filling_bytes, filling_parts}
 pub use Rattle.iol_hold.specs.Moves.{Covers, IsCountable, Moves, SameLists, Stays}
 pub use Rattle.iol_hold.specs.Places.{byte_len, places}

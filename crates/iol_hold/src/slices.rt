@@ -19,6 +19,7 @@ pub struct Slice {
 }
 
 impl Slice {
+    ghost use Rattle.iol_hold.specs.Addresses.{located, located_slice};
     ghost use Rattle.iol_hold.specs.StoreState.{count_of};
     ghost use Rattle.iol_hold.specs.Releases.{ReleasesHold};
     ghost use Rattle.iol_hold.specs.Slices.{IsCut, IsWhole, SharesSlice};
@@ -78,6 +79,14 @@ impl Slice {
     pub fn bytes<'a>(&self, store: &'a Store) -> &'a [u8]
         requires { IsReadable store.now self.now }
         ensures { result.now ≡ slice_bytes store.now self.now }
+    {
+        store.bytes(&self.hold, self.from, self.from + self.len)
+    }
+
+    /// The same bytes. The contract says at which address they are.
+    pub fn located_bytes<'a>(&self, store: &'a Store) -> &'a [u8]
+        requires { IsReadable store.now self.now }
+        ensures { located result ≡ located_slice store.now self.now }
     {
         store.bytes(&self.hold, self.from, self.from + self.len)
     }

@@ -1,6 +1,7 @@
 //! The store: pages, pools, and the number of holds on each buffer.
 ghost use Rattle.std.specs.Prelude.{◌≡◌, ◌<◌, ◌^◌, length, slice_range};
-ghost use Rattle.iol_arena.specs.Prelude.{HasRange, IsLive, SharesNoPage, bytes_of, live_pages};
+ghost use Rattle.std.specs.Ptr.{as_ptr};
+ghost use Rattle.iol_arena.specs.Prelude.{HasRange, IsLive, SharesNoPage, address_of, bytes_of, live_pages};
 ghost use Rattle.iol_hold.specs.StoreAndPools.{MakesStore};
 ghost use Rattle.iol_hold.specs.Moves.{SharesHold};
 ghost use Rattle.iol_hold.specs.Releases.{FreesBuffer, ReleasesHold, Settles};
@@ -131,7 +132,8 @@ impl Store {
     /// The bytes `from..to` of a live buffer, in place.
     pub fn bytes(&self, hold: &Hold, from: u32, to: u32) -> &[u8]
         requires { HasRange self.now.arena hold.now.buf from to }
-        ensures { result.now ≡ slice_range (bytes_of self.now.arena hold.now.buf) from to }
+        ensures value { result.now ≡ slice_range (bytes_of self.now.arena hold.now.buf) from to }
+        ensures place { as_ptr result ≡ address_of self.now.arena hold.now.buf from }
     {
         self.arena.bytes(hold.buf(), from, to)
     }

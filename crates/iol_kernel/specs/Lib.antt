@@ -37,4 +37,5 @@ pub mod FileNames
 pub mod AggregateWrites
 pub mod ByReference
 pub mod KeptCover
+pub mod LocatedParts
 pub mod Prelude

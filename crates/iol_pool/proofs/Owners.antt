@@ -204,7 +204,7 @@ settled-nowhere s ps p out = elim (bool_cases (goes_back s ps p)) [
 
 pub settled_arena-nowhere : (s : State) (ps : List Pool) (p : ℕ) → is_numbered ps p ≡ false → settled_arena s ps p ≡ s
 settled_arena-nowhere s ps p out = elim (bool_cases (goes_back s ps p)) [
-  | inl e ↦ settled_arena-yes s ps p e ∙ ap (λ (x : Pool). with_returned s x.chunks) (pool_in-nowhere ps p out) ∙ ap (λ (l : List Bool). record { memory = s.memory; entries = s.entries; limit = s.limit; taken = l }) (all_returned-none s.taken)
+  | inl e ↦ settled_arena-yes s ps p e ∙ ap (λ (x : Pool). with_returned s x.chunks) (pool_in-nowhere ps p out) ∙ ap (λ (l : List Bool). record { memory = s.memory; base = s.base; entries = s.entries; limit = s.limit; taken = l }) (all_returned-none s.taken)
   | inr e ↦ settled_arena-no s ps p e
 ]
 
@@ -266,16 +266,16 @@ pub is_numbered-closed : (ps : List Pool) (p q : ℕ) → is_numbered (with_clos
 is_numbered-closed ps p q = ap (λ n. nat_lt 0 q && nat_le q n) (length-closed ps p)
 
 -- settling moves no byte, and changes no page
-pub settled_arena-same : (s : State) (ps : List Pool) (p : ℕ) → settled_arena s ps p ≡ record { memory = s.memory; entries = s.entries; limit = s.limit; taken = (settled_arena s ps p).taken }
+pub settled_arena-same : (s : State) (ps : List Pool) (p : ℕ) → settled_arena s ps p ≡ record { memory = s.memory; base = s.base; entries = s.entries; limit = s.limit; taken = (settled_arena s ps p).taken }
 settled_arena-same s ps p = elim (bool_cases (goes_back s ps p)) [
-  | inl e ↦ subst (λ (t : State). t ≡ record { memory = s.memory; entries = s.entries; limit = s.limit; taken = t.taken }) (sym (settled_arena-yes s ps p e)) refl
-  | inr e ↦ subst (λ (t : State). t ≡ record { memory = s.memory; entries = s.entries; limit = s.limit; taken = t.taken }) (sym (settled_arena-no s ps p e)) refl
+  | inl e ↦ subst (λ (t : State). t ≡ record { memory = s.memory; base = s.base; entries = s.entries; limit = s.limit; taken = t.taken }) (sym (settled_arena-yes s ps p e)) refl
+  | inr e ↦ subst (λ (t : State). t ≡ record { memory = s.memory; base = s.base; entries = s.entries; limit = s.limit; taken = t.taken }) (sym (settled_arena-no s ps p e)) refl
 ]
 
-live_kept : (s : State) (taken : List Bool) (b : BufId) → IsLive s b → IsLive (record { memory = s.memory; entries = s.entries; limit = s.limit; taken = taken }) b
+live_kept : (s : State) (taken : List Bool) (b : BufId) → IsLive s b → IsLive (record { memory = s.memory; base = s.base; entries = s.entries; limit = s.limit; taken = taken }) b
 live_kept s taken b h = record { head = h.head; generation = h.generation }
 
-live_was : (s : State) (taken : List Bool) (b : BufId) → IsLive (record { memory = s.memory; entries = s.entries; limit = s.limit; taken = taken }) b → IsLive s b
+live_was : (s : State) (taken : List Bool) (b : BufId) → IsLive (record { memory = s.memory; base = s.base; entries = s.entries; limit = s.limit; taken = taken }) b → IsLive s b
 live_was s taken b h = record { head = h.head; generation = h.generation }
 
 pub live-settled : (s : State) (ps : List Pool) (p : ℕ) (b : BufId) → IsLive s b → IsLive (settled_arena s ps p) b
@@ -291,6 +291,7 @@ pub keeps-settled : (s : State) (ps : List Pool) (p : ℕ) → Keeps s (settled_
 keeps-settled s ps p = record {
   rising = λ q. (let e : generation_at (settled_arena s ps p) q ≡ generation_at s q = ap (λ (t : State). generation_at t q) (settled_arena-same s ps p) in omega (arith, e));
   kept = λ b h. inl (live_before-settled s ps p b h, bytes_of-settled s ps p b);
+  base = ap (λ (t : State). t.base) (settled_arena-same s ps p);
 }
 
 pub chunk_count-settled : (s : State) (ps : List Pool) (p : ℕ) → chunk_count (settled_arena s ps p) ≡ chunk_count s

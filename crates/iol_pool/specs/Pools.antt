@@ -49,7 +49,7 @@ all_returned taken cs =
 
 -- the arena, with these chunks free again
 abbrev pub with_returned : State → List ℕ → State
-with_returned s cs = record { memory = s.memory; entries = s.entries; limit = s.limit; taken = all_returned s.taken cs }
+with_returned s cs = record { memory = s.memory; base = s.base; entries = s.entries; limit = s.limit; taken = all_returned s.taken cs }
 
 -- chunks are returned when their pool is closed and all their pages are empty
 abbrev pub goes_back : State → List Pool → (p : ℕ) → Bool

@@ -43,6 +43,7 @@ use Rattle.iol_system.specs.Still.{is_still, keeps_store, only_looks, takes_out}
 use Rattle.iol_system.proofs.Effects.{answer_lies, asks_none, does_of, kept_layout, lies_apart, never, plain_does, served}
 use Rattle.iol_system.proofs.ReplyAnswers.{Means, done, early_told, no_room_told, refused_told, sent, told_beside, told_step}
 use Rattle.iol_system.specs.WriteBack.{DropsClean, WritesBack}
+use Rattle.iol_system.proofs.HeldPlaces.{after_held, all_held, step_held, tables_hold, values_sent}
 use Rattle.iol_system.proofs.InPlace.{cache_in_place, drops_in_place, flushes_in_place, shares_file, shares_none, syncs_in_place}
 use Rattle.iol_system.proofs.WriteBack.{drops_back, flushes_back, none_back, syncs_back}
 use Rattle.iol_system.proofs.ResultTold.{ok_told, lacks_told, counts_told, early_fault_in, early_fault}
@@ -66,8 +67,8 @@ pub record IsBack (e : Event) (old : KernelState) : Type 0 where
 
 module _ (m : State → Meaning (Unit {0})) (e : Event) (disk after : Disk) (old new : KernelState) (r : Result (Unit {0}) Refusal) where
   stores_does : IsBack e old → Means done m e → (keeps_store e ≡ true → new.store ≡ old.store) → (asks_store (tables_of old) e ≡ false → after ≡ disk) → (asks_store (tables_of old) e ≡ true → FaultCounts disk after r) → ((p : ℕ) → r ≡ Err (NoRoom p) → ⊥)
-      → KeepsPages old.store new.store [] → WritesBack disk old e (told done r) after new → KeepsInPlace (system_of old disk) e new → Serves m disk old r after new → (writes_store e ≡ false → after.slots ≡ disk.slots) → (IsEarly (told done r) → (new ≡ old) × (after ≡ disk)) → Does disk old e (told done r) after new
-  stores_does back means store unasked faults roomy pages written lies serves slots early =
+      → KeepsPages old.store new.store [] → WritesBack disk old e (told done r) after new → KeepsInPlace (system_of old disk) e new → Serves m disk old r after new → (writes_store e ≡ false → after.slots ≡ disk.slots) → (IsEarly (told done r) → (new ≡ old) × (after ≡ disk)) → new.domains ≡ old.domains → Does disk old e (told done r) after new
+  stores_does back means store unasked faults roomy pages written lies serves slots early domains =
       does_of (back.ends disk (told done r)) (served done means serves)
       (record {
         unasked = unasked;
@@ -93,7 +94,7 @@ module _ (m : State → Meaning (Unit {0})) (e : Event) (disk after : Disk) (old
         sums = back.sums (told done r) new serves.sums;
         written_back = written;
       })
-      (lies_apart (back.unshared (tables_of old)) back.moving (never back.looking) (never (back.inside (tables_of old))) store)
+      (lies_apart (back.unshared (tables_of old)) back.moving (never back.looking) (never (back.inside (tables_of old))) store (all_held old new e (tables_hold old new domains)))
 
 no_room_of_three : (f p : ℕ) (a b c : Bool) → MatchOption (first ((NoDomain when a) ∷ (BadFd when b) ∷ (WrongMode when c) ∷ [])) (FaultOf f (NoRoom p)) (λ y. NoRoom p ≡ y) → ⊥
 no_room_of_three f p true b c is = cc
@@ -117,7 +118,7 @@ module _ (by fd : ℕ) (disk after : Disk) (old new : KernelState) (r : Result (
       stores_does (λ s. files.fsync s by fd) (event.Call by (call.Fsync fd)) disk after old new r (record { uses = λ s. refl; unshared = λ s. refl; inside = λ s. refl; moving = refl; looking = refl; unlent = refl; has = λ s. tt; fits = λ s. tt; divides = λ n. tt; publishes = λ n k. k; creates = λ x n. tt; sums = λ x n k. k; late = λ d a x n. tt; ends = λ d x. tt }) (λ s. told_step done (λ a. refl) (files.fsync s by fd) s) (λ keeps. ap (λ (h : KernelState). h.store) syncs.same)
       (λ none. absurd (true≢false none)) (λ asked. syncs.counts) (sync_roomy serves)
       (pages_equal old.store new.store (ap (λ (h : KernelState). h.store) syncs.same)) (syncs_back by fd disk after old new r sound serves.sound syncs) (syncs_in_place by fd (files.file_on (tables_of old) by fd) disk after old new syncs.syncs) serves
-      (λ none. absurd (true≢false none)) (sync_early (files.file_on (tables_of old) by fd) r syncs.writes)
+      (λ none. absurd (true≢false none)) (sync_early (files.file_on (tables_of old) by fd) r syncs.writes) (ap (λ (h : KernelState). h.domains) syncs.same)
 
 module _ (disk after : Disk) (old new : KernelState) (r : Result (Unit {0}) Refusal) where
   flush_roomy : Serves outside.flush disk old r after new → (p : ℕ) → r ≡ Err (NoRoom p) → ⊥
@@ -135,13 +136,13 @@ module _ (disk after : Disk) (old new : KernelState) (r : Result (Unit {0}) Refu
       stores_does outside.flush event.Flush disk after old new r (record { uses = λ s. refl; unshared = λ s. refl; inside = λ s. refl; moving = refl; looking = refl; unlent = refl; has = λ s. tt; fits = λ s. tt; divides = λ n. tt; publishes = λ n k. k; creates = λ x n. tt; sums = λ x n k. k; late = λ d a x n. tt; ends = λ d x. tt }) (λ s. told_step done (λ a. refl) (outside.flush s) s) (λ keeps. ap (λ (h : KernelState). h.store) flushes.same)
       (λ none. absurd (true≢false none)) (λ asked. flushes.counts) (flush_roomy serves)
       (pages_equal old.store new.store (ap (λ (h : KernelState). h.store) flushes.same)) (flushes_back disk after old new r sound flushes) (flushes_in_place disk after old new r sound flushes) serves
-      (λ none. absurd (true≢false none)) (flush_early r serves.beside)
+      (λ none. absurd (true≢false none)) (flush_early r serves.beside) (ap (λ (h : KernelState). h.domains) flushes.same)
 
 pub drops_does : (disk : Disk) (old new : KernelState) → Serves outside.drop_clean disk old (Ok tt) disk new → KeepsPages old.store new.store [] → DropsClean old new → KeepsDirty old.cache new.cache → Does disk old event.DropClean reply.Done disk new
 drops_does disk old new serves pages drops keeps =
     stores_does outside.drop_clean event.DropClean disk disk old new (Ok tt) (record { uses = λ s. refl; unshared = λ s. refl; inside = λ s. refl; moving = refl; looking = refl; unlent = refl; has = λ s. tt; fits = λ s. tt; divides = λ n. tt; publishes = λ n k. k; creates = λ x n. tt; sums = λ x n k. k; late = λ d a x n. tt; ends = λ d x. tt }) (λ s. told_step done (λ a. refl) (outside.drop_clean s) s) (never refl)
     (λ none. refl) (λ asked. absurd (true≢false (sym asked))) (λ p is. cc) pages (drops_back old new disk drops) (drops_in_place disk old new keeps) serves
-    (λ none. refl) (λ is. absurd is)
+    (λ none. refl) (λ is. absurd is) (ap (λ (h : KernelState). h.domains) drops.same)
 
 -- A new pool.
 module _ (by chunks : ℕ) (list : List ℕ) (disk : Disk) (old new : KernelState) where
@@ -183,6 +184,7 @@ module _ (by chunks : ℕ) (list : List ℕ) (disk : Disk) (old new : KernelStat
         pages = never refl;
         still = λ still. means (layout_of old) (layout_of new) r (kept_layout m old new r c);
         places = never refl;
+        held = step_held old new pool_event (told reply.Pool r) (means (layout_of old) (layout_of new) r (kept_layout m old new r c));
         store = never refl;
       })
 
@@ -207,4 +209,5 @@ module _ (conn max : ℕ) (disk : Disk) (old new : KernelState) where
         sound = c.sound;
         stays = c.stays;
       }) c.roomy c.refused (λ other. c.cache) (cache_in_place disk old new send_event c.cache) c.pages (send_sums r c)
-      (lies_apart refl refl (never refl) (λ out is. answer_lies sent m send_event old new r (λ s. refl) c.places is) (never refl))
+      (lies_apart refl refl (never refl) (λ out is. answer_lies sent m send_event old new r (λ s. refl) c.places is) (never refl)
+      (after_held m old new r send_event (values_sent conn max) c.places c.refused))

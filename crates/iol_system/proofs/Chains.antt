@@ -86,7 +86,7 @@ chain_stays old new (e ∷ es) (r ∷ rs) chain = stays_trans chain.1.stays (cha
 chain_stays old new [] (r ∷ rs) chain = absurd chain
 chain_stays old new (e ∷ es) [] chain = absurd chain
 
-neither : (a b : Bool) → (a || b) ≡ false → (a ≡ false) × (b ≡ false)
+pub neither : (a b : Bool) → (a || b) ≡ false → (a ≡ false) × (b ≡ false)
 neither false b e = (refl, e)
 neither true b e = absurd (true≢false e)
 

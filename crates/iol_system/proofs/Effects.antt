@@ -42,6 +42,8 @@ use Rattle.iol_system.specs.Room.{BytesFit, HasRoomFor, LacksRoomFor, IsDone, Is
 use Rattle.iol_system.specs.Slices.{Divides}
 use Rattle.iol_system.specs.Still.{is_still, keeps_store, only_looks, takes_out}
 use Rattle.iol_system.specs.WriteBack.{WritesBack}
+use Rattle.iol_core.proofs.Values.{KeepsValues, nothing}
+use Rattle.iol_system.proofs.HeldPlaces.{Held, after_held, all_held, step_held, tables_hold}
 use Rattle.iol_system.proofs.InPlace.{cache_in_place, cover_in_place, shares_file, shares_none}
 use Rattle.iol_system.proofs.PagesAndChunks.{carried_pages}
 use Rattle.iol_system.proofs.ReplyAnswers.{Means, Tells, done, early_told, no_room_told, refused_told, told_beside}
@@ -94,6 +96,7 @@ pub record Lies (disk : Disk) (old : KernelState) (e : Event) (r : Reply) (after
   pub pages : is_sharing (tables_of old) e ≡ true → SamePages old.store new.store
   pub still : is_still e ≡ true → LaysOut (layout_of old) e r (layout_of new)
   pub places : takes_out (tables_of old) e ≡ true → IsDone r → layout_of new ≡ (meaning (layout_of old) e).after
+  pub held : Held old new e
   pub store : keeps_store e ≡ true → new.store ≡ old.store
 
 pub does_of : {disk after : Disk} {old new : KernelState} {e : Event} {r : Reply} → TellsEnd (system_of old disk) e r → Goes disk old e r after new → Asks disk old e r after → Refuses disk old e r after new → Alters disk old e r after new → Lies disk old e r after new
@@ -119,6 +122,7 @@ does_of ends goes asks refuses alters lies = record {
   pages = lies.pages;
   still = lies.still;
   places = lies.places;
+  held = lies.held;
   store = lies.store;
   in_place = alters.in_place;
   shares_file = alters.shares_file;
@@ -149,8 +153,8 @@ asks_none none = record { unasked = λ not'. refl; faults = never none; slots = 
 
 -- no place is handed on
 pub lies_apart : {disk after : Disk} {old new : KernelState} {e : Event} {r : Reply} → is_sharing (tables_of old) e ≡ false → is_still e ≡ false → (only_looks e ≡ true → (new ≡ old) × (after ≡ disk))
-    → (takes_out (tables_of old) e ≡ true → IsDone r → layout_of new ≡ (meaning (layout_of old) e).after) → (keeps_store e ≡ true → new.store ≡ old.store) → Lies disk old e r after new
-lies_apart unshared moving looks places store = record { looks = looks; shares = never unshared; pages = never unshared; still = never moving; places = places; store = store }
+    → (takes_out (tables_of old) e ≡ true → IsDone r → layout_of new ≡ (meaning (layout_of old) e).after) → (keeps_store e ≡ true → new.store ≡ old.store) → Held old new e → Lies disk old e r after new
+lies_apart unshared moving looks places store held = record { looks = looks; shares = never unshared; pages = never unshared; still = never moving; places = places; held = held; store = store }
 
 -- a call that keeps places takes the step of the layout, too
 pub kept_layout : {A : Type 0} (m : State → Meaning A) (old new : KernelState) (r : Result A Refusal) → KeepsPlaces m old r new → Step (m (layout_of old)) (layout_of old) r (layout_of new)
@@ -255,6 +259,7 @@ module _ {A : Type 0} (f : A → Reply) (m : State → Meaning A) {e : Event} {d
         pages = λ shared. record { arena = c.arena; pools = c.pools };
         still = λ still. step;
         places = λ out done. done_after (meaning (layout_of old) e) (layout_of old) (layout_of new) (told f r) step done;
+        held = step_held old new e (told f r) step;
         store = never changes;
       })
 
@@ -268,21 +273,22 @@ module _ {A : Type 0} (f : A → Reply) (m : State → Meaning A) {e : Event} {d
         pages = never (unshared (tables_of old));
         still = λ still. step;
         places = λ out done. done_after (meaning (layout_of old) e) (layout_of old) (layout_of new) (told f r) step done;
+        held = step_held old new e (told f r) step;
         store = never changes;
       })
 
   -- one that asks the store for a length
-  pub looks_does : (new.sums ≡ old.sums → Remembers old e (told f r) new) → ((s : State) → is_sharing s e ≡ false) → is_still e ≡ false → ((s : State) → (meaning s e).after ≡ (m s).after) → (only_looks e ≡ true → new ≡ old) → LooksUp m disk old r new → Does disk old e (told f r) disk new
-  looks_does sums unshared moving same looks c =
+  pub looks_does : (new.sums ≡ old.sums → Remembers old e (told f r) new) → ((s : State) → is_sharing s e ≡ false) → is_still e ≡ false → ((s : State) → (meaning s e).after ≡ (m s).after) → ((s : State) → KeepsValues s (m s).after nothing) → (only_looks e ≡ true → new ≡ old) → LooksUp m disk old r new → Does disk old e (told f r) disk new
+  looks_does sums unshared moving same keeps looks c =
       plain_does (served f means c.serves) c.roomy c.refused (λ other. c.cache) (cache_in_place disk old new e c.cache) (pages_equal old.store new.store c.store) (sums c.serves.sums)
-      (lies_apart (unshared (tables_of old)) moving (λ only. (looks only, refl)) (λ out done. answer_lies f m e old new r same c.places done) (λ keeps. c.store))
+      (lies_apart (unshared (tables_of old)) moving (λ only. (looks only, refl)) (λ out done. answer_lies f m e old new r same c.places done) (λ kept. c.store) (after_held m old new r e keeps c.places c.refused))
 
   -- one that makes a file
   pub names_does : (new.sums ≡ old.sums → Remembers old e (told f r) new) → ((s : State) → is_sharing s e ≡ false) → ((s : State) → takes_out s e ≡ false) → is_still e ≡ false → only_looks e ≡ false → makes_file e ≡ true → Names disk m old r new → Does disk old e (told f r) disk new
   names_does sums unshared inside moving unlooking made c =
       let serves : Serves m disk old r disk new = record { step = λ backed placed. c.step backed.honest; backed = c.backed; beside = c.beside; honest = refl; sums = c.sums; sound = c.sound; stays = stays_equal old.store new.store c.store } in
       plain_does (served f means serves) c.roomy c.refused (λ other. never other made) (cover_in_place disk old new e c.keeps) (pages_equal old.store new.store c.store) (sums c.sums)
-      (lies_apart (unshared (tables_of old)) moving (never unlooking) (never (inside (tables_of old))) (λ keeps. c.store))
+      (lies_apart (unshared (tables_of old)) moving (never unlooking) (never (inside (tables_of old))) (λ keeps. c.store) (all_held old new e (tables_hold old new (ap (λ (h : KernelState). h.domains) c.same))))
 
 -- bytes are shown
 pub shown : (by a : ℕ) (disk : Disk) (h : KernelState) (r : Result (List ℕ) Refusal) → IsSound h → Steps (λ s. aggs.show s by a) h r h → ((p : ℕ) → r ≡ Err (NoRoom p) → ⊥) → LooksUp (λ s. aggs.show s by a) disk h r h

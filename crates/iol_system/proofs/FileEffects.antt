@@ -54,6 +54,8 @@ use Rattle.iol_system.specs.Slices.{Divides}
 use Rattle.iol_system.specs.Still.{is_still, keeps_store, takes_out}
 use Rattle.iol_system.proofs.Effects.{Lies, answer_lies, asks_none, does_of, lies_apart, never, served, unlooking_of}
 use Rattle.iol_system.proofs.ReplyAnswers.{Means, Tells, early_told, no_room_told, refused_told, told_step}
+use Rattle.iol_core.proofs.Values.{KeepsValues, nothing}
+use Rattle.iol_system.proofs.HeldPlaces.{Held, after_held, copied_held, given_held, laid_held, moved_held, placed_held, step_held, values_read, values_written}
 use Rattle.iol_system.proofs.InPlace.{beside_in_place, cache_in_place, places_in_place, shares_file, shares_none, unless_in_place}
 use Rattle.iol_system.proofs.PagesAndChunks.{carried_pages, fills_then_frees}
 use Rattle.iol_system.proofs.WriteBack.{none_back, writes_back}
@@ -70,6 +72,7 @@ pub record IsPlacing (e : Event) (put : State → Text → State) (w : Wants) (o
   pub moving : is_still e ≡ false
   pub inside : (s : State) → takes_out s e ≡ false
   pub changes : keeps_store e ≡ false
+  pub keeps : (s : State) (t : Text) → KeepsValues s (put s t) nothing
   pub has : (disk : Disk) → Fits old w → HasRoomFor (system_of old disk) e
   pub lacks : (disk : Disk) → FitsNot old w → LacksRoomFor (system_of old disk) e
   pub fits : (disk : Disk) → Fits old w → BytesFit (system_of old disk) e
@@ -104,7 +107,7 @@ module _ {A : Type 0} (f : A → Reply) (m : State → Meaning A) (put : State �
         sums = placing.sums (told f r) new serves.sums;
         written_back = none_back disk old (told f r) disk new e placing.unwritten;
       })
-      (lies_apart (placing.unshared (tables_of old)) placing.moving (never (unlooking_of e placing.changes)) (never (placing.inside (tables_of old))) (never placing.changes))
+      (lies_apart (placing.unshared (tables_of old)) placing.moving (never (unlooking_of e placing.changes)) (never (placing.inside (tables_of old))) (never placing.changes) (placed_held m put w.pool w.count old new r e placing.keeps c))
 
 -- what a domain that is not live holds is no file
 shared_held : (live : Bool) (o : Option Descriptor) → not (is_file o) ≡ true → not (is_file (if live then o else None)) ≡ true
@@ -207,6 +210,12 @@ module _ (by fd n : ℕ) (disk after : Disk) (old new : KernelState) (r : Result
   read_late (Some (on.File g at mode)) c = late_told reply.Agg r _ (λ a. refl) (with_tables r (SameTables old new) (LeavesAtRefusal (file_read by fd g at mode n) disk old after new) (tables_kept r old new c.0.same c.0.refused) c.0.leaves)
   read_late o c = tt
 
+  read_held : (o : Option Descriptor) → ReadsOn by fd n o disk old r after new → Held old new read_event
+  read_held (Some (on.File g at mode)) c = given_held (file_read by fd g at mode n) disk old new r read_event c.1 c.0.refused
+  read_held o c =
+      let m = λ (s : State). reading.iol_read s by fd n in
+      step_held old new read_event (told reply.Agg r) (told_step reply.Agg (λ a. refl) (m (layout_of old)) (layout_of old) (layout_of new) r (carried_layout m old new r c.0))
+
   read_any : (o : Option Descriptor) → ReadsOn by fd n o disk old r after new → ReadsAny by fd n disk after old new reply.Agg r read_event new o
   read_any (Some (on.File g at mode)) c = c.0
   read_any o c = record { unasked = c.1; roomy = c.0.roomy; refused = c.0.refused; cache = c.0.cache }
@@ -224,6 +233,7 @@ module _ (by fd n : ℕ) (disk after : Disk) (old new : KernelState) (r : Result
         pages = λ shared. (let c = queue shared in record { arena = c.arena; pools = c.pools });
         still = never refl;
         places = never refl;
+        held = read_held o reads;
         store = never refl;
       })
 
@@ -273,6 +283,12 @@ module _ (by fd a : ℕ) (disk : Disk) (old new : KernelState) (r : Result ℕ R
   write_shares (Some (on.File g at mode)) c is = record { lies = ok_told reply.Count r _ c.lies is; over = λ some. ok_told reply.Count r _ (c.over some) is; nothing = λ none. ok_told reply.Count r _ (c.nothing none) is; moves = ok_told reply.Count r _ c.moves is; rest = c.same }
   write_shares o c is = tt
 
+  write_held : (o : Option Descriptor) → WritesOn by fd a o old r new → Held old new write_event
+  write_held (Some (on.File g at mode)) c = moved_held g at (byte_len (slices_in old.domains by a)) old new r write_event c.moves c.refused
+  write_held o c =
+      let m = λ (s : State). writing.iol_write s by fd a in
+      step_held old new write_event (told reply.Count r) (told_step reply.Count (λ a. refl) (m (layout_of old)) (layout_of old) (layout_of new) r (carried_layout m old new r c))
+
   write_late : (o : Option Descriptor) → WritesOn by fd a o old r new → WriteLeaves old o (slices_in old.domains by a) (told reply.Count r) new
   write_late (Some (on.File g at mode)) c = late_told reply.Count r _ (λ a. refl) (with_tables r (SameTables old new) (LeavesUnwritten g (slices_in old.domains by a) old new) (tables_kept r old new c.same c.refused) c.leaves)
   write_late o c = tt
@@ -299,6 +315,7 @@ module _ (by fd a : ℕ) (disk : Disk) (old new : KernelState) (r : Result ℕ R
         pages = λ shared. (let c = write_carried o writes shared in record { arena = c.arena; pools = c.pools });
         still = never refl;
         places = never refl;
+        held = write_held o writes;
         store = never refl;
       })
 
@@ -328,6 +345,12 @@ module _ (by fd n : ℕ) (disk after : Disk) (old new : KernelState) (r : Result
   copy_places (Some (on.File g at mode)) c none is = absurd (true≢false (sym none))
   copy_places o c none is = answer_lies reply.Bytes (λ s. reading.read s by fd n) copy_event old new r (λ s. refl) c.0.places is
 
+  copy_held : (o : Option Descriptor) → CopiesOn by fd n o disk old r after new → Held old new copy_event
+  copy_held (Some (on.File g at mode)) c = copied_held (file_read by fd g at mode n) disk old new c.mid r copy_event c.gives c.reads.refused
+  copy_held o c =
+      let m = λ (s : State). reading.read s by fd n in
+      after_held m old new r copy_event (values_read by fd n) c.0.places c.0.refused
+
   copy_late : (o : Option Descriptor) → CopiesOn by fd n o disk old r after new → CopyLeaves by fd n (system_of old disk) o (told reply.Bytes r) (system_of new after)
   copy_late (Some (on.File g at mode)) c =
       let over : KernelState = record new { store = c.mid } in
@@ -355,7 +378,7 @@ module _ (by fd n : ℕ) (disk after : Disk) (old new : KernelState) (r : Result
       let any = has_read by fd n disk after old new reply.Bytes r copy_event (record new { store = copy_over o copies }) refl (λ a. refl) o (copy_any o copies) in
       let means : Means reply.Bytes (λ s. reading.read s by fd n) copy_event = (λ s. told_step reply.Bytes (λ a. refl) (reading.read s by fd n) s) in
       read_does by fd n disk after old new reply.Bytes r copy_event (λ s. reading.read s by fd n) o any refl refl refl (λ k. k) (λ k. k) tt (λ p k. k) tt means serves (copy_early o copies) (copy_late o copies) (copy_shares o copies) (λ is. copy_fills o copies) (λ is. tt) tt (λ k. k)
-      (lies_apart refl refl (never refl) (copy_places o copies) (never refl))
+      (lies_apart refl refl (never refl) (copy_places o copies) (never refl) (copy_held o copies))
 
 -- A write by copying.
 module _ (by fd : ℕ) (bytes : List ℕ) (disk : Disk) (old new : KernelState) (r : Result ℕ Refusal) where
@@ -397,6 +420,10 @@ module _ (by fd : ℕ) (bytes : List ℕ) (disk : Disk) (old new : KernelState) 
   put_late (Some (on.File g at mode)) placed lays = late_told reply.Count r _ (λ a. refl) lays.leaves
   put_late o placed lays = late_told reply.Count r _ (λ a. refl) (placed refl).refused
 
+  put_held : (o : Option Descriptor) → (is_file o ≡ false → IsPut o) → LaysOn o (wants o).pool bytes old r new → Held old new put_event
+  put_held (Some (on.File g at mode)) placed lays = laid_held g at (wants (Some (on.File g at mode))).pool bytes old new r put_event lays
+  put_held o placed lays = placed_held (λ s. writing.write s by fd bytes) put (wants o).pool (wants o).count old new r put_event (λ s t. values_written s by fd (descriptor s by fd) t) (placed refl)
+
   put_shares : (o : Option Descriptor) → LaysOn o (wants o).pool bytes old r new → IsDone (told reply.Count r) → SharesPut (wants o).pool bytes o old new
   put_shares (Some (on.File g at mode)) lays is = ok_told reply.Count r _ lays.lays is
   put_shares o lays is = tt
@@ -437,4 +464,4 @@ module _ (by fd : ℕ) (bytes : List ℕ) (disk : Disk) (old new : KernelState) 
         sums = serves.sums;
         written_back = none_back disk old (told reply.Count r) disk new put_event refl;
       })
-      (lies_apart refl refl (never refl) (never refl) (never refl))
+      (lies_apart refl refl (never refl) (never refl) (never refl) (put_held o queue lays))

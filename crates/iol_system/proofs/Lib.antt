@@ -14,6 +14,8 @@ pub mod ChunkReturns
 pub mod Empty
 pub mod Streams
 pub mod ReplyAnswers
+pub mod HeldPlaces
+pub mod Addresses
 pub mod Effects
 pub mod BackEffects
 pub mod FileEffects

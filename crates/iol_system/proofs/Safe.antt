@@ -81,6 +81,7 @@ module _ (old new : SystemState) (e : Event) (r : Reply) (safe : IsSafe old) (do
     pages = does.pages;
     still = does.still;
     places = does.places;
+    held = does.held;
     store = does.store;
     in_place = does.in_place;
     shares_file = does.shares_file;

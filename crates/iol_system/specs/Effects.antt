@@ -4,6 +4,7 @@ use Rattle.iol_back.specs.Disk.{Disk, IfHonest}
 use Rattle.iol_cache.specs.ReadResults.{FaultCounts}
 use Rattle.iol_core.specs.Positions.{ArePlaced}
 use Rattle.iol_core.specs.Run.{meaning, outcome, StepsTo}
+use Rattle.iol_core.specs.Values.{ValuesStay}
 use Rattle.iol_core.specs.SharingCalls.{is_sharing, LaysOut}
 use Rattle.iol_core.specs.declared.events.Call.{Call}
 use Rattle.iol_core.specs.declared.events.Event.{Event}
@@ -50,6 +51,7 @@ pub record Does (disk : Disk) (old : KernelState) (e : Event) (r : Reply) (after
   pub pages : is_sharing (tables_of old) e ≡ true → SamePages old.store new.store
   pub still : is_still e ≡ true → LaysOut (layout_of old) e r (layout_of new)
   pub in_place : KeepsInPlace (system_of old disk) e new
+  pub held : ValuesStay (layout_of old) e (layout_of new)
   pub places : takes_out (tables_of old) e ≡ true → IsDone r → layout_of new ≡ (meaning (layout_of old) e).after
   pub store : keeps_store e ≡ true → new.store ≡ old.store
   pub shares_file : IsDone r → SharesFile (system_of old disk) e r new

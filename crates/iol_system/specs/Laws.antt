@@ -1,6 +1,9 @@
 -- Laws of runs: consequences of a chain of steps that keep their promises. Each is the contract of a function of `laws`.
 use Rattle.std.specs.Prelude.{◌≡◌, ◌⊎◌, ◌+◌, ◌<◌, ℕ, true, false, List, [], ◌∷◌, ◌++◌, Option, Some, option_map}
-use Rattle.iol_core.specs.State.{State}
+use Rattle.std.specs.List.{list_any}
+use Rattle.iol_core.specs.State.{State, aggregate}
+use Rattle.iol_core.specs.Text.{Text}
+use Rattle.iol_core.specs.Values.{gives_up}
 use Rattle.iol_core.specs.Run.{Run}
 use Rattle.iol_core.specs.SharingCalls.{is_sharing}
 use Rattle.iol_core.specs.declared.numbers.BufId.{BufId}
@@ -25,6 +28,7 @@ use Rattle.iol_extent.specs.Extents.{Extent, extent_over}
 use Rattle.iol_cache.specs.CacheState.{Cached, extents_in, order_in}
 use Rattle.iol_kernel.specs.FileReads.{held_by}
 use Rattle.iol_kernel.specs.KernelState.{layout_of}
+use Rattle.iol_kernel.specs.LocatedParts.{addresses_of}
 use Rattle.iol_laws.specs.Order.{IsOrderly}
 use Rattle.iol_system.specs.NobodyLeft.{IsAllFree, IsLeft}
 use Rattle.iol_system.specs.InPlace.{IsInRange}
@@ -156,6 +160,17 @@ RunsKeepHonesty = (old new : SystemState) (es : List Event) (rs : List Reply) �
 abbrev pub RunsKeepBuffers : Type 0
 RunsKeepBuffers = (old new : SystemState) (es : List Event) (rs : List Reply) → Chain old es rs new
     → Stays old.kernel.store new.kernel.store
+
+-- each byte of an aggregate that no event of a run gives up keeps its place
+abbrev pub RunsKeepPlaces : Type 0
+RunsKeepPlaces = (old new : SystemState) (es : List Event) (rs : List Reply) → Chain old es rs new
+    → ValuesStayOver (layout_of old.kernel) es (layout_of new.kernel)
+
+-- each byte of an aggregate that no event of a run gives up is at the same address after the run as before
+abbrev pub RunsKeepAddresses : Type 0
+RunsKeepAddresses = (old new : SystemState) (es : List Event) (rs : List Reply) → Chain old es rs new
+    → (d a : ℕ) (t : Text) → aggregate (machine_of old) d a ≡ Some t → list_any (λ e. gives_up e d a) es ≡ false
+    → addresses_of new.kernel d a ≡ addresses_of old.kernel d a
 
 -- an aggregate that no event of a run gives up keeps its value
 abbrev pub RunsKeepValues : Type 0

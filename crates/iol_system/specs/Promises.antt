@@ -74,6 +74,8 @@ pub record Promises (old : SystemState) (e : Event) (r : Reply) (new : SystemSta
   -- the remaining bytes keep their places when bytes are sent or copied off a queue, or a position moves
   pub places : takes_out (tables_of old.kernel) e ≡ true → IsDone r → layout_of new.kernel
       ≡ (meaning (layout_of old.kernel) e).after
+  -- each byte of an aggregate keeps its place until a call gives the aggregate up
+  pub held : ValuesStay (layout_of old.kernel) e (layout_of new.kernel)
   -- looking, moving a position and writing back change no page, no count and no pool
   pub store : keeps_store e ≡ true → new.kernel.store ≡ old.kernel.store
   -- calls on files share the bytes in memory, and the bytes read or written by copying are in memory afterwards, too
@@ -104,7 +106,7 @@ pub record Promises (old : SystemState) (e : Event) (r : Reply) (new : SystemSta
   pub stores_back : StoresBack old.disk old.kernel e r new.disk new.kernel
   -- new is safe
   pub safe : IsSafe new
-  -- live buffers keep their bytes and their pools, and no identity is used twice
+  -- live buffers keep their bytes, at the same addresses, and their pools, and no identity is used twice
   pub stays : Stays old.kernel.store new.kernel.store
   -- aggregates keep their values
   pub values : ValuesStay (machine_of old) e (machine_of new)

@@ -3,7 +3,7 @@
 ghost use Rattle.iol_system.specs.Laws.{RunsAsTheMachine, RunsInParts, EachEventIsAStep};
 ghost use Rattle.iol_system.specs.Laws.{AllPagesComeFree, ClosedPoolsGiveBack, EachPageHasOneUse, EachChunkHasOnePool};
 ghost use Rattle.iol_system.specs.Laws.{EachStepKeepsChunks, NoRoomEvictsNothing, NoRoomKeepsPools, RefusedWithoutRoomEvictsNothing};
-ghost use Rattle.iol_system.specs.Laws.{RunsStaySafe, RunsStayOrderly, RunsKeepBuffers, RunsKeepHonesty, RunsKeepValues, RunsShare};
+ghost use Rattle.iol_system.specs.Laws.{RunsStaySafe, RunsStayOrderly, RunsKeepAddresses, RunsKeepBuffers, RunsKeepHonesty, RunsKeepPlaces, RunsKeepValues, RunsShare};
 
 /// The replies of a run, and the state after it, are those of the machine that copies at every call.
 pub fn runs_as_the_machine()
@@ -66,6 +66,18 @@ pub fn runs_keep_honesty()
 /// used twice.
 pub fn runs_keep_buffers()
     ensures { RunsKeepBuffers }
+{}
+
+/// Each byte of an aggregate that no event of a run gives up keeps its place: the buffer, and the
+/// offset in it.
+pub fn runs_keep_places()
+    ensures { RunsKeepPlaces }
+{}
+
+/// Each byte of an aggregate that no event of a run gives up is at the same address after the run
+/// as before.
+pub fn runs_keep_addresses()
+    ensures { RunsKeepAddresses }
 {}
 
 /// An aggregate that no event of a run gives up keeps its value.

@@ -5,7 +5,7 @@ ghost use Rattle.iol_core.specs.Prelude.{Run};
 ghost use Rattle.iol_hold.specs.Prelude.{Stays};
 ghost use Rattle.iol_kernel.specs.Prelude.{Reports};
 ghost use Rattle.iol_system.specs.NewSystem.{MakesSystem};
-ghost use Rattle.iol_system.specs.LentBytes.{LendsParts};
+ghost use Rattle.iol_system.specs.LentBytes.{LendsParts, LocatesParts};
 ghost use Rattle.iol_system.specs.Machine.{machine_of, tables_of};
 ghost use Rattle.iol_system.specs.Promises.{Promises, Chain};
 ghost use Rattle.iol_system.specs.Safe.{IsSafe};
@@ -14,7 +14,7 @@ ghost use Rattle.iol_system.specs.Values.{KeepsValues};
 use crate::aggregates::Aggregates;
 use crate::calls::answer_call;
 use crate::replies;
-use iol_agg::Parts;
+use iol_agg::{LocatedParts, Parts};
 use iol_back::backing::Backing;
 use iol_core::configuration::Config;
 use iol_core::events::{Event, Reply};
@@ -69,6 +69,14 @@ impl<B: Backing> System<B> {
         ensures { LendsParts (tables_of self.now.kernel) by agg result }
     {
         self.kernel.parts(by, agg)
+    }
+
+    /// The same bytes. The contract says at which addresses they are: at the same ones after each
+    /// step that leaves the aggregate its slices.
+    pub fn located_parts(&self, by: DomainId, agg: AggId) -> Result<LocatedParts<'_>, Refusal>
+        ensures { LocatesParts self.now.kernel by agg result }
+    {
+        self.kernel.located_parts(by, agg)
     }
 
     /// References to the aggregates of all domains, as [`System::parts`] gives them for one.

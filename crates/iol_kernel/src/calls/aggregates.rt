@@ -6,12 +6,13 @@ ghost use Rattle.iol_kernel.specs.Calls.{MayMake, RefusesShow};
 ghost use Rattle.iol_kernel.specs.Denials.{TellsBarred};
 ghost use Rattle.iol_kernel.specs.DomainAggregates.{HasAgg, MayCut, MayGive, MayJoin, MayReplace, MaySplit};
 ghost use Rattle.iol_kernel.specs.KernelState.{joined, IsSound};
+ghost use Rattle.iol_kernel.specs.LocatedParts.{Locates};
 ghost use Rattle.iol_kernel.specs.NewBytes.{FillsNext, MakesAggregate, TestsMake};
 ghost use Rattle.iol_kernel.specs.Readings.{Reading};
 
 use crate::kernel::Kernel;
 use crate::tables::{first_hidden, join_aggs, move_agg, split_agg};
-use iol_agg::{Agg, Parts};
+use iol_agg::{Agg, LocatedParts, Parts};
 use iol_core::limits::MAX_AGGREGATE_BYTES;
 use iol_core::lists::Bytes;
 use iol_core::numbers::{AggId, DomainId, PoolId};
@@ -316,6 +317,16 @@ impl Kernel {
     {
         let found = self.find(by, agg)?;
         Ok(found.parts(&self.store))
+    }
+
+    /// The same bytes. The contract says at which addresses they are.
+    pub fn located_parts(&self, by: DomainId, agg: AggId) -> Result<LocatedParts<'_>, Refusal>
+        requires { IsSound (state_of self.now) }
+        ensures ok { IfOk result (λ parts. Locates by agg parts (state_of self.now)) }
+        ensures err { IfErr result (λ x. RefusesShow by agg x (state_of self.now)) }
+    {
+        let found = self.find(by, agg)?;
+        Ok(found.located_parts(&self.store))
     }
 
     /// The number of bytes of an aggregate. Its slices are not walked.

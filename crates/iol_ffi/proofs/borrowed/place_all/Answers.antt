@@ -1,7 +1,7 @@
 -- Each turn writes the next part.
 use Rattle.std.proofs.Common.{rules, ◌≡◌, ◌+◌, ◌∙◌, ap, min, subst, arith, length, length-append}
-use Rattle.std.specs.List.{concat}
-use Rattle.iol_ffi.specs.Parts.{WritesBelow}
+use Rattle.iol_hold.specs.Addresses.{located}
+use Rattle.iol_ffi.specs.Parts.{WritesBelow, all_bytes}
 use Rattle.iol_ffi.proofs.Placing.{left_turn, writes_none, writes_turn}
 use Rattle.iol_ffi.proofs.borrowed.place_all.Goals as goal
 
@@ -22,9 +22,10 @@ loop-part-preserved c =
     let h = c.loop-part.invariant in
     let first = c.in-Some.ensures.steps in
     let next = c.saturating_add-count.ensures in
-    let part = c.in-Some.part.now in
+    let bytes = c.in-Some.part.now in
+    let part = located c.in-Some.part in
     let left = c.next.new.self in
-    let whole : length (concat c.loop-part.part-iterator) ≡ length part + length (concat left) = ap (λ l. length (concat l)) first ∙ length-append part (concat left) in
+    let whole : length (all_bytes c.loop-part.part-iterator) ≡ length bytes + length (all_bytes left) = ap (λ l. length (all_bytes l)) first ∙ length-append bytes (all_bytes left) in
     record {
       can = search (rules);
       finite = search (rules);

@@ -1,6 +1,5 @@
 use Rattle.std.proofs.Common.{◌≡◌, ◌+◌, ◌≤◌, ◌<◌, drop, length, min}
-use Rattle.std.specs.List.{concat}
-use Rattle.iol_ffi.specs.Parts.{WritesBelow}
+use Rattle.iol_ffi.specs.Parts.{WritesBelow, all_bytes}
 use Rattle.iol_ffi.proofs.borrowed.place_all.Given as goal
 
 -- What was counted, and what is left to count, is what there is. The parts that were counted are written.
@@ -11,7 +10,7 @@ invariant-loop-part l = record {
   count_fits : l.count ≤ 18446744073709551615;
   len_fits : l.len ≤ 18446744073709551615;
   parts : min (l.count + length l.part-iterator) 18446744073709551615 ≡ min (length l.fn.parts) 18446744073709551615;
-  bytes : min (l.len + length (concat l.part-iterator)) 18446744073709551615 ≡ min (length (concat l.fn.parts)) 18446744073709551615;
+  bytes : min (l.len + length (all_bytes l.part-iterator)) 18446744073709551615 ≡ min (length (all_bytes l.fn.parts)) 18446744073709551615;
   rest : l.count < 18446744073709551615 → l.part-iterator ≡ drop l.count l.fn.parts;
   written : WritesBelow l.count l.fn.parts l.fn.skip l.fn.room l.room;
 }

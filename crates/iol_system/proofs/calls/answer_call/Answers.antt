@@ -12,6 +12,8 @@ use Rattle.iol_kernel.specs.Kernel.{state_of}
 use Rattle.iol_system.specs.Effects.{Does}
 use Rattle.iol_system.specs.Replies.{told}
 use Rattle.iol_system.specs.Wants.{for_made}
+use Rattle.iol_core.proofs.Values.{values_with_agg}
+use Rattle.iol_system.proofs.HeldPlaces.{values_seek}
 use Rattle.iol_system.proofs.Effects.{as_call, carried_does, kept_does, domain_admitted, looks_does, names_does, never, file_created, shown}
 use Rattle.iol_system.proofs.ReplyAnswers.{done, told_step}
 use Rattle.iol_system.proofs.FileEffects.{copies_does, puts_does, places_does, reads_does, writes_does}
@@ -56,7 +58,7 @@ pub returns-in-AggGive : goal.returns-in-AggGive
 returns-in-AggGive g c = as_call c.in-AggGive.is c.agg-in-AggGive.ensures (carried_does reply.Agg (λ s. aggs.agg_give s c.args.by c.in-AggGive.agg c.in-AggGive.to) (λ a. refl) refl (λ s. told_step reply.Agg (λ a. refl) (aggs.agg_give s c.args.by c.in-AggGive.agg c.in-AggGive.to) s) tt tt (λ k. k) refl c.requires c.agg_give.ensures)
 
 pub returns-in-Show : goal.returns-in-Show
-returns-in-Show g c = as_call c.in-Show.is c.bytes.ensures (looks_does reply.Bytes (λ s. aggs.show s c.args.by c.in-Show.agg) (λ a. refl) refl (λ s. told_step reply.Bytes (λ a. refl) (aggs.show s c.args.by c.in-Show.agg) s) tt tt (λ k. k) (λ s. refl) refl (λ s. refl) (λ is. refl) (shown c.args.by c.in-Show.agg (g.B.Backing.disk c.args.backing.now) (state_of c.args.kernel.now) c.show.result c.requires c.show.ensures.show c.show.ensures.roomy))
+returns-in-Show g c = as_call c.in-Show.is c.bytes.ensures (looks_does reply.Bytes (λ s. aggs.show s c.args.by c.in-Show.agg) (λ a. refl) refl (λ s. told_step reply.Bytes (λ a. refl) (aggs.show s c.args.by c.in-Show.agg) s) tt tt (λ k. k) (λ s. refl) refl (λ s. refl) (λ s d a t is kept. is) (λ is. refl) (shown c.args.by c.in-Show.agg (g.B.Backing.disk c.args.backing.now) (state_of c.args.kernel.now) c.show.result c.requires c.show.ensures.show c.show.ensures.roomy))
 
 pub returns-in-FileNew : goal.returns-in-FileNew
 returns-in-FileNew g c = as_call c.in-FileNew.is c.file.ensures (names_does reply.File (λ s. files.file_new s c.args.by c.in-FileNew.name c.in-FileNew.pool) (λ a. refl) refl (λ s. told_step reply.File (λ a. refl) (files.file_new s c.args.by c.in-FileNew.name c.in-FileNew.pool) s) (new_ends (g.B.Backing.disk c.args.backing.now) (state_of c.args.kernel.now) c.args.by c.in-FileNew.name c.in-FileNew.pool c.file_new.result c.file_new.ensures.fits) (file_created (g.B.Backing.disk c.args.backing.now) (λ s. files.file_new s c.args.by c.in-FileNew.name c.in-FileNew.pool) c.args.by c.in-FileNew.pool c.in-FileNew.name (state_of c.args.kernel.now) (state_of c.file_new.new.self) c.file_new.result c.file_new.ensures.names) (λ k. k) (λ s. refl) (λ s. refl) refl refl refl c.file_new.ensures.names)
@@ -74,16 +76,16 @@ pub returns-in-Close : goal.returns-in-Close
 returns-in-Close g c = as_call c.in-Close.is c.done-in-Close.ensures (kept_does done (λ s. fds.close s c.args.by c.in-Close.fd) (λ a. refl) refl (λ s. told_step done (λ a. refl) (fds.close s c.args.by c.in-Close.fd) s) tt tt (λ k. k) (λ s. refl) refl c.requires c.close.ensures.close c.close.ensures.roomy)
 
 pub returns-in-Seek : goal.returns-in-Seek
-returns-in-Seek g c = as_call c.in-Seek.is c.done-in-Seek.ensures (looks_does done (λ s. files.seek s c.args.by c.in-Seek.fd c.in-Seek.at) (λ a. refl) refl (λ s. told_step done (λ a. refl) (files.seek s c.args.by c.in-Seek.fd c.in-Seek.at) s) (seek_ends (g.B.Backing.disk c.args.backing.now) (state_of c.args.kernel.now) c.args.by c.in-Seek.fd c.in-Seek.at c.seek.result c.seek.ensures.ends) tt (λ k. k) (λ s. refl) refl (λ s. refl) (never refl) c.seek.ensures.looks)
+returns-in-Seek g c = as_call c.in-Seek.is c.done-in-Seek.ensures (looks_does done (λ s. files.seek s c.args.by c.in-Seek.fd c.in-Seek.at) (λ a. refl) refl (λ s. told_step done (λ a. refl) (files.seek s c.args.by c.in-Seek.fd c.in-Seek.at) s) (seek_ends (g.B.Backing.disk c.args.backing.now) (state_of c.args.kernel.now) c.args.by c.in-Seek.fd c.in-Seek.at c.seek.result c.seek.ensures.ends) tt (λ k. k) (λ s. refl) refl (λ s. refl) (values_seek c.args.by c.in-Seek.fd c.in-Seek.at) (never refl) c.seek.ensures.looks)
 
 pub returns-in-Length : goal.returns-in-Length
-returns-in-Length g c = as_call c.in-Length.is c.count.ensures (looks_does reply.Count (λ s. files.file_length s c.args.by c.in-Length.fd) (λ a. refl) refl (λ s. told_step reply.Count (λ a. refl) (files.file_length s c.args.by c.in-Length.fd) s) (length_ends (g.B.Backing.disk c.args.backing.now) (state_of c.args.kernel.now) c.args.by c.in-Length.fd c.file_length.result c.file_length.ensures.ends) tt (λ k. k) (λ s. refl) refl (λ s. refl) (λ is. refl) c.file_length.ensures.told)
+returns-in-Length g c = as_call c.in-Length.is c.count.ensures (looks_does reply.Count (λ s. files.file_length s c.args.by c.in-Length.fd) (λ a. refl) refl (λ s. told_step reply.Count (λ a. refl) (files.file_length s c.args.by c.in-Length.fd) s) (length_ends (g.B.Backing.disk c.args.backing.now) (state_of c.args.kernel.now) c.args.by c.in-Length.fd c.file_length.result c.file_length.ensures.ends) tt (λ k. k) (λ s. refl) refl (λ s. refl) (λ s d a t is kept. is) (λ is. refl) c.file_length.ensures.told)
 
 pub returns-in-Accept : goal.returns-in-Accept
 returns-in-Accept g c = as_call c.in-Accept.is c.fd-in-Accept.ensures (carried_does reply.Fd (λ s. fds.accept s c.args.by) (λ a. refl) refl (λ s. told_step reply.Fd (λ a. refl) (fds.accept s c.args.by) s) tt tt (λ k. k) refl c.requires c.accept.ensures)
 
 pub returns-in-AggMake : goal.returns-in-AggMake
-returns-in-AggMake g c = as_call c.in-AggMake.is c.agg.ensures (places_does reply.Agg (λ s. (aggs.agg_make s c.args.by c.in-AggMake.bytes)) (λ s t. aggs.with_agg s c.args.by t) (for_made (state_of c.args.kernel.now) c.args.by c.in-AggMake.bytes) (event.Call c.args.by (call.AggMake c.in-AggMake.bytes)) (g.B.Backing.disk c.args.backing.now) (state_of c.args.kernel.now) (state_of c.agg_make.new.self) c.agg_make.result (λ a. refl) (record { unwritten = refl; unlent = refl; goes = λ d p k. k; asks = λ s. refl; uses = λ s. refl; unshared = λ s. refl; moving = refl; inside = λ s. refl; changes = refl; has = λ d k. k; lacks = λ d k. k; fits = λ d k. k; publishes = λ n k. k; creates = λ x n. tt; late = λ d x n k. k; sums = λ x n k. k }) (λ s t r step. told_step reply.Agg (λ a. refl) (aggs.agg_make s c.args.by c.in-AggMake.bytes) s t r step) tt c.agg_make.ensures.places c.agg_make.ensures.slices)
+returns-in-AggMake g c = as_call c.in-AggMake.is c.agg.ensures (places_does reply.Agg (λ s. (aggs.agg_make s c.args.by c.in-AggMake.bytes)) (λ s t. aggs.with_agg s c.args.by t) (for_made (state_of c.args.kernel.now) c.args.by c.in-AggMake.bytes) (event.Call c.args.by (call.AggMake c.in-AggMake.bytes)) (g.B.Backing.disk c.args.backing.now) (state_of c.args.kernel.now) (state_of c.agg_make.new.self) c.agg_make.result (λ a. refl) (record { unwritten = refl; unlent = refl; goes = λ d p k. k; asks = λ s. refl; uses = λ s. refl; unshared = λ s. refl; moving = refl; inside = λ s. refl; changes = refl; keeps = λ s t. values_with_agg s c.args.by t; has = λ d k. k; lacks = λ d k. k; fits = λ d k. k; publishes = λ n k. k; creates = λ x n. tt; late = λ d x n k. k; sums = λ x n k. k }) (λ s t r step. told_step reply.Agg (λ a. refl) (aggs.agg_make s c.args.by c.in-AggMake.bytes) s t r step) tt c.agg_make.ensures.places c.agg_make.ensures.slices)
 
 pub returns-in-PoolCreate : goal.returns-in-PoolCreate
 returns-in-PoolCreate g c = as_call c.in-PoolCreate.is c.pool.ensures (creates_does c.args.by c.in-PoolCreate.chunks c.in-PoolCreate.domains (g.B.Backing.disk c.args.backing.now) (state_of c.args.kernel.now) (state_of c.pool_create.new.self) c.pool_create.result c.requires c.pool_create.ensures.create c.pool_create.ensures.chunks c.pool_create.ensures.room c.pool_create.ensures.no_room)
