@@ -25,7 +25,7 @@
 //! ```text
 //! let mut kernel = Kernel::new(alloc, config)?;
 //! kernel.set_pool(domain, pool)?;
-//! let agg = kernel.agg_make(domain, &bytes)?;
+//! let agg = kernel.agg_make(domain, b"hello")?;
 //! let part = kernel.agg_cut(domain, agg, 0, 5)?; // the first five bytes, not copied
 //! ```
 #![tactic(auto)]

@@ -64,6 +64,10 @@ pub record Does (disk : Disk) (old : KernelState) (e : Event) (r : Reply) (after
   pub sound : IsSound new
   pub stays : Stays old.store new.store
 
+-- the effect of a call of a domain that does not ask the store, whatever it has
+abbrev pub DoesAlone : (by : ℕ) → Call → Kernel → Reply → Kernel → Type 0
+DoesAlone by call old r new = (disk : Disk) → Does disk (state_of old) (event.Call by call) r disk (state_of new)
+
 -- the effect of a call of a domain on a kernel, over a store with this content
 abbrev pub DoesCall : {B : Type 0} → (by : ℕ) → Call → (disk : B → Disk) → (backing after : B) → Kernel → Reply → Kernel → Type 0
 DoesCall by call disk backing after old r new =

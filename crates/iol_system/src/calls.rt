@@ -1,13 +1,30 @@
 //! The calls of domains: the kernel's function for each.
 ghost use Rattle.iol_kernel.specs.Prelude.{state_of, IsSound};
-ghost use Rattle.iol_system.specs.Effects.{DoesCall};
+ghost use Rattle.iol_core.specs.declared.events.Call.TheVariants as call;
+ghost use Rattle.iol_system.specs.Effects.{DoesAlone, DoesCall};
 
 use crate::replies;
 use iol_back::backing::Backing;
 use iol_core::events::{Call, Reply};
-use iol_core::numbers::DomainId;
+use iol_core::numbers::{DomainId, Fd};
 use iol_kernel::kernel::Kernel;
 use iol_posix::{read_bytes, write};
+
+/// Carries out the call `AggMake` of borrowed bytes, and replies.
+pub(crate) fn make_agg(kernel: &mut Kernel, by: DomainId, bytes: &[u8]) -> Reply
+    requires { IsSound (state_of kernel.old) }
+    ensures { DoesAlone by (call.AggMake bytes.now) kernel.old result kernel.new }
+{
+    replies::agg(kernel.agg_make(by, bytes))
+}
+
+/// Carries out the call `Write` of borrowed bytes, and replies.
+pub(crate) fn write_bytes(kernel: &mut Kernel, by: DomainId, fd: Fd, bytes: &[u8]) -> Reply
+    requires { IsSound (state_of kernel.old) }
+    ensures { DoesAlone by (call.Write fd bytes.now) kernel.old result kernel.new }
+{
+    replies::count(write(kernel, by, fd, bytes))
+}
 
 /// Carries out one call of a domain, and replies.
 pub(crate) fn answer_call<B: Backing>(
@@ -28,7 +45,7 @@ pub(crate) fn answer_call<B: Backing>(
         Call::PoolClose { pool } => replies::done(kernel.pool_close(by, *pool)),
         Call::PoolAdmit { pool, domain } => replies::done(kernel.pool_admit(by, *pool, *domain)),
         Call::SetPool { pool } => replies::done(kernel.set_pool(by, *pool)),
-        Call::AggMake { bytes } => replies::agg(kernel.agg_make(by, bytes)),
+        Call::AggMake { bytes } => replies::agg(kernel.agg_make(by, bytes.as_slice())),
         Call::AggDup { agg } => replies::agg(kernel.agg_dup(by, *agg)),
         Call::AggCut { agg, from, to } => replies::agg(kernel.agg_cut(by, *agg, *from, *to)),
         Call::AggSplit { agg, at } => replies::aggs(kernel.agg_split(by, *agg, *at)),

@@ -2,6 +2,8 @@
 ghost use Rattle.std.specs.Prelude.{◌≡◌, IfOk, OnOk, OnErr};
 ghost use Rattle.iol_back.specs.Prelude.{IfHonest};
 ghost use Rattle.iol_core.specs.Prelude.{Run};
+ghost use Rattle.iol_core.specs.declared.events.Call.TheVariants as call;
+ghost use Rattle.iol_core.specs.declared.events.Event.TheVariants as event;
 ghost use Rattle.iol_hold.specs.Prelude.{Stays};
 ghost use Rattle.iol_kernel.specs.Prelude.{Reports};
 ghost use Rattle.iol_system.specs.NewSystem.{MakesSystem};
@@ -12,13 +14,13 @@ ghost use Rattle.iol_system.specs.Safe.{IsSafe};
 ghost use Rattle.iol_system.specs.Values.{KeepsValues};
 
 use crate::aggregates::Aggregates;
-use crate::calls::answer_call;
+use crate::calls::{answer_call, make_agg, write_bytes};
 use crate::replies;
 use iol_agg::{LocatedParts, Parts};
 use iol_back::backing::Backing;
 use iol_core::configuration::Config;
 use iol_core::events::{Event, Reply};
-use iol_core::numbers::{AggId, DomainId};
+use iol_core::numbers::{AggId, DomainId, Fd};
 use iol_core::refusals::Refusal;
 use iol_kernel::kernel::Kernel;
 use iol_kernel::report::Report;
@@ -121,6 +123,21 @@ impl<B: Backing> System<B> {
                 Reply::Done
             }
         }
+    }
+
+    /// Makes an aggregate of borrowed bytes: the step of `AggMake` with these bytes, without a list
+    /// of them.
+    pub fn make_agg(&mut self, by: DomainId, bytes: &[u8]) -> Reply
+        ensures { Promises self.old (event.Call by (call.AggMake bytes.now)) result self.new }
+    {
+        make_agg(&mut self.kernel, by, bytes)
+    }
+
+    /// Writes borrowed bytes: the step of `Write` with these bytes, without a list of them.
+    pub fn write_bytes(&mut self, by: DomainId, fd: Fd, bytes: &[u8]) -> Reply
+        ensures { Promises self.old (event.Call by (call.Write fd bytes.now)) result self.new }
+    {
+        write_bytes(&mut self.kernel, by, fd, bytes)
     }
 
     /// Executes events in order. If there is no memory for the replies, none is executed: it is

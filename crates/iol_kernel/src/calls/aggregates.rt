@@ -24,16 +24,15 @@ impl Kernel {
 
     /// Places bytes in the caller's default pool, as its next aggregate. Clean extents of the
     /// pool's files are evicted if necessary.
-    pub fn agg_make(&mut self, by: DomainId, bytes: &Bytes) -> Result<AggId, Refusal>
+    pub fn agg_make(&mut self, by: DomainId, bytes: &[u8]) -> Result<AggId, Refusal>
         requires { IsSound (state_of self.old) }
         ensures { MakesAggregate by bytes.now (state_of self.old) result (state_of self.new) }
     {
-        let list = bytes.as_slice();
-        let pool = self.pool_to_make(by, list)?;
-        if !self.make_room_for(pool, list.len() as u32) {
+        let pool = self.pool_to_make(by, bytes)?;
+        if !self.make_room_for(pool, bytes.len() as u32) {
             return Err(Refusal::NoRoom { pool });
         }
-        self.fill_agg(by, pool, list)
+        self.fill_agg(by, pool, bytes)
     }
 
     /// The pool in which the caller's bytes are placed. Refused as `agg_make` is, except for NoRoom

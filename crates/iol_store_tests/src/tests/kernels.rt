@@ -79,7 +79,7 @@ impl TestKernel {
     }
 
     pub fn makes_agg(&mut self, bytes: &Bytes, number: u64) -> bool {
-        self.kernel.agg_make(one(), bytes) == Ok(agg(number))
+        self.kernel.agg_make(one(), bytes.as_slice()) == Ok(agg(number))
     }
 
     pub fn makes_copy(&mut self, of: u64, number: u64) -> bool {

@@ -85,7 +85,10 @@ pub returns-in-Accept : goal.returns-in-Accept
 returns-in-Accept g c = as_call c.in-Accept.is c.fd-in-Accept.ensures (carried_does reply.Fd (λ s. fds.accept s c.args.by) (λ a. refl) refl (λ s. told_step reply.Fd (λ a. refl) (fds.accept s c.args.by) s) tt tt (λ k. k) refl c.requires c.accept.ensures)
 
 pub returns-in-AggMake : goal.returns-in-AggMake
-returns-in-AggMake g c = as_call c.in-AggMake.is c.agg.ensures (places_does reply.Agg (λ s. (aggs.agg_make s c.args.by c.in-AggMake.bytes)) (λ s t. aggs.with_agg s c.args.by t) (for_made (state_of c.args.kernel.now) c.args.by c.in-AggMake.bytes) (event.Call c.args.by (call.AggMake c.in-AggMake.bytes)) (g.B.Backing.disk c.args.backing.now) (state_of c.args.kernel.now) (state_of c.agg_make.new.self) c.agg_make.result (λ a. refl) (record { unwritten = refl; unlent = refl; goes = λ d p k. k; asks = λ s. refl; uses = λ s. refl; unshared = λ s. refl; moving = refl; inside = λ s. refl; changes = refl; keeps = λ s t. values_with_agg s c.args.by t; has = λ d k. k; lacks = λ d k. k; fits = λ d k. k; publishes = λ n k. k; creates = λ x n. tt; late = λ d x n k. k; sums = λ x n k. k }) (λ s t r step. told_step reply.Agg (λ a. refl) (aggs.agg_make s c.args.by c.in-AggMake.bytes) s t r step) tt c.agg_make.ensures.places c.agg_make.ensures.slices)
+returns-in-AggMake g c =
+    as_call c.in-AggMake.is c.agg.ensures
+    (subst (λ (l : List ℕ). Does (g.B.Backing.disk c.args.backing.now) (state_of c.args.kernel.now) (event.Call c.args.by (call.AggMake l)) (told reply.Agg c.agg_make.result) (g.B.Backing.disk c.args.backing.now) (state_of c.agg_make.new.self)) c.as_slice.ensures
+    (places_does reply.Agg (λ s. (aggs.agg_make s c.args.by c.as_slice.result.now)) (λ s t. aggs.with_agg s c.args.by t) (for_made (state_of c.args.kernel.now) c.args.by c.as_slice.result.now) (event.Call c.args.by (call.AggMake c.as_slice.result.now)) (g.B.Backing.disk c.args.backing.now) (state_of c.args.kernel.now) (state_of c.agg_make.new.self) c.agg_make.result (λ a. refl) (record { unwritten = refl; unlent = refl; goes = λ d p k. k; asks = λ s. refl; uses = λ s. refl; unshared = λ s. refl; moving = refl; inside = λ s. refl; changes = refl; keeps = λ s t. values_with_agg s c.args.by t; has = λ d k. k; lacks = λ d k. k; fits = λ d k. k; publishes = λ n k. k; creates = λ x n. tt; late = λ d x n k. k; sums = λ x n k. k }) (λ s t r step. told_step reply.Agg (λ a. refl) (aggs.agg_make s c.args.by c.as_slice.result.now) s t r step) tt c.agg_make.ensures.places c.agg_make.ensures.slices))
 
 pub returns-in-PoolCreate : goal.returns-in-PoolCreate
 returns-in-PoolCreate g c = as_call c.in-PoolCreate.is c.pool.ensures (creates_does c.args.by c.in-PoolCreate.chunks c.in-PoolCreate.domains (g.B.Backing.disk c.args.backing.now) (state_of c.args.kernel.now) (state_of c.pool_create.new.self) c.pool_create.result c.requires c.pool_create.ensures.create c.pool_create.ensures.chunks c.pool_create.ensures.room c.pool_create.ensures.no_room)
@@ -105,5 +108,10 @@ returns-in-Read g c = as_call c.in-Read.is c.bytes-in-Read.ensures (copies_does 
 pub returns-in-Write : goal.returns-in-Write
 returns-in-Write g c =
     as_call c.in-Write.is c.count-in-Write.ensures
+<<<<<<< ours
     (subst (λ (l : List ℕ). Does (g.B.Backing.disk c.args.backing.now) (state_of c.args.kernel.now) (event.Call c.args.by (call.Write c.in-Write.fd l)) (told reply.Count c.write.result) (g.B.Backing.disk c.args.backing.now) (state_of c.write.new.kernel)) c.as_slice.ensures
     (puts_does c.args.by c.in-Write.fd c.as_slice.result.now (g.B.Backing.disk c.args.backing.now) (state_of c.args.kernel.now) (state_of c.write.new.kernel) c.write.result (c.write.ensures.serves (g.B.Backing.disk c.args.backing.now)) c.write.ensures.queue c.write.ensures.slices c.write.ensures.room c.write.ensures.no_room c.write.ensures.memory c.write.ensures.puts c.write.ensures.lays c.write.ensures.refused))
+=======
+    (subst (λ (l : List ℕ). Does (g.B.Backing.disk c.args.backing.now) (state_of c.args.kernel.now) (event.Call c.args.by (call.Write c.in-Write.fd l)) (told reply.Count c.write.result) (g.B.Backing.disk c.args.backing.now) (state_of c.write.new.kernel)) c.as_slice-in-Write.ensures
+    (puts_does c.args.by c.in-Write.fd c.as_slice-in-Write.result.now (g.B.Backing.disk c.args.backing.now) (state_of c.args.kernel.now) (state_of c.write.new.kernel) c.write.result (c.write.ensures.serves (g.B.Backing.disk c.args.backing.now)) c.write.ensures.queue c.write.ensures.room c.write.ensures.no_room c.write.ensures.memory c.write.ensures.puts c.write.ensures.lays c.write.ensures.refused))
+>>>>>>> theirs

@@ -31,13 +31,13 @@ returns-then-not-make_room_for c =
     let k = state_of c.make_room_for.new.self in
     let passes = c.in_ok-pool.ensures.may in
     let room = c.make_room_for.ensures in
-    subst (λ (bs : List ℕ). MakesAggregate c.args.by bs h (Err (NoRoom c.in_ok-pool.pool)) k) c.as_slice-list.ensures (record {
-      places = make_none c.in_ok-pool.pool c.args.by c.as_slice-list.result.now h k room.made (room.refused c.if-not-make_room_for.true) passes (room.fits ∙ c.if-not-make_room_for.true);
+    record {
+      places = make_none c.in_ok-pool.pool c.args.by c.args.bytes.now h k room.made (room.refused c.if-not-make_room_for.true) passes (room.fits ∙ c.if-not-make_room_for.true);
       slices = tt;
-    })
+    }
 
 pub fill_agg-requires-clause-may : goal.fill_agg-requires-clause-may
-fill_agg-requires-clause-may c = may_after c.in_ok-pool.pool (pages_for (length c.as_slice-list.result.now)) (state_of c.args.self.now) (state_of c.make_room_for.new.self) c.make_room_for.ensures.made c.args.by c.as_slice-list.result.now c.in_ok-pool.pool c.in_ok-pool.ensures.may
+fill_agg-requires-clause-may c = may_after c.in_ok-pool.pool (pages_for (length c.args.bytes.now)) (state_of c.args.self.now) (state_of c.make_room_for.new.self) c.make_room_for.ensures.made c.args.by c.args.bytes.now c.in_ok-pool.pool c.in_ok-pool.ensures.may
 
 pub returns : goal.returns
 returns c =
@@ -46,9 +46,9 @@ returns c =
     let l = state_of c.fill_agg.new.self in
     let passes = c.in_ok-pool.ensures.may in
     let room = c.make_room_for.ensures in
-    let bytes : List ℕ = c.as_slice-list.result.now in
-    subst (λ (bs : List ℕ). MakesAggregate c.args.by bs h c.fill_agg.result l) c.as_slice-list.ensures (record {
+    let bytes : List ℕ = c.args.bytes.now in
+    record {
       places = make_places c.in_ok-pool.pool (pages_for (length bytes)) h k room.made c.args.by bytes passes l c.fill_agg.result
           (room.room c.if-not-make_room_for.false) (room.fits ∙ c.if-not-make_room_for.false) c.fill_agg.ensures.next refl;
       slices = few_after c.in_ok-pool.pool (pages_for (length bytes)) c.args.by (length bytes) h k l c.fill_agg.result room.made c.fill_agg.ensures.slices;
-    })
+    }
