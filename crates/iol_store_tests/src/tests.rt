@@ -3,6 +3,7 @@
 mod aggregates;
 mod arenas;
 mod backing;
+mod by_number;
 mod caches;
 mod connections;
 mod extents;
@@ -13,6 +14,7 @@ mod order;
 mod pipes;
 mod pools;
 mod refusals;
+mod sharing;
 mod slice_sums;
 mod stores;
 mod sums;

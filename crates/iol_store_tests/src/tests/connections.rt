@@ -1,5 +1,5 @@
 //! Calls of connections that need memory for new bytes succeed if there is enough. Those that
-//! share bytes are tested by [`kernel_calls`](super::kernel_calls).
+//! share bytes are tested by [`sharing`](super::sharing).
 use super::stores::{add_pool, new_store};
 use iol_core::configuration::Config;
 use iol_core::numbers::{DomainId, PoolId};

@@ -52,6 +52,8 @@ fn files_answer(kernel: &mut TestKernel, with: &Inputs) -> bool {
         && kernel.reads_bytes(0, 9, b"cdxy")
         && kernel.seeks(0, 0)
         && kernel.reads_agg(0, 9, 8)
+        && kernel.seeks(0, 1)
+        && kernel.copies_file(0, 2, b"bc")
 }
 
 fn queues_answer(kernel: &mut TestKernel, with: &Inputs, reader: &mut &[u8]) -> bool {

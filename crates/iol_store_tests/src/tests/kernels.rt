@@ -147,6 +147,17 @@ impl TestKernel {
         matches!(read, Ok(bytes) if bytes.as_slice() == text)
     }
 
+    pub fn copies_file(&mut self, fd: u32, count: u32, text: &[u8]) -> bool {
+        let fd = Fd::new(fd);
+        let Some(found) = self.kernel.file_open(one(), fd) else {
+            return false;
+        };
+        let copied = self
+            .kernel
+            .copy_file(&mut self.backing, one(), fd, found, count);
+        matches!(copied, Ok(bytes) if bytes.as_slice() == text)
+    }
+
     pub fn makes_pipe(&mut self, read_end: u32, write_end: u32) -> bool {
         self.kernel.pipe(one()) == Ok((Fd::new(read_end), Fd::new(write_end)))
     }

@@ -218,6 +218,15 @@ fn run(alloc: Global, system: &mut TestedSystem, events: &[Event], expected: &[&
     }
 }
 
+// Three bytes arrive on the connection from a reader.
+fn hears(system: &mut TestedSystem) -> bool {
+    let mut reader = b"abc".as_slice();
+    match system.arrive_from(ConnId::new(1), &mut reader, 9) {
+        Ok(arrived) => arrived.taken == 3,
+        Err(_) => false,
+    }
+}
+
 fn reports(system: &TestedSystem) -> bool {
     match system.report() {
         Ok(report) => (report.pools.len(), report.dirty, report.extents) == (1, 2, 2),
@@ -232,6 +241,7 @@ fn all_answer(alloc: Global, system: &mut TestedSystem, events: &Events) -> bool
         && run(alloc, system, &events.files, &FILES_ANSWERED)
         && run(alloc, system, &events.pipes, &PIPES_ANSWERED)
         && run(alloc, system, &events.connections, &CONNECTIONS_ANSWERED)
+        && hears(system)
         && reports(system)
 }
 
