@@ -108,10 +108,5 @@ returns-in-Read g c = as_call c.in-Read.is c.bytes-in-Read.ensures (copies_does 
 pub returns-in-Write : goal.returns-in-Write
 returns-in-Write g c =
     as_call c.in-Write.is c.count-in-Write.ensures
-<<<<<<< ours
-    (subst (λ (l : List ℕ). Does (g.B.Backing.disk c.args.backing.now) (state_of c.args.kernel.now) (event.Call c.args.by (call.Write c.in-Write.fd l)) (told reply.Count c.write.result) (g.B.Backing.disk c.args.backing.now) (state_of c.write.new.kernel)) c.as_slice.ensures
-    (puts_does c.args.by c.in-Write.fd c.as_slice.result.now (g.B.Backing.disk c.args.backing.now) (state_of c.args.kernel.now) (state_of c.write.new.kernel) c.write.result (c.write.ensures.serves (g.B.Backing.disk c.args.backing.now)) c.write.ensures.queue c.write.ensures.slices c.write.ensures.room c.write.ensures.no_room c.write.ensures.memory c.write.ensures.puts c.write.ensures.lays c.write.ensures.refused))
-=======
     (subst (λ (l : List ℕ). Does (g.B.Backing.disk c.args.backing.now) (state_of c.args.kernel.now) (event.Call c.args.by (call.Write c.in-Write.fd l)) (told reply.Count c.write.result) (g.B.Backing.disk c.args.backing.now) (state_of c.write.new.kernel)) c.as_slice-in-Write.ensures
-    (puts_does c.args.by c.in-Write.fd c.as_slice-in-Write.result.now (g.B.Backing.disk c.args.backing.now) (state_of c.args.kernel.now) (state_of c.write.new.kernel) c.write.result (c.write.ensures.serves (g.B.Backing.disk c.args.backing.now)) c.write.ensures.queue c.write.ensures.room c.write.ensures.no_room c.write.ensures.memory c.write.ensures.puts c.write.ensures.lays c.write.ensures.refused))
->>>>>>> theirs
+    (puts_does c.args.by c.in-Write.fd c.as_slice-in-Write.result.now (g.B.Backing.disk c.args.backing.now) (state_of c.args.kernel.now) (state_of c.write.new.kernel) c.write.result (c.write.ensures.serves (g.B.Backing.disk c.args.backing.now)) c.write.ensures.queue c.write.ensures.slices c.write.ensures.room c.write.ensures.no_room c.write.ensures.memory c.write.ensures.puts c.write.ensures.lays c.write.ensures.refused))
