@@ -3,7 +3,6 @@ use Rattle.std.specs.Prelude.{Result, Err}
 use Rattle.iol_arena.specs.State.{pages_for}
 use Rattle.iol_core.specs.Calls.Aggregates.{agg_make, default_pool, with_agg}
 use Rattle.iol_core.specs.declared.refusals.Refusal.{Refusal}
-use Rattle.iol_core.specs.declared.refusals.Refusal.TheVariants.{NoRoom}
 use Rattle.iol_kernel.specs.Kernel.{state_of, machine}
 use Rattle.iol_kernel.specs.NewBytes.{MakesAggregate}
 use Rattle.iol_kernel.specs.Readings.{bytes_over}
