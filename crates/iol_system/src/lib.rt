@@ -10,12 +10,13 @@
 //! done (`err`). `step` and `step_ref` have one clause, `Promises`: the machine's step (`step`,
 //! `beside`), when the store is asked and a failure is reported (`unasked`, `faults`, `asked`, `slots`),
 //! refusals (`room`, `no_room`, `memory`, `without_room`, `early`, `refused`, `late`), events that only
-//! look (`looks`), sharing (`shares`, `pages`, `still`, `places`, `store`, `in_place`, `shares_file`,
-//! `slices`),
-//! generations (`publishes`, `creates`), the ends of files (`ends`), sums (`sums`), writing back
-//! (`synced`, `kept`, `flushed`, `dropped`, `stores_back`), and the invariant (`safe`, `stays`,
-//! `honest`). `arrive_from` and `drain_to` serve a reader and a writer in place; `parts` and
-//! `aggregates` give references to bytes; `report` counts. `laws` states consequences for whole runs:
+//! look (`looks`), sharing (`shares`, `pages`, `still`, `held`, `places`, `store`, `in_place`,
+//! `shares_file`, `slices`), generations (`publishes`, `creates`), the ends of files (`ends`), sums
+//! (`sums`), writing back (`synced`, `kept`, `flushed`, `dropped`, `stores_back`), and the invariant
+//! (`safe`, `stays`, `honest`). `make_agg` and `write_bytes` are the steps of `AggMake` and `Write` of
+//! borrowed bytes. `arrive_from` and `drain_to` serve a reader and a writer in place; `parts`,
+//! `located_parts` and `aggregates` give references to bytes; `report` counts. `laws` states
+//! consequences for whole runs: an aggregate that no event gives up keeps its places and its addresses,
 //! NoRoom leaves extents and pools unchanged, a refusal evicts nothing if there is no room, and all
 //! pages are free once no domain, no connection and no extent is left.
 //!

@@ -1,24 +1,15 @@
--- What each call does, by what the kernel says of it.
-use Rattle.std.proofs.Common.{refl, subst, ℕ, List}
-use Rattle.iol_core.specs.Calls.Domains as domains
-use Rattle.iol_core.specs.Calls.Pools as pools
+-- What the call does, by what the kernel says of it.
+use Rattle.std.proofs.Common.{refl}
 use Rattle.iol_core.specs.Calls.Aggregates as aggs
-use Rattle.iol_core.specs.Calls.Descriptors as fds
-use Rattle.iol_core.specs.Calls.Files as files
 use Rattle.iol_core.specs.declared.events.Call.TheVariants as call
 use Rattle.iol_core.specs.declared.events.Event.TheVariants as event
 use Rattle.iol_core.specs.declared.events.Reply.TheVariants as reply
 use Rattle.iol_kernel.specs.Kernel.{state_of}
-use Rattle.iol_system.specs.Effects.{Does}
-use Rattle.iol_system.specs.Replies.{told}
 use Rattle.iol_system.specs.Wants.{for_made}
 use Rattle.iol_core.proofs.Values.{values_with_agg}
-use Rattle.iol_system.proofs.HeldPlaces.{values_seek}
-use Rattle.iol_system.proofs.Effects.{as_call, carried_does, kept_does, domain_admitted, looks_does, names_does, never, file_created, shown}
-use Rattle.iol_system.proofs.ReplyAnswers.{done, told_step}
-use Rattle.iol_system.proofs.FileEffects.{copies_does, puts_does, places_does, reads_does, writes_does}
-use Rattle.iol_system.proofs.FileLengths.{length_ends, new_ends, seek_ends}
-use Rattle.iol_system.proofs.BackEffects.{syncs_does, creates_does}
+use Rattle.iol_system.proofs.Effects.{as_call}
+use Rattle.iol_system.proofs.ReplyAnswers.{told_step}
+use Rattle.iol_system.proofs.FileEffects.{places_does}
 use Rattle.iol_system.proofs.calls.make_agg.Goals as goal
 
 pub returns : goal.returns
