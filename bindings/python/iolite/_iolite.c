@@ -11,9 +11,12 @@
 #include "iolite.h"
 
 #define MAX_DOMAINS 4096
+#define PIN_LISTS 4096
 #define MAX_NAMES 64
 #define PARTS_AT_ONCE 16
 #define WORDS 8 /* kind, by, agg, with, id, to, from, until */
+
+struct Hold;
 
 typedef struct Dropped {
     uint32_t by;
@@ -25,15 +28,16 @@ typedef struct {
     iol_system raw;
     unsigned long owner;                /* the thread that made it */
     PyObject *files;                    /* what keeps its descriptors open */
-    PyObject *pinned;                   /* the number of Holds with living Parts, by aggregate */
+    struct Hold *pinned[PIN_LISTS];     /* the Holds with living Parts, by their aggregates' lists */
     size_t parts, parts_of[MAX_DOMAINS + 1];
     Dropped *dropped;                   /* Holds that went on other threads */
     size_t dropped_count, dropped_room;
 } System;
 
-typedef struct {
+typedef struct Hold {
     PyObject_HEAD
     System *system;
+    struct Hold *next; /* in its list of `pinned` */
     uint32_t by;
     uint64_t agg;
     Py_ssize_t parts; /* that live */
@@ -60,66 +64,72 @@ static PyObject *refused(uint32_t refusal, uint32_t about)
     return NULL;
 }
 
-/* The key of an aggregate in `pinned`. No system makes 2^52 aggregates. */
-static PyObject *key_of(uint32_t by, uint64_t agg)
+/* The two numbers of a reply. */
+static PyObject *numbers(const iol_reply *reply)
 {
-    return PyLong_FromUnsignedLongLong(agg << 12 | (by & (MAX_DOMAINS - 1)));
+    PyObject *first = PyLong_FromUnsignedLongLong(reply->number), *second = PyLong_FromUnsignedLongLong(reply->second);
+    PyObject *both = first && second ? PyTuple_New(2) : NULL;
+    if (!both) {
+        Py_XDECREF(first);
+        Py_XDECREF(second);
+        return NULL;
+    }
+    PyTuple_SET_ITEM(both, 0, first);
+    PyTuple_SET_ITEM(both, 1, second);
+    return both;
 }
 
-/* Whether a Part of the aggregate lives, or -1. */
+/* The list of `pinned` for an aggregate. At most 65,536 aggregates live, so lists are short. */
+static Hold **pins_of(System *self, uint32_t by, uint64_t agg)
+{
+    return &self->pinned[(agg + 61 * (uint64_t)by) % PIN_LISTS];
+}
+
+/* Whether a Part of the aggregate lives. */
 static int is_pinned(System *self, uint32_t by, uint64_t agg)
 {
-    PyObject *key = key_of(by, agg);
-    int status = key ? PyDict_Contains(self->pinned, key) : -1;
-    Py_XDECREF(key);
-    return status;
+    Hold *it = *pins_of(self, by, agg);
+    while (it && (it->by != by || it->agg != agg))
+        it = it->next;
+    return it != NULL;
 }
 
-/* Counts a Hold with living Parts of an aggregate more or less. */
-static int count_pins(System *self, PyObject *key, int change)
+/* Counts a new Part of a Hold. */
+static void pin(Hold *hold)
 {
-    PyObject *had = PyDict_GetItemWithError(self->pinned, key), *count;
-    long pins = had ? PyLong_AsLong(had) : 0;
-    int status;
-    if (PyErr_Occurred())
-        return -1;
-    if (pins + change == 0)
-        return PyDict_DelItem(self->pinned, key);
-    if (!(count = PyLong_FromLong(pins + change)))
-        return -1;
-    status = PyDict_SetItem(self->pinned, key, count);
-    Py_DECREF(count);
-    return status;
+    if (hold->parts++ == 0) {
+        Hold **list = pins_of(hold->system, hold->by, hold->agg);
+        hold->next = *list;
+        *list = hold;
+    }
+    hold->system->parts++;
+    hold->system->parts_of[hold->by]++;
 }
 
-/* Counts a Part of a Hold more or less. */
-static int pin(Hold *hold, int change)
+/* Counts a Part of a Hold less. */
+static void unpin(Hold *hold)
 {
-    int status = 0;
-    if (hold->parts + change == 0 || hold->parts == 0) {
-        PyObject *key = key_of(hold->by, hold->agg);
-        status = key ? count_pins(hold->system, key, change) : -1;
-        Py_XDECREF(key);
+    if (--hold->parts == 0) {
+        Hold **at = pins_of(hold->system, hold->by, hold->agg);
+        while (*at != hold)
+            at = &(*at)->next;
+        *at = hold->next;
     }
-    if (status == 0) {
-        hold->parts += change;
-        hold->system->parts += change;
-        hold->system->parts_of[hold->by] += change;
-    }
-    return status;
+    hold->system->parts--;
+    hold->system->parts_of[hold->by]--;
 }
 
 /* Drops an aggregate that no Part of another Hold has. */
 static void drop(System *self, uint32_t by, uint64_t agg)
 {
-    if (self->parts == 0 || is_pinned(self, by, agg) == 0)
+    if (self->parts == 0 || !is_pinned(self, by, agg))
         iol_agg_drop(&self->raw, by, agg);
 }
 
 /* Whether the system can be called: it is open, and this is its thread. Drops what went on other threads. */
 static int is_ready(System *self)
 {
-    if (!self->raw.at) {
+    if (!self || !self->raw.at) {
         PyErr_SetString(PyExc_ValueError, "the system is closed");
         return 0;
     }
@@ -143,14 +153,8 @@ static int part_buffer(Part *self, Py_buffer *view, int flags)
 
 static void part_dealloc(Part *self)
 {
-    if (self->hold) {
-        PyObject *type, *value, *trace;
-        PyErr_Fetch(&type, &value, &trace);
-        if (pin(self->hold, -1))
-            PyErr_WriteUnraisable((PyObject *)self->hold);
-        PyErr_Restore(type, value, trace);
-        Py_DECREF(self->hold);
-    }
+    unpin(self->hold);
+    Py_DECREF(self->hold);
     Py_TYPE(self)->tp_free((PyObject *)self);
 }
 
@@ -250,13 +254,11 @@ static PyObject *hold_parts(Hold *self, PyObject *none)
         if (i && i % PARTS_AT_ONCE == 0)
             iol_parts(&self->system->raw, self->by, self->agg, (size_t)i, room, PARTS_AT_ONCE, &reply);
         Part *part = PyObject_New(Part, &PartType);
-        if (part)
-            part->hold = NULL;
-        if (!part || pin(self, 1)) {
-            Py_XDECREF(part);
+        if (!part) {
             Py_DECREF(all);
             return NULL;
         }
+        pin(self);
         part->hold = (Hold *)Py_NewRef((PyObject *)self);
         part->at = room[i % PARTS_AT_ONCE].at;
         part->len = (Py_ssize_t)room[i % PARTS_AT_ONCE].len;
@@ -299,18 +301,6 @@ static PyTypeObject HoldType = {
 
 /* System */
 
-static PyObject *system_new(PyTypeObject *type, PyObject *args, PyObject *kw)
-{
-    System *self = (System *)type->tp_alloc(type, 0);
-    (void)args;
-    (void)kw;
-    if (self && !(self->pinned = PyDict_New())) {
-        Py_DECREF(self);
-        return NULL;
-    }
-    return (PyObject *)self;
-}
-
 static int system_init(System *self, PyObject *args, PyObject *kw)
 {
     static char *words[] = {"chunks", "generations", "sums", "fds", "lens", "files", NULL};
@@ -350,7 +340,6 @@ static void system_dealloc(System *self)
     if (self->raw.at)
         iol_system_free(&self->raw);
     PyMem_Free(self->dropped);
-    Py_XDECREF(self->pinned);
     Py_XDECREF(self->files);
     Py_TYPE(self)->tp_free((PyObject *)self);
 }
@@ -412,11 +401,10 @@ static int takes_pinned(System *self, const iol_event *event)
         return 1;
     }
     for (int i = 0; i < count; i++) {
-        int status = is_pinned(self, event->by, aggs[i]);
-        if (status > 0)
+        if (is_pinned(self, event->by, aggs[i])) {
             PyErr_SetString(PyExc_BufferError, "views of the aggregate are in use");
-        if (status)
             return 1;
+        }
     }
     return 0;
 }
@@ -461,7 +449,7 @@ static PyObject *system_step(System *self, PyObject *const *args, Py_ssize_t cou
         return NULL;
     if (reply.refusal)
         return refused(reply.refusal, reply.about);
-    return Py_BuildValue("(KK)", (unsigned long long)reply.number, (unsigned long long)reply.second);
+    return numbers(&reply);
 }
 
 PyDoc_STRVAR(system_arrive_from_doc, "arrive_from(conn, fd, max) -> (taken, ending)\n\nOne read of a descriptor arrives on a connection.");
@@ -476,7 +464,7 @@ static PyObject *system_arrive_from(System *self, PyObject *args)
     iol_arrive_from(&self->raw, conn, fd, max, &reply);
     if (reply.refusal)
         return refused(reply.refusal, reply.about);
-    return Py_BuildValue("(KK)", (unsigned long long)reply.number, (unsigned long long)reply.second);
+    return numbers(&reply);
 }
 
 PyDoc_STRVAR(system_drain_to_doc, "drain_to(conn, fd, max) -> (taken, failed)\n\nWrites what a connection has to send to a descriptor.");
@@ -491,7 +479,7 @@ static PyObject *system_drain_to(System *self, PyObject *args)
     iol_drain_to(&self->raw, conn, fd, max, &reply);
     if (reply.refusal)
         return refused(reply.refusal, reply.about);
-    return Py_BuildValue("(KK)", (unsigned long long)reply.number, (unsigned long long)reply.second);
+    return numbers(&reply);
 }
 
 PyDoc_STRVAR(system_report_doc, "report() -> (buffers, extents, dirty, pools)\n\nCounts what is in the system.");
@@ -542,7 +530,7 @@ static PyTypeObject SystemType = {
     PyVarObject_HEAD_INIT(NULL, 0).tp_name = "iolite._iolite.System",
     .tp_basicsize = sizeof(System),
     .tp_flags = Py_TPFLAGS_DEFAULT,
-    .tp_new = system_new,
+    .tp_new = PyType_GenericNew,
     .tp_init = (initproc)system_init,
     .tp_dealloc = (destructor)system_dealloc,
     .tp_methods = system_methods,

@@ -68,6 +68,24 @@ class Lifetimes(OnePool):
         self.one.exit()
         self.assertEqual(self.buffers(), 0)
 
+    def test_each_view_of_many_keeps_its_own_aggregate(self):
+        first = self.one.agg_make(b"first")
+        many = [first.dup() for _ in range(9000)]  # more than the lists in which the package has them
+        views = [it.views()[0] for it in many]
+        for number in range(0, len(many), 2):
+            views[number] = None
+        for number, it in enumerate(many[:40] + many[-40:]):
+            if number % 2:
+                with self.assertRaises(BufferError):
+                    self.system._raw.step(12, 1, it.number, 0, 0, 0, 0, 0)
+            else:
+                it.drop()
+        del many, it
+        self.assertEqual({bytes(it) for it in views[1::2]}, {b"first"})
+        del views
+        first.drop()
+        self.assertEqual(self.buffers(), 0)
+
     def test_a_closed_system_is_an_error(self):
         made = self.one.agg_make(b"x")
         self.system.close()
