@@ -9,6 +9,8 @@ use Rattle.iol_core.specs.declared.events.Call.TheVariants as call
 use Rattle.iol_core.specs.declared.events.Event.{Event}
 use Rattle.iol_core.specs.declared.events.Event.TheVariants as event
 use Rattle.iol_ffi.specs.declared.events.IolEvent.{IolEvent}
+use Rattle.iol_ffi.specs.declared.events.Request.{Request}
+use Rattle.iol_ffi.specs.declared.events.Request.TheVariants as request
 use Rattle.iol_ffi.specs.declared.events.Unread.{Unread}
 use Rattle.iol_ffi.specs.declared.events.Unread.TheVariants as unread
 
@@ -68,6 +70,12 @@ IsEvent (event.Transmit conn max) e bs ns = (e.kind ≡ 103) × (conn ≡ e.id) 
 IsEvent event.Flush e bs ns = e.kind ≡ 104
 IsEvent event.DropClean e bs ns = e.kind ≡ 105
 
+-- the event of a request: that which it has, or one of the bytes that C passed
+abbrev pub event_with : Request → (bytes : List ℕ) → Event
+event_with (request.Event e) bs = e
+event_with (request.AggMake by) bs = event.Call by (call.AggMake bs)
+event_with (request.Write by fd) bs = event.Call by (call.Write fd bs)
+
 -- a call of this kind reads bytes or domains, or there is none
 abbrev pub IsNoPlainKind : ℕ → Type 0
 IsNoPlainKind k = (k ≡ 2 → ⊥) → (k ≡ 6 → ⊥) → (k ≡ 15 → ⊥) → (k ≡ 16 → ⊥) → (k ≡ 26 → ⊥) → 27 < k
@@ -81,11 +89,12 @@ abbrev pub IsNoEvent : IolEvent → Type 0
 IsNoEvent e = ((27 < e.kind) × (e.kind < 100)) ⊎ ((105 < e.kind)
     ⊎ (((e.kind ≡ 16) × (2 < e.from)) ⊎ ((e.kind ≡ 102) × (1 < e.from))))
 
--- a call of this kind has a list of bytes or of domains, which is copied
+-- a call of this kind has a name or a list of domains, which is copied
 abbrev pub CopiesInCall : IolEvent → Type 0
-CopiesInCall e = (e.kind ≡ 2) ⊎ ((e.kind ≡ 6) ⊎ ((e.kind ≡ 15) ⊎ ((e.kind ≡ 16) ⊎ (e.kind ≡ 26))))
+CopiesInCall e = (e.kind ≡ 2) ⊎ ((e.kind ≡ 15) ⊎ (e.kind ≡ 16))
 
--- an event of this kind has such a list: only it needs memory before it is carried out
+-- An event of this kind has such a list, or bytes that arrive: only it needs memory before it is carried out. The bytes of
+-- `agg_make` and of a copying `write` (kinds 6 and 26) are not copied before.
 abbrev pub CopiesList : IolEvent → Type 0
 CopiesList e = (e.kind ≡ 101) ⊎ CopiesInCall e
 

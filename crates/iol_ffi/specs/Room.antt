@@ -4,8 +4,9 @@ use Rattle.iol_core.specs.declared.events.Call.{Call}
 use Rattle.iol_core.specs.declared.events.Call.TheVariants as call
 use Rattle.iol_core.specs.declared.events.Event.{Event}
 use Rattle.iol_core.specs.declared.events.Event.TheVariants as event
-use Rattle.iol_ffi.specs.Events.{IsEvent}
+use Rattle.iol_ffi.specs.Events.{IsEvent, event_with}
 use Rattle.iol_ffi.specs.declared.events.IolEvent.{IolEvent}
+use Rattle.iol_ffi.specs.declared.events.Request.{Request}
 
 -- the most bytes that a call may take and return as a copy
 abbrev pub most_of_call : Call → ℕ
@@ -17,6 +18,10 @@ abbrev pub most_bytes : Event → ℕ
 most_bytes (event.Call by c) = most_of_call c
 most_bytes (event.Transmit conn max) = max
 most_bytes _ = 0
+
+-- the same of the event of a request, whatever the bytes that C passed
+pub record IsMost (r : Request) (most : ℕ) : Type 0 where
+  pub each : (bytes : List ℕ) → most ≡ most_bytes (event_with r bytes)
 
 -- a copying read, or a transmission: a second event does not return the same bytes again
 abbrev pub TakesBytes : Event → Type 0

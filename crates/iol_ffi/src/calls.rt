@@ -2,15 +2,17 @@
 //! same contract.
 ghost use Rattle.std.specs.Prelude.{◌≡◌, ◌≤◌, IsSome, None, length};
 ghost use Rattle.iol_ffi.specs.Creation.{Creates, CreatesInMemory, CreatesOver, CreatesOverFiles, IsCreated, sizes};
+ghost use Rattle.iol_ffi.specs.Events.{event_with};
 ghost use Rattle.iol_ffi.specs.Parts.{BorrowsTo};
 ghost use Rattle.iol_ffi.specs.Reports.{ReportsTo};
 ghost use Rattle.iol_ffi.specs.Room as spec;
 ghost use Rattle.iol_ffi.specs.Steps.{CarriesOutOrNot, Steps, TakesStep};
 ghost use Rattle.iol_ffi.specs.Store.{disk_of};
 ghost use Rattle.iol_ffi.specs.Streams.{ArrivesFrom, DrainsTo};
+ghost use Rattle.iol_system.specs.Promises.{Promises};
 
 use crate::borrowed::IolPart;
-use crate::events::{IolEvent, Unread, event_of, most_bytes};
+use crate::events::{IolEvent, Request, Unread, most_bytes, request_of};
 use crate::handle::Handle;
 use crate::replies::{BAD_EVENT, IolReply, MEMORY, SMALL_ROOM, not_done, refusal_number, reply_of};
 use crate::report::{IolPool, IolReport, report_of};
@@ -19,7 +21,7 @@ use crate::{Machine, borrowed, streams};
 use iol_back::memory::MemoryBacking;
 use iol_back::slots::Slots;
 use iol_core::configuration::Config;
-use iol_core::events::{Event, Reply};
+use iol_core::events::Reply;
 use iol_core::refusals::Refusal;
 use iol_system::system::System;
 use std::alloc::Global;
@@ -59,25 +61,43 @@ fn start_over(alloc: Global, config: Config, files: OpenFiles, out: &mut Handle)
     start_in(alloc, config, HostStore::Opened(files), out)
 }
 
-// Executes one event.
-fn advance(alloc: Global, handle: &mut Handle, event: Event) -> Reply
+// Executes the event of a request, whose bytes are those that C passed.
+fn execute(system: &mut System<HostStore>, request: &Request, bytes: &[u8]) -> Reply
+    ensures { Promises system.old (event_with request.now bytes.now) result system.new }
+{
+    match request {
+        Request::Event(event) => system.step_ref(event),
+        Request::AggMake { by } => system.make_agg(*by, bytes),
+        Request::Write { by, fd } => system.write_bytes(*by, *fd, bytes),
+    }
+}
+
+// The same by the system in a handle.
+fn advance(alloc: Global, handle: &mut Handle, request: &Request, bytes: &[u8]) -> Reply
     requires { IsSome handle.old.value }
-    ensures { Steps handle.old.value event result handle.new.value }
+    ensures { Steps handle.old.value (event_with request.now bytes.now) result handle.new.value }
 {
     let mut machine = mem::replace(handle, Handle::none(alloc)).into_box();
-    let reply = machine.system.step(event);
+    let reply = execute(&mut machine.system, request, bytes);
     *handle = Handle::of(machine);
     reply
 }
 
-// Executes an event for whose bytes `out` has room.
-fn carry_out(alloc: Global, handle: &mut Handle, event: Event, out: &mut [u8]) -> IolReply
+// Executes the event of a request, for whose bytes `out` has room.
+fn carry_out(
+    alloc: Global,
+    handle: &mut Handle,
+    request: &Request,
+    bytes: &[u8],
+    out: &mut [u8],
+) -> IolReply
     requires held { IsSome handle.old.value }
-    requires room { spec.most_bytes event ≤ length out.old }
+    requires room { spec.most_bytes (event_with request.now bytes.now) ≤ length out.old }
     ensures len { length out.new ≡ length out.old }
-    ensures takes { TakesStep event result out.new handle.old.value handle.new.value }
+    ensures takes { TakesStep (event_with request.now bytes.now) result out.new
+        handle.old.value handle.new.value }
 {
-    let reply = advance(alloc, handle, event);
+    let reply = advance(alloc, handle, request, bytes);
     reply_of(&reply, out)
 }
 
@@ -148,12 +168,12 @@ pub fn step(
     requires { IsSome handle.old.value }
     ensures { CarriesOutOrNot e.now bytes.now names.now reply.new out.new handle.old.value handle.new.value }
 {
-    match event_of(alloc, e, bytes, names) {
-        Ok(event) => {
-            if most_bytes(&event) > out.len() {
+    match request_of(alloc, e, bytes, names) {
+        Ok(request) => {
+            if most_bytes(&request) > out.len() {
                 *reply = not_done(SMALL_ROOM, 0);
             } else {
-                *reply = carry_out(alloc, handle, event, out);
+                *reply = carry_out(alloc, handle, &request, bytes, out);
             }
         }
         Err(Unread::Memory) => {

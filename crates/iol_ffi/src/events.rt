@@ -1,6 +1,7 @@
 //! Events as passed by C: a struct of numbers, and slices for bytes and domains.
-ghost use Rattle.std.specs.Prelude.{◌≡◌, ◌<◌, IfErr, IfNone, IfOk, IfSome};
-ghost use Rattle.iol_ffi.specs.Events.{CopiesInCall, CopiesList, IsCall, IsEvent, IsNoCall, IsNoEvent, IsNoPlainKind, IsPlainCall, IsUnread, how_number, mode_number};
+ghost use Rattle.std.specs.Prelude.{◌≡◌, ◌≢◌, ◌<◌, IfErr, IfNone, IfOk, IfSome};
+ghost use Rattle.iol_ffi.specs.Events.{CopiesInCall, CopiesList, IsCall, IsEvent, IsNoCall, IsNoEvent, IsNoPlainKind, IsPlainCall, IsUnread, event_with, how_number, mode_number};
+ghost use Rattle.iol_ffi.specs.Room.{IsMost};
 ghost use Rattle.iol_ffi.specs.Room as spec;
 
 use iol_core::descriptors::{How, Mode};
@@ -21,6 +22,15 @@ pub struct IolEvent {
     pub to: u32,
     pub from: u32,
     pub until: u32,
+}
+
+/// What C requests. If it is not an event, it is one of the bytes that C passed, which are not
+/// copied into a list.
+#[derive(Drop)]
+pub(crate) enum Request {
+    Event(Event),
+    AggMake { by: DomainId },
+    Write { by: DomainId, fd: Fd },
 }
 
 /// The reason for which C's arguments are no event.
@@ -131,8 +141,10 @@ fn plain_call(e: &IolEvent) -> Option<Call>
     Some(call)
 }
 
-// The call of an event, including those that read bytes or domains.
+// The call of an event that is not carried out with C's own bytes.
 fn call_of(alloc: Global, e: &IolEvent, bytes: &[u8], names: &[u32]) -> Result<Call, Unread>
+    requires makes { e.now.kind ≢ 6 }
+    requires writes { e.now.kind ≢ 26 }
     ensures ok { IfOk result (λ c. IsCall c e.now bytes.now names.now) }
     ensures err { IfErr result (λ why. IsUnread why (IsNoCall e.now) (CopiesInCall e.now)) }
 {
@@ -140,9 +152,6 @@ fn call_of(alloc: Global, e: &IolEvent, bytes: &[u8], names: &[u32]) -> Result<C
         2 => Ok(Call::PoolCreate {
             chunks: e.from,
             domains: domains_of(alloc, names)?,
-        }),
-        6 => Ok(Call::AggMake {
-            bytes: copied(alloc, bytes)?,
         }),
         15 => Ok(Call::FileNew {
             name: copied(alloc, bytes)?,
@@ -155,10 +164,6 @@ fn call_of(alloc: Global, e: &IolEvent, bytes: &[u8], names: &[u32]) -> Result<C
             }),
             None => Err(Unread::Bad),
         },
-        26 => Ok(Call::Write {
-            fd: Fd::new(e.id),
-            bytes: copied(alloc, bytes)?,
-        }),
         _ => match plain_call(e) {
             Some(call) => Ok(call),
             None => Err(Unread::Bad),
@@ -166,13 +171,10 @@ fn call_of(alloc: Global, e: &IolEvent, bytes: &[u8], names: &[u32]) -> Result<C
     }
 }
 
-/// The event that C's struct and slices represent.
-pub(crate) fn event_of(
-    alloc: Global,
-    e: &IolEvent,
-    bytes: &[u8],
-    names: &[u32],
-) -> Result<Event, Unread>
+// The event of a kind that is not carried out with C's own bytes.
+fn event_of(alloc: Global, e: &IolEvent, bytes: &[u8], names: &[u32]) -> Result<Event, Unread>
+    requires makes { e.now.kind ≢ 6 }
+    requires writes { e.now.kind ≢ 26 }
     ensures ok { IfOk result (λ event. IsEvent event e.now bytes.now names.now) }
     ensures err { IfErr result (λ why. IsUnread why (IsNoEvent e.now) (CopiesList e.now)) }
 {
@@ -199,6 +201,28 @@ pub(crate) fn event_of(
     }
 }
 
+/// The request that C's struct and slices represent.
+pub(crate) fn request_of(
+    alloc: Global,
+    e: &IolEvent,
+    bytes: &[u8],
+    names: &[u32],
+) -> Result<Request, Unread>
+    ensures ok { IfOk result
+        (λ request. IsEvent (event_with request bytes.now) e.now bytes.now names.now) }
+    ensures err { IfErr result (λ why. IsUnread why (IsNoEvent e.now) (CopiesList e.now)) }
+{
+    let by = DomainId::new(e.by);
+    match e.kind {
+        6 => Ok(Request::AggMake { by }),
+        26 => Ok(Request::Write {
+            by,
+            fd: Fd::new(e.id),
+        }),
+        _ => Ok(Request::Event(event_of(alloc, e, bytes, names)?)),
+    }
+}
+
 // The most bytes that a call may take and return as a copy.
 fn most_of_call(call: &Call) -> usize
     ensures { result ≡ spec.most_of_call call.now }
@@ -209,14 +233,25 @@ fn most_of_call(call: &Call) -> usize
     }
 }
 
-/// The most bytes that an event may take from a file or a queue and return as a copy. A second
-/// event does not return them again.
-pub(crate) fn most_bytes(event: &Event) -> usize
+// The most bytes that an event may take from a file or a queue and return as a copy. A second
+// event does not return them again.
+fn most_of_event(event: &Event) -> usize
     ensures { result ≡ spec.most_bytes event.now }
 {
     match event {
         Event::Call { call, .. } => most_of_call(call),
         Event::Transmit { max, .. } => *max as usize,
+        _ => 0,
+    }
+}
+
+/// The most bytes that the event of a request may take and return as a copy, whatever the bytes
+/// that C passed.
+pub(crate) fn most_bytes(request: &Request) -> usize
+    ensures { IsMost request.now result }
+{
+    match request {
+        Request::Event(event) => most_of_event(event),
         _ => 0,
     }
 }
