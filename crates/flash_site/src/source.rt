@@ -1,4 +1,6 @@
 //! Reads a site from a folder, and again when it changes.
+ghost use Rattle.std.specs.Prelude.{◌≡◌, OnErr};
+ghost use Rattle.flash_site.specs.Reads.{StaysUnlessRead};
 ghost use Rattle.flash_site.specs.World.{BeginsSite};
 
 use crate::site::world_of;
@@ -36,7 +38,8 @@ pub struct Summary {
     pub is_in_memory: bool,
 }
 
-/// A site as it was read, in a world in which nothing has happened yet. Its store is honest exactly if the bytes are in memory.
+/// A site as it was read, in a world in which nothing has happened yet. Its store is honest exactly
+/// if the bytes are in memory.
 #[derive(Drop)]
 pub struct Loaded<R: Files> {
     pub world: World<TreeBacking<R>, Actor>,
@@ -54,8 +57,8 @@ pub struct Source<R: Files> {
     // folder.
     preload: Option<u64>,
 
-    // The files of the last read, and whether one of them changed so shortly before that it must
-    // be read again.
+    // The files of the last read, none if the folder changed during it, and whether one of them
+    // changed so shortly before that it must be read again.
     index: Option<Index>,
     is_young: bool,
 }
@@ -74,19 +77,26 @@ impl<R: Files + Clock + AllocGlobal + Clone + Drop> Source<R> {
     }
 
     /// Reads the site. If it changes while it is read, it is served from the folder.
-    pub fn load(&mut self) -> io::Result<Loaded<R>> {
+    pub fn load(&mut self) -> io::Result<Loaded<R>>
+        ensures { OnErr result (self.new ≡ self.old) }
+    {
         match self.load_steady()? {
             Some(loaded) => Ok(loaded),
             None => {
                 let index = Index::of(&self.rt, self.root.as_str())?;
-                self.load_folder(index)
+                let store = self.on_disk(index)?;
+                self.host(store, None)
             }
         }
     }
 
     /// Reads the site again, if the folder changed since the last read, or if `is_forced`. None:
     /// it did not change, or it changes while it is read, so that the caller should retry later.
-    pub fn renew(&mut self, is_forced: bool) -> io::Result<Option<Loaded<R>>> {
+    /// After None or an error the source is unchanged: the next call finds a change that was not
+    /// read.
+    pub fn renew(&mut self, is_forced: bool) -> io::Result<Option<Loaded<R>>>
+        ensures { StaysUnlessRead result self.old self.new }
+    {
         if !is_forced && !self.is_young && self.is_same()? {
             return Ok(None);
         }
@@ -103,17 +113,27 @@ impl<R: Files + Clock + AllocGlobal + Clone + Drop> Source<R> {
     }
 
     // Reads the site, unless it changes during each attempt.
-    fn load_steady(&mut self) -> io::Result<Option<Loaded<R>>> {
+    fn load_steady(&mut self) -> io::Result<Option<Loaded<R>>>
+        ensures { StaysUnlessRead result self.old self.new }
+    {
         for _ in 0..ATTEMPTS {
-            let index = Index::of(&self.rt, self.root.as_str())?;
-            if !self.fits(&index) {
-                return Ok(Some(self.load_folder(index)?));
-            }
-            if let Some(loaded) = self.load_memory(index)? {
+            if let Some(loaded) = self.load_once()? {
                 return Ok(Some(loaded));
             }
         }
         Ok(None)
+    }
+
+    // Reads the site. None: the folder changed while it was read.
+    fn load_once(&mut self) -> io::Result<Option<Loaded<R>>>
+        ensures { StaysUnlessRead result self.old self.new }
+    {
+        let index = Index::of(&self.rt, self.root.as_str())?;
+        if self.fits(&index) {
+            self.load_memory(index)
+        } else {
+            self.load_folder(index)
+        }
     }
 
     // Returns whether the files are read into memory.
@@ -125,7 +145,9 @@ impl<R: Files + Clock + AllocGlobal + Clone + Drop> Source<R> {
     }
 
     // Reads the files into memory. None: the folder changed while it was read.
-    fn load_memory(&mut self, index: Index) -> io::Result<Option<Loaded<R>>> {
+    fn load_memory(&mut self, index: Index) -> io::Result<Option<Loaded<R>>>
+        ensures { StaysUnlessRead result self.old self.new }
+    {
         let contents = match read_all(&self.rt, &index) {
             Ok(contents) => contents,
             Err(e) if e.kind() == ErrorKind::OutOfMemory => return Err(e),
@@ -136,29 +158,46 @@ impl<R: Files + Clock + AllocGlobal + Clone + Drop> Source<R> {
             return Ok(None);
         }
         let store = TreeBacking::in_memory(self.rt.clone()?, self.rt.alloc(), index, contents)?;
-        Ok(Some(self.host(store, after)?))
+        Ok(Some(self.host(store, Some(after))?))
     }
 
-    // Serves the files from the folder.
-    fn load_folder(&mut self, index: Index) -> io::Result<Loaded<R>> {
-        let kept = Index::of(&self.rt, self.root.as_str())?;
-        let store = TreeBacking::on_disk(self.rt.clone()?, self.rt.alloc(), index);
-        self.host(store, kept)
+    // Serves the files from the folder. None: the folder changed while it was read, or an entry
+    // could not be examined.
+    fn load_folder(&mut self, index: Index) -> io::Result<Option<Loaded<R>>>
+        ensures { StaysUnlessRead result self.old self.new }
+    {
+        let after = Index::of(&self.rt, self.root.as_str())?;
+        if !index.is_same(&after) {
+            return Ok(None);
+        }
+        let store = self.on_disk(index)?;
+        Ok(Some(self.host(store, Some(after))?))
     }
 
-    // Creates the world of a store with the files of an index.
-    fn host(&mut self, store: TreeBacking<R>, index: Index) -> io::Result<Loaded<R>> {
+    // A store over the folder.
+    fn on_disk(&self, index: Index) -> io::Result<TreeBacking<R>> {
+        Ok(TreeBacking::on_disk(self.rt.clone()?, self.rt.alloc(), index))
+    }
+
+    // Creates the world of a store. The index has the same files as the store; none: the folder
+    // changes, so the next `renew` reads it again.
+    fn host(&mut self, store: TreeBacking<R>, index: Option<Index>) -> io::Result<Loaded<R>>
+        ensures { OnErr result (self.new ≡ self.old) }
+    {
+        let files = store.index();
         let summary = Summary {
-            files: index.count(),
-            bytes: index.total(),
-            skipped: index.skipped(),
+            files: files.count(),
+            bytes: files.total(),
+            skipped: files.skipped(),
             is_in_memory: store.is_in_memory(),
         };
-        let is_young = !index.is_older_than(self.grain_ago()?);
-        self.is_young = is_young && !self.is_young;
-        self.index = Some(index);
+        let is_young = !files.is_older_than(self.grain_ago()?);
         match world_of(self.rt.alloc(), store) {
-            Ok(world) => Ok(Loaded { world, summary }),
+            Ok(world) => {
+                self.is_young = is_young && !self.is_young;
+                self.index = index;
+                Ok(Loaded { world, summary })
+            }
             Err(_) => Err(io::Error::from(ErrorKind::OutOfMemory)),
         }
     }
