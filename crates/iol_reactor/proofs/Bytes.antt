@@ -1,9 +1,9 @@
 -- Bytes that a socket accepts and supplies.
-use Rattle.std.proofs.Common.{◌∙◌, ℕ, List, [], ◌++◌, Option, None, Some, refl, sym, ap, take, drop, append_assoc, append-nil}
+use Rattle.std.proofs.Common.{◌≡◌, ◌∙◌, ℕ, List, [], ◌++◌, Option, None, Some, refl, sym, ap, take, drop, append_assoc, append-nil}
 use Rattle.std.proofs.lemmas.List.{take-append-drop}
 use Rattle.std.specs.Io.KnownBytes.{Appends, Consumes, Keeps}
 use Rattle.iol_serve.proofs.Steps.{appends_none, appends_kept, appends_then}
-use Rattle.iol_reactor.specs.Bytes.{Passes, Gains}
+use Rattle.iol_reactor.specs.Bytes.{Passes, Gains, IsRestOf}
 
 pub passes_none : (held : Option (List ℕ)) (bytes : List ℕ) → Passes held held bytes bytes
 passes_none held bytes = record { accepted = []; taken = appends_none held; left = refl }
@@ -28,3 +28,12 @@ pub consumes_kept : (supply left : Option (List ℕ)) → Keeps supply left → 
 consumes_kept None left keeps = tt
 consumes_kept (Some xs) (Some ys) keeps = sym keeps
 consumes_kept (Some xs) None keeps = absurd keeps
+
+pub rest_whole : (bytes : List ℕ) → IsRestOf bytes bytes
+rest_whole bytes = ([], refl)
+
+pub rest_none : (bytes rest : List ℕ) → rest ≡ bytes → IsRestOf bytes rest
+rest_none bytes rest same = ([], sym same)
+
+pub rest_then : (bytes more rest : List ℕ) → IsRestOf bytes more → IsRestOf more rest → IsRestOf bytes rest
+rest_then bytes more rest a b = (a.0 ++ b.0, a.1 ∙ (ap (λ (l : List ℕ). a.0 ++ l) b.1 ∙ sym (append_assoc a.0 b.0 rest)))

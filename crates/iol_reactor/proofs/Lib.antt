@@ -2,3 +2,4 @@ pub mod Accepting
 pub mod Bytes
 pub mod Connections
 pub mod Serving
+pub mod Visits

@@ -28,11 +28,11 @@ serving_on pool c (choice.Outside (event.Call d k)) on = absurd on
 serving_on pool c (choice.Outside event.Flush) on = absurd on
 serving_on pool c (choice.Outside event.DropClean) on = absurd on
 
-serving_all : (pool c : ℕ) (xs : List Choice) → AreOn c xs → AreServing pool xs
+pub serving_all : (pool c : ℕ) (xs : List Choice) → AreOn c xs → AreServing pool xs
 serving_all pool c [] on = tt
 serving_all pool c (x ∷ xs) on = (serving_on pool c x on.0, serving_all pool c xs on.1)
 
-serving-append : (pool : ℕ) (xs ys : List Choice) → AreServing pool xs → AreServing pool ys → AreServing pool (xs ++ ys)
+pub serving-append : (pool : ℕ) (xs ys : List Choice) → AreServing pool xs → AreServing pool ys → AreServing pool (xs ++ ys)
 serving-append pool [] ys first next = next
 serving-append pool (x ∷ xs) ys first next = (first.0, serving-append pool xs ys first.1 next)
 

@@ -13,3 +13,7 @@ pub record Gains (supply left : Option (List ℕ)) (buffered now : List ℕ) : T
   pub came : List ℕ
   pub given : Consumes supply left came
   pub kept : now ≡ buffered ++ came
+
+-- Some bytes without the first of them.
+abbrev pub IsRestOf : (bytes rest : List ℕ) → Type 0
+IsRestOf bytes rest = (came : List ℕ) × (bytes ≡ came ++ rest)

@@ -1,8 +1,11 @@
 //! A world that serves clients.
-ghost use Rattle.std.specs.Prelude.{◌≡◌, [], true, false};
+ghost use Rattle.std.specs.Prelude.{◌≡◌, ℕ, [], true, false, IfSome, IsNone};
+ghost use Rattle.iol_core.specs.Prelude.{lacks_conn};
 ghost use Rattle.iol_proc.specs.Prelude.{copied};
 ghost use Rattle.iol_serve.specs.Service.{GoesOnIn, SendsIn};
 ghost use Rattle.iol_reactor.specs.Serving.{ArrivesIn, EndsIn, HasServed};
+ghost use Rattle.iol_reactor.specs.Visits.{ConnectsIn, HasVisited, VisitsArrive, VisitsGoOn};
+ghost use Rattle.iol_reactor.specs.Visits.{VisitsSend, VisitsStay};
 
 use crate::service::Service;
 use crate::steps;
@@ -45,7 +48,13 @@ impl<B: Backing + Drop, P: Process, V: Service<B, P>> Host<B, P, V> {
     }
 
     /// Creates a connection, if there is room for it.
-    pub fn connect(&mut self) -> Option<ConnId> {
+    pub fn connect(&mut self) -> Option<ConnId>
+        ensures made { ConnectsIn P.turns self.old.pool result self.old.world self.new.world }
+        ensures begun { IfSome result
+            (λ c. ∥ HasVisited P.turns V.starts self.old.pool c [] [] false self.new.world ∥₁) }
+        ensures visits { VisitsStay P.turns V.starts self.old.pool self.old.world self.new.world }
+        ensures pool { self.new.pool ≡ self.old.pool }
+    {
         let pool = self.pool;
         let reply = self.world.step_outside(Event::ConnNew { pool });
         match &reply {
@@ -56,7 +65,11 @@ impl<B: Backing + Drop, P: Process, V: Service<B, P>> Host<B, P, V> {
 
     /// Gives turns to the processes until all are idle, but at most this number, and returns
     /// whether all are.
-    pub fn until_idle(&mut self, turns: usize) -> bool {
+    pub fn until_idle(&mut self, turns: usize) -> bool
+        ensures alone { (c : ℕ) → GoesOnIn P.turns c [] [] false self.old.world self.new.world }
+        ensures visits { VisitsStay P.turns V.starts self.old.pool self.old.world self.new.world }
+        ensures pool { self.new.pool ≡ self.old.pool }
+    {
         self.world.until_idle(turns)
     }
 
@@ -64,6 +77,9 @@ impl<B: Backing + Drop, P: Process, V: Service<B, P>> Host<B, P, V> {
     pub fn close(&mut self, conn: ConnId)
         ensures told { EndsIn P.turns conn How.Done self.old.world self.new.world }
         ensures alone { GoesOnIn P.turns conn [] [] false self.old.world self.new.world }
+        ensures visits { VisitsGoOn P.turns V.starts self.old.pool conn [] [] false self.old.world
+            self.new.world }
+        ensures pool { self.new.pool ≡ self.old.pool }
     {
         steps::close(&mut self.world, conn);
     }
@@ -72,13 +88,19 @@ impl<B: Backing + Drop, P: Process, V: Service<B, P>> Host<B, P, V> {
     pub fn hang_up(&mut self, conn: ConnId)
         ensures told { EndsIn P.turns conn How.Gone self.old.world self.new.world }
         ensures alone { GoesOnIn P.turns conn [] [] true self.old.world self.new.world }
+        ensures visits { VisitsGoOn P.turns V.starts self.old.pool conn [] [] true self.old.world
+            self.new.world }
+        ensures pool { self.new.pool ≡ self.old.pool }
     {
         steps::hang_up(&mut self.world, conn);
     }
 
     /// Whether the processes have closed a connection, or it never was.
     pub fn is_over(&mut self, conn: ConnId) -> bool
+        ensures over { result ≡ lacks_conn (copied self.old.world).machine conn }
         ensures same { copied self.new.world ≡ copied self.old.world }
+        ensures visits { VisitsStay P.turns V.starts self.old.pool self.old.world self.new.world }
+        ensures pool { self.new.pool ≡ self.old.pool }
     {
         steps::is_over(&mut self.world, conn)
     }
@@ -86,6 +108,9 @@ impl<B: Backing + Drop, P: Process, V: Service<B, P>> Host<B, P, V> {
     /// Bytes arrive on a connection, as many as fit. Returns the rest.
     pub fn hand_in<'a>(&mut self, conn: ConnId, bytes: &'a [u8]) -> &'a [u8]
         ensures alone { ArrivesIn P.turns conn bytes.now result.now self.old.world self.new.world }
+        ensures visits { VisitsArrive P.turns V.starts self.old.pool conn bytes.now result.now
+            self.old.world self.new.world }
+        ensures pool { self.new.pool ≡ self.old.pool }
     {
         steps::hand_in(&mut self.world, conn, bytes)
     }
@@ -93,8 +118,12 @@ impl<B: Backing + Drop, P: Process, V: Service<B, P>> Host<B, P, V> {
     /// Sends the queued output of a connection to a writer, at most this number of bytes. Returns
     /// how many, or none if the processes have closed the connection.
     pub fn collect<W: Write>(&mut self, conn: ConnId, writer: &mut W, most: u32) -> Option<u32>
+        ensures over { IsNone result → lacks_conn (copied self.new.world).machine conn ≡ true }
         ensures alone { SendsIn P.turns conn W.contents writer.old writer.new self.old.world
             self.new.world }
+        ensures visits { VisitsSend P.turns V.starts self.old.pool conn (W.contents writer.old)
+            (W.contents writer.new) self.old.world self.new.world }
+        ensures pool { self.new.pool ≡ self.old.pool }
     {
         steps::collect(&mut self.world, conn, writer, most)
     }

@@ -22,6 +22,7 @@ pub mod deadlines;
 pub mod engine;
 pub mod exchange;
 pub mod expiry;
+pub mod history;
 pub mod host;
 pub mod input;
 pub mod limits;

@@ -1,7 +1,9 @@
 //! Operations on one connection of a world.
-ghost use Rattle.std.specs.Prelude.{◌≡◌, [], true, false};
+ghost use Rattle.std.specs.Prelude.{◌≡◌, [], true, false, IsNone};
+ghost use Rattle.iol_core.specs.Prelude.{lacks_conn};
 ghost use Rattle.iol_proc.specs.Prelude.{KeepsHonesty, copied};
 ghost use Rattle.iol_serve.specs.Service.{GoesOnIn, SendsIn};
+ghost use Rattle.iol_reactor.specs.Bytes.{IsRestOf};
 ghost use Rattle.iol_reactor.specs.Serving.{ArrivesIn, EndsIn};
 
 use iol_back::backing::Backing;
@@ -45,6 +47,7 @@ pub fn hang_up<B: Backing + Drop, P: Process>(world: &mut World<B, P>, conn: Con
 
 /// Whether a connection does not exist, tested by a drain of zero bytes, which changes nothing.
 pub fn is_over<B: Backing + Drop, P: Process>(world: &mut World<B, P>, conn: ConnId) -> bool
+    ensures over { result ≡ lacks_conn (copied world.old).machine conn }
     ensures honest { KeepsHonesty world.old.machine world.new.machine }
     ensures same { copied world.new ≡ copied world.old }
 {
@@ -62,6 +65,7 @@ pub fn hand_in<'a, B: Backing + Drop, P: Process>(
     bytes: &'a [u8],
 ) -> &'a [u8]
     ensures honest { KeepsHonesty world.old.machine world.new.machine }
+    ensures rest { IsRestOf bytes.now result.now }
     ensures alone { ArrivesIn P.turns conn bytes.now result.now world.old world.new }
 {
     let mut rest = bytes;
@@ -83,6 +87,7 @@ fn hand_in_page<'a, B: Backing + Drop, P: Process>(
     rest: &mut &'a [u8],
 ) -> bool
     ensures honest { KeepsHonesty world.old.machine world.new.machine }
+    ensures rest { IsRestOf rest.old.now rest.new.now }
     ensures alone { ArrivesIn P.turns conn rest.old.now rest.new.now world.old world.new }
 {
     match world.arrive_from(conn, rest, PIECE) {
@@ -100,6 +105,7 @@ pub fn collect<B: Backing + Drop, P: Process, W: Write>(
     most: u32,
 ) -> Option<u32>
     ensures honest { KeepsHonesty world.old.machine world.new.machine }
+    ensures over { IsNone result → lacks_conn (copied world.new).machine conn ≡ true }
     ensures alone { SendsIn P.turns conn W.contents writer.old writer.new world.old world.new }
 {
     match world.drain_to(conn, writer, most) {
