@@ -30,14 +30,14 @@ pub there_countable : {s : Stored} (xs : List Slice) → IsAllThere s xs → IsC
 there_countable xs h = record { each = λ b. omega (arith, h.held.each b, tally-few b xs, h.few) }
 
 -- bytes arrived in an empty queue
-pub arrived : (s t : Stored) (old xs : List Slice) (pool n : ℕ) (bytes : List ℕ) → old ≡ [] → IsHeldBy s [] → AddsFitting s t old xs pool bytes n → length bytes ≤ 65536 → IsAllThere t xs
-arrived s t old xs pool n bytes empty none adds short =
+pub arrived : (s t : Stored) (old xs : List Slice) (pool n : ℕ) (bytes : List ℕ) → old ≡ [] → IsHeldBy s [] → AddsFitting s t old xs pool bytes n → IsAllThere t xs
+arrived s t old xs pool n bytes empty none adds =
     let new = adds.added.slices in
     let is : xs ≡ new = adds.added.added ∙ ap (λ (l : List Slice). l ++ new) empty in
     subst (IsAllThere t) (sym is) (record {
       held = held_moves none adds.added.moves;
       readable = adds.added.readable;
-      few = omega (arith, length-text_of t new, ap length adds.added.is_text, length-map (take n bytes) (λ (b : ℕ). (b, pool)), length-take n bytes, short);
+      few = omega (arith, adds.taken, length-text_of t new, ap length adds.added.is_text, length-map {B = ℕ × ℕ} (take n bytes) (λ b. (b, pool)), length-take n bytes);
     })
 
 -- the front of them can be read

@@ -1,11 +1,12 @@
 //! Tests of pages, aggregates, pipes, descriptors, sums, connections, extents, stores of files,
-//! caches and kernels.
+//! caches, kernels and copying calls.
 mod aggregates;
 mod arenas;
 mod backing;
 mod by_number;
 mod caches;
 mod connections;
+mod copying_calls;
 mod extents;
 mod holds;
 mod kernel_calls;

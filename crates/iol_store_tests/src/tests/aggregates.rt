@@ -77,6 +77,27 @@ fn replace_half<R: Abort>(rt: &R, alloc: Global, store: &mut Store, agg: &Agg) -
     replaced == len / 2 + len
 }
 
+// All bytes, added to those of an aggregate that has none.
+fn adds<R: Abort>(rt: &R, alloc: Global, store: &mut Store, agg: &Agg) -> bool
+    requires { IsHeldBy store.old (bufs_of agg.now) }
+{
+    let len = agg.len();
+    let mut sum = Agg::new(alloc);
+    sum.add_range(store, agg, 0, len).expect(rt, "memory");
+    let added = sum.len();
+    drop(sum);
+    added == len
+}
+
+// Five bytes of a store, added so.
+fn adds_five<R: Abort>(rt: &R, alloc: Global) -> bool {
+    let (mut store, pool) = start(rt, alloc);
+    let agg = filled(rt, alloc, &mut store, pool, b"hello");
+    let all = adds(rt, alloc, &mut store, &agg);
+    drop((store, agg));
+    all
+}
+
 // Splits the bytes, joins them again, and drops them.
 fn split_and_join<R: Abort>(rt: &R, store: &mut Store, agg: Agg) -> bool
     requires { IsHeldBy store.old (bufs_of agg) }
@@ -151,5 +172,6 @@ fn all_hold<R: Abort>(rt: &R, alloc: Global, text: &[u8]) -> bool {
 #[test]
 fn ample(rt: HostRuntime) -> Result<(), Fail> {
     let text = vec![in rt.alloc(); 7u8; 70_000]?;
-    pass_if(all_hold(&rt, rt.alloc(), &text))
+    let alloc = rt.alloc();
+    pass_if(all_hold(&rt, alloc, &text) && adds_five(&rt, alloc))
 }

@@ -54,7 +54,9 @@ fn fill_two<R: Abort>(rt: &R, alloc: Global, store: &mut Store, pool: PoolId) ->
     ensures there { IsAllThere store.new result }
 {
     assert!(rt; !store.pools().is_closed(pool));
-    Agg::fill(alloc, store, pool, b"HE").expect(rt, "room")
+    let agg = Agg::fill(alloc, store, pool, b"HE").expect(rt, "room");
+    assert!(rt; agg.len() == 2);
+    agg
 }
 
 // A cache with a file of a pool.

@@ -9,13 +9,14 @@ use test_parts::checks::{lend, pass};
 
 /// Lists and texts of calls.
 #[derive(Drop)]
-struct Inputs {
-    readers: Domains,
-    text: Bytes,
-    name: Bytes,
+pub struct Inputs {
+    pub readers: Domains,
+    pub text: Bytes,
+    pub name: Bytes,
 }
 
-fn make_inputs(alloc: Global) -> Result<Inputs, AllocError> {
+/// A list of domain 1, four bytes, and a name.
+pub fn make_inputs(alloc: Global) -> Result<Inputs, AllocError> {
     let readers = Domains::from_vec([DomainId::new(1)].to_vec(alloc)?);
     let (text, name) = (bytes(alloc, b"abcd")?, bytes(alloc, b"f")?);
     Ok(Inputs {
@@ -25,7 +26,8 @@ fn make_inputs(alloc: Global) -> Result<Inputs, AllocError> {
     })
 }
 
-fn pools_answer(kernel: &mut TestKernel, with: &Inputs) -> bool {
+/// Two domains, and a pool that both may read, the default of the first.
+pub fn pools_answer(kernel: &mut TestKernel, with: &Inputs) -> bool {
     kernel.makes_domain()
         && kernel.makes_pool(&with.readers)
         && kernel.admits()
@@ -82,30 +84,4 @@ fn all_answer(alloc: Global) -> Result<bool, Refusal> {
 #[test]
 fn ample(rt: HostRuntime) -> Result<(), Fail> {
     pass(all_answer(rt.alloc()))
-}
-
-/// The copying calls, on a file and on a pipe.
-fn copies_answer(kernel: &mut TestKernel, with: &Inputs) -> bool {
-    kernel.makes_file(&with.name)
-        && kernel.opens(&with.name, 0)
-        && kernel.copies_in(0, b"abcd", 4)
-        && kernel.seeks(0, 0)
-        && kernel.copies_out(0, *b"abcd")
-        && kernel.makes_pipe(1, 2)
-        && kernel.copies_in(2, b"efghij", 6)
-        && kernel.copies_out(1, *b"efgh")
-        && kernel.copies_list(1, b"ij")
-}
-
-fn all_copy(alloc: Global) -> Result<bool, Refusal> {
-    let with = make_inputs(alloc)?;
-    lend(
-        TestKernel::new(alloc),
-        |kernel| pools_answer(kernel, &with) && copies_answer(kernel, &with),
-    )
-}
-
-#[test]
-fn ample_for_copies(rt: HostRuntime) -> Result<(), Fail> {
-    pass(all_copy(rt.alloc()))
 }

@@ -148,13 +148,13 @@ impl TestKernel {
     }
 
     pub fn copies_file(&mut self, fd: u32, count: u32, text: &[u8]) -> bool {
-        let fd = Fd::new(fd);
-        let Some(found) = self.kernel.file_open(one(), fd) else {
+        let (by, fd) = (one(), Fd::new(fd));
+        let Some(found) = self.kernel.file_open(by, fd) else {
             return false;
         };
         let copied = self
             .kernel
-            .copy_file(&mut self.backing, one(), fd, found, count);
+            .copy_file(&mut self.backing, by, fd, found, count);
         matches!(copied, Ok(bytes) if bytes.as_slice() == text)
     }
 

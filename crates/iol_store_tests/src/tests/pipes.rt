@@ -72,6 +72,17 @@ fn front<R: Abort>(
     len
 }
 
+// Takes bytes off, whoever may read them, and returns whether there were so many.
+fn takes<R: Abort>(rt: &R, alloc: Global, store: &mut Store, pipe: &mut Pipe, n: u32) -> bool
+    requires { IsHeldBy store.old (bufs_of pipe.old) }
+{
+    let waiting = pipe.len();
+    let taken = pipe.take(alloc, store, n).expect(rt, "memory");
+    let len = taken.len();
+    drop(taken);
+    n <= waiting && len == n
+}
+
 // The number of bytes requested, the domain, and the number of bytes that it gets, of five that
 // both may read and then three of domain 2.
 const FRONTS: [(u32, u32, u32); 5] = [(3, 1, 3), (9, 1, 2), (9, 1, 0), (2, 2, 2), (9, 2, 1)];
@@ -96,11 +107,52 @@ fn all_hold<R: Abort>(rt: &R, alloc: Global, text: &[u8]) -> bool {
     let all_come = fronts_hold(rt, alloc, &mut store, &mut pipe) && pipe.is_empty();
     let most = push(rt, alloc, &mut store, &mut pipe, second, text);
     let taken = five == 5 && three == 3 && most == 65_536;
-    taken && all_come && pipe.first_pool() == Some(second)
+    let is_of_second = pipe.first_pool() == Some(second);
+    takes(rt, alloc, &mut store, &mut pipe, 9) && taken && all_come && is_of_second
+}
+
+// New bytes.
+fn fills<R: Abort>(
+    rt: &R,
+    alloc: Global,
+    store: &mut Store,
+    pipe: &mut Pipe,
+    pool: PoolId,
+) -> bool {
+    assert!(rt; !store.pools().is_closed(pool));
+    pipe.fill(alloc, store, pool, b"abc") == Ok(3)
+}
+
+// The bytes of one read.
+fn fills_from<R: Abort>(
+    rt: &R,
+    alloc: Global,
+    store: &mut Store,
+    pipe: &mut Pipe,
+    pool: PoolId,
+) -> bool {
+    assert!(rt; !store.pools().is_closed(pool));
+    assert!(rt; pipe.len() < 9);
+    let mut reader = b"de".as_slice();
+    match pipe.fill_from(alloc, store, pool, &mut reader, 9) {
+        Ok(arrived) => arrived.taken == 2,
+        Err(_) => false,
+    }
+}
+
+fn both_fill<R: Abort>(rt: &R, alloc: Global) -> bool {
+    let (mut store, pool, _other) = start(rt, alloc);
+    let mut pipe = Pipe::new(alloc);
+    let all = fills(rt, alloc, &mut store, &mut pipe, pool)
+        && fills_from(rt, alloc, &mut store, &mut pipe, pool)
+        && pipe.len() == 5;
+    drop((store, pipe));
+    all
 }
 
 #[test]
 fn ample(rt: HostRuntime) -> Result<(), Fail> {
     let text = vec![in rt.alloc(); 7u8; 70_000]?;
-    pass_if(all_hold(&rt, rt.alloc(), &text))
+    let alloc = rt.alloc();
+    pass_if(all_hold(&rt, alloc, &text) && both_fill(&rt, alloc))
 }

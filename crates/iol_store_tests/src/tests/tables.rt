@@ -64,6 +64,14 @@ fn close(table: &mut Table<u32>, d: DomainId, number: u32) -> bool {
     true
 }
 
+// Opens both ends of a pipe, under these numbers.
+fn opens_ends(table: &mut Table<u32>, d: DomainId, numbers: (u32, u32)) -> bool {
+    if !table.live(d) || table.is_open_beyond(d, 2) {
+        return false;
+    }
+    table.add_ends(d, PipeId::new(0)) == Ok((Fd::new(numbers.0), Fd::new(numbers.1)))
+}
+
 // An aggregate is added under that number, and taken.
 fn comes_and_goes(table: &mut Table<u32>, d: DomainId, round: u32) -> bool {
     match add(table, d, round) {
@@ -113,7 +121,10 @@ fn with_one<R: Abort>(rt: &R, alloc: Global) -> Table<u32> {
 fn all_taken<R: Abort>(rt: &R, alloc: Global) -> bool {
     let mut table = with_one(rt, alloc);
     let d = DomainId::new(1);
-    let all = take_first(&mut table, d) && take_many(&mut table, d);
+    let all = take_first(&mut table, d)
+        && take_many(&mut table, d)
+        && open(&mut table, d) == Some(0)
+        && opens_ends(&mut table, d, (1, 2));
     drop(table);
     all
 }

@@ -1,4 +1,4 @@
-use Rattle.std.proofs.Common.{◌≡◌, List, ap, arith, rules}
+use Rattle.std.proofs.Common.{◌≡◌, List, ap, rules}
 use Rattle.iol_agg.proofs.KnownHolds.{of_ok}
 use Rattle.iol_hold.specs.declared.slices.Slice.{Slice}
 use Rattle.iol_pipe.specs.NewBytes.{AddsFitting}
@@ -22,5 +22,5 @@ returns g c =
     let adds = of_ok (AddsFitting c.args.store.now c.arrive.new.store old.incoming new.incoming old.pool _) c.arrive.result c.expect.result c.arrive.ensures.conn.adds c.expect.ensures in
     record {
       there = still_there c.args.table.now c.arrive.new.self c.args.conn (is_there _ _ c.requires.one) c.arrive.ensures.others;
-      queued = arrived c.args.store.now c.arrive.new.store old.incoming new.incoming old.pool c.expect.result _ (ap (λ (x : Conn (List Slice)). x.incoming) is) c.requires.none adds (omega arith);
+      queued = arrived c.args.store.now c.arrive.new.store old.incoming new.incoming old.pool c.expect.result _ (ap (λ (x : Conn (List Slice)). x.incoming) is) c.requires.none adds;
     }
