@@ -1,0 +1,90 @@
+-- The connections of a site's world have their answers.
+use Rattle.std.proofs.Common.{◌≡◌, ◌∙◌, ℕ, Bool, true, false, List, [], ◌∷◌, ◌++◌, sym}
+use Rattle.iol_core.specs.State.{State}
+use Rattle.iol_core.specs.declared.events.Event.TheVariants as event
+use Rattle.iol_core.specs.declared.events.Reply.{Reply}
+use Rattle.iol_system.specs.Prelude.{slots_of}
+use Rattle.iol_proc.specs.World.{Stage, copied, copying, WorldRun}
+use Rattle.iol_proc.specs.declared.choice.Choice.{Choice}
+use Rattle.iol_proc.specs.declared.choice.Choice.TheVariants as choice
+use Rattle.iol_reactor.specs.Serving.{AreServing, IsServing}
+use Rattle.iol_reactor.specs.Visits.{HasVisited, Visits}
+use Rattle.iol_system.specs.Machine.{SystemState}
+use Rattle.flash_cgi.specs.declared.worker.Worker.{Worker}
+use Rattle.flash_clients.specs.Visits.{IsVisit, IsVisitAnswered, VisitsAreAnswered}
+use Rattle.flash_laws.specs.Serves.Rounds.{in_rounds}
+use Rattle.flash_laws.specs.Site.{net_pool}
+use Rattle.flash_laws.specs.World.{RunKeepsTie, Tied}
+use Rattle.flash_laws.specs.World.Calm.{AreMild, IsMild}
+use Rattle.flash_laws.specs.World.Fair.{any_refusal, AnyIsFair}
+use Rattle.flash_laws.specs.World.Host.{IsRight}
+use Rattle.flash_laws.specs.World.Tie.{Actor, actor_turns}
+use Rattle.flash_lite.specs.Crew.{crew_of}
+use Rattle.flash_lite.specs.HostedSite.{HostedIsRight, IsRightAfter}
+use Rattle.flash_lite.specs.Library.{library_of}
+use Rattle.flash_lite.specs.Workers.{worker_turns}
+use Rattle.flash_lite.specs.declared.site.Site.{Site}
+use Rattle.flash_site.specs.World.{BeginsSite, IsSiteWorld}
+use Rattle.flash_answers.specs.Sites.{IsAnsweredBySite, SitesAnswer, site_of}
+
+-- ---- what happens in a world that serves is mild
+
+mild_one : (pool : ℕ) (x : Choice) (w after : Stage State (Actor Worker)) → IsServing pool x → IsMild w x after
+mild_one pool (choice.Turn by) w after on = tt
+mild_one pool (choice.Outside (event.ConnNew p)) w after on = tt
+mild_one pool (choice.Outside (event.Arrive c bytes)) w after on = tt
+mild_one pool (choice.Outside (event.PeerClosed c how)) w after on = tt
+mild_one pool (choice.Outside (event.Transmit c max)) w after on = tt
+mild_one pool (choice.Outside (event.Call d k)) w after on = absurd on
+mild_one pool (choice.Outside e) w after on = absurd on
+
+all_mild : (pool : ℕ) (xs : List Choice) (rs : List Reply) (w after : Stage State (Actor Worker))
+    → (run : WorldRun copying (actor_turns in_rounds worker_turns) w xs rs after) → AreServing pool xs
+    → AreMild (actor_turns in_rounds worker_turns) w xs rs after run
+all_mild pool [] rs w after run on = tt
+all_mild pool (x ∷ xs) [] w after run on = tt
+all_mild pool (x ∷ xs) (r ∷ rs) w after run on = (mild_one pool x w run.0 on.0, all_mild pool xs rs run.0 after run.2 on.1)
+
+-- ---- the law
+
+module _ (keeps : (s : Site) → RunKeepsTie in_rounds (crew_of s)) (hosted : HostedIsRight) (fair : AnyIsFair) (visits : (s : Site) → VisitsAreAnswered (crew_of s))
+    (c : ℕ) (came sent : List ℕ) (gone : Bool) (w : Stage SystemState (Actor Worker))
+    (visited : HasVisited (actor_turns in_rounds worker_turns) BeginsSite net_pool c came sent gone w) (is : IsSiteWorld visited.begun)
+    (honest : visited.begun.machine.disk.honest ≡ true) where
+  -- the world before its first turn
+  hosts-right : IsRightAfter is.is.site (slots_of is.store.slots) [] is.is.replies 0 is.is.idle (copied visited.begun) (is.is.honest (sym is.is.over.honest ∙ honest)) any_refusal
+  hosts-right = (hosted is.is.site (slots_of is.store.slots) [] is.is.replies 0 is.is.idle (copied visited.begun) (is.is.honest (sym is.is.over.honest ∙ honest))).any tt
+
+  visit : Visits (actor_turns in_rounds worker_turns) net_pool c came sent gone (copied visited.begun) (copied w)
+  visit = visited.visits honest
+
+  answered_by : (past : List Choice) (ps : List Reply) → Tied (site_of visited.begun is) (crew_of is.is.site) past ps (copied visited.begun) → IsAnsweredBySite c came sent gone w visited is
+  answered_by past ps tied = record { begins = done.begins; whole = done.whole }
+    where
+      before : Tied (site_of visited.begun is) (crew_of is.is.site) (past ++ visit.past.choices) (ps ++ visit.past.replies) visit.before
+      before = keeps is.is.site (site_of visited.begun is) past visit.past.choices ps visit.past.replies (copied visited.begun) visit.before visit.past.run
+          (all_mild net_pool visit.past.choices visit.past.replies (copied visited.begun) visit.before visit.past.run visit.past.serving)
+          (fair visit.past.choices visit.past.replies) tied
+
+      own : IsVisit worker_turns c came sent gone visit.before (copied w)
+      own = record {
+        begun = visit.first;
+        made = visit.made;
+        choices = visit.since.continues.choices;
+        replies = visit.since.continues.replies;
+        run = visit.since.continues.run;
+        mild = all_mild net_pool visit.since.continues.choices visit.since.continues.replies visit.first (copied w) visit.since.continues.run visit.since.continues.serving;
+        comes = visit.since.comes;
+        goes = visit.since.goes;
+        tells = visit.since.tells;
+      }
+
+      done : IsVisitAnswered (crew_of is.is.site) (site_of visited.begun is) (past ++ visit.past.choices) (ps ++ visit.past.replies) c came sent gone visit.before (copied w) own
+      done = visits is.is.site (site_of visited.begun is) (past ++ visit.past.choices) (ps ++ visit.past.replies) c came sent gone visit.before (copied w) before own
+          (fair visit.since.continues.choices visit.since.continues.replies)
+
+  site_answers : IsAnsweredBySite c came sent gone w visited is
+  site_answers = answered_by _ _ hosts-right.tied
+
+pub sites_answer : ((s : Site) → RunKeepsTie in_rounds (crew_of s)) → HostedIsRight → AnyIsFair → ((s : Site) → VisitsAreAnswered (crew_of s)) → SitesAnswer
+sites_answer keeps hosted fair visits = λ c came sent gone w visited is honest. site_answers keeps hosted fair visits c came sent gone w visited is honest
