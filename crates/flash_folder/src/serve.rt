@@ -1,5 +1,5 @@
 //! The server of a folder.
-ghost use Rattle.std.specs.Prelude.{◌≡◌, ◌⊎◌, IfErr, OnOk};
+ghost use Rattle.std.specs.Prelude.{◌≡◌, ◌⊎◌, IfErr, IfOk, OnOk, Some};
 ghost use Rattle.flash_folder.specs.Fault.{StopsServing, StopsStart};
 ghost use Rattle.flash_folder.specs.Announcement.{Announces, AnnouncesPort};
 
@@ -83,7 +83,8 @@ impl<R: Files + Drop> Server<FolderBacking<R>, FolderService> {
     pub fn listen(rt: &R, port: u16, root: &str, count: u32) -> Result<FolderServer<R>, Fault>
     where
         R: Net + AllocGlobal + Clone,
-        ensures { IfErr result (λ fault. StopsStart fault ⊎ (fault ≡ Fault.Listen)) }
+        ensures fault { IfErr result (λ fault. StopsStart fault ⊎ (fault ≡ Fault.Listen)) }
+        ensures count { IfOk result (λ server. server.reactor.acceptor.left ≡ Some count) }
     {
         let world = world_of(rt, root)?;
         let address = SocketAddr::from((Ipv4Addr::LOCALHOST, port));
@@ -117,7 +118,9 @@ impl<R: Files + Drop> Server<FolderBacking<R>, FolderService> {
 }
 
 // The limits of a service that accepts this number of connections.
-fn limits_of(count: u32) -> Limits {
+fn limits_of(count: u32) -> Limits
+    ensures { result.stop_after ≡ Some count }
+{
     let mut limits = Limits::DEFAULT;
     limits.stop_after = Some(count);
     limits.ends_unaccepted = true;
