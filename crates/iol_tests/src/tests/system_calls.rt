@@ -5,6 +5,7 @@ use iol_core::descriptors::Mode;
 use iol_core::events::{Call, Event, Reply};
 use iol_core::lists::{Bytes, Domains};
 use iol_core::numbers::{AggId, ConnId, DomainId, Fd, PoolId};
+use iol_core::refusals::Refusal;
 use iol_system::system::System;
 use std::alloc::{AllocError, Global};
 use std::test::Fail;
@@ -227,6 +228,25 @@ fn hears(system: &mut TestedSystem) -> bool {
     }
 }
 
+fn is_agg(reply: &Reply, number: u64) -> bool {
+    match reply {
+        Reply::Agg(agg) => agg.number() == number,
+        _ => false,
+    }
+}
+
+// The next aggregate of domain 1 is made of borrowed bytes.
+fn makes(system: &mut TestedSystem) -> bool {
+    let made = system.make_agg(DomainId::new(1), b"ab");
+    is_agg(&made, 8)
+}
+
+// Two borrowed bytes are written to the pipe.
+fn writes(system: &mut TestedSystem) -> bool {
+    let written = system.write_bytes(DomainId::new(1), Fd::new(2), b"cd");
+    matches!(written, Reply::Count(2))
+}
+
 fn reports(system: &TestedSystem) -> bool {
     match system.report() {
         Ok(report) => (report.pools.len(), report.dirty, report.extents) == (1, 2, 2),
@@ -242,14 +262,9 @@ fn all_answer(alloc: Global, system: &mut TestedSystem, events: &Events) -> bool
         && run(alloc, system, &events.pipes, &PIPES_ANSWERED)
         && run(alloc, system, &events.connections, &CONNECTIONS_ANSWERED)
         && hears(system)
+        && makes(system)
+        && writes(system)
         && reports(system)
-}
-
-fn is_agg(reply: &Reply, number: u64) -> bool {
-    match reply {
-        Reply::Agg(agg) => agg.number() == number,
-        _ => false,
-    }
 }
 
 // One round: the new aggregate has this number.
@@ -278,20 +293,22 @@ fn rounds_answer(system: &mut TestedSystem, pools: &[Event], make: &Event) -> bo
     system.run(pools).is_ok() && all_rounds(system, make)
 }
 
+fn calls_hold(alloc: Global, events: &Events) -> Result<bool, Refusal> {
+    let made = System::new(alloc, Config::DEFAULT, empty_store(alloc));
+    lend(made, |system| all_answer(alloc, system, events))
+}
+
+fn rounds_hold(alloc: Global, pools: &[Event]) -> Result<bool, Refusal> {
+    let bytes = bytes(alloc, b"a")?;
+    let make = call_of(1, Call::AggMake { bytes });
+    let made = System::new(alloc, Config::DEFAULT, empty_store(alloc));
+    lend(made, |system| rounds_answer(system, pools, &make))
+}
+
 #[test]
 fn ample(rt: HostRuntime) -> Result<(), Fail> {
     let alloc = rt.alloc();
     let events = events_of(alloc)?;
-    let made = System::new(alloc, Config::DEFAULT, empty_store(alloc));
-    pass(lend(made, |system| all_answer(alloc, system, &events)))
-}
-
-#[test]
-fn ample_for_rounds(rt: HostRuntime) -> Result<(), Fail> {
-    let alloc = rt.alloc();
-    let events = events_of(alloc)?;
-    let bytes = bytes(alloc, b"a")?;
-    let make = call_of(1, Call::AggMake { bytes });
-    let made = System::new(alloc, Config::DEFAULT, empty_store(alloc));
-    pass(lend(made, |system| rounds_answer(system, &events.pools, &make)))
+    pass(calls_hold(alloc, &events))?;
+    pass(rounds_hold(alloc, &events.pools))
 }

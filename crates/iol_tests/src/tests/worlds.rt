@@ -142,7 +142,8 @@ fn nobody_has_a_turn(rt: HostRuntime) -> Result<(), Fail> {
     pass(lend(eager_world(rt.alloc()), all_are_refused))
 }
 
-// A turn of each of two processes, arriving bytes, and a report.
+// A turn of each of two processes, an external event, arriving bytes, turns until both are idle,
+// and a report.
 fn each_answers(world: &mut Workers, turns: &[Choice], reader: &mut Source<'_>) -> bool {
     let have_turns = match world.run(turns) {
         Ok(replies) => matches!(replies.as_slice(), [Reply::Done, Reply::Done]),
@@ -152,7 +153,7 @@ fn each_answers(world: &mut Workers, turns: &[Choice], reader: &mut Source<'_>) 
         return false;
     };
     let arrives = matches!(world.arrive_from(conn, reader, 9), Ok(arrived) if arrived.taken == 3);
-    have_turns && arrives && world.world().report().is_ok()
+    have_turns && arrives && world.until_idle(4) && world.world().report().is_ok()
 }
 
 fn all_answer(alloc: Global) -> Result<bool, Refusal> {
