@@ -2,10 +2,10 @@
 use Rattle.std.proofs.Common.{◌≡◌, ◌≢◌, ◌∙◌, ℕ, ◌≤◌, ◌<◌, ◌^◌, List, [], ◌∷◌, ◌++◌, None, Some, Option, length, take, false, sym, ap, subst, arith}
 use Rattle.std.proofs.lemmas.Bool.Decides.{nat_tests}
 use Rattle.std.proofs.lemmas.List.{length-map, length-take}
-use Rattle.iol_core.specs.NumberedLists.{changed, lookup}
+use Rattle.iol_core.specs.NumberedLists.{lookup}
 use Rattle.iol_pool.specs.Pools.{Pool, pool_in}
 use Rattle.iol_hold.specs.StoreState.{Stored}
-use Rattle.iol_hold.specs.Moves.{Covers, IsCountable, Moves, Shares}
+use Rattle.iol_hold.specs.Moves.{Covers, IsCountable, Moves}
 use Rattle.iol_hold.specs.Places.{byte_len, places}
 use Rattle.iol_hold.specs.Texts.{AllReadable, bufs_of}
 use Rattle.iol_hold.specs.declared.slices.Slice.{Slice}
