@@ -21,7 +21,6 @@ use Rattle.flash_laws.specs.World.Host.{IsRight}
 use Rattle.flash_laws.specs.World.Tie.{Actor, actor_turns}
 use Rattle.flash_lite.specs.Crew.{crew_of}
 use Rattle.flash_lite.specs.HostedSite.{HostedIsRight, IsRightAfter}
-use Rattle.flash_lite.specs.Library.{library_of}
 use Rattle.flash_lite.specs.Workers.{worker_turns}
 use Rattle.flash_lite.specs.declared.site.Site.{Site}
 use Rattle.flash_site.specs.World.{BeginsSite, IsSiteWorld}
