@@ -1,6 +1,8 @@
 //! `flashd`: serves the files below a folder by HTTP/1.1 to many concurrent clients.
 #![tactic(auto)]
 
+ghost use Rattle.std.specs.Prelude.{◌≡◌, ◌⊎◌, IfOk};
+
 mod notices;
 mod options;
 mod serve;
@@ -29,7 +31,9 @@ fn words_of<R: Env + AllocGlobal>(rt: &R) -> io::Result<Vec<String>> {
 }
 
 /// Runs the program that the words request, and returns its exit status.
-fn run(rt: &HostRuntime, words: &[String]) -> io::Result<u8> {
+fn run(rt: &HostRuntime, words: &[String]) -> io::Result<u8>
+    ensures { IfOk result (λ status. (status ≡ 0) ⊎ (status ≡ 2)) }
+{
     let command = command(rt.alloc())?;
     let matches = match command.try_get_matches_from(words) {
         Ok(matches) => matches,

@@ -1,4 +1,7 @@
 //! The options of the command line.
+ghost use Rattle.std.specs.Prelude.{◌≡◌, IfSome, Some, None, codes, option_map};
+ghost use Rattle.clap.specs.Words.{first_value, found_of, one_text};
+
 use clap::{Arg, ArgAction, ArgMatches, Command, value_parser};
 use flash_site::source::PRELOAD_BYTES;
 use iol_reactor::limits::Limits;
@@ -37,7 +40,14 @@ pub struct Options<'a> {
 
 impl<'a> Options<'a> {
     /// The options. None: the address to listen on is invalid.
-    pub fn of(matches: &ArgMatches<'a>) -> Option<Options<'a>> {
+    pub fn of(matches: &ArgMatches<'a>) -> Option<Options<'a>>
+        ensures root { IfSome result (λ o. first_value (found_of matches.now) (codes "root")
+            ≡ Some o.root.now) }
+        ensures log { IfSome result (λ o. first_value (found_of matches.now) (codes "access-log")
+            ≡ option_map (λ path. path.now) o.access_log) }
+        ensures folder { one_text (found_of matches.now) (codes "no-preload") ≡ Some (codes "true")
+            → IfSome result (λ o. o.preload ≡ None) }
+    {
         let listen = matches.get_one::<SocketAddr>("listen")?;
         let root = matches.get_str("root")?;
         Some(Options {
@@ -50,7 +60,10 @@ impl<'a> Options<'a> {
     }
 }
 
-fn preload_of(matches: &ArgMatches<'_>) -> Option<u64> {
+fn preload_of(matches: &ArgMatches<'_>) -> Option<u64>
+    ensures { one_text (found_of matches.now) (codes "no-preload") ≡ Some (codes "true")
+        → result ≡ None }
+{
     if matches.get_flag("no-preload") {
         None
     } else {

@@ -1,4 +1,7 @@
 //! A site, as a service of the event loop.
+ghost use Rattle.std.specs.Prelude.{IfOk, IfSome};
+ghost use Rattle.flash_site.specs.World.{BeginsSite};
+
 use crate::notices::tell_site;
 use flash_framing::{frame_of, progress_of};
 use flash_lite::actor::Actor;
@@ -97,7 +100,9 @@ where
     }
 
     // A new world, if the folder changed. A folder that takes long to check is checked less often.
-    fn look(&mut self, is_worn: bool) -> io::Result<Option<World<TreeBacking<R>, Actor>>> {
+    fn look(&mut self, is_worn: bool) -> io::Result<Option<World<TreeBacking<R>, Actor>>>
+        ensures { IfOk result (λ renewed. IfSome renewed BeginsSite) }
+    {
         let start = Instant::now(&self.rt)?;
         if !is_worn && !self.is_time(&start) {
             return Ok(None);
@@ -136,6 +141,10 @@ where
     R: Files + Clock + Eprint + AllocGlobal + Clone + Drop,
     W: Write + Drop,
 {
+    // The world of a site, in which nothing has happened yet: the server's laws begin with such a
+    // world.
+    ghost starts = { BeginsSite };
+
     fn frame(&self, bytes: &[u8]) -> Frame {
         frame_of(bytes)
     }
