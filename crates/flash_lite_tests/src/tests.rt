@@ -6,6 +6,7 @@ mod heads;
 mod host;
 mod hosted_site;
 mod outputs;
+mod processes;
 mod ranges;
 mod refusals;
 mod rows;
