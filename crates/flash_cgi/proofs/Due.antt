@@ -23,11 +23,13 @@ use Rattle.flash_cgi.specs.Frame.{LeavesAllBut, WorkersAreQuiet}
 use Rattle.flash_cgi.specs.Outcomes.{AreFiles, outcomes_in}
 use Rattle.flash_cgi.specs.Output.{Outcome, Failed, output}
 use Rattle.flash_cgi.specs.JobStart.{HasJob}
+use Rattle.flash_cgi.specs.Release.{work_of}
 use Rattle.flash_cgi.specs.Turns.{IsFree, is_given, step_of, Awaits, RunsJob, outcomes_to_come, ReadsItsFile, Settles, GoesOn, IsOver, TurnsFeed}
 use Rattle.flash_cgi.specs.Works.{worker_turns}
 use Rattle.flash_cgi.specs.declared.line.Line.{Line}
-use Rattle.flash_cgi.specs.declared.phase.Doing.{Doing}
 use Rattle.flash_cgi.specs.declared.phase.Doing.TheVariants as doing
+use Rattle.flash_cgi.specs.declared.phase.Phase.{Phase}
+use Rattle.flash_cgi.specs.declared.phase.Phase.TheVariants.{At}
 use Rattle.flash_cgi.specs.declared.phase.Standing.TheVariants as standing
 use Rattle.flash_cgi.specs.declared.worker.Worker.{Worker}
 use Rattle.flash_cgi.proofs.Beside.{free_still}
@@ -60,12 +62,12 @@ same_pipe m d j k one two = pipe_of j k (sym one ∙ two)
     pipe_of j k e = cc
 
 -- a worker that is free does not run
-free_waits : (m : State) (seat : Seat Worker) → IsFree m seat → Needs m seat.by (step_of m seat).doing → ⊥
-free_waits m seat free needs = subst (λ (x : Doing). Needs m seat.by x) free.waits needs
+free_waits : (m : State) (seat : Seat Worker) → IsFree m seat → Needs m seat.by (work_of (step_of m seat).phase) → ⊥
+free_waits m seat free needs = subst (λ (z : Phase). Needs m seat.by (work_of z)) free.waits needs
 
-free_was_told : (seat : Seat Worker) (m : State) (a : ℕ) → IsFree m seat → seat.process.step.doing ≡ doing.Waits → seat.process.standing ≡ standing.Asked → seat.last ≡ reply.Agg a → ⊥
+free_was_told : (seat : Seat Worker) (m : State) (a : ℕ) → IsFree m seat → seat.process.step.phase ≡ At doing.Waits → seat.process.standing ≡ standing.Asked → seat.last ≡ reply.Agg a → ⊥
 free_was_told seat m a free waits asked last =
-    let given = ap (λ (x : Doing). is_given x seat.last) waits ∙ ap (λ (l : Reply). is_given doing.Waits l) last in
+    let given = ap (λ (z : Phase). is_given z seat.last) waits ∙ ap (λ (l : Reply). is_given (At doing.Waits) l) last in
     let none = sym given ∙ free.not_given asked in
     cc (none)
 

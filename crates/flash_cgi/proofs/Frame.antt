@@ -24,23 +24,28 @@ use Rattle.iol_proc.specs.declared.process.Turn.{Turn}
 use Rattle.iol_proc.specs.declared.process.Turn.TheVariants as turn
 use Rattle.iol_proc.specs.declared.seat.Seat.{Seat}
 use Rattle.flash_cgi.specs.Collecting.{Collected}
-use Rattle.flash_cgi.specs.Feeds.{Needs}
+use Rattle.flash_cgi.specs.Feeds.{AreSpare, IsSpare, Needs}
 use Rattle.flash_cgi.specs.Job.{Task}
 use Rattle.flash_cgi.specs.Frame.{LeavesAllBut, WorkersAreQuiet}
 use Rattle.flash_cgi.specs.Output.{Outcome}
 use Rattle.flash_cgi.specs.Turns.{IsFree, HasRead, IsRunning, filed_step, is_given, or_again}
 use Rattle.flash_cgi.specs.Standstill.{is_over}
-use Rattle.flash_cgi.specs.WorkerSteps.{call_at, doing_call, due_now, next_call, told, told_doing}
+use Rattle.flash_cgi.specs.Release.{after_first, first, release_call, work_of}
+use Rattle.flash_cgi.specs.WorkerSteps.{call_at, due_now, next_call, phase_call, told, told_phase}
 use Rattle.flash_cgi.specs.Works.{files, goes_on, works, works_as, worker_turns}
 use Rattle.flash_cgi.specs.declared.line.Line.{Line}
 use Rattle.flash_cgi.specs.declared.line.Line.TheVariants as line
-use Rattle.flash_cgi.specs.declared.phase.Doing.{Doing}
 use Rattle.flash_cgi.specs.declared.phase.Doing.TheVariants as doing
+use Rattle.flash_cgi.specs.declared.phase.Object.{Object}
+use Rattle.flash_cgi.specs.declared.phase.Object.TheVariants as object
+use Rattle.flash_cgi.specs.declared.phase.Phase.{Phase}
+use Rattle.flash_cgi.specs.declared.phase.Phase.TheVariants.{Release, At}
 use Rattle.flash_cgi.specs.declared.phase.Standing.{Standing}
 use Rattle.flash_cgi.specs.declared.phase.Standing.TheVariants as standing
 use Rattle.flash_cgi.specs.declared.phase.Step.{Step}
 use Rattle.flash_cgi.specs.declared.worker.Worker.{Worker}
 use Rattle.flash_cgi.proofs.Beside.{no_gift, no_touch, values_stay}
+use Rattle.flash_cgi.proofs.Kept.{spare_parts}
 use Rattle.flash_cgi.proofs.OutputByTurn.{lent-live}
 
 -- ---- calls that keep to a file, or to one pipe
@@ -268,18 +273,18 @@ makes w v x k step call_is is job_is step_is asked = record {
 }
 
 pub makes_call : (w v : Worker) (k : Call) (l : Reply) (lent : ℕ → Option (List ℕ)) (s : Standing) → w.standing ≡ s → is_over s ≡ false
-    → (s ≡ standing.Asked → is_given w.step.doing l ≡ false) → works_as s w l lent (turn.Make k) v → MakesCall w v k (filed_step s w lent l)
+    → (s ≡ standing.Asked → is_given w.step.phase l ≡ false) → works_as s w l lent (turn.Make k) v → MakesCall w v k (filed_step s w lent l)
 makes_call w v k l lent standing.Over is goes un did = absurd (cc (goes))
 makes_call w v k l lent standing.Asks is goes un did = makes w v (record w { standing = standing.Asked }) k w.step did.0 did.1 refl refl refl
-makes_call w v k l lent standing.Asked is goes un did = filed w.step.doing l (un refl) did
+makes_call w v k l lent standing.Asked is goes un did = filed w.step.phase l (un refl) did
   where
     on : (o : Option Step) → goes_on w o (turn.Make k) v → MakesCall w v k (or_again o w.step)
     on (Some step) did = makes w v (record w { step = step }) k step did.0 did.1 refl refl is
     on None did = (let e = did.0 in absurd (cc (e)))
 
-    filed : (x : Doing) (y : Reply) → is_given x y ≡ false → files w x y lent (turn.Make k) v → MakesCall w v k (or_again (told w.job w.step lent y) w.step)
-    filed doing.Waits (reply.Agg a) given did = absurd (cc (given))
-    filed x y given did = on (told w.job w.step lent y) did
+    filed : (z : Phase) (y : Reply) → is_given z y ≡ false → files w z y lent (turn.Make k) v → MakesCall w v k (or_again (told w.job w.step lent y) w.step)
+    filed (At doing.Waits) (reply.Agg a) given did = absurd (cc (given))
+    filed z y given did = on (told w.job w.step lent y) did
 
 -- a step that it is at keeps to files, and to the pipe of its output
 line_keeps : (m : State) (d p : ℕ) (job : Task) (l : Option Line) → is_but p (descriptor m d job.fd) ≡ true → keeps_to m d p (next_call job l) ≡ true
@@ -305,24 +310,26 @@ both true false one two = refl
 both true true one two = absurd (cc (two))
 both false b one two = absurd (cc (one))
 
-step_keeps : (m : State) (d p : ℕ) (job : Task) (x : Collected) (begun : ℕ) (y : Doing) → descriptor m d job.fd ≡ Some (on.WriteEnd p) → Needs m d y → keeps_to m d p (doing_call job x begun y) ≡ true
-step_keeps m d p job x begun doing.Waits opened h = absurd h
-step_keeps m d p job x begun (doing.Skips a) opened h = absurd h
-step_keeps m d p job x begun (doing.Breaks a) opened h = absurd h
-step_keeps m d p job x begun doing.Runs opened h = begin_keeps m d p job x (slice_get job.lines begun) (due_now job x begun) (output_is m d p job.fd opened).0
-step_keeps m d p job x begun (doing.Reads file u) opened h = file_is m d p file h.number h.place h.open_on
-step_keeps m d p job x begun (doing.Shuts file a) opened h = file_is m d p file h.0.0 h.0.1 h.0.2
-step_keeps m d p job x begun (doing.ShutsToSay file s) opened h = file_is m d p file h.0 h.1 h.2
-step_keeps m d p job x begun (doing.Writes a) opened h = (let o = output_is m d p job.fd opened in both _ _ o.0 o.1)
-step_keeps m d p job x begun y opened h = refl
+release_keeps : (m : State) (d p : ℕ) (x : Collected) (z : Phase) (o : Object) → IsSpare m d x z o → keeps_to m d p (release_call o) ≡ true
+release_keeps m d p x z (object.Agg a) h = refl
+release_keeps m d p x z (object.File f) h = file_is m d p f h.0.0 h.0.1 h.0.2
+
+step_keeps : (m : State) (d p : ℕ) (job : Task) (x : Collected) (begun : ℕ) (z : Phase) → descriptor m d job.fd ≡ Some (on.WriteEnd p) → Needs m d (work_of z) → AreSpare m d x z → keeps_to m d p (phase_call job x begun z) ≡ true
+step_keeps m d p job x begun (Release os y) opened h spares = release_keeps m d p x (after_first os y) (first os) (spare_parts m d x os y spares).0
+step_keeps m d p job x begun (At doing.Waits) opened h spares = absurd h
+step_keeps m d p job x begun (At doing.Ends) opened h spares = absurd h
+step_keeps m d p job x begun (At doing.Runs) opened h spares = begin_keeps m d p job x (slice_get job.lines begun) (due_now job x begun) (output_is m d p job.fd opened).0
+step_keeps m d p job x begun (At (doing.Reads file u)) opened h spares = file_is m d p file h.number h.place h.open_on
+step_keeps m d p job x begun (At (doing.Writes a)) opened h spares = (let o = output_is m d p job.fd opened in both _ _ o.0 o.1)
+step_keeps m d p job x begun (At y) opened h spares = refl
 
 -- one that runs was given no text, or it would wait
-given_waits : (m : State) (d : ℕ) (x : Doing) (y : Reply) (w : Worker) (lent : ℕ → Option (List ℕ)) → w.step.doing ≡ x → Needs m d (or_again (told_doing lent w.job w.step.piece w.step.begun x y) w.step).doing → is_given x y ≡ false
-given_waits m d doing.Waits (reply.Agg a) w lent at h = absurd (subst (λ (z : Doing). Needs m d z) at h)
-given_waits m d x y w lent at h = refl
+given_waits : (m : State) (d : ℕ) (z : Phase) (y : Reply) (w : Worker) (lent : ℕ → Option (List ℕ)) → w.step.phase ≡ z → Needs m d (work_of (or_again (told_phase lent w.job w.step.piece w.step.begun z y) w.step).phase) → is_given z y ≡ false
+given_waits m d (At doing.Waits) (reply.Agg a) w lent at h = absurd (subst (λ (z : Phase). Needs m d (work_of z)) at h)
+given_waits m d z y w lent at h = refl
 
-pub run_is_not_given : (m : State) (d : ℕ) (w : Worker) (l : Reply) (lent : ℕ → Option (List ℕ)) (s : Standing) → s ≡ standing.Asked → Needs m d (filed_step s w lent l).doing → is_given w.step.doing l ≡ false
-run_is_not_given m d w l lent s asked h = given_waits m d w.step.doing l w lent refl (subst (λ (z : Standing). Needs m d (filed_step z w lent l).doing) asked h)
+pub run_is_not_given : (m : State) (d : ℕ) (w : Worker) (l : Reply) (lent : ℕ → Option (List ℕ)) (s : Standing) → s ≡ standing.Asked → Needs m d (work_of (filed_step s w lent l).phase) → is_given w.step.phase l ≡ false
+run_is_not_given m d w l lent s asked h = given_waits m d w.step.phase l w lent refl (subst (λ (z : Standing). Needs m d (work_of (filed_step z w lent l).phase)) asked h)
 
 module _ (steps : EachStepLeavesTheRest) (come : AggregatesComeAndGo) (by_reply : DescriptorsComeByReplies) where
   -- of a worker that lives: whichever call it makes keeps to the pipe
@@ -340,7 +347,7 @@ module _ (steps : EachStepLeavesTheRest) (come : AggregatesComeAndGo) (by_reply 
   free_keeps m j seat free opened k v did =
       let w : Worker = seat.process in
       let step : Step = filed_step w.standing w (lent_at m seat.by) seat.last in
-      (makes_call w v k seat.last (lent_at m seat.by) w.standing refl free.not_over free.not_given did).call_is ∙ ap (λ (x : Doing). doing_call w.job step.piece step.begun x) free.waits
+      (makes_call w v k seat.last (lent_at m seat.by) w.standing refl free.not_over free.not_given did).call_is ∙ ap (λ (z : Phase). phase_call w.job step.piece step.begun z) free.waits
 
   desk_is : (m : State) (d j : ℕ) → descriptor m d 0 ≡ Some (on.ReadEnd j) → is_but j (descriptor m d 0) ≡ true
   unfolding is_but
@@ -375,8 +382,8 @@ module _ (steps : EachStepLeavesTheRest) (come : AggregatesComeAndGo) (by_reply 
       keeps k v goes =
           let w : Worker = seat.process in
           let filed = subst (λ (s : Standing). works_as s w seat.last (lent_at m seat.by) (turn.Make k) v) h.asked goes in
-          let took = subst (λ (l : Reply). files w doing.Waits l (lent_at m seat.by) (turn.Make k) v) h.last
-          (subst (λ (x : Doing). files w x seat.last (lent_at m seat.by) (turn.Make k) v) h.waits filed) in
+          let took = subst (λ (l : Reply). files w (At doing.Waits) l (lent_at m seat.by) (turn.Make k) v) h.last
+          (subst (λ (z : Phase). files w z seat.last (lent_at m seat.by) (turn.Make k) v) h.waits filed) in
           ap (λ c. keeps_to m seat.by p c) (made_is k (call.AggDrop h.agg) took.0)
 
   runs : (m n : State) (p : ℕ) (seat next : Seat Worker) (yields : Bool) (r : Reply) (unseen : List Outcome → List ℕ)
@@ -388,7 +395,7 @@ module _ (steps : EachStepLeavesTheRest) (come : AggregatesComeAndGo) (by_reply 
           let w : Worker = seat.process in
           let step : Step = filed_step w.standing w (lent_at m seat.by) seat.last in
           let is = makes_call w v k seat.last (lent_at m seat.by) w.standing refl i.not_over (λ asked. run_is_not_given m seat.by w seat.last (lent_at m seat.by) w.standing asked i.feeds.needs) goes in
-          ap (λ c. keeps_to m seat.by p c) is.call_is ∙ step_keeps m seat.by p w.job step.piece step.begun step.doing i.feeds.open_on i.feeds.needs
+          ap (λ c. keeps_to m seat.by p c) is.call_is ∙ step_keeps m seat.by p w.job step.piece step.begun step.phase i.feeds.open_on i.feeds.needs i.feeds.spares
 
 pub workers_are_quiet : EachStepLeavesTheRest → AggregatesComeAndGo → DescriptorsComeByReplies → WorkersAreQuiet
 workers_are_quiet steps come by_reply = record {

@@ -18,7 +18,7 @@ use Rattle.iol_laws.specs.Frame.{EachStepLeavesTheRest, Leaves, is_end}
 use Rattle.flash_cgi.specs.Collecting.{nothing}
 use Rattle.flash_cgi.specs.Job.{job_of, task_of}
 use Rattle.flash_cgi.specs.Output.{Outcome, output}
-use Rattle.flash_cgi.specs.Pieces.{IsRest}
+use Rattle.flash_cgi.specs.Pieces.{HasPiece}
 use Rattle.flash_cgi.specs.JobStart.{HasJob, JobsAreTaken}
 use Rattle.flash_cgi.specs.Turns.{Awaits, IsFree}
 use Rattle.flash_cgi.specs.declared.worker.Worker.{Worker}
@@ -70,8 +70,8 @@ all_taken m n d j p fd a query script lines has takes =
         tail_is x y s u e = cc
 
 -- nothing is collected yet
-nothing_left : (lent : ℕ → Option (List ℕ)) → IsRest lent nothing
-nothing_left lent = record { piece = record { files = refl; within = tt; next = tt }; no_text = refl; no_places = refl }
+nothing_left : (lent : ℕ → Option (List ℕ)) → HasPiece lent 0 nothing
+nothing_left lent = record { files = refl; within = tt; next = tt }
 
 pub job_is_taken : EachStepLeavesTheRest → JobsAreTaken
 job_is_taken steps m n d j p fd a query script lines has step takes =
@@ -86,8 +86,9 @@ job_is_taken steps m n d j p fd a query script lines has step takes =
       feeds = record {
         live = leaves.lives d has.live refl;
         open_on = leaves.fds d fd (on.WriteEnd p) has.open_on (last_false ((d == d) && (0 == fd)) (is_file (descriptor m d 0)) (ap (λ (x : Option Descriptor). is_file x) has.jobs));
-        needs = (bytes_of takes.text, takes.lends);
-        holds = (nothing_left (lent_at n d), (λ e. absurd (cc (e)), λ e. absurd (cc (e))));
+        needs = tt;
+        holds = nothing_left (lent_at n d);
+        spares = ((bytes_of takes.text, takes.lends), refl);
         is = λ os. ap (λ (x : Pipe). bytes_of x.queue ++ output query lines os) (sym pipe);
       };
     }

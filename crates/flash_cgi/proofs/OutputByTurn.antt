@@ -20,15 +20,17 @@ use Rattle.iol_proc.specs.declared.process.Turn.TheVariants as turn
 use Rattle.iol_proc.specs.declared.seat.Seat.{Seat}
 use Rattle.flash_cgi.specs.Job.{Task, job_of}
 use Rattle.flash_cgi.specs.Output.{Outcome, output}
-use Rattle.flash_cgi.specs.WorkerSteps.{call_at, doing_call, told, told_doing, bytes_at}
+use Rattle.flash_cgi.specs.Release.{work_of}
+use Rattle.flash_cgi.specs.WorkerSteps.{call_at, phase_call, told, told_phase, bytes_at}
 use Rattle.flash_cgi.specs.Works.{works, works_as, files, goes_on, takes, with_job, with_text, worker_turns}
 use Rattle.flash_cgi.specs.Standstill.{is_over}
 use Rattle.flash_cgi.specs.Feeds.{Feeds, ComesTo, FeedsOn, settled, Needs}
 use Rattle.flash_cgi.specs.Outcomes.{AreFiles, OutcomesAreTrue, SettlesByRefusal, SettlesTruly, outcomes_in, to_come, ReadsNamed}
 use Rattle.flash_cgi.specs.JobStart.{HasJob, Begins, JobsAreTaken}
 use Rattle.flash_cgi.specs.Turns.{IsFree, is_given, Awaits, or_again, filed_step, RunsJob, outcomes_to_come, ReadsItsFile, Settles, GoesOn, IsOver, TurnsFeed}
-use Rattle.flash_cgi.specs.declared.phase.Doing.{Doing}
 use Rattle.flash_cgi.specs.declared.phase.Doing.TheVariants as doing
+use Rattle.flash_cgi.specs.declared.phase.Phase.{Phase}
+use Rattle.flash_cgi.specs.declared.phase.Phase.TheVariants.{At}
 use Rattle.flash_cgi.specs.declared.phase.Standing.{Standing}
 use Rattle.flash_cgi.specs.declared.phase.Standing.TheVariants as standing
 use Rattle.flash_cgi.specs.declared.phase.Step.{Step}
@@ -51,9 +53,9 @@ text_taken w [] agg job is = absurd (cc)
 text_taken w (b ∷ bs) agg job is = ap (λ (o : Option Task). with_job w o agg) is
 
 -- one that runs a script is given no other job
-given_none : (m : State) (d : ℕ) (x : Doing) (r : Reply) → Needs m d x → is_given x r ≡ false
-given_none m d doing.Waits r h = absurd h
-given_none m d x r h = refl
+given_none : (m : State) (d : ℕ) (z : Phase) (r : Reply) → Needs m d (work_of z) → is_given z r ≡ false
+given_none m d (At doing.Waits) r h = absurd h
+given_none m d z r h = refl
 
 abbrev pub seat_at : ℕ → Worker → Reply → Seat Worker
 seat_at d v r = record { by = d; process = v; last = r }
@@ -64,19 +66,19 @@ module _ (feeds_on : FeedsOn) (taken : JobsAreTaken) (true_to : OutcomesAreTrue)
 
   -- of a step that it is at
   abbrev WentFrom : (m n : State) → (d p : ℕ) → Worker → Reply → (List Outcome → List ℕ) → Task → Step → Type 0
-  WentFrom m n d p v r unseen job step = Went m n d p v r unseen (to_come m d job step) (ReadsNamed m d job step.begun step.doing)
+  WentFrom m n d p v r unseen job step = Went m n d p v r unseen (to_come m d job step) (ReadsNamed m d job step.begun (work_of step.phase))
 
   -- it goes on at a step, its reply taken as filed
   abbrev goes_at : (m n : State) (d p : ℕ) (v : Worker) (r : Reply) (unseen : List Outcome → List ℕ) (due : List Outcome) (Reads : Type 0) (settles : List Outcome) (step : Step)
       → is_over v.standing ≡ false → filed_step v.standing v (lent_at n d) r ≡ step → Feeds n d p v.job step (λ os. unseen (settles ++ os))
-      → (ArePlaced m → AreFiles m → Reads → Settles r due settles (to_come n d v.job step) × ReadsNamed n d v.job step.begun step.doing)
+      → (ArePlaced m → AreFiles m → Reads → Settles r due settles (to_come n d v.job step) × ReadsNamed n d v.job step.begun (work_of step.phase))
       → GoesOn m n p (seat_at d v r) r unseen due Reads
   goes_at m n d p v r unseen due Reads settles step goes is f truly = record {
     settled = settles;
     runs = inr (inr (record { not_over = goes; feeds = subst (λ (s : Step). Feeds n d p v.job s (λ os. unseen (settles ++ os))) (sym is) f }));
     truly = λ placed good reads.
         let t = truly placed good reads in
-        (subst (λ (s : Step). Settles r due settles (to_come n d v.job s)) (sym is) t.0, subst (λ (s : Step). ReadsNamed n d v.job s.begun s.doing) (sym is) t.1);
+        (subst (λ (s : Step). Settles r due settles (to_come n d v.job s)) (sym is) t.0, subst (λ (s : Step). ReadsNamed n d v.job s.begun (work_of s.phase)) (sym is) t.1);
   }
 
   -- the call of a step is made
@@ -91,19 +93,19 @@ module _ (feeds_on : FeedsOn) (taken : JobsAreTaken) (true_to : OutcomesAreTrue)
       filed o is = ap (λ (s : Standing). filed_step s v (lent_at n d) r) asked ∙ ap (λ (x : Option Step). or_again x v.step) is
 
       which : (next : Step) → SettlesTruly m d v.job v.step r n next ⊎ SettlesByRefusal m d v.job v.step r n next
-          → Settles r (to_come m d v.job v.step) (settled v.job v.step (lent_at n d) r) (to_come n d v.job next) × ReadsNamed n d v.job next.begun next.doing
+          → Settles r (to_come m d v.job v.step) (settled v.job v.step (lent_at n d) r) (to_come n d v.job next) × ReadsNamed n d v.job next.begun (work_of next.phase)
       which next (inl t) = (inl t.same, t.reads)
       which next (inr t) = (inr (record { why = t.why; answer = t.answer; rough = t.rough; instead = t.instead; was = t.was; is = t.settles }), t.reads)
 
       by : (o : Option Step) → told v.job v.step (lent_at n d) r ≡ o → ComesTo m d p v.job v.step unseen r n o → WentFrom m n d p v r unseen v.job v.step
       by None is same = inl (goes_at m n d p v r unseen _ _ [] v.step goes (filed None is) (subst (λ (s : State). Feeds s d p v.job v.step unseen) (sym same) f)
-          (λ placed good reads. (inl (ap (λ (s : State). to_come s d v.job v.step) (sym same)), subst (λ (s : State). ReadsNamed s d v.job v.step.begun v.step.doing) (sym same) reads)))
+          (λ placed good reads. (inl (ap (λ (s : State). to_come s d v.job v.step) (sym same)), subst (λ (s : State). ReadsNamed s d v.job v.step.begun (work_of v.step.phase)) (sym same) reads)))
       by (Some next) is (inl g) = inl (goes_at m n d p v r unseen _ _ (settled v.job v.step (lent_at n d) r) next goes (filed (Some next) is) g
           (λ placed good reads. which next (true_to m n d p v.job v.step next r unseen order placed good f reads step is)))
       by (Some next) is (inr (inl over)) = inr (inl (record {
         step = next;
         ends = over;
-        free = record { not_over = goes; waits = ap (λ (s : Step). s.doing) (filed (Some next) is) ∙ over.free; not_given = λ e. given_none m d v.step.doing r f.needs };
+        free = record { not_over = goes; waits = ap (λ (s : Step). s.phase) (filed (Some next) is) ∙ over.free; not_given = λ e. given_none m d v.step.phase r f.needs };
       }))
       by (Some next) is (inr (inr gone)) = inr (inr gone)
 
@@ -124,27 +126,27 @@ module _ (feeds_on : FeedsOn) (taken : JobsAreTaken) (true_to : OutcomesAreTrue)
         → WentFrom m n d p v r unseen w.job (filed_step s w (lent_at m d) last)
     runs w last unseen standing.Over is goes f did = absurd (cc)
     runs w last unseen standing.Asks is goes f did = makes (record w { standing = standing.Asked }) unseen refl did.0 did.1 f
-    runs w last unseen standing.Asked is goes f did = filed w.step.doing last refl f did
+    runs w last unseen standing.Asked is goes f did = filed w.step.phase last refl f did
       where
         again : t ≡ turn.Yield → v ≡ record w { standing = standing.Asks } → Feeds m d p w.job w.step unseen → WentFrom m n d p v r unseen w.job w.step
         again yields v_is g = subst (λ (y : Worker). WentFrom m n d p y r unseen w.job w.step) (sym v_is)
             (inl (goes_at m n d p (record w { standing = standing.Asks }) r unseen _ _ [] w.step refl refl (subst (λ (x : State). Feeds x d p w.job w.step unseen) (sym (yielded yields)) g)
-            (λ placed good reads. (inl (ap (λ (x : State). to_come x d w.job w.step) (sym (yielded yields))), subst (λ (x : State). ReadsNamed x d w.job w.step.begun w.step.doing) (sym (yielded yields)) reads))))
+            (λ placed good reads. (inl (ap (λ (x : State). to_come x d w.job w.step) (sym (yielded yields))), subst (λ (x : State). ReadsNamed x d w.job w.step.begun (work_of w.step.phase)) (sym (yielded yields)) reads))))
 
         on : (o : Option Step) → Feeds m d p w.job (or_again o w.step) unseen → goes_on w o t v → WentFrom m n d p v r unseen w.job (or_again o w.step)
         on (Some next) g did = makes (record w { step = next }) unseen is did.0 did.1 g
         on None g did = again did.0 did.1 g
 
-        filed : (x : Doing) (l : Reply) → w.step.doing ≡ x → Feeds m d p w.job (or_again (told w.job w.step (lent_at m d) l) w.step) unseen
-            → files w x l (lent_at m d) t v → WentFrom m n d p v r unseen w.job (or_again (told w.job w.step (lent_at m d) l) w.step)
-        filed doing.Waits (reply.Agg a) at g did =
-            let none : told w.job w.step (lent_at m d) (reply.Agg a) ≡ None = ap (λ (y : Doing). told_doing (lent_at m d) w.job w.step.piece w.step.begun y (reply.Agg a)) at in
-            absurd (subst (λ (y : Doing). Needs m d y) (ap (λ (o : Option Step). (or_again o w.step).doing) none ∙ at) g.needs)
-        filed x l at g did = on (told w.job w.step (lent_at m d) l) g did
+        filed : (z : Phase) (l : Reply) → w.step.phase ≡ z → Feeds m d p w.job (or_again (told w.job w.step (lent_at m d) l) w.step) unseen
+            → files w z l (lent_at m d) t v → WentFrom m n d p v r unseen w.job (or_again (told w.job w.step (lent_at m d) l) w.step)
+        filed (At doing.Waits) (reply.Agg a) at g did =
+            let none : told w.job w.step (lent_at m d) (reply.Agg a) ≡ None = ap (λ (z : Phase). told_phase (lent_at m d) w.job w.step.piece w.step.begun z (reply.Agg a)) at in
+            absurd (subst (λ (z : Phase). Needs m d (work_of z)) (ap (λ (o : Option Step). (or_again o w.step).phase) none ∙ at) g.needs)
+        filed z l at g did = on (told w.job w.step (lent_at m d) l) g did
 
     -- ---- it has read its job
 
-    reads : (w : Worker) (last : Reply) (unseen : List Outcome → List ℕ) (job : Task) (a : ℕ) → w.step.doing ≡ doing.Waits → w.standing ≡ standing.Asked
+    reads : (w : Worker) (last : Reply) (unseen : List Outcome → List ℕ) (job : Task) (a : ℕ) → w.step.phase ≡ At doing.Waits → w.standing ≡ standing.Asked
         → last ≡ reply.Agg a → Begins m d p job a unseen → works w last (lent_at m d) t v → Went m n d p v r unseen (outcomes_in m d job.lines) (Unit {0})
     reads w last unseen job a waits asked is begins did =
         makes (with_job w (Some job) a) unseen asked took.0 (took.1 ∙ text_taken w (bytes_at (lent_at m d) a) a job is_job) begins.feeds
@@ -152,11 +154,11 @@ module _ (feeds_on : FeedsOn) (taken : JobsAreTaken) (true_to : OutcomesAreTrue)
         is_job : job_of (bytes_at (lent_at m d) a) ≡ Some job
         is_job = ap (λ (l : Option (List ℕ)). job_of (unwrap_or l [])) begins.lends ∙ begins.is_job
 
-        filed : files w w.step.doing last (lent_at m d) t v
+        filed : files w w.step.phase last (lent_at m d) t v
         filed = subst (λ (s : Standing). works_as s w last (lent_at m d) t v) asked did
 
         took : takes w (bytes_at (lent_at m d) a) a t v
-        took = subst (λ (l : Reply). files w doing.Waits l (lent_at m d) t v) is (subst (λ (x : Doing). files w x last (lent_at m d) t v) waits filed)
+        took = subst (λ (l : Reply). files w (At doing.Waits) l (lent_at m d) t v) is (subst (λ (z : Phase). files w z last (lent_at m d) t v) waits filed)
 
     -- ---- its job waits
 
@@ -182,19 +184,19 @@ module _ (feeds_on : FeedsOn) (taken : JobsAreTaken) (true_to : OutcomesAreTrue)
           bytes = b.bytes;
           lends = b.lends;
           is_job = b.is_job;
-          feeds = record { live = b.feeds.live; open_on = b.feeds.open_on; needs = b.feeds.needs; holds = b.feeds.holds; is = λ os. h.is os ∙ b.feeds.is os };
+          feeds = record { live = b.feeds.live; open_on = b.feeds.open_on; needs = b.feeds.needs; holds = b.feeds.holds; spares = b.feeds.spares; is = λ os. h.is os ∙ b.feeds.is os };
         }
 
         -- a worker that was refused a job is free
-        free_of : (x : Worker) (y : Reply) → x.standing ≡ standing.Asked → x.step.doing ≡ doing.Waits → is_given doing.Waits y ≡ false → r ≡ y → IsFree n (seat_at d x r)
+        free_of : (x : Worker) (y : Reply) → x.standing ≡ standing.Asked → x.step.phase ≡ At doing.Waits → is_given (At doing.Waits) y ≡ false → r ≡ y → IsFree n (seat_at d x r)
         free_of x y asked at un is = record {
           not_over = ap (λ (s : Standing). is_over s) asked;
-          waits = ap (λ (s : Standing). (filed_step s x (lent_at n d) r).doing) asked
-              ∙ (ap (λ (z : Doing). (or_again (told_doing (lent_at n d) x.job x.step.piece x.step.begun z r) x.step).doing) at ∙ at);
-          not_given = λ e. ap (λ (z : Doing). is_given z r) at ∙ (ap (λ (l : Reply). is_given doing.Waits l) is ∙ un);
+          waits = ap (λ (s : Standing). (filed_step s x (lent_at n d) r).phase) asked
+              ∙ (ap (λ (z : Phase). (or_again (told_phase (lent_at n d) x.job x.step.piece x.step.begun z r) x.step).phase) at ∙ at);
+          not_given = λ e. ap (λ (z : Phase). is_given z r) at ∙ (ap (λ (l : Reply). is_given (At doing.Waits) l) is ∙ un);
         }
 
-        read : (x : Worker) → v ≡ x → x.standing ≡ standing.Asked → x.step.doing ≡ doing.Waits → (l : Reply) → r ≡ l
+        read : (x : Worker) → v ≡ x → x.standing ≡ standing.Asked → x.step.phase ≡ At doing.Waits → (l : Reply) → r ≡ l
             → StepsTo m (event.Call d (call.IolRead 0 65536)) l n → ReadsPipe m d h.jobs 65536 l n → Went m n d p v r unseen (outcomes_in m d h.lines) (Unit {0})
         read x v_is asked at (reply.Agg a) is step takes = subst (λ (y : Worker). Went m n d p y r unseen (outcomes_in m d h.lines) (Unit {0})) (sym v_is) (inl (record {
           settled = [];
@@ -211,26 +213,26 @@ module _ (feeds_on : FeedsOn) (taken : JobsAreTaken) (true_to : OutcomesAreTrue)
         read x v_is asked at (reply.Refused y) is step same = still x v_is (free_of x (reply.Refused y) asked at refl is) same
         read x v_is asked at l is step did = absurd did
 
-        asks_now : (x : Worker) → t ≡ turn.Make (call_at x.job x.step) → v ≡ x → x.standing ≡ standing.Asked → x.step.doing ≡ doing.Waits → Went m n d p v r unseen (outcomes_in m d h.lines) (Unit {0})
+        asks_now : (x : Worker) → t ≡ turn.Make (call_at x.job x.step) → v ≡ x → x.standing ≡ standing.Asked → x.step.phase ≡ At doing.Waits → Went m n d p v r unseen (outcomes_in m d h.lines) (Unit {0})
         asks_now x is v_is asked at =
-            let make : t ≡ turn.Make (call.IolRead 0 65536) = is ∙ ap (λ (z : Doing). turn.Make (doing_call x.job x.step.piece x.step.begun z)) at in
+            let make : t ≡ turn.Make (call.IolRead 0 65536) = is ∙ ap (λ (z : Phase). turn.Make (phase_call x.job x.step.piece x.step.begun z)) at in
             let step = (subst (λ (u : Turn). ComesOf copying worker_turns m d u yields r n) make comes).1 in
             read x v_is asked at r refl step (own.read_pipe m n d 0 h.jobs 65536 r order h.has.jobs step)
 
-        on : (o : Option Step) → w.standing ≡ standing.Asked → (or_again o w.step).doing ≡ doing.Waits → goes_on w o t v → Went m n d p v r unseen (outcomes_in m d h.lines) (Unit {0})
+        on : (o : Option Step) → w.standing ≡ standing.Asked → (or_again o w.step).phase ≡ At doing.Waits → goes_on w o t v → Went m n d p v r unseen (outcomes_in m d h.lines) (Unit {0})
         on (Some next) asked waits did = asks_now (record w { step = next }) did.0 did.1 asked waits
         on None asked waits did = still (record w { standing = standing.Asks }) did.1 (record { not_over = refl; waits = waits; not_given = λ e. absurd (cc (e)) }) (yielded did.0)
 
-        filed : (x : Doing) (l : Reply) → w.standing ≡ standing.Asked → (or_again (told w.job w.step (lent_at m d) l) w.step).doing ≡ doing.Waits → is_given x l ≡ false
-            → files w x l (lent_at m d) t v → Went m n d p v r unseen (outcomes_in m d h.lines) (Unit {0})
-        filed doing.Waits (reply.Agg a) asked waits un did = absurd (cc (un))
-        filed x l asked waits un did = on (told w.job w.step (lent_at m d) l) asked waits did
+        filed : (z : Phase) (l : Reply) → w.standing ≡ standing.Asked → (or_again (told w.job w.step (lent_at m d) l) w.step).phase ≡ At doing.Waits → is_given z l ≡ false
+            → files w z l (lent_at m d) t v → Went m n d p v r unseen (outcomes_in m d h.lines) (Unit {0})
+        filed (At doing.Waits) (reply.Agg a) asked waits un did = absurd (cc (un))
+        filed z l asked waits un did = on (told w.job w.step (lent_at m d) l) asked waits did
 
-        by : (s : Standing) → w.standing ≡ s → is_over s ≡ false → (filed_step s w (lent_at m d) last).doing ≡ doing.Waits → (s ≡ standing.Asked → is_given w.step.doing last ≡ false)
+        by : (s : Standing) → w.standing ≡ s → is_over s ≡ false → (filed_step s w (lent_at m d) last).phase ≡ At doing.Waits → (s ≡ standing.Asked → is_given w.step.phase last ≡ false)
             → works_as s w last (lent_at m d) t v → Went m n d p v r unseen (outcomes_in m d h.lines) (Unit {0})
         by standing.Over is goes waits un did = absurd (cc (goes))
         by standing.Asks is goes waits un did = asks_now (record w { standing = standing.Asked }) did.0 did.1 refl waits
-        by standing.Asked is goes waits un did = filed w.step.doing last is waits (un refl) did
+        by standing.Asked is goes waits un did = filed w.step.phase last is waits (un refl) did
 
     moves : (w : Worker) (last : Reply) (unseen : List Outcome → List ℕ) (job : RunsJob m p (seat_at d w last) unseen) → works w last (lent_at m d) t v
         → Went m n d p v r unseen (outcomes_to_come m p (seat_at d w last) unseen job) (ReadsItsFile m p (seat_at d w last) unseen job)

@@ -18,8 +18,9 @@ use Rattle.flash_cgi.specs.WorkerSteps.{told, bytes_at}
 use Rattle.flash_cgi.specs.Works.{works, works_as, files, goes_on, takes, with_job, with_text}
 use Rattle.flash_cgi.specs.Standstill.{is_over}
 use Rattle.flash_cgi.specs.PipeEnd.{ReadNothing, WorkersStop}
-use Rattle.flash_cgi.specs.declared.phase.Doing.{Doing}
 use Rattle.flash_cgi.specs.declared.phase.Doing.TheVariants as doing
+use Rattle.flash_cgi.specs.declared.phase.Phase.{Phase}
+use Rattle.flash_cgi.specs.declared.phase.Phase.TheVariants.{At}
 use Rattle.flash_cgi.specs.declared.phase.Standing.{Standing}
 use Rattle.flash_cgi.specs.declared.phase.Standing.TheVariants as standing
 use Rattle.flash_cgi.specs.declared.phase.Step.{Step}
@@ -41,11 +42,11 @@ ends : (w v : Worker) (last : Reply) (lent : ℕ → Option (List ℕ)) (t : Tur
     → works w last lent t v → (t ≡ turn.Make (call.AggDrop is.agg)) × (v.standing ≡ standing.Over)
 ends w v last lent t is did = (took.0, ap (λ (x : Worker). x.standing) took.1)
   where
-    filed : files w w.step.doing last lent t v
+    filed : files w w.step.phase last lent t v
     filed = subst (λ (s : Standing). works_as s w last lent t v) is.asked did
 
     told_agg : takes w (bytes_at lent is.agg) is.agg t v
-    told_agg = subst (λ (l : Reply). files w doing.Waits l lent t v) is.read (subst (λ (x : Doing). files w x last lent t v) is.waited filed)
+    told_agg = subst (λ (l : Reply). files w (At doing.Waits) l lent t v) is.read (subst (λ (z : Phase). files w z last lent t v) is.waited filed)
 
     took : takes w [] is.agg t v
     took = subst (λ (l : List ℕ). takes w l is.agg t v) is.nothing told_agg
@@ -66,18 +67,18 @@ only w v last lent t goes did over = by w.standing refl goes did
     with_one (Some job) agg is same = clash (with_job w (Some job) agg) same (ap (λ (s : Standing). is_over s) is)
     with_one None agg is same = clash (with_job w None agg) same (ap (λ (s : Standing). is_over s) is)
 
-    took : (agg : ℕ) (text : List ℕ) → w.step.doing ≡ doing.Waits → w.standing ≡ standing.Asked → last ≡ reply.Agg agg → bytes_at lent agg ≡ text → v ≡ with_text w text agg → ReadNothing w last lent
+    took : (agg : ℕ) (text : List ℕ) → w.step.phase ≡ At doing.Waits → w.standing ≡ standing.Asked → last ≡ reply.Agg agg → bytes_at lent agg ≡ text → v ≡ with_text w text agg → ReadNothing w last lent
     took agg [] waits asked is none same = record { agg = agg; waited = waits; asked = asked; read = is; nothing = none }
     took agg (b ∷ bs) waits asked is some same = with_one (job_of (b ∷ bs)) agg asked same
 
-    filed : (x : Doing) (l : Reply) → w.step.doing ≡ x → last ≡ l → w.standing ≡ standing.Asked → files w x l lent t v → ReadNothing w last lent
-    filed doing.Waits (reply.Agg agg) at is asked did = took agg (bytes_at lent agg) at asked is refl did.1
-    filed x l at is asked did = goes_on_so (told w.job w.step lent l) asked did
+    filed : (z : Phase) (l : Reply) → w.step.phase ≡ z → last ≡ l → w.standing ≡ standing.Asked → files w z l lent t v → ReadNothing w last lent
+    filed (At doing.Waits) (reply.Agg agg) at is asked did = took agg (bytes_at lent agg) at asked is refl did.1
+    filed z l at is asked did = goes_on_so (told w.job w.step lent l) asked did
 
     by : (s : Standing) → w.standing ≡ s → is_over s ≡ false → works_as s w last lent t v → ReadNothing w last lent
     by standing.Over is goes did = absurd (cc)
     by standing.Asks is goes did = clash (record w { standing = standing.Asked }) did.1 refl
-    by standing.Asked is goes did = filed w.step.doing last refl refl is did
+    by standing.Asked is goes did = filed w.step.phase last refl refl is did
 
 stops : (w v : Worker) (last : Reply) (lent : ℕ → Option (List ℕ)) (t : Turn) → is_over w.standing ≡ true
     → works w last lent t v → (t ≡ turn.Yield) × (v ≡ w)

@@ -2,14 +2,16 @@
 use Rattle.std.proofs.Common.{inl, inr, ◌≡◌, ◌⊎◌, ℕ, ◌+◌, ◌-◌, ◌==◌, ◌≤◌, List, [], ◌∷◌, ◌++◌, length, take, drop, ap, ◌∙◌, refl, sym, subst, arith, Option, Some, None, true, false, Bool, if◌then◌else◌}
 use Rattle.std.specs.Prelude.{nat_le, slice_get, unwrap_or}
 use Rattle.std.specs.List.{list_any}
+use Rattle.std.proofs.lemmas.Bool.Decides.{nat_tests}
 use Rattle.std.proofs.lemmas.List.{take_all}
-use Rattle.iol_core.specs.State.{State, File, content, file, may_read}
+use Rattle.iol_core.specs.State.{State, File, content, descriptor, file, may_read}
 use Rattle.iol_core.specs.NumberedLists.{numbered_or}
 use Rattle.iol_core.specs.Calls.Files.{file_called}
 use Rattle.iol_core.specs.Calls.Writes.{is_file}
 use Rattle.iol_core.specs.Positions.{ArePlaced}
 use Rattle.iol_core.specs.Run.{StepsTo}
 use Rattle.iol_core.specs.declared.descriptors.Descriptor.{Descriptor}
+use Rattle.iol_core.specs.declared.descriptors.Descriptor.TheVariants as on
 use Rattle.iol_core.specs.declared.descriptors.Mode.TheVariants.{Read}
 use Rattle.iol_core.specs.declared.refusals.Refusal.TheVariants as not_so
 use Rattle.iol_core.specs.declared.events.Call.{Call}
@@ -23,21 +25,29 @@ use Rattle.iol_laws.specs.CallerFiles as fl
 use Rattle.iol_laws.specs.CallerFiles.{FileCallsServeTheirDomain}
 use Rattle.iol_laws.specs.Frame.{EachStepLeavesTheRest, Leaves, changes_files, admits_to}
 use Rattle.iol_laws.specs.Order.{IsOrderly}
-use Rattle.flash_cgi.specs.Collecting.{Collected, bytes_of_one, is_due, is_nothing, last_place, with_next, without_text}
+use Rattle.flash_cgi.specs.Collecting.{Collected, bytes_of_one, is_due, is_nothing, last_place, with_next, without_last, without_text}
 use Rattle.flash_cgi.specs.Job.{Task}
 use Rattle.flash_cgi.specs.Output.{Outcome, Found, Failed}
-use Rattle.flash_cgi.specs.WorkerSteps.{call_at, due_now, file_collected, shut_by, told, told_dropped, told_joined, told_next, told_made, told_opened, told_parted, told_replaced, told_written, told_read, told_cut, next_call, bytes_at, interleave_by, interleave_on}
+use Rattle.flash_cgi.specs.PhaseUses.{reads_file}
+use Rattle.flash_cgi.specs.Release.{after_first, first, release_call, work_of}
+use Rattle.flash_cgi.specs.WorkerSteps.{Parts, after, at, broken, call_at, due_now, file_collected, step_with, told, told_joined, told_next, told_made, told_opened, told_parted, told_replaced, told_written, told_read, told_cut, next_call, bytes_at, interleave_by, interleave_on, written}
 use Rattle.flash_cgi.specs.Feeds.{Feeds, settled, settled_begun, settled_open, failed}
-use Rattle.flash_cgi.specs.Outcomes.{outcome_of, outcome_in, outcomes_in, to_come, IsReading, ReadsNamed, SettlesTruly, SettlesByRefusal, AreFiles, OutcomesAreTrue}
+use Rattle.flash_cgi.specs.Outcomes.{outcome_of, outcome_in, outcomes_in, to_come, to_come_doing, IsReading, ReadsNamed, SettlesTruly, SettlesByRefusal, AreFiles, OutcomesAreTrue}
 use Rattle.flash_cgi.specs.declared.line.Line.{Line}
 use Rattle.flash_cgi.specs.declared.line.Line.TheVariants as line
 use Rattle.flash_cgi.specs.declared.phase.Purpose.{Purpose}
 use Rattle.flash_cgi.specs.declared.phase.Purpose.TheVariants as purpose
 use Rattle.flash_cgi.specs.declared.phase.Doing.{Doing}
 use Rattle.flash_cgi.specs.declared.phase.Doing.TheVariants as doing
+use Rattle.flash_cgi.specs.declared.phase.Object.{Object}
+use Rattle.flash_cgi.specs.declared.phase.Object.TheVariants as object
+use Rattle.flash_cgi.specs.declared.phase.Objects.TheVariants.{One}
+use Rattle.flash_cgi.specs.declared.phase.Phase.{Phase}
+use Rattle.flash_cgi.specs.declared.phase.Phase.TheVariants.{Release, At}
 use Rattle.flash_cgi.specs.declared.phase.Step.{Step}
 use Rattle.flash_cgi.specs.declared.piece.Place.{Place}
-use Rattle.flash_cgi.proofs.StaysByCall.{rest-cons, rest-nil, at_step, file-same}
+use Rattle.flash_cgi.proofs.Kept.{Keeps, spare_parts}
+use Rattle.flash_cgi.proofs.StaysByCall.{rest-cons, rest-nil, at_step, file-same, files_on, keeps, same_work}
 
 pub content-same : (m n : State) (k : ℕ) → n.slots ≡ m.slots → content n k ≡ content m k
 unfolding content
@@ -68,26 +78,47 @@ same_outcomes m n d same (line.Wc name ∷ lines) = ap (λ (o : Outcome). o ∷ 
 pub plain : EachStepLeavesTheRest → (m n : State) (d : ℕ) (job : Task) (c : Call) (r : Reply) → StepsTo m (event.Call d c) r n → AreFiles m → changes_files m (event.Call d c) ≡ false → ((q : ℕ) → admits_to (event.Call d c) q ≡ false) → (begun : ℕ) → outcomes_in m d (drop begun job.lines) ≡ outcomes_in n d (drop begun job.lines)
 plain steps m n d job c r step good calm shut begun = same_outcomes m n d (same_outcome m n d (event.Call d c) (steps.leaves m n (event.Call d c) r step) good calm shut) (drop begun job.lines)
 
+-- where the outcomes of lines are the same, so are those to come
+pub come_same : (m n : State) (d : ℕ) (job : Task) (begun : ℕ) → ((k : ℕ) → outcomes_in m d (drop k job.lines) ≡ outcomes_in n d (drop k job.lines)) → (y : Doing) → to_come_doing m d job begun y ≡ to_come_doing n d job begun y
+come_same m n d job begun same doing.Waits = refl
+come_same m n d job begun same (doing.Reads f u) = same (begun - 1)
+come_same m n d job begun same y = same begun
+
+-- and the file that is read is the named one still
+pub named_same : (m n : State) (d : ℕ) (job : Task) (begun : ℕ) → ((k : ℕ) → outcomes_in m d (drop k job.lines) ≡ outcomes_in n d (drop k job.lines)) → ((f : ℕ) → content n f ≡ content m f) → (y : Doing)
+    → ((f number place : ℕ) → reads_file y f ≡ true → descriptor m d f ≡ Some (on.File number place Read) → descriptor n d f ≡ Some (on.File number place Read)) → ReadsNamed m d job begun y → ReadsNamed n d job begun y
+named_same m n d job begun same contents (doing.Reads f u) opens g = record {
+  number = g.number;
+  open_on = opens f g.number 0 (grind (arith, nat_tests)) g.open_on;
+  names = sym (same (begun - 1)) ∙ (g.names
+      ∙ (ap (λ (l : List ℕ). Found l ∷ outcomes_in m d (drop begun job.lines)) (sym (contents g.number))
+      ∙ ap (λ (os : List Outcome). Found (content n g.number) ∷ os) (same begun)));
+}
+named_same m n d job begun same contents y opens g = tt
+
 module _ (steps : EachStepLeavesTheRest) (files : FileCallsServeTheirDomain) where
   abbrev TrulyTo : State → ℕ → Task → Step → Reply → State → Option Step → Type 0
   TrulyTo m d job step r n None = Unit {0}
   TrulyTo m d job step r n (Some next) = SettlesTruly m d job step r n next ⊎ SettlesByRefusal m d job step r n next
 
   -- what is collected is made: no file is opened
-  interleaved_truly : (m n : State) (d : ℕ) (job : Task) (begun a : ℕ) (s : Step) (r : Reply) (x : Collected) → to_come m d job s ≡ outcomes_in n d (drop begun job.lines) → settled job s (lent_at n d) r ≡ [] → TrulyTo m d job s r n (Some (interleave_on begun x a))
-  interleaved_truly m n d job begun a s r x same none = by x.held (last_place x.places)
+  interleaved_truly : (m n : State) (d : ℕ) (job : Task) (begun a : ℕ) (parts : Parts) (s : Step) (r : Reply) (x : Collected) → to_come m d job s ≡ outcomes_in n d (drop begun job.lines) → settled job s (lent_at n d) r ≡ [] → TrulyTo m d job s r n (Some (interleave_on parts begun x a))
+  interleaved_truly m n d job begun a parts s r x same none = by parts x.held (last_place x.places)
     where
       all : to_come m d job s ≡ settled job s (lent_at n d) r ++ outcomes_in n d (drop begun job.lines)
       all = same ∙ ap (λ (used : List Outcome). used ++ outcomes_in n d (drop begun job.lines)) (sym none)
 
-      by : (h : Option ℕ) (o : Option Place) → TrulyTo m d job s r n (Some (interleave_by h o begun x a))
-      by None o = inl (record { same = all; reads = tt })
-      by (Some held) None = inl (record { same = all; reads = tt })
-      by (Some held) (Some place) = inl (record { same = all; reads = tt })
+      by : (q : Parts) (h : Option ℕ) (o : Option Place) → TrulyTo m d job s r n (Some (interleave_by q h o begun x a))
+      by None None o = inl (record { same = all; reads = tt })
+      by None (Some held) None = inl (record { same = all; reads = tt })
+      by None (Some held) (Some place) = inl (record { same = all; reads = tt })
+      by (Some q) None o = inl (record { same = all; reads = tt })
+      by (Some q) (Some held) None = inl (record { same = all; reads = tt })
+      by (Some q) (Some held) (Some place) = inl (record { same = all; reads = tt })
 
   made : (m n : State) (d : ℕ) (job : Task) (begun : ℕ) (x : Collected) (r : Reply) → outcomes_in m d (drop begun job.lines) ≡ outcomes_in n d (drop begun job.lines) → settled job (at_step doing.Runs begun x) (lent_at n d) r ≡ []
       → TrulyTo m d job (at_step doing.Runs begun x) r n (told_made x begun r)
-  made m n d job begun x (reply.Agg a) same none = interleaved_truly m n d job begun a (at_step doing.Runs begun x) (reply.Agg a) (without_text x) same none
+  made m n d job begun x (reply.Agg a) same none = interleaved_truly m n d job begun a None (at_step doing.Runs begun x) (reply.Agg a) (without_text x) same none
   made m n d job begun x r same none = tt
 
   cut : (m n : State) (d : ℕ) (job : Task) (begun a from to : ℕ) (x : Collected) (r : Reply) → outcomes_in m d (drop begun job.lines) ≡ outcomes_in n d (drop begun job.lines) → TrulyTo m d job (at_step (doing.Cuts a from to) begun x) r n (told_cut x a begun r)
@@ -106,34 +137,23 @@ module _ (steps : EachStepLeavesTheRest) (files : FileCallsServeTheirDomain) whe
 
   replaced : (m n : State) (d : ℕ) (job : Task) (begun a part at : ℕ) (x : Collected) (r : Reply) → outcomes_in m d (drop begun job.lines) ≡ outcomes_in n d (drop begun job.lines)
       → TrulyTo m d job (at_step (doing.ReplacingPart a part at) begun x) r n (told_replaced x a part begun r)
-  replaced m n d job begun a part at x (reply.Agg b) same = inl (record { same = same; reads = tt })
+  replaced m n d job begun a part at x (reply.Agg b) same = interleaved_truly m n d job begun b (Some (a, part)) (at_step (doing.ReplacingPart a part at) begun x) (reply.Agg b) (without_last x) same refl
   replaced m n d job begun a part at x r same = tt
 
-  dropped : (m n : State) (d : ℕ) (job : Task) (begun a : ℕ) (x : Collected) (r : Reply) (o : Option ℕ) → outcomes_in m d (drop begun job.lines) ≡ outcomes_in n d (drop begun job.lines)
-      → TrulyTo m d job (at_step (doing.Drops a) begun x) r n (told_dropped x o begun)
-  dropped m n d job begun a x r (Some b) same = inl (record { same = same; reads = tt })
-  dropped m n d job begun a x r None same = inl (record { same = same; reads = tt })
+  written_all : (m n : State) (d : ℕ) (job : Task) (begun a : ℕ) (x : Collected) (r : Reply) (o : Option ℕ) → outcomes_in m d (drop begun job.lines) ≡ outcomes_in n d (drop begun job.lines)
+      → TrulyTo m d job (at_step (doing.Writes a) begun x) r n (written x o a begun) × TrulyTo m d job (at_step (doing.Writes a) begun x) r n (broken x o a begun)
+  written_all m n d job begun a x r (Some b) same = (inl (record { same = same; reads = tt }), inl (record { same = same; reads = tt }))
+  written_all m n d job begun a x r None same = (inl (record { same = same; reads = tt }), inl (record { same = same; reads = tt }))
 
-  shut : (m n : State) (d : ℕ) (job : Task) (begun file a from len : ℕ) (x : Collected) (r : Reply) → outcomes_in m d (drop begun job.lines) ≡ outcomes_in n d (drop begun job.lines)
-      → TrulyTo m d job (at_step (doing.Shuts file a) begun x) r n (shut_by x from a len begun)
-  shut m n d job begun file a from len x r same = by x.held (nat_le len 4096) (is_nothing x)
+  writes : (m n : State) (d : ℕ) (job : Task) (begun a : ℕ) (x : Collected) (r : Reply) → outcomes_in m d (drop begun job.lines) ≡ outcomes_in n d (drop begun job.lines) → TrulyTo m d job (at_step (doing.Writes a) begun x) r n (told_written x a (length (bytes_at (lent_at n d) a)) begun r)
+  writes m n d job begun a x (reply.Count k) same = by (k == length (bytes_at (lent_at n d) a))
     where
-      by : (o : Option ℕ) (t u : Bool) → TrulyTo m d job (at_step (doing.Shuts file a) begun x) r n (if t then file_collected x o from a len begun
-          else (if u then Some (at_step (doing.Writes a) begun x) else Some (at_step doing.Runs begun (with_next x a))))
-      by None true u = inl (record { same = same; reads = tt })
-      by (Some held) true u = inl (record { same = same; reads = tt })
-      by o false true = inl (record { same = same; reads = tt })
-      by o false false = inl (record { same = same; reads = tt })
-
-  written : (m n : State) (d : ℕ) (job : Task) (begun a : ℕ) (x : Collected) (r : Reply) → outcomes_in m d (drop begun job.lines) ≡ outcomes_in n d (drop begun job.lines) → TrulyTo m d job (at_step (doing.Writes a) begun x) r n (told_written x a (length (bytes_at (lent_at n d) a)) begun r)
-  written m n d job begun a x (reply.Count k) same = by (k == length (bytes_at (lent_at n d) a))
-    where
-      by : (t : Bool) → TrulyTo m d job (at_step (doing.Writes a) begun x) (reply.Count k) n (Some (at_step (if t then doing.Drops a else doing.Cuts a k (length (bytes_at (lent_at n d) a))) begun x))
-      by true = inl (record { same = same; reads = tt })
+      by : (t : Bool) → TrulyTo m d job (at_step (doing.Writes a) begun x) (reply.Count k) n (if t then written x x.next a begun else at (doing.Cuts a k (length (bytes_at (lent_at n d) a))) begun x)
+      by true = (written_all m n d job begun a x (reply.Count k) x.next same).0
       by false = inl (record { same = same; reads = tt })
-  written m n d job begun a x (reply.Refused not_so.BrokenPipe) same = inl (record { same = same; reads = tt })
-  written m n d job begun a x (reply.Refused y) same = tt
-  written m n d job begun a x r same = tt
+  writes m n d job begun a x (reply.Refused not_so.BrokenPipe) same = (written_all m n d job begun a x (reply.Refused not_so.BrokenPipe) x.next same).1
+  writes m n d job begun a x (reply.Refused y) same = tt
+  writes m n d job begun a x r same = tt
 
   -- a file is opened for the line that is begun
   opens : (m n : State) (d : ℕ) (job : Task) (begun : ℕ) (u : Purpose) (name : List ℕ) (x : Collected) (r : Reply) → outcomes_in m d (drop begun job.lines) ≡ outcome_in m d name ∷ outcomes_in m d (drop (begun + 1) job.lines)
@@ -186,8 +206,15 @@ module _ (steps : EachStepLeavesTheRest) (files : FileCallsServeTheirDomain) whe
       all : outcomes_in m d (drop (begun - 1) job.lines) ≡ Found (bytes_at (lent_at n d) a) ∷ outcomes_in n d (drop begun job.lines)
       all = g.names ∙ (ap (λ (l : List ℕ). Found l ∷ outcomes_in m d (drop begun job.lines)) (sym text) ∙ ap (λ (os : List Outcome). Found (bytes_at (lent_at n d) a) ∷ os) (same begun))
 
+      cats : (o : Option ℕ) (from len : ℕ) (t v : Bool) → TrulyTo m d job (at_step (doing.Reads fd purpose.Cat) begun x) (reply.Agg a) n (if t then file_collected fd x o from a len begun
+          else (if v then after (One (object.File fd)) (doing.Writes a) begun x else after (One (object.File fd)) doing.Runs begun (with_next x a)))
+      cats None from len true v = inl (record { same = all; reads = tt })
+      cats (Some held) from len true v = inl (record { same = all; reads = tt })
+      cats o from len false true = inl (record { same = all; reads = tt })
+      cats o from len false false = inl (record { same = all; reads = tt })
+
       by : (u : Purpose) → TrulyTo m d job (at_step (doing.Reads fd u) begun x) (reply.Agg a) n (told_read (lent_at n d) x fd u begun (reply.Agg a))
-      by purpose.Cat = inl (record { same = all; reads = tt })
+      by purpose.Cat = cats x.held (length (bytes_of_one (lent_at n d) x.held)) (length (bytes_at (lent_at n d) a)) (nat_le (length (bytes_at (lent_at n d) a)) 4096) (is_nothing x)
       by purpose.Wc = inl (record { same = all; reads = tt })
   reads m n d job begun fd u x (reply.Refused y) g same short did = inr (record {
     why = y;
@@ -233,10 +260,33 @@ module _ (steps : EachStepLeavesTheRest) (files : FileCallsServeTheirDomain) whe
   runs m n d p job begun x r unseen true good f due step = made m n d job begun x r (plain steps m n d job (call.AggMake x.text) r step good refl (λ q. refl) begun) (ap (λ (t : Bool). settled_begun t (slice_get job.lines begun) r) due)
   runs m n d p job begun x r unseen false good f due step = begins m n d p job begun x r unseen (slice_get job.lines begun) good f refl due step
 
-  by_doing : (m n : State) (d p : ℕ) (job : Task) (begun : ℕ) (x : Collected) (y : Doing) (r : Reply) (unseen : List Outcome → List ℕ) → IsOrderly m → ArePlaced m → AreFiles m → Feeds m d p job (at_step y begun x) unseen → ReadsNamed m d job begun y
-      → StepsTo m (event.Call d (call_at job (at_step y begun x))) r n → TrulyTo m d job (at_step y begun x) r n (told job (at_step y begun x) (lent_at n d) r)
-  by_doing m n d p job begun x doing.Runs r unseen order placed good f g did = runs m n d p job begun x r unseen (due_now job x begun) good f refl did
-  by_doing m n d p job begun x (doing.Reads fd u) r unseen order placed good f g did =
+  no_list : (d : ℕ) (o : Object) (q : ℕ) → admits_to (event.Call d (release_call o)) q ≡ false
+  no_list d (object.Agg a) q = refl
+  no_list d (object.File f) q = refl
+
+  by_phase : (m n : State) (d p : ℕ) (job : Task) (begun : ℕ) (x : Collected) (z : Phase) (r : Reply) (unseen : List Outcome → List ℕ) → IsOrderly m → ArePlaced m → AreFiles m → Feeds m d p job (step_with z begun x) unseen → ReadsNamed m d job begun (work_of z)
+      → StepsTo m (event.Call d (call_at job (step_with z begun x))) r n → TrulyTo m d job (step_with z begun x) r n (told job (step_with z begun x) (lent_at n d) r)
+  by_phase m n d p job begun x (Release os y) r unseen order placed good f g did = inl (record {
+    same = come_same m n d job begun same y ∙ ap (λ w. to_come_doing n d job begun w) (sym work);
+    reads = subst (λ w. ReadsNamed n d job begun w) (sym work) (named_same m n d job begun same (λ k. content-same m n k (leaves.files calm).1) y (λ h number place u is. kept.opens h number place u is) g);
+  })
+    where
+      calm : changes_files m (event.Call d (release_call (first os))) ≡ false
+      calm = files_on steps m n d p job begun x r (first os)
+
+      leaves : Leaves m (event.Call d (release_call (first os))) n
+      leaves = steps.leaves m n (event.Call d (release_call (first os))) r did
+
+      same : (k : ℕ) → outcomes_in m d (drop k job.lines) ≡ outcomes_in n d (drop k job.lines)
+      same k = plain steps m n d job (release_call (first os)) r did good calm (λ q. no_list d (first os) q) k
+
+      work : work_of (after_first os y) ≡ y
+      work = same_work steps m n d p job begun x r os y
+
+      kept : Keeps m n d x y
+      kept = keeps steps m n d p job begun x r (first os) y (after_first os y) work (spare_parts m d x os y f.spares).0 did
+  by_phase m n d p job begun x (At doing.Runs) r unseen order placed good f g did = runs m n d p job begun x r unseen (due_now job x begun) good f refl did
+  by_phase m n d p job begun x (At (doing.Reads fd u)) r unseen order placed good f g did =
       reads m n d job begun fd u x r g (plain steps m n d job (call.IolRead fd 16777216) r did good refl (λ q. refl)) (good.lengths g.number (placed.each d fd g.number 0 Read g.open_on).0)
       (files.reads_file m n d fd g.number 0 16777216 Read r order f.live may refl g.open_on did)
     where
@@ -245,21 +295,13 @@ module _ (steps : EachStepLeavesTheRest) (files : FileCallsServeTheirDomain) whe
 
       may : may_read m d (file m g.number).pool ≡ true
       may = subst (λ k. may_read m d (file m k).pool ≡ true) number f.needs.may
-  by_doing m n d p job begun x (doing.Counted fd a t) r unseen order placed good f g did = inl (record { same = plain steps m n d job (call.AggDrop a) r did good refl (λ q. refl) begun; reads = tt })
-  by_doing m n d p job begun x (doing.Shuts fd a) r unseen order placed good f g did =
-      shut m n d job begun fd a (length (bytes_of_one (lent_at n d) x.held)) (length (bytes_at (lent_at n d) a)) x r (plain steps m n d job (call.Close fd) r did good refl (λ q. refl) begun)
-  by_doing m n d p job begun x (doing.ShutsToSay fd t) r unseen order placed good f g did = inl (record { same = plain steps m n d job (call.Close fd) r did good refl (λ q. refl) begun; reads = tt })
-  by_doing m n d p job begun x (doing.JoiningFile held a from len) r unseen order placed good f g did = joined m n d job begun held a from len x r (plain steps m n d job (call.AggJoin held a) r did good refl (λ q. refl) begun)
-  by_doing m n d p job begun x (doing.CuttingPart held a from) r unseen order placed good f g did = parted m n d job begun held a from x r (plain steps m n d job (call.AggSplit held from) r did good refl (λ q. refl) begun)
-  by_doing m n d p job begun x (doing.ReplacingPart a part at) r unseen order placed good f g did = replaced m n d job begun a part at x r (plain steps m n d job (call.AggReplace a at at part) r did good refl (λ q. refl) begun)
-  by_doing m n d p job begun x (doing.DroppingText a part b) r unseen order placed good f g did = inl (record { same = plain steps m n d job (call.AggDrop a) r did good refl (λ q. refl) begun; reads = tt })
-  by_doing m n d p job begun x (doing.DroppingPart part b) r unseen order placed good f g did =
-      interleaved_truly m n d job begun b (at_step (doing.DroppingPart part b) begun x) r x (plain steps m n d job (call.AggDrop part) r did good refl (λ q. refl) begun) refl
-  by_doing m n d p job begun x (doing.Writes a) r unseen order placed good f g did = written m n d job begun a x r (plain steps m n d job (call.IolWrite job.fd a) r did good (ap (λ (o : Option Descriptor). is_file o) f.open_on) (λ q. refl) begun)
-  by_doing m n d p job begun x (doing.Cuts a from to) r unseen order placed good f g did = cut m n d job begun a from to x r (plain steps m n d job (call.AggCut a from to) r did good refl (λ q. refl) begun)
-  by_doing m n d p job begun x (doing.Swaps a b) r unseen order placed good f g did = inl (record { same = plain steps m n d job (call.AggDrop a) r did good refl (λ q. refl) begun; reads = tt })
-  by_doing m n d p job begun x (doing.Drops a) r unseen order placed good f g did = dropped m n d job begun a x r x.next (plain steps m n d job (call.AggDrop a) r did good refl (λ q. refl) begun)
-  by_doing m n d p job begun x y r unseen order placed good f g did = absurd f.needs
+  by_phase m n d p job begun x (At (doing.JoiningFile held a from len)) r unseen order placed good f g did = joined m n d job begun held a from len x r (plain steps m n d job (call.AggJoin held a) r did good refl (λ q. refl) begun)
+  by_phase m n d p job begun x (At (doing.CuttingPart held a from)) r unseen order placed good f g did = parted m n d job begun held a from x r (plain steps m n d job (call.AggSplit held from) r did good refl (λ q. refl) begun)
+  by_phase m n d p job begun x (At (doing.ReplacingPart a part at)) r unseen order placed good f g did = replaced m n d job begun a part at x r (plain steps m n d job (call.AggReplace a at at part) r did good refl (λ q. refl) begun)
+  by_phase m n d p job begun x (At (doing.Writes a)) r unseen order placed good f g did = writes m n d job begun a x r (plain steps m n d job (call.IolWrite job.fd a) r did good (ap (λ (o : Option Descriptor). is_file o) f.open_on) (λ q. refl) begun)
+  by_phase m n d p job begun x (At (doing.Cuts a from to)) r unseen order placed good f g did = cut m n d job begun a from to x r (plain steps m n d job (call.AggCut a from to) r did good refl (λ q. refl) begun)
+  by_phase m n d p job begun x (At doing.Waits) r unseen order placed good f g did = absurd f.needs
+  by_phase m n d p job begun x (At doing.Ends) r unseen order placed good f g did = absurd f.needs
 
   pub outcomes_are_true : OutcomesAreTrue
-  outcomes_are_true m n d p job step next r unseen order placed good f g did is = subst (λ (o : Option Step). TrulyTo m d job step r n o) is (by_doing m n d p job step.begun step.piece step.doing r unseen order placed good f g did)
+  outcomes_are_true m n d p job step next r unseen order placed good f g did is = subst (λ (o : Option Step). TrulyTo m d job step r n o) is (by_phase m n d p job step.begun step.piece step.phase r unseen order placed good f g did)

@@ -15,11 +15,12 @@ use Rattle.iol_proc.specs.Settlement.{Settles}
 use Rattle.iol_proc.specs.Idle.{more_of_two}
 use Rattle.iol_proc.specs.declared.process.Turn.TheVariants as turn
 use Rattle.flash_cgi.specs.Job.{Task, job_of}
-use Rattle.flash_cgi.specs.WorkerSteps.{call_at, doing_call, told, bytes_at}
+use Rattle.flash_cgi.specs.WorkerSteps.{call_at, phase_call, told, bytes_at}
 use Rattle.flash_cgi.specs.Works.{works, works_as, files, goes_on, takes, with_job, worker_turns}
 use Rattle.flash_cgi.specs.Standstill.{IsStuck, IsRefused, HasWaited, WaitingIsEmpty, is_over}
-use Rattle.flash_cgi.specs.declared.phase.Doing.{Doing}
 use Rattle.flash_cgi.specs.declared.phase.Doing.TheVariants as doing
+use Rattle.flash_cgi.specs.declared.phase.Phase.{Phase}
+use Rattle.flash_cgi.specs.declared.phase.Phase.TheVariants.{At}
 use Rattle.flash_cgi.specs.declared.phase.Standing.{Standing}
 use Rattle.flash_cgi.specs.declared.phase.Standing.TheVariants as standing
 use Rattle.flash_cgi.specs.declared.phase.Step.{Step}
@@ -52,13 +53,13 @@ call_is w v c l lent did = by w.standing did
     took [] agg did = subst (λ (s : Standing). IsCallOf c v s) (sym (ap (λ (y : Worker). y.standing) did.1)) tt
     took (b ∷ bs) agg did = with_one (job_of (b ∷ bs)) agg did.0 did.1
 
-    filed : (d : Doing) (l : Reply) → files w d l lent (turn.Make c) v → IsCallOf c v v.standing
-    filed doing.Waits (reply.Agg agg) did = took (bytes_at lent agg) agg did
-    filed d m did = goes (told w.job w.step lent m) did
+    filed : (z : Phase) (l : Reply) → files w z l lent (turn.Make c) v → IsCallOf c v v.standing
+    filed (At doing.Waits) (reply.Agg agg) did = took (bytes_at lent agg) agg did
+    filed z m did = goes (told w.job w.step lent m) did
 
     by : (s : Standing) → works_as s w l lent (turn.Make c) v → IsCallOf c v v.standing
     by standing.Asks did = made (call_at w.job w.step) (record w { standing = standing.Asked }) did.0 did.1 refl
-    by standing.Asked did = filed w.step.doing l did
+    by standing.Asked did = filed w.step.phase l did
     by standing.Over did = (let e = did.0 in absurd (cc))
 
 -- a yield leaves what it is at: it is to make its call again, or its job pipe has ended
@@ -74,13 +75,13 @@ yield_is w v l lent did = by w.standing did
     goes (Some step) did = (let e = did.0 in absurd (cc))
     goes None did = did.1
 
-    filed : (d : Doing) (l : Reply) → files w d l lent turn.Yield v → v ≡ record w { standing = standing.Asks }
-    filed doing.Waits (reply.Agg agg) did = (let e = did.0 in absurd (cc))
-    filed d m did = goes (told w.job w.step lent m) did
+    filed : (z : Phase) (l : Reply) → files w z l lent turn.Yield v → v ≡ record w { standing = standing.Asks }
+    filed (At doing.Waits) (reply.Agg agg) did = (let e = did.0 in absurd (cc))
+    filed z m did = goes (told w.job w.step lent m) did
 
     by : (s : Standing) → works_as s w l lent turn.Yield v → Yields w v s
     by standing.Asks did = (let e = did.0 in absurd (cc))
-    by standing.Asked did = filed w.step.doing l did
+    by standing.Asked did = filed w.step.phase l did
     by standing.Over did = did.1
 
 -- what is claimed after one yield and after two, by where it stands
@@ -130,5 +131,5 @@ waiting_is_empty why m by j w last h waits goes opened = why.pipe_is_empty m m b
   where
     stuck : (s : Standing) → is_over s ≡ false → IsStuck m by w last s → StepsTo m (event.Call by (call.IolRead 0 65536)) (reply.Refused WouldBlock) m
     stuck standing.Over goes h = absurd (cc)
-    stuck standing.Asks goes h = subst (λ (d : Doing). StepsTo m (event.Call by (doing_call w.job w.step.piece w.step.begun d)) (reply.Refused WouldBlock) m) waits h
-    stuck standing.Asked goes h = subst (λ (d : Doing). StepsTo m (event.Call by (doing_call w.job w.step.piece w.step.begun d)) (reply.Refused WouldBlock) m) waits h.0
+    stuck standing.Asks goes h = subst (λ (z : Phase). StepsTo m (event.Call by (phase_call w.job w.step.piece w.step.begun z)) (reply.Refused WouldBlock) m) waits h
+    stuck standing.Asked goes h = subst (λ (z : Phase). StepsTo m (event.Call by (phase_call w.job w.step.piece w.step.begun z)) (reply.Refused WouldBlock) m) waits h.0

@@ -1,5 +1,5 @@
 -- The pending output of a running script: the bytes in its pipe, followed by the bytes that its worker has still to write.
-use Rattle.std.specs.Prelude.{◌≡◌, ◌≢◌, ◌⊎◌, ℕ, Bool, true, false, List, [], ◌∷◌, ◌++◌, length, take, drop, Option, Some, None, slice_get}
+use Rattle.std.specs.Prelude.{◌≡◌, ◌⊎◌, ℕ, Bool, true, false, List, [], ◌∷◌, ◌++◌, length, take, drop, Option, Some, None, slice_get}
 use Rattle.iol_core.specs.Text.{bytes_of}
 use Rattle.iol_core.specs.State.{State, descriptor, pipe_at, file, may_read, is_live}
 use Rattle.iol_core.specs.Run.{StepsTo}
@@ -13,14 +13,21 @@ use Rattle.iol_laws.specs.Order.{IsOrderly}
 use Rattle.flash_cgi.specs.Collecting.{Collected, collected, collected_in, without_last}
 use Rattle.flash_cgi.specs.Job.{Task}
 use Rattle.flash_cgi.specs.Output.{Outcome, Found, Failed, output, by_first, cat_of, wc_of}
+use Rattle.flash_cgi.specs.PhaseUses.{reads_file, uses_agg}
 use Rattle.flash_cgi.specs.Pieces.{HoldsAt}
-use Rattle.flash_cgi.specs.WorkerSteps.{said_text, bytes_at, call_at, due_now, told}
+use Rattle.flash_cgi.specs.Release.{is_file, releases, work_of}
+use Rattle.flash_cgi.specs.WorkerSteps.{bytes_at, call_at, due_now, told}
 use Rattle.flash_cgi.specs.declared.line.Line.{Line}
 use Rattle.flash_cgi.specs.declared.line.Line.TheVariants as line
 use Rattle.flash_cgi.specs.declared.phase.Purpose.{Purpose}
 use Rattle.flash_cgi.specs.declared.phase.Purpose.TheVariants as purpose
 use Rattle.flash_cgi.specs.declared.phase.Doing.{Doing}
 use Rattle.flash_cgi.specs.declared.phase.Doing.TheVariants as doing
+use Rattle.flash_cgi.specs.declared.phase.Object.{Object}
+use Rattle.flash_cgi.specs.declared.phase.Object.TheVariants.{Agg, File}
+use Rattle.flash_cgi.specs.declared.phase.Objects.TheVariants.{One, Two, Three}
+use Rattle.flash_cgi.specs.declared.phase.Phase.{Phase}
+use Rattle.flash_cgi.specs.declared.phase.Phase.TheVariants.{Release, At}
 use Rattle.flash_cgi.specs.declared.phase.Step.{Step}
 
 -- ---- the bytes still to be written
@@ -43,31 +50,21 @@ set_in text at bytes = take at text ++ (bytes ++ drop at text)
 
 abbrev pub still_doing : Task → (begun : ℕ) → (ℕ → Option (List ℕ)) → Collected → Doing → List Outcome → List ℕ
 still_doing job begun lent x doing.Waits os = []
-still_doing job begun lent x (doing.Skips agg) os = []
-still_doing job begun lent x (doing.Breaks agg) os = []
+still_doing job begun lent x doing.Ends os = []
 still_doing job begun lent x doing.Runs os = then_rest job begun lent x os
-still_doing job begun lent x (doing.Drops agg) os = then_rest job begun lent x os
 still_doing job begun lent x (doing.Reads file p) os = collected lent x ++ by_first (put_out p) (rest_of job begun) os
-still_doing job begun lent x (doing.Counted file agg s) os = collected lent x ++ (said_text s ++ rest_of job begun os)
-still_doing job begun lent x (doing.ShutsToSay file s) os = collected lent x ++ (said_text s ++ rest_of job begun os)
-still_doing job begun lent x (doing.Shuts file agg) os = collected lent x ++ (bytes_at lent agg ++ rest_of job begun os)
 still_doing job begun lent x (doing.JoiningFile held agg from len) os =
     collected lent x ++ (bytes_at lent agg ++ rest_of job begun os)
 still_doing job begun lent x (doing.CuttingPart held agg from) os =
     collected_in lent (bytes_at lent agg) x ++ rest_of job begun os
 still_doing job begun lent x (doing.ReplacingPart agg part at) os =
     collected_in lent (set_in (bytes_at lent agg) at (bytes_at lent part)) (without_last x) ++ rest_of job begun os
-still_doing job begun lent x (doing.DroppingText agg part made) os =
-    collected_in lent (bytes_at lent made) x ++ rest_of job begun os
-still_doing job begun lent x (doing.DroppingPart part made) os =
-    collected_in lent (bytes_at lent made) x ++ rest_of job begun os
 still_doing job begun lent x (doing.Writes agg) os = bytes_at lent agg ++ then_rest job begun lent x os
 still_doing job begun lent x (doing.Cuts agg from to) os = drop from (bytes_at lent agg) ++ then_rest job begun lent x os
-still_doing job begun lent x (doing.Swaps agg rest) os = bytes_at lent rest ++ then_rest job begun lent x os
 
 -- the bytes still to be written, with these outcomes of the files still to be read
 abbrev pub still : Task → (ℕ → Option (List ℕ)) → Step → List Outcome → List ℕ
-still job lent step os = still_doing job step.begun lent step.piece step.doing os
+still job lent step os = still_doing job step.begun lent step.piece (work_of step.phase) os
 
 -- ---- requirements on the machine
 
@@ -87,30 +84,35 @@ IsFileOpen m d fd = (number : ℕ) × (place : ℕ) × (descriptor m d fd ≡ So
 
 abbrev pub Needs : State → (d : ℕ) → Doing → Type 0
 Needs m d doing.Waits = ⊥
-Needs m d (doing.Skips agg) = ⊥
-Needs m d (doing.Breaks agg) = ⊥
+Needs m d doing.Ends = ⊥
 Needs m d doing.Runs = Unit {0}
 Needs m d (doing.JoiningFile held agg from len) = Unit {0}
 Needs m d (doing.CuttingPart held agg from) = Unit {0}
 Needs m d (doing.ReplacingPart agg part at) = Unit {0}
-Needs m d (doing.DroppingText agg part made) = Unit {0}
-Needs m d (doing.DroppingPart part made) = Unit {0}
-Needs m d (doing.Drops agg) = HasBytes m d agg
 Needs m d (doing.Reads file p) = IsOpenFile m d file
-Needs m d (doing.ShutsToSay file s) = IsFileOpen m d file
-Needs m d (doing.Counted file agg s) = IsFileOpen m d file × HasBytes m d agg
-Needs m d (doing.Shuts file agg) = IsFileOpen m d file × HasBytes m d agg
 Needs m d (doing.Writes agg) = HasBytes m d agg
 Needs m d (doing.Cuts agg from to) = (bytes : List ℕ) × (lent_at m d agg ≡ Some bytes) × (to ≡ length bytes)
-Needs m d (doing.Swaps agg rest) = HasBytes m d rest × (agg ≢ rest)
+
+-- An object that is released exists, and the phase after it does not use it.
+abbrev pub IsSpare : State → (d : ℕ) → Collected → (next : Phase) → Object → Type 0
+IsSpare m d x next (Agg a) = HasBytes m d a × (uses_agg x next a ≡ false)
+IsSpare m d x next (File f) = IsFileOpen m d f × (releases (λ o. is_file o f) next ≡ false) × (reads_file (work_of next) f ≡ false)
+
+abbrev pub AreSpare : State → (d : ℕ) → Collected → Phase → Type 0
+AreSpare m d x (Release (One o) y) = IsSpare m d x (At y) o
+AreSpare m d x (Release (Two o p) y) = IsSpare m d x (Release (One p) y) o × IsSpare m d x (At y) p
+AreSpare m d x (Release (Three o p q) y) = IsSpare m d x (Release (Two p q) y) o × IsSpare m d x (Release (One q) y) p
+    × IsSpare m d x (At y) q
+AreSpare m d x (At y) = Unit {0}
 
 -- The worker in domain d runs a job with its output to pipe p: for all outcomes to come, the pending output is the bytes in the
 -- pipe, followed by the bytes still to be written.
 pub record Feeds (m : State) (d p : ℕ) (job : Task) (step : Step) (unseen : List Outcome → List ℕ) : Type 0 where
   pub live : is_live m d ≡ true
   pub open_on : descriptor m d job.fd ≡ Some (on.WriteEnd p)
-  pub needs : Needs m d step.doing
-  pub holds : HoldsAt (lent_at m d) step.piece step.doing
+  pub needs : Needs m d (work_of step.phase)
+  pub holds : HoldsAt (lent_at m d) step.piece (work_of step.phase)
+  pub spares : AreSpare m d step.piece step.phase
   pub is : (os : List Outcome) → unseen os ≡ bytes_of (pipe_at m p).queue ++ still job (lent_at m d) step os
 
 -- ---- its own calls
@@ -133,18 +135,18 @@ abbrev pub settled_begun : (due : Bool) → Option Line → Reply → List Outco
 settled_begun true l r = []
 settled_begun false l r = settled_open l r
 
-abbrev pub settled_doing : Task → Collected → (begun : ℕ) → (ℕ → Option (List ℕ)) → Doing → Reply → List Outcome
-settled_doing job x begun lent doing.Runs r = settled_begun (due_now job x begun) (slice_get job.lines begun) r
-settled_doing job x begun lent (doing.Reads file p) r = settled_read lent r
-settled_doing job x begun lent d r = []
+abbrev pub settled_at : Task → Collected → (begun : ℕ) → (ℕ → Option (List ℕ)) → Phase → Reply → List Outcome
+settled_at job x begun lent (At doing.Runs) r = settled_begun (due_now job x begun) (slice_get job.lines begun) r
+settled_at job x begun lent (At (doing.Reads file p)) r = settled_read lent r
+settled_at job x begun lent y r = []
 
 -- the outcome that a reply settles, if any
 abbrev pub settled : Task → Step → (ℕ → Option (List ℕ)) → Reply → List Outcome
-settled job step lent r = settled_doing job step.piece step.begun lent step.doing r
+settled job step lent r = settled_at job step.piece step.begun lent step.phase r
 
 -- the script is over: all of its output was written, and the pipe's write end is closed
 pub record Ends (m : State) (d p : ℕ) (unseen : List Outcome → List ℕ) (r : Reply) (next : Step) (n : State) : Type 0 where
-  pub free : next.doing ≡ doing.Waits
+  pub free : next.phase ≡ At doing.Waits
   pub all : (os : List Outcome) → unseen os ≡ bytes_of (pipe_at m p).queue
   pub done : r ≡ reply.Done
   pub closes : ClosesWriteEnd m p r n

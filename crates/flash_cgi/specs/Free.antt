@@ -13,6 +13,7 @@ use Rattle.flash_cgi.specs.Job.{job_of}
 use Rattle.flash_cgi.specs.Turns.{IsFree}
 use Rattle.flash_cgi.specs.Works.{IsNew, worker_turns}
 use Rattle.flash_cgi.specs.declared.phase.Doing.TheVariants as doing
+use Rattle.flash_cgi.specs.declared.phase.Phase.TheVariants.{At}
 use Rattle.flash_cgi.specs.declared.phase.Standing.TheVariants as standing
 use Rattle.flash_cgi.specs.declared.worker.Worker.{Worker}
 
@@ -35,6 +36,6 @@ pub record WorkersStayFree : Type 0 where
   -- same reply
   pub skips : (m n : State) (agg b : ℕ) (bs : List ℕ) (seat next : Seat Worker) (yields : Bool) (r : Reply)
       → is_live m seat.by ≡ true
-      → seat.process.step.doing ≡ doing.Waits → seat.process.standing ≡ standing.Asked → seat.last ≡ reply.Agg agg
+      → seat.process.step.phase ≡ At doing.Waits → seat.process.standing ≡ standing.Asked → seat.last ≡ reply.Agg agg
       → lent_at m seat.by agg ≡ Some (b ∷ bs) → job_of (b ∷ bs) ≡ None → SeatTurn copying worker_turns m seat yields r n next
       → IsFree n next ⊎ (next ≡ seat)

@@ -14,8 +14,12 @@ use Rattle.flash_cgi.specs.Job.{Task, job_of, job_text}
 use Rattle.flash_cgi.specs.Script.{script_of}
 use Rattle.flash_cgi.specs.Output.{Outcome, output}
 use Rattle.flash_cgi.specs.Feeds.{Feeds}
+use Rattle.flash_cgi.specs.WorkerSteps.{step_with}
 use Rattle.flash_cgi.specs.declared.line.Line.{Line}
 use Rattle.flash_cgi.specs.declared.phase.Doing.TheVariants as doing
+use Rattle.flash_cgi.specs.declared.phase.Object.TheVariants.{Agg}
+use Rattle.flash_cgi.specs.declared.phase.Objects.TheVariants.{One}
+use Rattle.flash_cgi.specs.declared.phase.Phase.TheVariants.{Release}
 
 -- A job waits in pipe j for the worker in domain d: the text of this script with this query, with its output to pipe p.
 pub record HasJob (m : State) (d j p fd : ℕ) (query script : List ℕ) (lines : List Line) : Type 0 where
@@ -34,7 +38,7 @@ pub record Begins (m : State) (d p : ℕ) (job : Task) (agg : ℕ) (unseen : Lis
   pub bytes : List ℕ
   pub lends : lent_at m d agg ≡ Some bytes
   pub is_job : job_of bytes ≡ Some job
-  pub feeds : Feeds m d p job (record { doing = doing.Drops agg; begun = 0; piece = nothing }) unseen
+  pub feeds : Feeds m d p job (step_with (Release (One (Agg agg)) doing.Runs) 0 nothing) unseen
 
 -- Reading a waiting job gives exactly this job, and all of the output of its lines is pending.
 abbrev pub JobsAreTaken : Type 0

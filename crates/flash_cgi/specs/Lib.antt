@@ -14,6 +14,8 @@ pub mod Outcomes
 pub mod Output
 pub mod Script
 pub mod Reached
+pub mod Release
+pub mod PhaseUses
 pub mod Pieces
 pub mod OutputPools
 pub mod JobStart

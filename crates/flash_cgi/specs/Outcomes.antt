@@ -17,6 +17,7 @@ use Rattle.iol_laws.specs.Caller.{lent_at, is_rough}
 use Rattle.iol_laws.specs.Order.{IsOrderly}
 use Rattle.flash_cgi.specs.Job.{Task}
 use Rattle.flash_cgi.specs.Output.{Outcome, Found, Failed}
+use Rattle.flash_cgi.specs.Release.{work_of}
 use Rattle.flash_cgi.specs.WorkerSteps.{call_at, told}
 use Rattle.flash_cgi.specs.Feeds.{Feeds, settled}
 use Rattle.flash_cgi.specs.declared.line.Line.{Line}
@@ -49,7 +50,7 @@ to_come_doing m d job begun doing.Waits = []
 to_come_doing m d job begun x = outcomes_in m d (drop begun job.lines)
 
 abbrev pub to_come : State → (d : ℕ) → Task → Step → List Outcome
-to_come m d job step = to_come_doing m d job step.begun step.doing
+to_come m d job step = to_come_doing m d job step.begun (work_of step.phase)
 
 -- the file that is being read is the one that the last begun line names, and it is read from its start
 pub record IsReading (m : State) (d : ℕ) (job : Task) (begun fd : ℕ) : Type 0 where
@@ -64,7 +65,7 @@ ReadsNamed m d job begun x = Unit {0}
 -- the settled outcome is the one that was to come
 pub record SettlesTruly (m : State) (d : ℕ) (job : Task) (step : Step) (r : Reply) (n : State) (next : Step) : Type 0 where
   pub same : to_come m d job step ≡ settled job step (lent_at n d) r ++ to_come n d job next
-  pub reads : ReadsNamed n d job next.begun next.doing
+  pub reads : ReadsNamed n d job next.begun (work_of next.phase)
 
 -- The call for a file was refused with TooMany, NoRoom, Fault or Memory: it settles this refusal instead of the file's outcome.
 pub record SettlesByRefusal (m : State) (d : ℕ) (job : Task) (step : Step) (r : Reply) (n : State) (next : Step) : Type 0 where
@@ -74,7 +75,7 @@ pub record SettlesByRefusal (m : State) (d : ℕ) (job : Task) (step : Step) (r 
   pub instead : Outcome
   pub was : to_come m d job step ≡ instead ∷ to_come n d job next
   pub settles : settled job step (lent_at n d) r ≡ Failed why ∷ []
-  pub reads : ReadsNamed n d job next.begun next.doing
+  pub reads : ReadsNamed n d job next.begun (work_of next.phase)
 
 -- files are within their limit, and have existing pools
 pub record AreFiles (m : State) : Type 0 where
@@ -85,6 +86,6 @@ pub record AreFiles (m : State) : Type 0 where
 -- TooMany, NoRoom, Fault or Memory, the outcome is this refusal.
 abbrev pub OutcomesAreTrue : Type 0
 OutcomesAreTrue = (m n : State) (d p : ℕ) (job : Task) (step next : Step) (r : Reply) (unseen : List Outcome → List ℕ)
-    → IsOrderly m → ArePlaced m → AreFiles m → Feeds m d p job step unseen → ReadsNamed m d job step.begun step.doing
+    → IsOrderly m → ArePlaced m → AreFiles m → Feeds m d p job step unseen → ReadsNamed m d job step.begun (work_of step.phase)
     → StepsTo m (event.Call d (call_at job step)) r n → told job step (lent_at n d) r ≡ Some next
     → SettlesTruly m d job step r n next ⊎ SettlesByRefusal m d job step r n next

@@ -19,6 +19,7 @@ use Rattle.iol_proc.specs.declared.seat.Seat.{Seat}
 use Rattle.flash_cgi.specs.Beside.{is_call_of}
 use Rattle.flash_cgi.specs.Collecting.{Collected}
 use Rattle.flash_cgi.specs.Output.{Outcome}
+use Rattle.flash_cgi.specs.Release.{work_of}
 use Rattle.flash_cgi.specs.Turns.{IsFree, RunsJob, step_of}
 use Rattle.flash_cgi.specs.Works.{worker_turns}
 use Rattle.flash_cgi.specs.declared.phase.Doing.{Doing}
@@ -43,16 +44,12 @@ PieceLies pools m d x = OneLies pools m d x.held × OneLies pools m d x.next
 abbrev pub PhaseLies : (pools : ℕ → Bool) → State → (d : ℕ) → Doing → Type 0
 PhaseLies pools m d (doing.Reads fd u) =
     (f at : ℕ) (mode : Mode) → descriptor m d fd ≡ Some (on.File f at mode) → pools (file m f).pool ≡ true
-PhaseLies pools m d (doing.Shuts fd a) = lie_in pools (text m d a) ≡ true
 PhaseLies pools m d (doing.JoiningFile held a from len) =
     (lie_in pools (text m d held) ≡ true) × (lie_in pools (text m d a) ≡ true)
 PhaseLies pools m d (doing.CuttingPart held a from) = (lie_in pools (text m d held) ≡ true) × (lie_in pools (text m d a) ≡ true)
 PhaseLies pools m d (doing.ReplacingPart a part at) = (lie_in pools (text m d a) ≡ true) × (lie_in pools (text m d part) ≡ true)
-PhaseLies pools m d (doing.DroppingText a part made) = lie_in pools (text m d made) ≡ true
-PhaseLies pools m d (doing.DroppingPart part made) = lie_in pools (text m d made) ≡ true
 PhaseLies pools m d (doing.Writes a) = lie_in pools (text m d a) ≡ true
 PhaseLies pools m d (doing.Cuts a from to) = lie_in pools (text m d a) ≡ true
-PhaseLies pools m d (doing.Swaps a rest) = lie_in pools (text m d rest) ≡ true
 PhaseLies pools m d x = Unit {0}
 
 -- for a worker with a job
@@ -64,7 +61,7 @@ LiesIn pools m d x y = PieceLies pools m d x × PhaseLies pools m d y
 pub record IsShown (pools : ℕ → Bool) (m : State) (p : ℕ) (seat : Seat Worker) : Type 0 where
   pub default : pools (default_pool m seat.by) ≡ true
   pub output : lie_in pools (pipe_at m p).queue ≡ true
-  pub lies : LiesIn pools m seat.by (step_of m seat).piece (step_of m seat).doing
+  pub lies : LiesIn pools m seat.by (step_of m seat).piece (work_of (step_of m seat).phase)
 
 pub record OutputsAreShown : Type 0 where
   -- for a worker that is free, and a pipe to which no other bytes were written

@@ -74,34 +74,13 @@ pub record Replaces (lent : ℕ → Option (List ℕ)) (x : Collected) (agg part
   pub part_apart : IsApart x part
   pub differ : agg ≢ part
 
-pub record DropsPart (lent : ℕ → Option (List ℕ)) (x : Collected) (part made : ℕ) : Type 0 where
-  pub lends : Lends lent made
-  pub piece : HasPiece lent (length (bytes_at lent made)) x
-  pub no_text : x.text ≡ []
-  pub part_apart : IsApart x part
-  pub made_apart : IsApart x made
-  pub differ : part ≢ made
-
-pub record DropsText (lent : ℕ → Option (List ℕ)) (x : Collected) (agg part made : ℕ) : Type 0 where
-  pub drops : DropsPart lent x part made
-  pub apart : IsApart x agg
-  pub differ : agg ≢ made
-
 abbrev pub HoldsAt : (ℕ → Option (List ℕ)) → Collected → Doing → Type 0
 HoldsAt lent x doing.Waits = Unit {0}
-HoldsAt lent x (doing.Skips agg) = Unit {0}
-HoldsAt lent x (doing.Breaks agg) = Unit {0}
+HoldsAt lent x doing.Ends = Unit {0}
 HoldsAt lent x doing.Runs = HasPiece lent (length x.text) x
 HoldsAt lent x (doing.Reads file p) = Gathers lent x
-HoldsAt lent x (doing.ShutsToSay file s) = Gathers lent x
-HoldsAt lent x (doing.Counted file agg s) = Gathers lent x × IsApart x agg
-HoldsAt lent x (doing.Shuts file agg) = Gathers lent x × IsApart x agg
 HoldsAt lent x (doing.JoiningFile held agg from len) = Joins lent x held agg from
 HoldsAt lent x (doing.CuttingPart held agg from) = Cuts lent x held agg from
 HoldsAt lent x (doing.ReplacingPart agg part at) = Replaces lent x agg part at
-HoldsAt lent x (doing.DroppingText agg part made) = DropsText lent x agg part made
-HoldsAt lent x (doing.DroppingPart part made) = DropsPart lent x part made
-HoldsAt lent x (doing.Drops agg) = IsRest lent x × IsApart x agg
 HoldsAt lent x (doing.Writes agg) = IsRest lent x × IsApart x agg
 HoldsAt lent x (doing.Cuts agg from to) = IsRest lent x × IsApart x agg
-HoldsAt lent x (doing.Swaps agg rest) = IsRest lent x × IsApart x agg × IsApart x rest

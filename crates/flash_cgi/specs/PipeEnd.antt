@@ -15,13 +15,14 @@ use Rattle.flash_cgi.specs.WorkerSteps.{bytes_at}
 use Rattle.flash_cgi.specs.Works.{works}
 use Rattle.flash_cgi.specs.Standstill.{is_over}
 use Rattle.flash_cgi.specs.declared.phase.Doing.TheVariants as doing
+use Rattle.flash_cgi.specs.declared.phase.Phase.TheVariants.{At}
 use Rattle.flash_cgi.specs.declared.phase.Standing.TheVariants as standing
 use Rattle.flash_cgi.specs.declared.worker.Worker.{Worker}
 
 -- it waited for a job, and read no bytes
 pub record ReadNothing (w : Worker) (last : Reply) (lent : ℕ → Option (List ℕ)) : Type 0 where
   pub agg : ℕ
-  pub waited : w.step.doing ≡ doing.Waits
+  pub waited : w.step.phase ≡ At doing.Waits
   pub asked : w.standing ≡ standing.Asked
   pub read : last ≡ reply.Agg agg
   pub nothing : bytes_at lent agg ≡ []

@@ -42,4 +42,4 @@ TakesText old text agg result new = TakesTurn (takes old text agg) (0 < length t
 -- it processes the reply to its call
 abbrev pub FilesReply : {E : Type 0} → (old : Worker) → Reply → (ℕ → Option (List ℕ)) → Result Turn E → (new : Worker) → Type 0
 FilesReply old last lent result new =
-    TakesTurn (files old old.step.doing last lent) (WantsToFile old old.step.doing last lent) old result new
+    TakesTurn (files old old.step.phase last lent) (WantsToFile old old.step.phase last lent) old result new

@@ -15,14 +15,16 @@ use Rattle.iol_proc.specs.declared.seat.Seat.{Seat}
 use Rattle.flash_cgi.specs.Job.{Task}
 use Rattle.flash_cgi.specs.Output.{Outcome, Failed, output}
 use Rattle.flash_cgi.specs.Outcomes.{AreFiles, outcomes_in, to_come, ReadsNamed}
+use Rattle.flash_cgi.specs.Release.{work_of}
 use Rattle.flash_cgi.specs.WorkerSteps.{told}
 use Rattle.flash_cgi.specs.Works.{worker_turns}
 use Rattle.flash_cgi.specs.Standstill.{is_over}
 use Rattle.flash_cgi.specs.Feeds.{Feeds, Ends}
 use Rattle.flash_cgi.specs.JobStart.{HasJob, Begins}
 use Rattle.flash_cgi.specs.declared.line.Line.{Line}
-use Rattle.flash_cgi.specs.declared.phase.Doing.{Doing}
 use Rattle.flash_cgi.specs.declared.phase.Doing.TheVariants as doing
+use Rattle.flash_cgi.specs.declared.phase.Phase.{Phase}
+use Rattle.flash_cgi.specs.declared.phase.Phase.TheVariants.{At}
 use Rattle.flash_cgi.specs.declared.phase.Standing.{Standing}
 use Rattle.flash_cgi.specs.declared.phase.Standing.TheVariants as standing
 use Rattle.flash_cgi.specs.declared.phase.Step.{Step}
@@ -41,15 +43,15 @@ abbrev pub step_of : State → Seat Worker → Step
 step_of m seat = filed_step seat.process.standing seat.process (lent_at m seat.by) seat.last
 
 -- whether a reply gives it a text from its job pipe
-abbrev pub is_given : Doing → Reply → Bool
-is_given doing.Waits (reply.Agg agg) = true
-is_given x r = false
+abbrev pub is_given : Phase → Reply → Bool
+is_given (At doing.Waits) (reply.Agg agg) = true
+is_given y r = false
 
 -- The worker in this seat has no job: its next call reads one.
 pub record IsFree (m : State) (seat : Seat Worker) : Type 0 where
   pub not_over : is_over seat.process.standing ≡ false
-  pub waits : (step_of m seat).doing ≡ doing.Waits
-  pub not_given : seat.process.standing ≡ standing.Asked → is_given seat.process.step.doing seat.last ≡ false
+  pub waits : (step_of m seat).phase ≡ At doing.Waits
+  pub not_given : seat.process.standing ≡ standing.Asked → is_given seat.process.step.phase seat.last ≡ false
 
 -- A job waits for it, and is not yet read.
 pub record Awaits (m : State) (p : ℕ) (seat : Seat Worker) (unseen : List Outcome → List ℕ) : Type 0 where
@@ -66,7 +68,7 @@ pub record Awaits (m : State) (p : ℕ) (seat : Seat Worker) (unseen : List Outc
 pub record HasRead (m : State) (p : ℕ) (seat : Seat Worker) (unseen : List Outcome → List ℕ) : Type 0 where
   pub job : Task
   pub agg : ℕ
-  pub waits : seat.process.step.doing ≡ doing.Waits
+  pub waits : seat.process.step.phase ≡ At doing.Waits
   pub asked : seat.process.standing ≡ standing.Asked
   pub last : seat.last ≡ reply.Agg agg
   pub begins : Begins m seat.by p job agg unseen
@@ -93,7 +95,8 @@ abbrev pub ReadsItsFile : (m : State) (p : ℕ) (seat : Seat Worker) (unseen : L
     → RunsJob m p seat unseen → Type 0
 ReadsItsFile m p seat unseen (inl h) = Unit {0}
 ReadsItsFile m p seat unseen (inr (inl h)) = Unit {0}
-ReadsItsFile m p seat unseen (inr (inr i)) = ReadsNamed m seat.by seat.process.job (step_of m seat).begun (step_of m seat).doing
+ReadsItsFile m p seat unseen (inr (inr i)) = ReadsNamed m seat.by seat.process.job (step_of m seat).begun
+    (work_of (step_of m seat).phase)
 
 -- A call for a file was refused with TooMany, NoRoom, Fault or Memory: it settles this refusal instead of the first outcome to
 -- come.

@@ -7,6 +7,8 @@ use Rattle.flash_cgi.specs.Job.{Task}
 use Rattle.flash_cgi.specs.WorkerSteps.{bytes_at, due_now, told}
 use Rattle.flash_cgi.specs.declared.phase.Doing.{Doing}
 use Rattle.flash_cgi.specs.declared.phase.Doing.TheVariants as doing
+use Rattle.flash_cgi.specs.declared.phase.Phase.{Phase}
+use Rattle.flash_cgi.specs.declared.phase.Phase.TheVariants.{Release, At}
 use Rattle.flash_cgi.specs.declared.phase.Standing.{Standing}
 use Rattle.flash_cgi.specs.declared.phase.Standing.TheVariants as standing
 use Rattle.flash_cgi.specs.declared.phase.Step.{Step}
@@ -30,24 +32,27 @@ begins_with_bytes job x begun = if due_now job x begun then true else next_has_b
 
 abbrev pub doing_has_bytes : Task → Collected → (begun : ℕ) → Doing → Bool
 doing_has_bytes job x begun doing.Runs = begins_with_bytes job x begun
+doing_has_bytes job x begun doing.Ends = begins_with_bytes job x (length job.lines)
 doing_has_bytes job x begun d = false
+
+abbrev pub phase_has_bytes : Task → Collected → (begun : ℕ) → Phase → Bool
+phase_has_bytes job x begun (Release os d) = false
+phase_has_bytes job x begun (At d) = doing_has_bytes job x begun d
 
 -- whether the call of a step has bytes
 abbrev pub has_bytes : Task → Step → Bool
-has_bytes job step = doing_has_bytes job step.piece step.begun step.doing
+has_bytes job step = phase_has_bytes job step.piece step.begun step.phase
 
 -- whether the buffered output may change after the reply, and is copied
 abbrev pub may_copy : Collected → Doing → Bool
-may_copy x doing.Runs = true
-may_copy x (doing.Shuts file agg) = true
-may_copy x (doing.ShutsToSay file s) = true
-may_copy x (doing.JoiningFile held agg from len) = true
-may_copy x (doing.CuttingPart held agg from) = true
-may_copy x (doing.ReplacingPart agg part place) = true
-may_copy x (doing.DroppingPart part made) = true
-may_copy x (doing.Drops agg) = is_some x.next
-may_copy x (doing.Breaks agg) = is_some x.next
-may_copy x d = false
+may_copy x doing.Waits = false
+may_copy x (doing.Writes agg) = is_some x.next
+may_copy x (doing.Cuts agg from to) = false
+may_copy x d = true
+
+abbrev pub phase_may_copy : Collected → Phase → Bool
+phase_may_copy x (Release os d) = false
+phase_may_copy x (At d) = may_copy x d
 
 -- it continues with a call that has bytes, or makes its call again
 abbrev pub WantsOn : Task → Option Step → Type 0
@@ -56,16 +61,16 @@ WantsOn job (Some step) = has_bytes job step ≡ true
 
 -- if it copies nothing, it needs memory only for its next call
 abbrev pub WantsByReply : Worker → Reply → (ℕ → Option (List ℕ)) → Type 0
-WantsByReply w last lent = may_copy w.step.piece w.step.doing ≡ false → WantsOn w.job (told w.job w.step lent last)
+WantsByReply w last lent = phase_may_copy w.step.piece w.step.phase ≡ false → WantsOn w.job (told w.job w.step lent last)
 
 -- it processes a reply: a text of at least one byte is parsed as a job
-abbrev pub WantsToFile : Worker → Doing → Reply → (ℕ → Option (List ℕ)) → Type 0
-WantsToFile w doing.Waits (reply.Agg agg) lent = 0 < length (bytes_at lent agg)
-WantsToFile w d last lent = WantsByReply w last lent
+abbrev pub WantsToFile : Worker → Phase → Reply → (ℕ → Option (List ℕ)) → Type 0
+WantsToFile w (At doing.Waits) (reply.Agg agg) lent = 0 < length (bytes_at lent agg)
+WantsToFile w y last lent = WantsByReply w last lent
 
 abbrev pub WantsAs : Standing → Worker → Reply → (ℕ → Option (List ℕ)) → Type 0
 WantsAs standing.Asks w last lent = has_bytes w.job w.step ≡ true
-WantsAs standing.Asked w last lent = WantsToFile w w.step.doing last lent
+WantsAs standing.Asked w last lent = WantsToFile w w.step.phase last lent
 WantsAs standing.Over w last lent = ⊥
 
 -- in a turn

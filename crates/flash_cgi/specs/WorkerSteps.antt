@@ -12,6 +12,7 @@ use Rattle.iol_core.specs.declared.events.Reply.{Reply}
 use Rattle.iol_core.specs.declared.events.Reply.TheVariants as reply
 use Rattle.flash_cgi.specs.Collecting.{Collected, bytes_of_one, is_due, is_nothing, last_place, with_file, with_held, with_line, with_next, with_text, without_files, without_last, without_next, without_text}
 use Rattle.flash_cgi.specs.Job.{Task}
+use Rattle.flash_cgi.specs.Release.{after_first, first, release_call}
 pub use Rattle.flash_cgi.specs.Script.{is_line_feed}
 use Rattle.flash_cgi.specs.declared.line.Line.{Line}
 use Rattle.flash_cgi.specs.declared.line.Line.TheVariants as line
@@ -22,6 +23,11 @@ use Rattle.flash_cgi.specs.declared.phase.Purpose.{Purpose}
 use Rattle.flash_cgi.specs.declared.phase.Purpose.TheVariants as purpose
 use Rattle.flash_cgi.specs.declared.phase.Doing.{Doing}
 use Rattle.flash_cgi.specs.declared.phase.Doing.TheVariants as doing
+use Rattle.flash_cgi.specs.declared.phase.Object.TheVariants.{Agg, File}
+use Rattle.flash_cgi.specs.declared.phase.Objects.{Objects}
+use Rattle.flash_cgi.specs.declared.phase.Objects.TheVariants.{One, Two, Three}
+use Rattle.flash_cgi.specs.declared.phase.Phase.{Phase}
+use Rattle.flash_cgi.specs.declared.phase.Phase.TheVariants.{Release, At}
 use Rattle.flash_cgi.specs.declared.phase.Step.{Step}
 use Rattle.flash_cgi.specs.declared.piece.Place.{Place}
 use Rattle.flash_cgi.specs.declared.piece.TheConstants.{MAX_COLLECTED_BYTES}
@@ -73,39 +79,35 @@ abbrev pub doing_call : Task → Collected → (begun : ℕ) → Doing → Call
 doing_call job x begun doing.Waits = call.IolRead 0 65536
 doing_call job x begun doing.Runs = begin_call job x begun
 doing_call job x begun (doing.Reads file p) = call.IolRead file 16777216
-doing_call job x begun (doing.Shuts file agg) = call.Close file
-doing_call job x begun (doing.ShutsToSay file s) = call.Close file
 doing_call job x begun (doing.JoiningFile held agg from len) = call.AggJoin held agg
 doing_call job x begun (doing.CuttingPart held agg from) = call.AggSplit held from
 doing_call job x begun (doing.ReplacingPart agg part at) = call.AggReplace agg at at part
-doing_call job x begun (doing.DroppingText agg part made) = call.AggDrop agg
-doing_call job x begun (doing.DroppingPart part made) = call.AggDrop part
 doing_call job x begun (doing.Writes agg) = call.IolWrite job.fd agg
 doing_call job x begun (doing.Cuts agg from to) = call.AggCut agg from to
-doing_call job x begun (doing.Skips agg) = call.AggDrop agg
-doing_call job x begun (doing.Counted file agg s) = call.AggDrop agg
-doing_call job x begun (doing.Swaps agg rest) = call.AggDrop agg
-doing_call job x begun (doing.Drops agg) = call.AggDrop agg
-doing_call job x begun (doing.Breaks agg) = call.AggDrop agg
+doing_call job x begun doing.Ends = begin_call job x (length job.lines)
+
+abbrev pub phase_call : Task → Collected → (begun : ℕ) → Phase → Call
+phase_call job x begun (Release os d) = release_call (first os)
+phase_call job x begun (At d) = doing_call job x begun d
 
 abbrev pub call_at : Task → Step → Call
-call_at job step = doing_call job step.piece step.begun step.doing
+call_at job step = phase_call job step.piece step.begun step.phase
 
 -- ---- the step after the reply; none if the call is retried
 
-abbrev pub step_with : Doing → (begun : ℕ) → Collected → Step
-step_with d begun x = record { doing = d; begun = begun; piece = x }
+abbrev pub step_with : Phase → (begun : ℕ) → Collected → Step
+step_with p begun x = record { phase = p; begun = begun; piece = x }
 
 abbrev pub at : Doing → (begun : ℕ) → Collected → Option Step
-at d begun x = Some (step_with d begun x)
+at d begun x = Some (step_with (At d) begun x)
 
--- a text is buffered
-abbrev pub said_collected : (begun : ℕ) → Collected → Said → Option Step
-said_collected begun x s = at doing.Runs begun (with_text x (said_text s))
+-- the same, once these are released
+abbrev pub after : Objects → Doing → (begun : ℕ) → Collected → Option Step
+after os d begun x = Some (step_with (Release os d) begun x)
 
 abbrev pub told_opened : Collected → Purpose → (begun : ℕ) → Reply → Option Step
 told_opened x p begun (reply.Fd file) = at (doing.Reads file p) begun x
-told_opened x p begun (reply.Refused why) = said_collected begun x (said.Refused why)
+told_opened x p begun (reply.Refused why) = at doing.Runs begun (with_text x (said_text (said.Refused why)))
 told_opened x p begun r = None
 
 abbrev pub told_line : Task → Collected → Line → (begun : ℕ) → Reply → Option Step
@@ -119,17 +121,30 @@ abbrev pub told_next : Task → Collected → Option Line → (begun : ℕ) → 
 told_next job x (Some l) begun r = told_line job x l (begun + 1) r
 told_next job x None begun r = at doing.Waits 0 x
 
--- after this text is made: the bytes of the last file are to be inserted, or all are inserted
-abbrev pub interleave_by : Option ℕ → Option Place → (begun : ℕ) → Collected → (agg : ℕ) → Step
-interleave_by None place begun x agg = step_with (doing.Writes agg) begun x
-interleave_by (Some held) None begun x agg = step_with (doing.Swaps held agg) begun (without_files x)
-interleave_by (Some held) (Some place) begun x agg = step_with (doing.CuttingPart held agg place.from) begun x
+-- After this text is made: the bytes of the last file are to be inserted, or all are inserted. The text and the part of which it
+-- was made are released first, if there are any.
+abbrev pub Parts : Type 0
+Parts = Option (ℕ × ℕ)
 
-abbrev pub interleave_on : (begun : ℕ) → Collected → (agg : ℕ) → Step
-interleave_on begun x agg = interleave_by x.held (last_place x.places) begun x agg
+abbrev pub after_parts : Parts → Doing → Phase
+after_parts None d = At d
+after_parts (Some p) d = Release (Two (Agg p.0) (Agg p.1)) d
+
+abbrev pub after_all : Parts → (held : ℕ) → Doing → Phase
+after_all None held d = Release (One (Agg held)) d
+after_all (Some p) held d = Release (Three (Agg p.0) (Agg p.1) (Agg held)) d
+
+abbrev pub interleave_by : Parts → Option ℕ → Option Place → (begun : ℕ) → Collected → (agg : ℕ) → Step
+interleave_by parts None place begun x agg = step_with (after_parts parts (doing.Writes agg)) begun x
+interleave_by parts (Some held) None begun x agg = step_with (after_all parts held (doing.Writes agg)) begun (without_files x)
+interleave_by parts (Some held) (Some place) begun x agg =
+    step_with (after_parts parts (doing.CuttingPart held agg place.from)) begun x
+
+abbrev pub interleave_on : Parts → (begun : ℕ) → Collected → (agg : ℕ) → Step
+interleave_on parts begun x agg = interleave_by parts x.held (last_place x.places) begun x agg
 
 abbrev pub told_made : Collected → (begun : ℕ) → Reply → Option Step
-told_made x begun (reply.Agg agg) = Some (interleave_on begun (without_text x) agg)
+told_made x begun (reply.Agg agg) = Some (interleave_on None begun (without_text x) agg)
 told_made x begun r = None
 
 abbrev pub told_begun : Task → Collected → (begun : ℕ) → Reply → Option Step
@@ -153,76 +168,74 @@ told_parted x agg begun r = None
 
 -- after they were inserted into the text
 abbrev pub told_replaced : Collected → (agg part begun : ℕ) → Reply → Option Step
-told_replaced x agg part begun (reply.Agg made) = at (doing.DroppingText agg part made) begun (without_last x)
+told_replaced x agg part begun (reply.Agg made) = Some (interleave_on (Some (agg, part)) begun (without_last x) made)
 told_replaced x agg part begun r = None
 
 abbrev pub told_cut : Collected → (agg begun : ℕ) → Reply → Option Step
-told_cut x agg begun (reply.Agg rest) = at (doing.Swaps agg rest) begun x
+told_cut x agg begun (reply.Agg rest) = after (One (Agg agg)) (doing.Writes rest) begun x
 told_cut x agg begun r = None
 
--- after taken of to bytes were taken
-abbrev pub taken_of : (agg taken to : ℕ) → Doing
-taken_of agg taken to = if taken == to then doing.Drops agg else doing.Cuts agg taken to
-
-abbrev pub told_written : Collected → (agg len begun : ℕ) → Reply → Option Step
-told_written x agg len begun (reply.Count taken) = at (taken_of agg taken len) begun x
-told_written x agg len begun (reply.Refused BrokenPipe) = at (doing.Breaks agg) begun x
-told_written x agg len begun r = None
-
 -- after all of an aggregate is written: the file that is too long is written, or the script continues
-abbrev pub told_dropped : Collected → Option ℕ → (begun : ℕ) → Option Step
-told_dropped x (Some agg) begun = at (doing.Writes agg) begun (without_next x)
-told_dropped x None begun = at doing.Runs begun x
+abbrev pub written : Collected → Option ℕ → (agg begun : ℕ) → Option Step
+written x (Some next) agg begun = after (One (Agg agg)) (doing.Writes next) begun (without_next x)
+written x None agg begun = after (One (Agg agg)) doing.Runs begun x
 
 -- without reader, the rest is dropped, and the script ends
-abbrev pub told_broken : Task → Collected → Option ℕ → (begun : ℕ) → Option Step
-told_broken job x (Some agg) begun = at (doing.Breaks agg) begun (without_next x)
-told_broken job x None begun = at doing.Runs (length job.lines) x
+abbrev pub broken : Collected → Option ℕ → (agg begun : ℕ) → Option Step
+broken x (Some next) agg begun = after (Two (Agg agg) (Agg next)) doing.Ends begun (without_next x)
+broken x None agg begun = after (One (Agg agg)) doing.Ends begun x
 
--- a file of len bytes is closed, and its bytes are buffered after from bytes
-abbrev pub file_collected : Collected → Option ℕ → (from agg len begun : ℕ) → Option Step
-file_collected x None from agg len begun = at doing.Runs begun (with_file x agg 0 len)
-file_collected x (Some held) from agg len begun = at (doing.JoiningFile held agg from len) begun x
+-- after taken of len bytes were taken
+abbrev pub told_written : Collected → (agg len begun : ℕ) → Reply → Option Step
+told_written x agg len begun (reply.Count taken) =
+    if taken == len then written x x.next agg begun else at (doing.Cuts agg taken len) begun x
+told_written x agg len begun (reply.Refused BrokenPipe) = broken x x.next agg begun
+told_written x agg len begun r = None
+
+-- A file of len bytes was read, which is to be closed. Its bytes are buffered after from bytes.
+abbrev pub file_collected : (file : ℕ) → Collected → Option ℕ → (from agg len begun : ℕ) → Option Step
+file_collected file x None from agg len begun = after (One (File file)) doing.Runs begun (with_file x agg 0 len)
+file_collected file x (Some held) from agg len begun =
+    after (One (File file)) (doing.JoiningFile held agg from len) begun x
 
 -- the same, or it is too long, and is written by itself
-abbrev pub shut_by : Collected → (from agg len begun : ℕ) → Option Step
-shut_by x from agg len begun =
-    if nat_le len MAX_COLLECTED_BYTES then file_collected x x.held from agg len begun
-    else (if is_nothing x then at (doing.Writes agg) begun x else at doing.Runs begun (with_next x agg))
+abbrev pub cat_read : (file : ℕ) → Collected → (from agg len begun : ℕ) → Option Step
+cat_read file x from agg len begun =
+    if nat_le len MAX_COLLECTED_BYTES then file_collected file x x.held from agg len begun
+    else (if is_nothing x then after (One (File file)) (doing.Writes agg) begun x
+    else after (One (File file)) doing.Runs begun (with_next x agg))
+
+-- the result of a line is buffered, and these are released
+abbrev pub said_collected : Objects → Collected → Said → (begun : ℕ) → Option Step
+said_collected os x s begun = after os doing.Runs begun (with_text x (said_text s))
 
 module _ (lent : ℕ → Option (List ℕ)) where
-  -- after bytes were read
-  abbrev pub got : (file agg : ℕ) → Purpose → Doing
-  got file agg purpose.Cat = doing.Shuts file agg
-  got file agg purpose.Wc = doing.Counted file agg (said.Counted (counts_of (bytes_at lent agg)))
+  abbrev pub got : Collected → (file agg : ℕ) → Purpose → (begun : ℕ) → Option Step
+  got x file agg purpose.Cat begun =
+      cat_read file x (length (bytes_of_one lent x.held)) agg (length (bytes_at lent agg)) begun
+  got x file agg purpose.Wc begun =
+      said_collected (Two (Agg agg) (File file)) x (said.Counted (counts_of (bytes_at lent agg))) begun
 
   abbrev pub told_read : Collected → (file : ℕ) → Purpose → (begun : ℕ) → Reply → Option Step
-  told_read x file p begun (reply.Agg agg) = at (got file agg p) begun x
-  told_read x file p begun (reply.Refused why) = at (doing.ShutsToSay file (said.Refused why)) begun x
+  told_read x file p begun (reply.Agg agg) = got x file agg p begun
+  told_read x file p begun (reply.Refused why) = said_collected (One (File file)) x (said.Refused why) begun
   told_read x file p begun r = None
-
-  -- after a file is closed
-  abbrev pub told_shut : Collected → (agg begun : ℕ) → Option Step
-  told_shut x agg begun = shut_by x (length (bytes_of_one lent x.held)) agg (length (bytes_at lent agg)) begun
 
   abbrev pub told_doing : Task → Collected → (begun : ℕ) → Doing → Reply → Option Step
   told_doing job x begun doing.Waits r = None
   told_doing job x begun doing.Runs r = told_begun job x begun r
   told_doing job x begun (doing.Reads file p) r = told_read x file p begun r
-  told_doing job x begun (doing.Shuts file agg) r = told_shut x agg begun
-  told_doing job x begun (doing.ShutsToSay file s) r = said_collected begun x s
   told_doing job x begun (doing.JoiningFile held agg from len) r = told_joined x from len begun r
   told_doing job x begun (doing.CuttingPart held agg from) r = told_parted x agg begun r
   told_doing job x begun (doing.ReplacingPart agg part place) r = told_replaced x agg part begun r
-  told_doing job x begun (doing.DroppingText agg part made) r = at (doing.DroppingPart part made) begun x
-  told_doing job x begun (doing.DroppingPart part made) r = Some (interleave_on begun x made)
   told_doing job x begun (doing.Writes agg) r = told_written x agg (length (bytes_at lent agg)) begun r
   told_doing job x begun (doing.Cuts agg from to) r = told_cut x agg begun r
-  told_doing job x begun (doing.Skips agg) r = at doing.Waits begun x
-  told_doing job x begun (doing.Counted file agg s) r = at (doing.ShutsToSay file s) begun x
-  told_doing job x begun (doing.Swaps agg rest) r = at (doing.Writes rest) begun x
-  told_doing job x begun (doing.Drops agg) r = told_dropped x x.next begun
-  told_doing job x begun (doing.Breaks agg) r = told_broken job x x.next begun
+  told_doing job x begun doing.Ends r = told_begun job x (length job.lines) r
+
+  -- whatever the reply to a drop or a close
+  abbrev pub told_phase : Task → Collected → (begun : ℕ) → Phase → Reply → Option Step
+  told_phase job x begun (Release os d) r = Some (step_with (after_first os d) begun x)
+  told_phase job x begun (At d) r = told_doing job x begun d r
 
 abbrev pub told : Task → Step → (ℕ → Option (List ℕ)) → Reply → Option Step
-told job step lent r = told_doing lent job step.piece step.begun step.doing r
+told job step lent r = told_phase lent job step.piece step.begun step.phase r

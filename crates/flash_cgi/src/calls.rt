@@ -1,11 +1,12 @@
 //! The calls that a worker makes.
 ghost use Rattle.std.specs.Prelude.{◌≡◌, true, IfOk, OnErr};
-ghost use Rattle.flash_cgi.specs.Wants.{doing_has_bytes, line_has_bytes, begins_with_bytes};
+ghost use Rattle.flash_cgi.specs.Release as release;
+ghost use Rattle.flash_cgi.specs.Wants.{doing_has_bytes, line_has_bytes, begins_with_bytes, phase_has_bytes};
 ghost use Rattle.flash_cgi.specs.WorkerSteps as spec;
 
 use crate::jobs::Job;
 use crate::line::Line;
-use crate::phase::Doing;
+use crate::phase::{Doing, Object, Objects, Phase};
 use crate::piece::Piece;
 use iol_core::descriptors::Mode;
 use iol_core::events::Call;
@@ -81,8 +82,8 @@ fn begin_call(alloc: Global, job: &Job, piece: &Piece, begun: usize) -> Result<C
     }
 }
 
-/// The call of a phase, given the buffered output.
-pub(crate) fn call_of(
+// A call, given the buffered output.
+fn doing_call(
     alloc: Global,
     job: &Job,
     piece: &Piece,
@@ -103,8 +104,6 @@ pub(crate) fn call_of(
             fd: file,
             count: MAX_FILE_BYTES,
         }),
-        Doing::Shuts { file, .. } => Ok(Call::Close { fd: file }),
-        Doing::ShutsToSay { file, .. } => Ok(Call::Close { fd: file }),
         Doing::JoiningFile { held, agg, .. } => Ok(Call::AggJoin {
             first: held,
             second: agg,
@@ -119,14 +118,40 @@ pub(crate) fn call_of(
             to: at,
             with: part,
         }),
-        Doing::DroppingText { agg, .. } => Ok(Call::AggDrop { agg }),
-        Doing::DroppingPart { part, .. } => Ok(Call::AggDrop { agg: part }),
         Doing::Writes { agg } => Ok(Call::IolWrite { fd: job.fd, agg }),
         Doing::Cuts { agg, from, to } => Ok(Call::AggCut { agg, from, to }),
-        Doing::Skips { agg } => Ok(Call::AggDrop { agg }),
-        Doing::Counted { agg, .. } => Ok(Call::AggDrop { agg }),
-        Doing::Swaps { agg, .. } => Ok(Call::AggDrop { agg }),
-        Doing::Drops { agg } => Ok(Call::AggDrop { agg }),
-        Doing::Breaks { agg } => Ok(Call::AggDrop { agg }),
+        Doing::Ends => begin_call(alloc, job, piece, job.script.lines.len()),
+    }
+}
+
+// The call that releases the first of these.
+fn release_call(what: &Objects) -> Call
+    ensures { result ≡ release.release_call (release.first what.now) }
+{
+    let first = match *what {
+        Objects::One(first) => first,
+        Objects::Two(first, _) => first,
+        Objects::Three(first, _, _) => first,
+    };
+    match first {
+        Object::Agg { agg } => Call::AggDrop { agg },
+        Object::File { file } => Call::Close { fd: file },
+    }
+}
+
+/// The call of a phase, given the buffered output.
+pub(crate) fn call_of(
+    alloc: Global,
+    job: &Job,
+    piece: &Piece,
+    begun: usize,
+    phase: &Phase,
+) -> Result<Call, AllocError>
+    ensures call { IfOk result (λ call. call ≡ spec.phase_call job.now piece.now begun phase.now) }
+    ensures wants { OnErr result (phase_has_bytes job.now piece.now begun phase.now ≡ true) }
+{
+    match phase {
+        Phase::Release { what, .. } => Ok(release_call(what)),
+        Phase::At { doing } => doing_call(alloc, job, piece, begun, doing),
     }
 }

@@ -1,5 +1,4 @@
 //! The state of a worker within a script.
-use crate::counts::Said;
 use crate::piece::Piece;
 use iol_core::numbers::{AggId, Fd};
 
@@ -10,16 +9,11 @@ pub enum Purpose {
     Wc,
 }
 
-/// The phase of a worker: its next call and the purpose of this call.
+/// A call of a worker, and the purpose of this call.
 #[derive(Clone, Copy, Debug)]
 pub enum Doing {
     /// Waits for a job.
     Waits,
-
-    /// Drops the aggregate of a text that is no job.
-    Skips {
-        agg: AggId,
-    },
 
     /// Makes an aggregate of the buffered text, if it is due. Otherwise begins the next line, or
     /// closes the output after the last line.
@@ -29,25 +23,6 @@ pub enum Doing {
     Reads {
         file: Fd,
         purpose: Purpose,
-    },
-
-    /// Drops the bytes of a file, after they were counted.
-    Counted {
-        file: Fd,
-        agg: AggId,
-        said: Said,
-    },
-
-    /// Closes a file whose bytes were read.
-    Shuts {
-        file: Fd,
-        agg: AggId,
-    },
-
-    /// Closes a file, with this result of its `wc` line.
-    ShutsToSay {
-        file: Fd,
-        said: Said,
     },
 
     /// Joins `len` bytes of a file to the `from` bytes of earlier files.
@@ -72,19 +47,6 @@ pub enum Doing {
         at: u32,
     },
 
-    /// Drops the text without the inserted bytes.
-    DroppingText {
-        agg: AggId,
-        part: AggId,
-        made: AggId,
-    },
-
-    /// Drops the bytes that were cut off.
-    DroppingPart {
-        part: AggId,
-        made: AggId,
-    },
-
     /// Writes an aggregate.
     Writes {
         agg: AggId,
@@ -97,27 +59,41 @@ pub enum Doing {
         to: u32,
     },
 
-    /// Drops an aggregate after its rest was cut off, to be written.
-    Swaps {
-        agg: AggId,
-        rest: AggId,
-    },
+    /// Ends the script, whose output has no reader: closes the output. Makes an aggregate of the
+    /// buffered text first, if there is any.
+    Ends,
+}
 
-    /// Drops an aggregate, and continues the script.
-    Drops {
-        agg: AggId,
-    },
+/// An object that a worker releases.
+#[derive(Clone, Copy, Debug)]
+pub enum Object {
+    /// An aggregate, which is dropped.
+    Agg { agg: AggId },
 
-    /// Drops an aggregate without a reader, and ends the script.
-    Breaks {
-        agg: AggId,
-    },
+    /// A file, which is closed.
+    File { file: Fd },
+}
+
+/// Objects that are released in order.
+#[derive(Clone, Copy, Debug)]
+pub enum Objects {
+    One(Object),
+    Two(Object, Object),
+    Three(Object, Object, Object),
+}
+
+/// The phase of a worker: its next call. Objects that it needs no longer are released first, by a
+/// call each.
+#[derive(Clone, Copy, Debug)]
+pub enum Phase {
+    Release { what: Objects, then: Doing },
+    At { doing: Doing },
 }
 
 /// The phase of a worker, the number of lines that it has begun, and its buffered output.
 #[derive(Debug, Drop)]
 pub struct Step {
-    pub doing: Doing,
+    pub phase: Phase,
     pub begun: usize,
     pub piece: Piece,
 }

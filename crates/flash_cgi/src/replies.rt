@@ -1,9 +1,10 @@
 //! The step of a worker after the reply to its call.
-ghost use Rattle.std.specs.Prelude.{◌≡◌, IfOk, OnErr, Some, None, is_some, length, true};
+ghost use Rattle.std.specs.Prelude.{◌≡◌, IfOk, OnErr, None, Some, length, is_some, true};
 ghost use Rattle.iol_proc.specs.Prelude.{lent};
-ghost use Rattle.flash_cgi.specs.Collecting.{bytes_of_one, with_line};
-ghost use Rattle.flash_cgi.specs.Reached.{after_of, cut_after, reached, read_after, written_after};
-ghost use Rattle.flash_cgi.specs.Wants.{may_copy};
+ghost use Rattle.flash_cgi.specs.Collecting.{Collected, bytes_of_one, with_line};
+ghost use Rattle.flash_cgi.specs.Reached.{after_of, reached};
+ghost use Rattle.flash_cgi.specs.Release.{after_first};
+ghost use Rattle.flash_cgi.specs.Wants.{may_copy, phase_may_copy};
 ghost use Rattle.flash_cgi.specs.WorkerSteps as spec;
 ghost use Rattle.flash_cgi.specs.declared.phase.Doing.TheVariants as doing;
 
@@ -12,7 +13,7 @@ use crate::counts::Said;
 use crate::feeds::{counts, len_of};
 use crate::jobs::Job;
 use crate::line::Line;
-use crate::phase::{Doing, Purpose, Step};
+use crate::phase::{Doing, Object, Objects, Phase, Purpose, Step};
 use crate::piece::{MAX_COLLECTED_BYTES, Piece, Place};
 use iol_core::events::Reply;
 use iol_core::numbers::{AggId, Fd};
@@ -24,7 +25,7 @@ use std::alloc::{AllocError, Global};
 /// changes.
 #[derive(Drop)]
 pub(crate) struct After {
-    pub doing: Doing,
+    pub phase: Phase,
     pub begun: usize,
     pub piece: Option<Piece>,
 }
@@ -33,34 +34,25 @@ pub(crate) struct After {
 type Told = Result<Option<After>, AllocError>;
 
 // A step with unchanged buffered output.
-fn at(doing: Doing, begun: usize) -> Option<After>
-    ensures { result ≡ after_of doing begun None }
+fn at(phase: Phase, begun: usize) -> Option<After>
+    ensures { result ≡ after_of phase begun None }
 {
     Some(After {
-        doing,
+        phase,
         begun,
         piece: None,
     })
 }
 
 // A step with this buffered output.
-fn with(doing: Doing, begun: usize, piece: Piece) -> Option<After>
-    ensures { result ≡ after_of doing begun (Some piece) }
+fn with(phase: Phase, begun: usize, piece: Piece) -> Option<After>
+    ensures { result ≡ after_of phase begun (Some piece) }
 {
     Some(After {
-        doing,
+        phase,
         begun,
         piece: Some(piece),
     })
-}
-
-// Buffers the result of a `wc` line.
-fn collect_said(alloc: Global, piece: &Piece, said: Said, begun: usize) -> Told
-    ensures { IfOk result (λ after. reached piece.now after ≡ spec.said_collected begun piece.now said) }
-{
-    let text = said.text(alloc)?;
-    let piece = piece.with_text(alloc, text.as_slice())?;
-    Ok(with(Doing::Runs, begun, piece))
 }
 
 // After opening a file, or its refusal.
@@ -68,14 +60,19 @@ fn told_opened(alloc: Global, piece: &Piece, purpose: Purpose, begun: usize, las
     ensures { IfOk result (λ after. reached piece.now after ≡ spec.told_opened piece.now purpose begun last.now) }
 {
     match last {
-        Reply::Fd(file) => Ok(at(
-            Doing::Reads {
+        Reply::Fd(file) => {
+            let doing = Doing::Reads {
                 file: *file,
                 purpose,
-            },
-            begun,
-        )),
-        Reply::Refused(refusal) => collect_said(alloc, piece, Said::Refused(*refusal), begun),
+            };
+            Ok(at(Phase::At { doing }, begun))
+        }
+        Reply::Refused(refusal) => {
+            let text = Said::Refused(*refusal).text(alloc)?;
+            let piece = piece.with_text(alloc, text.as_slice())?;
+            let doing = Doing::Runs;
+            Ok(with(Phase::At { doing }, begun, piece))
+        }
         _ => Ok(None),
     }
 }
@@ -85,7 +82,8 @@ fn collect_line(alloc: Global, piece: &Piece, text: &[u8], begun: usize) -> Told
     ensures { IfOk result (λ after. reached piece.now after ≡ spec.at doing.Runs begun (with_line piece.now text.now)) }
 {
     let piece = piece.with_line(alloc, text)?;
-    Ok(with(Doing::Runs, begun, piece))
+    let doing = Doing::Runs;
+    Ok(with(Phase::At { doing }, begun, piece))
 }
 
 // After the call that begins a line; `begun` includes this line.
@@ -104,19 +102,60 @@ fn told_line(
         Line::Query => collect_line(alloc, piece, job.query.as_slice(), begun),
         Line::Cat { .. } => told_opened(alloc, piece, Purpose::Cat, begun, last),
         Line::Wc { .. } => told_opened(alloc, piece, Purpose::Wc, begun, last),
-        Line::Pause => Ok(at(Doing::Runs, begun)),
+        Line::Pause => {
+            let doing = Doing::Runs;
+            Ok(at(Phase::At { doing }, begun))
+        }
     }
 }
 
+/// The text and the part of which an aggregate was made.
+type Parts = Option<(AggId, AggId)>;
+
+// Begins a call once the parts are released, if there are any.
+fn after_parts(parts: Parts, doing: Doing) -> Phase
+    ensures { result ≡ spec.after_parts parts doing }
+{
+    match parts {
+        None => Phase::At { doing },
+        Some((text, part)) => Phase::Release {
+            what: Objects::Two(Object::Agg { agg: text }, Object::Agg { agg: part }),
+            then: doing,
+        },
+    }
+}
+
+// Begins a call once the parts and the bytes of files are released.
+fn after_all(parts: Parts, held: AggId, doing: Doing) -> Phase
+    ensures { result ≡ spec.after_all parts held doing }
+{
+    let files = Object::Agg { agg: held };
+    let what = match parts {
+        None => Objects::One(files),
+        Some((text, part)) => Objects::Three(
+            Object::Agg { agg: text },
+            Object::Agg { agg: part },
+            files,
+        ),
+    };
+    Phase::Release { what, then: doing }
+}
+
 // After an aggregate of the buffered text was made: inserts the bytes of the last file, or all are
-// inserted.
-fn interleave(alloc: Global, piece: Piece, agg: AggId, begun: usize) -> Result<Step, AllocError>
-    ensures { IfOk result (λ step. step ≡ spec.interleave_on begun piece agg) }
+// inserted. The parts of which it was made are released first.
+fn interleave(
+    alloc: Global,
+    parts: Parts,
+    piece: Piece,
+    agg: AggId,
+    begun: usize,
+) -> Result<Step, AllocError>
+    ensures { IfOk result (λ step. step ≡ spec.interleave_on parts begun piece agg) }
 {
     let Some(held) = piece.held else {
-        let doing = Doing::Writes { agg };
+        let phase = after_parts(parts, Doing::Writes { agg });
         return Ok(Step {
-            doing,
+            phase,
             begun,
             piece,
         });
@@ -124,21 +163,18 @@ fn interleave(alloc: Global, piece: Piece, agg: AggId, begun: usize) -> Result<S
     match piece.last() {
         None => {
             let piece = piece.without_files(alloc)?;
-            let doing = Doing::Swaps {
-                agg: held,
-                rest: agg,
-            };
+            let phase = after_all(parts, held, Doing::Writes { agg });
             Ok(Step {
-                doing,
+                phase,
                 begun,
                 piece,
             })
         }
         Some(place) => {
             let from = place.from;
-            let doing = Doing::CuttingPart { held, agg, from };
+            let phase = after_parts(parts, Doing::CuttingPart { held, agg, from });
             Ok(Step {
-                doing,
+                phase,
                 begun,
                 piece,
             })
@@ -153,8 +189,8 @@ fn told_made(alloc: Global, piece: &Piece, begun: usize, last: &Reply) -> Told
     match last {
         Reply::Agg(agg) => {
             let piece = piece.without_text(alloc)?;
-            let step = interleave(alloc, piece, *agg, begun)?;
-            Ok(with(step.doing, step.begun, step.piece))
+            let step = interleave(alloc, None, piece, *agg, begun)?;
+            Ok(with(step.phase, step.begun, step.piece))
         }
         _ => Ok(None),
     }
@@ -170,65 +206,41 @@ fn told_begun(alloc: Global, job: &Job, piece: &Piece, begun: usize, last: &Repl
     }
     match job.script.lines.get(begun) {
         Some(line) => told_line(alloc, job, piece, line, begun + 1, last),
-        None => Ok(at(Doing::Waits, 0)),
+        None => {
+            let doing = Doing::Waits;
+            Ok(at(Phase::At { doing }, 0))
+        }
     }
 }
 
-// The phase after reading the bytes of a file.
-fn got(file: Fd, agg: AggId, purpose: Purpose, look: &Look<'_>) -> Doing
-    ensures { result ≡ spec.got (lent look.now) file agg purpose }
-{
-    match purpose {
-        Purpose::Cat => Doing::Shuts { file, agg },
-        Purpose::Wc => Doing::Counted {
-            file,
-            agg,
-            said: Said::Counted(counts(look, agg)),
-        },
-    }
-}
-
-// After reading a file, or its refusal.
-fn told_read(
+// Buffers `len` bytes of a file after the `from` bytes of the earlier files, once it is closed.
+fn collect_file(
+    alloc: Global,
     file: Fd,
-    purpose: Purpose,
+    piece: &Piece,
+    from: u32,
+    agg: AggId,
+    len: u32,
     begun: usize,
-    last: &Reply,
-    look: &Look<'_>,
-) -> Option<After>
-    ensures { result ≡ read_after (lent look.now) file purpose begun last.now }
-{
-    match last {
-        Reply::Agg(agg) => at(got(file, *agg, purpose, look), begun),
-        Reply::Refused(refusal) => at(
-            Doing::ShutsToSay {
-                file,
-                said: Said::Refused(*refusal),
-            },
-            begun,
-        ),
-        _ => None,
-    }
-}
-
-// Buffers `len` bytes of a file, which is closed, after the `from` bytes of the earlier files.
-fn collect_file(alloc: Global, piece: &Piece, from: u32, agg: AggId, len: u32, begun: usize) -> Told
+) -> Told
     ensures { IfOk result
-        (λ after. reached piece.now after ≡ spec.file_collected piece.now piece.now.held from agg len begun) }
+        (λ after. reached piece.now after ≡ spec.file_collected file piece.now piece.now.held from agg len begun) }
 {
+    let what = Objects::One(Object::File { file });
     match piece.held {
-        Some(held) => Ok(at(
-            Doing::JoiningFile {
+        Some(held) => {
+            let then = Doing::JoiningFile {
                 held,
                 agg,
                 from,
                 len,
-            },
-            begun,
-        )),
+            };
+            Ok(at(Phase::Release { what, then }, begun))
+        }
         None => {
             let piece = piece.with_file(alloc, agg, 0, len)?;
-            Ok(with(Doing::Runs, begun, piece))
+            let then = Doing::Runs;
+            Ok(with(Phase::Release { what, then }, begun, piece))
         }
     }
 }
@@ -243,19 +255,90 @@ fn held_bytes(piece: &Piece, look: &Look<'_>) -> u32
     }
 }
 
-// After closing a file: buffers its bytes, or writes them by themselves after the buffered output.
-fn told_shut(alloc: Global, piece: &Piece, agg: AggId, begun: usize, look: &Look<'_>) -> Told
-    ensures { IfOk result (λ after. reached piece.now after ≡ spec.told_shut (lent look.now) piece.now agg begun) }
+// After reading the bytes of a file that are output: buffers them, or writes them by themselves
+// after the buffered output. The file is closed first.
+fn cat_read(
+    alloc: Global,
+    file: Fd,
+    piece: &Piece,
+    from: u32,
+    agg: AggId,
+    len: u32,
+    begun: usize,
+) -> Told
+    ensures { IfOk result (λ after. reached piece.now after ≡ spec.cat_read file piece.now from agg len begun) }
 {
-    let len = len_of(look, agg);
     if len as usize <= MAX_COLLECTED_BYTES {
-        return collect_file(alloc, piece, held_bytes(piece, look), agg, len, begun);
+        return collect_file(alloc, file, piece, from, agg, len, begun);
     }
+    let what = Objects::One(Object::File { file });
     if piece.is_nothing() {
-        return Ok(at(Doing::Writes { agg }, begun));
+        let then = Doing::Writes { agg };
+        return Ok(at(Phase::Release { what, then }, begun));
     }
     let piece = piece.with_next(alloc, agg)?;
-    Ok(with(Doing::Runs, begun, piece))
+    let then = Doing::Runs;
+    Ok(with(Phase::Release { what, then }, begun, piece))
+}
+
+// Buffers the result of a `wc` line, and then releases these objects.
+fn collect_said(alloc: Global, what: Objects, piece: &Piece, said: Said, begun: usize) -> Told
+    ensures { IfOk result
+        (λ after. reached piece.now after ≡ spec.said_collected what piece.now said begun) }
+{
+    let text = said.text(alloc)?;
+    let piece = piece.with_text(alloc, text.as_slice())?;
+    let then = Doing::Runs;
+    Ok(with(Phase::Release { what, then }, begun, piece))
+}
+
+// After reading the bytes of a file.
+fn got(
+    alloc: Global,
+    piece: &Piece,
+    file: Fd,
+    agg: AggId,
+    purpose: Purpose,
+    begun: usize,
+    look: &Look<'_>,
+) -> Told
+    ensures { IfOk result
+        (λ after. reached piece.now after ≡ spec.got (lent look.now) piece.now file agg purpose begun) }
+{
+    match purpose {
+        Purpose::Cat => {
+            let (from, len) = (held_bytes(piece, look), len_of(look, agg));
+            cat_read(alloc, file, piece, from, agg, len, begun)
+        }
+        Purpose::Wc => {
+            let what = Objects::Two(Object::Agg { agg }, Object::File { file });
+            let said = Said::Counted(counts(look, agg));
+            collect_said(alloc, what, piece, said, begun)
+        }
+    }
+}
+
+// After reading a file, or its refusal.
+fn told_read(
+    alloc: Global,
+    piece: &Piece,
+    file: Fd,
+    purpose: Purpose,
+    begun: usize,
+    last: &Reply,
+    look: &Look<'_>,
+) -> Told
+    ensures { IfOk result
+        (λ after. reached piece.now after ≡ spec.told_read (lent look.now) piece.now file purpose begun last.now) }
+{
+    match last {
+        Reply::Agg(agg) => got(alloc, piece, file, *agg, purpose, begun, look),
+        Reply::Refused(refusal) => {
+            let what = Objects::One(Object::File { file });
+            collect_said(alloc, what, piece, Said::Refused(*refusal), begun)
+        }
+        _ => Ok(None),
+    }
 }
 
 // After joining the bytes of a file to those of the earlier files.
@@ -272,7 +355,8 @@ fn told_joined(
     match last {
         Reply::Agg(held) => {
             let piece = piece.with_file(alloc, *held, from, len)?;
-            Ok(with(Doing::Runs, begun, piece))
+            let doing = Doing::Runs;
+            Ok(with(Phase::At { doing }, begun, piece))
         }
         _ => Ok(None),
     }
@@ -296,13 +380,14 @@ fn told_parted(alloc: Global, piece: &Piece, agg: AggId, begun: usize, last: &Re
             let at = place_at(piece.last());
             let piece = piece.with_held(alloc, *held)?;
             let part = *part;
-            Ok(with(Doing::ReplacingPart { agg, part, at }, begun, piece))
+            let doing = Doing::ReplacingPart { agg, part, at };
+            Ok(with(Phase::At { doing }, begun, piece))
         }
         _ => Ok(None),
     }
 }
 
-// After inserting them.
+// After inserting them: releases the text and the part, and inserts the bytes of the file before.
 fn told_replaced(
     alloc: Global,
     piece: &Piece,
@@ -316,88 +401,97 @@ fn told_replaced(
     match last {
         Reply::Agg(made) => {
             let piece = piece.without_last(alloc)?;
-            let made = *made;
-            Ok(with(Doing::DroppingText { agg, part, made }, begun, piece))
+            let step = interleave(alloc, Some((agg, part)), piece, *made, begun)?;
+            Ok(with(step.phase, step.begun, step.piece))
         }
         _ => Ok(None),
     }
 }
 
-// After dropping the bytes that were cut off: inserts the bytes of the file before.
-fn told_part_dropped(alloc: Global, piece: &Piece, made: AggId, begun: usize) -> Told
-    ensures { IfOk result (λ after. reached piece.now after ≡ Some (spec.interleave_on begun piece.now made)) }
+// After writing all of an aggregate: writes the file that is too long, or continues the script.
+fn written(alloc: Global, piece: &Piece, agg: AggId, begun: usize) -> Told
+    ensures after { IfOk result (λ after. reached piece.now after ≡ spec.written piece.now piece.now.next agg begun) }
+    ensures wants { OnErr result (is_some piece.now.next ≡ true) }
 {
-    let piece = piece.copy(alloc)?;
-    let step = interleave(alloc, piece, made, begun)?;
-    Ok(with(step.doing, step.begun, step.piece))
+    let what = Objects::One(Object::Agg { agg });
+    match piece.next {
+        Some(next) => {
+            let piece = piece.without_next(alloc)?;
+            let then = Doing::Writes { agg: next };
+            Ok(with(Phase::Release { what, then }, begun, piece))
+        }
+        None => {
+            let then = Doing::Runs;
+            Ok(at(Phase::Release { what, then }, begun))
+        }
+    }
 }
 
-// The phase after `taken` of an aggregate's bytes were taken.
-fn taken_of(agg: AggId, taken: u32, to: u32) -> Doing
-    ensures { result ≡ spec.taken_of agg taken to }
+// After a write without reader: drops the rest, and ends the script.
+fn broken(alloc: Global, piece: &Piece, agg: AggId, begun: usize) -> Told
+    ensures after { IfOk result (λ after. reached piece.now after ≡ spec.broken piece.now piece.now.next agg begun) }
+    ensures wants { OnErr result (is_some piece.now.next ≡ true) }
 {
-    if taken == to {
-        Doing::Drops { agg }
-    } else {
-        Doing::Cuts {
-            agg,
-            from: taken,
-            to,
+    let then = Doing::Ends;
+    match piece.next {
+        Some(next) => {
+            let piece = piece.without_next(alloc)?;
+            let what = Objects::Two(Object::Agg { agg }, Object::Agg { agg: next });
+            Ok(with(Phase::Release { what, then }, begun, piece))
+        }
+        None => {
+            let what = Objects::One(Object::Agg { agg });
+            Ok(at(Phase::Release { what, then }, begun))
         }
     }
 }
 
 // After writing an aggregate of `len` bytes, or a refusal because there is no reader.
-fn told_written(agg: AggId, len: u32, begun: usize, last: &Reply) -> Option<After>
-    ensures { result ≡ written_after agg len begun last.now }
+fn told_written(
+    alloc: Global,
+    piece: &Piece,
+    agg: AggId,
+    len: u32,
+    begun: usize,
+    last: &Reply,
+) -> Told
+    ensures after { IfOk result
+        (λ after. reached piece.now after ≡ spec.told_written piece.now agg len begun last.now) }
+    ensures wants { OnErr result (is_some piece.now.next ≡ true) }
 {
     match last {
-        Reply::Count(taken) => at(taken_of(agg, *taken, len), begun),
-        Reply::Refused(Refusal::BrokenPipe) => at(Doing::Breaks { agg }, begun),
-        _ => None,
+        Reply::Count(taken) => {
+            if *taken == len {
+                return written(alloc, piece, agg, begun);
+            }
+            let doing = Doing::Cuts {
+                agg,
+                from: *taken,
+                to: len,
+            };
+            Ok(at(Phase::At { doing }, begun))
+        }
+        Reply::Refused(Refusal::BrokenPipe) => broken(alloc, piece, agg, begun),
+        _ => Ok(None),
     }
 }
 
 // After cutting off the rest of an aggregate.
 fn told_cut(agg: AggId, begun: usize, last: &Reply) -> Option<After>
-    ensures { result ≡ cut_after agg begun last.now }
+    ensures { (piece : Collected) → reached piece result ≡ spec.told_cut piece agg begun last.now }
 {
     match last {
-        Reply::Agg(rest) => at(Doing::Swaps { agg, rest: *rest }, begun),
+        Reply::Agg(rest) => {
+            let what = Objects::One(Object::Agg { agg });
+            let then = Doing::Writes { agg: *rest };
+            at(Phase::Release { what, then }, begun)
+        }
         _ => None,
     }
 }
 
-// After writing all of an aggregate: writes the file that is too long, or continues the script.
-fn told_dropped(alloc: Global, piece: &Piece, begun: usize) -> Told
-    ensures after { IfOk result (λ after. reached piece.now after ≡ spec.told_dropped piece.now piece.now.next begun) }
-    ensures wants { OnErr result (is_some piece.now.next ≡ true) }
-{
-    match piece.next {
-        Some(agg) => {
-            let piece = piece.without_next(alloc)?;
-            Ok(with(Doing::Writes { agg }, begun, piece))
-        }
-        None => Ok(at(Doing::Runs, begun)),
-    }
-}
-
-// After a write without reader: drops the rest, and ends the script.
-fn told_broken(alloc: Global, job: &Job, piece: &Piece, begun: usize) -> Told
-    ensures after { IfOk result (λ after. reached piece.now after ≡ spec.told_broken job.now piece.now piece.now.next begun) }
-    ensures wants { OnErr result (is_some piece.now.next ≡ true) }
-{
-    match piece.next {
-        Some(agg) => {
-            let piece = piece.without_next(alloc)?;
-            Ok(with(Doing::Breaks { agg }, begun, piece))
-        }
-        None => Ok(at(Doing::Runs, job.script.lines.len())),
-    }
-}
-
-/// The step after the reply; none if the call is retried.
-pub(crate) fn told(
+// After the reply to a call; none if it is retried.
+fn told_doing(
     alloc: Global,
     job: &Job,
     piece: &Piece,
@@ -410,28 +504,54 @@ pub(crate) fn told(
         (λ after. reached piece.now after ≡ spec.told_doing (lent look.now) job.now piece.now begun doing last.now) }
     ensures wants { OnErr result (may_copy piece.now doing ≡ true) }
 {
-    let next = match doing {
-        Doing::Waits => return Ok(None),
-        Doing::Runs => return told_begun(alloc, job, piece, begun, last),
-        Doing::Reads { file, purpose } => return Ok(told_read(file, purpose, begun, last, look)),
-        Doing::Shuts { agg, .. } => return told_shut(alloc, piece, agg, begun, look),
-        Doing::ShutsToSay { said, .. } => return collect_said(alloc, piece, said, begun),
-        Doing::JoiningFile { from, len, .. } => {
-            return told_joined(alloc, piece, from, len, begun, last);
-        }
-        Doing::CuttingPart { agg, .. } => return told_parted(alloc, piece, agg, begun, last),
+    match doing {
+        Doing::Waits => Ok(None),
+        Doing::Runs => told_begun(alloc, job, piece, begun, last),
+        Doing::Reads { file, purpose } => told_read(alloc, piece, file, purpose, begun, last, look),
+        Doing::JoiningFile { from, len, .. } => told_joined(alloc, piece, from, len, begun, last),
+        Doing::CuttingPart { agg, .. } => told_parted(alloc, piece, agg, begun, last),
         Doing::ReplacingPart { agg, part, .. } => {
-            return told_replaced(alloc, piece, agg, part, begun, last);
+            told_replaced(alloc, piece, agg, part, begun, last)
         }
-        Doing::DroppingPart { made, .. } => return told_part_dropped(alloc, piece, made, begun),
-        Doing::Writes { agg } => return Ok(told_written(agg, len_of(look, agg), begun, last)),
-        Doing::Cuts { agg, .. } => return Ok(told_cut(agg, begun, last)),
-        Doing::Drops { .. } => return told_dropped(alloc, piece, begun),
-        Doing::Breaks { .. } => return told_broken(alloc, job, piece, begun),
-        Doing::Skips { .. } => Doing::Waits,
-        Doing::Counted { file, said, .. } => Doing::ShutsToSay { file, said },
-        Doing::DroppingText { part, made, .. } => Doing::DroppingPart { part, made },
-        Doing::Swaps { rest, .. } => Doing::Writes { agg: rest },
-    };
-    Ok(at(next, begun))
+        Doing::Writes { agg } => told_written(alloc, piece, agg, len_of(look, agg), begun, last),
+        Doing::Cuts { agg, .. } => Ok(told_cut(agg, begun, last)),
+        Doing::Ends => told_begun(alloc, job, piece, job.script.lines.len(), last),
+    }
+}
+
+// The phase once the first object is released.
+fn after_first(what: Objects, then: Doing) -> Phase
+    ensures { result ≡ after_first what then }
+{
+    match what {
+        Objects::One(_) => Phase::At { doing: then },
+        Objects::Two(_, last) => Phase::Release {
+            what: Objects::One(last),
+            then,
+        },
+        Objects::Three(_, next, last) => Phase::Release {
+            what: Objects::Two(next, last),
+            then,
+        },
+    }
+}
+
+/// The step after the reply; none if the call is retried. A drop or a close is not retried.
+pub(crate) fn told(
+    alloc: Global,
+    job: &Job,
+    piece: &Piece,
+    begun: usize,
+    phase: Phase,
+    last: &Reply,
+    look: &Look<'_>,
+) -> Told
+    ensures after { IfOk result
+        (λ after. reached piece.now after ≡ spec.told_phase (lent look.now) job.now piece.now begun phase last.now) }
+    ensures wants { OnErr result (phase_may_copy piece.now phase ≡ true) }
+{
+    match phase {
+        Phase::Release { what, then } => Ok(at(after_first(what, then), begun)),
+        Phase::At { doing } => told_doing(alloc, job, piece, begun, doing, last, look),
+    }
 }

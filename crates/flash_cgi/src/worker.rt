@@ -10,7 +10,7 @@ ghost use Rattle.flash_cgi.specs.Works as account;
 use crate::calls::call_of;
 use crate::feeds::text_of;
 use crate::jobs::Job;
-use crate::phase::{Doing, Standing, Step};
+use crate::phase::{Doing, Object, Objects, Phase, Standing, Step};
 use crate::piece::Piece;
 use crate::replies::{After, told};
 use iol_core::events::{Call, Reply};
@@ -39,7 +39,9 @@ impl Worker {
             alloc,
             job: Job::nothing(alloc),
             step: Step {
-                doing: Doing::Waits,
+                phase: Phase::At {
+                    doing: Doing::Waits,
+                },
                 begun: 0,
                 piece: Piece::nothing(alloc),
             },
@@ -52,31 +54,31 @@ impl Worker {
         ensures { MakesItsCall self.old result self.new }
     {
         let step = &self.step;
-        let call = call_of(self.alloc, &self.job, &step.piece, step.begun, &step.doing)?;
+        let call = call_of(self.alloc, &self.job, &step.piece, step.begun, &step.phase)?;
         self.standing = Standing::Asked;
         Ok(Turn::Make(call))
     }
 
     // Makes the call of a phase, with unchanged buffered output.
-    fn make(&mut self, doing: Doing, begun: usize) -> Result<Turn, AllocError>
-        ensures { StepsOn self.old (Some (step_with doing begun self.old.step.piece)) result self.new }
+    fn make(&mut self, phase: Phase, begun: usize) -> Result<Turn, AllocError>
+        ensures { StepsOn self.old (Some (step_with phase begun self.old.step.piece)) result self.new }
     {
-        let call = call_of(self.alloc, &self.job, &self.step.piece, begun, &doing)?;
-        self.step.doing = doing;
+        let call = call_of(self.alloc, &self.job, &self.step.piece, begun, &phase)?;
+        self.step.phase = phase;
         self.step.begun = begun;
         Ok(Turn::Make(call))
     }
 
     // Makes the call of a phase with this piece as the new buffered output.
-    fn make_with(&mut self, doing: Doing, begun: usize, piece: Piece) -> Result<Turn, AllocError>
-        ensures { StepsOn self.old (Some (step_with doing begun piece)) result self.new }
+    fn make_with(&mut self, phase: Phase, begun: usize, piece: Piece) -> Result<Turn, AllocError>
+        ensures { StepsOn self.old (Some (step_with phase begun piece)) result self.new }
     {
         let step = Step {
-            doing,
+            phase,
             begun,
             piece,
         };
-        let call = call_of(self.alloc, &self.job, &step.piece, step.begun, &step.doing)?;
+        let call = call_of(self.alloc, &self.job, &step.piece, step.begun, &step.phase)?;
         self.step = step;
         Ok(Turn::Make(call))
     }
@@ -86,13 +88,13 @@ impl Worker {
         ensures { StepsOn self.old (Some (reached_by self.old.step.piece after)) result self.new }
     {
         let After {
-            doing,
+            phase,
             begun,
             piece,
         } = after;
         match piece {
-            Some(piece) => self.make_with(doing, begun, piece),
-            None => self.make(doing, begun),
+            Some(piece) => self.make_with(phase, begun, piece),
+            None => self.make(phase, begun),
         }
     }
 
@@ -106,7 +108,7 @@ impl Worker {
             &self.job,
             &step.piece,
             step.begun,
-            step.doing,
+            step.phase,
             last,
             look,
         )? {
@@ -129,16 +131,21 @@ impl Worker {
             self.standing = Standing::Over;
             return Ok(());
         }
+        let what = Objects::One(Object::Agg { agg });
         match Job::read(self.alloc, text)? {
             Some(job) => {
                 self.job = job;
+                let then = Doing::Runs;
                 self.step = Step {
-                    doing: Doing::Drops { agg },
+                    phase: Phase::Release { what, then },
                     begun: 0,
                     piece: Piece::nothing(self.alloc),
                 };
             }
-            None => self.step.doing = Doing::Skips { agg },
+            None => {
+                let then = Doing::Waits;
+                self.step.phase = Phase::Release { what, then };
+            }
         }
         Ok(())
     }
@@ -156,9 +163,9 @@ impl Worker {
     fn file(&mut self, last: &Reply, look: &Look<'_>) -> Result<Turn, AllocError>
         ensures { FilesReply self.old last.now (lent look.now) result self.new }
     {
-        let doing = self.step.doing;
-        match (doing, last) {
-            (Doing::Waits, Reply::Agg(agg)) => self.take(*agg, look),
+        let phase = self.step.phase;
+        match (phase, last) {
+            (Phase::At { doing: Doing::Waits }, Reply::Agg(agg)) => self.take(*agg, look),
             _ => self.go_on(last, look),
         }
     }
