@@ -26,7 +26,7 @@ use Rattle.flash_cgi.specs.declared.phase.Phase.TheVariants.{Release, At}
 use Rattle.flash_cgi.specs.declared.piece.Place.{Place}
 use Rattle.flash_cgi.proofs.Interleaving.{LendsStill, gathers_still, piece_kept, text_kept}
 
-self : (a : ℕ) → (a == a) ≡ true
+pub self : (a : ℕ) → (a == a) ≡ true
 self a = grind (arith, nat_tests)
 
 pub in_first : (b c : Bool) → b ≡ true → (b || c) ≡ true

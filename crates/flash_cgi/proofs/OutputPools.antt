@@ -35,22 +35,29 @@ use Rattle.iol_proc.specs.declared.process.Turn.TheVariants as turn
 use Rattle.iol_proc.specs.declared.seat.Seat.{Seat}
 use Rattle.flash_cgi.specs.Beside.{is_call_of}
 use Rattle.flash_cgi.specs.Collecting.{Collected, bytes_of_one, is_nothing, last_place, nothing, with_next, without_last, without_text}
-use Rattle.flash_cgi.specs.Feeds.{HasBytes, IsFileOpen, Needs}
+use Rattle.flash_cgi.specs.Feeds.{AreSpare, HasBytes, IsFileOpen, IsSpare, Needs}
 use Rattle.flash_cgi.specs.Job.{Task, job_of}
 use Rattle.flash_cgi.specs.Output.{Outcome}
 use Rattle.flash_cgi.specs.OutputPools.{HoldFiles, IsShown, LiesIn, OneLies, OutputsAreShown, PhaseLies, PieceLies}
 use Rattle.flash_cgi.specs.Pieces.{HasPiece, HoldsAt, LendsFiles, LendsNext}
+use Rattle.flash_cgi.specs.Release.{after_first, first, release_call, work_of}
 use Rattle.flash_cgi.specs.Turns.{RunsJob, filed_step, is_given, or_again, step_of}
 use Rattle.flash_cgi.specs.Standstill.{is_over}
 use Rattle.flash_cgi.specs.Works.{goes_on, with_job, works, works_as, worker_turns}
 use Rattle.flash_cgi.specs.Works.{files as files_reply}
-use Rattle.flash_cgi.specs.WorkerSteps.{bytes_at, call_at, doing_call, due_now, file_collected, next_call, shut_by, told, told_broken, told_cut, told_doing, told_dropped, told_joined, told_made, told_next, told_opened, told_parted, told_read, told_replaced, told_written, interleave_by, interleave_on}
+use Rattle.flash_cgi.specs.WorkerSteps.{Parts, after, at, broken, bytes_at, call_at, doing_call, due_now, file_collected, next_call, phase_call, step_with, told, told_cut, told_doing, told_joined, told_made, told_next, told_opened, told_parted, told_phase, told_read, told_replaced, told_written, interleave_by, interleave_on, written}
 use Rattle.flash_cgi.specs.declared.line.Line.{Line}
 use Rattle.flash_cgi.specs.declared.line.Line.TheVariants as line
 use Rattle.flash_cgi.specs.declared.phase.Purpose.{Purpose}
 use Rattle.flash_cgi.specs.declared.phase.Purpose.TheVariants as purpose
 use Rattle.flash_cgi.specs.declared.phase.Doing.{Doing}
 use Rattle.flash_cgi.specs.declared.phase.Doing.TheVariants as doing
+use Rattle.flash_cgi.specs.declared.phase.Object.{Object}
+use Rattle.flash_cgi.specs.declared.phase.Object.TheVariants as object
+use Rattle.flash_cgi.specs.declared.phase.Objects.{Objects}
+use Rattle.flash_cgi.specs.declared.phase.Objects.TheVariants.{One}
+use Rattle.flash_cgi.specs.declared.phase.Phase.{Phase}
+use Rattle.flash_cgi.specs.declared.phase.Phase.TheVariants.{Release, At}
 use Rattle.flash_cgi.specs.declared.phase.Standing.{Standing}
 use Rattle.flash_cgi.specs.declared.phase.Standing.TheVariants as standing
 use Rattle.flash_cgi.specs.declared.phase.Step.{Step}
@@ -59,7 +66,8 @@ use Rattle.flash_cgi.specs.declared.worker.Worker.{Worker}
 use Rattle.flash_cgi.proofs.Beside.{filed_stays, free_still, no_gift, others_leave}
 use Rattle.flash_cgi.proofs.Frame.{makes_call, run_is_not_given}
 use Rattle.flash_cgi.proofs.Due.{writing}
-use Rattle.flash_cgi.proofs.StaysByCall.{at_step}
+use Rattle.flash_cgi.proofs.Kept.{Keeps, self, spare_parts}
+use Rattle.flash_cgi.proofs.StaysByCall.{at_step, files_on, keeps, same_work}
 use Rattle.flash_cgi.proofs.OutputByTurn.{has_life, lent-live, seat_at, text_taken}
 
 file-same : (m n : State) (f : ℕ) → n.files ≡ m.files → file n f ≡ file m f
@@ -106,19 +114,23 @@ module _ (labels : LabelsFollow) (steps : EachStepLeavesTheRest) (files : FileCa
   -- ---- call by call
 
   abbrev LiesAfter : Option Step → Collected → (y : Doing) → Type 0
-  LiesAfter o x y = LiesIn pools n d (or_again o (at_step y 0 x)).piece (or_again o (at_step y 0 x)).doing
+  LiesAfter o x y = LiesIn pools n d (or_again o (at_step y 0 x)).piece (work_of (or_again o (at_step y 0 x)).phase)
 
   -- a text is made of what is collected
-  interleaved_lies : (x : Collected) (begun a : ℕ) → PieceLies pools n d x → Lie (text n d a) → LiesIn pools n d (interleave_on begun x a).piece (interleave_on begun x a).doing
-  interleaved_lies x begun a lies made = by x.held refl (last_place x.places)
+  interleaved_lies : (parts : Parts) (x : Collected) (begun a : ℕ) → PieceLies pools n d x → Lie (text n d a)
+      → LiesIn pools n d (interleave_on parts begun x a).piece (work_of (interleave_on parts begun x a).phase)
+  interleaved_lies parts x begun a lies made = by parts x.held refl (last_place x.places)
     where
-      by : (h : Option ℕ) → x.held ≡ h → (o : Option Place) → LiesIn pools n d (interleave_by h o begun x a).piece (interleave_by h o begun x a).doing
-      by None is o = (lies, made)
-      by (Some held) is None = ((tt, lies.1), made)
-      by (Some held) is (Some place) = (lies, (subst (λ (o : Option ℕ). OneLies pools n d o) is lies.0, made))
+      by : (ps : Parts) (h : Option ℕ) → x.held ≡ h → (o : Option Place) → LiesIn pools n d (interleave_by ps h o begun x a).piece (work_of (interleave_by ps h o begun x a).phase)
+      by None None is o = (lies, made)
+      by (Some ps) None is o = (lies, made)
+      by None (Some held) is None = ((tt, lies.1), made)
+      by (Some ps) (Some held) is None = ((tt, lies.1), made)
+      by None (Some held) is (Some place) = (lies, (subst (λ (o : Option ℕ). OneLies pools n d o) is lies.0, made))
+      by (Some ps) (Some held) is (Some place) = (lies, (subst (λ (o : Option ℕ). OneLies pools n d o) is lies.0, made))
 
   after_made : (x : Collected) (begun : ℕ) (r : Reply) → PieceLies pools m d x → StepsTo m (event.Call d (call.AggMake x.text)) r n → LiesAfter (told_made x begun r) x doing.Runs
-  after_made x begun (reply.Agg a) lies step = interleaved_lies (without_text x) begun a (piece_kept (call.AggMake x.text) (reply.Agg a) x (made_here x.text) step lies) (new (call.AggMake x.text) (reply.Agg a) a (made_here x.text) step (brought a))
+  after_made x begun (reply.Agg a) lies step = interleaved_lies None (without_text x) begun a (piece_kept (call.AggMake x.text) (reply.Agg a) x (made_here x.text) step lies) (new (call.AggMake x.text) (reply.Agg a) a (made_here x.text) step (brought a))
   after_made x begun r lies step = (piece_kept (call.AggMake x.text) r x (made_here x.text) step lies, tt)
 
   opened_file : (name : List ℕ) (fd : ℕ) → own_files.OpensFile m d name Read fd n → n.files ≡ m.files → PhaseLies pools n d (doing.Reads fd purpose.Cat)
@@ -155,26 +167,23 @@ module _ (labels : LabelsFollow) (steps : EachStepLeavesTheRest) (files : FileCa
 
   after_read : (x : Collected) (fd : ℕ) (u : Purpose) (begun : ℕ) (r : Reply) → FromThere (call.IolRead fd 16777216) → PieceLies pools m d x → StepsTo m (event.Call d (call.IolRead fd 16777216)) r n
       → LiesAfter (told_read (lent_at n d) x fd u begun r) x (doing.Reads fd u)
-  after_read x fd purpose.Cat begun (reply.Agg a) from lies step = (piece_kept (call.IolRead fd 16777216) (reply.Agg a) x from step lies, new (call.IolRead fd 16777216) (reply.Agg a) a from step (brought a))
-  after_read x fd purpose.Wc begun (reply.Agg a) from lies step = (piece_kept (call.IolRead fd 16777216) (reply.Agg a) x from step lies, tt)
-  after_read x fd u begun (reply.Refused y) from lies step = (piece_kept (call.IolRead fd 16777216) (reply.Refused y) x from step lies, tt)
-  after_read x fd u begun r from lies step = (let e = step.1 in absurd (cc (e)))
-
-  after_shut : (x : Collected) (fd a from len begun : ℕ) (r : Reply) → PieceLies pools m d x → Lie (text m d a) → StepsTo m (event.Call d (call.Close fd)) r n → LiesAfter (shut_by x from a len begun) x (doing.Shuts fd a)
-  after_shut x fd a from len begun r lies made step = by x.held refl (nat_le len 4096) (is_nothing x)
+  after_read x fd purpose.Cat begun (reply.Agg a) from lies step = by x.held refl (nat_le (length (bytes_at (lent_at n d) a)) 4096) (is_nothing x)
     where
       piece : PieceLies pools n d x
-      piece = piece_kept (call.Close fd) r x refl step lies
+      piece = piece_kept (call.IolRead fd 16777216) (reply.Agg a) x from step lies
 
       there : Lie (text n d a)
-      there = kept (call.Close fd) r a refl step made
+      there = new (call.IolRead fd 16777216) (reply.Agg a) a from step (brought a)
 
-      by : (o : Option ℕ) → x.held ≡ o → (t u : Bool) → LiesAfter (if t then file_collected x o from a len begun
-          else (if u then Some (at_step (doing.Writes a) begun x) else Some (at_step doing.Runs begun (with_next x a)))) x (doing.Shuts fd a)
+      by : (o : Option ℕ) → x.held ≡ o → (t u : Bool) → LiesAfter (if t then file_collected fd x o (length (bytes_of_one (lent_at n d) x.held)) a (length (bytes_at (lent_at n d) a)) begun
+          else (if u then after (One (object.File fd)) (doing.Writes a) begun x else after (One (object.File fd)) doing.Runs begun (with_next x a))) x (doing.Reads fd purpose.Cat)
       by None is true u = ((there, piece.1), tt)
       by (Some held) is true u = (piece, (subst (λ (o : Option ℕ). OneLies pools n d o) is piece.0, there))
       by o is false true = (piece, there)
       by o is false false = ((piece.0, there), tt)
+  after_read x fd purpose.Wc begun (reply.Agg a) from lies step = (piece_kept (call.IolRead fd 16777216) (reply.Agg a) x from step lies, tt)
+  after_read x fd u begun (reply.Refused y) from lies step = (piece_kept (call.IolRead fd 16777216) (reply.Refused y) x from step lies, tt)
+  after_read x fd u begun r from lies step = (let e = step.1 in absurd (cc (e)))
 
   both_lie : (a b : ℕ) → Lie (text m d a) → Lie (text m d b) → Lie (text m d a ++ text m d b)
   both_lie a b one two = labels.both pools (text m d a) (text m d b) one two
@@ -201,7 +210,8 @@ module _ (labels : LabelsFollow) (steps : EachStepLeavesTheRest) (files : FileCa
       → LiesAfter (told_replaced x a part begun r) x (doing.ReplacingPart a part at)
   after_replaced x a part at begun (reply.Agg b) lies one two step =
       let there = both_lie a part one two in
-      (piece_kept (call.AggReplace a at at part) (reply.Agg b) x there step lies, new (call.AggReplace a at at part) (reply.Agg b) b there step (brought b))
+      interleaved_lies (Some (a, part)) (without_last x) begun b (piece_kept (call.AggReplace a at at part) (reply.Agg b) x there step lies)
+      (new (call.AggReplace a at at part) (reply.Agg b) b there step (brought b))
   after_replaced x a part at begun r lies one two step =
       let there = both_lie a part one two in
       (piece_kept (call.AggReplace a at at part) r x there step lies, (kept (call.AggReplace a at at part) r a there step one, kept (call.AggReplace a at at part) r part there step two))
@@ -212,51 +222,104 @@ module _ (labels : LabelsFollow) (steps : EachStepLeavesTheRest) (files : FileCa
       piece : PieceLies pools n d x
       piece = piece_kept (call.IolWrite fd a) (reply.Count k) x made step lies
 
-      by : (b : Bool) → LiesIn pools n d x (if b then doing.Drops a else doing.Cuts a k len)
-      by true = (piece, tt)
+      wrote : (o : Option ℕ) → x.next ≡ o → LiesAfter (written x o a begun) x (doing.Writes a)
+      wrote None is = (piece, tt)
+      wrote (Some next) is = ((piece.0, tt), subst (λ (o : Option ℕ). OneLies pools n d o) is piece.1)
+
+      by : (b : Bool) → LiesAfter (if b then written x x.next a begun else at (doing.Cuts a k len) begun x) x (doing.Writes a)
+      by true = wrote x.next refl
       by false = (piece, kept (call.IolWrite fd a) (reply.Count k) a made step made)
-  after_written x fd a len begun (reply.Refused not_so.BrokenPipe) lies made step = (piece_kept (call.IolWrite fd a) (reply.Refused not_so.BrokenPipe) x made step lies, tt)
+  after_written x fd a len begun (reply.Refused not_so.BrokenPipe) lies made step = by x.next
+    where
+      piece : PieceLies pools n d x
+      piece = piece_kept (call.IolWrite fd a) (reply.Refused not_so.BrokenPipe) x made step lies
+
+      by : (o : Option ℕ) → LiesAfter (broken x o a begun) x (doing.Writes a)
+      by None = (piece, tt)
+      by (Some next) = ((piece.0, tt), tt)
   after_written x fd a len begun r lies made step = (piece_kept (call.IolWrite fd a) r x made step lies, kept (call.IolWrite fd a) r a made step made)
 
   after_cut : (x : Collected) (a from to begun : ℕ) (r : Reply) → PieceLies pools m d x → Lie (text m d a) → StepsTo m (event.Call d (call.AggCut a from to)) r n → LiesAfter (told_cut x a begun r) x (doing.Cuts a from to)
   after_cut x a from to begun (reply.Agg rest) lies made step = (piece_kept (call.AggCut a from to) (reply.Agg rest) x made step lies, new (call.AggCut a from to) (reply.Agg rest) rest made step (brought rest))
   after_cut x a from to begun r lies made step = (piece_kept (call.AggCut a from to) r x made step lies, kept (call.AggCut a from to) r a made step made)
 
-  after_dropped : (x : Collected) (a begun : ℕ) (r : Reply) (o : Option ℕ) → x.next ≡ o → PieceLies pools m d x → StepsTo m (event.Call d (call.AggDrop a)) r n → LiesAfter (told_dropped x o begun) x (doing.Drops a)
-  after_dropped x a begun r None is lies step = (piece_kept (call.AggDrop a) r x refl step lies, tt)
-  after_dropped x a begun r (Some b) is lies step =
-      let piece = piece_kept (call.AggDrop a) r x refl step lies in
-      ((piece.0, tt), subst (λ (o : Option ℕ). OneLies pools n d o) is piece.1)
-
-  after_broken : (job : Task) (x : Collected) (a begun : ℕ) (r : Reply) (o : Option ℕ) → PieceLies pools m d x → StepsTo m (event.Call d (call.AggDrop a)) r n → LiesAfter (told_broken job x o begun) x (doing.Breaks a)
-  after_broken job x a begun r None lies step = (piece_kept (call.AggDrop a) r x refl step lies, tt)
-  after_broken job x a begun r (Some b) lies step = (let piece = piece_kept (call.AggDrop a) r x refl step lies in ((piece.0, tt), tt))
+  as_ends : (o : Option Step) (x : Collected) → LiesAfter o x doing.Runs → LiesAfter o x doing.Ends
+  as_ends None x h = h
+  as_ends (Some s) x h = h
 
   -- the file that it reads is open
   abbrev FileOpen : Doing → Type 0
   FileOpen (doing.Reads fd u) = IsFileOpen m d fd
   FileOpen x = Unit {0}
 
+  -- what is released first is not used then
+  abbrev PhaseOpen : Collected → Phase → Type 0
+  PhaseOpen x (Release os y) = FileOpen y × IsSpare m d x (after_first os y) (first os)
+  PhaseOpen x (At y) = FileOpen y
+
   -- what lies there of a step lies there after its call, the reply taken as filed
-  after : (job : Task) (x : Collected) (begun : ℕ) (y : Doing) (r : Reply) → FileOpen y → LiesIn pools m d x y → StepsTo m (event.Call d (doing_call job x begun y)) r n
+  after_doing : (job : Task) (x : Collected) (begun : ℕ) (y : Doing) (r : Reply) → FileOpen y → LiesIn pools m d x y → StepsTo m (event.Call d (doing_call job x begun y)) r n
       → LiesAfter (told_doing (lent_at n d) job x begun y r) x y
-  after job x begun doing.Waits r h lies step = tt
-  after job x begun (doing.Skips a) r h lies step = tt
-  after job x begun doing.Runs r h lies step = after_begun job x begun (slice_get job.lines begun) r (due_now job x begun) lies.0 step
-  after job x begun (doing.Reads fd u) r h lies step = after_read x fd u begun r (file_there fd h.0 h.1 Read h.2 (lies.1 h.0 h.1 Read h.2)) lies.0 step
-  after job x begun (doing.Counted fd a s) r h lies step = (piece_kept (call.AggDrop a) r x refl step lies.0, tt)
-  after job x begun (doing.Shuts fd a) r h lies step = after_shut x fd a (length (bytes_of_one (lent_at n d) x.held)) (length (bytes_at (lent_at n d) a)) begun r lies.0 lies.1 step
-  after job x begun (doing.ShutsToSay fd s) r h lies step = (piece_kept (call.Close fd) r x refl step lies.0, tt)
-  after job x begun (doing.JoiningFile held a from len) r h lies step = after_joined x held a from len begun r lies.0 lies.1.0 lies.1.1 step
-  after job x begun (doing.CuttingPart held a from) r h lies step = after_parted x held a from begun r lies.0 lies.1.0 lies.1.1 step
-  after job x begun (doing.ReplacingPart a part at) r h lies step = after_replaced x a part at begun r lies.0 lies.1.0 lies.1.1 step
-  after job x begun (doing.DroppingText a part made) r h lies step = (piece_kept (call.AggDrop a) r x refl step lies.0, kept (call.AggDrop a) r made refl step lies.1)
-  after job x begun (doing.DroppingPart part made) r h lies step = interleaved_lies x begun made (piece_kept (call.AggDrop part) r x refl step lies.0) (kept (call.AggDrop part) r made refl step lies.1)
-  after job x begun (doing.Writes a) r h lies step = after_written x job.fd a _ begun r lies.0 lies.1 step
-  after job x begun (doing.Cuts a from to) r h lies step = after_cut x a from to begun r lies.0 lies.1 step
-  after job x begun (doing.Swaps a rest) r h lies step = (piece_kept (call.AggDrop a) r x refl step lies.0, kept (call.AggDrop a) r rest refl step lies.1)
-  after job x begun (doing.Drops a) r h lies step = after_dropped x a begun r x.next refl lies.0 step
-  after job x begun (doing.Breaks a) r h lies step = after_broken job x a begun r x.next lies.0 step
+  after_doing job x begun doing.Waits r h lies step = tt
+  after_doing job x begun doing.Runs r h lies step = after_begun job x begun (slice_get job.lines begun) r (due_now job x begun) lies.0 step
+  after_doing job x begun (doing.Reads fd u) r h lies step = after_read x fd u begun r (file_there fd h.0 h.1 Read h.2 (lies.1 h.0 h.1 Read h.2)) lies.0 step
+  after_doing job x begun (doing.JoiningFile held a from len) r h lies step = after_joined x held a from len begun r lies.0 lies.1.0 lies.1.1 step
+  after_doing job x begun (doing.CuttingPart held a from) r h lies step = after_parted x held a from begun r lies.0 lies.1.0 lies.1.1 step
+  after_doing job x begun (doing.ReplacingPart a part at) r h lies step = after_replaced x a part at begun r lies.0 lies.1.0 lies.1.1 step
+  after_doing job x begun (doing.Writes a) r h lies step = after_written x job.fd a (length (bytes_at (lent_at n d) a)) begun r lies.0 lies.1 step
+  after_doing job x begun (doing.Cuts a from to) r h lies step = after_cut x a from to begun r lies.0 lies.1 step
+  after_doing job x begun doing.Ends r h lies step =
+      as_ends (told_doing (lent_at n d) job x begun doing.Ends r) x
+      (after_begun job x (length job.lines) (slice_get job.lines (length job.lines)) r (due_now job x (length job.lines)) lies.0 step)
+
+  release_takes : (o : Object) → FromThere (release_call o)
+  release_takes (object.Agg a) = refl
+  release_takes (object.File f) = refl
+
+  after_release : (job : Task) (x : Collected) (begun : ℕ) (os : Objects) (y : Doing) (r : Reply) → PhaseOpen x (Release os y) → LiesIn pools m d x y → StepsTo m (event.Call d (release_call (first os))) r n
+      → LiesIn pools n d x (work_of (after_first os y))
+  after_release job x begun os y r h lies step = subst (λ w. LiesIn pools n d x w) (sym same) (by y h.0 is_kept lies)
+    where
+      same : work_of (after_first os y) ≡ y
+      same = same_work steps m n d 0 job begun x r os y
+
+      is_kept : Keeps m n d x y
+      is_kept = keeps steps m n d 0 job begun x r (first os) y (after_first os y) same h.1 step
+
+      piece : PieceLies pools m d x → PieceLies pools n d x
+      piece lies = piece_kept (release_call (first os)) r x (release_takes (first os)) step lies
+
+      there : (a : ℕ) → Lie (text m d a) → Lie (text n d a)
+      there a lies = kept (release_call (first os)) r a (release_takes (first os)) step lies
+
+      file_lies : (fd : ℕ) (u : Purpose) (h : IsFileOpen m d fd) → descriptor n d fd ≡ Some (on.File h.0 h.1 Read) → PhaseLies pools m d (doing.Reads fd u) → PhaseLies pools n d (doing.Reads fd u)
+      file_lies fd u h opened lies f at mode is =
+          let number : f ≡ h.0 = same_file f at mode h.0 h.1 (sym is ∙ opened) in
+          ap (λ k. pools (file n k).pool) number
+          ∙ (ap (λ (x : File). pools x.pool) (file-same m n h.0 ((steps.leaves m n (event.Call d (release_call (first os))) r step).files (files_on steps m n d 0 job begun x r (first os))).0) ∙ lies h.0 h.1 Read h.2)
+        where
+          same_file : (f at : ℕ) (mode : Mode) (g to : ℕ) → Some (on.File f at mode) ≡ Some (on.File g to Read) → f ≡ g
+          same_file f at mode g to e = cc
+
+      by : (y : Doing) → FileOpen y → Keeps m n d x y → LiesIn pools m d x y → LiesIn pools n d x y
+      by doing.Waits h k lies = tt
+      by doing.Runs h k lies = (piece lies.0, tt)
+      by doing.Ends h k lies = (piece lies.0, tt)
+      by (doing.Reads fd u) h k lies = (piece lies.0, file_lies fd u h (k.opens fd h.0 h.1 (self fd) h.2) lies.1)
+      by (doing.JoiningFile held a from len) h k lies = (piece lies.0, (there held lies.1.0, there a lies.1.1))
+      by (doing.CuttingPart held a from) h k lies = (piece lies.0, (there held lies.1.0, there a lies.1.1))
+      by (doing.ReplacingPart a part at) h k lies = (piece lies.0, (there a lies.1.0, there part lies.1.1))
+      by (doing.Writes a) h k lies = (piece lies.0, there a lies.1)
+      by (doing.Cuts a from to) h k lies = (piece lies.0, there a lies.1)
+
+  after_phase : (job : Task) (x : Collected) (begun : ℕ) (y : Phase) (r : Reply) → PhaseOpen x y → LiesIn pools m d x (work_of y) → StepsTo m (event.Call d (phase_call job x begun y)) r n
+      → LiesIn pools n d (or_again (told_phase (lent_at n d) job x begun y r) (step_with y begun x)).piece (work_of (or_again (told_phase (lent_at n d) job x begun y r) (step_with y begun x)).phase)
+  after_phase job x begun (Release os y) r h lies step = after_release job x begun os y r h lies step
+  after_phase job x begun (At y) r h lies step = by (told_doing (lent_at n d) job x begun y r) (after_doing job x begun y r h lies step)
+    where
+      by : (o : Option Step) → LiesAfter o x y → LiesIn pools n d (or_again o (at_step y begun x)).piece (work_of (or_again o (at_step y begun x)).phase)
+      by None h = h
+      by (Some next) h = h
 
   -- ---- its default pool
 
@@ -283,9 +346,18 @@ module _ (labels : LabelsFollow) (steps : EachStepLeavesTheRest) (files : FileCa
   default_begun job x l r true step = default_kept (call.AggMake x.text) r refl step
   default_begun job x l r false step = default_line job l r step
 
-  default_after : (job : Task) (x : Collected) (begun : ℕ) (y : Doing) (r : Reply) → StepsTo m (event.Call d (doing_call job x begun y)) r n → pools (default_pool n d) ≡ true
-  default_after job x begun doing.Runs r step = default_begun job x (slice_get job.lines begun) r (due_now job x begun) step
-  default_after job x begun y r step = default_kept (doing_call job x begun y) r refl step
+  default_doing : (job : Task) (x : Collected) (begun : ℕ) (y : Doing) (r : Reply) → StepsTo m (event.Call d (doing_call job x begun y)) r n → pools (default_pool n d) ≡ true
+  default_doing job x begun doing.Runs r step = default_begun job x (slice_get job.lines begun) r (due_now job x begun) step
+  default_doing job x begun doing.Ends r step = default_begun job x (slice_get job.lines (length job.lines)) r (due_now job x (length job.lines)) step
+  default_doing job x begun y r step = default_kept (doing_call job x begun y) r refl step
+
+  default_release : (o : Object) (r : Reply) → StepsTo m (event.Call d (release_call o)) r n → pools (default_pool n d) ≡ true
+  default_release (object.Agg a) r step = default_kept (call.AggDrop a) r refl step
+  default_release (object.File f) r step = default_kept (call.Close f) r refl step
+
+  default_after : (job : Task) (x : Collected) (begun : ℕ) (y : Phase) (r : Reply) → StepsTo m (event.Call d (phase_call job x begun y)) r n → pools (default_pool n d) ≡ true
+  default_after job x begun (Release os y) r step = default_release (first os) r step
+  default_after job x begun (At y) r step = default_doing job x begun y r step
 
   -- ---- what it wrote
 
@@ -298,17 +370,18 @@ module _ (labels : LabelsFollow) (steps : EachStepLeavesTheRest) (files : FileCa
 
   from_there : (p : ℕ) (job : Task) (x : Collected) (begun : ℕ) (y : Doing) → LiesIn pools m d x y → writes_pipe m (event.Call d (doing_call job x begun y)) p ≡ true → FromThere (doing_call job x begun y)
   from_there p job x begun doing.Runs lies is = absurd (let e = line_written p job x (slice_get job.lines begun) (due_now job x begun) in cc (e, is))
+  from_there p job x begun doing.Ends lies is = absurd (let e = line_written p job x (slice_get job.lines (length job.lines)) (due_now job x (length job.lines)) in cc (e, is))
   from_there p job x begun (doing.Writes a) lies is = lies.1
   from_there p job x begun y lies is = absurd (cc (is))
 
-  output_after : (p : ℕ) (job : Task) (x : Collected) (begun : ℕ) (y : Doing) (r : Reply) → LiesIn pools m d x y → Lie (pipe_at m p).queue → StepsTo m (event.Call d (doing_call job x begun y)) r n → Lie (pipe_at n p).queue
-  output_after p job x begun y r lies was step = labels.pipes pools m n (event.Call d (doing_call job x begun y)) r p step (from_there p job x begun y lies) was
+  from_phase : (p : ℕ) (job : Task) (x : Collected) (begun : ℕ) (y : Phase) → LiesIn pools m d x (work_of y) → writes_pipe m (event.Call d (phase_call job x begun y)) p ≡ true → FromThere (phase_call job x begun y)
+  from_phase p job x begun (Release os y) lies is = release_takes (first os)
+  from_phase p job x begun (At y) lies is = from_there p job x begun y lies is
+
+  output_after : (p : ℕ) (job : Task) (x : Collected) (begun : ℕ) (y : Phase) (r : Reply) → LiesIn pools m d x (work_of y) → Lie (pipe_at m p).queue → StepsTo m (event.Call d (phase_call job x begun y)) r n → Lie (pipe_at n p).queue
+  output_after p job x begun y r lies was step = labels.pipes pools m n (event.Call d (phase_call job x begun y)) r p step (from_phase p job x begun y lies) was
 
   -- ---- the worker after its call
-
-  told_step : (o : Option Step) (step : Step) → LiesIn pools n d (or_again o (at_step step.doing 0 step.piece)).piece (or_again o (at_step step.doing 0 step.piece)).doing → LiesIn pools n d (or_again o step).piece (or_again o step).doing
-  told_step None step h = h
-  told_step (Some next) step h = h
 
   filed_after : (v : Worker) (r : Reply) (job : Task) (step : Step) → v.job ≡ job → v.step ≡ step → v.standing ≡ standing.Asked
       → filed_step v.standing v (lent_at n d) r ≡ or_again (told job step (lent_at n d) r) step
@@ -317,15 +390,15 @@ module _ (labels : LabelsFollow) (steps : EachStepLeavesTheRest) (files : FileCa
       ∙ (ap (λ (j : Task). or_again (told j v.step (lent_at n d) r) v.step) job_is ∙ ap (λ (s : Step). or_again (told job s (lent_at n d) r) s) step_is)
 
   shown_after : (p : ℕ) (v : Worker) (r : Reply) (job : Task) (step : Step) (k : Call) → v.job ≡ job → v.step ≡ step → v.standing ≡ standing.Asked
-      → k ≡ call_at job step → FileOpen step.doing → LiesIn pools m d step.piece step.doing → Lie (pipe_at m p).queue → StepsTo m (event.Call d k) r n
+      → k ≡ call_at job step → PhaseOpen step.piece step.phase → LiesIn pools m d step.piece (work_of step.phase) → Lie (pipe_at m p).queue → StepsTo m (event.Call d k) r n
       → IsShown pools n p (seat_at d v r)
   shown_after p v r job step k job_is step_is asked k_is opened lies was made =
       let goes = subst (λ (c : Call). StepsTo m (event.Call d c) r n) k_is made in
       let next = filed_after v r job step job_is step_is asked in
       record {
-        default = default_after job step.piece step.begun step.doing r goes;
-        output = output_after p job step.piece step.begun step.doing r lies was goes;
-        lies = subst (λ (s : Step). LiesIn pools n d s.piece s.doing) (sym next) (told_step (told job step (lent_at n d) r) step (after job step.piece step.begun step.doing r opened lies goes));
+        default = default_after job step.piece step.begun step.phase r goes;
+        output = output_after p job step.piece step.begun step.phase r lies was goes;
+        lies = subst (λ (s : Step). LiesIn pools n d s.piece (work_of s.phase)) (sym next) (after_phase job step.piece step.begun step.phase r opened lies goes);
       }
 
 -- ---- a turn
@@ -336,32 +409,39 @@ file_open : (labels : LabelsFollow) (steps : EachStepLeavesTheRest) (files : Fil
 file_open labels steps files pools_come pools m n d order live holds default (doing.Reads fd u) h = (h.number, h.place, h.open_on)
 file_open labels steps files pools_come pools m n d order live holds default x h = tt
 
+phase_open : (labels : LabelsFollow) (steps : EachStepLeavesTheRest) (files : FileCallsServeTheirDomain) (pools_come : DomainsAndPoolsComeAndGo)
+    (pools : ℕ → Bool) (m n : State) (d : ℕ) (order : IsOrderly m) (live : is_live m d ≡ true) (holds : HoldFiles pools m d) (default : pools (default_pool m d) ≡ true)
+    (x : Collected) (y : Phase) → Needs m d (work_of y) → AreSpare m d x y → PhaseOpen labels steps files pools_come pools m n d order live holds default x y
+phase_open labels steps files pools_come pools m n d order live holds default x (Release os y) h spares =
+    (file_open labels steps files pools_come pools m n d order live holds default y h, (spare_parts m d x os y spares).0)
+phase_open labels steps files pools_come pools m n d order live holds default x (At y) h spares = file_open labels steps files pools_come pools m n d order live holds default y h
+
 -- a yield leaves it at its step
-yields_at : (w v : Worker) (l : Reply) (lent : ℕ → Option (List ℕ)) (s : Standing) → is_over s ≡ false → (s ≡ standing.Asked → is_given w.step.doing l ≡ false)
+yields_at : (w v : Worker) (l : Reply) (lent : ℕ → Option (List ℕ)) (s : Standing) → is_over s ≡ false → (s ≡ standing.Asked → is_given w.step.phase l ≡ false)
     → works_as s w l lent turn.Yield v → (v.step ≡ filed_step s w lent l) × (v.standing ≡ standing.Asks)
 yields_at w v l lent standing.Over goes un did = absurd (cc (goes))
 yields_at w v l lent standing.Asks goes un did = (let e = did.0 in absurd (cc (e)))
-yields_at w v l lent standing.Asked goes un did = filed w.step.doing l (un refl) did
+yields_at w v l lent standing.Asked goes un did = filed w.step.phase l (un refl) did
   where
     on : (o : Option Step) → goes_on w o turn.Yield v → (v.step ≡ or_again o w.step) × (v.standing ≡ standing.Asks)
     on (Some step) did = (let e = did.0 in absurd (cc (e)))
     on None did = (ap (λ (y : Worker). y.step) did.1, ap (λ (y : Worker). y.standing) did.1)
 
-    filed : (x : Doing) (y : Reply) → is_given x y ≡ false → files_reply w x y lent turn.Yield v → (v.step ≡ or_again (told w.job w.step lent y) w.step) × (v.standing ≡ standing.Asks)
-    filed doing.Waits (reply.Agg a) given did = absurd (cc (given))
+    filed : (x : Phase) (y : Reply) → is_given x y ≡ false → files_reply w x y lent turn.Yield v → (v.step ≡ or_again (told w.job w.step lent y) w.step) × (v.standing ≡ standing.Asks)
+    filed (At doing.Waits) (reply.Agg a) given did = absurd (cc (given))
     filed x y given did = on (told w.job w.step lent y) did
 
 module _ (labels : LabelsFollow) (steps : EachStepLeavesTheRest) (files : FileCallsServeTheirDomain) (pools_come : DomainsAndPoolsComeAndGo)
     (pools : ℕ → Bool) (m n : State) (p d : ℕ) (w : Worker) (last : Reply) (order : IsOrderly m) (live : is_live m d ≡ true) (holds : HoldFiles pools m d)
     (shown : IsShown pools m p (seat_at d w last)) (v : Worker) (r : Reply) (yields : Bool) where
-  abbrev Open : Doing → Type 0
-  Open x = FileOpen labels steps files pools_come pools m n d order live holds shown.default x
+  abbrev Open : Collected → Phase → Type 0
+  Open x y = PhaseOpen labels steps files pools_come pools m n d order live holds shown.default x y
 
   abbrev now : Step
   now = filed_step w.standing w (lent_at m d) last
 
   -- one that goes on at its step
-  moves : (t : Turn) → is_over w.standing ≡ false → (w.standing ≡ standing.Asked → is_given w.step.doing last ≡ false) → Open now.doing
+  moves : (t : Turn) → is_over w.standing ≡ false → (w.standing ≡ standing.Asked → is_given w.step.phase last ≡ false) → Open now.piece now.phase
       → works_as w.standing w last (lent_at m d) t v → ComesOf copying worker_turns m d t yields r n → IsShown pools n p (seat_at d v r)
   moves turn.Yield goes un opened did comes =
       let y = yields_at w v last (lent_at m d) w.standing goes un did in
@@ -369,19 +449,19 @@ module _ (labels : LabelsFollow) (steps : EachStepLeavesTheRest) (files : FileCa
       record {
         default = subst (λ (u : State). pools (default_pool u d) ≡ true) (sym comes.2) shown.default;
         output = subst (λ (u : State). lie_in pools (pipe_at u p).queue ≡ true) (sym comes.2) shown.output;
-        lies = subst (λ (x : Step). LiesIn pools n d x.piece x.doing) (sym step_is) (subst (λ (u : State). LiesIn pools u d now.piece now.doing) (sym comes.2) shown.lies);
+        lies = subst (λ (x : Step). LiesIn pools n d x.piece (work_of x.phase)) (sym step_is) (subst (λ (u : State). LiesIn pools u d now.piece (work_of now.phase)) (sym comes.2) shown.lies);
       }
   moves (turn.Make k) goes un opened did comes =
       let made = makes_call w v k last (lent_at m d) w.standing refl goes un did in
       shown_after labels steps files pools_come pools m n d order live holds shown.default p v r w.job now k made.job_is made.step_is made.asked made.call_is opened shown.lies shown.output comes.1
 
   -- one that takes its job
-  takes_job : (t : Turn) (job : Task) (a : ℕ) → w.standing ≡ standing.Asked → t ≡ turn.Make (call.AggDrop a) → v ≡ with_job w (Some job) a
+  takes_job : (t : Turn) (job : Task) (a : ℕ) → HasBytes m d a → w.standing ≡ standing.Asked → t ≡ turn.Make (call.AggDrop a) → v ≡ with_job w (Some job) a
       → ComesOf copying worker_turns m d t yields r n → IsShown pools n p (seat_at d v r)
-  takes_job t job a asked is v_is comes =
-      let step : Step = record { doing = doing.Drops a; begun = 0; piece = nothing } in
+  takes_job t job a has asked is v_is comes =
+      let step : Step = step_with (Release (One (object.Agg a)) doing.Runs) 0 nothing in
       shown_after labels steps files pools_come pools m n d order live holds shown.default p v r job step (call.AggDrop a)
-      (ap (λ (y : Worker). y.job) v_is) (ap (λ (y : Worker). y.step) v_is) (ap (λ (y : Worker). y.standing) v_is ∙ asked) refl tt ((tt, tt), tt) shown.output
+      (ap (λ (y : Worker). y.job) v_is) (ap (λ (y : Worker). y.step) v_is) (ap (λ (y : Worker). y.standing) v_is ∙ asked) refl (tt, (has, refl)) ((tt, tt), tt) shown.output
       (subst (λ (u : Turn). ComesOf copying worker_turns m d u yields r n) is comes).1
 
 turns : LabelsFollow → EachStepLeavesTheRest → FileCallsServeTheirDomain → DomainsAndPoolsComeAndGo → (pools : ℕ → Bool) (m n : State) (p : ℕ) (seat next : Seat Worker) (yields : Bool) (r : Reply)
@@ -404,17 +484,17 @@ turns labels steps files pools_come pools m n p seat next yields r unseen order 
 
     by : RunsJob m p seat unseen → works w seat.last (lent_at m seat.by) did.turn next.process → IsShown pools n p (seat_at seat.by next.process r)
     by (inl h) goes = moves labels steps files pools_come pools m n p seat.by w seat.last order live holds shown next.process r yields did.turn h.free.not_over h.free.not_given
-        (subst (λ (x : Doing). FileOpen labels steps files pools_come pools m n seat.by order live holds shown.default x) (sym h.free.waits) tt) goes did.comes
+        (subst (λ (x : Phase). PhaseOpen labels steps files pools_come pools m n seat.by order live holds shown.default (step_of m seat).piece x) (sym h.free.waits) tt) goes did.comes
     by (inr (inl h)) goes =
         let filed = subst (λ (s : Standing). works_as s w seat.last (lent_at m seat.by) did.turn next.process) h.asked goes in
-        let took = subst (λ (l : Reply). files_reply w doing.Waits l (lent_at m seat.by) did.turn next.process) h.last
-        (subst (λ (x : Doing). files_reply w x seat.last (lent_at m seat.by) did.turn next.process) h.waits filed) in
+        let took = subst (λ (l : Reply). files_reply w (At doing.Waits) l (lent_at m seat.by) did.turn next.process) h.last
+        (subst (λ (x : Phase). files_reply w x seat.last (lent_at m seat.by) did.turn next.process) h.waits filed) in
         let is_job : job_of (bytes_at (lent_at m seat.by) h.agg) ≡ Some h.job = ap (λ (l : Option (List ℕ)). job_of (unwrap_or l [])) h.begins.lends ∙ h.begins.is_job in
-        takes_job labels steps files pools_come pools m n p seat.by w seat.last order live holds shown next.process r yields did.turn h.job h.agg h.asked took.0
+        takes_job labels steps files pools_come pools m n p seat.by w seat.last order live holds shown next.process r yields did.turn h.job h.agg (h.begins.bytes, h.begins.lends) h.asked took.0
         (took.1 ∙ text_taken w (bytes_at (lent_at m seat.by) h.agg) h.agg h.job is_job) did.comes
     by (inr (inr i)) goes = moves labels steps files pools_come pools m n p seat.by w seat.last order live holds shown next.process r yields did.turn i.not_over
         (λ asked. run_is_not_given m seat.by w seat.last (lent_at m seat.by) w.standing asked i.feeds.needs)
-        (file_open labels steps files pools_come pools m n seat.by order live holds shown.default (step_of m seat).doing i.feeds.needs) goes did.comes
+        (phase_open labels steps files pools_come pools m n seat.by order live holds shown.default (step_of m seat).piece (step_of m seat).phase i.feeds.needs i.feeds.spares) goes did.comes
 
 -- ---- what others do
 
@@ -456,33 +536,25 @@ module _ (labels : LabelsFollow) (steps : EachStepLeavesTheRest) (pools : ℕ �
 
   lies_stay : (x : Collected) (y : Doing) → Needs m d y → HoldsAt (lent_at m d) x y → LiesIn pools m d x y → LiesIn pools n d x y
   lies_stay x doing.Waits h k lies = tt
-  lies_stay x (doing.Skips a) h k lies = absurd h
-  lies_stay x (doing.Breaks a) h k lies = absurd h
+  lies_stay x doing.Ends h k lies = absurd h
   lies_stay x doing.Runs h k lies = (piece_still (length x.text) x k lies.0, tt)
   lies_stay x (doing.Reads fd u) h k lies = (piece_still (length x.text) x k.piece lies.0, file_still fd (h.number, h.place, h.open_on) lies.1)
-  lies_stay x (doing.Counted fd a s) h k lies = (piece_still (length x.text) x k.0.piece lies.0, tt)
-  lies_stay x (doing.ShutsToSay fd s) h k lies = (piece_still (length x.text) x k.piece lies.0, tt)
-  lies_stay x (doing.Shuts fd a) h k lies = (piece_still (length x.text) x k.0.piece lies.0, lies_still a h.1 lies.1)
   lies_stay x (doing.JoiningFile held a from len) h k lies =
       (piece_still (length x.text) x k.gathers.piece lies.0, (held_still x held k.gathers.piece.files k.held_is lies.1.0, lies_still a k.lends lies.1.1))
   lies_stay x (doing.CuttingPart held a from) h k lies =
       (piece_still (length (bytes_at (lent_at m d) a)) x k.piece lies.0, (held_still x held k.piece.files k.held_is lies.1.0, lies_still a k.lends lies.1.1))
   lies_stay x (doing.ReplacingPart a part at) h k lies = (piece_still at (without_last x) k.piece lies.0, (lies_still a k.lends lies.1.0, lies_still part k.parts lies.1.1))
-  lies_stay x (doing.DroppingText a part made) h k lies = (piece_still (length (bytes_at (lent_at m d) made)) x k.drops.piece lies.0, lies_still made k.drops.lends lies.1)
-  lies_stay x (doing.DroppingPart part made) h k lies = (piece_still (length (bytes_at (lent_at m d) made)) x k.piece lies.0, lies_still made k.lends lies.1)
-  lies_stay x (doing.Drops a) h k lies = (piece_still (length x.text) x k.0.piece lies.0, tt)
   lies_stay x (doing.Writes a) h k lies = (piece_still (length x.text) x k.0.piece lies.0, lies_still a h lies.1)
   lies_stay x (doing.Cuts a from to) h k lies = (piece_still (length x.text) x k.0.piece lies.0, lies_still a (h.0, h.1) lies.1)
-  lies_stay x (doing.Swaps a rest) h k lies = (piece_still (length x.text) x k.0.piece lies.0, lies_still rest h.0 lies.1)
 
 -- a worker without a step of its own has nothing there
-nothing_lies : (pools : ℕ → Bool) (n : State) (d : ℕ) (x : Collected) (y : Doing) → y ≡ doing.Waits → LiesIn pools n d x y
-nothing_lies pools n d x y is = subst (λ (z : Doing). LiesIn pools n d x z) (sym is) tt
+nothing_lies : (pools : ℕ → Bool) (n : State) (d : ℕ) (x : Collected) (y : Phase) → y ≡ At doing.Waits → LiesIn pools n d x (work_of y)
+nothing_lies pools n d x y is = subst (λ (z : Phase). LiesIn pools n d x (work_of z)) (sym is) tt
 
-given_at : (n : State) (d : ℕ) (w : Worker) (last : Reply) → w.standing ≡ standing.Asked → w.step.doing ≡ doing.Waits → (filed_step w.standing w (lent_at n d) last).doing ≡ doing.Waits
+given_at : (n : State) (d : ℕ) (w : Worker) (last : Reply) → w.standing ≡ standing.Asked → w.step.phase ≡ At doing.Waits → (filed_step w.standing w (lent_at n d) last).phase ≡ At doing.Waits
 given_at n d w last asked waits =
-    ap (λ (s : Standing). (filed_step s w (lent_at n d) last).doing) asked
-    ∙ (ap (λ (x : Doing). (or_again (told_doing (lent_at n d) w.job w.step.piece w.step.begun x last) w.step).doing) waits ∙ waits)
+    ap (λ (s : Standing). (filed_step s w (lent_at n d) last).phase) asked
+    ∙ (ap (λ (x : Phase). (or_again (told_phase (lent_at n d) w.job w.step.piece w.step.begun x last) w.step).phase) waits ∙ waits)
 
 no_exit : (e : Event) (d : ℕ) → is_call_of e d ≡ false → sets_default e d ≡ false
 no_exit (event.Call by call.Exit) d other = other
@@ -513,18 +585,18 @@ others labels steps pools m n p seat e r unseen order placed job shown step othe
   lies = by job;
 }
   where
-    by : RunsJob m p seat unseen → LiesIn pools n seat.by (step_of n seat).piece (step_of n seat).doing
-    by (inl h) = nothing_lies pools n seat.by (step_of n seat).piece (step_of n seat).doing (free_still m n seat h.free).waits
-    by (inr (inl h)) = nothing_lies pools n seat.by (step_of n seat).piece (step_of n seat).doing (given_at n seat.by seat.process seat.last h.asked h.waits)
+    by : RunsJob m p seat unseen → LiesIn pools n seat.by (step_of n seat).piece (work_of (step_of n seat).phase)
+    by (inl h) = nothing_lies pools n seat.by (step_of n seat).piece (step_of n seat).phase (free_still m n seat h.free).waits
+    by (inr (inl h)) = nothing_lies pools n seat.by (step_of n seat).piece (step_of n seat).phase (given_at n seat.by seat.process seat.last h.asked h.waits)
     by (inr (inr i)) =
         let left = others_leave steps m n seat.by e r placed step other in
-        let same = filed_stays m n seat.by left seat.process.standing seat.process seat.last i.feeds.needs i.feeds.holds in
-        subst (λ (s : Step). LiesIn pools n seat.by s.piece s.doing) (sym same)
-        (lies_stay labels steps pools m n seat.by e r placed step other (step_of m seat).piece (step_of m seat).doing i.feeds.needs i.feeds.holds shown.lies)
+        let same = filed_stays m n seat.by left seat.process.standing seat.process seat.last (i.feeds.holds, i.feeds.needs, i.feeds.spares) in
+        subst (λ (s : Step). LiesIn pools n seat.by s.piece (work_of s.phase)) (sym same)
+        (lies_stay labels steps pools m n seat.by e r placed step other (step_of m seat).piece (work_of (step_of m seat).phase) i.feeds.needs i.feeds.holds shown.lies)
 
 pub outputs_are_shown : LabelsFollow → EachStepLeavesTheRest → FileCallsServeTheirDomain → DomainsAndPoolsComeAndGo → OutputsAreShown
 outputs_are_shown labels steps files pools_come = record {
-  free = λ pools m p seat free default output. record { default = default; output = output; lies = nothing_lies pools m seat.by (step_of m seat).piece (step_of m seat).doing free.waits };
+  free = λ pools m p seat free default output. record { default = default; output = output; lies = nothing_lies pools m seat.by (step_of m seat).piece (step_of m seat).phase free.waits };
   turns = turns labels steps files pools_come;
   others = others labels steps;
 }

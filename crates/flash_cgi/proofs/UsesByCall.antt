@@ -16,20 +16,28 @@ use Rattle.iol_laws.specs.Caller as o
 use Rattle.iol_laws.specs.Caller.{CallsServeTheirDomain, lent_at}
 use Rattle.iol_laws.specs.Order.{IsOrderly}
 use Rattle.iol_laws.specs.Reasons.{RefusalsTellWhy}
-use Rattle.flash_cgi.specs.Collecting.{Collected, bytes_of_one, is_due, is_full, is_nothing, last_place, with_file, with_next, with_text, without_next, without_text}
+use Rattle.flash_cgi.specs.Collecting.{Collected, bytes_of_one, is_due, is_full, is_nothing, last_place, with_file, with_next, with_text, without_files, without_last, without_next, without_text}
 use Rattle.flash_cgi.specs.Job.{Task}
-use Rattle.flash_cgi.specs.WorkerSteps.{call_at, due_now, file_collected, shut_by, told, told_broken, told_dropped, told_joined, told_next, told_made, told_opened, told_parted, told_replaced, told_written, told_read, told_cut, got, next_call, bytes_at, interleave_by, interleave_on}
-use Rattle.flash_cgi.specs.Uses.{is_one, uses_fd, uses_agg, HasJust}
+use Rattle.flash_cgi.specs.WorkerSteps.{Parts, after_all, after_parts, at, broken, call_at, cat_read, counts_of, doing_call, due_now, file_collected, after, told, told_doing, told_joined, told_next, told_made, told_opened, told_parted, told_phase, told_replaced, told_written, told_read, told_cut, got, next_call, phase_call, bytes_at, interleave_by, interleave_on, said_text, step_with, written}
+use Rattle.flash_cgi.specs.PhaseUses.{call_uses, has_output, is_one, reads_file, uses_fd, uses_agg}
+use Rattle.flash_cgi.specs.Release.{after_first, first, is_agg, is_file, is_one_of, release_call, releases, work_of}
+use Rattle.flash_cgi.specs.Uses.{HasJust}
 use Rattle.flash_cgi.specs.declared.line.Line.{Line}
 use Rattle.flash_cgi.specs.declared.line.Line.TheVariants as line
+use Rattle.flash_cgi.specs.declared.counts.Said.TheVariants as said
 use Rattle.flash_cgi.specs.declared.phase.Purpose.{Purpose}
 use Rattle.flash_cgi.specs.declared.phase.Purpose.TheVariants as purpose
 use Rattle.flash_cgi.specs.declared.phase.Doing.{Doing}
 use Rattle.flash_cgi.specs.declared.phase.Doing.TheVariants as doing
+use Rattle.flash_cgi.specs.declared.phase.Object.{Object}
+use Rattle.flash_cgi.specs.declared.phase.Object.TheVariants as object
+use Rattle.flash_cgi.specs.declared.phase.Objects.{Objects}
+use Rattle.flash_cgi.specs.declared.phase.Objects.TheVariants.{One, Two, Three}
+use Rattle.flash_cgi.specs.declared.phase.Phase.{Phase}
+use Rattle.flash_cgi.specs.declared.phase.Phase.TheVariants.{Release, At}
 use Rattle.flash_cgi.specs.declared.phase.Step.{Step}
 use Rattle.flash_cgi.specs.declared.piece.Place.{Place}
 use Rattle.flash_cgi.proofs.Interleaving.{nothing_is}
-use Rattle.flash_cgi.proofs.StaysByCall.{at_step}
 use Rattle.flash_cgi.proofs.NotOpen.{free_make, free_cut, free_drop, free_join, free_replace, free_set_pool, free_split, free_read, free_write, free_close, free_open}
 
 either_false : (a b : Bool) → a ≡ false → b ≡ false → (a || b) ≡ false
@@ -72,14 +80,50 @@ apart a b test same = grind (arith, nat_tests, test, same)
 pub same_number : (a b : ℕ) → (a == b) ≡ true → a ≡ b
 same_number a b test = grind (arith, nat_tests, test)
 
+-- an object that is released first is used by no other part of its phase
+behind_fd : (a b t c : Bool) → t ≡ false → (a || (b || c)) ≡ false → (a || (b || (t || c))) ≡ false
+behind_fd true b t c is un = absurd (cc (un))
+behind_fd false true t c is un = absurd (cc (un))
+behind_fd false false true c is un = absurd (cc (is))
+behind_fd false false false c is un = un
+
+behind_agg : (t c e : Bool) → t ≡ false → (c || e) ≡ false → ((t || c) || e) ≡ false
+behind_agg true c e is un = absurd (cc (is))
+behind_agg false c e is un = un
+
+is_part : Parts → (a : ℕ) → Bool
+is_part None a = false
+is_part (Some p) a = (p.0 == a) || ((p.1 == a) || false)
+
+-- what a phase does not use, neither its parts nor its call use
+part_unused : (parts : Parts) (x : Collected) (y : Doing) (a : ℕ) → uses_agg x (after_parts parts y) a ≡ false → (is_part parts a ≡ false) × (call_uses x y a ≡ false)
+part_unused None x y a un = (refl, un)
+part_unused (Some p) x y a un = or_parts ((p.0 == a) || ((p.1 == a) || false)) (call_uses x y a) un
+
+all_unused : (parts : Parts) (held : ℕ) (x : Collected) (y : Doing) (a : ℕ) → uses_agg x (after_all parts held y) a ≡ false → (is_part parts a ≡ false) × ((held == a) ≡ false) × (call_uses x y a ≡ false)
+all_unused None held x y a un = (let k = or_parts ((held == a) || false) (call_uses x y a) un in (refl, left_of (held == a) false k.0, k.1))
+all_unused (Some p) held x y a un =
+    let k = or_parts ((p.0 == a) || ((p.1 == a) || ((held == a) || false))) (call_uses x y a) un in
+    let l = or_parts (p.0 == a) ((p.1 == a) || ((held == a) || false)) k.0 in
+    let o = or_parts (p.1 == a) ((held == a) || false) l.1 in
+    (either_false (p.0 == a) ((p.1 == a) || false) l.0 (either_false (p.1 == a) false o.0 refl), left_of (held == a) false o.1, k.1)
+
+fds_parts : (parts : Parts) (job : Task) (y : Doing) (f : ℕ) → uses_fd job (after_parts parts y) f ≡ false → has_output job y f ≡ false
+fds_parts None job y f un = left_of (has_output job y f) (reads_file y f || false) un
+fds_parts (Some p) job y f un = left_of (has_output job y f) (reads_file y f || false) un
+
+fds_all : (parts : Parts) (held : ℕ) (job : Task) (y : Doing) (f : ℕ) → uses_fd job (after_all parts held y) f ≡ false → has_output job y f ≡ false
+fds_all None held job y f un = left_of (has_output job y f) (reads_file y f || false) un
+fds_all (Some p) held job y f un = left_of (has_output job y f) (reads_file y f || false) un
+
 module _ (own : CallsServeTheirDomain) (why : RefusalsTellWhy) (come : AggregatesComeAndGo)
     (m n : State) (d : ℕ) (fds aggs : ℕ → Bool) (job : Task) (order : IsOrderly m) (live : is_live m d ≡ true) where
-  abbrev Had : Collected → Doing → Type 0
+  abbrev Had : Collected → Phase → Type 0
   Had x y = HasJust m d fds aggs job x y
 
   abbrev HasTo : Option Step → Type 0
   HasTo None = Unit {0}
-  HasTo (Some next) = HasJust n d fds aggs job next.piece next.doing
+  HasTo (Some next) = HasJust n d fds aggs job next.piece next.phase
 
   -- ---- aggregates
 
@@ -168,7 +212,7 @@ module _ (own : CallsServeTheirDomain) (why : RefusalsTellWhy) (come : Aggregate
 
   -- ---- nothing happened
 
-  unchanged : (x z : Collected) (y v : Doing) → ((f : ℕ) → uses_fd job v f ≡ false → uses_fd job y f ≡ false) → ((a : ℕ) → uses_agg z v a ≡ false → uses_agg x y a ≡ false) → n ≡ m → Had x y → HasJust n d fds aggs job z v
+  unchanged : (x z : Collected) (y v : Phase) → ((f : ℕ) → uses_fd job v f ≡ false → uses_fd job y f ≡ false) → ((a : ℕ) → uses_agg z v a ≡ false → uses_agg x y a ≡ false) → n ≡ m → Had x y → HasJust n d fds aggs job z v
   unchanged x z y v fewer_fds fewer_aggs same h = record {
     no_fd = λ f given un. ap (λ (s : State). descriptor s d f) same ∙ h.no_fd f given (fewer_fds f un);
     no_agg = λ a given un. ap (λ (s : State). lent_at s d a) same ∙ h.no_agg a given (fewer_aggs a un);
@@ -176,47 +220,69 @@ module _ (own : CallsServeTheirDomain) (why : RefusalsTellWhy) (come : Aggregate
 
   -- ---- phase by phase
 
-  pub drops : (x z : Collected) (y v : Doing) (a : ℕ) (r : Reply) → ((f : ℕ) → uses_fd job v f ≡ false → uses_fd job y f ≡ false) → ((b : ℕ) → (a == b) ≡ false → uses_agg z v b ≡ false → uses_agg x y b ≡ false)
+  pub drops : (x z : Collected) (y v : Phase) (a : ℕ) (r : Reply) → ((f : ℕ) → uses_fd job v f ≡ false → uses_fd job y f ≡ false) → ((b : ℕ) → (a == b) ≡ false → uses_agg z v b ≡ false → uses_agg x y b ≡ false)
       → Had x y → StepsTo m (event.Call d (call.AggDrop a)) r n → HasJust n d fds aggs job z v
   drops x z y v a r fewer_fds fewer_aggs h step = record {
     no_fd = λ f given un. free_drop m n d f a r step (h.no_fd f given (fewer_fds f un));
     no_agg = λ b given un. after_drop a b r step (λ differ. h.no_agg b given (fewer_aggs b differ un));
   }
 
-  closes : (x z : Collected) (y v : Doing) (fd : ℕ) (r : Reply) → ((f : ℕ) → (fd == f) ≡ false → uses_fd job v f ≡ false → uses_fd job y f ≡ false) → ((b : ℕ) → uses_agg z v b ≡ false → uses_agg x y b ≡ false)
+  closes : (x z : Collected) (y v : Phase) (fd : ℕ) (r : Reply) → ((f : ℕ) → (fd == f) ≡ false → uses_fd job v f ≡ false → uses_fd job y f ≡ false) → ((b : ℕ) → uses_agg z v b ≡ false → uses_agg x y b ≡ false)
       → Had x y → StepsTo m (event.Call d (call.Close fd)) r n → HasJust n d fds aggs job z v
   closes x z y v fd r fewer_fds fewer_aggs h step = record {
     no_fd = λ f given un. after_shut fd f r step (λ differ. h.no_fd f given (fewer_fds f differ un));
     no_agg = λ b given un. after_close fd b r step (h.no_agg b given (fewer_aggs b un));
   }
 
+  -- an object is released
+  freed : (x : Collected) (o : Object) (y v : Phase) (r : Reply) → ((f : ℕ) → is_file o f ≡ false → uses_fd job v f ≡ false → uses_fd job y f ≡ false)
+      → ((b : ℕ) → is_agg o b ≡ false → uses_agg x v b ≡ false → uses_agg x y b ≡ false) → Had x y → StepsTo m (event.Call d (release_call o)) r n → HasJust n d fds aggs job x v
+  freed x (object.Agg a) y v r fewer_fds fewer_aggs h step = drops x x y v a r (λ f un. fewer_fds f refl un) fewer_aggs h step
+  freed x (object.File f) y v r fewer_fds fewer_aggs h step = closes x x y v f r fewer_fds (λ b un. fewer_aggs b refl un) h step
+
+  released : (x : Collected) (os : Objects) (y : Doing) (r : Reply) → Had x (Release os y) → StepsTo m (event.Call d (release_call (first os))) r n → HasJust n d fds aggs job x (after_first os y)
+  released x (One o) y r h step = freed x o (Release (One o) y) (At y) r
+      (λ f is un. behind_fd (has_output job y f) (reads_file y f) (is_file o f) false is un) (λ b is un. behind_agg (is_agg o b) false (call_uses x y b) is un) h step
+  released x (Two o p) y r h step = freed x o (Release (Two o p) y) (Release (One p) y) r
+      (λ f is un. behind_fd (has_output job y f) (reads_file y f) (is_file o f) (is_file p f || false) is un)
+      (λ b is un. behind_agg (is_agg o b) (is_agg p b || false) (call_uses x y b) is un) h step
+  released x (Three o p q) y r h step = freed x o (Release (Three o p q) y) (Release (Two p q) y) r
+      (λ f is un. behind_fd (has_output job y f) (reads_file y f) (is_file o f) (is_file p f || (is_file q f || false)) is un)
+      (λ b is un. behind_agg (is_agg o b) (is_agg p b || (is_agg q b || false)) (call_uses x y b) is un) h step
+
+  -- a call that uses only the output
+  only : (f : ℕ) → (job.fd == f) ≡ false → ((job.fd == f) || false) ≡ false
+  only f un = either_false (job.fd == f) false un refl
+
   -- a text is made of what is collected: whichever phase is next uses it, and what was collected
-  interleaves : (y : Doing) (begun : ℕ) (x : Collected) (a : ℕ) → ((f : ℕ) → fds f ≡ false → (job.fd == f) ≡ false → descriptor n d f ≡ None)
-      → ((b : ℕ) → aggs b ≡ false → (a == b) ≡ false → is_one x.held b ≡ false → is_one x.next b ≡ false → lent_at n d b ≡ None) → HasTo (Some (interleave_on begun x a))
-  interleaves y begun x a no_fd none = by x.held refl (last_place x.places)
+  interleaves : (parts : Parts) (begun : ℕ) (x : Collected) (a : ℕ) → ((f : ℕ) → fds f ≡ false → (job.fd == f) ≡ false → descriptor n d f ≡ None)
+      → ((b : ℕ) → aggs b ≡ false → is_part parts b ≡ false → (a == b) ≡ false → is_one x.held b ≡ false → is_one x.next b ≡ false → lent_at n d b ≡ None)
+      → HasTo (Some (interleave_on parts begun x a))
+  interleaves parts begun x a no_fd none = by x.held refl (last_place x.places)
     where
-      by : (h : Option ℕ) → x.held ≡ h → (o : Option Place) → HasTo (Some (interleave_by h o begun x a))
+      by : (h : Option ℕ) → x.held ≡ h → (o : Option Place) → HasTo (Some (interleave_by parts h o begun x a))
       by None is o = record {
-        no_fd = no_fd;
-        no_agg = λ b given un. (let k = or_parts (a == b) (is_one x.held b || is_one x.next b) un in let l = or_parts (is_one x.held b) (is_one x.next b) k.1 in none b given k.0 l.0 l.1);
+        no_fd = λ f given un. no_fd f given (fds_parts parts job (doing.Writes a) f un);
+        no_agg = λ b given un. (let u = part_unused parts x (doing.Writes a) b un in let k = or_parts (a == b) (is_one x.held b || is_one x.next b) u.1 in
+            let l = or_parts (is_one x.held b) (is_one x.next b) k.1 in none b given u.0 k.0 l.0 l.1);
       }
       by (Some held) is None = record {
-        no_fd = no_fd;
-        no_agg = λ b given un. (let k = or_parts (held == b) ((a == b) || is_one x.next b) un in let l = or_parts (a == b) (is_one x.next b) k.1 in
-            none b given l.0 (ap (λ (o : Option ℕ). is_one o b) is ∙ k.0) l.1);
+        no_fd = λ f given un. no_fd f given (fds_all parts held job (doing.Writes a) f un);
+        no_agg = λ b given un. (let u = all_unused parts held (without_files x) (doing.Writes a) b un in let k = or_parts (a == b) (is_one x.next b) u.2 in
+            none b given u.0 k.0 (ap (λ (o : Option ℕ). is_one o b) is ∙ u.1) k.1);
       }
       by (Some held) is (Some place) = record {
-        no_fd = no_fd;
-        no_agg = λ b given un. (let k = or_parts (held == b) ((a == b) || is_one x.next b) un in let l = or_parts (a == b) (is_one x.next b) k.1 in
-            none b given l.0 (ap (λ (o : Option ℕ). is_one o b) is ∙ k.0) l.1);
+        no_fd = λ f given un. no_fd f given (fds_parts parts job (doing.CuttingPart held a place.from) f un);
+        no_agg = λ b given un. (let u = part_unused parts x (doing.CuttingPart held a place.from) b un in let k = or_parts (held == b) ((a == b) || is_one x.next b) u.1 in
+            let l = or_parts (a == b) (is_one x.next b) k.1 in none b given u.0 l.0 (ap (λ (o : Option ℕ). is_one o b) is ∙ k.0) l.1);
       }
 
-  made : (begun : ℕ) (x : Collected) (r : Reply) → Had x doing.Runs → StepsTo m (event.Call d (call.AggMake x.text)) r n → HasTo (told_made x begun r)
-  made begun x (reply.Agg a) h step = interleaves doing.Runs begun (without_text x) a (λ f given un. free_make m n d f x.text (reply.Agg a) step (h.no_fd f given un))
-      (λ b given new held next. absent (call.AggMake x.text) (reply.Agg a) b step (both_false (d == d) (a == b) new) (h.no_agg b given (either_false (is_one x.held b) (is_one x.next b) held next)))
+  made : (begun : ℕ) (x : Collected) (r : Reply) → Had x (At doing.Runs) → StepsTo m (event.Call d (call.AggMake x.text)) r n → HasTo (told_made x begun r)
+  made begun x (reply.Agg a) h step = interleaves None begun (without_text x) a (λ f given un. free_make m n d f x.text (reply.Agg a) step (h.no_fd f given (only f un)))
+      (λ b given parts new held next. absent (call.AggMake x.text) (reply.Agg a) b step (both_false (d == d) (a == b) new) (h.no_agg b given (either_false (is_one x.held b) (is_one x.next b) held next)))
   made begun x r h step = tt
 
-  parted : (x : Collected) (held a from begun : ℕ) (r : Reply) → Had x (doing.CuttingPart held a from) → StepsTo m (event.Call d (call.AggSplit held from)) r n → HasTo (told_parted x a begun r)
+  parted : (x : Collected) (held a from begun : ℕ) (r : Reply) → Had x (At (doing.CuttingPart held a from)) → StepsTo m (event.Call d (call.AggSplit held from)) r n → HasTo (told_parted x a begun r)
   parted x held a from begun (reply.Aggs front part) h step = record {
     no_fd = λ f given un. free_split m n d f held from (reply.Aggs front part) step (h.no_fd f given un);
     no_agg = λ b given un. (let k = or_parts (a == b) ((part == b) || ((front == b) || is_one x.next b)) un in
@@ -227,18 +293,16 @@ module _ (own : CallsServeTheirDomain) (why : RefusalsTellWhy) (come : Aggregate
   }
   parted x held a from begun r h step = tt
 
-  replaced : (x : Collected) (a part at begun : ℕ) (r : Reply) → Had x (doing.ReplacingPart a part at) → StepsTo m (event.Call d (call.AggReplace a at at part)) r n → HasTo (told_replaced x a part begun r)
-  replaced x a part at begun (reply.Agg made) h step = record {
-    no_fd = λ f given un. free_replace m n d f a at at part (reply.Agg made) step (h.no_fd f given un);
-    no_agg = λ b given un. (let k = or_parts (a == b) ((part == b) || ((made == b) || (is_one x.held b || is_one x.next b))) un in
-        let l = or_parts (part == b) ((made == b) || (is_one x.held b || is_one x.next b)) k.1 in
-        let o = or_parts (made == b) (is_one x.held b || is_one x.next b) l.1 in
-        absent (call.AggReplace a at at part) (reply.Agg made) b step (both_false (d == d) (made == b) o.0)
-        (h.no_agg b given (either_false (a == b) ((part == b) || (is_one x.held b || is_one x.next b)) k.0 (either_false (part == b) (is_one x.held b || is_one x.next b) l.0 o.1))));
-  }
+  replaced : (x : Collected) (a part at begun : ℕ) (r : Reply) → Had x (At (doing.ReplacingPart a part at)) → StepsTo m (event.Call d (call.AggReplace a at at part)) r n → HasTo (told_replaced x a part begun r)
+  replaced x a part at begun (reply.Agg made) h step = interleaves (Some (a, part)) begun (without_last x) made
+      (λ f given un. free_replace m n d f a at at part (reply.Agg made) step (h.no_fd f given (only f un)))
+      (λ b given parts new held next. (let k = or_parts (a == b) ((part == b) || false) parts in
+          absent (call.AggReplace a at at part) (reply.Agg made) b step (both_false (d == d) (made == b) new)
+          (h.no_agg b given (either_false (a == b) ((part == b) || (is_one x.held b || is_one x.next b)) k.0
+          (either_false (part == b) (is_one x.held b || is_one x.next b) (left_of (part == b) false k.1) (either_false (is_one x.held b) (is_one x.next b) held next))))))
   replaced x a part at begun r h step = tt
 
-  joined : (x : Collected) (held a from len begun : ℕ) (r : Reply) → Had x (doing.JoiningFile held a from len) → StepsTo m (event.Call d (call.AggJoin held a)) r n → HasTo (told_joined x from len begun r)
+  joined : (x : Collected) (held a from len begun : ℕ) (r : Reply) → Had x (At (doing.JoiningFile held a from len)) → StepsTo m (event.Call d (call.AggJoin held a)) r n → HasTo (told_joined x from len begun r)
   joined x held a from len begun (reply.Agg c) h step = record {
     no_fd = λ f given un. free_join m n d f held a (reply.Agg c) step (h.no_fd f given un);
     no_agg = λ b given un. (let k = or_parts (c == b) (is_one x.next b) un in
@@ -246,62 +310,112 @@ module _ (own : CallsServeTheirDomain) (why : RefusalsTellWhy) (come : Aggregate
   }
   joined x held a from len begun r h step = tt
 
-  cuts : (x : Collected) (a from to begun : ℕ) (r : Reply) → Had x (doing.Cuts a from to) → StepsTo m (event.Call d (call.AggCut a from to)) r n → HasTo (told_cut x a begun r)
+  cuts : (x : Collected) (a from to begun : ℕ) (r : Reply) → Had x (At (doing.Cuts a from to)) → StepsTo m (event.Call d (call.AggCut a from to)) r n → HasTo (told_cut x a begun r)
   cuts x a from to begun (reply.Agg c) h step = record {
     no_fd = λ f given un. free_cut m n d f a from to (reply.Agg c) step (h.no_fd f given un);
-    no_agg = λ b given un. (let k = or_parts (a == b) ((c == b) || (is_one x.held b || is_one x.next b)) un in
+    no_agg = λ b given un. (let k = or_parts ((a == b) || false) ((c == b) || (is_one x.held b || is_one x.next b)) un in
         let l = or_parts (c == b) (is_one x.held b || is_one x.next b) k.1 in
-        absent (call.AggCut a from to) (reply.Agg c) b step (both_false (d == d) (c == b) l.0) (h.no_agg b given (either_false (a == b) (is_one x.held b || is_one x.next b) k.0 l.1)));
+        absent (call.AggCut a from to) (reply.Agg c) b step (both_false (d == d) (c == b) l.0)
+        (h.no_agg b given (either_false (a == b) (is_one x.held b || is_one x.next b) (left_of (a == b) false k.0) l.1)));
   }
   cuts x a from to begun r h step = tt
 
-  writes : (x : Collected) (a len begun : ℕ) (r : Reply) → Had x (doing.Writes a) → StepsTo m (event.Call d (call.IolWrite job.fd a)) r n → HasTo (told_written x a len begun r)
+  -- of what waits behind it
+  next_used : (x : Collected) (o : Option ℕ) (b : ℕ) → x.next ≡ o → is_one x.held b ≡ false → is_one o b ≡ false → (is_one x.held b || is_one x.next b) ≡ false
+  next_used x o b is held next = either_false (is_one x.held b) (is_one x.next b) held (ap (λ (p : Option ℕ). is_one p b) is ∙ next)
+
+  -- the aggregate that is written is released before the next call
+  write_unused : (x : Collected) (a b : ℕ) → (((a == b) || false) || (is_one x.held b || is_one x.next b)) ≡ false → ((a == b) || (is_one x.held b || is_one x.next b)) ≡ false
+  write_unused x a b un =
+      let k = or_parts ((a == b) || false) (is_one x.held b || is_one x.next b) un in
+      either_false (a == b) (is_one x.held b || is_one x.next b) (left_of (a == b) false k.0) k.1
+
+  -- as is one that waits behind it
+  both_unused : (x : Collected) (a c b : ℕ) → x.next ≡ Some c → (a == b) ≡ false → (c == b) ≡ false → (is_one x.held b || false) ≡ false → ((a == b) || (is_one x.held b || is_one x.next b)) ≡ false
+  both_unused x a c b is one two held =
+      either_false (a == b) (is_one x.held b || is_one x.next b) one (next_used x (Some c) b is (left_of (is_one x.held b) false held) two)
+
+  wrote : (x : Collected) (a taken begun : ℕ) → Had x (At (doing.Writes a)) → StepsTo m (event.Call d (call.IolWrite job.fd a)) (reply.Count taken) n → (o : Option ℕ) → x.next ≡ o → HasTo (written x o a begun)
+  wrote x a taken begun h step None is = record {
+    no_fd = λ f given un. free_write m n d job.fd f a (reply.Count taken) step (h.no_fd f given un);
+    no_agg = λ b given un. absent (call.IolWrite job.fd a) (reply.Count taken) b step refl (h.no_agg b given (write_unused x a b un));
+  }
+  wrote x a taken begun h step (Some c) is = record {
+    no_fd = λ f given un. free_write m n d job.fd f a (reply.Count taken) step (h.no_fd f given un);
+    no_agg = λ b given un. (let k = or_parts ((a == b) || false) ((c == b) || (is_one x.held b || false)) un in let l = or_parts (c == b) (is_one x.held b || false) k.1 in
+        absent (call.IolWrite job.fd a) (reply.Count taken) b step refl (h.no_agg b given (both_unused x a c b is (left_of (a == b) false k.0) l.0 l.1)));
+  }
+
+  breaks : (x : Collected) (a begun : ℕ) → Had x (At (doing.Writes a)) → n ≡ m → (o : Option ℕ) → x.next ≡ o → HasTo (broken x o a begun)
+  breaks x a begun h same None is = unchanged x x (At (doing.Writes a)) (Release (One (object.Agg a)) doing.Ends) (λ f un. un) (λ b un. write_unused x a b un) same h
+  breaks x a begun h same (Some c) is = unchanged x (without_next x) (At (doing.Writes a)) (Release (Two (object.Agg a) (object.Agg c)) doing.Ends) (λ f un. un)
+      (λ b un. (let k = or_parts ((a == b) || ((c == b) || false)) (is_one x.held b || false) un in let l = or_parts (a == b) ((c == b) || false) k.0 in
+          both_unused x a c b is l.0 (left_of (c == b) false l.1) k.1)) same h
+
+  writes : (x : Collected) (a len begun : ℕ) (r : Reply) → Had x (At (doing.Writes a)) → StepsTo m (event.Call d (call.IolWrite job.fd a)) r n → HasTo (told_written x a len begun r)
   writes x a len begun (reply.Count k) h step = by (k == len)
     where
-      by : (t : Bool) → HasJust n d fds aggs job x (if t then doing.Drops a else doing.Cuts a k len)
-      by true = record {
-        no_fd = λ f given un. free_write m n d job.fd f a (reply.Count k) step (h.no_fd f given un);
-        no_agg = λ b given un. absent (call.IolWrite job.fd a) (reply.Count k) b step refl (h.no_agg b given un);
-      }
+      by : (t : Bool) → HasTo (if t then written x x.next a begun else at (doing.Cuts a k len) begun x)
+      by true = wrote x a k begun h step x.next refl
       by false = record {
         no_fd = λ f given un. free_write m n d job.fd f a (reply.Count k) step (h.no_fd f given un);
         no_agg = λ b given un. absent (call.IolWrite job.fd a) (reply.Count k) b step refl (h.no_agg b given un);
       }
-  writes x a len begun (reply.Refused not_so.BrokenPipe) h step = unchanged x x (doing.Writes a) (doing.Breaks a) (λ f un. un) (λ b un. un) step.1 h
+  writes x a len begun (reply.Refused not_so.BrokenPipe) h step = breaks x a begun h step.1 x.next refl
   writes x a len begun r h step = tt
 
-  reads : (x : Collected) (file : ℕ) (u : Purpose) (begun : ℕ) (r : Reply) → Had x (doing.Reads file u) → StepsTo m (event.Call d (call.IolRead file 16777216)) r n → HasTo (told_read (lent_at n d) x file u begun r)
+  reads : (x : Collected) (file : ℕ) (u : Purpose) (begun : ℕ) (r : Reply) → Had x (At (doing.Reads file u)) → StepsTo m (event.Call d (call.IolRead file 16777216)) r n → HasTo (told_read (lent_at n d) x file u begun r)
   reads x file u begun (reply.Agg a) h step = by u
     where
-      none : (b : ℕ) → aggs b ≡ false → ((a == b) || is_one x.held b) ≡ false → lent_at n d b ≡ None
-      none b given un = (let k = or_parts (a == b) (is_one x.held b) un in absent (call.IolRead file 16777216) (reply.Agg a) b step (both_false (d == d) (a == b) k.0) (h.no_agg b given k.1))
+      -- the file is closed next, and the aggregate is used or dropped
+      to : (z : Collected) (v : Phase) → ((f : ℕ) → uses_fd job v f ≡ false → ((job.fd == f) || ((file == f) || false)) ≡ false) → ((b : ℕ) → uses_agg z v b ≡ false → ((a == b) || is_one x.held b) ≡ false)
+          → HasJust n d fds aggs job z v
+      to z v fewer_fds fewer = record {
+        no_fd = λ f given un. free_read m n d file f 16777216 (reply.Agg a) step (h.no_fd f given (fewer_fds f un));
+        no_agg = λ b given un. (let k = or_parts (a == b) (is_one x.held b) (fewer b un) in absent (call.IolRead file 16777216) (reply.Agg a) b step (both_false (d == d) (a == b) k.0) (h.no_agg b given k.1));
+      }
 
-      by : (v : Purpose) → HasJust n d fds aggs job x (got (lent_at n d) file a v)
-      by purpose.Cat = record { no_fd = λ f given un. free_read m n d file f 16777216 (reply.Agg a) step (h.no_fd f given un); no_agg = none }
-      by purpose.Wc = record { no_fd = λ f given un. free_read m n d file f 16777216 (reply.Agg a) step (h.no_fd f given un); no_agg = none }
-  reads x file u begun (reply.Refused y) h step = unchanged x x (doing.Reads file u) _ (λ f un. un) (λ b un. un) step.1 h
+      cat : (from len : ℕ) (o : Option ℕ) → x.held ≡ o → (t v : Bool) → HasTo (if t then file_collected file x o from a len begun
+          else (if v then after (One (object.File file)) (doing.Writes a) begun x else after (One (object.File file)) doing.Runs begun (with_next x a)))
+      cat from len None is true v = to (with_file x a 0 len) (Release (One (object.File file)) doing.Runs) (λ f un. un)
+          (λ b un. (let k = or_parts (a == b) (is_one x.next b) un in either_false (a == b) (is_one x.held b) k.0 (ap (λ (o : Option ℕ). is_one o b) is)))
+      cat from len (Some held) is true v = to x (Release (One (object.File file)) (doing.JoiningFile held a from len)) (λ f un. un)
+          (λ b un. (let k = or_parts (held == b) (a == b) un in either_false (a == b) (is_one x.held b) k.1 (ap (λ (o : Option ℕ). is_one o b) is ∙ k.0)))
+      cat from len o is false true = to x (Release (One (object.File file)) (doing.Writes a)) (λ f un. un)
+          (λ b un. (let k = or_parts (a == b) (is_one x.held b || is_one x.next b) un in either_false (a == b) (is_one x.held b) k.0 (or_parts (is_one x.held b) (is_one x.next b) k.1).0))
+      cat from len o is false false = to (with_next x a) (Release (One (object.File file)) doing.Runs) (λ f un. un)
+          (λ b un. (let k = or_parts (is_one x.held b) (a == b) un in either_false (a == b) (is_one x.held b) k.1 k.0))
+
+      by : (v : Purpose) → HasTo (got (lent_at n d) x file a v begun)
+      by purpose.Cat = cat (length (bytes_of_one (lent_at n d) x.held)) (length (bytes_at (lent_at n d) a)) x.held refl (nat_le (length (bytes_at (lent_at n d) a)) 4096) (is_nothing x)
+      by purpose.Wc = to (with_text x (said_text (said.Counted (counts_of (bytes_at (lent_at n d) a))))) (Release (Two (object.Agg a) (object.File file)) doing.Runs) (λ f un. un)
+          (λ b un. (let k = or_parts ((a == b) || false) (is_one x.held b || is_one x.next b) un in
+              either_false (a == b) (is_one x.held b) (left_of (a == b) false k.0) (or_parts (is_one x.held b) (is_one x.next b) k.1).0))
+  reads x file u begun (reply.Refused y) h step = unchanged x (with_text x (said_text (said.Refused y))) (At (doing.Reads file u)) (Release (One (object.File file)) doing.Runs) (λ f un. un)
+      (λ b un. (or_parts (is_one x.held b) (is_one x.next b) un).0) step.1 h
   reads x file u begun r h step = tt
 
   -- a line is begun: no file waits behind what is collected
   abbrev NoNext : Collected → Type 0
   NoNext x = x.next ≡ None
 
-  opens : (x : Collected) (u : Purpose) (name : List ℕ) (begun : ℕ) (r : Reply) → NoNext x → Had x doing.Runs → StepsTo m (event.Call d (call.OpenFile name Read)) r n → HasTo (told_opened x u begun r)
+  opens : (x : Collected) (u : Purpose) (name : List ℕ) (begun : ℕ) (r : Reply) → NoNext x → Had x (At doing.Runs) → StepsTo m (event.Call d (call.OpenFile name Read)) r n → HasTo (told_opened x u begun r)
   opens x u name begun (reply.Fd g) none h step = record {
-    no_fd = λ f given un. free_open m n d f g name Read step (apart g f (right_of (job.fd == f) (g == f) un)) (h.no_fd f given (left_of (job.fd == f) (g == f) un));
+    no_fd = λ f given un. free_open m n d f g name Read step (apart g f (left_of (g == f) false (right_of (job.fd == f) ((g == f) || false) un)))
+        (h.no_fd f given (only f (left_of (job.fd == f) ((g == f) || false) un)));
     no_agg = λ b given un. absent (call.OpenFile name Read) (reply.Fd g) b step refl (h.no_agg b given (either_false (is_one x.held b) (is_one x.next b) un (ap (λ (o : Option ℕ). is_one o b) none)));
   }
-  opens x u name begun (reply.Refused y) none h step = unchanged x _ doing.Runs doing.Runs (λ f un. un) (λ b un. un) step.1 h
+  opens x u name begun (reply.Refused y) none h step = unchanged x _ (At doing.Runs) (At doing.Runs) (λ f un. un) (λ b un. un) step.1 h
   opens x u name begun r none h step = tt
 
-  collects : (x : Collected) (said : List ℕ) (begun : ℕ) (r : Reply) → Had x doing.Runs → StepsTo m (event.Call d (call.SetPool 3)) r n → HasTo (Some (at_step doing.Runs begun (with_text x said)))
+  collects : (x : Collected) (said : List ℕ) (begun : ℕ) (r : Reply) → Had x (At doing.Runs) → StepsTo m (event.Call d (call.SetPool 3)) r n → HasTo (at doing.Runs begun (with_text x said))
   collects x said begun r h step = record {
     no_fd = λ f given un. free_set_pool m n d f 3 r step (h.no_fd f given un);
     no_agg = λ b given un. after_set_pool 3 b r step (h.no_agg b given un);
   }
 
-  begins : (x : Collected) (begun : ℕ) (l : Option Line) (r : Reply) → is_due x l ≡ false → Had x doing.Runs → StepsTo m (event.Call d (next_call job l)) r n → HasTo (told_next job x l begun r)
-  begins x begun None r due h step = closes x x doing.Runs doing.Waits job.fd r (λ f differ un. differ)
+  begins : (x : Collected) (begun : ℕ) (l : Option Line) (r : Reply) → is_due x l ≡ false → Had x (At doing.Runs) → StepsTo m (event.Call d (next_call job l)) r n → HasTo (told_next job x l begun r)
+  begins x begun None r due h step = closes x x (At doing.Runs) (At doing.Waits) job.fd r (λ f differ un. only f differ)
       (λ b un. (let empty = nothing_is x (not_not (is_nothing x) due) in either_false (is_one x.held b) (is_one x.next b) (ap (λ (o : Option ℕ). is_one o b) empty.held) (ap (λ (o : Option ℕ). is_one o b) empty.next))) h step
   begins x begun (Some (line.Cat name)) r due h step = opens x purpose.Cat name (begun + 1) r (none_next x due) h step
   begins x begun (Some (line.Wc name)) r due h step = opens x purpose.Wc name (begun + 1) r (none_next x due) h step
@@ -312,67 +426,30 @@ module _ (own : CallsServeTheirDomain) (why : RefusalsTellWhy) (come : Aggregate
     no_agg = λ b given un. after_set_pool 3 b r step (h.no_agg b given un);
   }
 
-  runs : (x : Collected) (begun : ℕ) (r : Reply) (t : Bool) → due_now job x begun ≡ t → Had x doing.Runs → StepsTo m (event.Call d (if t then call.AggMake x.text else next_call job (slice_get job.lines begun))) r n
+  runs : (x : Collected) (begun : ℕ) (r : Reply) (t : Bool) → due_now job x begun ≡ t → Had x (At doing.Runs) → StepsTo m (event.Call d (if t then call.AggMake x.text else next_call job (slice_get job.lines begun))) r n
       → HasTo (if t then told_made x begun r else told_next job x (slice_get job.lines begun) begun r)
   runs x begun r true due h step = made begun x r h step
   runs x begun r false due h step = begins x begun (slice_get job.lines begun) r due h step
 
-  shuts : (x : Collected) (file a from len begun : ℕ) (r : Reply) → Had x (doing.Shuts file a) → StepsTo m (event.Call d (call.Close file)) r n → HasTo (shut_by x from a len begun)
-  shuts x file a from len begun r h step = by x.held refl (nat_le len 4096) (is_nothing x)
-    where
-      to : (z : Collected) (v : Doing) → ((f : ℕ) → uses_fd job v f ≡ false → (job.fd == f) ≡ false) → ((b : ℕ) → uses_agg z v b ≡ false → ((a == b) || is_one x.held b) ≡ false) → HasJust n d fds aggs job z v
-      to z v fewer_fds fewer = closes x z (doing.Shuts file a) v file r (λ f differ un. either_false (job.fd == f) (file == f) (fewer_fds f un) differ) fewer h step
-
-      by : (o : Option ℕ) → x.held ≡ o → (t u : Bool) → HasTo (if t then file_collected x o from a len begun
-          else (if u then Some (at_step (doing.Writes a) begun x) else Some (at_step doing.Runs begun (with_next x a))))
-      by None is true u = to (with_file x a 0 len) doing.Runs (λ f un. un)
-          (λ b un. (let k = or_parts (a == b) (is_one x.next b) un in either_false (a == b) (is_one x.held b) k.0 (ap (λ (o : Option ℕ). is_one o b) is)))
-      by (Some held) is true u = to x (doing.JoiningFile held a from len) (λ f un. un)
-          (λ b un. (let k = or_parts (held == b) (a == b) un in either_false (a == b) (is_one x.held b) k.1 (ap (λ (o : Option ℕ). is_one o b) is ∙ k.0)))
-      by o is false true = to x (doing.Writes a) (λ f un. un)
-          (λ b un. (let k = or_parts (a == b) (is_one x.held b || is_one x.next b) un in either_false (a == b) (is_one x.held b) k.0 (or_parts (is_one x.held b) (is_one x.next b) k.1).0))
-      by o is false false = to (with_next x a) doing.Runs (λ f un. un)
-          (λ b un. (let k = or_parts (is_one x.held b) (a == b) un in either_false (a == b) (is_one x.held b) k.1 k.0))
-
-  -- of what waits behind it
-  next_used : (x : Collected) (o : Option ℕ) (a b : ℕ) → x.next ≡ o → is_one x.held b ≡ false → is_one o b ≡ false → (is_one x.held b || is_one x.next b) ≡ false
-  next_used x o a b is held next = either_false (is_one x.held b) (is_one x.next b) held (ap (λ (p : Option ℕ). is_one p b) is ∙ next)
-
-  dropped_on : (x : Collected) (a begun : ℕ) (r : Reply) (o : Option ℕ) → x.next ≡ o → Had x (doing.Drops a) → StepsTo m (event.Call d (call.AggDrop a)) r n → HasTo (told_dropped x o begun)
-  dropped_on x a begun r None is h step = drops x x (doing.Drops a) doing.Runs a r (λ f un. un) (λ b differ un. either_false (a == b) (is_one x.held b || is_one x.next b) differ un) h step
-  dropped_on x a begun r (Some c) is h step = drops x (without_next x) (doing.Drops a) (doing.Writes c) a r (λ f un. un)
-      (λ b differ un. (let k = or_parts (c == b) (is_one x.held b || false) un in either_false (a == b) (is_one x.held b || is_one x.next b) differ (next_used x (Some c) a b is (or_parts (is_one x.held b) false k.1).0 k.0))) h step
-
-  broken_on : (x : Collected) (a begun : ℕ) (r : Reply) (o : Option ℕ) → x.next ≡ o → Had x (doing.Breaks a) → StepsTo m (event.Call d (call.AggDrop a)) r n → HasTo (told_broken job x o begun)
-  broken_on x a begun r None is h step = drops x x (doing.Breaks a) doing.Runs a r (λ f un. un) (λ b differ un. either_false (a == b) (is_one x.held b || is_one x.next b) differ un) h step
-  broken_on x a begun r (Some c) is h step = drops x (without_next x) (doing.Breaks a) (doing.Breaks c) a r (λ f un. un)
-      (λ b differ un. (let k = or_parts (c == b) (is_one x.held b || false) un in either_false (a == b) (is_one x.held b || is_one x.next b) differ (next_used x (Some c) a b is (or_parts (is_one x.held b) false k.1).0 k.0))) h step
-
-  by_doing : (begun : ℕ) (x : Collected) (y : Doing) (r : Reply) → Had x y → StepsTo m (event.Call d (call_at job (at_step y begun x))) r n → HasTo (told job (at_step y begun x) (lent_at n d) r)
+  by_doing : (begun : ℕ) (x : Collected) (y : Doing) (r : Reply) → Had x (At y) → StepsTo m (event.Call d (doing_call job x begun y)) r n → HasTo (told_doing (lent_at n d) job x begun y r)
   by_doing begun x doing.Waits r h step = tt
   by_doing begun x doing.Runs r h step = runs x begun r (due_now job x begun) refl h step
   by_doing begun x (doing.Reads file u) r h step = reads x file u begun r h step
   by_doing begun x (doing.JoiningFile held a from len) r h step = joined x held a from len begun r h step
   by_doing begun x (doing.CuttingPart held a from) r h step = parted x held a from begun r h step
   by_doing begun x (doing.ReplacingPart a part at) r h step = replaced x a part at begun r h step
-  by_doing begun x (doing.DroppingText a part made) r h step = drops x x (doing.DroppingText a part made) (doing.DroppingPart part made) a r (λ f un. un)
-      (λ b differ un. either_false (a == b) ((part == b) || ((made == b) || (is_one x.held b || is_one x.next b))) differ un) h step
-  by_doing begun x (doing.DroppingPart part made) r h step = interleaves (doing.DroppingPart part made) begun x made (λ f given un. free_drop m n d f part r step (h.no_fd f given un))
-      (λ b given new held next. after_drop part b r step (λ differ. h.no_agg b given (either_false (part == b) ((made == b) || (is_one x.held b || is_one x.next b)) differ
-      (either_false (made == b) (is_one x.held b || is_one x.next b) new (either_false (is_one x.held b) (is_one x.next b) held next)))))
   by_doing begun x (doing.Writes a) r h step = writes x a (length (bytes_at (lent_at n d) a)) begun r h step
   by_doing begun x (doing.Cuts a from to) r h step = cuts x a from to begun r h step
-  by_doing begun x (doing.Skips a) r h step = drops x x (doing.Skips a) doing.Waits a r (λ f un. un) (λ b differ un. differ) h step
-  by_doing begun x (doing.Counted file a s) r h step = drops x x (doing.Counted file a s) (doing.ShutsToSay file s) a r (λ f un. un) (λ b differ un. either_false (a == b) (is_one x.held b) differ un) h step
-  by_doing begun x (doing.Drops a) r h step = dropped_on x a begun r x.next refl h step
-  by_doing begun x (doing.Breaks a) r h step = broken_on x a begun r x.next refl h step
-  by_doing begun x (doing.Swaps a c) r h step = drops x x (doing.Swaps a c) (doing.Writes c) a r (λ f un. un) (λ b differ un. either_false (a == b) ((c == b) || (is_one x.held b || is_one x.next b)) differ un) h step
-  by_doing begun x (doing.Shuts file a) r h step = shuts x file a (length (bytes_of_one (lent_at n d) x.held)) (length (bytes_at (lent_at n d) a)) begun r h step
-  by_doing begun x (doing.ShutsToSay file s) r h step = closes x _ (doing.ShutsToSay file s) doing.Runs file r (λ f differ un. either_false (job.fd == f) (file == f) un differ) (λ b un. (or_parts (is_one x.held b) (is_one x.next b) un).0) h step
+  by_doing begun x doing.Ends r h step =
+      runs x (length job.lines) r (due_now job x (length job.lines)) refl (record { no_fd = λ f given un. h.no_fd f given un; no_agg = λ b given un. h.no_agg b given un }) step
+
+  by_phase : (begun : ℕ) (x : Collected) (y : Phase) (r : Reply) → Had x y → StepsTo m (event.Call d (phase_call job x begun y)) r n → HasTo (told_phase (lent_at n d) job x begun y r)
+  by_phase begun x (Release os y) r h step = released x os y r h step
+  by_phase begun x (At y) r h step = by_doing begun x y r h step
 
 pub call_keeps : CallsServeTheirDomain → RefusalsTellWhy → AggregatesComeAndGo → (m n : State) (d : ℕ) (fds aggs : ℕ → Bool) (job : Task) (step next : Step) (r : Reply) → IsOrderly m
-    → is_live m d ≡ true → HasJust m d fds aggs job step.piece step.doing → StepsTo m (event.Call d (call_at job step)) r n
-    → told job step (lent_at n d) r ≡ Some next → HasJust n d fds aggs job next.piece next.doing
+    → is_live m d ≡ true → HasJust m d fds aggs job step.piece step.phase → StepsTo m (event.Call d (call_at job step)) r n
+    → told job step (lent_at n d) r ≡ Some next → HasJust n d fds aggs job next.piece next.phase
 call_keeps own why come m n d fds aggs job step next r order live h did is =
-    let kept = by_doing own why come m n d fds aggs job order live step.begun step.piece step.doing r h did in
+    let kept = by_phase own why come m n d fds aggs job order live step.begun step.piece step.phase r h did in
     subst (λ (s : Option Step). HasTo own why come m n d fds aggs job order live s) is kept
