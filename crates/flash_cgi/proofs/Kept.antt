@@ -1,5 +1,5 @@
 -- What a worker's call needs stays, and so do the bytes still to be written, if the machine still has what the call uses.
-use Rattle.std.proofs.Common.{inl, inr, ◌≡◌, ◌⊎◌, ℕ, ◌==◌, ◌≤◌, List, [], ◌++◌, length, drop, ap, ◌∙◌, refl, sym, subst, arith, Option, Some, None, true, Bool}
+use Rattle.std.proofs.Common.{inl, inr, ◌≡◌, ◌⊎◌, ℕ, ◌==◌, ◌≤◌, List, [], ◌++◌, length, drop, ap, ◌∙◌, refl, sym, subst, arith, Option, Some, None, true, false, Bool}
 use Rattle.std.specs.Prelude.{unwrap_or, ◌||◌}
 use Rattle.std.proofs.lemmas.Bool.Decides.{nat_tests}
 use Rattle.iol_core.specs.State.{State, descriptor, file, may_read}
@@ -11,10 +11,10 @@ use Rattle.flash_cgi.specs.Collecting.{Collected, bytes_of_one, collected, colle
 use Rattle.flash_cgi.specs.Job.{Task}
 use Rattle.flash_cgi.specs.Output.{Outcome, by_first}
 use Rattle.flash_cgi.specs.PhaseUses.{call_uses, has_collected, is_one, reads_file}
-use Rattle.flash_cgi.specs.Pieces.{Gathers, HasPiece, HoldsAt, IsRest, Lends, LendsFiles}
+use Rattle.flash_cgi.specs.Pieces.{HasPiece, HoldsAt, IsRest, Lends, LendsFiles}
 use Rattle.flash_cgi.specs.Release.{after_first, first, is_agg, is_file, releases}
 use Rattle.flash_cgi.specs.WorkerSteps.{bytes_at}
-use Rattle.flash_cgi.specs.Feeds.{AreSpare, IsFileOpen, IsSpare, Needs, put_out, rest_of, set_in, still_doing, then_rest}
+use Rattle.flash_cgi.specs.Feeds.{AreSpare, IsSpare, Needs, put_out, rest_of, set_in, still_doing, then_rest}
 use Rattle.flash_cgi.specs.declared.phase.Doing.{Doing}
 use Rattle.flash_cgi.specs.declared.phase.Doing.TheVariants as doing
 use Rattle.flash_cgi.specs.declared.phase.Object.{Object}
@@ -93,7 +93,7 @@ module _ (m n : State) (d : ℕ) (x : Collected) where
   lent_still (doing.Cuts b from to) needs h k a bytes one is = k.bytes a bytes (in_later (b == a) (has_collected x a) (collected_is x a one)) is
 
   -- an aggregate of a call's own
-  own_lent : (y : Doing) (a : ℕ) → Kept y → call_uses x y a ≡ true → Lends (lent_at m d) a → Lends (lent_at n d) a
+  abbrev own_lent : (y : Doing) (a : ℕ) → Kept y → call_uses x y a ≡ true → Lends (lent_at m d) a → Lends (lent_at n d) a
   own_lent y a k u h = (h.0, k.bytes a h.0 u h.1)
 
   -- ---- what a call needs

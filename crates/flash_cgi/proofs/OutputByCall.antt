@@ -2,7 +2,7 @@
 use Rattle.std.proofs.Common.{inl, inr, ◌≡◌, ◌≢◌, ℕ, ◌+◌, ◌-◌, ◌==◌, ◌⊎◌, List, [], ◌∷◌, ◌++◌, length, take, drop, ap, ◌∙◌, refl, sym, subst, arith, Option, Some, None, true, false, Bool, if◌then◌else◌, append_assoc, append-nil}
 use Rattle.std.specs.Prelude.{◌||◌, ◌&&◌, not, is_some, nat_le, slice_range, slice_get}
 use Rattle.std.proofs.lemmas.Bool.Decides.{nat_tests}
-use Rattle.iol_core.specs.Text.{Text, bytes_of}
+use Rattle.iol_core.specs.Text.{bytes_of}
 use Rattle.iol_core.specs.State.{State, Pipe, File, content, descriptor, pipe_at, file, may_read}
 use Rattle.iol_core.specs.Calls.Writes.{is_file}
 use Rattle.iol_core.specs.Run.{StepsTo}
@@ -46,7 +46,7 @@ use Rattle.flash_cgi.specs.declared.phase.Phase.TheVariants.{Release, At}
 use Rattle.flash_cgi.specs.declared.phase.Step.{Step}
 use Rattle.flash_cgi.proofs.Interleaving.{LendsStill, file_added, file_in, gathers_still, new_apart, nothing_collected, nothing_is, piece_kept, rest_text, said_behind, text_added}
 pub use Rattle.flash_cgi.proofs.StaysByCall.{bytes-append}
-use Rattle.flash_cgi.proofs.StaysByCall.{and_false, not-equal, rest-cons, rest-nil, at_step, range_to_end, drop_all, moved, and_before, failed_text, file_of, file-same, same_bytes, is_bytes, no_end, not_output, rest_still, all_same, held_apart, lent-stays, neither, next_apart, still_lent, goes, released}
+use Rattle.flash_cgi.proofs.StaysByCall.{and_false, not-equal, rest-cons, rest-nil, at_step, range_to_end, drop_all, moved, and_before, failed_text, file_of, file-same, is_bytes, no_end, not_output, rest_still, all_same, held_apart, lent-stays, neither, next_apart, still_lent, goes, released}
 use Rattle.flash_cgi.proofs.PiecesByCall.{makes, parts, replaces}
 
 module _ (steps : EachStepLeavesTheRest) (own : CallsServeTheirDomain) (files : FileCallsServeTheirDomain) (why : RefusalsTellWhy) where

@@ -1,7 +1,7 @@
 -- Making the buffered output: a text, with the bytes of files inserted.
 use Rattle.std.proofs.Common.{inl, ◌≡◌, ◌≢◌, ℕ, ◌+◌, ◌-◌, ◌==◌, ◌⊎◌, List, [], ◌∷◌, ◌++◌, length, take, drop, ap, ◌∙◌, refl, sym, subst, arith, ◌≤◌, Option, Some, None, false, append_assoc}
 use Rattle.std.specs.Prelude.{Bool, ◌||◌}
-use Rattle.iol_core.specs.Text.{Text, bytes_of}
+use Rattle.iol_core.specs.Text.{bytes_of}
 use Rattle.iol_core.specs.State.{State, File, pipe_at, file}
 use Rattle.iol_core.specs.Run.{StepsTo}
 use Rattle.iol_core.specs.declared.descriptors.Descriptor.TheVariants as on
@@ -143,8 +143,7 @@ module _ (steps : EachStepLeavesTheRest) (own : CallsServeTheirDomain) where
       by (Some held) [] is none =
           let next_is = subst (λ (o : Option ℕ). LendsNext (lent_at n d) o x.next) is piece.next in
           let differ : a ≢ held = λ same. apart.0 (is ∙ ap (λ k. Some k) (sym same)) in
-          released_all parts held left (doing.Writes a) lends
-          (
+          released_all parts held left (doing.Writes a) lends (
             record { piece = record { files = refl; within = tt; next = no_next x.held x.next piece.next }; no_text = no_text; no_places = refl },
             left_apart a apart.1,
           )

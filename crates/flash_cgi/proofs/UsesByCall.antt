@@ -18,9 +18,9 @@ use Rattle.iol_laws.specs.Order.{IsOrderly}
 use Rattle.iol_laws.specs.Reasons.{RefusalsTellWhy}
 use Rattle.flash_cgi.specs.Collecting.{Collected, bytes_of_one, is_due, is_full, is_nothing, last_place, with_file, with_next, with_text, without_files, without_last, without_next, without_text}
 use Rattle.flash_cgi.specs.Job.{Task}
-use Rattle.flash_cgi.specs.WorkerSteps.{Parts, after_all, after_parts, at, broken, call_at, cat_read, counts_of, doing_call, due_now, file_collected, after, told, told_doing, told_joined, told_next, told_made, told_opened, told_parted, told_phase, told_replaced, told_written, told_read, told_cut, got, next_call, phase_call, bytes_at, interleave_by, interleave_on, said_text, step_with, written}
+use Rattle.flash_cgi.specs.WorkerSteps.{Parts, after_all, after_parts, at, broken, call_at, counts_of, doing_call, due_now, file_collected, after, told, told_doing, told_joined, told_next, told_made, told_opened, told_parted, told_phase, told_replaced, told_written, told_read, told_cut, got, next_call, phase_call, bytes_at, interleave_by, interleave_on, said_text, written}
 use Rattle.flash_cgi.specs.PhaseUses.{call_uses, has_output, is_one, reads_file, uses_fd, uses_agg}
-use Rattle.flash_cgi.specs.Release.{after_first, first, is_agg, is_file, is_one_of, release_call, releases, work_of}
+use Rattle.flash_cgi.specs.Release.{after_first, first, is_agg, is_file, release_call}
 use Rattle.flash_cgi.specs.Uses.{HasJust}
 use Rattle.flash_cgi.specs.declared.line.Line.{Line}
 use Rattle.flash_cgi.specs.declared.line.Line.TheVariants as line
@@ -91,7 +91,7 @@ behind_agg : (t c e : Bool) → t ≡ false → (c || e) ≡ false → ((t || c)
 behind_agg true c e is un = absurd (cc (is))
 behind_agg false c e is un = un
 
-is_part : Parts → (a : ℕ) → Bool
+abbrev is_part : Parts → (a : ℕ) → Bool
 is_part None a = false
 is_part (Some p) a = (p.0 == a) || ((p.1 == a) || false)
 
@@ -297,9 +297,9 @@ module _ (own : CallsServeTheirDomain) (why : RefusalsTellWhy) (come : Aggregate
   replaced x a part at begun (reply.Agg made) h step = interleaves (Some (a, part)) begun (without_last x) made
       (λ f given un. free_replace m n d f a at at part (reply.Agg made) step (h.no_fd f given (only f un)))
       (λ b given parts new held next. (let k = or_parts (a == b) ((part == b) || false) parts in
-          absent (call.AggReplace a at at part) (reply.Agg made) b step (both_false (d == d) (made == b) new)
-          (h.no_agg b given (either_false (a == b) ((part == b) || (is_one x.held b || is_one x.next b)) k.0
-          (either_false (part == b) (is_one x.held b || is_one x.next b) (left_of (part == b) false k.1) (either_false (is_one x.held b) (is_one x.next b) held next))))))
+      absent (call.AggReplace a at at part) (reply.Agg made) b step (both_false (d == d) (made == b) new)
+      (h.no_agg b given (either_false (a == b) ((part == b) || (is_one x.held b || is_one x.next b)) k.0
+      (either_false (part == b) (is_one x.held b || is_one x.next b) (left_of (part == b) false k.1) (either_false (is_one x.held b) (is_one x.next b) held next))))))
   replaced x a part at begun r h step = tt
 
   joined : (x : Collected) (held a from len begun : ℕ) (r : Reply) → Had x (At (doing.JoiningFile held a from len)) → StepsTo m (event.Call d (call.AggJoin held a)) r n → HasTo (told_joined x from len begun r)
@@ -350,7 +350,7 @@ module _ (own : CallsServeTheirDomain) (why : RefusalsTellWhy) (come : Aggregate
   breaks x a begun h same None is = unchanged x x (At (doing.Writes a)) (Release (One (object.Agg a)) doing.Ends) (λ f un. un) (λ b un. write_unused x a b un) same h
   breaks x a begun h same (Some c) is = unchanged x (without_next x) (At (doing.Writes a)) (Release (Two (object.Agg a) (object.Agg c)) doing.Ends) (λ f un. un)
       (λ b un. (let k = or_parts ((a == b) || ((c == b) || false)) (is_one x.held b || false) un in let l = or_parts (a == b) ((c == b) || false) k.0 in
-          both_unused x a c b is l.0 (left_of (c == b) false l.1) k.1)) same h
+      both_unused x a c b is l.0 (left_of (c == b) false l.1) k.1)) same h
 
   writes : (x : Collected) (a len begun : ℕ) (r : Reply) → Had x (At (doing.Writes a)) → StepsTo m (event.Call d (call.IolWrite job.fd a)) r n → HasTo (told_written x a len begun r)
   writes x a len begun (reply.Count k) h step = by (k == len)
@@ -390,7 +390,7 @@ module _ (own : CallsServeTheirDomain) (why : RefusalsTellWhy) (come : Aggregate
       by purpose.Cat = cat (length (bytes_of_one (lent_at n d) x.held)) (length (bytes_at (lent_at n d) a)) x.held refl (nat_le (length (bytes_at (lent_at n d) a)) 4096) (is_nothing x)
       by purpose.Wc = to (with_text x (said_text (said.Counted (counts_of (bytes_at (lent_at n d) a))))) (Release (Two (object.Agg a) (object.File file)) doing.Runs) (λ f un. un)
           (λ b un. (let k = or_parts ((a == b) || false) (is_one x.held b || is_one x.next b) un in
-              either_false (a == b) (is_one x.held b) (left_of (a == b) false k.0) (or_parts (is_one x.held b) (is_one x.next b) k.1).0))
+          either_false (a == b) (is_one x.held b) (left_of (a == b) false k.0) (or_parts (is_one x.held b) (is_one x.next b) k.1).0))
   reads x file u begun (reply.Refused y) h step = unchanged x (with_text x (said_text (said.Refused y))) (At (doing.Reads file u)) (Release (One (object.File file)) doing.Runs) (λ f un. un)
       (λ b un. (or_parts (is_one x.held b) (is_one x.next b) un).0) step.1 h
   reads x file u begun r h step = tt

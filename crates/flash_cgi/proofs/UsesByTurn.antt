@@ -18,7 +18,7 @@ use Rattle.iol_proc.specs.declared.process.Turn.TheVariants as turn
 use Rattle.iol_proc.specs.declared.seat.Seat.{Seat}
 use Rattle.flash_cgi.specs.Collecting.{Collected, bytes_of_one, is_nothing, with_next}
 use Rattle.flash_cgi.specs.Job.{Task, job_of}
-use Rattle.flash_cgi.specs.WorkerSteps.{after, broken, call_at, cat_read, doing_call, due_now, file_collected, got, phase_call, step_with, told, told_doing, told_joined, told_next, told_made, told_opened, told_parted, told_phase, told_replaced, told_written, told_read, told_cut, next_call, open_call, bytes_at, written}
+use Rattle.flash_cgi.specs.WorkerSteps.{after, call_at, cat_read, doing_call, due_now, file_collected, got, phase_call, step_with, told, told_doing, told_joined, told_next, told_made, told_opened, told_parted, told_phase, told_replaced, told_written, told_read, told_cut, next_call, open_call, bytes_at, written}
 use Rattle.flash_cgi.specs.Works.{works, works_as, files, goes_on, takes, with_job, worker_turns}
 use Rattle.flash_cgi.specs.PhaseUses.{uses_fd}
 use Rattle.flash_cgi.specs.Turns.{is_given, or_again, filed_step}
@@ -116,7 +116,7 @@ module _ (m n : State) (d : ℕ) where
   replaced_again x a part at begun (reply.Refused y) step none = step.1
   replaced_again x a part at begun r step none = (let e = step.1 in absurd (cc (e)))
 
-  job_again : (r : Reply) → StepsTo m (event.Call d (call.IolRead 0 65536)) r n → is_given doing.Waits r ≡ false → n ≡ m
+  job_again : (r : Reply) → StepsTo m (event.Call d (call.IolRead 0 65536)) r n → is_given (At doing.Waits) r ≡ false → n ≡ m
   job_again (reply.Agg a) step un = absurd (cc (un))
   job_again (reply.Refused x) step un = step.1
   job_again r step un = (let e = step.1 in absurd (cc (e)))

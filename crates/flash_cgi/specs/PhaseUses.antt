@@ -1,5 +1,5 @@
 -- The descriptors and aggregates that a phase of a worker uses, those to be released among them.
-use Rattle.std.specs.Prelude.{◌≡◌, ℕ, ◌==◌, ◌||◌, Bool, false, Option, Some, None}
+use Rattle.std.specs.Prelude.{ℕ, ◌==◌, ◌||◌, Bool, false, Option, Some, None}
 use Rattle.flash_cgi.specs.Collecting.{Collected}
 use Rattle.flash_cgi.specs.Job.{Task}
 use Rattle.flash_cgi.specs.Release.{is_agg, is_file, releases, work_of}

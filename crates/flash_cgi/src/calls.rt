@@ -134,8 +134,8 @@ fn release_call(what: &Objects) -> Call
         Objects::Three(first, _, _) => first,
     };
     match first {
-        Object::Agg { agg } => Call::AggDrop { agg },
-        Object::File { file } => Call::Close { fd: file },
+        Object::Agg(agg) => Call::AggDrop { agg },
+        Object::File(file) => Call::Close { fd: file },
     }
 }
 
@@ -152,6 +152,6 @@ pub(crate) fn call_of(
 {
     match phase {
         Phase::Release { what, .. } => Ok(release_call(what)),
-        Phase::At { doing } => doing_call(alloc, job, piece, begun, doing),
+        Phase::At(doing) => doing_call(alloc, job, piece, begun, doing),
     }
 }

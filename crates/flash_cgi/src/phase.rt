@@ -68,10 +68,10 @@ pub enum Doing {
 #[derive(Clone, Copy, Debug)]
 pub enum Object {
     /// An aggregate, which is dropped.
-    Agg { agg: AggId },
+    Agg(AggId),
 
     /// A file, which is closed.
-    File { file: Fd },
+    File(Fd),
 }
 
 /// Objects that are released in order.
@@ -87,7 +87,7 @@ pub enum Objects {
 #[derive(Clone, Copy, Debug)]
 pub enum Phase {
     Release { what: Objects, then: Doing },
-    At { doing: Doing },
+    At(Doing),
 }
 
 /// The phase of a worker, the number of lines that it has begun, and its buffered output.

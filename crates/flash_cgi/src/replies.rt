@@ -65,13 +65,12 @@ fn told_opened(alloc: Global, piece: &Piece, purpose: Purpose, begun: usize, las
                 file: *file,
                 purpose,
             };
-            Ok(at(Phase::At { doing }, begun))
+            Ok(at(Phase::At(doing), begun))
         }
         Reply::Refused(refusal) => {
             let text = Said::Refused(*refusal).text(alloc)?;
             let piece = piece.with_text(alloc, text.as_slice())?;
-            let doing = Doing::Runs;
-            Ok(with(Phase::At { doing }, begun, piece))
+            Ok(with(Phase::At(Doing::Runs), begun, piece))
         }
         _ => Ok(None),
     }
@@ -82,8 +81,7 @@ fn collect_line(alloc: Global, piece: &Piece, text: &[u8], begun: usize) -> Told
     ensures { IfOk result (λ after. reached piece.now after ≡ spec.at doing.Runs begun (with_line piece.now text.now)) }
 {
     let piece = piece.with_line(alloc, text)?;
-    let doing = Doing::Runs;
-    Ok(with(Phase::At { doing }, begun, piece))
+    Ok(with(Phase::At(Doing::Runs), begun, piece))
 }
 
 // After the call that begins a line; `begun` includes this line.
@@ -102,10 +100,7 @@ fn told_line(
         Line::Query => collect_line(alloc, piece, job.query.as_slice(), begun),
         Line::Cat { .. } => told_opened(alloc, piece, Purpose::Cat, begun, last),
         Line::Wc { .. } => told_opened(alloc, piece, Purpose::Wc, begun, last),
-        Line::Pause => {
-            let doing = Doing::Runs;
-            Ok(at(Phase::At { doing }, begun))
-        }
+        Line::Pause => Ok(at(Phase::At(Doing::Runs), begun)),
     }
 }
 
@@ -117,9 +112,9 @@ fn after_parts(parts: Parts, doing: Doing) -> Phase
     ensures { result ≡ spec.after_parts parts doing }
 {
     match parts {
-        None => Phase::At { doing },
+        None => Phase::At(doing),
         Some((text, part)) => Phase::Release {
-            what: Objects::Two(Object::Agg { agg: text }, Object::Agg { agg: part }),
+            what: Objects::Two(Object::Agg(text), Object::Agg(part)),
             then: doing,
         },
     }
@@ -129,16 +124,16 @@ fn after_parts(parts: Parts, doing: Doing) -> Phase
 fn after_all(parts: Parts, held: AggId, doing: Doing) -> Phase
     ensures { result ≡ spec.after_all parts held doing }
 {
-    let files = Object::Agg { agg: held };
-    let what = match parts {
-        None => Objects::One(files),
-        Some((text, part)) => Objects::Three(
-            Object::Agg { agg: text },
-            Object::Agg { agg: part },
-            files,
-        ),
-    };
-    Phase::Release { what, then: doing }
+    match parts {
+        None => Phase::Release {
+            what: Objects::One(Object::Agg(held)),
+            then: doing,
+        },
+        Some((text, part)) => Phase::Release {
+            what: Objects::Three(Object::Agg(text), Object::Agg(part), Object::Agg(held)),
+            then: doing,
+        },
+    }
 }
 
 // After an aggregate of the buffered text was made: inserts the bytes of the last file, or all are
@@ -206,10 +201,7 @@ fn told_begun(alloc: Global, job: &Job, piece: &Piece, begun: usize, last: &Repl
     }
     match job.script.lines.get(begun) {
         Some(line) => told_line(alloc, job, piece, line, begun + 1, last),
-        None => {
-            let doing = Doing::Waits;
-            Ok(at(Phase::At { doing }, 0))
-        }
+        None => Ok(at(Phase::At(Doing::Waits), 0)),
     }
 }
 
@@ -226,7 +218,7 @@ fn collect_file(
     ensures { IfOk result
         (λ after. reached piece.now after ≡ spec.file_collected file piece.now piece.now.held from agg len begun) }
 {
-    let what = Objects::One(Object::File { file });
+    let what = Objects::One(Object::File(file));
     match piece.held {
         Some(held) => {
             let then = Doing::JoiningFile {
@@ -271,7 +263,7 @@ fn cat_read(
     if len as usize <= MAX_COLLECTED_BYTES {
         return collect_file(alloc, file, piece, from, agg, len, begun);
     }
-    let what = Objects::One(Object::File { file });
+    let what = Objects::One(Object::File(file));
     if piece.is_nothing() {
         let then = Doing::Writes { agg };
         return Ok(at(Phase::Release { what, then }, begun));
@@ -311,7 +303,7 @@ fn got(
             cat_read(alloc, file, piece, from, agg, len, begun)
         }
         Purpose::Wc => {
-            let what = Objects::Two(Object::Agg { agg }, Object::File { file });
+            let what = Objects::Two(Object::Agg(agg), Object::File(file));
             let said = Said::Counted(counts(look, agg));
             collect_said(alloc, what, piece, said, begun)
         }
@@ -334,7 +326,7 @@ fn told_read(
     match last {
         Reply::Agg(agg) => got(alloc, piece, file, *agg, purpose, begun, look),
         Reply::Refused(refusal) => {
-            let what = Objects::One(Object::File { file });
+            let what = Objects::One(Object::File(file));
             collect_said(alloc, what, piece, Said::Refused(*refusal), begun)
         }
         _ => Ok(None),
@@ -355,8 +347,7 @@ fn told_joined(
     match last {
         Reply::Agg(held) => {
             let piece = piece.with_file(alloc, *held, from, len)?;
-            let doing = Doing::Runs;
-            Ok(with(Phase::At { doing }, begun, piece))
+            Ok(with(Phase::At(Doing::Runs), begun, piece))
         }
         _ => Ok(None),
     }
@@ -381,7 +372,7 @@ fn told_parted(alloc: Global, piece: &Piece, agg: AggId, begun: usize, last: &Re
             let piece = piece.with_held(alloc, *held)?;
             let part = *part;
             let doing = Doing::ReplacingPart { agg, part, at };
-            Ok(with(Phase::At { doing }, begun, piece))
+            Ok(with(Phase::At(doing), begun, piece))
         }
         _ => Ok(None),
     }
@@ -413,7 +404,7 @@ fn written(alloc: Global, piece: &Piece, agg: AggId, begun: usize) -> Told
     ensures after { IfOk result (λ after. reached piece.now after ≡ spec.written piece.now piece.now.next agg begun) }
     ensures wants { OnErr result (is_some piece.now.next ≡ true) }
 {
-    let what = Objects::One(Object::Agg { agg });
+    let what = Objects::One(Object::Agg(agg));
     match piece.next {
         Some(next) => {
             let piece = piece.without_next(alloc)?;
@@ -436,11 +427,11 @@ fn broken(alloc: Global, piece: &Piece, agg: AggId, begun: usize) -> Told
     match piece.next {
         Some(next) => {
             let piece = piece.without_next(alloc)?;
-            let what = Objects::Two(Object::Agg { agg }, Object::Agg { agg: next });
+            let what = Objects::Two(Object::Agg(agg), Object::Agg(next));
             Ok(with(Phase::Release { what, then }, begun, piece))
         }
         None => {
-            let what = Objects::One(Object::Agg { agg });
+            let what = Objects::One(Object::Agg(agg));
             Ok(at(Phase::Release { what, then }, begun))
         }
     }
@@ -469,7 +460,7 @@ fn told_written(
                 from: *taken,
                 to: len,
             };
-            Ok(at(Phase::At { doing }, begun))
+            Ok(at(Phase::At(doing), begun))
         }
         Reply::Refused(Refusal::BrokenPipe) => broken(alloc, piece, agg, begun),
         _ => Ok(None),
@@ -482,7 +473,7 @@ fn told_cut(agg: AggId, begun: usize, last: &Reply) -> Option<After>
 {
     match last {
         Reply::Agg(rest) => {
-            let what = Objects::One(Object::Agg { agg });
+            let what = Objects::One(Object::Agg(agg));
             let then = Doing::Writes { agg: *rest };
             at(Phase::Release { what, then }, begun)
         }
@@ -524,7 +515,7 @@ fn after_first(what: Objects, then: Doing) -> Phase
     ensures { result ≡ after_first what then }
 {
     match what {
-        Objects::One(_) => Phase::At { doing: then },
+        Objects::One(_) => Phase::At(then),
         Objects::Two(_, last) => Phase::Release {
             what: Objects::One(last),
             then,
@@ -552,6 +543,6 @@ pub(crate) fn told(
 {
     match phase {
         Phase::Release { what, then } => Ok(at(after_first(what, then), begun)),
-        Phase::At { doing } => told_doing(alloc, job, piece, begun, doing, last, look),
+        Phase::At(doing) => told_doing(alloc, job, piece, begun, doing, last, look),
     }
 }

@@ -39,9 +39,7 @@ impl Worker {
             alloc,
             job: Job::nothing(alloc),
             step: Step {
-                phase: Phase::At {
-                    doing: Doing::Waits,
-                },
+                phase: Phase::At(Doing::Waits),
                 begun: 0,
                 piece: Piece::nothing(alloc),
             },
@@ -131,7 +129,7 @@ impl Worker {
             self.standing = Standing::Over;
             return Ok(());
         }
-        let what = Objects::One(Object::Agg { agg });
+        let what = Objects::One(Object::Agg(agg));
         match Job::read(self.alloc, text)? {
             Some(job) => {
                 self.job = job;
@@ -165,7 +163,7 @@ impl Worker {
     {
         let phase = self.step.phase;
         match (phase, last) {
-            (Phase::At { doing: Doing::Waits }, Reply::Agg(agg)) => self.take(*agg, look),
+            (Phase::At(Doing::Waits), Reply::Agg(agg)) => self.take(*agg, look),
             _ => self.go_on(last, look),
         }
     }

@@ -14,9 +14,8 @@ use Rattle.flash_cgi.specs.Feeds.{AreSpare, Feeds, IsSpare, Needs}
 use Rattle.flash_cgi.specs.Job.{Task}
 use Rattle.flash_cgi.specs.Output.{Outcome}
 use Rattle.flash_cgi.specs.PhaseUses.{has_collected, uses_agg}
-use Rattle.flash_cgi.specs.Release.{after_first, first, is_agg, releases, work_of}
+use Rattle.flash_cgi.specs.Release.{after_first, first, is_agg, work_of}
 use Rattle.flash_cgi.specs.WorkerSteps.{call_at, told}
-use Rattle.flash_cgi.specs.declared.phase.Doing.{Doing}
 use Rattle.flash_cgi.specs.declared.phase.Doing.TheVariants as doing
 use Rattle.flash_cgi.specs.declared.phase.Object.{Object}
 use Rattle.flash_cgi.specs.declared.phase.Object.TheVariants as object

@@ -1,15 +1,15 @@
 -- The rank falls from step to step, and the buffered output stays tidy.
-use Rattle.std.proofs.Common.{inl, inr, ◌≡◌, ◌≢◌, ℕ, ◌+◌, ◌-◌, ◌*◌, ◌==◌, ◌<◌, ◌≤◌, ◌⊎◌, List, [], ◌∷◌, length, ap, ◌∙◌, refl, sym, subst, arith, Option, Some, None, true, false, Bool, if◌then◌else◌}
-use Rattle.std.specs.Prelude.{unwrap_or, ◌||◌, ◌&&◌, not, nat_le, nat_lt, is_none, is_some, slice_get}
+use Rattle.std.proofs.Common.{inl, inr, ◌≡◌, ◌≢◌, ℕ, ◌+◌, ◌-◌, ◌*◌, ◌==◌, ◌<◌, ◌≤◌, ◌⊎◌, List, [], ◌∷◌, length, ap, ◌∙◌, refl, subst, arith, Option, Some, None, true, false, Bool, if◌then◌else◌}
+use Rattle.std.specs.Prelude.{unwrap_or, ◌||◌, ◌&&◌, not, nat_le, is_none, is_some, slice_get}
 use Rattle.std.proofs.lemmas.Bool.Decides.{nat_tests}
 use Rattle.std.proofs.lemmas.Option.{slice_get_within}
 use Rattle.iol_core.specs.declared.events.Reply.{Reply}
 use Rattle.iol_core.specs.declared.events.Reply.TheVariants as reply
 use Rattle.iol_core.specs.declared.refusals.Refusal.TheVariants as refuse
-use Rattle.flash_cgi.specs.Collecting.{Collected, bytes_of_one, but_last, is_due, is_nothing, last_place, with_file, with_line, with_next, with_text, without_last, without_text}
+use Rattle.flash_cgi.specs.Collecting.{Collected, bytes_of_one, but_last, is_due, is_nothing, last_place, with_file, with_line, with_next, without_last, without_text}
 use Rattle.flash_cgi.specs.Job.{Task}
-use Rattle.flash_cgi.specs.Release.{after_first, first, is_agg, work_of}
-use Rattle.flash_cgi.specs.WorkerSteps.{Parts, after, at, broken, bytes_at, cat_read, due_now, file_collected, interleave_by, step_with, told_doing, told_line, told_made, told_next, told_opened, told_phase, told_read, told_written, written}
+use Rattle.flash_cgi.specs.Release.{after_first, first, work_of}
+use Rattle.flash_cgi.specs.WorkerSteps.{Parts, after, at, broken, bytes_at, due_now, file_collected, interleave_by, step_with, told_doing, told_line, told_made, told_next, told_opened, told_phase, told_read, told_written, written}
 use Rattle.flash_cgi.specs.declared.line.Line.{Line}
 use Rattle.flash_cgi.specs.declared.line.Line.TheVariants as line
 use Rattle.flash_cgi.specs.declared.phase.Purpose.{Purpose}
@@ -309,7 +309,7 @@ module _ (job : Task) (lent now : ℕ → Option (List ℕ)) (begun : ℕ) where
   falls-at x (doing.Cuts agg from to) r next facts tidy e = cut x agg from to r next tidy facts e
   falls-at x doing.Ends r next facts tidy e =
       let over = ends x r next (due_now job x (length job.lines)) (slice_get job.lines (length job.lines)) (not-due x tidy.0 tidy.1 (slice_get job.lines (length job.lines))) refl e
-          (whole-of x tidy.0) in
+      (whole-of x tidy.0) in
       (over.0, inl over.1)
 
   -- an object is released: its call is done

@@ -26,7 +26,7 @@ use Rattle.flash_cgi.specs.Collecting.{Collected, bytes_of_one, is_nothing, with
 use Rattle.flash_cgi.specs.Feeds.{HasBytes}
 use Rattle.flash_cgi.specs.Job.{Task}
 use Rattle.flash_cgi.specs.Release.{first, is_agg, release_call, work_of}
-use Rattle.flash_cgi.specs.WorkerSteps.{after, at, broken, bytes_at, cat_read, doing_call, due_now, file_collected, got, line_call, make_call, next_call, phase_call, told_doing, told_line, told_made, told_next, told_phase, told_written, written}
+use Rattle.flash_cgi.specs.WorkerSteps.{after, at, broken, bytes_at, doing_call, due_now, file_collected, got, line_call, make_call, next_call, phase_call, told_doing, told_line, told_made, told_next, told_phase, written}
 use Rattle.flash_cgi.specs.declared.line.Line.{Line}
 use Rattle.flash_cgi.specs.declared.line.Line.TheVariants as line
 use Rattle.flash_cgi.specs.declared.phase.Doing.{Doing}
