@@ -1,11 +1,11 @@
 -- The effect of others on a worker with a job: they preserve its pending output, and reads take it from the front.
-use Rattle.std.proofs.Common.{inl, inr, ◌≡◌, ℕ, ◌==◌, List, [], ◌∷◌, ◌++◌, ◌-◌, length, drop, arith, ap, ◌∙◌, refl, sym, subst, Option, Some, None, true, false, Bool, if◌then◌else◌, append_assoc, ◌≤◌}
+use Rattle.std.proofs.Common.{inl, inr, ◌≡◌, ℕ, ◌==◌, List, [], ◌∷◌, ◌++◌, length, drop, arith, ap, ◌∙◌, refl, sym, subst, Option, Some, None, true, false, Bool, if◌then◌else◌, append_assoc, ◌≤◌}
 use Rattle.std.specs.Prelude.{unwrap_or, option_map, nat_le, ◌&&◌, ◌||◌}
 use Rattle.std.specs.List.{AllByRecursion}
 use Rattle.std.proofs.lemmas.Bool.Decides.{nat_tests}
 use Rattle.std.proofs.lemmas.List.{append_cancel_right}
 use Rattle.iol_core.specs.Text.{Text, bytes_of}
-use Rattle.iol_core.specs.State.{State, Pipe, File, aggregate, content, descriptor, pipe_at, file, may_read}
+use Rattle.iol_core.specs.State.{State, Pipe, File, aggregate, descriptor, pipe_at, file, may_read}
 use Rattle.iol_core.specs.declared.descriptors.Descriptor.TheVariants as on
 use Rattle.iol_core.specs.declared.descriptors.Mode.TheVariants.{Read}
 use Rattle.iol_core.specs.Positions.{ArePlaced}

@@ -1,5 +1,5 @@
 -- A worker's call preserves its pending output: phase by phase.
-use Rattle.std.proofs.Common.{inl, inr, ◌≡◌, ◌≢◌, ℕ, ◌+◌, ◌-◌, ◌==◌, ◌⊎◌, List, [], ◌∷◌, ◌++◌, length, take, drop, ap, ◌∙◌, refl, sym, subst, arith, Option, Some, None, true, false, Bool, if◌then◌else◌, append_assoc, append-nil}
+use Rattle.std.proofs.Common.{inl, inr, ◌≡◌, ◌≢◌, ℕ, ◌+◌, ◌==◌, ◌⊎◌, List, [], ◌∷◌, ◌++◌, length, take, drop, ap, ◌∙◌, refl, sym, subst, arith, Option, Some, None, true, false, Bool, if◌then◌else◌, append_assoc, append-nil}
 use Rattle.std.specs.Prelude.{◌||◌, ◌&&◌, not, is_some, nat_le, slice_range, slice_get}
 use Rattle.std.proofs.lemmas.Bool.Decides.{nat_tests}
 use Rattle.iol_core.specs.Text.{bytes_of}
@@ -9,9 +9,7 @@ use Rattle.iol_core.specs.Run.{StepsTo}
 use Rattle.iol_core.specs.declared.descriptors.Descriptor.{Descriptor}
 use Rattle.iol_core.specs.declared.descriptors.Descriptor.TheVariants as on
 use Rattle.iol_core.specs.declared.descriptors.Mode.TheVariants.{Read}
-use Rattle.iol_core.specs.declared.refusals.Refusal.{Refusal}
 use Rattle.iol_core.specs.declared.refusals.Refusal.TheVariants as not_so
-use Rattle.iol_core.specs.declared.events.Call.{Call}
 use Rattle.iol_core.specs.declared.events.Call.TheVariants as call
 use Rattle.iol_core.specs.declared.events.Event.TheVariants as event
 use Rattle.iol_core.specs.declared.events.Reply.{Reply}
@@ -20,14 +18,14 @@ use Rattle.iol_laws.specs.Caller as o
 use Rattle.iol_laws.specs.Caller.{CallsServeTheirDomain, lent_at}
 use Rattle.iol_laws.specs.CallerFiles as fl
 use Rattle.iol_laws.specs.CallerFiles.{FileCallsServeTheirDomain}
-use Rattle.iol_laws.specs.Frame.{EachStepLeavesTheRest, Leaves, touches_fd, ends}
+use Rattle.iol_laws.specs.Frame.{EachStepLeavesTheRest, Leaves, touches_fd}
 use Rattle.iol_laws.specs.Order.{IsOrderly}
 use Rattle.iol_laws.specs.Reasons.{RefusalsTellWhy}
 use Rattle.flash_cgi.specs.Collecting.{Collected, bytes_of_one, collected, is_due, is_full, is_nothing, with_file, with_next, with_text, without_next, interleaved}
 use Rattle.flash_cgi.specs.Job.{Task}
 use Rattle.flash_cgi.specs.Output.{Outcome, Found, Failed, output, by_first}
 use Rattle.flash_cgi.specs.PhaseUses.{is_one, reads_file}
-use Rattle.flash_cgi.specs.Pieces.{Cuts, Gathers, HasPiece, HoldsAt, IsApart, IsRest, Joins, Lends, LendsFiles, LendsNext}
+use Rattle.flash_cgi.specs.Pieces.{Gathers, HasPiece, HoldsAt, IsApart, IsRest, Joins, Lends, LendsFiles, LendsNext}
 use Rattle.flash_cgi.specs.Release.{work_of}
 use Rattle.flash_cgi.specs.WorkerSteps.{after, at, broken, said_text, line_text, counts_of, bytes_at, call_at, due_now, file_collected, step_with, told_joined, told_next, told_made, told_opened, told_written, told_read, told_cut, next_call, written}
 use Rattle.flash_cgi.specs.Feeds.{AreSpare, put_out, rest_of, still, still_doing, then_rest, IsFileOpen, Needs, Feeds, settled, settled_begun, settled_open, failed, Ends, ComesTo, Comes, FeedsOn}

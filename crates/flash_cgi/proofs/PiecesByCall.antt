@@ -1,22 +1,17 @@
 -- Making the buffered output: a text, with the bytes of files inserted.
-use Rattle.std.proofs.Common.{inl, ◌≡◌, ◌≢◌, ℕ, ◌+◌, ◌-◌, ◌==◌, ◌⊎◌, List, [], ◌∷◌, ◌++◌, length, take, drop, ap, ◌∙◌, refl, sym, subst, arith, ◌≤◌, Option, Some, None, false, append_assoc}
+use Rattle.std.proofs.Common.{inl, ◌≡◌, ◌≢◌, ℕ, ◌==◌, ◌⊎◌, List, [], ◌∷◌, ◌++◌, length, take, drop, ap, ◌∙◌, refl, sym, subst, arith, ◌≤◌, Option, Some, None, false, append_assoc}
 use Rattle.std.specs.Prelude.{Bool, ◌||◌}
-use Rattle.iol_core.specs.Text.{bytes_of}
-use Rattle.iol_core.specs.State.{State, File, pipe_at, file}
+use Rattle.iol_core.specs.State.{State, pipe_at}
 use Rattle.iol_core.specs.Run.{StepsTo}
-use Rattle.iol_core.specs.declared.descriptors.Descriptor.TheVariants as on
-use Rattle.iol_core.specs.declared.descriptors.Mode.TheVariants.{Read}
-use Rattle.iol_core.specs.declared.events.Call.{Call}
 use Rattle.iol_core.specs.declared.events.Call.TheVariants as call
 use Rattle.iol_core.specs.declared.events.Event.TheVariants as event
 use Rattle.iol_core.specs.declared.events.Reply.{Reply}
 use Rattle.iol_core.specs.declared.events.Reply.TheVariants as reply
 use Rattle.iol_laws.specs.Caller as o
 use Rattle.iol_laws.specs.Caller.{CallsServeTheirDomain, lent_at}
-use Rattle.iol_laws.specs.CallerFiles as fl
-use Rattle.iol_laws.specs.Frame.{EachStepLeavesTheRest, Leaves, ends}
+use Rattle.iol_laws.specs.Frame.{EachStepLeavesTheRest}
 use Rattle.iol_laws.specs.Order.{IsOrderly}
-use Rattle.flash_cgi.specs.Collecting.{Collected, bytes_of_one, but_last, collected, collected_in, last_place, with_held, without_files, without_last, without_text, interleaved}
+use Rattle.flash_cgi.specs.Collecting.{Collected, bytes_of_one, but_last, collected_in, last_place, with_held, without_files, without_last, without_text, interleaved}
 use Rattle.flash_cgi.specs.Job.{Task}
 use Rattle.flash_cgi.specs.Output.{Outcome}
 use Rattle.flash_cgi.specs.PhaseUses.{call_uses, is_one}

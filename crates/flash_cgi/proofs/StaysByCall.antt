@@ -1,6 +1,6 @@
 -- Invariants of a worker's call, and a call that does not change its output pipe.
 use Rattle.std.proofs.Common.{subst, ◌≡◌, ◌≢◌, ℕ, zero, suc, ◌+◌, ◌-◌, ◌==◌, ◌⊎◌, List, [], ◌∷◌, ◌++◌, length, take, drop, ap, ◌∙◌, refl, sym, arith, Option, Some, None, true, false, Bool, append_assoc, length-drop}
-use Rattle.std.specs.Prelude.{unwrap_or, option_map, ◌||◌, ◌&&◌, not, slice_range, slice_get}
+use Rattle.std.specs.Prelude.{unwrap_or, option_map, ◌||◌, ◌&&◌, slice_range, slice_get}
 use Rattle.std.specs.List.{list_any}
 use Rattle.std.proofs.lemmas.List.{take_all, take-append-drop}
 use Rattle.std.proofs.lemmas.Bool.Decides.{nat_tests}
@@ -20,25 +20,21 @@ use Rattle.iol_core.specs.declared.events.Event.{Event}
 use Rattle.iol_core.specs.declared.events.Event.TheVariants as event
 use Rattle.iol_core.specs.declared.events.Reply.{Reply}
 use Rattle.iol_core.specs.declared.events.Reply.TheVariants as reply
-use Rattle.iol_laws.specs.Caller as o
 use Rattle.iol_laws.specs.Caller.{lent_at}
-use Rattle.iol_laws.specs.CallerFiles as fl
 use Rattle.iol_laws.specs.Frame.{EachStepLeavesTheRest, Leaves, changes_files, is_end, touches_fd, touches_pipe, ends}
 use Rattle.flash_cgi.specs.Collecting.{Collected, collected}
 use Rattle.flash_cgi.specs.Job.{Task}
-use Rattle.flash_cgi.specs.Output.{Outcome, Failed, output, by_first}
-use Rattle.flash_cgi.specs.Pieces.{HasPiece, HoldsAt, IsApart, IsRest, Lends}
+use Rattle.flash_cgi.specs.Output.{Outcome, Failed, by_first}
+use Rattle.flash_cgi.specs.Pieces.{HasPiece, HoldsAt, IsApart, IsRest}
 use Rattle.flash_cgi.specs.PhaseUses.{call_uses, is_one, reads_file, uses_agg}
 use Rattle.flash_cgi.specs.Release.{after_first, first, is_agg, is_file, release_call, releases, work_of}
 use Rattle.flash_cgi.specs.WorkerSteps.{said_text, bytes_at, step_with}
-use Rattle.flash_cgi.specs.Feeds.{AreSpare, IsSpare, put_out, still, still_doing, IsFileOpen, Needs, Feeds, failed}
+use Rattle.flash_cgi.specs.Feeds.{AreSpare, IsSpare, put_out, still, still_doing, IsFileOpen, Needs, Feeds}
 use Rattle.flash_cgi.specs.declared.line.Line.{Line}
-use Rattle.flash_cgi.specs.declared.line.Line.TheVariants as line
 use Rattle.flash_cgi.specs.declared.counts.Said.TheVariants as said
 use Rattle.flash_cgi.specs.declared.phase.Purpose.{Purpose}
 use Rattle.flash_cgi.specs.declared.phase.Purpose.TheVariants as purpose
 use Rattle.flash_cgi.specs.declared.phase.Doing.{Doing}
-use Rattle.flash_cgi.specs.declared.phase.Doing.TheVariants as doing
 use Rattle.flash_cgi.specs.declared.phase.Object.{Object}
 use Rattle.flash_cgi.specs.declared.phase.Object.TheVariants as object
 use Rattle.flash_cgi.specs.declared.phase.Objects.{Objects}
