@@ -1,5 +1,5 @@
 -- The effect of each event as changes of single objects, one after another.
-use Rattle.std.proofs.Common.{inl, inr, ◌≡◌, ◌≢◌, ℕ, ◌+◌, ◌-◌, ◌⊎◌, ◌==◌, List, [], ◌∷◌, ◌++◌, length, take, drop, ap, ◌∙◌, refl, sym, subst, arith, append_assoc, Option, Some, None, true, false, Bool}
+use Rattle.std.proofs.Common.{inl, inr, suc, ◌≡◌, ◌≢◌, ℕ, ◌+◌, ◌-◌, ◌⊎◌, ◌==◌, List, [], ◌∷◌, ◌++◌, length, take, drop, ap, ◌∙◌, refl, sym, subst, arith, append_assoc, Option, Some, None, true, false, Bool}
 use Rattle.std.specs.Prelude.{unwrap_or, fold, min, option_map, slice_set, if◌then◌else◌, ◌||◌}
 use Rattle.std.specs.List.{list_any}
 use Rattle.std.specs.Option.{option_map_or}
@@ -10,7 +10,7 @@ use Rattle.std.proofs.lemmas.List.{set_comm, set_past}
 use Rattle.std.proofs.lemmas.List.Folds.{list_any-append}
 use Rattle.std.proofs.lemmas.List.Sums.{fold-append}
 use Rattle.iol_core.specs.Text.{Text, labelled, bytes_of, part}
-use Rattle.iol_core.specs.NumberedLists.{with_numbered, lowest, placed, without}
+use Rattle.iol_core.specs.NumberedLists.{in_place, with_numbered, lowest, placed, without}
 use Rattle.iol_core.specs.State.{State, Domain, Pool, File, Pipe, Connection, domain, text, descriptor, pool, content, pipe_at, conn_at, new_domain, no_domain, new_pipe, new_conn, with_domain, with_pipe, with_conn, with_content}
 use Rattle.iol_core.specs.Run.{called, meaning}
 use Rattle.iol_core.specs.Calls.Aggregates as aggs
@@ -352,6 +352,20 @@ changes-meant s e = refl
 pub kept_all : (P : State → Type 0) (test : Change → Bool) → ((s : State) (c : Change) → test c ≡ false → P s → P (changed s c)) → (s : State) (cs : List Change) → list_any test cs ≡ false → P s → P (all_changed s cs)
 kept_all P test each s [] un was = was
 kept_all P test each s (c ∷ cs) un was = kept_all P test each (changed s c) cs (right-false (test c) (list_any test cs) un) (each s c (left-false (test c) (list_any test cs) un) was)
+
+-- what no descriptor of the domain passes, no operand of its call passes
+pub none-open : (test : Option Descriptor → Bool) (xs : List (Option Descriptor)) → ((n : ℕ) → test (in_place xs n) ≡ false) → list_any test xs ≡ false
+none-open test [] none = refl
+none-open test (o ∷ xs) none = both-false _ _ (none 0) (none-open test xs (λ n. none (suc n)))
+
+pub operands-none : (test : Option Descriptor → Bool) (s : State) (d : ℕ) (k : Call) → ((fd : ℕ) → test (descriptor s d fd) ≡ false) → list_any test (operands s (event.Call d k)) ≡ false
+operands-none test s d call.Exit none = none-open test (domain s d).fds none
+operands-none test s d (call.Close fd) none = both-false _ _ (none fd) refl
+operands-none test s d (call.IolRead fd n) none = both-false _ _ (none fd) refl
+operands-none test s d (call.IolWrite fd a) none = both-false _ _ (none fd) refl
+operands-none test s d (call.Read fd n) none = both-false _ _ (none fd) refl
+operands-none test s d (call.Write fd bytes) none = both-false _ _ (none fd) refl
+operands-none test s d k none = refl
 
 -- the operands of a call are what its uses are of
 pub ends-used : (test : Option Descriptor → Bool) (s : State) (by : ℕ) (k : Call) → list_any test (operands s (event.Call by k)) ≡ false → list_any (λ u. test u.end) (uses s by k) ≡ false

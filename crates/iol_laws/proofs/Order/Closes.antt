@@ -17,7 +17,8 @@ use Rattle.iol_laws.specs.Order.{Once}
 use Rattle.iol_laws.proofs.Connections.{conn-missing, conn-over, conn-remains, conn-there, conn-unmade, conns_conn, conns-with_pipe, conns_same, nothing-left, once-with_conn}
 use Rattle.iol_laws.proofs.Order.Ends.{pipe-with_same}
 use Rattle.iol_laws.proofs.Caller.Pipes.{pipe-gone}
-use Rattle.iol_laws.proofs.Frame.Pipes.{pipes_closed_on, pipes_pipe}
+use Rattle.iol_laws.proofs.Changes.{none-open}
+use Rattle.iol_laws.proofs.Frame.Pipes.{pipes_pipe, pipes_same, pipes-with_conn}
 use Rattle.iol_laws.proofs.Tests.{left-true, right-true}
 
 -- what is open passes the test of some
@@ -25,15 +26,6 @@ pub some-open : (test : Option Descriptor → Bool) (xs : List (Option Descripto
 some-open test [] n x is passes = absurd (cc)
 some-open test (o ∷ xs) zero x is passes = (let e : test o ≡ true = ap test is ∙ passes in grind (arith, common_steps, e))
 some-open test (o ∷ xs) (suc n) x is passes = (let e = some-open test xs n x is passes in grind (arith, common_steps, e))
-
--- and where none is open, none does
-pub none-open : (test : Option Descriptor → Bool) (xs : List (Option Descriptor)) → test None ≡ false → ((n : ℕ) (x : Descriptor) → in_place xs n ≡ Some x → test (Some x) ≡ false) → list_any test xs ≡ false
-none-open test [] free none = refl
-none-open test (o ∷ xs) free none = (let e = here o (none 0) in let r = none-open test xs free (λ n. none (suc n)) in grind (arith, common_steps, e, r))
-  where
-    here : (o : Option Descriptor) → ((x : Descriptor) → o ≡ Some x → test (Some x) ≡ false) → test o ≡ false
-    here None none = free
-    here (Some x) none = none x refl
 
 -- Connections.
 
@@ -239,7 +231,7 @@ shut_writes s p = by (pipe_at s p).reading refl
         }
 
 pub may_shut : (s : State) (o : Option Descriptor) (p : ℕ) → MayShut (pipe_at s p) (pipe_at (fds.closed_on s o) p) (is_read_end p o) (is_write_end p o)
-may_shut s (Some (on.Connection c)) p = unshut (pipe_at s p) _ (pipes_closed_on s (Some (on.Connection c)) p refl)
+may_shut s (Some (on.Connection c)) p = unshut (pipe_at s p) _ (pipes_same s (fds.closed_on s (Some (on.Connection c))) (λ q. false) (pipes-with_conn s c _) p refl)
 may_shut s (Some (on.ReadEnd q)) p = elim (cases_eq q p) [
   | inl same ↦ (let e : (q == p) ≡ true = grind (arith, nat_tests, same) in subst (λ b. MayShut (pipe_at s p) (pipe_at (fds.closed_on s (Some (on.ReadEnd q))) p) b false) (sym e) (subst (λ n. MayShut (pipe_at s n) (pipe_at (fds.closed_on s (Some (on.ReadEnd q))) n) true false) same (shut_reads s q)))
   | inr differ ↦ (let e : (q == p) ≡ false = grind (arith, nat_tests, differ) in subst (λ b. MayShut (pipe_at s p) (pipe_at (fds.closed_on s (Some (on.ReadEnd q))) p) b false) (sym e) (unshut (pipe_at s p) _ (pipes_pipe s q _ p differ)))
@@ -309,10 +301,10 @@ not-writing p (Some (on.WriteEnd q)) never = elim (cases_eq q p) [ inl same ↦ 
 not-writing p o never = refl
 
 pub none-reading : (p : ℕ) (list : List (Option Descriptor)) → ((fd : ℕ) → in_place list fd ≡ Some (on.ReadEnd p) → ⊥) → list_any (is_read_end p) list ≡ false
-none-reading p list nobody = none-open (is_read_end p) list refl (λ n x is. sym (ap (is_read_end p) is) ∙ not-reading p (in_place list n) (nobody n))
+none-reading p list nobody = none-open (is_read_end p) list (λ n. not-reading p (in_place list n) (nobody n))
 
 pub none-writing : (p : ℕ) (list : List (Option Descriptor)) → ((fd : ℕ) → in_place list fd ≡ Some (on.WriteEnd p) → ⊥) → list_any (is_write_end p) list ≡ false
-none-writing p list nobody = none-open (is_write_end p) list refl (λ n x is. sym (ap (is_write_end p) is) ∙ not-writing p (in_place list n) (nobody n))
+none-writing p list nobody = none-open (is_write_end p) list (λ n. not-writing p (in_place list n) (nobody n))
 
 -- what nobody among them read stays to be read
 pub unread_ended : (s : State) (list : List (Option Descriptor)) (p : ℕ) → ((fd : ℕ) → in_place list fd ≡ Some (on.ReadEnd p) → ⊥) → (pipe_at s p).reading ≡ true → let u : Pipe = pipe_at (fold fds.closed_on s list) p in (u.reading ≡ true) × (u.queue ≡ (pipe_at s p).queue)
