@@ -31,6 +31,7 @@
 #![tactic(auto)]
 
 mod calls;
+mod copies;
 mod file_table;
 mod files;
 pub mod kernel;
