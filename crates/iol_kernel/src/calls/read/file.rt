@@ -1,12 +1,11 @@
 //! Reading files by copying: no aggregate is made of what is read.
-ghost use Rattle.std.specs.Prelude.{◌≡◌, ◌+◌, ◌<◌, ◌≤◌, ◌^◌, ◌++◌, length};
+ghost use Rattle.std.specs.Prelude.{◌≡◌, ◌+◌, ◌≤◌, ◌++◌};
 ghost use Rattle.std.specs.Vec.{vec_len, vec_capacity};
 ghost use Rattle.iol_core.specs.Prelude.{bytes_of};
 ghost use Rattle.iol_hold.specs.Prelude.{byte_len, AllReadable, text_of};
 ghost use Rattle.iol_kernel.specs.FileLengths.{HasFile};
 ghost use Rattle.iol_kernel.specs.FileReads.{IsReadable};
 
-use crate::copies::copy_to_front;
 use crate::kernel::Kernel;
 use crate::open_file::OpenFile;
 use iol_agg::Agg;
@@ -18,7 +17,7 @@ use iol_core::refusals::Refusal;
 use iol_hold::Store;
 
 impl Kernel {
-    ghost use Rattle.iol_kernel.specs.Kernel.{state_of, CopiesFile, CopiesFileInto, IsOpenOn};
+    ghost use Rattle.iol_kernel.specs.Kernel.{state_of, CopiesFile, IsOpenOn};
 
     /// Copies up to `count` bytes of a file from a descriptor's position on. The position moves
     /// past them. Memory for the list is requested first, so that a read refused for lack of it
@@ -53,43 +52,9 @@ impl Kernel {
         Ok(Bytes::from_vec(bytes))
     }
 
-    /// Copies bytes of a file from a descriptor's position on to the front of `into`, as many as the
-    /// file has and `into` has room for, and returns their number. The position moves past them. No
-    /// list of them is made.
-    pub fn copy_file_into<B: Backing>(
-        &mut self,
-        backing: &mut B,
-        by: DomainId,
-        fd: Fd,
-        found: OpenFile,
-        into: &mut [u8],
-    ) -> Result<u32, Refusal>
-        requires open { IsOpenOn self.old by fd
-            (Descriptor.File found.file found.at found.mode) }
-        requires short { length into.old < 2 ^ 32 }
-        ensures { CopiesFileInto by fd found into.old into.new (B.disk backing.old) self.old result
-            (B.disk backing.new) self.new }
-    {
-        self.test_read(by, found.file, found.mode, false)?;
-        let most = self.readable(backing, found.file, found.at, into.len() as u32);
-        let agg = self.files.cache.read(
-            self.alloc,
-            &mut self.store,
-            backing,
-            found.file,
-            found.at,
-            most,
-        )?;
-        let len = agg.len();
-        copy_to_front(&agg, &self.store, into);
-        agg.release(&mut self.store);
-        self.domains.set_fd(by, fd, found.moved_by(len));
-        Ok(len)
-    }
-
     /// How many of `count` bytes a file has from an offset on. Over a store that is not honest, the
     /// end is where a read of the file would end now.
-    fn readable<B: Backing>(&self, backing: &B, file: FileId, at: u32, count: u32) -> u32
+    pub(crate) fn readable<B: Backing>(&self, backing: &B, file: FileId, at: u32, count: u32) -> u32
         requires { HasFile (state_of self.now) file }
         ensures { IsReadable (B.disk backing.now) (state_of self.now).cache file at count result }
     {
