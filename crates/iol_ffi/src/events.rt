@@ -216,22 +216,16 @@ pub(crate) fn request_of(
         (λ request. IsEvent (event_with request bytes.now) e.now bytes.now names.now) }
     ensures err { IfErr result (λ why. IsUnread why (IsNoEvent e.now) (CopiesList e.now)) }
 {
-    let by = DomainId::new(e.by);
+    let (by, agg, fd) = (DomainId::new(e.by), AggId::new(e.agg), Fd::new(e.id));
     match e.kind {
         6 => Ok(Request::AggMake { by }),
-        14 => Ok(Request::Show {
-            by,
-            agg: AggId::new(e.agg),
-        }),
+        14 => Ok(Request::Show { by, agg }),
         25 => Ok(Request::Read {
             by,
-            fd: Fd::new(e.id),
+            fd,
             count: e.from,
         }),
-        26 => Ok(Request::Write {
-            by,
-            fd: Fd::new(e.id),
-        }),
+        26 => Ok(Request::Write { by, fd }),
         _ => Ok(Request::Event(event_of(alloc, e, bytes, names)?)),
     }
 }
