@@ -13,8 +13,10 @@ ghost use Rattle.iol_ffi.specs.Streams.{ArrivesFrom, DrainsTo};
 use crate::borrowed::IolPart;
 use crate::events::{IolEvent, Request, Unread, most_bytes, request_of};
 use crate::handle::Handle;
-use crate::replies::{BAD_EVENT, IolReply, MEMORY, SMALL_ROOM, not_done, read_reply};
-use crate::replies::{refusal_number, reply_of, shown_reply};
+use crate::replies::{
+    BAD_EVENT, IolReply, MEMORY, SMALL_ROOM, not_done, read_reply, refusal_number, reply_of,
+    shown_reply,
+};
 use crate::report::{IolPool, IolReport, report_of};
 use crate::store::{HostStore, OpenFiles};
 use crate::{Machine, borrowed, streams};

@@ -31,10 +31,12 @@ returns c =
       refused = tt;
       count = c.len-len.ensures ∙ sym long;
       fits = λ room. elim c.if-len-into.branch [
-        then-len-into w ↦ w.into-is ∙ w.copy_to_front.ensures ∙ ap (λ (n : ℕ). bytes ++ drop n memory) (sym long)
-        | else-len-into w ↦ absurd (omega (arith, w.if-len-into.false, c.len-len.ensures, long, room)) ];
+        | then-len-into w ↦ w.into-is ∙ w.copy_to_front.ensures ∙ ap (λ (n : ℕ). bytes ++ drop n memory) (sym long)
+        | else-len-into w ↦ absurd (omega (arith, w.if-len-into.false, c.len-len.ensures, long, room))
+      ];
       full = λ short. elim c.if-len-into.branch [
-        then-len-into w ↦ absurd (omega (arith, w.if-len-into.true, c.len-len.ensures, long, short))
-        | else-len-into w ↦ w.into-is ];
+        | then-len-into w ↦ absurd (omega (arith, w.if-len-into.true, c.len-len.ensures, long, short))
+        | else-len-into w ↦ w.into-is
+      ];
       err = tt;
     }
