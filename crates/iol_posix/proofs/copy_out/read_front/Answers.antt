@@ -1,4 +1,4 @@
-use Rattle.std.proofs.Common.{◌≡◌, ◌∙◌, [], true, refl, sym, rules}
+use Rattle.std.proofs.Common.{◌≡◌, [], true, refl, rules}
 use Rattle.iol_core.specs.Calls.Writes.{is_file}
 use Rattle.iol_kernel.specs.FileReads.{held_by}
 use Rattle.iol_kernel.specs.Kernel.{state_of}
