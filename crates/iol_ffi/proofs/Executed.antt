@@ -1,6 +1,6 @@
 -- What C gets of an event that was carried out, by the bytes that are in its memory.
-use Rattle.std.proofs.Common.{inl, inr, ◌≡◌, ◌⊎◌, ◌∙◌, ◌+◌, ◌≤◌, ◌<◌, ◌++◌, ℕ, List, Option, None, Some, length, take, drop, refl, sym, ap, subst, arith, length-append}
-use Rattle.std.specs.Prelude.{IfSome, IsSome, Result, Ok, Err}
+use Rattle.std.proofs.Common.{inl, inr, ◌≡◌, ◌⊎◌, ◌∙◌, ◌+◌, ◌≤◌, ◌<◌, ◌++◌, ℕ, List, length, take, drop, refl, sym, ap, subst, arith, length-append}
+use Rattle.std.specs.Prelude.{Result, Ok, Err}
 use Rattle.std.proofs.lemmas.List.{length-take-le, take-append-le, take_at}
 use Rattle.iol_core.specs.declared.events.Event.{Event}
 use Rattle.iol_core.specs.declared.events.Reply.{Reply}
@@ -13,8 +13,7 @@ use Rattle.iol_system.specs.Promises.{Promises}
 use Rattle.iol_system.specs.Replies.{told}
 use Rattle.iol_ffi.specs.Replies.{CountsRead, CountsShown, Encodes, IsDone}
 use Rattle.iol_ffi.specs.Room.{most_bytes}
-use Rattle.iol_ffi.specs.Steps.{Executes, TakesStep}
-use Rattle.iol_ffi.specs.declared.Machine.{Machine}
+use Rattle.iol_ffi.specs.Steps.{Executes}
 use Rattle.iol_ffi.specs.declared.replies.IolReply.{IolReply}
 use Rattle.iol_ffi.proofs.Rooms.{fits}
 
@@ -42,14 +41,3 @@ read_in by fd memory filled rest out old new (Ok n) r is x done =
     let size : length (take n filled) ≡ n = length-take-le n filled within in
     inl (subst (λ (k : ℕ). IsDone r k 0) (sym size) done, ap (λ (k : ℕ). take k out) size ∙ ap (take n) is ∙ take-append-le n filled rest within)
 read_in by fd memory filled rest out old new (Err why) r is x refused = refused
-
--- the machine in a handle
-
-pub held_is : (o : Option Machine) (x : Machine) → IsSome o → IfSome o (λ m. x ≡ m) → o ≡ Some x
-held_is None x some is = absurd some
-held_is (Some m) x some is = ap Some (sym is)
-
-pub taken : (o n : Option Machine) (x y : Machine) (e : Event) (r : IolReply) (out : List ℕ) → o ≡ Some x → n ≡ Some y → Executes e r out x.system y.system → TakesStep e r out o n
-taken o n x y e r out before after done =
-    subst (λ (m : Option Machine). TakesStep e r out m n) (sym before) (subst (λ (m : Option Machine). TakesStep e r out (Some x) m) (sym after)
-    (record { reply = done.reply; steps = done.promises; encodes = done.encodes; fits = done.fits }))

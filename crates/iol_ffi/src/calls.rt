@@ -1,6 +1,8 @@
 //! The calls of the C interface over a handle. `iol_c` exports each under its name in C, with the
 //! same contract.
 ghost use Rattle.std.specs.Prelude.{◌≡◌, ◌≤◌, IsSome, None, length};
+ghost use Rattle.iol_core.specs.declared.events.Call.TheVariants as call;
+ghost use Rattle.iol_core.specs.declared.events.Event.TheVariants as event;
 ghost use Rattle.iol_ffi.specs.Creation.{Creates, CreatesInMemory, CreatesOver, CreatesOverFiles, IsCreated, sizes};
 ghost use Rattle.iol_ffi.specs.Events.{event_with};
 ghost use Rattle.iol_ffi.specs.Parts.{BorrowsTo};
@@ -23,6 +25,7 @@ use crate::{Machine, borrowed, streams};
 use iol_back::memory::MemoryBacking;
 use iol_back::slots::Slots;
 use iol_core::configuration::Config;
+use iol_core::numbers::{DomainId, Fd};
 use iol_core::refusals::Refusal;
 use iol_system::system::System;
 use std::alloc::Global;
@@ -62,6 +65,22 @@ fn start_over(alloc: Global, config: Config, files: OpenFiles, out: &mut Handle)
     start_in(alloc, config, HostStore::Opened(files), out)
 }
 
+// Reads at most `count` bytes to the front of `out`, which has room for them.
+fn read_front(
+    system: &mut System<HostStore>,
+    by: DomainId,
+    fd: Fd,
+    count: u32,
+    out: &mut [u8],
+) -> IolReply
+    requires { count ≤ length out.old }
+    ensures len { length out.new ≡ length out.old }
+    ensures executes { Executes (event.Call by (call.Read fd count)) result out.new
+        system.old system.new }
+{
+    read_reply(system.read_into(by, fd, &mut out[..count as usize]))
+}
+
 // Executes the event of a request, whose bytes are those that C passed, or for whose bytes `out` has
 // room.
 fn execute(
@@ -79,9 +98,7 @@ fn execute(
         Request::Event(event) => reply_of(&system.step_ref(event), out),
         Request::AggMake { by } => reply_of(&system.make_agg(*by, bytes), out),
         Request::Show { by, agg } => shown_reply(system.show_into(*by, *agg, out), out.len()),
-        Request::Read { by, fd, count } => {
-            read_reply(system.read_into(*by, *fd, &mut out[..*count as usize]))
-        }
+        Request::Read { by, fd, count } => read_front(system, *by, *fd, *count, out),
         Request::Write { by, fd } => reply_of(&system.write_bytes(*by, *fd, bytes), out),
     }
 }
