@@ -37,7 +37,7 @@ returns-in-Show-clause-executes c =
     let r = c.shown_reply.result in
     let len : length filled ≡ length memory = c.show_into.auto.out in
     let told_it : Encodes (told reply.Bytes (shown shows.shows.bytes c.show_into.result)) r filled =
-        shown_in c.in-Show.by c.in-Show.agg memory filled s c.show_into.result r shows (subst (λ (n : ℕ). CountsShown c.show_into.result n r) len c.shown_reply.ensures) in
+    shown_in c.in-Show.by c.in-Show.agg memory filled s c.show_into.result r shows (subst (λ (n : ℕ). CountsShown c.show_into.result n r) len c.shown_reply.ensures) in
     meant c.args.request.now _ c.args.bytes.now memory filled s s (told reply.Bytes (shown shows.shows.bytes c.show_into.result)) r c.in-Show.is shows.step told_it c.requires len
 
 pub returns-in-Read-clause-executes : goal.returns-in-Read-clause-executes

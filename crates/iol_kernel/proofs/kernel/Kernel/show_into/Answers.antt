@@ -1,4 +1,4 @@
-use Rattle.std.proofs.Common.{rules, ◌≡◌, ◌∙◌, ◌++◌, ◌<◌, ◌≤◌, ℕ, List, [], length, drop, ap, sym, arith, refl}
+use Rattle.std.proofs.Common.{rules, ◌≡◌, ◌∙◌, ◌++◌, ℕ, [], length, drop, ap, sym, arith}
 use Rattle.std.proofs.lemmas.List.{length-map}
 use Rattle.iol_core.specs.Text.{bytes_of}
 use Rattle.iol_hold.specs.Places.{byte_len}
