@@ -1,4 +1,3 @@
-use Rattle.std.proofs.Common.{arith}
 use Rattle.iol_store_tests.proofs.tests.kernels.TestKernel.copies_file_into.Goals as goal
 
 pub copy_file_into-count-requires-clause-open : goal.copy_file_into-count-requires-clause-open
