@@ -309,7 +309,7 @@ impl System {
         self.new_agg(Event { agg: agg.number(), to: to.number(), ..event(ffi::AGG_GIVE, by) })
     }
 
-    /// Copies the bytes of an aggregate, as an event. The library copies them twice: `copy_to` copies once.
+    /// Copies the bytes of an aggregate, as an event. `copy_to` copies as many as there is room for.
     pub fn show(&mut self, by: DomainId, agg: AggId) -> Result<Vec<u8>> {
         let mut bytes = vec![0; self.parts(by, agg)?.byte_count() as usize];
         self.step_with(Event { agg: agg.number(), ..event(ffi::SHOW, by) }, &[], &[], &mut bytes)?;

@@ -1,4 +1,5 @@
 pub mod AsBox
+pub mod Executed
 pub mod Placing
 pub mod Rooms
 pub mod Runs

@@ -14,10 +14,10 @@ use Rattle.iol_core.specs.declared.events.Reply.TheVariants as reply
 use Rattle.iol_core.specs.declared.refusals.Refusal.{Refusal}
 use Rattle.iol_core.specs.declared.refusals.Refusal.TheVariants as refusal
 use Rattle.iol_kernel.specs.FileCalls.{with_slots}
+use Rattle.iol_system.specs.Machine.{SystemState}
+use Rattle.iol_system.specs.Promises.{Promises}
 use Rattle.iol_ffi.specs.Replies.{Encodes, ReturnsBytes, number_of}
 use Rattle.iol_ffi.specs.Room.{TakesBytes, most_bytes}
-use Rattle.iol_ffi.specs.Steps.{Steps}
-use Rattle.iol_ffi.specs.declared.Machine.{Machine}
 use Rattle.iol_ffi.specs.declared.replies.IolReply.{IolReply}
 
 length_bytes : (t : Text) → length (bytes_of t) ≡ length t
@@ -76,10 +76,8 @@ record Answered (e : Event) (r : Reply) : Type 0 where
   after : State
   step : Step (meaning before e) before (outcome r) after
 
-answered : (o n : Option Machine) (e : Event) (r : Reply) → Steps o e r n → Answered e r
-answered (Some m) (Some k) e r p = record { before = with_slots p.beside.before m.system.kernel; after = with_slots p.beside.after k.system.kernel; step = p.beside.step }
-answered (Some m) None e r p = absurd p
-answered None n e r p = absurd p
+answered : (old new : SystemState) (e : Event) (r : Reply) → Promises old e r new → Answered e r
+answered old new e r p = record { before = with_slots p.beside.before old.kernel; after = with_slots p.beside.after new.kernel; step = p.beside.step }
 
 no_such : (why : Refusal) → number_of why ≡ 101 → ⊥
 no_such refusal.NoDomain is = omega (arith, is)
@@ -125,5 +123,5 @@ fits_in e (reply.Segment bs sum) r out a en room t is =
     bytes_fit bs sum r out (most_bytes e) (subst (λ (l : List ℕ). length l ≤ most_bytes e) (sym (ap bytes_in a.step.1)) (most a.before e t)) room en is
 fits_in e (reply.Refused why) r out a en room t is = no_such why (sym en.0 ∙ is)
 
-pub fits : (o n : Option Machine) (e : Event) (x : Reply) (r : IolReply) (out : List ℕ) → Steps o e x n → Encodes x r out → most_bytes e ≤ length out → TakesBytes e → r.refusal ≡ 101 → ⊥
-fits o n e x r out p en room = fits_in e x r out (answered o n e x p) en room
+pub fits : (old new : SystemState) (e : Event) (x : Reply) (r : IolReply) (out : List ℕ) → Promises old e x new → Encodes x r out → most_bytes e ≤ length out → TakesBytes e → r.refusal ≡ 101 → ⊥
+fits old new e x r out p en room = fits_in e x r out (answered old new e x p) en room

@@ -70,15 +70,18 @@ IsEvent (event.Transmit conn max) e bs ns = (e.kind ≡ 103) × (conn ≡ e.id) 
 IsEvent event.Flush e bs ns = e.kind ≡ 104
 IsEvent event.DropClean e bs ns = e.kind ≡ 105
 
--- the event of a request: that which it has, or one of the bytes that C passed
+-- the event of a request: that which it has, or one of the bytes that C passed, or one whose bytes are written to C's memory
 abbrev pub event_with : Request → (bytes : List ℕ) → Event
 event_with (request.Event e) bs = e
 event_with (request.AggMake by) bs = event.Call by (call.AggMake bs)
+event_with (request.Show by agg) bs = event.Call by (call.Show agg)
+event_with (request.Read by fd count) bs = event.Call by (call.Read fd count)
 event_with (request.Write by fd) bs = event.Call by (call.Write fd bs)
 
--- a call of this kind reads bytes or domains, or there is none
+-- a call of this kind reads bytes or domains or writes to C's memory, or there is none
 abbrev pub IsNoPlainKind : ℕ → Type 0
-IsNoPlainKind k = (k ≡ 2 → ⊥) → (k ≡ 6 → ⊥) → (k ≡ 15 → ⊥) → (k ≡ 16 → ⊥) → (k ≡ 26 → ⊥) → 27 < k
+IsNoPlainKind k = (k ≡ 2 → ⊥) → (k ≡ 6 → ⊥) → (k ≡ 14 → ⊥) → (k ≡ 15 → ⊥) → (k ≡ 16 → ⊥) → (k ≡ 25 → ⊥) → (k ≡ 26 → ⊥)
+    → 27 < k
 
 -- no call has this kind, or its mode has no such number
 abbrev pub IsNoCall : IolEvent → Type 0

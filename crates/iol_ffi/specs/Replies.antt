@@ -1,5 +1,5 @@
 -- The numbers and bytes that C gets of a reply.
-use Rattle.std.specs.Prelude.{◌≡◌, ◌⊎◌, ◌<◌, ℕ, List, length, take}
+use Rattle.std.specs.Prelude.{◌≡◌, ◌⊎◌, ◌<◌, ◌≤◌, ℕ, List, length, take, Result, Ok, Err}
 use Rattle.iol_core.specs.declared.events.Reply.{Reply}
 use Rattle.iol_core.specs.declared.events.Reply.TheVariants as reply
 use Rattle.iol_core.specs.declared.refusals.Refusal.{Refusal}
@@ -47,6 +47,16 @@ IsRefusal why r = (r.refusal ≡ number_of why) × (r.about ≡ about_of why)
 abbrev pub ReturnsBytes : (bytes : List ℕ) → (second : ℕ) → IolReply → (out : List ℕ) → Type 0
 ReturnsBytes bs m r out = (IsDone r (length bs) m × (take (length bs) out ≡ bs))
     ⊎ ((r.refusal ≡ 101) × (r.number ≡ length bs) × (length out < length bs))
+
+-- C gets the number of bytes that were read into its memory, or the refusal
+abbrev pub CountsRead : Result ℕ Refusal → IolReply → Type 0
+CountsRead (Ok n) r = IsDone r n 0
+CountsRead (Err why) r = IsRefusal why r
+
+-- C gets the number of an aggregate's bytes, which are in its memory if it has so much room, or the refusal
+abbrev pub CountsShown : Result ℕ Refusal → (room : ℕ) → IolReply → Type 0
+CountsShown (Ok n) room r = (IsDone r n 0 × (n ≤ room)) ⊎ ((r.refusal ≡ 101) × (r.number ≡ n) × (room < n))
+CountsShown (Err why) room r = IsRefusal why r
 
 -- C gets this reply
 abbrev pub Encodes : Reply → IolReply → (out : List ℕ) → Type 0

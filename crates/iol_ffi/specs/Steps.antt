@@ -2,6 +2,7 @@
 use Rattle.std.specs.Prelude.{◌≡◌, ◌⊎◌, ◌≤◌, ℕ, List, length, Option, Some}
 use Rattle.iol_core.specs.declared.events.Event.{Event}
 use Rattle.iol_core.specs.declared.events.Reply.{Reply}
+use Rattle.iol_system.specs.Machine.{SystemState}
 use Rattle.iol_system.specs.Promises.{Promises}
 use Rattle.iol_ffi.specs.Events.{CopiesList, IsEvent, IsNoEvent}
 use Rattle.iol_ffi.specs.Replies.{Encodes}
@@ -9,6 +10,13 @@ use Rattle.iol_ffi.specs.Room.{LacksRoom, TakesBytes, most_bytes}
 use Rattle.iol_ffi.specs.declared.Machine.{Machine}
 use Rattle.iol_ffi.specs.declared.events.IolEvent.{IolEvent}
 use Rattle.iol_ffi.specs.declared.replies.IolReply.{IolReply}
+
+-- A system takes a step by an event, and C gets its reply. The bytes that a copying read or a transmission took have room.
+pub record Executes (event : Event) (r : IolReply) (out : List ℕ) (old new : SystemState) : Type 0 where
+  pub reply : Reply
+  pub promises : Promises old event reply new
+  pub encodes : Encodes reply r out
+  pub fits : TakesBytes event → r.refusal ≡ 101 → ⊥
 
 -- from one machine to the other, by this event and with this reply, all that a step promises
 abbrev pub Steps : Option Machine → Event → Reply → Option Machine → Type 0

@@ -1,27 +1,31 @@
 //! The calls of the C interface over a handle. `iol_c` exports each under its name in C, with the
 //! same contract.
 ghost use Rattle.std.specs.Prelude.{◌≡◌, ◌≤◌, IsSome, None, length};
+ghost use Rattle.iol_core.specs.declared.events.Call.TheVariants as call;
+ghost use Rattle.iol_core.specs.declared.events.Event.TheVariants as event;
 ghost use Rattle.iol_ffi.specs.Creation.{Creates, CreatesInMemory, CreatesOver, CreatesOverFiles, IsCreated, sizes};
 ghost use Rattle.iol_ffi.specs.Events.{event_with};
 ghost use Rattle.iol_ffi.specs.Parts.{BorrowsTo};
 ghost use Rattle.iol_ffi.specs.Reports.{ReportsTo};
 ghost use Rattle.iol_ffi.specs.Room as spec;
-ghost use Rattle.iol_ffi.specs.Steps.{CarriesOutOrNot, Steps, TakesStep};
+ghost use Rattle.iol_ffi.specs.Steps.{CarriesOutOrNot, Executes, TakesStep};
 ghost use Rattle.iol_ffi.specs.Store.{disk_of};
 ghost use Rattle.iol_ffi.specs.Streams.{ArrivesFrom, DrainsTo};
-ghost use Rattle.iol_system.specs.Promises.{Promises};
 
 use crate::borrowed::IolPart;
 use crate::events::{IolEvent, Request, Unread, most_bytes, request_of};
 use crate::handle::Handle;
-use crate::replies::{BAD_EVENT, IolReply, MEMORY, SMALL_ROOM, not_done, refusal_number, reply_of};
+use crate::replies::{
+    BAD_EVENT, IolReply, MEMORY, SMALL_ROOM, not_done, read_reply, refusal_number, reply_of,
+    shown_reply,
+};
 use crate::report::{IolPool, IolReport, report_of};
 use crate::store::{HostStore, OpenFiles};
 use crate::{Machine, borrowed, streams};
 use iol_back::memory::MemoryBacking;
 use iol_back::slots::Slots;
 use iol_core::configuration::Config;
-use iol_core::events::Reply;
+use iol_core::numbers::{DomainId, Fd};
 use iol_core::refusals::Refusal;
 use iol_system::system::System;
 use std::alloc::Global;
@@ -61,29 +65,45 @@ fn start_over(alloc: Global, config: Config, files: OpenFiles, out: &mut Handle)
     start_in(alloc, config, HostStore::Opened(files), out)
 }
 
-// Executes the event of a request, whose bytes are those that C passed.
-fn execute(system: &mut System<HostStore>, request: &Request, bytes: &[u8]) -> Reply
-    ensures { Promises system.old (event_with request.now bytes.now) result system.new }
+// Reads at most `count` bytes to the front of `out`, which has room for them.
+fn read_front(
+    system: &mut System<HostStore>,
+    by: DomainId,
+    fd: Fd,
+    count: u32,
+    out: &mut [u8],
+) -> IolReply
+    requires { count ≤ length out.old }
+    ensures len { length out.new ≡ length out.old }
+    ensures executes { Executes (event.Call by (call.Read fd count)) result out.new
+        system.old system.new }
+{
+    read_reply(system.read_into(by, fd, &mut out[..count as usize]))
+}
+
+// Executes the event of a request, whose bytes are those that C passed, or for whose bytes `out` has
+// room.
+fn execute(
+    system: &mut System<HostStore>,
+    request: &Request,
+    bytes: &[u8],
+    out: &mut [u8],
+) -> IolReply
+    requires { spec.most_bytes (event_with request.now bytes.now) ≤ length out.old }
+    ensures len { length out.new ≡ length out.old }
+    ensures executes { Executes (event_with request.now bytes.now) result out.new
+        system.old system.new }
 {
     match request {
-        Request::Event(event) => system.step_ref(event),
-        Request::AggMake { by } => system.make_agg(*by, bytes),
-        Request::Write { by, fd } => system.write_bytes(*by, *fd, bytes),
+        Request::Event(event) => reply_of(&system.step_ref(event), out),
+        Request::AggMake { by } => reply_of(&system.make_agg(*by, bytes), out),
+        Request::Show { by, agg } => shown_reply(system.show_into(*by, *agg, out), out.len()),
+        Request::Read { by, fd, count } => read_front(system, *by, *fd, *count, out),
+        Request::Write { by, fd } => reply_of(&system.write_bytes(*by, *fd, bytes), out),
     }
 }
 
 // The same by the system in a handle.
-fn advance(alloc: Global, handle: &mut Handle, request: &Request, bytes: &[u8]) -> Reply
-    requires { IsSome handle.old.value }
-    ensures { Steps handle.old.value (event_with request.now bytes.now) result handle.new.value }
-{
-    let mut machine = mem::replace(handle, Handle::none(alloc)).into_box();
-    let reply = execute(&mut machine.system, request, bytes);
-    *handle = Handle::of(machine);
-    reply
-}
-
-// Executes the event of a request, for whose bytes `out` has room.
 fn carry_out(
     alloc: Global,
     handle: &mut Handle,
@@ -97,8 +117,10 @@ fn carry_out(
     ensures takes { TakesStep (event_with request.now bytes.now) result out.new
         handle.old.value handle.new.value }
 {
-    let reply = advance(alloc, handle, request, bytes);
-    reply_of(&reply, out)
+    let mut machine = mem::replace(handle, Handle::none(alloc)).into_box();
+    let reply = execute(&mut machine.system, request, bytes, out);
+    *handle = Handle::of(machine);
+    reply
 }
 
 /// Creates a system over an empty store in memory. Returns 0, or the number of the refusal: then

@@ -24,12 +24,14 @@ pub struct IolEvent {
     pub until: u32,
 }
 
-/// What C requests. If it is not an event, it is one of the bytes that C passed, which are not
-/// copied into a list.
+/// What C requests. If it is not an event, it is one of the bytes that C passed, or one whose bytes
+/// are written to C's memory. These bytes are not copied into a list.
 #[derive(Drop)]
 pub(crate) enum Request {
     Event(Event),
     AggMake { by: DomainId },
+    Show { by: DomainId, agg: AggId },
+    Read { by: DomainId, fd: Fd, count: u32 },
     Write { by: DomainId, fd: Fd },
 }
 
@@ -125,7 +127,6 @@ fn plain_call(e: &IolEvent) -> Option<Call>
         },
         12 => Call::AggDrop { agg },
         13 => Call::AggGive { agg, to },
-        14 => Call::Show { agg },
         17 => Call::Pipe,
         18 => Call::GiveFd { fd, to },
         19 => Call::Close { fd },
@@ -134,16 +135,17 @@ fn plain_call(e: &IolEvent) -> Option<Call>
         22 => Call::IolRead { fd, count: e.from },
         23 => Call::IolWrite { fd, agg },
         24 => Call::Fsync { fd },
-        25 => Call::Read { fd, count: e.from },
         27 => Call::Accept,
         _ => return None,
     };
     Some(call)
 }
 
-// The call of an event that is not carried out with C's own bytes.
+// The call of an event that is not carried out with C's own bytes or memory.
 fn call_of(alloc: Global, e: &IolEvent, bytes: &[u8], names: &[u32]) -> Result<Call, Unread>
     requires makes { e.now.kind ≢ 6 }
+    requires shows { e.now.kind ≢ 14 }
+    requires reads { e.now.kind ≢ 25 }
     requires writes { e.now.kind ≢ 26 }
     ensures ok { IfOk result (λ c. IsCall c e.now bytes.now names.now) }
     ensures err { IfErr result (λ why. IsUnread why (IsNoCall e.now) (CopiesInCall e.now)) }
@@ -171,9 +173,11 @@ fn call_of(alloc: Global, e: &IolEvent, bytes: &[u8], names: &[u32]) -> Result<C
     }
 }
 
-// The event of a kind that is not carried out with C's own bytes.
+// The event of a kind that is not carried out with C's own bytes or memory.
 fn event_of(alloc: Global, e: &IolEvent, bytes: &[u8], names: &[u32]) -> Result<Event, Unread>
     requires makes { e.now.kind ≢ 6 }
+    requires shows { e.now.kind ≢ 14 }
+    requires reads { e.now.kind ≢ 25 }
     requires writes { e.now.kind ≢ 26 }
     ensures ok { IfOk result (λ event. IsEvent event e.now bytes.now names.now) }
     ensures err { IfErr result (λ why. IsUnread why (IsNoEvent e.now) (CopiesList e.now)) }
@@ -212,13 +216,16 @@ pub(crate) fn request_of(
         (λ request. IsEvent (event_with request bytes.now) e.now bytes.now names.now) }
     ensures err { IfErr result (λ why. IsUnread why (IsNoEvent e.now) (CopiesList e.now)) }
 {
-    let by = DomainId::new(e.by);
+    let (by, agg, fd) = (DomainId::new(e.by), AggId::new(e.agg), Fd::new(e.id));
     match e.kind {
         6 => Ok(Request::AggMake { by }),
-        26 => Ok(Request::Write {
+        14 => Ok(Request::Show { by, agg }),
+        25 => Ok(Request::Read {
             by,
-            fd: Fd::new(e.id),
+            fd,
+            count: e.from,
         }),
+        26 => Ok(Request::Write { by, fd }),
         _ => Ok(Request::Event(event_of(alloc, e, bytes, names)?)),
     }
 }
@@ -252,6 +259,7 @@ pub(crate) fn most_bytes(request: &Request) -> usize
 {
     match request {
         Request::Event(event) => most_of_event(event),
+        Request::Read { count, .. } => *count as usize,
         _ => 0,
     }
 }

@@ -1,6 +1,6 @@
 //! Replies for C: a struct of numbers, and a slice for bytes.
 ghost use Rattle.std.specs.Prelude.{◌≡◌, ◌<◌, IsFalse, IsTrue, length, take};
-ghost use Rattle.iol_ffi.specs.Replies.{Encodes, IsDone, IsRefusal, ReturnsBytes, about_of, number_of};
+ghost use Rattle.iol_ffi.specs.Replies.{CountsRead, CountsShown, Encodes, IsDone, IsRefusal, ReturnsBytes, about_of, number_of};
 
 use iol_core::events::Reply;
 use iol_core::refusals::Refusal;
@@ -96,6 +96,32 @@ pub(crate) fn refused(refusal: &Refusal) -> IolReply
         about: refusal_about(*refusal),
         number: 0,
         second: 0,
+    }
+}
+
+/// The reply to a read of this many bytes, which are in `out`.
+pub(crate) fn read_reply(outcome: Result<u32, Refusal>) -> IolReply
+    ensures { CountsRead outcome result }
+{
+    match outcome {
+        Ok(count) => done(u64::from(count), 0),
+        Err(refusal) => refused(&refusal),
+    }
+}
+
+/// The reply if an aggregate of this many bytes is shown in an `out` of `room` bytes.
+pub(crate) fn shown_reply(outcome: Result<u32, Refusal>, room: usize) -> IolReply
+    ensures { CountsShown outcome room result }
+{
+    match outcome {
+        Ok(count) => {
+            if count as usize > room {
+                not_done(SMALL_ROOM, u64::from(count))
+            } else {
+                done(u64::from(count), 0)
+            }
+        }
+        Err(refusal) => refused(&refusal),
     }
 }
 

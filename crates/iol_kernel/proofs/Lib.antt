@@ -3,3 +3,4 @@ pub mod FileCalls
 pub mod AggregateCalls
 pub mod Connections
 pub mod Queues
+pub mod Fronts

@@ -1,6 +1,6 @@
 -- The effect of a read of a file, in addition to the machine's step: the places of its bytes, and the changes of pages and of
 -- the cache.
-use Rattle.std.specs.Prelude.{◌≡◌, ◌⊎◌, ℕ, ◌+◌, ◌-◌, ◌≤◌, ◌&&◌, Bool, not, min, List, [], ◌∷◌, length, slice_set, Option, Some, None, Result, IfOk, IfErr, OnErr, OnOk, if◌then◌else◌}
+use Rattle.std.specs.Prelude.{◌≡◌, ◌⊎◌, ℕ, ◌+◌, ◌-◌, ◌≤◌, ◌&&◌, Bool, not, min, List, [], ◌∷◌, length, take, drop, slice_set, Option, Some, None, Result, Ok, Err, IfOk, IfErr, OnErr, OnOk, if◌then◌else◌}
 use Rattle.iol_core.specs.State as machine
 use Rattle.iol_core.specs.State.{State, Domain, is_live, descriptor}
 use Rattle.iol_core.specs.Meaning.{◌when◌, first}
@@ -159,6 +159,21 @@ pub record CopiesFromFile (x : FileRead) (disk : Disk) (old : KernelState) (r : 
   pub serves : Serves (λ s. calls.read s x.domain x.fd x.count) disk old r after new
   pub copies : CopiesFileAs x disk old r after new
   pub short : IfOk r (λ bytes. length bytes ≤ x.count)
+
+-- the first n bytes of a memory that a read filled, or the read's refusal
+abbrev pub first_of : (filled : List ℕ) → Result ℕ Refusal → Result (List ℕ) Refusal
+first_of filled (Ok n) = Ok (take n filled)
+first_of filled (Err y) = Err y
+
+-- The result of a read by copying into a memory. The bytes read are at its front, as many as it returns the number of, and the
+-- rest of the memory is unchanged. A refusal leaves all of it unchanged.
+pub record CopiesInto (x : FileRead) (memory filled : List ℕ) (disk : Disk) (old : KernelState) (r : Result ℕ Refusal)
+    (after : Disk) (new : KernelState) : Type 0 where
+  pub copies : CopiesFromFile x disk old (first_of filled r) after new
+  pub count : IfOk r (λ n. n ≤ x.count)
+  pub len : length filled ≡ length memory
+  pub rest : IfOk r (λ n. drop n filled ≡ drop n memory)
+  pub err : OnErr r (filled ≡ memory)
 
 -- A read by reference, by the descriptor's object: for a file, as above; for anything else nothing is copied and the store
 -- under the files is not asked.

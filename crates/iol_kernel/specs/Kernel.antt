@@ -1,5 +1,5 @@
 -- The fields of the kernel as a `KernelState`, and the contracts' predicates on kernels.
-use Rattle.std.specs.Prelude.{◌≡◌, ℕ, List, [], Result, IfOk, OnErr}
+use Rattle.std.specs.Prelude.{◌≡◌, ℕ, List, [], length, Result, IfOk, OnErr}
 use Rattle.iol_core.specs.State.{State}
 use Rattle.iol_core.specs.Text.{Text}
 use Rattle.iol_core.specs.Meaning.{Meaning}
@@ -80,6 +80,12 @@ LooksUp m disk old r new = backed.LooksUp m disk (state_of old) r (state_of new)
 abbrev pub CopiesFile : (d fd : ℕ) → OpenFile → (n : ℕ) → Disk → Kernel → Result (List ℕ) Refusal → Disk → Kernel → Type 0
 CopiesFile d fd found n disk old r after new =
     files.CopiesFromFile (read_at d fd found n) disk (state_of old) r after (state_of new)
+
+-- the result of a read into a memory from the file that was found open
+abbrev pub CopiesFileInto : (d fd : ℕ) → OpenFile → (memory filled : List ℕ) → Disk → Kernel → Result ℕ Refusal → Disk → Kernel
+    → Type 0
+CopiesFileInto d fd found memory filled disk old r after new =
+    files.CopiesInto (read_at d fd found (length memory)) memory filled disk (state_of old) r after (state_of new)
 
 abbrev pub ReadsList : (d fd n : ℕ) → Disk → Kernel → Result (List ℕ) Refusal → Disk → Kernel → Type 0
 ReadsList d fd n disk old r after new = copying.ReadsList d fd n disk (state_of old) r after (state_of new)

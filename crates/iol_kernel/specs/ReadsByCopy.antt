@@ -1,5 +1,5 @@
--- The effect of reads by copying on the state of the system.
-use Rattle.std.specs.Prelude.{◌≡◌, ◌++◌, ℕ, true, min, List, [], length, drop, Option, Some, None}
+-- The effect of reads by copying on the state of the system, and aggregates that are shown in a memory.
+use Rattle.std.specs.Prelude.{◌≡◌, ◌<◌, ◌≤◌, ◌++◌, ℕ, true, min, List, [], length, drop, Option, Some, None}
 use Rattle.std.specs.Prelude.{Result, Err, IfErr, IfOk, OnErr, OnOk}
 use Rattle.iol_core.specs.State.{is_live, descriptor}
 use Rattle.iol_core.specs.Text.{bytes_of}
@@ -13,7 +13,7 @@ use Rattle.iol_back.specs.Disk.{Disk}
 use Rattle.iol_hold.specs.Pages.{KeepsPages}
 use Rattle.iol_sock.specs.Refusals.{IsPassed, IsRefused}
 use Rattle.iol_kernel.specs.FileCalls.{Serves}
-use Rattle.iol_kernel.specs.Calls.{Leaves}
+use Rattle.iol_kernel.specs.Calls.{Leaves, RefusesShow, Shows}
 use Rattle.iol_kernel.specs.FileReads.{CopiesFileAs, file_read, held_by}
 use Rattle.iol_kernel.specs.KernelState.{KernelState, IsSound, read_of, machine_of}
 use Rattle.iol_kernel.specs.Readings.{Reading, KeepsPools}
@@ -75,3 +75,15 @@ pub record TakesInto (d fd : ℕ) (memory filled : List ℕ) (old : KernelState)
 pub record CopiesFrontOf (end : Descriptor) (d : ℕ) (h : KernelState) (memory filled : List ℕ) (n : ℕ) : Type 0 where
   pub copied : filled ≡ bytes_of (read_text (machine_of [] h) d (Some end) (length memory)) ++ drop n memory
   pub count : (f : Reading) → KeepsPools f → n ≡ length (read_text (read_of f h) d (Some end) (length memory))
+
+-- The bytes of a domain's aggregate were copied to the front of a memory, if it has room for all of them, and the rest of it
+-- is unchanged; otherwise all of it is. Their number is returned either way. They are those that the machine's `show` returns.
+-- It is refused exactly as `show` is, but never for lack of memory, and a refusal leaves the memory unchanged.
+pub record ShowsInto (d a : ℕ) (memory filled : List ℕ) (h : KernelState) (r : Result ℕ Refusal) : Type 0 where
+  pub bytes : List ℕ
+  pub shows : OnOk r (Shows d a bytes h)
+  pub refused : IfErr r (λ x. RefusesShow d a x h)
+  pub count : IfOk r (λ n. n ≡ length bytes)
+  pub fits : OnOk r (length bytes ≤ length memory → filled ≡ bytes ++ drop (length bytes) memory)
+  pub full : OnOk r (length memory < length bytes → filled ≡ memory)
+  pub err : OnErr r (filled ≡ memory)

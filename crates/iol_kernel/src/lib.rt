@@ -2,9 +2,10 @@
 //!
 //! A call tests its refusals in order and then has one effect: `kernel.agg_cut(by, agg, from, to)?`
 //! is the number of a new aggregate of the caller. docs/RULES.md lists the refusals of a method, in
-//! order, under the call's name (`file_length` is `length`, `read_bytes` is `read`, `write_bytes` is
-//! `write`). Positions and ranges are in bytes from 0; a range includes `from` and excludes `to`. The
-//! copying machine defines the meaning of a call (`iol_core`, `specs/Calls`):
+//! order, under the call's name (`file_length` is `length`, `read_bytes` is `read`, `show_into` is
+//! `show`, `write_bytes` is `write`). Positions and ranges are in bytes from 0; a range includes
+//! `from` and excludes `to`. The copying machine defines the meaning of a call (`iol_core`,
+//! `specs/Calls`):
 //!
 //! - `CarriesOut`: the machine's step for each reading. A reading of bytes gives the meaning of the
 //!   call; a reading of places says that nothing was copied. No page and no pool changes.
@@ -31,6 +32,7 @@
 #![tactic(auto)]
 
 mod calls;
+mod copies;
 mod file_table;
 mod files;
 pub mod kernel;

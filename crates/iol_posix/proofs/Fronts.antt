@@ -34,6 +34,7 @@ module _ {B : Type 0} (by fd n : ℕ) (memory filled : List ℕ) (disk : B → D
   over (Ok k) x = record {
     serves = subst (λ (bytes : List ℕ). Serves (λ s. read s by fd n) (disk backing) old (Ok bytes) (disk after) new) (taken k x.count x.len) x.serves;
     copies = subst (λ (bytes : List ℕ). Copies by fd n (disk backing) (state_of old) (Ok bytes) (disk after) (state_of new)) (taken k x.count x.len) x.copies;
+    not_memory = x.not_memory;
     count = x.count;
     len = whole_len x.len;
     rest = left k x.count x.len x.rest;
@@ -42,6 +43,7 @@ module _ {B : Type 0} (by fd n : ℕ) (memory filled : List ℕ) (disk : B → D
   over (Err y) x = record {
     serves = x.serves;
     copies = x.copies;
+    not_memory = x.not_memory;
     count = tt;
     len = whole_len x.len;
     rest = tt;

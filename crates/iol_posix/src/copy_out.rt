@@ -1,5 +1,5 @@
 //! Reading by copying.
-ghost use Rattle.std.specs.Prelude.{◌≡◌, ◌<◌, ◌≤◌, ◌^◌, ◌-◌, ◌++◌, length, drop, min};
+ghost use Rattle.std.specs.Prelude.{◌<◌, ◌^◌, ◌-◌, length, min};
 ghost use Rattle.iol_kernel.specs.Prelude.{state_of, IsOnNoFile, IsSound, ReadsList};
 ghost use Rattle.iol_posix.specs.Reads.{ReadsInto, TakesOut};
 
@@ -9,17 +9,9 @@ use iol_core::numbers::{DomainId, Fd};
 use iol_core::refusals::Refusal;
 use iol_kernel::kernel::Kernel;
 
-// Copies bytes over the front of a memory.
-fn put_front(into: &mut [u8], bytes: &[u8])
-    requires { length bytes.now ≤ length into.old }
-    ensures { into.new ≡ bytes.now ++ drop (length bytes.now) into.old }
-{
-    into[..bytes.len()].copy_from_slice(bytes);
-}
-
 /// Reads into the caller's memory, at most `into.len()` bytes and fewer than 2^32, and returns their
-/// number. No aggregate is made of them. From a queue no memory is requested, from a file as much as is
-/// read.
+/// number. No aggregate and no list is made of them. From a queue no memory is requested, from a file
+/// only what the cache of files needs.
 pub fn read<B: Backing>(
     kernel: &mut Kernel,
     backing: &mut B,
@@ -48,12 +40,10 @@ fn read_front<B: Backing>(
     ensures { ReadsInto by fd (length into.old) into.old into.new B.disk backing.old backing.new
         kernel.old result kernel.new }
 {
-    let Some(found) = kernel.file_open(by, fd) else {
-        return read_queue(kernel, by, fd, into);
-    };
-    let bytes = kernel.copy_file(backing, by, fd, found, into.len() as u32)?;
-    put_front(into, bytes.as_slice());
-    Ok(bytes.as_slice().len() as u32)
+    match kernel.file_open(by, fd) {
+        Some(found) => kernel.copy_file_into(backing, by, fd, found, into),
+        None => read_queue(kernel, by, fd, into),
+    }
 }
 
 // Reads from a pipe or a connection.

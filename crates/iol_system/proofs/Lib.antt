@@ -23,3 +23,4 @@ pub mod FileLengths
 pub mod ResultTold
 pub mod WriteBack
 pub mod InPlace
+pub mod BorrowedMemory

@@ -21,4 +21,5 @@ pub mod WriteBack
 pub mod InPlace
 pub mod Late
 pub mod NobodyLeft
+pub mod BorrowedMemory
 pub mod Prelude

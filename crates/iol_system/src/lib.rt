@@ -14,7 +14,8 @@
 //! `shares_file`, `slices`), generations (`publishes`, `creates`), the ends of files (`ends`), sums
 //! (`sums`), writing back (`synced`, `kept`, `flushed`, `dropped`, `stores_back`), and the invariant
 //! (`safe`, `stays`, `honest`). `make_agg` and `write_bytes` are the steps of `AggMake` and `Write` of
-//! borrowed bytes. `arrive_from` and `drain_to` serve a reader and a writer in place; `parts`,
+//! borrowed bytes, `read_into` and `show_into` those of `Read` and `Show` whose bytes are written to
+//! borrowed memory (`specs/BorrowedMemory`). `arrive_from` and `drain_to` serve a reader and a writer in place; `parts`,
 //! `located_parts` and `aggregates` give references to bytes; `report` counts. `laws` states
 //! consequences for whole runs: an aggregate that no event gives up keeps its places and its addresses,
 //! NoRoom leaves extents and pools unchanged, a refusal evicts nothing if there is no room, and all

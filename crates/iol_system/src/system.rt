@@ -6,6 +6,7 @@ ghost use Rattle.iol_core.specs.declared.events.Call.TheVariants as call;
 ghost use Rattle.iol_core.specs.declared.events.Event.TheVariants as event;
 ghost use Rattle.iol_hold.specs.Prelude.{Stays};
 ghost use Rattle.iol_kernel.specs.Prelude.{Reports};
+ghost use Rattle.iol_system.specs.BorrowedMemory.{ReadsTo, ShowsTo};
 ghost use Rattle.iol_system.specs.NewSystem.{MakesSystem};
 ghost use Rattle.iol_system.specs.LentBytes.{LendsParts, LocatesParts};
 ghost use Rattle.iol_system.specs.Machine.{machine_of, tables_of};
@@ -24,6 +25,7 @@ use iol_core::numbers::{AggId, DomainId, Fd};
 use iol_core::refusals::Refusal;
 use iol_kernel::kernel::Kernel;
 use iol_kernel::report::Report;
+use iol_posix::read;
 use std::alloc::{AllocError, Global};
 use std::marker::Model;
 
@@ -138,6 +140,26 @@ impl<B: Backing> System<B> {
         ensures { Promises self.old (event.Call by (call.Write fd bytes.now)) result self.new }
     {
         write_bytes(&mut self.kernel, by, fd, bytes)
+    }
+
+    /// Reads into borrowed memory, at most `out.len()` bytes and fewer than 2^32, and returns their
+    /// number: the step of `Read`, without a list of its bytes. They are at the front of `out`, and
+    /// the rest of it is unchanged; after a refusal all of it is.
+    ///
+    /// A read of a pipe or a connection requests no memory, so it is never refused with `Memory`.
+    pub fn read_into(&mut self, by: DomainId, fd: Fd, out: &mut [u8]) -> Result<u32, Refusal>
+        ensures { ReadsTo by fd out.old out.new self.old result self.new }
+    {
+        read(&mut self.kernel, &mut self.backing, by, fd, out)
+    }
+
+    /// Shows an aggregate in borrowed memory: the step of `Show`, without a list of its bytes. If
+    /// `out` has room for all of them they are at its front, and the rest of it is unchanged;
+    /// otherwise all of it is. Returns their number either way. No memory is requested.
+    pub fn show_into(&self, by: DomainId, agg: AggId, out: &mut [u8]) -> Result<u32, Refusal>
+        ensures { ShowsTo by agg out.old out.new self.now result }
+    {
+        self.kernel.show_into(by, agg, out)
     }
 
     /// Executes events in order. If there is no memory for the replies, none is executed: it is

@@ -120,6 +120,39 @@ read_refused h k d fd n y sound refused same = record {
         four_tests (not (machine.is_live s d)) (is_none o) (not (reading.can_read o)) (reading.must_wait s o n) (reading.read_denied s d o n) p (denied_no_room s d n p o)
         (refused_first h d fd n (first (reading.read s d fd n).refusals) y refused ∙ ap Some is)
 
+-- None of the tests is refused for lack of memory.
+
+tests_need_none : (a b c e : Bool) (o : Option Refusal) → (o ≡ Some Memory → ⊥) → first ((NoDomain when a) ∷ (BadFd when b) ∷ (WrongMode when c) ∷ o ∷ (WouldBlock when e) ∷ []) ≡ Some Memory → ⊥
+tests_need_none true b c e o other is = cc is
+tests_need_none false true c e o other is = cc is
+tests_need_none false false true e o other is = cc is
+tests_need_none false false false e (Some q) other is = other is
+tests_need_none false false false true None other is = cc is
+tests_need_none false false false false None other is = cc is
+
+barred_needs_none : (b : Bool) (q : ℕ) → (Denied q when b) ≡ Some Memory → ⊥
+barred_needs_none true q is = cc is
+barred_needs_none false q is = cc is
+
+first_needs_none : (o : Option ℕ) → option_map Denied o ≡ Some Memory → ⊥
+first_needs_none None is = cc is
+first_needs_none (Some q) is = cc is
+
+denied_needs_none : (s : State) (d n : ℕ) (o : Option Descriptor) → reading.read_denied s d o n ≡ Some Memory → ⊥
+denied_needs_none s d n None is = first_needs_none (barred (machine.may_read s d) (take (min n 1) (reading.unread s None))) is
+denied_needs_none s d n (Some (on.File f at mode)) is = barred_needs_none (not (machine.may_read s d (machine.file s f).pool)) (machine.file s f).pool is
+denied_needs_none s d n (Some (on.ReadEnd q)) is = first_needs_none (barred (machine.may_read s d) (take (min n 1) (reading.unread s (Some (on.ReadEnd q))))) is
+denied_needs_none s d n (Some (on.WriteEnd q)) is = first_needs_none (barred (machine.may_read s d) (take (min n 1) (reading.unread s (Some (on.WriteEnd q))))) is
+denied_needs_none s d n (Some (on.Connection q)) is = first_needs_none (barred (machine.may_read s d) (take (min n 1) (reading.unread s (Some (on.Connection q))))) is
+
+-- a read that is refused by its tests is not refused for lack of memory
+pub tests_not_memory : (h : KernelState) (d fd n : ℕ) (y : Refusal) → MatchOption (first (reading.read (machine_of [] h) d fd n).refusals) (Never y) (λ z. y ≡ z) → y ≡ Memory → ⊥
+tests_not_memory h d fd n y refused is =
+    let s = machine_of [] h in
+    let o = machine.descriptor s d fd in
+    tests_need_none (not (machine.is_live s d)) (is_none o) (not (reading.can_read o)) (reading.must_wait s o n) (reading.read_denied s d o n) (denied_needs_none s d n o)
+    (refused_first h d fd n (first (reading.read s d fd n).refusals) y refused ∙ ap Some is)
+
 pub read_unlisted : (h k : KernelState) (d fd n : ℕ) → IsSound h → first (reading.read (machine_of [] h) d fd n).refusals ≡ None → k ≡ h → ReadsOut d fd n h (Err Memory) k
 read_unlisted h k d fd n sound passed same = record {
   serves = unread_serves h d fd n k sound passed same;

@@ -9,7 +9,9 @@ ghost use Rattle.iol_kernel.specs.KernelState.{joined, IsSound};
 ghost use Rattle.iol_kernel.specs.LocatedParts.{Locates};
 ghost use Rattle.iol_kernel.specs.NewBytes.{FillsNext, MakesAggregate, TestsMake};
 ghost use Rattle.iol_kernel.specs.Readings.{Reading};
+ghost use Rattle.iol_kernel.specs.ReadsByCopy.{ShowsInto};
 
+use crate::copies::copy_to_front;
 use crate::kernel::Kernel;
 use crate::tables::{first_hidden, join_aggs, move_agg, split_agg};
 use iol_agg::{Agg, LocatedParts, Parts};
@@ -306,6 +308,20 @@ impl Kernel {
     {
         let found = self.find(by, agg)?;
         Ok(Bytes::from_vec(found.to_vec(self.alloc, &self.store)?))
+    }
+
+    /// Copies an aggregate's bytes to the front of `into`, if it has room for all of them. Returns
+    /// their number either way. No memory is requested.
+    pub fn show_into(&self, by: DomainId, agg: AggId, into: &mut [u8]) -> Result<u32, Refusal>
+        requires { IsSound (state_of self.now) }
+        ensures { ShowsInto by agg into.old into.new (state_of self.now) result }
+    {
+        let found = self.find(by, agg)?;
+        let len = found.len();
+        if len as usize <= into.len() {
+            copy_to_front(found, &self.store, into);
+        }
+        Ok(len)
     }
 
     /// An aggregate's bytes, at their places in memory.

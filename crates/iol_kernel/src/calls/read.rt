@@ -3,6 +3,7 @@ ghost use Rattle.iol_kernel.specs.ReadsByCopy.{IsOnNoFile, ReadsOut};
 ghost use Rattle.iol_kernel.specs.KernelState.{IsSound};
 
 mod file;
+mod into;
 mod queue;
 
 use crate::kernel::Kernel;

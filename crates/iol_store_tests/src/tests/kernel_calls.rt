@@ -43,6 +43,7 @@ fn aggregates_answer(kernel: &mut TestKernel, with: &Inputs) -> bool {
         && kernel.replaces(6, 2, 1, 7)
         && kernel.gives(3)
         && kernel.shows(7, b"abcdda")
+        && kernel.shows_into(1, *b"abcd")
 }
 
 fn files_answer(kernel: &mut TestKernel, with: &Inputs) -> bool {
@@ -56,6 +57,7 @@ fn files_answer(kernel: &mut TestKernel, with: &Inputs) -> bool {
         && kernel.reads_agg(0, 9, 8)
         && kernel.seeks(0, 1)
         && kernel.copies_file(0, 2, b"bc")
+        && kernel.copies_file_into(0, *b"dxy")
 }
 
 fn queues_answer(kernel: &mut TestKernel, with: &Inputs, reader: &mut &[u8]) -> bool {

@@ -158,6 +158,25 @@ impl TestKernel {
         matches!(copied, Ok(bytes) if bytes.as_slice() == text)
     }
 
+    /// Reads a file into a buffer of three bytes.
+    pub fn copies_file_into(&mut self, fd: u32, text: [u8; 3]) -> bool {
+        let (by, fd) = (one(), Fd::new(fd));
+        let Some(found) = self.kernel.file_open(by, fd) else {
+            return false;
+        };
+        let mut memory = [0; 3];
+        let count = self
+            .kernel
+            .copy_file_into(&mut self.backing, by, fd, found, &mut memory);
+        count == Ok(3) && memory == text
+    }
+
+    /// Shows an aggregate in a buffer of four bytes.
+    pub fn shows_into(&self, of: u64, text: [u8; 4]) -> bool {
+        let mut memory = [0; 4];
+        self.kernel.show_into(one(), agg(of), &mut memory) == Ok(4) && memory == text
+    }
+
     pub fn makes_pipe(&mut self, read_end: u32, write_end: u32) -> bool {
         self.kernel.pipe(one()) == Ok((Fd::new(read_end), Fd::new(write_end)))
     }

@@ -247,6 +247,20 @@ fn writes(system: &mut TestedSystem) -> bool {
     matches!(written, Reply::Count(2))
 }
 
+// Domain 2 reads them from the pipe into its own memory.
+fn reads(system: &mut TestedSystem) -> bool {
+    let mut memory = [0; 3];
+    let read = system.read_into(DomainId::new(2), Fd::new(0), &mut memory);
+    read == Ok(2) && memory == *b"cd\0"
+}
+
+// The new aggregate of domain 1 is shown in memory.
+fn shows(system: &TestedSystem) -> bool {
+    let mut memory = [0; 3];
+    let shown = system.show_into(DomainId::new(1), AggId::new(8), &mut memory);
+    shown == Ok(2) && memory == *b"ab\0"
+}
+
 fn reports(system: &TestedSystem) -> bool {
     match system.report() {
         Ok(report) => (report.pools.len(), report.dirty, report.extents) == (1, 2, 2),
@@ -264,6 +278,8 @@ fn all_answer(alloc: Global, system: &mut TestedSystem, events: &Events) -> bool
         && hears(system)
         && makes(system)
         && writes(system)
+        && reads(system)
+        && shows(system)
         && reports(system)
 }
 

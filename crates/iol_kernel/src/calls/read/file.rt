@@ -54,7 +54,7 @@ impl Kernel {
 
     /// How many of `count` bytes a file has from an offset on. Over a store that is not honest, the
     /// end is where a read of the file would end now.
-    fn readable<B: Backing>(&self, backing: &B, file: FileId, at: u32, count: u32) -> u32
+    pub(crate) fn readable<B: Backing>(&self, backing: &B, file: FileId, at: u32, count: u32) -> u32
         requires { HasFile (state_of self.now) file }
         ensures { IsReadable (B.disk backing.now) (state_of self.now).cache file at count result }
     {
