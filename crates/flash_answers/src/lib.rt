@@ -5,9 +5,10 @@
 //! begin an answer to those received. The function has no effect; its contract is the law.
 #![tactic(auto)]
 
+ghost use Rattle.flash_answers.specs.Clients.{ClientsAreAnswered};
 ghost use Rattle.flash_answers.specs.Sites.{SitesAnswer};
 
-use flash_clients::visits_are_answered;
+use flash_clients::{clients_get_answers, requests_are_kept, visits_are_answered};
 use flash_laws::answer_laws::runs_are_fair;
 use flash_lite::actor::Worker;
 use flash_lite::laws::{connections_do_not_meet, hosted_is_right};
@@ -23,4 +24,17 @@ pub fn sites_answer()
     runs_are_fair();
     connections_do_not_meet();
     hosted_is_right();
+}
+
+/// A client of the event loop left each of its connections except the last after whole requests
+/// that keep it, in worlds of sites over honest stores. Then the bytes that its socket accepted are
+/// a prefix of an answer to those that it supplied, by these sites in turn. They are an answer if it
+/// accepted all, and either a request closed the last connection, or it was left and no complete
+/// request waits. The function has no effect; its contract is the law.
+pub fn clients_are_answered()
+    ensures { ClientsAreAnswered }
+{
+    sites_answer();
+    requests_are_kept();
+    clients_get_answers();
 }

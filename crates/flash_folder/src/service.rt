@@ -4,6 +4,7 @@ use flash_lite::actor::Actor;
 use iol_back::folder::FolderBacking;
 use iol_proc::world::World;
 use iol_reactor::service::{Exchange, Frame, Progress, Service};
+use std::alloc::{AllocError, Global};
 use std::rt::Files;
 
 /// The files of a folder at the time when it was read. It records nothing, and its world is not
@@ -12,8 +13,8 @@ use std::rt::Files;
 pub struct FolderService;
 
 impl<R: Files> Service<FolderBacking<R>, Actor> for FolderService {
-    fn frame(&self, bytes: &[u8]) -> Frame {
-        frame_of(bytes)
+    fn frame(&self, alloc: Global, bytes: &[u8]) -> Result<Frame, AllocError> {
+        frame_of(alloc, bytes)
     }
 
     fn progress(&self, exchange: &Exchange<'_>) -> Progress {

@@ -1,13 +1,15 @@
--- The end of the first request of some bytes.
-use Rattle.std.specs.Prelude.{◌+◌}
-use Rattle.flash_http.specs.declared.windows.Window.{Window}
-use Rattle.flash_http.specs.declared.windows.Window.TheVariants.{Wait, Head, TooLarge}
-use Rattle.flash_http.specs.declared.windows.TheConstants.{MAX_HEAD_BYTES}
+-- The end of the first request of some bytes, and whether it closes the connection.
+use Rattle.std.specs.Prelude.{◌≡◌, ℕ, true, false, List}
+use Rattle.flash_clients.specs.Requests.{IsFirst}
+use Rattle.flash_http.specs.Request.{Answer}
+use Rattle.flash_http.specs.Window.{window_in}
+use Rattle.flash_http.specs.declared.windows.Window.TheVariants.{Wait}
+use Rattle.flash_laws.specs.Answers.{keeps}
 use Rattle.iol_reactor.specs.declared.service.Frame.{Frame}
-use Rattle.iol_reactor.specs.declared.service.Frame.TheVariants.{Incomplete, Complete, TooLong}
+use Rattle.iol_reactor.specs.declared.service.Frame.TheVariants.{Incomplete, Complete, Last}
 
--- by the window of their first head
-abbrev pub framed : Window → Frame
-framed Wait = Incomplete
-framed (Head skip len) = Complete (skip + len)
-framed TooLarge = TooLong MAX_HEAD_BYTES
+-- by the window of their first head, and by its answer
+abbrev pub Framed : List ℕ → Frame → Type 0
+Framed s Incomplete = window_in s ≡ Wait
+Framed s (Complete size) = (q : Answer) × IsFirst (window_in s) s size q × (keeps q ≡ true)
+Framed s (Last size) = (q : Answer) × IsFirst (window_in s) s size q × (keeps q ≡ false)

@@ -4,23 +4,43 @@
 //! by [`frame_of`] and `progress` by [`progress_of`].
 #![tactic(auto)]
 
-ghost use Rattle.std.specs.Prelude.{◌≡◌, length};
-ghost use Rattle.flash_http.specs.Prelude.{window_in};
-ghost use Rattle.flash_framing.specs.Framing.{framed};
+ghost use Rattle.std.specs.Prelude.{◌≡◌, not, IfOk};
+ghost use Rattle.flash_http.specs.Request as http;
+ghost use Rattle.flash_laws.specs.Prelude.{keeps};
+ghost use Rattle.flash_framing.specs.Framing.{Framed};
 
-use flash_http::{MAX_HEAD_BYTES, Window, window_of};
+use flash_http::{Asked, MAX_HEAD_BYTES, Window, read_head, window_of};
 use flash_log::heads::{content_length, has_line, head_length, request_line};
 use iol_reactor::service::{Exchange, Frame, Progress};
+use std::alloc::{AllocError, Global};
 
 /// The first request of these bytes: its head, with the empty lines before it. A request with
 /// content is refused, so no request has content.
-pub fn frame_of(bytes: &[u8]) -> Frame
-    ensures { result ≡ framed (window_in bytes.now) }
+pub fn frame_of(alloc: Global, bytes: &[u8]) -> Result<Frame, AllocError>
+    ensures { IfOk result (λ frame. Framed bytes.now frame) }
 {
     match window_of(bytes) {
-        Window::Head { skip, len } => Frame::Complete(skip + len),
-        Window::TooLarge => Frame::TooLong(MAX_HEAD_BYTES),
-        Window::Wait => Frame::Incomplete,
+        Window::Head { skip, len } => {
+            let asked = read_head(alloc, &bytes[skip..skip + len])?;
+            let size = skip + len;
+            if stays_open(&asked) {
+                Ok(Frame::Complete(size))
+            } else {
+                Ok(Frame::Last(size))
+            }
+        }
+        Window::TooLarge => Ok(Frame::Last(MAX_HEAD_BYTES)),
+        Window::Wait => Ok(Frame::Incomplete),
+    }
+}
+
+// Whether the connection stays open after the response.
+fn stays_open(asked: &Asked) -> bool
+    ensures { result ≡ keeps (http.answer asked.now) }
+{
+    match asked {
+        Asked::Serve(request) => request.keep,
+        Asked::Refuse { close, .. } => !*close,
     }
 }
 

@@ -1,5 +1,6 @@
 //! A site, as a service of the event loop.
 ghost use Rattle.std.specs.Prelude.{IfOk, IfSome};
+ghost use Rattle.flash_framing.specs.Framing.{Framed};
 ghost use Rattle.flash_site.specs.World.{BeginsSite};
 
 use crate::notices::tell_site;
@@ -13,6 +14,7 @@ use flash_site::source::{Source, Summary};
 use iol_proc::world::World;
 use iol_reactor::service::{Exchange, Frame, Progress, Service};
 use iol_tree::backing::TreeBacking;
+use std::alloc::{AllocError, Global};
 use std::io;
 use std::io::{Eprint, Write};
 use std::rt::{Clock, Files};
@@ -145,8 +147,11 @@ where
     // world.
     ghost starts = { BeginsSite };
 
-    fn frame(&self, bytes: &[u8]) -> Frame {
-        frame_of(bytes)
+    // The first request, by its window and its head.
+    ghost frames = { Framed };
+
+    fn frame(&self, alloc: Global, bytes: &[u8]) -> Result<Frame, AllocError> {
+        frame_of(alloc, bytes)
     }
 
     fn progress(&self, exchange: &Exchange<'_>) -> Progress {

@@ -3,3 +3,5 @@ pub mod Bytes
 pub mod Connections
 pub mod Serving
 pub mod Visits
+pub mod Clients
+pub mod LinkVisits

@@ -1,4 +1,8 @@
 //! A client: its socket, and the bytes that are buffered between it and its connection of a world.
+ghost use Rattle.std.specs.Prelude.{◌≡◌, ◌≢◌, [], drop, nat_le, nat_lt};
+ghost use Rattle.std.specs.Io.KnownBytes.{Keeps};
+ghost use Rattle.iol_reactor.specs.Bytes.{Gains, Grows, IsBegun, IsFinished, IsGiven, IsSameInput, Passes, PassesSome, request_of, unsent_of};
+
 use crate::input::{Input, Reading};
 use crate::output::{Output, Sending};
 use crate::service::Exchange;
@@ -57,6 +61,9 @@ pub struct Client<S> {
     input: Input,
     output: Output,
 
+    // Whether the processes close the connection after the request in progress.
+    is_last: bool,
+
     /// Whether it is in the list of clients that are visited in the next round, and in the list of
     /// those with a pending response.
     pub is_ready: bool,
@@ -75,7 +82,14 @@ pub struct Client<S> {
 }
 
 impl<S: Socket> Client<S> {
-    pub fn new(alloc: Global, socket: S, peer: SocketAddr, serial: u64, now: u64) -> Client<S> {
+    pub fn new(alloc: Global, socket: S, peer: SocketAddr, serial: u64, now: u64) -> Client<S>
+        ensures socket { result.socket ≡ socket }
+        ensures phase { result.phase ≡ Phase.Parked }
+        ensures bytes { result.input.bytes.items ≡ [] }
+        ensures asked { result.input.asked ≡ 0 }
+        ensures given { result.input.given ≡ 0 }
+        ensures unsent { unsent_of result.output ≡ [] }
+    {
         Client {
             socket,
             peer,
@@ -83,6 +97,7 @@ impl<S: Socket> Client<S> {
             phase: Phase::Parked,
             input: Input::new(alloc),
             output: Output::new(alloc),
+            is_last: false,
             is_ready: false,
             is_pending: false,
             armed: Armed {
@@ -97,7 +112,9 @@ impl<S: Socket> Client<S> {
         }
     }
 
-    pub fn socket(&self) -> &S {
+    pub fn socket(&self) -> &S
+        ensures { result.now ≡ self.now.socket }
+    {
         &self.socket
     }
 
@@ -105,16 +122,28 @@ impl<S: Socket> Client<S> {
         self.serial
     }
 
-    pub fn phase(&self) -> Phase {
+    pub fn phase(&self) -> Phase
+        ensures { result ≡ self.now.phase }
+    {
         self.phase
     }
 
-    pub fn set_phase(&mut self, phase: Phase) {
+    pub fn set_phase(&mut self, phase: Phase)
+        ensures phase { self.new.phase ≡ phase }
+        ensures socket { self.new.socket ≡ self.old.socket }
+        ensures input { self.new.input ≡ self.old.input }
+        ensures output { self.new.output ≡ self.old.output }
+    {
         self.phase = phase;
     }
 
     /// All of its request was handed in, except for this number of bytes.
-    pub fn give(&mut self, left: usize) {
+    pub fn give(&mut self, left: usize)
+        ensures given { IsGiven left self.old.input self.new.input }
+        ensures socket { self.new.socket ≡ self.old.socket }
+        ensures phase { self.new.phase ≡ self.old.phase }
+        ensures output { self.new.output ≡ self.old.output }
+    {
         self.input.give(left);
     }
 
@@ -134,7 +163,12 @@ impl<S: Socket> Client<S> {
     }
 
     /// Its socket was reported ready. Whether it is to be looked at.
-    pub fn note(&mut self, reads: bool, ends: bool, writes: bool) -> bool {
+    pub fn note(&mut self, reads: bool, ends: bool, writes: bool) -> bool
+        ensures input { IsSameInput self.old.input self.new.input }
+        ensures unsent { unsent_of self.new.output ≡ unsent_of self.old.output }
+        ensures socket { self.new.socket ≡ self.old.socket }
+        ensures phase { self.new.phase ≡ self.old.phase }
+    {
         self.input.note(reads, ends);
         let was_awaited = writes && self.output.unblock();
         reads || ends || was_awaited
@@ -156,7 +190,16 @@ impl<S: Socket> Client<S> {
     }
 
     /// Reads once.
-    pub fn read(&mut self, piece: &mut [u8], now: u64) -> Reading {
+    pub fn read(&mut self, piece: &mut [u8], now: u64) -> Reading
+        ensures gains { result ≢ Reading.Failed → Gains (S.supplied self.old.socket)
+            (S.supplied self.new.socket) self.old.input.bytes.items self.new.input.bytes.items }
+        ensures came { Grows (S.supplied self.old.socket) (S.supplied self.new.socket) }
+        ensures sent { Keeps (S.accepted self.old.socket) (S.accepted self.new.socket) }
+        ensures asked { self.new.input.asked ≡ self.old.input.asked }
+        ensures given { self.new.input.given ≡ self.old.input.given }
+        ensures phase { self.new.phase ≡ self.old.phase }
+        ensures output { self.new.output ≡ self.old.output }
+    {
         let reading = self.input.read_from(&mut self.socket, piece);
         if matches!(reading, Reading::Bytes(_)) {
             self.last = now;
@@ -165,13 +208,23 @@ impl<S: Socket> Client<S> {
     }
 
     /// The bytes after the request in progress.
-    pub fn next(&self) -> &[u8] {
+    pub fn next(&self) -> &[u8]
+        ensures { result.now ≡ drop self.now.input.asked self.now.input.bytes.items }
+    {
         self.input.next()
     }
 
-    /// Its first bytes are a request, whose response begins.
-    pub fn begin(&mut self, length: usize) {
-        self.input.begin(length);
+    /// Its first bytes are a request, whose response begins. The processes may close the connection
+    /// after it.
+    pub fn begin(&mut self, size: usize, is_last: bool)
+        ensures begun { IsBegun size self.old.input self.new.input }
+        ensures last { self.new.is_last ≡ is_last }
+        ensures unsent { unsent_of self.new.output ≡ unsent_of self.old.output }
+        ensures socket { self.new.socket ≡ self.old.socket }
+        ensures phase { self.new.phase ≡ self.old.phase }
+    {
+        self.input.begin(size);
+        self.is_last = is_last;
         self.output.begin();
         self.head_since = None;
     }
@@ -182,17 +235,28 @@ impl<S: Socket> Client<S> {
     }
 
     /// Whether all of its request was handed in.
-    pub fn is_given(&self) -> bool {
+    pub fn is_given(&self) -> bool
+        ensures { result ≡ nat_le self.now.input.asked self.now.input.given }
+    {
         self.input.is_given()
     }
 
     /// The bytes of its request that were not handed in.
-    pub fn rest(&self) -> &[u8] {
+    pub fn rest(&self) -> &[u8]
+        ensures { result.now ≡ drop self.now.input.given (request_of self.now.input) }
+    {
         self.input.rest()
     }
 
     /// Writes the rest, as far as the socket accepts it.
-    pub fn flush(&mut self, now: u64) -> Sending {
+    pub fn flush(&mut self, now: u64) -> Sending
+        ensures passes { Passes (S.accepted self.old.socket) (S.accepted self.new.socket)
+            (unsent_of self.old.output) (unsent_of self.new.output) }
+        ensures all { result ≡ Sending.All → unsent_of self.new.output ≡ [] }
+        ensures came { Keeps (S.supplied self.old.socket) (S.supplied self.new.socket) }
+        ensures phase { self.new.phase ≡ self.old.phase }
+        ensures input { self.new.input ≡ self.old.input }
+    {
         let before = self.output.accepted();
         let sending = self.output.flush(&mut self.socket);
         if self.output.accepted() > before {
@@ -202,18 +266,36 @@ impl<S: Socket> Client<S> {
     }
 
     /// Writes bytes of the response, as far as the socket accepts them, and keeps the rest.
-    pub fn send(&mut self, bytes: &[u8], now: u64) -> Sending {
+    pub fn send(&mut self, bytes: &[u8], now: u64) -> Sending
+        ensures passes { result ≢ Sending.Failed → Passes (S.accepted self.old.socket)
+            (S.accepted self.new.socket) bytes.now (unsent_of self.new.output) }
+        ensures some { PassesSome (S.accepted self.old.socket) (S.accepted self.new.socket)
+            bytes.now }
+        ensures came { Keeps (S.supplied self.old.socket) (S.supplied self.new.socket) }
+        ensures phase { self.new.phase ≡ self.old.phase }
+        ensures input { self.new.input ≡ self.old.input }
+    {
         self.last = now;
         self.output.send(&mut self.socket, bytes)
     }
 
     /// The number of bytes that may be collected for it. 0: there is no memory.
-    pub fn room(&mut self) -> u32 {
+    pub fn room(&mut self) -> u32
+        ensures unsent { unsent_of self.new.output ≡ unsent_of self.old.output }
+        ensures socket { self.new.socket ≡ self.old.socket }
+        ensures phase { self.new.phase ≡ self.old.phase }
+        ensures input { self.new.input ≡ self.old.input }
+    {
         self.output.room()
     }
 
     /// It has no connection any more: the memory of its response is given back.
-    pub fn release(&mut self) {
+    pub fn release(&mut self)
+        ensures unsent { unsent_of self.new.output ≡ unsent_of self.old.output }
+        ensures socket { self.new.socket ≡ self.old.socket }
+        ensures phase { self.new.phase ≡ self.old.phase }
+        ensures input { self.new.input ≡ self.old.input }
+    {
         self.output.release();
     }
 
@@ -235,19 +317,37 @@ impl<S: Socket> Client<S> {
         }
     }
 
+    /// Whether the processes close the connection after the request in progress.
+    pub fn is_last(&self) -> bool {
+        self.is_last
+    }
+
     /// Whether a request is in progress.
-    pub fn is_asking(&self) -> bool {
+    pub fn is_asking(&self) -> bool
+        ensures { result ≡ nat_lt 0 self.now.input.asked }
+    {
         self.input.is_asking()
     }
 
     /// The response is complete, or given up.
-    pub fn finish(&mut self, now: u64) {
+    pub fn finish(&mut self, now: u64)
+        ensures finished { IsFinished self.old.input self.new.input }
+        ensures socket { self.new.socket ≡ self.old.socket }
+        ensures phase { self.new.phase ≡ self.old.phase }
+        ensures output { self.new.output ≡ self.old.output }
+    {
         self.input.finish();
         self.last = now;
     }
 
     /// Ends the output. False: the socket failed.
-    pub fn end_output(&mut self) -> bool {
+    pub fn end_output(&mut self) -> bool
+        ensures came { Keeps (S.supplied self.old.socket) (S.supplied self.new.socket) }
+        ensures sent { Keeps (S.accepted self.old.socket) (S.accepted self.new.socket) }
+        ensures phase { self.new.phase ≡ self.old.phase }
+        ensures input { self.new.input ≡ self.old.input }
+        ensures output { self.new.output ≡ self.old.output }
+    {
         self.socket.end_output().is_ok()
     }
 
@@ -258,7 +358,13 @@ impl<S: Socket> Client<S> {
 
     /// Reads and drops input, a bounded number of times. True: the peer's end was read, or the
     /// socket failed.
-    pub fn drop_input(&mut self, piece: &mut [u8]) -> bool {
+    pub fn drop_input(&mut self, piece: &mut [u8]) -> bool
+        ensures same { IsSameInput self.old.input self.new.input }
+        ensures came { Grows (S.supplied self.old.socket) (S.supplied self.new.socket) }
+        ensures sent { Keeps (S.accepted self.old.socket) (S.accepted self.new.socket) }
+        ensures phase { self.new.phase ≡ self.old.phase }
+        ensures output { self.new.output ≡ self.old.output }
+    {
         for _ in 0..MAX_DROPPED {
             match self.input.drop_from(&mut self.socket, piece) {
                 Reading::Bytes(_) => {}

@@ -18,7 +18,7 @@ use std::net::SocketAddr;
 /// The clients, the worlds, and the next step of each client.
 #[derive(Drop)]
 pub struct Engine<S, B: Backing, P: Process, V: Service<B, P>> {
-    alloc: Global,
+    pub(crate) alloc: Global,
     pub(crate) limits: Limits,
     pub(crate) worlds: Worlds<B, P, V>,
 

@@ -4,7 +4,7 @@ use crate::outbox::Outbox;
 use crate::output::Sending;
 use crate::service::{Progress, Service};
 use crate::socket::Socket;
-use crate::worlds::Worlds;
+use crate::worlds::{Collected, Worlds};
 use iol_back::backing::Backing;
 use iol_proc::process::Process;
 
@@ -68,8 +68,10 @@ pub fn answer<S: Socket, B: Backing + Drop, P: Process, V: Service<B, P>>(
         return Step::Starved;
     }
     outbox.clear();
-    let Some(taken) = worlds.collect(slot, outbox, most) else {
-        return ended(worlds, slot, client, service, moment.now);
+    let taken = match worlds.collect(slot, outbox, most) {
+        Collected::Bytes(count) => count,
+        Collected::Closed => return ended(worlds, slot, client, service, moment.now),
+        Collected::Gone => return abandon(worlds, slot, client, service),
     };
     if taken > 0 {
         match client.send(outbox.bytes(), moment.now) {
@@ -91,13 +93,17 @@ pub fn answer<S: Socket, B: Backing + Drop, P: Process, V: Service<B, P>>(
     Step::Pending
 }
 
-// Whether a response is complete, all of which so far was sent.
+// Whether a response is complete, all of which so far was sent. The last one ends with the connection.
 fn is_complete<S: Socket, B: Backing + Drop, P: Process, V: Service<B, P>>(
     client: &Client<S>,
     service: &V,
     is_idle: bool,
 ) -> bool {
-    if client.phase() != Phase::Answering || !client.has_begun() || !client.is_given() {
+    if client.phase() != Phase::Answering
+        || !client.has_begun()
+        || !client.is_given()
+        || client.is_last()
+    {
         return false;
     }
     if is_idle {

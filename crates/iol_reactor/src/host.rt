@@ -32,6 +32,8 @@ impl<B: Backing + Drop, P: Process, V: Service<B, P>> Host<B, P, V> {
     /// A world that has served no client yet.
     pub fn new(world: World<B, P>, pool: PoolId) -> Host<B, P, V>
         requires { V.starts world }
+        ensures pool { result.pool ≡ pool }
+        ensures world { result.world ≡ world }
     {
         Host {
             pool,

@@ -1,6 +1,7 @@
 //! The bytes that a client sent and for which the world has not responded yet.
-ghost use Rattle.std.specs.Prelude.{◌≡◌, ◌≢◌, ◌≤◌, ◌++◌, IfSome};
-ghost use Rattle.iol_reactor.specs.Bytes.{Gains};
+ghost use Rattle.std.specs.Prelude.{◌≡◌, ◌≢◌, ◌≤◌, ◌++◌, [], IfSome, drop, nat_le, nat_lt};
+ghost use Rattle.std.specs.Io.KnownBytes.{Keeps};
+ghost use Rattle.iol_reactor.specs.Bytes.{Gains, Grows, IsBegun, IsFinished, IsGiven, IsSameInput, request_of};
 
 use crate::limits::{MAX_BUFFERED, MIN_READ_BYTES};
 use crate::socket::Socket;
@@ -49,7 +50,11 @@ pub struct Input {
 }
 
 impl Input {
-    pub fn new(alloc: Global) -> Input {
+    pub fn new(alloc: Global) -> Input
+        ensures bytes { result.bytes.items ≡ [] }
+        ensures asked { result.asked ≡ 0 }
+        ensures given { result.given ≡ 0 }
+    {
         Input {
             alloc,
             bytes: Vec::new(alloc),
@@ -62,7 +67,9 @@ impl Input {
     }
 
     /// The socket was reported readable, or at its peer's end.
-    pub fn note(&mut self, reads: bool, ends: bool) {
+    pub fn note(&mut self, reads: bool, ends: bool)
+        ensures { IsSameInput self.old self.new }
+    {
         self.readable |= reads;
         self.ending |= ends;
     }
@@ -84,8 +91,12 @@ impl Input {
 
     /// Reads once, and appends the bytes to the buffer.
     pub fn read_from<S: Socket>(&mut self, socket: &mut S, piece: &mut [u8]) -> Reading
-        ensures { result ≢ Reading.Failed → Gains (S.remaining socket.old)
-            (S.remaining socket.new) self.old.bytes.items self.new.bytes.items }
+        ensures gains { result ≢ Reading.Failed → Gains (S.supplied socket.old)
+            (S.supplied socket.new) self.old.bytes.items self.new.bytes.items }
+        ensures came { Grows (S.supplied socket.old) (S.supplied socket.new) }
+        ensures sent { Keeps (S.accepted socket.old) (S.accepted socket.new) }
+        ensures asked { self.new.asked ≡ self.old.asked }
+        ensures given { self.new.given ≡ self.old.given }
     {
         match self.room(piece.len()) {
             Some(room) => self.read_most(socket, &mut piece[..room]),
@@ -95,7 +106,7 @@ impl Input {
 
     // The number of bytes, at most this, for which there is memory after those that are buffered.
     fn room(&mut self, most: usize) -> Option<usize>
-        ensures bytes { self.new.bytes.items ≡ self.old.bytes.items }
+        ensures same { IsSameInput self.old self.new }
         ensures most { IfSome result (λ n. n ≤ most) }
     {
         if self.bytes.reserve(MIN_READ_BYTES).is_err() {
@@ -107,11 +118,15 @@ impl Input {
 
     // Reads once, for which there is memory.
     fn read_most<S: Socket>(&mut self, socket: &mut S, piece: &mut [u8]) -> Reading
-        ensures { result ≢ Reading.Failed → Gains (S.remaining socket.old)
-            (S.remaining socket.new) self.old.bytes.items self.new.bytes.items }
+        ensures gains { result ≢ Reading.Failed → Gains (S.supplied socket.old)
+            (S.supplied socket.new) self.old.bytes.items self.new.bytes.items }
+        ensures came { Grows (S.supplied socket.old) (S.supplied socket.new) }
+        ensures sent { Keeps (S.accepted socket.old) (S.accepted socket.new) }
+        ensures asked { self.new.asked ≡ self.old.asked }
+        ensures given { self.new.given ≡ self.old.given }
     {
         let room = piece.len();
-        match socket.read(piece) {
+        match socket.receive(piece) {
             Ok(0) => {
                 self.ended = true;
                 Reading::End
@@ -128,8 +143,12 @@ impl Input {
     }
 
     /// Reads once, and drops the bytes.
-    pub fn drop_from<S: Socket>(&mut self, socket: &mut S, piece: &mut [u8]) -> Reading {
-        match socket.read(piece) {
+    pub fn drop_from<S: Socket>(&mut self, socket: &mut S, piece: &mut [u8]) -> Reading
+        ensures same { IsSameInput self.old self.new }
+        ensures came { Grows (S.supplied socket.old) (S.supplied socket.new) }
+        ensures sent { Keeps (S.accepted socket.old) (S.accepted socket.new) }
+    {
+        match socket.receive(piece) {
             Ok(0) => Reading::End,
             Ok(count) => Reading::Bytes(count),
             Err(e) if e.kind() == ErrorKind::WouldBlock => {
@@ -145,8 +164,10 @@ impl Input {
     // Keeps the bytes of a read of at most `room` bytes. A short read has emptied the socket,
     // unless the peer's end is behind it.
     fn append(&mut self, bytes: &[u8], room: usize) -> Reading
-        ensures { result ≢ Reading.Failed →
+        ensures bytes { result ≢ Reading.Failed →
             self.new.bytes.items ≡ self.old.bytes.items ++ bytes.now }
+        ensures asked { self.new.asked ≡ self.old.asked }
+        ensures given { self.new.given ≡ self.old.given }
     {
         if bytes.len() < room {
             self.readable = self.ending;
@@ -158,44 +179,60 @@ impl Input {
     }
 
     /// Whether a request is in progress.
-    pub fn is_asking(&self) -> bool {
+    pub fn is_asking(&self) -> bool
+        ensures { result ≡ nat_lt 0 self.now.asked }
+    {
         self.asked > 0
     }
 
     /// Whether all of the request in progress was handed in.
-    pub fn is_given(&self) -> bool {
+    pub fn is_given(&self) -> bool
+        ensures { result ≡ nat_le self.now.asked self.now.given }
+    {
         self.given >= self.asked
     }
 
     /// The request in progress.
-    pub fn request(&self) -> &[u8] {
+    pub fn request(&self) -> &[u8]
+        ensures { result.now ≡ request_of self.now }
+    {
         &self.bytes[..self.asked.min(self.bytes.len())]
     }
 
     /// The bytes of the request in progress that were not handed in.
-    pub fn rest(&self) -> &[u8] {
-        let end = self.asked.min(self.bytes.len());
-        &self.bytes[self.given.min(end)..end]
+    pub fn rest(&self) -> &[u8]
+        ensures { result.now ≡ drop self.now.given (request_of self.now) }
+    {
+        let request = self.request();
+        &request[self.given.min(request.len())..]
     }
 
     /// The bytes after the request in progress.
-    pub fn next(&self) -> &[u8] {
+    pub fn next(&self) -> &[u8]
+        ensures { result.now ≡ drop self.now.asked self.now.bytes.items }
+    {
         &self.bytes[self.asked.min(self.bytes.len())..]
     }
 
     /// The first bytes are a request, which begins now. No request is in progress.
-    pub fn begin(&mut self, length: usize) {
-        self.asked = length.min(self.bytes.len());
+    pub fn begin(&mut self, size: usize)
+        ensures { IsBegun size self.old self.new }
+    {
+        self.asked = size.min(self.bytes.len());
         self.given = 0;
     }
 
     /// All of the request in progress was handed in, except for this number of bytes.
-    pub fn give(&mut self, left: usize) {
+    pub fn give(&mut self, left: usize)
+        ensures { IsGiven left self.old self.new }
+    {
         self.given = self.asked.saturating_sub(left);
     }
 
     /// The request in progress has its response, or is given up.
-    pub fn finish(&mut self) {
+    pub fn finish(&mut self)
+        ensures { IsFinished self.old self.new }
+    {
         let count = self.asked.min(self.bytes.len());
         self.bytes.drain(..count);
         self.asked = 0;

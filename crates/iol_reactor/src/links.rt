@@ -73,12 +73,24 @@ impl Links {
         link.generation == self.generation
     }
 
+    /// Whether a connection is of the world before the current one.
+    pub fn is_before(&self, link: Link) -> bool
+        ensures { result ≡ true → (link.generation + 1 == self.now.generation) ≡ true }
+    {
+        match link.generation.checked_add(1) {
+            Some(next) => next == self.generation,
+            None => false,
+        }
+    }
+
     /// The client at this index has this connection of the current world from now on. False: it
     /// cannot have it, since connections of a world have ascending numbers.
     pub fn give(&mut self, slot: usize, conn: ConnId) -> bool
         ensures current { self.new.generation ≡ self.old.generation }
         ensures given { result ≡ true → self.new.table.items ≡ set self.old.table.items slot
             (Some (record { conn = conn; generation = self.old.generation })) }
+        ensures at { result ≡ true → link_at self.new.table.items slot ≡
+            Some (record { conn = conn; generation = self.old.generation }) }
         ensures refused { result ≡ false → self.new.table.items ≡ self.old.table.items }
     {
         let number = conn.number();

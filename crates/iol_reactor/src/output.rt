@@ -1,6 +1,7 @@
 //! The bytes of a response that the world sent and that a client has not accepted yet.
-ghost use Rattle.std.specs.Prelude.{◌≡◌, ◌≢◌, []};
-ghost use Rattle.iol_reactor.specs.Bytes.{Passes};
+ghost use Rattle.std.specs.Prelude.{◌≡◌, ◌≢◌, ◌≤◌, [], length};
+ghost use Rattle.std.specs.Io.KnownBytes.{Keeps};
+ghost use Rattle.iol_reactor.specs.Bytes.{Passes, PassesSome, unsent_of};
 
 use crate::limits::{HEAD_BYTES, MIN_KEPT_BYTES, TAIL_BYTES};
 use crate::socket::Socket;
@@ -47,7 +48,9 @@ pub struct Output {
 }
 
 impl Output {
-    pub fn new(alloc: Global) -> Output {
+    pub fn new(alloc: Global) -> Output
+        ensures { unsent_of result ≡ [] }
+    {
         Output {
             alloc,
             left: Vec::new(alloc),
@@ -67,7 +70,9 @@ impl Output {
     }
 
     /// The socket was reported writable: whether that was awaited.
-    pub fn unblock(&mut self) -> bool {
+    pub fn unblock(&mut self) -> bool
+        ensures { unsent_of self.new ≡ unsent_of self.old }
+    {
         let was_blocked = self.is_blocked;
         self.is_blocked = false;
         was_blocked
@@ -100,14 +105,21 @@ impl Output {
     }
 
     /// A new response begins.
-    pub fn begin(&mut self) {
+    pub fn begin(&mut self)
+        ensures { unsent_of self.new ≡ unsent_of self.old }
+    {
         self.head.clear();
         self.produced = 0;
         self.sent = 0;
     }
 
     /// Writes the rest, as far as the socket accepts it.
-    pub fn flush<S: Socket>(&mut self, socket: &mut S) -> Sending {
+    pub fn flush<S: Socket>(&mut self, socket: &mut S) -> Sending
+        ensures passes { Passes (S.accepted socket.old) (S.accepted socket.new)
+            (unsent_of self.old) (unsent_of self.new) }
+        ensures all { result ≡ Sending.All → unsent_of self.new ≡ [] }
+        ensures came { Keeps (S.supplied socket.old) (S.supplied socket.new) }
+    {
         let waiting = &self.left[self.at.min(self.left.len())..];
         let count = waiting.len();
         let (sending, rest) = write_all(socket, waiting);
@@ -124,7 +136,9 @@ impl Output {
 
     /// The number of bytes that may be collected from the world: there is memory for them, should
     /// the socket accept none. 0: there is no memory. Nothing is left from before.
-    pub fn room(&mut self) -> u32 {
+    pub fn room(&mut self) -> u32
+        ensures { unsent_of self.new ≡ unsent_of self.old }
+    {
         let least = if self.produced == 0 {
             MIN_KEPT_BYTES
         } else {
@@ -142,7 +156,9 @@ impl Output {
     }
 
     /// Gives back the memory of a response that was sent whole.
-    pub fn release(&mut self) {
+    pub fn release(&mut self)
+        ensures { unsent_of self.new ≡ unsent_of self.old }
+    {
         self.head = Vec::new(self.alloc);
         if self.left.is_empty() {
             self.left = Vec::new(self.alloc);
@@ -152,8 +168,10 @@ impl Output {
     /// Writes bytes that the world sent, as far as the socket accepts them, and keeps the rest.
     /// Nothing is left from before.
     pub fn send<S: Socket>(&mut self, socket: &mut S, bytes: &[u8]) -> Sending
-        ensures { result ≢ Sending.Failed → Passes (S.contents socket.old)
-            (S.contents socket.new) bytes.now self.new.left.items }
+        ensures passes { result ≢ Sending.Failed → Passes (S.accepted socket.old)
+            (S.accepted socket.new) bytes.now (unsent_of self.new) }
+        ensures some { PassesSome (S.accepted socket.old) (S.accepted socket.new) bytes.now }
+        ensures came { Keeps (S.supplied socket.old) (S.supplied socket.new) }
     {
         if self.show(bytes).is_err() {
             return Sending::Failed;
@@ -170,13 +188,19 @@ impl Output {
     }
 
     // The socket accepted this number of bytes.
-    fn count(&mut self, accepted: usize) {
+    fn count(&mut self, accepted: usize)
+        ensures left { self.new.left.items ≡ self.old.left.items }
+        ensures at { self.new.at ≡ self.old.at }
+    {
         self.sent = self.sent.saturating_add(accepted as u64);
         self.accepted = self.accepted.saturating_add(accepted as u64);
     }
 
     // Keeps the part of these bytes that an exchange shows.
-    fn show(&mut self, bytes: &[u8]) -> Result<(), AllocError> {
+    fn show(&mut self, bytes: &[u8]) -> Result<(), AllocError>
+        ensures left { self.new.left.items ≡ self.old.left.items }
+        ensures at { self.new.at ≡ self.old.at }
+    {
         let room = HEAD_BYTES.saturating_sub(self.head.len());
         self.head
             .extend_from_slice(&bytes[..room.min(bytes.len())])?;
@@ -191,8 +215,9 @@ impl Output {
 
 // Writes bytes until the socket accepts no more. Returns those that it did not accept.
 fn write_all<'a, S: Socket>(socket: &mut S, bytes: &'a [u8]) -> (Sending, &'a [u8])
-    ensures passes { Passes (S.contents socket.old) (S.contents socket.new) bytes.now result.1.now }
+    ensures passes { Passes (S.accepted socket.old) (S.accepted socket.new) bytes.now result.1.now }
     ensures all { result.0 ≡ Sending.All → result.1.now ≡ [] }
+    ensures came { Keeps (S.supplied socket.old) (S.supplied socket.new) }
 {
     let mut rest = bytes;
     for _ in 0..MAX_WRITES {
@@ -210,9 +235,10 @@ fn write_all<'a, S: Socket>(socket: &mut S, bytes: &'a [u8]) -> (Sending, &'a [u
 
 // One write: the bytes that it did not accept. `All`: more may be written.
 fn write_once<'a, S: Socket>(socket: &mut S, bytes: &'a [u8]) -> (Sending, &'a [u8])
-    ensures { Passes (S.contents socket.old) (S.contents socket.new) bytes.now result.1.now }
+    ensures passes { Passes (S.accepted socket.old) (S.accepted socket.new) bytes.now result.1.now }
+    ensures came { Keeps (S.supplied socket.old) (S.supplied socket.new) }
 {
-    match socket.write(bytes) {
+    match socket.send(bytes) {
         Ok(0) => (Sending::Failed, bytes),
         Ok(count) => (Sending::All, &bytes[count..]),
         Err(e) => (after(e.kind()), bytes),

@@ -14,7 +14,7 @@ use std::alloc::AllocError;
 fn length_of(frame: &Frame) -> usize {
     match frame {
         Frame::Incomplete => 0,
-        Frame::Complete(length) | Frame::TooLong(length) => *length,
+        Frame::Complete(length) | Frame::Last(length) => *length,
     }
 }
 
@@ -75,7 +75,11 @@ impl<S: Socket + Drop, B: Backing + Drop, P: Process, V: Service<B, P>> Engine<S
         let Some(Some(client)) = self.clients.get_mut(slot) else {
             return Ok(());
         };
-        let length = length_of(&service.frame(client.next()));
+        let Ok(frame) = service.frame(self.alloc, client.next()) else {
+            self.starve();
+            return Ok(());
+        };
+        let length = length_of(&frame);
         if length == 0 {
             self.lacks_request(slot);
             return Ok(());
@@ -87,14 +91,14 @@ impl<S: Socket + Drop, B: Backing + Drop, P: Process, V: Service<B, P>> Engine<S
         if !self.worlds.has_link(slot) && !self.connect(slot) {
             return Ok(());
         }
-        self.begin(slot, length);
+        self.begin(slot, length, matches!(frame, Frame::Last(_)));
         Ok(())
     }
 
     // Begins a request of this length, and hands it in.
-    fn begin(&mut self, slot: usize, length: usize) {
+    fn begin(&mut self, slot: usize, length: usize, is_last: bool) {
         if let Some(Some(client)) = self.clients.get_mut(slot) {
-            client.begin(length);
+            client.begin(length, is_last);
             client.set_phase(Phase::Answering);
         }
         self.give(slot);

@@ -1,12 +1,14 @@
 //! The interface of a service of the event loop: the end of a request, the records, and the
 //! replacement of the world.
-ghost use Rattle.std.specs.Prelude.{IfSome};
+ghost use Rattle.std.specs.Prelude.{ℕ, List, IfOk, IfSome};
 ghost use Rattle.iol_proc.specs.World.{Stage};
 ghost use Rattle.iol_system.specs.Machine.{SystemState};
+ghost use Rattle.iol_reactor.specs.declared.service.Frame.{Frame};
 
 use iol_back::backing::Backing;
 use iol_proc::process::Process;
 use iol_proc::world::World;
+use std::alloc::{AllocError, Global};
 use std::net::SocketAddr;
 
 /// The first request of some bytes.
@@ -15,12 +17,12 @@ pub enum Frame {
     /// There is no complete request yet.
     Incomplete,
 
-    /// It has this number of bytes, with what precedes it.
+    /// It has this number of bytes, with those that precede it, and keeps the connection.
     Complete(usize),
 
-    /// It is too long. This number of bytes is handed in: the processes refuse them and close the
-    /// connection.
-    TooLong(usize),
+    /// The same, and the processes close the connection after it. It may be too long: then these
+    /// bytes are those by which the processes refuse it.
+    Last(usize),
 }
 
 /// The progress of a response.
@@ -66,8 +68,12 @@ pub trait Service<B: Backing, P: Process> {
     /// The worlds that it may begin with.
     ghost starts: { Stage SystemState P → Type 0 } = { λ world. Unit {0} };
 
+    /// Whether this is a frame of the first request of these bytes.
+    ghost frames: { List ℕ → Frame → Type 0 } = { λ bytes frame. Unit {0} };
+
     /// The end of the first complete request of these bytes.
-    fn frame(&self, bytes: &[u8]) -> Frame;
+    fn frame(&self, alloc: Global, bytes: &[u8]) -> Result<Frame, AllocError>
+        ensures { IfOk result (λ frame. frames bytes.now frame) };
 
     /// The progress of the response of an exchange. It decides only when the client's next request
     /// is handed in.

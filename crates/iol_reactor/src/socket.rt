@@ -1,22 +1,50 @@
 //! Sockets of clients.
-ghost use Rattle.std.specs.Io.KnownBytes.{Keeps};
+ghost use Rattle.std.specs.Prelude.{ℕ, List, Option, None};
+ghost use Rattle.std.specs.Io.{ReadsAtMost, WritesAtMost};
+ghost use Rattle.std.specs.Io.KnownBytes.{Keeps, WriteAppends};
+ghost use Rattle.iol_reactor.specs.Bytes.{Supplies};
 
 use mio::net::TcpStream;
 use std::io;
 use std::io::{Read, Write};
 use std::net::Shutdown;
 
-/// A bidirectional byte stream that never blocks: a read or a write that would wait fails with
-/// `WouldBlock`. The bytes that it will supply are `remaining`, and those that it accepted
-/// `contents`; for a socket of the system both are unknown.
-pub trait Socket: Read + Write {
+/// A bidirectional byte stream that never blocks: a call that would wait fails with `WouldBlock`.
+/// For a socket of the system the bytes that it supplied and accepted are unknown.
+pub trait Socket {
+    /// The bytes that it has supplied, and those that it has accepted, where they are known.
+    ghost supplied: { Self → Option (List ℕ) } = { λ socket. None };
+
+    ghost accepted: { Self → Option (List ℕ) } = { λ socket. None };
+
+    /// Reads into a buffer, and returns the number of bytes. 0: the peer sends no more, or the
+    /// buffer is empty.
+    fn receive(&mut self, buffer: &mut [u8]) -> io::Result<usize>
+        ensures bound { ReadsAtMost result buffer.new }
+        ensures came { Supplies (supplied self.old) (supplied self.new) result buffer.new }
+        ensures sent { Keeps (accepted self.old) (accepted self.new) };
+
+    /// Writes the first of these bytes, and returns their number.
+    fn send(&mut self, bytes: &[u8]) -> io::Result<usize>
+        ensures bound { WritesAtMost result bytes.now }
+        ensures came { Keeps (supplied self.old) (supplied self.new) }
+        ensures sent { WriteAppends (accepted self.old) (accepted self.new) result bytes.now };
+
     /// Ends the bytes to the peer. The peer may still send.
     fn end_output(&mut self) -> io::Result<()>
-        ensures supplied { Keeps (Self.remaining self.old) (Self.remaining self.new) }
-        ensures accepted { Keeps (Self.contents self.old) (Self.contents self.new) };
+        ensures came { Keeps (supplied self.old) (supplied self.new) }
+        ensures sent { Keeps (accepted self.old) (accepted self.new) };
 }
 
 impl Socket for TcpStream {
+    fn receive(&mut self, buffer: &mut [u8]) -> io::Result<usize> {
+        self.read(buffer)
+    }
+
+    fn send(&mut self, bytes: &[u8]) -> io::Result<usize> {
+        self.write(bytes)
+    }
+
     fn end_output(&mut self) -> io::Result<()> {
         self.shutdown(Shutdown::Write)
     }

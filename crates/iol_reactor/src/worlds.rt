@@ -1,4 +1,10 @@
 //! The world for new requests, and the one in which earlier requests finish.
+ghost use Rattle.std.specs.Prelude.{◌≡◌, Bool, ◌++◌, ◌∷◌, ◌+◌, ◌==◌, List, ℕ, [], None, Some, true, false, IfSome, IsNone, set, OnErr, OnOk};
+ghost use Rattle.std.proofs.Props.{props};
+ghost use Rattle.iol_reactor.specs.Connections.{link_at};
+ghost use Rattle.iol_reactor.specs.Visits.{HasVisited};
+ghost use Rattle.iol_reactor.specs.LinkVisits.{HasLinkVisited, IsOver, LinksStay, SlotGoesOn, serving};
+
 use crate::host::Host;
 use crate::limits::WORN_CONNECTION;
 use crate::links::{Link, Links};
@@ -10,6 +16,19 @@ use iol_proc::process::Process;
 use iol_proc::world::World;
 use std::alloc::AllocError;
 use std::mem;
+
+/// How the output of a client's connection was collected.
+#[derive(Clone, Copy, Debug, PartialEq, Eq)]
+pub enum Collected {
+    /// This number of bytes was moved.
+    Bytes(u32),
+
+    /// The processes have closed the connection.
+    Closed,
+
+    /// There is no connection, or its world no longer serves.
+    Gone,
+}
 
 /// The worlds, and the connections that clients have in them.
 #[derive(Drop)]
@@ -25,6 +44,7 @@ pub struct Worlds<B: Backing, P: Process, V: Service<B, P>> {
     // The number of connections of each that have a client.
     current_links: usize,
     retiring_links: usize,
+    ghost pools: { (current.pool ≡ pool) × IfSome retiring (λ h. h.pool ≡ pool) } by { Prim.hlevel props },
 }
 
 impl<B: Backing + Drop, P: Process, V: Service<B, P>> Worlds<B, P, V> {
@@ -44,7 +64,15 @@ impl<B: Backing + Drop, P: Process, V: Service<B, P>> Worlds<B, P, V> {
     }
 
     /// Adds a place for a client.
-    pub fn add_place(&mut self) -> Result<(), AllocError> {
+    pub fn add_place(&mut self) -> Result<(), AllocError>
+        ensures table { OnOk result (self.new.links.table.items ≡
+            self.old.links.table.items ++ None ∷ []) }
+        ensures err { OnErr result (self.new.links.table.items ≡ self.old.links.table.items) }
+        ensures visits { LinksStay P.turns V.starts self.old.pool
+            (serving self.old.links.generation self.old.current.world (λ h. h.world) self.old.retiring)
+            (serving self.new.links.generation self.new.current.world (λ h. h.world) self.new.retiring) }
+        ensures pool { self.new.pool ≡ self.old.pool }
+    {
         self.links.add_place()
     }
 
@@ -80,6 +108,11 @@ impl<B: Backing + Drop, P: Process, V: Service<B, P>> Worlds<B, P, V> {
     /// No world is retiring.
     pub fn renew(&mut self, world: World<B, P>)
         requires { V.starts world }
+        ensures table { self.new.links.table.items ≡ self.old.links.table.items }
+        ensures visits { LinksStay P.turns V.starts self.old.pool
+            (serving self.old.links.generation self.old.current.world (λ h. h.world) self.old.retiring)
+            (serving self.new.links.generation self.new.current.world (λ h. h.world) self.new.retiring) }
+        ensures pool { self.new.pool ≡ self.old.pool }
     {
         if !self.links.renew() {
             drop(world);
@@ -95,7 +128,13 @@ impl<B: Backing + Drop, P: Process, V: Service<B, P>> Worlds<B, P, V> {
     }
 
     // Drops the world before, if no connection of it has a client.
-    fn retire(&mut self) {
+    fn retire(&mut self)
+        ensures links { self.new.links ≡ self.old.links }
+        ensures pool { self.new.pool ≡ self.old.pool }
+        ensures visits { LinksStay P.turns V.starts self.old.pool
+            (serving self.old.links.generation self.old.current.world (λ h. h.world) self.old.retiring)
+            (serving self.new.links.generation self.new.current.world (λ h. h.world) self.new.retiring) }
+    {
         if self.retiring_links == 0 {
             drop(self.retiring.take());
         }
@@ -103,7 +142,20 @@ impl<B: Backing + Drop, P: Process, V: Service<B, P>> Worlds<B, P, V> {
 
     /// The client at this index, which has no connection, gets a new one of the current world, if
     /// there is room for it.
-    pub fn connect(&mut self, slot: usize) -> bool {
+    pub fn connect(&mut self, slot: usize) -> bool
+        ensures begun { result ≡ true → ((c : ℕ) × (link_at self.new.links.table.items slot ≡
+            Some (record { conn = c; generation = self.new.links.generation }))
+            × ∥ HasVisited P.turns V.starts self.old.pool c [] [] false self.new.current.world ∥₁) }
+        ensures given { result ≡ true → (c : ℕ) × (self.new.links.table.items ≡ set
+            self.old.links.table.items slot
+            (Some (record { conn = c; generation = self.new.links.generation }))) }
+        ensures refused { result ≡ false →
+            self.new.links.table.items ≡ self.old.links.table.items }
+        ensures visits { LinksStay P.turns V.starts self.old.pool
+            (serving self.old.links.generation self.old.current.world (λ h. h.world) self.old.retiring)
+            (serving self.new.links.generation self.new.current.world (λ h. h.world) self.new.retiring) }
+        ensures pool { self.new.pool ≡ self.old.pool }
+    {
         let Some(conn) = self.current.connect() else {
             return false;
         };
@@ -116,7 +168,13 @@ impl<B: Backing + Drop, P: Process, V: Service<B, P>> Worlds<B, P, V> {
     }
 
     /// The client in this place gives up its connection, if it has one.
-    pub fn release(&mut self, slot: usize) {
+    pub fn release(&mut self, slot: usize)
+        ensures table { self.new.links.table.items ≡ set self.old.links.table.items slot None }
+        ensures visits { LinksStay P.turns V.starts self.old.pool
+            (serving self.old.links.generation self.old.current.world (λ h. h.world) self.old.retiring)
+            (serving self.new.links.generation self.new.current.world (λ h. h.world) self.new.retiring) }
+        ensures pool { self.new.pool ≡ self.old.pool }
+    {
         let Some(link) = self.links.take(slot) else {
             return;
         };
@@ -130,7 +188,13 @@ impl<B: Backing + Drop, P: Process, V: Service<B, P>> Worlds<B, P, V> {
 
     /// Gives turns to the processes until all are idle, but at most this number in each world, and
     /// returns whether all are.
-    pub fn until_idle(&mut self, turns: usize) -> bool {
+    pub fn until_idle(&mut self, turns: usize) -> bool
+        ensures links { self.new.links ≡ self.old.links }
+        ensures pool { self.new.pool ≡ self.old.pool }
+        ensures visits { LinksStay P.turns V.starts self.old.pool
+            (serving self.old.links.generation self.old.current.world (λ h. h.world) self.old.retiring)
+            (serving self.new.links.generation self.new.current.world (λ h. h.world) self.new.retiring) }
+    {
         let is_idle = self.current.until_idle(turns);
         match &mut self.retiring {
             Some(world) => world.until_idle(turns) && is_idle,
@@ -139,7 +203,14 @@ impl<B: Backing + Drop, P: Process, V: Service<B, P>> Worlds<B, P, V> {
     }
 
     /// The client in this place sends no more on its connection.
-    pub fn close(&mut self, slot: usize) {
+    pub fn close(&mut self, slot: usize)
+        ensures links { self.new.links ≡ self.old.links }
+        ensures pool { self.new.pool ≡ self.old.pool }
+        ensures visits { SlotGoesOn P.turns V.starts self.old.pool
+            (link_at self.old.links.table.items slot) [] [] false
+            (serving self.old.links.generation self.old.current.world (λ h. h.world) self.old.retiring)
+            (serving self.new.links.generation self.new.current.world (λ h. h.world) self.new.retiring) }
+    {
         let Some(link) = self.links.get(slot) else {
             return;
         };
@@ -147,13 +218,22 @@ impl<B: Backing + Drop, P: Process, V: Service<B, P>> Worlds<B, P, V> {
         let conn = link.conn();
         if is_current {
             self.current.close(conn);
-        } else if let Some(world) = &mut self.retiring {
-            world.close(conn);
+        } else if self.links.is_before(link) {
+            if let Some(world) = &mut self.retiring {
+                world.close(conn);
+            }
         }
     }
 
     /// The client at this index is gone, which is reported to the processes of its connection.
-    pub fn hang_up(&mut self, slot: usize) {
+    pub fn hang_up(&mut self, slot: usize)
+        ensures links { self.new.links ≡ self.old.links }
+        ensures pool { self.new.pool ≡ self.old.pool }
+        ensures visits { (gone : Bool) × SlotGoesOn P.turns V.starts self.old.pool
+            (link_at self.old.links.table.items slot) [] [] gone
+            (serving self.old.links.generation self.old.current.world (λ h. h.world) self.old.retiring)
+            (serving self.new.links.generation self.new.current.world (λ h. h.world) self.new.retiring) }
+    {
         let Some(link) = self.links.get(slot) else {
             return;
         };
@@ -161,37 +241,59 @@ impl<B: Backing + Drop, P: Process, V: Service<B, P>> Worlds<B, P, V> {
         let conn = link.conn();
         if is_current {
             self.current.hang_up(conn);
-        } else if let Some(world) = &mut self.retiring {
-            world.hang_up(conn);
+        } else if self.links.is_before(link) {
+            if let Some(world) = &mut self.retiring {
+                world.hang_up(conn);
+            }
         }
     }
 
-    /// Whether the client in this place has no connection, or the processes have closed it.
-    pub fn is_over(&mut self, slot: usize) -> bool {
+    /// Whether the client in this place has a connection that the processes have closed.
+    pub fn is_over(&mut self, slot: usize) -> bool
+        ensures over { result ≡ true → IsOver (link_at self.old.links.table.items slot)
+            (serving self.new.links.generation self.new.current.world (λ h. h.world) self.new.retiring) }
+        ensures links { self.new.links ≡ self.old.links }
+        ensures pool { self.new.pool ≡ self.old.pool }
+        ensures visits { LinksStay P.turns V.starts self.old.pool
+            (serving self.old.links.generation self.old.current.world (λ h. h.world) self.old.retiring)
+            (serving self.new.links.generation self.new.current.world (λ h. h.world) self.new.retiring) }
+    {
         let Some(link) = self.links.get(slot) else {
-            return true;
+            return false;
         };
-        let is_current = self.links.is_current(link);
         let conn = link.conn();
-        if is_current {
+        if self.links.is_current(link) {
             return self.current.is_over(conn);
+        }
+        if !self.links.is_before(link) {
+            return false;
         }
         match &mut self.retiring {
             Some(world) => world.is_over(conn),
-            None => true,
+            None => false,
         }
     }
 
     /// Bytes arrive on the connection of the client at this index, as many as fit. Returns the
     /// rest.
-    pub fn hand_in<'b>(&mut self, slot: usize, bytes: &'b [u8]) -> &'b [u8] {
+    pub fn hand_in<'b>(&mut self, slot: usize, bytes: &'b [u8]) -> &'b [u8]
+        ensures links { self.new.links ≡ self.old.links }
+        ensures pool { self.new.pool ≡ self.old.pool }
+        ensures visits { (came : List ℕ) × (bytes.now ≡ came ++ result.now)
+            × SlotGoesOn P.turns V.starts self.old.pool
+            (link_at self.old.links.table.items slot) came [] false
+            (serving self.old.links.generation self.old.current.world (λ h. h.world) self.old.retiring)
+            (serving self.new.links.generation self.new.current.world (λ h. h.world) self.new.retiring) }
+    {
         let Some(link) = self.links.get(slot) else {
             return bytes;
         };
-        let is_current = self.links.is_current(link);
         let conn = link.conn();
-        if is_current {
+        if self.links.is_current(link) {
             return self.current.hand_in(conn, bytes);
+        }
+        if !self.links.is_before(link) {
+            return bytes;
         }
         match &mut self.retiring {
             Some(world) => world.hand_in(conn, bytes),
@@ -200,18 +302,42 @@ impl<B: Backing + Drop, P: Process, V: Service<B, P>> Worlds<B, P, V> {
     }
 
     /// Moves the queued output of the connection of the client at this index into the outbox, at
-    /// most this number of bytes. Returns how many, or none if the client has no connection or the
-    /// processes have closed it.
-    pub fn collect(&mut self, slot: usize, outbox: &mut Outbox, most: u32) -> Option<u32> {
-        let link = self.links.get(slot)?;
-        let is_current = self.links.is_current(link);
+    /// most this number of bytes.
+    pub fn collect(&mut self, slot: usize, outbox: &mut Outbox, most: u32) -> Collected
+        ensures links { self.new.links ≡ self.old.links }
+        ensures pool { self.new.pool ≡ self.old.pool }
+        ensures visits { (sent : List ℕ) × (outbox.new.bytes.items ≡ outbox.old.bytes.items ++ sent)
+            × SlotGoesOn P.turns V.starts self.old.pool
+            (link_at self.old.links.table.items slot) [] sent false
+            (serving self.old.links.generation self.old.current.world (λ h. h.world) self.old.retiring)
+            (serving self.new.links.generation self.new.current.world (λ h. h.world) self.new.retiring) }
+        ensures over { result ≡ Collected.Closed →
+            IsOver (link_at self.old.links.table.items slot)
+            (serving self.new.links.generation self.new.current.world (λ h. h.world) self.new.retiring) }
+    {
+        let Some(link) = self.links.get(slot) else {
+            return Collected::Gone;
+        };
         let conn = link.conn();
-        if is_current {
-            return self.current.collect(conn, outbox, most);
+        if self.links.is_current(link) {
+            return outcome_of(self.current.collect(conn, outbox, most));
+        }
+        if !self.links.is_before(link) {
+            return Collected::Gone;
         }
         match &mut self.retiring {
-            Some(world) => world.collect(conn, outbox, most),
-            None => None,
+            Some(world) => outcome_of(world.collect(conn, outbox, most)),
+            None => Collected::Gone,
         }
+    }
+}
+
+// How the output of a connection was collected. None: it was closed.
+fn outcome_of(taken: Option<u32>) -> Collected
+    ensures { result ≡ Collected.Closed → IsNone taken }
+{
+    match taken {
+        Some(count) => Collected::Bytes(count),
+        None => Collected::Closed,
     }
 }

@@ -36,11 +36,12 @@ struct Lines {
 }
 
 impl Service<MemoryBacking, Echo> for Lines {
-    fn frame(&self, bytes: &[u8]) -> Frame {
-        match bytes.iter().position(|byte| *byte == b'\n') {
+    fn frame(&self, alloc: Global, bytes: &[u8]) -> Result<Frame, AllocError> {
+        let _ = alloc;
+        Ok(match bytes.iter().position(|byte| *byte == b'\n') {
             Some(place) => Frame::Complete(place.saturating_add(1)),
             None => Frame::Incomplete,
-        }
+        })
     }
 
     fn progress(&self, exchange: &Exchange<'_>) -> Progress {

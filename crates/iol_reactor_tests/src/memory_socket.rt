@@ -2,7 +2,7 @@
 use iol_reactor::socket::Socket;
 use std::alloc::Global;
 use std::io;
-use std::io::{ErrorKind, Read, Write};
+use std::io::{ErrorKind, Read};
 
 /// How a socket reads and writes.
 #[derive(Clone, Copy)]
@@ -70,8 +70,8 @@ impl Manner {
     }
 }
 
-impl<'a> Read for MemorySocket<'a> {
-    fn read(&mut self, buf: &mut [u8]) -> io::Result<usize> {
+impl<'a> Socket for MemorySocket<'a> {
+    fn receive(&mut self, buffer: &mut [u8]) -> io::Result<usize> {
         self.reads = self.reads.saturating_add(1);
         if let Some(kind) = self.manner.refusal(self.reads) {
             return Err(io::Error::from(kind));
@@ -79,28 +79,20 @@ impl<'a> Read for MemorySocket<'a> {
         if self.supply.is_empty() && !self.manner.ends {
             return Err(io::Error::from(ErrorKind::WouldBlock));
         }
-        let most = buf.len().min(self.manner.read);
-        self.supply.read(&mut buf[..most])
+        let most = buffer.len().min(self.manner.read);
+        self.supply.read(&mut buffer[..most])
     }
-}
 
-impl<'a> Write for MemorySocket<'a> {
-    fn write(&mut self, buf: &[u8]) -> io::Result<usize> {
+    fn send(&mut self, bytes: &[u8]) -> io::Result<usize> {
         self.writes = self.writes.saturating_add(1);
         if let Some(kind) = self.manner.refusal(self.writes) {
             return Err(io::Error::from(kind));
         }
-        let taken = buf.len().min(self.manner.write);
-        self.accepted.extend_from_slice(&buf[..taken])?;
+        let taken = bytes.len().min(self.manner.write);
+        self.accepted.extend_from_slice(&bytes[..taken])?;
         Ok(taken)
     }
 
-    fn flush(&mut self) -> io::Result<()> {
-        Ok(())
-    }
-}
-
-impl<'a> Socket for MemorySocket<'a> {
     fn end_output(&mut self) -> io::Result<()> {
         self.output_ends = self.output_ends.saturating_add(1);
         Ok(())
