@@ -17,7 +17,7 @@ def program_of(crate):
     return os.environ.get(crate.upper(), f"{ROOT}/crates/{crate}/out/{crate}")
 
 
-SPEED, SERVER, FLASHD = map(program_of, ("paper_speed", "paper_server", "flashd"))
+SPEED, SERVER, FLASHD = map(program_of, ("bench_paper", "bench_paper_server", "flashd"))
 PYTHON = "/usr/bin/python3"  # the distribution's, which has the packages of the distribution
 PACKAGES = {"nginx": "nginx-light", "wrk": "wrk", "valgrind": "valgrind"}
 CLIENTS = 40

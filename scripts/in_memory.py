@@ -1,4 +1,4 @@
-"""Rows over a site in memory (crates/worked_rows), and all that may be answered to them where something is hindered."""
+"""Rows over a site in memory (crates/test_worked_rows), and all that may be answered to them where something is hindered."""
 import itertools
 import os
 import re
@@ -9,8 +9,8 @@ import tree
 from growths import REFUSED
 from hindering import FAILED, SECONDS, SPOILED, Row, Site, way_among
 from model.cgi import Private
-CRATE = f"{tree.ROOT}/crates/worked_rows"
-PROGRAM = f"{CRATE}/out/worked_rows"
+CRATE = f"{tree.ROOT}/crates/test_worked_rows"
+PROGRAM = f"{CRATE}/out/test_worked_rows"
 BEGIN = b"\n\n"  # what is printed before the site is made, and then
 PAGE = 4096
 SITE, SERVED = "1", "2"  # so much of it is printed before the counting begins: LATE
@@ -24,7 +24,7 @@ BOTH = re.compile(rb"(.*)\nconnection 1, idle: true\n(.*)\nconnection 2, idle: t
 
 def build():
     """Has the program proved and built, where it is not there, or a source is newer."""
-    tree.build_program("worked_rows", "borrowed", "0", "-", "1", "0", "1", "0")
+    tree.build_program("test_worked_rows", "borrowed", "0", "-", "1", "0", "1", "0")
 
 
 def words_of(files):

@@ -1,6 +1,6 @@
 """Runs of a script's events on a system, each with another growth of memory refused (`refuse.c`), and what was refused retried.
 
-The program is crates/retried_events. It prints each answer as Rust's `Debug` writes it, those of refused tries, too.
+The program is crates/test_retried_events. It prints each answer as Rust's `Debug` writes it, those of refused tries, too.
 """
 import itertools
 import os
@@ -13,8 +13,8 @@ from model.script import CALLS, OUTSIDE, read_line
 from model.texts import decode
 from replaying import SECONDS, Wrong
 
-CRATE = f"{tree.ROOT}/crates/retried_events"
-PROGRAM = f"{CRATE}/out/retried_events"
+CRATE = f"{tree.ROOT}/crates/test_retried_events"
+PROGRAM = f"{CRATE}/out/test_retried_events"
 SIZES = [b"256", b"4294967295", b"1024"]
 MODES = {"read": 0, "write": 1, "both": 2, "done": 0, "gone": 1}
 BEGIN = b"\n"  # what is printed before the system is made
@@ -27,7 +27,7 @@ WANT = re.compile(rb"NoReport|Reply\(Refused\((Memory|Fault \{.*)\)\)")
 
 def build():
     """Has the program proved and built, where it is not there, or a source is newer."""
-    tree.build_program("retried_events", *tree.read(f"{CRATE}/args").splitlines())
+    tree.build_program("test_retried_events", *tree.read(f"{CRATE}/args").splitlines())
 
 
 def repeated(data):

@@ -1,6 +1,0 @@
-use Rattle.std.proofs.Common.{arith}
-use Rattle.iol_agg.proofs.KnownHolds.{held_countable}
-use Rattle.iol_store_tests.proofs.tests.aggregates.adds.Goals as goal
-
-pub add_range-requires-clause-countable : goal.add_range-requires-clause-countable
-add_range-requires-clause-countable g c = held_countable c.args.agg.now c.requires (omega arith)

@@ -1,5 +1,0 @@
-use Rattle.iol_agg.proofs.KnownHolds.{held_moves}
-use Rattle.iol_store_tests.proofs.tests.aggregates.adds_five.Goals as goal
-
-pub adds-all-requires : goal.adds-all-requires
-adds-all-requires g c = held_moves c.start-store.ensures c.filled-agg.ensures.moves

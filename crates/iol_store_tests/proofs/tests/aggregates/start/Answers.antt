@@ -1,4 +1,0 @@
-use Rattle.iol_store_tests.proofs.tests.aggregates.start.Goals as goal
-
-pub returns : goal.returns
-returns g c = c.add_pool-pool.ensures c.new_store-store.ensures

@@ -1,7 +1,0 @@
-use Rattle.std.proofs.Common.{◌<◌}
-use Rattle.std.specs.List.{All}
-use Rattle.iol_arena.specs.State.{chunk_count}
-use Rattle.iol_store_tests.proofs.tests.arenas.use_two.Given as goal
-
-abbrev pub invariant-loop : goal.invariant-loop
-invariant-loop g l = All (λ c. c < chunk_count l.arena) l.set

@@ -1,4 +1,0 @@
-use Rattle.iol_store_tests.proofs.tests.kernels.TestKernel.copies_file_into.Goals as goal
-
-pub copy_file_into-count-requires-clause-open : goal.copy_file_into-count-requires-clause-open
-copy_file_into-count-requires-clause-open c = record { sound = c.self.invariant; live = c.in-Some.ensures.live; from = c.in-Some.ensures.from }

@@ -1,5 +1,0 @@
-use Rattle.std.proofs.Common.{[], false}
-use Rattle.iol_store_tests.proofs.tests.kernels.TestKernel.makes_agg.Goals as goal
-
-pub invariant_of-self : goal.invariant_of-self
-invariant_of-self c = (c.agg_make.ensures.places.serves (record { slots = []; failures = 0; honest = false; told = [] })).sound

@@ -1,5 +1,0 @@
-use Rattle.std.proofs.Common.{[], false}
-use Rattle.iol_store_tests.proofs.tests.kernels.TestKernel.writes_agg.Goals as goal
-
-pub invariant_of-self : goal.invariant_of-self
-invariant_of-self c = (c.iol_write.ensures.serves (record { slots = []; failures = 0; honest = false; told = [] })).sound

@@ -1,5 +1,0 @@
-use Rattle.std.proofs.Common.{[], false}
-use Rattle.iol_store_tests.proofs.tests.kernels.TestKernel.writes_bytes.Goals as goal
-
-pub invariant_of-self : goal.invariant_of-self
-invariant_of-self c = (c.write_bytes.ensures.serves (record { slots = []; failures = 0; honest = false; told = [] })).sound

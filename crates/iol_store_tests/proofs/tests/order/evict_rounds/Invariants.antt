@@ -1,8 +1,0 @@
-use Rattle.std.proofs.Common.{◌≡◌, ◌<◌, []}
-use Rattle.iol_store_tests.proofs.tests.order.evict_rounds.Given as goal
-
-abbrev pub invariant-loop : goal.invariant-loop
-invariant-loop l = record {
-  entries : l.order.entries ≡ [];
-  room : 0 < l.order.room;
-}

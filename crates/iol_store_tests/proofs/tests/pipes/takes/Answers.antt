@@ -1,6 +1,0 @@
-use Rattle.std.proofs.Common.{arith}
-use Rattle.iol_agg.proofs.KnownHolds.{held_countable}
-use Rattle.iol_store_tests.proofs.tests.pipes.takes.Goals as goal
-
-pub take-requires-clause-countable : goal.take-requires-clause-countable
-take-requires-clause-countable g c = held_countable c.args.pipe.now c.requires (omega arith)
