@@ -11,11 +11,12 @@
 //! bytes of one read, in place), `GivesFront` (the longest prefix whose pools name the reader).
 //! Output: `QueuesShared`, `QueuesNew`, `Segments` (bytes with the checksum of these bytes only,
 //! for every division into slices, and the remembered sums), `Drains` (the bytes that a writer
-//! took). End: `ClosesPeer`, `Closes`, and `release`. [`Connections`] holds the live connections
-//! under rising numbers (`numbers_rise`): `add`, `get`, `accept` and `forget` change that list, and
-//! `first_waiting` is the first that a domain may accept. Each call above also takes a number; it
-//! has the same effect on that connection, and none on any other (`ChangesAs`). [`laws`] states
-//! that these definitions agree with the copying machine.
+//! took, or a taker of several slices at once, [`Gather`]). End: `ClosesPeer`, `Closes`, and
+//! `release`. [`Connections`] holds the live connections under rising numbers (`numbers_rise`):
+//! `add`, `get`, `accept` and `forget` change that list, and `first_waiting` is the first that a
+//! domain may accept. Each call above also takes a number; it has the same effect on that
+//! connection, and none on any other (`ChangesAs`). [`laws`] states that these definitions agree
+//! with the copying machine.
 //!
 //! ```text
 //! let taken = conn.arrive(alloc, &mut store, b"GET /")?;
@@ -30,6 +31,7 @@ mod busy;
 mod connections;
 mod copy;
 mod drain_to;
+mod gather;
 mod incoming;
 pub mod laws;
 mod outgoing;
@@ -39,6 +41,7 @@ mod table;
 
 pub use connections::Connection;
 pub use drain_to::Drained;
+pub use gather::Gather;
 pub use iol_pipe::Arrived;
 pub use outgoing::Segment;
 pub use table::Connections;

@@ -3,12 +3,14 @@ ghost use Rattle.iol_core.specs.Prelude.{lookup};
 ghost use Rattle.iol_hold.specs.Prelude.{Covers, IsCountable, AllReadable, bufs_of};
 ghost use Rattle.iol_pool.specs.Prelude.{pool_in};
 ghost use Rattle.iol_sock.specs.Calls.{ClosesPeer, Drains, QueuesNew, QueuesShared, Segments};
+ghost use Rattle.iol_sock.specs.Gathers.{EndsShort};
 ghost use Rattle.iol_sock.specs.Table.{ChangesAs, conn_in};
 ghost use Rattle.iol_sum.specs.Prelude.{IsRight};
 ghost use Rattle.std.specs.Prelude.{None, false, ◌≡◌, ◌≢◌};
 
 use crate::connections::Connection;
 use crate::drain_to::Drained;
+use crate::gather::Gather;
 use crate::outgoing::Segment;
 use crate::table::{Connections, conn_mut};
 use iol_agg::Agg;
@@ -98,6 +100,26 @@ impl Connections {
             store.old store.new x y max result) }
     {
         conn_mut(&mut self.live, c).drain_to(store, writer, max)
+    }
+
+    /// Offers the first bytes to be sent on a connection to a taker of several slices, at most `max`
+    /// in all, and removes those that it took.
+    #[tactic(auto, using(crate::proofs::WaitingList::passing_rules))]
+    pub fn drain_into<G: Gather>(
+        &mut self,
+        store: &mut Store,
+        c: ConnId,
+        taker: &mut G,
+        max: u32,
+    ) -> Drained
+        requires there { lookup self.old.conns c ≢ None }
+        requires covered { Covers store.old (bufs_of (conn_in self.old.conns c).outgoing) }
+        requires readable { AllReadable store.old (conn_in self.old.conns c).outgoing }
+        ensures drains { ChangesAs self.old self.new c (λ x y. Drains G.contents taker.old taker.new
+            store.old store.new x y max result) }
+        ensures failed { EndsShort G.gathers taker.new result.failed }
+    {
+        conn_mut(&mut self.live, c).drain_into(store, taker, max)
     }
 
     /// The peer of a connection sends no more, or also takes no more. Bytes to be sent to a peer

@@ -1,0 +1,14 @@
+-- Bytes of a queue, offered several slices at once.
+use Rattle.std.specs.Prelude.{◌≡◌, ◌<◌, ℕ, Bool, true, List, length, take, drop}
+use Rattle.iol_core.specs.Text.{bytes_of}
+use Rattle.iol_hold.specs.StoreState.{Stored}
+use Rattle.iol_hold.specs.Texts.{text_of}
+use Rattle.iol_hold.specs.declared.slices.Slice.{Slice}
+
+-- the first bytes of the i-th slice, at most `most`; no bytes if there is no such slice
+abbrev pub part_of : Stored → List Slice → (i most : ℕ) → List ℕ
+part_of s xs i most = take most (bytes_of (text_of s (take 1 (drop i xs))))
+
+-- The last call of a taker took fewer bytes than it was offered, if the drain is reported as failed.
+abbrev pub EndsShort : {G : Type 0} → (gathers : G → List ℕ → ℕ → G → Type 0) → (after : G) → (failed : Bool) → Type 0
+EndsShort {G} gathers after failed = failed ≡ true → (before : G) × (offered : List ℕ) × (n : ℕ) × gathers before offered n after × (n < length offered)
