@@ -1,15 +1,16 @@
 //! Connections that are served from outside in place: bytes of a reader arrive directly in a page,
-//! and a writer takes bytes from their places.
+//! and a writer, or a taker of several slices at once, takes bytes from their places.
 ghost use Rattle.std.specs.Prelude.{IfOk, IfErr};
 ghost use Rattle.iol_kernel.specs.Streams.{FailsToRead, MayBringIn};
 ghost use Rattle.iol_kernel.specs.InPlace.{DrainsToWriter, LendsToWriter, ReadsFromReader, TakesFromReader};
 ghost use Rattle.iol_kernel.specs.KernelState.{IsSound};
 ghost use Rattle.iol_kernel.specs.Outside.{HasConn};
+ghost use Rattle.iol_sock.specs.Gathers.{EndsShort};
 
 use crate::kernel::Kernel;
 use iol_core::numbers::{ConnId, PoolId};
 use iol_core::refusals::Refusal;
-use iol_sock::{Arrived, Drained};
+use iol_sock::{Arrived, Drained, Gather};
 use std::io::{Read, Write};
 
 impl Kernel {
@@ -104,5 +105,44 @@ impl Kernel {
         }
         self.settle(conn);
         drained
+    }
+
+    /// Offers a taker references to the first bytes queued for sending on a connection, up to four
+    /// slices at once and at most `max` bytes in all, until it takes fewer than it was offered. The
+    /// bytes it took are sent. No memory is requested.
+    ///
+    /// `BadFd` if there is no such connection.
+    #[tactic(auto, using(crate::proofs::State::Stay::stay_rules))]
+    pub fn drain_into<G: Gather>(
+        &mut self,
+        conn: ConnId,
+        taker: &mut G,
+        max: u32,
+    ) -> Result<Drained, Refusal>
+        requires { IsSound (state_of self.old) }
+        ensures drains { DrainsToWriter conn max G.contents taker.old taker.new self.old result
+            self.new }
+        ensures failed { IfOk result (λ d. EndsShort G.gathers taker.new d.failed) }
+    {
+        if self.lacks_conn(conn) {
+            return Err(Refusal::BadFd);
+        }
+        Ok(self.offer_out(conn, taker, max))
+    }
+
+    /// Offers the first bytes queued for sending on a connection that exists, and removes the
+    /// connection if it is over.
+    fn offer_out<G: Gather>(&mut self, conn: ConnId, taker: &mut G, max: u32) -> Drained
+        requires { HasConn (state_of self.old) conn }
+        ensures lends { LendsToWriter conn max G.contents taker.old taker.new self.old self.new
+            result }
+        ensures failed { EndsShort G.gathers taker.new result.failed }
+    {
+        let sent = self.conns.drain_into(&mut self.store, conn, taker, max);
+        if sent.taken == 0 {
+            return sent;
+        }
+        self.settle(conn);
+        sent
     }
 }
