@@ -1,11 +1,13 @@
 //! Connections that are served from outside in place, from readers and to writers.
+ghost use Rattle.iol_sock.specs.Gathers.{EndsShort};
 ghost use Rattle.iol_system.specs.Streams.{ServesFrom, ServesTo};
+ghost use Rattle.std.specs.Prelude.{IfOk};
 
 use crate::system::System;
 use iol_back::backing::Backing;
 use iol_core::numbers::ConnId;
 use iol_core::refusals::Refusal;
-use iol_sock::{Arrived, Drained};
+use iol_sock::{Arrived, Drained, Gather};
 use std::io::{Read, Write};
 
 impl<B: Backing> System<B> {
@@ -40,5 +42,22 @@ impl<B: Backing> System<B> {
         ensures { ServesTo W.contents writer.old writer.new conn max self.old self.new result }
     {
         self.kernel.drain_to(conn, writer, max)
+    }
+
+    /// Offers a taker references to the first bytes queued for sending on a connection, up to four
+    /// slices at once and at most `max` bytes in all, until it takes fewer than it was offered. The
+    /// bytes it took are sent. No memory is requested.
+    ///
+    /// `BadFd` if there is no such connection.
+    pub fn drain_into<G: Gather>(
+        &mut self,
+        conn: ConnId,
+        taker: &mut G,
+        max: u32,
+    ) -> Result<Drained, Refusal>
+        ensures serves { ServesTo G.contents taker.old taker.new conn max self.old self.new result }
+        ensures failed { IfOk result (λ d. EndsShort G.gathers taker.new d.failed) }
+    {
+        self.kernel.drain_into(conn, taker, max)
     }
 }
