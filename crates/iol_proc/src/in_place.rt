@@ -3,6 +3,7 @@ ghost use Rattle.std.specs.Prelude.{◌≡◌, IfOk, OnErr};
 ghost use Rattle.iol_back.specs.Prelude.{IfHonest};
 ghost use Rattle.iol_proc.specs.Streams.{SendsAs, TakenArrive};
 ghost use Rattle.iol_proc.specs.World.{copied};
+ghost use Rattle.iol_sock.specs.Gathers.{EndsShort};
 ghost use Rattle.iol_system.specs.Prelude.{ServesFrom, ServesTo};
 
 use crate::process::Process;
@@ -10,7 +11,7 @@ use crate::world::World;
 use iol_back::backing::Backing;
 use iol_core::numbers::ConnId;
 use iol_core::refusals::Refusal;
-use iol_sock::{Arrived, Drained};
+use iol_sock::{Arrived, Drained, Gather};
 use std::io::{Read, Write};
 
 impl<B: Backing + Drop, P: Process> World<B, P> {
@@ -57,5 +58,27 @@ impl<B: Backing + Drop, P: Process> World<B, P> {
             self.new.machine result }
     {
         self.system.drain_to(conn, writer, max)
+    }
+
+    /// Offers a taker the first bytes queued on a connection, as
+    /// [`System::drain_into`](iol_system::system::System) does: in the copying machine, the bytes
+    /// taken are sent. Allocates nothing.
+    pub fn drain_into<G: Gather>(
+        &mut self,
+        conn: ConnId,
+        taker: &mut G,
+        max: u32,
+    ) -> Result<Drained, Refusal>
+        ensures copied { IfOk result
+            (λ d. SendsAs P.turns conn d.taken (copied self.old) (copied self.new)) }
+        ensures seats { self.new.seats ≡ self.old.seats }
+        ensures rough { self.new.rough ≡ self.old.rough }
+        ensures failed { IfOk result (λ d. EndsShort G.gathers taker.new d.failed) }
+
+        // The effect on the system.
+        ensures system { ServesTo G.contents taker.old taker.new conn max self.old.machine
+            self.new.machine result }
+    {
+        self.system.drain_into(conn, taker, max)
     }
 }

@@ -1,0 +1,16 @@
+use Rattle.std.proofs.Common.{refl}
+use Rattle.iol_proc.proofs.StreamEvents.{drained_copied}
+use Rattle.iol_proc.proofs.world.World.drain_into.Goals as goal
+
+-- the bytes that were taken are sent
+pub returns-clause-copied : goal.returns-clause-copied
+returns-clause-copied g c =
+    rw (← c.self.view_is)
+    (drained_copied g.P.Process.turns c.args.conn c.args.max _ _ c.drain_into.result
+    (record { machine = c.self.inside.system; seats = c.self.inside.seats.items; rough = c.self.inside.rough })
+    (record { machine = c.drain_into.new.self; seats = c.self.inside.seats.items; rough = c.self.inside.rough })
+    refl refl c.drain_into.ensures.serves.disk c.drain_into.ensures.serves.refuses.passed c.drain_into.ensures.serves.drains)
+
+-- what it does to the system
+pub returns-clause-system : goal.returns-clause-system
+returns-clause-system g c = rw (← c.self.view_is) c.drain_into.ensures.serves
