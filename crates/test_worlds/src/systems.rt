@@ -4,7 +4,7 @@ use iol_core::configuration::Config;
 use iol_core::events::{Call, Event, Reply};
 use iol_core::numbers::{ConnId, DomainId};
 use iol_core::refusals::Refusal;
-use iol_sock::{Arrived, Drained};
+use iol_sock::{Arrived, Drained, Gather};
 use iol_system::system::System;
 use std::alloc::{AllocError, Global};
 use std::io::{Read, Write};
@@ -92,6 +92,16 @@ impl<B: Backing + Drop> TestSystem<B> {
         max: u32,
     ) -> Result<Drained, Refusal> {
         self.system.drain_to(conn, writer, max)
+    }
+
+    /// Bytes are offered to a taker of several slices.
+    pub fn drain_into<G: Gather>(
+        &mut self,
+        conn: ConnId,
+        taker: &mut G,
+        max: u32,
+    ) -> Result<Drained, Refusal> {
+        self.system.drain_into(conn, taker, max)
     }
 
     /// The number of live buffers.

@@ -10,7 +10,7 @@ use iol_core::refusals::Refusal;
 use iol_proc::choice::Choice;
 use iol_proc::process::Process;
 use iol_proc::world::World;
-use iol_sock::{Arrived, Drained};
+use iol_sock::{Arrived, Drained, Gather};
 use std::alloc::{AllocError, Global};
 use std::io::{Read, Write};
 use std::marker::Model;
@@ -138,5 +138,15 @@ impl<B: Backing + Drop, P: Process> TestWorld<B, P> {
         max: u32,
     ) -> Result<Drained, Refusal> {
         self.world.drain_to(conn, writer, max)
+    }
+
+    /// Bytes are offered to a taker of several slices.
+    pub fn drain_into<G: Gather>(
+        &mut self,
+        conn: ConnId,
+        taker: &mut G,
+        max: u32,
+    ) -> Result<Drained, Refusal> {
+        self.world.drain_into(conn, taker, max)
     }
 }

@@ -1,4 +1,5 @@
 //! A system with connection 1, which is served from outside.
+use super::taker::Taker;
 use iol_back::memory::MemoryBacking;
 use iol_core::configuration::Config;
 use iol_core::descriptors::How;
@@ -124,6 +125,22 @@ impl Line {
     /// Returns whether this number of bytes goes to a writer, and whether it fails.
     pub fn drains(&mut self, writer: &mut Sink, max: u32, (taken, failed): (u32, bool)) -> bool {
         self.drain_to(CONN, writer, max) == Ok(Drained { taken, failed })
+    }
+
+    /// Bytes are offered to a taker of several slices.
+    pub fn drain_into(
+        &mut self,
+        conn: u32,
+        taker: &mut Taker,
+        max: u32,
+    ) -> Result<Drained, Refusal> {
+        self.system.drain_into(ConnId::new(conn), taker, max)
+    }
+
+    /// Returns whether a taker takes this number of bytes, and whether it takes fewer than it is
+    /// offered.
+    pub fn offers(&mut self, taker: &mut Taker, max: u32, (taken, failed): (u32, bool)) -> bool {
+        self.drain_into(CONN, taker, max) == Ok(Drained { taken, failed })
     }
 
     /// `count` bytes arrive without a reader.
