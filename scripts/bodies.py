@@ -5,7 +5,9 @@ import re
 import tree
 
 FUNCTION = re.compile(r"^(?P<indent> *)(?:pub(?:\(crate\))? )?(?:const )?fn (?P<name>\w+)")
-BLOCK = re.compile(r"^impl(?:<[^{]*?>)? (?:(?P<trait>\w+)(?:<[^{]*>)? for )?(?P<type>\w+)")
+BLOCK = re.compile(
+    r"^impl(?:<(?P<given>[^{]*?)>)? (?:(?P<trait>\w+)(?:<[^{]*>)? for )?(?P<type>\w+)(?:<(?P<of>[^{]*)>)?"
+)
 ENDS = re.compile(r"^[)\w].*\{$")  # a line that ends a function's head, where its arguments or clauses take several
 
 
@@ -21,13 +23,20 @@ def head_ends(lines, at, indent):
     return None
 
 
+def owner_of(block):
+    """The type that an impl is for, and its trait, as the prover writes them: with the arguments, if one is no parameter."""
+    given = re.findall(r"(?:^|, )(?:const )?(\w+)", re.sub(r"<[^<>]*>", "", block["given"] or ""))
+    of = [] if block["trait"] else re.findall(r"(?<!')\b\w+", block["of"] or "")
+    return "+".join([block["type"], *(of if set(of) - set(given) else [])]) + f"{block['trait'] or ''}::"
+
+
 def bodies(text):
     """Each body: the lines between which it stands, and its function, below the type that has it and the trait."""
     lines, owner = text.split("\n"), ""
     for at, line in enumerate(lines):
         block, function = BLOCK.match(line), FUNCTION.match(line)
         if block:
-            owner = f"{block['type']}{block['trait'] or ''}::"
+            owner = owner_of(block)
         elif line == "}":
             owner = ""
         elif function:

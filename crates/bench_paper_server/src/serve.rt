@@ -10,7 +10,7 @@ use iol_reactor::limits::Limits;
 use iol_reactor::reactor::Reactor;
 use iol_reactor::service::{Exchange, Frame, Progress, Service};
 use mio::net::TcpListener;
-use std::alloc::AllocError;
+use std::alloc::{AllocError, Global};
 use std::io;
 use std::io::{ErrorKind, Write};
 use std::net::{Ipv4Addr, SocketAddr};
@@ -37,10 +37,15 @@ impl Files {
 }
 
 impl Service<MemoryBacking, Server> for Files {
-    fn frame(&self, bytes: &[u8]) -> Frame {
-        match head_len(bytes) {
-            Some(length) => Frame::Complete(length),
-            None => Frame::Incomplete,
+    fn frame(&self, alloc: Global, bytes: &[u8]) -> Result<Frame, AllocError> {
+        let _ = alloc;
+        let Some(length) = head_len(bytes) else {
+            return Ok(Frame::Incomplete);
+        };
+        if Request::of_bytes(&bytes[..length.min(bytes.len())]).is_last {
+            Ok(Frame::Last(length))
+        } else {
+            Ok(Frame::Complete(length))
         }
     }
 

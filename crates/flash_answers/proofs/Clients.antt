@@ -1,15 +1,13 @@
 -- The connections of a client of the event loop have their answers, and so has the client.
-use Rattle.std.proofs.Common.{◌≡◌, ◌∙◌, inl, inr, ℕ, Bool, true, false, List, [], ◌∷◌, ◌++◌, map, refl, sym, ap, subst, append_assoc, append-nil}
+use Rattle.std.proofs.Common.{◌≡◌, ◌∙◌, inl, inr, ℕ, Bool, false, List, [], ◌∷◌, ◌++◌, map, refl, sym, ap, subst, append_assoc, append-nil}
 use Rattle.std.proofs.Math.Logic.{∥∥₁_map, ∥∥₁_map₂}
 use Rattle.std.specs.List.{AllByRecursion, concat}
-use Rattle.iol_proc.specs.World.{Stage}
-use Rattle.iol_system.specs.Machine.{SystemState}
 use Rattle.iol_reactor.specs.Clients.{AreWhole, Holds, IsClosed, IsLeft, Request, Visit, WereLeft, bytes_of, bytes_of_all}
 use Rattle.iol_reactor.specs.Visits.{HasVisited}
 use Rattle.iol_reactor.specs.declared.service.Frame.TheVariants.{Complete, Incomplete}
 use Rattle.flash_cgi.specs.declared.worker.Worker.{Worker}
 use Rattle.flash_clients.specs.Clients as client
-use Rattle.flash_clients.specs.Clients.{AreVisits, BeginsInTurn, ClientsGetAnswers, EndsWell, InTurn, IsServed, IsServedWhole}
+use Rattle.flash_clients.specs.Clients.{AreVisits, ClientsGetAnswers, EndsWell, IsServed}
 use Rattle.flash_clients.specs.Requests.{AreKept, Closes, RequestsAreKept}
 use Rattle.flash_framing.specs.Framing.{Framed}
 use Rattle.flash_http.specs.Window.{window_in}

@@ -4,7 +4,7 @@
 //! by [`frame_of`] and `progress` by [`progress_of`].
 #![tactic(auto)]
 
-ghost use Rattle.std.specs.Prelude.{◌≡◌, not, IfOk};
+ghost use Rattle.std.specs.Prelude.{◌≡◌, IfOk};
 ghost use Rattle.flash_http.specs.Request as http;
 ghost use Rattle.flash_laws.specs.Prelude.{keeps};
 ghost use Rattle.flash_framing.specs.Framing.{Framed};
