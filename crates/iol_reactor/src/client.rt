@@ -42,21 +42,11 @@ pub enum Phase {
     Over,
 }
 
-/// The queues of deadlines in which a client has an entry.
-#[derive(Clone, Copy, Debug, PartialEq, Eq)]
-pub struct Armed {
-    pub head: bool,
-    pub rate: bool,
-    pub drain: bool,
-    pub park: bool,
-}
-
 /// A client on a socket.
 #[derive(Drop)]
 pub struct Client<S> {
     socket: S,
     peer: SocketAddr,
-    serial: u64,
     phase: Phase,
     input: Input,
     output: Output,
@@ -64,25 +54,15 @@ pub struct Client<S> {
     // Whether the processes close the connection after the request in progress.
     is_last: bool,
 
-    /// Whether it is in the list of clients that are visited in the next round, and in the list of
-    /// those with a pending response.
-    pub is_ready: bool,
-    pub is_pending: bool,
+    // Whether its requests were answered to the end, in the phases after its last connection.
+    is_whole: bool,
 
-    pub armed: Armed,
-
-    /// The time at which bytes last arrived or were accepted.
+    // The time at which bytes last arrived or were accepted.
     last: u64,
-
-    /// Since when a request is incomplete, if one is.
-    pub head_since: Option<u64>,
-
-    /// How many bytes the socket had accepted when its rate was measured last.
-    pub rate_mark: u64,
 }
 
 impl<S: Socket> Client<S> {
-    pub fn new(alloc: Global, socket: S, peer: SocketAddr, serial: u64, now: u64) -> Client<S>
+    pub fn new(alloc: Global, socket: S, peer: SocketAddr, now: u64) -> Client<S>
         ensures socket { result.socket ≡ socket }
         ensures phase { result.phase ≡ Phase.Parked }
         ensures bytes { result.input.bytes.items ≡ [] }
@@ -93,22 +73,12 @@ impl<S: Socket> Client<S> {
         Client {
             socket,
             peer,
-            serial,
             phase: Phase::Parked,
             input: Input::new(alloc),
             output: Output::new(alloc),
             is_last: false,
-            is_ready: false,
-            is_pending: false,
-            armed: Armed {
-                head: false,
-                rate: false,
-                drain: false,
-                park: false,
-            },
+            is_whole: false,
             last: now,
-            head_since: None,
-            rate_mark: 0,
         }
     }
 
@@ -116,10 +86,6 @@ impl<S: Socket> Client<S> {
         ensures { result.now ≡ self.now.socket }
     {
         &self.socket
-    }
-
-    pub fn serial(&self) -> u64 {
-        self.serial
     }
 
     pub fn phase(&self) -> Phase
@@ -135,6 +101,24 @@ impl<S: Socket> Client<S> {
         ensures output { self.new.output ≡ self.old.output }
     {
         self.phase = phase;
+    }
+
+    /// It has no connection any more: the rest of its output is sent. Whether its requests were
+    /// answered to the end.
+    pub fn end(&mut self, is_whole: bool)
+        ensures phase { self.new.phase ≡ Phase.Flushing }
+        ensures whole { self.new.is_whole ≡ is_whole }
+        ensures socket { self.new.socket ≡ self.old.socket }
+        ensures input { self.new.input ≡ self.old.input }
+        ensures output { self.new.output ≡ self.old.output }
+    {
+        self.phase = Phase::Flushing;
+        self.is_whole = is_whole;
+    }
+
+    /// Whether its socket accepted all bytes.
+    pub fn is_flushed(&self) -> bool {
+        self.output.is_flushed()
     }
 
     /// All of its request was handed in, except for this number of bytes.
@@ -221,17 +205,12 @@ impl<S: Socket> Client<S> {
         ensures last { self.new.is_last ≡ is_last }
         ensures unsent { unsent_of self.new.output ≡ unsent_of self.old.output }
         ensures socket { self.new.socket ≡ self.old.socket }
-        ensures phase { self.new.phase ≡ self.old.phase }
+        ensures phase { self.new.phase ≡ Phase.Answering }
     {
+        self.phase = Phase::Answering;
         self.input.begin(size);
         self.is_last = is_last;
         self.output.begin();
-        self.head_since = None;
-    }
-
-    /// Whether the rest of a request is awaited.
-    pub fn is_awaited(&self) -> bool {
-        self.head_since.is_some()
     }
 
     /// Whether all of its request was handed in.
@@ -279,9 +258,11 @@ impl<S: Socket> Client<S> {
         self.output.send(&mut self.socket, bytes)
     }
 
-    /// The number of bytes that may be collected for it. 0: there is no memory.
+    /// The number of bytes that may be collected for it. 0: there is no memory, or bytes are left
+    /// from before.
     pub fn room(&mut self) -> u32
         ensures unsent { unsent_of self.new.output ≡ unsent_of self.old.output }
+        ensures none { result ≢ 0 → unsent_of self.old.output ≡ [] }
         ensures socket { self.new.socket ≡ self.old.socket }
         ensures phase { self.new.phase ≡ self.old.phase }
         ensures input { self.new.input ≡ self.old.input }

@@ -1,10 +1,11 @@
-//! One client's exchange with its world: its request goes in, its response comes out.
+//! One client's exchange with its world: its response goes to its socket.
 use crate::client::{Client, Phase};
+use crate::places::Places;
 use crate::outbox::Outbox;
 use crate::output::Sending;
 use crate::service::{Progress, Service};
 use crate::socket::Socket;
-use crate::worlds::{Collected, Worlds};
+use crate::worlds::Collected;
 use iol_back::backing::Backing;
 use iol_proc::process::Process;
 
@@ -27,6 +28,28 @@ pub enum Step {
     Over,
 }
 
+/// How output of the world was sent.
+#[derive(Clone, Copy, Debug, PartialEq, Eq)]
+pub enum Passed {
+    /// The socket accepted all that there was.
+    All,
+
+    /// It accepted all, and there may be more.
+    Part,
+
+    /// It accepts no more now.
+    Blocked,
+
+    /// There is no memory for more.
+    Starved,
+
+    /// The socket accepted all, and the processes have closed the connection.
+    Closed,
+
+    /// The socket failed, or there is no connection that is served.
+    Failed,
+}
+
 /// The state that a round takes into account.
 #[derive(Clone, Copy)]
 pub struct Moment {
@@ -36,61 +59,200 @@ pub struct Moment {
     pub is_idle: bool,
 }
 
-/// Hands in more of the request of the client in this place. False: there is no room for all of it
-/// now.
-pub fn hand_in<S: Socket, B: Backing + Drop, P: Process, V: Service<B, P>>(
-    worlds: &mut Worlds<B, P, V>,
-    slot: usize,
-    client: &mut Client<S>,
-) -> bool {
-    let left = worlds.hand_in(slot, client.rest()).len();
-    client.give(left);
-    left == 0 || worlds.is_over(slot)
-}
-
-/// Sends the world's output for the client at this index, which has a connection, as far as its
-/// socket accepts it.
-pub fn answer<S: Socket, B: Backing + Drop, P: Process, V: Service<B, P>>(
-    worlds: &mut Worlds<B, P, V>,
-    outbox: &mut Outbox,
-    slot: usize,
-    client: &mut Client<S>,
-    service: &mut V,
-    moment: Moment,
-) -> Step {
-    match client.flush(moment.now) {
-        Sending::All => {}
-        Sending::Blocked => return Step::Rests,
-        Sending::Failed => return abandon(worlds, slot, client, service),
-    }
-    let most = client.room();
-    if most == 0 {
-        return Step::Starved;
-    }
-    outbox.clear();
-    let taken = match worlds.collect(slot, outbox, most) {
-        Collected::Bytes(count) => count,
-        Collected::Closed => return ended(worlds, slot, client, service, moment.now),
-        Collected::Gone => return abandon(worlds, slot, client, service),
-    };
-    if taken > 0 {
-        match client.send(outbox.bytes(), moment.now) {
+impl<S: Socket + Drop, B: Backing + Drop, P: Process, V: Service<B, P>> Places<S, B, P, V> {
+    /// Sends the world's output for the client in this place, which has a connection, as far as
+    /// its socket accepts it.
+    pub fn answer(
+        &mut self,
+        outbox: &mut Outbox,
+        slot: usize,
+        service: &mut V,
+        moment: Moment,
+    ) -> Step {
+        match self.flush(slot, moment.now) {
             Sending::All => {}
             Sending::Blocked => return Step::Rests,
-            Sending::Failed => return abandon(worlds, slot, client, service),
+            Sending::Failed => return self.abandon(slot, service),
+        }
+        match self.pass_on(outbox, slot, moment.now) {
+            Passed::All => self.after_all(slot, service, moment),
+            Passed::Part => Step::Again,
+            Passed::Blocked => Step::Rests,
+            Passed::Starved => Step::Starved,
+            Passed::Closed => self.ended(slot, service, moment.now),
+            Passed::Failed => self.abandon(slot, service),
         }
     }
-    if taken >= most {
-        return Step::Again;
+
+    // Writes what the socket of the client in this place has not accepted yet.
+    fn flush(&mut self, slot: usize, now: u64) -> Sending {
+        match self.clients.get_mut(slot) {
+            Some(Some(client)) => client.flush(now),
+            _ => Sending::Failed,
+        }
     }
-    if worlds.is_over(slot) {
-        return ended(worlds, slot, client, service, moment.now);
+
+    // Sends more of the world's output for the client in this place, of which nothing is left from
+    // before. If the socket fails, the client is over.
+    fn pass_on(&mut self, outbox: &mut Outbox, slot: usize, now: u64) -> Passed {
+        let Some(Some(client)) = self.clients.get_mut(slot) else {
+            return Passed::Failed;
+        };
+        if !matches!(client.phase(), Phase::Answering | Phase::Leaving) {
+            return Passed::Failed;
+        }
+        let most = client.room();
+        if most == 0 {
+            return Passed::Starved;
+        }
+        outbox.clear();
+        let collected = self.worlds.collect(slot, outbox, most);
+        match send(client, outbox.bytes(), now) {
+            Sending::All => passed_of(collected, most),
+            Sending::Blocked => Passed::Blocked,
+            Sending::Failed => {
+                client.set_phase(Phase::Over);
+                Passed::Failed
+            }
+        }
     }
-    if is_complete(client, service, moment.is_idle) {
-        complete(client, service, moment.now);
-        return next_step(client);
+
+    // The socket of the client in this place has accepted all that the world sent so far.
+    fn after_all(&mut self, slot: usize, service: &mut V, moment: Moment) -> Step {
+        if self.is_over(slot) {
+            return self.ended(slot, service, moment.now);
+        }
+        if self.complete(slot, service, moment) {
+            return self.next_step(slot);
+        }
+        Step::Pending
     }
-    Step::Pending
+
+    // Whether the client in this place has a connection that the processes have closed.
+    fn is_over(&mut self, slot: usize) -> bool {
+        self.worlds.is_over(slot)
+    }
+
+    // If the response of the client in this place was sent whole, the client is quiet, and its next
+    // request may be handed in.
+    fn complete(&mut self, slot: usize, service: &mut V, moment: Moment) -> bool {
+        let Some(Some(client)) = self.clients.get_mut(slot) else {
+            return false;
+        };
+        if !is_complete(client, service, moment.is_idle) {
+            return false;
+        }
+        service.record(&client.exchange(true));
+        client.finish(moment.now);
+        client.set_phase(Phase::Quiet);
+        true
+    }
+
+    // The next step of a client with a complete response.
+    fn next_step(&self, slot: usize) -> Step {
+        match self.get(slot) {
+            Some(client) if client.has_next() => Step::Again,
+            _ => Step::Rests,
+        }
+    }
+
+    // The world has closed the connection of the client in this place, and all that it sent on it
+    // was written.
+    fn ended(&mut self, slot: usize, service: &mut V, now: u64) -> Step {
+        let Some(Some(client)) = self.clients.get_mut(slot) else {
+            return Step::Rests;
+        };
+        self.worlds.release(slot);
+        let is_whole = is_done(client);
+        if client.is_asking() {
+            service.record(&client.exchange(true));
+            client.finish(now);
+        }
+        client.release();
+        if client.phase() == Phase::Leaving {
+            client.set_phase(Phase::Parked);
+            return self.next_step(slot);
+        }
+        client.end(is_whole);
+        Step::Again
+    }
+
+    /// The socket of the client in this place failed, or the client broke a limit: nothing more is
+    /// handed in or sent.
+    pub fn abandon(&mut self, slot: usize, service: &mut V) -> Step {
+        self.worlds.hang_up(slot);
+        self.worlds.release(slot);
+        if let Some(Some(client)) = self.clients.get_mut(slot) {
+            if client.is_asking() {
+                service.record(&client.exchange(false));
+            }
+            client.set_phase(Phase::Over);
+        }
+        Step::Over
+    }
+
+    /// The client in this place, which has no connection, ends: the rest is sent, its output is
+    /// ended, and its peer's end is awaited.
+    pub fn close(&mut self, slot: usize, piece: &mut [u8], now: u64) -> Step {
+        match self.flush(slot, now) {
+            Sending::All => {}
+            Sending::Blocked => return Step::Rests,
+            Sending::Failed => return Step::Over,
+        }
+        if !self.end_output(slot) {
+            return Step::Over;
+        }
+        self.drain(slot, piece)
+    }
+
+    // Ends the output of the client in this place, once, if all was sent. False: the socket failed.
+    fn end_output(&mut self, slot: usize) -> bool {
+        match self.clients.get_mut(slot) {
+            Some(Some(client)) if client.phase() == Phase::Flushing && client.is_flushed() => {
+                client.set_phase(Phase::Closing);
+                client.end_output()
+            }
+            _ => true,
+        }
+    }
+
+    // Awaits the peer's end of the client in this place, whose output was ended.
+    fn drain(&mut self, slot: usize, piece: &mut [u8]) -> Step {
+        let Some(Some(client)) = self.clients.get_mut(slot) else {
+            return Step::Over;
+        };
+        if client.phase() != Phase::Closing || client.is_ended() || client.drop_input(piece) {
+            return Step::Over;
+        }
+        if client.is_readable() {
+            Step::Again
+        } else {
+            Step::Rests
+        }
+    }
+}
+
+// Sends bytes that were collected, if there are any.
+fn send<S: Socket>(client: &mut Client<S>, bytes: &[u8], now: u64) -> Sending {
+    if bytes.is_empty() {
+        return Sending::All;
+    }
+    client.send(bytes, now)
+}
+
+// How collected output was sent, all of which the socket accepted.
+fn passed_of(collected: Collected, most: u32) -> Passed {
+    match collected {
+        Collected::Bytes(count) if count >= most => Passed::Part,
+        Collected::Bytes(_) => Passed::All,
+        Collected::Closed => Passed::Closed,
+        Collected::Gone => Passed::Failed,
+    }
+}
+
+// Whether the request in progress was handed in whole, and is the last.
+fn is_done<S: Socket>(client: &Client<S>) -> bool {
+    client.phase() == Phase::Answering && client.is_last() && client.is_given()
 }
 
 // Whether a response is complete, all of which so far was sent. The last one ends with the connection.
@@ -110,100 +272,4 @@ fn is_complete<S: Socket, B: Backing + Drop, P: Process, V: Service<B, P>>(
         return true;
     }
     matches!(service.progress(&client.exchange(true)), Progress::Complete)
-}
-
-// A response was sent whole: the client is quiet, and its next request may be handed in.
-fn complete<S: Socket, B: Backing + Drop, P: Process, V: Service<B, P>>(
-    client: &mut Client<S>,
-    service: &mut V,
-    now: u64,
-) {
-    service.record(&client.exchange(true));
-    client.finish(now);
-    client.set_phase(Phase::Quiet);
-}
-
-// The next step of a client with a complete response.
-fn next_step<S: Socket>(client: &Client<S>) -> Step {
-    if client.has_next() {
-        Step::Again
-    } else {
-        Step::Rests
-    }
-}
-
-// The world has closed the connection of the client in this place, and all that it sent on it was
-// written.
-fn ended<S: Socket, B: Backing + Drop, P: Process, V: Service<B, P>>(
-    worlds: &mut Worlds<B, P, V>,
-    slot: usize,
-    client: &mut Client<S>,
-    service: &mut V,
-    now: u64,
-) -> Step {
-    worlds.release(slot);
-    let was_leaving = client.phase() == Phase::Leaving;
-    if client.is_asking() {
-        service.record(&client.exchange(true));
-        client.finish(now);
-    }
-    client.release();
-    if was_leaving {
-        client.set_phase(Phase::Parked);
-        return next_step(client);
-    }
-    client.set_phase(Phase::Flushing);
-    Step::Again
-}
-
-/// The socket of the client in this place failed, or the client broke a limit: nothing more is
-/// handed in or sent.
-pub fn abandon<S: Socket, B: Backing + Drop, P: Process, V: Service<B, P>>(
-    worlds: &mut Worlds<B, P, V>,
-    slot: usize,
-    client: &mut Client<S>,
-    service: &mut V,
-) -> Step {
-    worlds.hang_up(slot);
-    worlds.release(slot);
-    if client.is_asking() {
-        service.record(&client.exchange(false));
-    }
-    client.set_phase(Phase::Over);
-    Step::Over
-}
-
-/// The client at this index is quiet, and gives back its connection: the world gets the end of its
-/// input.
-pub fn leave<S: Socket, B: Backing + Drop, P: Process, V: Service<B, P>>(
-    worlds: &mut Worlds<B, P, V>,
-    slot: usize,
-    client: &mut Client<S>,
-) {
-    worlds.close(slot);
-    client.set_phase(Phase::Leaving);
-}
-
-/// A client without a connection ends: the rest is sent, its output is ended, and its peer's end
-/// is awaited.
-pub fn close<S: Socket>(client: &mut Client<S>, piece: &mut [u8], now: u64) -> Step {
-    match client.flush(now) {
-        Sending::All => {}
-        Sending::Blocked => return Step::Rests,
-        Sending::Failed => return Step::Over,
-    }
-    if client.phase() == Phase::Flushing {
-        client.set_phase(Phase::Closing);
-        if !client.end_output() {
-            return Step::Over;
-        }
-    }
-    if client.is_ended() || client.drop_input(piece) {
-        return Step::Over;
-    }
-    if client.is_readable() {
-        Step::Again
-    } else {
-        Step::Rests
-    }
 }

@@ -2,6 +2,7 @@
 use crate::client::Client;
 use crate::limits::{Limits, READ_BYTES};
 use crate::links::Links;
+use crate::marks::Marks;
 use crate::outbox::Outbox;
 use crate::steps::QUEUE;
 use crate::timers::{Key, Timers};
@@ -12,6 +13,7 @@ use std::collections::VecDeque;
 #[derive(Drop)]
 pub struct Room<S> {
     pub clients: Vec<Option<Client<S>>>,
+    pub marks: Vec<Option<Marks>>,
     pub free: Vec<usize>,
     pub ready: Vec<usize>,
     pub pending: Vec<usize>,
@@ -30,6 +32,7 @@ impl<S: Drop> Room<S> {
         let most = limits.max_clients;
         Ok(Room {
             clients: Vec::with_capacity(alloc, most)?,
+            marks: Vec::with_capacity(alloc, most)?,
             free: Vec::with_capacity(alloc, most)?,
             ready: Vec::with_capacity(alloc, most)?,
             pending: Vec::with_capacity(alloc, most)?,
