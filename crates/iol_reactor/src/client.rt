@@ -7,6 +7,7 @@ use crate::input::{Input, Reading};
 use crate::output::{Output, Sending};
 use crate::service::Exchange;
 use crate::socket::Socket;
+use iol_sock::Gather;
 use std::alloc::Global;
 use std::net::SocketAddr;
 
@@ -258,6 +259,18 @@ impl<S: Socket> Client<S> {
         self.output.send(&mut self.socket, bytes)
     }
 
+    /// Bytes were passed to its socket, or were to be.
+    pub fn touch(&mut self, now: u64)
+        ensures output { self.new.output ≡ self.old.output }
+        ensures socket { self.new.socket ≡ self.old.socket }
+        ensures phase { self.new.phase ≡ self.old.phase }
+        ensures input { self.new.input ≡ self.old.input }
+        ensures last { self.new.is_last ≡ self.old.is_last }
+        ensures whole { self.new.is_whole ≡ self.old.is_whole }
+    {
+        self.last = now;
+    }
+
     /// The number of bytes that may be collected for it. 0: there is no memory, or bytes are left
     /// from before.
     pub fn room(&mut self) -> u32
@@ -354,5 +367,19 @@ impl<S: Socket> Client<S> {
             }
         }
         false
+    }
+}
+
+// The socket of a client without unsent bytes takes bytes of the world's output.
+impl<S: Socket> Gather for Client<S> {
+    ghost use Rattle.iol_reactor.specs.Bytes.{IsPassing};
+
+    ghost contents = { λ client. S.accepted client.socket };
+
+    ghost gathers = { λ client offered taken after. IsPassing S.supplied client after };
+
+    fn gather(&mut self, first: &[u8], second: &[u8], third: &[u8], fourth: &[u8]) -> usize {
+        self.output
+            .pass(&mut self.socket, first, second, third, fourth)
     }
 }

@@ -5,7 +5,7 @@ use crate::outbox::Outbox;
 use crate::output::Sending;
 use crate::service::{Progress, Service};
 use crate::socket::Socket;
-use crate::worlds::Collected;
+use crate::worlds::{Collected, Offered};
 use iol_back::backing::Backing;
 use iol_proc::process::Process;
 
@@ -105,8 +105,18 @@ impl<S: Socket + Drop, B: Backing + Drop, P: Process, V: Service<B, P>> Places<S
         if most == 0 {
             return Passed::Starved;
         }
+        let taken = match self.worlds.offer(slot, client, most) {
+            Offered::All(count) => {
+                touch(client, count, now);
+                return passed_of(Collected::Bytes(count), most);
+            }
+            Offered::Part(count) => count,
+            Offered::Closed => return Passed::Closed,
+            Offered::Gone => return Passed::Failed,
+        };
+        touch(client, taken, now);
         outbox.clear();
-        let collected = self.worlds.collect(slot, outbox, most);
+        let collected = self.worlds.collect(slot, outbox, most.saturating_sub(taken));
         match send(client, outbox.bytes(), now) {
             Sending::All => passed_of(collected, most),
             Sending::Blocked => Passed::Blocked,
@@ -238,6 +248,13 @@ fn send<S: Socket>(client: &mut Client<S>, bytes: &[u8], now: u64) -> Sending {
         return Sending::All;
     }
     client.send(bytes, now)
+}
+
+// Bytes of the world's output were passed to the socket of a client.
+fn touch<S: Socket>(client: &mut Client<S>, count: u32, now: u64) {
+    if count > 0 {
+        client.touch(now);
+    }
 }
 
 // How collected output was sent, all of which the socket accepted.

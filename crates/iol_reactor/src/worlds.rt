@@ -1,6 +1,8 @@
 //! The world for new requests, and the one in which earlier requests finish.
 ghost use Rattle.std.specs.Prelude.{◌≡◌, Bool, ◌++◌, ◌∷◌, ◌+◌, ◌==◌, List, ℕ, [], None, Some, true, false, IfSome, IsNone, set, OnErr, OnOk};
 ghost use Rattle.std.proofs.Props.{props};
+ghost use Rattle.std.specs.Io.KnownBytes.{Appends};
+ghost use Rattle.iol_sock.specs.Gathers.{IsCalled};
 ghost use Rattle.iol_reactor.specs.Connections.{link_at};
 ghost use Rattle.iol_reactor.specs.Visits.{HasVisited};
 ghost use Rattle.iol_reactor.specs.LinkVisits.{HasLinkVisited, IsOver, LinksStay, SlotGoesOn, serving};
@@ -14,6 +16,7 @@ use iol_back::backing::Backing;
 use iol_core::numbers::PoolId;
 use iol_proc::process::Process;
 use iol_proc::world::World;
+use iol_sock::{Drained, Gather};
 use std::alloc::AllocError;
 use std::mem;
 
@@ -22,6 +25,22 @@ use std::mem;
 pub enum Collected {
     /// This number of bytes was moved.
     Bytes(u32),
+
+    /// The processes have closed the connection.
+    Closed,
+
+    /// There is no connection, or its world no longer serves.
+    Gone,
+}
+
+/// How the output of a client's connection was offered to a taker.
+#[derive(Clone, Copy, Debug, PartialEq, Eq)]
+pub enum Offered {
+    /// It took all, this number of bytes.
+    All(u32),
+
+    /// It took this number of bytes, and not the next ones.
+    Part(u32),
 
     /// The processes have closed the connection.
     Closed,
@@ -329,6 +348,48 @@ impl<B: Backing + Drop, P: Process, V: Service<B, P>> Worlds<B, P, V> {
             Some(world) => outcome_of(world.collect(conn, outbox, most)),
             None => Collected::Gone,
         }
+    }
+
+    /// Offers the queued output of the connection of the client at this index to a taker, at most
+    /// this number of bytes.
+    pub fn offer<G: Gather>(&mut self, slot: usize, taker: &mut G, most: u32) -> Offered
+        ensures links { self.new.links ≡ self.old.links }
+        ensures pool { self.new.pool ≡ self.old.pool }
+        ensures visits { (sent : List ℕ) × Appends (G.contents taker.old) (G.contents taker.new) sent
+            × SlotGoesOn P.turns V.starts self.old.pool
+            (link_at self.old.links.table.items slot) [] sent false
+            (serving self.old.links.generation self.old.current.world (λ h. h.world) self.old.retiring)
+            (serving self.new.links.generation self.new.current.world (λ h. h.world) self.new.retiring) }
+        ensures calls { IsCalled G.gathers taker.old taker.new }
+        ensures over { result ≡ Offered.Closed →
+            IsOver (link_at self.old.links.table.items slot)
+            (serving self.new.links.generation self.new.current.world (λ h. h.world) self.new.retiring) }
+    {
+        let Some(link) = self.links.get(slot) else {
+            return Offered::Gone;
+        };
+        let conn = link.conn();
+        if self.links.is_current(link) {
+            return offered_of(self.current.offer(conn, taker, most));
+        }
+        if !self.links.is_before(link) {
+            return Offered::Gone;
+        }
+        match &mut self.retiring {
+            Some(world) => offered_of(world.offer(conn, taker, most)),
+            None => Offered::Gone,
+        }
+    }
+}
+
+// How the output of a connection was offered. None: it was closed.
+fn offered_of(drained: Option<Drained>) -> Offered
+    ensures { result ≡ Offered.Closed → IsNone drained }
+{
+    match drained {
+        Some(drained) if drained.failed => Offered::Part(drained.taken),
+        Some(drained) => Offered::All(drained.taken),
+        None => Offered::Closed,
     }
 }
 

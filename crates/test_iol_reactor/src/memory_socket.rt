@@ -93,6 +93,26 @@ impl<'a> Socket for MemorySocket<'a> {
         Ok(taken)
     }
 
+    fn send_pieces(
+        &mut self,
+        first: &[u8],
+        second: &[u8],
+        third: &[u8],
+        fourth: &[u8],
+    ) -> io::Result<usize> {
+        self.writes = self.writes.saturating_add(1);
+        if let Some(kind) = self.manner.refusal(self.writes) {
+            return Err(io::Error::from(kind));
+        }
+        let mut taken = 0usize;
+        for piece in [first, second, third, fourth] {
+            let count = piece.len().min(self.manner.write.saturating_sub(taken));
+            self.accepted.extend_from_slice(&piece[..count])?;
+            taken = taken.saturating_add(count);
+        }
+        Ok(taken)
+    }
+
     fn end_output(&mut self) -> io::Result<()> {
         self.output_ends = self.output_ends.saturating_add(1);
         Ok(())
